@@ -1,8 +1,7 @@
 //! Entries go in at one end, and room that was reserved stays.
 
 ghost use Rattle.std.specs.Prelude.{◌≡◌};
-ghost use Rattle.bus_turn.specs.Passes.{IsIdle, IsSameCaller, HasSameJoined, number_of};
-ghost use Rattle.bus_turn.specs.Turns.{IsOf};
+ghost use Rattle.bus_turn.specs.Common.{IsIdle, IsSameCaller, HasSameJoined, number_of, IsOf};
 
 use crate::{Entry, Event, History, Reply};
 use board_base::{Dev, Target};

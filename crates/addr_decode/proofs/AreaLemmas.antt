@@ -1,9 +1,6 @@
 -- Outside A0000h to BFFFFh the area of an access is that of a read or a write outside SMM.
 use Rattle.std.proofs.Common.{◌≡◌, ℕ, false, [], ◌∷◌, refl}
-use Rattle.board_base.specs.declared.access.Kind.TheVariants.{Read, Write}
-use Rattle.board_spec.specs.Setup.{Setup}
-use Rattle.board_spec.specs.Decode.{Bytes, is_smram_range, is_shadow_range, area_of}
-use Rattle.board_spec.specs.FlatMap.{six_areas}
+use Rattle.board_prelude.proofs.Common.{Read, Write, Setup, Bytes, is_smram_range, is_shadow_range, area_of, six_areas}
 
 pub areas_beside_smram : (setup : Setup) (bytes : Bytes) (addr : ℕ) → is_smram_range addr ≡ false →
     six_areas setup bytes addr

@@ -1,13 +1,6 @@
 -- How many edges a board has, and how many of them lie above an address.
-use Rattle.std.proofs.Common.{◌≡◌, ℕ, ◌+◌, ◌*◌, ◌<◌, ◌≤◌, inl, inr, true, false, List, [], ◌∷◌, ◌++◌, length, Option, Some, None, arith}
-use Rattle.std.specs.Prelude.{nat_lt, All, filter, flat_map, IfSome}
-use Rattle.std.specs.List.{Contains, enumerate_from}
-use Rattle.std.proofs.lemmas.Bool.{cases_Bool}
-use Rattle.std.proofs.lemmas.Bool.Decides.{nat_tests}
-use Rattle.std.proofs.lemmas.List.{length-append}
-use Rattle.std.proofs.lemmas.List.Elements.{All-head, All-tail}
-use Rattle.board_spec.specs.Setup.{Base, MemoryBase, IoBase, FittedCard, Setup, IsCard, IsCardList}
-use Rattle.board_spec.specs.Decode.{Bytes, memory_window, rom_window, rom_window_of}
+use Rattle.std.proofs.Common.{◌≡◌, ℕ, ◌+◌, ◌*◌, ◌<◌, ◌≤◌, inl, inr, true, false, List, [], ◌∷◌, ◌++◌, length, Option, Some, None, arith, nat_lt, All, filter, flat_map, IfSome}
+use Rattle.board_prelude.proofs.Common.{Contains, enumerate_from, cases_Bool, nat_tests, length-append, All-head, All-tail, Base, MemoryBase, IoBase, FittedCard, Setup, IsCard, IsCardList, Bytes, memory_window, rom_window, rom_window_of}
 use Rattle.addr_decode.specs.Edges.{fixed_edges, window_edges, card_edges, edges_of, edges_after, IsNextEdge, FewEdges}
 use Rattle.addr_decode.proofs.EdgeSearchLemmas.{contains_cases}
 

@@ -1,22 +1,12 @@
 -- The edges that the code looks through are those of the board, and what it finds is the next one.
-use Rattle.std.proofs.Common.{◌≡◌, ℕ, zero, suc, ◌+◌, ◌*◌, ◌<◌, ◌≤◌, ◌⊎◌, inl, inr, ◌&&◌, List, [], ◌∷◌, ◌++◌, length, map, Option, Some, None, refl, sym, ◌∙◌, ap, subst, arith}
-use Rattle.std.specs.Prelude.{nat_lt, min, All, flat_map, slice_index, unwrap_or, IfSome, IsNone, ◌↔◌}
-use Rattle.std.specs.List.{Contains, enumerate_from}
-use Rattle.std.proofs.lemmas.Bool.{cases_Bool, cases_lt}
-use Rattle.std.proofs.lemmas.Bool.Decides.{nat_tests}
-use Rattle.std.proofs.lemmas.List.Elements.{All-head, All-tail}
+use Rattle.std.proofs.Common.{◌≡◌, ℕ, zero, suc, ◌+◌, ◌*◌, ◌<◌, ◌≤◌, ◌⊎◌, inl, inr, ◌&&◌, List, [], ◌∷◌, ◌++◌, length, map, Option, Some, None, refl, sym, ◌∙◌, ap, subst, arith, nat_lt, min, All, flat_map, slice_index, unwrap_or, IfSome, IsNone, ◌↔◌}
+use Rattle.board_prelude.proofs.Common.{Contains, enumerate_from, cases_Bool, cases_lt, nat_tests, All-head, All-tail, none-some, Base, MemoryBase, IoBase, Setup, IsCard, boundary_unit, Bytes, boundary, base_value, memory_window, rom_window_of, bridge, address_count}
 use Rattle.std.proofs.lemmas.List.Sums.{fold-append}
-use Rattle.std.proofs.lemmas.Option.{same_Some, none-some}
-use Rattle.board_spec.specs.Setup.{Base, MemoryBase, IoBase, Setup, IsCard}
-use Rattle.board_spec.specs.Ranges.{boundary_unit}
-use Rattle.board_spec.specs.Decode.{Bytes, boundary, base_value, memory_window, rom_window_of}
-use Rattle.board_spec.specs.RegisterNames.{bridge}
-use Rattle.board_spec.specs.FlatMap.{address_count}
+use Rattle.std.proofs.lemmas.Option.{same_Some}
 use Rattle.pmc_regs.specs.Pmc.{IsRowsOf}
 use Rattle.pmc_regs.proofs.RowLemmas.{rows_from}
 use Rattle.pci_bars.specs.Cards.{CardBytes, HoldsRom, DecodesAs, AreCards, AreDecoded, cards_of}
-use Rattle.addr_decode.specs.Edges.{fixed_edges, row_edges, window_edges, card_edges, edges_of, IsEdge, IsNextEdge, NoEdgeAbove}
-use Rattle.addr_decode.specs.EdgeSearch.{nearer, nearest, ends_from, ends_of_rom, ends_of_card}
+use Rattle.addr_decode.specs.Common.{fixed_edges, row_edges, window_edges, card_edges, edges_of, IsEdge, IsNextEdge, NoEdgeAbove, nearer, nearest, ends_from, ends_of_rom, ends_of_card}
 
 -- ---- the edges, as the code keeps them
 

@@ -1,13 +1,7 @@
 -- In a rising list of edges the first above an address is the least above it.
-use Rattle.std.proofs.Common.{◌≡◌, ℕ, zero, suc, ◌+◌, ◌*◌, ◌/◌, ◌^◌, ◌<◌, ◌≤◌, true, false, List, [], ◌∷◌, map, take, drop, Option, Some, None, refl, sym, ◌∙◌, ap, inl, inr, arith}
-use Rattle.std.specs.Prelude.{nat_lt, min, find, slice_index}
-use Rattle.std.specs.List.{AllByRecursion}
-use Rattle.std.proofs.lemmas.Bool.{cases_Bool}
-use Rattle.std.proofs.lemmas.Bool.Decides.{nat_tests}
-use Rattle.board_spec.specs.FlatMap.{address_count}
-use Rattle.board_spec.specs.Ranges.{boundary_unit}
-use Rattle.addr_decode.specs.Edges.{fixed_edges}
-use Rattle.addr_decode.specs.EdgeSearch.{nearer, nearest}
+use Rattle.std.proofs.Common.{◌≡◌, ℕ, zero, suc, ◌+◌, ◌*◌, ◌/◌, ◌^◌, ◌<◌, ◌≤◌, true, false, List, [], ◌∷◌, map, take, drop, Option, Some, None, refl, sym, ◌∙◌, ap, inl, inr, arith, nat_lt, min, find, slice_index}
+use Rattle.board_prelude.proofs.Common.{AllByRecursion, cases_Bool, nat_tests, address_count, boundary_unit}
+use Rattle.addr_decode.specs.Common.{fixed_edges, nearer, nearest}
 
 -- they rise from an edge on, and all are addresses
 abbrev Rise : ℕ → List ℕ → Type 0

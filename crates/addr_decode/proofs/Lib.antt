@@ -10,3 +10,4 @@ pub mod EdgeCounts
 pub mod FixedEdgeLemmas
 pub mod EdgeLaws
 pub mod EdgeSearchLemmas
+pub mod Common

@@ -1,16 +1,8 @@
 -- The memory map in the order of the code is that of the definitions.
-use Rattle.std.proofs.Common.{◌≡◌, ℕ, Bool, true, false, not, ◌&&◌, Option, Some, None, refl, sym, ◌∙◌, ap, arith}
-use Rattle.std.specs.Prelude.{is_some, unwrap_or, [], ◌∷◌, option_map, if◌then◌else◌}
-use Rattle.std.proofs.lemmas.Bool.Decides.{nat_tests}
-use Rattle.board_base.specs.declared.target.Area.{Area}
+use Rattle.std.proofs.Common.{◌≡◌, ℕ, Bool, true, false, not, ◌&&◌, Option, Some, None, refl, sym, ◌∙◌, ap, arith, is_some, unwrap_or, [], ◌∷◌, option_map, if◌then◌else◌}
+use Rattle.board_prelude.proofs.Common.{nat_tests, Area, Kind, Setup, lies_in, upper_memory, Window, first_of, line_where, is_smram_range, is_shadow_range, card_area, area_under, Bytes, row_of, is_in, hole_of, pam_register, is_high_window, nibble, is_open, is_shadowed, smram_answers, is_rom_selected, memory_claim, area_of, xbcs as select_register, smram as smram_register, fdhc as hole_register}
 use Rattle.board_base.specs.declared.target.Area.TheVariants.{Dram, Shadow, Smram, Rom, Abort}
-use Rattle.board_base.specs.declared.access.Kind.{Kind}
-use Rattle.board_spec.specs.Setup.{Setup}
-use Rattle.board_spec.specs.Ranges.{lies_in, upper_memory}
-use Rattle.board_spec.specs.Decode.{Window, first_of, line_where, is_smram_range, is_shadow_range, card_area, area_under, Bytes, row_of, is_in, hole_of, pam_register, is_high_window, nibble, is_open, is_shadowed, smram_answers, is_rom_selected, memory_claim, area_of}
-use Rattle.board_spec.specs.RegisterNames.{xbcs as select_register, smram as smram_register, fdhc as hole_register}
-use Rattle.addr_decode.specs.Memory.{dram_area, row_area, above_dram, beside_dram, area_by}
-use Rattle.addr_decode.specs.Master.{master_area}
+use Rattle.addr_decode.specs.Common.{dram_area, row_area, above_dram, beside_dram, area_by, master_area}
 
 -- the table of the memory map over the ranges that the address lies in, SMRAM's and all of upper memory, and over what
 -- the registers say of it

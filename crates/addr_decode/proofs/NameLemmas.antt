@@ -1,21 +1,8 @@
 -- The names of the registers: exactly the map bytes have one, and each stands for one register.
-use Rattle.std.proofs.Common.{◌≡◌, ◌≢◌, ℕ, zero, suc, ◌+◌, ◌-◌, ◌<◌, ◌≤◌, Bool, true, false, ◌&&◌, ◌||◌, Option, Some, None, List, [], ◌∷◌, ◌++◌, length, get_or, inl, inr, refl, sym, ◌∙◌, ap, subst, arith, take, lit<}
-use Rattle.std.specs.Prelude.{◌==◌, map, find, is_some, unwrap_or, option_map, option_and_then, if◌then◌else◌}
-use Rattle.std.specs.List.{AllByRecursion, list_any}
-use Rattle.std.proofs.Math.Bool.{and-true, and-false}
-use Rattle.std.proofs.lemmas.Bool.{cases_Bool, cases_eq, ne_eqb, eqb-true}
-use Rattle.std.proofs.lemmas.Bool.Decides.{nat_tests}
-use Rattle.std.proofs.lemmas.List.{get_or-map, map_more}
-use Rattle.board_base.specs.declared.access.Width.{Width}
-use Rattle.board_base.specs.declared.access.Width.TheVariants.{One, Two, Four}
-use Rattle.board_base.specs.declared.target.Reg.{Reg}
-use Rattle.board_base.specs.Access.{bytes_of}
-use Rattle.board_spec.specs.declared.map_change.MapChange.{MapChange}
-use Rattle.board_spec.specs.declared.map_change.MapChange.TheVariants.{Store, Reset}
-use Rattle.board_spec.specs.Setup.{FittedCard, Setup, card_at}
-use Rattle.board_spec.specs.Bits.{is_within}
-use Rattle.board_spec.specs.RegisterNames.{bridge, isa, card_register}
-use Rattle.board_spec.specs.MapWrites.{has_rom, is_map_byte, reg_after, touches_map}
+use Rattle.std.proofs.Common.{◌≡◌, ◌≢◌, ℕ, zero, suc, ◌+◌, ◌-◌, ◌<◌, ◌≤◌, Bool, true, false, ◌&&◌, ◌||◌, Option, Some, None, List, [], ◌∷◌, ◌++◌, length, get_or, inl, inr, refl, sym, ◌∙◌, ap, subst, arith, take, lit<, ◌==◌, map, find, is_some, unwrap_or, option_map, option_and_then, if◌then◌else◌}
+use Rattle.board_prelude.proofs.Common.{AllByRecursion, list_any, and-true, and-false, cases_Bool, cases_eq, ne_eqb, eqb-true, nat_tests, get_or-map, Width, One, Reg, bytes_of, MapChange, Store, Reset, FittedCard, Setup, card_at, is_within, bridge, isa, card_register, has_rom, is_map_byte, reg_after, touches_map}
+use Rattle.std.proofs.lemmas.List.{map_more}
+use Rattle.board_base.specs.declared.access.Width.TheVariants.{Two, Four}
 use Rattle.addr_decode.specs.declared.register.MapRegister.{MapRegister}
 use Rattle.addr_decode.specs.declared.register.MapRegister.TheVariants.{Pam, RowBoundary, Hole, Smram, ChipSelects, Card}
 use Rattle.addr_decode.specs.declared.register.CardRegister.{CardRegister}

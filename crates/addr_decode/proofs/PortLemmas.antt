@@ -1,31 +1,12 @@
 -- The ports in the order of the code are those of the definitions.
-use Rattle.std.proofs.Common.{◌≡◌, ◌≢◌, ℕ, List, ◌/◌, Bool, true, false, Option, Some, None, refl, inl, inr, ◌∙◌, sym, ap}
-use Rattle.std.specs.Prelude.{is_some, option_map, if◌then◌else◌}
-use Rattle.std.proofs.lemmas.Bool.{cases_Bool, cond-false, ne_eqb, true_from_ne_false}
-use Rattle.board_base.specs.declared.access.Width.{Width}
-use Rattle.board_base.specs.declared.target.Dev.{Dev}
-use Rattle.board_base.specs.declared.target.Reg.{Reg}
-use Rattle.board_base.specs.declared.target.Target.{Target}
-use Rattle.board_base.specs.declared.target.Target.TheVariants.{Config, Abort}
-use Rattle.board_base.specs.declared.target.Denial.{Denial}
-use Rattle.board_base.specs.declared.target.Denial.TheVariants.{Register, NoRegister}
-use Rattle.board_base.specs.Access.{bytes_of}
-use Rattle.device_spec.specs.declared.port.Select.{Select}
-use Rattle.device_spec.specs.declared.port.Select.TheVariants.{Always, XbcsBit0, XbcsBit1, IdeChannel}
-use Rattle.device_spec.specs.PortTable.{device_at, select_of}
-use Rattle.board_spec.specs.Setup.{Setup, FittedCard, card_at}
-use Rattle.board_spec.specs.Bits.{is_bit}
-use Rattle.board_spec.specs.Registers.{is_enabled, is_config_port, config_register}
-use Rattle.board_spec.specs.Decode.{Bytes}
-use Rattle.board_spec.specs.RegisterNames.{ide_command as command_register, idetim_high, xbcs as select_register}
-use Rattle.board_spec.specs.Ports.{config_port, by_xbcs, by_channel, selected_by, device_port, port_target_of}
-use Rattle.board_spec.specs.RegisterTable.{Line, card_function, function_at, function_exists}
+use Rattle.std.proofs.Common.{◌≡◌, ◌≢◌, ℕ, List, ◌/◌, Bool, true, false, Option, Some, None, refl, inl, inr, ◌∙◌, sym, ap, is_some, option_map, if◌then◌else◌}
+use Rattle.board_prelude.proofs.Common.{cases_Bool, cond-false, ne_eqb, Width, Dev, Reg, Target, Config, Abort, Denial, Register, NoRegister, bytes_of, Select, Always, XbcsBit0, XbcsBit1, IdeChannel, device_at, select_of, Setup, FittedCard, card_at, is_bit, is_enabled, is_config_port, config_register, Bytes, ide_command as command_register, idetim_high, xbcs as select_register, config_port, by_xbcs, by_channel, selected_by, device_port, port_target_of, card_function, function_at, function_exists}
+use Rattle.std.proofs.lemmas.Bool.{true_from_ne_false}
+use Rattle.board_spec.specs.RegisterTable.{Line}
 use Rattle.cfg_ports.specs.declared.conf_add.Selected.{Selected}
 use Rattle.cfg_ports.specs.Selection.{existing}
 use Rattle.addr_decode.specs.declared.onboard.Onboard.{Onboard}
-use Rattle.addr_decode.specs.Onboard.{if_selected, if_decoded, by_select, response_of}
-use Rattle.addr_decode.specs.MapRegs.{IsChannelOf}
-use Rattle.addr_decode.specs.Ports.{as_decoded, after_onboard}
+use Rattle.addr_decode.specs.Common.{if_selected, if_decoded, by_select, response_of, IsChannelOf, as_decoded, after_onboard}
 
 xbcs_in_order :
     (setup : Setup) (bytes : Bytes) (bit : ℕ) (dev : Dev) (port : ℕ) →

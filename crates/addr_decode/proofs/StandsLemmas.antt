@@ -1,30 +1,13 @@
 -- The registers of the address map among those of a board: after a reset, and where a byte is stored.
-use Rattle.std.proofs.Common.{◌≡◌, ◌≢◌, ℕ, ◌+◌, ◌-◌, ◌<◌, ◌≤◌, ◌⊎◌, inl, inr, Option, Some, None, true, false, List, [], ◌∷◌, length, get_or, set, refl, sym, ◌∙◌, ap, subst, arith, add-one}
-use Rattle.std.specs.Prelude.{◌==◌}
-use Rattle.std.proofs.lemmas.Bool.{cases_Bool, cases_eq, cases_lt, eq-eqb, eqb-false}
-use Rattle.std.proofs.lemmas.Bool.Decides.{nat_tests}
-use Rattle.board_base.specs.declared.access.Width.{Width}
-use Rattle.board_base.specs.Access.{bytes_of}
-use Rattle.board_base.specs.declared.target.Reg.{Reg}
-use Rattle.board_spec.specs.declared.map_change.MapChange.TheVariants.{Store}
-use Rattle.board_spec.specs.Setup.{FittedCard, Setup}
-use Rattle.board_spec.specs.Bits.{merged, byte, is_within}
-use Rattle.board_spec.specs.RegisterTable.{reset_byte, writable_bits}
-use Rattle.board_spec.specs.Registers.{changed_byte, smram_after}
-use Rattle.board_spec.specs.Decode.{Bytes}
-use Rattle.board_spec.specs.RegisterNames.{bridge, isa, drb, fdhc, smram, xbcs, card_register}
-use Rattle.board_spec.specs.MapWrites.{reg_after}
-use Rattle.board_spec.specs.WideStores.{after_stores}
-use Rattle.board_spec.proofs.StoreLemmas.{changed_byte-one_same, byte_by_byte}
+use Rattle.std.proofs.Common.{◌≡◌, ◌≢◌, ℕ, ◌+◌, ◌-◌, ◌<◌, ◌≤◌, ◌⊎◌, inl, inr, Option, Some, None, true, false, List, [], ◌∷◌, length, get_or, set, refl, sym, ◌∙◌, ap, subst, arith, add-one, ◌==◌}
+use Rattle.board_prelude.proofs.Common.{cases_Bool, cases_eq, cases_lt, eq-eqb, eqb-false, nat_tests, Width, bytes_of, Reg, Store, FittedCard, Setup, merged, byte, is_within, reset_byte, writable_bits, changed_byte, smram_after, Bytes, bridge, isa, drb, fdhc, smram, xbcs, card_register, reg_after, after_stores, changed_byte-one_same, byte_by_byte}
 use Rattle.pmc_regs.specs.Pmc.{IsRowsOf}
-use Rattle.pmc_regs.proofs.TableLemmas.{row_bytes, rows_are}
-use Rattle.pmc_regs.proofs.PmcLemmas.{there, rows_after_store}
+use Rattle.pmc_regs.proofs.Common.{row_bytes, rows_are, there, rows_after_store}
 use Rattle.pam_windows.specs.Pam.{IsPamOffset, IsPamOf}
 use Rattle.pam_windows.proofs.PamLemmas.{pam_bytes, pam_are}
 use Rattle.pci_bars.specs.Cards.{CardBytes, AreCards, AreCardsOf, AreDecoded, cards_of, AreFitted, AreReset}
 use Rattle.addr_decode.specs.declared.register.MapRegister.TheVariants.{Pam, RowBoundary, Hole, Smram, ChipSelects}
-use Rattle.addr_decode.specs.MapRegister.{in_bridge, in_isa_bridge, map_register}
-use Rattle.addr_decode.specs.MapRegs.{MapBytes, StandsFor, stored}
+use Rattle.addr_decode.specs.Common.{in_bridge, in_isa_bridge, map_register, MapBytes, StandsFor, stored}
 use Rattle.addr_decode.proofs.StoreLemmas.{stored-elsewhere, in_function_0}
 use Rattle.addr_decode.proofs.CardLemmas.{IsMapOffset, SameCard, decodes-same, cards_agree, reset_decoded}
 

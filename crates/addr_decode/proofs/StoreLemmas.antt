@@ -1,18 +1,7 @@
 -- A byte that is stored in one register leaves all others, and a register takes it under its mask.
-use Rattle.std.proofs.Common.{◌≡◌, ◌≢◌, ◌≤◌, ℕ, List, ◌<◌, false, ◌⊎◌, inl, inr, sym, ◌∙◌, ap, arith}
-use Rattle.std.specs.Prelude.{slice_index}
-use Rattle.std.specs.Int.{w32, to_le_bytes}
-use Rattle.std.proofs.lemmas.Bool.{cond-false}
-use Rattle.std.proofs.lemmas.Bool.Decides.{nat_tests}
-use Rattle.board_base.specs.declared.access.Width.{Width}
-use Rattle.board_base.specs.declared.access.Width.TheVariants.{One, Two, Four}
-use Rattle.board_base.specs.Access.{bytes_of}
-use Rattle.board_base.specs.declared.target.Reg.{Reg}
-use Rattle.board_spec.specs.Setup.{Setup}
-use Rattle.board_spec.specs.Bits.{byte}
-use Rattle.board_spec.specs.Registers.{covers}
-use Rattle.board_spec.specs.Decode.{Bytes}
-use Rattle.board_spec.specs.RegisterNames.{card_register}
+use Rattle.std.proofs.Common.{◌≡◌, ◌≢◌, ◌≤◌, ℕ, List, ◌<◌, false, ◌⊎◌, inl, inr, sym, ◌∙◌, ap, arith, slice_index}
+use Rattle.board_prelude.proofs.Common.{w32, to_le_bytes, cond-false, nat_tests, Width, One, bytes_of, Reg, Setup, byte, covers, Bytes, card_register}
+use Rattle.board_base.specs.declared.access.Width.TheVariants.{Two, Four}
 use Rattle.pci_bars.proofs.BaseLemmas.{long_byte}
 use Rattle.addr_decode.specs.MapRegs.{stored}
 

@@ -1,8 +1,7 @@
 -- The next edge as the code looks for it: it keeps the least edge above an address.
 use Rattle.std.specs.Prelude.{ℕ, ◌+◌, ◌*◌, ◌/◌, ◌^◌, nat_lt, min, ◌&&◌, if◌then◌else◌, List, [], ◌∷◌, ◌++◌, Option, Some, None, unwrap_or, slice_index}
 use Rattle.std.specs.List.{fold}
-use Rattle.board_spec.specs.Setup.{Base, MemoryBase, IoBase}
-use Rattle.board_spec.specs.FlatMap.{address_count}
+use Rattle.board_prelude.specs.Common.{Base, MemoryBase, IoBase, address_count}
 use Rattle.pci_bars.specs.Cards.{CardBytes}
 
 -- the least edge so far, after one more

@@ -6,3 +6,4 @@ pub mod Memory
 pub mod Onboard
 pub mod Ports
 pub mod Master
+pub mod Common

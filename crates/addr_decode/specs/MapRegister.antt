@@ -1,15 +1,6 @@
 -- The registers that the address map depends on, each by its one name.
 use Rattle.std.specs.Prelude.{ℕ, ◌≡◌, ◌+◌, ◌-◌, ◌<◌, ◌≤◌, ◌==◌, Bool, true, false, not, ◌&&◌, if◌then◌else◌, List, [], ◌∷◌, length, take, map, find, Option, Some, None, is_some, option_map, option_and_then}
-use Rattle.std.specs.List.{AllByRecursion}
-use Rattle.board_base.specs.declared.access.Width.{Width}
-use Rattle.board_base.specs.declared.target.Reg.{Reg}
-use Rattle.board_base.specs.Access.{bytes_of}
-use Rattle.board_spec.specs.declared.map_change.MapChange.{MapChange}
-use Rattle.board_spec.specs.declared.map_change.MapChange.TheVariants.{Store, Reset}
-use Rattle.board_spec.specs.Setup.{FittedCard, Setup, IsCardList}
-use Rattle.board_spec.specs.Bits.{is_within}
-use Rattle.board_spec.specs.MapWrites.{is_map_byte, reg_after}
-use Rattle.board_spec.specs.RegisterNames.{pam, drb, fdhc, smram, xbcs, card_register, card_command, base_register, expansion_rom}
+use Rattle.board_prelude.specs.Common.{AllByRecursion, Width, Reg, bytes_of, MapChange, Store, Reset, FittedCard, Setup, IsCardList, is_within, is_map_byte, reg_after, pam, drb, fdhc, smram, xbcs, card_register, card_command, base_register, expansion_rom}
 use Rattle.addr_decode.specs.declared.register.MapRegister.{MapRegister}
 use Rattle.addr_decode.specs.declared.register.MapRegister.TheVariants.{Pam, RowBoundary, Hole, Smram, ChipSelects, Card}
 use Rattle.addr_decode.specs.declared.register.CardRegister.{CardRegister}

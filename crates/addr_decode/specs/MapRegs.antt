@@ -1,12 +1,6 @@
 -- The registers that the address map depends on.
 use Rattle.std.specs.Prelude.{◌≡◌, ℕ, ◌/◌, List}
-use Rattle.board_base.specs.declared.access.Width.TheVariants.{One}
-use Rattle.board_base.specs.declared.target.Reg.{Reg}
-use Rattle.board_spec.specs.declared.map_change.MapChange.TheVariants.{Store}
-use Rattle.board_spec.specs.Registers.{changed_byte}
-use Rattle.board_spec.specs.Setup.{Setup}
-use Rattle.board_spec.specs.Decode.{Bytes}
-use Rattle.board_spec.specs.RegisterNames.{fdhc, smram, xbcs, ide_command as command_register, idetim_high}
+use Rattle.board_prelude.specs.Common.{One, Reg, Store, changed_byte, Setup, Bytes, fdhc, smram, xbcs, ide_command as command_register, idetim_high}
 use Rattle.pmc_regs.specs.Pmc.{IsRowsOf}
 use Rattle.pam_windows.specs.Pam.{IsPamOf}
 use Rattle.pci_bars.specs.Cards.{CardBytes, AreDecoded}

@@ -1,11 +1,6 @@
 -- How a bus master sees the memory map: as a processor does where SMRAM answers nobody.
 use Rattle.std.specs.Prelude.{ℕ, false, Option}
-use Rattle.board_base.specs.declared.access.Kind.{Kind}
-use Rattle.board_base.specs.declared.target.Area.{Area}
-use Rattle.board_base.specs.declared.target.Denial.{Denial}
-use Rattle.board_spec.specs.Setup.{Setup}
-use Rattle.board_spec.specs.RegisterNames.{fdhc, xbcs}
-use Rattle.board_spec.specs.Decode.{Bytes, area_under, row_of, is_shadowed, is_in, hole_of, is_rom_selected, memory_claim, denial_in, abort_denial, top_of, memory_shut, rom_unselected, rom_denial}
+use Rattle.board_prelude.specs.Common.{Kind, Area, Denial, Setup, fdhc, xbcs, Bytes, area_under, row_of, is_shadowed, is_in, hole_of, is_rom_selected, memory_claim, denial_in, abort_denial, top_of, memory_shut, rom_unselected, rom_denial}
 
 -- the area that an access of a bus master reaches
 unfoldable pub master_area : Setup → Bytes → ℕ → Kind → Area

@@ -1,14 +1,7 @@
 -- What the board's own devices say to a port access: one answers, or the device of the port is not
 -- selected, or the port is no device's.
 use Rattle.std.specs.Prelude.{ℕ, ◌/◌, Bool, true, false, if◌then◌else◌, Option, Some, None}
-use Rattle.board_base.specs.declared.target.Dev.{Dev}
-use Rattle.board_base.specs.declared.target.Denial.{Denial}
-use Rattle.board_base.specs.declared.target.Denial.TheVariants.{Register, NoRegister}
-use Rattle.device_spec.specs.declared.port.Select.{Select}
-use Rattle.device_spec.specs.declared.port.Select.TheVariants.{Always, XbcsBit0, XbcsBit1, IdeChannel}
-use Rattle.device_spec.specs.PortTable.{select_of}
-use Rattle.board_spec.specs.Bits.{is_bit}
-use Rattle.board_spec.specs.RegisterNames.{xbcs as select_register, ide_command, idetim}
+use Rattle.board_prelude.specs.Common.{Dev, Denial, Register, NoRegister, Select, Always, XbcsBit0, XbcsBit1, IdeChannel, select_of, is_bit, xbcs as select_register, ide_command, idetim}
 use Rattle.addr_decode.specs.declared.onboard.Onboard.{Onboard}
 use Rattle.addr_decode.specs.declared.onboard.Onboard.TheVariants.{Answers, Denied, Absent}
 

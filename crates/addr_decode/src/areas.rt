@@ -1,8 +1,6 @@
 //! The six areas of an address: what every kind of access there reaches.
 ghost use Rattle.std.specs.Prelude.{◌≡◌, ◌+◌, true, false};
-ghost use Rattle.board_spec.specs.Setup.{Setup};
-ghost use Rattle.board_spec.specs.Decode.{Bytes, is_smram_range, is_shadow_range};
-ghost use Rattle.board_spec.specs.FlatMap.{six_areas};
+ghost use Rattle.board_prelude.specs.Common.{Setup, Bytes, is_smram_range, is_shadow_range, six_areas};
 ghost use Rattle.pci_bars.specs.Cards.{AreFitted};
 ghost use Rattle.addr_decode.specs.MapRegs.{StandsFor, map_bytes};
 

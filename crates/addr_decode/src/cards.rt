@@ -1,8 +1,6 @@
 //! The cards by their device numbers.
 ghost use Rattle.std.specs.Prelude.{◌≡◌, is_some};
-ghost use Rattle.board_spec.specs.Setup.{Setup, card_at};
-ghost use Rattle.board_spec.specs.Decode.{Bytes};
-ghost use Rattle.board_spec.specs.RegisterNames.{card_register};
+ghost use Rattle.board_prelude.specs.Common.{Setup, card_at, Bytes, card_register};
 ghost use Rattle.pci_bars.specs.Cards.{AreCardsOf, AreDecoded, AreFitted, cards_of};
 ghost use Rattle.addr_decode.specs.MapRegs.{stored};
 

@@ -1,11 +1,6 @@
 //! What a change of the configuration space makes of the registers that the address map depends on.
 ghost use Rattle.std.specs.Prelude.{◌≡◌, ◌≢◌, ◌≤◌, ◌<◌, ◌⊎◌, None, true, false};
-ghost use Rattle.board_spec.specs.declared.map_change.MapChange.TheVariants.{Store};
-ghost use Rattle.board_spec.specs.Setup.{Setup};
-ghost use Rattle.board_spec.specs.Registers.{changed_byte};
-ghost use Rattle.board_spec.specs.Decode.{Bytes};
-ghost use Rattle.board_spec.specs.RegisterNames.{card_register};
-ghost use Rattle.board_spec.specs.MapWrites.{is_map_byte, reg_after, touches_map};
+ghost use Rattle.board_prelude.specs.Common.{Store, Setup, changed_byte, Bytes, card_register, is_map_byte, reg_after, touches_map};
 ghost use Rattle.pci_bars.specs.Cards.{AreCards, AreCardsOf, AreDecoded, AreFitted, cards_of};
 ghost use Rattle.addr_decode.specs.MapRegister.{IsNumbered, map_register, names_from, names_of, place_of};
 ghost use Rattle.addr_decode.specs.MapRegs.{StandsFor, map_bytes, stored};

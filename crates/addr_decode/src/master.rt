@@ -1,8 +1,6 @@
 //! The memory map as a bus master sees it, to which SMRAM never answers.
 ghost use Rattle.std.specs.Prelude.{◌≡◌, false};
-ghost use Rattle.board_spec.specs.Setup.{Setup};
-ghost use Rattle.board_spec.specs.Decode.{Bytes, is_in, hole_of as hole_by, row_of as row_by, is_shadowed};
-ghost use Rattle.board_spec.specs.RegisterNames.{fdhc};
+ghost use Rattle.board_prelude.specs.Common.{Setup, Bytes, is_in, hole_of as hole_by, row_of as row_by, is_shadowed, fdhc};
 ghost use Rattle.pci_bars.specs.Cards.{AreFitted};
 ghost use Rattle.addr_decode.specs.MapRegs.{StandsFor, map_bytes};
 ghost use Rattle.addr_decode.specs.Memory.{dram_area, row_area};

@@ -1,10 +1,7 @@
 //! The memory map of the 82441FX and the 82371SB: which area an access reaches, and what denies it.
 ghost use Rattle.std.specs.Prelude.{◌≡◌, true, false, Some, unwrap_or};
-ghost use Rattle.board_base.specs.declared.access.Kind.TheVariants.{Read, Write};
+ghost use Rattle.board_prelude.specs.Common.{Read, Write, Setup, Bytes, line_where, is_in, hole_of as hole_by, row_of as row_by, is_shadow_range, is_shadowed, smram_answers, area_of, denial_of, fdhc, smram};
 ghost use Rattle.board_base.specs.declared.target.Area.TheVariants.{Shadow};
-ghost use Rattle.board_spec.specs.Setup.{Setup};
-ghost use Rattle.board_spec.specs.Decode.{Bytes, line_where, is_in, hole_of as hole_by, row_of as row_by, is_shadow_range, is_shadowed, smram_answers, area_of, denial_of};
-ghost use Rattle.board_spec.specs.RegisterNames.{fdhc, smram};
 ghost use Rattle.pam_windows.specs.Pam.{IsPamOf};
 ghost use Rattle.pci_bars.specs.Cards.{AreFitted};
 ghost use Rattle.addr_decode.specs.MapRegs.{StandsFor, map_bytes};

@@ -1,10 +1,6 @@
 //! The ports of the 82371SB and of the cards: what an access to a port reaches, and what denies it.
 ghost use Rattle.std.specs.Prelude.{◌≡◌, ◌≢◌, ◌%◌, ◌^◌, IsTrue, IfSome, Some, None, is_some, option_map, unwrap_or, if◌then◌else◌};
-ghost use Rattle.board_spec.specs.Setup.{Setup};
-ghost use Rattle.board_spec.specs.RegisterTable.{function_at, function_exists};
-ghost use Rattle.board_spec.specs.Registers.{kept_address, config_register, is_config_port};
-ghost use Rattle.board_spec.specs.Decode.{Bytes, command_of, io_claim, io_shut};
-ghost use Rattle.board_spec.specs.Ports.{port_target_of, config_port, unselected, other_port};
+ghost use Rattle.board_prelude.specs.Common.{Setup, function_at, function_exists, kept_address, config_register, is_config_port, Bytes, command_of, io_claim, io_shut, port_target_of, config_port, unselected, other_port};
 ghost use Rattle.pci_bars.specs.Cards.{AreCards, AreDecoded, AreFitted};
 ghost use Rattle.addr_decode.specs.MapRegs.{IsChannelOf, StandsFor, map_bytes};
 ghost use Rattle.addr_decode.specs.Ports.{as_decoded, IsDenied};

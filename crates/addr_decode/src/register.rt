@@ -1,7 +1,6 @@
 //! The registers that the address map depends on, each named once.
 ghost use Rattle.std.specs.Prelude.{◌≡◌, is_some, option_map};
-ghost use Rattle.std.specs.List.{list_any};
-ghost use Rattle.board_spec.specs.MapWrites.{reg_after};
+ghost use Rattle.board_prelude.specs.Common.{list_any, reg_after};
 ghost use Rattle.pci_bars.specs.Cards.{cards_of};
 ghost use Rattle.addr_decode.specs.declared.register.CardRegister.TheVariants.{ExpansionRom};
 ghost use Rattle.addr_decode.specs.declared.register.MapRegister.TheVariants.{Card};

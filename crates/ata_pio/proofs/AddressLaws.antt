@@ -1,10 +1,6 @@
 -- The registers that are written back for a sector name it.
 use Rattle.std.proofs.Common.{◌≡◌, ℕ, ◌+◌, ◌-◌, ◌*◌, ◌/◌, ◌%◌, ◌≤◌, Bool, true, false, ◌||◌, ltb, eqb, cond, Some, inl, inr, refl, ap, ◌∙◌, arith}
-use Rattle.std.proofs.lemmas.Bool.{cases_Bool, cond-true, cond-false}
-use Rattle.std.proofs.lemmas.Bool.Decides.{nat_tests}
-use Rattle.board_base.specs.Bits.{is_bit}
-use Rattle.device_spec.specs.Ata.State.{Registers, is_lba, is_drive_one}
-use Rattle.device_spec.specs.Ata.Address.{with_head, named, naming}
+use Rattle.device_spec.proofs.Common.{cases_Bool, cond-true, cond-false, nat_tests, is_bit, Registers, is_lba, is_drive_one, with_head, named, naming}
 use Rattle.ata_pio.specs.Ata.Laws.{WrittenBackNames}
 
 -- the head leaves the bits above it alone

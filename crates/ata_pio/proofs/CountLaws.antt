@@ -1,10 +1,6 @@
 -- A command moves exactly its count of sectors, or stops at the first that fails.
 use Rattle.std.proofs.Common.{◌≡◌, ◌≢◌, ℕ, zero, suc, ◌+◌, ◌*◌, ◌%◌, ◌<◌, ◌≤◌, ◌⊎◌, Bool, true, false, eqb, ltb, List, [], ◌∷◌, ◌++◌, length, Some, Result, Ok, Err, inl, inr, refl, ap, subst, ◌∙◌, arith, length-set}
-use Rattle.std.proofs.lemmas.Bool.{cond-true, cond-false, eq-eqb, ne_eqb, lt-ltb}
-use Rattle.device_spec.specs.Ata.State.{Medium, Activity, Reading, Writing, Drive, Disk, sectors_of, sector_bytes, stored}
-use Rattle.device_spec.specs.Ata.Address.{named, naming, counted, left_of}
-use Rattle.device_spec.specs.Ata.Commands.{readable, found, reads_found, writes_found, finished, ended, begin_read, begin_write, sector_read, sector_written, verified, counted_down, moved_to}
-use Rattle.device_spec.specs.Ata.Steps.{word_of, word_read, word_written, with_drive}
+use Rattle.device_spec.proofs.Common.{cond-true, cond-false, eq-eqb, ne_eqb, lt-ltb, Medium, Activity, Reading, Writing, Drive, Disk, sectors_of, sector_bytes, stored, named, naming, counted, left_of, readable, found, reads_found, writes_found, finished, ended, begin_read, begin_write, sector_read, sector_written, verified, counted_down, moved_to, word_of, word_read, word_written, with_drive}
 use Rattle.ata_pio.specs.Ata.Laws.{IsWhole, IsChosen, words_read, after_words_read, after_words_written, sector_words, bytes_of_words, moved_on, AllReadable, MovesOn, words_of_sectors, reading_disk, ReadMovesItsSectors, VerifyLooksAtItsSectors, writing_disk, all_stored, AreSectors, all_words, request_of, WriteMovesItsSectors}
 use Rattle.ata_pio.proofs.AddressLaws.{written_back_names, naming-drive_one, naming-srst}
 use Rattle.ata_pio.proofs.StoreLaws.{stored-other, stored-whole}

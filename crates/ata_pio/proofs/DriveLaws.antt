@@ -1,11 +1,6 @@
 -- What is under way stays one of the disk's sectors.
 use Rattle.std.proofs.Common.{◌≡◌, ℕ, zero, suc, ◌+◌, ◌<◌, Bool, true, false, cond, ltb, eqb, ◌||◌, ◌&&◌, ◌==◌, Option, Some, None, Result, Ok, Err, refl, sym, subst}
-use Rattle.std.proofs.lemmas.Bool.{cond_both, ltb-true}
-use Rattle.board_base.specs.Bits.{is_bit}
-use Rattle.device_spec.specs.Ata.State.{Medium, Activity, Ready, Failed, Reading, Writing, Identifying, Drive, sectors_of, is_bad, is_drq}
-use Rattle.device_spec.specs.Ata.Address.{named, head_of, left_of}
-use Rattle.device_spec.specs.Ata.Commands.{found, readable, counted_down, moved_to, reads_found, writes_found, begin_read, begin_write, sector_read, sector_written, verified, is_feature, obeyed, begun, is_ignored, commanded, read_sectors, read_verify_sectors, write_sectors, execute_device_diagnostic, initialize_device_parameters, flush_cache, identify_device, set_features}
-use Rattle.device_spec.specs.Ata.Steps.{after_activity_word, after_word, register_written, control_written}
+use Rattle.device_spec.proofs.Common.{cond_both, ltb-true, is_bit, Medium, Activity, Ready, Failed, Reading, Writing, Identifying, Drive, sectors_of, is_bad, is_drq, named, head_of, left_of, found, readable, counted_down, moved_to, reads_found, writes_found, begin_read, begin_write, sector_read, sector_written, verified, is_feature, obeyed, begun, is_ignored, commanded, read_sectors, read_verify_sectors, write_sectors, execute_device_diagnostic, initialize_device_parameters, flush_cache, identify_device, set_features, after_activity_word, after_word, register_written, control_written}
 use Rattle.ata_pio.specs.Ata.Laws.{IsUnderWay}
 use Rattle.ata_pio.proofs.Verifies.{verified-fails, verified-end, verified-next}
 

@@ -1,12 +1,6 @@
 -- A sound disk stays sound, and only a store changes a sector.
 use Rattle.std.proofs.Common.{ltb, leb, ◌≡◌, ◌≢◌, ℕ, ◌*◌, ◌/◌, ◌%◌, ◌<◌, ◌≤◌, Bool, true, false, cond, eqb, ◌&&◌, List, [], ◌∷◌, ◌++◌, length, inl, inr, refl, ap, sym, subst, ◌∙◌, arith, length-set, length-append}
-use Rattle.std.proofs.lemmas.Bool.{and_parts, ltb-true, leb-true, cases_Bool, cond-true, cond-false, eqb-true, eqb-false, or_parts, true≢false}
-use Rattle.std.proofs.lemmas.List.{length-replicate}
-use Rattle.board_base.specs.declared.access.Width.TheVariants.{One, Two, Four}
-use Rattle.device_spec.specs.Ata.State.{power_on, Activity, Ready, Failed, Reading, Writing, Identifying, Drive, Disk, sectors_of, sector_bytes, stored, is_drq}
-use Rattle.device_spec.specs.Ata.Commands.{ended, sector_written, commanded}
-use Rattle.device_spec.specs.Ata.Steps.{bytes_written, activity_written, word_written, word_read, with_drive, after_word, byte_written, control_written, register_written}
-use Rattle.device_spec.specs.PortNames.{disk_status_port, disk_control_port}
+use Rattle.device_spec.proofs.Common.{and_parts, ltb-true, leb-true, cases_Bool, cond-true, cond-false, eqb-true, eqb-false, or_parts, true≢false, length-replicate, One, Two, Four, power_on, Activity, Ready, Failed, Reading, Writing, Identifying, Drive, Disk, sectors_of, sector_bytes, stored, is_drq, ended, sector_written, commanded, bytes_written, activity_written, word_written, word_read, with_drive, after_word, byte_written, control_written, register_written, disk_status_port, disk_control_port}
 use Rattle.ata_pio.specs.Ata.Laws.{PowerOnIsSound, IsUnderWay, IsSound, Access, Read, Write, Spoil, Restart, stepped, activity_stores, word_stores, stores, StaysSound, OnlyStoresChange, after_all, NoneStores}
 use Rattle.ata_pio.proofs.StoreLaws.{stored-whole, stored-other}
 use Rattle.ata_pio.proofs.DriveLaws.{sector_written-under_way, commanded-under_way, register_written-under_way, control_written-under_way, after_word-under_way}

@@ -1,10 +1,8 @@
 -- A sector that is stored, and the other ones.
 use Rattle.std.proofs.Common.{◌≡◌, ◌≢◌, ℕ, ◌+◌, ◌-◌, ◌*◌, ◌<◌, ◌≤◌, List, ◌++◌, length, take, drop, get_or, inl, inr, ap, sym, ◌∙◌, arith, length-set, get_or-take, get_or-drop}
-use Rattle.std.proofs.lemmas.Bool.{cases_lt}
-use Rattle.std.proofs.lemmas.List.{drop-drop}
+use Rattle.device_spec.proofs.Common.{cases_lt, drop-drop, Medium, sectors_of, sector_bytes, stored, word_at}
 use Rattle.std.proofs.lemmas.Slice.{take-put_mid_below, drop-put_mid, between-put_mid, between_is}
 use borrow.Rule.Slice.PartMut.{put_mid}
-use Rattle.device_spec.specs.Ata.State.{Medium, sectors_of, sector_bytes, stored, word_at}
 use Rattle.ata_pio.specs.Ata.Laws.{IsWhole}
 use Rattle.ata_pio.proofs.Stores.{length-store}
 

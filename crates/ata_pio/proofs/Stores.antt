@@ -1,8 +1,6 @@
 -- A sector that is written over the bytes of a disk.
 use Rattle.std.proofs.Common.{◌≡◌, ℕ, ◌+◌, ◌-◌, ◌*◌, ◌≤◌, List, ◌++◌, length, take, drop, refl, ap, sym, ◌∙◌, arith, length-append, length-take-le, length-drop}
-use Rattle.std.proofs.lemmas.List.{with_items_is, drop-drop}
-use Rattle.std.specs.declared.vec.Vec.{Vec}
-use Rattle.std.specs.Vec.{with_items}
+use Rattle.device_spec.proofs.Common.{with_items_is, drop-drop, Vec, with_items}
 use borrow.Rule.Slice.PartMut.{put_mid}
 
 -- a write over a part of a list, as a front, the new part and the rest

@@ -1,8 +1,6 @@
 -- One turn of verify: it fails, it was the last sector, or it goes on.
 use Rattle.std.proofs.Common.{◌≡◌, ◌≢◌, ℕ, zero, suc, ◌+◌, ◌%◌, cond, Bool, true, false, Ok, Err, refl, ap, sym, ◌∙◌, arith}
-use Rattle.device_spec.specs.Ata.State.{Medium, Registers, Drive, is_lba}
-use Rattle.device_spec.specs.Ata.Address.{named, naming, counted, left_of}
-use Rattle.device_spec.specs.Ata.Commands.{readable, failed, finished, counted_down, moved_to, verified}
+use Rattle.device_spec.proofs.Common.{Medium, Registers, Drive, is_lba, named, naming, counted, left_of, readable, failed, finished, counted_down, moved_to, verified}
 
 -- the sectors that are left, but for the next
 more_left : (n : ℕ) → n % 256 ≢ 0 → n % 256 ≡ suc ((n % 256 + 255) % 256)

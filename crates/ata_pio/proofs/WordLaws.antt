@@ -1,11 +1,6 @@
 -- A sector moves as 256 words.
 use Rattle.std.proofs.Common.{◌≡◌, ◌≢◌, ℕ, zero, suc, ◌+◌, ◌*◌, ◌/◌, ◌%◌, ◌<◌, ◌≤◌, true, cond, eqb, List, [], ◌∷◌, ◌++◌, length, drop, get_or, Result, Ok, Err, refl, ap, sym, subst, ◌∙◌, arith, length-append, get_or-drop, append_assoc}
-use Rattle.std.proofs.lemmas.Bool.{cond-true, cond-false, eq-eqb, ne_eqb}
-use Rattle.std.proofs.lemmas.List.{drop-drop}
-use Rattle.device_spec.specs.Ata.State.{Medium, Activity, Reading, Writing, Drive, Disk, sectors_of, sector_bytes, word_at, is_drq}
-use Rattle.device_spec.specs.Ata.Address.{named, left_of, counted, naming}
-use Rattle.device_spec.specs.Ata.Commands.{readable, reads_found, begin_read, sector_read, ended}
-use Rattle.device_spec.specs.Ata.Steps.{word_of, word_read, word_written, after_word, with_drive, bytes_written}
+use Rattle.device_spec.proofs.Common.{cond-true, cond-false, eq-eqb, ne_eqb, drop-drop, Medium, Activity, Reading, Writing, Drive, Disk, sectors_of, sector_bytes, word_at, is_drq, named, left_of, counted, naming, readable, reads_found, begin_read, sector_read, ended, word_of, word_read, word_written, after_word, with_drive, bytes_written}
 use Rattle.ata_pio.specs.Ata.Laws.{IsChosen, words_read, after_words_read, after_words_written, sector_words, bytes_of_words, AreWords, SectorIsRead, SectorIsWritten, written_disk, ReadsBack, IsSound, IsUnderWay, after_all}
 use Rattle.ata_pio.proofs.StoreLaws.{word_at-bytes, stored-same}
 use Rattle.ata_pio.proofs.SoundLaws.{run_keeps, word_written-sound}

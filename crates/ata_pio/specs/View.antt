@@ -1,7 +1,6 @@
 -- The state of the machine that the values of this crate stand for.
 use Rattle.std.specs.Prelude.{ℕ, ◌*◌, ◌<◌, List, take, Result, Ok, Err}
-use Rattle.device_spec.specs.Ata.State.{Medium, Registers, Activity, Ready, Failed, Reading, Writing, Identifying, Drive}
-use Rattle.device_spec.specs.Ata.Commands.{aborted, not_found, uncorrectable}
+use Rattle.device_spec.specs.Common.{Medium, Registers, Activity, Ready, Failed, Reading, Writing, Identifying, Drive, aborted, not_found, uncorrectable}
 use Rattle.ata_pio.specs.declared.fault.Fault.{Fault}
 use Rattle.ata_pio.specs.declared.fault.Fault.TheVariants.{Aborted, NotFound, Uncorrectable}
 use Rattle.ata_pio.specs.declared.task_file.TaskFile.{TaskFile}
@@ -53,9 +52,9 @@ drive_of controller = record {
 }
 
 -- the sector under way is one of the disk's
-abbrev pub IsWithin : ℕ → Progress → Type 0
-IsWithin count Idle = Unit {0}
-IsWithin count Error = Unit {0}
-IsWithin count (Read sector word) = sector < count
-IsWithin count (Write sector word) = sector < count
-IsWithin count (Identify word) = Unit {0}
+abbrev pub IsOnDisk : ℕ → Progress → Type 0
+IsOnDisk count Idle = Unit {0}
+IsOnDisk count Error = Unit {0}
+IsOnDisk count (Read sector word) = sector < count
+IsOnDisk count (Write sector word) = sector < count
+IsOnDisk count (Identify word) = Unit {0}

@@ -1,9 +1,9 @@
 //! The disk as its ports show it.
 
 ghost use Rattle.std.specs.Prelude.{◌≡◌, ◌+◌, ◌<◌, ◌≤◌, ◌↔◌, length, false, IsTrue, IfOk};
-ghost use Rattle.device_spec.specs.Ata.State.{is_disk_length, power_on, is_interrupt, sectors_of, word_at, sector_bytes};
+ghost use Rattle.device_spec.specs.Common.{is_disk_length, power_on, is_interrupt, sectors_of, word_at, sector_bytes, is_ata_port, read_of, after_bad, word_of, word_read, word_written, register_of, register_read, byte_written};
 ghost use Rattle.ata_pio.specs.Words.{is_readable, with_word, with_bytes};
-ghost use Rattle.device_spec.specs.Ata.Steps.{is_ata_port, read_of, after_read, after_write, after_reset, after_bad, word_of, word_read, word_written, register_of, register_read, byte_written};
+ghost use Rattle.device_spec.specs.Ata.Steps.{after_read, after_write, after_reset};
 
 use crate::controller::Controller;
 use crate::sectors::{SECTOR_BYTES, Sectors};
@@ -36,13 +36,13 @@ pub struct Ata {
 
 impl Model for Ata {
     ghost use Rattle.device_spec.specs.Ata.State.{Disk, sectors_of};
-    ghost use Rattle.ata_pio.specs.View.{medium_of, drive_of, IsWithin};
+    ghost use Rattle.ata_pio.specs.View.{medium_of, drive_of, IsOnDisk};
 
     ghost Value = { Disk };
 
     ghost view = { λ a. record { medium = medium_of a.sectors; drive = drive_of a.controller } };
 
-    ghost invariant = { λ a. IsWithin (sectors_of (medium_of a.sectors)) a.controller.progress };
+    ghost invariant = { λ a. IsOnDisk (sectors_of (medium_of a.sectors)) a.controller.progress };
 }
 
 impl Ata {

@@ -1,11 +1,8 @@
 //! The drive: what a command does, and how its words move.
 
 ghost use Rattle.std.specs.Prelude.{◌≡◌, ◌+◌, ◌-◌, ◌*◌, ◌<◌, length, ◌%◌, ◌/◌, ◌++◌, ◌∷◌, [], ℕ, take};
-ghost use Rattle.device_spec.specs.Ata.State.{power_on_drive, status_of, is_drq, is_interrupt, sectors_of, reset_drive};
-ghost use Rattle.device_spec.specs.Ata.Commands.{failed, finished, begin_read, begin_write, sector_read, sector_written, verified, geometry_set, feature_set, obeyed, begun, is_ignored, commanded, identifies};
-ghost use Rattle.device_spec.specs.Ata.Address.{left_of};
-ghost use Rattle.device_spec.specs.Ata.Steps.{word_of, after_word, word_written, register_of, register_written, control_written};
-ghost use Rattle.ata_pio.specs.View.{error_of, medium_of, registers_of, drive_of, IsWithin};
+ghost use Rattle.device_spec.specs.Common.{power_on_drive, status_of, is_drq, is_interrupt, sectors_of, reset_drive, failed, finished, begin_read, begin_write, sector_read, sector_written, verified, geometry_set, feature_set, obeyed, begun, is_ignored, commanded, identifies, left_of, word_of, after_word, word_written, register_of, register_written, control_written};
+ghost use Rattle.ata_pio.specs.View.{error_of, medium_of, registers_of, drive_of, IsOnDisk};
 
 use crate::fault::Fault;
 use crate::identify::identify_word;
@@ -55,7 +52,7 @@ impl Controller {
     /// The drive at power-on.
     pub fn power_on() -> Controller
         ensures power_on { drive_of result ≡ power_on_drive }
-        ensures within { (count : ℕ) → IsWithin count result.progress }
+        ensures within { (count : ℕ) → IsOnDisk count result.progress }
     {
         Controller {
             task: TaskFile::power_on(),
@@ -99,7 +96,7 @@ impl Controller {
     /// Ends a command by an error.
     fn fail(&mut self, fault: Fault)
         ensures failed { drive_of self.new ≡ failed (error_of fault) (drive_of self.old) }
-        ensures within { (count : ℕ) → IsWithin count self.new.progress }
+        ensures within { (count : ℕ) → IsOnDisk count self.new.progress }
     {
         self.task.error = fault.error();
         self.progress = Progress::Error;
@@ -109,7 +106,7 @@ impl Controller {
     /// Ends a command with a request.
     fn finish(&mut self)
         ensures finished { drive_of self.new ≡ finished (drive_of self.old) }
-        ensures within { (count : ℕ) → IsWithin count self.new.progress }
+        ensures within { (count : ℕ) → IsOnDisk count self.new.progress }
     {
         self.progress = Progress::Idle;
         self.request = true;
@@ -119,7 +116,7 @@ impl Controller {
     #[tactic(auto, unfolding(device_spec::specs::Ata::Commands::begin_read))]
     fn begin_read(&mut self, sectors: &Sectors)
         ensures begun { drive_of self.new ≡ begin_read (medium_of sectors.now) (drive_of self.old) }
-        ensures within { IsWithin (sectors_of (medium_of sectors.now)) self.new.progress }
+        ensures within { IsOnDisk (sectors_of (medium_of sectors.now)) self.new.progress }
     {
         match sectors.readable(self.task.sector()) {
             Ok(sector) => {
@@ -135,7 +132,7 @@ impl Controller {
     fn sector_read(&mut self, sector: u32, sectors: &Sectors)
         requires { sector < sectors_of (medium_of sectors.now) }
         ensures read { drive_of self.new ≡ sector_read (medium_of sectors.now) sector (drive_of self.old) }
-        ensures within { IsWithin (sectors_of (medium_of sectors.now)) self.new.progress }
+        ensures within { IsOnDisk (sectors_of (medium_of sectors.now)) self.new.progress }
     {
         self.task.count_down();
         if self.task.count == 0 {
@@ -150,7 +147,7 @@ impl Controller {
     #[tactic(auto, unfolding(device_spec::specs::Ata::Commands::begin_write))]
     fn begin_write(&mut self, request: bool, sectors: &Sectors)
         ensures begun { drive_of self.new ≡ begin_write (medium_of sectors.now) request (drive_of self.old) }
-        ensures within { IsWithin (sectors_of (medium_of sectors.now)) self.new.progress }
+        ensures within { IsOnDisk (sectors_of (medium_of sectors.now)) self.new.progress }
     {
         match sectors.found(self.task.sector()) {
             Ok(sector) => {
@@ -166,7 +163,7 @@ impl Controller {
     fn sector_written(&mut self, sector: u32, sectors: &Sectors)
         requires { sector < sectors_of (medium_of sectors.now) }
         ensures written { drive_of self.new ≡ sector_written (medium_of sectors.now) sector (drive_of self.old) }
-        ensures within { IsWithin (sectors_of (medium_of sectors.now)) self.new.progress }
+        ensures within { IsOnDisk (sectors_of (medium_of sectors.now)) self.new.progress }
     {
         self.task.count_down();
         if self.task.count == 0 {
@@ -181,7 +178,7 @@ impl Controller {
     fn verify(&mut self, sectors: &Sectors)
         ensures verified { drive_of self.new
             ≡ verified (medium_of sectors.now) (left_of (registers_of self.old.task)) (drive_of self.old) }
-        ensures within { IsWithin (sectors_of (medium_of sectors.now)) self.new.progress }
+        ensures within { IsOnDisk (sectors_of (medium_of sectors.now)) self.new.progress }
     {
         loop {
             let sector = match sectors.readable(self.task.sector()) {
@@ -203,7 +200,7 @@ impl Controller {
     /// Leaves the signature, as a reset does.
     pub fn sign(&mut self)
         ensures signed { drive_of self.new ≡ reset_drive (registers_of self.old.task) }
-        ensures within { (count : ℕ) → IsWithin count self.new.progress }
+        ensures within { (count : ℕ) → IsOnDisk count self.new.progress }
     {
         self.task.sign();
         self.progress = Progress::Idle;
@@ -213,7 +210,7 @@ impl Controller {
     /// Accepts the default geometry, 63 sectors and 16 heads, and aborts at any other.
     fn set_geometry(&mut self)
         ensures set { drive_of self.new ≡ geometry_set (drive_of self.old) }
-        ensures within { (count : ℕ) → IsWithin count self.new.progress }
+        ensures within { (count : ℕ) → IsOnDisk count self.new.progress }
     {
         if self.task.count == TRACK_SECTORS && self.task.head() == HEADS - 1 {
             self.finish();
@@ -225,7 +222,7 @@ impl Controller {
     /// Accepts the features that need no effect on this drive, and aborts at any other.
     fn set_features(&mut self)
         ensures set { drive_of self.new ≡ feature_set (drive_of self.old) }
-        ensures within { (count : ℕ) → IsWithin count self.new.progress }
+        ensures within { (count : ℕ) → IsOnDisk count self.new.progress }
     {
         match self.task.features {
             feature::WRITE_CACHE
@@ -242,7 +239,7 @@ impl Controller {
     /// Makes the words of IDENTIFY DEVICE ready.
     fn begin_identify(&mut self)
         ensures begun { drive_of self.new ≡ identifies (drive_of self.old) }
-        ensures within { (count : ℕ) → IsWithin count self.new.progress }
+        ensures within { (count : ℕ) → IsOnDisk count self.new.progress }
     {
         self.progress = Progress::Identify { word: 0 };
         self.request = true;
@@ -251,7 +248,7 @@ impl Controller {
     /// Ends what was under way, the request and the error.
     fn begin(&mut self)
         ensures begun { drive_of self.new ≡ begun (drive_of self.old) }
-        ensures within { (count : ℕ) → IsWithin count self.new.progress }
+        ensures within { (count : ℕ) → IsOnDisk count self.new.progress }
     {
         self.task.error = 0x00;
         self.progress = Progress::Idle;
@@ -262,7 +259,7 @@ impl Controller {
     #[tactic(auto, unfolding(device_spec::specs::Ata::Commands::obeyed))]
     fn run_command(&mut self, code: u8, sectors: &Sectors)
         ensures obeyed { drive_of self.new ≡ obeyed (medium_of sectors.now) code (drive_of self.old) }
-        ensures within { IsWithin (sectors_of (medium_of sectors.now)) self.new.progress }
+        ensures within { IsOnDisk (sectors_of (medium_of sectors.now)) self.new.progress }
     {
         match code {
             command::READ_SECTORS => self.begin_read(sectors),
@@ -290,9 +287,9 @@ impl Controller {
     /// Begins a command, which ends what was under way, or ignores it.
     #[tactic(auto, unfolding(device_spec::specs::Ata::Commands::commanded))]
     pub fn command(&mut self, code: u8, sectors: &Sectors)
-        requires { IsWithin (sectors_of (medium_of sectors.now)) self.old.progress }
+        requires { IsOnDisk (sectors_of (medium_of sectors.now)) self.old.progress }
         ensures commanded { drive_of self.new ≡ commanded (medium_of sectors.now) code (drive_of self.old) }
-        ensures within { IsWithin (sectors_of (medium_of sectors.now)) self.new.progress }
+        ensures within { IsOnDisk (sectors_of (medium_of sectors.now)) self.new.progress }
     {
         if self.ignores(code) {
             return;
@@ -317,7 +314,7 @@ impl Controller {
     #[tactic(auto, unfolding(device_spec::specs::Ata::Steps::control_written))]
     pub fn write_control(&mut self, byte: u8)
         ensures written { drive_of self.new ≡ control_written byte (drive_of self.old) }
-        ensures within { (count : ℕ) → IsWithin count self.old.progress → IsWithin count self.new.progress }
+        ensures within { (count : ℕ) → IsOnDisk count self.old.progress → IsOnDisk count self.new.progress }
     {
         let was_reset = self.task.srst;
         self.task.write_control(byte);
@@ -345,7 +342,7 @@ impl Controller {
 
     /// The word that the data port gives.
     pub fn word(&self, sectors: &Sectors) -> u16
-        requires { IsWithin (sectors_of (medium_of sectors.now)) self.now.progress }
+        requires { IsOnDisk (sectors_of (medium_of sectors.now)) self.now.progress }
         ensures word { result ≡ word_of (record { medium = medium_of sectors.now; drive = drive_of self.now }) }
     {
         if !self.is_drq() {
@@ -361,9 +358,9 @@ impl Controller {
     /// Goes on after a word was read.
     #[tactic(auto, unfolding(device_spec::specs::Ata::Steps::after_word))]
     pub fn next_word(&mut self, sectors: &Sectors)
-        requires { IsWithin (sectors_of (medium_of sectors.now)) self.old.progress }
+        requires { IsOnDisk (sectors_of (medium_of sectors.now)) self.old.progress }
         ensures next { drive_of self.new ≡ after_word (medium_of sectors.now) (drive_of self.old) }
-        ensures within { IsWithin (sectors_of (medium_of sectors.now)) self.new.progress }
+        ensures within { IsOnDisk (sectors_of (medium_of sectors.now)) self.new.progress }
     {
         if !self.is_drq() {
             return;
@@ -388,10 +385,10 @@ impl Controller {
     /// Takes a word of a sector that is written. The last one stores the sector.
     #[tactic(auto, unfolding(device_spec::specs::Ata::Steps::word_written))]
     pub fn write_word(&mut self, value: u16, sectors: &mut Sectors)
-        requires { IsWithin (sectors_of (medium_of sectors.old)) self.old.progress }
+        requires { IsOnDisk (sectors_of (medium_of sectors.old)) self.old.progress }
         ensures written { record { medium = medium_of sectors.new; drive = drive_of self.new }
             ≡ word_written value (record { medium = medium_of sectors.old; drive = drive_of self.old }) }
-        ensures within { IsWithin (sectors_of (medium_of sectors.new)) self.new.progress }
+        ensures within { IsOnDisk (sectors_of (medium_of sectors.new)) self.new.progress }
     {
         if !self.is_drq() {
             return;

@@ -4,3 +4,4 @@ pub mod Calendar
 pub mod Counts
 pub mod Files
 pub mod Outside
+pub mod Common

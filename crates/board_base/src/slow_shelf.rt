@@ -1,7 +1,6 @@
 //! A shelf in memory that hands out few bytes a call.
 
-ghost use Rattle.std.specs.Prelude.{◌≡◌, ◌<◌, ◌≤◌, ◌↔◌, ◌⊎◌, take, drop, Contains};
-ghost use Rattle.std.specs.Prelude.{Some, None, IfOk, OnOk, OnErr, IsErr};
+ghost use Rattle.std.specs.Prelude.{◌≡◌, ◌<◌, ◌≤◌, ◌↔◌, ◌⊎◌, take, drop, Contains, Some, None, IfOk, OnOk, OnErr, IsErr};
 ghost use Rattle.board_base.specs.Files.{file_at, file_named, piece_length};
 ghost use Rattle.board_base.specs.Counts.{next_call, next_fault};
 

@@ -1,7 +1,6 @@
 //! A sink in memory that takes few bytes a call.
 
-ghost use Rattle.std.specs.Prelude.{◌≡◌, ◌≢◌, ◌++◌, ◌<◌, ◌≤◌, ◌↔◌, length, take, min, Contains};
-ghost use Rattle.std.specs.Prelude.{Some, None, IfOk, OnErr, IsErrOf};
+ghost use Rattle.std.specs.Prelude.{◌≡◌, ◌≢◌, ◌++◌, ◌<◌, ◌≤◌, ◌↔◌, length, take, min, Contains, Some, None, IfOk, OnErr, IsErrOf};
 ghost use Rattle.board_base.specs.Counts.{next_call, next_fault};
 
 use crate::fault::PutFault;

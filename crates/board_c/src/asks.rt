@@ -1,10 +1,7 @@
 //! What C asks of a board between two steps: the board stays as it is.
 
 ghost use Rattle.std.specs.Prelude.{◌≡◌, ◌≢◌, true, false, IsSomeAnd};
-ghost use Rattle.board_records.specs.Events.{asked_said};
-ghost use Rattle.board_records.specs.Maps.{AreRangesTold, AreWindowsTold, IsVersion};
-ghost use Rattle.board_records.specs.Places.{IsPlaced, IsNotPlaced, IsRiseTold};
-ghost use Rattle.board_records.specs.Statuses.{ok, closed};
+ghost use Rattle.board_records.specs.Common.{asked_said, AreRangesTold, AreWindowsTold, IsVersionSaid, IsAskedPlace, IsNotPlaced, IsRiseTold, ok, closed};
 
 use crate::handle::Handle;
 use board_records::status::{CLOSED, OK};
@@ -25,7 +22,7 @@ pub extern "C" fn board_ranges(
     ensures unchanged { handle.old.full ≡ true → handle.new.held ≡ handle.old.held }
     ensures closed { handle.old.full ≡ false → result ≡ closed }
     ensures open { handle.old.full ≡ true → result ≡ ok }
-    ensures version { result ≡ ok → IsSomeAnd handle.old.held (λ serial. IsVersion serial.board map.new.version) }
+    ensures version { result ≡ ok → IsSomeAnd handle.old.held (λ serial. IsVersionSaid serial.board map.new.version) }
     ensures ranges { result ≡ ok → IsSomeAnd handle.old.held
         (λ serial. AreRangesTold serial.board map.new.ranges ranges.old ranges.new) }
     ensures windows { result ≡ ok → IsSomeAnd handle.old.held
@@ -56,7 +53,7 @@ pub extern "C" fn board_decode(
     ensures closed { handle.old.full ≡ false → result ≡ closed }
     ensures open { handle.old.full ≡ true → result ≢ closed }
     ensures done { result ≡ ok → IsSomeAnd handle.old.held
-        (λ serial. IsSomeAnd (asked_said event.now) (IsPlaced serial.board part.new)) }
+        (λ serial. IsSomeAnd (asked_said event.now) (IsAskedPlace serial.board part.new)) }
     ensures refused { handle.old.full ≡ true → result ≢ ok
         → IsSomeAnd handle.old.held (λ serial. IsNotPlaced serial.board (asked_said event.now) result) }
     ensures untold { result ≢ ok → part.new ≡ part.old }

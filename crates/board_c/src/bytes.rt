@@ -2,9 +2,7 @@
 
 ghost use Rattle.std.specs.Prelude.{◌≡◌, ◌≢◌, ◌+◌, ◌<◌, ◌≤◌, length, true, false, IsSomeAnd};
 ghost use Rattle.board_spec.specs.Setup.{installed};
-ghost use Rattle.board_records.specs.Bytes.{clock_bytes, IsDramTold, IsSectorTold, IsSectorRefusal, IsClockByte, IsDramWritten, IsClockWritten};
-ghost use Rattle.board_records.specs.Doors.{OnBoth};
-ghost use Rattle.board_records.specs.Statuses.{ok, closed, no_byte, past_end};
+ghost use Rattle.board_records.specs.Common.{clock_bytes, IsDramTold, IsSectorTold, IsSectorRefusal, IsClockByte, IsDramWritten, IsClockWritten, OnBoth, ok, closed, no_byte, past_end};
 
 use crate::handle::Handle;
 use board_records::status::{CLOSED, OK};

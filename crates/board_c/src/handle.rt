@@ -1,11 +1,10 @@
 //! A handle that C keeps: two words, of which C reads nothing.
 
-ghost use Rattle.std.specs.Prelude.{◌≡◌, true, false, None, IsSomeAnd};
+ghost use Rattle.std.specs.Prelude.{◌≡◌, true, false, None, IsSomeAnd, Option};
 ghost use Rattle.std_alloc.specs.Box.Ownership.{box_owns};
 ghost use Rattle.board_records.specs.contracts.door.Door.{the_row as door_row};
 ghost use Rattle.board_chipset.specs.Chipset.{Running};
 ghost use Rattle.uart_16550.specs.Serial.{Serial};
-ghost use Rattle.std.specs.Prelude.{Option};
 ghost use Rattle.board_c.specs.Owned.{owned_if};
 
 use board_records::Door;

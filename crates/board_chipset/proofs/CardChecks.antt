@@ -1,11 +1,6 @@
 -- Cards and bases that are tested one after another.
-use Rattle.std.proofs.Common.{◌≡◌, ℕ, suc, ◌+◌, ◌<◌, ◌≤◌, List, [], ◌∷◌, length, get_or, drop, map, sum_by, refl, ◌∙◌, subst, ap, arith}
-use Rattle.std.specs.Prelude.{◌↔◌, All}
-use Rattle.std.proofs.Math.Seq.{drop-cons}
-use Rattle.std.proofs.lemmas.List.{drop_all, get_or-map, length-map}
-use Rattle.std.proofs.lemmas.List.Elements.{All-nil, All-cons, All-head, All-tail}
-use Rattle.std.proofs.lemmas.List.Sums.{sum_by-append}
-use Rattle.board_spec.specs.Setup.{Base, FittedCard, IsBase, IsCard, IsCardList, Rises, memory_of_cards, memory_size}
+use Rattle.std.proofs.Common.{◌≡◌, ℕ, suc, ◌+◌, ◌<◌, ◌≤◌, List, [], ◌∷◌, length, get_or, drop, map, sum_by, refl, ◌∙◌, subst, ap, arith, ◌↔◌, All}
+use Rattle.board_prelude.proofs.Common.{drop-cons, drop_all, get_or-map, length-map, All-nil, All-cons, All-head, All-tail, sum_by-append, Base, FittedCard, IsBase, IsCard, IsCardList, Rises, memory_of_cards, memory_size}
 use Rattle.pci_bars.specs.declared.spec.BaseSpec.{BaseSpec}
 use Rattle.pci_bars.specs.Bases.{base_of}
 use Rattle.board_chipset.specs.Setups.{RiseFrom}

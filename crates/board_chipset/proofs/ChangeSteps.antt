@@ -1,18 +1,7 @@
 -- The change of the map that an event makes.
-use Rattle.std.proofs.Common.{◌≡◌, ℕ, Bool, true, false, List, Option, None, Some, refl, sym, ◌∙◌, ap}
-use Rattle.std.specs.Prelude.{if◌then◌else◌}
-use Rattle.board_base.specs.declared.access.PortAccess.{PortAccess}
-use Rattle.board_base.specs.declared.target.Dev.{Dev}
+use Rattle.std.proofs.Common.{◌≡◌, ℕ, Bool, true, false, List, Option, None, Some, refl, sym, ◌∙◌, ap, if◌then◌else◌}
+use Rattle.board_prelude.proofs.Common.{PortAccess, Dev, Device, Event, Port, Entry, MapChange, Reset, Setup, reset_control, is_hard_value, map_change_of}
 use Rattle.board_base.specs.declared.target.Dev.TheVariants.{Reset as ResetPort}
-use Rattle.board_base.specs.declared.target.Target.TheVariants.{Device}
-use Rattle.board_spec.specs.declared.event.Event.{Event}
-use Rattle.board_spec.specs.declared.event.Event.TheVariants.{Port}
-use Rattle.board_spec.specs.declared.event.Entry.{Entry}
-use Rattle.board_spec.specs.declared.map_change.MapChange.{MapChange}
-use Rattle.board_spec.specs.declared.map_change.MapChange.TheVariants.{Reset}
-use Rattle.board_spec.specs.Setup.{Setup}
-use Rattle.board_spec.specs.Registers.{reset_control, is_hard_value}
-use Rattle.board_spec.specs.MapWrites.{map_change_of}
 use Rattle.board_chipset.specs.Ports.{Writes}
 use Rattle.board_chipset.proofs.MapVersions.{map_write}
 use Rattle.board_chipset.proofs.RegisterSteps.{change_by, change_is, writes_none}

@@ -1,24 +1,8 @@
 -- What an access at a port writes, by what it reaches.
-use Rattle.std.proofs.Common.{◌≡◌, ℕ, ◌+◌, ◌%◌, ◌≤◌, true, false, ◌&&◌, List, [], ◌∷◌, Option, Some, None, refl, sym, subst, arith, inl, inr}
-use Rattle.std.specs.Prelude.{◌==◌, unwrap_or, option_map, is_some}
-use Rattle.std.proofs.lemmas.Bool.{cases_Bool, and_parts, cond_both}
-use Rattle.std.proofs.lemmas.Bool.Decides.{nat_tests}
-use Rattle.board_base.specs.declared.access.Width.{Width}
-use Rattle.board_base.specs.declared.access.Width.TheVariants.{One, Two, Four}
-use Rattle.board_base.specs.declared.access.PortAccess.{PortAccess}
-use Rattle.board_base.specs.declared.target.Reg.{Reg}
-use Rattle.board_base.specs.declared.target.Dev.TheVariants.{Confadd as AddressPort, Reset, Keyboard}
-use Rattle.board_base.specs.declared.target.Target.{Target}
-use Rattle.board_base.specs.declared.target.Target.TheVariants.{Card, Device, Config, Abort}
-use Rattle.board_base.specs.Access.{bytes_of, largest_of}
-use Rattle.board_spec.specs.declared.event.Event.TheVariants.{Port}
-use Rattle.board_spec.specs.declared.event.Entry.{Entry}
-use Rattle.board_spec.specs.declared.map_change.MapChange.{MapChange}
-use Rattle.board_spec.specs.declared.map_change.MapChange.TheVariants.{Store}
-use Rattle.board_spec.specs.Setup.{Setup}
-use Rattle.board_spec.specs.PortNames.{config_address_port, reset_control_port}
-use Rattle.board_spec.specs.RegisterTable.{function_exists}
-use Rattle.board_spec.specs.Registers.{kept_address, config_address, is_hard_reset, is_enabled, bus_of, device_of, function_of, register_of, is_config_port, config_register, byte_of}
+use Rattle.std.proofs.Common.{◌≡◌, ℕ, ◌+◌, ◌%◌, ◌≤◌, true, false, ◌&&◌, List, [], ◌∷◌, Option, Some, None, refl, sym, subst, arith, inl, inr, ◌==◌, unwrap_or, option_map, is_some}
+use Rattle.board_prelude.proofs.Common.{cases_Bool, and_parts, cond_both, nat_tests, Width, One, PortAccess, Reg, Keyboard, Target, Card, Device, Config, Abort, bytes_of, largest_of, Port, Entry, MapChange, Store, Setup, config_address_port, reset_control_port, function_exists, kept_address, config_address, is_hard_reset, is_enabled, bus_of, device_of, function_of, register_of, is_config_port, config_register, byte_of}
+use Rattle.board_base.specs.declared.access.Width.TheVariants.{Two, Four}
+use Rattle.board_base.specs.declared.target.Dev.TheVariants.{Confadd as AddressPort, Reset}
 use Rattle.cfg_ports.proofs.AddressLemmas.{kept_address-again, kept_address-low_bits, within_space}
 use Rattle.board_chipset.specs.declared.state.State.{State}
 use Rattle.board_chipset.specs.Ports.{reached, Reaching, IsEntryOf, Writes}

@@ -1,15 +1,8 @@
 -- Answers, and answers in which the version of a look is counted modulo 2^32.
 use Rattle.std.proofs.Common.{◌≡◌, ℕ, Bool, ◌%◌, ◌<◌, List, length, refl, ◌∙◌, arith}
-use Rattle.board_base.specs.declared.access.Kind.{Kind}
-use Rattle.board_spec.specs.declared.event.Event.{Event}
-use Rattle.board_spec.specs.declared.event.Event.TheVariants.{Memory, Wide, Port, Look as LookAt, Ack, Pulses, Time, Wire, Line, BadSector}
-use Rattle.board_spec.specs.declared.event.Reply.{Reply}
-use Rattle.board_spec.specs.declared.event.Reply.TheVariants.{Bus, Parts, Saw}
-use Rattle.board_spec.specs.declared.event.Entry.{Entry}
-use Rattle.board_spec.specs.Limits.{entry_limit}
-use Rattle.board_spec.specs.Setup.{Setup}
-use Rattle.board_spec.specs.MapWrites.{version_of}
-use Rattle.board_spec.specs.Answer.{IsAnswer}
+use Rattle.board_prelude.proofs.Common.{Kind, Event, Memory, Wide, Port, Ack, Pulses, Time, Wire, Line, BadSector, Reply, Bus, Saw, Entry, entry_limit, Setup, version_of, IsAnswer}
+use Rattle.board_spec.specs.declared.event.Event.TheVariants.{Look as LookAt}
+use Rattle.board_spec.specs.declared.event.Reply.TheVariants.{Parts}
 use Rattle.board_chipset.specs.Versions.{version_count, IsAnswerModulo}
 use Rattle.board_chipset.proofs.MapVersions.{few_writes}
 

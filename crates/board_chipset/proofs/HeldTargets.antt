@@ -1,33 +1,13 @@
 -- What an access reaches has the bytes that it asks for.
-use Rattle.std.proofs.Common.{◌≡◌, ℕ, ◌+◌, ◌%◌, ◌^◌, ◌≤◌, Bool, true, false, ◌&&◌, not, List, [], ◌∷◌, length, Option, Some, None, inl, inr, refl, sym, arith}
-use Rattle.std.specs.Prelude.{is_some, unwrap_or, option_map}
-use Rattle.board_base.specs.declared.access.Kind.{Kind}
-use Rattle.board_base.specs.declared.access.Width.{Width}
-use Rattle.board_base.specs.declared.access.Width.TheVariants.{One, Two, Four}
+use Rattle.std.proofs.Common.{◌≡◌, ℕ, ◌+◌, ◌%◌, ◌^◌, ◌≤◌, Bool, true, false, ◌&&◌, not, List, [], ◌∷◌, length, Option, Some, None, inl, inr, refl, sym, arith, is_some, unwrap_or, option_map}
+use Rattle.board_prelude.proofs.Common.{Kind, Width, One, Dev, Reg, Area, Target, Device, Config, Card, Abort, bytes_of, Part, Entry, Setup, IsRomSize, IsBusAccess, is_write, fdhc, smram, xbcs, lies_in, upper_memory, byte_of, config_address, Bytes, Window, first_of, line_where, card_area, row_of, hole_of, is_in, is_smram_range, is_shadowed, smram_answers, is_rom_selected, memory_claim, area_of, window_bits, target_at, part_answer}
+use Rattle.board_base.specs.declared.access.Width.TheVariants.{Two, Four}
 use Rattle.board_base.specs.declared.access.Access.{Access}
-use Rattle.board_base.specs.declared.target.Dev.{Dev}
-use Rattle.board_base.specs.declared.target.Reg.{Reg}
-use Rattle.board_base.specs.declared.target.Area.{Area}
 use Rattle.board_base.specs.declared.target.Area.TheVariants.{Dram as DramArea, Shadow as ShadowArea, Smram as SmramArea, Rom as RomArea, Card as CardArea, Abort as AbortArea}
-use Rattle.board_base.specs.declared.target.Target.{Target}
-use Rattle.board_base.specs.declared.target.Target.TheVariants.{Device, Config, Card, Abort}
-use Rattle.board_base.specs.Access.{bytes_of}
-use Rattle.board_spec.specs.declared.event.Part.{Part}
-use Rattle.board_spec.specs.declared.event.Entry.{Entry}
-use Rattle.board_spec.specs.Setup.{Setup, IsRomSize}
-use Rattle.board_spec.specs.InRange.{IsBusAccess}
-use Rattle.board_spec.specs.Stored.{is_write}
-use Rattle.board_spec.specs.RegisterNames.{fdhc, smram, xbcs}
-use Rattle.board_spec.specs.Ranges.{lies_in, upper_memory}
-use Rattle.board_spec.specs.Registers.{byte_of, config_address}
-use Rattle.board_spec.specs.Decode.{Bytes, Window, first_of, line_where, card_area, row_of, hole_of, is_in, is_smram_range, is_shadowed, smram_answers, is_rom_selected, memory_claim, area_of}
-use Rattle.board_spec.specs.Answer.{window_bits, target_at, part_answer}
-use Rattle.pci_bars.specs.Cards.{AreFitted}
-use Rattle.pci_bars.specs.Contents.{LiesIn}
+use Rattle.pci_bars.specs.Common.{AreFitted, LiesIn}
 use Rattle.pci_bars.proofs.WindowLemmas.{IsSized, memory_claim_sized, io_claim_sized, lies_in_window}
 use Rattle.addr_decode.proofs.CardLemmas.{fitted_list}
-use Rattle.board_stores.specs.Targets.{IsStored, IsHeld}
-use Rattle.board_stores.specs.Ready.{IsReady}
+use Rattle.board_stores.specs.Common.{IsStored, IsHeld, IsReady}
 use Rattle.board_chipset.specs.declared.state.State.{State}
 use Rattle.board_chipset.specs.Kept.{IsStateOf}
 use Rattle.board_chipset.proofs.Reach.{IsReached}

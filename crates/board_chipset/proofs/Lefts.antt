@@ -1,12 +1,8 @@
 -- What a history leaves, in the words that contracts see.
 use Rattle.std.proofs.Common.{◌≡◌, ℕ, List, sym, subst}
-use Rattle.board_spec.specs.declared.event.Event.{Event}
-use Rattle.board_spec.specs.declared.event.Entry.{Entry}
-use Rattle.board_spec.specs.Setup.{Setup}
-use Rattle.board_spec.specs.InRange.{IsInRange}
+use Rattle.board_prelude.proofs.Common.{Event, Entry, Setup, IsInRange}
 use Rattle.board_chipset.specs.declared.state.State.{State}
-use Rattle.board_chipset.specs.Kept.{CanDo, IsStateOf}
-use Rattle.board_chipset.specs.Chipset.{Running, IsLeftBy, IsLeft}
+use Rattle.board_chipset.specs.Common.{CanDo, IsStateOf, Running, IsLeftBy, IsLeft}
 
 pub left_by : {setup : Setup} {history : List Entry} {state : State} → IsStateOf setup history state →
     IsLeftBy (record { setup = setup; state = state }) history

@@ -18,3 +18,4 @@ pub mod LoadSteps
 pub mod CardChecks
 pub mod PortAccessSteps
 pub mod Placed
+pub mod Common

@@ -1,35 +1,16 @@
 -- The state after bytes were written from outside.
-use Rattle.std.proofs.Common.{◌≡◌, ℕ, zero, suc, ◌+◌, ◌-◌, ◌<◌, ◌≤◌, false, ◌&&◌, List, [], ◌∷◌, ◌++◌, length, Some, None, refl, sym, ◌∙◌, ap, subst, arith, ◌⊎◌, inl, inr}
-use Rattle.std.specs.Prelude.{◌↔◌, Result, Ok, Err, IsErr, OnOk, OnErr, ◌==◌, nat_le, nat_lt, if◌then◌else◌, slice_index, unwrap_or}
-use Rattle.std.proofs.lemmas.Bool.{cases_eq}
-use Rattle.std.proofs.lemmas.Bool.Decides.{nat_tests}
-use Rattle.board_base.specs.declared.access.Kind.TheVariants.{Write}
-use Rattle.board_base.specs.declared.access.Width.TheVariants.{One}
-use Rattle.board_base.specs.declared.target.Target.{Target}
-use Rattle.board_base.specs.declared.target.Target.TheVariants.{Dram, Shadow, Smram, Rom, Card, Device, Config, Abort}
+use Rattle.std.proofs.Common.{◌≡◌, ℕ, zero, suc, ◌+◌, ◌-◌, ◌<◌, ◌≤◌, false, ◌&&◌, List, [], ◌∷◌, ◌++◌, length, Some, None, refl, sym, ◌∙◌, ap, subst, arith, ◌⊎◌, inl, inr, ◌↔◌, Result, Ok, Err, IsErr, OnOk, OnErr, ◌==◌, nat_le, nat_lt, if◌then◌else◌, slice_index, unwrap_or}
+use Rattle.board_prelude.proofs.Common.{cases_eq, nat_tests, Write, One, Target, Dram, Shadow, Smram, Rom, Card, Device, Config, Abort, clock_index_port, clock_data_port, Memory, Port, Bus, Saw, Reply, Entry, Setup, byte, Cell, DramCell, CardCell, first_cell, byte_put, entry_put, stored_of, expansion_byte, clock_of, device_reached}
 use Rattle.board_base.specs.declared.target.Dev.TheVariants.{Clock as ClockChip}
-use Rattle.device_spec.specs.PortNames.{clock_index_port, clock_data_port}
-use Rattle.board_spec.specs.declared.event.Event.TheVariants.{Memory, Port}
-use Rattle.board_spec.specs.declared.event.Reply.TheVariants.{Bus, Parts, Saw}
-use Rattle.board_spec.specs.declared.event.Reply.{Reply}
-use Rattle.board_spec.specs.declared.event.Entry.{Entry}
-use Rattle.board_spec.specs.Setup.{Setup}
-use Rattle.board_spec.specs.Bits.{byte}
-use Rattle.board_spec.specs.Stored.{Cell, DramCell, CardCell, first_cell, byte_put, entry_put, stored_of, expansion_byte}
-use Rattle.board_spec.specs.Devices.{clock_of, device_reached}
+use Rattle.board_spec.specs.declared.event.Reply.TheVariants.{Parts}
 use Rattle.dram_store.specs.declared.dram.PastTheEnd.{PastTheEnd}
 use Rattle.dram_store.specs.Dram.{dram_at, IsDramOf, IsWritten}
 use Rattle.pci_bars.specs.Contents.{IsContentsOf}
-use Rattle.board_devices.specs.Devices.{DevicesValue, AreDevicesOf}
-use Rattle.board_devices.specs.Events.{PassesBy}
-use Rattle.board_devices.specs.Laws.{LeavesDevices}
-use Rattle.board_devices.specs.Outside.{byte_out, WritesClock, PutsClockByte}
+use Rattle.board_devices.specs.Common.{DevicesValue, AreDevicesOf, PassesBy, LeavesDevices, byte_out, WritesClock, PutsClockByte}
 use Rattle.board_stores.specs.Puts.{HasStores}
 use Rattle.board_chipset.specs.declared.registers.Registers.{Registers}
 use Rattle.board_chipset.specs.declared.state.State.{State}
-use Rattle.board_chipset.specs.Kept.{HasRegisters, IsStateOf}
-use Rattle.board_chipset.specs.Ports.{Writes}
-use Rattle.board_chipset.specs.Loads.{IsDramWrite, WriteInTurn, WriteAll, IsClockWrite, WriteClockByte}
+use Rattle.board_chipset.specs.Common.{HasRegisters, IsStateOf, Writes, IsDramWrite, WriteInTurn, WriteAll, IsClockWrite, WriteClockByte}
 use Rattle.board_chipset.proofs.RegisterSteps.{writes_none, quiet}
 use Rattle.board_chipset.proofs.StateSteps.{soft}
 use Rattle.board_chipset.proofs.StoreSteps.{stores_stay}

@@ -1,20 +1,8 @@
 -- Which entries are map writes, the version of the map, and the windows of its last change.
-use Rattle.std.proofs.Common.{◌≡◌, ℕ, suc, Bool, true, false, ◌+◌, ◌%◌, ◌≤◌, List, [], ◌∷◌, ◌++◌, length, Option, Some, None, refl, arith, inl, inr}
-use Rattle.std.specs.Prelude.{if◌then◌else◌, option_and_then}
-use Rattle.std.specs.Option.{option_to_list}
-use Rattle.std.proofs.lemmas.Bool.{cases_Bool}
-use Rattle.std.proofs.lemmas.Bool.Decides.{nat_tests}
-use Rattle.board_spec.specs.declared.event.Entry.{Entry}
-use Rattle.board_spec.specs.declared.map_change.MapChange.{MapChange}
-use Rattle.board_spec.specs.declared.map_change.MapChange.TheVariants.{Store}
-use Rattle.board_base.specs.declared.access.Width.{Width}
-use Rattle.board_base.specs.declared.target.Reg.{Reg}
-use Rattle.board_spec.specs.Setup.{Setup}
-use Rattle.board_spec.specs.Registers.{register_change, byte_of}
-use Rattle.board_spec.specs.MapWrites.{touches_map, map_change_of, map_writes_of, version_of}
+use Rattle.std.proofs.Common.{◌≡◌, ℕ, suc, Bool, true, false, ◌+◌, ◌%◌, ◌≤◌, List, [], ◌∷◌, ◌++◌, length, Option, Some, None, refl, arith, inl, inr, if◌then◌else◌, option_and_then}
+use Rattle.board_prelude.proofs.Common.{option_to_list, cases_Bool, nat_tests, Entry, MapChange, Store, Width, Reg, Setup, register_change, byte_of, touches_map, map_change_of, map_writes_of, version_of}
 use Rattle.map_builder.specs.declared.range.Changed.{Changed}
-use Rattle.map_builder.specs.Map.{next_version}
-use Rattle.map_builder.specs.Applied.{AreChanged}
+use Rattle.map_builder.specs.Common.{next_version, AreChanged}
 use Rattle.board_chipset.specs.Versions.{version_count, AreNextChanged, AreLastChanged}
 
 -- the map write that a change of the registers is, and whether it is one

@@ -1,15 +1,7 @@
 -- The state after an access to memory.
-use Rattle.std.proofs.Common.{◌≡◌, ℕ, true, false, List, None, Some, refl, Bool}
-use Rattle.std.specs.Prelude.{IsTrue, ◌↔◌}
-use Rattle.board_base.specs.declared.access.Kind.{Kind}
-use Rattle.board_base.specs.declared.access.Kind.TheVariants.{Fetch, Read, Write}
+use Rattle.std.proofs.Common.{◌≡◌, ℕ, true, false, List, None, Some, refl, Bool, IsTrue, ◌↔◌}
+use Rattle.board_prelude.proofs.Common.{Kind, Fetch, Read, Write, Part, Entry, Bus, Setup, is_write, part_answer, value_at, memory_answer}
 use Rattle.board_base.specs.declared.access.Access.{Access}
-use Rattle.board_spec.specs.declared.event.Part.{Part}
-use Rattle.board_spec.specs.declared.event.Entry.{Entry}
-use Rattle.board_spec.specs.declared.event.Reply.TheVariants.{Bus}
-use Rattle.board_spec.specs.Setup.{Setup}
-use Rattle.board_spec.specs.Stored.{is_write}
-use Rattle.board_spec.specs.Answer.{part_answer, value_at, memory_answer}
 
 pub writes_when : (kind : Kind) (writes : Bool) → IsTrue writes ↔ (kind ≡ Write) → is_write kind ≡ writes
 writes_when Fetch true is = let no = is.0 refl in absurd (cc)

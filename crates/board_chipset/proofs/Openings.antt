@@ -1,12 +1,7 @@
 -- A disk that was opened has whole sectors, and a card is found by its device number.
-use Rattle.std.proofs.Common.{◌≡◌, ℕ, ◌/◌, Option, Some, None, List, [], ◌∷◌, length, refl, inl, inr, subst, arith}
-use Rattle.std.specs.Prelude.{◌↔◌, Result, Ok, Err, ◌==◌, is_some, find}
-use Rattle.std.specs.List.{list_any}
-use Rattle.std.proofs.lemmas.Bool.{cases_Bool}
-use Rattle.std.proofs.lemmas.Bool.Decides.{nat_tests}
-use Rattle.board_spec.specs.Setup.{FittedCard, IsDisk}
+use Rattle.std.proofs.Common.{◌≡◌, ℕ, ◌/◌, Option, Some, None, List, [], ◌∷◌, length, refl, inl, inr, subst, arith, ◌↔◌, Result, Ok, Err, ◌==◌, is_some, find}
+use Rattle.board_prelude.proofs.Common.{list_any, cases_Bool, nat_tests, FittedCard, IsDisk, is_disk_length}
 use Rattle.ata_pio.specs.declared.ata.AtaOpen.{AtaOpen}
-use Rattle.device_spec.specs.Ata.State.{is_disk_length}
 use Rattle.board_devices.proofs.DeviceLemmas.{refused_length}
 
 disk_fits : (bytes : Option (List ℕ)) → ¬ ¬ IsDisk bytes → IsDisk bytes

@@ -1,20 +1,10 @@
 -- Events for the devices alone: they write no register and store nothing.
-use Rattle.std.proofs.Common.{◌≡◌, ◌≤◌, true, List, [], ◌∷◌, None, refl, sym, ◌∙◌, subst, inl, inr, ℕ}
-use Rattle.std.specs.Prelude.{◌==◌, All, find, is_some}
-use Rattle.std.proofs.lemmas.Bool.{cases_Bool, eqb-true}
-use Rattle.std.proofs.lemmas.List.Elements.{All-head, All-tail}
-use Rattle.board_spec.specs.declared.event.Event.{Event}
-use Rattle.board_spec.specs.declared.event.Event.TheVariants.{Memory, Wide, Port, Look as LookAt}
-use Rattle.board_spec.specs.declared.event.Reply.{Reply}
-use Rattle.board_spec.specs.declared.event.Entry.{Entry}
-use Rattle.board_spec.specs.Setup.{Setup, FittedCard, IsCard, IsSetup, card_at}
-use Rattle.board_spec.specs.Stored.{Cell, entry_put}
-use Rattle.board_devices.specs.Devices.{DevicesValue, AreDevicesOf, AreRoutesOf}
-use Rattle.board_devices.specs.Events.{Asks}
+use Rattle.std.proofs.Common.{◌≡◌, ◌≤◌, true, List, [], ◌∷◌, None, refl, sym, ◌∙◌, subst, inl, inr, ℕ, ◌==◌, All, find, is_some}
+use Rattle.board_prelude.proofs.Common.{cases_Bool, eqb-true, All-head, All-tail, Event, Memory, Wide, Port, Reply, Entry, Setup, FittedCard, IsCard, IsSetup, card_at, Cell, entry_put}
+use Rattle.board_spec.specs.declared.event.Event.TheVariants.{Look as LookAt}
+use Rattle.board_devices.specs.Common.{DevicesValue, AreDevicesOf, AreRoutesOf, Asks}
 use Rattle.board_chipset.specs.declared.state.State.{State}
-use Rattle.board_chipset.specs.Kept.{IsStateOf}
-use Rattle.board_chipset.specs.Ports.{Writes}
-use Rattle.board_chipset.specs.Steps.{IsForDevices}
+use Rattle.board_chipset.specs.Common.{IsStateOf, Writes, IsForDevices}
 use Rattle.board_chipset.proofs.StateSteps.{soft, devices_move}
 use Rattle.board_chipset.proofs.RegisterSteps.{writes_none}
 

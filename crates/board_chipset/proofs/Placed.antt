@@ -1,18 +1,10 @@
 -- Where an access would land, from what the decode tells.
 use Rattle.std.proofs.Common.{◌≡◌, List, Option, None, refl, ap}
 use Rattle.board_base.specs.declared.access.Access.{Access}
-use Rattle.board_base.specs.declared.access.PortAccess.{PortAccess}
-use Rattle.board_base.specs.declared.target.Target.{Target}
-use Rattle.board_base.specs.declared.target.Denial.{Denial}
-use Rattle.board_spec.specs.declared.event.Event.{Event}
-use Rattle.board_spec.specs.declared.event.Event.TheVariants.{Memory, Port, Wide, Look as LookAt, Ack, Pulses, Time, Wire, Line, BadSector}
-use Rattle.board_spec.specs.declared.event.Part.{Part}
-use Rattle.board_spec.specs.declared.event.Entry.{Entry}
-use Rattle.board_spec.specs.Setup.{Setup}
-use Rattle.board_spec.specs.Ports.{Decoded}
+use Rattle.board_prelude.proofs.Common.{PortAccess, Target, Denial, Event, Memory, Port, Wide, Ack, Pulses, Time, Wire, Line, BadSector, Part, Entry, Setup, Decoded}
+use Rattle.board_spec.specs.declared.event.Event.TheVariants.{Look as LookAt}
 use Rattle.addr_decode.specs.Ports.{as_decoded}
-use Rattle.board_chipset.specs.Ports.{reached}
-use Rattle.board_chipset.specs.Places.{place_of, port_part}
+use Rattle.board_chipset.specs.Common.{reached, place_of, port_part}
 
 abbrev pub part_with : Decoded → Part
 part_with decoded = record { target = decoded.target; denial = decoded.denial }

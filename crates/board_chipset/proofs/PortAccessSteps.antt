@@ -1,34 +1,24 @@
 -- The cycles of an access to ports, done one after another.
-use Rattle.std.proofs.Common.{◌≡◌, ℕ, zero, suc, ◌+◌, ◌-◌, ◌*◌, ◌%◌, ◌^◌, ◌<◌, ◌≤◌, List, [], ◌∷◌, ◌++◌, length, get_or, take, drop, refl, ◌∙◌, ap, subst, arith, lit<}
-use Rattle.std.specs.Prelude.{reverse}
-use Rattle.std.proofs.lemmas.List.{take_more, reverse-append, get_or-map, length-map}
-use Rattle.std.proofs.Math.Seq.{drop-cons}
-use Rattle.std.proofs.Math.Nat.{pow-le-pow_right, mod-eq_of_lt}
-use Rattle.board_base.specs.declared.access.Width.{Width}
-use Rattle.board_base.specs.declared.access.Width.TheVariants.{One, Two, Four}
-use Rattle.board_base.specs.declared.access.PortAccess.{PortAccess}
-use Rattle.board_base.specs.Access.{bytes_of}
-use Rattle.board_base.proofs.WidthLemmas.{some_bytes}
-use Rattle.board_spec.specs.Setup.{Setup}
-use Rattle.board_spec.specs.InRange.{IsBusAccess}
+use Rattle.std.proofs.Common.{◌≡◌, ℕ, zero, suc, ◌+◌, ◌-◌, ◌*◌, ◌%◌, ◌^◌, ◌<◌, ◌≤◌, List, [], ◌∷◌, ◌++◌, length, get_or, take, drop, refl, ◌∙◌, ap, subst, arith, lit<, reverse}
+use Rattle.board_prelude.proofs.Common.{take_more, reverse-append, get_or-map, length-map, drop-cons, pow-le-pow_right, mod-eq_of_lt, Width, One, PortAccess, bytes_of, some_bytes, Setup, IsBusAccess}
+use Rattle.board_base.specs.declared.access.Width.TheVariants.{Two, Four}
 use Rattle.board_stores.specs.declared.ports.PortCycle.{PortCycle}
 use Rattle.board_stores.specs.PortCycles.{Follow, port_accesses, AreBusCycles}
 use Rattle.board_stores.proofs.CutLemmas.{byte_power}
 use Rattle.board_chipset.specs.declared.reset_control.ResetKind.{ResetKind}
 use Rattle.board_chipset.specs.declared.reset_control.ResetKind.TheVariants.{None as NoReset}
-use Rattle.board_chipset.specs.Chipset.{Running}
-use Rattle.board_chipset.specs.PortAccesses.{AnswerInTurn, IsDone, IsStep, bytes_read, read_by, value_read, stronger, strongest}
+use Rattle.board_chipset.specs.Common.{Running, AnswerInTurn, AreCyclesDone, IsCycleStep, bytes_read, read_by, value_read, stronger, strongest}
 
-pub none_done : (setup : Setup) (start : Running) (first : ℕ) → IsDone setup start first [] start 0 NoReset
+pub none_done : (setup : Setup) (start : Running) (first : ℕ) → AreCyclesDone setup start first [] start 0 NoReset
 unfolding AnswerInTurn value_read strongest
 none_done setup start first history [] left each = (refl, refl, left)
 none_done setup start first history (entry ∷ earlier) left each = absurd each
 
 next_done :
     (setup : Setup) (start mid now : Running) (first : ℕ) (sooner : List PortAccess) (cycle : PortAccess)
-    (value read : ℕ) (reset made : ResetKind) → IsDone setup start first sooner mid value reset →
-    IsStep setup mid cycle now read made →
-    IsDone setup start first (cycle ∷ sooner) now (value + read * 256 ^ (cycle.port - first)) (stronger made reset)
+    (value read : ℕ) (reset made : ResetKind) → AreCyclesDone setup start first sooner mid value reset →
+    IsCycleStep setup mid cycle now read made →
+    AreCyclesDone setup start first (cycle ∷ sooner) now (value + read * 256 ^ (cycle.port - first)) (stronger made reset)
 unfolding AnswerInTurn value_read strongest
 next_done setup start mid now first sooner cycle value read reset made so_far step history [] left each = absurd each
 next_done setup start mid now first sooner cycle value read reset made so_far step history (entry ∷ earlier) left each =
@@ -46,9 +36,9 @@ reversed xs i x within = ap reverse (take_more xs i x within) ∙ reverse-append
 pub cycle_done :
     (setup : Setup) (start mid now : Running) (first value read next : ℕ) (reset made after : ResetKind)
     (cycles : List PortAccess) (i : ℕ) (cycle : PortAccess) → i < length cycles → get_or cycles i cycle ≡ cycle →
-    IsDone setup start first (reverse (take i cycles)) mid value reset → IsStep setup mid cycle now read made →
+    AreCyclesDone setup start first (reverse (take i cycles)) mid value reset → IsCycleStep setup mid cycle now read made →
     next ≡ value + read * 256 ^ (cycle.port - first) → after ≡ stronger made reset →
-    IsDone setup start first (reverse (take (i + 1) cycles)) now next after
+    AreCyclesDone setup start first (reverse (take (i + 1) cycles)) now next after
 cycle_done setup start mid now first value read next reset made after cycles i cycle within is so_far step next_is after_is =
     rw (reversed cycles i cycle within, is, next_is, after_is)
     (next_done setup start mid now first (reverse (take i cycles)) cycle value read reset made so_far step)

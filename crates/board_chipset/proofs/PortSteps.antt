@@ -1,32 +1,13 @@
 -- The state after an access at a port.
 use Rattle.std.proofs.Common.{◌≡◌, ◌≢◌, ℕ, true, false, List, ◌∷◌, Option, None, refl, ◌∙◌, ap}
-use Rattle.std.proofs.lemmas.Bool.{cond_both}
-use Rattle.board_base.specs.declared.access.Width.{Width}
-use Rattle.board_base.specs.declared.access.PortAccess.{PortAccess}
-use Rattle.board_base.specs.declared.target.Reg.{Reg}
-use Rattle.board_base.specs.declared.target.Dev.{Dev}
-use Rattle.board_base.specs.declared.target.Dev.TheVariants.{Confadd as AddressPort, Reset, Keyboard}
-use Rattle.board_base.specs.declared.target.Target.{Target}
-use Rattle.board_base.specs.declared.target.Target.TheVariants.{Device, Config, Card, Abort}
-use Rattle.board_base.specs.Access.{bytes_of}
-use Rattle.board_spec.specs.declared.event.Entry.{Entry}
-use Rattle.board_spec.specs.declared.event.Reply.{Reply}
-use Rattle.board_spec.specs.Setup.{Setup}
-use Rattle.board_spec.specs.Registers.{config_address, is_hard_reset}
-use Rattle.board_spec.specs.Stored.{Cell, entry_put, byte_put, port_put}
-use Rattle.board_spec.specs.Devices.{device_in, device_reached}
-use Rattle.board_spec.specs.Interrupts.{device_value}
-use Rattle.board_spec.specs.Ports.{Decoded}
-use Rattle.board_spec.specs.Answer.{port_value, bus_reply, port_answer}
-use Rattle.board_devices.specs.Devices.{DevicesValue, AreDevicesOf, AreRoutesOf}
-use Rattle.board_devices.specs.Events.{is_chip_port, is_chip, PassesBy, Reaches}
-use Rattle.board_devices.specs.Laws.{LeavesDevices}
+use Rattle.board_prelude.proofs.Common.{cond_both, Width, PortAccess, Reg, Dev, Keyboard, Target, Device, Config, Card, Abort, bytes_of, Entry, Reply, Setup, config_address, is_hard_reset, Cell, entry_put, byte_put, port_put, device_in, device_reached, device_value, Decoded, port_value, bus_reply, port_answer}
+use Rattle.board_base.specs.declared.target.Dev.TheVariants.{Confadd as AddressPort, Reset}
+use Rattle.board_devices.specs.Common.{DevicesValue, AreDevicesOf, AreRoutesOf, is_chip_port, is_chip, PassesBy, ReachesDevice, LeavesDevices}
 use Rattle.board_stores.specs.declared.stores.Stores.{Stores}
 use Rattle.board_stores.specs.Puts.{ArePut}
 use Rattle.board_chipset.specs.declared.registers.Registers.{Registers}
 use Rattle.board_chipset.specs.declared.state.State.{State}
-use Rattle.board_chipset.specs.Kept.{HasRegisters, IsStateOf}
-use Rattle.board_chipset.specs.Ports.{reached, IsEntryOf, Writes}
+use Rattle.board_chipset.specs.Common.{HasRegisters, IsStateOf, reached, IsEntryOf, Writes}
 use Rattle.board_chipset.proofs.Reach.{IsBeside}
 use Rattle.board_chipset.proofs.Effects.{Reached, reads_only, writes_beside, entry_reached}
 use Rattle.board_chipset.proofs.StoreSteps.{stores_stay}
@@ -125,7 +106,7 @@ pub chip_changed :
     {devices : DevicesValue} →
     IsChipAt setup history access dev → IsStateOf setup history old →
     IsEntryOf setup history access (Device dev) entry →
-    (Reaches history entry dev access → AreRoutesOf setup (entry ∷ history) old.registers.south.routes →
+    (ReachesDevice history entry dev access → AreRoutesOf setup (entry ∷ history) old.registers.south.routes →
     AreDevicesOf setup (entry ∷ history) devices) →
     IsStateOf setup (entry ∷ history) (record old { devices = devices })
 chip_changed {setup} {history} {access} {dev} {entry} at kept is after =

@@ -1,24 +1,8 @@
 -- What an access at a port reaches, and what that tells of the access.
-use Rattle.std.proofs.Common.{◌≡◌, ℕ, ◌%◌, ◌^◌, Bool, true, false, ◌&&◌, not, List, [], ◌∷◌, Option, Some, None, refl, sym, ◌∙◌, arith}
-use Rattle.std.specs.Prelude.{◌==◌, unwrap_or, option_map}
-use Rattle.std.proofs.lemmas.Bool.{false≢true, cond_both}
-use Rattle.std.proofs.lemmas.Bool.Decides.{nat_tests}
-use Rattle.board_base.specs.declared.access.Width.{Width}
-use Rattle.board_base.specs.declared.target.Reg.{Reg}
-use Rattle.board_base.specs.declared.target.Dev.{Dev}
-use Rattle.board_base.specs.declared.target.Dev.TheVariants.{Confadd as AddressPort, Reset, Pic0, Pic1, Pit, System, Keyboard, Clock, Elcr, Ata}
-use Rattle.board_base.specs.declared.target.Target.{Target}
-use Rattle.board_base.specs.declared.target.Target.TheVariants.{Card, Device, Config, Abort}
-use Rattle.board_base.specs.declared.target.Denial.{Denial}
-use Rattle.board_base.specs.Access.{bytes_of}
-use Rattle.device_spec.specs.PortTable.{is_port_of, first_with, device_at}
-use Rattle.board_spec.specs.Setup.{Setup}
-use Rattle.board_spec.specs.Bits.{is_bit}
-use Rattle.board_spec.specs.PortNames.{config_address_port, reset_control_port}
-use Rattle.board_spec.specs.RegisterNames.{xbcs, ide_command, idetim_high}
-use Rattle.board_spec.specs.Registers.{is_config_port, config_register}
-use Rattle.board_spec.specs.Decode.{Bytes, Window, io_claim}
-use Rattle.board_spec.specs.Ports.{Decoded, nobody, card_port, config_port, unselected, by_channel, device_port, port_target_of}
+use Rattle.std.proofs.Common.{◌≡◌, ℕ, ◌%◌, ◌^◌, Bool, true, false, ◌&&◌, not, List, [], ◌∷◌, Option, Some, None, refl, sym, ◌∙◌, arith, ◌==◌, unwrap_or, option_map}
+use Rattle.board_prelude.proofs.Common.{false≢true, cond_both, nat_tests, Width, Reg, Dev, Pic0, Pic1, Pit, System, Keyboard, Elcr, Ata, Target, Card, Device, Config, Abort, Denial, bytes_of, is_port_of, device_at, Setup, is_bit, config_address_port, reset_control_port, xbcs, ide_command, idetim_high, is_config_port, config_register, Bytes, Window, io_claim, Decoded, nobody, card_port, config_port, unselected, by_channel, device_port, port_target_of}
+use Rattle.board_base.specs.declared.target.Dev.TheVariants.{Confadd as AddressPort, Reset, Clock}
+use Rattle.device_spec.specs.PortTable.{first_with}
 use Rattle.board_devices.specs.Events.{is_chip_port}
 
 -- no register is written at the port

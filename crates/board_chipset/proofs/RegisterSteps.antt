@@ -1,21 +1,9 @@
 -- The registers after one more entry.
-use Rattle.std.proofs.Common.{◌≡◌, ℕ, List, [], ◌∷◌, Option, Some, None, refl, sym, ◌∙◌, ap, subst}
-use Rattle.std.specs.Prelude.{if◌then◌else◌, unwrap_or, option_map}
-use Rattle.board_base.specs.declared.access.PortAccess.{PortAccess}
-use Rattle.board_spec.specs.declared.event.Event.{Event}
-use Rattle.board_spec.specs.declared.event.Event.TheVariants.{Port}
-use Rattle.board_spec.specs.declared.event.Entry.{Entry}
-use Rattle.board_spec.specs.declared.map_change.MapChange.{MapChange}
-use Rattle.board_spec.specs.declared.map_change.MapChange.TheVariants.{Reset}
-use Rattle.board_spec.specs.Setup.{Setup}
-use Rattle.board_spec.specs.RegisterTable.{reset_byte}
-use Rattle.board_spec.specs.Registers.{control_after, resets_hard, kept_address, reset_control, config_address, register_change, byte_with, byte_of}
-use Rattle.board_spec.specs.MapWrites.{map_writes_of}
+use Rattle.std.proofs.Common.{◌≡◌, ℕ, List, [], ◌∷◌, Option, Some, None, refl, sym, ◌∙◌, ap, subst, if◌then◌else◌, unwrap_or, option_map}
+use Rattle.board_prelude.proofs.Common.{PortAccess, Event, Port, Entry, MapChange, Reset, Setup, reset_byte, control_after, resets_hard, kept_address, reset_control, config_address, register_change, byte_with, byte_of, map_writes_of}
 use Rattle.config_regs.specs.Config.{AreKeptOf}
 use Rattle.board_chipset.specs.declared.registers.Registers.{Registers}
-use Rattle.board_chipset.specs.Kept.{IsFlat, HasRegisters}
-use Rattle.board_chipset.specs.Ports.{Writes}
-use Rattle.board_chipset.specs.Versions.{AreLastChanged}
+use Rattle.board_chipset.specs.Common.{IsFlat, HasRegisters, Writes, AreLastChanged}
 use Rattle.board_chipset.proofs.MapVersions.{version_by, modulo_after, Follow, changed_after}
 
 -- what is done to the registers in configuration space: a hard reset, or the store

@@ -1,8 +1,6 @@
 -- A reset is told as hard exactly where it is.
-use Rattle.std.proofs.Common.{◌≡◌, ℕ, true, Option, Some, None, refl, inl, inr}
-use Rattle.std.specs.Prelude.{◌↔◌}
-use Rattle.std.proofs.lemmas.Bool.{cases_Bool}
-use Rattle.board_spec.specs.Registers.{is_hard_value, resets_hard}
+use Rattle.std.proofs.Common.{◌≡◌, ℕ, true, Option, Some, None, refl, inl, inr, ◌↔◌}
+use Rattle.board_prelude.proofs.Common.{cases_Bool, is_hard_value, resets_hard}
 use Rattle.board_chipset.specs.declared.reset_control.ResetKind.TheVariants.{Hard}
 use Rattle.board_chipset.specs.Resets.{is_soft_value, reset_by_written}
 

@@ -1,22 +1,13 @@
 -- The state after an entry that changes a part of it.
 use Rattle.std.proofs.Common.{◌≡◌, ℕ, false, List, ◌∷◌, Option, None, refl, sym, ◌∙◌, ap}
-use Rattle.board_spec.specs.declared.event.Event.{Event}
-use Rattle.board_spec.specs.declared.event.Entry.{Entry}
-use Rattle.board_spec.specs.declared.map_change.MapChange.{MapChange}
-use Rattle.board_spec.specs.Setup.{Setup}
-use Rattle.board_spec.specs.Registers.{is_hard_reset}
-use Rattle.board_spec.specs.Stored.{Cell, entry_put}
-use Rattle.board_spec.specs.Devices.{device_reached}
+use Rattle.board_prelude.proofs.Common.{Event, Entry, MapChange, Setup, is_hard_reset, Cell, entry_put, device_reached}
 use Rattle.config_regs.specs.declared.south.South.{South}
-use Rattle.board_devices.specs.Devices.{DevicesValue, AreDevicesOf, AreRoutesOf}
-use Rattle.board_devices.specs.Events.{PassesBy}
-use Rattle.board_devices.specs.Laws.{LeavesDevices}
+use Rattle.board_devices.specs.Common.{DevicesValue, AreDevicesOf, AreRoutesOf, PassesBy, LeavesDevices}
 use Rattle.board_stores.specs.declared.stores.Stores.{Stores}
 use Rattle.board_stores.specs.Puts.{HasStores, ArePut}
 use Rattle.board_chipset.specs.declared.registers.Registers.{Registers}
 use Rattle.board_chipset.specs.declared.state.State.{State}
-use Rattle.board_chipset.specs.Kept.{HasRegisters, IsStateOf}
-use Rattle.board_chipset.specs.Ports.{Writes}
+use Rattle.board_chipset.specs.Common.{HasRegisters, IsStateOf, Writes}
 use Rattle.board_chipset.proofs.RegisterSteps.{quiet}
 use Rattle.board_chipset.proofs.StoreSteps.{stores_put, stores_stay}
 

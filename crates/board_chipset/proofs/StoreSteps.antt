@@ -1,10 +1,6 @@
 -- The bytes behind the addresses after one more entry.
-use Rattle.std.proofs.Common.{◌≡◌, ℕ, ◌<◌, false, List, ◌∷◌, length, Option, None, refl, ◌∙◌, arith, inl, inr}
-use Rattle.std.specs.Prelude.{◌==◌}
-use Rattle.std.proofs.lemmas.Bool.{cases_eq, ne_eqb}
-use Rattle.board_spec.specs.declared.event.Entry.{Entry}
-use Rattle.board_spec.specs.Setup.{Setup}
-use Rattle.board_spec.specs.Stored.{Cell, DramCell, CardCell, entry_put, stored_of}
+use Rattle.std.proofs.Common.{◌≡◌, ℕ, ◌<◌, false, List, ◌∷◌, length, Option, None, refl, ◌∙◌, arith, inl, inr, ◌==◌}
+use Rattle.board_prelude.proofs.Common.{cases_eq, ne_eqb, Entry, Setup, Cell, DramCell, CardCell, entry_put, stored_of}
 use Rattle.pci_bars.specs.Contents.{held_byte}
 use Rattle.board_stores.specs.declared.stores.Stores.{Stores}
 use Rattle.board_stores.specs.Puts.{HasStores, ArePut}

@@ -1,20 +1,9 @@
 -- Wide accesses: their cycles can be done.
-use Rattle.std.proofs.Common.{◌≡◌, ℕ, List, [], ◌∷◌, ◌∙◌, true, false, None, Some, refl, ap, arith}
-use Rattle.std.specs.Prelude.{map, All}
-use Rattle.std.proofs.lemmas.List.Elements.{All-head, All-tail, All-cons}
-use Rattle.board_base.specs.declared.access.WideAccess.{WideAccess}
+use Rattle.std.proofs.Common.{◌≡◌, ℕ, List, [], ◌∷◌, ◌∙◌, true, false, None, Some, refl, ap, arith, map, All}
+use Rattle.board_prelude.proofs.Common.{All-head, All-tail, All-cons, WideAccess, Part, Parts, parts_of, parts_list, joined, Cell, is_write, parts_put, Entry, Setup, IsPart, AreParts, part_answer, IsWideAnswer, wide_value, value_at, memory_target}
 use Rattle.board_base.specs.declared.access.Access.{Access}
-use Rattle.board_spec.specs.declared.event.Part.{Part}
-use Rattle.board_spec.specs.declared.event.Parts.{Parts}
-use Rattle.board_spec.specs.WideParts.{parts_of, parts_list, joined}
-use Rattle.board_spec.specs.Stored.{Cell, is_write, parts_put}
-use Rattle.board_spec.specs.declared.event.Entry.{Entry}
-use Rattle.board_spec.specs.Setup.{Setup}
-use Rattle.board_spec.specs.PartLaws.{IsPart, AreParts}
-use Rattle.board_spec.specs.Answer.{part_answer, IsWideAnswer, wide_value, value_at, memory_target}
 use Rattle.board_stores.specs.declared.cut.Cycle.{Cycle}
-use Rattle.board_stores.specs.Ready.{IsReady}
-use Rattle.board_stores.specs.Cycles.{accesses, answers, AreReady}
+use Rattle.board_stores.specs.Common.{IsReady, accesses, answers, AreReady}
 use Rattle.board_chipset.specs.declared.state.State.{State}
 use Rattle.board_chipset.specs.Kept.{IsStateOf}
 use Rattle.board_chipset.proofs.HeldTargets.{ready}

@@ -1,13 +1,6 @@
 -- What a history leaves: the registers, the bytes behind the addresses, and the devices.
 use Rattle.std.specs.Prelude.{ℕ, ◌≡◌, ◌%◌, List}
-use Rattle.board_spec.specs.declared.event.Event.{Event}
-use Rattle.board_spec.specs.declared.event.Entry.{Entry}
-use Rattle.board_spec.specs.Setup.{Setup, IsSetup}
-use Rattle.board_spec.specs.InRange.{IsInRange}
-use Rattle.board_spec.specs.Registers.{reset_control, config_address, byte_of}
-use Rattle.board_spec.specs.MapWrites.{version_of}
-use Rattle.board_spec.specs.Decode.{Bytes}
-use Rattle.board_spec.specs.FlatMap.{IsFlatMapOf}
+use Rattle.board_prelude.specs.Common.{Event, Entry, Setup, IsSetup, IsInRange, reset_control, config_address, byte_of, version_of, Bytes, IsFlatMapOf}
 use Rattle.addr_decode.specs.MapRegs.{StandsFor}
 use Rattle.map_builder.specs.Map.{Mapped}
 use Rattle.config_regs.specs.Config.{AreKeptOf}

@@ -11,3 +11,4 @@ pub mod Setups
 pub mod Steps
 pub mod Stores
 pub mod Versions
+pub mod Common

@@ -1,16 +1,7 @@
 -- Bytes that are written to a chipset from outside: the entries that would have written them.
 use Rattle.std.specs.Prelude.{ℕ, ◌≡◌, ◌+◌, Bool, List, [], ◌∷◌, length, slice_index, Option, Some, None}
-use Rattle.board_base.specs.declared.access.Kind.TheVariants.{Write}
-use Rattle.board_base.specs.declared.access.Width.TheVariants.{One}
-use Rattle.board_base.specs.declared.target.Target.{Target}
-use Rattle.board_base.specs.declared.target.Denial.{Denial}
+use Rattle.board_prelude.specs.Common.{Write, One, Target, Denial, clock_index_port, clock_data_port, Memory, Port, Bus, Entry, DramCell, first_cell, clock_of, device_reached}
 use Rattle.board_base.specs.declared.target.Dev.TheVariants.{Clock as ClockChip}
-use Rattle.device_spec.specs.PortNames.{clock_index_port, clock_data_port}
-use Rattle.board_spec.specs.declared.event.Event.TheVariants.{Memory, Port}
-use Rattle.board_spec.specs.declared.event.Reply.TheVariants.{Bus}
-use Rattle.board_spec.specs.declared.event.Entry.{Entry}
-use Rattle.board_spec.specs.Stored.{DramCell, first_cell}
-use Rattle.board_spec.specs.Devices.{clock_of, device_reached}
 use Rattle.board_devices.specs.Outside.{byte_out}
 
 -- an entry writes one byte at an address, and its reply says that the byte went to the DRAM

@@ -1,14 +1,6 @@
 -- The first field of an event that is out of range, in the order in which they stand here.
 use Rattle.std.specs.Prelude.{ℕ, ◌≡◌, ◌≢◌, ◌+◌, ◌%◌, ◌≤◌, ◌⊎◌, Bool, true, is_some}
-use Rattle.board_base.specs.declared.access.Width.{Width}
-use Rattle.board_base.specs.declared.access.WideAccess.{WideAccess}
-use Rattle.board_base.specs.Access.{bytes_of}
-use Rattle.board_base.specs.Calendar.{IsMoment}
-use Rattle.board_spec.specs.declared.event.Event.{Event}
-use Rattle.board_spec.specs.declared.event.Event.TheVariants.{Memory, Wide, Port, Pulses as PulsesOf, Time, Wire, Line as LineOf}
-use Rattle.board_spec.specs.Setup.{Setup, card_at}
-use Rattle.board_spec.specs.InRange.{FitsAccess, FitsBytes, is_free_line}
-use Rattle.board_spec.specs.Stored.{is_write}
+use Rattle.board_prelude.specs.Common.{Width, WideAccess, bytes_of, IsMoment, Event, Memory, Wide, Port, Pulses as PulsesOf, Time, Wire, Line as LineOf, Setup, card_at, FitsAccess, FitsBytes, is_free_line, is_write}
 use Rattle.board_chipset.specs.declared.in_range.OutOfRange.{OutOfRange}
 use Rattle.board_chipset.specs.declared.in_range.OutOfRange.TheVariants.{Alignment, Value, Bytes, Aligned, End, Pulses, Date, Device, Line}
 

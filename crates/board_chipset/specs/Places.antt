@@ -1,12 +1,6 @@
 -- Where an access of one bus cycle would land after a history.
 use Rattle.std.specs.Prelude.{List, Option, Some, None}
-use Rattle.board_base.specs.declared.access.PortAccess.{PortAccess}
-use Rattle.board_spec.specs.declared.event.Event.{Event}
-use Rattle.board_spec.specs.declared.event.Event.TheVariants.{Memory, Port}
-use Rattle.board_spec.specs.declared.event.Part.{Part}
-use Rattle.board_spec.specs.declared.event.Entry.{Entry}
-use Rattle.board_spec.specs.Setup.{Setup}
-use Rattle.board_spec.specs.Answer.{part_answer}
+use Rattle.board_prelude.specs.Common.{PortAccess, Event, Memory, Port, Part, Entry, Setup, part_answer}
 use Rattle.board_chipset.specs.Ports.{reached}
 
 -- what an access to a port would reach, and what would deny it

@@ -1,15 +1,6 @@
 -- A guest's access to ports, which need not be aligned: the bus cuts it into aligned cycles, and each has its answer.
 use Rattle.std.specs.Prelude.{ℕ, ◌≡◌, ◌+◌, ◌-◌, ◌*◌, ◌%◌, ◌^◌, ◌≤◌, if◌then◌else◌, List, [], ◌∷◌, ◌++◌, reverse, Some, None}
-use Rattle.board_base.specs.declared.access.PortAccess.{PortAccess}
-use Rattle.board_base.specs.Access.{bytes_of}
-use Rattle.board_spec.specs.declared.event.Event.{Event}
-use Rattle.board_spec.specs.declared.event.Event.TheVariants.{Port}
-use Rattle.board_spec.specs.declared.event.Reply.{Reply}
-use Rattle.board_spec.specs.declared.event.Reply.TheVariants.{Bus}
-use Rattle.board_spec.specs.declared.event.Entry.{Entry}
-use Rattle.board_spec.specs.Setup.{Setup}
-use Rattle.board_spec.specs.InRange.{FitsAccess}
-use Rattle.board_spec.specs.Answer.{IsAnswer}
+use Rattle.board_prelude.specs.Common.{PortAccess, bytes_of, Event, Port, Reply, Bus, Entry, Setup, FitsAccess, IsAnswer}
 use Rattle.board_stores.specs.PortCycles.{port_cycles}
 use Rattle.board_chipset.specs.declared.in_range.OutOfRange.{OutOfRange}
 use Rattle.board_chipset.specs.declared.in_range.OutOfRange.TheVariants.{End, Value}
@@ -82,14 +73,14 @@ pub record IsPortReply (history : List Entry) (access : PortAccess) (entries : L
 -- ---- cycle by cycle
 
 -- what some cycles, newest first, made of a chipset, what they read from the first port on, and the reset
-abbrev pub IsDone : Setup → Running → (first : ℕ) → List PortAccess → Running → ℕ → ResetKind → Type 0
-IsDone setup start first sooner now value reset =
+abbrev pub AreCyclesDone : Setup → Running → (first : ℕ) → List PortAccess → Running → ℕ → ResetKind → Type 0
+AreCyclesDone setup start first sooner now value reset =
     (history entries : List Entry) → IsLeftBy start history → AnswerInTurn setup history sooner entries →
     (value ≡ value_read first entries) × (reset ≡ strongest history entries) × IsLeftBy now (entries ++ history)
 
 -- what one cycle makes
-abbrev pub IsStep : Setup → Running → PortAccess → Running → ℕ → ResetKind → Type 0
-IsStep setup before cycle now read made =
+abbrev pub IsCycleStep : Setup → Running → PortAccess → Running → ℕ → ResetKind → Type 0
+IsCycleStep setup before cycle now read made =
     (history : List Entry) (entry : Entry) → IsLeftBy before history → entry.event ≡ Port cycle →
     IsAnswer setup history (Port cycle) entry.reply →
     (read ≡ bytes_read cycle entry.reply) × (made ≡ reset_of history entry.event) × IsLeftBy now (entry ∷ history)

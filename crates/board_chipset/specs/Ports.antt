@@ -1,17 +1,6 @@
 -- What an access at a port reaches after a history, and what its entry tells.
 use Rattle.std.specs.Prelude.{ℕ, ◌≡◌, List, Option, is_some}
-use Rattle.board_base.specs.declared.access.PortAccess.{PortAccess}
-use Rattle.board_base.specs.declared.target.Target.{Target}
-use Rattle.board_base.specs.declared.target.Denial.{Denial}
-use Rattle.board_spec.specs.declared.event.Event.{Event}
-use Rattle.board_spec.specs.declared.event.Event.TheVariants.{Port}
-use Rattle.board_spec.specs.declared.event.Reply.TheVariants.{Bus}
-use Rattle.board_spec.specs.declared.event.Entry.{Entry}
-use Rattle.board_spec.specs.declared.map_change.MapChange.{MapChange}
-use Rattle.board_spec.specs.Setup.{Setup}
-use Rattle.board_spec.specs.InRange.{IsBusAccess}
-use Rattle.board_spec.specs.Registers.{control_written, address_written, config_address, config_store, byte_of}
-use Rattle.board_spec.specs.Ports.{Decoded, port_target_of}
+use Rattle.board_prelude.specs.Common.{PortAccess, Target, Denial, Event, Port, Bus, Entry, MapChange, Setup, IsBusAccess, control_written, address_written, config_address, config_store, byte_of, Decoded, port_target_of}
 use Rattle.board_chipset.specs.declared.state.State.{State}
 use Rattle.board_chipset.specs.Kept.{IsState}
 

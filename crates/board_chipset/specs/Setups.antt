@@ -1,7 +1,6 @@
 -- The first field of a setup that no board can have, in the order in which they stand here.
 use Rattle.std.specs.Prelude.{ℕ, ◌≤◌, ◌<◌, List, [], ◌∷◌, length}
-use Rattle.board_spec.specs.Limits.{most_mib, most_card_memory}
-use Rattle.board_spec.specs.Setup.{FittedCard, Setup, IsCard, IsCardList, IsRomSize, IsDisk, memory_of_cards}
+use Rattle.board_prelude.specs.Common.{most_mib, most_card_memory, FittedCard, Setup, IsCard, IsCardList, IsRomSize, IsDisk, memory_of_cards}
 use Rattle.board_chipset.specs.declared.check.SetupFault.{SetupFault}
 use Rattle.board_chipset.specs.declared.check.SetupFault.TheVariants.{Memory, Cards, Windows, Rom, Disk, NoMemory}
 

@@ -1,6 +1,6 @@
 -- Events for the devices alone.
-use Rattle.board_spec.specs.declared.event.Event.{Event}
-use Rattle.board_spec.specs.declared.event.Event.TheVariants.{Memory, Wide, Port, Look as LookAt}
+use Rattle.board_prelude.specs.Common.{Event, Memory, Wide, Port}
+use Rattle.board_spec.specs.declared.event.Event.TheVariants.{Look as LookAt}
 
 -- an event is no access and no look: it is for the devices alone
 abbrev pub IsForDevices : Event → Type 0

@@ -1,7 +1,6 @@
 -- What a store holds, and of which board it can be.
 use Rattle.std.specs.Prelude.{◌≡◌, length}
-use Rattle.board_spec.specs.Setup.{Setup, IsCardList, IsRomSize, installed}
-use Rattle.board_spec.specs.Decode.{Bytes}
+use Rattle.board_prelude.specs.Common.{Setup, IsCardList, IsRomSize, installed, Bytes}
 use Rattle.pci_bars.specs.Contents.{HaveSizes}
 use Rattle.addr_decode.specs.MapRegs.{StandsFor, map_bytes}
 use Rattle.board_chipset.specs.declared.store.Store.{Store}
@@ -17,5 +16,5 @@ pub record IsStoreOf (setup : Setup) (bytes : Bytes) (store : Store) : Type 0 wh
   pub rom : store.rom.items ≡ setup.rom
 
 -- of some board
-abbrev pub IsSound : Store → Type 0
-IsSound store = (setup : Setup) × (bytes : Bytes) × IsStoreOf setup bytes store
+abbrev pub IsOfBoard : Store → Type 0
+IsOfBoard store = (setup : Setup) × (bytes : Bytes) × IsStoreOf setup bytes store

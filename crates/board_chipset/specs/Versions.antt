@@ -1,17 +1,7 @@
 -- What a chipset tells of its map: the version modulo 2^32, and the windows of the last change.
 use Rattle.std.specs.Prelude.{ℕ, ◌≡◌, ◌%◌, ◌^◌, Bool, List, [], ◌∷◌, Option, Some, None}
-use Rattle.board_base.specs.declared.access.Kind.{Kind}
-use Rattle.board_spec.specs.declared.event.Event.{Event}
+use Rattle.board_prelude.specs.Common.{Kind, Event, Look, Reply, Entry, MapChange, Setup, byte_of, map_change_of, version_of, IsSpan, IsAnswer, IsSeen}
 use Rattle.board_spec.specs.declared.event.Event.TheVariants.{Look as LookAt}
-use Rattle.board_spec.specs.declared.event.Look.{Look}
-use Rattle.board_spec.specs.declared.event.Reply.{Reply}
-use Rattle.board_spec.specs.declared.event.Entry.{Entry}
-use Rattle.board_spec.specs.declared.map_change.MapChange.{MapChange}
-use Rattle.board_spec.specs.Setup.{Setup}
-use Rattle.board_spec.specs.Registers.{byte_of}
-use Rattle.board_spec.specs.MapWrites.{map_change_of, version_of}
-use Rattle.board_spec.specs.FlatMap.{IsSpan}
-use Rattle.board_spec.specs.Answer.{IsAnswer, IsSeen}
 use Rattle.map_builder.specs.declared.range.Changed.{Changed}
 use Rattle.map_builder.specs.Applied.{AreChanged}
 

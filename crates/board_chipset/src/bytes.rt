@@ -1,8 +1,7 @@
 //! What a monitor can read of a chipset's bytes without an access on the bus.
 
 ghost use Rattle.std.specs.Prelude.{◌≡◌, List, option_map};
-ghost use Rattle.board_spec.specs.declared.event.Entry.{Entry};
-ghost use Rattle.board_spec.specs.Devices.{clock_of, disk_of};
+ghost use Rattle.board_prelude.specs.Common.{Entry, clock_of, disk_of};
 ghost use Rattle.dram_store.specs.Dram.{IsDramOf};
 ghost use Rattle.pci_bars.specs.Contents.{IsContentsOf};
 ghost use Rattle.board_chipset.specs.Chipset.{IsLeftBy};

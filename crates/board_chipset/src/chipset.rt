@@ -1,20 +1,12 @@
 //! The chipset: each event is one step, and its reply the answer to the history so far, which is not kept.
 
 ghost use Rattle.std.specs.Prelude.{◌≡◌, ◌<◌, ◌≤◌, ◌%◌, ◌↔◌, List, [], ◌∷◌, length, Err, IfOk};
-ghost use Rattle.board_spec.specs.declared.event.Entry.{Entry};
-ghost use Rattle.board_spec.specs.Limits.{most_mib, most_card_memory};
-ghost use Rattle.board_spec.specs.Setup.{IsCardList, IsDisk, IsRomSize, memory_of_cards};
-ghost use Rattle.board_spec.specs.InRange.{IsInRange};
-ghost use Rattle.board_spec.specs.Answer.{IsAnswer};
-ghost use Rattle.board_spec.specs.Registers.{byte_of};
-ghost use Rattle.board_spec.specs.MapWrites.{map_change_of, version_of};
-ghost use Rattle.board_spec.specs.FlatMap.{IsFlatMapOf};
+ghost use Rattle.board_prelude.specs.Common.{Entry, most_mib, most_card_memory, IsCardList, IsDisk, IsRomSize, memory_of_cards, IsInRange, IsAnswer, byte_of, map_change_of, version_of, IsFlatMapOf, disk_of};
 ghost use Rattle.addr_decode.specs.MapRegs.{StandsFor, map_bytes};
 ghost use Rattle.dram_store.specs.Dram.{IsDramOf};
 ghost use Rattle.pci_bars.specs.Contents.{IsContentsOf};
-ghost use Rattle.board_spec.specs.Devices.{disk_of};
 ghost use Rattle.board_chipset.specs.Chipset.{IsLeftBy};
-ghost use Rattle.board_chipset.specs.Stores.{IsSound, IsStoreOf};
+ghost use Rattle.board_chipset.specs.Stores.{IsOfBoard, IsStoreOf};
 ghost use Rattle.board_chipset.specs.Versions.{version_count, AreLastChanged, IsAnswerModulo};
 
 use crate::setup::{BoardOpen, Setup};
@@ -124,7 +116,7 @@ impl Chipset {
         ensures disk { (history : List Entry) → IsLeftBy self history → result.disk ≡ disk_of self.setup history }
         ensures store { (history : List Entry) → IsLeftBy self history
             → IsStoreOf self.setup (byte_of self.setup history) result }
-        ensures sound { IsSound result }
+        ensures sound { IsOfBoard result }
     {
         let regs = self.state.registers.regs().copy();
         let Chipset { setup, state } = self;

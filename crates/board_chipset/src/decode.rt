@@ -1,8 +1,7 @@
 //! What an access would reach, without doing it: nothing changes.
 
 ghost use Rattle.std.specs.Prelude.{◌≡◌, List};
-ghost use Rattle.board_spec.specs.declared.event.Entry.{Entry};
-ghost use Rattle.board_spec.specs.Answer.{part_answer};
+ghost use Rattle.board_prelude.specs.Common.{Entry, part_answer};
 ghost use Rattle.board_chipset.specs.Chipset.{IsLeftBy};
 ghost use Rattle.board_chipset.specs.Places.{place_of, port_part};
 

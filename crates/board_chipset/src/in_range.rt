@@ -1,10 +1,7 @@
 //! Events that are in range: what a bus can ask, and what the world outside can do.
 
 ghost use Rattle.std.specs.Prelude.{◌↔◌, ◌≡◌, true, false, IsTrue, MatchResult};
-ghost use Rattle.board_base.specs.Calendar.{IsMoment};
-ghost use Rattle.board_spec.specs.Setup.{card_at};
-ghost use Rattle.board_spec.specs.InRange.{FitsAccess, FitsBytes, IsBusAccess, IsInRange, IsWideAccess, is_free_line};
-ghost use Rattle.board_spec.specs.Stored.{is_write};
+ghost use Rattle.board_prelude.specs.Common.{IsMoment, card_at, FitsAccess, FitsBytes, IsBusAccess, IsInRange, IsWideAccess, is_free_line, is_write};
 ghost use Rattle.board_chipset.specs.OutOfRange.{IsBusFault, IsFault, IsWideFault, IsWideSize};
 
 use crate::setup::Setup;

@@ -1,9 +1,8 @@
 //! Looks at the memory map. A look is no access: it goes to no bus and changes nothing.
 
 ghost use Rattle.std.specs.Prelude.{◌≡◌, List, ◌∷◌};
-ghost use Rattle.board_spec.specs.declared.event.Entry.{Entry};
+ghost use Rattle.board_prelude.specs.Common.{Entry, Setup};
 ghost use Rattle.board_spec.specs.declared.event.Event.TheVariants.{Look as LookAt};
-ghost use Rattle.board_spec.specs.Setup.{Setup};
 ghost use Rattle.board_chipset.specs.Kept.{IsStateOf};
 ghost use Rattle.board_chipset.specs.Versions.{IsAnswerModulo};
 

@@ -1,12 +1,7 @@
 //! Accesses to memory.
 
 ghost use Rattle.std.specs.Prelude.{◌≡◌, List, ◌∷◌};
-ghost use Rattle.board_spec.specs.declared.event.Entry.{Entry};
-ghost use Rattle.board_spec.specs.declared.event.Event.TheVariants.{Memory};
-ghost use Rattle.board_spec.specs.Setup.{Setup};
-ghost use Rattle.board_spec.specs.InRange.{IsBusAccess};
-ghost use Rattle.board_spec.specs.Stored.{is_write};
-ghost use Rattle.board_spec.specs.Answer.{memory_answer};
+ghost use Rattle.board_prelude.specs.Common.{Entry, Memory, Setup, IsBusAccess, is_write, memory_answer};
 ghost use Rattle.board_chipset.specs.Kept.{IsState, IsStateOf};
 
 use crate::state::State;

@@ -1,14 +1,7 @@
 //! What a monitor asks of a chipset between two steps; and `ask`, which takes any event and refuses one out of range.
 
 ghost use Rattle.std.specs.Prelude.{◌≡◌, ◌≤◌, ◌<◌, ◌↔◌, true, false, List, ◌∷◌, IfSome, IfOk, IfErr, OnErr, IsTrue, IsErr};
-ghost use Rattle.board_base.specs.declared.target.Dev.TheVariants.{Spurious};
-ghost use Rattle.board_spec.specs.declared.event.Entry.{Entry};
-ghost use Rattle.board_spec.specs.InRange.{IsInRange};
-ghost use Rattle.board_spec.specs.Answer.{IsAnswer};
-ghost use Rattle.board_spec.specs.Devices.{timer_of};
-ghost use Rattle.board_spec.specs.Interrupts.{acknowledged_by};
-ghost use Rattle.board_spec.specs.MapWrites.{version_of};
-ghost use Rattle.board_spec.specs.Registers.{is_hard_reset};
+ghost use Rattle.board_prelude.specs.Common.{Spurious, Entry, IsInRange, IsAnswer, timer_of, acknowledged_by, version_of, is_hard_reset};
 ghost use Rattle.pit_8254.specs.NextRise.{IsNextRise};
 ghost use Rattle.board_devices.specs.Outside.{is_interrupting};
 ghost use Rattle.board_chipset.specs.Chipset.{IsLeftBy};

@@ -1,11 +1,7 @@
 //! Interrupt acknowledges, and what happens outside the bus: pulses, the clock's time, interrupt lines, bad sectors.
 
 ghost use Rattle.std.specs.Prelude.{◌≡◌, ℕ, List, ◌∷◌, None};
-ghost use Rattle.board_base.specs.declared.target.Target.TheVariants.{Device};
-ghost use Rattle.board_spec.specs.declared.event.Reply.TheVariants.{Bus};
-ghost use Rattle.board_spec.specs.declared.event.Entry.{Entry};
-ghost use Rattle.board_spec.specs.Setup.{Setup};
-ghost use Rattle.board_spec.specs.Answer.{IsAnswer};
+ghost use Rattle.board_prelude.specs.Common.{Device, Bus, Entry, Setup, IsAnswer};
 ghost use Rattle.board_chipset.specs.Kept.{CanDo, IsStateOf};
 ghost use Rattle.board_chipset.specs.Steps.{IsForDevices};
 

@@ -1,12 +1,10 @@
 //! A guest's accesses to ports, which need not be aligned.
 
 ghost use Rattle.std.specs.Prelude.{◌≡◌, ◌<◌, ◌≤◌, ◌+◌, ◌^◌, ◌↔◌, ◌++◌, ℕ, List, reverse, MatchResult, IsErr, IfOk, IfErr, OnErr};
-ghost use Rattle.board_base.specs.Access.{bytes_of};
-ghost use Rattle.board_spec.specs.declared.event.Entry.{Entry};
-ghost use Rattle.board_spec.specs.InRange.{IsBusAccess};
+ghost use Rattle.board_prelude.specs.Common.{bytes_of, Entry, IsBusAccess};
 ghost use Rattle.board_stores.specs.PortCycles.{port_accesses, AreBusCycles, Follow};
 ghost use Rattle.board_chipset.specs.Chipset.{IsLeftBy};
-ghost use Rattle.board_chipset.specs.PortAccesses.{AnswerCycles, IsPortAccess, IsPortFault, IsPortReply, IsDone, IsStep, bytes_read, stronger};
+ghost use Rattle.board_chipset.specs.PortAccesses.{AnswerCycles, IsPortAccess, IsPortFault, IsPortReply, AreCyclesDone, IsCycleStep, bytes_read, stronger};
 
 use crate::chipset::Chipset;
 use crate::in_range::{OutOfRange, fits};
@@ -67,7 +65,7 @@ impl Chipset {
         requires bus { AreBusCycles (port_accesses cycles.now) }
         requires follow { (end : ℕ) × Follow first end (port_accesses cycles.now) × (end ≤ first + 4) }
         ensures setup { self.new.setup ≡ self.old.setup }
-        ensures done { IsDone self.old.setup self.old first (reverse (port_accesses cycles.now)) self.new result.0 result.1 }
+        ensures done { AreCyclesDone self.old.setup self.old first (reverse (port_accesses cycles.now)) self.new result.0 result.1 }
     {
         let mut value = 0;
         let mut reset = ResetKind::None;
@@ -84,7 +82,7 @@ impl Chipset {
         requires bus { IsBusAccess access.now.write access.now.port access.now.width access.now.value }
         ensures setup { self.new.setup ≡ self.old.setup }
         ensures small { result.0 < 256 ^ bytes_of access.now.width }
-        ensures step { IsStep self.old.setup self.old access.now self.new result.0 result.1 }
+        ensures step { IsCycleStep self.old.setup self.old access.now self.new result.0 result.1 }
     {
         let event = Event::Port(*access);
         let reset = self.reset_of(&event);

@@ -1,13 +1,8 @@
 //! Accesses at ports.
 
 ghost use Rattle.std.specs.Prelude.{◌≡◌, ℕ, true, false, List, ◌∷◌};
-ghost use Rattle.board_spec.specs.declared.event.Entry.{Entry};
-ghost use Rattle.board_spec.specs.declared.event.Event.TheVariants.{Port};
-ghost use Rattle.board_base.specs.declared.target.Target.TheVariants.{Device, Config};
+ghost use Rattle.board_prelude.specs.Common.{Entry, Port, Device, Config, Setup, IsBusAccess, port_answer, port_value, value_at};
 ghost use Rattle.board_base.specs.declared.target.Dev.TheVariants.{Reset};
-ghost use Rattle.board_spec.specs.Setup.{Setup};
-ghost use Rattle.board_spec.specs.InRange.{IsBusAccess};
-ghost use Rattle.board_spec.specs.Answer.{port_answer, port_value, value_at};
 ghost use Rattle.board_chipset.specs.Kept.{IsState, IsStateOf};
 ghost use Rattle.board_chipset.specs.Ports.{IsEntryOf, Reaching, reached};
 

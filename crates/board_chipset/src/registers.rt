@@ -1,23 +1,11 @@
 //! The registers of the board.
 
 ghost use Rattle.std.specs.Prelude.{◌≡◌, ◌≢◌, ◌+◌, ◌≤◌, ◌<◌, true, false, List, [], ◌∷◌, Some, None, is_some, if◌then◌else◌};
-ghost use Rattle.board_base.specs.Access.{bytes_of};
+ghost use Rattle.board_prelude.specs.Common.{bytes_of, Entry, Port, Store, Reset, Setup, IsCardList, wide, function_exists, reset_byte, byte_of, config_address, is_hard_value, map_change_of, touches_map, Bytes, port_target_of};
 ghost use Rattle.board_base.specs.declared.target.Dev.TheVariants.{Reset as ResetPort};
-ghost use Rattle.board_spec.specs.declared.event.Entry.{Entry};
-ghost use Rattle.board_spec.specs.declared.event.Event.TheVariants.{Port};
-ghost use Rattle.board_spec.specs.declared.map_change.MapChange.TheVariants.{Store, Reset};
-ghost use Rattle.board_spec.specs.Setup.{Setup, IsCardList};
-ghost use Rattle.board_spec.specs.Bits.{wide};
-ghost use Rattle.board_spec.specs.RegisterTable.{function_exists, reset_byte};
-ghost use Rattle.board_spec.specs.Registers.{byte_of, config_address, is_hard_value};
-ghost use Rattle.board_spec.specs.MapWrites.{map_change_of, touches_map};
-ghost use Rattle.board_spec.specs.Decode.{Bytes};
-ghost use Rattle.board_spec.specs.Ports.{port_target_of};
 ghost use Rattle.pci_bars.specs.Cards.{AreFitted};
-ghost use Rattle.addr_decode.specs.MapRegs.{StandsFor, map_bytes};
-ghost use Rattle.addr_decode.specs.Ports.{as_decoded};
-ghost use Rattle.map_builder.specs.Map.{next_version};
-ghost use Rattle.map_builder.specs.Applied.{AreChanged};
+ghost use Rattle.addr_decode.specs.Common.{StandsFor, map_bytes, as_decoded};
+ghost use Rattle.map_builder.specs.Common.{next_version, AreChanged};
 ghost use Rattle.config_regs.specs.Config.{AreKeptOf};
 ghost use Rattle.board_chipset.specs.Kept.{HasRegisters, IsFlat};
 ghost use Rattle.board_chipset.specs.Ports.{Writes};

@@ -1,8 +1,7 @@
 //! What a board is opened with.
 
-ghost use Rattle.std.specs.List.{list_any};
+ghost use Rattle.board_prelude.specs.Common.{list_any, IsDiskSize, IsRomSize, card_at};
 ghost use Rattle.std.specs.Prelude.{◌≡◌, ◌↔◌, ◌==◌, is_some, IsTrue, option_map};
-ghost use Rattle.board_spec.specs.Setup.{IsDiskSize, IsRomSize, card_at};
 
 use ata_pio::AtaOpen;
 use board_base::NoMemory;

@@ -1,12 +1,7 @@
 //! Wide accesses to memory: those that take two to four bus cycles.
 
 ghost use Rattle.std.specs.Prelude.{◌≡◌, ◌≤◌, List, ◌∷◌, length};
-ghost use Rattle.board_spec.specs.declared.event.Entry.{Entry};
-ghost use Rattle.board_spec.specs.declared.event.Event.TheVariants.{Wide};
-ghost use Rattle.board_spec.specs.Setup.{Setup};
-ghost use Rattle.board_spec.specs.InRange.{IsWideAccess};
-ghost use Rattle.board_spec.specs.WideParts.{parts_list};
-ghost use Rattle.board_spec.specs.Answer.{IsAnswer};
+ghost use Rattle.board_prelude.specs.Common.{Entry, Wide, Setup, IsWideAccess, parts_list, IsAnswer};
 ghost use Rattle.board_stores.specs.Cycles.{answers};
 ghost use Rattle.board_chipset.specs.Kept.{IsState, IsStateOf};
 

@@ -1,20 +1,11 @@
 -- A board that is fresh, and after a step.
-use Rattle.std.proofs.Common.{◌≡◌, Bool, not, ℕ, zero, suc, ◌+◌, ◌-◌, ◌/◌, Option, Some, None, ◌^◌, ◌<◌, ◌≤◌, List, ◌∷◌, length, inl, inr, refl, sym, ◌∙◌, ap, subst, arith, get_or-set_same, get_or-set_other}
-use Rattle.std.specs.Prelude.{◌↔◌, Result, Ok, Err, ◌==◌, slice_index, slice_set, replicate}
-use Rattle.std.proofs.lemmas.Bool.{cases_Bool, cases_eq, eq-eqb, ne_eqb}
+use Rattle.std.proofs.Common.{◌≡◌, Bool, not, ℕ, zero, suc, ◌+◌, ◌-◌, ◌/◌, Option, Some, None, ◌^◌, ◌<◌, ◌≤◌, List, ◌∷◌, length, inl, inr, refl, sym, ◌∙◌, ap, subst, arith, get_or-set_same, get_or-set_other, ◌↔◌, Result, Ok, Err, ◌==◌, slice_index, slice_set, replicate}
+use Rattle.board_prelude.proofs.Common.{cases_Bool, cases_eq, eq-eqb, ne_eqb, nat_tests, Entry, Setup, IsDisk, IsSetup, entries_by, IsLegal, version_of, IsAnswer}
 use Rattle.std.proofs.lemmas.List.Filters.{length-filter_both}
-use Rattle.std.proofs.lemmas.Bool.Decides.{nat_tests}
-use Rattle.board_spec.specs.declared.event.Entry.{Entry}
-use Rattle.board_spec.specs.Setup.{Setup, IsDisk, IsSetup}
-use Rattle.board_spec.specs.Legal.{entries_by, IsLegal}
-use Rattle.board_spec.specs.MapWrites.{version_of}
-use Rattle.board_spec.specs.Answer.{IsAnswer}
 use Rattle.access_history.specs.Past.{Past}
-use Rattle.board_chipset.specs.Chipset.{Running, IsLeftBy}
-use Rattle.board_chipset.specs.Versions.{version_count}
-use Rattle.board_chipset.proofs.Exact.{few_entries}
-use Rattle.board_chipset.proofs.Lefts.{state_of}
-use Rattle.board_core.specs.Kept.{IsKept}
+use Rattle.board_chipset.specs.Common.{Running, IsLeftBy, version_count}
+use Rattle.board_chipset.proofs.Common.{few_entries, state_of}
+use Rattle.board_core.specs.Kept.{HasHistory}
 
 -- ---- a new board
 
@@ -34,7 +25,7 @@ not_refused {A} {B} {E} {a} {b} {fault} (to, from) = (
 -- ---- what a board is fitted with
 
 pub fitted : {chipset : Running} {history : List Entry} {spare : ℕ} {counts : List ℕ} →
-    IsKept chipset history spare counts → IsSetup chipset.setup
+    HasHistory chipset history spare counts → IsSetup chipset.setup
 fitted kept = (state_of refl kept.left).fits
 
 -- ---- the numbers of entries
@@ -60,7 +51,7 @@ counted_after history counts entry within number below counted who below' =
 -- a processor has no more entries than the history
 pub count_fits :
     (chipset : Running) (history : List Entry) (spare : ℕ) (counts : List ℕ) (actor at : ℕ) → at ≡ actor → actor < 256 →
-    IsKept chipset history spare counts → slice_index counts at + 1 < 2 ^ 32
+    HasHistory chipset history spare counts → slice_index counts at + 1 < 2 ^ 32
 count_fits chipset history spare counts actor at same below kept =
     let own : Entry → Bool = λ entry. entry.actor == actor in
     let parts = length-filter_both own (λ entry. not (own entry)) (λ entry. refl) history in
@@ -70,16 +61,16 @@ count_fits chipset history spare counts actor at same below kept =
 
 -- a board has had fewer changes of its map than entries
 pub few_versions : {chipset : Running} {history : List Entry} {spare : ℕ} {counts : List ℕ} →
-    IsKept chipset history spare counts → version_of chipset.setup history < version_count
+    HasHistory chipset history spare counts → version_of chipset.setup history < version_count
 few_versions {chipset} {history} kept = few_entries chipset.setup history (omega (arith, kept.room))
 
 pub stepped :
     (history : List Entry) (counts : List ℕ) (entry : Entry) (past : Past) (spare : ℕ) (old new : Running) →
     length counts ≡ 256 → entry.actor < 256 → 1 ≤ spare →
     past ≡ record { entries = entry ∷ history; spare = spare - 1 } →
-    entry.seq ≡ slice_index counts entry.actor + 1 → IsKept old history spare counts → new.setup ≡ old.setup →
+    entry.seq ≡ slice_index counts entry.actor + 1 → HasHistory old history spare counts → new.setup ≡ old.setup →
     IsAnswer old.setup history entry.event entry.reply → IsLeftBy new (entry ∷ history) →
-    IsKept new past.entries past.spare (slice_set counts entry.actor entry.seq)
+    HasHistory new past.entries past.spare (slice_set counts entry.actor entry.seq)
 stepped history counts entry past spare old new all below some pushed number kept same answer left =
     let is_number = number ∙ ap (λ (n : ℕ). n + 1) (kept.counted entry.actor below) in
     rw pushed (record {

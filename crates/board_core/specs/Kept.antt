@@ -1,13 +1,10 @@
 -- What a board keeps: its history, the chipset that the history left, and the numbers of entries.
 use Rattle.std.specs.Prelude.{ℕ, ◌≡◌, ◌+◌, ◌<◌, List, length, slice_index}
-use Rattle.board_spec.specs.declared.event.Entry.{Entry}
-use Rattle.board_spec.specs.Setup.{Setup}
-use Rattle.board_spec.specs.Legal.{entries_by, IsLegal}
-use Rattle.board_spec.specs.Limits.{entry_limit}
+use Rattle.board_prelude.specs.Common.{Entry, Setup, entries_by, IsLegal, entry_limit}
 use Rattle.board_chipset.specs.Chipset.{Running, IsLeftBy}
 
 -- the history left the chipset, with the number of each processor's entries, and room for more
-pub record IsKept (chipset : Running) (history : List Entry) (spare : ℕ) (counts : List ℕ) : Type 0 where
+pub record HasHistory (chipset : Running) (history : List Entry) (spare : ℕ) (counts : List ℕ) : Type 0 where
   pub room : length history + spare < entry_limit
   pub legal : IsLegal chipset.setup history
   pub left : IsLeftBy chipset history

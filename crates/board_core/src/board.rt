@@ -1,22 +1,12 @@
 //! The board: each event is one step, which adds one entry to a history that is legal at every moment.
 
 ghost use Rattle.std.specs.Prelude.{◌≡◌, ◌-◌, ◌+◌, ◌++◌, ◌<◌, ◌≤◌, ◌↔◌, ℕ, List, [], ◌∷◌, length, max, slice_index, Err, IsTrue, IfOk, OnOk, OnErr};
-ghost use Rattle.board_spec.specs.declared.event.Entry.{Entry};
-ghost use Rattle.board_spec.specs.Limits.{most_mib, most_card_memory, entry_limit};
-ghost use Rattle.board_spec.specs.Setup.{IsCardList, IsDisk, IsRomSize, IsSetup, memory_of_cards};
-ghost use Rattle.board_spec.specs.InRange.{IsInRange};
-ghost use Rattle.board_spec.specs.Answer.{IsAnswer};
-ghost use Rattle.board_spec.specs.Legal.{IsLegal, next_entry};
-ghost use Rattle.board_spec.specs.Orders.{statements_of};
-ghost use Rattle.board_spec.specs.Registers.{byte_of};
-ghost use Rattle.board_spec.specs.MapWrites.{map_change_of, version_of};
-ghost use Rattle.board_spec.specs.FlatMap.{IsFlatMapOf};
+ghost use Rattle.board_prelude.specs.Common.{Entry, most_mib, most_card_memory, entry_limit, IsCardList, IsDisk, IsRomSize, IsSetup, memory_of_cards, IsInRange, IsAnswer, IsLegal, next_entry, statements_of, byte_of, map_change_of, version_of, IsFlatMapOf, disk_of};
 ghost use Rattle.addr_decode.specs.MapRegs.{StandsFor, map_bytes};
 ghost use Rattle.dram_store.specs.Dram.{IsDramOf};
 ghost use Rattle.pci_bars.specs.Contents.{IsContentsOf};
-ghost use Rattle.board_spec.specs.Devices.{disk_of};
 ghost use Rattle.board_chipset.specs.declared.setup.BoardOpen.{BoardOpen};
-ghost use Rattle.board_chipset.specs.Stores.{IsSound, IsStoreOf};
+ghost use Rattle.board_chipset.specs.Stores.{IsOfBoard, IsStoreOf};
 ghost use Rattle.board_core.specs.Steps.{AreInRange};
 
 use access_history::History;
@@ -39,7 +29,7 @@ pub struct Board {
 }
 
 impl Model for Board {
-    ghost use Rattle.board_core.specs.Kept.{IsKept, Standing};
+    ghost use Rattle.board_core.specs.Kept.{HasHistory, Standing};
 
     ghost Value = { Standing };
 
@@ -50,7 +40,7 @@ impl Model for Board {
     } };
 
     ghost invariant = { λ board.
-        IsKept board.chipset board.history.entries board.history.spare board.counts };
+        HasHistory board.chipset board.history.entries board.history.spare board.counts };
 }
 
 /// No entries yet.
@@ -163,7 +153,7 @@ impl Board {
         ensures rom { result.rom.items ≡ self.setup.rom }
         ensures disk { result.disk ≡ disk_of self.setup self.entries }
         ensures store { IsStoreOf self.setup (byte_of self.setup self.entries) result }
-        ensures sound { IsSound result }
+        ensures sound { IsOfBoard result }
     {
         let Board { chipset, .. } = self;
         chipset.into_store()

@@ -1,45 +1,13 @@
 -- What an entry leaves of each device.
-use Rattle.std.proofs.Common.{◌≡◌, ℕ, ◌+◌, ◌<◌, ◌≤◌, Bool, true, false, ◌||◌, ◌&&◌, List, [], ◌∷◌, Option, Some, None, length, get_or, refl, sym, ◌∙◌, ap, subst, arith, inl, inr}
-use Rattle.std.proofs.Math.Bool.{or-false, and-false}
-use Rattle.std.proofs.Common.{◌*◌, ◌/◌, ◌%◌, replicate, eq-eqb, ne_eqb, get_or-set_same, get_or-set_other}
-use Rattle.std.proofs.lemmas.Bool.Decides.{nat_tests}
-use Rattle.std.proofs.lemmas.Bool.{cases_eq, cases_Bool, lt-ltb, le-leb}
-use Rattle.std.proofs.lemmas.List.{get_or-replicate, ext_get_or, length-map, get_or-map}
-use Rattle.board_spec.proofs.TableLemmas.{each_below}
-use Rattle.device_spec.proofs.PairLaws.{same-levels}
-use Rattle.board_spec.proofs.PairProofs.{pair_has_seen}
-use Rattle.board_spec.proofs.DeviceAlone.{levels-same}
-use Rattle.board_spec.specs.DeviceLaws.{PairHasSeen}
-use Rattle.board_devices.specs.Laws.{LeavesDevices}
+use Rattle.std.proofs.Common.{◌≡◌, ℕ, ◌+◌, ◌<◌, ◌≤◌, Bool, true, false, ◌||◌, ◌&&◌, List, [], ◌∷◌, Option, Some, None, length, get_or, refl, sym, ◌∙◌, ap, subst, arith, inl, inr, ◌*◌, ◌/◌, ◌%◌, replicate, eq-eqb, ne_eqb, get_or-set_same, get_or-set_other, ◌↔◌, is_some, Result, Err, ◌==◌, unwrap_or, map, option_map, slice_index_or, slice_set, if◌then◌else◌}
+use Rattle.board_prelude.proofs.Common.{or-false, and-false, nat_tests, cases_eq, cases_Bool, lt-ltb, le-leb, get_or-replicate, ext_get_or, length-map, get_or-map, each_below, same-levels, pair_has_seen, levels-same, PairHasSeen, PortAccess, Dev, Pic0, Pic1, Pit, System, Keyboard, Elcr, Ata, Wires, Vector, Spurious, bytes_of, PitState, out_of, pulses, reset as timer_at_reset, Clock as ClockState, after_reset as clock_after_reset, Triggers, triggers_at_reset, reserved-rest, Pair, levels_at_power_on, port_byte, pair_after_lines, pair_at_reset, port_read, read_value, trigger_byte, Disk, is_disk_length, power_on as disk_at_power_on, Event, Memory, Wide, Port, Ack, Pulses, Time, Wire, Line, BadSector, Reply, Entry, Setup, IsDiskSize, is_free_line, reset_control, control_written, resets_hard, is_hard_reset, SystemPort, system_at_reset, device_reached, wire_set, wire_of, line_set, irq_of, triggers_accessed, triggers_after, triggers_of, system_accessed, system_after, system_of, timer_accessed, timer_after, timer_of, clock_accessed, clock_after, clock_of, disk_accessed, disk_after, disk_with, disk_of, routes_of, pirq_levels, pair_pulsed, level_with, all_lines, levels_with, levels_of, elcr_of, device_value, pair_accessed, pair_after, pair_reset_or_after, pair_stepped, pair_of}
+use Rattle.board_devices.specs.Common.{LeavesDevices, DevicesValue, AreWiresOf, AreIrqsOf, AreAfter, AreDevicesOf, is_chip_port, ReachesDevice, Asks, is_chip, PassesBy, Leaves, value_read, after_read, after_write}
 use Rattle.ata_pio.specs.declared.ata.AtaOpen.{AtaOpen}
-use Rattle.std.specs.Prelude.{◌↔◌, is_some, Result, Err, ◌==◌, unwrap_or, map, option_map, slice_index_or, slice_set, if◌then◌else◌}
-use Rattle.board_base.specs.declared.access.PortAccess.{PortAccess}
-use Rattle.board_base.specs.declared.target.Dev.{Dev}
-use Rattle.board_base.specs.declared.target.Dev.TheVariants.{Confadd, Reset, Pic0, Pic1, Pit, System, Keyboard, Clock, Elcr, Ata, Wires, Vector, Spurious}
-use Rattle.board_base.specs.Access.{bytes_of}
-use Rattle.device_spec.specs.Pit.{PitState, out_of, pulses, reset as timer_at_reset}
-use Rattle.device_spec.specs.Clock.{Clock as ClockState, power_on as clock_at_power_on, after_reset as clock_after_reset}
-use Rattle.device_spec.specs.Elcr.{Triggers, triggers_at_reset}
+use Rattle.board_base.specs.declared.target.Dev.TheVariants.{Confadd, Reset, Clock}
+use Rattle.device_spec.specs.Clock.{power_on as clock_at_power_on}
 use Rattle.device_spec.specs.Ata.Steps.{after_reset as disk_after_reset}
-use Rattle.device_spec.proofs.RoutingLaws.{reserved-rest}
-use Rattle.device_spec.specs.Pair.{Pair, levels_at_power_on, port_byte, pair_after_lines, pair_at_reset}
-use Rattle.device_spec.specs.Pit.{port_read}
-use Rattle.device_spec.specs.Clock.{read_value}
-use Rattle.device_spec.specs.Elcr.{trigger_byte}
-use Rattle.device_spec.specs.Ata.State.{Disk, is_disk_length, power_on as disk_at_power_on}
 use Rattle.device_spec.specs.PortNames.{elcr_ports}
-use Rattle.board_spec.specs.declared.event.Event.{Event}
-use Rattle.board_spec.specs.declared.event.Event.TheVariants.{Memory, Wide, Port, Look as LookAt, Ack, Pulses, Time, Wire, Line, BadSector}
-use Rattle.board_spec.specs.declared.event.Reply.{Reply}
-use Rattle.board_spec.specs.declared.event.Entry.{Entry}
-use Rattle.board_spec.specs.Setup.{Setup, IsDiskSize}
-use Rattle.board_spec.specs.InRange.{is_free_line}
-use Rattle.board_spec.specs.Registers.{reset_control, control_written, resets_hard, is_hard_reset}
-use Rattle.board_spec.specs.Devices.{SystemPort, system_at_reset, device_reached, wire_set, wire_of, line_set, irq_of, triggers_accessed, triggers_after, triggers_of, system_accessed, system_after, system_of, timer_accessed, timer_after, timer_of, clock_accessed, clock_after, clock_of, disk_accessed, disk_after, disk_with, disk_of}
-use Rattle.board_spec.specs.Interrupts.{routes_of, pirq_levels, pair_pulsed, level_with, all_lines, levels_with, levels_of, elcr_of, device_value, pair_accessed, pair_after, pair_reset_or_after, pair_stepped, pair_of}
-use Rattle.board_devices.specs.Devices.{DevicesValue, AreWiresOf, AreIrqsOf, AreAfter, AreDevicesOf}
-use Rattle.board_devices.specs.Events.{is_chip_port, Reaches, Asks, is_chip, PassesBy, Leaves}
-use Rattle.board_devices.specs.Steps.{value_read, after_read, after_write}
+use Rattle.board_spec.specs.declared.event.Event.TheVariants.{Look as LookAt}
 
 -- ---- each device after an entry that is no hard reset
 
@@ -138,7 +106,7 @@ with_pair setup history devices pair is = record {
 -- ---- accesses at the ports
 
 -- every device after an access that reached one of them
-module _ (setup : Setup) (history : List Entry) (entry : Entry) (dev : Dev) (access : PortAccess) (reaches : Reaches history entry dev access) where
+module _ (setup : Setup) (history : List Entry) (entry : Entry) (dev : Dev) (access : PortAccess) (reaches : ReachesDevice history entry dev access) where
   timer_at : timer_of (entry ∷ history) ≡ timer_accessed (Some dev) access (timer_of history)
   timer_at = timer_soft setup history entry reaches.soft ∙ rw (reaches.event, reaches.device) refl
 
@@ -212,11 +180,11 @@ at_port P (Spurious chip) access port pic0 pic1 pit system clock elcr ata = cc
 -- ---- reads
 
 pub read_at : (setup : Setup) (history : List Entry) (entry : Entry) (dev : Dev) (access : PortAccess) (devices : DevicesValue) →
-    is_chip_port dev access.port (bytes_of access.width) ≡ true → access.write ≡ false → Reaches history entry dev access →
+    is_chip_port dev access.port (bytes_of access.width) ≡ true → access.write ≡ false → ReachesDevice history entry dev access →
     AreAfter setup history devices → AreAfter setup (entry ∷ history) (after_read dev access devices)
 unfolding after_read
 read_at setup history entry dev access devices port reads reaches are =
-    at_port (λ d. Reaches history entry d access → AreAfter setup (entry ∷ history) (after_read d access devices)) dev access port
+    at_port (λ d. ReachesDevice history entry d access → AreAfter setup (entry ∷ history) (after_read d access devices)) dev access port
     (λ reaches. all_at setup history entry Pic0 access reaches devices _ are refl refl refl refl (same_disk devices.disk) refl refl)
     (λ reaches. all_at setup history entry Pic1 access reaches devices _ are refl refl refl refl (same_disk devices.disk) refl refl)
     (λ reaches. all_at setup history entry Pit access reaches devices _ are (rw reads refl) refl refl refl (same_disk devices.disk) refl refl)
@@ -237,11 +205,11 @@ read_pair dev access devices reads port =
 -- ---- writes
 
 pub write_at : (setup : Setup) (history : List Entry) (entry : Entry) (dev : Dev) (access : PortAccess) (devices : DevicesValue) →
-    is_chip_port dev access.port (bytes_of access.width) ≡ true → access.write ≡ true → Reaches history entry dev access →
+    is_chip_port dev access.port (bytes_of access.width) ≡ true → access.write ≡ true → ReachesDevice history entry dev access →
     AreAfter setup history devices → AreAfter setup (entry ∷ history) (after_write dev access devices)
 unfolding after_write
 write_at setup history entry dev access devices port writes reaches are =
-    at_port (λ d. Reaches history entry d access → AreAfter setup (entry ∷ history) (after_write d access devices)) dev access port
+    at_port (λ d. ReachesDevice history entry d access → AreAfter setup (entry ∷ history) (after_write d access devices)) dev access port
     (λ reaches. all_at setup history entry Pic0 access reaches devices _ are refl refl refl refl (same_disk devices.disk) refl refl)
     (λ reaches. all_at setup history entry Pic1 access reaches devices _ are refl refl refl refl (same_disk devices.disk) refl refl)
     (λ reaches. all_at setup history entry Pit access reaches devices _ are (rw writes refl) refl refl refl (same_disk devices.disk) refl refl)

@@ -1,16 +1,8 @@
 -- What a monitor asks of the devices, and what it writes to them.
-use Rattle.std.proofs.Common.{◌≡◌, ◌∙◌, ℕ, ◌==◌, Bool, false, Option, Some, None, refl, sym, ap, inl, inr}
-use Rattle.std.proofs.lemmas.Bool.{cases_Bool, true≢false}
-use Rattle.std.specs.Prelude.{◌↔◌, is_some}
-use Rattle.board_base.specs.declared.access.PortAccess.{PortAccess}
-use Rattle.board_base.specs.declared.target.Dev.{Dev}
-use Rattle.board_base.specs.declared.target.Dev.TheVariants.{Clock, Spurious}
-use Rattle.device_spec.specs.Pic.{cascade, Chip, interrupt}
-use Rattle.device_spec.specs.Pair.{Pair, chip_answer, answer_at, answer_of}
-use Rattle.device_spec.specs.Clock.{after_write as clock_after_write}
-use Rattle.board_spec.specs.Interrupts.{who_answered}
-use Rattle.board_devices.specs.Devices.{DevicesValue}
-use Rattle.board_devices.specs.Steps.{after_write}
+use Rattle.std.proofs.Common.{◌≡◌, ◌∙◌, ℕ, ◌==◌, Bool, false, Option, Some, None, refl, sym, ap, inl, inr, ◌↔◌, is_some}
+use Rattle.board_prelude.proofs.Common.{cases_Bool, true≢false, PortAccess, Dev, Spurious, cascade, Chip, interrupt, Pair, chip_answer, answer_at, answer_of, after_write as clock_after_write, who_answered}
+use Rattle.board_base.specs.declared.target.Dev.TheVariants.{Clock}
+use Rattle.board_devices.specs.Common.{DevicesValue, after_write}
 
 -- ---- INT, and the spurious answer of the master
 

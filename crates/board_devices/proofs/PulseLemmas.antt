@@ -1,32 +1,10 @@
 -- Many pulses of the timer leave the pair as two sets of levels do.
-use Rattle.std.proofs.Common.{◌≡◌, ℕ, zero, suc, ◌+◌, ◌*◌, ◌/◌, ◌%◌, ◌<◌, ◌==◌, nat_lt, ◌&&◌, ◌||◌, not, Bool, true, false, cond, List, [], ◌∷◌, Option, Some, None, is_some, take, drop, inl, inr, refl, ap, sym, subst, ◌∙◌, arith}
-use Rattle.std.proofs.lemmas.Bool.{cases_Bool, or_parts, true≢false}
-use Rattle.std.proofs.lemmas.Bool.Decides.{nat_tests}
-use Rattle.std.specs.Prelude.{slice_set}
+use Rattle.std.proofs.Common.{◌≡◌, ℕ, zero, suc, ◌+◌, ◌*◌, ◌/◌, ◌%◌, ◌<◌, ◌==◌, nat_lt, ◌&&◌, ◌||◌, not, Bool, true, false, cond, List, [], ◌∷◌, Option, Some, None, is_some, take, drop, inl, inr, refl, ap, sym, subst, ◌∙◌, arith, slice_set}
+use Rattle.board_prelude.proofs.Common.{cases_Bool, or_parts, true≢false, nat_tests, Levels, has, levels_where, no_levels, with_level, levels_of_byte, Chip, Word, Icw2, Icw3, Icw4, interrupt, latches_after, chip_after_inputs, acknowledged, acknowledged_if, first_blocking, chip_after_word, chip_after_odd_write, is_complete, chip_after_ocw2, chip_after_even_write, chip_after_write, chip_after_read, Pair, settled, master_inputs, pair_at_reset, levels_at_power_on, pair_after_lines, pair_after_write, pair_after_read, pair_acknowledged, pair_acknowledged_at, pair_after_acknowledge, is_slave_port, is_odd_port, PitState, out_of, pulses, rises, Triggers, PortAccess, Dev, Pic0, Pic1, Event, Port, Ack, Pulses, Reply, Entry, Setup, is_hard_reset, device_reached, timer_of, levels_with, levels_of, elcr_of, pair_pulsed, pair_accessed, pair_after, pair_reset_or_after, pair_stepped, pair_of, pair_has_seen, levels_where-same, has-levels_where, same-levels, inputs-again, settled-asks, settled-quiet, latched}
 use Rattle.board_base.specs.Bits.{is_bit}
-use Rattle.device_spec.specs.Levels.{Levels, has, levels_where, no_levels, with_level, levels_of_byte}
-use Rattle.device_spec.specs.Pic.{Chip, Word, Icw2, Icw3, Icw4, interrupt, latches_after, chip_after_inputs, acknowledged, acknowledged_if, first_blocking, ended, chip_after_word, chip_after_odd_write, is_complete, chip_after_ocw2, chip_after_even_write, chip_after_write, chip_after_read}
-use Rattle.device_spec.specs.Pair.{Pair, settled, master_inputs, pair_at_reset, levels_at_power_on, pair_after_lines, pair_after_write, pair_after_read, pair_acknowledged, pair_acknowledged_at, pair_after_acknowledge, is_slave_port, is_odd_port}
-use Rattle.device_spec.specs.Pit.{PitState, out_of, pulses, rises}
-use Rattle.device_spec.specs.Elcr.{Triggers}
-use Rattle.board_base.specs.declared.access.PortAccess.{PortAccess}
-use Rattle.board_base.specs.declared.target.Dev.{Dev}
-use Rattle.board_base.specs.declared.target.Dev.TheVariants.{Pic0, Pic1}
-use Rattle.board_spec.specs.declared.event.Event.{Event}
-use Rattle.board_spec.specs.declared.event.Event.TheVariants.{Port, Ack, Pulses}
-use Rattle.board_spec.specs.declared.event.Reply.{Reply}
-use Rattle.board_spec.specs.declared.event.Entry.{Entry}
-use Rattle.board_spec.specs.Setup.{Setup}
-use Rattle.board_spec.specs.Registers.{is_hard_reset}
-use Rattle.board_spec.specs.Devices.{device_reached, timer_of}
-use Rattle.board_spec.specs.Interrupts.{levels_with, levels_of, elcr_of, pair_pulsed, pair_accessed, pair_after, pair_reset_or_after, pair_stepped, pair_of}
-use Rattle.board_spec.proofs.PairProofs.{pair_has_seen}
-use Rattle.board_devices.specs.Devices.{DevicesValue, AreDevicesOf}
-use Rattle.board_devices.specs.Events.{Asks}
-use Rattle.board_devices.specs.PulsedPair.{lines_at, pair_after_run}
+use Rattle.device_spec.specs.Pic.{ended}
+use Rattle.board_devices.specs.Common.{DevicesValue, AreDevicesOf, Asks, lines_at, pair_after_run}
 use Rattle.board_devices.proofs.DeviceLemmas.{levels_pulsed, other_pair, all_pulses}
-use Rattle.device_spec.proofs.Levels.{levels_where-same, has-levels_where}
-use Rattle.device_spec.proofs.PairLaws.{same-levels, inputs-again, settled-asks, settled-quiet, latched}
 
 -- ---- the latch of line 0 at the master
 

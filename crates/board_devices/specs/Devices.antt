@@ -1,15 +1,6 @@
 -- The devices as they stand are those that a history left.
 use Rattle.std.specs.Prelude.{ℕ, ◌≡◌, ◌<◌, ◌≤◌, ◌&&◌, Bool, false, List, slice_index_or, Option}
-use Rattle.device_spec.specs.Pit.{PitState}
-use Rattle.device_spec.specs.Pair.{Pair}
-use Rattle.device_spec.specs.Clock.{Clock}
-use Rattle.device_spec.specs.Elcr.{Triggers}
-use Rattle.device_spec.specs.Ata.State.{Disk}
-use Rattle.board_spec.specs.declared.event.Entry.{Entry}
-use Rattle.board_spec.specs.Setup.{Setup}
-use Rattle.board_spec.specs.InRange.{is_free_line}
-use Rattle.board_spec.specs.Devices.{SystemPort, triggers_of, system_of, timer_of, clock_of, disk_of, wire_of, irq_of}
-use Rattle.board_spec.specs.Interrupts.{routes_of, pair_of}
+use Rattle.board_prelude.specs.Common.{PitState, Pair, Clock, Triggers, Disk, Entry, Setup, is_free_line, SystemPort, triggers_of, system_of, timer_of, clock_of, disk_of, wire_of, irq_of, routes_of, pair_of}
 
 -- what the devices hold: the machines, port 61h, INTA# of the cards by device, and the lines that `irq` set
 pub record DevicesValue : Type 0 where

@@ -1,17 +1,11 @@
 -- What an entry asks of the devices.
 use Rattle.std.specs.Prelude.{ℕ, ◌≡◌, ◌&&◌, Bool, true, false, List, Option, Some}
-use Rattle.board_base.specs.declared.access.PortAccess.{PortAccess}
-use Rattle.board_base.specs.declared.target.Dev.{Dev}
-use Rattle.board_base.specs.declared.target.Dev.TheVariants.{Pic0, Pic1, Pit, System, Clock, Elcr, Ata}
-use Rattle.device_spec.specs.PortTable.{is_port_of}
-use Rattle.board_spec.specs.declared.event.Event.{Event}
-use Rattle.board_spec.specs.declared.event.Event.TheVariants.{Memory, Wide, Port, Look}
-use Rattle.board_spec.specs.declared.event.Entry.{Entry}
-use Rattle.board_spec.specs.Registers.{is_hard_reset}
-use Rattle.board_spec.specs.Devices.{device_reached}
+use Rattle.board_prelude.specs.Common.{PortAccess, Dev, Pic0, Pic1, Pit, System, Elcr, Ata, is_port_of, Event, Memory, Wide, Port, Entry, is_hard_reset, device_reached}
+use Rattle.board_base.specs.declared.target.Dev.TheVariants.{Clock}
+use Rattle.board_spec.specs.declared.event.Event.TheVariants.{Look}
 
 -- an entry is an access that reached this device, and no hard reset
-pub record Reaches (history : List Entry) (entry : Entry) (dev : Dev) (access : PortAccess) : Type 0 where
+pub record ReachesDevice (history : List Entry) (entry : Entry) (dev : Dev) (access : PortAccess) : Type 0 where
   pub event : entry.event ≡ Port access
   pub device : device_reached entry.reply ≡ Some dev
   pub soft : is_hard_reset history entry.event ≡ false

@@ -1,8 +1,6 @@
 -- What the law of this crate says: it is proved on a function of `lines`.
 use Rattle.std.specs.Prelude.{◌≡◌, List, ◌∷◌}
-use Rattle.board_spec.specs.declared.event.Entry.{Entry}
-use Rattle.board_spec.specs.Setup.{Setup}
-use Rattle.board_spec.specs.Interrupts.{routes_of}
+use Rattle.board_prelude.specs.Common.{Entry, Setup, routes_of}
 use Rattle.board_devices.specs.Devices.{DevicesValue, AreDevicesOf}
 use Rattle.board_devices.specs.Events.{Leaves}
 

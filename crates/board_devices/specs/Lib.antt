@@ -4,3 +4,4 @@ pub mod Steps
 pub mod Laws
 pub mod PulsedPair
 pub mod Outside
+pub mod Common

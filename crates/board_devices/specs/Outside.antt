@@ -1,16 +1,9 @@
 -- What is asked of the devices between two events, and what is written to them from outside the bus.
 use Rattle.std.specs.Prelude.{ℕ, ◌≡◌, Bool, true, List, ◌∷◌, is_some}
-use Rattle.board_base.specs.declared.access.PortAccess.{PortAccess}
-use Rattle.board_base.specs.declared.access.Width.TheVariants.{One}
+use Rattle.board_prelude.specs.Common.{PortAccess, One, interrupt, clock_index_port, clock_data_port, Entry, Setup, clock_of, pair_of}
 use Rattle.board_base.specs.declared.target.Dev.TheVariants.{Clock as ClockChip}
-use Rattle.device_spec.specs.Pic.{interrupt}
-use Rattle.device_spec.specs.PortNames.{clock_index_port, clock_data_port}
-use Rattle.board_spec.specs.declared.event.Entry.{Entry}
-use Rattle.board_spec.specs.Setup.{Setup}
-use Rattle.board_spec.specs.Devices.{clock_of}
-use Rattle.board_spec.specs.Interrupts.{pair_of}
 use Rattle.board_devices.specs.Devices.{AreRoutesOf}
-use Rattle.board_devices.specs.Events.{Reaches}
+use Rattle.board_devices.specs.Events.{ReachesDevice}
 
 -- INT after a history: the master of the pair requests service
 abbrev pub is_interrupting : Setup → List Entry → Bool
@@ -22,7 +15,7 @@ byte_out port byte = record { port = port; width = One; write = true; value = by
 
 -- An entry writes a byte to a port of the clock, and the routes are these after it.
 pub record WritesClock (setup : Setup) (routes : List ℕ) (history : List Entry) (entry : Entry) (port byte : ℕ) : Type 0 where
-  pub reaches : Reaches history entry ClockChip (byte_out port byte)
+  pub reaches : ReachesDevice history entry ClockChip (byte_out port byte)
   pub routes_are : AreRoutesOf setup (entry ∷ history) routes
 
 -- Three entries write a byte of the clock: the address to port 70h, the byte to port 71h, and the index as it was

@@ -1,18 +1,9 @@
 -- What an access at a port does to the devices, before the lines reach the pair.
 use Rattle.std.specs.Prelude.{ℕ, ◌%◌, ◌==◌, not, option_map}
-use Rattle.std.specs.Option.{option_map_or}
-use Rattle.board_base.specs.declared.access.PortAccess.{PortAccess}
-use Rattle.board_base.specs.declared.target.Dev.{Dev}
-use Rattle.board_base.specs.declared.target.Dev.TheVariants.{Pic0, Pic1, Pit, System, Clock, Elcr, Ata}
-use Rattle.board_base.specs.Access.{largest_of}
-use Rattle.device_spec.specs.Pair.{pair_after_read, pair_after_write, port_byte}
-use Rattle.device_spec.specs.Pit.{port_read, port_write, set_gate2}
-use Rattle.device_spec.specs.Clock.{read_value, after_read as clock_after_read, after_write as clock_after_write}
-use Rattle.device_spec.specs.Elcr.{trigger_byte, triggers_after_write}
-use Rattle.device_spec.specs.Ata.Steps.{read_of, after_read as disk_after_read, after_write as disk_after_write}
-use Rattle.board_spec.specs.Bits.{is_bit}
+use Rattle.board_prelude.specs.Common.{option_map_or, PortAccess, Dev, Pic0, Pic1, Pit, System, Elcr, Ata, largest_of, pair_after_read, pair_after_write, port_byte, port_read, port_write, set_gate2, read_value, after_read as clock_after_read, after_write as clock_after_write, trigger_byte, triggers_after_write, read_of, is_bit, system_value}
+use Rattle.board_base.specs.declared.target.Dev.TheVariants.{Clock}
+use Rattle.device_spec.specs.Ata.Steps.{after_read as disk_after_read, after_write as disk_after_write}
 use Rattle.device_spec.specs.PortNames.{elcr_ports}
-use Rattle.board_spec.specs.Interrupts.{system_value}
 use Rattle.board_devices.specs.Devices.{DevicesValue}
 
 -- what a read gives

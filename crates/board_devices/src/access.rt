@@ -1,22 +1,12 @@
 //! Accesses at the ports of the devices.
 
-ghost use Rattle.std.specs.Prelude.{◌≡◌, ◌∷◌, ◌≤◌, List, true, false};
-ghost use Rattle.board_base.specs.Access.{bytes_of, largest_of};
-ghost use Rattle.board_spec.specs.declared.event.Entry.{Entry};
-ghost use Rattle.board_spec.specs.Setup.{Setup};
-ghost use Rattle.board_spec.specs.Interrupts.{device_value, vector_of, acknowledged_by};
-ghost use Rattle.board_spec.specs.declared.event.Event.TheVariants.{Ack as AckEvent};
-ghost use Rattle.std.specs.Prelude.{◌%◌, option_map};
-ghost use Rattle.std.specs.Option.{option_map_or};
-ghost use Rattle.device_spec.specs.Pair.{answer_of, pair_after_acknowledge};
-ghost use Rattle.device_spec.specs.Pit.{set_gate2};
-ghost use Rattle.device_spec.specs.Ata.Steps.{is_ata_port, read_of, after_read as disk_after_read, after_write as disk_after_write};
-ghost use Rattle.board_spec.specs.Bits.{is_bit};
-ghost use Rattle.board_spec.specs.Interrupts.{who_answered};
+ghost use Rattle.std.specs.Prelude.{◌≡◌, ◌∷◌, ◌≤◌, List, true, false, ◌%◌, option_map};
+ghost use Rattle.board_prelude.specs.Common.{bytes_of, largest_of, Entry, Setup, device_value, vector_of, acknowledged_by, Ack as AckEvent, option_map_or, answer_of, pair_after_acknowledge, set_gate2, is_ata_port, read_of, is_bit, who_answered};
+ghost use Rattle.device_spec.specs.Ata.Steps.{after_read as disk_after_read, after_write as disk_after_write};
 ghost use Rattle.pic_pair.specs.View.{answer_shown};
 ghost use Rattle.board_devices.specs.Steps.{value_read, after_read, after_write};
 ghost use Rattle.board_devices.specs.Devices.{AreDevicesOf, AreRoutesOf};
-ghost use Rattle.board_devices.specs.Events.{is_chip_port, Reaches, Asks};
+ghost use Rattle.board_devices.specs.Events.{is_chip_port, ReachesDevice, Asks};
 
 use crate::devices::Devices;
 use board_base::bits::is_set;
@@ -36,7 +26,7 @@ impl Devices {
         ensures value { (setup : Setup) (history : List Entry) → AreDevicesOf setup history self.old
             → result ≡ device_value setup history dev access.now.port access.now.width }
         ensures devices { (setup : Setup) (history : List Entry) (entry : Entry) → AreDevicesOf setup history self.old
-            → Reaches history entry dev access.now → access.now.write ≡ false
+            → ReachesDevice history entry dev access.now → access.now.write ≡ false
             → AreRoutesOf setup (entry ∷ history) routes.now → AreDevicesOf setup (entry ∷ history) self.new }
     {
         let value = self.read_port(dev, access);
@@ -49,7 +39,7 @@ impl Devices {
         requires port { is_chip_port dev access.now.port (bytes_of access.now.width) ≡ true }
         requires fits { access.now.value ≤ largest_of access.now.width }
         ensures devices { (setup : Setup) (history : List Entry) (entry : Entry) → AreDevicesOf setup history self.old
-            → Reaches history entry dev access.now → access.now.write ≡ true
+            → ReachesDevice history entry dev access.now → access.now.write ≡ true
             → AreRoutesOf setup (entry ∷ history) routes.now → AreDevicesOf setup (entry ∷ history) self.new }
     {
         self.write_port(dev, access);

@@ -1,13 +1,7 @@
 //! The sixteen interrupt lines.
 
 ghost use Rattle.std.specs.Prelude.{◌≡◌, ◌+◌, ◌*◌, ◌<◌, ◌∷◌, ◌||◌, List, slice_index_or, false};
-ghost use Rattle.std.specs.Option.{option_map_or};
-ghost use Rattle.device_spec.specs.Ata.State.{is_interrupt};
-ghost use Rattle.device_spec.specs.Pair.{pair_after_lines};
-ghost use Rattle.board_spec.specs.Devices.{timer_of};
-ghost use Rattle.board_spec.specs.declared.event.Entry.{Entry};
-ghost use Rattle.board_spec.specs.Setup.{Setup};
-ghost use Rattle.board_spec.specs.Interrupts.{pirq_levels, own_level, levels_of, elcr_of};
+ghost use Rattle.board_prelude.specs.Common.{option_map_or, is_interrupt, pair_after_lines, timer_of, Entry, Setup, pirq_levels, own_level, levels_of, elcr_of};
 ghost use Rattle.board_devices.specs.Devices.{AreWiresOf, AreAfter, AreDevicesOf, AreRoutesOf};
 ghost use Rattle.board_devices.specs.Events.{Leaves};
 ghost use Rattle.board_devices.specs.Laws.{LeavesDevices};

@@ -1,14 +1,9 @@
 //! What a monitor asks of the devices between two events, and what it writes to them from outside the bus.
 
 ghost use Rattle.std.specs.Prelude.{◌≡◌, ◌+◌, ◌*◌, ◌<◌, ◌≤◌, ◌↔◌, ◌∷◌, List, option_map, IfSome, true, false};
-ghost use Rattle.board_base.specs.declared.target.Dev.TheVariants.{Clock as ClockChip, Spurious};
-ghost use Rattle.board_spec.specs.declared.event.Entry.{Entry};
-ghost use Rattle.board_spec.specs.Setup.{Setup};
-ghost use Rattle.board_spec.specs.Devices.{timer_of, clock_of, disk_of};
-ghost use Rattle.board_spec.specs.Interrupts.{acknowledged_by};
-ghost use Rattle.device_spec.specs.Clock.{after_write};
-ghost use Rattle.pit_8254.specs.Quiet.{most_count};
-ghost use Rattle.pit_8254.specs.NextRise.{IsNextRise};
+ghost use Rattle.board_base.specs.declared.target.Dev.TheVariants.{Clock as ClockChip};
+ghost use Rattle.board_prelude.specs.Common.{Spurious, Entry, Setup, timer_of, clock_of, disk_of, acknowledged_by, after_write};
+ghost use Rattle.pit_8254.specs.Common.{most_count, IsNextRise};
 ghost use Rattle.cmos_clock.specs.Outside.{with_byte};
 ghost use Rattle.board_devices.specs.Devices.{AreDevicesOf};
 ghost use Rattle.board_devices.specs.Events.{is_chip_port};

@@ -2,15 +2,7 @@
 //! event, and as if after each single pulse, the lines reach the pair.
 
 ghost use Rattle.std.specs.Prelude.{◌≡◌, ◌<◌, ◌≤◌, ◌∷◌, List, length, nat_lt, slice_set, option_map, true};
-ghost use Rattle.device_spec.specs.Pit.{out_of, pulses, rises};
-ghost use Rattle.device_spec.specs.Clock.{after_moment};
-ghost use Rattle.device_spec.specs.Told.{civil_time};
-ghost use Rattle.device_spec.specs.Ata.Steps.{after_bad};
-ghost use Rattle.board_base.specs.Calendar.{IsMoment};
-ghost use Rattle.board_spec.specs.declared.event.Entry.{Entry};
-ghost use Rattle.board_spec.specs.declared.event.Event.TheVariants.{Pulses, Time, Wire, Line, BadSector};
-ghost use Rattle.board_spec.specs.Setup.{Setup};
-ghost use Rattle.board_spec.specs.InRange.{is_free_line};
+ghost use Rattle.board_prelude.specs.Common.{out_of, pulses, rises, after_moment, civil_time, after_bad, IsMoment, Entry, Pulses, Time, Wire, Line, BadSector, Setup, is_free_line};
 ghost use Rattle.board_devices.specs.Devices.{AreDevicesOf, AreRoutesOf};
 ghost use Rattle.board_devices.specs.Events.{Asks};
 ghost use Rattle.board_devices.specs.PulsedPair.{pair_after_run};

@@ -4,11 +4,7 @@
 mod monitor;
 
 ghost use Rattle.std.specs.Prelude.{◌≡◌, ◌≢◌, ◌↔◌, [], false, None, length, Err, IfOk};
-ghost use Rattle.board_base.specs.declared.access.Kind.{Kind};
-ghost use Rattle.board_base.specs.declared.access.Width.{Width};
-ghost use Rattle.board_spec.specs.declared.event.Event.{Event};
-ghost use Rattle.board_spec.specs.Setup.{IsRomSize};
-ghost use Rattle.board_spec.specs.Answer.{IsAnswer};
+ghost use Rattle.board_prelude.specs.Common.{Kind, Width, Event, IsRomSize, IsAnswer};
 ghost use Rattle.board_chipset.specs.declared.setup.BoardOpen.{BoardOpen};
 
 use board_base::{Access, Kind, Width};

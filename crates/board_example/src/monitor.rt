@@ -1,10 +1,8 @@
 //! A monitor over a chipset: a guest's exits are answered one after another, for as long as the guest runs.
 
 ghost use Rattle.std.specs.Prelude.{◌≡◌, ◌↔◌, ◌++◌, List, IsErr};
-ghost use Rattle.board_spec.specs.declared.event.Entry.{Entry};
-ghost use Rattle.board_spec.specs.InRange.{IsInRange};
-ghost use Rattle.board_chipset.specs.Chipset.{IsLeftBy};
-ghost use Rattle.board_chipset.specs.Resets.{reset_of};
+ghost use Rattle.board_prelude.specs.Common.{Entry, IsInRange};
+ghost use Rattle.board_chipset.specs.Common.{IsLeftBy, reset_of};
 
 use board_chipset::{Chipset, OutOfRange, ResetKind};
 use board_spec::{Event, Reply};

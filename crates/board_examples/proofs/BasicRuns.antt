@@ -1,17 +1,6 @@
 -- Each example is computed from the definitions: the number and the reply of each line, the last line first.
-use Rattle.std.specs.Prelude.{ℕ, ◌≡◌, ◌+◌, ◌%◌, ◌<◌, List, length, slice_index, refl}
-use Rattle.std.proofs.Common.{arith}
-use Rattle.std.proofs.lemmas.List.FromFn.{length-map-range_with_len, get_or-map-range_with_len}
-use Rattle.board_spec.specs.declared.event.Entry.{Entry}
-use Rattle.board_spec.specs.Setup.{Setup}
-use Rattle.board_spec.specs.RegisterTable.{reset_byte, writable_bits, host_bridge, isa_bridge, ide_function, card_function}
-use Rattle.board_spec.specs.Registers.{byte_of, config_address, reset_control}
-use Rattle.board_spec.specs.MapWrites.{map_change_of, map_writes_of}
-use Rattle.board_spec.specs.Decode.{row_of, area_of, denial_of, memory_claim, memory_shut, rom_unselected, io_claim, io_shut}
-use Rattle.board_spec.specs.Ports.{port_target_of}
-use Rattle.board_spec.specs.Stored.{stored_of}
-use Rattle.board_spec.specs.Answer.{IsAnswer, port_answer, memory_answer}
-use Rattle.board_spec.specs.Legal.{entries_by, IsNext}
+use Rattle.std.proofs.Common.{ℕ, ◌≡◌, ◌+◌, ◌%◌, ◌<◌, List, length, slice_index, refl, arith}
+use Rattle.board_prelude.proofs.Common.{length-map-range_with_len, get_or-map-range_with_len, Entry, Setup, reset_byte, writable_bits, host_bridge, isa_bridge, ide_function, card_function, byte_of, config_address, reset_control, map_change_of, map_writes_of, row_of, area_of, denial_of, memory_claim, memory_shut, rom_unselected, io_claim, io_shut, port_target_of, stored_of, IsAnswer, port_answer, memory_answer, entries_by, IsNext}
 use Rattle.board_examples.specs.Basics.{counting_rom, ShadowingTheBios, OneWindowForWrites, MemoryAfterReset, ConfigurationPorts, SmramLockedUntilReset, VgaBesideSmram, NoRowOfDram, CardInTheHole, HoleAt512Kib, TwoCardsAtOneAddress, XbcsOverASoftReset, RomAfterReset, CardMovedUnderTheRom}
 use Rattle.board_examples.proofs.Spans.{two_cards_span, low_card_span, gap_span, high_card_span}
 

@@ -1,25 +1,9 @@
 -- The worked texts of logs.
-use Rattle.std.specs.Prelude.{ℕ, suc, ◌≡◌, ◌+◌, ◌≤◌, ◌==◌, true, List, [], ◌∷◌, ◌++◌, length, All, codes, decimal, refl, if◌then◌else◌}
-use Rattle.std.proofs.Common.{get_or, take, drop, add-one, append-nil, arith, inl, inr, sym, ap, ◌∙◌}
-use Rattle.std.specs.Fmt.{digits}
-use Rattle.std.proofs.lemmas.Grind.{common_steps, flat_map-append}
-use Rattle.std.proofs.lemmas.List.Elements.{All-nil, All-cons, All-push}
-use Rattle.board_spec.specs.declared.event.Entry.{Entry}
-use Rattle.board_spec.specs.Text.{line_feed}
-use Rattle.board_spec.specs.LogText.{event_text, reply_text, line_text, lines_text, log_text}
-use Rattle.board_spec.specs.declared.event.Statement.{Statement}
-use Rattle.board_spec.specs.Orders.{statements_of, IsCompleteFor}
-use Rattle.board_examples.specs.Basics.{small_board}
-use Rattle.board_examples.specs.Orders.{phases, look_last, LookLast}
-use Rattle.script_spec.specs.Lines.{text_of_lines, IsOneLine}
-use Rattle.script_spec.specs.ScriptText.{IsVersion}
-use Rattle.script_spec.specs.WellFormed.{IsWellFormed}
-use Rattle.script_spec.specs.Checks.{AreBegun, IsSomeLog, IsLogOf}
-use Rattle.board_examples.specs.CheckedLogs.{NoEntries, NoSuchVersion, EmptyLog, EmptyLogDiffers, CutLogDiffers, OpenLogDiffers, LongLogDiffers, order_lines, last_line}
-use Rattle.script_spec.proofs.Digits.{lacks}
-use Rattle.script_spec.proofs.Fields.{front, front-field, lacks-first, lacks-later}
-use Rattle.script_spec.proofs.LogLaws.{line_whole}
-use Rattle.script_spec.proofs.CheckLaws.{lacks-line, one_line}
+use Rattle.std.proofs.Common.{ℕ, suc, ◌≡◌, ◌+◌, ◌≤◌, ◌==◌, true, List, [], ◌∷◌, ◌++◌, length, All, codes, decimal, refl, if◌then◌else◌, get_or, take, drop, add-one, append-nil, arith, inl, inr, sym, ap, ◌∙◌}
+use Rattle.board_prelude.proofs.Common.{digits, common_steps, flat_map-append, All-nil, All-cons, All-push, Entry, line_feed, event_text, reply_text, line_text, lines_text, log_text, Statement, statements_of, IsCompleteFor}
+use Rattle.board_examples.specs.Common.{small_board, phases, look_last, LookLast, NoEntries, NoSuchVersion, EmptyLog, EmptyLogDiffers, CutLogDiffers, OpenLogDiffers, LongLogDiffers, order_lines, last_line}
+use Rattle.script_spec.specs.Common.{text_of_lines, IsOneLine, IsVersion, IsWellFormed, AreBegun, IsSomeLog, IsLogOf}
+use Rattle.script_spec.proofs.Common.{lacks, front, front-field, lacks-first, lacks-later, line_whole, lacks-line, one_line}
 
 pub no_entries : NoEntries
 unfolding NoEntries digits lines_text

@@ -1,16 +1,8 @@
 -- The maps whose columns differ, range by range: the byte of the SMRAM register matters in its own range alone.
-use Rattle.std.specs.Prelude.{ℕ, zero, suc, ◌≡◌, ◌<◌, ◌≤◌, ◌+◌, ◌-◌, ◌/◌, ◌%◌, ◌==◌, Bool, true, false, get_or, refl}
-use Rattle.std.proofs.Common.{arith}
-use Rattle.std.proofs.lemmas.Bool.{le-leb, lt-leb, lt-ltb, le-ltb}
-use Rattle.std.proofs.Math.Nat.{div-lt_iff_lt-mul}
+use Rattle.std.proofs.Common.{ℕ, zero, suc, ◌≡◌, ◌<◌, ◌≤◌, ◌+◌, ◌-◌, ◌/◌, ◌%◌, ◌==◌, Bool, true, false, get_or, refl, arith}
+use Rattle.board_prelude.proofs.Common.{le-leb, lt-leb, lt-ltb, le-ltb, div-lt_iff_lt-mul, reset_byte, writable_bits, host_bridge, isa_bridge, byte_of, config_address, reset_control, Bytes, nibble, pam_register, row_of, area_of, memory_claim, bridge, MapRange, IsRight}
 use Rattle.board_base.specs.declared.target.Area.TheVariants.{Dram as DramArea, Smram as SmramArea, Rom as RomArea, Abort as AbortArea}
-use Rattle.board_spec.specs.RegisterTable.{reset_byte, writable_bits, host_bridge, isa_bridge}
-use Rattle.board_spec.specs.Registers.{byte_of, config_address, reset_control}
-use Rattle.board_spec.specs.Decode.{Bytes, nibble, pam_register, row_of, area_of, memory_claim}
-use Rattle.board_spec.specs.RegisterNames.{bridge}
-use Rattle.board_spec.specs.FlatMap.{MapRange, IsRight}
-use Rattle.board_examples.specs.Basics.{small_board}
-use Rattle.board_examples.specs.Maps.{range, smram_written, smram_range, map_round, MapOpenAndClosed, MapClosedToData, MapOfSmm}
+use Rattle.board_examples.specs.Common.{small_board, range, smram_written, smram_range, map_round, MapOpenAndClosed, MapClosedToData, MapOfSmm}
 use Rattle.board_examples.proofs.Spans.{above, below}
 
 abbrev after : (control : ℕ) → Bytes

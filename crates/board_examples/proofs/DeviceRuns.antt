@@ -1,23 +1,9 @@
 -- The examples of the devices and of the interrupt lines are computed from the definitions, line by line.
 use Rattle.std.specs.Prelude.{refl}
-use Rattle.device_spec.specs.Levels.{levels_where, byte_of_levels}
-use Rattle.device_spec.specs.Pic.{pending, first_selectable, request as pic_request, first_blocking, chip_after_write, byte_read, chip_after_read}
-use Rattle.device_spec.specs.Pair.{answer_of, pair_after_acknowledge}
-use Rattle.device_spec.specs.Routing.{is_line_driven}
-use Rattle.device_spec.specs.Pit.{low_byte, high_byte, count_of_number, mode_numbered, access_numbered, programmed, element_bytes, status_byte, latch_count, latch_status, control as counter_control, read_back, read_live, read as counter_read, asks_for_load, complete as count_complete, take_low, take_byte, write as counter_write, gate_rises, gate_falls, load as counter_load, count_down, count_to_end, count_to_reload, count_half, count_to_strobe, pulse_by_mode, pulse as counter_pulse, reset as timer_reset, port_read, read_back_chosen, write_control, port_write, set_gate2, out_of, pulse_all, pulses as timer_pulses, rises}
+use Rattle.board_prelude.proofs.Common.{levels_where, byte_of_levels, pending, first_selectable, request as pic_request, first_blocking, chip_after_write, byte_read, chip_after_read, answer_of, pair_after_acknowledge, is_line_driven, low_byte, high_byte, count_of_number, mode_numbered, access_numbered, programmed, element_bytes, status_byte, latch_count, latch_status, control as counter_control, read_back, read_live, read as counter_read, asks_for_load, complete as count_complete, take_low, take_byte, write as counter_write, gate_rises, gate_falls, load as counter_load, count_down, count_to_end, count_to_reload, count_half, count_to_strobe, pulse_by_mode, pulse as counter_pulse, reset as timer_reset, port_read, read_back_chosen, write_control, port_write, set_gate2, out_of, pulse_all, pulses as timer_pulses, rises, begin_read, sector_read as sector_was_read, begin_write, sector_written, verified, obeyed, commanded, after_word, word_written, register_written, reset_byte, writable_bits, isa_bridge, ide_function, byte_of, config_address, reset_control, port_target_of, port_answer, wire_of, irq_of, triggers_of, system_of, timer_of, clock_of, disk_with, levels_with, pair_pulsed, pair_of, device_value}
 use Rattle.device_spec.specs.Clock.{power_on as clock_power_on}
-use Rattle.device_spec.specs.Ata.Commands.{begin_read, sector_read as sector_was_read, begin_write, sector_written, verified, obeyed, commanded}
-use Rattle.device_spec.specs.Ata.Steps.{after_word, word_written, register_written, control_written as disk_control_written}
-use Rattle.board_spec.specs.RegisterTable.{reset_byte, writable_bits, isa_bridge, ide_function}
-use Rattle.board_spec.specs.Registers.{byte_of, config_address, reset_control}
-use Rattle.board_spec.specs.Ports.{port_target_of}
-use Rattle.board_spec.specs.Answer.{port_answer}
-use Rattle.board_spec.specs.Devices.{wire_of, irq_of, triggers_of, system_of, timer_of, clock_of, disk_with}
-use Rattle.board_spec.specs.Interrupts.{levels_with, pair_pulsed, pair_of, device_value}
-use Rattle.board_examples.specs.Words.{from_reset}
-use Rattle.board_examples.specs.Basics.{small_board}
-use Rattle.board_examples.specs.Devices.{plain_card_board, timer_latched, system_port, fallen_line, nested_interrupts, polled, routed_wire, clock_told, TimerLatched, SystemPort, FallenLine, NestedInterrupts, Polled, RoutedWire, ClockTold}
-use Rattle.board_examples.specs.Interrupts.{sector_board, wired_board, each_pulse, gated_counter, clock_interrupts, disk_interrupts, shared_wires, free_lines, devices_over_reset, mask_before_icw1, disk_over_reset, EachPulse, GatedCounter, ClockInterrupts, DiskInterrupts, SharedWires, FreeLines, DevicesOverReset, MaskBeforeIcw1, DiskOverReset}
+use Rattle.device_spec.specs.Ata.Steps.{control_written as disk_control_written}
+use Rattle.board_examples.specs.Common.{from_reset, small_board, plain_card_board, timer_latched, system_port, fallen_line, nested_interrupts, polled, routed_wire, clock_told, TimerLatched, SystemPort, FallenLine, NestedInterrupts, Polled, RoutedWire, ClockTold, sector_board, wired_board, each_pulse, gated_counter, clock_interrupts, disk_interrupts, shared_wires, free_lines, devices_over_reset, mask_before_icw1, disk_over_reset, EachPulse, GatedCounter, ClockInterrupts, DiskInterrupts, SharedWires, FreeLines, DevicesOverReset, MaskBeforeIcw1, DiskOverReset}
 use Rattle.board_examples.proofs.Lines.{legal}
 
 -- the examples, all computed with the same definitions open

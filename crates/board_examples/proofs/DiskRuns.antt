@@ -1,17 +1,9 @@
 -- The examples of the disk are computed from the definitions.
 use Rattle.std.specs.Prelude.{refl}
-use Rattle.device_spec.specs.Ata.Commands.{begin_read, sector_read as sector_was_read, begin_write, sector_written, verified, obeyed, commanded}
-use Rattle.device_spec.specs.Ata.Steps.{after_word, word_written, register_written, control_written as disk_control_written}
-use Rattle.board_spec.specs.RegisterTable.{reset_byte, writable_bits, ide_function}
-use Rattle.board_spec.specs.Registers.{byte_of, config_address, reset_control}
-use Rattle.board_spec.specs.Decode.{io_claim, io_shut}
-use Rattle.board_spec.specs.Ports.{port_target_of}
-use Rattle.board_spec.specs.Answer.{port_answer}
-use Rattle.board_spec.specs.Devices.{disk_with}
-use Rattle.board_spec.specs.Interrupts.{device_value}
-use Rattle.board_examples.specs.Words.{from_reset}
-use Rattle.board_examples.specs.Basics.{small_board}
-use Rattle.board_examples.specs.Disk.{four_sectors, disk_board, sector_read as reads_a_sector, bad_sector, disabled_disk, no_disk, SectorRead, BadSector, DisabledDisk, NoDisk}
+use Rattle.board_prelude.proofs.Common.{begin_read, sector_read as sector_was_read, begin_write, sector_written, verified, obeyed, commanded, after_word, word_written, register_written, reset_byte, writable_bits, ide_function, byte_of, config_address, reset_control, io_claim, io_shut, port_target_of, port_answer, disk_with, device_value}
+use Rattle.device_spec.specs.Ata.Steps.{control_written as disk_control_written}
+use Rattle.board_examples.specs.Common.{from_reset, small_board, four_sectors, disk_board, bad_sector, disabled_disk, no_disk, SectorRead, BadSector, DisabledDisk, NoDisk}
+use Rattle.board_examples.specs.Disk.{sector_read as reads_a_sector}
 use Rattle.board_examples.proofs.Lines.{legal}
 
 -- the examples, all computed with the same definitions open

@@ -1,6 +1,5 @@
 -- The borders are computed from the definitions.
-use Rattle.std.specs.Prelude.{refl}
-use Rattle.std.proofs.Common.{arith, inl, inr}
+use Rattle.std.proofs.Common.{refl, arith, inl, inr}
 use Rattle.std.proofs.lemmas.Bool.{false≢true}
 use Rattle.board_examples.specs.Events.{AccessBorders, WideBorders, OutsideBorders}
 

@@ -1,21 +1,10 @@
 -- A history without looks is legal where the numbers and the replies of its lines are those that the definitions
 -- compute: one equation of two lists.
-use Rattle.std.specs.Prelude.{ℕ, ◌≡◌, ◌+◌, List, [], ◌∷◌, length, map, Option, Some, None}
-use Rattle.std.proofs.Common.{ap, sym, subst}
-use Rattle.board_base.specs.declared.target.Dev.TheVariants.{Pit, Clock, Ata, Wires}
-use Rattle.board_base.specs.declared.target.Target.TheVariants.{Device}
-use Rattle.board_spec.specs.declared.event.Event.{Event}
-use Rattle.board_spec.specs.declared.event.Event.TheVariants.{Memory, Wide, Port, Look as LookAt, Ack, Pulses, Time, Wire, Line, BadSector}
-use Rattle.board_spec.specs.declared.event.Part.{Part}
-use Rattle.board_spec.specs.declared.event.Parts.TheVariants.{Two as TwoParts, Three as ThreeParts, Four as FourParts}
-use Rattle.board_spec.specs.declared.event.Reply.{Reply}
-use Rattle.board_spec.specs.declared.event.Reply.TheVariants.{Bus, Parts as InParts, Saw}
-use Rattle.board_spec.specs.declared.event.Entry.{Entry}
-use Rattle.board_spec.specs.Setup.{Setup}
-use Rattle.board_spec.specs.WideParts.{parts_of, parts_list}
-use Rattle.board_spec.specs.Interrupts.{vector_of, acknowledged_by}
-use Rattle.board_spec.specs.Answer.{IsAnswer, memory_answer, part_answer, wide_value, port_answer, outside_answer}
-use Rattle.board_spec.specs.Legal.{entries_by, IsLegal}
+use Rattle.std.proofs.Common.{ℕ, ◌≡◌, ◌+◌, List, [], ◌∷◌, length, map, Option, Some, None, ap, sym, subst}
+use Rattle.board_prelude.proofs.Common.{Pit, Ata, Wires, Device, Event, Memory, Wide, Port, Ack, Pulses, Time, Wire, Line, BadSector, Part, Two as TwoParts, Three as ThreeParts, Four as FourParts, Reply, Bus, Saw, Entry, Setup, parts_of, parts_list, vector_of, acknowledged_by, IsAnswer, memory_answer, part_answer, wide_value, port_answer, outside_answer, entries_by, IsLegal}
+use Rattle.board_base.specs.declared.target.Dev.TheVariants.{Clock}
+use Rattle.board_spec.specs.declared.event.Event.TheVariants.{Look as LookAt}
+use Rattle.board_spec.specs.declared.event.Reply.TheVariants.{Parts as InParts}
 
 -- a reply: whole, or the value and the parts of a wide access
 pub data Told : Type 0 where

@@ -1,7 +1,6 @@
 -- The logs of the worked examples are computed from the definitions of the text.
 use Rattle.std.specs.Prelude.{refl}
-use Rattle.std.specs.Fmt.{digits}
-use Rattle.board_spec.specs.LogText.{event_text, reply_text, line_text, lines_text}
+use Rattle.board_prelude.proofs.Common.{digits, event_text, reply_text, line_text, lines_text}
 use Rattle.board_examples.specs.Logs.{VgaBesideSmramLogged, ConfigurationPortsLogged, TwoCardsLogged, XbcsLogged, OutsideLogged}
 
 pub vga_beside_smram_logged : VgaBesideSmramLogged

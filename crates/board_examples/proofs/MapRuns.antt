@@ -1,17 +1,9 @@
 -- The flat map after reset, range by range.
-use Rattle.std.specs.Prelude.{ℕ, zero, suc, ◌≡◌, ◌<◌, ◌≤◌, ◌+◌, ◌-◌, ◌/◌, ◌%◌, ◌==◌, Bool, true, false, [], get_or, refl}
-use Rattle.std.proofs.Common.{arith, inl, inr}
-use Rattle.std.specs.Fmt.{digits}
-use Rattle.std.proofs.lemmas.Bool.{le-leb, lt-leb, lt-ltb, le-ltb, cases_lt}
-use Rattle.std.proofs.Math.Nat.{div-lt_iff_lt-mul}
+use Rattle.std.proofs.Common.{ℕ, zero, suc, ◌≡◌, ◌<◌, ◌≤◌, ◌+◌, ◌-◌, ◌/◌, ◌%◌, ◌==◌, Bool, true, false, [], get_or, refl, arith, inl, inr}
+use Rattle.board_prelude.proofs.Common.{digits, le-leb, lt-leb, lt-ltb, le-ltb, cases_lt, div-lt_iff_lt-mul, reset_byte, host_bridge, isa_bridge, byte_of, nibble, pam_register, row_of, area_of, memory_claim, bridge, MapRange, IsRight}
 use Rattle.board_base.specs.declared.target.Area.TheVariants.{Dram as DramArea, Rom as RomArea, Abort as AbortArea}
-use Rattle.board_spec.specs.RegisterTable.{reset_byte, host_bridge, isa_bridge}
-use Rattle.board_spec.specs.Registers.{byte_of}
-use Rattle.board_spec.specs.Decode.{nibble, pam_register, row_of, area_of, memory_claim}
-use Rattle.board_spec.specs.RegisterNames.{bridge}
-use Rattle.board_spec.specs.FlatMap.{MapRange, IsRight}
-use Rattle.board_examples.specs.Basics.{small_board}
-use Rattle.board_examples.specs.Maps.{range, map_after_reset as ranges, MapAfterReset, MapAfterResetWritten}
+use Rattle.board_examples.specs.Common.{small_board, range, MapAfterReset, MapAfterResetWritten}
+use Rattle.board_examples.specs.Maps.{map_after_reset as ranges}
 use Rattle.board_examples.proofs.Spans.{above, below}
 
 low_dram : IsRight small_board (byte_of small_board []) (range 0x0 0x9_FFFF (DramArea 0))

@@ -1,12 +1,7 @@
 -- The registers read back are computed from the definitions.
 use Rattle.std.specs.Prelude.{refl}
-use Rattle.board_spec.specs.RegisterTable.{reset_byte, writable_bits, host_bridge, isa_bridge, ide_function, card_function}
-use Rattle.board_spec.specs.Registers.{byte_of, config_address, reset_control}
-use Rattle.board_spec.specs.Ports.{port_target_of}
-use Rattle.board_spec.specs.Answer.{port_answer}
-use Rattle.board_examples.specs.Words.{from_reset}
-use Rattle.board_examples.specs.Basics.{small_board}
-use Rattle.board_examples.specs.Masks.{full_board, host_written, isa_written, ide_written, card_written, vga_written, functions_told_apart, HostWritten, IsaWritten, IdeWritten, CardWritten, VgaWritten, FunctionsToldApart}
+use Rattle.board_prelude.proofs.Common.{reset_byte, writable_bits, host_bridge, isa_bridge, ide_function, card_function, byte_of, config_address, reset_control, port_target_of, port_answer}
+use Rattle.board_examples.specs.Common.{from_reset, small_board, full_board, host_written, isa_written, ide_written, card_written, vga_written, functions_told_apart, HostWritten, IsaWritten, IdeWritten, CardWritten, VgaWritten, FunctionsToldApart}
 use Rattle.board_examples.proofs.Lines.{legal}
 
 pub host_read_back : HostWritten

@@ -1,22 +1,8 @@
 -- Both orders of the script for two processors.
-use Rattle.std.specs.Prelude.{ℕ, ◌≡◌, false, [], ◌∷◌, refl}
-use Rattle.std.proofs.Common.{arith, inl, inr, ne_eqb}
-use Rattle.std.specs.Fmt.{digits}
-use Rattle.std.proofs.lemmas.Bool.{le-leb, lt-ltb, cases_eq}
-use Rattle.board_base.specs.declared.access.Kind.TheVariants.{Read}
+use Rattle.std.proofs.Common.{ℕ, ◌≡◌, false, [], ◌∷◌, refl, arith, inl, inr, ne_eqb}
+use Rattle.board_prelude.proofs.Common.{digits, le-leb, lt-ltb, cases_eq, Read, Statement, reset_byte, writable_bits, host_bridge, isa_bridge, ide_function, card_function, byte_of, config_address, reset_control, map_change_of, map_writes_of, row_of, area_of, memory_claim, io_claim, io_shut, port_target_of, IsSpan, memory_answer, port_answer, events_by, statement_of, BeginsWith, event_text, reply_text, line_text, lines_text}
 use Rattle.board_base.specs.declared.target.Area.TheVariants.{Rom as RomArea, Shadow as ShadowArea}
-use Rattle.board_spec.specs.declared.event.Statement.{Statement}
-use Rattle.board_spec.specs.RegisterTable.{reset_byte, writable_bits, host_bridge, isa_bridge, ide_function, card_function}
-use Rattle.board_spec.specs.Registers.{byte_of, config_address, reset_control}
-use Rattle.board_spec.specs.MapWrites.{map_change_of, map_writes_of}
-use Rattle.board_spec.specs.Decode.{row_of, area_of, memory_claim, io_claim, io_shut}
-use Rattle.board_spec.specs.Ports.{port_target_of}
-use Rattle.board_spec.specs.FlatMap.{IsSpan}
-use Rattle.board_spec.specs.Answer.{memory_answer, port_answer}
-use Rattle.board_spec.specs.Orders.{events_by, statement_of, BeginsWith}
-use Rattle.board_spec.specs.LogText.{event_text, reply_text, line_text, lines_text}
-use Rattle.board_examples.specs.Basics.{small_board}
-use Rattle.board_examples.specs.Orders.{addressed, opened, sees_rom, LookLast, LookFirst, LookAlone, LookTooEarly, LookLastLogged, LookFirstLogged}
+use Rattle.board_examples.specs.Common.{small_board, addressed, opened, sees_rom, LookLast, LookFirst, LookAlone, LookTooEarly, LookLastLogged, LookFirstLogged}
 use Rattle.board_examples.proofs.Spans.{above}
 
 shadow_span : IsSpan small_board (byte_of small_board (opened ∷ addressed ∷ [])) 0xF_0000 Read false 0xF_0000 0xF_FFFF (ShadowArea 0)

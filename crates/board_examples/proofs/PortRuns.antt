@@ -1,19 +1,8 @@
 -- The accesses that reach nobody are computed from the definitions.
 use Rattle.std.specs.Prelude.{refl}
 use Rattle.device_spec.specs.Clock.{power_on as clock_power_on}
-use Rattle.board_spec.specs.RegisterTable.{reset_byte, writable_bits, isa_bridge, ide_function, card_function}
-use Rattle.board_spec.specs.Registers.{byte_of, config_address, reset_control}
-use Rattle.board_spec.specs.Decode.{io_claim, io_shut}
-use Rattle.board_spec.specs.Ports.{port_target_of}
-use Rattle.board_spec.specs.Stored.{stored_of}
-use Rattle.board_spec.specs.Answer.{port_answer}
-use Rattle.board_spec.specs.Devices.{clock_of, disk_with}
-use Rattle.board_spec.specs.Interrupts.{device_value}
-use Rattle.board_examples.specs.Words.{from_reset}
-use Rattle.board_examples.specs.Basics.{small_board}
-use Rattle.board_examples.specs.Disk.{disk_board}
-use Rattle.board_examples.specs.Stories.{port_card_board}
-use Rattle.board_examples.specs.Ports.{nobody_selected, words_at_byte_ports, base_past_the_ports, NobodySelected, WordsAtBytePorts, BasePastThePorts}
+use Rattle.board_prelude.proofs.Common.{reset_byte, writable_bits, isa_bridge, ide_function, card_function, byte_of, config_address, reset_control, io_claim, io_shut, port_target_of, stored_of, port_answer, clock_of, disk_with, device_value}
+use Rattle.board_examples.specs.Common.{from_reset, small_board, disk_board, port_card_board, nobody_selected, words_at_byte_ports, base_past_the_ports, NobodySelected, WordsAtBytePorts, BasePastThePorts}
 use Rattle.board_examples.proofs.Lines.{legal}
 
 pub nobody_selected_runs : NobodySelected

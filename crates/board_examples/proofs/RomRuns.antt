@@ -1,22 +1,8 @@
 -- The example of an expansion ROM is computed from the definitions, line by line, with the spans that it looks at.
-use Rattle.std.specs.Prelude.{◌≡◌, ◌<◌, true, false, take, refl}
-use Rattle.std.specs.Fmt.{digits}
-use Rattle.std.proofs.Common.{arith, inr}
-use Rattle.std.proofs.lemmas.Bool.{le-ltb}
-use Rattle.board_base.specs.declared.access.Kind.TheVariants.{Read}
+use Rattle.std.proofs.Common.{◌≡◌, ◌<◌, true, false, take, refl, arith, inr}
+use Rattle.board_prelude.proofs.Common.{digits, le-ltb, Read, reset_byte, writable_bits, host_bridge, isa_bridge, card_function, byte_of, config_address, reset_control, row_of, area_of, denial_of, memory_claim, memory_shut, rom_unselected, port_target_of, stored_of, port_answer, memory_answer, map_change_of, map_writes_of, Window, is_covered, IsSpan, event_text, reply_text, line_text, lines_text}
 use Rattle.board_base.specs.declared.target.Area.TheVariants.{Card as CardArea, Abort as AbortArea}
-use Rattle.board_spec.specs.RegisterTable.{reset_byte, writable_bits, host_bridge, isa_bridge, card_function}
-use Rattle.board_spec.specs.Registers.{byte_of, config_address, reset_control}
-use Rattle.board_spec.specs.Decode.{row_of, area_of, denial_of, memory_claim, memory_shut, rom_unselected}
-use Rattle.board_spec.specs.Ports.{port_target_of}
-use Rattle.board_spec.specs.Stored.{stored_of}
-use Rattle.board_spec.specs.Answer.{port_answer, memory_answer}
-use Rattle.board_spec.specs.MapWrites.{map_change_of, map_writes_of}
-use Rattle.board_spec.specs.Decode.{Window, is_covered}
-use Rattle.board_spec.specs.FlatMap.{IsSpan}
-use Rattle.board_spec.specs.LogText.{event_text, reply_text, line_text, lines_text}
-use Rattle.board_examples.specs.Words.{from_reset}
-use Rattle.board_examples.specs.Roms.{rom_card_board, shut_board, expansion_rom, shut_before_unselected, ExpansionRom, ExpansionRomLogged, ShutBeforeUnselected}
+use Rattle.board_examples.specs.Common.{from_reset, rom_card_board, shut_board, expansion_rom, shut_before_unselected, ExpansionRom, ExpansionRomLogged, ShutBeforeUnselected}
 use Rattle.board_examples.proofs.Spans.{above, no_rom, covers-yes}
 use Rattle.board_examples.proofs.Lines.{legal}
 

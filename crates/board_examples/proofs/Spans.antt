@@ -1,18 +1,9 @@
 -- The spans that the worked examples look at.
-use Rattle.std.specs.Prelude.{ℕ, ◌≡◌, ◌+◌, ◌*◌, ◌/◌, ◌^◌, ◌<◌, ◌≤◌, ◌≢◌, true, false, nat_le, take, refl}
-use Rattle.std.proofs.Common.{arith, eq-eqb, ne_eqb, inr, sym, ◌∙◌}
-use Rattle.std.proofs.lemmas.Bool.{le-ltb, lt-leb}
-use Rattle.std.proofs.Math.Bool.{and-false}
-use Rattle.std.proofs.Math.Nat.{div-eq_of_lt-le, div-lt_iff_lt-mul}
-use Rattle.board_base.specs.declared.access.Kind.TheVariants.{Read}
+use Rattle.std.proofs.Common.{ℕ, ◌≡◌, ◌+◌, ◌*◌, ◌/◌, ◌^◌, ◌<◌, ◌≤◌, ◌≢◌, true, false, nat_le, take, refl, arith, eq-eqb, ne_eqb, inr, sym, ◌∙◌}
+use Rattle.board_prelude.proofs.Common.{le-ltb, lt-leb, and-false, div-lt_iff_lt-mul, Read, is_within, byte_of, config_address, reset_control, reset_byte, writable_bits, host_bridge, isa_bridge, ide_function, card_function, Window, is_covered, is_rom_selected, row_of, area_of, memory_claim, IsSpan}
+use Rattle.std.proofs.Math.Nat.{div-eq_of_lt-le}
 use Rattle.board_base.specs.declared.target.Area.TheVariants.{Card as CardArea, Abort as AbortArea}
-use Rattle.board_spec.specs.Bits.{is_within}
-use Rattle.board_spec.specs.Registers.{byte_of, config_address, reset_control}
-use Rattle.board_spec.specs.RegisterTable.{reset_byte, writable_bits, host_bridge, isa_bridge, ide_function, card_function}
-use Rattle.board_spec.specs.Decode.{Window, is_covered, is_rom_selected, row_of, area_of, memory_claim}
-use Rattle.board_spec.specs.FlatMap.{IsSpan}
-use Rattle.board_examples.specs.Words.{from_reset}
-use Rattle.board_examples.specs.Basics.{two_cards, two_cards_at_one_address, moved_card, card_moved_under_the_rom}
+use Rattle.board_examples.specs.Common.{from_reset, two_cards, two_cards_at_one_address, moved_card, card_moved_under_the_rom}
 
 pub above : (first last n : ℕ) → last < n → is_within first last n ≡ false
 above first last n is = rw (lt-leb n last is) (and-false (nat_le first n))

@@ -1,20 +1,8 @@
 -- The stories are computed from the definitions.
-use Rattle.std.specs.Prelude.{ℕ, [], ◌∷◌, ◌≡◌, ◌/◌, ◌<◌, length, slice_index, take, refl}
-use Rattle.std.proofs.Common.{arith}
-use Rattle.std.proofs.lemmas.List.FromFn.{length-map-range_with_len, get_or-map-range_with_len}
-use Rattle.device_spec.specs.Pit.{reset as timer_reset, programmed, out_of}
+use Rattle.std.proofs.Common.{ℕ, [], ◌∷◌, ◌≡◌, ◌/◌, ◌<◌, length, slice_index, take, refl, arith}
+use Rattle.board_prelude.proofs.Common.{length-map-range_with_len, get_or-map-range_with_len, reset as timer_reset, programmed, out_of, reset_byte, writable_bits, host_bridge, isa_bridge, card_function, byte_of, config_address, reset_control, row_of, area_of, denial_of, memory_claim, memory_shut, rom_unselected, io_claim, io_shut, port_target_of, stored_of, port_answer, memory_answer, system_of, timer_of, clock_of, device_value}
 use Rattle.device_spec.specs.Clock.{power_on as clock_power_on}
-use Rattle.board_spec.specs.RegisterTable.{reset_byte, writable_bits, host_bridge, isa_bridge, card_function}
-use Rattle.board_spec.specs.Registers.{byte_of, config_address, reset_control}
-use Rattle.board_spec.specs.Decode.{row_of, area_of, denial_of, memory_claim, memory_shut, rom_unselected, io_claim, io_shut}
-use Rattle.board_spec.specs.Ports.{port_target_of}
-use Rattle.board_spec.specs.Stored.{stored_of}
-use Rattle.board_spec.specs.Answer.{port_answer, memory_answer}
-use Rattle.board_spec.specs.Devices.{system_of, timer_of, clock_of}
-use Rattle.board_spec.specs.Interrupts.{device_value}
-use Rattle.board_examples.specs.Words.{from_reset}
-use Rattle.board_examples.specs.Basics.{board_of, small_board, vga_card}
-use Rattle.board_examples.specs.Stories.{large_rom, large_rom_board, port_card_board, two_bases, extended_bios, lower_bios, hole_borders, row_borders, open_and_closed, reset_control_written, address_in_words, card_ports, ports_under_xbcs, bases_in_order, ExtendedBios, LowerBios, HoleBorders, RowBorders, OpenAndClosed, ResetControlWritten, AddressInWords, CardPorts, PortsUnderXbcs, BasesInOrder}
+use Rattle.board_examples.specs.Common.{from_reset, board_of, small_board, vga_card, large_rom, large_rom_board, port_card_board, two_bases, extended_bios, lower_bios, hole_borders, row_borders, open_and_closed, reset_control_written, address_in_words, card_ports, ports_under_xbcs, bases_in_order, ExtendedBios, LowerBios, HoleBorders, RowBorders, OpenAndClosed, ResetControlWritten, AddressInWords, CardPorts, PortsUnderXbcs, BasesInOrder}
 use Rattle.board_examples.proofs.Lines.{legal}
 
 rom_size : length large_rom ≡ 0x4_0000

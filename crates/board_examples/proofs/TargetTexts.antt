@@ -1,7 +1,6 @@
 -- The texts are computed from the definitions of the log.
 use Rattle.std.specs.Prelude.{refl}
-use Rattle.std.specs.Fmt.{digits}
-use Rattle.board_spec.specs.LogText.{event_text, reply_text, line_text, lines_text}
+use Rattle.board_prelude.proofs.Common.{digits, event_text, reply_text, line_text, lines_text}
 use Rattle.board_examples.specs.Targets.{DeviceLinesLogged, MemoryLinesLogged}
 
 pub device_lines_logged : DeviceLinesLogged

@@ -1,8 +1,6 @@
 -- The versions are computed from the definitions, and so is what the lock law says of a history that breaks it.
-use Rattle.std.specs.Prelude.{[], ◌∷◌, refl}
-use Rattle.std.proofs.Common.{inl, inr}
-use Rattle.board_spec.specs.Registers.{config_address, reset_control}
-use Rattle.board_spec.specs.MapWrites.{map_change_of, map_writes_of}
+use Rattle.std.proofs.Common.{[], ◌∷◌, refl, inl, inr}
+use Rattle.board_prelude.proofs.Common.{config_address, reset_control, map_change_of, map_writes_of}
 use Rattle.board_examples.specs.Versions.{UnseenWrites, SeenWrites, AccessBreaksLock, PartBreaksLock, LookBreaksLock, WordBreaksLock}
 
 pub unseen_writes_counted : UnseenWrites

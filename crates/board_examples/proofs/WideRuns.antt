@@ -1,17 +1,7 @@
 -- The examples of wide accesses are computed from the definitions.
 use Rattle.std.specs.Prelude.{[], refl}
-use Rattle.std.specs.Fmt.{digits}
-use Rattle.board_spec.specs.RegisterTable.{reset_byte, writable_bits, host_bridge, isa_bridge}
-use Rattle.board_spec.specs.Registers.{byte_of, config_address, reset_control}
-use Rattle.board_spec.specs.Decode.{row_of, area_of, denial_of, memory_claim, memory_shut, rom_unselected}
-use Rattle.board_spec.specs.Ports.{port_target_of}
-use Rattle.board_spec.specs.Stored.{stored_of, parts_put}
-use Rattle.board_spec.specs.WideParts.{parts_from}
-use Rattle.board_spec.specs.Answer.{port_answer, memory_answer, part_answer, wide_value}
-use Rattle.board_spec.specs.LogText.{event_text, reply_text, line_text, lines_text}
-use Rattle.board_examples.specs.Words.{from_reset}
-use Rattle.board_examples.specs.Basics.{board_of, small_board}
-use Rattle.board_examples.specs.Wide.{cut_in_parts, over_smram, past_the_memory, CutInParts, CutInPartsLogged, OverSmram, OverSmramLogged, PastTheMemory}
+use Rattle.board_prelude.proofs.Common.{digits, reset_byte, writable_bits, host_bridge, isa_bridge, byte_of, config_address, reset_control, row_of, area_of, denial_of, memory_claim, memory_shut, rom_unselected, port_target_of, stored_of, parts_put, parts_from, port_answer, memory_answer, part_answer, wide_value, event_text, reply_text, line_text, lines_text}
+use Rattle.board_examples.specs.Common.{from_reset, board_of, small_board, cut_in_parts, over_smram, past_the_memory, CutInParts, CutInPartsLogged, OverSmram, OverSmramLogged, PastTheMemory}
 use Rattle.board_examples.proofs.Lines.{legal}
 
 pub cut_in_parts_runs : CutInParts

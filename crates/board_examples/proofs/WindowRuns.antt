@@ -1,20 +1,8 @@
 -- The windows are computed from the definitions, and so is the span of the look.
-use Rattle.std.specs.Prelude.{ℕ, ◌≡◌, ◌≤◌, true, take, refl}
-use Rattle.std.proofs.Common.{arith, inr}
-use Rattle.std.proofs.lemmas.Bool.{le-leb, lt-ltb}
-use Rattle.board_base.specs.declared.access.Kind.TheVariants.{Fetch}
+use Rattle.std.proofs.Common.{ℕ, ◌≡◌, ◌≤◌, true, take, refl, arith, inr}
+use Rattle.board_prelude.proofs.Common.{le-leb, lt-ltb, Fetch, reset_byte, writable_bits, host_bridge, isa_bridge, byte_of, config_address, reset_control, map_change_of, map_writes_of, row_of, area_of, denial_of, memory_claim, memory_shut, rom_unselected, port_target_of, IsSpan, stored_of, port_answer, memory_answer}
 use Rattle.board_base.specs.declared.target.Area.TheVariants.{Smram as SmramArea}
-use Rattle.board_spec.specs.RegisterTable.{reset_byte, writable_bits, host_bridge, isa_bridge}
-use Rattle.board_spec.specs.Registers.{byte_of, config_address, reset_control}
-use Rattle.board_spec.specs.MapWrites.{map_change_of, map_writes_of}
-use Rattle.board_spec.specs.Decode.{row_of, area_of, denial_of, memory_claim, memory_shut, rom_unselected}
-use Rattle.board_spec.specs.Ports.{port_target_of}
-use Rattle.board_spec.specs.FlatMap.{IsSpan}
-use Rattle.board_spec.specs.Stored.{stored_of}
-use Rattle.board_spec.specs.Answer.{port_answer, memory_answer}
-use Rattle.board_examples.specs.Words.{from_reset}
-use Rattle.board_examples.specs.Basics.{small_board}
-use Rattle.board_examples.specs.Windows.{windows_by_kind, look_in_smm, WindowsByKind, LookInSmm}
+use Rattle.board_examples.specs.Common.{from_reset, small_board, windows_by_kind, look_in_smm, WindowsByKind, LookInSmm}
 use Rattle.board_examples.proofs.Lines.{legal}
 
 pub windows_by_kind_runs : WindowsByKind

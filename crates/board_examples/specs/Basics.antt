@@ -1,15 +1,10 @@
 -- Worked examples: what is asked of a board from reset on, line by line, and what it replies. Each is a
 -- legal history of its board, computed from the definitions alone.
 use Rattle.std.specs.Prelude.{ℕ, ◌%◌, List, [], ◌∷◌, map, true, false, None}
-use Rattle.std.specs.List.{range_with_len}
-use Rattle.board_base.specs.declared.access.Width.TheVariants.{One, Two, Four}
-use Rattle.board_base.specs.declared.access.Kind.TheVariants.{Read}
+use Rattle.board_prelude.specs.Common.{range_with_len, One, Read, Dram, Shadow, Smram, Rom, Card, Device, Confadd, NoRegister, FittedCard, MemoryBase, Setup, IsLegal}
+use Rattle.board_base.specs.declared.access.Width.TheVariants.{Two, Four}
 use Rattle.board_base.specs.declared.target.Area.TheVariants.{Card as CardArea, Abort as AbortArea}
 use Rattle.board_base.specs.declared.target.Dev.TheVariants.{Confadd as AddressPort, Reset}
-use Rattle.board_base.specs.declared.target.Target.TheVariants.{Dram, Shadow, Smram, Rom, Card, Device}
-use Rattle.board_base.specs.declared.target.Denial.TheVariants.{Confadd, NoRegister}
-use Rattle.board_spec.specs.Setup.{FittedCard, MemoryBase, Setup}
-use Rattle.board_spec.specs.Legal.{IsLegal}
 use Rattle.board_examples.specs.Words.{Said, from_reset, selects, inputs, outputs, reads, fetches, writes, looks, sees, reads_in_smm, fetches_in_smm, writes_in_smm, gives, goes_to, floats, lost, lost_in, host, register, denied_by, denied_by_host}
 
 -- ---- the boards

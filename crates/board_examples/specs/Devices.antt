@@ -1,10 +1,7 @@
 -- Worked examples of the 8259A pair, the 8254, port 61h and the clock, each as a legal history of its board.
 use Rattle.std.specs.Prelude.{List, [], ◌∷◌, ◌++◌, true, false, None}
-use Rattle.board_base.specs.declared.access.Width.TheVariants.{One}
-use Rattle.board_base.specs.declared.moment.Moment.{Moment}
-use Rattle.board_base.specs.declared.target.Dev.TheVariants.{Pic0, Pic1, Pit, System, Clock, Elcr, Vector, Spurious}
-use Rattle.board_spec.specs.Setup.{Setup}
-use Rattle.board_spec.specs.Legal.{IsLegal}
+use Rattle.board_prelude.specs.Common.{One, Moment, Pic0, Pic1, Pit, System, Elcr, Vector, Spurious, Setup, IsLegal}
+use Rattle.board_base.specs.declared.target.Dev.TheVariants.{Clock}
 use Rattle.board_examples.specs.Words.{Said, from_reset, selects, outputs, goes_to, register, puts, gets, acknowledges, pulses, wire, line, tells}
 use Rattle.board_examples.specs.Basics.{board_of, small_board}
 

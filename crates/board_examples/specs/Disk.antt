@@ -1,11 +1,7 @@
 -- Worked examples of the disk: a board of 8 MiB with four sectors.
 use Rattle.std.specs.Prelude.{ℕ, List, [], ◌∷◌, ◌++◌, replicate, Some}
-use Rattle.board_base.specs.declared.access.Width.TheVariants.{One, Two, Four}
-use Rattle.board_base.specs.declared.target.Dev.TheVariants.{Ata}
-use Rattle.board_base.specs.declared.target.Target.TheVariants.{Device}
-use Rattle.board_base.specs.declared.target.Denial.TheVariants.{NoRegister}
-use Rattle.board_spec.specs.Setup.{Setup}
-use Rattle.board_spec.specs.Legal.{IsLegal}
+use Rattle.board_prelude.specs.Common.{One, Ata, Device, NoRegister, Setup, IsLegal}
+use Rattle.board_base.specs.declared.access.Width.TheVariants.{Two, Four}
 use Rattle.board_examples.specs.Words.{Said, from_reset, selects, inputs, outputs, gives, goes_to, lost, floats, register, denied_by, puts, gets, spoils}
 use Rattle.board_examples.specs.Basics.{small_board}
 

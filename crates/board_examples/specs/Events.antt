@@ -1,12 +1,7 @@
 -- Events at the borders of what a board can be asked: the last that is in range, and the first that is not.
 use Rattle.std.specs.Prelude.{ℕ, true, false}
-use Rattle.board_base.specs.declared.access.Width.{Width}
-use Rattle.board_base.specs.declared.access.Width.TheVariants.{One, Two, Four}
-use Rattle.board_base.specs.declared.access.Kind.{Kind}
-use Rattle.board_base.specs.declared.access.Kind.TheVariants.{Read, Write}
-use Rattle.board_spec.specs.declared.event.Event.{Event}
-use Rattle.board_spec.specs.declared.event.Event.TheVariants.{Memory, Wide, Port, Pulses, Wire, Line}
-use Rattle.board_spec.specs.InRange.{IsInRange}
+use Rattle.board_prelude.specs.Common.{Width, One, Kind, Read, Write, Event, Memory, Wide, Port, Pulses, Wire, Line, IsInRange}
+use Rattle.board_base.specs.declared.access.Width.TheVariants.{Two, Four}
 use Rattle.board_examples.specs.Devices.{plain_card_board}
 
 abbrev pub IsAsked : Event → Type 0

@@ -18,3 +18,4 @@ pub mod Events
 pub mod Targets
 pub mod CheckedLogs
 pub mod Machines
+pub mod Common

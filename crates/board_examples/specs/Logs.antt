@@ -1,11 +1,7 @@
 -- The logs of some worked examples, as they are written.
 use Rattle.std.specs.Prelude.{ℕ, ◌≡◌, ◌++◌, List, [], ◌∷◌, codes, flat_map, true}
-use Rattle.board_base.specs.declared.target.Dev.TheVariants.{Pit, Clock, Ata, Wires, Vector, Spurious}
-use Rattle.board_base.specs.declared.target.Target.TheVariants.{Device}
-use Rattle.board_spec.specs.declared.event.Event.TheVariants.{Ack, Pulses, Time, Wire, Line, BadSector}
-use Rattle.board_spec.specs.declared.event.Entry.{Entry}
-use Rattle.board_spec.specs.LogText.{log_text}
-use Rattle.board_spec.specs.Text.{line_feed}
+use Rattle.board_prelude.specs.Common.{Pit, Ata, Wires, Vector, Spurious, Device, Ack, Pulses, Time, Wire, Line, BadSector, Entry, log_text, line_feed}
+use Rattle.board_base.specs.declared.target.Dev.TheVariants.{Clock}
 use Rattle.board_examples.specs.Words.{Said, from_reset, gives, goes_to}
 use Rattle.board_examples.specs.Basics.{vga_beside_smram, configuration_ports, two_cards_at_one_address, xbcs_over_a_soft_reset}
 

@@ -1,12 +1,7 @@
 -- The flat map of a board after reset and how it is written, and maps whose columns differ.
 use Rattle.std.specs.Prelude.{ℕ, ◌≡◌, List, [], ◌∷◌, codes, replicate}
-use Rattle.board_base.specs.declared.access.Width.TheVariants.{One}
-use Rattle.board_base.specs.declared.target.Area.{Area}
+use Rattle.board_prelude.specs.Common.{One, Area, Entry, byte_of, MapRange, IsFlatMapOf, map_text}
 use Rattle.board_base.specs.declared.target.Area.TheVariants.{Dram as DramArea, Smram as SmramArea, Rom as RomArea, Abort as AbortArea}
-use Rattle.board_spec.specs.declared.event.Entry.{Entry}
-use Rattle.board_spec.specs.Registers.{byte_of}
-use Rattle.board_spec.specs.FlatMap.{MapRange, IsFlatMapOf}
-use Rattle.board_spec.specs.MapText.{map_text}
 use Rattle.board_examples.specs.Words.{from_reset, selects, outputs, goes_to, host}
 use Rattle.board_examples.specs.Basics.{small_board}
 use Rattle.board_examples.specs.Logs.{text_of}

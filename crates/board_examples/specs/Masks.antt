@@ -1,10 +1,8 @@
 -- Every register of each function is written with ones and read back, and so its writable bits are seen; then
 -- those that begin with ones are written with zeros.
 use Rattle.std.specs.Prelude.{ℕ, ◌+◌, ◌*◌, List, [], ◌∷◌, ◌++◌, true, false, None, Some}
-use Rattle.board_base.specs.declared.access.Width.TheVariants.{One, Two, Four}
-use Rattle.board_base.specs.declared.target.Denial.TheVariants.{Confadd, NoRegister}
-use Rattle.board_spec.specs.Setup.{FittedCard, MemoryBase, IoBase, Setup}
-use Rattle.board_spec.specs.Legal.{IsLegal}
+use Rattle.board_prelude.specs.Common.{One, Confadd, NoRegister, FittedCard, MemoryBase, IoBase, Setup, IsLegal}
+use Rattle.board_base.specs.declared.access.Width.TheVariants.{Two, Four}
 use Rattle.board_examples.specs.Words.{Said, from_reset, selects, inputs, outputs, gives, goes_to, floats, lost, register}
 use Rattle.board_examples.specs.Basics.{board_of, small_board}
 

@@ -1,11 +1,9 @@
 -- Worked examples of accesses to ports that reach nobody: by what the configuration address selects, by their width,
 -- and by where a card's ports lie.
 use Rattle.std.specs.Prelude.{List, [], ◌∷◌, ◌++◌}
-use Rattle.board_base.specs.declared.access.Width.TheVariants.{One, Two, Four}
-use Rattle.board_base.specs.declared.target.Dev.TheVariants.{Confadd as AddressPort, Clock, Ata}
-use Rattle.board_base.specs.declared.target.Target.TheVariants.{Card, Device}
-use Rattle.board_base.specs.declared.target.Denial.TheVariants.{NoRegister}
-use Rattle.board_spec.specs.Legal.{IsLegal}
+use Rattle.board_prelude.specs.Common.{One, Ata, Card, Device, NoRegister, IsLegal}
+use Rattle.board_base.specs.declared.access.Width.TheVariants.{Two, Four}
+use Rattle.board_base.specs.declared.target.Dev.TheVariants.{Confadd as AddressPort, Clock}
 use Rattle.board_examples.specs.Words.{Said, from_reset, selects, inputs, outputs, gives, goes_to, floats, lost, register, puts, gets}
 use Rattle.board_examples.specs.Disk.{disk_board, enabled}
 use Rattle.board_examples.specs.Basics.{small_board}

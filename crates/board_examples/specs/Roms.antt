@@ -1,12 +1,8 @@
 -- Worked examples of expansion ROMs: who answers, and who denies.
 use Rattle.std.specs.Prelude.{List, [], ◌∷◌, codes, false, Some}
-use Rattle.board_base.specs.declared.access.Width.TheVariants.{One, Four}
-use Rattle.board_base.specs.declared.access.Kind.TheVariants.{Read}
+use Rattle.board_prelude.specs.Common.{One, Read, Card, NoRegister, Setup, FittedCard, IsLegal}
+use Rattle.board_base.specs.declared.access.Width.TheVariants.{Four}
 use Rattle.board_base.specs.declared.target.Area.TheVariants.{Card as CardArea, Abort as AbortArea}
-use Rattle.board_base.specs.declared.target.Target.TheVariants.{Card}
-use Rattle.board_base.specs.declared.target.Denial.TheVariants.{NoRegister}
-use Rattle.board_spec.specs.Setup.{Setup, FittedCard}
-use Rattle.board_spec.specs.Legal.{IsLegal}
 use Rattle.board_examples.specs.Words.{Said, from_reset, selects, inputs, outputs, reads, writes, looks, sees, gives, goes_to, floats, lost, register, denied_by}
 use Rattle.board_examples.specs.Basics.{board_of, memory_card}
 use Rattle.board_examples.specs.Wide.{IsLoggedWide}

@@ -1,18 +1,9 @@
 -- The fields of cards.
-use Rattle.std.proofs.Common.{◌≡◌, ℕ, zero, suc, ◌+◌, ◌-◌, ◌*◌, ◌^◌, ◌<◌, ◌≤◌, inl, inr, Bool, true, false, List, [], ◌∷◌, ◌++◌, length, Option, Some, None, refl, sym, ap, subst, ◌∙◌, arith}
-use Rattle.std.specs.Prelude.{nat_le, ◌==◌, ◌&&◌, map, flat_map, sum_by, All, unwrap_or}
-use Rattle.std.specs.List.{AllByRecursion}
-use Rattle.std.specs.Int.{w8}
-use Rattle.std.proofs.lemmas.Bool.{and_from, and_parts, cases_Bool, cases_eq, eq-eqb, ne_eqb, leb-true, leb-false, le-leb, lt-leb}
-use Rattle.std.proofs.lemmas.List.{append-nil}
-use Rattle.std.proofs.lemmas.List.Concat.{flat_map-cons}
-use Rattle.std.proofs.lemmas.List.Elements.{recursion_from_All, All-from_recursion}
-use Rattle.std.proofs.lemmas.List.Sums.{sum_by-cons, sum_by-append}
-use Rattle.board_spec.specs.Setup.{Base, MemoryBase, IoBase, FittedCard, IsBase, IsCard, IsExpansionRom, Rises, memory_of_cards, memory_size}
-use Rattle.board_image.specs.ImageBytes.{io_base, base_byte, flag_byte, card_bytes}
-use Rattle.board_image.specs.Fields.{number, where_true}
-use Rattle.board_image.specs.EventFields.{flag_field}
-use Rattle.board_image.specs.ImageFields.{base_of_byte, has_room, base_in, rom_of, bases_fields, card_fields, cards_fields}
+use Rattle.std.proofs.Common.{◌≡◌, ℕ, zero, suc, ◌+◌, ◌-◌, ◌*◌, ◌^◌, ◌<◌, ◌≤◌, inl, inr, Bool, true, false, List, [], ◌∷◌, ◌++◌, length, Option, Some, None, refl, sym, ap, subst, ◌∙◌, arith, nat_le, ◌==◌, ◌&&◌, map, flat_map, sum_by, All, unwrap_or}
+use Rattle.board_prelude.proofs.Common.{AllByRecursion, w8, and_from, and_parts, cases_Bool, cases_eq, eq-eqb, ne_eqb, leb-true, le-leb, lt-leb, append-nil, flat_map-cons, recursion_from_All, sum_by-cons, sum_by-append, Base, MemoryBase, IoBase, FittedCard, IsBase, IsCard, IsExpansionRom, Rises, memory_of_cards, memory_size}
+use Rattle.std.proofs.lemmas.Bool.{leb-false}
+use Rattle.std.proofs.lemmas.List.Elements.{All-from_recursion}
+use Rattle.board_image.specs.Common.{io_base, base_byte, flag_byte, card_bytes, number, where_true, flag_field, base_of_byte, has_room, base_in, rom_of, bases_fields, card_fields, cards_fields}
 use Rattle.board_image.proofs.Formats.{IsFormat, format_as, then_format, last_format, many_format, AreGood, AreMany}
 use Rattle.board_image.proofs.Numbers.{byte_format, byte_within, Ranges, where_ok, some_is}
 use Rattle.board_image.proofs.EventFormats.{flag_format}

@@ -1,25 +1,13 @@
 -- The fields of steps.
-use Rattle.std.proofs.Common.{◌≡◌, ℕ, zero, suc, ◌+◌, ◌-◌, ◌*◌, ◌/◌, ◌%◌, ◌^◌, ◌<◌, ◌≤◌, inl, inr, Bool, true, false, List, [], ◌∷◌, ◌++◌, length, Option, Some, None, ◌⊎◌, refl, sym, ap, subst, ◌∙◌, arith}
-use Rattle.std.specs.Prelude.{◌≢◌, not, nat_le, ◌==◌, ◌||◌, ◌&&◌, if◌then◌else◌}
-use Rattle.std.specs.Int.{w8, w16, w32, w64, to_le_bytes}
+use Rattle.std.proofs.Common.{◌≡◌, ℕ, zero, suc, ◌+◌, ◌-◌, ◌*◌, ◌/◌, ◌%◌, ◌^◌, ◌<◌, ◌≤◌, inl, inr, Bool, true, false, List, [], ◌∷◌, ◌++◌, length, Option, Some, None, ◌⊎◌, refl, sym, ap, subst, ◌∙◌, arith, ◌≢◌, not, nat_le, ◌==◌, ◌||◌, ◌&&◌, if◌then◌else◌}
+use Rattle.board_prelude.proofs.Common.{w8, w16, w32, w64, to_le_bytes, and_from, and_parts, eq-eqb, ne_eqb, eqb-true, leb-true, le-leb, Kind, Fetch, Read, Write, Width, One, PortAccess, WideAccess, bytes_of, largest_of, is_write, IsBusAccess, IsWideAccess, FitsBytes}
 use Rattle.std.proofs.Math.Bool.{or-true}
 use Rattle.std.proofs.Math.Nat.{one-le-pow}
-use Rattle.std.proofs.lemmas.Bool.{and_from, and_parts, eq-eqb, ne_eqb, eqb-true, leb-true, le-leb}
-use Rattle.board_base.specs.declared.access.Kind.{Kind}
-use Rattle.board_base.specs.declared.access.Kind.TheVariants.{Fetch, Read, Write}
-use Rattle.board_base.specs.declared.access.Width.{Width}
-use Rattle.board_base.specs.declared.access.Width.TheVariants.{One, Two, Four}
+use Rattle.board_base.specs.declared.access.Width.TheVariants.{Two, Four}
 use Rattle.board_base.specs.declared.access.Access.{Access}
-use Rattle.board_base.specs.declared.access.PortAccess.{PortAccess}
-use Rattle.board_base.specs.declared.access.WideAccess.{WideAccess}
-use Rattle.board_base.specs.Access.{bytes_of, largest_of}
-use Rattle.board_spec.specs.Stored.{is_write}
-use Rattle.board_spec.specs.InRange.{IsBusAccess, IsWideAccess, FitsBytes}
-use Rattle.board_image.specs.ImageBytes.{flag_byte, kind_byte, tag_byte, memory_bytes, port_bytes, wide_bytes}
+use Rattle.board_image.specs.Common.{flag_byte, kind_byte, tag_byte, memory_bytes, port_bytes, wide_bytes, Reading, number_where, within, flag_of, flag_field, kind_of, kind_field, width_of, width_field, tag_of, tag_field, most_value, is_wide_size, is_wide_place, memory_fields, port_fields, wide_fields}
 use Rattle.board_image.specs.declared.tag.Tag.{Tag}
 use Rattle.board_image.specs.declared.tag.Tag.TheVariants as tags
-use Rattle.board_image.specs.Fields.{Reads, number_where, within}
-use Rattle.board_image.specs.EventFields.{flag_of, flag_field, kind_of, kind_field, width_of, width_field, tag_of, tag_field, most_value, is_wide_size, is_wide_place, memory_fields, port_fields, wide_fields}
 use Rattle.board_image.proofs.Formats.{IsFormat, format_as, then_format, last_format}
 use Rattle.board_image.proofs.Numbers.{wide16, wide32, wide64, byte_format, byte_where, Tells, no_row, row, where_format, within_format, Ranges}
 

@@ -1,17 +1,14 @@
 -- A format: how values are spelled and how they are read, and that each undoes the other.
-use Rattle.std.proofs.Common.{◌≡◌, ℕ, zero, suc, ◌+◌, ◌-◌, ◌*◌, ◌^◌, ◌<◌, ◌≤◌, ◌⊎◌, inl, inr, Bool, true, false, cond, List, [], ◌∷◌, ◌++◌, length, take, drop, get_or, Option, Some, None, Result, Ok, Err, refl, sym, ap, subst, ◌∙◌, append_assoc, arith}
-use Rattle.std.specs.Prelude.{nat_lt, flat_map}
-use Rattle.std.proofs.lemmas.List.Concat.{flat_map-cons}
-use Rattle.std.proofs.lemmas.Bool.{ltb-false, le-ltb}
+use Rattle.std.proofs.Common.{◌≡◌, ℕ, zero, suc, ◌+◌, ◌-◌, ◌*◌, ◌^◌, ◌<◌, ◌≤◌, ◌⊎◌, inl, inr, Bool, true, false, cond, List, [], ◌∷◌, ◌++◌, length, take, drop, get_or, Option, Some, None, Result, Ok, Err, refl, sym, ap, subst, ◌∙◌, append_assoc, arith, nat_lt, flat_map}
+use Rattle.board_prelude.proofs.Common.{flat_map-cons, ltb-false, le-ltb, take_at, drop_at, length-append, length-take, take-append-drop, append-nil}
 use Rattle.std.proofs.Math.Nat.{mul-suc}
-use Rattle.std.proofs.lemmas.List.{take_at, drop_at, length-append, length-take, take-append-drop, append-nil}
-use Rattle.board_image.specs.Fields.{Reads, then_read, gives, plain, ◌>>=◌}
+use Rattle.board_image.specs.Fields.{Reading, then_read, gives, plain, ◌>>=◌}
 pub use Rattle.board_image.specs.Laws.{AreBytes}
 use Rattle.board_image.proofs.Loops.{IsLoop, with_later}
 
 -- values that are good are spelled in at most so many bytes, and read back whatever follows. What is read was spelled
 -- so and is good. A bad field begins after at most so many bytes
-pub record IsFormat {A : Type 0} (most : ℕ) (reads : Reads A) (spelled : A → List ℕ) (IsGood : A → Type 0) :
+pub record IsFormat {A : Type 0} (most : ℕ) (reads : Reading A) (spelled : A → List ℕ) (IsGood : A → Type 0) :
     Type 0 where
   pub back : (value : A) (rest : List ℕ) → IsGood value → reads (spelled value ++ rest) ≡ Ok (value, rest)
   pub taken : (bytes : List ℕ) (value : A) (rest : List ℕ) → AreBytes bytes → reads bytes ≡ Ok (value, rest) →
@@ -40,21 +37,21 @@ pub err_is : {X : Type 0} (x y : ℕ) → ◌≡◌ {A = Result X ℕ} (Err x) (
 err_is x y is = cc
 
 pub then_ok :
-    {A B : Type 0} (first : Result (A × List ℕ) ℕ) (next : A → Reads B) (value : B) (rest : List ℕ) →
+    {A B : Type 0} (first : Result (A × List ℕ) ℕ) (next : A → Reading B) (value : B) (rest : List ℕ) →
     then_read first next ≡ Ok (value, rest) →
     (got : A × List ℕ) × (first ≡ Ok got) × (next got.0 got.1 ≡ Ok (value, rest))
 then_ok (Ok got) next value rest is = (got, refl, is)
 then_ok (Err left) next value rest is = absurd cc
 
 pub then_err :
-    {A B : Type 0} (first : Result (A × List ℕ) ℕ) (next : A → Reads B) (left : ℕ) → then_read first next ≡ Err left →
+    {A B : Type 0} (first : Result (A × List ℕ) ℕ) (next : A → Reading B) (left : ℕ) → then_read first next ≡ Err left →
     (first ≡ Err left) ⊎ ((got : A × List ℕ) × (first ≡ Ok got) × (next got.0 got.1 ≡ Err left))
 then_err (Ok got) next left is = inr (got, refl, is)
 then_err {B = B} (Err other) next left is = inl (ap (λ (n : ℕ). Err n) (err_is {X = B × List ℕ} other left is))
 
 -- a field, and then those that its value calls for: the value of the whole tells that of the field
 pub then_format :
-    {A C : Type 0} {n m : ℕ} {first : Reads A} {next : A → Reads C} {a_spelled : A → List ℕ} {IsGoodA : A → Type 0}
+    {A C : Type 0} {n m : ℕ} {first : Reading A} {next : A → Reading C} {a_spelled : A → List ℕ} {IsGoodA : A → Type 0}
     {c_spelled : A → C → List ℕ} {IsGoodC : A → C → Type 0} (part : C → A) →
     IsFormat n first a_spelled IsGoodA →
     ((a : A) → IsGoodA a → IsFormat m (next a) (c_spelled a) (IsGoodC a)) →
@@ -114,7 +111,7 @@ done_format {C} c = record {
 
 -- the same in other words
 pub format_as :
-    {A : Type 0} {n : ℕ} (m : ℕ) {reads : Reads A} {spelled : A → List ℕ} (other : A → List ℕ) {IsGood : A → Type 0}
+    {A : Type 0} {n : ℕ} (m : ℕ) {reads : Reading A} {spelled : A → List ℕ} (other : A → List ℕ) {IsGood : A → Type 0}
     (IsOther : A → Type 0) → IsFormat n reads spelled IsGood → n ≤ m → ((value : A) → IsOther value → IsGood value) →
     ((value : A) → IsGood value → IsOther value) → ((value : A) → IsGood value → spelled value ≡ other value) →
     IsFormat m reads other IsOther
@@ -135,7 +132,7 @@ format_as m {reads = reads} other IsOther is few to from same = record {
 
 -- the last field of a value
 pub last_format :
-    {A C : Type 0} {n : ℕ} {first : Reads A} {a_spelled : A → List ℕ} {IsGood : A → Type 0} (part : C → A)
+    {A C : Type 0} {n : ℕ} {first : Reading A} {a_spelled : A → List ℕ} {IsGood : A → Type 0} (part : C → A)
     (make : A → C) → IsFormat n first a_spelled IsGood → ((a : A) → IsGood a → part (make a) ≡ a) →
     IsFormat n (first >>= λ a. gives (make a)) (λ c. a_spelled (part c)) (λ c. IsGood (part c) × (c ≡ make (part c)))
 last_format {A} {C} {n} {a_spelled = a_spelled} {IsGood = IsGood} part make one same =
@@ -145,7 +142,7 @@ last_format {A} {C} {n} {a_spelled = a_spelled} {IsGood = IsGood} part make one 
 
 -- a value made of the one that is read
 pub made_format :
-    {A C : Type 0} {n : ℕ} {first : Reads A} {a_spelled : A → List ℕ} {IsGood : A → Type 0} (make : A → C)
+    {A C : Type 0} {n : ℕ} {first : Reading A} {a_spelled : A → List ℕ} {IsGood : A → Type 0} (make : A → C)
     (other : C → List ℕ) → IsFormat n first a_spelled IsGood → ((a : A) → other (make a) ≡ a_spelled a) →
     IsFormat n (first >>= λ a. gives (make a)) other (λ c. (a : A) × IsGood a × (c ≡ make a))
 made_format {A} {C} {first = first} {a_spelled = a_spelled} make other one same = record {
@@ -179,7 +176,7 @@ abbrev pub AreMany : {S A : Type 0} → (S → A → S) → (S → A → Type 0)
 AreMany next IsGood s count values = (length values ≡ count) × AreGood next IsGood s values
 
 many_back :
-    {S A : Type 0} {n : ℕ} {one : S → Reads A} {next : S → A → S} {many : S → ℕ → Reads (List A)} {spelled : A → List ℕ}
+    {S A : Type 0} {n : ℕ} {one : S → Reading A} {next : S → A → S} {many : S → ℕ → Reading (List A)} {spelled : A → List ℕ}
     {IsGood : S → A → Type 0} → IsLoop one next many → ((s : S) → IsFormat n (one s) spelled (IsGood s)) →
     (values : List A) (s : S) (rest : List ℕ) → AreGood next IsGood s values →
     many s (length values) (flat_map spelled values ++ rest) ≡ Ok (values, rest)
@@ -196,7 +193,7 @@ many_back {one = one} {next = next} {many = many} {spelled = spelled} loop each 
     ) refl
 
 many_taken :
-    {S A : Type 0} {n : ℕ} {one : S → Reads A} {next : S → A → S} {many : S → ℕ → Reads (List A)} {spelled : A → List ℕ}
+    {S A : Type 0} {n : ℕ} {one : S → Reading A} {next : S → A → S} {many : S → ℕ → Reading (List A)} {spelled : A → List ℕ}
     {IsGood : S → A → Type 0} → IsLoop one next many → ((s : S) → IsFormat n (one s) spelled (IsGood s)) →
     (count : ℕ) (s : S) (bytes : List ℕ) (values : List A) (rest : List ℕ) → AreBytes bytes →
     many s count bytes ≡ Ok (values, rest) →
@@ -229,7 +226,7 @@ many_taken {A = A} {one = one} {next = next} {many = many} {spelled = spelled}
     (joined, (ap suc b.1.0, (a.1, b.1.1)))
 
 many_bad :
-    {S A : Type 0} {n : ℕ} {one : S → Reads A} {next : S → A → S} {many : S → ℕ → Reads (List A)} {spelled : A → List ℕ}
+    {S A : Type 0} {n : ℕ} {one : S → Reading A} {next : S → A → S} {many : S → ℕ → Reading (List A)} {spelled : A → List ℕ}
     {IsGood : S → A → Type 0} → IsLoop one next many → ((s : S) → IsFormat n (one s) spelled (IsGood s)) →
     (count : ℕ) (s : S) (bytes : List ℕ) (left : ℕ) → AreBytes bytes → many s count bytes ≡ Err left →
     (left ≤ length bytes) × (length bytes ≤ left + n * count)
@@ -258,7 +255,7 @@ many_bad {A = A} {n = n} {one = one} {next = next} {many = many} {spelled = spel
     ]
 
 many_size :
-    {S A : Type 0} {n : ℕ} {one : S → Reads A} (next : S → A → S) {spelled : A → List ℕ} {IsGood : S → A → Type 0} →
+    {S A : Type 0} {n : ℕ} {one : S → Reading A} (next : S → A → S) {spelled : A → List ℕ} {IsGood : S → A → Type 0} →
     ((s : S) → IsFormat n (one s) spelled (IsGood s)) → (values : List A) (s : S) → AreGood next IsGood s values →
     length (flat_map spelled values) ≤ n * length values
 many_size next each [] s good = omega arith
@@ -270,7 +267,7 @@ many_size {n = n} next {spelled = spelled} each (value ∷ later) s good =
     omega (arith, joined, first, rest, mul-suc n (length later))
 
 pub many_format :
-    {S A : Type 0} {n : ℕ} {one : S → Reads A} {next : S → A → S} {many : S → ℕ → Reads (List A)} {spelled : A → List ℕ}
+    {S A : Type 0} {n : ℕ} {one : S → Reading A} {next : S → A → S} {many : S → ℕ → Reading (List A)} {spelled : A → List ℕ}
     {IsGood : S → A → Type 0} → IsLoop one next many → ((s : S) → IsFormat n (one s) spelled (IsGood s)) →
     (s : S) (count : ℕ) → IsFormat (n * count) (many s count) (flat_map spelled) (AreMany next IsGood s count)
 many_format {n = n} {next = next} {many = many} {spelled = spelled} loop each s count = record {

@@ -1,19 +1,9 @@
 -- The fields of a whole image.
-use Rattle.std.proofs.Common.{◌≡◌, ℕ, zero, suc, ◌+◌, ◌-◌, ◌*◌, ◌%◌, ◌/◌, ◌^◌, ◌<◌, ◌≤◌, ◌⊎◌, inl, inr, Bool, true, false, cond, List, [], ◌∷◌, ◌++◌, length, take, drop, Option, Some, None, Result, Ok, Err, refl, sym, ap, subst, ◌∙◌, append_assoc, arith}
-use Rattle.std.specs.Prelude.{nat_le, ◌==◌, ◌&&◌, ◌||◌, flat_map, All, is_some, unwrap_or, bytes_eq}
-use Rattle.std.specs.List.{AllByRecursion}
-use Rattle.std.specs.Int.{w8, w16, w32, to_le_bytes}
-use Rattle.std.proofs.lemmas.Bool.{and_from, and_parts, eq-eqb, eqb-true, leb-true, le-leb}
-use Rattle.std.proofs.lemmas.List.{take_at, drop_at, take-append-drop, length-append, nil_from_length, append-nil}
-use Rattle.std.proofs.lemmas.List.Elements.{recursion_from_All, All-from_recursion}
-use Rattle.std.proofs.lemmas.Slice.Eq.{bytes_eq-Decides}
-use Rattle.board_spec.specs.declared.event.Statement.{Statement}
-use Rattle.board_spec.specs.Setup.{Setup, FittedCard, IsSetup, IsRomSize, IsDisk, IsDiskSize}
-use Rattle.board_spec.specs.Limits.{most_statements, most_card_memory}
+use Rattle.std.proofs.Common.{◌≡◌, ℕ, zero, suc, ◌+◌, ◌-◌, ◌*◌, ◌%◌, ◌/◌, ◌^◌, ◌<◌, ◌≤◌, ◌⊎◌, inl, inr, Bool, true, false, cond, List, [], ◌∷◌, ◌++◌, length, take, drop, Option, Some, None, Result, Ok, Err, refl, sym, ap, subst, ◌∙◌, append_assoc, arith, nat_le, ◌==◌, ◌&&◌, ◌||◌, flat_map, All, is_some, unwrap_or, bytes_eq}
+use Rattle.board_prelude.proofs.Common.{AllByRecursion, w8, w16, w32, to_le_bytes, and_from, and_parts, eq-eqb, eqb-true, leb-true, le-leb, take_at, drop_at, take-append-drop, length-append, nil_from_length, append-nil, recursion_from_All, bytes_eq-Decides, Statement, Setup, FittedCard, IsSetup, IsRomSize, IsDisk, IsDiskSize, most_statements, most_card_memory}
+use Rattle.std.proofs.lemmas.List.Elements.{All-from_recursion}
 use Rattle.board_image.specs.declared.head.Head.{Head}
-use Rattle.board_image.specs.ImageBytes.{Saved, magic, image_version, flag_byte, card_bytes, disk_bytes, size_bytes, head_bytes, step_bytes, image_bytes, IsImageStep, IsImage}
-use Rattle.board_image.specs.Fields.{Reads, then_read, gives, exactly, ended}
-use Rattle.board_image.specs.ImageFields.{is_rom_size, is_disk_size, disk_where, head_fields, setup_fields, steps_fields, saved_fields, image_fields}
+use Rattle.board_image.specs.Common.{Saved, magic, image_version, flag_byte, card_bytes, disk_bytes, size_bytes, head_bytes, step_bytes, image_bytes, IsImageStep, IsImage, Reading, then_read, gives, exactly, ended, is_rom_size, is_disk_size, disk_where, head_fields, setup_fields, steps_fields, saved_fields, image_fields}
 use Rattle.board_image.proofs.Formats.{AreBytes, rest_of, ok_is, not_err, err_is, then_ok, then_err, IsFormat, format_as, then_format, last_format, many_format, plain_format, AreGood}
 use Rattle.board_image.proofs.Numbers.{wide16, wide32, byte_within, within_format, where_format, Ranges}
 use Rattle.board_image.proofs.EventFormats.{Any, either_true, flag_format}

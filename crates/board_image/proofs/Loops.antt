@@ -1,14 +1,14 @@
 -- Reading one value after another, as a loop does.
 use Rattle.std.proofs.Common.{◌≡◌, ℕ, zero, suc, ◌+◌, ◌-◌, ◌<◌, ◌≤◌, List, [], ◌∷◌, ◌++◌, Result, Ok, Err, refl, sym, ap, ◌∙◌, append_assoc, arith}
 use Rattle.std.proofs.lemmas.List.{append-nil}
-use Rattle.board_image.specs.Fields.{Reads, then_read, gives}
+use Rattle.board_image.specs.Fields.{Reading, then_read, gives}
 
 -- a value, and then those that are read after it
-abbrev pub with_later : {A : Type 0} → (A → Reads (List A)) → A → Reads (List A)
+abbrev pub with_later : {A : Type 0} → (A → Reading (List A)) → A → Reading (List A)
 with_later later value bytes = then_read (later value bytes) (λ values. gives (value ∷ values))
 
 -- so many values are read one after another. How each is read may depend on those before it
-pub record IsLoop {S A : Type 0} (one : S → Reads A) (next : S → A → S) (many : S → ℕ → Reads (List A)) : Type 0 where
+pub record IsLoop {S A : Type 0} (one : S → Reading A) (next : S → A → S) (many : S → ℕ → Reading (List A)) : Type 0 where
   pub none : (s : S) (bytes : List ℕ) → many s 0 bytes ≡ Ok ([], bytes)
   pub more : (s : S) (n : ℕ) (bytes : List ℕ) →
       many s (suc n) bytes ≡ then_read (one s bytes) (with_later (λ value. many (next s value) n))
@@ -29,7 +29,7 @@ begins (Ok got) = refl
 begins (Err left) = refl
 
 pub goes_on :
-    {S A : Type 0} (one : S → Reads A) (next : S → A → S) (many : S → ℕ → Reads (List A)) → IsLoop one next many →
+    {S A : Type 0} (one : S → Reading A) (next : S → A → S) (many : S → ℕ → Reading (List A)) → IsLoop one next many →
     (front : List A) (s : S) (count i : ℕ) (bytes after : List ℕ) (value : A) (total : Result (List A × List ℕ) ℕ) →
     i < count → one s bytes ≡ Ok (value, after) → with_front front (many s (count - i) bytes) ≡ total →
     with_front (front ++ value ∷ []) (many (next s value) (count - (i + 1)) after) ≡ total
@@ -41,7 +41,7 @@ goes_on one next many loop front s count i bytes after value total below is so_f
     sym (joined front value (many (next s value) (count - (i + 1)) after)) ∙ (sym step ∙ so_far)
 
 pub stops :
-    {S A : Type 0} (one : S → Reads A) (next : S → A → S) (many : S → ℕ → Reads (List A)) → IsLoop one next many →
+    {S A : Type 0} (one : S → Reading A) (next : S → A → S) (many : S → ℕ → Reading (List A)) → IsLoop one next many →
     (front : List A) (s : S) (count i : ℕ) (bytes : List ℕ) (bad : ℕ) (total : Result (List A × List ℕ) ℕ) →
     i < count → one s bytes ≡ Err bad → with_front front (many s (count - i) bytes) ≡ total → total ≡ Err bad
 stops one next many loop front s count i bytes bad total below is so_far =
@@ -51,7 +51,7 @@ stops one next many loop front s count i bytes bad total below is so_far =
     sym so_far ∙ step
 
 pub is_done :
-    {S A : Type 0} (one : S → Reads A) (next : S → A → S) (many : S → ℕ → Reads (List A)) → IsLoop one next many →
+    {S A : Type 0} (one : S → Reading A) (next : S → A → S) (many : S → ℕ → Reading (List A)) → IsLoop one next many →
     (front : List A) (s : S) (count i : ℕ) (bytes : List ℕ) (total : Result (List A × List ℕ) ℕ) →
     count ≤ i → with_front front (many s (count - i) bytes) ≡ total → total ≡ Ok (front, bytes)
 is_done one next many loop front s count i bytes total over so_far =

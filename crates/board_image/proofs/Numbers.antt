@@ -1,12 +1,9 @@
 -- Numbers as fields.
-use Rattle.std.proofs.Common.{◌≡◌, ℕ, zero, suc, ◌+◌, ◌-◌, ◌*◌, ◌/◌, ◌%◌, ◌^◌, ◌<◌, ◌≤◌, inl, inr, Bool, true, false, cond, eqb, leb, List, [], ◌∷◌, ◌++◌, length, take, drop, get_or, Option, Some, None, Result, Ok, Err, refl, sym, ap, subst, ◌∙◌, arith}
-use Rattle.std.specs.Prelude.{nat_lt, nat_le, ◌==◌, ◌&&◌, if◌then◌else◌}
-use Rattle.std.specs.Int.{Width as Size, w8, w16, w32, w64, byte_len, to_le_bytes, from_le_bytes}
-use Rattle.std.proofs.lemmas.Bool.{cases_eq, eq-eqb, ne_eqb, ltb-false, le-ltb, leb-true, le-leb, and_from, and_parts}
-use Rattle.std.proofs.lemmas.List.{take_at, drop_at, take-append-drop, length-append, length-take, get_or-drop, get_or-take, get_or_past}
+use Rattle.std.proofs.Common.{◌≡◌, ℕ, zero, suc, ◌+◌, ◌-◌, ◌*◌, ◌/◌, ◌%◌, ◌^◌, ◌<◌, ◌≤◌, inl, inr, Bool, true, false, cond, eqb, leb, List, [], ◌∷◌, ◌++◌, length, take, drop, get_or, Option, Some, None, Result, Ok, Err, refl, sym, ap, subst, ◌∙◌, arith, nat_lt, nat_le, ◌==◌, ◌&&◌, if◌then◌else◌}
+use Rattle.std.specs.Int.{Width as Size, byte_len}
+use Rattle.board_prelude.proofs.Common.{w8, w16, w32, w64, to_le_bytes, from_le_bytes, cases_eq, eq-eqb, ne_eqb, ltb-false, le-ltb, leb-true, le-leb, and_from, and_parts, take_at, drop_at, take-append-drop, length-append, length-take, get_or-drop, get_or-take, get_or_past, cases_lt}
 use Rattle.std.proofs.lemmas.Nat.{le_bytes_2, le_bytes_4, le_bytes_8, from_le_bytes-to_le_bytes_2, from_le_bytes-to_le_bytes_4, from_le_bytes-to_le_bytes_8}
-use Rattle.std.proofs.lemmas.Bool.{cases_lt}
-use Rattle.board_image.specs.Fields.{Reads, said, number, number_where, within, where_true}
+use Rattle.board_image.specs.Fields.{Reading, said, number, number_where, within, where_true}
 use Rattle.board_image.proofs.Formats.{AreBytes, IsFormat, format_as, ok_is, err_is}
 
 -- ---- the sizes

@@ -1,24 +1,11 @@
 -- The fields of steps, by their tags.
-use Rattle.std.proofs.Common.{◌≡◌, ℕ, zero, suc, ◌+◌, ◌-◌, ◌*◌, ◌/◌, ◌%◌, ◌^◌, ◌<◌, ◌≤◌, inl, inr, Bool, true, false, cond, List, [], ◌∷◌, ◌++◌, length, Option, Some, None, refl, sym, ap, subst, ◌∙◌, arith}
-use Rattle.std.specs.Prelude.{is_some}
-use Rattle.std.specs.Int.{w8, w16, w32, to_le_bytes}
-use Rattle.board_base.specs.declared.access.Kind.{Kind}
-use Rattle.board_base.specs.declared.access.Kind.TheVariants.{Fetch}
+use Rattle.std.proofs.Common.{◌≡◌, ℕ, zero, suc, ◌+◌, ◌-◌, ◌*◌, ◌/◌, ◌%◌, ◌^◌, ◌<◌, ◌≤◌, inl, inr, Bool, true, false, cond, List, [], ◌∷◌, ◌++◌, length, Option, Some, None, refl, sym, ap, subst, ◌∙◌, arith, is_some}
+use Rattle.board_prelude.proofs.Common.{w8, w16, w32, to_le_bytes, Kind, Fetch, PortAccess, WideAccess, Moment, IsMoment, days_in_month, is_leap, moment_of, Event, Memory, Wide, Port, Ack, Pulses, Time, Wire, Line, BadSector, Statement, Setup, card_at, IsWideAccess, is_free_line, IsInRange, IsScriptSector}
 use Rattle.board_base.specs.declared.access.Access.{Access}
-use Rattle.board_base.specs.declared.access.PortAccess.{PortAccess}
-use Rattle.board_base.specs.declared.access.WideAccess.{WideAccess}
-use Rattle.board_base.specs.declared.moment.Moment.{Moment}
-use Rattle.board_base.specs.Calendar.{IsMoment, days_in_month, is_leap, moment_of}
-use Rattle.board_spec.specs.declared.event.Event.{Event}
-use Rattle.board_spec.specs.declared.event.Event.TheVariants.{Memory, Wide, Port, Look as LookAt, Ack, Pulses, Time, Wire, Line, BadSector}
-use Rattle.board_spec.specs.declared.event.Statement.{Statement}
-use Rattle.board_spec.specs.Setup.{Setup, card_at}
-use Rattle.board_spec.specs.InRange.{IsWideAccess, is_free_line, IsInRange, IsScriptSector}
+use Rattle.board_spec.specs.declared.event.Event.TheVariants.{Look as LookAt}
 use Rattle.board_image.specs.declared.tag.Tag.{Tag}
 use Rattle.board_image.specs.declared.tag.Tag.TheVariants as tags
-use Rattle.board_image.specs.ImageBytes.{flag_byte, kind_byte, tag_byte, tag_of_event, look_bytes, moment_bytes, field_bytes, step_bytes, FitsField, IsImageStep}
-use Rattle.board_image.specs.Fields.{Reads}
-use Rattle.board_image.specs.EventFields.{look_fields, moment_fields, wire_fields, line_fields, event_fields, step_fields}
+use Rattle.board_image.specs.Common.{flag_byte, kind_byte, tag_byte, tag_of_event, look_bytes, moment_bytes, field_bytes, step_bytes, FitsField, IsImageStep, Reading, look_fields, moment_fields, wire_fields, line_fields, event_fields, step_fields}
 use Rattle.board_image.proofs.Formats.{IsFormat, format_as, then_format, last_format, made_format, done_format}
 use Rattle.board_image.proofs.Numbers.{wide16, wide32, byte_where, byte_within, within_format, Ranges}
 use Rattle.board_image.proofs.EventFormats.{Any, flag_format, kind_format, tag_format, CanSpellMemory, CanSpellPort, memory_format, port_format, wide_format}
@@ -181,7 +168,7 @@ CanSpell setup tags.Line event = IsLine event
 CanSpell setup tags.BadSector event = (sector : ℕ) × Ranges 0 0xFFFF sector × (event ≡ BadSector sector)
 CanSpell setup tags.Wide event = (access : WideAccess) × IsWideAccess access × (event ≡ Wide access)
 
-number_size : {reads : Reads Event} {IsGood : Event → Type 0} → IsFormat 4 reads field_bytes IsGood →
+number_size : {reads : Reading Event} {IsGood : Event → Type 0} → IsFormat 4 reads field_bytes IsGood →
     IsFormat 15 reads field_bytes IsGood
 number_size {IsGood = IsGood} is =
     format_as 15 field_bytes IsGood is (omega arith) (λ event good. good) (λ event good. good) (λ event good. refl)

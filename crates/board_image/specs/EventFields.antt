@@ -1,25 +1,12 @@
 -- The fields of a step, each with the values that it can have after those before it.
 use Rattle.std.specs.Prelude.{ℕ, ◌-◌, ◌+◌, ◌%◌, ◌^◌, ◌==◌, Bool, true, false, not, nat_le, nat_lt, ◌&&◌, ◌||◌, if◌then◌else◌, List, Option, Some, None, is_some}
-use Rattle.std.specs.Int.{w8, w16, w32, w64}
-use Rattle.board_base.specs.declared.access.Kind.{Kind}
-use Rattle.board_base.specs.declared.access.Kind.TheVariants.{Fetch, Read, Write}
-use Rattle.board_base.specs.declared.access.Width.{Width}
-use Rattle.board_base.specs.declared.access.Width.TheVariants.{One, Two, Four}
+use Rattle.board_prelude.specs.Common.{w8, w16, w32, w64, Kind, Fetch, Read, Write, Width, One, PortAccess, WideAccess, Moment, bytes_of, largest_of, days_in_month, moment_of, Event, Memory, Wide, Port, Ack, Pulses, Time, Wire, Line, BadSector, Statement, Setup, card_at, is_write, is_free_line}
+use Rattle.board_base.specs.declared.access.Width.TheVariants.{Two, Four}
 use Rattle.board_base.specs.declared.access.Access.{Access}
-use Rattle.board_base.specs.declared.access.PortAccess.{PortAccess}
-use Rattle.board_base.specs.declared.access.WideAccess.{WideAccess}
-use Rattle.board_base.specs.declared.moment.Moment.{Moment}
-use Rattle.board_base.specs.Access.{bytes_of, largest_of}
-use Rattle.board_base.specs.Calendar.{days_in_month, moment_of}
-use Rattle.board_spec.specs.declared.event.Event.{Event}
-use Rattle.board_spec.specs.declared.event.Event.TheVariants.{Memory, Wide, Port, Look as LookAt, Ack, Pulses, Time, Wire, Line, BadSector}
-use Rattle.board_spec.specs.declared.event.Statement.{Statement}
-use Rattle.board_spec.specs.Setup.{Setup, card_at}
-use Rattle.board_spec.specs.Stored.{is_write}
-use Rattle.board_spec.specs.InRange.{is_free_line}
+use Rattle.board_spec.specs.declared.event.Event.TheVariants.{Look as LookAt}
 use Rattle.board_image.specs.declared.tag.Tag.{Tag}
 use Rattle.board_image.specs.declared.tag.Tag.TheVariants as tags
-use Rattle.board_image.specs.Fields.{Reads, gives, ◌>>=◌, number, number_where, within}
+use Rattle.board_image.specs.Fields.{Reading, gives, ◌>>=◌, number, number_where, within}
 
 abbrev pub flag_of : ℕ → Option Bool
 flag_of n = if n == 0 then Some false else if n == 1 then Some true else None
@@ -37,16 +24,16 @@ tag_of n =
     else if n == 7 then Some tags.Wire else if n == 8 then Some tags.Line else if n == 9 then Some tags.BadSector
     else if n == 10 then Some tags.Wide else None
 
-abbrev pub flag_field : Reads Bool
+abbrev pub flag_field : Reading Bool
 flag_field = number w8 flag_of
 
-abbrev pub kind_field : Reads Kind
+abbrev pub kind_field : Reading Kind
 kind_field = number w8 kind_of
 
-abbrev pub width_field : Reads Width
+abbrev pub width_field : Reading Width
 width_field = number w8 width_of
 
-abbrev pub tag_field : Reads Tag
+abbrev pub tag_field : Reading Tag
 tag_field = number w8 tag_of
 
 -- ---- accesses
@@ -56,7 +43,7 @@ abbrev pub most_value : (writes : Bool) → (bytes : ℕ) → ℕ
 most_value true bytes = 256 ^ bytes - 1
 most_value false bytes = 0
 
-unfoldable pub memory_fields : Reads Access
+unfoldable pub memory_fields : Reading Access
 memory_fields = do
   kind ← kind_field
   smm ← flag_field
@@ -65,7 +52,7 @@ memory_fields = do
   value ← within w32 0 (most_value (is_write kind) (bytes_of width))
   gives (record { kind = kind; addr = addr; width = width; smm = smm; value = value })
 
-unfoldable pub port_fields : Reads PortAccess
+unfoldable pub port_fields : Reading PortAccess
 port_fields = do
   write ← flag_field
   width ← width_field
@@ -80,7 +67,7 @@ is_wide_size bytes = bytes == 2 || bytes == 4 || bytes == 8
 abbrev pub is_wide_place : (bytes addr : ℕ) → Bool
 is_wide_place bytes addr = (bytes == 8 || not (addr % bytes == 0)) && nat_le (addr + bytes) 0x1_0000_0000
 
-unfoldable pub wide_fields : Reads WideAccess
+unfoldable pub wide_fields : Reading WideAccess
 wide_fields = do
   kind ← kind_field
   smm ← flag_field
@@ -91,14 +78,14 @@ wide_fields = do
 
 -- ---- the other events
 
-unfoldable pub look_fields : Reads Event
+unfoldable pub look_fields : Reading Event
 look_fields = do
   kind ← kind_field
   smm ← flag_field
   addr ← within w32 0 0xFFFF_FFFF
   gives (LookAt kind addr smm)
 
-unfoldable pub moment_fields : Reads Moment
+unfoldable pub moment_fields : Reading Moment
 moment_fields = do
   year ← within w16 1980 2099
   month ← within w8 1 12
@@ -108,20 +95,20 @@ moment_fields = do
   second ← within w8 0 59
   gives (moment_of year month day hour minute second)
 
-unfoldable pub wire_fields : Setup → Reads Event
+unfoldable pub wire_fields : Setup → Reading Event
 wire_fields setup = do
   dev ← number_where w8 (λ dev. is_some (card_at setup dev))
   on ← flag_field
   gives (Wire dev on)
 
-unfoldable pub line_fields : Reads Event
+unfoldable pub line_fields : Reading Event
 line_fields = do
   irq ← number_where w8 is_free_line
   on ← flag_field
   gives (Line irq on)
 
 -- the fields after a tag
-unfoldable pub event_fields : Setup → Tag → Reads Event
+unfoldable pub event_fields : Setup → Tag → Reading Event
 event_fields setup tags.Memory = do
   access ← memory_fields
   gives (Memory access)
@@ -145,7 +132,7 @@ event_fields setup tags.Wide = do
   access ← wide_fields
   gives (Wide access)
 
-unfoldable pub step_fields : Setup → Reads Statement
+unfoldable pub step_fields : Setup → Reading Statement
 step_fields setup = do
   actor ← within w8 0 7
   tag ← tag_field

@@ -7,20 +7,20 @@ use Rattle.board_image.specs.declared.fault.Fault.TheVariants as faults
 
 -- what is read from the front of bytes: a value and the bytes after it, or how many bytes are left from the first
 -- bad field on
-abbrev pub Reads : Type 0 → Type 0
-Reads A = List ℕ → Result (A × List ℕ) ℕ
+abbrev pub Reading : Type 0 → Type 0
+Reading A = List ℕ → Result (A × List ℕ) ℕ
 
 -- no field
-abbrev pub gives : {A : Type 0} → A → Reads A
+abbrev pub gives : {A : Type 0} → A → Reading A
 gives value bytes = Ok (value, bytes)
 
 -- one field, and then those that its value calls for
-abbrev pub then_read : {A B : Type 0} → Result (A × List ℕ) ℕ → (A → Reads B) → Result (B × List ℕ) ℕ
+abbrev pub then_read : {A B : Type 0} → Result (A × List ℕ) ℕ → (A → Reading B) → Result (B × List ℕ) ℕ
 then_read (Ok got) next = next got.0 got.1
 then_read (Err left) next = Err left
 
 infixl 10 ◌>>=◌
-abbrev pub ◌>>=◌ : {A B : Type 0} → Reads A → (A → Reads B) → Reads B
+abbrev pub ◌>>=◌ : {A B : Type 0} → Reading A → (A → Reading B) → Reading B
 (first >>= next) bytes = then_read (first bytes) next
 
 -- ---- fields
@@ -31,7 +31,7 @@ said None bytes after = Err (length bytes)
 said (Some value) bytes after = Ok (value, after)
 
 -- a number of this size that says a value. It is bad where it is not whole, or says none
-abbrev pub number : {A : Type 0} → Size → (ℕ → Option A) → Reads A
+abbrev pub number : {A : Type 0} → Size → (ℕ → Option A) → Reading A
 number size says bytes =
     if nat_lt (length bytes) (byte_len size) then Err (length bytes)
     else said (says (from_le_bytes size (take (byte_len size) bytes))) bytes (drop (byte_len size) bytes)
@@ -41,25 +41,25 @@ where_true true value = Some value
 where_true false value = None
 
 -- a number that is good
-abbrev pub number_where : Size → (ℕ → Bool) → Reads ℕ
+abbrev pub number_where : Size → (ℕ → Bool) → Reading ℕ
 number_where size is_good = number size (λ n. where_true (is_good n) n)
 
 -- a number from low to high
-abbrev pub within : Size → (low high : ℕ) → Reads ℕ
+abbrev pub within : Size → (low high : ℕ) → Reading ℕ
 within size low high = number_where size (λ n. nat_le low n && nat_le n high)
 
 -- so many bytes, whatever they are
-abbrev pub plain : (size : ℕ) → Reads (List ℕ)
+abbrev pub plain : (size : ℕ) → Reading (List ℕ)
 plain size bytes =
     if nat_lt (length bytes) size then Err (length bytes) else Ok (take size bytes, drop size bytes)
 
 -- these bytes
-abbrev pub exactly : List ℕ → Reads (Unit {0})
+abbrev pub exactly : List ℕ → Reading (Unit {0})
 exactly text bytes =
     if bytes_eq (take (length text) bytes) text then Ok (tt, drop (length text) bytes) else Err (length bytes)
 
 -- nothing more
-abbrev pub ended : Reads (Unit {0})
+abbrev pub ended : Reading (Unit {0})
 ended [] = Ok (tt, [])
 ended (byte ∷ later) = Err (length (byte ∷ later))
 

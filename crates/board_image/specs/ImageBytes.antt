@@ -1,20 +1,9 @@
 -- A board image: what a board is fitted with, and then who asked what of it, in order. The replies follow from these.
 -- Numbers have their low byte first.
 use Rattle.std.specs.Prelude.{ℕ, ◌≤◌, ◌<◌, ◌+◌, ◌^◌, ◌++◌, Bool, true, false, List, [], ◌∷◌, length, map, flat_map, All, Option, is_some, unwrap_or, codes}
-use Rattle.std.specs.Int.{w16, w32, w64, to_le_bytes}
-use Rattle.board_base.specs.declared.access.Kind.{Kind}
-use Rattle.board_base.specs.declared.access.Kind.TheVariants.{Fetch, Read, Write}
+use Rattle.board_prelude.specs.Common.{w16, w32, w64, to_le_bytes, Kind, Fetch, Read, Write, PortAccess, WideAccess, Moment, bytes_of, Event, Memory, Wide, Port, Ack, Pulses, Time, Wire, Line, BadSector, Statement, Base, MemoryBase, IoBase, FittedCard, Setup, IsSetup, IsInRange, IsScriptSector, most_statements}
 use Rattle.board_base.specs.declared.access.Access.{Access}
-use Rattle.board_base.specs.declared.access.PortAccess.{PortAccess}
-use Rattle.board_base.specs.declared.access.WideAccess.{WideAccess}
-use Rattle.board_base.specs.declared.moment.Moment.{Moment}
-use Rattle.board_base.specs.Access.{bytes_of}
-use Rattle.board_spec.specs.declared.event.Event.{Event}
-use Rattle.board_spec.specs.declared.event.Event.TheVariants.{Memory, Wide, Port, Look as LookAt, Ack, Pulses, Time, Wire, Line, BadSector}
-use Rattle.board_spec.specs.declared.event.Statement.{Statement}
-use Rattle.board_spec.specs.Setup.{Base, MemoryBase, IoBase, FittedCard, Setup, IsSetup}
-use Rattle.board_spec.specs.InRange.{IsInRange, IsScriptSector}
-use Rattle.board_spec.specs.Limits.{most_statements}
+use Rattle.board_spec.specs.declared.event.Event.TheVariants.{Look as LookAt}
 use Rattle.board_image.specs.declared.tag.Tag.{Tag}
 use Rattle.board_image.specs.declared.tag.Tag.TheVariants as tags
 

@@ -1,12 +1,9 @@
 -- The fields of an image, each with the values that it can have after those before it, and the first that is bad.
 use Rattle.std.specs.Prelude.{ℕ, zero, suc, ◌≡◌, ◌+◌, ◌-◌, ◌%◌, ◌==◌, Bool, true, false, nat_le, nat_lt, ◌&&◌, ◌||◌, if◌then◌else◌, List, [], ◌∷◌, length, Option, Some, None, Result, Ok, Err}
-use Rattle.std.specs.Int.{w8, w16, w32}
-use Rattle.board_spec.specs.declared.event.Statement.{Statement}
-use Rattle.board_spec.specs.Setup.{Base, MemoryBase, IoBase, FittedCard, Setup, memory_of_cards, memory_size}
-use Rattle.board_spec.specs.Limits.{most_statements, most_card_memory}
+use Rattle.board_prelude.specs.Common.{w8, w16, w32, Statement, Base, MemoryBase, IoBase, FittedCard, Setup, memory_of_cards, memory_size, most_statements, most_card_memory}
 use Rattle.board_image.specs.declared.head.Head.{Head}
 use Rattle.board_image.specs.ImageBytes.{Saved, magic, image_version, io_base}
-use Rattle.board_image.specs.Fields.{Reads, gives, ◌>>=◌, number, number_where, within, where_true, plain, exactly, ended}
+use Rattle.board_image.specs.Fields.{Reading, gives, ◌>>=◌, number, number_where, within, where_true, plain, exactly, ended}
 use Rattle.board_image.specs.EventFields.{flag_field, step_fields}
 
 -- ---- the head
@@ -19,7 +16,7 @@ abbrev pub is_disk_size : (has_disk : Bool) → ℕ → Bool
 is_disk_size false size = size == 0
 is_disk_size true size = size % 512 == 0 && (nat_le 512 size && nat_le size 0x200_0000)
 
-unfoldable pub head_fields : Reads Head
+unfoldable pub head_fields : Reading Head
 head_fields = do
   mark ← exactly magic
   version ← within w16 image_version image_version
@@ -53,7 +50,7 @@ has_room room (IoBase bits) = nat_le 2 bits && nat_le bits 8
 abbrev pub base_in : (room : ℕ) → ℕ → Option Base
 base_in room byte = where_true (has_room room (base_of_byte byte)) (base_of_byte byte)
 
-unfoldable pub bases_fields : (count room : ℕ) → Reads (List Base)
+unfoldable pub bases_fields : (count room : ℕ) → Reading (List Base)
 bases_fields zero room = gives []
 bases_fields (suc count) room = do
   base ← number w8 (base_in room)
@@ -65,7 +62,7 @@ abbrev pub rom_of : ℕ → Option (Option ℕ)
 rom_of bits = if bits == 0 then Some None else where_true (nat_le 11 bits && nat_le bits 24) (Some bits)
 
 -- a card whose device number lies above that of the card before
-unfoldable pub card_fields : (above room : ℕ) → Reads FittedCard
+unfoldable pub card_fields : (above room : ℕ) → Reading FittedCard
 card_fields above room = do
   dev ← within w8 (above + 1) 9
   vga ← flag_field
@@ -74,7 +71,7 @@ card_fields above room = do
   bases ← bases_fields count room
   gives (record { dev = dev; vga = vga; bases = bases; rom = rom })
 
-unfoldable pub cards_fields : (count above room : ℕ) → Reads (List FittedCard)
+unfoldable pub cards_fields : (count above room : ℕ) → Reading (List FittedCard)
 cards_fields zero above room = gives []
 cards_fields (suc count) above room = do
   card ← card_fields above room
@@ -88,21 +85,21 @@ disk_where false bytes = None
 disk_where true bytes = Some bytes
 
 -- the first device number is 2
-unfoldable pub setup_fields : Head → Reads Setup
+unfoldable pub setup_fields : Head → Reading Setup
 setup_fields head = do
   cards ← cards_fields head.cards 1 most_card_memory
   rom ← plain head.rom_size
   disk ← plain head.disk_size
   gives (record { mib = head.mib; cards = cards; rom = rom; disk = disk_where head.has_disk disk })
 
-unfoldable pub steps_fields : Setup → (count : ℕ) → Reads (List Statement)
+unfoldable pub steps_fields : Setup → (count : ℕ) → Reading (List Statement)
 steps_fields setup zero = gives []
 steps_fields setup (suc count) = do
   step ← step_fields setup
   later ← steps_fields setup count
   gives (step ∷ later)
 
-unfoldable pub saved_fields : Reads Saved
+unfoldable pub saved_fields : Reading Saved
 saved_fields = do
   head ← head_fields
   setup ← setup_fields head
@@ -110,7 +107,7 @@ saved_fields = do
   gives (record { setup = setup; steps = steps })
 
 -- nothing follows the last step
-unfoldable pub image_fields : Reads Saved
+unfoldable pub image_fields : Reading Saved
 image_fields = do
   saved ← saved_fields
   done ← ended

@@ -1,10 +1,6 @@
 -- What the bytes of images and their fields say of one another.
 use Rattle.std.specs.Prelude.{ℕ, ◌≡◌, ◌<◌, ◌++◌, ◌⊎◌, List, get_or}
-use Rattle.board_spec.specs.declared.event.Entry.{Entry}
-use Rattle.board_spec.specs.declared.event.Statement.{Statement}
-use Rattle.board_spec.specs.Setup.{Setup}
-use Rattle.board_spec.specs.Legal.{IsLegal}
-use Rattle.board_spec.specs.Orders.{IsReplayOf, statements_of}
+use Rattle.board_prelude.specs.Common.{Entry, Statement, Setup, IsLegal, IsReplayOf, statements_of}
 use Rattle.board_image.specs.ImageBytes.{image_bytes, IsImage}
 use Rattle.board_image.specs.ImageFields.{IsBadAt}
 

@@ -3,3 +3,4 @@ pub mod Fields
 pub mod EventFields
 pub mod ImageFields
 pub mod Laws
+pub mod Common

@@ -1,9 +1,7 @@
 //! Reads cards.
 
 ghost use Rattle.std.specs.Prelude.{◌≡◌, ◌≤◌, ◌-◌, ◌<◌, ◌∷◌, [], map, sum_by, option_map, IfSome, IfOk};
-ghost use Rattle.std.specs.Int.{w8};
-ghost use Rattle.board_spec.specs.Limits.{most_card_memory};
-ghost use Rattle.board_spec.specs.Setup.{IsBase, memory_of_cards, memory_size};
+ghost use Rattle.board_prelude.specs.Common.{w8, most_card_memory, IsBase, memory_of_cards, memory_size};
 ghost use Rattle.pci_bars.specs.Bases.{base_of};
 ghost use Rattle.board_image.specs.Fields.{Took, Filled, number};
 ghost use Rattle.board_image.specs.ImageFields.{base_in, rom_of, bases_fields, card_fields, cards_fields};

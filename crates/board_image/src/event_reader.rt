@@ -1,11 +1,7 @@
 //! Reads the steps of an image: which processor did which event.
 
 ghost use Rattle.std.specs.Prelude.{◌≡◌, ◌≤◌, ◌-◌, ◌^◌, ◌%◌, ◌==◌, true, find, is_some, IfOk};
-ghost use Rattle.std.specs.Int.{w8, w16, w32, w64};
-ghost use Rattle.board_base.specs.Access.{bytes_of};
-ghost use Rattle.board_spec.specs.Setup.{Setup};
-ghost use Rattle.board_spec.specs.InRange.{is_free_line};
-ghost use Rattle.board_base.specs.Calendar.{days_in_month};
+ghost use Rattle.board_prelude.specs.Common.{w8, w16, w32, w64, bytes_of, Setup, is_free_line, days_in_month};
 ghost use Rattle.board_image.specs.Fields.{Took, number_where, within};
 ghost use Rattle.board_image.specs.EventFields.{kind_of, kind_field, width_of, width_field, tag_field, is_wide_size, is_wide_place, most_value, memory_fields, port_fields, wide_fields, look_fields, moment_fields, wire_fields, line_fields, event_fields, step_fields};
 

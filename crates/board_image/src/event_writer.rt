@@ -1,10 +1,8 @@
 //! Writes the steps of an image: which processor did which event.
 
 ghost use Rattle.std.specs.Prelude.{◌≡◌, ◌++◌, ◌∷◌, [], map, flat_map, IfOk, OnOk};
-ghost use Rattle.std.specs.Int.{w32, to_le_bytes};
+ghost use Rattle.board_prelude.specs.Common.{w32, to_le_bytes, bytes_of, statement_of};
 ghost use Rattle.board_image.specs.ImageBytes.{flag_byte, kind_byte, memory_bytes, wide_bytes, port_bytes, look_bytes, moment_bytes, field_bytes, step_bytes};
-ghost use Rattle.board_base.specs.Access.{bytes_of};
-ghost use Rattle.board_spec.specs.Orders.{statement_of};
 
 use crate::tag::Tag;
 use board_base::{Access, Kind, Moment, NoMemory, PortAccess, WideAccess, Width};

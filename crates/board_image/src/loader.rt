@@ -1,10 +1,7 @@
 //! Makes a board from an image.
 
 ghost use Rattle.std.specs.Prelude.{◌≡◌, List, [], IfOk};
-ghost use Rattle.board_spec.specs.declared.event.Entry.{Entry};
-ghost use Rattle.board_spec.specs.Setup.{IsSetup};
-ghost use Rattle.board_spec.specs.Legal.{IsLegal};
-ghost use Rattle.board_spec.specs.Orders.{IsReplayOf, statements_of};
+ghost use Rattle.board_prelude.specs.Common.{Entry, IsSetup, IsLegal, IsReplayOf, statements_of};
 ghost use Rattle.board_image.specs.ImageBytes.{IsImage};
 
 use crate::image::Image;

@@ -1,9 +1,7 @@
 //! Reads an image.
 
 ghost use Rattle.std.specs.Prelude.{◌≡◌, ◌≤◌, ◌⊎◌, ℕ, List, Ok, Err, IfOk, length};
-ghost use Rattle.std.specs.Int.{w32};
-ghost use Rattle.board_spec.specs.declared.event.Statement.{Statement};
-ghost use Rattle.board_spec.specs.Setup.{Setup as Fitting};
+ghost use Rattle.board_prelude.specs.Common.{w32, Statement, Setup as Fitting};
 ghost use Rattle.board_image.specs.declared.fault.ImageFault.{ImageFault};
 ghost use Rattle.board_image.specs.ImageBytes.{Saved, image_bytes, IsImage};
 ghost use Rattle.board_image.specs.Fields.{Took, Filled, number_where, plain};

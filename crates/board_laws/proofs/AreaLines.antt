@@ -1,14 +1,8 @@
 -- Each line of the memory map, and what follows where the lines before it do not hold.
-use Rattle.std.proofs.Common.{◌≡◌, ℕ, ◌<◌, Bool, true, false, not, ◌&&◌, List, [], ◌∷◌, ◌++◌, Option, Some, None, is_some, refl, ◌∙◌, ap, inl, inr}
-use Rattle.std.specs.Prelude.{find, unwrap_or, All}
-use Rattle.std.proofs.lemmas.Bool.{cases_Bool, cond-true, cond-false, and_from, and_left, and_right, and_parts, not-true, not_from_false}
-use Rattle.std.proofs.lemmas.List.Elements.{All-head, All-tail}
-use Rattle.board_base.specs.declared.access.Kind.{Kind}
-use Rattle.board_spec.specs.Setup.{Setup}
-use Rattle.board_spec.specs.RegisterNames.{fdhc, smram, xbcs}
-use Rattle.board_spec.specs.Ranges.{lies_in, smram_range, shadow_range, upper_memory}
-use Rattle.board_spec.specs.Decode.{Bytes, top_of, hole_of, is_in, row_of, smram_answers, is_shadowed, is_rom_selected, Window, memory_claim, area_of}
-use Rattle.board_laws.specs.AreaLaws.{IsRow, IsInSmram, IsInShadow, IsInDram, IsPastDram, claims, windows_of, NoneClaims, WhoAnswers}
+use Rattle.std.proofs.Common.{◌≡◌, ℕ, ◌<◌, Bool, true, false, not, ◌&&◌, List, [], ◌∷◌, ◌++◌, Option, Some, None, is_some, refl, ◌∙◌, ap, inl, inr, find, unwrap_or, All}
+use Rattle.board_prelude.proofs.Common.{cases_Bool, cond-true, cond-false, and_from, and_left, and_right, and_parts, not-true, All-head, All-tail, Kind, Setup, fdhc, smram, xbcs, lies_in, smram_range, shadow_range, upper_memory, Bytes, top_of, hole_of, is_in, row_of, smram_answers, is_shadowed, is_rom_selected, Window, memory_claim, area_of}
+use Rattle.std.proofs.lemmas.Bool.{not_from_false}
+use Rattle.board_laws.specs.AreaLaws.{IsRow, IsInSmram, IsInShadow, IsInDram, IsPastDram, claims, memory_windows_of, NoneClaims, WhoAnswers}
 use Rattle.board_laws.proofs.AreaProofs.{row-is, row_below_top, is_some-row, table, smram_line, shadow_line, dram_line, area-table, table-is, shadow_apart, smram_in_upper, shadow_in_upper}
 
 -- ---- the lines that hold
@@ -107,7 +101,7 @@ find-none test (other ∷ later) fail =
 
 claim-first :
     (setup : Setup) (bytes : Bytes) (addr : ℕ) (earlier later : List Window) (window : Window) →
-    windows_of setup bytes ≡ earlier ++ window ∷ later → NoneClaims bytes addr earlier → claims bytes addr window
+    memory_windows_of setup bytes ≡ earlier ++ window ∷ later → NoneClaims bytes addr earlier → claims bytes addr window
     ≡ true →
     memory_claim setup bytes addr ≡ Some window
 unfolding memory_claim
@@ -115,10 +109,10 @@ claim-first setup bytes addr earlier later window are none here =
     ap (find (claims bytes addr)) are ∙ find-first (claims bytes addr) earlier later window none here
 
 claim-none :
-    (setup : Setup) (bytes : Bytes) (addr : ℕ) → NoneClaims bytes addr (windows_of setup bytes) →
+    (setup : Setup) (bytes : Bytes) (addr : ℕ) → NoneClaims bytes addr (memory_windows_of setup bytes) →
     memory_claim setup bytes addr ≡ None
 unfolding memory_claim
-claim-none setup bytes addr none = find-none (claims bytes addr) (windows_of setup bytes) none
+claim-none setup bytes addr none = find-none (claims bytes addr) (memory_windows_of setup bytes) none
 
 -- ---- the map
 

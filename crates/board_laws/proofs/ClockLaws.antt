@@ -1,13 +1,9 @@
 -- The laws of the clock's machine.
 use Rattle.std.proofs.Common.{◌≡◌, ◌≢◌, ℕ, ◌+◌, ◌*◌, ◌/◌, ◌%◌, ◌<◌, ◌≤◌, inl, inr, Bool, true, false, ◌&&◌, ◌||◌, List, nat_le, ◌==◌, if◌then◌else◌, zero, suc, length, get_or, set, refl, sym, ap, ◌∙◌, arith, get_or-set_other, get_or-set_same}
-use Rattle.std.proofs.lemmas.Bool.{cases_Bool, cases_eq, eq-eqb, ne_eqb}
-use Rattle.std.proofs.lemmas.Bool.Decides.{nat_tests}
-use Rattle.std.proofs.lemmas.Grind.{get_or-set_at}
-use Rattle.std.proofs.lemmas.List.{length-set}
+use Rattle.board_prelude.proofs.Common.{cases_Bool, cases_eq, eq-eqb, ne_eqb, nat_tests, get_or-set_at, length-set, CivilTime, Clock, bcd, number_byte, hour_byte, control_of, holds_time, is_binary, is_24_hour, time_bytes, put, tell, byte_at, alarm_fits, alarm_rings, control_reset, written, data_byte, update_interrupts, after_write, after_reset, after_moment, register_c, after_read, clock_index_port, clock_data_port}
 use Rattle.board_base.specs.Bits.{is_bit}
-use Rattle.device_spec.specs.Clock.{CivilTime, Clock, bcd, number_byte, hour_byte, control_of, holds_time, is_binary, is_24_hour, time_bytes, put, tell, byte_at, alarm_fits, alarm_rings, control_reset, written, data_byte, control_written, update_interrupts, power_on, after_write, after_reset, after_moment, register_c, after_read}
+use Rattle.device_spec.specs.Clock.{control_written, power_on}
 use Rattle.board_laws.specs.ClockLaws.{number_read, hour_read, Shows, IsShowable, ShowsTheMoment, HasAlarm, same_time_of_day, RingsAtItsTime, ReadingQuiets, ResetKeepsTheTime, MemoryKeeps, IsSound, StaysSound}
-use Rattle.device_spec.specs.PortNames.{clock_index_port, clock_data_port}
 
 -- two digits are read as they were written
 bcd_back : (n : ℕ) → n < 100 → bcd n / 16 * 10 + bcd n % 16 ≡ n

@@ -1,49 +1,19 @@
 -- A denial is given exactly where nobody answers, and where the ROM is written.
-use Rattle.std.proofs.Common.{◌≡◌, ℕ, zero, suc, ◌+◌, ◌-◌, Bool, true, false, not, List, [], ◌∷◌, Option, Some, None, is_some, refl, sym, subst, inl, inr}
-use Rattle.std.specs.Prelude.{◌==◌, if◌then◌else◌, map, option_map, unwrap_or, All}
-use Rattle.std.proofs.lemmas.Bool.{cases_Bool, cond-false, false≢true}
-use Rattle.std.proofs.lemmas.List.Elements.{All-nil, All-cons}
-use Rattle.board_base.specs.declared.access.Width.{Width}
-use Rattle.board_base.specs.declared.access.Kind.{Kind}
-use Rattle.board_base.specs.declared.access.Kind.TheVariants.{Fetch, Read, Write}
+use Rattle.std.proofs.Common.{◌≡◌, ℕ, zero, suc, ◌+◌, ◌-◌, Bool, true, false, not, List, [], ◌∷◌, Option, Some, None, is_some, refl, sym, subst, inl, inr, ◌==◌, if◌then◌else◌, map, option_map, unwrap_or, All}
+use Rattle.board_prelude.proofs.Common.{cases_Bool, cond-false, false≢true, All-nil, All-cons, Width, Kind, Fetch, Read, Write, WideAccess, Reg, Area, Dev, Target, Device, Denial, Register, NoRegister, bytes_of, Select, Always, XbcsBit0, XbcsBit1, IdeChannel, device_at, select_of, Memory, Wide, Port, Ack, Pulses, Time, Wire, Line, BadSector, Part, Reply, Bus, Entry, Setup, is_bit, xbcs, ide_command, idetim, idetim_high, is_config_port, config_address, config_register, byte_of, Bytes, Window, denial_in, denial_of, io_claim, io_shut, command_of, Decoded, device, nobody, card_port, config_port, by_xbcs, by_channel, selected_by, device_port, port_target_of, is_write, longest_at, part_at, parts_from, target_at, memory_target, memory_denial, memory_answer, part_answer, port_answer}
 use Rattle.board_base.specs.declared.access.Access.{Access}
-use Rattle.board_base.specs.declared.access.WideAccess.{WideAccess}
-use Rattle.board_base.specs.declared.target.Reg.{Reg}
-use Rattle.board_base.specs.declared.target.Area.{Area}
 use Rattle.board_base.specs.declared.target.Area.TheVariants.{Dram as DramArea, Shadow as ShadowArea, Smram as SmramArea, Rom as RomArea, Card as CardArea, Abort as AbortArea}
-use Rattle.board_base.specs.declared.target.Dev.{Dev}
-use Rattle.board_base.specs.declared.target.Target.{Target}
-use Rattle.board_base.specs.declared.target.Target.TheVariants.{Device}
-use Rattle.board_base.specs.declared.target.Denial.{Denial}
-use Rattle.board_base.specs.declared.target.Denial.TheVariants.{Register, NoRegister}
-use Rattle.board_base.specs.Access.{bytes_of}
-use Rattle.device_spec.specs.declared.port.Select.{Select}
-use Rattle.device_spec.specs.declared.port.Select.TheVariants.{Always, XbcsBit0, XbcsBit1, IdeChannel}
-use Rattle.device_spec.specs.PortTable.{device_at, select_of}
-use Rattle.board_spec.specs.declared.event.Event.TheVariants.{Memory, Wide, Port, Look as LookAt, Ack, Pulses, Time, Wire, Line, BadSector}
-use Rattle.board_spec.specs.declared.event.Part.{Part}
-use Rattle.board_spec.specs.declared.event.Reply.{Reply}
-use Rattle.board_spec.specs.declared.event.Reply.TheVariants.{Bus}
-use Rattle.board_spec.specs.declared.event.Entry.{Entry}
-use Rattle.board_spec.specs.Setup.{Setup}
-use Rattle.board_spec.specs.Bits.{is_bit}
-use Rattle.board_spec.specs.RegisterNames.{xbcs, ide_command, idetim, idetim_high}
-use Rattle.board_spec.specs.Registers.{is_config_port, config_address, config_register, byte_of}
-use Rattle.board_spec.specs.Decode.{Bytes, Window, denial_in, denial_of, io_claim, io_shut, command_of}
-use Rattle.board_spec.specs.Ports.{Decoded, device, nobody, card_port, config_port, by_xbcs, by_channel, selected_by, device_port, port_target_of}
-use Rattle.board_spec.specs.Stored.{is_write}
-use Rattle.board_spec.specs.WideParts.{longest_at, part_at, parts_from}
-use Rattle.board_spec.specs.Answer.{target_at, memory_target, memory_denial, memory_answer, part_answer, port_answer}
-use Rattle.board_laws.specs.DenialLaws.{IsRefused, IsDeniedExactly, DeniedOnBus, DeniedInParts}
+use Rattle.board_spec.specs.declared.event.Event.TheVariants.{Look as LookAt}
+use Rattle.board_laws.specs.DenialLaws.{ReachesNothing, IsDeniedExactly, DeniedOnBus, DeniedInParts}
 
 -- ---- targets that answer, and those that do not
 
-answered : (writes : Bool) (target : Target) → ¬ IsRefused writes target → IsDeniedExactly writes target None
+answered : (writes : Bool) (target : Target) → ¬ ReachesNothing writes target → IsDeniedExactly writes target None
 answered writes target served =
     record { wherever = λ refused. absurd (served refused); only = λ denied. absurd (false≢true denied) }
 
 refused :
-    (writes : Bool) (target : Target) (denial : Denial) → IsRefused writes target →
+    (writes : Bool) (target : Target) (denial : Denial) → ReachesNothing writes target →
     IsDeniedExactly writes target (Some denial)
 refused writes target denial is = record { wherever = λ r. refl; only = λ denied. is }
 

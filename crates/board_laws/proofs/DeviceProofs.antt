@@ -1,13 +1,7 @@
 -- An entry leaves the devices that its reply does not name, and with their drivers the lines.
-use Rattle.std.proofs.Common.{◌≡◌, Bool, false, List, ◌∷◌, Option, ◌∙◌, ap, inl, inr}
-use Rattle.std.specs.Prelude.{unwrap_or}
-use Rattle.std.proofs.lemmas.Bool.{cond-false}
-use Rattle.device_spec.specs.Pit.{out_of}
-use Rattle.board_spec.specs.declared.event.Entry.{Entry}
-use Rattle.board_spec.specs.Registers.{is_hard_reset}
-use Rattle.board_spec.specs.Devices.{wire_of, irq_of, triggers_of, system_of, timer_of, timer_after, clock_of, disk_with}
+use Rattle.std.proofs.Common.{◌≡◌, Bool, false, List, ◌∷◌, Option, ◌∙◌, ap, inl, inr, unwrap_or}
+use Rattle.board_prelude.proofs.Common.{cond-false, out_of, Entry, is_hard_reset, wire_of, irq_of, triggers_of, system_of, timer_of, timer_after, clock_of, disk_with, triggers-alone, system-alone, timer-alone, clock-alone, disk-alone, wire-alone, line-alone, out-alone, levels-same}
 use Rattle.board_laws.specs.DeviceLaws.{OthersStay, LinesStay}
-use Rattle.board_spec.proofs.DeviceAlone.{triggers-alone, system-alone, timer-alone, clock-alone, disk-alone, wire-alone, line-alone, out-alone, levels-same}
 
 pub others_stay : OthersStay
 unfolding timer_of system_of triggers_of clock_of disk_with wire_of irq_of

@@ -1,18 +1,7 @@
 -- Histories with the same map writes have the same map.
 use Rattle.std.proofs.Common.{◌≡◌, ℕ, ◌+◌, ◌-◌, ◌∙◌, Bool, true, false, List, sym, ap, inl, inr}
-use Rattle.board_base.specs.declared.access.Kind.{Kind}
-use Rattle.board_base.specs.declared.access.Kind.TheVariants.{Fetch, Read, Write}
-use Rattle.board_base.specs.declared.target.Area.{Area}
-use Rattle.board_spec.specs.declared.map_change.MapChange.{MapChange}
-use Rattle.board_spec.specs.Setup.{Setup}
-use Rattle.board_spec.specs.Registers.{byte_of}
-use Rattle.board_spec.specs.MapWrites.{registers_after}
-use Rattle.board_spec.specs.Decode.{Bytes, area_of}
-use Rattle.board_spec.specs.FlatMap.{MapRange, IsFlatMapOf, IsSpan, six_areas}
-use Rattle.board_spec.specs.Laws.{SameMapBytes}
+use Rattle.board_prelude.proofs.Common.{Kind, Fetch, Read, Write, Area, MapChange, Setup, byte_of, registers_after, Bytes, area_of, MapRange, IsFlatMapOf, IsSpan, six_areas, SameMapBytes, map_writes_decide, map_bytes_decide}
 use Rattle.board_laws.specs.MapLaws.{MapWritesDecideMap}
-use Rattle.board_spec.proofs.MapWriteLaws.{map_writes_decide}
-use Rattle.board_spec.proofs.MapByteLaws.{map_bytes_decide}
 
 -- two states of the registers under which the same areas answer
 abbrev SameAreas : Setup → (bytes other : Bytes) → Type 0

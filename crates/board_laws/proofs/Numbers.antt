@@ -1,8 +1,6 @@
 -- Lists of numbers that follow one another, and tests on them.
-use Rattle.std.proofs.Common.{◌≡◌, ℕ, zero, suc, ◌+◌, ◌≤◌, ◌<◌, Bool, true, false, ◌||◌, List, [], ◌∷◌, get_or, Some, refl, sym, ◌∙◌, ap, subst, inl, inr, arith}
-use Rattle.std.specs.Prelude.{find, map}
-use Rattle.std.specs.List.{list_any}
-use Rattle.std.proofs.lemmas.Bool.{cases_Bool, cases_eq, cond-true, cond-false, false≢true}
+use Rattle.std.proofs.Common.{◌≡◌, ℕ, zero, suc, ◌+◌, ◌≤◌, ◌<◌, Bool, true, false, ◌||◌, List, [], ◌∷◌, get_or, Some, refl, sym, ◌∙◌, ap, subst, inl, inr, arith, find, map}
+use Rattle.board_prelude.proofs.Common.{list_any, cases_Bool, cases_eq, cond-true, cond-false, false≢true}
 
 -- this many numbers from one on
 unfoldable pub numbers_from : (from count : ℕ) → List ℕ

@@ -1,10 +1,7 @@
 -- A read of one chip of the pair.
 use Rattle.std.proofs.Common.{◌≡◌, ℕ, Bool, true, false, cond, Option, Some, None, List, [], ◌∷◌, ◌++◌, refl, sym, ap, ◌∙◌, inl, inr, is_some}
-use Rattle.std.proofs.lemmas.Bool.{cases_Bool}
-use Rattle.device_spec.specs.Pic.{Chip, pending, first_selectable, request, interrupt, acknowledged_if, chip_after_read}
-use Rattle.device_spec.specs.Pair.{Pair, settled, pair_read}
+use Rattle.board_prelude.proofs.Common.{cases_Bool, Chip, pending, first_selectable, request, interrupt, acknowledged_if, chip_after_read, Pair, settled, pair_read, latched, settled-asks, settled-quiet}
 use Rattle.board_laws.specs.PicLaws.{ReadsLeaveTheOther}
-use Rattle.device_spec.proofs.PairLaws.{latched, settled-asks, settled-quiet}
 
 -- ---- a read of one chip
 

@@ -1,14 +1,9 @@
 -- The laws of specs/Laws.antt.
 use Rattle.std.proofs.Common.{lit<, ◌≡◌, ℕ, ◌+◌, ◌/◌, ◌%◌, ◌<◌, Bool, true, false, not, cond, eqb, ◌||◌, ◌&&◌, Option, Some, None, List, [], ◌∷◌, get_or, refl, sym, ap, ◌∙◌, inl, inr, arith, is_some}
-use Rattle.std.proofs.lemmas.Bool.{cases_Bool, cases_lt, agree_below, agree_below_at, eqb-true, eq-eqb, ne_eqb, and_parts, and_from, and_cases, and_left, not-true, not_from_false, both_ways, false≢true}
+use Rattle.board_prelude.proofs.Common.{cases_Bool, cases_lt, agree_below_at, eqb-true, eq-eqb, ne_eqb, and_parts, and_from, and_left, not-true, both_ways, false≢true, Levels, has, levels_where, with_level, without_level, Chip, pending, priority_order, is_blocking, blocks_itself, is_requested, request, interrupt, acknowledged, acknowledged_if, chip_after_write, get_or_past, Pair, Answer, answer_of, pair_after_acknowledge, settled, chip_answer, pair_written, pair_read, pair_acknowledged, answer_at, pair_acknowledged_at, has-levels_where, scan, request-is}
+use Rattle.std.proofs.lemmas.Bool.{agree_below, and_cases, not_from_false}
 use Rattle.board_base.specs.Bits.{is_bit}
-use Rattle.device_spec.specs.Levels.{Levels, has, levels_where, with_level, without_level}
-use Rattle.device_spec.specs.Pic.{Chip, pending, priority_order, is_blocking, blocks_itself, is_requested, request, interrupt, acknowledged, acknowledged_if, chip_after_write}
-use Rattle.std.proofs.lemmas.List.{get_or_past}
-use Rattle.device_spec.specs.Pair.{Pair, Answer, answer_of, pair_after_acknowledge, settled, chip_answer, pair_written, pair_read, pair_acknowledged, answer_at, pair_acknowledged_at}
 use Rattle.board_laws.specs.PicLaws.{IsFirstInOrder, EndsOne, IsSpuriousAt, SlaveIsLatched, StaysLatched}
-use Rattle.device_spec.proofs.Levels.{has-levels_where}
-use Rattle.device_spec.proofs.Priorities.{scan, request-is}
 
 -- ---- the order
 

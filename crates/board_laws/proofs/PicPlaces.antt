@@ -1,15 +1,9 @@
 -- What INT stands for, and what a non-specific end of interrupt ends, by places in the order of priorities.
 use Rattle.std.proofs.Common.{◌≡◌, ◌≢◌, ℕ, zero, suc, ◌+◌, ◌/◌, ◌<◌, ◌≤◌, Bool, true, false, not, cond, eqb, ◌&&◌, Some, None, List, [], ◌∷◌, length, get_or, drop, refl, sym, ap, ◌∙◌, inl, inr, arith, is_some, length-append}
-use Rattle.std.specs.List.{find, list_all}
-use Rattle.std.proofs.lemmas.Bool.{cases_Bool, cases_lt, cases_eq, agree_below_at, eqb-true, and_parts, and_from, not-true, false≢true}
-use Rattle.std.proofs.Math.ListN.{drop_of_length-le}
-use Rattle.std.proofs.Math.Seq.{get_or-append_seam}
-use Rattle.std.proofs.lemmas.List.{get_or_append_left}
+use Rattle.board_prelude.proofs.Common.{find, list_all, cases_Bool, cases_lt, cases_eq, agree_below_at, eqb-true, and_parts, and_from, not-true, false≢true, drop_of_length-le, get_or-append_seam, get_or_append_left, has, without_level, Chip, pending, priority_order, is_blocking, blocks_itself, is_requested, request, interrupt, first_blocking, chip_after_write, scan, request-is, scan-found, scan-past, find-past, find-here, first_blocking-is, priority_order-small}
 use Rattle.board_base.specs.Bits.{is_bit}
-use Rattle.device_spec.specs.Levels.{has, without_level}
-use Rattle.device_spec.specs.Pic.{Chip, pending, priority_order, is_blocking, blocks_itself, is_requested, request, interrupt, first_blocking, ended, chip_after_write}
+use Rattle.device_spec.specs.Pic.{ended}
 use Rattle.board_laws.specs.PicLaws.{place_of, CanBeSelected, InterruptIsSelected, SelectedInterrupts, IsServedFirst, NonSpecificEndEndsFirst, NonSpecificEndOfNone, IsFirstInOrder}
-use Rattle.device_spec.proofs.Priorities.{scan, request-is, scan-found, scan-past, find-past, find-here, first_blocking-is, priority_order-small}
 use Rattle.board_laws.proofs.PicLaws.{priorities, interrupt-first, interrupt-unmasked, interrupt-small, without-one}
 
 -- ---- the order by places

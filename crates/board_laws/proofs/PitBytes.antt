@@ -1,7 +1,6 @@
 -- The bytes of a count.
 use Rattle.std.proofs.Common.{◌≡◌, ℕ, ◌+◌, ◌*◌, ◌/◌, ◌%◌, ◌==◌, ◌⊎◌, inl, inr, false, refl, arith}
-use Rattle.std.proofs.lemmas.Bool.{cases_Bool, eqb-true}
-use Rattle.device_spec.specs.Pit.{Mode, Notation, Binary, Decimal, byte_value, byte_values, byte_of_value, is_periodic, modulus, count_of_number, low_byte, high_byte}
+use Rattle.board_prelude.proofs.Common.{cases_Bool, eqb-true, Mode, Notation, Binary, Decimal, byte_value, byte_values, byte_of_value, is_periodic, modulus, count_of_number, low_byte, high_byte}
 use Rattle.board_laws.specs.PitLaws.{IsByteOf, CountReadsAsWritten}
 
 -- the bytes of a number that was made of two bytes

@@ -1,13 +1,7 @@
 -- Whole counts of modes 0, 1, 4 and 5, and the pulse that loads.
 use Rattle.std.proofs.Common.{◌≡◌, ℕ, zero, suc, ◌+◌, ◌-◌, ◌<◌, ◌≤◌, ◌==◌, ◌&&◌, ◌||◌, not, Bool, true, false, cond, inl, inr, refl, ap, sym, subst, ◌∙◌, arith, add-zero, add-suc}
-use Rattle.std.proofs.Math.Bool.{and-false}
-use Rattle.std.proofs.lemmas.Bool.{cases_lt, and_parts, not-true}
-use Rattle.std.proofs.lemmas.Bool.Decides.{nat_tests}
-use Rattle.device_spec.specs.Pit.{Mode, TerminalCount, OneShot, RateGenerator, SquareWave, SoftwareStrobe, HardwareStrobe, CounterState, load, count_down, count_to_end, count_to_strobe, pulse_by_mode, pulse}
-use Rattle.device_spec.specs.PitLaws.{pulses_of}
-use Rattle.device_spec.specs.PitPeriods.{IsAtLoad}
+use Rattle.board_prelude.proofs.Common.{and-false, cases_lt, and_parts, not-true, nat_tests, Mode, TerminalCount, OneShot, RateGenerator, SquareWave, SoftwareStrobe, HardwareStrobe, CounterState, load, count_down, count_to_end, count_to_strobe, pulse_by_mode, pulse, pulses_of, IsAtLoad, phase, phase-self}
 use Rattle.board_laws.specs.PitCounts.{PulseLoads, EndsOnce, CountsEndOnce, StrobesOnce, CountsStrobeOnce}
-use Rattle.device_spec.proofs.PitPeriods.{phase, phase-self}
 
 -- THE PULSE THAT LOADS
 

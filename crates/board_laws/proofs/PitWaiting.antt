@@ -1,9 +1,6 @@
 -- In modes 2 and 3 a count that is written waits for the next load.
 use Rattle.std.proofs.Common.{◌≡◌, ℕ, zero, suc, ◌-◌, ◌==◌, ◌&&◌, ◌||◌, Bool, true, false, cond, ◌⊎◌, inl, inr, Option, Some, None, unwrap_or, refl, ap, sym, ◌∙◌}
-use Rattle.std.proofs.Math.Bool.{and-true, or-false}
-use Rattle.std.proofs.lemmas.Bool.{cases_Bool, false≢true}
-use Rattle.device_spec.specs.Pit.{Mode, TerminalCount, OneShot, RateGenerator, SquareWave, SoftwareStrobe, HardwareStrobe, Access, LowByte, HighByte, LowThenHigh, CounterState, is_periodic, is_terminal_count, asks_for_load, count_of_bytes, modulus, complete, take_low, take_byte, write, load, count_down, count_to_reload, half_end, count_half, pulse_by_mode, pulse}
-use Rattle.device_spec.specs.PitLaws.{pulses_of}
+use Rattle.board_prelude.proofs.Common.{and-true, or-false, cases_Bool, false≢true, Mode, TerminalCount, OneShot, RateGenerator, SquareWave, SoftwareStrobe, HardwareStrobe, Access, LowByte, HighByte, LowThenHigh, CounterState, is_periodic, is_terminal_count, asks_for_load, count_of_bytes, modulus, complete, take_low, take_byte, write, load, count_down, count_to_reload, half_end, count_half, pulse_by_mode, pulse, pulses_of}
 use Rattle.board_laws.specs.PitCounts.{CountWaits, CountIsTaken}
 
 -- the same counter where another count waits

@@ -1,15 +1,7 @@
 -- Pulses and then more leave what all of them at once leave.
 use Rattle.std.proofs.Common.{◌≡◌, ℕ, zero, suc, ◌+◌, Bool, List, ◌∷◌, refl, sym, ◌∙◌, ap, add-zero, add-suc}
-use Rattle.device_spec.specs.Pit.{pulses}
-use Rattle.device_spec.specs.Pair.{Pair, pair_after_lines}
-use Rattle.device_spec.specs.PitLaws.{PulsesAddUp}
-use Rattle.board_spec.specs.declared.event.Event.TheVariants.{Pulses}
-use Rattle.board_spec.specs.declared.event.Entry.{Entry}
-use Rattle.board_spec.specs.Setup.{Setup}
-use Rattle.board_spec.specs.Devices.{timer_of}
-use Rattle.board_spec.specs.Interrupts.{levels_with, elcr_of, pair_pulsed, pair_of}
+use Rattle.board_prelude.proofs.Common.{pulses, Pair, pair_after_lines, PulsesAddUp, Pulses, Entry, Setup, timer_of, levels_with, elcr_of, pair_pulsed, pair_of, timer-pulsed, triggers-pulsed, levels-pulsed, elcr-same, pair-pulsed}
 use Rattle.board_laws.specs.DeviceLaws.{PulsesAdd}
-use Rattle.board_spec.proofs.PairProofs.{timer-pulsed, triggers-pulsed, levels-pulsed, elcr-same, pair-pulsed}
 
 -- ---- pulses
 

@@ -1,25 +1,8 @@
 -- Only an entry whose reply names a register changes registers in configuration space.
-use Rattle.std.proofs.Common.{◌≡◌, ℕ, ◌≤◌, Bool, true, ◌&&◌, List, Option, Some, None, is_some, refl, sym, ◌∙◌, ap, subst, inl, inr, arith}
-use Rattle.std.specs.Prelude.{option_map}
-use Rattle.std.proofs.lemmas.Bool.{cases_Bool, cond-true, cond-false, and_parts}
-use Rattle.std.proofs.lemmas.Bool.Decides.{nat_tests}
-use Rattle.board_base.specs.declared.access.Width.{Width}
-use Rattle.board_base.specs.declared.access.Width.TheVariants.{One, Two, Four}
-use Rattle.board_base.specs.declared.access.PortAccess.{PortAccess}
-use Rattle.board_base.specs.declared.target.Reg.{Reg}
-use Rattle.board_base.specs.Access.{bytes_of}
-use Rattle.board_spec.specs.declared.event.Event.{Event}
-use Rattle.board_spec.specs.declared.event.Event.TheVariants.{Port}
-use Rattle.board_spec.specs.declared.event.Reply.{Reply}
-use Rattle.board_spec.specs.declared.event.Entry.{Entry}
-use Rattle.board_spec.specs.declared.map_change.MapChange.{MapChange}
-use Rattle.board_spec.specs.declared.map_change.MapChange.TheVariants.{Store, Reset}
-use Rattle.board_spec.specs.Setup.{Setup}
-use Rattle.board_spec.specs.Registers.{is_hard_reset, is_config_port, config_register, config_store, config_address, covers, byte_with, byte_of}
-use Rattle.board_spec.specs.Decode.{Bytes}
-use Rattle.board_spec.specs.Ports.{Decoded, config_port, port_target_of}
-use Rattle.board_spec.specs.Answer.{port_answer, IsAnswer}
-use Rattle.board_laws.specs.RegisterLaws.{IsNear, TargetReaches, Reaches, RegistersStay}
+use Rattle.std.proofs.Common.{◌≡◌, ℕ, ◌≤◌, Bool, true, ◌&&◌, List, Option, Some, None, is_some, refl, sym, ◌∙◌, ap, subst, inl, inr, arith, option_map}
+use Rattle.board_prelude.proofs.Common.{cases_Bool, cond-true, cond-false, and_parts, nat_tests, Width, One, PortAccess, Reg, bytes_of, Event, Port, Reply, Entry, MapChange, Store, Reset, Setup, is_hard_reset, is_config_port, config_register, config_store, config_address, covers, byte_with, byte_of, Bytes, Decoded, config_port, port_target_of, port_answer, IsAnswer}
+use Rattle.board_base.specs.declared.access.Width.TheVariants.{Two, Four}
+use Rattle.board_laws.specs.RegisterLaws.{IsNear, TargetReaches, ReachesNear, RegistersStay}
 
 width_most : (width : Width) → bytes_of width ≤ 4
 width_most One = omega arith
@@ -58,7 +41,7 @@ decoded-config setup bytes address disk port width is =
 answer_reaches :
     (setup : Setup) (before : List Entry) (access : PortAccess) (named reg : Reg) →
     is_config_port access.port ≡ true → config_register setup (config_address before) access.port ≡ Some named →
-    IsNear named reg → Reaches (port_answer setup before access) reg
+    IsNear named reg → ReachesNear (port_answer setup before access) reg
 unfolding port_answer
 answer_reaches setup before access named reg is found near =
     subst (λ (decoded : Decoded). TargetReaches decoded.target reg)
@@ -68,7 +51,7 @@ answer_reaches setup before access named reg is found near =
 store_stays :
     (setup : Setup) (before : List Entry) (access : PortAccess) (reg : Reg) (old : ℕ) (found : Option Reg) →
     is_config_port access.port ≡ true → config_register setup (config_address before) access.port ≡ found →
-    ¬ Reaches (port_answer setup before access) reg →
+    ¬ ReachesNear (port_answer setup before access) reg →
     byte_with setup (option_map (λ at. Store at access.width access.value) found) reg old ≡ old
 store_stays setup before access reg old None is found far = refl
 store_stays setup before access reg old (Some named) is found far =
@@ -77,7 +60,7 @@ store_stays setup before access reg old (Some named) is found far =
 
 access_stays :
     (setup : Setup) (before : List Entry) (access : PortAccess) (reg : Reg) (old : ℕ) →
-    ¬ Reaches (port_answer setup before access) reg →
+    ¬ ReachesNear (port_answer setup before access) reg →
     byte_with setup (config_store setup (config_address before) (Port access)) reg old ≡ old
 access_stays setup before access reg old far =
     elim (cases_Bool (access.write && is_config_port access.port)) [
@@ -93,11 +76,11 @@ access_stays setup before access reg old far =
 
 event_stays :
     (setup : Setup) (before : List Entry) (event : Event) (reply : Reply) (reg : Reg) (old : ℕ) →
-    IsAnswer setup before event reply → ¬ Reaches reply reg →
+    IsAnswer setup before event reply → ¬ ReachesNear reply reg →
     byte_with setup (config_store setup (config_address before) event) reg old ≡ old
 event_stays setup before (Port access) reply reg old answer far =
     access_stays setup before access reg old
-    (λ reaches. far (subst (λ (r : Reply). Reaches r reg) (sym answer) reaches))
+    (λ reaches. far (subst (λ (r : Reply). ReachesNear r reg) (sym answer) reaches))
 event_stays setup before event reply reg old answer far = refl
 
 pub registers_stay : RegistersStay

@@ -1,33 +1,7 @@
 -- A hard reset puts registers and devices in their reset state, and keeps what is stored.
-use Rattle.std.proofs.Common.{◌≡◌, ℕ, ◌+◌, ◌*◌, Bool, true, false, not, ◌||◌, ◌&&◌, List, ◌∷◌, Option, Some, None, is_some, take, drop, refl, sym, ◌∙◌, ap, inl, inr}
-use Rattle.std.specs.Prelude.{◌==◌, unwrap_or}
-use Rattle.std.proofs.lemmas.Bool.{cases_Bool, cond-true, cond-false, and_parts, eqb-true, false≢true}
-use Rattle.board_base.specs.declared.access.Width.{Width}
-use Rattle.board_base.specs.declared.access.PortAccess.{PortAccess}
+use Rattle.std.proofs.Common.{◌≡◌, ℕ, ◌+◌, ◌*◌, Bool, true, false, not, ◌||◌, ◌&&◌, List, ◌∷◌, Option, Some, None, is_some, take, drop, refl, sym, ◌∙◌, ap, inl, inr, ◌==◌, unwrap_or}
+use Rattle.board_prelude.proofs.Common.{cases_Bool, cond-true, cond-false, and_parts, eqb-true, false≢true, Width, PortAccess, Target, Device, bytes_of, Triggers, triggers_at_reset, Levels, has, no_levels, levels_where, Chip, chip_at_reset, chip_after_inputs, latches_after, Pair, pair_at_reset, master_inputs, pair_after_lines, levels_where-same, has-levels_where, Event, Port, Wire, Line, Pulses, Reply, Entry, MapChange, Reset, Setup, reset_control_port, control_written, is_hard_value, resets_hard, control_after, is_hard_reset, reset_control, config_address, byte_with, byte_of, Cell, port_put, entry_put, Bytes, Decoded, device, port_target_of, wire_set, line_set, wire_of, irq_of, triggers_of, system_of, timer_of, clock_of, disk_with, levels_of, elcr_of, pair_stepped, pair_reset_or_after, pair_of, port_answer, IsAnswer}
 use Rattle.board_base.specs.declared.target.Dev.TheVariants.{Reset as ResetPort}
-use Rattle.board_base.specs.declared.target.Target.{Target}
-use Rattle.board_base.specs.declared.target.Target.TheVariants.{Device}
-use Rattle.board_base.specs.Access.{bytes_of}
-use Rattle.device_spec.specs.Elcr.{Triggers, triggers_at_reset}
-use Rattle.device_spec.specs.Levels.{Levels, has, no_levels, levels_where}
-use Rattle.device_spec.specs.Pic.{Chip, chip_at_reset, chip_after_inputs, latches_after}
-use Rattle.device_spec.specs.Pair.{Pair, pair_at_reset, master_inputs, pair_after_lines}
-use Rattle.device_spec.proofs.Levels.{levels_where-same, has-levels_where}
-use Rattle.board_spec.specs.declared.event.Event.{Event}
-use Rattle.board_spec.specs.declared.event.Event.TheVariants.{Port, Wire, Line, Pulses}
-use Rattle.board_spec.specs.declared.event.Reply.{Reply}
-use Rattle.board_spec.specs.declared.event.Entry.{Entry}
-use Rattle.board_spec.specs.declared.map_change.MapChange.{MapChange}
-use Rattle.board_spec.specs.declared.map_change.MapChange.TheVariants.{Reset}
-use Rattle.board_spec.specs.Setup.{Setup}
-use Rattle.board_spec.specs.PortNames.{reset_control_port}
-use Rattle.board_spec.specs.Registers.{control_written, is_hard_value, resets_hard, control_after, is_hard_reset, reset_control, config_address, byte_with, byte_of}
-use Rattle.board_spec.specs.Stored.{Cell, port_put, entry_put}
-use Rattle.board_spec.specs.Decode.{Bytes}
-use Rattle.board_spec.specs.Ports.{Decoded, device, port_target_of}
-use Rattle.board_spec.specs.Devices.{wire_set, line_set, wire_of, irq_of, triggers_of, system_of, timer_of, clock_of, disk_with}
-use Rattle.board_spec.specs.Interrupts.{levels_of, elcr_of, pair_stepped, pair_reset_or_after, pair_of}
-use Rattle.board_spec.specs.Answer.{port_answer, IsAnswer}
 use Rattle.board_laws.specs.ResetLaws.{HardResetResets, HardResetKeeps}
 use Rattle.board_laws.proofs.StoredLaws.{stored-left}
 

@@ -1,9 +1,6 @@
 -- The bits of the SMRAM register after a write.
 use Rattle.std.proofs.Common.{◌≡◌, ℕ, ◌+◌, ◌-◌, ◌*◌, ◌/◌, ◌%◌, ◌<◌, max, ◌||◌, eqb, cond, inl, inr, arith}
-use Rattle.std.proofs.lemmas.Bool.{cases_eq}
-use Rattle.std.proofs.lemmas.Bool.Decides.{nat_tests}
-use Rattle.board_spec.specs.Bits.{bit}
-use Rattle.board_spec.specs.Registers.{smram_after}
+use Rattle.board_prelude.proofs.Common.{cases_eq, nat_tests, bit, smram_after}
 use Rattle.board_laws.specs.SmramLaw.{SmramByBits}
 
 -- the register made of its four bits

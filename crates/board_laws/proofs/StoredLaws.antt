@@ -1,9 +1,6 @@
 -- A cell holds the byte of the last entry that put one there.
-use Rattle.std.proofs.Common.{◌≡◌, ℕ, List, [], ◌∷◌, ◌++◌, Some, None, refl, ◌∙◌, ap}
-use Rattle.std.specs.Prelude.{unwrap_or}
-use Rattle.std.proofs.lemmas.List.Elements.{All-head, All-tail}
-use Rattle.board_spec.specs.declared.event.Entry.{Entry}
-use Rattle.board_spec.specs.Stored.{Cell, stored_of}
+use Rattle.std.proofs.Common.{◌≡◌, ℕ, List, [], ◌∷◌, ◌++◌, Some, None, refl, ◌∙◌, ap, unwrap_or}
+use Rattle.board_prelude.proofs.Common.{All-head, All-tail, Entry, Cell, stored_of}
 use Rattle.board_laws.specs.StoreLaws.{put_by, LastStays, NothingStored}
 
 -- an entry that puts a byte in a cell, and one that does not

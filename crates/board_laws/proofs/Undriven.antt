@@ -1,7 +1,6 @@
 -- The lines that nothing drives.
 use Rattle.std.proofs.Common.{refl}
-use Rattle.device_spec.specs.RoutingLaws.{ReservedLinesRest}
-use Rattle.board_spec.specs.Interrupts.{levels_with, routes_of, pirq_levels}
+use Rattle.board_prelude.proofs.Common.{ReservedLinesRest, levels_with, routes_of, pirq_levels}
 use Rattle.board_laws.specs.DeviceLaws.{UndrivenLines}
 
 -- no route reaches the lines 2 and 13, and no device drives them

@@ -1,31 +1,10 @@
 -- A wide access to DRAM reads and writes the bytes from its address on.
-use Rattle.std.proofs.Common.{◌≡◌, ℕ, suc, ◌+◌, ◌-◌, ◌*◌, ◌/◌, ◌%◌, ◌^◌, ◌≤◌, ◌<◌, ◌⊎◌, inl, inr, true, List, [], ◌∷◌, Option, Some, None, refl, sym, ◌∙◌, ap, subst, arith}
-use Rattle.std.specs.Prelude.{◌==◌, nat_le, nat_lt, if◌then◌else◌, All, map, option_and_then}
-use Rattle.std.specs.Option.{option_or}
-use Rattle.std.proofs.lemmas.Bool.{cases_Bool, cases_eq, cases_lt, cond-true, cond-false, le-leb, lt-leb, lt-ltb, le-ltb}
-use Rattle.std.proofs.lemmas.List.Elements.{All-head, All-tail}
-use Rattle.board_base.specs.declared.access.Width.{Width}
-use Rattle.board_base.specs.declared.access.Width.TheVariants.{One, Two, Four}
+use Rattle.std.proofs.Common.{◌≡◌, ℕ, suc, ◌+◌, ◌-◌, ◌*◌, ◌/◌, ◌%◌, ◌^◌, ◌≤◌, ◌<◌, ◌⊎◌, inl, inr, true, List, [], ◌∷◌, Option, Some, None, refl, sym, ◌∙◌, ap, subst, arith, ◌==◌, nat_le, nat_lt, if◌then◌else◌, All, map, option_and_then}
+use Rattle.board_prelude.proofs.Common.{option_or, cases_Bool, cases_eq, cases_lt, cond-true, cond-false, le-leb, lt-leb, lt-ltb, le-ltb, All-head, All-tail, Width, One, WideAccess, Target, Dram, Shadow, Smram, Rom, Card, Device, Config, Abort, bytes_of, Event, Wide, Part, Reply, Bus, Saw, Entry, Setup, byte, wide, part_at, parts_of, joined, Cell, DramCell, CardCell, first_cell, distance, memory_put, parts_put, entry_put, is_write, dram_byte, memory_target, part_answer, value_at, wide_value, IsAnswer, made, total, is_cut, further}
+use Rattle.board_base.specs.declared.access.Width.TheVariants.{Two, Four}
 use Rattle.board_base.specs.declared.access.Access.{Access}
-use Rattle.board_base.specs.declared.access.WideAccess.{WideAccess}
-use Rattle.board_base.specs.declared.target.Target.{Target}
-use Rattle.board_base.specs.declared.target.Target.TheVariants.{Dram, Shadow, Smram, Rom, Card, Device, Config, Abort}
-use Rattle.board_base.specs.Access.{bytes_of}
-use Rattle.board_spec.specs.declared.event.Event.{Event}
-use Rattle.board_spec.specs.declared.event.Event.TheVariants.{Wide}
-use Rattle.board_spec.specs.declared.event.Part.{Part}
-use Rattle.board_spec.specs.declared.event.Reply.{Reply}
-use Rattle.board_spec.specs.declared.event.Reply.TheVariants.{Bus, Parts, Saw}
-use Rattle.board_spec.specs.declared.event.Entry.{Entry}
-use Rattle.board_spec.specs.Setup.{Setup}
-use Rattle.board_spec.specs.Bits.{byte, wide}
-use Rattle.board_spec.specs.WideParts.{part_at, parts_of, joined}
-use Rattle.board_spec.specs.Stored.{Cell, DramCell, CardCell, first_cell, distance, memory_put, parts_put, entry_put, is_write, dram_byte}
-use Rattle.board_spec.specs.Answer.{memory_target, part_answer, value_at, wide_value, IsAnswer}
-use Rattle.board_laws.specs.StoreLaws.{WideStored}
-use Rattle.board_laws.specs.StoreLaws.{low_first, WideReads}
-use Rattle.board_spec.proofs.PartLemmas.{made, total, is_cut}
-use Rattle.board_spec.proofs.PartLawProofs.{further}
+use Rattle.board_spec.specs.declared.event.Reply.TheVariants.{Parts}
+use Rattle.board_laws.specs.StoreLaws.{WideStored, low_first, WideReads}
 use Rattle.board_laws.proofs.StoredLaws.{stored-put, stored-left}
 
 -- ---- reads

@@ -1,14 +1,6 @@
 -- A card's INTA# and the line to which it is routed.
-use Rattle.std.proofs.Common.{◌≡◌, ℕ, ◌≤◌, ◌<◌, inl, inr, Bool, true, false, ◌||◌, ◌&&◌, List, get_or, Option, Some, None, refl, sym, ◌∙◌, ap, subst, arith}
-use Rattle.std.specs.Prelude.{◌==◌}
-use Rattle.std.proofs.lemmas.Bool.{cases_Bool, and_from, and_parts, eq-eqb, eqb-true, false≢true}
-use Rattle.device_spec.specs.Routing.{drives, line_of_route, is_line_driven}
-use Rattle.board_spec.specs.declared.event.Entry.{Entry}
-use Rattle.board_spec.specs.Setup.{Setup}
-use Rattle.board_spec.specs.RegisterNames.{pirq}
-use Rattle.board_spec.specs.Registers.{byte_of}
-use Rattle.board_spec.specs.Devices.{wire_of, timer_of}
-use Rattle.board_spec.specs.Interrupts.{pirq_of_card, own_level, level_with, levels_with, levels_of, pirq_level, pirq_levels, routes_of}
+use Rattle.std.proofs.Common.{◌≡◌, ℕ, ◌≤◌, ◌<◌, inl, inr, Bool, true, false, ◌||◌, ◌&&◌, List, get_or, Option, Some, None, refl, sym, ◌∙◌, ap, subst, arith, ◌==◌}
+use Rattle.board_prelude.proofs.Common.{cases_Bool, and_from, and_parts, eq-eqb, eqb-true, false≢true, drives, line_of_route, is_line_driven, Entry, Setup, pirq, byte_of, wire_of, timer_of, pirq_of_card, own_level, level_with, levels_with, levels_of, pirq_level, pirq_levels, routes_of}
 use Rattle.board_laws.specs.DeviceLaws.{SomeWire, WireReachesLine, LineHasDriver}
 use Rattle.board_laws.proofs.Numbers.{numbers_from, map-number, any-number, Passes, passing}
 

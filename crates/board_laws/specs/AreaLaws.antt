@@ -1,11 +1,7 @@
 -- Who answers at an address of memory, line by line of the memory map.
 use Rattle.std.specs.Prelude.{ℕ, ◌≡◌, ◌<◌, ◌≤◌, Bool, true, false, ◌&&◌, List, ◌∷◌, ◌++◌, All, flat_map}
-use Rattle.board_base.specs.declared.access.Kind.{Kind}
+use Rattle.board_prelude.specs.Common.{Kind, Setup, fdhc, smram, xbcs, lies_in, smram_range, upper_memory, Bytes, boundary, top_of, hole_of, is_in, smram_answers, is_shadowed, is_rom_selected, Window, is_covered, is_enabled_for, memory_windows, area_of}
 use Rattle.board_base.specs.declared.target.Area.TheVariants.{Dram, Shadow, Smram, Rom, Card, Abort}
-use Rattle.board_spec.specs.Setup.{Setup}
-use Rattle.board_spec.specs.RegisterNames.{fdhc, smram, xbcs}
-use Rattle.board_spec.specs.Ranges.{lies_in, smram_range, upper_memory}
-use Rattle.board_spec.specs.Decode.{Bytes, boundary, top_of, hole_of, is_in, smram_answers, is_shadowed, is_rom_selected, Window, is_covered, is_enabled_for, memory_windows, area_of}
 
 -- the row of DRAM in which an address lies: below the top, the first that ends above the address
 pub record IsRow (bytes : Bytes) (addr row : ℕ) : Type 0 where
@@ -41,8 +37,8 @@ pub record IsPastDram (bytes : Bytes) (addr : ℕ) (kind : Kind) (smm : Bool) : 
 abbrev pub claims : Bytes → ℕ → Window → Bool
 claims bytes addr window = is_enabled_for 1 bytes window.dev && is_covered addr window
 
-abbrev pub windows_of : Setup → Bytes → List Window
-windows_of setup bytes = flat_map (memory_windows bytes) setup.cards
+abbrev pub memory_windows_of : Setup → Bytes → List Window
+memory_windows_of setup bytes = flat_map (memory_windows bytes) setup.cards
 
 abbrev pub NoneClaims : Bytes → ℕ → List Window → Type 0
 NoneClaims bytes addr windows = All (λ window. claims bytes addr window ≡ false) windows
@@ -64,10 +60,10 @@ pub record Answers (setup : Setup) (bytes : Bytes) (addr : ℕ) (kind : Kind) (s
       area_of setup bytes addr kind smm ≡ Rom
   pub in_card :
       (earlier later : List Window) (window : Window) → IsPastRom bytes addr kind smm →
-      windows_of setup bytes ≡ earlier ++ window ∷ later → NoneClaims bytes addr earlier →
+      memory_windows_of setup bytes ≡ earlier ++ window ∷ later → NoneClaims bytes addr earlier →
       claims bytes addr window ≡ true → area_of setup bytes addr kind smm ≡ Card window.dev window.base
   pub nowhere :
-      IsPastRom bytes addr kind smm → NoneClaims bytes addr (windows_of setup bytes) →
+      IsPastRom bytes addr kind smm → NoneClaims bytes addr (memory_windows_of setup bytes) →
       area_of setup bytes addr kind smm ≡ Abort
 
 -- each address below the top has its row

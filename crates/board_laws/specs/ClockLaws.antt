@@ -1,8 +1,8 @@
 -- Laws of the clock's machine, in the words of someone who uses the clock.
 use Rattle.std.specs.Prelude.{◌≡◌, ◌≢◌, ℕ, ◌+◌, ◌*◌, ◌/◌, ◌%◌, ◌<◌, Bool, true, false, ◌&&◌, ◌||◌, ◌==◌, nat_le, if◌then◌else◌, length}
 use Rattle.board_base.specs.Bits.{is_bit}
-use Rattle.device_spec.specs.Clock.{CivilTime, Clock, worth, byte_at, control_of, holds_time, is_binary, is_24_hour, number_byte, hour_byte, interrupt_line, read_value, after_read, after_write, after_moment, after_reset, second_at, second_alarm_at, minute_at, minute_alarm_at, hour_at, hour_alarm_at, weekday_at, day_at, month_at, year_at, register_a, register_b, register_c, register_d, update_interrupts, power_on}
-use Rattle.device_spec.specs.PortNames.{clock_index_port, clock_data_port}
+use Rattle.board_prelude.specs.Common.{CivilTime, Clock, worth, byte_at, control_of, holds_time, is_binary, is_24_hour, number_byte, hour_byte, read_value, after_read, after_write, after_moment, after_reset, second_at, second_alarm_at, minute_at, minute_alarm_at, hour_at, hour_alarm_at, weekday_at, day_at, month_at, year_at, register_a, register_b, register_c, register_d, update_interrupts, clock_index_port, clock_data_port}
+use Rattle.device_spec.specs.Clock.{interrupt_line, power_on}
 
 -- The time is shown
 
@@ -76,7 +76,7 @@ ReadingQuiets = (clock : Clock) → clock.index ≡ register_c → IsQuiet (afte
 -- A hard reset
 
 -- all bytes but register B stay; of register B bits 6 to 3 are cleared and the others stay
-pub record IsReset (before after : Clock) : Type 0 where
+pub record IsClockReset (before after : Clock) : Type 0 where
   pub bytes : (address : ℕ) → address ≢ register_b → byte_at after address ≡ byte_at before address
   pub switches : (k : ℕ) → k < 8 →
       is_bit (control_of after) k
@@ -86,7 +86,7 @@ pub record IsReset (before after : Clock) : Type 0 where
 
 abbrev pub ResetKeepsTheTime : Type 0
 ResetKeepsTheTime =
-    (clock : Clock) → length clock.bytes ≡ 128 → IsReset clock (after_reset clock)
+    (clock : Clock) → length clock.bytes ≡ 128 → IsClockReset clock (after_reset clock)
 
 -- The memory
 

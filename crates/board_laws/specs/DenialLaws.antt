@@ -1,28 +1,18 @@
 -- Where an access is denied: exactly where nobody answers it, and where it writes to the ROM.
 use Rattle.std.specs.Prelude.{ℕ, ◌≡◌, Bool, true, false, List, All, Option, is_some}
-use Rattle.board_base.specs.declared.target.Target.{Target}
-use Rattle.board_base.specs.declared.target.Target.TheVariants.{Rom, Abort}
-use Rattle.board_base.specs.declared.target.Denial.{Denial}
-use Rattle.board_spec.specs.declared.event.Event.{Event}
-use Rattle.board_spec.specs.declared.event.Event.TheVariants.{Memory, Wide}
-use Rattle.board_spec.specs.declared.event.Parts.{Parts}
-use Rattle.board_spec.specs.declared.event.Reply.TheVariants.{Bus, Parts as InParts}
-use Rattle.board_spec.specs.declared.event.Entry.{Entry}
-use Rattle.board_spec.specs.Setup.{Setup}
-use Rattle.board_spec.specs.Stored.{is_write}
-use Rattle.board_spec.specs.WideParts.{parts_list}
-use Rattle.board_spec.specs.Answer.{IsAnswer}
+use Rattle.board_prelude.specs.Common.{Target, Rom, Abort, Denial, Event, Memory, Wide, Parts, Bus, Entry, Setup, is_write, parts_list, IsAnswer}
+use Rattle.board_spec.specs.declared.event.Reply.TheVariants.{Parts as InParts}
 
 -- an access with this target reaches nothing, or writes to the ROM
-abbrev pub IsRefused : (writes : Bool) → Target → Type 0
-IsRefused writes Abort = Unit {0}
-IsRefused writes (Rom off) = writes ≡ true
-IsRefused writes _ = ⊥
+abbrev pub ReachesNothing : (writes : Bool) → Target → Type 0
+ReachesNothing writes Abort = Unit {0}
+ReachesNothing writes (Rom off) = writes ≡ true
+ReachesNothing writes _ = ⊥
 
 -- a denial is given exactly there
 pub record IsDeniedExactly (writes : Bool) (target : Target) (denial : Option Denial) : Type 0 where
-  pub wherever : IsRefused writes target → is_some denial ≡ true
-  pub only : is_some denial ≡ true → IsRefused writes target
+  pub wherever : ReachesNothing writes target → is_some denial ≡ true
+  pub only : is_some denial ≡ true → ReachesNothing writes target
 
 abbrev pub writes_memory : Event → Bool
 writes_memory (Memory access) = is_write access.kind

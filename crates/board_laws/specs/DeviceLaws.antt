@@ -1,30 +1,20 @@
 -- What leaves a device alone, which lines are driven and by whom, and that pulses add up.
 use Rattle.std.specs.Prelude.{ℕ, ◌≡◌, ◌+◌, ◌-◌, ◌%◌, ◌<◌, ◌≤◌, ◌⊎◌, true, false, List, ◌∷◌, slice_index_or, Some}
-use Rattle.board_base.specs.declared.target.Dev.TheVariants.{Pit, System, Clock, Elcr, Ata, Wires}
-use Rattle.device_spec.specs.Routing.{line_of_route}
-use Rattle.board_spec.specs.declared.event.Event.TheVariants.{Pulses}
-use Rattle.board_spec.specs.declared.event.Reply.{Reply}
-use Rattle.board_spec.specs.declared.event.Entry.{Entry}
-use Rattle.board_spec.specs.Setup.{Setup}
-use Rattle.board_spec.specs.RegisterNames.{pirq}
-use Rattle.board_spec.specs.Registers.{is_hard_reset, byte_of}
-use Rattle.board_spec.specs.Devices.{wire_of, irq_of, triggers_of, system_of, timer_of, clock_of, disk_with}
-use Rattle.board_spec.specs.Interrupts.{own_level, routes_of, levels_of, pair_of}
-use Rattle.board_spec.specs.Legal.{IsNext}
-use Rattle.board_spec.specs.DeviceLaws.{Names}
+use Rattle.board_prelude.specs.Common.{Pit, System, Elcr, Ata, Wires, line_of_route, Pulses, Reply, Entry, Setup, pirq, is_hard_reset, byte_of, wire_of, irq_of, triggers_of, system_of, timer_of, clock_of, disk_with, own_level, routes_of, levels_of, pair_of, IsNext, NamesDevice}
+use Rattle.board_base.specs.declared.target.Dev.TheVariants.{Clock}
 
 -- ---- one device
 
 -- an entry changes only the device that its reply names. The one exception is port 61h, whose bit 0 is the
 -- gate of counter 2
 pub record LeavesOthers (setup : Setup) (before : List Entry) (entry : Entry) : Type 0 where
-  pub timer : ¬ Names entry.reply Pit → ¬ Names entry.reply System → timer_of (entry ∷ before) ≡ timer_of before
-  pub system : ¬ Names entry.reply System → system_of (entry ∷ before) ≡ system_of before
-  pub triggers : ¬ Names entry.reply Elcr → triggers_of (entry ∷ before) ≡ triggers_of before
-  pub clock : ¬ Names entry.reply Clock → clock_of (entry ∷ before) ≡ clock_of before
-  pub disk : ¬ Names entry.reply Ata → (bytes : List ℕ) → disk_with bytes (entry ∷ before) ≡ disk_with bytes before
-  pub wires : ¬ Names entry.reply Wires → (dev : ℕ) → wire_of (entry ∷ before) dev ≡ wire_of before dev
-  pub lines : ¬ Names entry.reply Wires → (line : ℕ) → irq_of (entry ∷ before) line ≡ irq_of before line
+  pub timer : ¬ NamesDevice entry.reply Pit → ¬ NamesDevice entry.reply System → timer_of (entry ∷ before) ≡ timer_of before
+  pub system : ¬ NamesDevice entry.reply System → system_of (entry ∷ before) ≡ system_of before
+  pub triggers : ¬ NamesDevice entry.reply Elcr → triggers_of (entry ∷ before) ≡ triggers_of before
+  pub clock : ¬ NamesDevice entry.reply Clock → clock_of (entry ∷ before) ≡ clock_of before
+  pub disk : ¬ NamesDevice entry.reply Ata → (bytes : List ℕ) → disk_with bytes (entry ∷ before) ≡ disk_with bytes before
+  pub wires : ¬ NamesDevice entry.reply Wires → (dev : ℕ) → wire_of (entry ∷ before) dev ≡ wire_of before dev
+  pub lines : ¬ NamesDevice entry.reply Wires → (line : ℕ) → irq_of (entry ∷ before) line ≡ irq_of before line
 
 abbrev pub OthersStay : Type 0
 OthersStay =
@@ -35,7 +25,7 @@ OthersStay =
 
 -- the reply names a device that drives a line
 abbrev pub NamesDriver : Reply → Type 0
-NamesDriver reply = Names reply Pit ⊎ Names reply Clock ⊎ Names reply Ata ⊎ Names reply Wires
+NamesDriver reply = NamesDevice reply Pit ⊎ NamesDevice reply Clock ⊎ NamesDevice reply Ata ⊎ NamesDevice reply Wires
 
 -- where no driver of a line was reached and no route changed, the sixteen lines stay
 abbrev pub LinesStay : Type 0

@@ -1,13 +1,6 @@
 -- The address map depends on the map writes alone.
 use Rattle.std.specs.Prelude.{ℕ, ◌≡◌, Bool, List}
-use Rattle.board_base.specs.declared.access.Kind.{Kind}
-use Rattle.board_base.specs.declared.target.Area.{Area}
-use Rattle.board_spec.specs.declared.event.Entry.{Entry}
-use Rattle.board_spec.specs.Setup.{Setup, IsCardList}
-use Rattle.board_spec.specs.Registers.{byte_of}
-use Rattle.board_spec.specs.MapWrites.{map_writes_of}
-use Rattle.board_spec.specs.FlatMap.{MapRange, IsFlatMapOf, IsSpan}
-use Rattle.board_spec.specs.Laws.{SameMapBytes}
+use Rattle.board_prelude.specs.Common.{Kind, Area, Entry, Setup, IsCardList, byte_of, map_writes_of, MapRange, IsFlatMapOf, IsSpan, SameMapBytes}
 
 -- two histories have the same map bytes, the same spans and the same flat map
 pub record SameMap (setup : Setup) (history other : List Entry) : Type 0 where

@@ -1,14 +1,6 @@
 -- Which entries change registers in configuration space.
 use Rattle.std.specs.Prelude.{◌≡◌, ◌+◌, ◌<◌, ◌≤◌, false, List, ◌∷◌}
-use Rattle.board_base.specs.declared.target.Reg.{Reg}
-use Rattle.board_base.specs.declared.target.Target.{Target}
-use Rattle.board_base.specs.declared.target.Target.TheVariants.{Config}
-use Rattle.board_spec.specs.declared.event.Reply.{Reply}
-use Rattle.board_spec.specs.declared.event.Reply.TheVariants.{Bus}
-use Rattle.board_spec.specs.declared.event.Entry.{Entry}
-use Rattle.board_spec.specs.Setup.{Setup}
-use Rattle.board_spec.specs.Registers.{is_hard_reset, byte_of}
-use Rattle.board_spec.specs.Legal.{IsNext}
+use Rattle.board_prelude.specs.Common.{Reg, Target, Config, Reply, Bus, Entry, Setup, is_hard_reset, byte_of, IsNext}
 
 -- an access to a register can reach this one too: it lies in the same function, at most three bytes after
 pub record IsNear (named reg : Reg) : Type 0 where
@@ -22,13 +14,13 @@ TargetReaches (Config named) reg = IsNear named reg
 TargetReaches _ reg = ⊥
 
 -- the reply names a register from which an access reaches this one
-abbrev pub Reaches : Reply → Reg → Type 0
-Reaches (Bus value target denial) reg = TargetReaches target reg
-Reaches _ reg = ⊥
+abbrev pub ReachesNear : Reply → Reg → Type 0
+ReachesNear (Bus value target denial) reg = TargetReaches target reg
+ReachesNear _ reg = ⊥
 
 -- without a hard reset no other entry changes a register
 abbrev pub RegistersStay : Type 0
 RegistersStay =
     (setup : Setup) (before : List Entry) (entry : Entry) (reg : Reg) → IsNext setup before entry →
-    is_hard_reset before entry.event ≡ false → ¬ Reaches entry.reply reg →
+    is_hard_reset before entry.event ≡ false → ¬ ReachesNear entry.reply reg →
     byte_of setup (entry ∷ before) reg ≡ byte_of setup before reg

@@ -1,22 +1,10 @@
 -- What a hard reset leaves.
 use Rattle.std.specs.Prelude.{ℕ, ◌≡◌, true, List, ◌∷◌}
-use Rattle.board_base.specs.declared.target.Reg.{Reg}
-use Rattle.device_spec.specs.Elcr.{triggers_at_reset}
-use Rattle.device_spec.specs.Pit.{reset as timer_at_reset}
-use Rattle.device_spec.specs.Clock.{after_reset as clock_after_reset}
+use Rattle.board_prelude.specs.Common.{Reg, triggers_at_reset, reset as timer_at_reset, after_reset as clock_after_reset, pair_at_reset, Entry, Setup, reset_byte, is_hard_reset, reset_control, config_address, byte_of, Cell, stored_of, wire_of, irq_of, triggers_of, system_at_reset, system_of, timer_of, clock_of, disk_with, levels_of, pair_of, IsNext}
 use Rattle.device_spec.specs.Ata.Steps.{after_reset as disk_after_reset}
-use Rattle.device_spec.specs.Pair.{pair_at_reset}
-use Rattle.board_spec.specs.declared.event.Entry.{Entry}
-use Rattle.board_spec.specs.Setup.{Setup}
-use Rattle.board_spec.specs.RegisterTable.{reset_byte}
-use Rattle.board_spec.specs.Registers.{is_hard_reset, reset_control, config_address, byte_of}
-use Rattle.board_spec.specs.Stored.{Cell, stored_of}
-use Rattle.board_spec.specs.Devices.{wire_of, irq_of, triggers_of, system_at_reset, system_of, timer_of, clock_of, disk_with}
-use Rattle.board_spec.specs.Interrupts.{levels_of, pair_of}
-use Rattle.board_spec.specs.Legal.{IsNext}
 
 -- every register and device is in its reset state, and the pair sees the lines as they stand
-pub record IsReset (setup : Setup) (before history : List Entry) : Type 0 where
+pub record IsBoardAtReset (setup : Setup) (before history : List Entry) : Type 0 where
   pub registers : (reg : Reg) → byte_of setup history reg ≡ reset_byte setup reg
   pub address : config_address history ≡ 0
   pub control : reset_control history ≡ 0
@@ -28,7 +16,7 @@ pub record IsReset (setup : Setup) (before history : List Entry) : Type 0 where
   pub pair : pair_of setup history ≡ pair_at_reset (levels_of setup history)
 
 -- the bytes of DRAM and of the cards, and the levels from outside, are as before
-pub record IsKept (before history : List Entry) : Type 0 where
+pub record StaysAtReset (before history : List Entry) : Type 0 where
   pub cells : (cell : Cell) → stored_of history cell ≡ stored_of before cell
   pub wires : (dev : ℕ) → wire_of history dev ≡ wire_of before dev
   pub lines : (line : ℕ) → irq_of history line ≡ irq_of before line
@@ -36,9 +24,9 @@ pub record IsKept (before history : List Entry) : Type 0 where
 abbrev pub HardResetResets : Type 0
 HardResetResets =
     (setup : Setup) (before : List Entry) (entry : Entry) →
-    is_hard_reset before entry.event ≡ true → IsReset setup before (entry ∷ before)
+    is_hard_reset before entry.event ≡ true → IsBoardAtReset setup before (entry ∷ before)
 
 abbrev pub HardResetKeeps : Type 0
 HardResetKeeps =
     (setup : Setup) (before : List Entry) (entry : Entry) → IsNext setup before entry →
-    is_hard_reset before entry.event ≡ true → IsKept before (entry ∷ before)
+    is_hard_reset before entry.event ≡ true → StaysAtReset before (entry ∷ before)

@@ -1,15 +1,6 @@
 -- What a byte of DRAM or of a card holds, said of whole histories.
 use Rattle.std.specs.Prelude.{ℕ, zero, suc, ◌≡◌, ◌+◌, ◌*◌, ◌<◌, ◌≤◌, ◌⊎◌, false, true, List, ◌∷◌, ◌++◌, All, Option, Some, None}
-use Rattle.board_base.specs.declared.access.WideAccess.{WideAccess}
-use Rattle.board_spec.specs.declared.event.Event.TheVariants.{Wide}
-use Rattle.board_spec.specs.declared.event.Entry.{Entry}
-use Rattle.board_spec.specs.Setup.{Setup}
-use Rattle.board_spec.specs.Bits.{byte}
-use Rattle.board_spec.specs.InRange.{IsWideAccess}
-use Rattle.board_spec.specs.WideParts.{parts_of}
-use Rattle.board_spec.specs.Stored.{Cell, DramCell, CardCell, first_cell, entry_put, is_write, stored_of, dram_byte}
-use Rattle.board_spec.specs.Answer.{memory_target, wide_value}
-use Rattle.board_spec.specs.Legal.{IsNext}
+use Rattle.board_prelude.specs.Common.{WideAccess, Wide, Entry, Setup, byte, IsWideAccess, parts_of, Cell, DramCell, CardCell, first_cell, entry_put, is_write, stored_of, dram_byte, memory_target, wide_value, IsNext}
 
 -- what an entry puts in a cell
 abbrev pub put_by : Cell → Entry → Option ℕ

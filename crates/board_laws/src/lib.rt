@@ -2,16 +2,13 @@
 //! nothing: its clauses are laws. Those on which code stands are in the `laws` of `board_spec` and `device_spec`.
 #![tactic(auto)]
 
-ghost use Rattle.board_spec.specs.Laws.{MapBytesDecide, MapWritesDecide, OneAnswer, OneSpan, SomeAnswer, SomeSpan};
+ghost use Rattle.board_prelude.specs.Common.{MapBytesDecide, MapWritesDecide, OneAnswer, OneSpan, SomeAnswer, SomeSpan, MergedBits, ByteByByte};
 ghost use Rattle.board_laws.specs.AreaLaws.{RowBelowTop, WhoAnswers};
 ghost use Rattle.board_laws.specs.DenialLaws.{DeniedInParts, DeniedOnBus};
 ghost use Rattle.board_laws.specs.MapLaws.{MapWritesDecideMap};
-ghost use Rattle.board_base.specs.Bits.{MergedBits};
-ghost use Rattle.board_laws.specs.StoreLaws.{WideReads};
+ghost use Rattle.board_laws.specs.StoreLaws.{WideReads, LastStays, NothingStored, WideStored};
 ghost use Rattle.board_laws.specs.RegisterLaws.{RegistersStay};
 ghost use Rattle.board_laws.specs.SmramLaw.{SmramByBits};
-ghost use Rattle.board_laws.specs.StoreLaws.{LastStays, NothingStored, WideStored};
-ghost use Rattle.board_spec.specs.WideStores.{ByteByByte};
 
 pub mod devices;
 pub mod machines;

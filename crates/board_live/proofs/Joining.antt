@@ -1,27 +1,13 @@
 -- Passes that are joined into another, one after another.
-use Rattle.std.proofs.Common.{◌≡◌, ℕ, ◌+◌, List, [], ◌∷◌, ◌++◌, Option, Some, length, take, drop, sym, ap, ◌∙◌, subst, append_assoc, length-append, arith, All, Any}
-use Rattle.std.specs.Prelude.{reverse}
-use Rattle.std.proofs.lemmas.List.{reverse-reverse, take-append-drop, get_or_append_left}
-use Rattle.std.proofs.Math.Seq.{take-append_seam, get_or-append_seam}
+use Rattle.std.proofs.Common.{◌≡◌, ℕ, ◌+◌, List, [], ◌∷◌, ◌++◌, Option, Some, length, take, drop, sym, ap, ◌∙◌, subst, append_assoc, length-append, arith, All, Any, reverse}
+use Rattle.board_prelude.proofs.Common.{reverse-reverse, take-append-drop, get_or_append_left, take-append_seam, get_or-append_seam, Entry, MapChange, entries_by, map_writes_of, Setup}
 use mathlib.Core.List.{IsPrefix}
-use Rattle.bus_turn.specs.Passes.{number_of, opened_of as opened_by, part_of, seen_of as seen_in, mine_of as mine_in, joined_of}
-use Rattle.bus_turn.specs.Views.{own_by}
+use Rattle.bus_turn.specs.Common.{number_of, opened_of as opened_by, part_of, seen_of as seen_in, mine_of as mine_in, joined_of, own_by}
 use Rattle.bus_turn.proofs.Rows.{drop_front}
-use Rattle.board_spec.specs.declared.event.Entry.{Entry}
-use Rattle.board_spec.specs.declared.map_change.MapChange.{MapChange}
-use Rattle.board_spec.specs.Legal.{entries_by}
-use Rattle.board_spec.specs.MapWrites.{map_writes_of}
-use Rattle.board_spec.specs.Setup.{Setup}
 use Rattle.board_live.specs.declared.cpu.Cpu.{Cpu}
 use Rattle.board_live.specs.declared.shared.Shared.{Shared}
 use Rattle.board_live.specs.declared.shared.Origin.{Origin}
-use Rattle.board_live.specs.Origins.{origin_in}
-use Rattle.board_live.specs.Steps.{opened_with}
-use Rattle.board_live.specs.Known.{Extends}
-use Rattle.board_live.specs.Passes.{SharedPass}
-use Rattle.board_live.specs.Callers.{IsSameCaller, Closes, setup_of, seen_of, known_of}
-use Rattle.board_live.specs.Bus.{AddsNone}
-use Rattle.board_live.specs.Joins.{HasOwn, IsJoined}
+use Rattle.board_live.specs.Common.{origin_in, opened_with, Extends, SharedPass, IsSameCaller, ClosesBoard, setup_of, seen_of, known_of, AddsNone, HasOwn, IsJoined}
 use Rattle.board_live.proofs.Histories.{extends_trans, extends_prefix, writes_extend, entries_reversed}
 use Rattle.board_live.proofs.Turns.{by_actor, own_in, own_same}
 
@@ -132,7 +118,7 @@ pub closes :
     own_by by_actor own.0 (drop (length (opened_by pass)) (reverse done.board.value.entries)) ≡ own.1 →
     IsPrefix (seen_in pass) (reverse done.board.value.entries) →
     IsPrefix (opened_by pass) (reverse done.board.value.entries) →
-    opened_by cpu.pass ≡ opened_by pass → part_of cpu.pass ≡ Some (opened_with done) → Closes done.board.value cpu
+    opened_by cpu.pass ≡ opened_by pass → part_of cpu.pass ≡ Some (opened_with done) → ClosesBoard done.board.value cpu
 closes pass done cpu own begins meets has is later opens same part =
     let history = done.board.value.entries in
     let setup : setup_of cpu ≡ done.board.value.setup = ap (λ (o : Option Origin). (origin_in o).setup) part in
@@ -163,7 +149,7 @@ pub closes_joined :
     ≡ other.1) (joined_of pass) →
     IsPrefix (seen_in pass) (reverse done.board.value.entries) →
     IsPrefix (opened_by pass) (reverse done.board.value.entries) →
-    opened_by cpu.pass ≡ opened_by pass → part_of cpu.pass ≡ Some (opened_with done) → Closes done.board.value cpu
+    opened_by cpu.pass ≡ opened_by pass → part_of cpu.pass ≡ Some (opened_with done) → ClosesBoard done.board.value cpu
 closes_joined pass done cpu joined each later opens same part =
     let (k, own, below, at', has) = joined.own in
     let is : own_by by_actor own.0 (drop (length (opened_by pass)) (reverse done.board.value.entries)) ≡ own.1 =

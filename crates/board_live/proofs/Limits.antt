@@ -1,10 +1,6 @@
 -- How many entries a board of few callers has.
 use Rattle.std.proofs.Common.{◌≡◌, ℕ, zero, suc, ◌+◌, ◌*◌, ◌<◌, ◌≤◌, ◌==◌, true, false, List, [], ◌∷◌, length, All, inl, inr, refl, subst, arith}
-use Rattle.std.proofs.lemmas.Bool.{cases_Bool}
-use Rattle.std.proofs.lemmas.Bool.Decides.{nat_tests}
-use Rattle.std.proofs.lemmas.List.Elements.{All-head, All-tail, All-cons}
-use Rattle.board_spec.specs.declared.event.Entry.{Entry}
-use Rattle.board_spec.specs.Legal.{entries_by}
+use Rattle.board_prelude.proofs.Common.{cases_Bool, nat_tests, All-head, All-tail, All-cons, Entry, entries_by}
 use Rattle.board_live.specs.Known.{AreFew, most_each}
 
 -- an entry is one more of its actor's, and leaves the others'

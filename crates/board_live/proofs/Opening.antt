@@ -1,25 +1,16 @@
 -- Callers of a board that was just opened.
-use Rattle.std.proofs.Common.{◌≡◌, ℕ, zero, suc, ◌+◌, ◌<◌, Option, Some, List, [], ◌∷◌, ◌++◌, length, get_or, map, refl, sym, ap, ◌∙◌, subst, arith, Any}
-use Rattle.std.specs.Prelude.{reverse}
-use Rattle.std.specs.List.{range_with_len}
-use Rattle.std.proofs.lemmas.List.{map-append, reverse-reverse, get_or_default}
+use Rattle.std.proofs.Common.{◌≡◌, ℕ, zero, suc, ◌+◌, ◌<◌, Option, Some, List, [], ◌∷◌, ◌++◌, length, get_or, map, refl, sym, ap, ◌∙◌, subst, arith, Any, reverse}
+use Rattle.board_prelude.proofs.Common.{range_with_len, map-append, reverse-reverse, get_or_default, Entry, Setup, map_writes_of}
 use Rattle.bus_turn.specs.Passes.{opened_of as opened_by, part_of}
-use Rattle.board_spec.specs.declared.event.Entry.{Entry}
 use Rattle.map_publish.specs.declared.viewer.Viewer.{Viewer}
 use Rattle.map_publish.specs.Lists.{opened_of, changes_of}
 use Rattle.map_publish.specs.declared.front.Front.{Front}
-use Rattle.board_spec.specs.Setup.{Setup}
-use Rattle.board_spec.specs.MapWrites.{map_writes_of}
 use Rattle.board_live.specs.declared.cpu.Cpu.{Cpu}
 use Rattle.board_live.specs.declared.live.Live.{Live}
 use Rattle.board_live.specs.declared.shared.Origin.{Origin}
-use Rattle.board_live.specs.Known.{Opens, oldest}
-use Rattle.board_live.specs.Origins.{origin, origin_in}
-use Rattle.board_live.specs.Passes.{SharedPass, IsViewerFor, setup_in, callers_in, opened_in}
+use Rattle.board_live.specs.Common.{IsMapOpened, oldest, origin, origin_in, SharedPass, IsViewerFor, setup_in, callers_in, opened_in, opened_with, IsCallerOf, IsSameCaller, AreAllOf, IsNewOf}
 use Rattle.board_live.specs.declared.shared.Shared.{Shared}
-use Rattle.board_live.specs.Steps.{opened_with}
 use Rattle.board_live.proofs.Histories.{oldest_whole}
-use Rattle.board_live.specs.Callers.{IsCallerOf, IsSameCaller, AreAllOf, IsNewOf}
 
 -- a pass that was opened with the same has the same viewers and the same callers
 pub viewer_for : (one other : SharedPass) (viewer : Viewer) → opened_by other ≡ opened_by one →
@@ -29,7 +20,7 @@ viewer_for one other viewer opened part has = record {
       (λ (t : Option Origin × List Entry). t.0
       ≡ Some (origin (origin_in t.0).setup (origin_in t.0).callers (reverse t.1) viewer.front.seen.book))
       (λ k. (sym part k, sym opened k)) has.part;
-  opens = subst (λ (t : Option Origin × List Entry). Opens (origin_in t.0).setup (reverse t.1)
+  opens = subst (λ (t : Option Origin × List Entry). IsMapOpened (origin_in t.0).setup (reverse t.1)
       (opened_of viewer.front.seen.log)) (λ k. (sym part k, sym opened k)) has.opens;
   none = has.none;
 }
@@ -76,7 +67,7 @@ opened_viewer pass shared viewer part opened count front none =
     let back : shared.publisher.value.front ≡ viewer.front = sym front in
     record {
       part = part ∙ λ k. Some (origin (setup k) (callers k) (whole k) (back k).seen.book);
-      opens = subst (λ (t : Setup × List Entry × Front). Opens t.0 t.1 (opened_of t.2.seen.log))
+      opens = subst (λ (t : Setup × List Entry × Front). IsMapOpened t.0 t.1 (opened_of t.2.seen.log))
           (λ k. (setup k, whole k, back k)) shared.opens;
       none = ap (λ (f : Front). changes_of f.seen.log) front ∙ none;
     }

@@ -1,13 +1,6 @@
 -- What is published, when an entry is added.
 use Rattle.std.proofs.Common.{◌≡◌, ℕ, ◌+◌, ◌≤◌, List, ◌∷◌, ◌++◌, length, sym, ap, ◌∙◌, append_assoc, length-append, arith}
-use Rattle.std.specs.Option.{option_to_list}
-use Rattle.board_spec.specs.declared.event.Event.{Event}
-use Rattle.board_spec.specs.declared.event.Reply.{Reply}
-use Rattle.board_spec.specs.declared.event.Entry.{Entry}
-use Rattle.board_spec.specs.declared.map_change.MapChange.{MapChange}
-use Rattle.board_spec.specs.Setup.{Setup}
-use Rattle.board_spec.specs.Legal.{next_entry}
-use Rattle.board_spec.specs.MapWrites.{map_change_of, map_writes_of, version_of}
+use Rattle.board_prelude.proofs.Common.{option_to_list, Event, Reply, Entry, MapChange, Setup, next_entry, map_change_of, map_writes_of, version_of}
 use Rattle.board_core.specs.Kept.{Standing}
 use Rattle.map_publish.specs.declared.mark.Mark.{Mark}
 use Rattle.map_publish.specs.Lists.{opened_of, changes_of, version_after}

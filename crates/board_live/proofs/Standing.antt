@@ -1,17 +1,6 @@
 -- The opened map stands for the registers after the map writes of the history.
-use Rattle.std.proofs.Common.{◌≡◌, ℕ, ◌+◌, true, ◌&&◌, ◌||◌, List, Option, Some, None, refl, sym, ap, ◌∙◌, arith}
-use Rattle.std.specs.Prelude.{◌==◌, is_some}
-use Rattle.std.proofs.lemmas.Bool.Decides.{nat_tests}
-use Rattle.board_spec.specs.declared.event.Entry.{Entry}
-use Rattle.board_spec.specs.Bits.{is_within}
-use Rattle.board_spec.specs.Setup.{Setup, card_at}
-use Rattle.board_spec.specs.Decode.{Bytes}
-use Rattle.board_spec.specs.Laws.{SameMapBytes}
-use Rattle.board_spec.specs.MapWrites.{has_rom, map_writes_of, registers_after}
-use Rattle.board_spec.specs.RegisterNames.{bridge, smram, xbcs, card_register, base_register, expansion_rom}
-use Rattle.board_spec.specs.Registers.{byte_of}
-use Rattle.board_spec.proofs.MapWriteLaws.{map_writes_decide}
-use Rattle.board_spec.proofs.MapByteLaws.{third, fourth}
+use Rattle.std.proofs.Common.{◌≡◌, ℕ, ◌+◌, true, ◌&&◌, ◌||◌, List, Option, Some, None, refl, sym, ap, ◌∙◌, arith, ◌==◌, is_some}
+use Rattle.board_prelude.proofs.Common.{nat_tests, Entry, is_within, Setup, card_at, Bytes, SameMapBytes, has_rom, map_writes_of, registers_after, bridge, smram, xbcs, card_register, base_register, expansion_rom, byte_of, map_writes_decide, third, fourth}
 use Rattle.pci_bars.specs.Cards.{CardBytes, DecodesAs, HoldsRom}
 use Rattle.pci_bars.proofs.CardLemmas.{holds-same}
 use Rattle.addr_decode.specs.MapRegs.{MapBytes, StandsFor}

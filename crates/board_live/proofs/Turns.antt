@@ -1,29 +1,17 @@
 -- A caller's pass, before and after a turn.
-use Rattle.std.proofs.Common.{◌≡◌, ℕ, ◌+◌, ◌<◌, ◌==◌, Bool, cond, Option, Some, List, [], ◌∷◌, ◌++◌, length, drop, sym, ap, ◌∙◌, subst, append_assoc, eq-eqb}
-use Rattle.std.specs.Prelude.{reverse}
-use Rattle.std.proofs.lemmas.List.{reverse-reverse}
-use Rattle.std.proofs.lemmas.List.Elements.{filter-append}
+use Rattle.std.proofs.Common.{◌≡◌, ℕ, ◌+◌, ◌<◌, ◌==◌, Bool, cond, Option, Some, List, [], ◌∷◌, ◌++◌, length, drop, sym, ap, ◌∙◌, subst, append_assoc, eq-eqb, reverse}
+use Rattle.board_prelude.proofs.Common.{reverse-reverse, filter-append, Entry, MapChange, Setup, entries_by, map_writes_of}
 use mathlib.Core.List.{IsPrefix}
 use Rattle.logbook.specs.Pages.{Book}
-use Rattle.bus_turn.specs.Passes.{IsSameCaller as IsSamePass, HasSameJoined, number_of, opened_of as opened_by, part_of, seen_of as seen_in, mine_of as mine_in}
-use Rattle.bus_turn.specs.Views.{own_by}
+use Rattle.bus_turn.specs.Common.{IsSameCaller as IsSamePass, HasSameJoined, number_of, opened_of as opened_by, part_of, seen_of as seen_in, mine_of as mine_in, own_by}
 use Rattle.bus_turn.proofs.Rows.{drop_front, own_more}
-use Rattle.board_spec.specs.declared.event.Entry.{Entry}
-use Rattle.board_spec.specs.declared.map_change.MapChange.{MapChange}
-use Rattle.board_spec.specs.Setup.{Setup}
-use Rattle.board_spec.specs.Legal.{entries_by}
-use Rattle.board_spec.specs.MapWrites.{map_writes_of}
 use Rattle.map_builder.specs.Map.{Mapped}
 use Rattle.map_publish.specs.declared.mark.Mark.{Mark}
 use Rattle.map_publish.specs.Lists.{opened_of}
 use Rattle.board_live.specs.declared.cpu.Cpu.{Cpu}
 use Rattle.board_live.specs.declared.shared.Shared.{Shared}
 use Rattle.board_live.specs.declared.shared.Origin.{Origin}
-use Rattle.board_live.specs.Known.{Extends, Opens, oldest, known_after}
-use Rattle.board_live.specs.Origins.{origin, origin_in}
-use Rattle.board_live.specs.Steps.{opened_with}
-use Rattle.board_live.specs.Passes.{SharedPass, IsPassOf, setup_in, callers_in, opened_in}
-use Rattle.board_live.specs.Callers.{setup_of, seen_of, mine_of, known_of}
+use Rattle.board_live.specs.Common.{Extends, IsMapOpened, oldest, known_after, origin, origin_in, opened_with, SharedPass, IsPassOf, setup_in, callers_in, opened_in, setup_of, seen_of, mine_of, known_of}
 use Rattle.board_live.proofs.Histories.{extends_prefix, entries_reversed, known_extend}
 
 abbrev pub by_actor : Entry → ℕ
@@ -85,9 +73,9 @@ passed_again cpu book now same joins copies mine = record {
 
 pub opens_again :
     (cpu : Cpu) (now : SharedPass) (map : Mapped) → IsSamePass cpu.pass now →
-    map ≡ opened_of cpu.viewer.front.seen.log → Opens (setup_in now) (opened_in now) map
+    map ≡ opened_of cpu.viewer.front.seen.log → IsMapOpened (setup_in now) (opened_in now) map
 opens_again cpu now map same maps =
-    subst (λ (t : Option Origin × List Entry × Mapped). Opens (origin_in t.0).setup (reverse t.1) t.2)
+    subst (λ (t : Option Origin × List Entry × Mapped). IsMapOpened (origin_in t.0).setup (reverse t.1) t.2)
     (λ k. (sym same.2 k, sym same.1 k, sym maps k)) cpu.opens
 
 -- ---- what a caller finds

@@ -1,11 +1,7 @@
 -- What a call of the bus does.
 use Rattle.std.specs.Prelude.{◌≡◌, List, ◌∷◌, length}
-use Rattle.board_spec.specs.declared.event.Event.{Event}
+use Rattle.board_prelude.specs.Common.{Event, Entry, IsAnswer, entries_by, next_entry, map_writes_of}
 use Rattle.board_spec.specs.declared.event.Event.TheVariants.{Look as LookAt}
-use Rattle.board_spec.specs.declared.event.Entry.{Entry}
-use Rattle.board_spec.specs.Answer.{IsAnswer}
-use Rattle.board_spec.specs.Legal.{entries_by, next_entry}
-use Rattle.board_spec.specs.MapWrites.{map_writes_of}
 use Rattle.board_live.specs.declared.shared.Answered.{Answered}
 use Rattle.board_live.specs.declared.cpu.Cpu.{Cpu}
 use Rattle.board_live.specs.Known.{Extends}
@@ -17,7 +13,7 @@ IsNoLook (LookAt kind addr smm) = ⊥
 IsNoLook _ = Unit {0}
 
 -- a call of the bus added one entry to `list`, which is the shared history as it was when the turn was taken
-pub record Adds (event : Event) (answered : Answered) (before now : Cpu) : Type 0 where
+pub record AddsByBus (event : Event) (answered : Answered) (before now : Cpu) : Type 0 where
   pub list : List Entry
   pub begins : Extends (seen_of before) list
   pub own : entries_by before.number list ≡ mine_of before

@@ -1,13 +1,7 @@
 -- A caller, and what it knows. Histories and map writes have the newest first.
 use Rattle.std.specs.Prelude.{ℕ, ◌≡◌, ◌<◌, ◌≤◌, List, length, map, reverse, All, Some}
-use Rattle.std.specs.List.{Any, range_with_len}
-use Rattle.bus_turn.specs.Passes.{opened_of as opened_by, part_of, seen_of as seen_in}
-use Rattle.bus_turn.specs.Turns.{IsOf}
-use Rattle.board_spec.specs.declared.event.Entry.{Entry}
-use Rattle.board_spec.specs.declared.map_change.MapChange.{MapChange}
-use Rattle.board_spec.specs.Setup.{Setup}
-use Rattle.board_spec.specs.Legal.{entries_by}
-use Rattle.board_spec.specs.MapWrites.{map_writes_of}
+use Rattle.board_prelude.specs.Common.{Any, range_with_len, Entry, MapChange, Setup, entries_by, map_writes_of}
+use Rattle.bus_turn.specs.Common.{opened_of as opened_by, part_of, seen_of as seen_in, IsOf}
 use Rattle.board_core.specs.Kept.{Standing}
 use Rattle.board_live.specs.declared.cpu.Cpu.{Cpu}
 use Rattle.board_live.specs.declared.shared.Origin.{Origin}
@@ -69,7 +63,7 @@ pub record AreOpened (board : Standing) (callers : ℕ) (live : Live) (cpus : Li
   pub new : All (IsNew board) cpus
 
 -- a board that was closed, by one of its callers: it has all that the caller has seen and knows
-pub record Closes (board : Standing) (cpu : Cpu) : Type 0 where
+pub record ClosesBoard (board : Standing) (cpu : Cpu) : Type 0 where
   pub setup : setup_of cpu ≡ board.setup
   pub begins : Extends (seen_of cpu) board.entries
   pub mine : entries_by cpu.number board.entries ≡ mine_of cpu

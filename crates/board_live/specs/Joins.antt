@@ -1,10 +1,7 @@
 -- What a pass has of a caller whose pass was joined into it.
 use Rattle.std.specs.Prelude.{ℕ, ◌≡◌, List, ◌++◌, reverse}
-use Rattle.std.specs.List.{Any}
-use Rattle.bus_turn.specs.Passes.{opened_of, seen_of as seen_in, joined_of}
-use Rattle.bus_turn.specs.Views.{own_by}
-use Rattle.board_spec.specs.declared.event.Entry.{Entry}
-use Rattle.board_spec.specs.MapWrites.{map_writes_of}
+use Rattle.board_prelude.specs.Common.{Any, Entry, map_writes_of}
+use Rattle.bus_turn.specs.Common.{opened_of, seen_of as seen_in, joined_of, own_by}
 use Rattle.board_live.specs.declared.cpu.Cpu.{Cpu}
 use Rattle.board_live.specs.Known.{Extends}
 use Rattle.board_live.specs.Passes.{SharedPass}

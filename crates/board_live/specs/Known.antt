@@ -1,15 +1,9 @@
 -- Histories and map writes of a shared board, the newest first.
 use Rattle.std.specs.Prelude.{ℕ, ◌≡◌, ◌-◌, ◌<◌, ◌≤◌, List, ◌++◌, length, drop, All}
-use Rattle.board_spec.specs.declared.event.Entry.{Entry}
-use Rattle.board_spec.specs.declared.map_change.MapChange.{MapChange}
-use Rattle.board_spec.specs.Limits.{most_statements}
-use Rattle.board_spec.specs.Setup.{Setup}
-use Rattle.board_spec.specs.Legal.{entries_by}
-use Rattle.board_spec.specs.MapWrites.{map_writes_of}
+use Rattle.board_prelude.specs.Common.{Entry, MapChange, most_statements, Setup, entries_by, map_writes_of}
 use Rattle.map_builder.specs.Map.{Mapped}
 use Rattle.map_publish.specs.declared.mark.Mark.{Mark}
-use Rattle.map_publish.specs.Lists.{changes_of}
-use Rattle.map_publish.specs.Laws.{IsMapOfWrites}
+use Rattle.map_publish.specs.Common.{changes_of, IsMapOfWrites}
 
 -- a list begins with another: it has more, which is newer
 abbrev pub Extends : {E : Type 0} → (shorter longer : List E) → Type 0
@@ -28,8 +22,8 @@ abbrev pub ArePublished : Setup → ℕ → List Entry → List Mark → Type 0
 ArePublished setup opened history log = map_writes_of setup history ≡ known_after setup (oldest opened history) log
 
 -- a map is that of the opened history
-abbrev pub Opens : Setup → List Entry → Mapped → Type 0
-Opens setup opened map = IsMapOfWrites setup (map_writes_of setup opened) map
+abbrev pub IsMapOpened : Setup → List Entry → Mapped → Type 0
+IsMapOpened setup opened map = IsMapOfWrites setup (map_writes_of setup opened) map
 
 -- the most entries of a caller
 abbrev pub most_each : ℕ

@@ -3,15 +3,13 @@ use Rattle.std.specs.Prelude.{ℕ, ◌≡◌, ◌+◌, ◌<◌, List, [], ◌++�
 use Rattle.atomic_table.specs.declared.shared.Seat.{Seat}
 use Rattle.logbook.specs.Pages.{Book}
 use Rattle.bus_turn.specs.declared.view.View.{View}
-use Rattle.bus_turn.specs.Passes.{number_of, splits_of, opened_of, part_of, seen_of, mine_of, joined_of}
-use Rattle.bus_turn.specs.Views.{own_by}
-use Rattle.board_spec.specs.declared.event.Entry.{Entry}
-use Rattle.board_spec.specs.Setup.{Setup}
+use Rattle.bus_turn.specs.Common.{number_of, splits_of, opened_of, part_of, seen_of, mine_of, joined_of, own_by}
+use Rattle.board_prelude.specs.Common.{Entry, Setup}
 use Rattle.board_live.specs.declared.shared.Shared.{Shared}
 use Rattle.board_live.specs.declared.shared.Origin.{Origin}
 use Rattle.map_publish.specs.declared.viewer.Viewer.{Viewer}
 use Rattle.map_publish.specs.Lists.{opened_of as opened_map, changes_of}
-use Rattle.board_live.specs.Known.{Opens}
+use Rattle.board_live.specs.Known.{IsMapOpened}
 use Rattle.board_live.specs.Origins.{origin, origin_in}
 
 abbrev pub SharedPass : Type 0
@@ -48,5 +46,5 @@ pub record IsFresh (pass : SharedPass) : Type 0 where
 -- a viewer that was opened with the board of a pass
 pub record IsViewerFor (pass : SharedPass) (viewer : Viewer) : Type 0 where
   pub part : part_of pass ≡ Some (origin (setup_in pass) (callers_in pass) (opened_in pass) viewer.front.seen.book)
-  pub opens : Opens (setup_in pass) (opened_in pass) (opened_map viewer.front.seen.log)
+  pub opens : IsMapOpened (setup_in pass) (opened_in pass) (opened_map viewer.front.seen.log)
   pub none : changes_of viewer.front.seen.log ≡ []

@@ -1,8 +1,6 @@
 -- A step of the shared board.
 use Rattle.std.specs.Prelude.{ℕ, ◌≡◌, ◌∷◌, length}
-use Rattle.board_spec.specs.declared.event.Event.{Event}
-use Rattle.board_spec.specs.Answer.{IsAnswer}
-use Rattle.board_spec.specs.Legal.{next_entry}
+use Rattle.board_prelude.specs.Common.{Event, IsAnswer, next_entry}
 use Rattle.board_core.specs.Kept.{Standing}
 use Rattle.board_live.specs.declared.shared.Answered.{Answered}
 use Rattle.board_live.specs.declared.shared.Shared.{Shared}

@@ -2,11 +2,9 @@
 ghost use Rattle.std.specs.Prelude.{◌≡◌, ◌+◌, ◌<◌, length, drop, reverse, Some, IfOk, OnErr};
 ghost use mathlib.Core.List.{IsPrefix};
 ghost use Rattle.board_spec.specs.InRange.{IsInRange};
-ghost use Rattle.bus_turn.specs.Passes.{IsIdle, IsHolding, IsSameCaller as IsSamePass, HasSameJoined, number_of, splits_of, opened_of as opened_by, part_of, seen_of as seen_in, mine_of as mine_in};
-ghost use Rattle.bus_turn.specs.Turns.{IsOf};
-ghost use Rattle.bus_turn.specs.Views.{own_by};
+ghost use Rattle.bus_turn.specs.Common.{IsIdle, IsHolding, IsSameCaller as IsSamePass, HasSameJoined, number_of, splits_of, opened_of as opened_by, part_of, seen_of as seen_in, mine_of as mine_in, IsOf, own_by};
 ghost use Rattle.map_publish.specs.Lists.{opened_of};
-ghost use Rattle.board_live.specs.Known.{Opens};
+ghost use Rattle.board_live.specs.Known.{IsMapOpened};
 ghost use Rattle.board_live.specs.Passes.{IsPassOf, IsFresh, IsViewerFor, callers_in, setup_in, opened_in};
 ghost use Rattle.board_live.specs.Origins.{origin};
 ghost use Rattle.board_live.specs.Steps.{opened_with};
@@ -29,7 +27,7 @@ pub struct Cpu {
     pub viewer: Viewer,
     pub ghost passed: { IsPassOf number viewer.front.seen.book pass } by { IsPassOf-prop number viewer.front.seen.book pass },
     pub ghost idle: { IsIdle pass },
-    pub ghost opens: { Opens (setup_in pass) (opened_in pass) (opened_of viewer.front.seen.log) } by { Opens-prop (setup_in pass) (opened_in pass) (opened_of viewer.front.seen.log) },
+    pub ghost opens: { IsMapOpened (setup_in pass) (opened_in pass) (opened_of viewer.front.seen.log) } by { Opens-prop (setup_in pass) (opened_in pass) (opened_of viewer.front.seen.log) },
 }
 
 /// Has a viewer meet a note of the publisher: with new notes, until it does.
@@ -95,7 +93,7 @@ fn leave(live: &Live, pass: &mut Pass<Shared>, viewer: &mut Viewer, held: Held<S
 
 impl Cpu {
     ghost use Rattle.board_live.specs.Callers.{IsCallerOf, IsNewOf, IsSameCaller, setup_of, mine_of, known_of};
-    ghost use Rattle.board_live.specs.Bus.{Adds, AddsNone, IsNoLook};
+    ghost use Rattle.board_live.specs.Bus.{AddsByBus, AddsNone, IsNoLook};
     ghost use Rattle.map_publish.specs.Laws.{IsLookAfter};
     ghost use Rattle.board_live.specs.Known.{Extends, most_each};
 
@@ -128,7 +126,7 @@ impl Cpu {
         requires room { length (mine_of self.old) < most_each }
         ensures own { IsCallerOf live.now self.new }
         ensures same { IsSameCaller self.old self.new }
-        ensures added { IfOk result (λ answered. Adds event.now answered self.old self.new) }
+        ensures added { IfOk result (λ answered. AddsByBus event.now answered self.old self.new) }
         ensures refused { OnErr result (AddsNone self.old self.new) }
     {
         let mut held = enter(live, rt, &mut self.pass, &mut self.viewer);

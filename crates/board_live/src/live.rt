@@ -3,10 +3,9 @@ ghost use Rattle.std.specs.Prelude.{◌≡◌, ◌+◌, ◌<◌, ◌≤◌, [], 
 ghost use Rattle.std.specs.List.{Any, range_with_len};
 ghost use Rattle.board_live.specs.declared.cpu.Cpu.{Cpu};
 ghost use mathlib.Core.List.{IsPrefix};
-ghost use Rattle.bus_turn.specs.Passes.{IsIdle, IsSameCaller as IsSamePass, number_of, splits_of, seen_of as seen_in, mine_of as mine_in, joined_of};
-ghost use Rattle.bus_turn.specs.Turns.{IsOf};
+ghost use Rattle.bus_turn.specs.Common.{IsIdle, IsSameCaller as IsSamePass, number_of, splits_of, seen_of as seen_in, mine_of as mine_in, joined_of, IsOf};
 ghost use Rattle.map_publish.specs.Lists.{opened_of, changes_of};
-ghost use Rattle.board_live.specs.Known.{AreFew, Opens};
+ghost use Rattle.board_live.specs.Known.{AreFew, IsMapOpened};
 ghost use Rattle.board_live.specs.Passes.{IsFresh, IsViewerFor, callers_in};
 
 use crate::cpu::Cpu;
@@ -42,7 +41,7 @@ impl LiveOpen {
 /// What the callers of a board share.
 fn shared(board: Box<Board>, publisher: Box<Publisher>, callers: u8) -> Shared
     requires few { AreFew callers board.value.entries }
-    requires opens { Opens board.value.setup board.value.entries (opened_of publisher.value.front.seen.log) }
+    requires opens { IsMapOpened board.value.setup board.value.entries (opened_of publisher.value.front.seen.log) }
     requires none { changes_of publisher.value.front.seen.log ≡ [] }
     ensures board { result.board ≡ board }
     ensures publisher { result.publisher ≡ publisher }
@@ -87,7 +86,7 @@ fn place_of_first(cpus: &[Cpu]) -> usize
 }
 
 impl Live {
-    ghost use Rattle.board_live.specs.Callers.{IsCallerOf, IsNewOf, AreOpened, AreAllOf, Closes};
+    ghost use Rattle.board_live.specs.Callers.{IsCallerOf, IsNewOf, AreOpened, AreAllOf, ClosesBoard};
     ghost use Rattle.board_live.specs.Joins.{IsJoined};
 
     /// Shares a board among 1 to 8 callers, which are numbered from 0. Each entry of its history is of one of them, and
@@ -164,7 +163,7 @@ impl Live {
     /// Ends the sharing, with all callers, and gives the board. It may wait for the turn.
     pub fn close<R: Wait>(self, rt: &R, cpus: Vec<Cpu>) -> Board
         requires cpus { AreAllOf self cpus.items }
-        ensures cpus { All (Closes result) cpus.items }
+        ensures cpus { All (ClosesBoard result) cpus.items }
         ensures entries { All (λ entry. Any (λ cpu. cpu.number ≡ entry.actor) cpus.items) result.entries }
     {
         let mut cpus = cpus;

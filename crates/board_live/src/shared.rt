@@ -1,12 +1,9 @@
 //! What the callers share by turns: the board, and the publisher of its memory map.
 ghost use Rattle.std.specs.Prelude.{◌≡◌, ◌<◌, ◌≤◌, ◌++◌, length, reverse, IfOk, OnOk, OnErr};
 ghost use mathlib.Core.List.{IsPrefix};
-ghost use Rattle.board_spec.specs.InRange.{IsInRange};
-ghost use Rattle.board_spec.specs.Legal.{entries_by};
-ghost use Rattle.std.specs.Option.{option_to_list};
-ghost use Rattle.board_spec.specs.Limits.{entry_limit};
+ghost use Rattle.board_prelude.specs.Common.{IsInRange, entries_by, option_to_list, entry_limit};
 ghost use Rattle.map_publish.specs.Lists.{opened_of, changes_of, version_after};
-ghost use Rattle.board_live.specs.Known.{oldest, ArePublished, Opens, most_each, AreFew};
+ghost use Rattle.board_live.specs.Known.{oldest, ArePublished, IsMapOpened, most_each, AreFew};
 ghost use Rattle.board_live.specs.Props.{Opens-prop, AreFew-prop};
 
 use board_base::NoMemory;
@@ -48,7 +45,7 @@ pub struct Shared {
     pub ghost within: { opened ≤ length board.value.entries },
     pub ghost few: { AreFew callers board.value.entries } by { AreFew-prop callers board.value.entries },
     pub ghost published: { ArePublished board.value.setup opened board.value.entries publisher.value.front.seen.log },
-    pub ghost opens: { Opens board.value.setup (oldest opened board.value.entries) (opened_of publisher.value.front.seen.log) } by { Opens-prop board.value.setup (oldest opened board.value.entries) (opened_of publisher.value.front.seen.log) },
+    pub ghost opens: { IsMapOpened board.value.setup (oldest opened board.value.entries) (opened_of publisher.value.front.seen.log) } by { Opens-prop board.value.setup (oldest opened board.value.entries) (opened_of publisher.value.front.seen.log) },
 }
 
 impl Kept for Shared {

@@ -1,6 +1,5 @@
 -- What the program answers of itself.
-use Rattle.std.proofs.Common.{◌≡◌, ◌≢◌, ℕ, List, ◌++◌, Option, ap}
-use Rattle.std.specs.Prelude.{Result, Ok, Err, OnOk}
+use Rattle.std.proofs.Common.{◌≡◌, ◌≢◌, ℕ, List, ◌++◌, Option, ap, Result, Ok, Err, OnOk}
 use Rattle.std.specs.Io.KnownBytes.{Appends}
 use Rattle.command_words.specs.Words.{usage_text}
 use Rattle.command_files.specs.declared.status.Status.{Status}
@@ -8,8 +7,7 @@ use Rattle.command_files.specs.declared.status.Status.TheVariants.{Done, Usage, 
 use Rattle.board_run.proofs.SentLemmas.{more_taken}
 use Rattle.board_main.specs.declared.answers.OwnAnswer.{OwnAnswer}
 use Rattle.board_main.specs.declared.answers.OwnAnswer.TheVariants.{Help}
-use Rattle.board_main.specs.Own.{AppendsOwn}
-use Rattle.board_main.specs.Ends.{IsOwnAnswer}
+use Rattle.board_main.specs.Common.{AppendsOwn, IsOwnAnswer}
 
 -- it is no faulty command line
 pub own_is_no_usage : (status : Status) (answer : OwnAnswer) (before now : Option (List ℕ)) → IsOwnAnswer status answer before now → status ≢ Usage

@@ -4,8 +4,7 @@ use Rattle.board_base.specs.Outside.{Rose}
 use Rattle.command_words.specs.Words.{Command}
 use Rattle.command_files.specs.declared.status.Status.{Status}
 use Rattle.command_files.specs.declared.status.Status.TheVariants.{Done, Usage, WriteFault}
-use Rattle.command_files.specs.Status.{code_of}
-use Rattle.command_files.specs.Known.{Files}
+use Rattle.command_files.specs.Common.{code_of, Files}
 use Rattle.board_run.specs.Outcomes.{IsCaused, IsExact}
 use Rattle.board_main.specs.declared.answers.OwnAnswer.{OwnAnswer}
 use Rattle.board_main.specs.Words.{is_own, is_help}
@@ -18,7 +17,7 @@ pub record HasStatus (code : ℕ) : Type 0 where
 
 -- a status is the board's answer to a command, over these files, with what the output took before and has taken now.
 -- How often the outside failed meanwhile, and at which file last, it does not tell
-pub record IsAnswered (status : Status) (command : Option Command) (files : Option Files) (before now : Option (List ℕ)) : Type 0 where
+pub record EndsBy (status : Status) (command : Option Command) (files : Option Files) (before now : Option (List ℕ)) : Type 0 where
   pub read_faults : ℕ
   pub failed_name : List ℕ
   pub write_faults : ℕ
@@ -40,4 +39,4 @@ pub record Ends (words : List (List ℕ)) (command : Option Command) (files : Op
   pub own :
       is_own words ≡ true →
       (own : OwnAnswer) × (is_help_answer own ≡ is_help words) × IsOwnAnswer status own before now
-  pub answered : is_own words ≡ false → IsAnswered status command files before now
+  pub answered : is_own words ≡ false → EndsBy status command files before now

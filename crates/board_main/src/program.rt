@@ -4,7 +4,7 @@ ghost use Rattle.std.specs.Prelude.{◌≡◌, ◌↔◌, None, map, string_byte
 ghost use Rattle.std.specs.Process.{exit_status};
 ghost use Rattle.command_files.specs.declared.status.Status.{Status};
 ghost use Rattle.command_words.specs.Words.{asked};
-ghost use Rattle.board_main.specs.Ends.{Ends, HasStatus, IsAnswered, IsOwnAnswer};
+ghost use Rattle.board_main.specs.Ends.{Ends, HasStatus, EndsBy, IsOwnAnswer};
 
 use crate::answers::{OwnAnswer, own_answer, write_answer};
 use crate::words::words_of;
@@ -83,7 +83,7 @@ where
     F: Folder + Drop,
     W: Write,
     ensures usage { (result.0 ≡ Status.Usage) ↔ (asked words.now ≡ None) }
-    ensures answered { IsAnswered result.0 (asked words.now) (F.files folder) (W.contents output) (W.contents result.1) }
+    ensures answered { EndsBy result.0 (asked words.now) (F.files folder) (W.contents output) (W.contents result.1) }
 {
     let mut shelf = FileShelf::new(folder);
     let mut out = OutSink::new(output);

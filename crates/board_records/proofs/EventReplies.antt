@@ -1,16 +1,10 @@
 -- The reply of a chipset with a serial port, by whom the event is for, and the history that goes on from a step.
 use Rattle.std.proofs.Common.{◌≡◌, List, Option, Some, None, refl, ◌∙◌}
-use Rattle.board_base.specs.declared.access.PortAccess.{PortAccess}
-use Rattle.board_spec.specs.declared.event.Event.{Event}
-use Rattle.board_spec.specs.declared.event.Reply.{Reply}
-use Rattle.board_spec.specs.declared.event.Entry.{Entry}
-use Rattle.board_spec.specs.declared.event.Statement.{Statement}
-use Rattle.board_chipset.specs.Chipset.{Running, IsLeftBy as IsChipsetLeftBy}
-use Rattle.board_chipset.specs.Versions.{IsAnswerModulo}
+use Rattle.board_prelude.proofs.Common.{PortAccess, Event, Reply, Entry, Statement}
+use Rattle.board_chipset.specs.Common.{Running, IsLeftBy as IsChipsetLeftBy, IsAnswerModulo}
 use Rattle.uart_16550.specs.declared.com1.SerialReply.{SerialReply}
 use Rattle.uart_16550.specs.declared.com1.SerialReply.TheVariants.{Board as OfBoard}
-use Rattle.uart_16550.specs.Com1.{uart_reply, board_event}
-use Rattle.uart_16550.specs.Serial.{Serial, IsAfter}
+use Rattle.uart_16550.specs.Common.{uart_reply, board_event, Serial, IsAfter}
 use Rattle.board_records.specs.Steps.{IsHistoryOf, IsEventReply}
 
 pub reply_is : (serial : Serial Running) (history : List Entry) (event : Event) (access : Option PortAccess)

@@ -1,12 +1,7 @@
 -- The bytes of a chipset, out and in.
 use Rattle.std.specs.Prelude.{ℕ, ◌≡◌, ◌≢◌, ◌+◌, ◌<◌, ◌≤◌, ◌⊎◌, List, ◌++◌, length, slice_index, IfSome, IsSomeAnd}
-use Rattle.device_spec.specs.Ata.State.{sectors_of, sector_bytes}
-use Rattle.board_spec.specs.declared.event.Entry.{Entry}
-use Rattle.board_spec.specs.Devices.{clock_of, disk_of}
-use Rattle.board_spec.specs.Setup.{installed}
-use Rattle.board_spec.specs.Stored.{dram_byte}
-use Rattle.board_chipset.specs.Chipset.{Running, IsLeftBy}
-use Rattle.board_chipset.specs.Loads.{WriteAll, WriteClockByte}
+use Rattle.board_prelude.specs.Common.{sectors_of, sector_bytes, Entry, clock_of, disk_of, installed, dram_byte}
+use Rattle.board_chipset.specs.Common.{Running, IsLeftBy, WriteAll, WriteClockByte}
 use Rattle.uart_16550.specs.Serial.{Serial, AreOwn}
 use Rattle.board_records.specs.Statuses.{no_sector, bad_length}
 use Rattle.board_records.specs.Steps.{IsHistoryOf}

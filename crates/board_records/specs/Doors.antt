@@ -2,10 +2,8 @@
 use Rattle.std.specs.Prelude.{ℕ, ◌≡◌, ◌⊎◌, List, [], ◌∷◌, Option, Some, None, option_map}
 use Rattle.board_spec.specs.Setup.{Setup, IsSetup}
 use Rattle.board_chipset.specs.declared.check.SetupFault.{SetupFault}
-use Rattle.board_chipset.specs.Chipset.{Running, IsLeftBy}
-use Rattle.board_chipset.specs.Setups.{IsSetupFault}
-use Rattle.uart_16550.specs.Com1.{com1_at_reset}
-use Rattle.uart_16550.specs.Serial.{Serial}
+use Rattle.board_chipset.specs.Common.{Running, IsLeftBy, IsSetupFault}
+use Rattle.uart_16550.specs.Common.{com1_at_reset, Serial}
 use Rattle.board_records.specs.declared.card.CardRecord.{CardRecord}
 use Rattle.board_records.specs.Cards.{cards_said}
 use Rattle.board_records.specs.Statuses.{no_memory, bad_cards, setup_status}
@@ -21,7 +19,7 @@ setup_said mib records rom disk =
     option_map (λ cards. record { mib = mib; cards = cards; rom = rom; disk = disk_of disk }) (cards_said records)
 
 -- a board can have this setup, it was opened with it, and nothing was asked of it yet
-pub record Opens (serial : Serial Running) (setup : Setup) : Type 0 where
+pub record IsOpenedWith (serial : Serial Running) (setup : Setup) : Type 0 where
   pub fits : IsSetup setup
   pub same : serial.board.setup ≡ setup
   pub power_on : IsLeftBy serial.board []

@@ -8,3 +8,4 @@ pub mod Doors
 pub mod Maps
 pub mod Places
 pub mod Bytes
+pub mod Common

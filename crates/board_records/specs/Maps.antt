@@ -1,13 +1,8 @@
 -- The memory map as records of numbers.
 use Rattle.std.specs.Prelude.{ℕ, ◌≡◌, ◌%◌, ◌++◌, List, length, map, take, drop}
-use Rattle.board_base.specs.declared.target.Area.{Area}
-use Rattle.board_spec.specs.declared.event.Entry.{Entry}
-use Rattle.board_spec.specs.Registers.{byte_of}
-use Rattle.board_spec.specs.MapWrites.{version_of}
-use Rattle.board_spec.specs.FlatMap.{MapRange, IsFlatMapOf}
+use Rattle.board_prelude.specs.Common.{Area, Entry, byte_of, version_of, MapRange, IsFlatMapOf}
 use Rattle.map_builder.specs.declared.range.Changed.{Changed}
-use Rattle.board_chipset.specs.Chipset.{Running, IsLeftBy}
-use Rattle.board_chipset.specs.Versions.{version_count, AreLastChanged}
+use Rattle.board_chipset.specs.Common.{Running, IsLeftBy, version_count, AreLastChanged}
 use Rattle.board_records.specs.declared.map.AreaRecord.{AreaRecord}
 use Rattle.board_records.specs.declared.map.RangeRecord.{RangeRecord}
 use Rattle.board_records.specs.declared.map.WindowRecord.{WindowRecord}
@@ -52,6 +47,6 @@ pub record AreWindowsTold (chipset : Running) (count : ℕ) (before after : List
   pub count_is : count ≡ length windows
   pub told : after ≡ filled (map window_said windows) before
 
-abbrev pub IsVersion : Running → ℕ → Type 0
-IsVersion chipset version =
+abbrev pub IsVersionSaid : Running → ℕ → Type 0
+IsVersionSaid chipset version =
     (history : List Entry) → IsLeftBy chipset history → version ≡ version_of chipset.setup history % version_count

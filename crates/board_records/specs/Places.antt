@@ -1,15 +1,8 @@
 -- Where an access would land, in numbers.
 use Rattle.std.specs.Prelude.{ℕ, suc, zero, ◌≡◌, List, Option, Some, None, option_map}
-use Rattle.board_base.specs.declared.access.PortAccess.{PortAccess}
-use Rattle.board_spec.specs.declared.event.Event.{Event}
-use Rattle.board_spec.specs.declared.event.Event.TheVariants.{Memory, Port}
-use Rattle.board_spec.specs.declared.event.Part.{Part}
-use Rattle.board_spec.specs.declared.event.Entry.{Entry}
-use Rattle.board_spec.specs.InRange.{IsInRange}
-use Rattle.board_spec.specs.Devices.{timer_of}
+use Rattle.board_prelude.specs.Common.{PortAccess, Event, Memory, Port, Part, Entry, IsInRange, timer_of}
 use Rattle.pit_8254.specs.NextRise.{IsNextRise}
-use Rattle.board_chipset.specs.Chipset.{Running, IsLeftBy}
-use Rattle.board_chipset.specs.Places.{place_of}
+use Rattle.board_chipset.specs.Common.{Running, IsLeftBy, place_of}
 use Rattle.uart_16550.specs.declared.com1.Happening.{Happening}
 use Rattle.uart_16550.specs.declared.com1.Happening.TheVariants.{Comes, Happens}
 use Rattle.uart_16550.specs.Com1.{uart_access}
@@ -35,9 +28,9 @@ pub record IsEventPlaced (chipset : Running) (said : PartRecord) (asked : Event)
       Some said ≡ placed_by (uart_access asked) (place_of chipset.setup history asked)
 
 -- the access can be made, and what would answer it and deny it is told
-abbrev pub IsPlaced : Running → PartRecord → Happening → Type 0
-IsPlaced chipset said (Comes byte) = ⊥
-IsPlaced chipset said (Happens asked) = IsEventPlaced chipset said asked
+abbrev pub IsAskedPlace : Running → PartRecord → Happening → Type 0
+IsAskedPlace chipset said (Comes byte) = ⊥
+IsAskedPlace chipset said (Happens asked) = IsEventPlaced chipset said asked
 
 -- why none is told: the record asks nothing, or no access of one bus cycle in range
 abbrev pub IsNotPlaced : Running → Option Happening → (status : ℕ) → Type 0

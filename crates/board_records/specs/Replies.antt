@@ -1,16 +1,9 @@
 -- The record of a reply, with what stands after its step.
 use Rattle.std.specs.Prelude.{ℕ, Option, Some, None}
-use Rattle.board_base.specs.declared.target.Area.{Area}
+use Rattle.board_prelude.specs.Common.{Area, Target, Denial, Register, Confadd, NoRegister, Part, Parts, Look, Reply}
 use Rattle.board_base.specs.declared.target.Area.TheVariants as areas
-use Rattle.board_base.specs.declared.target.Target.{Target}
 use Rattle.board_base.specs.declared.target.Target.TheVariants as targets
-use Rattle.board_base.specs.declared.target.Denial.{Denial}
-use Rattle.board_base.specs.declared.target.Denial.TheVariants.{Register, Confadd, NoRegister}
-use Rattle.board_spec.specs.declared.event.Part.{Part}
-use Rattle.board_spec.specs.declared.event.Parts.{Parts}
 use Rattle.board_spec.specs.declared.event.Parts.TheVariants as parts
-use Rattle.board_spec.specs.declared.event.Look.{Look}
-use Rattle.board_spec.specs.declared.event.Reply.{Reply}
 use Rattle.board_spec.specs.declared.event.Reply.TheVariants as replies
 use Rattle.uart_16550.specs.declared.com1.SerialReply.{SerialReply}
 use Rattle.uart_16550.specs.declared.com1.SerialReply.TheVariants.{Board as OfBoard, Uart as OfUart}

@@ -4,12 +4,10 @@ use Rattle.board_chipset.specs.declared.check.SetupFault.{SetupFault}
 use Rattle.board_chipset.specs.declared.check.SetupFault.TheVariants.{Memory, Cards, Windows, Rom, Disk, NoMemory}
 use Rattle.board_chipset.specs.declared.in_range.OutOfRange.{OutOfRange}
 use Rattle.board_chipset.specs.declared.in_range.OutOfRange.TheVariants as faults
-use Rattle.board_chipset.specs.OutOfRange.{IsFault}
-use Rattle.board_chipset.specs.Chipset.{Running}
+use Rattle.board_chipset.specs.Common.{IsFault, Running}
 use Rattle.uart_16550.specs.declared.com1.Happening.{Happening}
 use Rattle.uart_16550.specs.declared.com1.Happening.TheVariants.{Comes, Happens}
-use Rattle.uart_16550.specs.Uart.{has_room}
-use Rattle.uart_16550.specs.Serial.{Serial}
+use Rattle.uart_16550.specs.Common.{has_room, Serial}
 
 abbrev pub ok : ℕ
 ok = 0
@@ -91,8 +89,8 @@ fault_status faults.Line = 16
 
 -- why what a record asks is refused: it asks nothing; COM1 has no room for a byte; or the first field of an event that
 -- is out of range
-abbrev pub IsRefusal : Serial Running → Option Happening → (status : ℕ) → Type 0
-IsRefusal serial None status = status ≡ no_event
-IsRefusal serial (Some (Comes byte)) status = (status ≡ serial_full) × (has_room serial.com1.uart ≡ false)
-IsRefusal serial (Some (Happens event)) status =
+abbrev pub IsEventRefusal : Serial Running → Option Happening → (status : ℕ) → Type 0
+IsEventRefusal serial None status = status ≡ no_event
+IsEventRefusal serial (Some (Comes byte)) status = (status ≡ serial_full) × (has_room serial.com1.uart ≡ false)
+IsEventRefusal serial (Some (Happens event)) status =
     (fault : OutOfRange) × IsFault serial.board.setup event fault × (status ≡ fault_status fault)

@@ -1,27 +1,16 @@
 -- A step that was asked by a record, and told by one.
 use Rattle.std.specs.Prelude.{◌≡◌, ◌%◌, true, List, Option, Some, None}
-use Rattle.board_base.specs.declared.access.PortAccess.{PortAccess}
-use Rattle.board_spec.specs.declared.event.Event.{Event}
-use Rattle.board_spec.specs.declared.event.Entry.{Entry}
-use Rattle.board_spec.specs.Setup.{Setup}
-use Rattle.board_spec.specs.InRange.{IsInRange}
-use Rattle.board_spec.specs.MapWrites.{version_of}
-use Rattle.board_spec.specs.Registers.{reset_control}
+use Rattle.board_prelude.specs.Common.{PortAccess, Event, Entry, Setup, IsInRange, version_of, reset_control}
 use Rattle.board_devices.specs.Outside.{is_interrupting}
 use Rattle.board_chipset.specs.declared.reset_control.ResetKind.{ResetKind}
 use Rattle.board_chipset.specs.declared.reset_control.ResetKind.TheVariants.{None as NoReset}
-use Rattle.board_chipset.specs.Chipset.{Running, IsLeftBy as IsChipsetLeftBy}
-use Rattle.board_chipset.specs.Resets.{reset_of}
-use Rattle.board_chipset.specs.Versions.{version_count, IsAnswerModulo}
+use Rattle.board_chipset.specs.Common.{Running, IsLeftBy as IsChipsetLeftBy, reset_of, version_count, IsAnswerModulo}
 use Rattle.uart_16550.specs.declared.com1.Com1.{Com1}
 use Rattle.uart_16550.specs.declared.com1.Happening.{Happening}
 use Rattle.uart_16550.specs.declared.com1.Happening.TheVariants.{Comes, Happens}
 use Rattle.uart_16550.specs.declared.com1.SerialReply.{SerialReply}
 use Rattle.uart_16550.specs.declared.com1.SerialReply.TheVariants.{Board as OfBoard, Uart as OfUart}
-use Rattle.uart_16550.specs.Uart.{has_room}
-use Rattle.uart_16550.specs.Com1.{level_of, uart_access, uart_reply, board_event}
-use Rattle.uart_16550.specs.Serial.{Serial, IsLeftBy, IsAfter}
-use Rattle.uart_16550.specs.Sent.{Sending, sending_after, steps_for}
+use Rattle.uart_16550.specs.Common.{has_room, level_of, uart_access, uart_reply, board_event, Serial, IsLeftBy, IsAfter, Sending, sending_after, steps_for}
 use Rattle.board_records.specs.declared.reply.ReplyRecord.{ReplyRecord}
 use Rattle.board_records.specs.declared.reply.AfterStep.{AfterStep}
 use Rattle.board_records.specs.Replies.{serial_said}
@@ -72,7 +61,7 @@ after_step setup after reset com1 = record {
 
 -- of a history that left the chipset: this is the reply to what was asked; the port is as that leaves it, and the
 -- history goes on by the steps that the port makes of it, those of processor 0; and the record is that of the reply
-pub record IsAnswered (old new : Serial Running) (asked : Happening) (reply : SerialReply) (said : ReplyRecord)
+pub record AnswersAsked (old new : Serial Running) (asked : Happening) (reply : SerialReply) (said : ReplyRecord)
     (history : List Entry) : Type 0 where
   pub answer : IsReply old history asked reply
   pub com1 : new.com1 ≡ (sending_after (port_of old history) asked).com1
@@ -82,8 +71,8 @@ pub record IsAnswered (old new : Serial Running) (asked : Happening) (reply : Se
   pub told : said ≡ serial_said reply (after_step old.board.setup goes_on.after (reset_by history asked) new.com1)
 
 -- what was asked can happen, and its reply is told, whatever history left the chipset
-pub record IsStep (old new : Serial Running) (said : ReplyRecord) (asked : Happening) : Type 0 where
+pub record IsAskedStep (old new : Serial Running) (said : ReplyRecord) (asked : Happening) : Type 0 where
   pub can : CanHappen old asked
   pub setup : new.board.setup ≡ old.board.setup
   pub reply : SerialReply
-  pub answered : (history : List Entry) → IsHistoryOf old history → IsAnswered old new asked reply said history
+  pub answered : (history : List Entry) → IsHistoryOf old history → AnswersAsked old new asked reply said history

@@ -2,13 +2,12 @@
 
 ghost use Rattle.std.specs.Prelude.{◌≡◌, ◌≢◌, List, IfOk, IfErr, OnErr, IsSomeAnd, Some, option_map};
 ghost use Rattle.board_spec.specs.declared.event.Entry.{Entry};
-ghost use Rattle.board_chipset.specs.Chipset.{IsLeftBy as IsChipsetLeftBy};
-ghost use Rattle.board_chipset.specs.OutOfRange.{IsFault};
+ghost use Rattle.board_chipset.specs.Common.{IsLeftBy as IsChipsetLeftBy, IsFault};
 ghost use Rattle.uart_16550.specs.declared.com1.Happening.TheVariants.{Comes, Happens};
-ghost use Rattle.board_records.specs.Doors.{Opens, IsOpenRefusal, disk_of, setup_said};
+ghost use Rattle.board_records.specs.Doors.{IsOpenedWith, IsOpenRefusal, disk_of, setup_said};
 ghost use Rattle.board_records.specs.Events.{asked_said};
-ghost use Rattle.board_records.specs.Statuses.{ok, closed, IsRefusal};
-ghost use Rattle.board_records.specs.Steps.{IsStep, after_step};
+ghost use Rattle.board_records.specs.Statuses.{ok, closed, IsEventRefusal};
+ghost use Rattle.board_records.specs.Steps.{IsAskedStep, after_step};
 
 use crate::asked::asked_of;
 use crate::card::{CardRecord, cards_of};
@@ -30,7 +29,7 @@ pub(crate) fn open(
     rom: &[u8],
     disk: &[u8],
 ) -> Result<SerialBoard<Chipset>, u32>
-    ensures fresh { IfOk result (λ serial. IsSomeAnd (setup_said mib cards.now rom.now disk.now) (Opens serial)) }
+    ensures fresh { IfOk result (λ serial. IsSomeAnd (setup_said mib cards.now rom.now disk.now) (IsOpenedWith serial)) }
     ensures refused { IfErr result (IsOpenRefusal (setup_said mib cards.now rom.now disk.now)) }
 {
     let cards = match cards_of(alloc, cards) {
@@ -55,7 +54,7 @@ pub(crate) fn open(
 
 /// The chipset of a setup, with a new serial port. Refused with why.
 fn opened(alloc: Global, setup: Setup) -> Result<SerialBoard<Chipset>, u32>
-    ensures fresh { IfOk result (λ serial. Opens serial setup) }
+    ensures fresh { IfOk result (λ serial. IsOpenedWith serial setup) }
     ensures refused { IfErr result (IsOpenRefusal (Some setup)) }
 {
     match Chipset::open_checked(alloc, setup) {
@@ -81,8 +80,8 @@ pub(crate) fn step(
     event: &EventRecord,
     reply: &mut ReplyRecord,
 ) -> u32
-    ensures done { result ≡ ok → IsSomeAnd (asked_said event.now) (IsStep serial.old serial.new reply.new) }
-    ensures refused { result ≢ ok → IsRefusal serial.old (asked_said event.now) result }
+    ensures done { result ≡ ok → IsSomeAnd (asked_said event.now) (IsAskedStep serial.old serial.new reply.new) }
+    ensures refused { result ≢ ok → IsEventRefusal serial.old (asked_said event.now) result }
     ensures unchanged { result ≢ ok → serial.new ≡ serial.old }
     ensures untold { result ≢ ok → reply.new ≡ reply.old }
     ensures open { result ≢ closed }
@@ -96,8 +95,8 @@ pub(crate) fn step(
 
 /// Gives COM1 a byte. Refused with `SERIAL_FULL` where it has no room.
 fn receive(serial: &mut SerialBoard<Chipset>, byte: u8, reply: &mut ReplyRecord) -> u32
-    ensures done { result ≡ ok → IsStep serial.old serial.new reply.new (Comes byte) }
-    ensures refused { result ≢ ok → IsRefusal serial.old (Some (Comes byte)) result }
+    ensures done { result ≡ ok → IsAskedStep serial.old serial.new reply.new (Comes byte) }
+    ensures refused { result ≢ ok → IsEventRefusal serial.old (Some (Comes byte)) result }
     ensures unchanged { result ≢ ok → serial.new ≡ serial.old }
     ensures untold { result ≢ ok → reply.new ≡ reply.old }
     ensures open { result ≢ closed }
@@ -116,8 +115,8 @@ fn receive(serial: &mut SerialBoard<Chipset>, byte: u8, reply: &mut ReplyRecord)
 
 /// Does an event. Refused with why where it is out of range.
 fn done(serial: &mut SerialBoard<Chipset>, event: &Event, reply: &mut ReplyRecord) -> u32
-    ensures done { result ≡ ok → IsStep serial.old serial.new reply.new (Happens event.now) }
-    ensures refused { result ≢ ok → IsRefusal serial.old (Some (Happens event.now)) result }
+    ensures done { result ≡ ok → IsAskedStep serial.old serial.new reply.new (Happens event.now) }
+    ensures refused { result ≢ ok → IsEventRefusal serial.old (Some (Happens event.now)) result }
     ensures unchanged { result ≢ ok → serial.new ≡ serial.old }
     ensures untold { result ≢ ok → reply.new ≡ reply.old }
     ensures open { result ≢ closed }
@@ -133,7 +132,7 @@ fn done(serial: &mut SerialBoard<Chipset>, event: &Event, reply: &mut ReplyRecor
 
 /// Does an event, and gives the record of its reply.
 fn told(serial: &mut SerialBoard<Chipset>, event: &Event) -> Result<ReplyRecord, OutOfRange>
-    ensures done { IfOk result (λ said. IsStep serial.old serial.new said (Happens event.now)) }
+    ensures done { IfOk result (λ said. IsAskedStep serial.old serial.new said (Happens event.now)) }
     ensures fault { IfErr result (λ fault. IsFault serial.old.board.setup event.now fault) }
     ensures unchanged { OnErr result (serial.new ≡ serial.old) }
 {

@@ -3,12 +3,12 @@
 ghost use Rattle.std.specs.Prelude.{◌≡◌, ◌≢◌, ◌+◌, ◌<◌, ◌≤◌, length, IfOk, IfErr, IsSomeAnd};
 ghost use Rattle.board_spec.specs.Setup.{installed};
 ghost use Rattle.board_records.specs.Bytes.{clock_bytes, IsDramTold, IsSectorTold, IsSectorRefusal, IsClockByte, IsDramWritten, IsClockWritten};
-ghost use Rattle.board_records.specs.Doors.{Opens, IsOpenRefusal, OnBoth, setup_said};
+ghost use Rattle.board_records.specs.Doors.{IsOpenedWith, IsOpenRefusal, OnBoth, setup_said};
 ghost use Rattle.board_records.specs.Events.{asked_said};
-ghost use Rattle.board_records.specs.Maps.{AreRangesTold, AreWindowsTold, IsVersion};
-ghost use Rattle.board_records.specs.Places.{IsPlaced, IsNotPlaced, IsRiseTold};
-ghost use Rattle.board_records.specs.Statuses.{ok, closed, no_byte, past_end, IsRefusal};
-ghost use Rattle.board_records.specs.Steps.{IsStep};
+ghost use Rattle.board_records.specs.Maps.{AreRangesTold, AreWindowsTold, IsVersionSaid};
+ghost use Rattle.board_records.specs.Places.{IsAskedPlace, IsNotPlaced, IsRiseTold};
+ghost use Rattle.board_records.specs.Statuses.{ok, closed, no_byte, past_end, IsEventRefusal};
+ghost use Rattle.board_records.specs.Steps.{IsAskedStep};
 
 use crate::bytes::{tell_clock_byte, tell_dram, tell_sector};
 use crate::calls::{open, step};
@@ -52,7 +52,7 @@ impl Door {
         disk: &[u8],
     ) -> Result<Door, u32>
         ensures fresh { IfOk result (λ door. IsSomeAnd door
-            (λ serial. IsSomeAnd (setup_said mib cards.now rom.now disk.now) (Opens serial))) }
+            (λ serial. IsSomeAnd (setup_said mib cards.now rom.now disk.now) (IsOpenedWith serial))) }
         ensures refused { IfErr result (IsOpenRefusal (setup_said mib cards.now rom.now disk.now)) }
     {
         Ok(Door {
@@ -65,9 +65,9 @@ impl Door {
     /// changed.
     pub fn step(&mut self, event: &EventRecord, reply: &mut ReplyRecord) -> u32
         ensures done { result ≡ ok → IsSomeAnd (asked_said event.now)
-            (λ asked. OnBoth self.old self.new (λ old new. IsStep old new reply.new asked)) }
+            (λ asked. OnBoth self.old self.new (λ old new. IsAskedStep old new reply.new asked)) }
         ensures refused { result ≢ ok
-            → IsSomeAnd self.old (λ serial. IsRefusal serial (asked_said event.now) result) }
+            → IsSomeAnd self.old (λ serial. IsEventRefusal serial (asked_said event.now) result) }
         ensures unchanged { result ≢ ok → self.new ≡ self.old }
         ensures untold { result ≢ ok → reply.new ≡ reply.old }
         ensures open { result ≢ closed }
@@ -83,7 +83,7 @@ impl Door {
         ranges: &mut [RangeRecord],
         windows: &mut [WindowRecord],
     )
-        ensures version { IsSomeAnd self.now (λ serial. IsVersion serial.board told.new.version) }
+        ensures version { IsSomeAnd self.now (λ serial. IsVersionSaid serial.board told.new.version) }
         ensures ranges { IsSomeAnd self.now
             (λ serial. AreRangesTold serial.board told.new.ranges ranges.old ranges.new) }
         ensures windows { IsSomeAnd self.now
@@ -96,7 +96,7 @@ impl Door {
     /// nothing (`NO_EVENT`), or no access of one bus cycle in range (`NO_CYCLE`).
     pub fn tell_place(&self, event: &EventRecord, part: &mut PartRecord) -> u32
         ensures done { result ≡ ok → IsSomeAnd self.now
-            (λ serial. IsSomeAnd (asked_said event.now) (IsPlaced serial.board part.new)) }
+            (λ serial. IsSomeAnd (asked_said event.now) (IsAskedPlace serial.board part.new)) }
         ensures refused { result ≢ ok
             → IsSomeAnd self.now (λ serial. IsNotPlaced serial.board (asked_said event.now) result) }
         ensures untold { result ≢ ok → part.new ≡ part.old }

@@ -2,7 +2,7 @@
 
 ghost use Rattle.std.specs.Prelude.{◌≡◌, map};
 ghost use Rattle.map_builder.specs.Map.{range_of};
-ghost use Rattle.board_records.specs.Maps.{short_area, range_said, window_said, filled, AreRangesTold, AreWindowsTold, IsVersion};
+ghost use Rattle.board_records.specs.Maps.{short_area, range_said, window_said, filled, AreRangesTold, AreWindowsTold, IsVersionSaid};
 
 use crate::reply::area_record;
 use board_base::Area;
@@ -55,7 +55,7 @@ pub(crate) fn tell_map(
     ranges: &mut [RangeRecord],
     windows: &mut [WindowRecord],
 )
-    ensures version { IsVersion chipset.now told.new.version }
+    ensures version { IsVersionSaid chipset.now told.new.version }
     ensures ranges { AreRangesTold chipset.now told.new.ranges ranges.old ranges.new }
     ensures windows { AreWindowsTold chipset.now told.new.windows windows.old windows.new }
 {

@@ -1,13 +1,12 @@
 //! What an access would reach, and when the timer's line next rises. Nothing in the chipset changes.
 
 ghost use Rattle.std.specs.Prelude.{◌≡◌, ◌≢◌, List, IfSome, IsSomeAnd, Some, None, is_some};
-ghost use Rattle.board_spec.specs.declared.event.Entry.{Entry};
-ghost use Rattle.board_spec.specs.InRange.{IsInRange};
+ghost use Rattle.board_prelude.specs.Common.{Entry, IsInRange};
 ghost use Rattle.board_chipset.specs.Chipset.{IsLeftBy};
 ghost use Rattle.uart_16550.specs.declared.com1.Happening.TheVariants.{Happens};
 ghost use Rattle.uart_16550.specs.Com1.{uart_access};
 ghost use Rattle.board_records.specs.Events.{asked_said};
-ghost use Rattle.board_records.specs.Places.{IsCycle, IsEventPlaced, IsPlaced, IsNotPlaced, IsRiseTold};
+ghost use Rattle.board_records.specs.Places.{IsCycle, IsEventPlaced, IsAskedPlace, IsNotPlaced, IsRiseTold};
 ghost use Rattle.board_records.specs.Statuses.{ok, closed};
 
 use crate::asked::asked_of;
@@ -21,7 +20,7 @@ use uart_16550::{Happening, is_for_uart};
 /// Sets `part` to what would answer the access of a record, and what would deny it. Refused where the record asks nothing
 /// (`NO_EVENT`), or no access of one bus cycle in range (`NO_CYCLE`).
 pub(crate) fn tell_place(chipset: &Chipset, event: &EventRecord, part: &mut PartRecord) -> u32
-    ensures done { result ≡ ok → IsSomeAnd (asked_said event.now) (IsPlaced chipset.now part.new) }
+    ensures done { result ≡ ok → IsSomeAnd (asked_said event.now) (IsAskedPlace chipset.now part.new) }
     ensures refused { result ≢ ok → IsNotPlaced chipset.now (asked_said event.now) result }
     ensures untold { result ≢ ok → part.new ≡ part.old }
     ensures open { result ≢ closed }

@@ -1,9 +1,7 @@
 -- What a command answers, from the files that it read and the text that came of them.
-use Rattle.std.proofs.Common.{◌≡◌, ◌≢◌, ℕ, [], ◌∷◌, List, Option, Some, None, refl, sym, subst}
-use Rattle.std.specs.Prelude.{Result, Ok, Err, IfOk, IfErr}
+use Rattle.std.proofs.Common.{◌≡◌, ◌≢◌, ℕ, [], ◌∷◌, List, Option, Some, None, refl, sym, subst, Result, Ok, Err, IfOk, IfErr}
 use Rattle.board_spec.specs.Setup.{Setup}
-use Rattle.script_spec.specs.ScriptText.{Script as Said}
-use Rattle.script_spec.specs.Checks.{DiffersAt}
+use Rattle.script_spec.specs.Common.{Script as Said, DiffersAt}
 use Rattle.log_check.specs.declared.fault.CheckFault.{CheckFault}
 use Rattle.log_check.specs.declared.fault.CheckFault.TheVariants.{Differs as DiffersAtLine, NoMemory as NoMemoryForCheck}
 use Rattle.command_words.specs.Words.{Command, Replay, Run, Map, Check, Make, Dma, Save, Resume, Serial, Blame}
@@ -11,13 +9,9 @@ use Rattle.command_files.specs.declared.status.Which.{Which}
 use Rattle.command_files.specs.declared.status.Which.TheVariants.{Script, Rom, Disk, Log}
 use Rattle.command_files.specs.declared.status.Status.{Status}
 use Rattle.command_files.specs.declared.status.Status.TheVariants.{Done, Usage, ReadFault, WriteFault, TooLong, BadScript, BadImage, Differs, OtherBoard, NoMemory}
-use Rattle.command_files.specs.Statuses.{status_of_check_fault}
-use Rattle.command_files.specs.Known.{Files, Known, AllRead, board_of}
-use Rattle.command_files.specs.Asked.{CanBeDone, OfCheck, OfResume, LogDiffers, BoardsDiffer, AsksFor}
-use Rattle.command_files.specs.Outcomes.{ShelfCall, OfFiles, CanEnd, CompareBoards, IsRefused}
+use Rattle.command_files.specs.Common.{status_of_check_fault, Files, Known, AllRead, board_of, CanBeDone, OfCheck, OfResume, LogDiffers, BoardsDiffer, AsksFor, ShelfCall, OfFiles, CanEnd, CompareBoards, IsRefused}
 use Rattle.command_files.proofs.Refusals.{of_files, at_files}
-use Rattle.board_run.specs.Texts.{IsTextFor, IsCommandText}
-use Rattle.board_run.specs.Statuses.{HasNoText, IsAnswered}
+use Rattle.board_run.specs.Common.{IsTextFor, IsCommandText, HasNoText, IsAnswered}
 
 pub refused_answer :
     (command : Command) (shelf : ShelfCall) (result : Result (List ℕ) Status) (status : Status) → result ≡ Err status →

@@ -1,19 +1,13 @@
 -- What each way out of a command says of its cause.
 use Rattle.std.proofs.Common.{◌≡◌, ◌≢◌, ℕ, inl, inr, List, Option, Some, None, refl, sym, subst}
-use Rattle.std.specs.Io.KnownBytes.{Appends, Keeps}
-use Rattle.board_base.specs.declared.fault.PutFault.{PutFault}
+use Rattle.board_prelude.proofs.Common.{Appends, Keeps, PutFault, Rose}
 use Rattle.board_base.specs.declared.fault.PutFault.TheVariants.{Failed, NoMemory as NoMemoryForPut}
-use Rattle.board_base.specs.Outside.{Rose}
 use Rattle.command_files.specs.declared.status.Which.{Which}
 use Rattle.command_files.specs.declared.status.Status.{Status}
 use Rattle.command_files.specs.declared.status.Status.TheVariants.{Done, Usage, ReadFault, WriteFault, TooLong, BadScript, BadImage, Differs, OtherBoard, NoMemory}
 use Rattle.command_words.specs.Words.{Command}
-use Rattle.board_run.specs.Texts.{IsCommandText}
-use Rattle.board_run.specs.Output.{AppendsFront}
-use Rattle.command_files.specs.Outcomes.{ShelfCall, OfFiles, CanEnd}
-use Rattle.board_run.specs.Outcomes.{SinkCall, OfCommand, PutsText, PutsTextFront, Stopped, WordsCanEnd, HasCause, IsCaused}
-use Rattle.command_files.specs.Statuses.{status_of_put_fault, IsRefusal}
-use Rattle.command_files.specs.Outcomes.{IsRefused}
+use Rattle.board_run.specs.Common.{IsCommandText, AppendsFront, SinkCall, OfCommand, PutsText, PutsTextFront, Stopped, WordsCanEnd, HasCause, IsCaused}
+use Rattle.command_files.specs.Common.{ShelfCall, OfFiles, CanEnd, status_of_put_fault, IsRefusal, IsRefused}
 use Rattle.command_files.proofs.Refusals.{of_files, at_files}
 
 abbrev HidesNoFault : ShelfCall → Status → Type 0

@@ -4,12 +4,8 @@ use Rattle.board_base.specs.Outside.{Rose}
 use Rattle.command_files.specs.declared.status.Status.{Status}
 use Rattle.command_files.specs.declared.status.Status.TheVariants.{Done, Usage, ReadFault, WriteFault, TooLong, BadScript, BadImage, Differs, OtherBoard, NoMemory}
 use Rattle.command_words.specs.Words.{Command}
-use Rattle.command_files.specs.Known.{Files}
-use Rattle.command_files.specs.Asked.{AsksFor}
-use Rattle.command_files.specs.Outcomes.{ShelfCall, OfFiles}
-use Rattle.board_run.specs.Outcomes.{SinkCall, PutsText, PutsTextFront, IsCaused, Answers, IsQuietFor, IsExact}
-use Rattle.command_files.specs.Laws.{OneStatus}
-use Rattle.board_run.specs.Texts.{IsCommandText}
+use Rattle.command_files.specs.Common.{Files, AsksFor, ShelfCall, OfFiles, OneStatus}
+use Rattle.board_run.specs.Common.{SinkCall, PutsText, PutsTextFront, IsCaused, IsOrNoMemory, IsQuietFor, IsExact, IsCommandText}
 use Rattle.command_files.proofs.Refusals.{at_files}
 
 -- the shelf is quiet wherever a status is to come
@@ -38,13 +34,13 @@ module _ (one_status : OneStatus) (command : Command) (files : Files) (shelf : S
   abbrev Calm : Type 0
   Calm = ¬ Rose sink.faults_before sink.faults_now
 
-  same : (status : Status) → AsksFor command files status → Answers status wanted
+  same : (status : Status) → AsksFor command files status → IsOrNoMemory status wanted
   same status also = inl (one_status command files status wanted also asks)
 
   told_of : (P : Files → Type 0) → OfFiles shelf.files P → P files
   told_of P = at_files shelf.files files P told
 
-  left : (status : Status) → IsCaused status (Some command) shelf sink → Answers status wanted
+  left : (status : Status) → IsCaused status (Some command) shelf sink → IsOrNoMemory status wanted
   left Done is =
       let puts = told_of (PutsText sink.taken_before sink.taken_now command) is.cause in
       same Done (done_of_text command files puts.text puts.says)

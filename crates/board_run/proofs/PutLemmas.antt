@@ -1,16 +1,11 @@
 -- The puts that were made, one part of a text after another.
-use Rattle.std.proofs.Common.{◌≡◌, ℕ, inl, inr, List, [], ◌∷◌, ◌++◌, Option, Some, None, refl, sym, subst}
-use Rattle.std.specs.Prelude.{Result, Ok, Err, IsErr}
-use Rattle.std.specs.Result.{result_ok}
-use Rattle.board_base.specs.Outside.{Put, Made}
-use Rattle.board_base.specs.declared.fault.PutFault.{PutFault}
+use Rattle.std.proofs.Common.{◌≡◌, ℕ, inl, inr, List, [], ◌∷◌, ◌++◌, Option, Some, None, refl, sym, subst, Result, Ok, Err, IsErr}
+use Rattle.board_prelude.proofs.Common.{result_ok, Put, Made, PutFault}
 use Rattle.board_base.specs.declared.fault.PutFault.TheVariants.{Failed, NoMemory as NoMemoryForPut}
 use Rattle.command_words.specs.Words.{Command}
 use Rattle.command_files.specs.declared.status.Status.{Status}
 use Rattle.command_files.specs.declared.status.Status.TheVariants.{Done, Usage, ReadFault, WriteFault, TooLong, BadScript, BadImage, Differs, OtherBoard, NoMemory}
-use Rattle.command_files.specs.Statuses.{status_of_put_fault}
-use Rattle.command_files.specs.Outcomes.{ShelfCall, IsRefused}
-use Rattle.command_files.specs.Calls.{OfCalls}
+use Rattle.command_files.specs.Common.{status_of_put_fault, ShelfCall, IsRefused, OfCalls}
 use Rattle.command_files.proofs.CallLemmas.{none_told, calls_hold, call_more, Both, calls_both}
 use Rattle.board_run.specs.Puts.{AllTook, LatestRefused, ArePutsOf, PutsBy}
 

@@ -1,10 +1,7 @@
 -- What a sink took of a text, piece after piece.
-use Rattle.std.proofs.Common.{◌≡◌, ℕ, ◌+◌, ◌<◌, List, [], ◌++◌, Option, Some, None, length, get_or, take, drop, sym, ◌∙◌, ap, subst, refl, append_assoc, append-nil}
-use Rattle.std.specs.Prelude.{Vec, Result, Ok, Err, OnErr}
-use Rattle.std.specs.Global.{Global}
-use Rattle.std.proofs.lemmas.List.{take-append-drop, at_drop_more}
-use Rattle.std.proofs.lemmas.List.Concat.{flat_map-cons}
-use Rattle.std.specs.Io.KnownBytes.{Appends, Keeps}
+use Rattle.std.proofs.Common.{◌≡◌, ℕ, ◌+◌, ◌<◌, List, [], ◌++◌, Option, Some, None, length, get_or, take, drop, sym, ◌∙◌, ap, subst, refl, append_assoc, append-nil, Vec, Result, Ok, Err, OnErr}
+use Rattle.board_prelude.proofs.Common.{Global, take-append-drop, flat_map-cons, Appends, Keeps}
+use Rattle.std.proofs.lemmas.List.{at_drop_more}
 use Rattle.log_pieces.specs.Text.{bytes_in, joined}
 use Rattle.board_run.specs.Output.{Sent, AppendsFront}
 

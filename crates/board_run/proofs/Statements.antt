@@ -1,16 +1,9 @@
 -- The statements of a script in the order of its file.
-use Rattle.std.proofs.Common.{◌≡◌, ℕ, ◌+◌, ◌++◌, List, [], ◌∷◌, take, drop, get_or, refl, ap, subst, All}
-use Rattle.std.specs.Prelude.{slice_index_or, flat_map}
-use Rattle.std.specs.declared.vec.Vec.{Vec}
-use Rattle.std.specs.Global.{Global}
-use Rattle.std.proofs.lemmas.List.{get_or_default}
-use Rattle.board_spec.specs.declared.event.Statement.{Statement}
-use Rattle.board_spec.specs.InRange.{IsScripted}
-use Rattle.board_spec.specs.OrderLaws.{in_file_order}
+use Rattle.std.proofs.Common.{◌≡◌, ℕ, ◌+◌, ◌++◌, List, [], ◌∷◌, take, drop, get_or, refl, ap, subst, All, slice_index_or, flat_map}
+use Rattle.board_prelude.proofs.Common.{Vec, Global, get_or_default, Statement, IsScripted, in_file_order, Setup}
 use Rattle.phase_run.specs.Jobs.{IsStatement}
 use Rattle.script_spec.specs.Phases.{lists_of}
 use Rattle.log_check.proofs.PhaseLists.{phases_cut, all_of_phase}
-use Rattle.board_spec.specs.Setup.{Setup}
 
 -- the statements of each phase are in range
 pub phases_in_range :

@@ -1,14 +1,11 @@
 -- What the status of a command says of the words, of the files that it read, of the outside, and of what was put.
 use Rattle.std.specs.Prelude.{◌≡◌, ◌≢◌, ℕ, ◌⊎◌, List, Option, Some, None}
-use Rattle.std.specs.Io.KnownBytes.{Appends, Keeps}
-use Rattle.board_base.specs.Outside.{Rose}
+use Rattle.board_prelude.specs.Common.{Appends, Keeps, Rose}
 use Rattle.command_words.specs.Words.{Command}
 use Rattle.command_files.specs.declared.status.Which.{Which}
 use Rattle.command_files.specs.declared.status.Status.{Status}
 use Rattle.command_files.specs.declared.status.Status.TheVariants.{Done, Usage, ReadFault, WriteFault, NoMemory}
-use Rattle.command_files.specs.Known.{Files}
-use Rattle.command_files.specs.Asked.{AsksFor}
-use Rattle.command_files.specs.Outcomes.{ShelfCall, OfFiles, CanEnd, FailsAt}
+use Rattle.command_files.specs.Common.{Files, AsksFor, ShelfCall, OfFiles, CanEnd, FailsAt}
 use Rattle.board_run.specs.Texts.{IsCommandText}
 use Rattle.board_run.specs.Output.{AppendsFront}
 
@@ -99,8 +96,8 @@ pub record IsCaused (status : Status) (command : Option Command) (shelf : ShelfC
       (OfCommand command shelf.files (PutsTextFront sink.taken_before sink.taken_now))
 
 -- a status is this one, unless memory ran out
-abbrev pub Answers : Status → Status → Type 0
-Answers status wanted = (status ≡ wanted) ⊎ (status ≡ NoMemory)
+abbrev pub IsOrNoMemory : Status → Status → Type 0
+IsOrNoMemory status wanted = (status ≡ wanted) ⊎ (status ≡ NoMemory)
 
 -- what must be quiet for a status to come: the shelf, and for `done` the sink too
 abbrev pub IsQuietFor : Status → (quiet_shelf quiet_sink : Type 0) → Type 0
@@ -111,4 +108,4 @@ IsQuietFor _ quiet_shelf quiet_sink = quiet_shelf
 abbrev pub IsExact : Status → Option Command → Option Files → (quiet_shelf quiet_sink : Type 0) → Type 0
 IsExact status command told quiet_shelf quiet_sink =
     (wanted : Status) → HasCommand command told (λ command files. AsksFor command files wanted) →
-    IsQuietFor wanted quiet_shelf quiet_sink → Answers status wanted
+    IsQuietFor wanted quiet_shelf quiet_sink → IsOrNoMemory status wanted

@@ -2,12 +2,9 @@
 
 ghost use Rattle.std.specs.Prelude.{◌≡◌, ◌↔◌, Some, None, IfErr};
 ghost use Rattle.board_base.specs.Outside.{Rose};
-ghost use Rattle.command_words.specs.Words.{asked, IsCommand};
-ghost use Rattle.command_words.specs.Commands.{said_by};
+ghost use Rattle.command_words.specs.Common.{asked, IsCommand, said_by};
 ghost use Rattle.command_files.specs.declared.status.Status.{Status};
-ghost use Rattle.command_files.specs.Statuses.{status_of, IsRefusal};
-ghost use Rattle.command_files.specs.Outcomes.{shelf_call};
-ghost use Rattle.command_files.specs.Calls.{OfCalls, FetchesOf, AreFetchesOf};
+ghost use Rattle.command_files.specs.Common.{status_of, IsRefusal, shelf_call, OfCalls, FetchesOf, AreFetchesOf};
 ghost use Rattle.board_run.specs.Statuses.{IsAnswered};
 ghost use Rattle.board_run.specs.Outcomes.{IsCaused, IsExact, sink_call};
 ghost use Rattle.board_run.specs.Puts.{ArePutsOf};

@@ -1,8 +1,7 @@
 //! A whole text, put piece by piece to a sink.
 
 ghost use Rattle.std.specs.Prelude.{◌≡◌, ◌≤◌, drop, length, IfErr, OnOk, OnErr};
-ghost use Rattle.std.specs.Io.KnownBytes.{Appends};
-ghost use Rattle.board_base.specs.Outside.{Rose};
+ghost use Rattle.board_prelude.specs.Common.{Appends, Rose};
 ghost use Rattle.board_run.specs.Output.{AppendsFront};
 ghost use Rattle.command_files.specs.Calls.{OfCalls};
 ghost use Rattle.board_run.specs.Puts.{PutsBy};

@@ -1,9 +1,7 @@
 //! Runs of scripts on threads.
 
 ghost use Rattle.std.specs.Prelude.{◌≡◌, [], reverse, IfOk};
-ghost use Rattle.board_spec.specs.Legal.{IsLegal};
-ghost use Rattle.board_spec.specs.Orders.{IsCompleteFor};
-ghost use Rattle.board_spec.specs.LogText.{log_text};
+ghost use Rattle.board_prelude.specs.Common.{IsLegal, IsCompleteFor, log_text};
 ghost use Rattle.run_order.specs.Places.{AreAllInPlace};
 ghost use Rattle.script_spec.specs.ScriptRange.{IsInRangeScript};
 ghost use Rattle.script_text.specs.Script.{said_of};

@@ -1,8 +1,7 @@
 -- Bytes of a number, by shifts.
 use Rattle.std.proofs.Common.{◌≡◌, ℕ, zero, suc, ◌+◌, ◌*◌, ◌/◌, ◌%◌, ◌<◌, ◌≤◌, ◌^◌, ◌++◌, [], refl, ap, sym, ◌∙◌, pow-add, arith}
-use Rattle.std.proofs.Math.Nat.{pow-le-pow_right, div-eq_of_lt}
-use Rattle.board_spec.specs.Bits.{byte}
-use Rattle.board_spec.specs.Text.{hex_byte, hex_number}
+use Rattle.board_prelude.proofs.Common.{pow-le-pow_right, byte, hex_byte, hex_number}
+use Rattle.std.proofs.Math.Nat.{div-eq_of_lt}
 
 byte_power : (n : ℕ) → 2 ^ (8 * n) ≡ 256 ^ n
 byte_power zero = refl

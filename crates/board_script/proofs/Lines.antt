@@ -1,10 +1,6 @@
 -- The log of one entry more.
 use Rattle.std.proofs.Common.{◌≡◌, ℕ, ◌+◌, ◌<◌, ◌++◌, List, [], ◌∷◌, length, reverse, take, get_or, ap, ◌∙◌, append_assoc}
-use Rattle.std.proofs.lemmas.List.{reverse-append}
-use Rattle.std.proofs.lemmas.Grind.{take_at_read}
-use Rattle.board_spec.specs.declared.event.Entry.{Entry}
-use Rattle.board_spec.specs.Text.{line_feed}
-use Rattle.board_spec.specs.LogText.{line_text, lines_text}
+use Rattle.board_prelude.proofs.Common.{reverse-append, take_at_read, Entry, line_feed, line_text, lines_text}
 
 -- with the entry at i as the newest, the history is one longer
 pub reverse-take_more :

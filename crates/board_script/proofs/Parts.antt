@@ -1,10 +1,6 @@
 -- The lines of a history and of its parts.
 use Rattle.std.proofs.Common.{◌≡◌, ℕ, ◌+◌, ◌<◌, ◌++◌, List, [], ◌∷◌, length, reverse, take, get_or, codes, decimal, refl, sym, ap, ◌∙◌, append_assoc, arith}
-use Rattle.std.proofs.lemmas.List.{reverse-append, append-nil}
-use Rattle.std.proofs.lemmas.Grind.{take_at_read, common_steps}
-use Rattle.board_spec.specs.declared.event.Entry.{Entry}
-use Rattle.board_spec.specs.Text.{line_feed}
-use Rattle.board_spec.specs.LogText.{line_text, lines_text, log_text}
+use Rattle.board_prelude.proofs.Common.{reverse-append, append-nil, take_at_read, common_steps, Entry, line_feed, line_text, lines_text, log_text}
 use Rattle.board_script.specs.LinesFrom.{lines_from}
 use Rattle.board_script.proofs.Lines.{lines_text-newest}
 

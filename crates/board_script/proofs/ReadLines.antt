@@ -1,22 +1,8 @@
 -- The lines of a log, read one by one.
-use Rattle.std.proofs.Common.{◌≡◌, ◌≢◌, ℕ, ◌+◌, ◌≤◌, Option, Some, None, List, [], ◌∷◌, ◌++◌, length, reverse, All, refl, sym, ap, subst, ◌∙◌, inl, inr, append_assoc, arith}
-use Rattle.std.specs.Prelude.{MatchOption, codes}
-use Rattle.std.specs.Fmt.{digits}
-use Rattle.std.specs.Prelude.{bytes_eq}
-use Rattle.std.proofs.lemmas.Bool.{cases_Bool}
-use Rattle.std.proofs.lemmas.List.{reverse-append, length-append}
-use Rattle.std.proofs.lemmas.List.Elements.{All-nil, All-cons, All-head, All-tail, All-push}
-use Rattle.board_spec.specs.declared.event.Entry.{Entry}
-use Rattle.board_spec.specs.Text.{line_feed}
-use Rattle.board_spec.specs.LogText.{line_text, lines_text}
-use Rattle.script_spec.specs.ScriptText.{IsVersion}
-use Rattle.script_spec.specs.WellFormed.{IsWellFormed}
-use Rattle.script_spec.proofs.CheckLaws.{lacks-line}
-use Rattle.script_spec.proofs.LogLaws.{line_whole}
-use Rattle.script_spec.proofs.Chains.{some_is}
-use Rattle.script_spec.proofs.Joins.{word_is}
-use Rattle.script_spec.specs.Cuts.{cut}
-use Rattle.script_spec.proofs.CutLemmas.{cut_field, cut_joined}
+use Rattle.std.proofs.Common.{◌≡◌, ◌≢◌, ℕ, ◌+◌, ◌≤◌, Option, Some, None, List, [], ◌∷◌, ◌++◌, length, reverse, All, refl, sym, ap, subst, ◌∙◌, inl, inr, append_assoc, arith, MatchOption, codes, bytes_eq}
+use Rattle.board_prelude.proofs.Common.{digits, cases_Bool, reverse-append, length-append, All-nil, All-cons, All-head, All-tail, All-push, Entry, line_feed, line_text, lines_text}
+use Rattle.script_spec.specs.Common.{IsVersion, IsWellFormed, cut}
+use Rattle.script_spec.proofs.Common.{lacks-line, line_whole, some_is, word_is, cut_field, cut_joined}
 use Rattle.board_script.specs.Reading.{heading, version_of, HasEntry, HasNoEntry}
 use Rattle.board_script.proofs.Lines.{lines_text-newest}
 

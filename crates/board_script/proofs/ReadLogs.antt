@@ -1,24 +1,8 @@
 -- Where the bytes of a log stop being one.
-use Rattle.std.proofs.Common.{◌≡◌, ◌≢◌, ℕ, ◌+◌, ◌<◌, true, Option, Some, None, List, [], ◌∷◌, ◌++◌, length, reverse, get_or, drop, All, refl, sym, ap, subst, ◌∙◌, inl, inr, append_assoc, append-nil, arith}
-use Rattle.std.specs.Prelude.{Result, Ok, Err, IfOk, IfErr, IsErrAnd, codes, decimal}
-use Rattle.std.proofs.lemmas.Bool.{cases_lt}
-use Rattle.std.proofs.lemmas.List.{get_or_append_left, append_cancel_left, length-append, reverse-reverse}
-use Rattle.std.proofs.lemmas.List.Elements.{All-nil, All-cons, All-head, All-tail, All-push}
-use Rattle.board_spec.specs.declared.event.Entry.{Entry}
-use Rattle.board_spec.specs.Text.{line_feed}
-use Rattle.board_spec.specs.LogText.{line_text, lines_text, log_text}
-use Rattle.script_spec.specs.Lines.{text_of_lines, IsOneLine}
-use Rattle.script_spec.specs.ScriptText.{IsVersion}
-use Rattle.script_spec.specs.WellFormed.{IsWellFormed}
-use Rattle.script_spec.specs.Checks.{IsLogText, IsSomeLog, IsBadLog}
-use Rattle.script_spec.proofs.Digits.{lacks}
-use Rattle.script_spec.proofs.Fields.{lacks-append}
-use Rattle.script_spec.proofs.PlainText.{lacks-word, decimal_word}
-use Rattle.script_spec.proofs.CheckLaws.{one_line, compared}
-use Rattle.script_spec.proofs.LogLaws.{log_lines, lines_joined, lines_whole, nothing_more, log_says_all}
-use Rattle.script_spec.proofs.Chains.{some_is}
-use Rattle.script_spec.specs.Cuts.{cut}
-use Rattle.script_spec.proofs.CutLemmas.{cut_field, cut_joined}
+use Rattle.std.proofs.Common.{◌≡◌, ◌≢◌, ℕ, ◌+◌, ◌<◌, true, Option, Some, None, List, [], ◌∷◌, ◌++◌, length, reverse, get_or, drop, All, refl, sym, ap, subst, ◌∙◌, inl, inr, append_assoc, append-nil, arith, Result, Ok, Err, IfOk, IfErr, IsErrAnd, codes, decimal}
+use Rattle.board_prelude.proofs.Common.{cases_lt, get_or_append_left, append_cancel_left, length-append, reverse-reverse, All-nil, All-cons, All-head, All-tail, All-push, Entry, line_feed, line_text, lines_text, log_text}
+use Rattle.script_spec.specs.Common.{text_of_lines, IsOneLine, IsVersion, IsWellFormed, IsLogText, IsSomeLog, IsBadLog, cut}
+use Rattle.script_spec.proofs.Common.{lacks, lacks-append, lacks-word, decimal_word, one_line, compared, log_lines, lines_joined, lines_whole, nothing_more, log_says_all, some_is, cut_field, cut_joined}
 use Rattle.board_script.specs.declared.read.Log.{Log}
 use Rattle.board_script.specs.declared.fault.LogFault.{LogFault}
 use Rattle.board_script.specs.declared.fault.LogFault.TheVariants.{Bad, NoMemory}

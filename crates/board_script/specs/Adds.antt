@@ -3,8 +3,8 @@ use Rattle.std.specs.Prelude.{◌≡◌, ℕ, ◌++◌, List, String, string_byt
 use Rattle.std.specs.Global.{Global}
 
 -- these words stand after what the text had
-abbrev pub Adds : String Global → String Global → List ℕ → Type 0
-Adds old new words = string_bytes new ≡ string_bytes old ++ words
+abbrev pub AddsWords : String Global → String Global → List ℕ → Type 0
+AddsWords old new words = string_bytes new ≡ string_bytes old ++ words
 
 -- the whole list begins with this front
 pub record IsFront (front whole : List ℕ) : Type 0 where

@@ -1,3 +1,4 @@
 pub mod Adds
 pub mod LinesFrom
 pub mod Reading
+pub mod Common

@@ -1,8 +1,6 @@
 -- The lines of a part of a history. Here the oldest entry stands first.
 use Rattle.std.specs.Prelude.{ℕ, ◌≡◌, ◌+◌, ◌++◌, List, [], ◌∷◌, length, reverse}
-use Rattle.board_spec.specs.declared.event.Entry.{Entry}
-use Rattle.board_spec.specs.Text.{line_feed}
-use Rattle.board_spec.specs.LogText.{line_text, lines_text}
+use Rattle.board_prelude.specs.Common.{Entry, line_feed, line_text, lines_text}
 
 -- the line of the oldest entry has the number `first`
 unfoldable pub lines_from : (first : ℕ) → List Entry → List ℕ

@@ -1,8 +1,6 @@
 -- What reading a log finds.
 use Rattle.std.specs.Prelude.{ℕ, ◌≡◌, ◌≢◌, ◌+◌, List, [], ◌∷◌, ◌++◌, length, All, if◌then◌else◌, Option, Some, None, codes, bytes_eq, decimal}
-use Rattle.board_spec.specs.declared.event.Entry.{Entry}
-use Rattle.board_spec.specs.Text.{line_feed}
-use Rattle.board_spec.specs.LogText.{line_text, lines_text}
+use Rattle.board_prelude.specs.Common.{Entry, line_feed, line_text, lines_text}
 use Rattle.script_spec.specs.WellFormed.{IsWellFormed}
 use Rattle.board_script.specs.declared.fault.LogFault.{LogFault}
 use Rattle.board_script.specs.declared.fault.LogFault.TheVariants.{Bad, NoMemory}

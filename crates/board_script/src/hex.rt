@@ -1,9 +1,8 @@
 //! Numbers in hexadecimal, in upper-case digits, two for each byte.
 
 ghost use Rattle.std.specs.Prelude.{◌≡◌, ◌++◌, OnOk, OnErr};
-ghost use Rattle.board_spec.specs.Bits.{byte};
-ghost use Rattle.board_spec.specs.Text.{hex_digit, hex_byte, hex_number, hex_offset};
-ghost use Rattle.board_script.specs.Adds.{Adds, KeepsFront};
+ghost use Rattle.board_prelude.specs.Common.{byte, hex_digit, hex_byte, hex_number, hex_offset};
+ghost use Rattle.board_script.specs.Adds.{AddsWords, KeepsFront};
 
 use crate::words::push_ascii;
 use board_base::NoMemory;
@@ -32,7 +31,7 @@ fn byte_of(value: u64, index: u32) -> u8
 
 /// Appends the two digits of a byte.
 pub fn push_hex_byte(text: &mut String, byte: u8) -> Result<(), NoMemory>
-    ensures appended { OnOk result (Adds text.old text.new (hex_byte byte)) }
+    ensures appended { OnOk result (AddsWords text.old text.new (hex_byte byte)) }
     ensures front { OnErr result (KeepsFront text.old text.new) }
 {
     push_ascii(text, &[digit_of(byte / 16), digit_of(byte)])
@@ -40,7 +39,7 @@ pub fn push_hex_byte(text: &mut String, byte: u8) -> Result<(), NoMemory>
 
 /// Appends a word in four digits.
 pub(crate) fn push_hex_word(text: &mut String, word: u16) -> Result<(), NoMemory>
-    ensures appended { OnOk result (Adds text.old text.new (hex_number 2 word)) }
+    ensures appended { OnOk result (AddsWords text.old text.new (hex_number 2 word)) }
     ensures front { OnErr result (KeepsFront text.old text.new) }
 {
     let [a, b] = word.to_be_bytes();
@@ -50,7 +49,7 @@ pub(crate) fn push_hex_word(text: &mut String, word: u16) -> Result<(), NoMemory
 
 /// Appends an address or an offset, in eight digits.
 pub fn push_hex_long(text: &mut String, long: u32) -> Result<(), NoMemory>
-    ensures appended { OnOk result (Adds text.old text.new (hex_number 4 long)) }
+    ensures appended { OnOk result (AddsWords text.old text.new (hex_number 4 long)) }
     ensures front { OnErr result (KeepsFront text.old text.new) }
 {
     let [a, b, c, d] = long.to_be_bytes();
@@ -69,7 +68,7 @@ pub fn push_hex_long(text: &mut String, long: u32) -> Result<(), NoMemory>
 
 /// Appends the low bytes of a value, `bytes` of them, the highest first.
 pub(crate) fn push_hex(text: &mut String, bytes: u32, value: u64) -> Result<(), NoMemory>
-    ensures appended { OnOk result (Adds text.old text.new (hex_number bytes value)) }
+    ensures appended { OnOk result (AddsWords text.old text.new (hex_number bytes value)) }
     ensures front { OnErr result (KeepsFront text.old text.new) }
 {
     match bytes {
@@ -82,7 +81,7 @@ pub(crate) fn push_hex(text: &mut String, bytes: u32, value: u64) -> Result<(), 
 
 /// Appends bytes as `push_hex` does, one at a time.
 fn push_each_byte(text: &mut String, bytes: u32, value: u64) -> Result<(), NoMemory>
-    ensures appended { OnOk result (Adds text.old text.new (hex_number bytes value)) }
+    ensures appended { OnOk result (AddsWords text.old text.new (hex_number bytes value)) }
     ensures front { OnErr result (KeepsFront text.old text.new) }
 {
     let mut left = bytes;
@@ -95,7 +94,7 @@ fn push_each_byte(text: &mut String, bytes: u32, value: u64) -> Result<(), NoMem
 
 /// Appends an offset in a ROM, which is below 512 KiB, in five digits.
 pub(crate) fn push_hex_offset(text: &mut String, offset: u32) -> Result<(), NoMemory>
-    ensures appended { OnOk result (Adds text.old text.new (hex_offset offset)) }
+    ensures appended { OnOk result (AddsWords text.old text.new (hex_offset offset)) }
     ensures front { OnErr result (KeepsFront text.old text.new) }
 {
     text.push(digit_of(byte_of(u64::from(offset), 2)) as char)?;

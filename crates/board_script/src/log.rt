@@ -1,9 +1,8 @@
 //! The log of a history: a heading, and a line for each entry.
 
 ghost use Rattle.std.specs.Prelude.{◌≡◌, ◌+◌, ◌^◌, ◌<◌, ◌≤◌, ◌∷◌, ◌++◌, [], length, drop, OnOk, OnErr, IfOk, reverse, decimal, codes};
-ghost use Rattle.board_spec.specs.Text.{space, line_feed};
-ghost use Rattle.board_spec.specs.LogText.{line_text, log_text};
-ghost use Rattle.board_script.specs.Adds.{Adds, KeepsFront};
+ghost use Rattle.board_prelude.specs.Common.{space, line_feed, line_text, log_text};
+ghost use Rattle.board_script.specs.Adds.{AddsWords, KeepsFront};
 ghost use Rattle.board_script.specs.LinesFrom.{lines_from};
 
 use crate::line::Line;
@@ -31,7 +30,7 @@ fn write_number(place: &mut [u8; LONGEST_PLACE], end: usize, number: u64, mark: 
 
 /// Appends the number of a line, the processor and the number of its entry, with a space after each.
 fn push_place(text: &mut String, n: u64, actor: u8, seq: u32) -> Result<(), NoMemory>
-    ensures appended { OnOk result (Adds text.old text.new
+    ensures appended { OnOk result (AddsWords text.old text.new
         (decimal n ++ space ∷ decimal actor ++ codes "." ++ decimal seq ++ space ∷ [])) }
     ensures front { OnErr result (KeepsFront text.old text.new) }
 {
@@ -45,7 +44,7 @@ fn push_place(text: &mut String, n: u64, actor: u8, seq: u32) -> Result<(), NoMe
 /// Appends line `n`, without its line feed.
 #[tactic(auto, unfolding(board_spec::specs::LogText::line_text))]
 pub(crate) fn push_entry(text: &mut String, n: u64, entry: &Entry) -> Result<(), NoMemory>
-    ensures appended { OnOk result (Adds text.old text.new (line_text n entry.now)) }
+    ensures appended { OnOk result (AddsWords text.old text.new (line_text n entry.now)) }
     ensures front { OnErr result (KeepsFront text.old text.new) }
 {
     push_place(text, n, entry.actor, entry.seq)?;
@@ -57,7 +56,7 @@ pub(crate) fn push_entry(text: &mut String, n: u64, entry: &Entry) -> Result<(),
 
 /// Appends line `n` with its line feed. Lines count from 1.
 pub fn push_line(text: &mut String, n: u64, entry: &Entry) -> Result<(), NoMemory>
-    ensures appended { OnOk result (Adds text.old text.new
+    ensures appended { OnOk result (AddsWords text.old text.new
         (line_text n entry.now ++ line_feed ∷ [])) }
     ensures front { OnErr result (KeepsFront text.old text.new) }
 {
@@ -69,7 +68,7 @@ pub fn push_line(text: &mut String, n: u64, entry: &Entry) -> Result<(), NoMemor
 /// Appends the heading of a log of this version.
 #[tactic(auto, unfolding(board_spec::specs::LogText::lines_text))]
 pub fn push_heading(text: &mut String, version: u8) -> Result<(), NoMemory>
-    ensures appended { OnOk result (Adds text.old text.new (log_text version [])) }
+    ensures appended { OnOk result (AddsWords text.old text.new (log_text version [])) }
     ensures front { OnErr result (KeepsFront text.old text.new) }
 {
     push_numbered(text, "access log ", version)?;
@@ -80,7 +79,7 @@ pub fn push_heading(text: &mut String, version: u8) -> Result<(), NoMemory>
 /// Appends the lines of a part of a history, the oldest entry first, numbered from `first` on.
 pub fn push_lines(text: &mut String, first: u64, entries: &[Entry]) -> Result<(), NoMemory>
     requires fits { first + length entries.now ≤ 2 ^ 64 }
-    ensures appended { OnOk result (Adds text.old text.new (lines_from first entries.now)) }
+    ensures appended { OnOk result (AddsWords text.old text.new (lines_from first entries.now)) }
     ensures front { OnErr result (KeepsFront text.old text.new) }
 {
     for (index, entry) in entries.iter().enumerate() {
@@ -91,7 +90,7 @@ pub fn push_lines(text: &mut String, first: u64, entries: &[Entry]) -> Result<()
 
 /// Appends the log, of version 1 or 2, of a history whose oldest entry comes first.
 pub fn push_log(text: &mut String, version: u8, entries: &[Entry]) -> Result<(), NoMemory>
-    ensures appended { OnOk result (Adds text.old text.new (log_text version (reverse entries.now))) }
+    ensures appended { OnOk result (AddsWords text.old text.new (log_text version (reverse entries.now))) }
     ensures front { OnErr result (KeepsFront text.old text.new) }
 {
     push_heading(text, version)?;

@@ -1,9 +1,8 @@
 //! The address map as text: a line for each of its ranges.
 
 ghost use Rattle.std.specs.Prelude.{◌++◌, [], ◌∷◌, OnOk, OnErr};
-ghost use Rattle.board_spec.specs.Text.{line_feed};
-ghost use Rattle.board_spec.specs.MapText.{areas_text, range_text};
-ghost use Rattle.board_script.specs.Adds.{Adds, KeepsFront};
+ghost use Rattle.board_prelude.specs.Common.{line_feed, areas_text, range_text};
+ghost use Rattle.board_script.specs.Adds.{AddsWords, KeepsFront};
 
 use crate::reply::push_interval;
 use crate::target::push_area;
@@ -11,7 +10,7 @@ use board_base::{Area, NoMemory};
 
 /// Appends an area after a space.
 fn push_column(text: &mut String, area: Area) -> Result<(), NoMemory>
-    ensures appended { OnOk result (Adds text.old text.new (areas_text (area ∷ []))) }
+    ensures appended { OnOk result (AddsWords text.old text.new (areas_text (area ∷ []))) }
     ensures front { OnErr result (KeepsFront text.old text.new) }
 {
     text.push(' ')?;
@@ -20,7 +19,7 @@ fn push_column(text: &mut String, area: Area) -> Result<(), NoMemory>
 
 /// Appends areas, each after a space.
 fn push_areas(text: &mut String, areas: &[Area; 6]) -> Result<(), NoMemory>
-    ensures appended { OnOk result (Adds text.old text.new (areas_text areas.now)) }
+    ensures appended { OnOk result (AddsWords text.old text.new (areas_text areas.now)) }
     ensures front { OnErr result (KeepsFront text.old text.new) }
 {
     for area in areas {
@@ -32,7 +31,7 @@ fn push_areas(text: &mut String, areas: &[Area; 6]) -> Result<(), NoMemory>
 /// Appends the line of a range of the map, with its line feed: its first and last address, and what a fetch, a read and
 /// a write reach there outside SMM, and then in SMM.
 pub fn push_range(text: &mut String, lo: u32, hi: u32, areas: &[Area; 6]) -> Result<(), NoMemory>
-    ensures appended { OnOk result (Adds text.old text.new
+    ensures appended { OnOk result (AddsWords text.old text.new
         (range_text (record { lo = lo; hi = hi; areas = areas.now }) ++ line_feed ∷ [])) }
     ensures front { OnErr result (KeepsFront text.old text.new) }
 {

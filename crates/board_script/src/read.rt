@@ -1,11 +1,8 @@
 //! The log read back: its version and its entries, or the first line that is none of a log.
 
 ghost use Rattle.std.specs.Prelude.{◌≡◌, ◌≢◌, ◌<◌, ◌-◌, ◌^◌, length, reverse, IfOk, IfErr, IfSome, MatchOption, All};
-ghost use Rattle.board_spec.specs.declared.event.Entry.{Entry};
-ghost use Rattle.board_spec.specs.LogText.{line_text, lines_text};
-ghost use Rattle.script_spec.specs.ScriptText.{IsVersion};
-ghost use Rattle.script_spec.specs.WellFormed.{IsWellFormed};
-ghost use Rattle.script_spec.specs.Checks.{IsLogText, IsBadLog};
+ghost use Rattle.board_prelude.specs.Common.{Entry, line_text, lines_text};
+ghost use Rattle.script_spec.specs.Common.{IsVersion, IsWellFormed, IsLogText, IsBadLog};
 ghost use Rattle.board_script.specs.Reading.{NamesBad, version_of, HasEntry, HasNoEntry, IsBadAfter};
 
 use crate::fault::LogFault;

@@ -1,10 +1,8 @@
 //! What the board replies, as text.
 
 ghost use Rattle.std.specs.Prelude.{◌≡◌, ◌∷◌, ◌++◌, flat_map, OnOk, OnErr, Option};
-ghost use Rattle.board_spec.specs.Text.{space, hex_long};
-ghost use Rattle.board_spec.specs.WideParts.{parts_list};
-ghost use Rattle.board_spec.specs.LogText.{value_text, value_bytes, answered_text, look_text, reply_text};
-ghost use Rattle.board_script.specs.Adds.{Adds, KeepsFront};
+ghost use Rattle.board_prelude.specs.Common.{space, hex_long, parts_list, value_text, value_bytes, answered_text, look_text, reply_text};
+ghost use Rattle.board_script.specs.Adds.{AddsWords, KeepsFront};
 
 use crate::hex::{push_hex, push_hex_long};
 use crate::target::{push_area, push_denial, push_target};
@@ -26,7 +24,7 @@ pub(crate) fn reply_bytes(event: &Event) -> u32
 
 /// Appends the value of a reply, or `-` for none.
 fn push_value(text: &mut String, bytes: u32, value: Option<u64>) -> Result<(), NoMemory>
-    ensures appended { OnOk result (Adds text.old text.new (value_text bytes value)) }
+    ensures appended { OnOk result (AddsWords text.old text.new (value_text bytes value)) }
     ensures front { OnErr result (KeepsFront text.old text.new) }
 {
     match value {
@@ -37,7 +35,7 @@ fn push_value(text: &mut String, bytes: u32, value: Option<u64>) -> Result<(), N
 
 /// Appends the ends of an interval of addresses, like `000F0000 000FFFFF`.
 pub(crate) fn push_interval(text: &mut String, lo: u32, hi: u32) -> Result<(), NoMemory>
-    ensures appended { OnOk result (Adds text.old text.new (hex_long lo ++ space ∷ hex_long hi)) }
+    ensures appended { OnOk result (AddsWords text.old text.new (hex_long lo ++ space ∷ hex_long hi)) }
     ensures front { OnErr result (KeepsFront text.old text.new) }
 {
     push_hex_long(text, lo)?;
@@ -47,7 +45,7 @@ pub(crate) fn push_interval(text: &mut String, lo: u32, hi: u32) -> Result<(), N
 
 /// Appends what a look saw: how many map writes came before, the ends of the interval, and its area.
 fn push_look(text: &mut String, look: Look) -> Result<(), NoMemory>
-    ensures appended { OnOk result (Adds text.old text.new (look_text look)) }
+    ensures appended { OnOk result (AddsWords text.old text.new (look_text look)) }
     ensures front { OnErr result (KeepsFront text.old text.new) }
 {
     push_decimal(text, u64::from(look.version))?;
@@ -63,7 +61,7 @@ fn push_answered(
     target: &Target,
     denial: &Option<Denial>,
 ) -> Result<(), NoMemory>
-    ensures appended { OnOk result (Adds text.old text.new (answered_text target.now denial.now)) }
+    ensures appended { OnOk result (AddsWords text.old text.new (answered_text target.now denial.now)) }
     ensures front { OnErr result (KeepsFront text.old text.new) }
 {
     text.push(' ')?;
@@ -74,7 +72,7 @@ fn push_answered(
 
 /// Appends what answered each part of a wide access.
 fn push_each(text: &mut String, parts: &[Part]) -> Result<(), NoMemory>
-    ensures appended { OnOk result (Adds text.old text.new
+    ensures appended { OnOk result (AddsWords text.old text.new
         (flat_map (λ part. answered_text part.target part.denial) parts.now)) }
     ensures front { OnErr result (KeepsFront text.old text.new) }
 {
@@ -86,7 +84,7 @@ fn push_each(text: &mut String, parts: &[Part]) -> Result<(), NoMemory>
 
 /// Appends what answered the two to four parts of a wide access, in rising order.
 fn push_parts(text: &mut String, parts: &Parts) -> Result<(), NoMemory>
-    ensures appended { OnOk result (Adds text.old text.new
+    ensures appended { OnOk result (AddsWords text.old text.new
         (flat_map (λ part. answered_text part.target part.denial) (parts_list parts.now))) }
     ensures front { OnErr result (KeepsFront text.old text.new) }
 {
@@ -100,7 +98,7 @@ fn push_parts(text: &mut String, parts: &Parts) -> Result<(), NoMemory>
 /// Appends a reply. A value has two digits for each of `bytes` bytes.
 #[tactic(auto, unfolding(board_spec::specs::LogText::reply_text))]
 pub(crate) fn push_reply(text: &mut String, bytes: u32, reply: &Reply) -> Result<(), NoMemory>
-    ensures appended { OnOk result (Adds text.old text.new (reply_text bytes reply.now)) }
+    ensures appended { OnOk result (AddsWords text.old text.new (reply_text bytes reply.now)) }
     ensures front { OnErr result (KeepsFront text.old text.new) }
 {
     match reply {

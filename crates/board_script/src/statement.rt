@@ -1,9 +1,8 @@
 //! An event, as a script spells it.
 
 ghost use Rattle.std.specs.Prelude.{◌≡◌, [], ◌∷◌, ◌++◌, ◌/◌, ◌%◌, ◌<◌, OnOk, OnErr, codes, decimal};
-ghost use Rattle.board_spec.specs.Text.{space, hex_long};
-ghost use Rattle.board_spec.specs.LogText.{size_text, kind_text, written_text, smm_text, memory_text, access_text, wide_text, port_text, level_text, two_digits, moment_text, event_text};
-ghost use Rattle.board_script.specs.Adds.{Adds, KeepsFront};
+ghost use Rattle.board_prelude.specs.Common.{space, hex_long, size_text, kind_text, written_text, smm_text, memory_text, access_text, wide_text, port_text, level_text, two_digits, moment_text, event_text};
+ghost use Rattle.board_script.specs.Adds.{AddsWords, KeepsFront};
 
 use crate::hex::{push_hex, push_hex_long, push_hex_word};
 use crate::words::{push_decimal, push_numbered, push_two_digits, push_words};
@@ -36,7 +35,7 @@ fn kind_letter(kind: Kind) -> char
 
 /// Appends the value of an access that writes, after a space, and nothing for one that reads.
 fn push_written(text: &mut String, write: bool, bytes: u32, value: u64) -> Result<(), NoMemory>
-    ensures appended { OnOk result (Adds text.old text.new (written_text write bytes value)) }
+    ensures appended { OnOk result (AddsWords text.old text.new (written_text write bytes value)) }
     ensures front { OnErr result (KeepsFront text.old text.new) }
 {
     if !write {
@@ -48,7 +47,7 @@ fn push_written(text: &mut String, write: bool, bytes: u32, value: u64) -> Resul
 
 /// Appends the mark of system management mode.
 fn push_smm(text: &mut String, smm: bool) -> Result<(), NoMemory>
-    ensures appended { OnOk result (Adds text.old text.new (smm_text smm)) }
+    ensures appended { OnOk result (AddsWords text.old text.new (smm_text smm)) }
     ensures front { OnErr result (KeepsFront text.old text.new) }
 {
     if smm {
@@ -67,7 +66,7 @@ fn push_memory(
     value: u64,
     smm: bool,
 ) -> Result<(), NoMemory>
-    ensures appended { OnOk result (Adds text.old text.new (memory_text kind bytes addr value smm)) }
+    ensures appended { OnOk result (AddsWords text.old text.new (memory_text kind bytes addr value smm)) }
     ensures front { OnErr result (KeepsFront text.old text.new) }
 {
     text.push(kind_letter(kind))?;
@@ -79,7 +78,7 @@ fn push_memory(
 
 /// Appends an access to memory that one bus cycle moves.
 fn push_access(text: &mut String, access: &Access) -> Result<(), NoMemory>
-    ensures appended { OnOk result (Adds text.old text.new (access_text access.now)) }
+    ensures appended { OnOk result (AddsWords text.old text.new (access_text access.now)) }
     ensures front { OnErr result (KeepsFront text.old text.new) }
 {
     push_memory(
@@ -94,7 +93,7 @@ fn push_access(text: &mut String, access: &Access) -> Result<(), NoMemory>
 
 /// Appends an access to memory that takes several bus cycles.
 fn push_wide(text: &mut String, access: &WideAccess) -> Result<(), NoMemory>
-    ensures appended { OnOk result (Adds text.old text.new (wide_text access.now)) }
+    ensures appended { OnOk result (AddsWords text.old text.new (wide_text access.now)) }
     ensures front { OnErr result (KeepsFront text.old text.new) }
 {
     push_memory(
@@ -109,7 +108,7 @@ fn push_wide(text: &mut String, access: &WideAccess) -> Result<(), NoMemory>
 
 /// Appends an access to a port, like `out d 0CF8 80000058`.
 fn push_port(text: &mut String, access: &PortAccess) -> Result<(), NoMemory>
-    ensures appended { OnOk result (Adds text.old text.new (port_text access.now)) }
+    ensures appended { OnOk result (AddsWords text.old text.new (port_text access.now)) }
     ensures front { OnErr result (KeepsFront text.old text.new) }
 {
     let verb = if access.write { "out" } else { "in" };
@@ -122,7 +121,7 @@ fn push_port(text: &mut String, access: &PortAccess) -> Result<(), NoMemory>
 
 /// Appends a look at the address map, like `look r 000F0000`.
 fn push_look_at(text: &mut String, kind: Kind, addr: u32, smm: bool) -> Result<(), NoMemory>
-    ensures appended { OnOk result (Adds text.old text.new
+    ensures appended { OnOk result (AddsWords text.old text.new
         (codes "look " ++ kind_text kind ++ space ∷ hex_long addr ++ smm_text smm)) }
     ensures front { OnErr result (KeepsFront text.old text.new) }
 {
@@ -135,7 +134,7 @@ fn push_look_at(text: &mut String, kind: Kind, addr: u32, smm: bool) -> Result<(
 
 /// Appends a mark and two digits, like `-07`.
 fn push_part(text: &mut String, mark: &str, number: u8) -> Result<(), NoMemory>
-    ensures appended { OnOk result (Adds text.old text.new (mark.now ++ two_digits number)) }
+    ensures appended { OnOk result (AddsWords text.old text.new (mark.now ++ two_digits number)) }
     ensures front { OnErr result (KeepsFront text.old text.new) }
 {
     push_words(text, mark)?;
@@ -144,7 +143,7 @@ fn push_part(text: &mut String, mark: &str, number: u8) -> Result<(), NoMemory>
 
 /// Appends a day of the calendar, like `2024-02-29`.
 fn push_day(text: &mut String, moment: Moment) -> Result<(), NoMemory>
-    ensures appended { OnOk result (Adds text.old text.new
+    ensures appended { OnOk result (AddsWords text.old text.new
         (two_digits (moment.year / 100) ++ two_digits (moment.year % 100)
         ++ codes "-" ++ two_digits moment.month ++ codes "-" ++ two_digits moment.day)) }
     ensures front { OnErr result (KeepsFront text.old text.new) }
@@ -157,7 +156,7 @@ fn push_day(text: &mut String, moment: Moment) -> Result<(), NoMemory>
 
 /// Appends a time of day after its mark, like `T23:59:58`.
 fn push_time_of_day(text: &mut String, moment: Moment) -> Result<(), NoMemory>
-    ensures appended { OnOk result (Adds text.old text.new
+    ensures appended { OnOk result (AddsWords text.old text.new
         (codes "T" ++ two_digits moment.hour ++ codes ":" ++ two_digits moment.minute
         ++ codes ":" ++ two_digits moment.second)) }
     ensures front { OnErr result (KeepsFront text.old text.new) }
@@ -169,7 +168,7 @@ fn push_time_of_day(text: &mut String, moment: Moment) -> Result<(), NoMemory>
 
 /// Appends a moment, like `2024-02-29T23:59:58`.
 fn push_moment(text: &mut String, moment: Moment) -> Result<(), NoMemory>
-    ensures appended { OnOk result (Adds text.old text.new (moment_text moment)) }
+    ensures appended { OnOk result (AddsWords text.old text.new (moment_text moment)) }
     ensures front { OnErr result (KeepsFront text.old text.new) }
 {
     push_day(text, moment)?;
@@ -178,7 +177,7 @@ fn push_moment(text: &mut String, moment: Moment) -> Result<(), NoMemory>
 
 /// Appends words, the number of a line and the level that it takes.
 fn push_level(text: &mut String, words: &str, number: u8, on: bool) -> Result<(), NoMemory>
-    ensures appended { OnOk result (Adds text.old text.new
+    ensures appended { OnOk result (AddsWords text.old text.new
         (words.now ++ decimal number ++ space ∷ level_text on)) }
     ensures front { OnErr result (KeepsFront text.old text.new) }
 {
@@ -188,7 +187,7 @@ fn push_level(text: &mut String, words: &str, number: u8, on: bool) -> Result<()
 
 /// Appends words and a count.
 fn push_count(text: &mut String, words: &str, count: u32) -> Result<(), NoMemory>
-    ensures appended { OnOk result (Adds text.old text.new (words.now ++ decimal count)) }
+    ensures appended { OnOk result (AddsWords text.old text.new (words.now ++ decimal count)) }
     ensures front { OnErr result (KeepsFront text.old text.new) }
 {
     push_words(text, words)?;
@@ -197,7 +196,7 @@ fn push_count(text: &mut String, words: &str, count: u32) -> Result<(), NoMemory
 
 /// Appends the statement that gives the clock a moment.
 fn push_time(text: &mut String, moment: Moment) -> Result<(), NoMemory>
-    ensures appended { OnOk result (Adds text.old text.new
+    ensures appended { OnOk result (AddsWords text.old text.new
         (codes "moment " ++ moment_text moment)) }
     ensures front { OnErr result (KeepsFront text.old text.new) }
 {
@@ -208,7 +207,7 @@ fn push_time(text: &mut String, moment: Moment) -> Result<(), NoMemory>
 /// Appends an event as the statement that asks for it, without its processor.
 #[tactic(auto, unfolding(board_spec::specs::LogText::event_text))]
 pub(crate) fn push_event(text: &mut String, event: &Event) -> Result<(), NoMemory>
-    ensures appended { OnOk result (Adds text.old text.new (event_text event.now)) }
+    ensures appended { OnOk result (AddsWords text.old text.new (event_text event.now)) }
     ensures front { OnErr result (KeepsFront text.old text.new) }
 {
     match event {

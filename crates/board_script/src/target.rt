@@ -2,7 +2,7 @@
 
 ghost use Rattle.std.specs.Prelude.{OnOk, OnErr};
 ghost use Rattle.board_spec.specs.Text.{register_text, base_text, area_text, device_text, target_text, denial_text};
-ghost use Rattle.board_script.specs.Adds.{Adds, KeepsFront};
+ghost use Rattle.board_script.specs.Adds.{AddsWords, KeepsFront};
 
 use crate::hex::{digit_of, push_hex_byte, push_hex_long, push_hex_offset};
 use crate::words::{push_decimal, push_numbered, push_words};
@@ -10,7 +10,7 @@ use board_base::{Area, Denial, Dev, NoMemory, Reg, Target};
 
 /// Appends a register as its device, its function and its offset, like `00.0.72`.
 pub(crate) fn push_register(text: &mut String, reg: Reg) -> Result<(), NoMemory>
-    ensures appended { OnOk result (Adds text.old text.new (register_text reg)) }
+    ensures appended { OnOk result (AddsWords text.old text.new (register_text reg)) }
     ensures front { OnErr result (KeepsFront text.old text.new) }
 {
     push_hex_byte(text, reg.dev)?;
@@ -22,7 +22,7 @@ pub(crate) fn push_register(text: &mut String, reg: Reg) -> Result<(), NoMemory>
 
 /// Appends a card's device number and the number of one of its bases, like `card:2.7`.
 fn push_base(text: &mut String, dev: u8, base: u8) -> Result<(), NoMemory>
-    ensures appended { OnOk result (Adds text.old text.new (base_text dev base)) }
+    ensures appended { OnOk result (AddsWords text.old text.new (base_text dev base)) }
     ensures front { OnErr result (KeepsFront text.old text.new) }
 {
     push_numbered(text, "card:", dev)?;
@@ -31,7 +31,7 @@ fn push_base(text: &mut String, dev: u8, base: u8) -> Result<(), NoMemory>
 
 /// Appends an area of the memory map.
 pub(crate) fn push_area(text: &mut String, area: Area) -> Result<(), NoMemory>
-    ensures appended { OnOk result (Adds text.old text.new (area_text area)) }
+    ensures appended { OnOk result (AddsWords text.old text.new (area_text area)) }
     ensures front { OnErr result (KeepsFront text.old text.new) }
 {
     match area {
@@ -46,7 +46,7 @@ pub(crate) fn push_area(text: &mut String, area: Area) -> Result<(), NoMemory>
 
 /// Appends the name of a device.
 fn push_device(text: &mut String, dev: Dev) -> Result<(), NoMemory>
-    ensures appended { OnOk result (Adds text.old text.new (device_text dev)) }
+    ensures appended { OnOk result (AddsWords text.old text.new (device_text dev)) }
     ensures front { OnErr result (KeepsFront text.old text.new) }
 {
     match dev {
@@ -68,7 +68,7 @@ fn push_device(text: &mut String, dev: Dev) -> Result<(), NoMemory>
 
 /// Appends the ROM and an offset in it, like `rom:00012`.
 fn push_rom(text: &mut String, offset: u32) -> Result<(), NoMemory>
-    ensures appended { OnOk result (Adds text.old text.new (target_text (Target.Rom offset))) }
+    ensures appended { OnOk result (AddsWords text.old text.new (target_text (Target.Rom offset))) }
     ensures front { OnErr result (KeepsFront text.old text.new) }
 {
     push_words(text, "rom:")?;
@@ -77,7 +77,7 @@ fn push_rom(text: &mut String, offset: u32) -> Result<(), NoMemory>
 
 /// Appends a base of a card and an offset from it, like `card:2.7:00000010`.
 fn push_card(text: &mut String, dev: u8, base: u8, offset: u32) -> Result<(), NoMemory>
-    ensures appended { OnOk result (Adds text.old text.new
+    ensures appended { OnOk result (AddsWords text.old text.new
         (target_text (Target.Card dev base offset))) }
     ensures front { OnErr result (KeepsFront text.old text.new) }
 {
@@ -88,7 +88,7 @@ fn push_card(text: &mut String, dev: u8, base: u8, offset: u32) -> Result<(), No
 
 /// Appends a configuration register as a target, like `config:00.0.72`.
 fn push_config(text: &mut String, reg: Reg) -> Result<(), NoMemory>
-    ensures appended { OnOk result (Adds text.old text.new (target_text (Target.Config reg))) }
+    ensures appended { OnOk result (AddsWords text.old text.new (target_text (Target.Config reg))) }
     ensures front { OnErr result (KeepsFront text.old text.new) }
 {
     push_words(text, "config:")?;
@@ -97,7 +97,7 @@ fn push_config(text: &mut String, reg: Reg) -> Result<(), NoMemory>
 
 /// Appends what answered an access.
 pub(crate) fn push_target(text: &mut String, target: &Target) -> Result<(), NoMemory>
-    ensures appended { OnOk result (Adds text.old text.new (target_text target.now)) }
+    ensures appended { OnOk result (AddsWords text.old text.new (target_text target.now)) }
     ensures front { OnErr result (KeepsFront text.old text.new) }
 {
     match target {
@@ -114,7 +114,7 @@ pub(crate) fn push_target(text: &mut String, target: &Target) -> Result<(), NoMe
 
 /// Appends what denied an access, `-` where nothing did, and `none` where no register could help.
 pub fn push_denial(text: &mut String, denial: &Option<Denial>) -> Result<(), NoMemory>
-    ensures appended { OnOk result (Adds text.old text.new (denial_text denial.now)) }
+    ensures appended { OnOk result (AddsWords text.old text.new (denial_text denial.now)) }
     ensures front { OnErr result (KeepsFront text.old text.new) }
 {
     match denial {

@@ -2,7 +2,7 @@
 
 ghost use Rattle.std.specs.Prelude.{◌++◌, OnOk, OnErr, decimal, IsAscii};
 ghost use Rattle.board_spec.specs.LogText.{two_digits};
-ghost use Rattle.board_script.specs.Adds.{Adds, KeepsFront};
+ghost use Rattle.board_script.specs.Adds.{AddsWords, KeepsFront};
 
 use board_base::NoMemory;
 use itoa::Buffer;
@@ -11,7 +11,7 @@ use std::str;
 /// Appends words as they are.
 #[inline]
 pub fn push_words(text: &mut String, words: &str) -> Result<(), NoMemory>
-    ensures appended { OnOk result (Adds text.old text.new words.now) }
+    ensures appended { OnOk result (AddsWords text.old text.new words.now) }
     ensures front { OnErr result (KeepsFront text.old text.new) }
 {
     text.push_str(words)?;
@@ -22,7 +22,7 @@ pub fn push_words(text: &mut String, words: &str) -> Result<(), NoMemory>
 #[inline]
 pub(crate) fn push_ascii(text: &mut String, characters: &[u8]) -> Result<(), NoMemory>
     requires ascii { IsAscii characters.now }
-    ensures appended { OnOk result (Adds text.old text.new characters.now) }
+    ensures appended { OnOk result (AddsWords text.old text.new characters.now) }
     ensures front { OnErr result (KeepsFront text.old text.new) }
 {
     push_words(text, unsafe { str::from_utf8_unchecked(characters) })
@@ -32,7 +32,7 @@ pub(crate) fn push_ascii(text: &mut String, characters: &[u8]) -> Result<(), NoM
 #[inline]
 #[tactic(auto, using(std::proofs::lemmas::Fmt::decimal_digit))]
 pub fn push_decimal(text: &mut String, number: u64) -> Result<(), NoMemory>
-    ensures appended { OnOk result (Adds text.old text.new (decimal number)) }
+    ensures appended { OnOk result (AddsWords text.old text.new (decimal number)) }
     ensures front { OnErr result (KeepsFront text.old text.new) }
 {
     if number >= 10 {
@@ -45,7 +45,7 @@ pub fn push_decimal(text: &mut String, number: u64) -> Result<(), NoMemory>
 /// Appends a number in decimal, as `push_decimal` does without its short way for a single digit.
 #[inline(never)]
 fn push_digits(text: &mut String, number: u64) -> Result<(), NoMemory>
-    ensures appended { OnOk result (Adds text.old text.new (decimal number)) }
+    ensures appended { OnOk result (AddsWords text.old text.new (decimal number)) }
     ensures front { OnErr result (KeepsFront text.old text.new) }
 {
     push_words(text, Buffer::new().format(number))
@@ -53,7 +53,7 @@ fn push_digits(text: &mut String, number: u64) -> Result<(), NoMemory>
 
 /// Appends words and the number that follows them.
 pub(crate) fn push_numbered(text: &mut String, words: &str, number: u8) -> Result<(), NoMemory>
-    ensures appended { OnOk result (Adds text.old text.new (words.now ++ decimal number)) }
+    ensures appended { OnOk result (AddsWords text.old text.new (words.now ++ decimal number)) }
     ensures front { OnErr result (KeepsFront text.old text.new) }
 {
     push_words(text, words)?;
@@ -62,7 +62,7 @@ pub(crate) fn push_numbered(text: &mut String, words: &str, number: u8) -> Resul
 
 /// Appends the last two digits of a number.
 pub(crate) fn push_two_digits(text: &mut String, number: u16) -> Result<(), NoMemory>
-    ensures appended { OnOk result (Adds text.old text.new (two_digits number)) }
+    ensures appended { OnOk result (AddsWords text.old text.new (two_digits number)) }
     ensures front { OnErr result (KeepsFront text.old text.new) }
 {
     text.push((b'0' + (number / 10 % 10) as u8) as char)?;

@@ -1,28 +1,12 @@
 -- What an event leaves of each device, and the levels of lines whose drivers stayed.
-use Rattle.std.proofs.Common.{◌≡◌, ◌≢◌, ℕ, Bool, false, ◌||◌, ◌&&◌, List, [], ◌∷◌, Option, Some, None, refl, ◌∙◌, ap, inl, inr}
-use Rattle.std.specs.Prelude.{◌==◌, map, option_map}
-use Rattle.std.specs.List.{list_any}
-use Rattle.std.specs.Option.{option_map_or}
-use Rattle.std.proofs.lemmas.Bool.{cases_Bool}
-use Rattle.board_base.specs.declared.access.PortAccess.{PortAccess}
-use Rattle.board_base.specs.declared.target.Dev.{Dev}
-use Rattle.board_base.specs.declared.target.Dev.TheVariants.{Pic0, Pic1, Pit, System, Clock as ClockChip, Elcr, Ata, Wires}
-use Rattle.device_spec.specs.Elcr.{Triggers}
-use Rattle.device_spec.specs.Pit.{PitState, out_of, set_gate2}
-use Rattle.device_spec.specs.Clock.{Clock, interrupt_line}
-use Rattle.device_spec.specs.Ata.State.{Disk, is_interrupt}
-use Rattle.device_spec.specs.Pair.{Pair}
-use Rattle.device_spec.specs.Routing.{is_line_driven}
+use Rattle.std.proofs.Common.{◌≡◌, ◌≢◌, ℕ, Bool, false, ◌||◌, ◌&&◌, List, [], ◌∷◌, Option, Some, None, refl, ◌∙◌, ap, inl, inr, ◌==◌, map, option_map}
+use Rattle.board_spec.specs.Common.{list_any, option_map_or, PortAccess, Dev, Pic0, Pic1, Pit, System, Elcr, Ata, Wires, Triggers, PitState, out_of, set_gate2, Clock, Disk, is_interrupt, Pair, is_line_driven, Setup, is_free_line, device_reached, wire_set, line_set, wire_of, irq_of, triggers_accessed, triggers_after, SystemPort, system_accessed, system_after, timer_accessed, timer_after, clock_accessed, clock_after, clock_of, disk_accessed, disk_after, disk_with, disk_of, pirq_of_card, card_devices, pirq_level, pirqs, routes_of, pirq_levels, level_with, all_lines, levels_with, pair_accessed, pair_after, IsAnswer, NamesDevice, ActsOnPair}
+use Rattle.device_spec.proofs.Common.{cases_Bool, interrupt_line}
+use Rattle.board_base.specs.declared.target.Dev.TheVariants.{Clock as ClockChip}
 use Rattle.board_spec.specs.declared.event.Event.{Event}
 use Rattle.board_spec.specs.declared.event.Event.TheVariants.{Port, Ack, Pulses, Time, Wire, Line, BadSector}
 use Rattle.board_spec.specs.declared.event.Reply.{Reply}
 use Rattle.board_spec.specs.declared.event.Entry.{Entry}
-use Rattle.board_spec.specs.Setup.{Setup}
-use Rattle.board_spec.specs.InRange.{is_free_line}
-use Rattle.board_spec.specs.Devices.{device_reached, wire_set, line_set, wire_of, irq_of, triggers_accessed, triggers_after, SystemPort, system_accessed, system_after, timer_accessed, timer_after, clock_accessed, clock_after, clock_of, disk_accessed, disk_after, disk_with, disk_of}
-use Rattle.board_spec.specs.Interrupts.{pirq_of_card, card_devices, pirq_level, pirqs, routes_of, pirq_levels, level_with, all_lines, levels_with, pair_accessed, pair_after}
-use Rattle.board_spec.specs.Answer.{IsAnswer}
-use Rattle.board_spec.specs.DeviceLaws.{Names, ActsOnPair}
 
 -- ---- an access to another device
 
@@ -59,13 +43,13 @@ disk-elsewhere dev access disk apart = refl
 -- ---- an event whose reply names another device
 
 pub triggers-alone :
-    (event : Event) (reply : Reply) (triggers : Triggers) → ¬ Names reply Elcr →
+    (event : Event) (reply : Reply) (triggers : Triggers) → ¬ NamesDevice reply Elcr →
     triggers_after event reply triggers ≡ triggers
 triggers-alone (Port access) reply triggers apart = triggers-elsewhere (device_reached reply) access triggers apart
 triggers-alone event reply triggers apart = refl
 
 pub system-alone :
-    (event : Event) (reply : Reply) (port : SystemPort) → ¬ Names reply System →
+    (event : Event) (reply : Reply) (port : SystemPort) → ¬ NamesDevice reply System →
     system_after event reply port ≡ port
 system-alone (Port access) reply port apart = system-elsewhere (device_reached reply) access port apart
 system-alone event reply port apart = refl
@@ -73,7 +57,7 @@ system-alone event reply port apart = refl
 pub timer-alone :
     (setup : Setup) (before : List Entry) (event : Event) (reply : Reply) (timer : PitState) →
     IsAnswer setup before event reply →
-    ¬ Names reply Pit → ¬ Names reply System → timer_after event reply timer ≡ timer
+    ¬ NamesDevice reply Pit → ¬ NamesDevice reply System → timer_after event reply timer ≡ timer
 timer-alone setup before (Port access) reply timer answer apart no_gate =
     timer-elsewhere (device_reached reply) access timer apart no_gate
 timer-alone setup before (Pulses count) reply timer answer apart no_gate = absurd (apart (ap device_reached answer))
@@ -82,7 +66,7 @@ timer-alone setup before event reply timer answer apart no_gate = refl
 pub clock-alone :
     (setup : Setup) (before : List Entry) (event : Event) (reply : Reply) (clock : Clock) →
     IsAnswer setup before event reply →
-    ¬ Names reply ClockChip → clock_after event reply clock ≡ clock
+    ¬ NamesDevice reply ClockChip → clock_after event reply clock ≡ clock
 clock-alone setup before (Port access) reply clock answer apart =
     clock-elsewhere (device_reached reply) access clock apart
 clock-alone setup before (Time moment) reply clock answer apart = absurd (apart (ap device_reached answer))
@@ -91,7 +75,7 @@ clock-alone setup before event reply clock answer apart = refl
 pub disk-alone :
     (setup : Setup) (before : List Entry) (event : Event) (reply : Reply) (disk : Disk) →
     IsAnswer setup before event reply →
-    ¬ Names reply Ata → disk_after event reply disk ≡ disk
+    ¬ NamesDevice reply Ata → disk_after event reply disk ≡ disk
 disk-alone setup before (Port access) reply disk answer apart = disk-elsewhere (device_reached reply) access disk apart
 disk-alone setup before (BadSector sector) reply disk answer apart = absurd (apart (ap device_reached answer))
 disk-alone setup before event reply disk answer apart = refl
@@ -99,14 +83,14 @@ disk-alone setup before event reply disk answer apart = refl
 pub wire-alone :
     (setup : Setup) (before : List Entry) (event : Event) (reply : Reply) (dev : ℕ) →
     IsAnswer setup before event reply →
-    ¬ Names reply Wires → wire_set dev event ≡ None
+    ¬ NamesDevice reply Wires → wire_set dev event ≡ None
 wire-alone setup before (Wire at on) reply dev answer apart = absurd (apart (ap device_reached answer))
 wire-alone setup before event reply dev answer apart = refl
 
 pub line-alone :
     (setup : Setup) (before : List Entry) (event : Event) (reply : Reply) (line : ℕ) →
     IsAnswer setup before event reply →
-    ¬ Names reply Wires → line_set line event ≡ None
+    ¬ NamesDevice reply Wires → line_set line event ≡ None
 line-alone setup before (Line at on) reply line answer apart = absurd (apart (ap device_reached answer))
 line-alone setup before event reply line answer apart = refl
 
@@ -123,7 +107,7 @@ gate-elsewhere dev access timer apart = refl
 pub out-alone :
     (setup : Setup) (before : List Entry) (event : Event) (reply : Reply) (timer : PitState) →
     IsAnswer setup before event reply →
-    ¬ Names reply Pit → out_of 0 (timer_after event reply timer) ≡ out_of 0 timer
+    ¬ NamesDevice reply Pit → out_of 0 (timer_after event reply timer) ≡ out_of 0 timer
 out-alone setup before (Port access) reply timer answer apart = gate-elsewhere (device_reached reply) access timer apart
 out-alone setup before (Pulses count) reply timer answer apart = absurd (apart (ap device_reached answer))
 out-alone setup before event reply timer answer apart = refl

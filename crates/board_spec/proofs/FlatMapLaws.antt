@@ -1,13 +1,7 @@
 -- Two flat maps of the same registers are one list, and every address has one span.
 use Rattle.std.proofs.Common.{◌≡◌, ℕ, ◌+◌, ◌<◌, ◌≤◌, inl, inr, List, [], ◌∷◌, refl, sym, ◌∙◌, subst, arith}
-use Rattle.std.specs.List.{AllByRecursion}
-use Rattle.std.proofs.lemmas.List.Elements.{recursion_from_All}
-use Rattle.std.proofs.lemmas.Bool.{cases_lt}
-use Rattle.board_base.specs.declared.target.Area.{Area}
-use Rattle.board_spec.specs.Setup.{Setup}
-use Rattle.board_spec.specs.Decode.{Bytes}
-use Rattle.board_spec.specs.FlatMap.{address_count, six_areas, MapRange, Tiles, Differs, NeighboursDiffer, IsRight}
-use Rattle.board_spec.specs.Laws.{OneFlatMap}
+use Rattle.board_spec.specs.Common.{AllByRecursion, Area, Setup, Bytes, address_count, six_areas, MapRange, Tiles, Differs, NeighboursDiffer, IsRight, OneFlatMap}
+use Rattle.device_spec.proofs.Common.{recursion_from_All, cases_lt}
 
 tiles_below : (from : ℕ) (ranges : List MapRange) → Tiles from ranges → from ≤ address_count
 tiles_below from [] h = omega arith

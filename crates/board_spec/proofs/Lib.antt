@@ -16,3 +16,4 @@ pub mod DeviceAlone
 pub mod LineProofs
 pub mod PairProofs
 pub mod MemoryProofs
+pub mod Common

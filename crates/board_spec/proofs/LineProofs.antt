@@ -1,17 +1,7 @@
 -- The lines at power-on.
-use Rattle.std.proofs.Common.{◌≡◌, ℕ, false, List, [], Option, Some, None, refl}
-use Rattle.std.specs.Prelude.{option_map}
-use Rattle.std.specs.Option.{option_map_or}
-use Rattle.device_spec.specs.Routing.{is_line_driven}
-use Rattle.device_spec.specs.Pit.{reset as timer_at_reset, out_of, programmed}
+use Rattle.std.proofs.Common.{◌≡◌, ℕ, false, List, [], Option, Some, None, refl, option_map}
+use Rattle.board_spec.specs.Common.{option_map_or, is_line_driven, reset as timer_at_reset, out_of, programmed, is_interrupt, Setup, isa_bridge, reset_byte, byte_of, wire_of, irq_of, timer_of, clock_of, disk_with, disk_of, levels_with, FirstLevels}
 use Rattle.device_spec.specs.Clock.{power_on as clock_at_power_on}
-use Rattle.device_spec.specs.Ata.State.{is_interrupt}
-use Rattle.board_spec.specs.Setup.{Setup}
-use Rattle.board_spec.specs.RegisterTable.{isa_bridge, reset_byte}
-use Rattle.board_spec.specs.Registers.{byte_of}
-use Rattle.board_spec.specs.Devices.{wire_of, irq_of, timer_of, clock_of, disk_with, disk_of}
-use Rattle.board_spec.specs.Interrupts.{levels_with}
-use Rattle.board_spec.specs.DeviceLaws.{FirstLevels}
 
 -- a disk at power-on asks for no interrupt
 no_interrupt :

@@ -1,19 +1,9 @@
 -- The lock law holds of every legal history.
-use Rattle.std.proofs.Common.{◌≡◌, ◌≢◌, ℕ, ◌+◌, ◌-◌, ◌*◌, ◌/◌, ◌%◌, ◌<◌, inl, inr, max, Bool, true, false, not, ◌&&◌, List, [], ◌∷◌, ◌++◌, Option, Some, None, refl, sym, ◌∙◌, arith}
-use Rattle.std.specs.List.{AllByRecursion}
-use Rattle.std.proofs.Common.{ap}
-use Rattle.std.specs.Prelude.{zero, suc, ◌==◌, map, if◌then◌else◌, option_map, IfSome, is_some, unwrap_or}
+use Rattle.std.proofs.Common.{◌≡◌, ◌≢◌, ℕ, ◌+◌, ◌-◌, ◌*◌, ◌/◌, ◌%◌, ◌<◌, inl, inr, max, Bool, true, false, not, ◌&&◌, List, [], ◌∷◌, ◌++◌, Option, Some, None, refl, sym, ◌∙◌, arith, ap, zero, suc, ◌==◌, map, if◌then◌else◌, option_map, IfSome, is_some, unwrap_or}
+use Rattle.board_spec.specs.Common.{AllByRecursion, Kind, WideAccess, bytes_of, Denial, Reg, Area, Target, Smram, Setup, bit, is_bit, byte, reset_byte, host_bridge, is_hard_reset, config_address, config_register, config_store, register_change, covers, smram_after, byte_with, byte_of, is_config_port, Bytes, Window, first_of, line_where, card_area, row_of, hole_of, is_in, is_shadowed, is_rom_selected, memory_claim, reaches_smram, smram_answers, is_smram_range, area_under, area_of, fdhc, smram, xbcs, lies_in, upper_memory, target_at, memory_answer, part_answer, IsAnswer, IsNext, IsLegal, SetsLock, NoHardReset, IsOutsideSmm, HasSmram, NamesSmram, longest_at, parts_from, parts_of, parts_list, LegalKeepsLock}
 use Rattle.std.proofs.lemmas.Bool.{cases_eq, cases_Bool}
-use Rattle.board_base.specs.declared.access.Kind.{Kind}
 use Rattle.board_base.specs.declared.access.Access.{Access}
-use Rattle.board_base.specs.declared.access.WideAccess.{WideAccess}
-use Rattle.board_base.specs.Access.{bytes_of}
-use Rattle.board_base.specs.declared.target.Denial.{Denial}
-use Rattle.board_base.specs.declared.target.Reg.{Reg}
-use Rattle.board_base.specs.declared.target.Area.{Area}
 use Rattle.board_base.specs.declared.target.Area.TheVariants.{Dram as DramArea, Shadow as ShadowArea, Smram as SmramArea, Rom as RomArea, Card as CardArea, Abort as AbortArea}
-use Rattle.board_base.specs.declared.target.Target.{Target}
-use Rattle.board_base.specs.declared.target.Target.TheVariants.{Smram}
 use Rattle.board_spec.specs.declared.event.Event.{Event}
 use Rattle.board_spec.specs.declared.event.Event.TheVariants.{Memory, Wide, Port, Look as LookAt, Ack, Pulses, Time, Wire, Line, BadSector}
 use Rattle.board_spec.specs.declared.event.Reply.{Reply}
@@ -22,18 +12,6 @@ use Rattle.board_spec.specs.declared.event.Reply.TheVariants.{Bus, Parts, Saw}
 use Rattle.board_spec.specs.declared.event.Entry.{Entry}
 use Rattle.board_spec.specs.declared.map_change.MapChange.{MapChange}
 use Rattle.board_spec.specs.declared.map_change.MapChange.TheVariants.{Store, Reset}
-use Rattle.board_spec.specs.Setup.{Setup}
-use Rattle.board_spec.specs.Bits.{bit, is_bit, byte}
-use Rattle.board_spec.specs.RegisterTable.{reset_byte, host_bridge}
-use Rattle.board_spec.specs.Registers.{is_hard_reset, config_address, config_register, config_store, register_change, covers, smram_after, byte_with, byte_of, is_config_port}
-use Rattle.board_spec.specs.Decode.{Bytes, Window, first_of, line_where, card_area, row_of, hole_of, is_in, is_shadowed, is_rom_selected, memory_claim, reaches_smram, smram_answers, is_smram_range, area_under, area_of}
-use Rattle.board_spec.specs.RegisterNames.{fdhc, smram, xbcs}
-use Rattle.board_spec.specs.Ranges.{lies_in, upper_memory}
-use Rattle.board_spec.specs.Answer.{target_at, memory_answer, part_answer, IsAnswer}
-use Rattle.board_spec.specs.Legal.{IsNext, IsLegal}
-use Rattle.board_spec.specs.LockLaw.{SetsLock, NoHardReset, IsOutsideSmm, HasSmram, NamesSmram}
-use Rattle.board_spec.specs.WideParts.{longest_at, parts_from, parts_of, parts_list}
-use Rattle.board_spec.specs.Laws.{LegalKeepsLock}
 
 -- ---- the lock and what it keeps shut, in one byte
 

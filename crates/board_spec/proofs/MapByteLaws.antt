@@ -1,19 +1,7 @@
 -- Areas and denials depend on the map bytes alone.
-use Rattle.std.proofs.Common.{◌≡◌, ℕ, zero, suc, ◌+◌, ◌*◌, ◌<◌, ◌≤◌, inl, inr, Bool, true, false, cond, ◌&&◌, ◌||◌, not, List, [], ◌∷◌, ◌++◌, length, get_or, Option, Some, None, refl, ◌∙◌, ap, arith, lit<}
-use Rattle.std.specs.Prelude.{◌==◌, nat_le, nat_lt, is_some, find, flat_map, All, if◌then◌else◌}
-use Rattle.std.specs.List.{AllByRecursion, enumerate_from}
-use Rattle.std.proofs.lemmas.Bool.{cases_Bool, eq-eqb}
-use Rattle.std.proofs.lemmas.Bool.Decides.{nat_tests}
-use Rattle.std.proofs.lemmas.List.Elements.{All-nil, All-cons, All-append, recursion_from_All}
-use Rattle.board_base.specs.declared.access.Kind.{Kind}
-use Rattle.board_base.specs.declared.target.Reg.{Reg}
-use Rattle.board_spec.specs.Setup.{Base, MemoryBase, IoBase, FittedCard, Setup, IsCard, IsCardList, Rises, card_at, rom_base, vga_base, vga_bits}
-use Rattle.board_spec.specs.MapWrites.{has_rom}
-use Rattle.board_spec.specs.Bits.{is_bit, is_within}
-use Rattle.board_spec.specs.Decode.{Bytes, boundary, row_of, is_high_window, is_open, nibble, is_shadow_range, is_shadowed, Window, is_covered, base_value, memory_window, vga_window, memory_windows, rom_value, rom_window, rom_window_of, is_rom_on, unselected_windows, rom_unselected, pam_register, is_enabled_for, first_window, memory_claim, memory_shut, area_of, denial_of}
-use Rattle.board_spec.specs.RegisterNames.{bridge, pam, fdhc, smram, xbcs, card_register, card_command, base_register, expansion_rom, is_same}
-use Rattle.board_spec.specs.Ranges.{smram_range, system_bios, boundary_unit}
-use Rattle.board_spec.specs.Laws.{SameMapBytes, MapBytesDecide}
+use Rattle.std.proofs.Common.{◌≡◌, ℕ, zero, suc, ◌+◌, ◌*◌, ◌<◌, ◌≤◌, inl, inr, Bool, true, false, cond, ◌&&◌, ◌||◌, not, List, [], ◌∷◌, ◌++◌, length, get_or, Option, Some, None, refl, ◌∙◌, ap, arith, lit<, ◌==◌, nat_le, nat_lt, is_some, find, flat_map, All, if◌then◌else◌}
+use Rattle.board_spec.specs.Common.{AllByRecursion, enumerate_from, Kind, Reg, Base, MemoryBase, IoBase, FittedCard, Setup, IsCard, IsCardList, Rises, card_at, rom_base, vga_base, vga_bits, has_rom, is_bit, is_within, Bytes, boundary, row_of, is_high_window, is_open, nibble, is_shadow_range, is_shadowed, Window, is_covered, base_value, memory_window, vga_window, memory_windows, rom_value, rom_window, rom_window_of, is_rom_on, unselected_windows, rom_unselected, pam_register, is_enabled_for, first_window, memory_claim, memory_shut, area_of, denial_of, bridge, pam, fdhc, smram, xbcs, card_register, card_command, base_register, expansion_rom, is_same, smram_range, system_bios, boundary_unit, SameMapBytes, MapBytesDecide}
+use Rattle.device_spec.proofs.Common.{cases_Bool, eq-eqb, nat_tests, All-nil, All-cons, All-append, recursion_from_All}
 
 -- ---- searches in lists
 

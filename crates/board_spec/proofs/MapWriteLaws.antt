@@ -1,20 +1,9 @@
 -- The map registers depend on the map writes alone.
-use Rattle.std.proofs.Common.{◌≡◌, ℕ, ◌+◌, ◌-◌, ◌<◌, ◌≤◌, inl, inr, Bool, true, false, ◌||◌, List, [], ◌∷◌, ◌++◌, Option, Some, None, refl, sym, ◌∙◌, ap, subst, arith, take}
-use Rattle.std.specs.Prelude.{if◌then◌else◌, option_and_then}
-use Rattle.std.specs.List.{list_any}
-use Rattle.std.specs.Option.{option_to_list}
-use Rattle.std.proofs.lemmas.Bool.{cases_eq, cases_Bool}
-use Rattle.std.proofs.lemmas.Bool.Decides.{nat_tests}
-use Rattle.board_base.specs.declared.access.Width.{Width}
-use Rattle.board_base.specs.declared.access.Width.TheVariants.{One, Two, Four}
-use Rattle.board_base.specs.declared.target.Reg.{Reg}
-use Rattle.board_base.specs.Access.{bytes_of}
+use Rattle.std.proofs.Common.{◌≡◌, ℕ, ◌+◌, ◌-◌, ◌<◌, ◌≤◌, inl, inr, Bool, true, false, ◌||◌, List, [], ◌∷◌, ◌++◌, Option, Some, None, refl, sym, ◌∙◌, ap, subst, arith, take, if◌then◌else◌, option_and_then}
+use Rattle.board_spec.specs.Common.{list_any, option_to_list, Width, One, Two, Four, Reg, bytes_of, Setup, covers, changed_byte, byte_with, byte_of, register_change, is_map_byte, reg_after, touches_map, map_change_of, map_writes_of, registers_after, MapWritesDecide}
+use Rattle.device_spec.proofs.Common.{cases_eq, cases_Bool, nat_tests}
 use Rattle.board_spec.specs.declared.map_change.MapChange.{MapChange}
 use Rattle.board_spec.specs.declared.map_change.MapChange.TheVariants.{Store, Reset}
-use Rattle.board_spec.specs.Setup.{Setup}
-use Rattle.board_spec.specs.Registers.{covers, changed_byte, byte_with, byte_of, register_change}
-use Rattle.board_spec.specs.MapWrites.{is_map_byte, reg_after, touches_map, map_change_of, map_writes_of, registers_after}
-use Rattle.board_spec.specs.Laws.{MapWritesDecide}
 
 record Covered (at reg : Reg) (width : Width) : Type 0 where
   pub dev : at.dev ≡ reg.dev

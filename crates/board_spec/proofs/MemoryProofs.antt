@@ -1,23 +1,11 @@
 -- Memory accesses and looks leave the devices, the lines and the pair.
-use Rattle.std.proofs.Common.{◌≡◌, ℕ, Bool, false, List, ◌∷◌, refl, ◌∙◌, ap}
-use Rattle.std.specs.Prelude.{unwrap_or, Option, None}
+use Rattle.std.proofs.Common.{◌≡◌, ℕ, Bool, false, List, ◌∷◌, refl, ◌∙◌, ap, unwrap_or, Option, None}
 use Rattle.std.proofs.lemmas.Bool.{cond-false}
-use Rattle.device_spec.specs.PicLaws.{SameLevelsAgain}
-use Rattle.device_spec.specs.Elcr.{Triggers}
-use Rattle.device_spec.specs.Clock.{Clock}
-use Rattle.device_spec.specs.Ata.State.{Disk}
-use Rattle.device_spec.specs.Pit.{PitState, out_of}
-use Rattle.board_base.specs.declared.target.Reg.{Reg}
+use Rattle.board_spec.specs.Common.{SameLevelsAgain, Triggers, Clock, Disk, PitState, out_of, Reg, Setup, is_hard_reset, byte_with, register_change, byte_of, pirq, SystemPort, wire_set, wire_of, line_set, irq_of, triggers_of, triggers_after, system_of, system_after, timer_of, timer_after, clock_of, clock_after, disk_with, disk_after, pirqs, levels_of, ActsOnPair, IsOfMemory, MemoryLeavesDevices}
 use Rattle.board_spec.specs.declared.event.Event.{Event}
 use Rattle.board_spec.specs.declared.event.Event.TheVariants.{Port, Ack, Pulses, Time, Wire, Line, BadSector}
 use Rattle.board_spec.specs.declared.event.Reply.{Reply}
 use Rattle.board_spec.specs.declared.event.Entry.{Entry}
-use Rattle.board_spec.specs.Setup.{Setup}
-use Rattle.board_spec.specs.Registers.{is_hard_reset, byte_with, register_change, byte_of}
-use Rattle.board_spec.specs.RegisterNames.{pirq}
-use Rattle.board_spec.specs.Devices.{SystemPort, wire_set, wire_of, line_set, irq_of, triggers_of, triggers_after, system_of, system_after, timer_of, timer_after, clock_of, clock_after, disk_with, disk_after}
-use Rattle.board_spec.specs.Interrupts.{pirqs, levels_of}
-use Rattle.board_spec.specs.DeviceLaws.{ActsOnPair, IsOfMemory, MemoryLeavesDevices}
 use Rattle.board_spec.proofs.DeviceAlone.{map-same, levels-same}
 use Rattle.board_spec.proofs.PairProofs.{pair_stays}
 

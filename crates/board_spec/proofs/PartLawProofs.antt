@@ -1,18 +1,9 @@
 -- The parts of a wide access cover it, and their values joined are its value.
-use Rattle.std.proofs.Common.{◌≡◌, ℕ, zero, suc, ◌+◌, ◌-◌, ◌*◌, ◌/◌, ◌%◌, ◌^◌, ◌≤◌, ◌<◌, Bool, true, false, List, [], ◌∷◌, length, refl, sym, ◌∙◌, ap, subst, arith}
-use Rattle.std.specs.Prelude.{All}
-use Rattle.std.proofs.Math.Nat.{zero-div, zero-mod, div-div-eq-div-mul, mul_comm, div-one, mod-eq_of_lt}
+use Rattle.std.proofs.Common.{◌≡◌, ℕ, zero, suc, ◌+◌, ◌-◌, ◌*◌, ◌/◌, ◌%◌, ◌^◌, ◌≤◌, ◌<◌, Bool, true, false, List, [], ◌∷◌, length, refl, sym, ◌∙◌, ap, subst, arith, All}
+use Rattle.std.proofs.Math.Nat.{zero-div, zero-mod, div-div-eq-div-mul, mul_comm, div-one}
+use Rattle.device_spec.proofs.Common.{mod-eq_of_lt, pow-add, All-nil, All-cons}
 use Rattle.std.proofs.Math.Arith.{mod-mul}
-use Rattle.std.proofs.lemmas.Nat.{pow-add}
-use Rattle.std.proofs.lemmas.List.Elements.{All-nil, All-cons}
-use Rattle.board_base.specs.declared.access.Width.{Width}
-use Rattle.board_base.specs.declared.access.Width.TheVariants.{One, Two, Four}
-use Rattle.board_base.specs.declared.access.WideAccess.{WideAccess}
-use Rattle.board_base.specs.Access.{bytes_of}
-use Rattle.board_spec.specs.InRange.{FitsAccess, FitsBytes}
-use Rattle.board_spec.specs.WideParts.{part_at, joined}
-use Rattle.board_spec.specs.Stored.{is_write}
-use Rattle.board_spec.specs.PartLaws.{Covers, IsPart, AreParts, CutIntoParts}
+use Rattle.board_spec.specs.Common.{Width, One, Two, Four, WideAccess, bytes_of, FitsAccess, FitsBytes, part_at, joined, is_write, Covers, IsPart, AreParts, CutIntoParts}
 use Rattle.board_spec.proofs.PartLemmas.{made, total, Aligned, is_cut}
 
 -- ---- places

@@ -1,18 +1,7 @@
 -- Every event has one answer, and every list of statements one replay.
-use Rattle.std.proofs.Common.{◌≡◌, ℕ, ◌+◌, Bool, List, [], ◌∷◌, ◌++◌, refl, sym, ◌∙◌, ap, length, append_assoc}
-use Rattle.std.specs.Prelude.{◌≢◌, zero, suc, ◌-◌, ◌<◌, ◌≤◌, ◌==◌, Option, map, reverse}
-use Rattle.std.proofs.Common.{arith, inl, inr, ne_eqb}
-use Rattle.std.proofs.lemmas.Bool.{cases_Bool}
-use Rattle.std.proofs.lemmas.Bool.Decides.{nat_tests}
-use Rattle.std.proofs.lemmas.List.{length-map}
-use Rattle.std.specs.List.{AllByRecursion}
-use Rattle.std.proofs.lemmas.List.{append-nil, reverse-reverse, reverse-append, map-append}
-use Rattle.std.proofs.lemmas.List.Elements.{recursion_from_All}
-use Rattle.board_base.specs.declared.access.Width.{Width}
-use Rattle.board_base.specs.declared.access.Kind.{Kind}
-use Rattle.board_base.specs.declared.access.WideAccess.{WideAccess}
-use Rattle.board_base.specs.Access.{bytes_of}
-use Rattle.board_base.specs.declared.target.Area.{Area}
+use Rattle.std.proofs.Common.{◌≡◌, ℕ, ◌+◌, Bool, List, [], ◌∷◌, ◌++◌, refl, sym, ◌∙◌, ap, length, append_assoc, ◌≢◌, zero, suc, ◌-◌, ◌<◌, ◌≤◌, ◌==◌, Option, map, reverse, arith, inl, inr, ne_eqb}
+use Rattle.device_spec.proofs.Common.{cases_Bool, nat_tests, length-map, append-nil, reverse-reverse, reverse-append, map-append, recursion_from_All}
+use Rattle.board_spec.specs.Common.{AllByRecursion, Width, Kind, WideAccess, bytes_of, Area, Setup, byte_of, version_of, longest_at, parts_from, parts_of, parts_list, IsWideAccess, part_answer, wide_value, IsLookAnswer, IsAnswer, entries_by, IsNext, IsLegal, statement_of, statements_of, IsAddressed, SomeAnswer, OneAnswer, SomeReplay, OneReplay}
 use Rattle.board_spec.specs.declared.event.Event.{Event}
 use Rattle.board_spec.specs.declared.event.Event.TheVariants.{Memory, Wide, Port, Look as LookAt, Ack, Pulses, Time, Wire, Line, BadSector}
 use Rattle.board_spec.specs.declared.event.Look.{Look}
@@ -23,15 +12,6 @@ use Rattle.board_spec.specs.declared.event.Parts.TheVariants.{Two as TwoParts, T
 use Rattle.board_spec.specs.declared.event.Reply.TheVariants.{Bus, Parts as InParts, Saw}
 use Rattle.board_spec.specs.declared.event.Entry.{Entry}
 use Rattle.board_spec.specs.declared.event.Statement.{Statement}
-use Rattle.board_spec.specs.Setup.{Setup}
-use Rattle.board_spec.specs.Registers.{byte_of}
-use Rattle.board_spec.specs.MapWrites.{version_of}
-use Rattle.board_spec.specs.WideParts.{longest_at, parts_from, parts_of, parts_list}
-use Rattle.board_spec.specs.InRange.{IsWideAccess}
-use Rattle.board_spec.specs.Answer.{part_answer, wide_value, IsLookAnswer, IsAnswer}
-use Rattle.board_spec.specs.Legal.{entries_by, IsNext, IsLegal}
-use Rattle.board_spec.specs.Orders.{statement_of, statements_of}
-use Rattle.board_spec.specs.Laws.{IsAddressed, SomeAnswer, OneAnswer, SomeReplay, OneReplay}
 use Rattle.board_spec.proofs.SpanLaws.{some_span, one_span}
 
 -- ---- the parts of a wide access

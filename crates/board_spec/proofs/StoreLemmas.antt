@@ -1,17 +1,8 @@
 -- A store of one byte changes the register at its offset, and no other. A store of several is one of each byte.
-use Rattle.std.proofs.Common.{◌≡◌, ◌≢◌, ℕ, zero, suc, ◌+◌, ◌-◌, ◌<◌, Bool, false, true, ◌&&◌, ◌∙◌, refl, sym, ap, arith, inl, inr}
-use Rattle.std.specs.Prelude.{◌==◌, nat_le, nat_lt, if◌then◌else◌}
+use Rattle.std.proofs.Common.{◌≡◌, ◌≢◌, ℕ, zero, suc, ◌+◌, ◌-◌, ◌<◌, Bool, false, true, ◌&&◌, ◌∙◌, refl, sym, ap, arith, inl, inr, ◌==◌, nat_le, nat_lt, if◌then◌else◌}
 use Rattle.std.proofs.lemmas.Bool.{and_from, and_left, and_right, eq-eqb, le-leb, lt-leb, lt-ltb, le-ltb, cond-true, cond-false, cases_lt, cases_eq, cases_Bool}
-use Rattle.board_base.specs.declared.access.Width.TheVariants.{One}
-use Rattle.board_base.specs.declared.target.Reg.{Reg}
-use Rattle.board_base.specs.Access.{bytes_of}
+use Rattle.board_spec.specs.Common.{One, Reg, bytes_of, Setup, byte, merged, smram, is_same, writable_bits, covers, byte_after, changed_byte, after_stores, ByteByByte}
 use Rattle.board_spec.specs.declared.map_change.MapChange.TheVariants.{Store}
-use Rattle.board_spec.specs.Setup.{Setup}
-use Rattle.board_spec.specs.Bits.{byte, merged}
-use Rattle.board_spec.specs.RegisterNames.{smram, is_same}
-use Rattle.board_spec.specs.RegisterTable.{writable_bits}
-use Rattle.board_spec.specs.Registers.{covers, byte_after, changed_byte}
-use Rattle.board_spec.specs.WideStores.{after_stores, ByteByByte}
 
 covers-same : (reg : Reg) → covers reg One reg ≡ true
 covers-same reg =

@@ -1,8 +1,6 @@
 -- The bytes of a list after a value was written from a place on.
-use Rattle.std.proofs.Common.{◌≡◌, ℕ, zero, suc, ◌+◌, ◌-◌, ◌/◌, ◌%◌, ◌<◌, ◌≤◌, ◌&&◌, List, [], ◌∷◌, ◌++◌, length, get_or, take, drop, inl, inr, ◌∙◌, refl, sym, ap, arith, length-drop}
-use Rattle.std.specs.Prelude.{nat_le, nat_lt, if◌then◌else◌, slice_index}
-use Rattle.std.proofs.lemmas.Bool.{and_from, and_left, and_right, le-leb, lt-leb, lt-ltb, le-ltb, cond-true, cond-false, cases_lt}
-use Rattle.std.proofs.lemmas.List.{append-nil, get_or_append_left, get_or-append_right, get_or-take, get_or-drop, length-take-le, drop-drop, drop_all, take_rest}
+use Rattle.std.proofs.Common.{◌≡◌, ℕ, zero, suc, ◌+◌, ◌-◌, ◌/◌, ◌%◌, ◌<◌, ◌≤◌, ◌&&◌, List, [], ◌∷◌, ◌++◌, length, get_or, take, drop, inl, inr, ◌∙◌, refl, sym, ap, arith, length-drop, nat_le, nat_lt, if◌then◌else◌, slice_index}
+use Rattle.device_spec.proofs.Common.{and_from, and_left, and_right, le-leb, lt-leb, lt-ltb, le-ltb, cond-true, cond-false, cases_lt, append-nil, get_or_append_left, get_or-append_right, get_or-take, get_or-drop, length-take-le, drop-drop, drop_all, take_rest}
 use borrow.Rule.Slice.PartMut.{put_mid, post_of}
 use Rattle.board_spec.specs.Bits.{byte}
 

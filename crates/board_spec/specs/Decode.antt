@@ -1,14 +1,7 @@
 -- Where a memory access lands, and which register denied it: over the register bytes alone.
 use Rattle.std.specs.Prelude.{ℕ, ◌+◌, ◌-◌, ◌*◌, ◌/◌, ◌%◌, ◌^◌, ◌==◌, Bool, true, false, not, ◌&&◌, ◌||◌, nat_lt, nat_le, if◌then◌else◌, List, [], ◌∷◌, ◌++◌, Option, Some, None, is_some, unwrap_or, option_map, find, flat_map}
-use Rattle.std.specs.List.{enumerate_from}
-use Rattle.board_base.specs.declared.access.Kind.{Kind}
-use Rattle.board_base.specs.declared.access.Kind.TheVariants.{Fetch, Read, Write}
-use Rattle.board_base.specs.declared.target.Reg.{Reg}
-use Rattle.board_base.specs.declared.target.Area.{Area}
+use Rattle.device_spec.specs.Common.{enumerate_from, Kind, Fetch, Read, Write, Reg, Area, Denial, Register, NoRegister, Four}
 use Rattle.board_base.specs.declared.target.Area.TheVariants.{Dram, Shadow, Smram, Rom, Card, Abort}
-use Rattle.board_base.specs.declared.target.Denial.{Denial}
-use Rattle.board_base.specs.declared.target.Denial.TheVariants.{Register, NoRegister}
-use Rattle.board_base.specs.declared.access.Width.TheVariants.{Four}
 use Rattle.board_spec.specs.Setup.{Base, MemoryBase, IoBase, FittedCard, Setup, rom_base, vga_base, vga_bits}
 use Rattle.board_spec.specs.Bits.{is_bit, wide}
 use Rattle.board_spec.specs.RegisterNames.{bridge, pam, drb, fdhc, smram, xbcs, card_register, card_command, base_register, expansion_rom}

@@ -1,9 +1,6 @@
 -- What leaves the 8259A pair and the devices alone, and what the pair has seen.
 use Rattle.std.specs.Prelude.{ℕ, ◌≡◌, ◌⊎◌, false, List, [], ◌∷◌, Some}
-use Rattle.board_base.specs.declared.target.Reg.{Reg}
-use Rattle.board_base.specs.declared.target.Dev.{Dev}
-use Rattle.board_base.specs.declared.target.Dev.TheVariants.{Pic0, Pic1, Elcr}
-use Rattle.device_spec.specs.Pair.{levels_at_power_on, pair_after_lines}
+use Rattle.device_spec.specs.Common.{Reg, Dev, Pic0, Pic1, Elcr, levels_at_power_on, pair_after_lines}
 use Rattle.board_spec.specs.declared.event.Event.{Event}
 use Rattle.board_spec.specs.declared.event.Event.TheVariants.{Memory, Wide, Port, Look as LookAt, Ack, Pulses}
 use Rattle.board_spec.specs.declared.event.Reply.{Reply}
@@ -16,8 +13,8 @@ use Rattle.board_spec.specs.Interrupts.{levels_of, elcr_of, pair_of}
 -- ---- one device
 
 -- the reply names a device as what answered
-abbrev pub Names : Reply → Dev → Type 0
-Names reply dev = device_reached reply ≡ Some dev
+abbrev pub NamesDevice : Reply → Dev → Type 0
+NamesDevice reply dev = device_reached reply ≡ Some dev
 
 -- ---- the lines
 
@@ -37,7 +34,7 @@ PairHasSeen =
 abbrev pub ActsOnPair : Event → Reply → Type 0
 ActsOnPair Ack reply = Unit {0}
 ActsOnPair (Pulses count) reply = Unit {0}
-ActsOnPair (Port access) reply = Names reply Pic0 ⊎ Names reply Pic1 ⊎ Names reply Elcr
+ActsOnPair (Port access) reply = NamesDevice reply Pic0 ⊎ NamesDevice reply Pic1 ⊎ NamesDevice reply Elcr
 ActsOnPair _ reply = ⊥
 
 -- any other entry that moves no line leaves the pair

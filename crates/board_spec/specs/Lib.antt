@@ -27,3 +27,4 @@ pub mod Laws
 pub mod PartLaws
 pub mod OrderLaws
 pub mod DeviceLaws
+pub mod Common

@@ -2,9 +2,7 @@
 -- port of the 82371SB, and the SMRAM register of the 82441FX. Histories are lists of entries with the
 -- newest first, so each definition looks back from the last entry.
 use Rattle.std.specs.Prelude.{ℕ, ◌+◌, ◌-◌, ◌*◌, ◌/◌, ◌%◌, ◌==◌, max, Bool, false, not, ◌&&◌, nat_le, nat_lt, if◌then◌else◌, List, [], ◌∷◌, Option, Some, None, unwrap_or, option_map, bit_and}
-use Rattle.board_base.specs.declared.access.Width.{Width}
-use Rattle.board_base.specs.declared.target.Reg.{Reg}
-use Rattle.board_base.specs.Access.{bytes_of}
+use Rattle.device_spec.specs.Common.{Width, Reg, bytes_of}
 use Rattle.board_spec.specs.declared.event.Event.{Event}
 use Rattle.board_spec.specs.declared.event.Event.TheVariants.{Port}
 use Rattle.board_spec.specs.declared.event.Entry.{Entry}

@@ -1,22 +1,11 @@
 -- A wide access is cut part by part.
-use Rattle.std.proofs.Common.{◌≡◌, ℕ, zero, suc, ◌+◌, ◌-◌, ◌*◌, ◌/◌, ◌%◌, ◌^◌, ◌<◌, ◌≤◌, true, ◌&&◌, inl, inr, List, [], ◌∷◌, ◌++◌, bit_and, refl, sym, ◌∙◌, ap, arith}
-use Rattle.std.specs.Prelude.{◌==◌, nat_le, map}
-use Rattle.std.proofs.lemmas.Nat.{and_mask, pow-add}
-use Rattle.std.proofs.lemmas.Bool.{cases_Bool, cond-true, cond-false, eq-eqb, ne_eqb}
-use Rattle.std.proofs.lemmas.List.{append-nil, append_assoc, map-append}
-use Rattle.std.proofs.lemmas.Bool.Decides.{nat_tests}
-use Rattle.board_base.specs.declared.access.Width.{Width}
-use Rattle.board_base.specs.declared.access.Width.TheVariants.{One, Two, Four}
+use Rattle.std.proofs.Common.{◌≡◌, ℕ, zero, suc, ◌+◌, ◌-◌, ◌*◌, ◌/◌, ◌%◌, ◌^◌, ◌<◌, ◌≤◌, true, ◌&&◌, inl, inr, List, [], ◌∷◌, ◌++◌, bit_and, refl, sym, ◌∙◌, ap, arith, ◌==◌, nat_le, map}
+use Rattle.board_prelude.proofs.Common.{and_mask, pow-add, cases_Bool, cond-true, cond-false, eq-eqb, ne_eqb, append-nil, map-append, nat_tests, Width, One, WideAccess, bytes_of, largest_of, Part, Setup, Bytes, longest_at, part_at, parts_from, parts_of}
+use Rattle.std.proofs.lemmas.List.{append_assoc}
+use Rattle.board_base.specs.declared.access.Width.TheVariants.{Two, Four}
 use Rattle.board_base.specs.declared.access.Access.{Access}
-use Rattle.board_base.specs.declared.access.WideAccess.{WideAccess}
-use Rattle.board_base.specs.Access.{bytes_of, largest_of}
-use Rattle.board_spec.specs.declared.event.Part.{Part}
-use Rattle.board_spec.specs.Setup.{Setup}
-use Rattle.board_spec.specs.Decode.{Bytes}
-use Rattle.board_spec.specs.WideParts.{longest_at, part_at, parts_from, parts_of}
-use Rattle.board_stores.specs.Targets.{part_in}
+use Rattle.board_stores.specs.Common.{part_in, accesses, answers}
 use Rattle.board_stores.specs.declared.cut.Cycle.{Cycle}
-use Rattle.board_stores.specs.Cycles.{accesses, answers}
 
 -- ---- one part
 

@@ -1,18 +1,8 @@
 -- The values of cycles, one after the other, make the value of the whole.
-use Rattle.std.proofs.Common.{◌≡◌, ℕ, suc, ◌+◌, ◌*◌, ◌%◌, ◌^◌, ◌<◌, ◌≤◌, List, [], ◌∷◌, length, get_or, drop, bit_or, refl, sym, ◌∙◌, ap, arith}
-use Rattle.std.specs.Prelude.{map}
-use Rattle.std.proofs.Math.Seq.{drop-cons}
-use Rattle.std.proofs.Math.Nat.{mod-eq_of_lt, mul_comm, mul_assoc, add_assoc, mul-one, mul-add, mul-le-mul_left, pow-le-pow_right}
-use Rattle.std.proofs.lemmas.Nat.{pow-add}
+use Rattle.std.proofs.Common.{◌≡◌, ℕ, suc, ◌+◌, ◌*◌, ◌%◌, ◌^◌, ◌<◌, ◌≤◌, List, [], ◌∷◌, length, get_or, drop, bit_or, refl, sym, ◌∙◌, ap, arith, map}
+use Rattle.board_prelude.proofs.Common.{drop-cons, mod-eq_of_lt, pow-le-pow_right, pow-add, bytes_of, some_bytes, Entry, Part, Setup, joined, Covers, value_at, memory_target, part_answer}
+use Rattle.std.proofs.Math.Nat.{mul_comm, mul_assoc, add_assoc, mul-one, mul-add, mul-le-mul_left}
 use Rattle.std.specs.Int.Bits.{or_shifted_r}
-use Rattle.board_base.specs.Access.{bytes_of}
-use Rattle.board_base.proofs.WidthLemmas.{some_bytes}
-use Rattle.board_spec.specs.declared.event.Entry.{Entry}
-use Rattle.board_spec.specs.declared.event.Part.{Part}
-use Rattle.board_spec.specs.Setup.{Setup}
-use Rattle.board_spec.specs.WideParts.{joined}
-use Rattle.board_spec.specs.PartLaws.{Covers}
-use Rattle.board_spec.specs.Answer.{value_at, memory_target, part_answer}
 use Rattle.board_stores.specs.declared.cut.Cycle.{Cycle}
 use Rattle.board_stores.specs.Cycles.{accesses, answers}
 use Rattle.board_stores.proofs.CutLemmas.{byte_power}

@@ -1,16 +1,8 @@
 -- What an access to memory reaches.
 use Rattle.std.proofs.Common.{◌≡◌, ℕ, List, ◌∙◌, refl, map}
-use Rattle.board_base.specs.declared.access.Width.{Width}
-use Rattle.board_base.specs.declared.target.Target.{Target}
-use Rattle.board_base.specs.declared.target.Target.TheVariants.{Dram, Shadow, Smram, Rom, Card, Device, Config, Abort}
+use Rattle.board_prelude.proofs.Common.{Width, Target, Dram, Shadow, Smram, Rom, Card, Device, Config, Abort, Entry, Part, Setup, byte_of, part_answer}
 use Rattle.board_base.specs.declared.access.Access.{Access}
-use Rattle.board_spec.specs.declared.event.Entry.{Entry}
-use Rattle.board_spec.specs.declared.event.Part.{Part}
-use Rattle.board_spec.specs.Setup.{Setup}
-use Rattle.board_spec.specs.Registers.{byte_of}
-use Rattle.board_spec.specs.Answer.{part_answer}
-use Rattle.board_stores.specs.Targets.{part_in}
-use Rattle.board_stores.specs.Values.{value_in, value_with}
+use Rattle.board_stores.specs.Common.{part_in, value_in, value_with}
 use Rattle.board_stores.specs.declared.stores.Stores.{Stores}
 
 -- by the register bytes after a history it is the answer to the part

@@ -1,19 +1,9 @@
 -- The cycles of an access to ports cover it, and each is aligned and has its own bytes.
-use Rattle.std.proofs.Common.{◌≡◌, ℕ, zero, suc, ◌+◌, ◌-◌, ◌/◌, ◌%◌, ◌^◌, ◌≤◌, ◌<◌, Bool, true, false, ◌&&◌, List, [], ◌∷◌, map, inl, inr, refl, sym, ◌∙◌, ap, subst, arith}
-use Rattle.std.specs.Prelude.{◌==◌, nat_le, All}
+use Rattle.std.proofs.Common.{◌≡◌, ℕ, zero, suc, ◌+◌, ◌-◌, ◌/◌, ◌%◌, ◌^◌, ◌≤◌, ◌<◌, Bool, true, false, ◌&&◌, List, [], ◌∷◌, map, inl, inr, refl, sym, ◌∙◌, ap, subst, arith, ◌==◌, nat_le, All}
 use Rattle.std.proofs.Math.Nat.{zero-div, zero-mod}
-use Rattle.std.proofs.lemmas.Bool.{cases_Bool, cases_eq, cond-true, cond-false, eq-eqb, ne_eqb}
-use Rattle.std.proofs.lemmas.Bool.Decides.{nat_tests}
-use Rattle.std.proofs.lemmas.List.Elements.{All-nil, All-cons, All-head, All-tail}
-use Rattle.board_base.specs.declared.access.Width.{Width}
-use Rattle.board_base.specs.declared.access.Width.TheVariants.{One, Two, Four}
+use Rattle.board_prelude.proofs.Common.{cases_Bool, cases_eq, cond-true, cond-false, eq-eqb, ne_eqb, nat_tests, All-nil, All-cons, All-head, All-tail, Width, One, PortAccess, WideAccess, bytes_of, largest_of, some_bytes, FitsAccess, IsBusAccess, longest_at, part_at, parts_from, parts_of}
+use Rattle.board_base.specs.declared.access.Width.TheVariants.{Two, Four}
 use Rattle.board_base.specs.declared.access.Access.{Access}
-use Rattle.board_base.specs.declared.access.PortAccess.{PortAccess}
-use Rattle.board_base.specs.declared.access.WideAccess.{WideAccess}
-use Rattle.board_base.specs.Access.{bytes_of, largest_of}
-use Rattle.board_base.proofs.WidthLemmas.{some_bytes}
-use Rattle.board_spec.specs.InRange.{FitsAccess, IsBusAccess}
-use Rattle.board_spec.specs.WideParts.{longest_at, part_at, parts_from, parts_of}
 use Rattle.board_stores.specs.PortCycles.{as_wide, cycle_of, port_cycles, Follow, IsCycleOf, AreCyclesOf, AreBusCycles}
 use Rattle.board_stores.proofs.CutLemmas.{GoesOn, part_within, all_parts}
 

@@ -1,20 +1,11 @@
 -- Bytes that are put into the stores one after the other.
-use Rattle.std.proofs.Common.{◌≡◌, ℕ, suc, ◌+◌, ◌<◌, List, [], ◌∷◌, length, get_or, drop, Option, Some, None, refl, ◌∙◌, ap, arith}
-use Rattle.std.proofs.Math.Seq.{drop-cons}
-use Rattle.std.specs.Prelude.{unwrap_or}
-use Rattle.std.specs.Option.{option_or}
-use Rattle.board_base.specs.declared.access.Width.{Width}
-use Rattle.board_base.specs.declared.target.Target.{Target}
-use Rattle.board_base.specs.declared.target.Target.TheVariants.{Dram, Shadow, Smram, Rom, Card, Device, Config, Abort}
-use Rattle.board_spec.specs.Stored.{Cell, DramCell, CardCell, memory_put, parts_put}
+use Rattle.std.proofs.Common.{◌≡◌, ℕ, suc, ◌+◌, ◌<◌, List, [], ◌∷◌, length, get_or, drop, Option, Some, None, refl, ◌∙◌, ap, arith, unwrap_or}
+use Rattle.board_prelude.proofs.Common.{drop-cons, option_or, Width, Target, Dram, Shadow, Smram, Rom, Card, Device, Config, Abort, Cell, DramCell, CardCell, memory_put, parts_put}
 use Rattle.pci_bars.specs.Contents.{held, held_byte}
 use Rattle.dram_store.proofs.DramLemmas.{HasPut, put_then as dram_then}
 use Rattle.board_stores.specs.declared.stores.Stores.{Stores}
 use Rattle.board_stores.specs.declared.cut.Cycle.{Cycle}
-use Rattle.board_stores.specs.Targets.{IsHeld}
-use Rattle.board_stores.specs.Puts.{ArePut}
-use Rattle.board_stores.specs.Ready.{IsReady}
-use Rattle.board_stores.specs.Cycles.{accesses, answers}
+use Rattle.board_stores.specs.Common.{IsHeld, ArePut, IsReady, accesses, answers}
 
 pub put_nothing : (stores : Stores) → ArePut (λ cell. None) stores stores
 put_nothing stores = record {

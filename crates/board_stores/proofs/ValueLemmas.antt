@@ -1,25 +1,10 @@
 -- What is read of memory fits the width of the access: each byte that is stored is below 256.
-use Rattle.std.proofs.Common.{◌≡◌, ℕ, ◌+◌, ◌^◌, ◌<◌, Bool, true, false, List, [], ◌∷◌, Option, Some, None, inl, inr, arith}
-use Rattle.std.specs.Prelude.{◌==◌, nat_lt, if◌then◌else◌, unwrap_or, option_and_then, slice_index}
-use Rattle.std.specs.Option.{option_or}
-use Rattle.std.proofs.lemmas.Bool.{cases_Bool}
-use Rattle.board_base.specs.declared.access.Width.{Width}
-use Rattle.board_base.specs.declared.access.Width.TheVariants.{One, Two, Four}
+use Rattle.std.proofs.Common.{◌≡◌, ℕ, ◌+◌, ◌^◌, ◌<◌, Bool, true, false, List, [], ◌∷◌, Option, Some, None, inl, inr, arith, ◌==◌, nat_lt, if◌then◌else◌, unwrap_or, option_and_then, slice_index}
+use Rattle.board_prelude.proofs.Common.{option_or, cases_Bool, Width, One, Target, Dram, Shadow, Smram, Rom, Card, Device, Config, Abort, bytes_of, Event, Memory, Wide, Port, Ack, Pulses, Time, Wire, Line, BadSector, Reply, Bus, Saw, Part, Entry, Setup, installed, byte, wide, parts_of, parts_list, Cell, DramCell, CardCell, first_cell, distance, is_write, byte_put, memory_put, parts_put, entry_put, stored_of, dram_byte, card_byte, value_at}
+use Rattle.board_base.specs.declared.access.Width.TheVariants.{Two, Four}
 use Rattle.board_base.specs.declared.access.Access.{Access}
-use Rattle.board_base.specs.declared.target.Target.{Target}
-use Rattle.board_base.specs.declared.target.Target.TheVariants.{Dram, Shadow, Smram, Rom, Card, Device, Config, Abort}
-use Rattle.board_base.specs.Access.{bytes_of}
-use Rattle.board_spec.specs.declared.event.Event.{Event}
-use Rattle.board_spec.specs.declared.event.Event.TheVariants.{Memory, Wide, Port, Look, Ack, Pulses, Time, Wire, Line, BadSector}
-use Rattle.board_spec.specs.declared.event.Reply.{Reply}
-use Rattle.board_spec.specs.declared.event.Reply.TheVariants.{Bus, Parts, Saw}
-use Rattle.board_spec.specs.declared.event.Part.{Part}
-use Rattle.board_spec.specs.declared.event.Entry.{Entry}
-use Rattle.board_spec.specs.Setup.{Setup, installed}
-use Rattle.board_spec.specs.Bits.{byte, wide}
-use Rattle.board_spec.specs.WideParts.{parts_of, parts_list}
-use Rattle.board_spec.specs.Stored.{Cell, DramCell, CardCell, first_cell, distance, is_write, byte_put, memory_put, parts_put, entry_put, stored_of, dram_byte, card_byte}
-use Rattle.board_spec.specs.Answer.{value_at}
+use Rattle.board_spec.specs.declared.event.Event.TheVariants.{Look}
+use Rattle.board_spec.specs.declared.event.Reply.TheVariants.{Parts}
 use Rattle.board_stores.specs.Targets.{IsHeld}
 
 -- ---- what is put

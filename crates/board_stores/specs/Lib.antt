@@ -4,3 +4,4 @@ pub mod Ready
 pub mod Cycles
 pub mod Values
 pub mod PortCycles
+pub mod Common

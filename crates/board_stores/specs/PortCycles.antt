@@ -1,12 +1,7 @@
 -- An access to ports that need not be aligned is cut into aligned cycles, as one to memory is.
 use Rattle.std.specs.Prelude.{ℕ, ◌≡◌, ◌+◌, ◌-◌, ◌/◌, ◌%◌, ◌^◌, Bool, false, if◌then◌else◌, List, [], ◌∷◌, map, All}
-use Rattle.board_base.specs.declared.access.Kind.TheVariants.{Read, Write}
+use Rattle.board_prelude.specs.Common.{Read, Write, PortAccess, WideAccess, bytes_of, IsBusAccess, parts_of}
 use Rattle.board_base.specs.declared.access.Access.{Access}
-use Rattle.board_base.specs.declared.access.PortAccess.{PortAccess}
-use Rattle.board_base.specs.declared.access.WideAccess.{WideAccess}
-use Rattle.board_base.specs.Access.{bytes_of}
-use Rattle.board_spec.specs.InRange.{IsBusAccess}
-use Rattle.board_spec.specs.WideParts.{parts_of}
 use Rattle.board_stores.specs.declared.ports.PortCycle.{PortCycle}
 
 -- the access to memory that has as many bytes

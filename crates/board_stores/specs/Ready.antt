@@ -1,9 +1,7 @@
 -- Accesses to memory that can be done.
 use Rattle.std.specs.Prelude.{ℕ, List}
 use Rattle.board_base.specs.declared.access.Access.{Access}
-use Rattle.board_spec.specs.declared.event.Part.{Part}
-use Rattle.board_spec.specs.InRange.{IsBusAccess}
-use Rattle.board_spec.specs.Stored.{is_write}
+use Rattle.board_prelude.specs.Common.{Part, IsBusAccess, is_write}
 use Rattle.board_stores.specs.Targets.{IsHeld}
 
 -- an access that is aligned, whose value fits, and whose target has its bytes

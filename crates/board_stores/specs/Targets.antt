@@ -1,14 +1,7 @@
 -- What an access reaches, which targets bytes are stored behind, and when an access to them lies within.
 use Rattle.std.specs.Prelude.{ℕ, ◌+◌, ◌≤◌, List, length}
-use Rattle.board_base.specs.Access.{bytes_of}
+use Rattle.board_prelude.specs.Common.{bytes_of, Width, Target, Dram, Shadow, Smram, Rom, Card, Abort, Part, Setup, Bytes, area_of, denial_of, target_at}
 use Rattle.board_base.specs.declared.access.Access.{Access}
-use Rattle.board_base.specs.declared.access.Width.{Width}
-use Rattle.board_base.specs.declared.target.Target.{Target}
-use Rattle.board_base.specs.declared.target.Target.TheVariants.{Dram, Shadow, Smram, Rom, Card, Abort}
-use Rattle.board_spec.specs.declared.event.Part.{Part}
-use Rattle.board_spec.specs.Setup.{Setup}
-use Rattle.board_spec.specs.Decode.{Bytes, area_of, denial_of}
-use Rattle.board_spec.specs.Answer.{target_at}
 use Rattle.pci_bars.specs.Contents.{LiesIn}
 
 -- what an access to memory reaches by the register bytes, and what denies it

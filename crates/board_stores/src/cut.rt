@@ -1,9 +1,6 @@
 //! A wide access is cut into aligned bus cycles.
 ghost use Rattle.std.specs.Prelude.{◌≡◌, ◌≤◌, ◌<◌, ◌+◌, ◌-◌, List, length, map};
-ghost use Rattle.board_spec.specs.Setup.{Setup, IsRomSize};
-ghost use Rattle.board_spec.specs.InRange.{IsWideAccess};
-ghost use Rattle.board_spec.specs.WideParts.{longest_at, part_at, parts_of};
-ghost use Rattle.board_spec.specs.Decode.{Bytes};
+ghost use Rattle.board_prelude.specs.Common.{Setup, IsRomSize, IsWideAccess, longest_at, part_at, parts_of, Bytes};
 ghost use Rattle.pci_bars.specs.Cards.{AreFitted};
 ghost use Rattle.addr_decode.specs.MapRegs.{StandsFor, map_bytes};
 ghost use Rattle.board_stores.specs.Targets.{part_in};

@@ -1,11 +1,6 @@
 //! The cycles of a wide access, read or written one after the other.
 ghost use Rattle.std.specs.Prelude.{◌≡◌, ◌≤◌, ◌+◌, ℕ, true, List, map, All};
-ghost use Rattle.board_spec.specs.declared.event.Entry.{Entry};
-ghost use Rattle.board_spec.specs.Setup.{Setup};
-ghost use Rattle.board_spec.specs.Stored.{is_write, parts_put};
-ghost use Rattle.board_spec.specs.WideParts.{joined};
-ghost use Rattle.board_spec.specs.PartLaws.{Covers};
-ghost use Rattle.board_spec.specs.Answer.{value_at, memory_target, part_answer};
+ghost use Rattle.board_prelude.specs.Common.{Entry, Setup, is_write, parts_put, joined, Covers, value_at, memory_target, part_answer};
 ghost use Rattle.board_stores.specs.Puts.{HasStores, ArePut};
 ghost use Rattle.board_stores.specs.Cycles.{accesses, answers, AreReady};
 

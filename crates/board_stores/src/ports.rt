@@ -1,7 +1,6 @@
 //! An access to ports that need not be aligned, cut into aligned bus cycles.
 ghost use Rattle.std.specs.Prelude.{◌≡◌, ◌≤◌, ◌+◌, All};
-ghost use Rattle.board_base.specs.Access.{bytes_of};
-ghost use Rattle.board_spec.specs.InRange.{FitsAccess};
+ghost use Rattle.board_prelude.specs.Common.{bytes_of, FitsAccess};
 ghost use Rattle.board_stores.specs.PortCycles.{as_wide as wide_of, cycle_of as cycle_by, port_cycles as cycles_by, port_accesses, AreCyclesOf, AreBusCycles};
 
 use crate::cut::{MOST_CYCLES, part_at};

@@ -1,11 +1,6 @@
 //! The DRAM, and the contents of the cards.
 ghost use Rattle.std.specs.Prelude.{◌≡◌, ◌≤◌, ◌%◌, List, [], IfOk};
-ghost use Rattle.board_base.specs.Access.{bytes_of, largest_of};
-ghost use Rattle.board_spec.specs.declared.event.Entry.{Entry};
-ghost use Rattle.board_spec.specs.Limits.{most_mib};
-ghost use Rattle.board_spec.specs.Setup.{Setup, IsCardList};
-ghost use Rattle.board_spec.specs.Stored.{byte_put};
-ghost use Rattle.board_spec.specs.Answer.{value_at};
+ghost use Rattle.board_prelude.specs.Common.{bytes_of, largest_of, Entry, most_mib, Setup, IsCardList, byte_put, value_at};
 ghost use Rattle.board_stores.specs.Targets.{IsStored};
 ghost use Rattle.board_stores.specs.Values.{value_in};
 ghost use Rattle.board_stores.specs.Puts.{HasStores, ArePut};

@@ -1,8 +1,7 @@
 //! The log of a small script, each byte of which is changed in each way: the check names the line that differs.
 
 ghost use Rattle.std.specs.Prelude.{◌≡◌, ◌<◌, length, IfOk};
-ghost use Rattle.board_spec.specs.Setup.{Setup as Fitting};
-ghost use Rattle.board_spec.specs.InRange.{IsInRange};
+ghost use Rattle.board_prelude.specs.Common.{Setup as Fitting, IsInRange};
 ghost use Rattle.board_core.specs.Steps.{AreInRange};
 
 use crate::plain::plain_board;

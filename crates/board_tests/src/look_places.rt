@@ -1,7 +1,7 @@
 //! The places of looks, by hand.
 
 ghost use Rattle.std.specs.Prelude.{◌<◌, ◌≤◌, length, All, IsTrue, OnOk};
-ghost use Rattle.run_order.specs.Over.{IsWithin};
+ghost use Rattle.run_order.specs.Over.{IsPlacedBelow};
 
 use crate::plain::PAM0;
 use arrayvec::ArrayVec;
@@ -140,7 +140,7 @@ fn are_placed(
     from: usize,
     placed: &[(u8, u32, Option<u32>)],
 ) -> bool
-    requires within { All (IsWithin (length bus.now)) entries.now }
+    requires within { All (IsPlacedBelow (length bus.now)) entries.now }
 {
     if entries.len() != from.saturating_add(placed.len()) {
         return false;

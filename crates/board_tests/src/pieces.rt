@@ -1,7 +1,7 @@
 //! Logs that are written in pieces.
 
 ghost use Rattle.std.specs.Prelude.{All, IfOk, length};
-ghost use Rattle.run_order.specs.Over.{IsWithin};
+ghost use Rattle.run_order.specs.Over.{IsPlacedBelow};
 
 use board_base::{Access, Area, Kind, Target, Width};
 use board_script::push_log;
@@ -55,7 +55,7 @@ const LOOK: RunEntry = RunEntry::Look {
 
 /// The order of a run in which a look comes after each entry of the bus.
 fn with_looks<R: Abort>(rt: &R, alloc: Global, bus: &[Entry]) -> Result<Vec<RunEntry>, Fail>
-    ensures within { IfOk result (λ order. All (IsWithin (length bus.now)) order.items) }
+    ensures within { IfOk result (λ order. All (IsPlacedBelow (length bus.now)) order.items) }
 {
     let mut order = Vec::new(alloc);
     for (place, entry) in bus.iter().enumerate() {

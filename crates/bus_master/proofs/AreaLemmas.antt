@@ -1,19 +1,9 @@
 -- Words that lie in one area.
-use Rattle.std.proofs.Common.{◌≡◌, ℕ, zero, suc, ◌+◌, ◌-◌, ◌*◌, ◌/◌, ◌%◌, ◌<◌, ◌≤◌, max, true, false, ◌&&◌, List, ◌++◌, Option, Some, None, inl, inr, refl, sym, ap, ◌∙◌, arith, lit<}
-use Rattle.std.specs.Prelude.{IfSome, IsNone, unwrap_or, flat_map, slice_index_or}
-use Rattle.std.proofs.lemmas.Bool.{cases_Bool, cases_lt}
-use Rattle.std.proofs.lemmas.Bool.Decides.{nat_tests}
+use Rattle.std.proofs.Common.{◌≡◌, ℕ, zero, suc, ◌+◌, ◌-◌, ◌*◌, ◌/◌, ◌%◌, ◌<◌, ◌≤◌, max, true, false, ◌&&◌, List, ◌++◌, Option, Some, None, inl, inr, refl, sym, ap, ◌∙◌, arith, lit<, IfSome, IsNone, unwrap_or, flat_map, slice_index_or}
+use Rattle.board_prelude.proofs.Common.{cases_Bool, cases_lt, nat_tests, Kind, Fetch, Read, Write, Area, Setup, smram_range, Bytes, area_of, is_smram_range, address_count, six_areas}
 use Rattle.std.proofs.lemmas.List.Elements.{Contains-append_left}
-use Rattle.board_base.specs.declared.access.Kind.{Kind}
-use Rattle.board_base.specs.declared.access.Kind.TheVariants.{Fetch, Read, Write}
-use Rattle.board_base.specs.declared.target.Area.{Area}
 use Rattle.board_base.specs.declared.target.Area.TheVariants.{Abort}
-use Rattle.board_spec.specs.Setup.{Setup}
-use Rattle.board_spec.specs.Ranges.{smram_range}
-use Rattle.board_spec.specs.Decode.{Bytes, area_of, is_smram_range}
-use Rattle.board_spec.specs.FlatMap.{address_count, six_areas}
-use Rattle.addr_decode.specs.Edges.{IsEdge, IsNextEdge, NoEdgeAbove, SameAreas, card_edges, edges_of, fixed_edges, row_edges}
-use Rattle.addr_decode.specs.Master.{master_area}
+use Rattle.addr_decode.specs.Common.{IsEdge, IsNextEdge, NoEdgeAbove, SameAreas, card_edges, edges_of, fixed_edges, row_edges, master_area}
 use Rattle.bus_master.specs.Transfer.{address_after}
 
 -- outside the range of SMRAM a bus master reaches what a processor does

@@ -1,21 +1,8 @@
 -- What a bus master reaches has the bytes that it asks for.
-use Rattle.std.proofs.Common.{◌≡◌, ◌≢◌, ℕ, ◌+◌, ◌%◌, ◌≤◌, ◌<◌, false, not, ◌&&◌, List, length, sym, refl, arith, Bool, ap}
-use Rattle.std.specs.Prelude.{is_some, unwrap_or}
-use Rattle.board_base.specs.Access.{bytes_of}
-use Rattle.board_base.specs.declared.access.Kind.{Kind}
-use Rattle.board_base.specs.declared.access.Width.{Width}
-use Rattle.board_base.specs.declared.access.Width.TheVariants.{One, Two, Four}
-use Rattle.board_base.specs.declared.target.Area.{Area}
+use Rattle.std.proofs.Common.{◌≡◌, ◌≢◌, ℕ, ◌+◌, ◌%◌, ◌≤◌, ◌<◌, false, not, ◌&&◌, List, length, sym, refl, arith, Bool, ap, is_some, unwrap_or}
+use Rattle.board_prelude.proofs.Common.{bytes_of, Kind, Width, One, Area, Target, Dram, Shadow, Smram, Rom, Card, Device, Config, Abort, Setup, wide, lies_in, upper_memory, fdhc, xbcs, Bytes, row_of, hole_of, is_in, is_smram_range, is_shadowed, is_rom_selected, memory_claim, target_at, Cell, DramCell, CardCell}
+use Rattle.board_base.specs.declared.access.Width.TheVariants.{Two, Four}
 use Rattle.board_base.specs.declared.target.Area.TheVariants.{Dram as DramArea, Shadow as ShadowArea, Smram as SmramArea, Rom as RomArea, Card as CardArea, Abort as AbortArea}
-use Rattle.board_base.specs.declared.target.Target.{Target}
-use Rattle.board_base.specs.declared.target.Target.TheVariants.{Dram, Shadow, Smram, Rom, Card, Device, Config, Abort}
-use Rattle.board_spec.specs.Setup.{Setup}
-use Rattle.board_spec.specs.Bits.{wide}
-use Rattle.board_spec.specs.Ranges.{lies_in, upper_memory}
-use Rattle.board_spec.specs.RegisterNames.{fdhc, xbcs}
-use Rattle.board_spec.specs.Decode.{Bytes, row_of, hole_of, is_in, is_smram_range, is_shadowed, is_rom_selected, memory_claim}
-use Rattle.board_spec.specs.Answer.{target_at}
-use Rattle.board_spec.specs.Stored.{Cell, DramCell, CardCell}
 use Rattle.pci_bars.specs.Cards.{AreFitted}
 use Rattle.pci_bars.proofs.WindowLemmas.{IsSized, memory_claim_sized, lies_in_window}
 use Rattle.addr_decode.specs.Master.{master_area}
@@ -23,10 +10,8 @@ use Rattle.addr_decode.proofs.CardLemmas.{fitted_list}
 use Rattle.board_stores.specs.Targets.{IsHeld}
 use Rattle.board_chipset.specs.declared.store.Store.{Store}
 use Rattle.board_chipset.proofs.HeldTargets.{IsClaim, claim_line, rom_within, lies_in_base}
-use Rattle.bus_master.specs.Cells.{Cells, value_in}
-use Rattle.bus_master.specs.Transfer.{master_target, master_value}
+use Rattle.bus_master.specs.Common.{Cells, value_in, master_target, master_value, IsCell, IsReached}
 use Rattle.board_chipset.specs.Stores.{IsStoreOf}
-use Rattle.bus_master.specs.Stores.{IsCell, IsReached}
 
 claimed : (setup : Setup) (bytes : Bytes) (addr : ℕ) (kind : Kind) (dev base : ℕ) →
     master_area setup bytes addr kind ≡ CardArea dev base → IsClaim (memory_claim setup bytes addr) dev base

@@ -1,35 +1,15 @@
 -- A bus master never reaches SMRAM: it changes no byte of it, and does the same whatever stands there.
-use Rattle.std.proofs.Common.{◌≡◌, ℕ, zero, suc, ◌+◌, ◌-◌, ◌*◌, ◌%◌, ◌<◌, ◌≤◌, ◌⊎◌, inl, inr, Bool, true, false, not, ◌&&◌, [], ◌∷◌, Option, Some, None, is_some, refl, sym, ap, subst, ◌∙◌, arith}
-use Rattle.std.specs.Prelude.{◌==◌, unwrap_or, option_map, if◌then◌else◌}
-use Rattle.std.proofs.lemmas.Bool.{cases_Bool, cases_lt, and_left, and_right, le-ltb, lt-leb, le-leb}
-use Rattle.std.proofs.lemmas.Bool.Decides.{nat_tests}
-use Rattle.board_base.specs.declared.access.Width.{Width}
-use Rattle.board_base.specs.declared.access.Width.TheVariants.{One, Two, Four}
-use Rattle.board_base.specs.declared.access.Kind.{Kind}
-use Rattle.board_base.specs.declared.access.Kind.TheVariants.{Read, Write}
-use Rattle.board_base.specs.declared.target.Area.{Area}
+use Rattle.std.proofs.Common.{◌≡◌, ℕ, zero, suc, ◌+◌, ◌-◌, ◌*◌, ◌%◌, ◌<◌, ◌≤◌, ◌⊎◌, inl, inr, Bool, true, false, not, ◌&&◌, [], ◌∷◌, Option, Some, None, is_some, refl, sym, ap, subst, ◌∙◌, arith, ◌==◌, unwrap_or, option_map, if◌then◌else◌}
+use Rattle.board_prelude.proofs.Common.{cases_Bool, cases_lt, and_left, and_right, le-ltb, lt-leb, le-leb, nat_tests, Width, One, Kind, Read, Write, Area, Target, Smram, Card, bytes_of, Medium, word_at, Setup, rom_base, wide, lies_in, smram_range, shadow_range, upper_memory, fdhc, xbcs, Bytes, Window, first_of, line_where, card_area, row_of, hole_of, is_in, is_shadowed, is_rom_selected, memory_claim, is_smram_range, target_at, Cell, DramCell, CardCell, byte_put}
+use Rattle.board_base.specs.declared.access.Width.TheVariants.{Two, Four}
 use Rattle.board_base.specs.declared.target.Area.TheVariants.{Dram as DramArea, Shadow as ShadowArea, Smram as SmramArea, Rom as RomArea, Card as CardArea, Abort as AbortArea}
-use Rattle.board_base.specs.declared.target.Target.{Target}
-use Rattle.board_base.specs.declared.target.Target.TheVariants.{Smram, Card}
-use Rattle.board_base.specs.Access.{bytes_of}
-use Rattle.device_spec.specs.Ata.State.{Medium, word_at}
 use Rattle.ata_pio.specs.Words.{is_readable}
-use Rattle.board_spec.specs.Setup.{Setup, rom_base}
-use Rattle.board_spec.specs.Bits.{wide}
-use Rattle.board_spec.specs.Ranges.{lies_in, smram_range, shadow_range, upper_memory}
-use Rattle.board_spec.specs.RegisterNames.{fdhc, xbcs}
-use Rattle.board_spec.specs.Decode.{Bytes, Window, first_of, line_where, card_area, row_of, hole_of, is_in, is_shadowed, is_rom_selected, memory_claim, is_smram_range}
-use Rattle.board_spec.specs.Answer.{target_at}
-use Rattle.board_spec.specs.Stored.{Cell, DramCell, CardCell, byte_put}
 use Rattle.addr_decode.specs.Master.{master_area}
 use Rattle.bus_master.specs.declared.done.End.{End}
 use Rattle.bus_master.specs.declared.done.End.TheVariants.{Shorter, Sector}
 use Rattle.bus_master.specs.declared.direction.Direction.{Direction}
 use Rattle.bus_master.specs.declared.direction.Direction.TheVariants.{ToMemory, ToDisk}
-use Rattle.bus_master.specs.Cells.{Cells, is_kept, put_in, value_in}
-use Rattle.bus_master.specs.Registers.{Master}
-use Rattle.bus_master.specs.Transfer.{Moving, Place, ◌and_then◌, address_after, answered, begun, descriptor_read, direction_of, ended, even, is_used_up, kind_of, master_target, master_value, next_moved, next_sector, next_word, ready_for, region_found, region_taken, sector_tested, table_tested, transferred, word_moved, words_moved}
-use Rattle.bus_master.specs.Stores.{is_in_smram}
+use Rattle.bus_master.specs.Common.{Cells, is_kept, put_in, value_in, Master, Moving, TransferPlace, ◌and_then◌, address_after, answered, begun, descriptor_read, direction_of, ended, even, is_used_up, kind_of, master_target, master_value, next_moved, next_sector, next_word, ready_for, region_found, region_taken, sector_tested, table_tested, transferred, word_moved, words_moved, is_in_smram}
 use Rattle.bus_master.proofs.HeldTargets.{wide_same}
 
 -- ---- what answers there is no DRAM

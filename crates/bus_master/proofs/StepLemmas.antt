@@ -1,26 +1,14 @@
 -- The steps of a transfer under way, one after another.
-use Rattle.std.proofs.Common.{◌≡◌, ◌≢◌, ℕ, zero, suc, ◌+◌, ◌*◌, ◌%◌, ◌/◌, ◌≤◌, ◌<◌, Bool, true, false, not, ◌&&◌, List, Option, Some, None, is_some, inl, inr, refl, sym, ap, subst, ◌∙◌, arith}
-use Rattle.std.specs.Prelude.{◌==◌, if◌then◌else◌}
-use Rattle.std.proofs.lemmas.Bool.{cases_Bool, ne_eqb, and_right}
-use Rattle.std.proofs.lemmas.Bool.Decides.{nat_tests}
-use Rattle.board_base.specs.declared.access.Kind.{Kind}
-use Rattle.board_base.specs.declared.access.Width.{Width}
-use Rattle.board_base.specs.declared.target.Area.{Area}
-use Rattle.device_spec.specs.Ata.State.{Medium, sectors_of}
+use Rattle.std.proofs.Common.{◌≡◌, ◌≢◌, ℕ, zero, suc, ◌+◌, ◌*◌, ◌%◌, ◌/◌, ◌≤◌, ◌<◌, Bool, true, false, not, ◌&&◌, List, Option, Some, None, is_some, inl, inr, refl, sym, ap, subst, ◌∙◌, arith, ◌==◌, if◌then◌else◌}
+use Rattle.board_prelude.proofs.Common.{cases_Bool, ne_eqb, and_right, nat_tests, Kind, Width, Area, Medium, sectors_of, Setup, Bytes, Cell}
 use Rattle.ata_pio.specs.Words.{is_readable}
-use Rattle.board_spec.specs.Setup.{Setup}
-use Rattle.board_spec.specs.Decode.{Bytes}
-use Rattle.board_spec.specs.Stored.{Cell}
 use Rattle.addr_decode.specs.Master.{master_area, master_denial}
 use Rattle.board_chipset.specs.declared.store.Store.{Store}
 use Rattle.bus_master.specs.declared.done.End.{End}
 use Rattle.bus_master.specs.declared.done.End.TheVariants.{Shorter, Sector}
 use Rattle.bus_master.specs.declared.direction.Direction.{Direction}
-use Rattle.bus_master.specs.Cells.{Cells}
-use Rattle.bus_master.specs.Transfer.{Moving, Place, ◌and_then◌, abort_in, address_after, answered, descriptor_read, ended, is_used_up, kind_of, master_value, medium_of, next_moved, next_sector, next_word, ready_for, region_found, region_taken, sector_tested, table_tested, with_region, word_moved, words_moved}
+use Rattle.bus_master.specs.Common.{Cells, Moving, TransferPlace, ◌and_then◌, abort_in, address_after, answered, descriptor_read, ended, is_used_up, kind_of, master_value, medium_of, next_moved, next_sector, next_word, ready_for, region_found, region_taken, sector_tested, table_tested, with_region, word_moved, words_moved, cells_of, IsCell, StandsAt}
 use Rattle.board_chipset.specs.Stores.{IsStoreOf}
-use Rattle.bus_master.specs.Stores.{cells_of, IsCell}
-use Rattle.bus_master.specs.UnderWay.{StandsAt}
 use Rattle.bus_master.proofs.HeldTargets.{master_value_same}
 
 -- ---- a step is done unless the transfer has ended
@@ -32,32 +20,32 @@ skipped moving step end is = rw (sym is) refl
 pub taken : (moving : Moving) (step : Moving → Moving) → None ≡ moving.end → (moving and_then step) ≡ step moving
 taken moving step is = rw (sym is) refl
 
-module _ {store : Store} {place : Place} where
+module _ {store : Store} {place : TransferPlace} where
   pub stands_skipped : {moving : Moving} {end : End} (step : Moving → Moving) → StandsAt moving store place (Some end) →
       StandsAt (moving and_then step) store place (Some end)
   stands_skipped {moving} {end} step is =
       subst (λ (m : Moving). StandsAt m store place (Some end)) (sym (skipped moving step end is.ends)) is
 
-pub stands_taken : {store new : Store} {place after : Place} {end : Option End} {moving : Moving}
+pub stands_taken : {store new : Store} {place after : TransferPlace} {end : Option End} {moving : Moving}
     (step : Moving → Moving) →
     StandsAt moving store place None → StandsAt (step moving) new after end →
     StandsAt (moving and_then step) new after end
 stands_taken {store} {new} {place} {after} {end} {moving} step is next =
     subst (λ (m : Moving). StandsAt m new after end) (sym (taken moving step is.ends)) next
 
-module _ {store : Store} {place : Place} {moving : Moving} (is : StandsAt moving store place None) where
+module _ {store : Store} {place : TransferPlace} {moving : Moving} (is : StandsAt moving store place None) where
   -- ---- the table and the sector
 
   pub table_over : (is_used_up place && place.is_last) ≡ true →
       StandsAt (table_tested moving) store place (Some Shorter)
   unfolding table_tested
   table_over over =
-      rw (sym (ap (λ (p : Place). is_used_up p && p.is_last) is.come) ∙ over)
+      rw (sym (ap (λ (p : TransferPlace). is_used_up p && p.is_last) is.come) ∙ over)
       (record { cells = is.cells; medium = is.medium; come = is.come; ends = refl })
 
   pub table_goes_on : (is_used_up place && place.is_last) ≡ false → StandsAt (table_tested moving) store place None
   unfolding table_tested
-  table_goes_on over = rw (sym (ap (λ (p : Place). is_used_up p && p.is_last) is.come) ∙ over) is
+  table_goes_on over = rw (sym (ap (λ (p : TransferPlace). is_used_up p && p.is_last) is.come) ∙ over) is
 
   tested : (lba : ℕ) →
       (next_word moving.place == 0 && not (is_readable moving.medium (next_sector lba moving.place)))
@@ -104,7 +92,7 @@ module _ {store : Store} {place : Place} {moving : Moving} (is : StandsAt moving
 
   -- ---- a descriptor
 
-  pub region_stands : {setup : Setup} {bytes : Bytes} (after : Place) (base count : ℕ) → IsStoreOf setup bytes store →
+  pub region_stands : {setup : Setup} {bytes : Bytes} (after : TransferPlace) (base count : ℕ) → IsStoreOf setup bytes store →
       place.table % 4 ≡ 0 → after ≡ with_region base count place →
       base ≡ master_value setup bytes (cells_of store) place.table Width.Four →
       count ≡ master_value setup bytes (cells_of store) (address_after place.table 4) Width.Four →
@@ -122,7 +110,7 @@ module _ {store : Store} {place : Place} {moving : Moving} (is : StandsAt moving
         ends = is.ends;
       }
 
-module _ {store : Store} {place : Place} {moving : Moving} (is : StandsAt moving store place None) where
+module _ {store : Store} {place : TransferPlace} {moving : Moving} (is : StandsAt moving store place None) where
   pub region_in_use : (setup : Setup) (bytes : Bytes) → place.left ≢ 0 →
       StandsAt (region_found setup bytes moving) store place None
   unfolding region_found
@@ -130,7 +118,7 @@ module _ {store : Store} {place : Place} {moving : Moving} (is : StandsAt moving
       let used : is_used_up moving.place ≡ false = sym (ap is_used_up is.come) ∙ ne_eqb place.left 0 left in
       rw used is
 
-  pub region_read : (setup : Setup) (bytes : Bytes) (after : Place) (end : Option End) → place.left ≡ 0 →
+  pub region_read : (setup : Setup) (bytes : Bytes) (after : TransferPlace) (end : Option End) → place.left ≡ 0 →
       StandsAt (descriptor_read setup bytes moving) store after end →
       StandsAt (region_found setup bytes moving) store after end
   unfolding region_found
@@ -140,7 +128,7 @@ module _ {store : Store} {place : Place} {moving : Moving} (is : StandsAt moving
 
 -- ---- the two halves of a descriptor
 
-module _ {store : Store} {place : Place} {moving : Moving} (is : StandsAt moving store place None) (setup : Setup)
+module _ {store : Store} {place : TransferPlace} {moving : Moving} (is : StandsAt moving store place None) (setup : Setup)
     (bytes : Bytes) where
   abbrev abort_at : (addr : ℕ) → Option End
   abort_at addr = abort_in (master_area setup bytes addr Kind.Read) addr (master_denial setup bytes addr Kind.Read)
@@ -149,7 +137,7 @@ module _ {store : Store} {place : Place} {moving : Moving} (is : StandsAt moving
       StandsAt (answered setup bytes Kind.Read moving.place.table moving) store place end
   first_half end ends =
       answered_stands is setup bytes Kind.Read moving.place.table end
-      (ends ∙ ap (λ (p : Place). abort_at p.table) is.come)
+      (ends ∙ ap (λ (p : TransferPlace). abort_at p.table) is.come)
 
   pub descriptor_fails_first : (end : End) → Some end ≡ abort_at place.table →
       StandsAt (descriptor_read setup bytes moving) store place (Some end)
@@ -165,14 +153,14 @@ module _ {store : Store} {place : Place} {moving : Moving} (is : StandsAt moving
   second_half end first ends =
       stands_taken (answered setup bytes Kind.Read (address_after moving.place.table 4)) (first_half None first)
       (answered_stands (first_half None first) setup bytes Kind.Read (address_after moving.place.table 4) end
-      (ends ∙ ap (λ (p : Place). abort_at (address_after p.table 4)) is.come))
+      (ends ∙ ap (λ (p : TransferPlace). abort_at (address_after p.table 4)) is.come))
 
   pub descriptor_fails_second : (end : End) → None ≡ abort_at place.table → Some end
       ≡ abort_at (address_after place.table 4) →
       StandsAt (descriptor_read setup bytes moving) store place (Some end)
   descriptor_fails_second end first ends = stands_skipped (region_taken setup bytes) (second_half (Some end) first ends)
 
-  pub descriptor_stands : (after : Place) (base count : ℕ) → IsStoreOf setup bytes store →
+  pub descriptor_stands : (after : TransferPlace) (base count : ℕ) → IsStoreOf setup bytes store →
       place.table % 4 ≡ 0 → after ≡ with_region base count place →
       None ≡ abort_at place.table → None ≡ abort_at (address_after place.table 4) →
       base ≡ master_value setup bytes (cells_of store) place.table Width.Four →
@@ -185,7 +173,7 @@ module _ {store : Store} {place : Place} {moving : Moving} (is : StandsAt moving
 
 -- ---- the three tests one after another
 
-module _ {store : Store} {place : Place} {moving : Moving} (is : StandsAt moving store place None) (setup : Setup)
+module _ {store : Store} {place : TransferPlace} {moving : Moving} (is : StandsAt moving store place None) (setup : Setup)
     (bytes : Bytes) (lba : ℕ) where
   pub ready_over : (is_used_up place && place.is_last) ≡ true →
       StandsAt (ready_for setup bytes lba moving) store place (Some Shorter)
@@ -209,7 +197,7 @@ module _ {store : Store} {place : Place} {moving : Moving} (is : StandsAt moving
 
     pub ready_at_region :
         ((tested : Moving) → StandsAt tested store place None → StandsAt (sector_tested lba tested) store place None) →
-        (after : Place) (end : Option End) →
+        (after : TransferPlace) (end : Option End) →
         ((tested : Moving) → StandsAt tested store place None →
         StandsAt (region_found setup bytes tested) store after end) →
         StandsAt (ready_for setup bytes lba moving) store after end

@@ -1,38 +1,32 @@
 -- A whole transfer.
 use Rattle.std.proofs.Common.{◌≡◌, ℕ, ◌*◌, ◌%◌, true, false, Option, None, refl, sym, ap, subst, ◌∙◌}
-use Rattle.device_spec.specs.Ata.State.{Disk, Medium}
-use Rattle.board_spec.specs.Setup.{Setup}
-use Rattle.board_spec.specs.Decode.{Bytes, is_smram_range}
-use Rattle.board_spec.specs.Stored.{Cell, DramCell, CardCell}
+use Rattle.board_prelude.proofs.Common.{Disk, Medium, Setup, Bytes, is_smram_range, Cell, DramCell, CardCell}
 use Rattle.dram_store.specs.Dram.{dram_at}
 use Rattle.board_chipset.specs.declared.store.Store.{Store}
 use Rattle.bus_master.specs.declared.done.End.{End}
 use Rattle.bus_master.specs.declared.done.Done.{Done}
 use Rattle.bus_master.specs.declared.direction.Direction.{Direction}
-use Rattle.bus_master.specs.Registers.{Master}
-use Rattle.bus_master.specs.Transfer.{Moving, Place, begun, direction_of, done_of, end_of, first_place, medium_of, transferred, with_medium, words_moved}
+use Rattle.bus_master.specs.Common.{Master, Moving, TransferPlace, begun, direction_of, done_of, end_of, first_place, medium_of, transferred, with_medium, words_moved, cells_of, DiffersInSmramAlone, HasSameShape, is_in_smram, transfer_of, EndedSo, StandsAt}
 use Rattle.board_chipset.specs.Stores.{IsStoreOf}
-use Rattle.bus_master.specs.Stores.{cells_of, DiffersInSmramAlone, HasSameShape, is_in_smram, transfer_of}
-use Rattle.bus_master.specs.UnderWay.{IsDone, StandsAt}
 use Rattle.bus_master.proofs.SmramLemmas.{AreAlike, hides_smram}
 
 module _ (setup : Setup) (bytes : Bytes) (master : Master) (lba count : ℕ) (direction : Direction) {store new : Store}
-    {place after : Place} {end : End} where
+    {place after : TransferPlace} {end : End} where
   pub all_moved : place ≡ first_place master.table → direction ≡ direction_of master →
       ((moving : Moving) → StandsAt moving store place None →
-      IsDone (words_moved setup bytes direction lba (256 * count) moving) new after end) →
-      IsDone (transfer_of setup bytes master lba count store) new after end
+      EndedSo (words_moved setup bytes direction lba (256 * count) moving) new after end) →
+      EndedSo (transfer_of setup bytes master lba count store) new after end
   unfolding transferred
   all_moved first way moved =
       rw way at
       (moved (begun (cells_of store) (medium_of store.disk) master.table)
       (record { cells = λ cell there. refl; medium = refl; come = first; ends = refl }))
 
-pub done_is : {moving : Moving} {new : Store} {after : Place} {end : End} {moved : ℕ} → IsDone moving new after end →
+pub done_is : {moving : Moving} {new : Store} {after : TransferPlace} {end : End} {moved : ℕ} → EndedSo moving new after end →
     moved ≡ after.moved → record { end = end; moved = moved } ≡ done_of moving
 done_is is moved = rw (moved, is.ends, is.come) refl
 
-pub disk_is : {moving : Moving} {store new : Store} {after : Place} {end : End} → IsDone moving new after end →
+pub disk_is : {moving : Moving} {store new : Store} {after : TransferPlace} {end : End} → EndedSo moving new after end →
     HasSameShape store new → new.disk ≡ with_medium store.disk moving.medium
 disk_is {moving} {store} {new} is shape =
     shape.drive ∙ ap (λ (medium : Medium). with_medium store.disk medium) is.medium

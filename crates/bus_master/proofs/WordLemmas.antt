@@ -1,29 +1,15 @@
 -- Words one after another.
-use Rattle.std.proofs.Common.{◌≡◌, ◌≢◌, ℕ, zero, suc, ◌+◌, ◌-◌, ◌*◌, ◌/◌, ◌%◌, ◌≤◌, ◌<◌, Bool, true, false, not, ◌&&◌, List, Option, Some, None, is_some, unwrap_or, inl, inr, refl, sym, ap, subst, ◌∙◌, arith, lit≤}
-use Rattle.std.specs.Prelude.{◌==◌, if◌then◌else◌}
-use Rattle.std.proofs.lemmas.Bool.{cases_Bool, ne_eqb, and_left}
-use Rattle.board_base.specs.declared.access.Kind.{Kind}
-use Rattle.board_base.specs.declared.access.Width.{Width}
-use Rattle.board_base.specs.declared.target.Area.{Area}
+use Rattle.std.proofs.Common.{◌≡◌, ◌≢◌, ℕ, zero, suc, ◌+◌, ◌-◌, ◌*◌, ◌/◌, ◌%◌, ◌≤◌, ◌<◌, Bool, true, false, not, ◌&&◌, List, Option, Some, None, is_some, unwrap_or, inl, inr, refl, sym, ap, subst, ◌∙◌, arith, lit≤, ◌==◌, if◌then◌else◌}
+use Rattle.board_prelude.proofs.Common.{cases_Bool, ne_eqb, and_left, Kind, Width, Area, Denial, Target, Disk, Medium, sectors_of, word_at, Setup, Bytes, Cell}
 use Rattle.board_base.specs.declared.target.Area.TheVariants.{Dram, Shadow, Smram, Rom, Card, Abort as NobodysArea}
-use Rattle.board_base.specs.declared.target.Denial.{Denial}
-use Rattle.board_base.specs.declared.target.Target.{Target}
-use Rattle.device_spec.specs.Ata.State.{Disk, Medium, sectors_of, word_at}
 use Rattle.ata_pio.specs.Words.{is_readable, with_word}
-use Rattle.board_spec.specs.Setup.{Setup}
-use Rattle.board_spec.specs.Decode.{Bytes}
-use Rattle.board_spec.specs.Stored.{Cell}
-use Rattle.addr_decode.specs.MapRegs.{StandsFor, map_bytes}
-use Rattle.addr_decode.specs.Master.{master_area, master_denial}
+use Rattle.addr_decode.specs.Common.{StandsFor, map_bytes, master_area, master_denial}
 use Rattle.board_chipset.specs.declared.store.Store.{Store}
 use Rattle.bus_master.specs.declared.done.End.{End}
 use Rattle.bus_master.specs.declared.direction.Direction.{Direction}
 use Rattle.bus_master.specs.declared.direction.Direction.TheVariants.{ToMemory, ToDisk}
-use Rattle.bus_master.specs.Cells.{Cells, put_in}
-use Rattle.bus_master.specs.Transfer.{Moving, Place, ◌and_then◌, abort_in, address_after, answered, is_used_up, kind_of, master_target, master_value, medium_of, moved_on, next_moved, next_sector, next_word, ready_for, region_found, sector_tested, table_tested, with_medium, word_moved, words_moved}
+use Rattle.bus_master.specs.Common.{Cells, put_in, Moving, TransferPlace, ◌and_then◌, abort_in, address_after, answered, is_used_up, kind_of, master_target, master_value, medium_of, moved_on, next_moved, next_sector, next_word, ready_for, region_found, sector_tested, table_tested, with_medium, word_moved, words_moved, cells_of, HasSameShape, IsCell, CameOn, HasSector, StandsAt}
 use Rattle.board_chipset.specs.Stores.{IsStoreOf}
-use Rattle.bus_master.specs.Stores.{cells_of, HasSameShape, IsCell}
-use Rattle.bus_master.specs.UnderWay.{CameOn, HasSector, StandsAt}
 use Rattle.bus_master.proofs.HeldTargets.{master_value_same}
 use Rattle.bus_master.proofs.StepLemmas.{stands_skipped, stands_taken, taken, skipped, answered_stands, table_goes_on, sector_within, region_in_use}
 
@@ -74,11 +60,11 @@ shape_after {old} {now} {new} first second = record {
 
 -- ---- one word
 
-moving_is : {store : Store} {place : Place} {moving : Moving} → StandsAt moving store place None →
+moving_is : {store : Store} {place : TransferPlace} {moving : Moving} → StandsAt moving store place None →
     record { cells = moving.cells; medium = medium_of store.disk; place = place; end = None } ≡ moving
 moving_is is = rw (is.medium, is.come, is.ends) refl
 
-module _ {setup : Setup} {bytes : Bytes} {store : Store} (of : IsStoreOf setup bytes store) {place : Place}
+module _ {setup : Setup} {bytes : Bytes} {store : Store} (of : IsStoreOf setup bytes store) {place : TransferPlace}
     {moving : Moving}
     (is : StandsAt moving store place None) (lba : ℕ) (new : Store) where
   put_same : (target : Target) (value : ℕ) (cell : Cell) → IsCell cell →
@@ -172,12 +158,12 @@ module _ (setup : Setup) (bytes : Bytes) (direction : Direction) (lba : ℕ) whe
       one : (more words : ℕ) → suc more + words ≡ suc (more + words)
       one more words = omega arith
 
-  pub no_words : {store : Store} {place : Place} (moving : Moving) → StandsAt moving store place None →
+  pub no_words : {store : Store} {place : TransferPlace} (moving : Moving) → StandsAt moving store place None →
       StandsAt (words_moved setup bytes direction lba 0 moving) store place None
   unfolding words_moved
   no_words moving is = is
 
-  module _ {most : ℕ} {store : Store} {old new : Place} (words : ℕ) (moving : Moving) where
+  module _ {most : ℕ} {store : Store} {old new : TransferPlace} (words : ℕ) (moving : Moving) where
     -- the words so far and then some more
     pub came_further : CameOn setup bytes direction lba most
         (words_moved setup bytes direction lba words moving) store old new None →
@@ -219,7 +205,7 @@ module _ (setup : Setup) (bytes : Bytes) (direction : Direction) (lba : ℕ) whe
   came zero moving = reached_by moving
   came (suc words) moving = words_moved setup bytes direction lba (suc words) moving
 
-  module _ {store : Store} {place : Place} (moving : Moving) where
+  module _ {store : Store} {place : TransferPlace} (moving : Moving) where
     pub ends_before : {end : End} → StandsAt (ready_for setup bytes lba moving) store place (Some end) →
         StandsAt (words_moved setup bytes direction lba 1 moving) store place (Some end)
     unfolding words_moved next_moved
@@ -237,7 +223,7 @@ module _ (setup : Setup) (bytes : Bytes) (direction : Direction) (lba : ℕ) whe
           stands_taken (λ ready. answered setup bytes (kind_of direction) ready.place.addr ready) ready
           (answered_stands ready setup bytes (kind_of direction) (ready_for setup bytes lba moving).place.addr end
           (ends
-          ∙ ap (λ (p : Place). abort_in (master_area setup bytes p.addr (kind_of direction)) p.addr
+          ∙ ap (λ (p : TransferPlace). abort_in (master_area setup bytes p.addr (kind_of direction)) p.addr
           (master_denial setup bytes p.addr (kind_of direction))) ready.come))
 
       pub ends_unanswered : {end : End} → Some end
@@ -253,12 +239,12 @@ module _ (setup : Setup) (bytes : Bytes) (direction : Direction) (lba : ℕ) whe
     unfolding came
     came_first is = is
 
-    pub one_word : {old : Place} {most : ℕ} {end : End} → 1 ≤ most →
+    pub one_word : {old : TransferPlace} {most : ℕ} {end : End} → 1 ≤ most →
         StandsAt (words_moved setup bytes direction lba 1 moving) store place (Some end) →
         CameOn setup bytes direction lba most moving store old place (Some end)
     one_word some is = record { words = 1; some = lit≤ tt; few = some; stands = is; moved = λ none. absurd (cc) }
 
-  module _ (cells : Cells) (medium : Medium) (place : Place) where
+  module _ (cells : Cells) (medium : Medium) (place : TransferPlace) where
     abbrev here : Moving
     here = record { cells = cells; medium = medium; place = place; end = None }
 
@@ -288,7 +274,7 @@ module _ (setup : Setup) (bytes : Bytes) (direction : Direction) (lba : ℕ) whe
     next_word_is left within answers =
         rw (table_left left, sector_left within, region_left left, answer_left answers) refl
 
-  module _ {store : Store} {place : Place} (moving : Moving) (is : StandsAt moving store place None) where
+  module _ {store : Store} {place : TransferPlace} (moving : Moving) (is : StandsAt moving store place None) where
     -- within a stretch nothing comes before a word
     next_in_stretch : place.left ≢ 0 → place.moved % 2 ≡ 0 → place.moved % 512 ≢ 0 →
         None ≡ abort_in (master_area setup bytes place.addr (kind_of direction)) place.addr
@@ -302,12 +288,12 @@ module _ (setup : Setup) (bytes : Bytes) (direction : Direction) (lba : ℕ) whe
         (λ (e : place.moved % 512 / 2 ≡ 0). within (omega (arith, e, whole)))) answers)
 
   -- the first word of a stretch, where all before it went well
-  first_in_stretch : {store : Store} {place : Place} (moving : Moving) → StandsAt (reached_by moving) store place None →
+  first_in_stretch : {store : Store} {place : TransferPlace} (moving : Moving) → StandsAt (reached_by moving) store place None →
       next_moved setup bytes direction lba moving ≡ word_moved setup bytes direction lba (reached_by moving)
   unfolding next_moved reached_by
   first_in_stretch moving is = taken (reached_by moving) (word_moved setup bytes direction lba) is.ends
 
-  pub came_on : {store new : Store} {place after : Place} (words : ℕ) (moving : Moving) →
+  pub came_on : {store new : Store} {place after : TransferPlace} (words : ℕ) (moving : Moving) →
       StandsAt (came words moving) store place None →
       (1 ≤ words → place.left ≢ 0) → place.moved % 2 ≡ 0 → (1 ≤ words → place.moved % 512 ≢ 0) →
       None ≡ abort_in (master_area setup bytes place.addr (kind_of direction)) place.addr

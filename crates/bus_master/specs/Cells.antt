@@ -1,12 +1,6 @@
 -- The bytes behind the addresses, read and written by target, whatever keeps them.
 use Rattle.std.specs.Prelude.{ℕ, Bool, true, nat_lt, if◌then◌else◌, slice_index, unwrap_or}
-use Rattle.board_base.specs.declared.access.Width.{Width}
-use Rattle.board_base.specs.declared.target.Target.{Target}
-use Rattle.board_base.specs.declared.target.Target.TheVariants.{Dram, Shadow, Smram, Rom, Card}
-use Rattle.board_base.specs.Access.{largest_of}
-use Rattle.board_spec.specs.Setup.{Setup, installed}
-use Rattle.board_spec.specs.Bits.{wide}
-use Rattle.board_spec.specs.Stored.{Cell, DramCell, CardCell, byte_put}
+use Rattle.board_prelude.specs.Common.{Width, Target, Dram, Shadow, Smram, Rom, Card, largest_of, Setup, installed, wide, Cell, DramCell, CardCell, byte_put}
 
 -- what each byte of the DRAM and of the cards reads
 abbrev pub Cells : Type 0

@@ -3,3 +3,4 @@ pub mod Cells
 pub mod Transfer
 pub mod Stores
 pub mod UnderWay
+pub mod Common

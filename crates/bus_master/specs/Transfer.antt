@@ -1,21 +1,10 @@
 -- A transfer of the bus master: words between the sectors of the disk, from one on, and the regions of memory that a
 -- table of descriptors names (82371SB, 2.7).
 use Rattle.std.specs.Prelude.{ℕ, zero, suc, ◌+◌, ◌-◌, ◌*◌, ◌/◌, ◌%◌, ◌==◌, Bool, true, false, not, ◌&&◌, if◌then◌else◌, [], Option, Some, None, is_some, unwrap_or}
-use Rattle.board_base.specs.declared.access.Width.{Width}
+use Rattle.board_prelude.specs.Common.{Width, Kind, Read, Write, Area, Target, Denial, NoRegister, Medium, Disk, word_at, Setup, is_bit, Bytes, target_at}
 use Rattle.board_base.specs.declared.access.Width.TheVariants.{Two, Four}
-use Rattle.board_base.specs.declared.access.Kind.{Kind}
-use Rattle.board_base.specs.declared.access.Kind.TheVariants.{Read, Write}
-use Rattle.board_base.specs.declared.target.Area.{Area}
 use Rattle.board_base.specs.declared.target.Area.TheVariants.{Abort as NobodysArea}
-use Rattle.board_base.specs.declared.target.Target.{Target}
-use Rattle.board_base.specs.declared.target.Denial.{Denial}
-use Rattle.board_base.specs.declared.target.Denial.TheVariants.{NoRegister}
-use Rattle.device_spec.specs.Ata.State.{Medium, Disk, word_at}
 use Rattle.ata_pio.specs.Words.{is_readable, with_word}
-use Rattle.board_spec.specs.Setup.{Setup}
-use Rattle.board_spec.specs.Bits.{is_bit}
-use Rattle.board_spec.specs.Decode.{Bytes}
-use Rattle.board_spec.specs.Answer.{target_at}
 use Rattle.addr_decode.specs.Master.{master_area, master_denial}
 use Rattle.bus_master.specs.declared.done.End.{End}
 use Rattle.bus_master.specs.declared.done.End.TheVariants.{Exact, Longer, Shorter, Abort, Sector}
@@ -29,7 +18,7 @@ use Rattle.bus_master.specs.Registers.{Master, is_to_memory}
 
 -- the address of the next descriptor; of the region in use where it goes on, how many bytes it has left, and whether
 -- it is the last; and how many bytes were moved
-pub record Place : Type 0 where
+pub record TransferPlace : Type 0 where
   pub table : ℕ
   pub addr : ℕ
   pub left : ℕ
@@ -40,7 +29,7 @@ pub record Place : Type 0 where
 pub record Moving : Type 0 where
   pub cells : Cells
   pub medium : Medium
-  pub place : Place
+  pub place : TransferPlace
   pub end : Option End
 
 abbrev pub ended : End → Moving → Moving
@@ -81,7 +70,7 @@ even n = n / 2 * 2
 abbrev pub size_of : (count : ℕ) → ℕ
 size_of count = if even (count % 0x1_0000) == 0 then 0x1_0000 else even (count % 0x1_0000)
 
-abbrev pub with_region : (base count : ℕ) → Place → Place
+abbrev pub with_region : (base count : ℕ) → TransferPlace → TransferPlace
 with_region base count place = record place {
   table = address_after place.table 8;
   addr = even base;
@@ -105,17 +94,17 @@ descriptor_read setup bytes moving =
 
 -- ---- one word
 
-abbrev pub is_used_up : Place → Bool
+abbrev pub is_used_up : TransferPlace → Bool
 is_used_up place = place.left == 0
 
 -- the sector of the next word, and which of its 256 words that is
-abbrev pub next_sector : (lba : ℕ) → Place → ℕ
+abbrev pub next_sector : (lba : ℕ) → TransferPlace → ℕ
 next_sector lba place = lba + place.moved / 512
 
-abbrev pub next_word : Place → ℕ
+abbrev pub next_word : TransferPlace → ℕ
 next_word place = place.moved % 512 / 2
 
-abbrev pub moved_on : Place → Place
+abbrev pub moved_on : TransferPlace → TransferPlace
 moved_on place =
     record place { addr = address_after place.addr 2; left = place.left - 2; moved = place.moved + 2 }
 
@@ -178,7 +167,7 @@ words_moved setup bytes direction lba (suc words) moving =
 -- ---- the whole
 
 -- no region is in use yet
-abbrev pub first_place : (table : ℕ) → Place
+abbrev pub first_place : (table : ℕ) → TransferPlace
 first_place table = record { table = table; addr = 0; left = 0; is_last = false; moved = 0 }
 
 abbrev pub begun : Cells → Medium → (table : ℕ) → Moving

@@ -1,13 +1,8 @@
 //! Reads and writes of memory, by what the bus master reaches.
 
 ghost use Rattle.std.specs.Prelude.{◌≡◌, ◌%◌, ◌<◌, ◌≤◌, length};
-ghost use Rattle.board_base.specs.Access.{bytes_of, largest_of};
-ghost use Rattle.board_base.specs.declared.access.Kind.{Kind};
-ghost use Rattle.device_spec.specs.Ata.State.{sectors_of, word_at};
+ghost use Rattle.board_prelude.specs.Common.{bytes_of, largest_of, Kind, sectors_of, word_at, Setup, installed, Bytes, Cell};
 ghost use Rattle.ata_pio.specs.Words.{is_readable, with_word};
-ghost use Rattle.board_spec.specs.Setup.{Setup, installed};
-ghost use Rattle.board_spec.specs.Decode.{Bytes};
-ghost use Rattle.board_spec.specs.Stored.{Cell};
 ghost use Rattle.addr_decode.specs.Master.{master_area};
 ghost use Rattle.board_stores.specs.Targets.{IsHeld};
 ghost use Rattle.bus_master.specs.Cells.{value_in, put_in};

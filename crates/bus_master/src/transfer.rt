@@ -1,13 +1,11 @@
 //! Transfers between the disk and memory.
 
 ghost use Rattle.std.specs.Prelude.{ℕ, ◌≡◌, ◌<◌, ◌≤◌, ◌^◌, ◌%◌, true, false};
-ghost use Rattle.board_spec.specs.Setup.{Setup};
-ghost use Rattle.board_spec.specs.Decode.{Bytes, is_smram_range};
-ghost use Rattle.board_spec.specs.Stored.{Cell};
+ghost use Rattle.board_prelude.specs.Common.{Setup, Bytes, is_smram_range, Cell};
 ghost use Rattle.dram_store.specs.Dram.{dram_at};
 ghost use Rattle.bus_master.specs.Registers.{is_started, is_to_memory};
 ghost use Rattle.bus_master.specs.Transfer.{direction_of, done_of, end_of, master_after, Moving, status_bits, with_medium};
-ghost use Rattle.board_chipset.specs.Stores.{IsSound, IsStoreOf};
+ghost use Rattle.board_chipset.specs.Stores.{IsOfBoard, IsStoreOf};
 ghost use Rattle.bus_master.specs.Stores.{cells_of, DiffersInSmramAlone, HasSameShape, IsCell, transfer_of};
 
 use crate::direction::Direction;
@@ -30,7 +28,7 @@ impl BusMaster {
         requires some { 1 ≤ count }
         requires most { count ≤ 256 }
         requires lba { lba < 2 ^ 28 }
-        requires sound { IsSound store.old }
+        requires sound { IsOfBoard store.old }
         ensures done { (setup : Setup) (bytes : Bytes) → IsStoreOf setup bytes store.old
             → result ≡ done_of (transfer_of setup bytes self.old lba count store.old) }
         ensures registers { (setup : Setup) (bytes : Bytes) → IsStoreOf setup bytes store.old
@@ -44,7 +42,7 @@ impl BusMaster {
         ensures to_disk { is_to_memory self.old ≡ false → (cell : Cell) → IsCell cell
             → cells_of store.new cell ≡ cells_of store.old cell }
         ensures shape { HasSameShape store.old store.new }
-        ensures sound { IsSound store.new }
+        ensures sound { IsOfBoard store.new }
         // Whatever SMRAM's register says, no byte of it changes.
         ensures smram { (addr : ℕ) → is_smram_range addr ≡ true
             → dram_at store.new.dram addr ≡ dram_at store.old.dram addr }

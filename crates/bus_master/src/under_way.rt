@@ -1,23 +1,17 @@
 //! A transfer under way.
 
 ghost use Rattle.std.specs.Prelude.{ℕ, ◌≡◌, ◌≢◌, ◌<◌, ◌≤◌, ◌+◌, ◌*◌, ◌%◌, ◌^◌, ◌&&◌, None, if◌then◌else◌, IfOk};
-ghost use Rattle.board_base.specs.declared.access.Kind.{Kind};
-ghost use Rattle.board_base.specs.declared.access.Width.{Width};
-ghost use Rattle.device_spec.specs.Ata.State.{sectors_of, word_at};
+ghost use Rattle.board_prelude.specs.Common.{Kind, Width, sectors_of, word_at, Setup, Bytes, Cell};
 ghost use Rattle.ata_pio.specs.Words.{with_word};
-ghost use Rattle.board_spec.specs.Setup.{Setup};
-ghost use Rattle.board_spec.specs.Decode.{Bytes};
-ghost use Rattle.board_spec.specs.Stored.{Cell};
 ghost use Rattle.pci_bars.specs.Cards.{AreFitted};
-ghost use Rattle.addr_decode.specs.MapRegs.{StandsFor, map_bytes};
-ghost use Rattle.addr_decode.specs.Master.{master_area, master_denial};
+ghost use Rattle.addr_decode.specs.Common.{StandsFor, map_bytes, master_area, master_denial};
 ghost use Rattle.bus_master.specs.declared.done.End.{End};
 ghost use Rattle.bus_master.specs.declared.direction.Direction.{Direction};
 ghost use Rattle.bus_master.specs.Cells.{put_in};
 ghost use Rattle.bus_master.specs.Transfer.{Moving, abort_in, address_after, descriptor_read, first_place, is_used_up, kind_of, master_target, master_value, medium_of, moved_on, next_sector, next_word, ready_for, sector_tested, size_of, with_region, word_moved, words_moved};
-ghost use Rattle.board_chipset.specs.Stores.{IsSound, IsStoreOf};
+ghost use Rattle.board_chipset.specs.Stores.{IsOfBoard, IsStoreOf};
 ghost use Rattle.bus_master.specs.Stores.{cells_of, HasSameShape, IsCell, IsReached};
-ghost use Rattle.bus_master.specs.UnderWay.{CameOn, end_in, HasSector, IsDone, StandsAt};
+ghost use Rattle.bus_master.specs.UnderWay.{CameOn, end_in, HasSector, EndedSo, StandsAt};
 
 use crate::direction::Direction;
 use crate::done::End;
@@ -60,10 +54,10 @@ pub(crate) struct UnderWay {
 }
 
 impl Model for UnderWay {
-    ghost use Rattle.bus_master.specs.Transfer.{Place};
+    ghost use Rattle.bus_master.specs.Transfer.{TransferPlace};
     ghost use Rattle.bus_master.specs.UnderWay.{IsPlace};
 
-    ghost Value = { Place };
+    ghost Value = { TransferPlace };
 
     ghost view = { λ w. record {
       table = w.table;
@@ -101,7 +95,7 @@ fn answering(regs: &MapRegs, addr: u32, kind: Kind) -> Result<Area, End>
 
 /// Reads a doubleword at an address that is a multiple of 4. Refused with Abort where nobody answers.
 fn read_doubleword(store: &Store, addr: u32) -> Result<u32, End>
-    requires sound { IsSound store.now }
+    requires sound { IsOfBoard store.now }
     requires aligned { addr % 4 ≡ 0 }
     ensures value { (setup : Setup) (bytes : Bytes) → IsStoreOf setup bytes store.now
         → IfOk result (λ value. value ≡ master_value setup bytes (cells_of store.now) addr Width.Four) }
@@ -169,13 +163,13 @@ impl UnderWay {
         lba: u32,
         words: u32,
     ) -> End
-        requires sound { IsSound store.old }
+        requires sound { IsOfBoard store.old }
         requires begins { self.old.moved ≡ 0 }
         requires lba { lba < 2 ^ 28 }
         requires words { words ≤ 0x1_0000 }
         ensures moved { (setup : Setup) (bytes : Bytes) (moving : Moving) → IsStoreOf setup bytes store.old
             → StandsAt moving store.old self.old None
-            → IsDone (words_moved setup bytes direction lba words moving) store.new self.new result }
+            → EndedSo (words_moved setup bytes direction lba words moving) store.new self.new result }
         ensures shape { HasSameShape store.old store.new }
     {
         match self.move_words(store, direction, lba, words) {
@@ -192,7 +186,7 @@ impl UnderWay {
         lba: u32,
         words: u32,
     ) -> Result<(), End>
-        requires sound { IsSound store.old }
+        requires sound { IsOfBoard store.old }
         requires begins { self.old.moved ≡ 0 }
         requires lba { lba < 2 ^ 28 }
         requires words { words ≤ 0x1_0000 }
@@ -217,7 +211,7 @@ impl UnderWay {
         lba: u32,
         most: u32,
     ) -> Result<(), End>
-        requires sound { IsSound store.old }
+        requires sound { IsOfBoard store.old }
         requires most { 1 ≤ most }
         requires lba { lba < 2 ^ 28 }
         requires moved { self.old.moved + 2 * most ≤ 0x2_0000 }
@@ -242,7 +236,7 @@ impl UnderWay {
 
     /// Checks that a region and a readable sector are left for the next word; reads the next descriptor if need be.
     fn make_ready(&mut self, store: &Store, lba: u32) -> Result<(), End>
-        requires sound { IsSound store.now }
+        requires sound { IsOfBoard store.now }
         requires lba { lba < 2 ^ 28 }
         requires moved { self.old.moved < 0x2_0000 }
         requires sector { HasSector lba store.now self.old }
@@ -286,7 +280,7 @@ impl UnderWay {
     /// Reads the next descriptor of the table. Refused with Abort where nobody answers for one of its halves; then the
     /// table pointer stays.
     fn read_descriptor(&mut self, store: &Store) -> Result<(), End>
-        requires sound { IsSound store.now }
+        requires sound { IsOfBoard store.now }
         ensures read { (setup : Setup) (bytes : Bytes) (moving : Moving) → IsStoreOf setup bytes store.now
             → StandsAt moving store.now self.old None
             → StandsAt (descriptor_read setup bytes moving) store.now self.new (end_in result) }

@@ -10,8 +10,7 @@ use Rattle.atomic_table.proofs.Lists.{at_set, set_else}
 use Rattle.bus_turn.specs.declared.view.View.{View}
 use Rattle.bus_turn.specs.declared.view.Stage.{Stage}
 use Rattle.bus_turn.specs.declared.view.Stage.TheVariants.{Holds, Spent}
-use Rattle.bus_turn.specs.Views.{own_by, spent}
-use Rattle.bus_turn.specs.Rule.{Place, home, away, slot_of, Book, gone, waits, is_gone, joins, total, IsSpent, AreJoined, log_of, words_of, AtStage, Knows, Lies, Ordered}
+use Rattle.bus_turn.specs.Common.{own_by, spent, Place, home, away, slot_of, Book, gone, waits, is_gone, joins, total, IsSpent, AreJoined, log_of, words_of, AtStage, Knows, Lies, Ordered}
 use Rattle.bus_turn.proofs.Sums.{total_set}
 use Rattle.bus_turn.proofs.Rows.{prefix_trans, All-more}
 

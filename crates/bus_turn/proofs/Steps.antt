@@ -14,9 +14,7 @@ use Rattle.atomic_table.proofs.Lists.{at_set, set_here, set_else, set_again, at_
 use Rattle.bus_turn.specs.declared.view.View.{View}
 use Rattle.bus_turn.specs.declared.view.Stage.{Stage}
 use Rattle.bus_turn.specs.declared.view.Stage.TheVariants.{Idle, Waits, Holds, Spent}
-use Rattle.bus_turn.specs.Views.{own_by, spent, staged, sees, commits, starting, after_split, split_off, with_joined}
-use Rattle.bus_turn.specs.Plays.{Fits, Closes, drew, called, counted, gave, looked, ticket_of}
-use Rattle.bus_turn.specs.Rule.{Place, home, away, slot_of, Book, gone, waiting, waits, is_gone, joins, total, IsSpent, AreJoined, log_of, AtStage, Knows, Lies, Ordered, Ruled}
+use Rattle.bus_turn.specs.Common.{own_by, spent, staged, sees, commits, starting, after_split, split_off, with_joined, Fits, Closes, drew, called, counted, gave, looked, ticket_of, Place, home, away, slot_of, Book, gone, waiting, waits, is_gone, joins, total, IsSpent, AreJoined, log_of, AtStage, Knows, Lies, Ordered, Ruled}
 use Rattle.bus_turn.proofs.Sums.{total_set, total_at, total_snoc, total_below, total_under, total_both}
 use Rattle.bus_turn.proofs.Rows.{at_lt, at_end, set_apart, prefix_refl, prefix_same, prefix_trans, drop_front, own_more, own_else, own_none, All-more}
 use Rattle.bus_turn.proofs.Moves.{put, put_here, put_else, alive, joined_on, moved, lies_away, lies_kept, as_joined}

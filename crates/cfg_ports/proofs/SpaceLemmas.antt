@@ -1,16 +1,6 @@
 -- A write to a space, as the definitions of the registers say it.
 use Rattle.std.proofs.Common.{◌≡◌, ℕ, ◌<◌, List, length, get_or, set, false, inl, inr, ◌∙◌, sym, ap, arith, get_or-set_other}
-use Rattle.std.proofs.lemmas.Bool.{cases_eq}
-use Rattle.std.proofs.lemmas.Grind.{get_or-set_at}
-use Rattle.board_base.specs.declared.access.Width.TheVariants.{One}
-use Rattle.board_base.specs.declared.target.Reg.{Reg}
-use Rattle.board_spec.specs.declared.map_change.MapChange.TheVariants.{Store}
-use Rattle.board_spec.specs.Setup.{Setup}
-use Rattle.board_spec.specs.Bits.{merged}
-use Rattle.board_spec.specs.RegisterTable.{writable_bits}
-use Rattle.board_spec.specs.Registers.{changed_byte}
-use Rattle.board_spec.specs.RegisterNames.{smram, is_same}
-use Rattle.board_spec.proofs.StoreLemmas.{changed_byte-one_same, changed_byte-one_other}
+use Rattle.board_prelude.proofs.Common.{cases_eq, get_or-set_at, One, Reg, Store, Setup, merged, writable_bits, changed_byte, smram, is_same, changed_byte-one_same, changed_byte-one_other}
 
 -- the bytes with a merged byte at a place are those after a store of one byte there
 pub stored_byte :

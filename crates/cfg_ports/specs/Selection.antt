@@ -1,9 +1,6 @@
 -- What a configuration address selects at the configuration data ports.
 use Rattle.std.specs.Prelude.{ℕ, ◌+◌, ◌%◌, if◌then◌else◌, Option, Some, None}
-use Rattle.board_base.specs.declared.target.Reg.{Reg}
-use Rattle.board_spec.specs.Setup.{Setup}
-use Rattle.board_spec.specs.RegisterTable.{function_exists}
-use Rattle.board_spec.specs.Registers.{bus_of, device_of, function_of, register_of}
+use Rattle.board_prelude.specs.Common.{Reg, Setup, function_exists, bus_of, device_of, function_of, register_of}
 use Rattle.cfg_ports.specs.declared.conf_add.Selected.{Selected}
 
 -- the bus, device, function and register of the address, and the byte that the port adds

@@ -1,9 +1,6 @@
 //! The configuration address register, CONFADD of the 82441FX (configuration mechanism one of PCI Local Bus 2.1).
 ghost use Rattle.std.specs.Prelude.{◌≡◌, ◌+◌, ◌%◌, ◌≤◌, ◌↔◌, false, IsTrue, IsNone, IfSome};
-ghost use Rattle.board_base.specs.declared.access.Width.{Width};
-ghost use Rattle.board_base.specs.Access.{bytes_of};
-ghost use Rattle.board_spec.specs.Setup.{Setup};
-ghost use Rattle.board_spec.specs.Registers.{kept_address, is_enabled, is_config_port, config_register};
+ghost use Rattle.board_prelude.specs.Common.{Width, bytes_of, Setup, kept_address, is_enabled, is_config_port, config_register};
 ghost use Rattle.cfg_ports.specs.Selection.{selected_at, existing};
 
 use board_base::Reg;

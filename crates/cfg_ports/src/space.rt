@@ -1,13 +1,6 @@
 //! A function's 256 bytes of configuration space (PCI Local Bus 2.1, section 6.1).
 ghost use Rattle.std.specs.Prelude.{◌≡◌, ◌==◌, ◌<◌, ℕ, false, if◌then◌else◌};
-ghost use Rattle.board_base.specs.declared.access.Width.TheVariants.{One};
-ghost use Rattle.board_base.specs.declared.target.Reg.{Reg};
-ghost use Rattle.board_spec.specs.declared.map_change.MapChange.TheVariants.{Store};
-ghost use Rattle.board_spec.specs.Setup.{Setup};
-ghost use Rattle.board_spec.specs.Bits.{bit, is_bit, merged};
-ghost use Rattle.board_spec.specs.RegisterTable.{writable_bits};
-ghost use Rattle.board_spec.specs.Registers.{changed_byte};
-ghost use Rattle.board_spec.specs.RegisterNames.{smram, is_same};
+ghost use Rattle.board_prelude.specs.Common.{One, Reg, Store, Setup, bit, is_bit, merged, writable_bits, changed_byte, smram, is_same};
 ghost use Rattle.cfg_ports.specs.Space.{byte_at, mask_at, reset_at, SameTable};
 
 use board_spec::bits::merged;

@@ -1,7 +1,6 @@
 -- What is written to the clock from outside the bus, as a monitor does that gives it its memory back.
 use Rattle.std.specs.Prelude.{ℕ}
-use Rattle.device_spec.specs.Clock.{Clock, after_write}
-use Rattle.device_spec.specs.PortNames.{clock_index_port, clock_data_port}
+use Rattle.device_spec.specs.Common.{Clock, after_write, clock_index_port, clock_data_port}
 
 -- A byte was written at an address: as if a processor had written the address to port 70h, the byte to port 71h, and
 -- then the index as it was before to port 70h.

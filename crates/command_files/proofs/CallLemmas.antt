@@ -1,8 +1,7 @@
 -- The calls that were made, one after another, and the fetches of one file.
-use Rattle.std.proofs.Common.{◌≡◌, ◌≢◌, ℕ, ◌≤◌, ◌+◌, List, [], ◌∷◌, ◌++◌, Option, Some, None, refl, sym, ap, ◌∙◌, subst, append_assoc, arith}
-use Rattle.std.specs.Prelude.{Result, Ok, Err}
+use Rattle.std.proofs.Common.{◌≡◌, ◌≢◌, ℕ, ◌≤◌, ◌+◌, List, [], ◌∷◌, ◌++◌, Option, Some, None, refl, sym, ap, ◌∙◌, subst, append_assoc, arith, Result, Ok, Err}
 use Rattle.board_base.specs.Outside.{Fetch, Made}
-use Rattle.command_files.specs.Calls.{OfCalls, count_of, place_after, GoesOn, FoundEnd, IsReading, FetchesOnce, ReadsBy}
+use Rattle.command_files.specs.Calls.{OfCalls, count_of, place_after, BroughtBytes, FoundEnd, IsReading, FetchesOnce, ReadsBy}
 
 -- ---- lists of calls
 
@@ -63,7 +62,7 @@ calls_both (Some before) (Some between) now P Q one two = record {
 pub record ReadTo (name : List ℕ) (limit place : ℕ) (made : List Fetch) : Type 0 where
   pub reading : IsReading name limit made
   pub reached : place_after made ≡ place
-  pub goes_on : GoesOn made
+  pub goes_on : BroughtBytes made
 
 pub at_start : (name : List ℕ) (limit : ℕ) → ReadTo name limit 0 []
 at_start name limit = record { reading = tt; reached = refl; goes_on = tt }

@@ -1,13 +1,10 @@
 -- What can be relied on once all files of a command were read.
 use Rattle.std.proofs.Common.{◌≡◌, ℕ, List, [], ◌∷◌, length, reverse, Option, Some, None, refl, sym, ap, ◌∙◌, subst}
 use Rattle.board_spec.specs.Setup.{IsRomSize, IsDisk}
-use Rattle.script_spec.specs.ScriptText.{Script as Said}
-use Rattle.script_spec.specs.ScriptRange.{IsInRangeScript}
+use Rattle.script_spec.specs.Common.{Script as Said, IsInRangeScript}
 use Rattle.command_words.specs.Words.{Command, Replay, Run, Map, Check, Make, Dma, Save, Resume, Serial, Blame}
 use Rattle.command_files.specs.declared.status.Which.TheVariants.{Script, Rom, Disk, Log, Image, Input}
-use Rattle.command_files.specs.Table.{files_of, script_name}
-use Rattle.command_files.specs.Known.{Files, Known, rom_name, disk_name, OfScript, HasBoard, HasImage, HasRead}
-use Rattle.command_files.specs.Steps.{IsTaken, IsPassed}
+use Rattle.command_files.specs.Common.{files_of, script_name, Files, Known, rom_name, disk_name, OfScript, HasBoard, HasImage, HasRead, IsTaken, IsPassed}
 use Rattle.command_files.proofs.Places.{AreTaken}
 
 -- a script was read, and no disk yet

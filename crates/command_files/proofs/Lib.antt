@@ -4,3 +4,4 @@ pub mod CallLemmas
 pub mod Refusals
 pub mod Places
 pub mod GoodLemmas
+pub mod Common

@@ -1,26 +1,17 @@
 -- The words and the files ask for at most one status: what was read before a file is determined, and so is what is said of it.
 use Rattle.std.proofs.Common.{◌≡◌, ℕ, ◌<◌, ◌≤◌, ◌++◌, ◌⊎◌, inl, inr, List, [], ◌∷◌, length, reverse, Option, Some, None, refl, sym, ap, ◌∙◌, subst, append_assoc, append-nil}
 use Rattle.std.proofs.Math.Nat.{not-le_of_lt}
-use Rattle.std.proofs.lemmas.List.{reverse-append, reverse-reverse}
-use Rattle.board_spec.specs.declared.event.Statement.{Statement}
-use Rattle.board_spec.specs.Setup.{Setup}
-use Rattle.script_spec.specs.ScriptText.{Script as Said, IsScriptBad}
-use Rattle.script_spec.specs.Checks.{IsLogOf, DiffersAt}
-use Rattle.script_spec.proofs.ReadingLaws.{same_some, not_both, one_refusal}
-use Rattle.script_spec.proofs.ScriptLaws.{one_script}
-use Rattle.script_spec.proofs.CheckLaws.{one_difference}
-use Rattle.board_image.specs.ImageBytes.{Saved}
-use Rattle.board_image.specs.Laws.{OneSpelling}
-use Rattle.command_texts.specs.Images.{IsSameBoard}
+use Rattle.board_prelude.proofs.Common.{reverse-append, reverse-reverse, Statement, Setup}
+use Rattle.script_spec.specs.Common.{Script as Said, IsScriptBad, IsLogOf, DiffersAt}
+use Rattle.script_spec.proofs.Common.{same_some, not_both, one_refusal, one_script, one_difference}
+use Rattle.board_image.specs.Common.{Saved, OneSpelling}
+use Rattle.command_texts.specs.Images.{IsForBoard}
 use Rattle.command_words.specs.Words.{Command, Replay, Run, Map, Check, Make, Dma, Save, Resume, Serial, Blame}
 use Rattle.command_files.specs.declared.status.Which.{Which}
 use Rattle.command_files.specs.declared.status.Which.TheVariants.{Script, Rom, Disk, Log, Image, Input}
 use Rattle.command_files.specs.declared.status.Status.{Status}
 use Rattle.command_files.specs.declared.status.Status.TheVariants.{Done, Usage, ReadFault, WriteFault, TooLong, BadScript, BadImage, Differs, NoMemory, OtherBoard}
-use Rattle.command_files.specs.Table.{files_of, limit_of}
-use Rattle.command_files.specs.Known.{Files, Known, nothing_known, file_name, Learns, Passes, AreReadAs, AllRead, ComesTo, board_of, OfScript, OfImage}
-use Rattle.command_files.specs.Asked.{IsNoImage, LogIsLegal, LogDiffers, BoardsAgree, BoardsDiffer, CanBeDone, OfCheck, OfResume, EndsWith, AsksFor}
-use Rattle.command_files.specs.Laws.{OneStatus}
+use Rattle.command_files.specs.Common.{files_of, limit_of, Files, Known, nothing_known, file_name, Learns, Passes, AreReadAs, AllRead, ComesTo, board_of, OfScript, OfImage, IsNoImage, LogIsLegal, LogDiffers, BoardsAgree, BoardsDiffer, CanBeDone, OfCheck, OfResume, EndsWith, AsksFor, OneStatus}
 
 -- at most one status holds
 abbrev IsOne : (Status → Type 0) → Type 0
@@ -166,10 +157,10 @@ one_log_line known line place one two =
 boards_apart : (known : Known) → BoardsDiffer known → BoardsAgree known → ⊥
 boards_apart known differ agree =
     let both =
-    both_of_script known (λ script. OfImage known (λ image. ¬ IsSameBoard image.setup script))
-    (λ script. OfImage known (λ image. IsSameBoard image.setup script)) differ agree in
+    both_of_script known (λ script. OfImage known (λ image. ¬ IsForBoard image.setup script))
+    (λ script. OfImage known (λ image. IsForBoard image.setup script)) differ agree in
     let images =
-    both_of_image known (λ image. ¬ IsSameBoard image.setup both.0) (λ image. IsSameBoard image.setup both.0) both.1 both.2
+    both_of_image known (λ image. ¬ IsForBoard image.setup both.0) (λ image. IsForBoard image.setup both.0) both.1 both.2
     in
     images.1 images.2
 

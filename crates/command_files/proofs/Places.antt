@@ -1,22 +1,15 @@
 -- A command at a place of its table: what its status is there, and which fetches it made.
-use Rattle.std.proofs.Common.{◌≡◌, ◌≢◌, ℕ, suc, ◌+◌, ◌<◌, ◌≤◌, ◌⊎◌, inl, inr, List, [], ◌∷◌, ◌++◌, length, take, drop, reverse, get_or, Option, Some, None, refl, sym, ap, ◌∙◌, subst, append_assoc}
-use Rattle.std.specs.Prelude.{Result, Ok, OnOk}
-use Rattle.std.proofs.lemmas.List.{reverse-append, reverse-reverse, append-nil, take_all}
-use Rattle.std.proofs.lemmas.Grind.{take_at_read}
+use Rattle.std.proofs.Common.{◌≡◌, ◌≢◌, ℕ, suc, ◌+◌, ◌<◌, ◌≤◌, ◌⊎◌, inl, inr, List, [], ◌∷◌, ◌++◌, length, take, drop, reverse, get_or, Option, Some, None, refl, sym, ap, ◌∙◌, subst, append_assoc, Result, Ok, OnOk}
+use Rattle.board_prelude.proofs.Common.{reverse-append, reverse-reverse, append-nil, take_all, take_at_read, Rose, OfFile}
 use Rattle.std.proofs.Math.Seq.{split_at}
-use Rattle.board_base.specs.Outside.{Rose, OfFile, Fetch}
+use Rattle.board_base.specs.Outside.{Fetch}
 use Rattle.script_spec.specs.ScriptText.{IsScriptBad}
 use Rattle.command_words.specs.Words.{Command}
 use Rattle.command_files.specs.declared.status.Which.{Which}
 use Rattle.command_files.specs.declared.status.Which.TheVariants.{Script, Rom, Disk, Log, Image, Input}
 use Rattle.command_files.specs.declared.status.Status.{Status}
 use Rattle.command_files.specs.declared.status.Status.TheVariants.{Done, Usage, ReadFault, WriteFault, TooLong, BadScript, BadImage, Differs, OtherBoard, NoMemory}
-use Rattle.command_files.specs.Table.{files_of, name_in_words, limit_of}
-use Rattle.command_files.specs.Known.{Files, Known, nothing_known, file_name, Learns, Passes, AreReadAs, ComesTo}
-use Rattle.command_files.specs.Asked.{ReadsFile, Fits, IsNoImage}
-use Rattle.command_files.specs.Outcomes.{ShelfCall, OfFiles, CanRead, FailsAt, IsNotTaken, IsRefused}
-use Rattle.command_files.specs.Calls.{OfCalls, FoundEnd, Reaches, Reads, ReadEach, FetchesOf}
-use Rattle.command_files.specs.Steps.{IsPassed, IsNotPassed, ReadsNamed}
+use Rattle.command_files.specs.Common.{files_of, name_in_words, limit_of, Files, Known, nothing_known, file_name, Learns, Passes, AreReadAs, ComesTo, ReadsFile, FitsFile, IsNoImage, ShelfCall, OfFiles, CanRead, FailsAt, IsNotTaken, IsRefused, OfCalls, FoundEnd, ReachesFile, Reads, ReadEach, FetchesOf, IsPassed, IsNotPassed, ReadsNamed}
 use Rattle.command_files.proofs.CallLemmas.{Both, calls_both, calls_hold}
 use Rattle.command_files.proofs.Refusals.{of_files, at_files, at_file, any_file}
 
@@ -98,7 +91,7 @@ not_read command told (other ∷ others) whiches more made is = (
 
 module _ (command : Command) (told : Option Files) (which : Which) (before later : List Which) (known : Known)
     (place : files_of command ≡ reverse before ++ which ∷ later) (are : AreTaken command told before known) where
-  reaches : (name : List ℕ) → file_name command known which ≡ Some name → Reaches command told which name
+  reaches : (name : List ℕ) → file_name command known which ≡ Some name → ReachesFile command told which name
   reaches name named = record {
     can_read = (reverse before, later, place);
     comes =
@@ -153,12 +146,12 @@ module _ (command : Command) (told : Option Files) (which : Which) (before later
         ((reaches name named).can_read, reads (λ name' bytes. limit_of which < length bytes) holds)
     not_taken (BadScript line why) (same, holds) = (
       subst (CanRead command) same (reaches name named).can_read,
-      subst (λ (which' : Which). OfFiles told (λ files. ReadsFile command files which' (Fits Script (λ bytes. IsScriptBad bytes line why)))) same
-          (reads (Fits Script (λ bytes. IsScriptBad bytes line why)) holds),
+      subst (λ (which' : Which). OfFiles told (λ files. ReadsFile command files which' (FitsFile Script (λ bytes. IsScriptBad bytes line why)))) same
+          (reads (FitsFile Script (λ bytes. IsScriptBad bytes line why)) holds),
     )
     not_taken (BadImage other) (same, kind, holds) =
         subst (λ (which' : Which). IsRefused command Call (BadImage which')) (sym same)
-        (((reaches name named).can_read, kind), reads (Fits which (IsNoImage which)) holds)
+        (((reaches name named).can_read, kind), reads (FitsFile which (IsNoImage which)) holds)
     not_taken (Differs line) is = absurd is
     not_taken OtherBoard is = absurd is
     not_taken NoMemory is = tt

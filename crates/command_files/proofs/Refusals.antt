@@ -1,9 +1,7 @@
 -- What holds where the shelf tells its files, and of a result that is an error.
-use Rattle.std.proofs.Common.{◌≡◌, ℕ, List, Option, Some, None, refl, sym, subst}
-use Rattle.std.specs.Prelude.{Result, Err, IfErr}
+use Rattle.std.proofs.Common.{◌≡◌, ℕ, List, Option, Some, None, refl, sym, subst, Result, Err, IfErr}
 use Rattle.board_base.specs.Outside.{OfFile}
-use Rattle.command_files.specs.Known.{Files}
-use Rattle.command_files.specs.Outcomes.{OfFiles}
+use Rattle.command_files.specs.Common.{Files, OfFiles}
 
 pub of_files : (told : Option Files) (P : Files → Type 0) → ((files : Files) → told ≡ Some files → P files) → OfFiles told P
 of_files None P each = tt

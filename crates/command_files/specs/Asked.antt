@@ -2,10 +2,9 @@
 -- there.
 use Rattle.std.specs.Prelude.{ℕ, ◌<◌, ◌≤◌, List, length}
 use Rattle.board_spec.specs.Setup.{IsRomSize, IsDiskSize}
-use Rattle.script_spec.specs.ScriptText.{IsScriptBad}
-use Rattle.script_spec.specs.Checks.{IsLogOf, DiffersAt}
+use Rattle.script_spec.specs.Common.{IsScriptBad, IsLogOf, DiffersAt}
 use Rattle.board_image.specs.Laws.{IsImageOf}
-use Rattle.command_texts.specs.Images.{IsSameBoard}
+use Rattle.command_texts.specs.Images.{IsForBoard}
 use Rattle.command_words.specs.Words.{Command, Check, Resume}
 use Rattle.command_files.specs.declared.status.Which.{Which}
 use Rattle.command_files.specs.declared.status.Which.TheVariants.{Script, Rom, Disk, Image}
@@ -24,7 +23,7 @@ pub record ReadsFile (command : Command) (files : Files) (which : Which) (P : (n
   pub holds : P name (files name)
 
 -- a file is within its limit, and more
-pub record Fits (which : Which) (P : List ℕ → Type 0) (name bytes : List ℕ) : Type 0 where
+pub record FitsFile (which : Which) (P : List ℕ → Type 0) (name bytes : List ℕ) : Type 0 where
   pub fits : length bytes ≤ limit_of which
   pub holds : P bytes
 
@@ -48,11 +47,11 @@ LogDiffers known line =
 
 -- the board of the image is that of the script
 abbrev pub BoardsAgree : Known → Type 0
-BoardsAgree known = OfScript known (λ script. OfImage known (λ image. IsSameBoard image.setup script))
+BoardsAgree known = OfScript known (λ script. OfImage known (λ image. IsForBoard image.setup script))
 
 -- and it is another
 abbrev pub BoardsDiffer : Known → Type 0
-BoardsDiffer known = OfScript known (λ script. OfImage known (λ image. ¬ IsSameBoard image.setup script))
+BoardsDiffer known = OfScript known (λ script. OfImage known (λ image. ¬ IsForBoard image.setup script))
 
 abbrev pub CanBeDone : Command → Known → Type 0
 CanBeDone (Check script log) known = LogIsLegal known
@@ -80,6 +79,6 @@ EndsWith command known _ = ⊥
 abbrev pub AsksFor : Command → Files → Status → Type 0
 AsksFor command files (TooLong which) = ReadsFile command files which (λ name bytes. limit_of which < length bytes)
 AsksFor command files (BadScript line why) =
-    ReadsFile command files Script (Fits Script (λ bytes. IsScriptBad bytes line why))
-AsksFor command files (BadImage which) = ReadsFile command files which (Fits which (IsNoImage which))
+    ReadsFile command files Script (FitsFile Script (λ bytes. IsScriptBad bytes line why))
+AsksFor command files (BadImage which) = ReadsFile command files which (FitsFile which (IsNoImage which))
 AsksFor command files status = (known : Known) × AllRead command files known × EndsWith command known status

@@ -33,9 +33,9 @@ place_after [] = 0
 place_after (latest ∷ before) = place_after before + count_of latest.came
 
 -- the latest fetch brought at least one byte: it did not fail, and did not find the end
-abbrev pub GoesOn : List Fetch → Type 0
-GoesOn [] = Unit {0}
-GoesOn (latest ∷ before) = 0 < count_of latest.came
+abbrev pub BroughtBytes : List Fetch → Type 0
+BroughtBytes [] = Unit {0}
+BroughtBytes (latest ∷ before) = 0 < count_of latest.came
 
 -- the latest fetch found the end of the file
 abbrev pub FoundEnd : List Fetch → Type 0
@@ -48,7 +48,7 @@ pub record ReadsOn (name : List ℕ) (limit : ℕ) (before : List Fetch) (fetch 
   pub named : fetch.name ≡ name
   pub place : fetch.at ≡ place_after before
   pub within : place_after before ≤ limit
-  pub goes_on : GoesOn before
+  pub goes_on : BroughtBytes before
 
 -- the fetches read the file of this name from its start on, each once
 abbrev pub IsReading : (name : List ℕ) → (limit : ℕ) → List Fetch → Type 0
@@ -59,7 +59,7 @@ IsReading name limit (latest ∷ before) = ReadsOn name limit before latest × I
 
 -- a command reads the file of this name, if it comes so far: the words have the name, or the script that was read before,
 -- which is known where the shelf tells its files
-pub record Reaches (command : Command) (told : Option Files) (which : Which) (name : List ℕ) : Type 0 where
+pub record ReachesFile (command : Command) (told : Option Files) (which : Which) (name : List ℕ) : Type 0 where
   pub can_read : CanRead command which
   pub comes : OfFiles told (λ files. (known : Known) × ComesTo command files which known name)
   pub in_words : (other : List ℕ) → name_in_words command which ≡ Some other → other ≡ name
@@ -67,7 +67,7 @@ pub record Reaches (command : Command) (told : Option Files) (which : Which) (na
 -- these fetches read the command's file of this kind, and to its end where another file was read later
 pub record Reads (command : Command) (told : Option Files) (which : Which) (later made : List Fetch) : Type 0 where
   pub name : List ℕ
-  pub reaches : Reaches command told which name
+  pub reaches : ReachesFile command told which name
   pub reading : IsReading name (limit_of which) made
   pub whole : later ≢ [] → FoundEnd made
 

@@ -9,3 +9,4 @@ pub mod Outcomes
 pub mod Calls
 pub mod Laws
 pub mod Steps
+pub mod Common

@@ -9,7 +9,7 @@ use Rattle.command_files.specs.declared.status.Status.{Status}
 use Rattle.command_files.specs.declared.status.Status.TheVariants.{Done, Usage, ReadFault, WriteFault, TooLong, BadScript, BadImage, Differs, OtherBoard, NoMemory}
 use Rattle.command_files.specs.Table.{files_of, name_in_words, limit_of}
 use Rattle.command_files.specs.Known.{Files}
-use Rattle.command_files.specs.Asked.{ReadsFile, Fits, IsNoImage, AsksFor}
+use Rattle.command_files.specs.Asked.{ReadsFile, FitsFile, IsNoImage, AsksFor}
 
 -- ---- what a shelf tells
 
@@ -84,9 +84,9 @@ IsNotTaken which name shelf (ReadFault other) =
 IsNotTaken which name shelf (TooLong other) =
     (other ≡ which) × OfFile shelf.files name (λ file. limit_of which < length file)
 IsNotTaken which name shelf (BadScript line why) =
-    (which ≡ Script) × OfFile shelf.files name (Fits Script (λ bytes. IsScriptBad bytes line why) name)
+    (which ≡ Script) × OfFile shelf.files name (FitsFile Script (λ bytes. IsScriptBad bytes line why) name)
 IsNotTaken which name shelf (BadImage other) =
-    (other ≡ which) × IsImageKind which × OfFile shelf.files name (Fits which (IsNoImage which) name)
+    (other ≡ which) × IsImageKind which × OfFile shelf.files name (FitsFile which (IsNoImage which) name)
 IsNotTaken which name shelf NoMemory = Unit {0}
 IsNotTaken which name shelf _ = ⊥
 

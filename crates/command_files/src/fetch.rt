@@ -5,8 +5,7 @@ ghost use Rattle.board_base.specs.Outside.{OfFile};
 ghost use Rattle.command_files.specs.declared.status.Which.{Which};
 ghost use Rattle.command_files.specs.declared.status.Status.{Status};
 ghost use Rattle.command_files.specs.Table.{limit_of};
-ghost use Rattle.command_files.specs.Outcomes.{shelf_call};
-ghost use Rattle.command_files.specs.Outcomes.{IsNotTaken};
+ghost use Rattle.command_files.specs.Outcomes.{shelf_call, IsNotTaken};
 ghost use Rattle.command_files.specs.Calls.{OfCalls, ReadsBy};
 
 use crate::files::{FileFault, read_file};

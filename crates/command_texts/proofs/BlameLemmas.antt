@@ -1,22 +1,10 @@
 -- The numbers of a report are those of changes.
-use Rattle.std.proofs.Common.{◌≡◌, ℕ, ◌-◌, ◌≤◌, true, List, length, get_or, sym, subst, arith, refl}
-use Rattle.std.specs.Prelude.{All, ◌==◌, ◌++◌, flat_map, Result, Ok, Err, IfOk}
-use Rattle.std.proofs.lemmas.Bool.{eq-eqb}
-use Rattle.std.proofs.lemmas.List.{length-map}
+use Rattle.std.proofs.Common.{◌≡◌, ℕ, ◌-◌, ◌≤◌, true, List, length, get_or, sym, subst, arith, refl, All, ◌==◌, ◌++◌, flat_map, Result, Ok, Err, IfOk}
+use Rattle.board_prelude.proofs.Common.{eq-eqb, length-map, list_any_at, MapChange, Setup, Entry, IsReplayOf, map_writes_of, registers_after, MapRange, IsRight}
 use Rattle.std.proofs.Math.ListN.{get_or-map}
-use Rattle.std.proofs.lemmas.List.Folds.{list_any_at}
-use Rattle.board_spec.specs.declared.map_change.MapChange.{MapChange}
-use Rattle.board_spec.specs.Setup.{Setup}
-use Rattle.board_spec.specs.declared.event.Entry.{Entry}
-use Rattle.board_spec.specs.Orders.{IsReplayOf}
-use Rattle.board_spec.specs.MapWrites.{map_writes_of, registers_after}
-use Rattle.board_spec.specs.FlatMap.{MapRange, IsRight}
 use Rattle.map_blame.specs.declared.blamed.Blamed.{Blamed}
-use Rattle.map_blame.specs.Since.{IsSince}
-use Rattle.map_blame.specs.Keep.{is_among, IsKeep}
-use Rattle.map_blame.specs.Report.{map_range_of, AreBlamed, IsBlame}
-use Rattle.script_spec.specs.ScriptText.{Script as Said}
-use Rattle.script_spec.specs.ScriptRange.{statements_in}
+use Rattle.map_blame.specs.Common.{IsSince, is_among, IsKeep, map_range_of, AreBlamed, IsBlame}
+use Rattle.script_spec.specs.Common.{Script as Said, statements_in}
 use Rattle.command_texts.specs.Blame.{blamed_text, keep_text, IsBlameText}
 use Rattle.map_blame.proofs.KeptLemmas.{kept_number}
 

@@ -1,12 +1,9 @@
 -- What `==` says of the bases of cards.
-use Rattle.std.proofs.Common.{◌≡◌, inl, inr, ℕ, Bool, true, false, List, [], ◌∷◌, Decides, refl, sym, ap, ◌∙◌, subst}
-use Rattle.std.specs.Prelude.{map, not, nat_eq, Option, Some, None}
-use Rattle.std.specs.Option.{option_eq}
+use Rattle.std.proofs.Common.{◌≡◌, inl, inr, ℕ, Bool, true, false, List, [], ◌∷◌, Decides, refl, sym, ap, ◌∙◌, subst, map, not, nat_eq, Option, Some, None}
+use Rattle.board_prelude.proofs.Common.{option_eq, cases_Bool, false≢true, eqb-true, eq-eqb, Base, MemoryBase, IoBase, FittedCard}
 use Rattle.std.specs.Cmp.Lexicographic.{pointwise}
-use Rattle.std.proofs.lemmas.Bool.{cases_Bool, false≢true, eqb-true, eq-eqb}
 use Rattle.std.proofs.lemmas.Bool.Decides.{Decides-like}
 use Rattle.std.proofs.lemmas.Slice.Eq.{slice_eq-Decides}
-use Rattle.board_spec.specs.Setup.{Base, MemoryBase, IoBase, FittedCard}
 use Rattle.pci_bars.specs.declared.spec.BaseSpec.{BaseSpec}
 use Rattle.pci_bars.specs.declared.spec.BaseSpec.TheVariants.{Memory, Io}
 use Rattle.pci_bars.specs.contracts.spec.BaseSpecPartialEq.TheImpl.{eq-value}

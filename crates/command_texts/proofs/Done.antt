@@ -1,18 +1,11 @@
 -- What a board did, put together.
-use Rattle.std.proofs.Common.{◌≡◌, ℕ, List, [], ◌∷◌, ◌++◌, refl, sym, ap, ◌∙◌, subst}
-use Rattle.std.specs.Prelude.{map, reverse, length, Result, Ok, Err, OnOk, OnErr}
-use Rattle.std.proofs.lemmas.List.{append-nil, append_assoc, map-append, reverse-append, length-map, length-reverse}
-use Rattle.board_spec.specs.declared.event.Entry.{Entry}
-use Rattle.board_spec.specs.declared.event.Reply.{Reply}
-use Rattle.board_spec.specs.declared.event.Statement.{Statement}
-use Rattle.board_spec.specs.Setup.{Setup}
-use Rattle.board_spec.specs.Answer.{IsAnswer}
-use Rattle.board_spec.specs.Legal.{next_entry, IsLegal}
-use Rattle.board_spec.specs.Orders.{statement_of, statements_of, IsReplayOf}
+use Rattle.std.proofs.Common.{◌≡◌, ℕ, List, [], ◌∷◌, ◌++◌, refl, sym, ap, ◌∙◌, subst, map, reverse, length, Result, Ok, Err, OnOk, OnErr}
+use Rattle.board_prelude.proofs.Common.{append-nil, map-append, reverse-append, length-map, length-reverse, Entry, Reply, Statement, Setup, IsAnswer, next_entry, IsLegal, statement_of, statements_of, IsReplayOf}
+use Rattle.std.proofs.lemmas.List.{append_assoc}
 use Rattle.board_core.specs.Kept.{Standing}
-use Rattle.command_texts.specs.Done.{HasDone}
+use Rattle.command_texts.specs.Done.{DidStatements}
 
-pub done_none : (old new : Standing) → new.setup ≡ old.setup → new.entries ≡ old.entries → HasDone old [] new
+pub done_none : (old new : Standing) → new.setup ≡ old.setup → new.entries ≡ old.entries → DidStatements old [] new
 done_none old new setup entries = record {
   setup = setup;
   same = ap statements_of entries ∙ sym (append-nil (statements_of old.entries));
@@ -20,8 +13,8 @@ done_none old new setup entries = record {
 }
 
 pub done_more :
-    (old between new : Standing) (first later : List Statement) → HasDone old first between → HasDone between later new →
-    HasDone old (first ++ later) new
+    (old between new : Standing) (first later : List Statement) → DidStatements old first between → DidStatements between later new →
+    DidStatements old (first ++ later) new
 done_more old between new first later one two = record {
   setup = two.setup ∙ one.setup;
   same =
@@ -42,7 +35,7 @@ pub done_one :
       setup = old.setup;
       entries = next_entry old.entries statement.actor statement.event reply ∷ old.entries;
       spare = spare;
-    } → HasDone old (statement ∷ []) new
+    } → DidStatements old (statement ∷ []) new
 done_one old new statement reply spare answer is = record {
   setup = ap (λ (board : Standing). board.setup) is;
   same =
@@ -57,7 +50,7 @@ done_one old new statement reply spare answer is = record {
 -- a board that goes on after a replay
 pub replay_goes_on :
     (setup : Setup) (old new : Standing) (steps statements : List Statement) → old.setup ≡ setup →
-    IsReplayOf setup steps old.entries → HasDone old statements new → IsReplayOf setup (steps ++ statements) new.entries
+    IsReplayOf setup steps old.entries → DidStatements old statements new → IsReplayOf setup (steps ++ statements) new.entries
 replay_goes_on setup old new steps statements is replay done = record {
   legal =
       subst (λ (setup : Setup). IsLegal setup new.entries) (done.setup ∙ is)
@@ -67,7 +60,7 @@ replay_goes_on setup old new steps statements is replay done = record {
 
 -- what a fresh board did is the replay
 pub done_is_replay :
-    (old new : Standing) (statements : List Statement) → old.entries ≡ [] → HasDone old statements new →
+    (old new : Standing) (statements : List Statement) → old.entries ≡ [] → DidStatements old statements new →
     IsReplayOf old.setup statements new.entries
 done_is_replay old new statements fresh done =
     replay_goes_on old.setup old new [] statements refl
@@ -75,13 +68,13 @@ done_is_replay old new statements fresh done =
 
 pub replay_result :
     {T E : Type 0} (result : Result T E) (old new : Standing) (statements : List Statement) → old.entries ≡ [] →
-    OnOk result (HasDone old statements new) → OnOk result (IsReplayOf old.setup statements new.entries)
+    OnOk result (DidStatements old statements new) → OnOk result (IsReplayOf old.setup statements new.entries)
 replay_result (Ok value) old new statements fresh done = done_is_replay old new statements fresh done
 replay_result (Err fault) old new statements fresh done = tt
 
 pub same_setup :
     {T E : Type 0} (result : Result T E) (old new : Standing) (statements : List Statement) →
-    OnOk result (HasDone old statements new) → OnErr result (new ≡ old) → new.setup ≡ old.setup
+    OnOk result (DidStatements old statements new) → OnErr result (new ≡ old) → new.setup ≡ old.setup
 same_setup (Ok value) old new statements done same = done.setup
 same_setup (Err fault) old new statements done same = ap (λ (board : Standing). board.setup) same
 

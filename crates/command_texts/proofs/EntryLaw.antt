@@ -1,15 +1,7 @@
 -- The entry of a version is the first after which the map had it.
-use Rattle.std.proofs.Common.{◌≡◌, ℕ, zero, suc, ◌+◌, ◌-◌, ◌≤◌, inl, inr, List, [], ◌∷◌, length, drop, refl, sym, ap, ◌∙◌, subst, arith}
-use Rattle.std.specs.Prelude.{Option, Some, None}
-use Rattle.std.specs.Option.{option_to_list}
-use Rattle.std.proofs.lemmas.Bool.{cases_lt}
-use Rattle.std.proofs.lemmas.List.{length-append}
-use Rattle.board_spec.specs.declared.event.Entry.{Entry}
-use Rattle.board_spec.specs.declared.map_change.MapChange.{MapChange}
-use Rattle.board_spec.specs.Setup.{Setup}
-use Rattle.board_spec.specs.MapWrites.{map_change_of, map_writes_of, version_of}
-use Rattle.command_texts.specs.Blame.{entry_of_version}
-use Rattle.command_texts.specs.Laws.{first_entries, IsFirstWith, EntryOfVersionIsFirst}
+use Rattle.std.proofs.Common.{◌≡◌, ℕ, zero, suc, ◌+◌, ◌-◌, ◌≤◌, inl, inr, List, [], ◌∷◌, length, drop, refl, sym, ap, ◌∙◌, subst, arith, Option, Some, None}
+use Rattle.board_prelude.proofs.Common.{option_to_list, cases_lt, length-append, Entry, MapChange, Setup, map_change_of, map_writes_of, version_of}
+use Rattle.command_texts.specs.Common.{entry_of_version, first_entries, IsFirstWith, EntryOfVersionIsFirst}
 use Rattle.command_texts.proofs.MapWrites.{entry_before, entry_now}
 
 -- ---- versions rise by at most one with each entry

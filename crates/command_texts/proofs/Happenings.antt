@@ -1,29 +1,13 @@
 -- What happens to a board with a serial port, one thing after another.
-use Rattle.std.proofs.Common.{◌≡◌, ℕ, zero, suc, ◌+◌, ◌≤◌, Bool, true, false, List, [], ◌∷◌, ◌++◌, length, map, reverse, inl, inr, refl, sym, ap, subst, ◌∙◌, append-nil, append_assoc, length-append, arith}
-use Rattle.std.specs.Prelude.{if◌then◌else◌, None}
-use Rattle.std.proofs.lemmas.Bool.{cases_Bool}
-use Rattle.std.proofs.lemmas.List.{length-map, length-reverse, nil_from_length}
-use Rattle.board_spec.specs.declared.event.Event.{Event}
-use Rattle.board_spec.specs.declared.event.Event.TheVariants.{Line}
-use Rattle.board_spec.specs.declared.event.Entry.{Entry}
-use Rattle.board_spec.specs.declared.event.Statement.{Statement}
-use Rattle.board_spec.specs.Answer.{IsAnswer}
-use Rattle.board_spec.specs.Registers.{reset_control, resets_hard, control_written, control_after, is_hard_reset}
-use Rattle.board_spec.specs.Orders.{statement_of, statements_of}
+use Rattle.std.proofs.Common.{◌≡◌, ℕ, zero, suc, ◌+◌, ◌≤◌, Bool, true, false, List, [], ◌∷◌, ◌++◌, length, map, reverse, inl, inr, refl, sym, ap, subst, ◌∙◌, append-nil, append_assoc, length-append, arith, if◌then◌else◌, None}
+use Rattle.board_prelude.proofs.Common.{cases_Bool, length-map, length-reverse, nil_from_length, Event, Line, Entry, Statement, IsAnswer, reset_control, resets_hard, control_written, control_after, is_hard_reset, statement_of, statements_of}
 use Rattle.board_core.specs.Kept.{Standing}
 use Rattle.uart_16550.specs.declared.com1.Com1.{Com1}
 use Rattle.uart_16550.specs.declared.com1.Happening.{Happening}
 use Rattle.uart_16550.specs.declared.com1.Happening.TheVariants.{Comes, Happens}
-use Rattle.uart_16550.specs.Uart.{received}
-use Rattle.uart_16550.specs.Writes.{differ}
-use Rattle.uart_16550.specs.Com1.{com1_actor, com1_at_reset, com1_irq, level_of, line_steps, change_steps, com1_after, board_steps}
-use Rattle.uart_16550.specs.Serial.{Serial, GoesOn, IsLeftAt, IsLeftAfter}
-use Rattle.uart_16550.specs.Sent.{Sending, sending_after, sent_by, bytes_sent, steps_for}
-use Rattle.uart_16550.specs.SerialOrder.{after_all}
-use Rattle.uart_16550.proofs.ControlProofs.{control_follows}
-use Rattle.uart_16550.proofs.SerialSteps.{statements_joined}
-use Rattle.command_texts.specs.Serial.{steps_for_all}
-use Rattle.command_texts.specs.SerialSteps.{IsStanding, Happened, port_of}
+use Rattle.uart_16550.specs.Common.{received, differ, com1_actor, com1_at_reset, com1_irq, level_of, line_steps, change_steps, com1_after, board_steps, Serial, GoesOnBy, IsLeftAt, IsLeftAfter, Sending, sending_after, sent_by, bytes_sent, steps_for, after_all}
+use Rattle.uart_16550.proofs.Common.{control_follows, statements_joined}
+use Rattle.command_texts.specs.Common.{steps_for_all, IsStanding, Happened, port_of}
 
 -- ---- lists of happenings, cut
 
@@ -71,10 +55,10 @@ now_standing new before steps after =
     subst (IsLeftHere new.board (level_of new.com1)) (sym after.left_at.left) after.left_at
 
 now_goes_on : (new : Serial Standing) (before : List Entry) (steps : List Statement) →
-    IsAfterHere new.board (level_of new.com1) before steps → GoesOn before steps new.board.entries
-now_goes_on new before steps after = subst (GoesOn before steps) (sym after.left_at.left) after.goes_on
+    IsAfterHere new.board (level_of new.com1) before steps → GoesOnBy before steps new.board.entries
+now_goes_on new before steps after = subst (GoesOnBy before steps) (sym after.left_at.left) after.goes_on
 
-steps_added : (before after : List Entry) (steps : List Statement) → GoesOn before steps after →
+steps_added : (before after : List Entry) (steps : List Statement) → GoesOnBy before steps after →
     statements_of after ≡ statements_of before ++ steps
 steps_added before after steps goes_on =
     ap statements_of goes_on.grows
@@ -91,16 +75,16 @@ no_more more none =
 
 -- a level of line 4 leaves it
 level_leaves : (before after : List Entry) (on : Bool) →
-    GoesOn before (record { actor = com1_actor; event = Line com1_irq on } ∷ []) after →
+    GoesOnBy before (record { actor = com1_actor; event = Line com1_irq on } ∷ []) after →
     reset_control after ≡ reset_control before
 level_leaves before after on goes_on = control_follows before after com1_actor (Line com1_irq on) com1_at_reset goes_on
 
 line_leaves : (before after : List Entry) (old new : Bool) →
-    GoesOn before (line_steps old new) after → reset_control after ≡ reset_control before
+    GoesOnBy before (line_steps old new) after → reset_control after ≡ reset_control before
 line_leaves before after old new goes_on = elim (cases_Bool (differ old new)) [
   | inl moves ↦ level_leaves before after new (rw moves at goes_on)
   | inr stays ↦
-      let still : GoesOn before [] after = rw stays at goes_on in
+      let still : GoesOnBy before [] after = rw stays at goes_on in
       ap reset_control still.grows
       ∙ ap (λ (more : List Entry). reset_control (more ++ before)) (no_more still.more still.same)
 ]

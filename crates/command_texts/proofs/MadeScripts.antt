@@ -1,20 +1,11 @@
 -- The script that is made, and its images.
-use Rattle.std.proofs.Common.{◌≡◌, ℕ, zero, suc, ◌+◌, ◌*◌, ◌<◌, ◌≤◌, List, [], ◌∷◌, ◌++◌, length, refl, sym, ap, ◌∙◌, subst, length-append, arith}
-use Rattle.std.specs.Prelude.{Some, Result, Ok, Err, IfOk}
-use Rattle.board_spec.specs.declared.event.Entry.{Entry}
-use Rattle.board_spec.specs.Orders.{IsReplayOf}
-use Rattle.script_spec.specs.ScriptRange.{statements_in}
-use Rattle.board_spec.specs.Setup.{Setup, IsRomSize, IsDisk, IsSetup}
-use Rattle.board_spec.specs.Text.{line_feed}
-use Rattle.script_spec.specs.Lines.{text_of_lines}
-use Rattle.script_spec.specs.ScriptText.{Script as Said, IsScriptText}
-use Rattle.make_script.specs.MakeText.{setup_lines, opening_lines, round_lines, lines_of_rounds, make_lines, make_text}
-use Rattle.make_script.specs.Images.{rom_image, disk_image}
-use Rattle.make_script.specs.MadeScript.{made_setup}
+use Rattle.std.proofs.Common.{◌≡◌, ℕ, zero, suc, ◌+◌, ◌*◌, ◌<◌, ◌≤◌, List, [], ◌∷◌, ◌++◌, length, refl, sym, ap, ◌∙◌, subst, length-append, arith, Some, Result, Ok, Err, IfOk}
+use Rattle.board_prelude.proofs.Common.{Entry, IsReplayOf, Setup, IsRomSize, IsDisk, IsSetup, line_feed}
+use Rattle.script_spec.specs.Common.{statements_in, text_of_lines, Script as Said, IsScriptText}
+use Rattle.make_script.specs.Common.{setup_lines, opening_lines, round_lines, lines_of_rounds, make_lines, make_text, rom_image, disk_image, made_setup}
 use Rattle.board_chipset.specs.declared.setup.BoardOpen.{BoardOpen}
 use Rattle.board_chipset.specs.declared.setup.BoardOpen.TheVariants.{BadRom, BadDisk}
-use Rattle.command_texts.specs.Replays.{HasSummary, IsMakeText, made_setup_of}
-use Rattle.command_texts.specs.Fitted.{IsNotOpened}
+use Rattle.command_texts.specs.Common.{HasSummary, IsMakeText, made_setup_of, IsNotOpened}
 
 -- ---- how long the text is
 

@@ -1,16 +1,10 @@
 -- The map writes of a history as they are noted.
-use Rattle.std.proofs.Common.{◌≡◌, ℕ, ◌+◌, ◌-◌, ◌<◌, ◌≤◌, inl, inr, true, false, List, [], ◌∷◌, ◌++◌, length, get_or, reverse, refl, sym, ap, ◌∙◌, subst, arith, length-append}
-use Rattle.std.specs.Prelude.{Some, None, slice_index, nat_lt}
-use Rattle.std.proofs.lemmas.Bool.{cases_lt, lt-ltb, le-ltb}
-use Rattle.std.proofs.lemmas.List.{length-reverse, reverse-append, get_or_append_left, get_or-append-add}
-use Rattle.board_spec.specs.declared.event.Entry.{Entry}
-use Rattle.board_spec.specs.declared.map_change.MapChange.{MapChange}
-use Rattle.board_spec.specs.Setup.{Setup}
-use Rattle.board_spec.specs.MapWrites.{map_change_of, map_writes_of, version_of}
+use Rattle.std.proofs.Common.{◌≡◌, ℕ, ◌+◌, ◌-◌, ◌<◌, ◌≤◌, inl, inr, true, false, List, [], ◌∷◌, ◌++◌, length, get_or, reverse, refl, sym, ap, ◌∙◌, subst, arith, length-append, Some, None, slice_index, nat_lt}
+use Rattle.board_prelude.proofs.Common.{cases_lt, lt-ltb, le-ltb, length-reverse, reverse-append, get_or_append_left, Entry, MapChange, Setup, map_change_of, map_writes_of, version_of}
+use Rattle.std.proofs.lemmas.List.{get_or-append-add}
 use Rattle.board_core.specs.Kept.{Standing}
 use Rattle.command_texts.specs.declared.writes.MapWrites.{MapWrites}
-use Rattle.command_texts.specs.Blame.{entry_of_version}
-use Rattle.command_texts.specs.Writes.{AreWritesOf}
+use Rattle.command_texts.specs.Common.{entry_of_version, AreWritesOf}
 
 pub no_writes :
     (setup : Setup) (writes : MapWrites) → writes.changes.items ≡ [] → writes.entries.items ≡ [] → AreWritesOf setup [] writes

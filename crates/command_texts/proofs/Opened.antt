@@ -1,6 +1,5 @@
 -- A board that was opened has a disk of whole sectors, or none.
-use Rattle.std.proofs.Common.{◌≡◌, ℕ, Option, List, refl}
-use Rattle.std.specs.Prelude.{◌↔◌, Result, Ok, Err, OnOk}
+use Rattle.std.proofs.Common.{◌≡◌, ℕ, Option, List, refl, ◌↔◌, Result, Ok, Err, OnOk}
 use Rattle.board_spec.specs.Setup.{IsDisk}
 use Rattle.board_chipset.specs.declared.setup.BoardOpen.{BoardOpen}
 use Rattle.board_chipset.specs.declared.setup.BoardOpen.TheVariants.{BadDisk}

@@ -1,16 +1,10 @@
 -- A phase of a script that is done after those before it.
 use Rattle.std.proofs.Common.{◌≡◌, ℕ, ◌+◌, ◌<◌, List, [], ◌++◌, take, drop, length, get_or, sym, ap, ◌∙◌, subst, append-nil, length-append}
-use Rattle.std.specs.declared.vec.Vec.{Vec}
-use Rattle.std.specs.Global.{Global}
-use Rattle.board_spec.specs.declared.event.Statement.{Statement}
-use Rattle.board_spec.specs.InRange.{IsInRange}
-use Rattle.board_spec.specs.Setup.{Setup}
-use Rattle.board_spec.specs.OrderLaws.{in_file_order}
-use Rattle.board_core.specs.Kept.{Standing}
-use Rattle.board_core.specs.Steps.{AreInRange}
+use Rattle.board_prelude.proofs.Common.{Vec, Global, Statement, IsInRange, Setup, in_file_order}
+use Rattle.board_core.specs.Common.{Standing, AreInRange}
 use Rattle.script_spec.specs.Phases.{lists_of}
 use Rattle.log_check.proofs.PhaseLists.{phases_cut, phases_more, statements_cut, all_of_phase}
-use Rattle.command_texts.specs.Done.{HasDone}
+use Rattle.command_texts.specs.Done.{DidStatements}
 use Rattle.command_texts.proofs.Done.{done_more}
 
 -- the statements of the phases before this one
@@ -36,9 +30,9 @@ module _ (phases : List (Vec Statement Global)) (i : ℕ) (phase : Vec Statement
 
   pub phase_done :
       (old between new : Standing) (statements : List Statement) → statements ≡ phase.items →
-      HasDone old (said_before phases i) between → HasDone between statements new → HasDone old (said_before phases (i + 1)) new
+      DidStatements old (said_before phases i) between → DidStatements between statements new → DidStatements old (said_before phases (i + 1)) new
   phase_done old between new statements same before here =
-      subst (λ (all : List Statement). HasDone old all new)
+      subst (λ (all : List Statement). DidStatements old all new)
       (ap (λ (items : List Statement). said_before phases i ++ items) same ∙ sym said_with)
       (done_more old between new (said_before phases i) statements before here)
 

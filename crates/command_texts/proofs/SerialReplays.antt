@@ -1,23 +1,14 @@
 -- A replay on a board with a serial port, one statement after another.
 use Rattle.std.proofs.Common.{◌≡◌, ℕ, ◌+◌, ◌*◌, ◌<◌, ◌≤◌, List, [], ◌∷◌, ◌++◌, length, map, take, drop, get_or, All, refl, sym, ap, subst, ◌∙◌, append-nil, append_assoc, length-append, arith}
-use Rattle.std.specs.declared.vec.Vec.{Vec}
-use Rattle.std.specs.Global.{Global}
+use Rattle.board_prelude.proofs.Common.{Vec, Global, take_more, length-take-le, Statement, in_file_order, statements_of, Setup}
 use Rattle.std.proofs.Math.Nat.{le-add_right}
-use Rattle.std.proofs.lemmas.List.{take_more, length-take-le}
-use Rattle.board_spec.specs.declared.event.Statement.{Statement}
-use Rattle.board_spec.specs.OrderLaws.{in_file_order}
-use Rattle.board_spec.specs.Orders.{statements_of}
-use Rattle.board_spec.specs.Setup.{Setup}
 use Rattle.board_core.specs.Kept.{Standing}
 use Rattle.uart_16550.specs.declared.com1.Happening.{Happening}
 use Rattle.uart_16550.specs.declared.com1.Happening.TheVariants.{Comes, Happens}
-use Rattle.uart_16550.specs.Serial.{Serial}
-use Rattle.uart_16550.specs.Sent.{Sending, sending_after, sent_by, bytes_sent}
-use Rattle.uart_16550.specs.SerialOrder.{after_all}
+use Rattle.uart_16550.specs.Common.{Serial, Sending, sending_after, sent_by, bytes_sent, after_all}
 use Rattle.script_spec.specs.Phases.{lists_of}
 use Rattle.log_check.proofs.PhaseLists.{all_of_phase, few_so_far, phases_cut, phases_more, statements_cut}
-use Rattle.command_texts.specs.Serial.{bytes_before, left_after, happenings_of, happenings_in, steps_for_all, steps_in, sent_in}
-use Rattle.command_texts.specs.SerialSteps.{IsForPort, IsStanding, Happened, Place, WentOn, port_of}
+use Rattle.command_texts.specs.Common.{bytes_before, left_after, happenings_of, happenings_in, steps_for_all, steps_in, sent_in, IsForPort, IsStanding, Happened, SerialPlace, WentOn, port_of}
 use Rattle.command_texts.proofs.Happenings.{sent-append, none_sent, happened_twice}
 
 -- the first statement and those after it
@@ -49,7 +40,7 @@ sent_of port bytes statement =
     ∙ ap (λ (front : List ℕ). front ++ bytes_sent middle (Happens statement.event ∷ [])) (none_sent port bytes)
     ∙ append-nil (sent_by middle (Happens statement.event))
 
-pub went_nowhere : (place : Place) → IsStanding place.serial → WentOn place [] place
+pub went_nowhere : (place : SerialPlace) → IsStanding place.serial → WentOn place [] place
 went_nowhere place standing = record {
   setup = refl;
   standing = standing;
@@ -107,7 +98,7 @@ went_on_step statement old middle new input left sent after gone received done a
     (record { serial = new; input = rest; sent = after }))
     (sym gone) (went_on_once statement old middle new input sent after received done added one two)
 
-pub went_on_twice : (old middle new : Place) (first second : List Statement) →
+pub went_on_twice : (old middle new : SerialPlace) (first second : List Statement) →
     WentOn old first middle → WentOn middle second new → WentOn old (first ++ second) new
 went_on_twice old middle new first second one two =
     let size : length (first ++ second) ≡ length first + length second = length-append first second in
@@ -128,7 +119,7 @@ went_on_twice old middle new first second one two =
     }
 
 -- one statement more of a list
-pub went_on_more : (statements : List Statement) (i : ℕ) (statement : Statement) (old middle new : Place) →
+pub went_on_more : (statements : List Statement) (i : ℕ) (statement : Statement) (old middle new : SerialPlace) →
     i < length statements → WentOn old (take i statements) middle →
     WentOn middle (get_or statements i statement ∷ []) new → WentOn old (take (i + 1) statements) new
 went_on_more statements i statement old middle new within so_far next =
@@ -136,7 +127,7 @@ went_on_more statements i statement old middle new within so_far next =
     (went_on_twice old middle new (take i statements) (get_or statements i statement ∷ []) so_far next)
 
 -- the room that is left is enough for the statements that are left
-pub room_for_next : (statements : List Statement) (i : ℕ) (old middle : Place) → i < length statements →
+pub room_for_next : (statements : List Statement) (i : ℕ) (old middle : SerialPlace) → i < length statements →
     3 * length statements ≤ old.serial.board.spare → WentOn old (take i statements) middle →
     3 ≤ middle.serial.board.spare
 room_for_next statements i old middle within room so_far =
@@ -144,7 +135,7 @@ room_for_next statements i old middle within room so_far =
     omega (arith, so_far.spare)
 
 -- a phase more
-pub went_on_phase : (phases : List (Vec Statement Global)) (i : ℕ) (phase : Vec Statement Global) (old middle new : Place) →
+pub went_on_phase : (phases : List (Vec Statement Global)) (i : ℕ) (phase : Vec Statement Global) (old middle new : SerialPlace) →
     i < length phases → phase ≡ get_or phases i phase →
     WentOn old (in_file_order (lists_of (take i phases))) middle → WentOn middle phase.items new →
     WentOn old (in_file_order (lists_of (take (i + 1) phases))) new
@@ -156,7 +147,7 @@ went_on_phase phases i phase old middle new within is so_far next =
     subst (λ (done : List Statement). WentOn old done new) (sym more)
     (went_on_twice old middle new (in_file_order before) phase.items so_far next)
 
-pub room_for_phase : (phases : List (Vec Statement Global)) (i : ℕ) (phase : Vec Statement Global) (old middle : Place) →
+pub room_for_phase : (phases : List (Vec Statement Global)) (i : ℕ) (phase : Vec Statement Global) (old middle : SerialPlace) →
     i < length phases → phase ≡ get_or phases i phase →
     3 * length (in_file_order (lists_of phases)) ≤ old.serial.board.spare →
     WentOn old (in_file_order (lists_of (take i phases))) middle → 3 * length phase.items ≤ middle.serial.board.spare
@@ -183,6 +174,6 @@ phase_for_port setup phases i phase within is all =
     (subst (λ (ps : List (List Statement)). All (IsForPort setup) (in_file_order ps)) (phases_cut phases i phase within is) all)
 
 -- the same under another name of the statements
-pub went_on_as : (old new : Place) (statements others : List Statement) → statements ≡ others → WentOn old statements new →
+pub went_on_as : (old new : SerialPlace) (statements others : List Statement) → statements ≡ others → WentOn old statements new →
     WentOn old others new
 went_on_as old new statements others same went = subst (λ (list : List Statement). WentOn old list new) same went

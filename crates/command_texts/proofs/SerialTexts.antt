@@ -1,32 +1,14 @@
 -- What a board with a serial port sent in a whole replay.
-use Rattle.std.proofs.Common.{◌≡◌, ℕ, ◌+◌, ◌<◌, ◌≤◌, Bool, true, false, List, [], ◌∷◌, ◌++◌, length, All, refl, sym, ap, subst, ◌∙◌, append-nil, arith}
-use Rattle.std.specs.Prelude.{slice_index, if◌then◌else◌}
-use Rattle.std.specs.Option.{option_to_list}
-use Rattle.std.proofs.lemmas.Bool.{cases_Bool}
-use Rattle.board_base.specs.declared.access.PortAccess.{PortAccess}
-use Rattle.board_spec.specs.declared.event.Event.{Event}
-use Rattle.board_spec.specs.declared.event.Reply.{Reply}
-use Rattle.board_spec.specs.declared.event.Entry.{Entry}
-use Rattle.board_spec.specs.declared.event.Statement.{Statement}
-use Rattle.board_spec.specs.Setup.{Setup}
-use Rattle.board_spec.specs.Answer.{IsAnswer}
-use Rattle.board_spec.specs.Registers.{reset_control}
-use Rattle.board_spec.specs.Legal.{IsLegal}
-use Rattle.board_spec.specs.Laws.{LegalKeepsLock}
-use Rattle.board_spec.specs.Orders.{statements_of, IsReplayOf}
+use Rattle.std.proofs.Common.{◌≡◌, ℕ, ◌+◌, ◌<◌, ◌≤◌, Bool, true, false, List, [], ◌∷◌, ◌++◌, length, All, refl, sym, ap, subst, ◌∙◌, append-nil, arith, slice_index, if◌then◌else◌}
+use Rattle.board_prelude.proofs.Common.{option_to_list, cases_Bool, PortAccess, Event, Reply, Entry, Statement, Setup, IsAnswer, reset_control, IsLegal, LegalKeepsLock, statements_of, IsReplayOf}
 use Rattle.board_core.specs.Kept.{Standing}
-use Rattle.script_spec.specs.ScriptText.{Script as Said}
-use Rattle.script_spec.specs.ScriptRange.{IsInRangeScript, statements_in}
+use Rattle.script_spec.specs.Common.{Script as Said, IsInRangeScript, statements_in}
 use Rattle.uart_16550.specs.declared.com1.Com1.{Com1}
 use Rattle.uart_16550.specs.declared.com1.Happening.TheVariants.{Happens}
 use Rattle.uart_16550.specs.declared.com1.SerialReply.{SerialReply}
 use Rattle.uart_16550.specs.declared.com1.SerialReply.TheVariants.{Board}
-use Rattle.uart_16550.specs.Uart.{Uart, has_room}
-use Rattle.uart_16550.specs.Com1.{com1_at_reset, uart_access, uart_reply}
-use Rattle.uart_16550.specs.Serial.{Serial}
-use Rattle.uart_16550.specs.Sent.{Sending, sending_at_reset, sent_by, sent_by_access}
-use Rattle.command_texts.specs.Serial.{bytes_before, left_after, happenings_in, steps_in, sent_in, IsSerialText}
-use Rattle.command_texts.specs.SerialSteps.{IsForPort, Place, WentOn, port_of}
+use Rattle.uart_16550.specs.Common.{Uart, has_room, com1_at_reset, uart_access, uart_reply, Serial, Sending, sending_at_reset, sent_by, sent_by_access}
+use Rattle.command_texts.specs.Common.{bytes_before, left_after, happenings_in, steps_in, sent_in, IsSerialText, IsForPort, SerialPlace, WentOn, port_of}
 use Rattle.command_texts.proofs.Happenings.{port_is}
 
 -- ---- the byte that comes

@@ -1,8 +1,7 @@
 -- Lines of a text.
-use Rattle.std.proofs.Common.{◌≡◌, ℕ, ◌+◌, ◌-◌, ◌<◌, List, ◌∷◌, ◌++◌, [], take, length, get_or, sym, ap, ◌∙◌, append_assoc, length-append, arith}
-use Rattle.std.specs.Prelude.{flat_map, slice_index}
-use Rattle.std.proofs.Math.Seq.{take-append_seam, get_or-append_seam}
-use Rattle.std.proofs.lemmas.List.{take_more, flat_map_more}
+use Rattle.std.proofs.Common.{◌≡◌, ℕ, ◌+◌, ◌-◌, ◌<◌, List, ◌∷◌, ◌++◌, [], take, length, get_or, sym, ap, ◌∙◌, append_assoc, length-append, arith, flat_map, slice_index}
+use Rattle.board_prelude.proofs.Common.{take-append_seam, get_or-append_seam, take_more}
+use Rattle.std.proofs.lemmas.List.{flat_map_more}
 
 -- the line of the element at i makes the text one line longer
 pub lines_more :

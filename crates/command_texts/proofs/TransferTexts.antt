@@ -1,23 +1,12 @@
 -- What a transfer tells is that of the definition over what the history left.
-use Rattle.std.proofs.Common.{◌≡◌, ℕ, ◌+◌, ◌*◌, ◌<◌, Bool, true, List, [], ◌∷◌, ◌++◌, length, append_assoc, refl, sym, ap, ◌∙◌}
-use Rattle.std.specs.Prelude.{nat_lt, if◌then◌else◌, slice_index, Option, Result, Ok, Err, IfOk, OnOk}
-use Rattle.std.proofs.lemmas.Bool.{lt-ltb}
-use Rattle.board_base.specs.declared.access.Width.TheVariants.{One}
-use Rattle.device_spec.specs.Ata.State.{Disk}
-use Rattle.board_spec.specs.declared.event.Entry.{Entry}
-use Rattle.board_spec.specs.Setup.{Setup, installed}
-use Rattle.board_spec.specs.Registers.{byte_of}
-use Rattle.board_spec.specs.Devices.{disk_of}
-use Rattle.board_spec.specs.Text.{space}
-use Rattle.board_spec.specs.Stored.{Cell, DramCell, dram_byte}
+use Rattle.std.proofs.Common.{◌≡◌, ℕ, ◌+◌, ◌*◌, ◌<◌, Bool, true, List, [], ◌∷◌, ◌++◌, length, append_assoc, refl, sym, ap, ◌∙◌, nat_lt, if◌then◌else◌, slice_index, Option, Result, Ok, Err, IfOk, OnOk}
+use Rattle.board_prelude.proofs.Common.{lt-ltb, One, Disk, Entry, Setup, installed, byte_of, disk_of, space, Cell, DramCell, dram_byte}
 use Rattle.dram_store.specs.Dram.{dram_at, IsDramOf}
 use Rattle.dram_store.proofs.DramLemmas.{read_stored}
 use Rattle.pci_bars.specs.Contents.{IsContentsOf}
 use Rattle.board_chipset.specs.declared.store.Store.{Store}
 use Rattle.bus_master.specs.declared.done.Done.{Done}
-use Rattle.bus_master.specs.Registers.{Master, register_of}
-use Rattle.bus_master.specs.Transfer.{Moving, transferred, done_of, master_after, medium_of, with_medium}
-use Rattle.bus_master.specs.Stores.{cells_of, transfer_of, IsCell}
+use Rattle.bus_master.specs.Common.{Master, register_of, Moving, transferred, done_of, master_after, medium_of, with_medium, cells_of, transfer_of, IsCell}
 use Rattle.command_words.specs.declared.transfer.Transfer.{Transfer}
 use Rattle.command_texts.specs.Transfers.{AreCellsAfter, HasTransferText, started, transfer_after, sum_below, dram_sum, disk_sum, ended_line, sums_line, transfer_text}
 use Rattle.command_texts.proofs.Sums.{sum_below-same}

@@ -1,13 +1,7 @@
 -- What `blame` puts: the address map with the entries of the history that made it.
 use Rattle.std.specs.Prelude.{ℕ, ◌≡◌, ◌+◌, ◌++◌, nat_lt, if◌then◌else◌, List, [], ◌∷◌, length, flat_map, codes, decimal}
-use Rattle.board_spec.specs.declared.event.Entry.{Entry}
-use Rattle.board_spec.specs.Setup.{Setup}
-use Rattle.board_spec.specs.Orders.{IsReplayOf}
-use Rattle.board_spec.specs.MapWrites.{map_writes_of, version_of}
-use Rattle.board_spec.specs.MapText.{range_text}
-use Rattle.board_spec.specs.Text.{space, line_feed}
-use Rattle.script_spec.specs.ScriptText.{Script as Said}
-use Rattle.script_spec.specs.ScriptRange.{statements_in}
+use Rattle.board_prelude.specs.Common.{Entry, Setup, IsReplayOf, map_writes_of, version_of, range_text, space, line_feed}
+use Rattle.script_spec.specs.Common.{Script as Said, statements_in}
 use Rattle.map_blame.specs.declared.blamed.Blamed.{Blamed}
 use Rattle.map_blame.specs.Report.{map_range_of, IsBlame}
 

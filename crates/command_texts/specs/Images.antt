@@ -1,12 +1,7 @@
 -- What `save` and `resume` put: the image of a board, and the log of a board that goes on from its image.
 use Rattle.std.specs.Prelude.{ℕ, ◌≡◌, ◌++◌, List, is_some}
-use Rattle.board_spec.specs.declared.event.Entry.{Entry}
-use Rattle.board_spec.specs.Setup.{Setup}
-use Rattle.board_spec.specs.Orders.{IsReplayOf, statements_of}
-use Rattle.board_spec.specs.LockLaw.{LockLaw}
-use Rattle.board_spec.specs.LogText.{log_text}
-use Rattle.script_spec.specs.ScriptText.{Script as Said}
-use Rattle.script_spec.specs.ScriptRange.{statements_in}
+use Rattle.board_prelude.specs.Common.{Entry, Setup, IsReplayOf, statements_of, LockLaw, log_text}
+use Rattle.script_spec.specs.Common.{Script as Said, statements_in}
 use Rattle.board_image.specs.ImageBytes.{Saved, image_bytes}
 
 -- the image of a board after the replay of a script: its setup, and the statements of its history, which are the
@@ -18,7 +13,7 @@ pub record IsSaveText (setup : Setup) (script : Said) (text : List ℕ) : Type 0
 
 -- a script is for a board like this one: it has as much memory, the same cards, and a disk where this one has one.
 -- What the ROM and the disk hold may differ
-pub record IsSameBoard (setup : Setup) (script : Said) : Type 0 where
+pub record IsForBoard (setup : Setup) (script : Said) : Type 0 where
   pub memory : setup.mib ≡ script.mib
   pub cards : setup.cards ≡ script.cards
   pub disk : is_some setup.disk ≡ is_some script.disk

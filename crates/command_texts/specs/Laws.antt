@@ -1,8 +1,6 @@
 -- What the laws say: each is proved on a function of `laws`.
 use Rattle.std.specs.Prelude.{ℕ, ◌≡◌, ◌-◌, ◌≤◌, List, length, drop}
-use Rattle.board_spec.specs.declared.event.Entry.{Entry}
-use Rattle.board_spec.specs.Setup.{Setup}
-use Rattle.board_spec.specs.MapWrites.{version_of}
+use Rattle.board_prelude.specs.Common.{Entry, Setup, version_of}
 use Rattle.command_texts.specs.Blame.{entry_of_version}
 
 -- the first entries of a history, so many

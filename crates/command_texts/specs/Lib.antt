@@ -9,3 +9,4 @@ pub mod Laws
 pub mod Transfers
 pub mod Serial
 pub mod SerialSteps
+pub mod Common

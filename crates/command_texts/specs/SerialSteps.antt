@@ -1,18 +1,11 @@
 -- How a replay on a board with a serial port goes on.
 use Rattle.std.specs.Prelude.{ℕ, ◌≡◌, ◌+◌, ◌*◌, ◌<◌, ◌≤◌, ◌++◌, List, length, All, Option, None}
-use Rattle.board_spec.specs.declared.event.Statement.{Statement}
-use Rattle.board_spec.specs.Setup.{Setup}
-use Rattle.board_spec.specs.InRange.{IsInRange}
-use Rattle.board_spec.specs.Registers.{reset_control}
-use Rattle.board_spec.specs.Orders.{statements_of}
+use Rattle.board_prelude.specs.Common.{Statement, Setup, IsInRange, reset_control, statements_of}
 use Rattle.board_core.specs.Kept.{Standing}
 use Rattle.uart_16550.specs.declared.com1.Happening.{Happening}
 use Rattle.uart_16550.specs.declared.com1.SerialReply.{SerialReply}
 use Rattle.uart_16550.specs.declared.com1.SerialReply.TheVariants.{Board, Uart}
-use Rattle.uart_16550.specs.Com1.{com1_actor}
-use Rattle.uart_16550.specs.Serial.{Serial, IsLeftBy}
-use Rattle.uart_16550.specs.Sent.{Sending}
-use Rattle.uart_16550.specs.SerialOrder.{after_all}
+use Rattle.uart_16550.specs.Common.{com1_actor, Serial, IsLeftBy, Sending, after_all}
 use Rattle.command_texts.specs.Serial.{steps_for_all, steps_in, sent_in}
 
 -- the byte that an access sent
@@ -44,13 +37,13 @@ pub record Happened (actor : ℕ) (old : Serial Standing) (happenings : List Hap
       ≡ statements_of old.board.entries ++ steps_for_all actor (port_of old) happenings
 
 -- how far it came: the board with its port, the input that is left, and the bytes that were sent
-pub record Place : Type 0 where
+pub record SerialPlace : Type 0 where
   pub serial : Serial Standing
   pub input : List ℕ
   pub sent : List ℕ
 
 -- it went on with these statements: whatever comes later, all is sent and done in the whole that was to be
-pub record WentOn (old : Place) (statements : List Statement) (new : Place) : Type 0 where
+pub record WentOn (old : SerialPlace) (statements : List Statement) (new : SerialPlace) : Type 0 where
   pub setup : new.serial.board.setup ≡ old.serial.board.setup
   pub standing : IsStanding new.serial
   pub sent :

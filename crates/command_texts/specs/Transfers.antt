@@ -1,22 +1,12 @@
 -- What `dma` asks of a bus master after a replay, and the text of the transfer.
 use Rattle.std.specs.Prelude.{ℕ, zero, suc, ◌≡◌, ◌+◌, ◌*◌, ◌%◌, ◌<◌, ◌≤◌, ◌++◌, ◌∷◌, [], List, slice_index, codes, decimal, Option, Some, None, if◌then◌else◌}
-use Rattle.device_spec.specs.Ata.State.{Disk, sectors_of}
-use Rattle.board_spec.specs.declared.event.Entry.{Entry}
-use Rattle.board_spec.specs.Setup.{Setup, installed, card_at}
-use Rattle.board_spec.specs.Registers.{byte_of}
-use Rattle.board_spec.specs.Stored.{DramCell, CardCell, dram_byte, card_byte}
-use Rattle.board_spec.specs.Devices.{disk_of}
-use Rattle.board_spec.specs.Orders.{IsReplayOf}
-use Rattle.board_spec.specs.Text.{space, line_feed, hex_byte, hex_long, denial_text}
+use Rattle.board_prelude.specs.Common.{Disk, sectors_of, Entry, Setup, installed, card_at, byte_of, DramCell, CardCell, dram_byte, card_byte, disk_of, IsReplayOf, space, line_feed, hex_byte, hex_long, denial_text}
 use Rattle.pci_bars.specs.Contents.{IsBaseNumber, kept_size}
 use Rattle.bus_master.specs.declared.done.Done.{Done}
 use Rattle.bus_master.specs.declared.done.End.{End}
 use Rattle.bus_master.specs.declared.done.End.TheVariants.{Exact, Longer, Shorter, Abort, Sector}
-use Rattle.bus_master.specs.Cells.{Cells}
-use Rattle.bus_master.specs.Registers.{Master}
-use Rattle.bus_master.specs.Transfer.{Moving, transferred, done_of, master_after, medium_of, with_medium}
-use Rattle.script_spec.specs.ScriptText.{Script as Said}
-use Rattle.script_spec.specs.ScriptRange.{statements_in}
+use Rattle.bus_master.specs.Common.{Cells, Master, Moving, transferred, done_of, master_after, medium_of, with_medium}
+use Rattle.script_spec.specs.Common.{Script as Said, statements_in}
 use Rattle.command_words.specs.declared.transfer.Transfer.{Transfer}
 
 -- ---- the transfer

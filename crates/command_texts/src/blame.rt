@@ -1,10 +1,8 @@
 //! The command `blame`: since which map write each range of the address map stands, and on which map writes it rests.
 
 ghost use Rattle.std.specs.Prelude.{◌≡◌, ◌++◌, ◌≤◌, ℕ, List, All, length, flat_map, IfOk, OnOk};
-ghost use Rattle.board_spec.specs.declared.event.Entry.{Entry};
-ghost use Rattle.board_spec.specs.Setup.{Setup};
-ghost use Rattle.board_spec.specs.MapText.{range_text};
-ghost use Rattle.board_script.specs.Adds.{Adds};
+ghost use Rattle.board_prelude.specs.Common.{Entry, Setup, range_text};
+ghost use Rattle.board_script.specs.Adds.{AddsWords};
 ghost use Rattle.map_builder.specs.Map.{range_of};
 ghost use Rattle.script_text.specs.Script.{said_of};
 ghost use Rattle.command_texts.specs.Blame.{version_text, blamed_text, keep_text, IsBlameText};
@@ -23,7 +21,7 @@ use std::alloc::Global;
 
 /// Appends the line of a range as `map` writes it, without its line feed.
 fn push_range_words(text: &mut String, range: &Range) -> Result<(), NoMemory>
-    ensures appended { OnOk result (Adds text.old text.new (range_text (range_of range.now))) }
+    ensures appended { OnOk result (AddsWords text.old text.new (range_text (range_of range.now))) }
 {
     push_range(text, range.lo, range.hi, &range.row.areas)?;
     text.pop();
@@ -34,7 +32,7 @@ fn push_range_words(text: &mut String, range: &Range) -> Result<(), NoMemory>
 fn push_version(text: &mut String, writes: &MapWrites, version: u32) -> Result<(), NoMemory>
     requires version { version ≤ length writes.now.entries.items }
     ensures appended { (setup : Setup) (history : List Entry) → AreWritesOf setup history writes.now
-        → OnOk result (Adds text.old text.new (version_text setup history version)) }
+        → OnOk result (AddsWords text.old text.new (version_text setup history version)) }
 {
     push_decimal(text, u64::from(version))?;
     push_words(text, " ")?;
@@ -46,7 +44,7 @@ fn push_version(text: &mut String, writes: &MapWrites, version: u32) -> Result<(
 fn push_blamed(text: &mut String, writes: &MapWrites, blamed: &Blamed) -> Result<(), NoMemory>
     requires version { blamed.now.since ≤ length writes.now.entries.items }
     ensures appended { (setup : Setup) (history : List Entry) → AreWritesOf setup history writes.now
-        → OnOk result (Adds text.old text.new (blamed_text setup history blamed.now)) }
+        → OnOk result (AddsWords text.old text.new (blamed_text setup history blamed.now)) }
 {
     push_range_words(text, &blamed.range)?;
     push_words(text, " ")?;
@@ -57,7 +55,7 @@ fn push_blamed(text: &mut String, writes: &MapWrites, blamed: &Blamed) -> Result
 fn push_keep(text: &mut String, writes: &MapWrites, version: u32) -> Result<(), NoMemory>
     requires version { version ≤ length writes.now.entries.items }
     ensures appended { (setup : Setup) (history : List Entry) → AreWritesOf setup history writes.now
-        → OnOk result (Adds text.old text.new (keep_text setup history version)) }
+        → OnOk result (AddsWords text.old text.new (keep_text setup history version)) }
 {
     push_words(text, "keep ")?;
     push_version(text, writes, version)
@@ -67,7 +65,7 @@ fn push_keep(text: &mut String, writes: &MapWrites, version: u32) -> Result<(), 
 fn push_ranges(text: &mut String, writes: &MapWrites, ranges: &[Blamed]) -> Result<(), NoMemory>
     requires versions { All (λ blamed. blamed.since ≤ length writes.now.entries.items) ranges.now }
     ensures appended { (setup : Setup) (history : List Entry) → AreWritesOf setup history writes.now
-        → OnOk result (Adds text.old text.new (flat_map (blamed_text setup history) ranges.now)) }
+        → OnOk result (AddsWords text.old text.new (flat_map (blamed_text setup history) ranges.now)) }
 {
     for blamed in ranges {
         push_blamed(text, writes, blamed)?;
@@ -79,7 +77,7 @@ fn push_ranges(text: &mut String, writes: &MapWrites, ranges: &[Blamed]) -> Resu
 fn push_keeps(text: &mut String, writes: &MapWrites, keep: &[u32]) -> Result<(), NoMemory>
     requires versions { All (λ version. version ≤ length writes.now.entries.items) keep.now }
     ensures appended { (setup : Setup) (history : List Entry) → AreWritesOf setup history writes.now
-        → OnOk result (Adds text.old text.new (flat_map (keep_text setup history) keep.now)) }
+        → OnOk result (AddsWords text.old text.new (flat_map (keep_text setup history) keep.now)) }
 {
     for version in keep {
         push_keep(text, writes, *version)?;

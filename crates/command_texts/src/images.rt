@@ -6,7 +6,7 @@ ghost use Rattle.script_spec.specs.ScriptRange.{IsInRangeScript, statements_in};
 ghost use Rattle.script_text.specs.Script.{said_of};
 ghost use Rattle.board_image.specs.ImageBytes.{IsImage};
 ghost use Rattle.command_texts.specs.Fresh.{IsFreshFor};
-ghost use Rattle.command_texts.specs.Images.{IsSameBoard, IsSaveText, IsResumeText};
+ghost use Rattle.command_texts.specs.Images.{IsForBoard, IsSaveText, IsResumeText};
 
 use crate::replay::{do_statements, log_of_board, replay_script};
 use board_base::NoMemory;
@@ -50,7 +50,7 @@ fn are_same_cards(cards: &[CardSpec], others: &[CardSpec]) -> bool
 /// Whether a script is for a board with this setup: both have the same memory and the same cards, and both have a disk
 /// or neither has.
 pub fn is_same_board(setup: &Setup, script: &Script) -> bool
-    ensures same { (result ≡ true) ↔ IsSameBoard setup.now (said_of script.now) }
+    ensures same { (result ≡ true) ↔ IsForBoard setup.now (said_of script.now) }
 {
     setup.mib == script.mib
         && setup.disk.is_some() == script.disk.is_some()
@@ -84,7 +84,7 @@ pub fn image_of_replay(alloc: Global, board: &mut Board, script: &Script) -> Res
 fn resumed(alloc: Global, image: Image, script: &Script) -> Result<Board, NoMemory>
     requires image { IsImage image.setup image.steps }
     requires in_range { IsInRangeScript (said_of script.now) }
-    requires same { IsSameBoard image.setup (said_of script.now) }
+    requires same { IsForBoard image.setup (said_of script.now) }
     ensures setup { IfOk result (λ board. board.setup ≡ image.setup) }
     ensures replay { IfOk result (λ board. IsReplayOf image.setup
         (image.steps ++ statements_in (said_of script.now)) board.entries) }
@@ -100,7 +100,7 @@ fn resumed(alloc: Global, image: Image, script: &Script) -> Result<Board, NoMemo
 pub fn log_of_resumed(alloc: Global, image: Image, script: &Script) -> Result<Text, NoMemory>
     requires image { IsImage image.setup image.steps }
     requires in_range { IsInRangeScript (said_of script.now) }
-    requires same { IsSameBoard image.setup (said_of script.now) }
+    requires same { IsForBoard image.setup (said_of script.now) }
     ensures text { IfOk result (IsResumeText image (said_of script.now)) }
 {
     let board = resumed(alloc, image, script)?;

@@ -1,19 +1,13 @@
 //! Replays of a script on its board, and the texts of `replay`, `map` and `check`.
 
 ghost use Rattle.std.specs.Prelude.{◌≡◌, ◌∷◌, ◌++◌, ◌≤◌, ◌⊎◌, ℕ, [], Ok, Err, length, map, flat_map, string_bytes, codes, decimal, IfOk, IfErr, OnOk, OnErr};
-ghost use Rattle.board_spec.specs.Legal.{IsLegal};
-ghost use Rattle.board_spec.specs.Limits.{most_statements};
-ghost use Rattle.board_spec.specs.LogText.{log_text};
-ghost use Rattle.board_spec.specs.Orders.{IsReplayOf, IsBegunFor};
-ghost use Rattle.board_spec.specs.Text.{line_feed};
-ghost use Rattle.board_spec.specs.MapText.{map_text};
+ghost use Rattle.board_prelude.specs.Common.{IsLegal, most_statements, log_text, IsReplayOf, IsBegunFor, line_feed, map_text};
 ghost use Rattle.map_builder.specs.Map.{range_of};
-ghost use Rattle.script_spec.specs.ScriptRange.{IsInRangeScript, statements_in};
-ghost use Rattle.script_spec.specs.Checks.{IsLogOf, DiffersAt};
+ghost use Rattle.script_spec.specs.Common.{IsInRangeScript, statements_in, IsLogOf, DiffersAt};
 ghost use Rattle.script_text.specs.Script.{said_of};
 ghost use Rattle.log_check.specs.declared.fault.CheckFault.{CheckFault};
 ghost use Rattle.log_check.specs.Checked.{IsCheckedLog, StandsAfter};
-ghost use Rattle.command_texts.specs.Done.{HasDone};
+ghost use Rattle.command_texts.specs.Done.{DidStatements};
 ghost use Rattle.command_texts.specs.Fresh.{IsFreshFor};
 ghost use Rattle.command_texts.specs.Replays.{IsReplayText, IsMapText, IsLegalText};
 
@@ -33,7 +27,7 @@ pub(crate) fn do_statements(board: &mut Board, script: &Script) -> Result<(), No
     requires in_range { IsInRangeScript (said_of script.now) }
     requires cards { board.old.setup.cards ≡ (said_of script.now).cards }
     requires before { length board.old.entries ≤ most_statements }
-    ensures done { OnOk result (HasDone board.old (statements_in (said_of script.now)) board.new) }
+    ensures done { OnOk result (DidStatements board.old (statements_in (said_of script.now)) board.new) }
     ensures err { OnErr result (board.new ≡ board.old) }
 {
     board.reserve(statement_count(&script.phases))?;

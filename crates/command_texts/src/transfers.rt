@@ -3,7 +3,7 @@
 ghost use Rattle.std.specs.Prelude.{◌≡◌, ◌++◌, ◌*◌, ◌≤◌, Some, length, slice_index, IfOk, OnOk};
 ghost use Rattle.script_text.specs.Script.{said_of};
 ghost use Rattle.dram_store.specs.Bank.{bank_size};
-ghost use Rattle.board_script.specs.Adds.{Adds};
+ghost use Rattle.board_script.specs.Adds.{AddsWords};
 ghost use Rattle.command_words.specs.Words.{IsTransfer};
 ghost use Rattle.command_texts.specs.Fresh.{IsFreshFor};
 ghost use Rattle.command_texts.specs.Transfers.{HasTransferText, IsTransferText, started, sum_below, disk_sum, end_text, ended_line, sums_line};
@@ -89,7 +89,7 @@ fn sector_sum(disk: &Ata) -> u64
 
 /// Appends the words for how a transfer ended.
 fn push_end(text: &mut String, end: End) -> Result<(), NoMemory>
-    ensures appended { OnOk result (Adds text.old text.new (end_text end)) }
+    ensures appended { OnOk result (AddsWords text.old text.new (end_text end)) }
 {
     match end {
         End::Exact => push_words(text, "exact"),
@@ -102,7 +102,7 @@ fn push_end(text: &mut String, end: End) -> Result<(), NoMemory>
 
 /// Appends the address at which nobody answered, and what denied the access.
 fn push_abort(text: &mut String, addr: u32, denial: Denial) -> Result<(), NoMemory>
-    ensures appended { OnOk result (Adds text.old text.new (end_text (End.Abort addr denial))) }
+    ensures appended { OnOk result (AddsWords text.old text.new (end_text (End.Abort addr denial))) }
 {
     push_words(text, "abort ")?;
     push_hex_long(text, addr)?;
@@ -112,7 +112,7 @@ fn push_abort(text: &mut String, addr: u32, denial: Denial) -> Result<(), NoMemo
 
 /// Appends the number of the sector that does not exist or is bad.
 fn push_sector(text: &mut String, lba: u32) -> Result<(), NoMemory>
-    ensures appended { OnOk result (Adds text.old text.new (end_text (End.Sector lba))) }
+    ensures appended { OnOk result (AddsWords text.old text.new (end_text (End.Sector lba))) }
 {
     push_words(text, "sector ")?;
     push_decimal(text, u64::from(lba))
@@ -120,7 +120,7 @@ fn push_sector(text: &mut String, lba: u32) -> Result<(), NoMemory>
 
 /// Appends the line of how a transfer ended, of the status after it, and of how many bytes it moved.
 fn push_ended(text: &mut String, done: Done, status: u8) -> Result<(), NoMemory>
-    ensures appended { OnOk result (Adds text.old text.new (ended_line done status)) }
+    ensures appended { OnOk result (AddsWords text.old text.new (ended_line done status)) }
 {
     push_end(text, done.end)?;
     push_words(text, " status ")?;
@@ -132,7 +132,7 @@ fn push_ended(text: &mut String, done: Done, status: u8) -> Result<(), NoMemory>
 
 /// Appends the line of the sums of DRAM and disk.
 fn push_sums(text: &mut String, dram: u64, disk: u64) -> Result<(), NoMemory>
-    ensures appended { OnOk result (Adds text.old text.new (sums_line dram disk)) }
+    ensures appended { OnOk result (AddsWords text.old text.new (sums_line dram disk)) }
 {
     push_words(text, "dram ")?;
     push_decimal(text, dram)?;

@@ -1,15 +1,12 @@
 //! The map writes of a replay, noted while its statements are done.
 
 ghost use Rattle.std.specs.Prelude.{◌≡◌, ◌-◌, ◌++◌, ◌≤◌, ◌∷◌, [], ℕ, List, length, IfOk, OnOk};
-ghost use Rattle.board_spec.specs.declared.event.Entry.{Entry};
-ghost use Rattle.board_spec.specs.Setup.{Setup};
-ghost use Rattle.board_spec.specs.InRange.{IsInRange};
-ghost use Rattle.board_spec.specs.Orders.{IsReplayOf};
+ghost use Rattle.board_prelude.specs.Common.{Entry, Setup, IsInRange, IsReplayOf};
 ghost use Rattle.board_core.specs.Steps.{AreInRange};
 ghost use Rattle.script_spec.specs.ScriptRange.{statements_in};
 ghost use Rattle.script_text.specs.Script.{said_of};
 ghost use Rattle.command_texts.specs.Blame.{entry_of_version};
-ghost use Rattle.command_texts.specs.Done.{HasDone};
+ghost use Rattle.command_texts.specs.Done.{DidStatements};
 ghost use Rattle.command_texts.specs.Fresh.{IsFreshFor};
 ghost use Rattle.command_texts.specs.Writes.{AreWritesOf};
 
@@ -71,7 +68,7 @@ fn step_noting(
     requires in_range { IsInRange board.old.setup statement.now.event }
     requires spare { 1 ≤ board.old.spare }
     requires writes { AreWritesOf board.old.setup board.old.entries writes.old }
-    ensures done { OnOk result (HasDone board.old (statement.now ∷ []) board.new) }
+    ensures done { OnOk result (DidStatements board.old (statement.now ∷ []) board.new) }
     ensures spare { OnOk result (board.new.spare ≡ board.old.spare - 1) }
     ensures writes { OnOk result (AreWritesOf board.new.setup board.new.entries writes.new) }
 {
@@ -91,7 +88,7 @@ fn steps_noting(
     requires in_range { AreInRange board.old.setup statements.now }
     requires spare { length statements.now ≤ board.old.spare }
     requires writes { AreWritesOf board.old.setup board.old.entries writes.old }
-    ensures done { OnOk result (HasDone board.old statements.now board.new) }
+    ensures done { OnOk result (DidStatements board.old statements.now board.new) }
     ensures spare { OnOk result (board.new.spare ≡ board.old.spare - length statements.now) }
     ensures writes { OnOk result (AreWritesOf board.new.setup board.new.entries writes.new) }
 {

@@ -1,13 +1,8 @@
 -- The words that ask for a command are those that a user writes.
-use Rattle.std.proofs.Common.{◌≡◌, ℕ, ◌%◌, inl, inr, eqb, leb, cond, Bool, true, false, List, [], ◌∷◌, Option, Some, None, refl, sym, ap, ◌∙◌, subst, arith}
-use Rattle.std.specs.Prelude.{codes, decimal, bytes_eq}
+use Rattle.std.proofs.Common.{◌≡◌, ℕ, ◌%◌, inl, inr, eqb, leb, cond, Bool, true, false, List, [], ◌∷◌, Option, Some, None, refl, sym, ap, ◌∙◌, subst, arith, codes, decimal, bytes_eq}
 use Rattle.std.proofs.lemmas.Bool.{cases_Bool, leb-true, le-leb, eqb-true, eq-eqb}
-use Rattle.script_spec.specs.Grammar.{IsDecimal}
-use Rattle.script_spec.specs.Numbers.{decimal_of, hex_of}
-use Rattle.script_spec.proofs.Chains.{some_is, guarded, then_said, both}
-use Rattle.script_spec.proofs.Joins.{word_is}
-use Rattle.script_spec.proofs.NumberTexts.{decimal_read}
-use Rattle.script_spec.proofs.NumberBack.{decimal_back}
+use Rattle.script_spec.specs.Common.{IsDecimal, decimal_of, hex_of}
+use Rattle.script_spec.proofs.Common.{some_is, guarded, then_said, both, word_is, decimal_read, decimal_back}
 use Rattle.make_script.specs.Laws.{most_rounds}
 use Rattle.command_words.specs.declared.transfer.Transfer.{Transfer}
 use Rattle.command_words.specs.Words.{Command, Replay, Run, Map, Check, Make, Dma, Save, Resume, Serial, Blame, IsTransfer, IsCommand, direction_word, AreWordsOf, with_name, with_names, is_round_count, make_of, is_transfer, direction_of, dma_of, command_of, WordsDecide, OneCommand}

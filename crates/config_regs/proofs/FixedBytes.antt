@@ -1,20 +1,10 @@
 -- A register that nothing changes holds after every history what a reset leaves.
 use Rattle.std.proofs.Common.{◌≡◌, ◌≢◌, ◌<◌, ℕ, List, [], ◌∷◌, ◌⊎◌, false, Option, Some, None, refl, inl, inr, arith}
-use Rattle.std.proofs.lemmas.Bool.{cases_lt, ne_eqb}
-use Rattle.board_base.specs.declared.target.Reg.{Reg}
-use Rattle.board_spec.specs.declared.event.Entry.{Entry}
-use Rattle.board_spec.specs.declared.map_change.MapChange.{MapChange}
-use Rattle.board_spec.specs.declared.map_change.MapChange.TheVariants.{Store, Reset}
-use Rattle.board_spec.specs.Setup.{Setup}
-use Rattle.board_spec.specs.RegisterNames.{bridge, isa, smram, is_same}
-use Rattle.board_spec.specs.RegisterTable.{reset_byte}
-use Rattle.board_spec.specs.Registers.{byte_with, register_change, byte_of}
+use Rattle.board_prelude.proofs.Common.{cases_lt, ne_eqb, Reg, Entry, MapChange, Store, Reset, Setup, bridge, isa, smram, is_same, reset_byte, byte_with, register_change, byte_of}
 use Rattle.pmc_regs.specs.Pmc.{IsFixedOffset}
-use Rattle.pmc_regs.proofs.TableLemmas.{writable_bits-fixed}
-use Rattle.pmc_regs.proofs.PmcLemmas.{reset_byte-small}
+use Rattle.pmc_regs.proofs.Common.{writable_bits-fixed, reset_byte-small}
 use Rattle.xbus_select.specs.Piix.{IsIsaFixed}
-use Rattle.xbus_select.proofs.FixedLemmas.{IsFixedAt, kept_byte}
-use Rattle.xbus_select.proofs.PiixLemmas.{fixed_at}
+use Rattle.xbus_select.proofs.Common.{IsFixedAt, kept_byte, fixed_at}
 use Rattle.addr_decode.proofs.StandsLemmas.{IsBeside}
 use Rattle.config_regs.specs.Config.{HasFixed}
 

@@ -1,14 +1,7 @@
 -- Which functions exist, and the card at a device number.
-use Rattle.std.proofs.Common.{◌≡◌, ◌≢◌, ℕ, ◌+◌, ◌<◌, ◌⊎◌, inl, inr, true, false, List, None, refl, sym, ◌∙◌, ap, arith}
-use Rattle.std.specs.Prelude.{◌==◌, find, is_some}
-use Rattle.std.proofs.lemmas.Bool.{cases_eq, ne_eqb, false≢true}
-use Rattle.board_base.specs.declared.access.Width.{Width}
-use Rattle.board_base.specs.declared.access.Width.TheVariants.{One, Two, Four}
-use Rattle.board_base.specs.declared.target.Reg.{Reg}
-use Rattle.board_base.specs.Access.{bytes_of}
-use Rattle.board_spec.specs.Setup.{Setup, card_at}
-use Rattle.board_spec.specs.Bits.{wide}
-use Rattle.board_spec.specs.RegisterTable.{function_at}
+use Rattle.std.proofs.Common.{◌≡◌, ◌≢◌, ℕ, ◌+◌, ◌<◌, ◌⊎◌, inl, inr, true, false, List, None, refl, sym, ◌∙◌, ap, arith, ◌==◌, find, is_some}
+use Rattle.board_prelude.proofs.Common.{cases_eq, ne_eqb, false≢true, Width, One, Reg, bytes_of, Setup, card_at, wide, function_at}
+use Rattle.board_base.specs.declared.access.Width.TheVariants.{Two, Four}
 use Rattle.pci_bars.specs.Cards.{CardBytes, cards_of}
 use Rattle.pci_bars.proofs.CardListLemmas.{card_is}
 use Rattle.addr_decode.proofs.PortLemmas.{card_exists as function_of_card}

@@ -1,19 +1,6 @@
 -- What a store leaves of the registers of the 82371SB.
-use Rattle.std.proofs.Common.{◌≡◌, ◌≢◌, ℕ, ◌+◌, ◌&&◌, false, sym, ◌∙◌, add-one}
-use Rattle.std.specs.Prelude.{◌==◌}
-use Rattle.std.proofs.lemmas.Bool.{cond-false, ne_eqb, and_left}
-use Rattle.board_base.specs.declared.access.Width.{Width}
-use Rattle.board_base.specs.declared.access.Width.TheVariants.{One}
-use Rattle.board_base.specs.declared.target.Reg.{Reg}
-use Rattle.board_base.specs.Access.{bytes_of}
-use Rattle.board_spec.specs.declared.map_change.MapChange.TheVariants.{Store}
-use Rattle.board_spec.specs.Setup.{Setup}
-use Rattle.board_spec.specs.Bits.{byte}
-use Rattle.board_spec.specs.Registers.{covers, changed_byte}
-use Rattle.board_spec.specs.MapWrites.{reg_after}
-use Rattle.board_spec.specs.WideStores.{after_stores}
-use Rattle.board_spec.specs.Decode.{Bytes}
-use Rattle.board_spec.proofs.StoreLemmas.{byte_by_byte}
+use Rattle.std.proofs.Common.{◌≡◌, ◌≢◌, ℕ, ◌+◌, ◌&&◌, false, sym, ◌∙◌, add-one, ◌==◌}
+use Rattle.board_prelude.proofs.Common.{cond-false, ne_eqb, and_left, Width, One, Reg, bytes_of, Store, Setup, byte, covers, changed_byte, reg_after, after_stores, Bytes, byte_by_byte}
 use Rattle.xbus_select.specs.Piix.{piix_register}
 use Rattle.config_regs.specs.declared.south.South.{South}
 use Rattle.config_regs.specs.Config.{IsSouthOf}

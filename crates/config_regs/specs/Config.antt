@@ -1,13 +1,9 @@
 -- The registers in configuration space, among the register bytes of a board.
 use Rattle.std.specs.Prelude.{ℕ, ◌≡◌}
-use Rattle.board_spec.specs.Setup.{Setup}
-use Rattle.board_spec.specs.RegisterNames.{bridge, isa}
-use Rattle.board_spec.specs.RegisterTable.{reset_byte}
-use Rattle.board_spec.specs.Decode.{Bytes}
+use Rattle.board_prelude.specs.Common.{Setup, bridge, isa, reset_byte, Bytes}
 use Rattle.pmc_regs.specs.Pmc.{IsFixedOffset}
 use Rattle.pirq_router.specs.Routes.{AreRoutesIn}
-use Rattle.xbus_select.specs.Ide.{IsIdeOf}
-use Rattle.xbus_select.specs.Piix.{IsIsaFixed}
+use Rattle.xbus_select.specs.Common.{IsIdeOf, IsIsaFixed}
 use Rattle.pci_bars.specs.Cards.{AreCardsOf}
 use Rattle.addr_decode.specs.MapRegs.{MapBytes, StandsFor}
 use Rattle.config_regs.specs.declared.south.South.{South}

@@ -1,14 +1,8 @@
 //! Reads of registers in configuration space, by function and then by offset.
 ghost use Rattle.std.specs.Prelude.{◌≡◌, ◌≢◌, ◌+◌, ◌≤◌, None, true, is_some};
-ghost use Rattle.board_base.specs.Access.{bytes_of};
-ghost use Rattle.board_spec.specs.Setup.{Setup, card_at};
-ghost use Rattle.board_spec.specs.Bits.{wide};
-ghost use Rattle.board_spec.specs.RegisterNames.{isa, card_register, xbcs};
-ghost use Rattle.board_spec.specs.RegisterTable.{function_exists};
-ghost use Rattle.board_spec.specs.Decode.{Bytes};
+ghost use Rattle.board_prelude.specs.Common.{bytes_of, Setup, card_at, wide, isa, card_register, xbcs, function_exists, Bytes};
 ghost use Rattle.pci_bars.specs.Cards.{AreCards, AreCardsOf, AreFitted, cards_of};
-ghost use Rattle.addr_decode.specs.MapRegister.{map_register};
-ghost use Rattle.addr_decode.specs.MapRegs.{map_bytes};
+ghost use Rattle.addr_decode.specs.Common.{map_register, map_bytes};
 ghost use Rattle.config_regs.specs.Config.{AreKeptOf, HasFixed, IsSouthOf};
 
 use crate::south::South;

@@ -1,12 +1,6 @@
 //! The registers of the 82371SB on which the memory map does not depend.
 ghost use Rattle.std.specs.Prelude.{◌≡◌, ◌≢◌, ◌+◌, ◌≤◌, true, false};
-ghost use Rattle.board_base.specs.Access.{bytes_of};
-ghost use Rattle.board_base.specs.declared.access.Width.TheVariants.{One};
-ghost use Rattle.board_spec.specs.declared.map_change.MapChange.TheVariants.{Store};
-ghost use Rattle.board_spec.specs.Setup.{Setup};
-ghost use Rattle.board_spec.specs.RegisterTable.{reset_byte};
-ghost use Rattle.board_spec.specs.Registers.{changed_byte};
-ghost use Rattle.board_spec.specs.Decode.{Bytes};
+ghost use Rattle.board_prelude.specs.Common.{bytes_of, One, Store, Setup, reset_byte, changed_byte, Bytes};
 ghost use Rattle.xbus_select.specs.Piix.{piix_register};
 ghost use Rattle.config_regs.specs.Config.{IsSouthOf};
 

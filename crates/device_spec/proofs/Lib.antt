@@ -5,3 +5,4 @@ pub mod PitPeriods
 pub mod PitPulses
 mod PortLaws
 pub mod RoutingLaws
+pub mod Common

@@ -1,10 +1,7 @@
 -- The pair: levels that are given again.
 use Rattle.std.proofs.Common.{◌≡◌, ℕ, Bool, true, false, not, cond, eqb, ◌||◌, ◌&&◌, refl, sym, ap, ◌∙◌, inl, inr, is_some}
 use Rattle.std.proofs.lemmas.Bool.{cases_Bool}
-use Rattle.device_spec.specs.Levels.{Levels, has, levels_where, with_level}
-use Rattle.device_spec.specs.Pic.{Chip, interrupt, chip_after_inputs, latches_after}
-use Rattle.device_spec.specs.Pair.{Pair, settled}
-use Rattle.device_spec.specs.PicLaws.{SameLevelsAgain}
+use Rattle.device_spec.specs.Common.{Levels, has, levels_where, with_level, Chip, interrupt, chip_after_inputs, latches_after, Pair, settled, SameLevelsAgain}
 use Rattle.device_spec.proofs.Levels.{levels_where-same, has-levels_where}
 
 -- ---- the same levels again

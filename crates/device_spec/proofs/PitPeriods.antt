@@ -1,10 +1,7 @@
 -- The rate generator and the square wave repeat.
 use Rattle.std.proofs.Common.{◌≡◌, ℕ, zero, suc, ◌+◌, ◌-◌, ◌*◌, ◌/◌, ◌%◌, ◌<◌, ◌≤◌, ◌==◌, ◌&&◌, not, Bool, true, false, cond, inl, inr, refl, ap, sym, subst, ◌∙◌, arith}
-use Rattle.std.proofs.lemmas.Bool.{cases_Bool}
-use Rattle.std.proofs.lemmas.Bool.Decides.{nat_tests}
-use Rattle.device_spec.specs.Pit.{RateGenerator, SquareWave, CounterState, load, count_down, count_to_reload, count_half, pulse_by_mode, pulse}
-use Rattle.device_spec.specs.PitLaws.{pulses_of}
-use Rattle.device_spec.specs.PitPeriods.{IsAtLoad, RateRepeats, SquareRepeats}
+use Rattle.board_base.proofs.Common.{cases_Bool, nat_tests}
+use Rattle.device_spec.specs.Common.{RateGenerator, SquareWave, CounterState, load, count_down, count_to_reload, count_half, pulse_by_mode, pulse, pulses_of, IsAtLoad, RateRepeats, SquareRepeats}
 
 -- the counter at another place of its period
 abbrev pub phase : CounterState → ℕ → Bool → CounterState

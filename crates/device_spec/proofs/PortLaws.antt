@@ -1,11 +1,8 @@
 -- Each port is one device's.
 use Rattle.std.proofs.Common.{◌≡◌, ℕ, true, false, List, [], ◌∷◌, Option, Some, refl, ◌∙◌, arith}
-use Rattle.std.proofs.lemmas.Bool.{cond-true, cond-false, false≢true}
-use Rattle.std.proofs.lemmas.Bool.Decides.{nat_tests}
-use Rattle.board_base.specs.declared.target.Dev.{Dev}
-use Rattle.board_base.specs.declared.target.Dev.TheVariants.{Confadd, Reset, Pic0, Pic1, Pit, System, Keyboard, Clock, Elcr, Ata, Wires, Vector, Spurious}
-use Rattle.device_spec.specs.PortTable.{is_port_of, first_with}
-use Rattle.device_spec.specs.PortLaws.{PortsApart, ConfigApart}
+use Rattle.board_base.proofs.Common.{cond-true, cond-false, false≢true, nat_tests}
+use Rattle.device_spec.specs.Common.{Dev, Reset, Pic0, Pic1, Pit, System, Keyboard, Elcr, Ata, Wires, Vector, Spurious, is_port_of, first_with, PortsApart, ConfigApart}
+use Rattle.board_base.specs.declared.target.Dev.TheVariants.{Confadd, Clock}
 
 module _ (port size : ℕ) where
   here : (dev : Dev) (later : List Dev) → is_port_of dev port size ≡ true →

@@ -1,10 +1,9 @@
 -- The search for the first level that can be selected.
 use Rattle.std.proofs.Common.{◌≡◌, ℕ, ◌+◌, ◌<◌, ◌≤◌, Bool, true, false, not, cond, ltb, ◌||◌, ◌&&◌, Option, Some, None, List, [], ◌∷◌, ◌++◌, length, get_or, drop, refl, sym, ap, ◌∙◌, inl, inr, add-one, drop-cons}
-use Rattle.std.proofs.Math.Bool.{or-false, or-true, and-false, or_assoc}
-use Rattle.std.specs.List.{find, list_any}
-use Rattle.std.proofs.Math.ListN.{drop_of_length-le}
-use Rattle.std.proofs.lemmas.Bool.{cases_Bool, agree_below, agree_below_at, ltb-true, or_from}
-use Rattle.device_spec.specs.Pic.{Chip, priority_order, is_blocking, blocks_itself, is_requested, first_selectable, request, first_blocking}
+use Rattle.board_base.proofs.Common.{or-false, and-false, drop_of_length-le, cases_Bool, agree_below_at, ltb-true, or_from}
+use Rattle.std.proofs.Math.Bool.{or-true, or_assoc}
+use Rattle.device_spec.specs.Common.{find, list_any, Chip, priority_order, is_blocking, blocks_itself, is_requested, first_selectable, request, first_blocking}
+use Rattle.std.proofs.lemmas.Bool.{agree_below}
 
 -- ---- the search for a level
 

@@ -1,9 +1,7 @@
 -- The routing, byte by byte.
 use Rattle.std.proofs.Common.{cond, not, ◌≡◌, ℕ, Bool, true, false, eqb, ◌&&◌, get_or, Some, None, refl, sym, ap, ◌∙◌, inl, inr}
-use Rattle.std.proofs.Math.Bool.{and-false}
-use Rattle.std.proofs.lemmas.Bool.{cases_Bool, ne_eqb, and_parts, or_from, not-true, both_ways}
-use Rattle.device_spec.specs.Routing.{drives, is_routed, line_in, line_of_route, is_line_driven, is_reserved_line}
-use Rattle.device_spec.specs.RoutingLaws.{ReservedLinesRest}
+use Rattle.board_base.proofs.Common.{and-false, cases_Bool, ne_eqb, and_parts, or_from, not-true, both_ways}
+use Rattle.device_spec.specs.Common.{drives, is_routed, line_in, line_of_route, is_line_driven, is_reserved_line, ReservedLinesRest}
 
 -- no pin drives a reserved line
 drives-reserved : (byte : ℕ) (level : Bool) (line : ℕ) → is_reserved_line line ≡ true → drives (line_of_route byte) level line ≡ false

@@ -14,3 +14,4 @@ pub mod PitPeriods
 pub mod Routing
 pub mod RoutingLaws
 pub mod Told
+pub mod Common

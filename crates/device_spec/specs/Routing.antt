@@ -1,8 +1,7 @@
 -- The routing of the four PCI interrupt pins to the sixteen interrupt lines: the PIRQ route control
 -- registers of the PIIX3 (PIRQRC[A:D], offsets 60h to 63h of its function 0).
 use Rattle.std.specs.Prelude.{ℕ, Bool, false, Option, Some, None, List, [], ◌∷◌, ◌-◌, ◌%◌, ◌==◌, ◌&&◌, ◌||◌, not, nat_lt, nat_le, if◌then◌else◌, slice_index, slice_index_or, slice_set}
-use Rattle.std.specs.List.{list_any}
-use Rattle.board_base.specs.Bits.{merged}
+use Rattle.board_base.specs.Common.{list_any, merged}
 
 -- the bits of a route control register that can be written: 7, and 3 to 0
 abbrev pub route_mask : ℕ

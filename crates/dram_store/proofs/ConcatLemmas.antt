@@ -1,19 +1,10 @@
 -- The bytes of banks that follow one another.
-use Rattle.std.proofs.Common.{◌≡◌, ◌≢◌, ℕ, suc, ◌+◌, ◌-◌, ◌*◌, ◌/◌, ◌%◌, ◌<◌, ◌≤◌, true, false, ◌&&◌, List, [], ◌∷◌, length, set, replicate, inl, inr, ◌∙◌, refl, ap, arith}
-use Rattle.std.specs.Prelude.{slice_index, nat_le, nat_lt, All}
-use Rattle.std.specs.List.{concat}
+use Rattle.std.proofs.Common.{◌≡◌, ◌≢◌, ℕ, suc, ◌+◌, ◌-◌, ◌*◌, ◌/◌, ◌%◌, ◌<◌, ◌≤◌, true, false, ◌&&◌, List, [], ◌∷◌, length, set, replicate, inl, inr, ◌∙◌, refl, ap, arith, slice_index, nat_le, nat_lt, All}
+use Rattle.board_prelude.proofs.Common.{concat, length-append, length-set, get_or_append_left, get_or-append_right, get_or_past, get_or-set_same, get_or-set_other, All-head, All-tail, and-true, and_right, cases_lt, cases_eq, lt-ltb, le-ltb, nat_tests, Width, One, bytes_of, wide}
 use Rattle.std.proofs.Math.ListN.{get_or}
-use Rattle.std.proofs.lemmas.List.{length-append, length-set, get_or_append_left, get_or-append_right, get_or_past, get_or-set_same, get_or-set_other}
-use Rattle.std.proofs.lemmas.List.Elements.{All-head, All-tail, All-set}
-use Rattle.std.proofs.Math.Bool.{and-true}
-use Rattle.std.proofs.lemmas.Bool.{and_right, cases_lt, cases_eq, lt-ltb, le-ltb}
-use Rattle.std.proofs.lemmas.Bool.Decides.{nat_tests}
-use Rattle.board_base.specs.declared.access.Width.{Width}
-use Rattle.board_base.specs.declared.access.Width.TheVariants.{One, Two, Four}
-use Rattle.board_base.specs.Access.{bytes_of}
-use Rattle.board_spec.specs.Bits.{wide}
-use Rattle.dram_store.specs.Bank.{bank_size, IsBank, IsZero, IsPut}
-use Rattle.dram_store.specs.Dram.{dram_at, IsWritten}
+use Rattle.std.proofs.lemmas.List.Elements.{All-set}
+use Rattle.board_base.specs.declared.access.Width.TheVariants.{Two, Four}
+use Rattle.dram_store.specs.Common.{bank_size, IsBank, IsZero, IsPut, dram_at, IsWritten}
 
 -- the bank of an address, empty past the last, and the banks with another in its place
 abbrev pub bank_at : List (List ℕ) → ℕ → List ℕ

@@ -1,18 +1,7 @@
 -- The DRAM after a history, and after one entry more.
-use Rattle.std.proofs.Common.{◌≡◌, ℕ, ◌+◌, ◌-◌, ◌<◌, ◌≤◌, true, false, ◌&&◌, List, [], ◌∷◌, length, Option, Some, None, inl, inr, ◌∙◌, refl, sym, ap, arith}
-use Rattle.std.specs.Prelude.{slice_index, nat_le, nat_lt, if◌then◌else◌, replicate, unwrap_or}
-use Rattle.std.specs.Option.{option_or}
-use Rattle.std.proofs.lemmas.List.{length-replicate, get_or-replicate}
-use Rattle.std.proofs.lemmas.Bool.{cases_lt, lt-ltb, le-ltb}
-use Rattle.std.proofs.lemmas.Bool.Decides.{nat_tests}
-use Rattle.board_base.specs.declared.access.Width.{Width}
-use Rattle.board_base.specs.declared.target.Target.TheVariants.{Dram}
-use Rattle.board_base.specs.declared.access.Width.TheVariants.{One, Two, Four}
-use Rattle.board_base.specs.Access.{bytes_of, largest_of}
-use Rattle.board_spec.specs.declared.event.Entry.{Entry}
-use Rattle.board_spec.specs.Setup.{Setup, installed}
-use Rattle.board_spec.specs.Bits.{byte, wide}
-use Rattle.board_spec.specs.Stored.{DramCell, stored_of, byte_put, entry_put, dram_byte}
+use Rattle.std.proofs.Common.{◌≡◌, ℕ, ◌+◌, ◌-◌, ◌<◌, ◌≤◌, true, false, ◌&&◌, List, [], ◌∷◌, length, Option, Some, None, inl, inr, ◌∙◌, refl, sym, ap, arith, slice_index, nat_le, nat_lt, if◌then◌else◌, replicate, unwrap_or}
+use Rattle.board_prelude.proofs.Common.{option_or, length-replicate, get_or-replicate, cases_lt, lt-ltb, le-ltb, nat_tests, Width, Dram, One, bytes_of, largest_of, Entry, Setup, installed, byte, wide, DramCell, stored_of, byte_put, entry_put, dram_byte}
+use Rattle.board_base.specs.declared.access.Width.TheVariants.{Two, Four}
 use Rattle.dram_store.specs.Dram.{dram_at, IsDramOf, IsWritten}
 
 pub fresh : (setup : Setup) (dram : List ℕ) → dram ≡ replicate (installed setup) 0 → IsDramOf setup [] dram

@@ -1,7 +1,6 @@
 //! A mebibyte of the DRAM, of which only the bytes up to the highest page written are kept.
 ghost use Rattle.std.specs.Prelude.{◌≡◌, ◌≤◌, ◌<◌, ◌+◌, ◌-◌, ◌%◌, ℕ, ◌++◌, length, replicate, slice_index, vec_capacity, IfOk};
-ghost use Rattle.board_base.specs.Access.{bytes_of, largest_of};
-ghost use Rattle.board_spec.specs.Bits.{byte, wide};
+ghost use Rattle.board_prelude.specs.Common.{bytes_of, largest_of, byte, wide};
 ghost use Rattle.dram_store.specs.Bank.{IsBank, IsZero, IsPut, bank_of, bank_size, page_end};
 
 use board_base::{NoMemory, Width};

@@ -1,12 +1,6 @@
 //! The installed DRAM: a bank for each MiB.
 ghost use Rattle.std.specs.Prelude.{◌≡◌, ◌≤◌, ◌<◌, ◌+◌, ◌*◌, ◌%◌, ℕ, List, [], ◌∷◌, length, replicate, slice_index, IfOk, OnOk, OnErr, IfSome, None};
-ghost use Rattle.board_base.specs.Access.{bytes_of, largest_of};
-ghost use Rattle.board_base.specs.declared.target.Target.TheVariants.{Dram as DramTarget};
-ghost use Rattle.board_spec.specs.declared.event.Entry.{Entry};
-ghost use Rattle.board_spec.specs.Limits.{most_mib};
-ghost use Rattle.board_spec.specs.Setup.{Setup, installed};
-ghost use Rattle.board_spec.specs.Bits.{byte, wide};
-ghost use Rattle.board_spec.specs.Stored.{DramCell, byte_put, entry_put, dram_byte};
+ghost use Rattle.board_prelude.specs.Common.{bytes_of, largest_of, Dram as DramTarget, Entry, most_mib, Setup, installed, byte, wide, DramCell, byte_put, entry_put, dram_byte};
 ghost use Rattle.dram_store.specs.Bank.{bank_size};
 ghost use Rattle.dram_store.specs.Dram.{dram_at, IsDramOf, IsWritten};
 

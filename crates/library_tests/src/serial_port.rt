@@ -1,8 +1,7 @@
 //! What the registers of a 16550 read, and what a board with one on COM1 replies and is asked.
 
 ghost use Rattle.std.specs.Prelude.{◌≡◌, false, [], IfOk};
-ghost use Rattle.board_spec.specs.Setup.{Setup as Fitting};
-ghost use Rattle.board_spec.specs.InRange.{IsInRange};
+ghost use Rattle.board_prelude.specs.Common.{Setup as Fitting, IsInRange};
 
 use board_base::{Denial, Dev, PortAccess, Target, Width};
 use board_chipset::Chipset;

@@ -2,7 +2,7 @@
 
 ghost use Rattle.std.specs.Prelude.{◌≡◌, ◌≤◌, [], ◌∷◌, IfOk};
 ghost use Rattle.board_spec.specs.Setup.{IsCardList, memory_of_cards};
-ghost use Rattle.board_chipset.specs.Stores.{IsSound};
+ghost use Rattle.board_chipset.specs.Stores.{IsOfBoard};
 
 use arrayvec::ArrayVec;
 use board_base::Width::{self, Four, One};
@@ -132,7 +132,7 @@ fn setup(alloc: Global, sectors: u32) -> Result<Setup, AllocError>
 
 /// The store of a board with a disk of so many sectors on which these steps were done.
 fn store(rt: &impl Abort, alloc: Global, sectors: u32, steps: &[Step]) -> Result<Store, Fail>
-    ensures sound { IfOk result IsSound }
+    ensures sound { IfOk result IsOfBoard }
 {
     assert!(rt; sectors <= 0x1_0000);
     let mut chipset = Chipset::open(alloc, setup(alloc, sectors)?)?;
@@ -223,8 +223,8 @@ fn row(rt: &impl Abort, alloc: Global, transfer: &Transfer) -> Result<(), Fail> 
 
 /// What a transfer tells.
 fn transferred(rt: &impl Abort, store: &mut Store, asked: Asked) -> Told
-    requires sound { IsSound store.old }
-    ensures sound { IsSound store.new }
+    requires sound { IsOfBoard store.old }
+    ensures sound { IsOfBoard store.new }
 {
     let (command, pointer, lba, count) = asked;
     let mut bus = BusMaster::new();

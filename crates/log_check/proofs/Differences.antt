@@ -1,22 +1,9 @@
 -- Where a walk stops, the bytes leave the logs of the script.
 use Rattle.std.proofs.Common.{ℕ, ◌≡◌, ◌≢◌, ◌+◌, List, [], ◌∷◌, ◌++◌, length, reverse, All, refl, sym, ap, ◌∙◌, subst, append_assoc, append-nil, arith}
-use Rattle.std.proofs.lemmas.List.Elements.{All-nil}
-use Rattle.board_spec.specs.declared.event.Entry.{Entry}
-use Rattle.board_spec.specs.declared.event.Statement.{Statement}
-use Rattle.board_spec.specs.Setup.{Setup}
-use Rattle.board_spec.specs.Legal.{IsLegal}
-use Rattle.board_spec.specs.Orders.{IsBegunFor, IsCompleteFor}
-use Rattle.board_spec.specs.OrderLaws.{in_file_order}
-use Rattle.board_spec.specs.Laws.{IsAddressed, OneReplay}
-use Rattle.board_spec.specs.Text.{line_feed}
-use Rattle.board_spec.specs.LogText.{line_text, lines_text, log_text}
-use Rattle.board_spec.proofs.OrderLawProofs.{complete_is_begun}
-use Rattle.board_spec.proofs.GoesOnProofs.{none_so_far}
-use Rattle.script_spec.specs.Lines.{text_of_lines, IsOneLine}
-use Rattle.script_spec.specs.Checks.{AreBegun, IsLogOf, DiffersAt}
+use Rattle.board_prelude.proofs.Common.{All-nil, Entry, Statement, Setup, IsLegal, IsBegunFor, IsCompleteFor, in_file_order, IsAddressed, OneReplay, line_feed, line_text, lines_text, log_text, complete_is_begun, none_so_far}
+use Rattle.script_spec.specs.Common.{text_of_lines, IsOneLine, AreBegun, IsLogOf, DiffersAt}
 use Rattle.script_spec.proofs.LogLaws.{line_whole}
-use Rattle.log_check.specs.Phases.{IsTyped}
-use Rattle.log_check.specs.Walks.{GoesOnWithNone, StopsAt}
+use Rattle.log_check.specs.Common.{IsTyped, GoesOnWithNone, StopsAt}
 use Rattle.log_check.proofs.TextCuts.{cut_line}
 use Rattle.log_check.proofs.LogLines.{heading, heading_whole, heading-log, log_parts, lines_from, newest_last, lines_left, log_joined, lined, one_line_more}
 use Rattle.log_check.proofs.Histories.{no_line, legal_front, begun_front, Extends, extends, completed}

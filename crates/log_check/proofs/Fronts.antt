@@ -1,9 +1,7 @@
 -- The next statement of a processor in a phase.
 use Rattle.std.proofs.Common.{ℕ, ◌≡◌, ◌+◌, ◌<◌, List, ◌∷◌, length, drop, get_or, sym, ap, ◌∙◌, add-one}
-use Rattle.std.proofs.Math.Seq.{drop-cons}
+use Rattle.board_prelude.proofs.Common.{drop-cons, Statement, events_by}
 use Rattle.std.proofs.lemmas.Option.{slice_get-get_or}
-use Rattle.board_spec.specs.declared.event.Statement.{Statement}
-use Rattle.board_spec.specs.Orders.{events_by}
 use Rattle.log_check.specs.Fronts.{IsNextOf}
 use Rattle.log_check.proofs.NextStatements.{events-own}
 

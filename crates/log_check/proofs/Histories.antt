@@ -1,24 +1,7 @@
 -- A history that begins with the lines of another goes on from it, and a begun history can be completed.
-use Rattle.std.proofs.Common.{ℕ, zero, suc, ◌≡◌, ◌+◌, ◌-◌, ◌<◌, List, [], ◌∷◌, ◌++◌, length, reverse, All, refl, sym, ap, ◌∙◌, subst, inl, append-nil, add-one, arith}
-use Rattle.std.specs.Prelude.{decimal}
-use Rattle.std.proofs.lemmas.List.{reverse-reverse}
-use Rattle.board_spec.specs.declared.event.Entry.{Entry}
-use Rattle.board_spec.specs.declared.event.Statement.{Statement}
-use Rattle.board_spec.specs.Setup.{Setup}
-use Rattle.board_spec.specs.Legal.{IsLegal}
-use Rattle.board_spec.specs.Orders.{IsBegunFor, IsCompleteFor}
-use Rattle.board_spec.specs.OrderLaws.{in_file_order}
-use Rattle.board_spec.specs.Laws.{IsAddressed, OneReplay}
-use Rattle.board_spec.specs.Text.{space, line_feed}
-use Rattle.board_spec.specs.LogText.{line_text, lines_text}
-use Rattle.board_spec.proofs.OrderLawProofs.{front_is_begun}
-use Rattle.board_spec.proofs.OrderLengths.{begun_is_bounded, whole_is_complete, complete_is_whole}
-use Rattle.board_spec.proofs.GoesOnProofs.{begun_goes_on}
-use Rattle.script_spec.proofs.Digits.{value_of_decimal}
-use Rattle.script_spec.proofs.Fields.{front, back, front-field, back-field, lacks-decimal}
-use Rattle.script_spec.proofs.PlainText.{lacks-word, decimal_word}
-use Rattle.script_spec.proofs.LogLaws.{line_whole}
-use Rattle.std.specs.Str.Parse.{digits_value}
+use Rattle.std.proofs.Common.{ℕ, zero, suc, ◌≡◌, ◌+◌, ◌-◌, ◌<◌, List, [], ◌∷◌, ◌++◌, length, reverse, All, refl, sym, ap, ◌∙◌, subst, inl, append-nil, add-one, arith, decimal}
+use Rattle.board_prelude.proofs.Common.{reverse-reverse, Entry, Statement, Setup, IsLegal, IsBegunFor, IsCompleteFor, in_file_order, IsAddressed, OneReplay, space, line_feed, line_text, lines_text, front_is_begun, begun_is_bounded, whole_is_complete, complete_is_whole, begun_goes_on, digits_value}
+use Rattle.script_spec.proofs.Common.{value_of_decimal, front, back, front-field, back-field, lacks-decimal, lacks-word, decimal_word, line_whole}
 use Rattle.log_check.specs.Phases.{IsTyped}
 use Rattle.log_check.proofs.TextCuts.{cut_line, named}
 use Rattle.log_check.proofs.NextStatements.{same_next, known_actor}

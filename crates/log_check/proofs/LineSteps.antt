@@ -1,32 +1,21 @@
 -- A line of a log: past it, or where the walk stops.
-use Rattle.std.proofs.Common.{ℕ, ◌≡◌, ◌≢◌, ◌+◌, ◌<◌, List, [], ◌∷◌, ◌++◌, length, All, refl, sym, ap, ◌∙◌, subst, inl, inr, append_assoc, arith}
-use Rattle.std.specs.Prelude.{Result, Ok, Err, MatchResult}
+use Rattle.std.proofs.Common.{ℕ, ◌≡◌, ◌≢◌, ◌+◌, ◌<◌, List, [], ◌∷◌, ◌++◌, length, All, refl, sym, ap, ◌∙◌, subst, inl, inr, append_assoc, arith, Result, Ok, Err, MatchResult}
 use Rattle.std.specs.Borrow.{Bor}
 use Rattle.std.specs.Result.{IsErrAnd}
-use Rattle.board_spec.specs.declared.event.Event.{Event}
-use Rattle.board_spec.specs.declared.event.Entry.{Entry}
-use Rattle.board_spec.specs.declared.event.Statement.{Statement}
-use Rattle.board_spec.specs.Setup.{Setup}
-use Rattle.board_spec.specs.Legal.{IsNext, IsLegal}
-use Rattle.board_spec.specs.Orders.{IsBegunFor}
-use Rattle.board_spec.specs.Laws.{OneReplay}
-use Rattle.board_spec.specs.Text.{line_feed}
-use Rattle.board_spec.specs.LogText.{line_text, log_text}
+use Rattle.board_prelude.proofs.Common.{Event, Entry, Statement, Setup, IsNext, IsLegal, IsBegunFor, OneReplay, line_feed, line_text, log_text}
 use Rattle.log_check.specs.declared.fault.CheckFault.{CheckFault}
 use Rattle.log_check.specs.declared.fault.CheckFault.TheVariants.{Differs, NoMemory}
-use Rattle.log_check.specs.Phases.{IsTyped}
-use Rattle.log_check.specs.Checked.{IsAtMostNext, IsAtLine}
-use Rattle.log_check.specs.Walks.{Place, IsWithin, IsPast, GoesOnWithNone, Stopped}
+use Rattle.log_check.specs.Common.{IsTyped, IsAtMostNext, IsAtLine, WalkPlace, IsWithin, IsPast, GoesOnWithNone, StoppedCheck}
 use Rattle.log_check.proofs.NextStatements.{same_next}
 use Rattle.log_check.proofs.LogLines.{log-newest}
 use Rattle.log_check.proofs.Steps.{within_begun, within_unfinished, within_next, small_actor, none_left}
 
 -- the phases of a place with an open one
-abbrev pub phases_of : Place → List Statement → List (List Statement)
+abbrev pub phases_of : WalkPlace → List Statement → List (List Statement)
 phases_of place phase = place.done ++ phase ∷ place.later
 
 -- a walk before a line
-pub record Walk (setup : Setup) (place : Place) (phase : List Statement) (left : ℕ → List Event)
+pub record Walk (setup : Setup) (place : WalkPlace) (phase : List Statement) (left : ℕ → List Event)
     (history : List Entry) (rest : List ℕ) : Type 0 where
   pub legal : IsLegal setup history
   pub typed : All IsTyped phase
@@ -35,30 +24,30 @@ pub record Walk (setup : Setup) (place : Place) (phase : List Statement) (left :
   pub short : place.count < length phase
 
 pub walking :
-    {setup : Setup} {place : Place} {phase : List Statement} {left : ℕ → List Event} {history : List Entry}
+    {setup : Setup} {place : WalkPlace} {phase : List Statement} {left : ℕ → List Event} {history : List Entry}
     {rest : List ℕ} → IsLegal setup history → All IsTyped phase → IsWithin place phase left history →
     IsPast place history rest → place.count < length phase → Walk setup place phase left history rest
 walking legal typed within past short =
     record { legal = legal; typed = typed; within = within; past = past; short = short }
 
 abbrev at_line :
-    (place : Place) (history entries : List Entry) (rest : List ℕ) (line : ℕ) → IsPast place history rest →
+    (place : WalkPlace) (history entries : List Entry) (rest : List ℕ) (line : ℕ) → IsPast place history rest →
     IsAtMostNext history entries → line ≡ length history + 2 → IsAtLine place.version place.bytes entries line
 at_line place history entries rest line past stepped is =
     record { before = history; rest = rest; text = past; place = is; stepped = stepped }
 
 begun :
-    (setup : Setup) (place : Place) (phase : List Statement) (left : ℕ → List Event) (history : List Entry)
+    (setup : Setup) (place : WalkPlace) (phase : List Statement) (left : ℕ → List Event) (history : List Entry)
     (rest : List ℕ) → Walk setup place phase left history rest → IsBegunFor (phases_of place phase) history
 begun setup place phase left history rest walk =
     within_begun place phase left history walk.within (omega (arith, walk.short))
 
 stopped :
-    (setup : Setup) (place : Place) (phase : List Statement) (left : ℕ → List Event) (history entries : List Entry)
+    (setup : Setup) (place : WalkPlace) (phase : List Statement) (left : ℕ → List Event) (history entries : List Entry)
     (rest : List ℕ) (line : ℕ) → Walk setup place phase left history rest →
     GoesOnWithNone setup (phases_of place phase) history rest → IsAtMostNext history entries →
     IsLegal setup entries → IsBegunFor (phases_of place phase) entries → line ≡ length history + 2 →
-    Stopped setup place.version (phases_of place phase) place.bytes entries (Differs line)
+    StoppedCheck setup place.version (phases_of place phase) place.bytes entries (Differs line)
 stopped setup place phase left history entries rest line walk none stepped legal after is = record {
   by = record {
     at_line = at_line place history entries rest line walk.past stepped is;
@@ -73,11 +62,11 @@ stopped setup place phase left history entries rest line walk none stepped legal
 
 -- no processor is named
 pub stops_unnamed :
-    (setup : Setup) (place : Place) (phase : List Statement) (left : ℕ → List Event) (history : List Entry)
+    (setup : Setup) (place : WalkPlace) (phase : List Statement) (left : ℕ → List Event) (history : List Entry)
     (rest : List ℕ) (line : ℕ) → Walk setup place phase left history rest →
     ((n : ℕ) (entry : Entry) (after : List ℕ) → entry.actor < 256 → rest ≡ line_text n entry ++ after → ⊥) →
     line ≡ length history + 2 →
-    Stopped setup place.version (phases_of place phase) place.bytes history (Differs line)
+    StoppedCheck setup place.version (phases_of place phase) place.bytes history (Differs line)
 stops_unnamed setup place phase left history rest line walk unnamed is =
     stopped setup place phase left history history rest line walk
     (λ entry after next more text.
@@ -87,11 +76,11 @@ stops_unnamed setup place phase left history rest line walk unnamed is =
 
 -- the processor has nothing left
 pub stops_idle :
-    (setup : Setup) (place : Place) (phase : List Statement) (left : ℕ → List Event) (history : List Entry)
+    (setup : Setup) (place : WalkPlace) (phase : List Statement) (left : ℕ → List Event) (history : List Entry)
     (rest : List ℕ) (line actor : ℕ) → Walk setup place phase left history rest →
     ((n : ℕ) (entry : Entry) (after : List ℕ) → entry.actor < 256 → rest ≡ line_text n entry ++ after →
     actor ≡ entry.actor) → left actor ≡ [] → line ≡ length history + 2 →
-    Stopped setup place.version (phases_of place phase) place.bytes history (Differs line)
+    StoppedCheck setup place.version (phases_of place phase) place.bytes history (Differs line)
 stops_idle setup place phase left history rest line actor walk named nothing is =
     stopped setup place phase left history history rest line walk
     (λ entry after next more text.
@@ -104,18 +93,18 @@ stops_idle setup place phase left history rest line actor walk named nothing is 
 
 -- ---- with the entry of the processor's next statement
 
-abbrev pub next_place : Place → Place
+abbrev pub next_place : WalkPlace → WalkPlace
 next_place place = record place { count = place.count + 1 }
 
 -- the entry is made
-pub record Made (setup : Setup) (place : Place) (phase : List Statement) (left after : ℕ → List Event)
+pub record Made (setup : Setup) (place : WalkPlace) (phase : List Statement) (left after : ℕ → List Event)
     (history : List Entry) (entry : Entry) : Type 0 where
   pub next : IsNext setup history entry
   pub own : left entry.actor ≡ entry.event ∷ after entry.actor
   pub others : (other : ℕ) → other ≢ entry.actor → after other ≡ left other
 
 pub made :
-    {setup : Setup} {place : Place} {phase : List Statement} {left after : ℕ → List Event} {history : List Entry}
+    {setup : Setup} {place : WalkPlace} {phase : List Statement} {left after : ℕ → List Event} {history : List Entry}
     (actor : ℕ) (entry : Entry) → IsNext setup history entry → entry.actor ≡ actor →
     left actor ≡ entry.event ∷ after actor → ((other : ℕ) → other ≢ actor → after other ≡ left other) →
     Made setup place phase left after history entry
@@ -126,14 +115,14 @@ made {left = left} {after = after} actor entry next is own others = record {
 }
 
 made_within :
-    (setup : Setup) (place : Place) (phase : List Statement) (left after : ℕ → List Event) (history : List Entry)
+    (setup : Setup) (place : WalkPlace) (phase : List Statement) (left after : ℕ → List Event) (history : List Entry)
     (entry : Entry) (rest : List ℕ) → Walk setup place phase left history rest →
     Made setup place phase left after history entry → IsWithin (next_place place) phase after (entry ∷ history)
 made_within setup place phase left after history entry rest walk made =
     within_next place phase left after history entry walk.within made.own made.others
 
 made_begun :
-    (setup : Setup) (place : Place) (phase : List Statement) (left after : ℕ → List Event) (history : List Entry)
+    (setup : Setup) (place : WalkPlace) (phase : List Statement) (left after : ℕ → List Event) (history : List Entry)
     (entry : Entry) (rest : List ℕ) → Walk setup place phase left history rest →
     Made setup place phase left after history entry → IsBegunFor (phases_of place phase) (entry ∷ history)
 made_begun setup place phase left after history entry rest walk made =
@@ -142,10 +131,10 @@ made_begun setup place phase left after history entry rest walk made =
 
 -- there is no memory for its line
 pub stops_without_memory :
-    (setup : Setup) (place : Place) (phase : List Statement) (left after : ℕ → List Event) (history : List Entry)
+    (setup : Setup) (place : WalkPlace) (phase : List Statement) (left after : ℕ → List Event) (history : List Entry)
     (entry : Entry) (rest : List ℕ) → Walk setup place phase left history rest →
     Made setup place phase left after history entry →
-    Stopped setup place.version (phases_of place phase) place.bytes (entry ∷ history) NoMemory
+    StoppedCheck setup place.version (phases_of place phase) place.bytes (entry ∷ history) NoMemory
 stops_without_memory setup place phase left after history entry rest walk made = record {
   by = (
     length history + 2,
@@ -158,7 +147,7 @@ stops_without_memory setup place phase left after history entry rest walk made =
 
 -- the log goes on with its line, or not
 pub past_line :
-    (setup : Setup) (place : Place) (phase : List Statement) (left after : ℕ → List Event) (history : List Entry)
+    (setup : Setup) (place : WalkPlace) (phase : List Statement) (left after : ℕ → List Event) (history : List Entry)
     (entry : Entry) (rest printed : List ℕ) (line : ℕ) (result : Result (Bor (List ℕ)) CheckFault) → OneReplay →
     Walk setup place phase left history rest → Made setup place phase left after history entry →
     ((n : ℕ) (other : Entry) (remaining : List ℕ) → other.actor < 256 → rest ≡ line_text n other ++ remaining →
@@ -169,7 +158,7 @@ pub past_line :
     MatchResult result
     (λ remaining. IsWithin (next_place place) phase after (entry ∷ history)
     × IsPast place (entry ∷ history) remaining.now)
-    (λ fault. Stopped setup place.version (phases_of place phase) place.bytes (entry ∷ history) fault)
+    (λ fault. StoppedCheck setup place.version (phases_of place phase) place.bytes (entry ∷ history) fault)
 past_line setup place phase left after history entry rest printed line (Ok remaining) one walk made named is at_place
     told =
     let text : List ℕ = line_text (length history + 1) entry in (
@@ -184,7 +173,7 @@ past_line setup place phase left after history entry rest printed line (Err faul
     let text : List ℕ = line_text (length history + 1) entry in
     let entries : IsBegunFor (phases_of place phase) (entry ∷ history) =
     made_begun setup place phase left after history entry rest walk made in
-    subst (Stopped setup place.version (phases_of place phase) place.bytes (entry ∷ history)) (sym told.0)
+    subst (StoppedCheck setup place.version (phases_of place phase) place.bytes (entry ∷ history)) (sym told.0)
     (stopped setup place phase left history (entry ∷ history) rest line walk
     (λ other remaining next more same.
     let actor : entry.actor ≡ other.actor =

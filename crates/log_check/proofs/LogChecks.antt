@@ -1,34 +1,17 @@
 -- A whole check: passed, or where it fails.
-use Rattle.std.proofs.Common.{ℕ, ◌≡◌, ◌≢◌, ◌+◌, ◌≤◌, ◌⊎◌, List, [], ◌∷◌, ◌++◌, length, All, refl, sym, ap, ◌∙◌, subst, inl, inr, append-nil, arith}
-use Rattle.std.proofs.lemmas.Bool.{eq-eqb, eqb-true, true≢false}
-use Rattle.std.specs.Prelude.{◌==◌, true, false, Result, Ok, Err, MatchResult}
-use Rattle.std.proofs.lemmas.List.Elements.{All-nil, All-cons, All-head, All-tail}
-use Rattle.board_spec.specs.declared.event.Event.{Event}
-use Rattle.board_spec.specs.declared.event.Event.TheVariants.{Memory, Wide, Port, Look as LookAt, Ack, Pulses, Time, Wire, Line, BadSector}
-use Rattle.board_spec.specs.declared.event.Entry.{Entry}
-use Rattle.board_spec.specs.declared.event.Statement.{Statement}
-use Rattle.board_spec.specs.Setup.{Setup}
-use Rattle.board_spec.specs.InRange.{IsInRange}
-use Rattle.board_spec.specs.Legal.{IsLegal}
-use Rattle.board_spec.specs.Orders.{IsBegunFor, IsCompleteFor}
-use Rattle.board_spec.specs.OrderLaws.{in_file_order}
-use Rattle.board_spec.specs.Laws.{IsAddressed, OneReplay}
-use Rattle.board_spec.specs.LogText.{log_text}
-use Rattle.board_spec.proofs.OrderLawProofs.{complete_is_begun}
-use Rattle.board_spec.proofs.OrderLengths.{begun_is_bounded, complete_is_whole}
-use Rattle.board_spec.proofs.GoesOnProofs.{none_so_far}
+use Rattle.std.proofs.Common.{ℕ, ◌≡◌, ◌≢◌, ◌+◌, ◌≤◌, ◌⊎◌, List, [], ◌∷◌, ◌++◌, length, All, refl, sym, ap, ◌∙◌, subst, inl, inr, append-nil, arith, ◌==◌, true, false, Result, Ok, Err, MatchResult}
+use Rattle.board_prelude.proofs.Common.{eq-eqb, eqb-true, true≢false, All-nil, All-cons, All-head, All-tail, Event, Memory, Wide, Port, Ack, Pulses, Time, Wire, Line, BadSector, Entry, Statement, Setup, IsInRange, IsLegal, IsBegunFor, IsCompleteFor, in_file_order, IsAddressed, OneReplay, log_text, complete_is_begun, begun_is_bounded, complete_is_whole, none_so_far}
+use Rattle.board_spec.specs.declared.event.Event.TheVariants.{Look as LookAt}
 use Rattle.board_core.specs.Steps.{AreInRange}
 use Rattle.script_spec.specs.Checks.{IsLogOf}
 use Rattle.log_check.specs.declared.fault.CheckFault.{CheckFault}
 use Rattle.log_check.specs.declared.fault.CheckFault.TheVariants.{Differs, NoMemory}
-use Rattle.log_check.specs.Phases.{FitsLook, IsTyped}
-use Rattle.log_check.specs.Checked.{IsCheckedLog}
-use Rattle.log_check.specs.Walks.{Stopped, Failed}
+use Rattle.log_check.specs.Common.{IsLookInRange, IsTyped, IsCheckedLog, StoppedCheck, FailedCheck}
 use Rattle.log_check.proofs.Differences.{Known, differs, differs_at_once}
 
 -- ---- what is known of the script
 
-addressed : (setup : Setup) (event : Event) → FitsLook event → IsInRange setup event → IsAddressed event
+addressed : (setup : Setup) (event : Event) → IsLookInRange event → IsInRange setup event → IsAddressed event
 addressed setup (Memory access) fits range = tt
 addressed setup (Wide access) fits range = range
 addressed setup (Port access) fits range = tt
@@ -67,7 +50,7 @@ nothing_legal setup entries fresh = subst (IsLegal setup) (sym fresh) tt
 
 pub failed_first :
     (setup : Setup) (version : ℕ) (phases : List (List Statement)) (bytes : List ℕ) (entries : List Entry) →
-    entries ≡ [] → Failed setup version phases bytes entries NoMemory
+    entries ≡ [] → FailedCheck setup version phases bytes entries NoMemory
 failed_first setup version phases bytes entries fresh = record {
   refused = tt;
   legal = nothing_legal setup entries fresh;
@@ -78,7 +61,7 @@ failed_first setup version phases bytes entries fresh = record {
 pub failed_heading :
     (setup : Setup) (version : ℕ) (phases : List (List Statement)) (bytes : List ℕ) (entries : List Entry) →
     Known setup phases → entries ≡ [] → ((after : List ℕ) → bytes ≢ log_text version [] ++ after) →
-    Failed setup version phases bytes entries (Differs 1)
+    FailedCheck setup version phases bytes entries (Differs 1)
 failed_heading setup version phases bytes entries known fresh none = record {
   refused = differs_at_once setup version phases bytes known none;
   legal = nothing_legal setup entries fresh;
@@ -90,8 +73,8 @@ failed_heading setup version phases bytes entries known fresh none = record {
 
 pub failed_within :
     (setup : Setup) (version : ℕ) (phases : List (List Statement)) (bytes : List ℕ) (entries : List Entry)
-    (fault : CheckFault) → Known setup phases → Stopped setup version phases bytes entries fault →
-    Failed setup version phases bytes entries fault
+    (fault : CheckFault) → Known setup phases → StoppedCheck setup version phases bytes entries fault →
+    FailedCheck setup version phases bytes entries fault
 failed_within setup version phases bytes entries (Differs line) known stopped = record {
   refused = differs setup version phases bytes entries line known stopped.by;
   legal = stopped.legal;
@@ -136,7 +119,7 @@ pub failed_end :
     (setup : Setup) (version : ℕ) (phases : List (List Statement)) (bytes : List ℕ) (history : List Entry)
     (rest : List ℕ) (count : ℕ) → Known setup phases → IsLegal setup history → IsCompleteFor phases history →
     bytes ≡ log_text version history ++ rest → rest ≢ [] → count ≡ length history →
-    Failed setup version phases bytes history (Differs (count + 2))
+    FailedCheck setup version phases bytes history (Differs (count + 2))
 failed_end setup version phases bytes history rest count known legal complete text some is =
     let begun : IsBegunFor phases history = complete_is_begun phases history complete in
     failed_within setup version phases bytes history (Differs (count + 2)) known (record {
@@ -166,7 +149,7 @@ failed_end setup version phases bytes history rest count known legal complete te
 pub begun_after :
     (setup : Setup) (version : ℕ) (phases : List (List Statement)) (bytes : List ℕ) (entries : List Entry)
     (result : Result ℕ CheckFault) →
-    MatchResult result (IsCheckedLog setup version phases bytes entries) (Failed setup version phases bytes entries) →
+    MatchResult result (IsCheckedLog setup version phases bytes entries) (FailedCheck setup version phases bytes entries) →
     IsBegunFor phases entries
 begun_after setup version phases bytes entries (Ok count) checked =
     complete_is_begun phases entries (subst (IsCompleteFor phases) checked.same checked.log.complete)
@@ -175,7 +158,7 @@ begun_after setup version phases bytes entries (Err fault) checked = checked.beg
 pub exactly :
     (setup : Setup) (version : ℕ) (phases : List (List Statement)) (bytes : List ℕ) (entries : List Entry)
     (result : Result ℕ CheckFault) →
-    MatchResult result (IsCheckedLog setup version phases bytes entries) (Failed setup version phases bytes entries) →
+    MatchResult result (IsCheckedLog setup version phases bytes entries) (FailedCheck setup version phases bytes entries) →
     (log : IsLogOf setup version phases bytes) → (result ≡ Ok (length log.history)) ⊎ (result ≡ Err NoMemory)
 exactly setup version phases bytes entries (Ok count) checked log =
     let own : length checked.log.history ≡ length (in_file_order phases) =

@@ -1,17 +1,8 @@
 -- The lines of a log: those of a history, and those of the entries that follow it.
-use Rattle.std.proofs.Common.{ℕ, ◌≡◌, ◌+◌, List, [], ◌∷◌, ◌++◌, length, reverse, All, refl, sym, ap, ◌∙◌, append_assoc, append-nil, length-append, add-one}
-use Rattle.std.specs.Prelude.{codes, decimal}
-use Rattle.std.proofs.lemmas.Grind.{flat_map-append}
-use Rattle.std.proofs.lemmas.List.{reverse-append, reverse-reverse, append_cancel_left}
-use Rattle.std.proofs.lemmas.List.Elements.{All-nil, All-cons, All-push}
-use Rattle.board_spec.specs.declared.event.Entry.{Entry}
-use Rattle.board_spec.specs.Text.{line_feed}
-use Rattle.board_spec.specs.LogText.{line_text, lines_text, log_text}
+use Rattle.std.proofs.Common.{ℕ, ◌≡◌, ◌+◌, List, [], ◌∷◌, ◌++◌, length, reverse, All, refl, sym, ap, ◌∙◌, append_assoc, append-nil, length-append, add-one, codes, decimal}
+use Rattle.board_prelude.proofs.Common.{flat_map-append, reverse-append, reverse-reverse, append_cancel_left, All-nil, All-cons, All-push, Entry, line_feed, line_text, lines_text, log_text}
 use Rattle.script_spec.specs.Lines.{text_of_lines, IsOneLine}
-use Rattle.script_spec.proofs.Fields.{lacks-append}
-use Rattle.script_spec.proofs.CheckLaws.{one_line}
-use Rattle.script_spec.proofs.PlainText.{lacks-word, decimal_word}
-use Rattle.script_spec.proofs.LogLaws.{line_whole}
+use Rattle.script_spec.proofs.Common.{lacks-append, one_line, lacks-word, decimal_word, line_whole}
 
 -- the heading of a log without its line feed
 abbrev pub heading : (version : ℕ) → List ℕ

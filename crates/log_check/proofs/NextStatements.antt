@@ -1,19 +1,7 @@
 -- A processor has one statement that may come next.
-use Rattle.std.proofs.Common.{ℕ, ◌≡◌, ◌≢◌, ◌+◌, ◌<◌, ◌≤◌, List, [], ◌∷◌, ◌++◌, length, drop, All, refl, sym, ap, ◌∙◌, subst, inl, inr, append_assoc, length-append, arith}
-use Rattle.std.specs.Prelude.{map, filter, ◌==◌}
-use Rattle.std.proofs.Math.Seq.{take-append_seam, drop-append_seam}
-use Rattle.std.proofs.lemmas.Bool.{cases_lt, cond-true, cond-false, eq-eqb, ne_eqb}
-use Rattle.std.proofs.lemmas.List.{append_cancel_left, map-append, append-nil}
-use Rattle.std.proofs.lemmas.List.Elements.{filter-append, All-head, All-tail, All-take, All-drop}
-use Rattle.board_spec.specs.declared.event.Event.{Event}
-use Rattle.board_spec.specs.declared.event.Entry.{Entry}
-use Rattle.board_spec.specs.declared.event.Statement.{Statement}
-use Rattle.board_spec.specs.Setup.{Setup}
-use Rattle.board_spec.specs.Legal.{IsNext, IsLegal}
-use Rattle.board_spec.specs.Orders.{statement_of, statements_of, events_by, BeginsWith, IsFrontOfPhase, HasPhasesSoFar, IsBegunFor}
-use Rattle.board_spec.specs.OrderLaws.{in_file_order}
-use Rattle.board_spec.specs.Laws.{OneReplay}
-use Rattle.board_spec.proofs.OrderLawProofs.{statements-newest}
+use Rattle.std.proofs.Common.{ℕ, ◌≡◌, ◌≢◌, ◌+◌, ◌<◌, ◌≤◌, List, [], ◌∷◌, ◌++◌, length, drop, All, refl, sym, ap, ◌∙◌, subst, inl, inr, append_assoc, length-append, arith, map, filter, ◌==◌}
+use Rattle.board_prelude.proofs.Common.{take-append_seam, drop-append_seam, cases_lt, cond-true, cond-false, eq-eqb, ne_eqb, append_cancel_left, map-append, append-nil, filter-append, All-head, All-tail, All-drop, Event, Entry, Statement, Setup, IsNext, IsLegal, statement_of, statements_of, events_by, BeginsWith, IsFrontOfPhase, HasPhasesSoFar, IsBegunFor, in_file_order, OneReplay, statements-newest}
+use Rattle.std.proofs.lemmas.List.Elements.{All-take}
 use Rattle.log_check.specs.Phases.{IsTyped}
 use Rattle.log_check.proofs.PhaseCuts.{in_first_phase, past_first_phase}
 

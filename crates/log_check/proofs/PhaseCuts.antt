@@ -1,10 +1,6 @@
 -- Phases that are done, and what follows them.
 use Rattle.std.proofs.Common.{◌≡◌, ◌+◌, ◌<◌, ◌≤◌, List, [], ◌∷◌, ◌++◌, length, take, drop, min, sym, subst, inl, inr, length-append, arith}
-use Rattle.std.proofs.lemmas.List.{take-append-le, drop-append-le, length-take, take_all}
-use Rattle.board_spec.specs.declared.event.Statement.{Statement}
-use Rattle.board_spec.specs.Orders.{IsWholePhase, IsFrontOfPhase, HasPhases, HasPhasesSoFar}
-use Rattle.board_spec.proofs.GoesOnProofs.{whole_front, nothing_left}
-use Rattle.board_spec.proofs.OrderLawProofs.{whole_is_front}
+use Rattle.board_prelude.proofs.Common.{take-append-le, drop-append-le, length-take, take_all, Statement, IsWholePhase, IsFrontOfPhase, HasPhases, HasPhasesSoFar, whole_front, nothing_left, whole_is_front}
 
 pub phase_fits :
     (phase statements : List Statement) → IsWholePhase phase (take (length phase) statements) →

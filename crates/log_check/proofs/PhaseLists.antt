@@ -1,12 +1,6 @@
 -- The phases of a script as lists.
 use Rattle.std.proofs.Common.{ℕ, suc, ◌≡◌, ◌+◌, ◌<◌, ◌≤◌, List, [], ◌∷◌, ◌++◌, length, take, drop, get_or, All, sym, ap, ◌∙◌, subst, length-append, add-one, arith}
-use Rattle.std.specs.declared.vec.Vec.{Vec}
-use Rattle.std.specs.Global.{Global}
-use Rattle.std.proofs.Math.Seq.{drop-cons}
-use Rattle.std.proofs.lemmas.Grind.{flat_map-append}
-use Rattle.std.proofs.lemmas.List.{map-append, take-append-drop, take_more}
-use Rattle.board_spec.specs.declared.event.Statement.{Statement}
-use Rattle.board_spec.specs.OrderLaws.{in_file_order}
+use Rattle.board_prelude.proofs.Common.{Vec, Global, drop-cons, flat_map-append, map-append, take-append-drop, take_more, Statement, in_file_order}
 use Rattle.script_spec.specs.Phases.{lists_of}
 use Rattle.log_check.proofs.NextStatements.{all_parts}
 

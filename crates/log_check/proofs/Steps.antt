@@ -1,19 +1,12 @@
 -- The steps of a walk within a phase.
 use Rattle.std.proofs.Common.{ℕ, ◌≡◌, ◌≢◌, ◌+◌, ◌<◌, ◌≤◌, List, [], ◌∷◌, ◌++◌, length, All, sym, ap, ◌∙◌, subst, inl, inr, append_assoc, append-nil, length-append, arith}
-use Rattle.std.proofs.lemmas.Bool.{cases_eq}
-use Rattle.std.proofs.lemmas.List.{append_cancel_left}
-use Rattle.board_spec.specs.declared.event.Event.{Event}
-use Rattle.board_spec.specs.declared.event.Entry.{Entry}
-use Rattle.board_spec.specs.declared.event.Statement.{Statement}
-use Rattle.board_spec.specs.Orders.{statement_of, statements_of, events_by, IsFrontOfPhase, HasPhases, HasPhasesSoFar, IsBegunFor, IsCompleteFor}
-use Rattle.board_spec.proofs.OrderLawProofs.{statements-newest}
-use Rattle.log_check.specs.Phases.{IsTyped}
-use Rattle.log_check.specs.Walks.{Place, IsWithin}
+use Rattle.board_prelude.proofs.Common.{cases_eq, append_cancel_left, Event, Entry, Statement, statement_of, statements_of, events_by, IsFrontOfPhase, HasPhases, HasPhasesSoFar, IsBegunFor, IsCompleteFor, statements-newest}
+use Rattle.log_check.specs.Common.{IsTyped, WalkPlace, IsWithin}
 use Rattle.log_check.proofs.PhaseCuts.{begun_joined, whole_joined, whole_left, begun_left, in_first_phase, full_phase, phase_fits}
 use Rattle.log_check.proofs.NextStatements.{events-last, events-last_other, GoesFirst, goes_first, known_first}
 
 front_of :
-    (place : Place) (phase : List Statement) (left : ℕ → List Event) (history : List Entry) →
+    (place : WalkPlace) (phase : List Statement) (left : ℕ → List Event) (history : List Entry) →
     (within : IsWithin place phase left history) → place.count ≤ length phase → IsFrontOfPhase phase within.part
 front_of place phase left history within short = record {
   size = omega (arith, within.size);
@@ -22,7 +15,7 @@ front_of place phase left history within short = record {
 
 -- a history within a phase is begun
 pub within_begun :
-    (place : Place) (phase : List Statement) (left : ℕ → List Event) (history : List Entry) →
+    (place : WalkPlace) (phase : List Statement) (left : ℕ → List Event) (history : List Entry) →
     IsWithin place phase left history → place.count ≤ length phase →
     IsBegunFor (place.done ++ phase ∷ place.later) history
 within_begun place phase left history within short =
@@ -32,7 +25,7 @@ within_begun place phase left history within short =
 
 -- with all statements of the phase it is complete
 pub within_whole :
-    (place : Place) (phase : List Statement) (left : ℕ → List Event) (history : List Entry) →
+    (place : WalkPlace) (phase : List Statement) (left : ℕ → List Event) (history : List Entry) →
     IsWithin place phase left history → place.count ≡ length phase → IsCompleteFor (place.done ++ phase ∷ []) history
 within_whole place phase left history within full =
     subst (HasPhases (place.done ++ phase ∷ [])) (sym within.statements)
@@ -42,7 +35,7 @@ within_whole place phase left history within full =
 
 -- with fewer it is not
 pub within_unfinished :
-    (place : Place) (phase : List Statement) (left : ℕ → List Event) (history : List Entry) →
+    (place : WalkPlace) (phase : List Statement) (left : ℕ → List Event) (history : List Entry) →
     IsWithin place phase left history → place.count < length phase →
     ¬ IsCompleteFor (place.done ++ phase ∷ place.later) history
 within_unfinished place phase left history within short complete =
@@ -53,7 +46,7 @@ within_unfinished place phase left history within short complete =
 
 -- at the start of a phase all of it is left
 pub within_start :
-    (place : Place) (phase : List Statement) (left : ℕ → List Event) (history : List Entry) →
+    (place : WalkPlace) (phase : List Statement) (left : ℕ → List Event) (history : List Entry) →
     IsCompleteFor place.done history → place.count ≡ 0 → ((actor : ℕ) → left actor ≡ events_by actor phase) →
     IsWithin place phase left history
 within_start place phase left history complete none all = record {
@@ -67,7 +60,7 @@ within_start place phase left history complete none all = record {
 
 -- an entry is of a processor's next statement
 pub within_next :
-    (place : Place) (phase : List Statement) (left after : ℕ → List Event) (history : List Entry) (entry : Entry) →
+    (place : WalkPlace) (phase : List Statement) (left after : ℕ → List Event) (history : List Entry) (entry : Entry) →
     IsWithin place phase left history → left entry.actor ≡ entry.event ∷ after entry.actor →
     ((other : ℕ) → other ≢ entry.actor → after other ≡ left other) →
     IsWithin (record place { count = place.count + 1 }) phase after (entry ∷ history)
@@ -100,7 +93,7 @@ within_next place phase left after history entry within own others =
 
 -- an entry that may come next is of its processor's next statement
 next_first :
-    (place : Place) (phase : List Statement) (left : ℕ → List Event) (history : List Entry) (entry : Entry) →
+    (place : WalkPlace) (phase : List Statement) (left : ℕ → List Event) (history : List Entry) (entry : Entry) →
     (within : IsWithin place phase left history) → place.count < length phase →
     IsBegunFor (place.done ++ phase ∷ place.later) (entry ∷ history) →
     GoesFirst phase within.part (statement_of entry)
@@ -119,7 +112,7 @@ next_first place phase left history entry within short begun =
     (in_first_phase phase place.later (within.part ++ last ∷ []) (omega arith) rest)
 
 pub small_actor :
-    (place : Place) (phase : List Statement) (left : ℕ → List Event) (history : List Entry) (entry : Entry) →
+    (place : WalkPlace) (phase : List Statement) (left : ℕ → List Event) (history : List Entry) (entry : Entry) →
     IsWithin place phase left history → place.count < length phase → All IsTyped phase →
     IsBegunFor (place.done ++ phase ∷ place.later) (entry ∷ history) → entry.actor < 256
 small_actor place phase left history entry within short typed begun =
@@ -128,7 +121,7 @@ small_actor place phase left history entry within short typed begun =
 
 -- a processor that has nothing left has no entry that may come next
 pub none_left :
-    (place : Place) (phase : List Statement) (left : ℕ → List Event) (history : List Entry) (entry : Entry) →
+    (place : WalkPlace) (phase : List Statement) (left : ℕ → List Event) (history : List Entry) (entry : Entry) →
     IsWithin place phase left history → place.count < length phase → left entry.actor ≡ [] →
     IsBegunFor (place.done ++ phase ∷ place.later) (entry ∷ history) → ⊥
 none_left place phase left history entry within short nothing begun =

@@ -1,24 +1,12 @@
 -- A text is cut at a byte, and a line of a log names its processor.
-use Rattle.std.proofs.Common.{ℕ, ◌≡◌, ◌≢◌, ◌+◌, ◌-◌, ◌<◌, true, cond, ltb, List, [], ◌∷◌, ◌++◌, length, take, drop, All, Option, Some, None, Result, Ok, Err, refl, sym, ap, ◌∙◌, inl, append_assoc, subst, MatchOption, length-append, length-drop, arith}
-use Rattle.std.specs.Prelude.{decimal, codes, MatchResult, ◌==◌}
-use Rattle.std.specs.List.{position, position_or_len}
-use Rattle.std.specs.Result.{result_ok}
+use Rattle.std.proofs.Common.{ℕ, ◌≡◌, ◌≢◌, ◌+◌, ◌-◌, ◌<◌, true, cond, ltb, List, [], ◌∷◌, ◌++◌, length, take, drop, All, Option, Some, None, Result, Ok, Err, refl, sym, ap, ◌∙◌, inl, append_assoc, subst, MatchOption, length-append, length-drop, arith, decimal, codes, MatchResult, ◌==◌}
+use Rattle.board_prelude.proofs.Common.{position, position_or_len, result_ok, IsUtf8-from_ascii, take-append_seam, eq-eqb, ne_eqb, eqb-false, lt-ltb, cond-true, take_all, All-nil, All-cons, All-head, All-tail, Entry, space, line_feed, event_text, value_bytes, reply_text, line_text}
 use Rattle.std.specs.Option.{ok_or}
 use Rattle.std.specs.Str.{IsUtf8}
-use Rattle.std.proofs.lemmas.Str.{IsUtf8-from_ascii}
 use Rattle.std.proofs.lemmas.Fmt.{IsAscii-decimal}
-use Rattle.std.proofs.Math.Seq.{take-append_seam, drop-append-add}
-use Rattle.std.proofs.lemmas.Bool.{eq-eqb, ne_eqb, eqb-false, lt-ltb, cond-true}
-use Rattle.std.proofs.lemmas.List.{take_all}
-use Rattle.std.proofs.lemmas.List.Elements.{All-nil, All-cons, All-head, All-tail}
-use Rattle.board_spec.specs.declared.event.Entry.{Entry}
-use Rattle.board_spec.specs.Text.{space, line_feed}
-use Rattle.board_spec.specs.LogText.{event_text, value_bytes, reply_text, line_text}
+use Rattle.std.proofs.Math.Seq.{drop-append-add}
 use Rattle.script_spec.specs.Lines.{IsOneLine}
-use Rattle.script_spec.proofs.Digits.{lacks}
-use Rattle.script_spec.proofs.Fields.{front, back, front-field, back-field, lacks-first, lacks-later, lacks-decimal}
-use Rattle.script_spec.proofs.PlainText.{lacks-word, decimal_word}
-use Rattle.script_spec.proofs.CheckLaws.{lacks-line}
+use Rattle.script_spec.proofs.Common.{lacks, front, back, front-field, back-field, lacks-first, lacks-later, lacks-decimal, lacks-word, decimal_word, lacks-line}
 
 -- ---- the first byte of a kind
 

@@ -2,3 +2,4 @@ pub mod Phases
 pub mod Fronts
 pub mod Checked
 pub mod Walks
+pub mod Common

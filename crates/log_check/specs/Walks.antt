@@ -1,13 +1,6 @@
 -- The walk over a log: how far it is, and where it stops.
 use Rattle.std.specs.Prelude.{ℕ, ◌≡◌, ◌≢◌, ◌+◌, ◌++◌, List, [], ◌∷◌, length}
-use Rattle.board_spec.specs.declared.event.Event.{Event}
-use Rattle.board_spec.specs.declared.event.Entry.{Entry}
-use Rattle.board_spec.specs.declared.event.Statement.{Statement}
-use Rattle.board_spec.specs.Setup.{Setup}
-use Rattle.board_spec.specs.Legal.{IsNext, IsLegal}
-use Rattle.board_spec.specs.Orders.{statements_of, events_by, HasPhases, IsCompleteFor, IsBegunFor}
-use Rattle.board_spec.specs.Text.{line_feed}
-use Rattle.board_spec.specs.LogText.{line_text, log_text}
+use Rattle.board_prelude.specs.Common.{Event, Entry, Statement, Setup, IsNext, IsLegal, statements_of, events_by, HasPhases, IsCompleteFor, IsBegunFor, line_feed, line_text, log_text}
 use Rattle.script_spec.specs.Checks.{DiffersAt}
 use Rattle.log_check.specs.declared.fault.CheckFault.{CheckFault}
 use Rattle.log_check.specs.declared.fault.CheckFault.TheVariants.{Differs, NoMemory}
@@ -15,7 +8,7 @@ use Rattle.log_check.specs.Checked.{IsAtLine, StandsAfter}
 
 -- a place in a walk over bytes: the phases that are done, those after the one that is open, and how many statements of
 -- the open one are done
-pub record Place : Type 0 where
+pub record WalkPlace : Type 0 where
   pub version : ℕ
   pub bytes : List ℕ
   pub done : List (List Statement)
@@ -24,7 +17,7 @@ pub record Place : Type 0 where
 
 -- a history has all of the phases that are done, and so many statements of the open phase, of which its processors have
 -- the others left
-pub record IsWithin (place : Place) (phase : List Statement) (left : ℕ → List Event)
+pub record IsWithin (place : WalkPlace) (phase : List Statement) (left : ℕ → List Event)
     (history : List Entry) : Type 0 where
   pub before : List Statement
   pub part : List Statement
@@ -34,7 +27,7 @@ pub record IsWithin (place : Place) (phase : List Statement) (left : ℕ → Lis
   pub each : (actor : ℕ) → events_by actor phase ≡ events_by actor part ++ left actor
 
 -- the walk is past the log of a history
-abbrev pub IsPast : Place → List Entry → List ℕ → Type 0
+abbrev pub IsPast : WalkPlace → List Entry → List ℕ → Type 0
 IsPast place history rest = place.bytes ≡ log_text place.version history ++ rest
 
 -- with no entry that may come next does the text go on
@@ -58,7 +51,7 @@ StoppedBy setup version phases bytes entries (Differs line) = StopsAt setup vers
 StoppedBy setup version phases bytes entries NoMemory = (line : ℕ) × IsAtLine version bytes entries line
 
 -- the walk stopped by a fault, with these entries
-pub record Stopped (setup : Setup) (version : ℕ) (phases : List (List Statement)) (bytes : List ℕ)
+pub record StoppedCheck (setup : Setup) (version : ℕ) (phases : List (List Statement)) (bytes : List ℕ)
     (entries : List Entry) (fault : CheckFault) : Type 0 where
   pub by : StoppedBy setup version phases bytes entries fault
   pub legal : IsLegal setup entries
@@ -69,7 +62,7 @@ Refused setup version phases bytes (Differs line) = DiffersAt setup version phas
 Refused setup version phases bytes NoMemory = Unit {0}
 
 -- a check was not passed, by a fault, and these entries stand
-pub record Failed (setup : Setup) (version : ℕ) (phases : List (List Statement)) (bytes : List ℕ)
+pub record FailedCheck (setup : Setup) (version : ℕ) (phases : List (List Statement)) (bytes : List ℕ)
     (entries : List Entry) (fault : CheckFault) : Type 0 where
   pub refused : Refused setup version phases bytes fault
   pub legal : IsLegal setup entries

@@ -1,19 +1,14 @@
 //! The walk over a log, line by line, phase by phase.
 
 ghost use Rattle.std.specs.Prelude.{◌≡◌, ◌+◌, ◌<◌, ◌≤◌, ◌++◌, ◌∷◌, ◌⊎◌, ℕ, [], List, All, length, Ok, Err, IfOk, IfErr, OnOk, MatchResult};
-ghost use Rattle.board_spec.specs.Limits.{most_statements};
-ghost use Rattle.board_spec.specs.Legal.{IsLegal};
-ghost use Rattle.board_spec.specs.LogText.{log_text};
-ghost use Rattle.board_spec.specs.Orders.{IsBegunFor, IsCompleteFor};
-ghost use Rattle.board_spec.specs.OrderLaws.{in_file_order};
+ghost use Rattle.board_prelude.specs.Common.{most_statements, IsLegal, log_text, IsBegunFor, IsCompleteFor, in_file_order};
 ghost use Rattle.board_core.specs.Steps.{AreInRange};
-ghost use Rattle.script_spec.specs.Checks.{IsLogOf, DiffersAt};
+ghost use Rattle.script_spec.specs.Common.{IsLogOf, DiffersAt, lists_of};
 ghost use Rattle.log_check.specs.declared.fault.CheckFault.{CheckFault};
-ghost use Rattle.script_spec.specs.Phases.{lists_of};
 ghost use Rattle.log_check.specs.Phases.{IsTyped};
 ghost use Rattle.log_check.specs.Fronts.{left_of};
 ghost use Rattle.log_check.specs.Checked.{IsCheckedLog, StandsAfter};
-ghost use Rattle.log_check.specs.Walks.{Place, IsWithin, IsPast, Stopped, Failed};
+ghost use Rattle.log_check.specs.Walks.{WalkPlace, IsWithin, IsPast, StoppedCheck, FailedCheck};
 
 use crate::fault::CheckFault;
 use crate::field::processor;
@@ -38,12 +33,12 @@ fn check_line<'a>(
     ensures setup { board.new.setup ≡ board.old.setup }
     ensures phase { front.new.phase.now ≡ front.old.phase.now }
     ensures spare { OnOk result (board.new.spare + 1 ≡ board.old.spare) }
-    ensures walked { (place : Place) → IsWithin place front.old.phase.now (left_of front.old) board.old.entries
+    ensures walked { (place : WalkPlace) → IsWithin place front.old.phase.now (left_of front.old) board.old.entries
         → IsPast place board.old.entries rest.now → place.count < length front.old.phase.now
         → MatchResult result
         (λ after. IsWithin (record place { count = place.count + 1 }) front.old.phase.now (left_of front.new)
         board.new.entries × IsPast place board.new.entries after.now)
-        (λ fault. Stopped board.old.setup place.version (place.done ++ front.old.phase.now ∷ place.later) place.bytes
+        (λ fault. StoppedCheck board.old.setup place.version (place.done ++ front.old.phase.now ∷ place.later) place.bytes
         board.new.entries fault) }
 {
     let line = board.history().len() + 2;
@@ -71,12 +66,12 @@ fn check_phase<'a>(
     requires typed { All IsTyped phase.now }
     ensures setup { board.new.setup ≡ board.old.setup }
     ensures spare { OnOk result (board.new.spare + length phase.now ≡ board.old.spare) }
-    ensures walked { (place : Place) → IsCompleteFor place.done board.old.entries
+    ensures walked { (place : WalkPlace) → IsCompleteFor place.done board.old.entries
         → IsPast place board.old.entries rest.now
         → MatchResult result
         (λ after. IsCompleteFor (place.done ++ phase.now ∷ []) board.new.entries
         × IsPast place board.new.entries after.now)
-        (λ fault. Stopped board.old.setup place.version (place.done ++ phase.now ∷ place.later) place.bytes
+        (λ fault. StoppedCheck board.old.setup place.version (place.done ++ phase.now ∷ place.later) place.bytes
         board.new.entries fault) }
 {
     let mut front = Front::new(phase);
@@ -103,7 +98,7 @@ fn check_phases<'a>(
         → MatchResult result
         (λ after. IsCompleteFor (lists_of phases.now) board.new.entries
         × (bytes ≡ log_text version board.new.entries ++ after.now))
-        (λ fault. Stopped board.old.setup version (lists_of phases.now) bytes board.new.entries fault) }
+        (λ fault. StoppedCheck board.old.setup version (lists_of phases.now) bytes board.new.entries fault) }
 {
     let mut left = rest;
     for phase in phases {
@@ -127,7 +122,7 @@ fn check_lines(
     ensures setup { board.new.setup ≡ board.old.setup }
     ensures checked { MatchResult result
         (λ count. IsCheckedLog board.old.setup version (lists_of phases.now) bytes.now board.new.entries count)
-        (λ fault. Failed board.old.setup version (lists_of phases.now) bytes.now board.new.entries fault) }
+        (λ fault. FailedCheck board.old.setup version (lists_of phases.now) bytes.now board.new.entries fault) }
 {
     law_one_replay();
     let mut text = String::new(alloc);

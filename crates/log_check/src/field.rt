@@ -1,9 +1,7 @@
 //! The processor of a line.
 
 ghost use Rattle.std.specs.Prelude.{◌≡◌, ◌≢◌, ◌<◌, ◌++◌, ◌∷◌, ◌==◌, ℕ, List, Some, All, MatchOption, decimal};
-ghost use Rattle.std.specs.List.{position};
-ghost use Rattle.board_spec.specs.declared.event.Entry.{Entry};
-ghost use Rattle.board_spec.specs.LogText.{line_text};
+ghost use Rattle.board_prelude.specs.Common.{position, Entry, line_text};
 
 /// The place of the first byte that is `mark`.
 fn place_of_mark(mark: u8, bytes: &[u8]) -> Option<usize>

@@ -1,9 +1,7 @@
 //! The next line of a log: what it must be, and what stands after it.
 
 ghost use Rattle.std.specs.Prelude.{◌≡◌, ◌≢◌, ◌+◌, ◌<◌, ◌++◌, ◌∷◌, [], ℕ, List, length, string_bytes, OnOk, MatchResult};
-ghost use Rattle.board_spec.specs.declared.event.Entry.{Entry};
-ghost use Rattle.board_spec.specs.Text.{line_feed};
-ghost use Rattle.board_spec.specs.LogText.{line_text, log_text};
+ghost use Rattle.board_prelude.specs.Common.{Entry, line_feed, line_text, log_text};
 ghost use Rattle.log_check.specs.declared.fault.CheckFault.{CheckFault};
 
 use crate::fault::CheckFault;

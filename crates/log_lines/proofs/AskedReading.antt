@@ -1,27 +1,17 @@
 -- What a statement that was read asks.
-use Rattle.std.proofs.Common.{◌≡◌, ◌≢◌, ℕ, ◌<◌, ◌≤◌, Bool, true, false, cond, eqb, Option, Some, None, List, refl, sym, ap, subst, ◌∙◌, inl, inr, arith}
-use Rattle.std.specs.Prelude.{MatchOption, codes}
-use Rattle.std.specs.Option.{option_and_then}
-use Rattle.std.proofs.lemmas.Bool.{cases_Bool, cases_lt, lt-ltb, le-ltb, true≢false}
+use Rattle.std.proofs.Common.{◌≡◌, ◌≢◌, ℕ, ◌<◌, ◌≤◌, Bool, true, false, cond, eqb, Option, Some, None, List, refl, sym, ap, subst, ◌∙◌, inl, inr, arith, MatchOption, codes}
+use Rattle.board_prelude.proofs.Common.{option_and_then, cases_Bool, cases_lt, lt-ltb, le-ltb, true≢false, WideAccess, PortAccess, Moment, IsMoment, Event, Memory, Wide, Port, Ack, Pulses, Time, Wire as SetWire, Line as SetLine, BadSector}
 use Rattle.board_base.specs.declared.access.Access.{Access}
-use Rattle.board_base.specs.declared.access.WideAccess.{WideAccess}
-use Rattle.board_base.specs.declared.access.PortAccess.{PortAccess}
-use Rattle.board_base.specs.declared.moment.Moment.{Moment}
-use Rattle.board_base.specs.Calendar.{IsMoment}
-use Rattle.board_spec.specs.declared.event.Event.{Event}
-use Rattle.board_spec.specs.declared.event.Event.TheVariants.{Memory, Wide, Port, Look as LookAt, Ack, Pulses, Time, Wire as SetWire, Line as SetLine, BadSector}
-use Rattle.script_spec.specs.Grammar.{Item, Ask, AskLevel, HasForm}
-use Rattle.script_spec.specs.WellFormed.{IsNamed}
+use Rattle.board_spec.specs.declared.event.Event.TheVariants.{Look as LookAt}
+use Rattle.script_spec.specs.Common.{Item, Ask, AskLevel, HasForm, IsNamed, ask, byte_in}
 use Rattle.script_spec.proofs.LineReading.{one_item}
 use Rattle.script_lines.specs.declared.item.Asked.{Asked}
 use Rattle.script_lines.specs.declared.item.Asked.TheVariants.{Event as AnEvent, Moment as AMoment, Wire, Line}
 use Rattle.script_lines.specs.declared.item.Item.{Item as Read}
 use Rattle.script_lines.specs.declared.item.Item.TheVariants.{Cpus, Memory as SetMemory, Rom, Disk, Card, Phase, Statement as Asks}
 use Rattle.script_lines.specs.declared.moment.MomentFields.{MomentFields}
-use Rattle.script_spec.specs.Items.{ask}
 use Rattle.script_lines.specs.Items.{asked_said, moment_said, line_said}
-use Rattle.script_spec.specs.Cuts.{byte_in}
-use Rattle.log_lines.specs.Asked.{level_of, wire_of, line_of, IsPlaced, IsEventOf, IsAsked}
+use Rattle.log_lines.specs.Asked.{level_of, wire_of, line_of, IsPlacedEvent, IsEventOf, IsAsked}
 
 -- ---- what an item asks
 
@@ -45,11 +35,11 @@ actor_is actor other event asked e = ap actor_in e
 
 -- ---- events and moments
 
-pub placed_is : (event other : Event) → IsEventOf (AnEvent event) other → IsPlaced event
-placed_is event other is = subst IsPlaced (sym (event_is 0 0 event other (is.said 0))) is.fits
+pub placed_is : (event other : Event) → IsEventOf (AnEvent event) other → IsPlacedEvent event
+placed_is event other is = subst IsPlacedEvent (sym (event_is 0 0 event other (is.said 0))) is.fits
 
 pub moment_is : (m : MomentFields) (event : Event) → IsEventOf (AMoment m) event → IsMoment (moment_said m)
-moment_is m event is = (subst IsPlaced (sym (event_is 0 0 (Time (moment_said m)) event (is.said 0))) is.fits).named
+moment_is m event is = (subst IsPlacedEvent (sym (event_is 0 0 (Time (moment_said m)) event (is.said 0))) is.fits).named
 
 -- ---- levels
 
@@ -65,7 +55,7 @@ level_event make number level =
 -- the event of a level, with a number that is a byte
 abbrev IsLevelEvent : (make : ℕ → Bool → Event) → (verb : List ℕ) → (number level : ℕ) → Event → Type 0
 IsLevelEvent make verb number level event =
-    ((actor : ℕ) → level_item make verb actor number level ≡ ask actor event) × IsPlaced event
+    ((actor : ℕ) → level_item make verb actor number level ≡ ask actor event) × IsPlacedEvent event
 
 abbrev IsExact : (make : ℕ → Bool → Event) → (verb : List ℕ) → (number level : ℕ) → Option Event → Type 0
 IsExact make verb number level found =
@@ -88,7 +78,7 @@ level_none make verb number level event other neither is =
     let item : level_item make verb 0 number level ≡ AskLevel 0 verb number level = rw (other, neither) refl in
     true≢false (sym (ap asks (sym item ∙ is.0 0)))
 
-low : (make : ℕ → Bool → Event) (verb : List ℕ) (number level : ℕ) → ((on : Bool) → IsPlaced (make number on))
+low : (make : ℕ → Bool → Event) (verb : List ℕ) (number level : ℕ) → ((on : Bool) → IsPlacedEvent (make number on))
     → IsExact make verb number level (option_and_then (λ on. Some (make number on)) (level_of level))
 low make verb number level fits = elim (cases_Bool (eqb level 0)) [
   | inl off ↦
@@ -105,25 +95,25 @@ low make verb number level fits = elim (cases_Bool (eqb level 0)) [
 ]
 
 -- no level makes a number that is no byte one
-too_high : (make : ℕ → Bool → Event) (verb : List ℕ) (number level : ℕ) → ((on : Bool) → IsPlaced (make number on)
+too_high : (make : ℕ → Bool → Event) (verb : List ℕ) (number level : ℕ) → ((on : Bool) → IsPlacedEvent (make number on)
     → number < 0x100)
     → 0x100 ≤ number → (event : Event) → ¬ IsLevelEvent make verb number level event
 too_high make verb number level named high event is = elim (cases_Bool (eqb level 0)) [
   | inl off ↦
       let same : make number false ≡ event = ap event_in (sym (level_low make verb 0 number level off) ∙ is.0 0) in
-      omega (arith, high, named false (subst IsPlaced (sym same) is.1))
+      omega (arith, high, named false (subst IsPlacedEvent (sym same) is.1))
   | inr other ↦ elim (cases_Bool (eqb level 1)) [
     | inl on ↦
         let same : make number true ≡ event = ap event_in (sym (level_high make verb 0 number level other on)
         ∙ is.0 0) in
-        omega (arith, high, named true (subst IsPlaced (sym same) is.1))
+        omega (arith, high, named true (subst IsPlacedEvent (sym same) is.1))
     | inr neither ↦ level_none make verb number level event other neither is
   ]
 ]
 
 level_exact : (make : ℕ → Bool → Event) (verb : List ℕ) (number level : ℕ)
-    → ((on : Bool) → number < 0x100 → IsPlaced (make number on))
-    → ((on : Bool) → IsPlaced (make number on) → number < 0x100)
+    → ((on : Bool) → number < 0x100 → IsPlacedEvent (make number on))
+    → ((on : Bool) → IsPlacedEvent (make number on) → number < 0x100)
     → IsExact make verb number level (level_event make number level)
 level_exact make verb number level fits named = elim (cases_lt number 0x100) [
   | inl small ↦ rw (lt-ltb number 0x100 small) (low make verb number level (λ on. fits on small))
@@ -231,7 +221,7 @@ asked_exact version actor text asked (Some p) has exact = record {
 pub named_is : (event : Event) → ((access : Access) → event ≢ Memory access) → ((access : WideAccess)
     → event ≢ Wide access)
     → ((access : PortAccess) → event ≢ Port access) → ((moment : Moment) → event ≢ Time moment) → IsNamed event
-    → IsPlaced event
+    → IsPlacedEvent event
 named_is (Memory access) one two three four named = absurd (one access refl)
 named_is (Wide access) one two three four named = absurd (two access refl)
 named_is (Port access) one two three four named = absurd (three access refl)

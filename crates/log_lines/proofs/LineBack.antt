@@ -1,17 +1,8 @@
 -- The pieces of a line that was read are those of its entry.
 use Rattle.std.proofs.Common.{◌≡◌, ℕ, Option, Some, None, List, ◌∷◌, refl, sym, ap, subst, ◌∙◌}
-use Rattle.board_spec.specs.declared.event.Event.{Event}
-use Rattle.board_spec.specs.declared.event.Reply.{Reply}
-use Rattle.board_spec.specs.declared.event.Entry.{Entry}
-use Rattle.board_spec.specs.Text.{space}
-use Rattle.board_spec.specs.LogText.{value_bytes, reply_text, line_text}
-use Rattle.script_spec.specs.Grammar.{IsEventForm}
-use Rattle.script_spec.specs.WellFormed.{HasShape, IsWellFormed}
-use Rattle.script_spec.specs.Items.{ask}
-use Rattle.script_spec.specs.Entries.{Pieces, pieces_of, actor_of}
-use Rattle.script_spec.proofs.Chains.{some_is}
-use Rattle.script_spec.proofs.LineReading.{one_item}
-use Rattle.script_spec.proofs.LogReading.{asked_text, replied_text, pieces, line_pieces, actor_said, asked_said}
+use Rattle.board_prelude.proofs.Common.{Event, Reply, Entry, space, value_bytes, reply_text, line_text}
+use Rattle.script_spec.specs.Common.{IsEventForm, HasShape, IsWellFormed, ask, Pieces, pieces_of, actor_of}
+use Rattle.script_spec.proofs.Common.{some_is, one_item, asked_text, replied_text, pieces, line_pieces, actor_said, asked_said}
 use Rattle.log_lines.specs.Asked.{IsAsked}
 use Rattle.log_lines.proofs.AskedReading.{event_is, actor_is}
 

@@ -1,15 +1,9 @@
 -- What a line asks: a statement of a script, in range.
 use Rattle.std.specs.Prelude.{ℕ, ◌≡◌, true, ◌==◌, if◌then◌else◌, List, Option, Some, None, Bool, false}
-use Rattle.board_spec.specs.declared.event.Event.{Event}
-use Rattle.board_spec.specs.declared.event.Event.TheVariants.{Wire as SetWire, Line as SetLine}
-use Rattle.script_spec.specs.Grammar.{HasForm}
-use Rattle.script_spec.specs.Reasons.{is_event_placed}
-use Rattle.script_spec.specs.WellFormed.{IsNamed}
+use Rattle.board_prelude.specs.Common.{Event, Wire as SetWire, Line as SetLine}
+use Rattle.script_spec.specs.Common.{HasForm, is_event_placed, IsNamed, ask, ◌>>=◌, byte_in}
 use Rattle.script_lines.specs.declared.item.Asked.{Asked}
-use Rattle.script_spec.specs.Items.{ask}
 use Rattle.script_lines.specs.Items.{asked_said}
-use Rattle.script_spec.specs.Numbers.{◌>>=◌}
-use Rattle.script_spec.specs.Cuts.{byte_in}
 
 abbrev pub level_of : ℕ → Option Bool
 level_of level = if level == 0 then Some false else if level == 1 then Some true else None
@@ -27,16 +21,16 @@ line_of irq level = do
   Some (SetLine irq on)
 
 -- an event of a well-formed entry, whatever its digits are
-pub record IsPlaced (event : Event) : Type 0 where
+pub record IsPlacedEvent (event : Event) : Type 0 where
   pub named : IsNamed event
   pub placed : is_event_placed event ≡ true
 
 -- what was read asks this
 pub record IsEventOf (asked : Asked) (event : Event) : Type 0 where
   pub said : (actor : ℕ) → asked_said actor asked ≡ ask actor event
-  pub fits : IsPlaced event
+  pub fits : IsPlacedEvent event
 
 -- `S STATEMENT` has a form, which asks this
 pub record IsAsked (version : ℕ) (text : List ℕ) (seq : ℕ) (event : Event) : Type 0 where
   pub has : HasForm version text (ask seq event)
-  pub fits : IsPlaced event
+  pub fits : IsPlacedEvent event

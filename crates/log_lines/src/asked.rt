@@ -1,10 +1,9 @@
 //! The event of a line: that of a statement of a script, in range.
 
 ghost use Rattle.std.specs.Prelude.{◌≡◌, ◌+◌, ◌↔◌, ℕ, IsTrue, MatchOption, nat_le};
-ghost use Rattle.board_base.specs.Calendar.{IsMoment};
-ghost use Rattle.board_spec.specs.declared.event.Event.{Event};
+ghost use Rattle.board_prelude.specs.Common.{IsMoment, Event};
 ghost use Rattle.script_lines.specs.declared.item.Asked.{Asked};
-ghost use Rattle.log_lines.specs.Asked.{level_of, wire_of, line_of, IsPlaced, IsEventOf, IsAsked};
+ghost use Rattle.log_lines.specs.Asked.{level_of, wire_of, line_of, IsPlacedEvent, IsEventOf, IsAsked};
 
 use crate::cuts::byte_in;
 use board_base::{Moment, WideAccess};
@@ -80,7 +79,7 @@ fn is_within(access: &WideAccess) -> bool
 
 /// Whether an access is aligned, or ends within the addresses, and a moment is one of the calendar.
 fn is_placed(event: Event) -> bool
-    ensures placed { IsTrue result ↔ IsPlaced event }
+    ensures placed { IsTrue result ↔ IsPlacedEvent event }
 {
     match event {
         Event::Memory(access) => access.width.is_aligned(access.addr),

@@ -1,10 +1,8 @@
 //! A whole line: its number, the processor and the number of its entry, the event, and the reply.
 
 ghost use Rattle.std.specs.Prelude.{◌≡◌, ℕ, IfSome, option_map};
-ghost use Rattle.board_spec.specs.declared.event.Entry.{Entry};
-ghost use Rattle.board_spec.specs.LogText.{line_text};
-ghost use Rattle.script_spec.specs.WellFormed.{IsWellFormed};
-ghost use Rattle.script_spec.specs.Entries.{but_last, pieces_of, actor_of};
+ghost use Rattle.board_prelude.specs.Common.{Entry, line_text};
+ghost use Rattle.script_spec.specs.Common.{IsWellFormed, but_last, pieces_of, actor_of};
 
 use crate::asked::asked_of;
 use crate::cuts::{byte_in, cut};

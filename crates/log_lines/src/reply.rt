@@ -1,16 +1,9 @@
 //! The reply that a line says, by its event.
 
 ghost use Rattle.std.specs.Prelude.{◌≡◌, ◌≤◌, ◌<◌, ◌^◌, ◌∷◌, ℕ, false, length, IfSome};
-ghost use Rattle.board_spec.specs.declared.event.Reply.{Reply};
-ghost use Rattle.board_spec.specs.Stored.{is_write};
-ghost use Rattle.board_spec.specs.WideParts.{parts_of};
-ghost use Rattle.board_spec.specs.Answer.{outside_answer};
-ghost use Rattle.board_spec.specs.Text.{space};
-ghost use Rattle.board_spec.specs.LogText.{value_bytes, reply_text};
-ghost use Rattle.script_spec.specs.Grammar.{IsDecimal, IsEventForm};
-ghost use Rattle.script_spec.specs.WellFormed.{IsReplyValue, IsBusReply, IsWideReply, IsLookReply, HasShape};
-ghost use Rattle.script_spec.specs.Numbers.{decimal_of};
-ghost use Rattle.script_spec.specs.Replies.{no_value, value_of, bus_of, parts_with, wide_of, look_of, reply_of, reply_in, IsNarrow};
+ghost use Rattle.board_prelude.specs.Common.{Reply, is_write, parts_of, outside_answer, space, value_bytes, reply_text};
+ghost use Rattle.script_spec.specs.Common.{IsDecimal, IsEventForm, IsReplyValue, IsBusReply, IsWideReply, IsLookReply, HasShape, decimal_of, no_value, value_of, bus_of, parts_with, wide_of, reply_of, reply_in, IsNarrow};
+ghost use Rattle.script_spec.specs.Replies.{look_of};
 
 use crate::target::{area_of, denial_of, target_of};
 use crate::wide::{count_of, part_count, parts_in};

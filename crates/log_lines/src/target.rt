@@ -1,9 +1,8 @@
 //! What the words of a reply name: registers, denials, areas and targets. Hexadecimal digits are taken in either case.
 
 ghost use Rattle.std.specs.Prelude.{◌≡◌, ◌<◌, IfSome, option_map};
-ghost use Rattle.script_spec.specs.WellFormed.{FitsReg, FitsArea, FitsDevice, FitsTarget, FitsDenial};
-ghost use Rattle.script_spec.specs.Numbers.{hex_of};
-ghost use Rattle.script_spec.specs.Targets.{register_of, denial_word, denial_of, base_of, area_with, placed_area, area_of, card_of, target_with, placed_target, chip_of, named_device, device_of, other_target, target_of};
+ghost use Rattle.script_spec.specs.Common.{FitsReg, FitsArea, FitsDevice, FitsTarget, FitsDenial, hex_of, register_of, denial_word, denial_of, area_with, placed_area, area_of, target_with, placed_target, chip_of, named_device, device_of, other_target, target_of};
+ghost use Rattle.script_spec.specs.Targets.{base_of, card_of};
 
 use crate::cuts::{cut, digit_in};
 use board_base::{Area, Denial, Dev, Reg, Target};

@@ -2,8 +2,8 @@
 
 ghost use Rattle.std.specs.Prelude.{◌≡◌, ◌≤◌, ◌+◌, ◌^◌, length, IfSome, All, option_map};
 ghost use Rattle.board_spec.specs.WideParts.{longest_at, parts_list};
-ghost use Rattle.script_spec.specs.WellFormed.{FitsPart};
-ghost use Rattle.script_spec.specs.Replies.{part_of, last_parts, more_parts, parts_in, part_count};
+ghost use Rattle.script_spec.specs.Common.{FitsPart, last_parts, more_parts, parts_in, part_count};
+ghost use Rattle.script_spec.specs.Replies.{part_of};
 
 use crate::target::{denial_of, target_of};
 use board_base::Width;

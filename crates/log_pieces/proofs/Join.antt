@@ -1,13 +1,8 @@
 -- Pieces that are joined in their order.
-use Rattle.std.proofs.Common.{◌≡◌, ℕ, ◌+◌, ◌*◌, ◌<◌, ◌++◌, List, [], ◌∷◌, length, get_or, take, drop, map, refl, sym, ap, ◌∙◌, subst, append_assoc, append-nil, arith, inl, inr, Result, Ok, Err, IfOk, string_bytes}
-use Rattle.std.specs.Prelude.{String, reverse}
-use Rattle.std.specs.Global.{Global}
-use Rattle.std.proofs.lemmas.Bool.{cases_lt}
-use Rattle.std.proofs.lemmas.List.{drop_all, take_all, length-take-le, length-append, length-map, get_or-map, take-map, drop-map}
-use Rattle.std.proofs.Math.Seq.{take-add, get_or-append_seam}
-use Rattle.board_spec.specs.declared.event.Entry.{Entry}
-use Rattle.board_spec.specs.Text.{line_feed}
-use Rattle.board_spec.specs.LogText.{line_text, log_text}
+use Rattle.std.proofs.Common.{◌≡◌, ℕ, ◌+◌, ◌*◌, ◌<◌, ◌++◌, List, [], ◌∷◌, length, get_or, take, drop, map, refl, sym, ap, ◌∙◌, subst, append_assoc, append-nil, arith, inl, inr, Result, Ok, Err, IfOk, string_bytes, String, reverse}
+use Rattle.board_prelude.proofs.Common.{Global, cases_lt, drop_all, take_all, length-take-le, length-append, length-map, get_or-map, get_or-append_seam, Entry, line_feed, line_text, log_text}
+use Rattle.std.proofs.lemmas.List.{take-map, drop-map}
+use Rattle.std.proofs.Math.Seq.{take-add}
 use Rattle.board_script.specs.LinesFrom.{lines_from}
 use Rattle.board_script.proofs.Parts.{lines_of_parts, log_text-lines, appended_line}
 use Rattle.log_pieces.specs.Pieces.{Piece, IsPiece, ArePieces}

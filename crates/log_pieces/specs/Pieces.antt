@@ -1,8 +1,6 @@
 -- The lines of a history in pieces. Here the oldest entry stands first.
 use Rattle.std.specs.Prelude.{ℕ, ◌≡◌, ◌+◌, ◌*◌, ◌<◌, List, length, take, drop, slice_index_or, Result, IfOk, String, string_bytes}
-use Rattle.std.specs.Global.{Global}
-use Rattle.board_base.specs.declared.fault.NoMemory.{NoMemory}
-use Rattle.board_spec.specs.declared.event.Entry.{Entry}
+use Rattle.board_prelude.specs.Common.{Global, NoMemory, Entry}
 use Rattle.board_script.specs.LinesFrom.{lines_from}
 
 abbrev pub Piece : Type 0

@@ -1,10 +1,9 @@
 //! A history is cut into pieces of the same length, and their texts stand one after another.
 
 ghost use Rattle.std.specs.Prelude.{◌≡◌, ◌++◌, ℕ, List, All, ◌+◌, ◌*◌, ◌^◌, ◌<◌, ◌≤◌, [], length, map, take, reverse, string_bytes, OnOk, IfOk};
-ghost use Rattle.board_spec.specs.declared.event.Entry.{Entry};
-ghost use Rattle.board_spec.specs.LogText.{log_text};
+ghost use Rattle.board_prelude.specs.Common.{Entry, log_text};
 ghost use Rattle.board_script.specs.LinesFrom.{lines_from};
-ghost use Rattle.run_order.specs.Over.{over, IsWithin};
+ghost use Rattle.run_order.specs.Over.{over, IsPlacedBelow};
 ghost use Rattle.log_pieces.specs.Pieces.{ArePieces};
 
 use crate::text::Text;
@@ -130,7 +129,7 @@ pub fn run_log_by<R: Threads + Sync>(
     bus: &[Entry],
     order: &[RunEntry],
 ) -> Result<Text, NoMemory>
-    requires within { All (IsWithin (length bus.now)) order.now }
+    requires within { All (IsPlacedBelow (length bus.now)) order.now }
     ensures text { IfOk result (λ text. text ≡ log_text version (reverse (over bus.now order.now))) }
 {
     log_of(rt, alloc, workers, version, &RunWriter { bus }, order)

@@ -2,8 +2,7 @@
 
 ghost use Rattle.std.specs.Prelude.{◌+◌, ◌^◌, ◌≤◌, List, All, length, map, OnOk};
 ghost use Rattle.board_spec.specs.declared.event.Entry.{Entry};
-ghost use Rattle.board_script.specs.Adds.{Adds};
-ghost use Rattle.board_script.specs.LinesFrom.{lines_from};
+ghost use Rattle.board_script.specs.Common.{AddsWords, lines_from};
 
 use board_base::NoMemory;
 use board_script::{push_line, push_lines};
@@ -30,7 +29,7 @@ pub(crate) trait LineWriter: Sync {
     ) -> Result<(), NoMemory>
         requires fits { first + length elements.now ≤ 2 ^ 64 }
         requires known { All (is_known self.now) elements.now }
-        ensures appended { OnOk result (Adds text.old text.new
+        ensures appended { OnOk result (AddsWords text.old text.new
             (lines_from first (map (entry self.now) elements.now))) };
 }
 
@@ -57,13 +56,13 @@ pub(crate) struct RunWriter<'a> {
 
 impl LineWriter for RunWriter<'_> {
     ghost use Rattle.std.specs.Prelude.{length};
-    ghost use Rattle.run_order.specs.Over.{entry_of, IsWithin};
+    ghost use Rattle.run_order.specs.Over.{entry_of, IsPlacedBelow};
 
     type Element = RunEntry;
 
     ghost entry = { λ writer. entry_of writer.bus.now };
 
-    ghost is_known = { λ writer. IsWithin (length writer.bus.now) };
+    ghost is_known = { λ writer. IsPlacedBelow (length writer.bus.now) };
 
     fn push(&self, text: &mut String, first: u64, order: &[RunEntry]) -> Result<(), NoMemory> {
         for (index, element) in order.iter().enumerate() {

@@ -1,23 +1,8 @@
 -- Statements that are read in turn after a setup and a phase.
-use Rattle.std.proofs.Common.{ℕ, ◌≡◌, ◌+◌, ◌*◌, ◌<◌, ◌≤◌, Bool, true, false, ◌&&◌, ◌||◌, not, ltb, None, List, [], ◌∷◌, ◌++◌, length, map, filter, reverse, sum_by, All, refl, sym, ap, ◌∙◌, inl, inr, append_assoc, append-nil, arith}
-use Rattle.std.specs.Prelude.{option_map, decimal}
-use Rattle.std.specs.List.{find, list_any, AllZip, onto_first, list_all}
-use Rattle.std.proofs.lemmas.Bool.{le-ltb, and_from, and_parts}
-use Rattle.std.proofs.lemmas.List.{reverse-append}
-use Rattle.std.proofs.lemmas.List.Elements.{All-head, All-tail}
-use Rattle.std.proofs.lemmas.List.Sums.{sum_by-cons}
-use Rattle.board_spec.specs.declared.event.Statement.{Statement}
-use Rattle.board_spec.specs.Setup.{memory_of_cards}
-use Rattle.board_spec.specs.Text.{space, line_feed}
-use Rattle.board_spec.specs.LogText.{event_text}
-use Rattle.script_spec.specs.Lines.{lines_of, text_of_lines}
-use Rattle.script_spec.specs.Grammar.{Item, Ask, StandsFor, IsEventForm, item_text}
-use Rattle.script_spec.specs.Reasons.{reason, is_phase, is_statement, is_setup, cards_of, is_misplaced, is_repeated, lacks_setup, is_in_range, is_event_in_range, is_placed, is_event_placed, is_there, is_cpus_above, is_card_there, pulses_of, pulses_of_event, passes_limits, least_reason}
-use Rattle.script_spec.specs.ScriptText.{most_bytes, is_skipped, AreRead}
-use Rattle.script_spec.proofs.Digits.{lacks}
-use Rattle.script_spec.proofs.Fields.{lacks-first, lacks-later, lacks-append}
-use Rattle.script_spec.proofs.PlainText.{lacks-word, lacks-plain, decimal_word}
-use Rattle.script_spec.proofs.PlainLines.{event_plain}
+use Rattle.std.proofs.Common.{ℕ, ◌≡◌, ◌+◌, ◌*◌, ◌<◌, ◌≤◌, Bool, true, false, ◌&&◌, ◌||◌, not, ltb, None, List, [], ◌∷◌, ◌++◌, length, map, filter, reverse, sum_by, All, refl, sym, ap, ◌∙◌, inl, inr, append_assoc, append-nil, arith, option_map, decimal}
+use Rattle.board_prelude.proofs.Common.{find, list_any, AllZip, onto_first, list_all, le-ltb, and_from, and_parts, reverse-append, All-head, All-tail, sum_by-cons, Statement, memory_of_cards, space, line_feed, event_text}
+use Rattle.script_spec.specs.Common.{lines_of, text_of_lines, Item, Ask, StandsFor, IsEventForm, item_text, reason, is_phase, is_statement, is_setup, cards_of, is_misplaced, is_repeated, lacks_setup, is_in_range, is_event_in_range, is_placed, is_event_placed, is_there, is_cpus_above, is_card_there, pulses_of, pulses_of_event, passes_limits, least_reason, most_bytes, is_skipped, AreRead}
+use Rattle.script_spec.proofs.Common.{lacks, lacks-first, lacks-later, lacks-append, lacks-word, lacks-plain, decimal_word, event_plain}
 
 -- ---- lines
 

@@ -1,17 +1,10 @@
 -- The counts of one entry more.
 use Rattle.std.proofs.Common.{ℕ, ◌≡◌, ◌+◌, ◌≤◌, ◌<◌, Bool, cond, List, [], ◌∷◌, length, refl, ap, ◌∙◌, inl, inr, arith}
 use mir.Val.{bool_byte}
-use Rattle.std.proofs.lemmas.Bool.{cases_Bool}
-use Rattle.std.proofs.lemmas.List.Elements.{All-head, All-tail}
-use Rattle.board_base.specs.declared.target.Target.TheVariants.{Dram, Shadow, Smram, Rom, Card, Device, Config, Abort}
-use Rattle.board_spec.specs.declared.event.Event.{Event}
-use Rattle.board_spec.specs.declared.event.Reply.{Reply}
-use Rattle.board_spec.specs.declared.event.Reply.TheVariants.{Bus, Parts as InParts, Saw}
-use Rattle.board_spec.specs.declared.event.Entry.{Entry}
-use Rattle.make_script.specs.Summary.{is_dram, is_shadow, is_smram, is_rom, is_card, is_config, is_device, is_abort, answers, is_look, count_of}
-use Rattle.make_script.specs.Laws.{IsOneCycle, KindsAddUp}
+use Rattle.board_prelude.proofs.Common.{cases_Bool, All-head, All-tail, Dram, Shadow, Smram, Rom, Card, Device, Config, Abort, Event, Reply, Bus, Saw, Entry}
+use Rattle.board_spec.specs.declared.event.Reply.TheVariants.{Parts as InParts}
+use Rattle.make_script.specs.Common.{is_dram, is_shadow, is_smram, is_rom, is_card, is_config, is_device, is_abort, answers, is_look, count_of, IsCycleReply, KindsAddUp, AreCounts, HasRoomForOne, most_counted}
 use Rattle.make_script.specs.declared.counts.Counts.{Counts}
-use Rattle.make_script.specs.Counts.{AreCounts, HasRoom, most_counted}
 
 pub count-more :
     (test : Entry → Bool) (entry : Entry) (history : List Entry) (mark : Bool) (n more : ℕ) → mark ≡ test entry
@@ -41,7 +34,7 @@ has-room test history n is few = omega (arith, is, few, count-below test history
 
 -- the counts of a history can take one more, where the history can
 pub counts-room : (history : List Entry) (counts : Counts) → AreCounts history counts
-    → length history < most_counted → HasRoom counts
+    → length history < most_counted → HasRoomForOne counts
 counts-room history counts are few = record {
   dram = has-room _ history counts.dram are.dram few;
   shadow = has-room _ history counts.shadow are.shadow few;
@@ -75,7 +68,7 @@ kinds entry =
     + one (answers is_card) entry + one (answers is_config) entry + one (answers is_device) entry
     + one (answers is_abort) entry + one is_look entry
 
-one-kind : (actor seq : ℕ) (event : Event) (reply : Reply) → IsOneCycle reply
+one-kind : (actor seq : ℕ) (event : Event) (reply : Reply) → IsCycleReply reply
     → kinds (record { actor = actor; seq = seq; event = event; reply = reply }) ≡ 1
 one-kind actor seq event (Bus value (Dram row) denial) cycle = refl
 one-kind actor seq event (Bus value (Shadow row) denial) cycle = refl
@@ -93,8 +86,8 @@ kinds-add-up [] all = refl
 kinds-add-up (entry ∷ before) all =
     omega (
       arith,
-      one-kind entry.actor entry.seq entry.event entry.reply (All-head (λ e. IsOneCycle e.reply) entry before all),
-      kinds-add-up before (All-tail (λ e. IsOneCycle e.reply) entry before all),
+      one-kind entry.actor entry.seq entry.event entry.reply (All-head (λ e. IsCycleReply e.reply) entry before all),
+      kinds-add-up before (All-tail (λ e. IsCycleReply e.reply) entry before all),
       count-one (answers is_dram) entry before,
       count-one (answers is_shadow) entry before,
       count-one (answers is_smram) entry before,

@@ -1,25 +1,10 @@
 -- Each statement of a script that is made can be asked, wherever it stands.
 use Rattle.std.proofs.Common.{ℕ, zero, suc, ◌≡◌, ◌%◌, ◌<◌, ◌≤◌, ◌^◌, Bool, true, false, ◌&&◌, not, ltb, eqb, List, [], ◌∷◌, length, map, All, refl, arith}
-use Rattle.std.specs.List.{list_all}
-use Rattle.std.specs.Fmt.{digits}
-use Rattle.std.proofs.lemmas.Bool.{ltb-true, eqb-true, eq-eqb, and_parts, not-true, false≢true}
-use Rattle.std.proofs.lemmas.List.Elements.{All-nil, All-cons, All-append}
-use Rattle.board_base.specs.declared.access.Kind.TheVariants.{Read}
-use Rattle.board_base.specs.declared.access.Width.TheVariants.{One, Four}
-use Rattle.board_base.specs.declared.moment.Moment.{Moment}
-use Rattle.board_base.specs.Access.{bytes_of}
-use Rattle.board_base.specs.Calendar.{weekday_of, days_since_1980, days_of_years, days_of_months}
-use Rattle.board_spec.specs.declared.event.Event.{Event}
-use Rattle.board_spec.specs.declared.event.Event.TheVariants.{Memory, Wide, Port, Look as LookAt, Ack, Pulses, Time, Wire, Line, BadSector}
-use Rattle.board_spec.specs.declared.event.Statement.{Statement}
-use Rattle.board_spec.specs.InRange.{FitsBytes}
-use Rattle.board_spec.specs.Stored.{is_write}
-use Rattle.board_spec.specs.LogText.{event_text}
-use Rattle.script_spec.specs.Grammar.{Item, IsMomentForm, IsEventForm, item_text}
-use Rattle.script_spec.specs.Reasons.{is_event_in_range, is_event_placed, is_card_there, pulses_of_event}
-use Rattle.script_spec.specs.ScriptText.{is_skipped}
-use Rattle.make_script.specs.MakeText.{dram_addr, card_addr}
-use Rattle.make_script.specs.MadeScript.{asks, reads, writes, outs, opening_events, round_statements, statements_of_rounds, made_statements}
+use Rattle.board_prelude.proofs.Common.{list_all, digits, ltb-true, eqb-true, eq-eqb, and_parts, not-true, false≢true, All-nil, All-cons, All-append, Read, One, Moment, bytes_of, weekday_of, days_since_1980, days_of_years, days_of_months, Event, Memory, Wide, Port, Ack, Pulses, Time, Wire, Line, BadSector, Statement, FitsBytes, is_write, event_text}
+use Rattle.board_base.specs.declared.access.Width.TheVariants.{Four}
+use Rattle.board_spec.specs.declared.event.Event.TheVariants.{Look as LookAt}
+use Rattle.script_spec.specs.Common.{Item, IsMomentForm, IsEventForm, item_text, is_event_in_range, is_event_placed, is_card_there, pulses_of_event, is_skipped}
+use Rattle.make_script.specs.Common.{dram_addr, card_addr, asks, reads, writes, outs, opening_events, round_statements, statements_of_rounds, made_statements}
 use Rattle.make_script.proofs.AskedLemmas.{said, IsFine}
 
 -- ---- a test of a statement

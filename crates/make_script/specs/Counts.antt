@@ -1,9 +1,6 @@
 -- What the parts of a reply count as, and how many entries of each kind a history has.
 use Rattle.std.specs.Prelude.{ℕ, ◌≡◌, ◌<◌, ◌^◌, ◌-◌, Bool, List, is_some}
-use Rattle.std.specs.List.{list_any}
-use Rattle.board_base.specs.declared.target.Target.{Target}
-use Rattle.board_spec.specs.declared.event.Part.{Part}
-use Rattle.board_spec.specs.declared.event.Entry.{Entry}
+use Rattle.board_prelude.specs.Common.{list_any, Target, Part, Entry}
 use Rattle.make_script.specs.Summary.{is_dram, is_shadow, is_smram, is_rom, is_card, is_config, is_device, is_abort, answers, is_denied, is_look, count_of}
 use Rattle.make_script.specs.declared.counts.Marks.{Marks}
 use Rattle.make_script.specs.declared.counts.Counts.{Counts}
@@ -41,7 +38,7 @@ abbrev pub most_counted : ℕ
 most_counted = 2 ^ 64 - 1
 
 -- each count can take one more
-pub record HasRoom (counts : Counts) : Type 0 where
+pub record HasRoomForOne (counts : Counts) : Type 0 where
   pub dram : counts.dram < most_counted
   pub shadow : counts.shadow < most_counted
   pub smram : counts.smram < most_counted

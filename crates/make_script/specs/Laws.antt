@@ -1,11 +1,8 @@
 -- What the laws say: each is proved on a function of `laws`.
 use Rattle.std.specs.Prelude.{ℕ, ◌≡◌, ◌≤◌, ◌+◌, ◌*◌, List, length, All}
-use Rattle.board_spec.specs.declared.event.Reply.{Reply}
-use Rattle.board_spec.specs.declared.event.Reply.TheVariants.{Bus, Parts as InParts, Saw}
-use Rattle.board_spec.specs.declared.event.Entry.{Entry}
-use Rattle.board_spec.specs.Setup.{IsSetup}
-use Rattle.script_spec.specs.ScriptText.{IsScriptText}
-use Rattle.script_spec.specs.ScriptRange.{IsInRangeScript}
+use Rattle.board_prelude.specs.Common.{Reply, Bus, Saw, Entry, IsSetup}
+use Rattle.board_spec.specs.declared.event.Reply.TheVariants.{Parts as InParts}
+use Rattle.script_spec.specs.Common.{IsScriptText, IsInRangeScript}
 use Rattle.make_script.specs.MakeText.{make_text}
 use Rattle.make_script.specs.MadeScript.{made_statements, made_script, made_setup}
 use Rattle.make_script.specs.Summary.{is_dram, is_shadow, is_smram, is_rom, is_card, is_config, is_device, is_abort, answers, is_look, count_of}
@@ -31,15 +28,15 @@ MadeSetupFits = IsSetup made_setup
 
 -- ---- the summary
 
-abbrev pub IsOneCycle : Reply → Type 0
-IsOneCycle (Bus value target denial) = Unit {0}
-IsOneCycle (InParts parts value) = ⊥
-IsOneCycle (Saw look) = Unit {0}
+abbrev pub IsCycleReply : Reply → Type 0
+IsCycleReply (Bus value target denial) = Unit {0}
+IsCycleReply (InParts parts value) = ⊥
+IsCycleReply (Saw look) = Unit {0}
 
 -- without wide accesses each entry is a look, or counts under one kind of target
 abbrev pub KindsAddUp : Type 0
 KindsAddUp =
-    (history : List Entry) → All (λ entry. IsOneCycle entry.reply) history →
+    (history : List Entry) → All (λ entry. IsCycleReply entry.reply) history →
     count_of (answers is_dram) history + count_of (answers is_shadow) history + count_of (answers is_smram) history
     + count_of (answers is_rom) history + count_of (answers is_card) history + count_of (answers is_config) history
     + count_of (answers is_device) history + count_of (answers is_abort) history + count_of is_look history

@@ -4,3 +4,4 @@ pub mod Images
 pub mod Summary
 pub mod Laws
 pub mod Counts
+pub mod Common

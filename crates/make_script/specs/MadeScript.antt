@@ -1,13 +1,8 @@
 -- What a script that is made says, as a value: the statements in the order of its lines.
 use Rattle.std.specs.Prelude.{ℕ, zero, suc, ◌++◌, Bool, true, false, List, [], ◌∷◌, map, Some, None, codes}
-use Rattle.board_base.specs.declared.access.Kind.TheVariants.{Read, Write}
-use Rattle.board_base.specs.declared.access.Width.{Width}
-use Rattle.board_base.specs.declared.access.Width.TheVariants.{One, Two, Four}
-use Rattle.board_base.specs.Calendar.{moment_of}
-use Rattle.board_spec.specs.declared.event.Event.{Event}
-use Rattle.board_spec.specs.declared.event.Event.TheVariants.{Memory, Port, Look as LookAt, Ack, Pulses, Time}
-use Rattle.board_spec.specs.declared.event.Statement.{Statement}
-use Rattle.board_spec.specs.Setup.{MemoryBase, IoBase, FittedCard, Setup}
+use Rattle.board_prelude.specs.Common.{Read, Write, Width, One, moment_of, Event, Memory, Port, Ack, Pulses, Time, Statement, MemoryBase, IoBase, FittedCard, Setup}
+use Rattle.board_base.specs.declared.access.Width.TheVariants.{Two, Four}
+use Rattle.board_spec.specs.declared.event.Event.TheVariants.{Look as LookAt}
 use Rattle.script_spec.specs.ScriptText.{Script}
 use Rattle.make_script.specs.MakeText.{dram_addr, card_addr}
 use Rattle.make_script.specs.Images.{rom_image, disk_image}

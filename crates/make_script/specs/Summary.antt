@@ -1,15 +1,7 @@
 -- The summary of a history: thirteen lines with a number each.
 use Rattle.std.specs.Prelude.{ℕ, ◌++◌, Bool, true, false, List, [], ◌∷◌, length, filter, is_some, codes, decimal}
-use Rattle.std.specs.List.{list_any}
-use Rattle.board_base.specs.declared.target.Target.{Target}
-use Rattle.board_base.specs.declared.target.Target.TheVariants.{Dram, Shadow, Smram, Rom, Card, Device, Config, Abort}
-use Rattle.board_spec.specs.declared.event.Part.{Part}
-use Rattle.board_spec.specs.declared.event.Reply.{Reply}
-use Rattle.board_spec.specs.declared.event.Reply.TheVariants.{Bus, Parts as InParts, Saw}
-use Rattle.board_spec.specs.declared.event.Entry.{Entry}
-use Rattle.board_spec.specs.Setup.{Setup}
-use Rattle.board_spec.specs.MapWrites.{version_of}
-use Rattle.board_spec.specs.WideParts.{parts_list}
+use Rattle.board_prelude.specs.Common.{list_any, Target, Dram, Shadow, Smram, Rom, Card, Device, Config, Abort, Part, Reply, Bus, Saw, Entry, Setup, version_of, parts_list}
+use Rattle.board_spec.specs.declared.event.Reply.TheVariants.{Parts as InParts}
 use Rattle.script_spec.specs.Lines.{text_of_lines}
 
 -- ---- kinds of targets

@@ -1,11 +1,9 @@
 //! How many entries of a history there are of each kind.
 
 ghost use Rattle.std.specs.Prelude.{◌≡◌, ◌+◌, ◌++◌, List, [], ◌∷◌};
-ghost use Rattle.board_spec.specs.declared.event.Entry.{Entry as AnEntry};
-ghost use Rattle.board_spec.specs.declared.event.Part.{Part as APart};
-ghost use Rattle.board_spec.specs.WideParts.{parts_list};
+ghost use Rattle.board_prelude.specs.Common.{Entry as AnEntry, Part as APart, parts_list};
 ghost use Rattle.make_script.specs.Summary.{parts_in, is_look_reply};
-ghost use Rattle.make_script.specs.Counts.{AreMarks, AreCounts, HasRoom};
+ghost use Rattle.make_script.specs.Counts.{AreMarks, AreCounts, HasRoomForOne};
 
 use board_base::Target;
 use board_spec::{Entry, Part, Parts, Reply};
@@ -149,7 +147,7 @@ impl Counts {
 
     /// The counts with one entry more.
     pub fn with(self, entry: &Entry) -> Counts
-        requires room { HasRoom self }
+        requires room { HasRoomForOne self }
         ensures counts { (history : List AnEntry) → AreCounts history self → AreCounts (entry.now ∷ history) result }
     {
         let marks = Marks::of_reply(&entry.reply);

@@ -3,7 +3,7 @@
 ghost use Rattle.std.specs.Prelude.{◌≡◌, ◌+◌, ◌*◌, ◌%◌, [], ◌∷◌, ◌++◌, OnOk, OnErr, IfOk};
 ghost use Rattle.board_spec.specs.Text.{space, line_feed, hex_long};
 ghost use Rattle.script_spec.specs.Lines.{text_of_lines};
-ghost use Rattle.board_script.specs.Adds.{Adds, KeepsFront};
+ghost use Rattle.board_script.specs.Adds.{AddsWords, KeepsFront};
 ghost use Rattle.make_script.specs.MakeText.{setup_lines, opening_lines, round_lines, make_text};
 
 use board_base::NoMemory;
@@ -88,7 +88,7 @@ const ROUND_END: &str = "\
 /// Appends the setup, the line of the phase and the statements that program the board.
 #[tactic(auto, unfolding(crate::specs::MakeText::setup_lines, crate::specs::MakeText::opening_lines))]
 fn push_opening(text: &mut String) -> Result<(), NoMemory>
-    ensures appended { OnOk result (Adds text.old text.new (text_of_lines (setup_lines ++ opening_lines))) }
+    ensures appended { OnOk result (AddsWords text.old text.new (text_of_lines (setup_lines ++ opening_lines))) }
     ensures front { OnErr result (KeepsFront text.old text.new) }
 {
     push_words(text, SETUP)?;
@@ -97,7 +97,7 @@ fn push_opening(text: &mut String) -> Result<(), NoMemory>
 
 /// Appends words, a number in eight hexadecimal digits, and a line feed.
 fn push_long_line(text: &mut String, words: &str, number: u32) -> Result<(), NoMemory>
-    ensures appended { OnOk result (Adds text.old text.new (words.now ++ hex_long number ++ line_feed ∷ [])) }
+    ensures appended { OnOk result (AddsWords text.old text.new (words.now ++ hex_long number ++ line_feed ∷ [])) }
     ensures front { OnErr result (KeepsFront text.old text.new) }
 {
     push_words(text, words)?;
@@ -108,7 +108,7 @@ fn push_long_line(text: &mut String, words: &str, number: u32) -> Result<(), NoM
 
 /// Appends the line of words, an address and a value.
 fn push_write(text: &mut String, words: &str, addr: u32, value: u32) -> Result<(), NoMemory>
-    ensures appended { OnOk result (Adds text.old text.new
+    ensures appended { OnOk result (AddsWords text.old text.new
         (words.now ++ hex_long addr ++ space ∷ hex_long value ++ line_feed ∷ [])) }
     ensures front { OnErr result (KeepsFront text.old text.new) }
 {
@@ -120,7 +120,7 @@ fn push_write(text: &mut String, words: &str, addr: u32, value: u32) -> Result<(
 /// Appends the eleven statements of a round. Rounds count from 0.
 #[tactic(auto, unfolding(crate::specs::MakeText::round_lines))]
 pub(crate) fn push_round(text: &mut String, round: u32) -> Result<(), NoMemory>
-    ensures appended { OnOk result (Adds text.old text.new (text_of_lines (round_lines round))) }
+    ensures appended { OnOk result (AddsWords text.old text.new (text_of_lines (round_lines round))) }
     ensures front { OnErr result (KeepsFront text.old text.new) }
 {
     let dram = 0x10_0000 + 4 * (round % 4096);

@@ -1,12 +1,9 @@
 //! The summary of a history: thirteen lines with a number each.
 
 ghost use Rattle.std.specs.Prelude.{◌≡◌, ◌++◌, ◌∷◌, [], List, length, OnOk, OnErr, reverse, flat_map, decimal};
-ghost use Rattle.board_spec.specs.Setup.{Setup};
-ghost use Rattle.board_spec.specs.MapWrites.{version_of};
-ghost use Rattle.board_spec.specs.Text.{line_feed};
-ghost use Rattle.board_spec.specs.declared.event.Entry.{Entry as AnEntry};
+ghost use Rattle.board_prelude.specs.Common.{Setup, version_of, line_feed, Entry as AnEntry};
 ghost use Rattle.script_spec.specs.Lines.{text_of_lines};
-ghost use Rattle.board_script.specs.Adds.{Adds, KeepsFront};
+ghost use Rattle.board_script.specs.Adds.{AddsWords, KeepsFront};
 ghost use Rattle.make_script.specs.Summary.{entry_lines, map_lines, summary_of};
 ghost use Rattle.make_script.specs.Counts.{AreCounts};
 
@@ -17,7 +14,7 @@ use board_spec::Entry;
 
 /// Appends the line of words and a number.
 fn push_row(text: &mut String, words: &str, number: u64) -> Result<(), NoMemory>
-    ensures appended { OnOk result (Adds text.old text.new (words.now ++ decimal number ++ line_feed ∷ [])) }
+    ensures appended { OnOk result (AddsWords text.old text.new (words.now ++ decimal number ++ line_feed ∷ [])) }
     ensures front { OnErr result (KeepsFront text.old text.new) }
 {
     push_words(text, words)?;
@@ -28,7 +25,7 @@ fn push_row(text: &mut String, words: &str, number: u64) -> Result<(), NoMemory>
 
 /// Appends a line for each row of words and a number.
 fn push_rows(text: &mut String, rows: &[(&str, u64)]) -> Result<(), NoMemory>
-    ensures appended { OnOk result (Adds text.old text.new
+    ensures appended { OnOk result (AddsWords text.old text.new
         (flat_map (λ row. row.0.now ++ decimal row.1 ++ line_feed ∷ []) rows.now)) }
     ensures front { OnErr result (KeepsFront text.old text.new) }
 {
@@ -53,7 +50,7 @@ fn counts_of(entries: &[Entry]) -> Counts
 #[tactic(auto, unfolding(crate::specs::Summary::entry_lines))]
 fn push_counts(text: &mut String, count: u64, counts: Counts) -> Result<(), NoMemory>
     ensures appended { (history : List AnEntry) → count ≡ length history → AreCounts history counts
-        → OnOk result (Adds text.old text.new (text_of_lines (entry_lines history))) }
+        → OnOk result (AddsWords text.old text.new (text_of_lines (entry_lines history))) }
     ensures front { OnErr result (KeepsFront text.old text.new) }
 {
     let rows = [
@@ -75,7 +72,7 @@ fn push_counts(text: &mut String, count: u64, counts: Counts) -> Result<(), NoMe
 /// Appends the lines of the map.
 #[tactic(auto, unfolding(crate::specs::Summary::map_lines))]
 fn push_map(text: &mut String, writes: u32, ranges: usize) -> Result<(), NoMemory>
-    ensures appended { OnOk result (Adds text.old text.new (text_of_lines (map_lines writes ranges))) }
+    ensures appended { OnOk result (AddsWords text.old text.new (text_of_lines (map_lines writes ranges))) }
     ensures front { OnErr result (KeepsFront text.old text.new) }
 {
     push_row(text, "mapwrites ", u64::from(writes))?;
@@ -91,7 +88,7 @@ pub fn push_summary(
     ranges: usize,
 ) -> Result<(), NoMemory>
     ensures appended { (setup : Setup) → map_writes ≡ version_of setup (reverse entries.now)
-        → OnOk result (Adds text.old text.new (summary_of setup (reverse entries.now) ranges)) }
+        → OnOk result (AddsWords text.old text.new (summary_of setup (reverse entries.now) ranges)) }
     ensures front { OnErr result (KeepsFront text.old text.new) }
 {
     push_counts(text, entries.len() as u64, counts_of(entries))?;

@@ -1,27 +1,10 @@
 -- The last covers of a store, register by register.
-use Rattle.std.proofs.Common.{◌≡◌, ℕ, zero, suc, ◌+◌, ◌<◌, ◌≤◌, inl, inr, Bool, true, false, ◌||◌, ◌&&◌, List, [], ◌∷◌, length, get_or, take, refl, sym, ap, ◌∙◌, arith}
-use Rattle.std.specs.Prelude.{◌==◌, nat_le, nat_lt, Option, Some, None, is_some, find, slice_index_or, replicate, option_and_then, if◌then◌else◌}
-use Rattle.std.specs.Option.{option_or}
+use Rattle.std.proofs.Common.{◌≡◌, ℕ, zero, suc, ◌+◌, ◌<◌, ◌≤◌, inl, inr, Bool, true, false, ◌||◌, ◌&&◌, List, [], ◌∷◌, length, get_or, take, refl, sym, ap, ◌∙◌, arith, ◌==◌, nat_le, nat_lt, Option, Some, None, is_some, find, slice_index_or, replicate, option_and_then, if◌then◌else◌}
+use Rattle.board_prelude.proofs.Common.{option_or, AllByRecursion, list_any, cases_Bool, eqb-true, false≢true, nat_tests, get_or-take, length-take, recursion_from_All, list_any_at, Width, One, Reg, MapChange, Store, Reset, FittedCard, Setup, IsCard, IsCardList, card_at, is_within, is_same, covers, has_rom, is_map_byte, reg_after, touches_map}
 use Rattle.std.specs.Bool.{then_some}
-use Rattle.std.specs.List.{AllByRecursion, list_any}
-use Rattle.std.proofs.lemmas.Bool.{cases_Bool, eqb-true, false≢true}
-use Rattle.std.proofs.lemmas.Bool.Decides.{nat_tests}
-use Rattle.std.proofs.lemmas.List.{get_or-take, length-take}
-use Rattle.std.proofs.lemmas.List.Elements.{recursion_from_All}
-use Rattle.std.proofs.lemmas.List.Folds.{list_any_at, list_any_more}
-use Rattle.board_base.specs.declared.access.Width.{Width}
-use Rattle.board_base.specs.declared.access.Width.TheVariants.{One}
-use Rattle.board_base.specs.declared.target.Reg.{Reg}
-use Rattle.board_spec.specs.declared.map_change.MapChange.{MapChange}
-use Rattle.board_spec.specs.declared.map_change.MapChange.TheVariants.{Store, Reset}
-use Rattle.board_spec.specs.Setup.{FittedCard, Setup, IsCard, IsCardList, card_at}
-use Rattle.board_spec.specs.Bits.{is_within}
-use Rattle.board_spec.specs.RegisterNames.{is_same}
-use Rattle.board_spec.specs.Registers.{covers}
-use Rattle.board_spec.specs.MapWrites.{has_rom, is_map_byte, reg_after, touches_map}
+use Rattle.std.proofs.lemmas.List.Folds.{list_any_more}
 use Rattle.map_blame.specs.declared.covers.Covers.{Covers}
-use Rattle.map_blame.specs.Keep.{last_cover, first_lock, locks}
-use Rattle.map_blame.specs.Covers.{AreCoversOf, is_placed, place_of, number_at}
+use Rattle.map_blame.specs.Common.{last_cover, first_lock, locks, AreCoversOf, is_placed, place_of, number_at}
 
 -- the first bytes of a store, so many, cover a register
 abbrev pub covers_first : (at : Reg) (count : ℕ) (reg : Reg) → Bool

@@ -1,24 +1,10 @@
 -- The kept changes alone leave each map byte as all changes do.
-use Rattle.std.proofs.Common.{◌≡◌, ℕ, zero, suc, max, ◌+◌, ◌-◌, ◌*◌, ◌/◌, ◌%◌, ◌<◌, ◌≤◌, ◌⊎◌, inl, inr, Bool, true, false, ◌||◌, ◌&&◌, List, [], ◌∷◌, length, refl, sym, ap, ◌∙◌, subst, arith}
-use Rattle.std.specs.Prelude.{◌==◌, Option, Some, None, bit_and, bit_or, if◌then◌else◌}
-use Rattle.std.specs.Option.{option_or}
-use Rattle.std.specs.Int.Bits.{and_self, and_zero_r}
+use Rattle.std.proofs.Common.{◌≡◌, ℕ, zero, suc, max, ◌+◌, ◌-◌, ◌*◌, ◌/◌, ◌%◌, ◌<◌, ◌≤◌, ◌⊎◌, inl, inr, Bool, true, false, ◌||◌, ◌&&◌, List, [], ◌∷◌, length, refl, sym, ap, ◌∙◌, subst, arith, ◌==◌, Option, Some, None, bit_and, bit_or, if◌then◌else◌}
+use Rattle.board_prelude.proofs.Common.{option_or, and_zero_r, cases_Bool, cases_lt, eqb-true, and_parts, false≢true, nat_tests, Width, Reg, MapChange, Store, Reset, Setup, bit, is_bit, byte, merged, smram, is_same, writable_bits, covers, smram_after, changed_byte, is_map_byte, registers_after}
+use Rattle.std.specs.Int.Bits.{and_self}
 use Rattle.std.proofs.lemmas.Nat.{or_comm, and_assoc, and_or_apart}
 use Rattle.std.proofs.lemmas.Grind.{and-not_self}
-use Rattle.std.proofs.lemmas.Bool.{cases_Bool, cases_lt, eqb-true, and_parts, false≢true}
-use Rattle.std.proofs.lemmas.Bool.Decides.{nat_tests}
-use Rattle.board_base.specs.declared.access.Width.{Width}
-use Rattle.board_base.specs.declared.target.Reg.{Reg}
-use Rattle.board_spec.specs.declared.map_change.MapChange.{MapChange}
-use Rattle.board_spec.specs.declared.map_change.MapChange.TheVariants.{Store, Reset}
-use Rattle.board_spec.specs.Setup.{Setup}
-use Rattle.board_spec.specs.Bits.{bit, is_bit, byte, merged}
-use Rattle.board_spec.specs.RegisterNames.{smram, is_same}
-use Rattle.board_spec.specs.RegisterTable.{writable_bits}
-use Rattle.board_spec.specs.Registers.{covers, smram_after, changed_byte}
-use Rattle.board_spec.specs.MapWrites.{is_map_byte, registers_after}
-use Rattle.map_blame.specs.Keep.{last_cover, first_lock, locks, is_among, IsKeep, chosen}
-use Rattle.map_blame.specs.Laws.{KeptSuffice}
+use Rattle.map_blame.specs.Common.{last_cover, first_lock, locks, is_among, IsKeep, chosen, KeptSuffice}
 
 -- ---- what a mask leaves
 

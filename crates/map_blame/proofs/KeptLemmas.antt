@@ -1,27 +1,11 @@
 -- The kept changes as they are found, one after another.
-use Rattle.std.proofs.Common.{◌≡◌, ℕ, suc, ◌+◌, ◌-◌, ◌<◌, ◌≤◌, ◌⊎◌, inl, inr, Bool, true, false, ◌&&◌, ◌||◌, List, [], ◌∷◌, ◌++◌, length, get_or, reverse, take, refl, sym, ap, ◌∙◌, subst, arith}
-use Rattle.std.specs.Prelude.{◌==◌, Option, Some, None, if◌then◌else◌}
-use Rattle.std.specs.List.{list_any, AllPairs}
-use Rattle.std.specs.Option.{option_eq, option_or}
-use Rattle.std.proofs.lemmas.Bool.{cases_Bool, cases_lt, eq-eqb, eqb-true, and_parts, and_from, false≢true}
-use Rattle.std.proofs.lemmas.Bool.Decides.{nat_tests}
-use Rattle.std.proofs.lemmas.List.{get_or-reverse, get_or_default, length-reverse}
-use Rattle.std.proofs.lemmas.List.Folds.{list_any_at, list_any-append}
+use Rattle.std.proofs.Common.{◌≡◌, ℕ, suc, ◌+◌, ◌-◌, ◌<◌, ◌≤◌, ◌⊎◌, inl, inr, Bool, true, false, ◌&&◌, ◌||◌, List, [], ◌∷◌, ◌++◌, length, get_or, reverse, take, refl, sym, ap, ◌∙◌, subst, arith, ◌==◌, Option, Some, None, if◌then◌else◌}
+use Rattle.board_prelude.proofs.Common.{list_any, AllPairs, option_eq, option_or, cases_Bool, cases_lt, eq-eqb, eqb-true, and_parts, and_from, false≢true, nat_tests, get_or_default, length-reverse, list_any_at, Width, One, Reg, bytes_of, bytes_few, MapChange, Store, Reset, Setup, IsCardList, bridge, covers, is_map_byte, reg_after}
+use Rattle.std.proofs.lemmas.List.{get_or-reverse}
+use Rattle.std.proofs.lemmas.List.Folds.{list_any-append}
 use Rattle.std.proofs.lemmas.List.Quantifiers.{all_pairs_push}
-use Rattle.board_base.specs.declared.access.Width.{Width}
-use Rattle.board_base.specs.declared.access.Width.TheVariants.{One}
-use Rattle.board_base.specs.declared.target.Reg.{Reg}
-use Rattle.board_base.specs.Access.{bytes_of}
-use Rattle.board_base.proofs.WidthLemmas.{bytes_few}
-use Rattle.board_spec.specs.declared.map_change.MapChange.{MapChange}
-use Rattle.board_spec.specs.declared.map_change.MapChange.TheVariants.{Store, Reset}
-use Rattle.board_spec.specs.Setup.{Setup, IsCardList}
-use Rattle.board_spec.specs.RegisterNames.{bridge}
-use Rattle.board_spec.specs.Registers.{covers}
-use Rattle.board_spec.specs.MapWrites.{is_map_byte, reg_after}
 use Rattle.map_blame.specs.declared.covers.Covers.{Covers}
-use Rattle.map_blame.specs.Keep.{last_cover, first_lock, locks, is_among, IsLastCover, IsKept, IsKeep}
-use Rattle.map_blame.specs.Covers.{AreCoversOf, is_placed, is_number, number_at, is_last_at, is_last_of, is_kept_of}
+use Rattle.map_blame.specs.Common.{last_cover, first_lock, locks, is_among, IsLastCover, RestsOn, IsKeep, AreCoversOf, is_placed, is_number, number_at, is_last_at, is_last_of, is_kept_of}
 use Rattle.map_blame.proofs.CoverLemmas.{map_byte_placed, or_nothing, offsets, any_at}
 use Rattle.map_blame.proofs.KeepLaws.{some_is, or_cases, where_true}
 
@@ -69,7 +53,7 @@ lock_number (Store at width value ∷ before) number is = elim (or_cases (first_
       record { some = omega (arith, last); most = omega (arith, last) }
 ]
 
-pub kept_number : (setup : Setup) (changes : List MapChange) (number : ℕ) → IsKept setup changes number → IsNumber changes number
+pub kept_number : (setup : Setup) (changes : List MapChange) (number : ℕ) → RestsOn setup changes number → IsNumber changes number
 kept_number setup changes number (inl cover) = cover_number changes cover.reg number cover.last
 kept_number setup changes number (inr lock) = lock_number changes number lock
 
@@ -182,13 +166,13 @@ module _ (setup : Setup) (changes : List MapChange) (covers : Covers) (cards : I
       any_at (λ k. is_last_at setup covers number (reg_after at k)) (bytes_of width) place.k (bytes_few width) place.below
       (ap (λ other. is_last_at setup covers number other) place.is ∙ is)
 
-  pub kept_found : (number : ℕ) (change : MapChange) → is_kept_of setup covers number change ≡ true → IsKept setup changes number
+  pub kept_found : (number : ℕ) (change : MapChange) → is_kept_of setup covers number change ≡ true → RestsOn setup changes number
   kept_found number change is = elim (cases_Bool (is_number number covers.lock)) [
     | inl lock ↦ inr (sym are.lock ∙ is_number_true number covers.lock lock)
     | inr other ↦ inl (last_change_found number change (rw other at is))
   ]
 
-  pub kept_is : (number : ℕ) (change : MapChange) → change_at changes number ≡ change → IsKept setup changes number →
+  pub kept_is : (number : ℕ) (change : MapChange) → change_at changes number ≡ change → RestsOn setup changes number →
       is_kept_of setup covers number change ≡ true
   kept_is number change here (inr lock) =
       let first : is_number number covers.lock ≡ true = number_is number covers.lock (are.lock ∙ lock) in rw first refl
@@ -207,8 +191,8 @@ pub record Rise (count : ℕ) (keep : List ℕ) : Type 0 where
 
 -- they are the kept ones
 pub record AreKept (setup : Setup) (changes : List MapChange) (count : ℕ) (keep : List ℕ) : Type 0 where
-  pub only : (number : ℕ) → is_among number keep ≡ true → IsKept setup changes number
-  pub each : (number : ℕ) → number ≤ count → IsKept setup changes number → is_among number keep ≡ true
+  pub only : (number : ℕ) → is_among number keep ≡ true → RestsOn setup changes number
+  pub each : (number : ℕ) → number ≤ count → RestsOn setup changes number → is_among number keep ≡ true
 
 among_pushed : (number next : ℕ) (keep : List ℕ) → is_among number (keep ++ next ∷ []) ≡ (is_among number keep || next == number)
 among_pushed number next keep =
@@ -245,25 +229,25 @@ rise_pushed count keep rise = record {
 }
 
 pub kept_on : (setup : Setup) (changes : List MapChange) (count : ℕ) (keep : List ℕ) →
-    (IsKept setup changes (count + 1) → ⊥) → AreKept setup changes count keep → AreKept setup changes (count + 1) keep
+    (RestsOn setup changes (count + 1) → ⊥) → AreKept setup changes count keep → AreKept setup changes (count + 1) keep
 kept_on setup changes count keep other are = record {
   only = are.only;
   each =
       λ number most kept. elim (cases_lt count number) [
         | inl last ↦
             let same : number ≡ count + 1 = omega (arith, most, last) in
-            absurd (other (subst (λ (n : ℕ). IsKept setup changes n) same kept))
+            absurd (other (subst (λ (n : ℕ). RestsOn setup changes n) same kept))
         | inr earlier ↦ are.each number earlier kept
       ];
 }
 
-pub kept_pushed : (setup : Setup) (changes : List MapChange) (count : ℕ) (keep : List ℕ) → IsKept setup changes (count + 1) →
+pub kept_pushed : (setup : Setup) (changes : List MapChange) (count : ℕ) (keep : List ℕ) → RestsOn setup changes (count + 1) →
     AreKept setup changes count keep → AreKept setup changes (count + 1) (keep ++ (count + 1) ∷ [])
 kept_pushed setup changes count keep kept are = record {
   only =
       λ number among. elim (among_either number (count + 1) keep among) [
         | inl earlier ↦ are.only number earlier
-        | inr same ↦ subst (λ (n : ℕ). IsKept setup changes n) same kept
+        | inr same ↦ subst (λ (n : ℕ). RestsOn setup changes n) same kept
       ];
   each =
       λ number most is. among_pushed number (count + 1) keep

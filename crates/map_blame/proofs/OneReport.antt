@@ -1,20 +1,8 @@
 -- There is only one report of a list of changes.
-use Rattle.std.proofs.Common.{◌≡◌, ℕ, zero, suc, ◌+◌, ◌<◌, ◌≤◌, ◌⊎◌, inl, inr, true, false, ◌||◌, List, [], ◌∷◌, length, get_or, map, refl, sym, ap, ◌∙◌, subst, arith}
-use Rattle.std.specs.Prelude.{◌==◌, All}
-use Rattle.std.specs.List.{AllPairs, AllByRecursion}
-use Rattle.std.proofs.lemmas.Bool.{cases_eq, cases_Bool, eq-eqb, eqb-true, false≢true}
-use Rattle.std.proofs.lemmas.Bool.Decides.{nat_tests}
-use Rattle.std.proofs.lemmas.List.Elements.{recursion_from_All}
-use Rattle.board_spec.specs.declared.map_change.MapChange.{MapChange}
-use Rattle.board_spec.specs.Setup.{Setup}
-use Rattle.board_spec.specs.MapWrites.{registers_after}
-use Rattle.board_spec.specs.FlatMap.{MapRange}
-use Rattle.board_spec.specs.Laws.{OneFlatMap}
+use Rattle.std.proofs.Common.{◌≡◌, ℕ, zero, suc, ◌+◌, ◌<◌, ◌≤◌, ◌⊎◌, inl, inr, true, false, ◌||◌, List, [], ◌∷◌, length, get_or, map, refl, sym, ap, ◌∙◌, subst, arith, ◌==◌, All}
+use Rattle.board_prelude.proofs.Common.{AllPairs, AllByRecursion, cases_eq, cases_Bool, eq-eqb, eqb-true, false≢true, nat_tests, recursion_from_All, MapChange, Setup, registers_after, MapRange, OneFlatMap}
 use Rattle.map_blame.specs.declared.blamed.Blamed.{Blamed}
-use Rattle.map_blame.specs.Since.{IsSince}
-use Rattle.map_blame.specs.Keep.{is_among, IsKeep}
-use Rattle.map_blame.specs.Report.{map_range_of}
-use Rattle.map_blame.specs.Laws.{OneReport}
+use Rattle.map_blame.specs.Common.{IsSince, is_among, IsKeep, map_range_of, OneReport}
 
 -- ---- numbers that rise
 

@@ -1,23 +1,13 @@
 -- Lists of ranges that are watched.
-use Rattle.std.proofs.Common.{◌≡◌, ℕ, ◌+◌, ◌<◌, ◌≤◌, inl, inr, false, List, [], ◌∷◌, length, get_or, set, map, reverse, refl, sym, ap, ◌∙◌, subst, arith}
-use Rattle.std.specs.Prelude.{All}
-use Rattle.std.proofs.lemmas.Bool.{cases_lt}
-use Rattle.std.proofs.lemmas.List.{get_or-set_same, get_or-set_other, get_or_default, get_or-map, length-map, ext_get_or}
-use Rattle.std.proofs.lemmas.List.Elements.{All-nil, All-cons}
+use Rattle.std.proofs.Common.{◌≡◌, ℕ, ◌+◌, ◌<◌, ◌≤◌, inl, inr, false, List, [], ◌∷◌, length, get_or, set, map, reverse, refl, sym, ap, ◌∙◌, subst, arith, All}
+use Rattle.board_prelude.proofs.Common.{cases_lt, get_or-set_same, get_or-set_other, get_or_default, get_or-map, length-map, ext_get_or, All-nil, All-cons, MapChange, Setup, registers_after, address_count, Tiles, IsRight, IsFlatMapOf}
 use Rattle.std.proofs.lemmas.Simd.{map-map}
-use Rattle.board_spec.specs.declared.map_change.MapChange.{MapChange}
-use Rattle.board_spec.specs.Setup.{Setup}
-use Rattle.board_spec.specs.MapWrites.{registers_after}
-use Rattle.board_spec.specs.FlatMap.{address_count, Tiles, IsRight, IsFlatMapOf}
 use Rattle.map_builder.specs.declared.range.Range.{Range}
-use Rattle.map_builder.specs.Map.{range_of}
-use Rattle.map_builder.specs.Find.{no_range}
+use Rattle.map_builder.specs.Common.{range_of, no_range}
 use Rattle.map_builder.proofs.FindLemmas.{tiles_below}
 use Rattle.map_blame.specs.declared.blamed.Blamed.{Blamed}
 use Rattle.map_blame.specs.declared.watch.Watched.{Watched}
-use Rattle.map_blame.specs.Since.{IsSince}
-use Rattle.map_blame.specs.Report.{map_range_of, AreBlamed}
-use Rattle.map_blame.specs.Watch.{IsInterval, IsWatchable, IsWatched}
+use Rattle.map_blame.specs.Common.{IsSince, map_range_of, AreBlamed, IsInterval, IsWatchable, IsWatched}
 use Rattle.map_blame.proofs.WatchLemmas.{since_is}
 
 -- ---- one element after another becomes another

@@ -1,15 +1,9 @@
 -- Whether a range stands in a map, by the range of the map that holds its first address.
 use Rattle.std.proofs.Common.{◌≡◌, ◌≢◌, ℕ, ◌+◌, ◌-◌, ◌<◌, ◌≤◌, inl, inr, List, length, map, sym, ◌∙◌, subst, arith}
-use Rattle.std.proofs.lemmas.Bool.{cases_lt}
-use Rattle.std.proofs.lemmas.List.{get_or-map, length-map}
-use Rattle.board_spec.specs.Setup.{Setup}
-use Rattle.board_spec.specs.Decode.{Bytes}
-use Rattle.board_spec.specs.FlatMap.{address_count, six_areas, IsRight, IsFlatMapOf}
+use Rattle.board_prelude.proofs.Common.{cases_lt, get_or-map, length-map, Setup, Bytes, address_count, six_areas, IsRight, IsFlatMapOf}
 use Rattle.map_builder.specs.declared.range.Range.{Range}
-use Rattle.map_builder.specs.Map.{range_of}
-use Rattle.map_builder.specs.Find.{no_range, range_at, Holds}
-use Rattle.map_builder.proofs.FindLemmas.{Placed, placed}
-use Rattle.map_builder.proofs.RebuildLemmas.{row_at, differ_at}
+use Rattle.map_builder.specs.Common.{range_of, no_range, range_at, Holds}
+use Rattle.map_builder.proofs.Common.{Placed, placed, row_at, differ_at}
 use Rattle.map_blame.specs.Watch.{IsInterval}
 
 module _ (setup : Setup) (bytes : Bytes) (ranges : List Range) (is_map : IsFlatMapOf setup bytes (map range_of ranges)) where

@@ -1,24 +1,13 @@
 -- What is known of a range that is watched, before and after a change.
 use Rattle.std.proofs.Common.{◌≡◌, ◌≢◌, ℕ, zero, suc, ◌+◌, ◌-◌, ◌<◌, ◌≤◌, ◌⊎◌, inl, inr, Bool, true, false, List, [], ◌∷◌, length, get_or, take, drop, reverse, refl, sym, ap, ◌∙◌, subst, arith}
-use Rattle.std.proofs.lemmas.Bool.{cases_Bool, cases_lt, false≢true}
-use Rattle.std.proofs.lemmas.List.{take_more, reverse-append, length-reverse, length-take-le}
-use Rattle.board_spec.specs.declared.map_change.MapChange.{MapChange}
-use Rattle.board_spec.specs.Setup.{Setup, IsCardList}
-use Rattle.board_spec.specs.Decode.{Bytes, top_of}
-use Rattle.board_spec.specs.RegisterTable.{reset_byte, host_bridge}
-use Rattle.board_spec.specs.MapWrites.{registers_after}
-use Rattle.board_spec.specs.FlatMap.{MapRange, IsRight}
+use Rattle.board_prelude.proofs.Common.{cases_Bool, cases_lt, false≢true, take_more, reverse-append, length-reverse, length-take-le, MapChange, Setup, IsCardList, Bytes, top_of, reset_byte, host_bridge, registers_after, MapRange, IsRight}
 use Rattle.map_builder.specs.declared.range.Changed.{Changed}
 use Rattle.map_builder.specs.declared.range.Range.{Range}
 use Rattle.addr_decode.specs.MapRegs.{StandsFor}
-use Rattle.map_builder.specs.Map.{Mapped, range_of}
-use Rattle.map_builder.specs.Changed.{IsOutside, changed_windows, bounds_or_zero}
-use Rattle.map_builder.specs.Applied.{IsApplied}
+use Rattle.map_builder.specs.Common.{Mapped, range_of, IsOutside, changed_windows, bounds_or_zero, IsApplied}
 use Rattle.map_builder.proofs.KeptStores.{top_after, bounds_hold_changes}
 use Rattle.map_blame.specs.declared.watch.Watched.{Watched}
-use Rattle.map_blame.specs.Since.{first_changes, IsRightAfter, StandsFrom, IsSince}
-use Rattle.map_blame.specs.Report.{map_range_of}
-use Rattle.map_blame.specs.Watch.{IsInterval, IsAfter, IsWatched, HoldChange, IsNext}
+use Rattle.map_blame.specs.Common.{first_changes, IsRightAfter, StandsFrom, IsSince, map_range_of, IsInterval, IsAfter, IsWatched, HoldChange, IsWatchedOn}
 
 -- ---- the first changes
 
@@ -113,7 +102,7 @@ module _ (setup : Setup) (range : Range) (is : IsInterval range) (bounds : Chang
 -- ---- a range before and after a change, by the map after it
 
 module _ (map : Mapped) (bounds : Changed) (number : ℕ) (self : Watched) (is : IsInterval self.blamed.range) where
-  pub next_beside : (self.blamed.range.hi < bounds.lo) ⊎ (bounds.hi < self.blamed.range.lo) → IsNext map bounds number self self
+  pub next_beside : (self.blamed.range.hi < bounds.lo) ⊎ (bounds.hi < self.blamed.range.lo) → IsWatchedOn map bounds number self self
   next_beside beside = record {
     range = refl;
     watched = λ setup before change count after hold watched.
@@ -127,7 +116,7 @@ module _ (map : Mapped) (bounds : Changed) (number : ℕ) (self : Watched) (is :
       IsRight setup bytes (range_of self.blamed.range) → ⊥) where
     -- it stands anew
     pub next_again : stands ≡ true → self.stands ≡ false →
-        IsNext map bounds number self (record { blamed = record { range = self.blamed.range; since = number }; stands = stands })
+        IsWatchedOn map bounds number self (record { blamed = record { range = self.blamed.range; since = number }; stands = stands })
     next_again stands_now fell = record {
       range = refl;
       watched =
@@ -149,7 +138,7 @@ module _ (map : Mapped) (bounds : Changed) (number : ℕ) (self : Watched) (is :
 
     -- it goes on to stand, or does not stand
     pub next_same : (stands ≡ true → self.stands ≡ true) →
-        IsNext map bounds number self (record { blamed = self.blamed; stands = stands })
+        IsWatchedOn map bounds number self (record { blamed = self.blamed; stands = stands })
     next_same stood = record {
       range = refl;
       watched =

@@ -1,13 +1,6 @@
 -- What is kept of some changes as they are read, by which those are found on which the map rests.
 use Rattle.std.specs.Prelude.{ℕ, ◌≡◌, ◌+◌, ◌*◌, ◌<◌, ◌==◌, nat_lt, nat_eq, Bool, true, false, ◌&&◌, ◌||◌, List, [], ◌∷◌, take, slice_index_or, Option, Some, None, option_and_then, if◌then◌else◌}
-use Rattle.std.specs.List.{list_any}
-use Rattle.std.specs.Option.{option_eq}
-use Rattle.board_base.specs.declared.target.Reg.{Reg}
-use Rattle.board_base.specs.Access.{bytes_of}
-use Rattle.board_spec.specs.declared.map_change.MapChange.{MapChange}
-use Rattle.board_spec.specs.declared.map_change.MapChange.TheVariants.{Store, Reset}
-use Rattle.board_spec.specs.Setup.{Setup}
-use Rattle.board_spec.specs.MapWrites.{is_map_byte, reg_after}
+use Rattle.board_prelude.specs.Common.{list_any, option_eq, Reg, bytes_of, MapChange, Store, Reset, Setup, is_map_byte, reg_after}
 use Rattle.map_blame.specs.declared.covers.Covers.{Covers}
 use Rattle.map_blame.specs.Keep.{last_cover, first_lock}
 

@@ -1,16 +1,7 @@
 -- The changes on which the memory map rests. Changes of the registers are a list with the newest first; the number of a
 -- change counts from 1, which the oldest has.
 use Rattle.std.specs.Prelude.{ℕ, ◌≡◌, ◌+◌, ◌-◌, ◌<◌, ◌⊎◌, ◌==◌, Bool, true, false, ◌&&◌, if◌then◌else◌, List, [], ◌∷◌, length, Option, Some, None}
-use Rattle.std.specs.List.{list_any, AllPairs}
-use Rattle.std.specs.Option.{option_or}
-use Rattle.board_base.specs.declared.target.Reg.{Reg}
-use Rattle.board_spec.specs.declared.map_change.MapChange.{MapChange}
-use Rattle.board_spec.specs.declared.map_change.MapChange.TheVariants.{Store, Reset}
-use Rattle.board_spec.specs.Setup.{Setup}
-use Rattle.board_spec.specs.Bits.{is_bit, byte}
-use Rattle.board_spec.specs.RegisterNames.{smram}
-use Rattle.board_spec.specs.Registers.{covers}
-use Rattle.board_spec.specs.MapWrites.{is_map_byte}
+use Rattle.board_prelude.specs.Common.{list_any, AllPairs, option_or, Reg, MapChange, Store, Reset, Setup, is_bit, byte, smram, covers, is_map_byte}
 
 -- the number of the last change since the last reset that covers a register, whether or not it changes it
 unfoldable pub last_cover : List MapChange → Reg → Option ℕ
@@ -38,8 +29,8 @@ pub record IsLastCover (setup : Setup) (changes : List MapChange) (number : ℕ)
   pub last : last_cover changes reg ≡ Some number
 
 -- the map rests on the change of this number: it is the last that covers some map byte, or the first that locks SMRAM
-abbrev pub IsKept : Setup → List MapChange → (number : ℕ) → Type 0
-IsKept setup changes number = IsLastCover setup changes number ⊎ (first_lock changes ≡ Some number)
+abbrev pub RestsOn : Setup → List MapChange → (number : ℕ) → Type 0
+RestsOn setup changes number = IsLastCover setup changes number ⊎ (first_lock changes ≡ Some number)
 
 abbrev pub is_among : (number : ℕ) → List ℕ → Bool
 is_among number numbers = list_any (λ other. other == number) numbers
@@ -47,8 +38,8 @@ is_among number numbers = list_any (λ other. other == number) numbers
 -- the numbers of these changes in rising order, each once
 pub record IsKeep (setup : Setup) (changes : List MapChange) (keep : List ℕ) : Type 0 where
   pub rises : AllPairs (λ one later. one < later) keep
-  pub only : (number : ℕ) → is_among number keep ≡ true → IsKept setup changes number
-  pub each : (number : ℕ) → IsKept setup changes number → is_among number keep ≡ true
+  pub only : (number : ℕ) → is_among number keep ≡ true → RestsOn setup changes number
+  pub each : (number : ℕ) → RestsOn setup changes number → is_among number keep ≡ true
 
 -- the changes of these numbers alone, in their order
 unfoldable pub chosen : List ℕ → List MapChange → List MapChange

@@ -4,3 +4,4 @@ pub mod Report
 pub mod Laws
 pub mod Covers
 pub mod Watch
+pub mod Common

@@ -1,14 +1,10 @@
 -- The ranges of the map at the end, watched while the changes are made one after another.
 use Rattle.std.specs.Prelude.{ℕ, ◌≡◌, ◌+◌, ◌-◌, ◌<◌, ◌≤◌, true, false, List, ◌∷◌, length}
-use Rattle.board_spec.specs.declared.map_change.MapChange.{MapChange}
-use Rattle.board_spec.specs.Setup.{Setup}
-use Rattle.board_spec.specs.MapWrites.{registers_after}
-use Rattle.board_spec.specs.FlatMap.{address_count, six_areas}
+use Rattle.board_prelude.specs.Common.{MapChange, Setup, registers_after, address_count, six_areas}
 use Rattle.addr_decode.specs.MapRegs.{StandsFor}
 use Rattle.map_builder.specs.declared.range.Changed.{Changed}
 use Rattle.map_builder.specs.declared.range.Range.{Range}
-use Rattle.map_builder.specs.Map.{Mapped}
-use Rattle.map_builder.specs.Changed.{IsOutside}
+use Rattle.map_builder.specs.Common.{Mapped, IsOutside}
 use Rattle.map_blame.specs.declared.watch.Watched.{Watched}
 use Rattle.map_blame.specs.Since.{IsRightAfter, StandsFrom}
 use Rattle.map_blame.specs.Report.{map_range_of}
@@ -41,7 +37,7 @@ HoldChange bounds setup before change =
     six_areas setup (registers_after setup (change ∷ before)) addr ≡ six_areas setup (registers_after setup before) addr
 
 -- what is watched of a range before and after the change of a number, by the map after it and its bounds
-pub record IsNext (map : Mapped) (bounds : Changed) (number : ℕ) (old new : Watched) : Type 0 where
+pub record IsWatchedOn (map : Mapped) (bounds : Changed) (number : ℕ) (old new : Watched) : Type 0 where
   pub range : new.blamed.range ≡ old.blamed.range
   pub watched :
       (setup : Setup) (before : List MapChange) (change : MapChange) → number ≡ length before + 1 →

@@ -1,12 +1,6 @@
 //! The last changes that cover each register, and the first that locks SMRAM.
 ghost use Rattle.std.specs.Prelude.{◌≡◌, ◌<◌, ◌+◌, ◌&&◌, if◌then◌else◌, [], ◌∷◌, List, Some, true, false, length};
-ghost use Rattle.board_base.specs.declared.target.Reg.{Reg};
-ghost use Rattle.board_spec.specs.declared.map_change.MapChange.{MapChange};
-ghost use Rattle.board_spec.specs.declared.map_change.MapChange.TheVariants.{Store};
-ghost use Rattle.board_spec.specs.Bits.{is_bit, byte};
-ghost use Rattle.board_spec.specs.MapWrites.{reg_after};
-ghost use Rattle.board_spec.specs.RegisterNames.{is_same};
-ghost use Rattle.board_spec.specs.Registers.{covers as covers_register};
+ghost use Rattle.board_prelude.specs.Common.{Reg, MapChange, Store, is_bit, byte, reg_after, is_same, covers as covers_register};
 ghost use Rattle.map_blame.specs.Keep.{locks as locks_by};
 ghost use Rattle.map_blame.specs.Covers.{AreCoversOf, is_placed, place_of as place_by, number_at};
 

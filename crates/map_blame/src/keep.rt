@@ -1,10 +1,6 @@
 //! The changes on which the memory map rests.
 ghost use Rattle.std.specs.Prelude.{◌≡◌, ◌<◌, length, reverse, IfOk};
-ghost use Rattle.board_spec.specs.declared.map_change.MapChange.TheVariants.{Store};
-ghost use Rattle.board_spec.specs.Limits.{entry_limit};
-ghost use Rattle.board_spec.specs.Setup.{Setup, IsCardList};
-ghost use Rattle.board_spec.specs.Decode.{Bytes};
-ghost use Rattle.board_spec.specs.MapWrites.{reg_after};
+ghost use Rattle.board_prelude.specs.Common.{Store, entry_limit, Setup, IsCardList, Bytes, reg_after};
 ghost use Rattle.pci_bars.specs.Cards.{AreFitted};
 ghost use Rattle.addr_decode.specs.MapRegs.{StandsFor, map_bytes};
 ghost use Rattle.map_blame.specs.Keep.{IsKeep};

@@ -1,13 +1,10 @@
 //! The ranges of the map at the end, watched while the changes are made one after another.
 ghost use Rattle.std.specs.Prelude.{◌≡◌, ◌<◌, ℕ, true, false, [], length, map, reverse, slice_index_or, All, IfOk};
-ghost use Rattle.board_spec.specs.Limits.{entry_limit};
-ghost use Rattle.board_spec.specs.Setup.{Setup, IsCardList};
-ghost use Rattle.board_spec.specs.Decode.{Bytes};
-ghost use Rattle.board_spec.specs.FlatMap.{IsRight};
+ghost use Rattle.board_prelude.specs.Common.{entry_limit, Setup, IsCardList, Bytes, IsRight};
 ghost use Rattle.addr_decode.specs.MapRegs.{StandsFor};
 ghost use Rattle.map_builder.specs.Map.{range_of};
 ghost use Rattle.map_blame.specs.Report.{AreBlamed};
-ghost use Rattle.map_blame.specs.Watch.{IsInterval, IsWatchable, IsAfter, IsWatched, IsNext};
+ghost use Rattle.map_blame.specs.Watch.{IsInterval, IsWatchable, IsAfter, IsWatched, IsWatchedOn};
 ghost use Rattle.map_blame.specs.declared.watch.Watched.{Watched};
 
 use crate::blamed::Blamed;
@@ -94,7 +91,7 @@ fn look_again(watched: &mut [Watched], map: &FlatMap, bounds: Changed, number: u
     requires ranges { All IsWatchable watched.old }
     ensures length { length watched.new ≡ length watched.old }
     ensures next { (k : ℕ) (d : Watched) → k < length watched.old
-        → IsNext map.now bounds number (slice_index_or watched.old k d) (slice_index_or watched.new k d) }
+        → IsWatchedOn map.now bounds number (slice_index_or watched.old k d) (slice_index_or watched.new k d) }
 {
     for one in watched.iter_mut() {
         *one = one.after(map, bounds, number);
@@ -112,7 +109,7 @@ impl Watched {
     /// What is known of the range after the change of this number.
     fn after(self, map: &FlatMap, bounds: Changed, number: u32) -> Watched
         requires range { IsWatchable self }
-        ensures next { IsNext map.now bounds number self result }
+        ensures next { IsWatchedOn map.now bounds number self result }
     {
         let Blamed { range, since } = self.blamed;
         if range.hi < bounds.lo || bounds.hi < range.lo {

@@ -1,11 +1,8 @@
 -- What `==` says of areas and of rows of areas.
-use Rattle.std.proofs.Common.{◌≡◌, ℕ, Bool, true, List, Decides, refl, ap, subst, arith}
-use Rattle.std.specs.Prelude.{◌==◌, ◌&&◌}
+use Rattle.std.proofs.Common.{◌≡◌, ℕ, Bool, true, List, Decides, refl, ap, subst, arith, ◌==◌, ◌&&◌}
 use Rattle.std.specs.Cmp.Lexicographic.{pointwise}
-use Rattle.std.proofs.lemmas.Bool.{false≢true, eqb-true, eq-eqb}
-use Rattle.std.proofs.lemmas.Bool.Decides.{nat_tests}
+use Rattle.board_prelude.proofs.Common.{false≢true, eqb-true, eq-eqb, nat_tests, Area}
 use Rattle.std.proofs.lemmas.Slice.Eq.{slice_eq-Decides}
-use Rattle.board_base.specs.declared.target.Area.{Area}
 use Rattle.board_base.specs.declared.target.Area.TheVariants.{Dram, Shadow, Smram, Rom, Card, Abort}
 use Rattle.board_base.specs.contracts.target.AreaPartialEq.TheImpl.{eq-value}
 

@@ -1,18 +1,10 @@
 -- Registers of the address map are those of some board: each of them stands for a byte of its own.
-use Rattle.std.proofs.Common.{◌≡◌, ℕ, zero, suc, ◌+◌, ◌-◌, ◌*◌, ◌/◌, ◌%◌, ◌^◌, ◌<◌, ◌≤◌, inl, inr, List, [], ◌∷◌, length, get_or, Option, Some, None, refl, sym, ◌∙◌, ap, subst, arith}
-use Rattle.std.specs.Prelude.{◌==◌, nat_lt, if◌then◌else◌, find, slice_index, option_map}
-use Rattle.std.specs.Option.{option_map_or}
-use Rattle.std.proofs.lemmas.Bool.{cases_Bool, cond-true, cond-false, eq-eqb, ne_eqb}
-use Rattle.std.proofs.lemmas.List.{get_or-map, length-map}
-use Rattle.std.proofs.lemmas.Bool.Decides.{nat_tests}
-use Rattle.board_base.specs.declared.target.Reg.{Reg}
-use Rattle.board_spec.specs.Setup.{Setup, FittedCard, Rises, IsCard, IsCardList}
-use Rattle.board_spec.specs.Bits.{byte, is_within}
-use Rattle.board_spec.specs.RegisterNames.{card_register, expansion_rom, bridge, isa}
+use Rattle.std.proofs.Common.{◌≡◌, ℕ, zero, suc, ◌+◌, ◌-◌, ◌*◌, ◌/◌, ◌%◌, ◌^◌, ◌<◌, ◌≤◌, inl, inr, List, [], ◌∷◌, length, get_or, Option, Some, None, refl, sym, ◌∙◌, ap, subst, arith, ◌==◌, nat_lt, if◌then◌else◌, find, slice_index, option_map}
+use Rattle.board_prelude.proofs.Common.{option_map_or, cases_Bool, cond-true, cond-false, eq-eqb, ne_eqb, get_or-map, length-map, nat_tests, Reg, Setup, FittedCard, Rises, IsCard, IsCardList, byte, is_within, card_register, expansion_rom, bridge, isa}
 use Rattle.pci_bars.specs.Cards.{CardBytes, HoldsLong, HoldsRom, DecodesAs, AreFitted, cards_of}
 use Rattle.pci_bars.proofs.CardLemmas.{wide_of_bytes}
 use Rattle.addr_decode.specs.MapRegs.{MapBytes}
-use Rattle.map_builder.specs.Map.{HasBoard, HoldsDoublewords, HaveWidths}
+use Rattle.map_builder.specs.Map.{IsOfSomeBoard, HoldsDoublewords, HaveWidths}
 
 -- ---- a board with these registers
 
@@ -161,7 +153,7 @@ fitted_cards regs few fitted = record {
 }
 
 -- the registers of cards that can be fitted to a board are those of a board
-pub has_board : (regs : MapBytes) → AreFitted regs.cards → HaveWidths regs → HasBoard regs
+pub has_board : (regs : MapBytes) → AreFitted regs.cards → HaveWidths regs → IsOfSomeBoard regs
 has_board regs fitted widths = record {
   setup = board_setup regs;
   bytes = board_byte regs;

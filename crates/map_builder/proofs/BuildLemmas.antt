@@ -1,15 +1,8 @@
 -- The ranges as they are built, from the first address on: the last of them may still go on.
 use Rattle.std.proofs.Common.{◌≡◌, ◌≢◌, ℕ, ◌+◌, ◌-◌, ◌<◌, ◌≤◌, inl, inr, List, [], ◌∷◌, ◌++◌, length, refl, sym, ◌∙◌, ap, subst, arith, append_assoc}
-use Rattle.std.proofs.lemmas.Bool.{cases_lt}
-use Rattle.std.proofs.lemmas.List.{length-append}
-use Rattle.std.proofs.lemmas.List.Elements.{All-nil, All-cons, All-append}
-use Rattle.board_base.specs.declared.target.Area.{Area}
-use Rattle.board_spec.specs.Setup.{Setup}
-use Rattle.board_spec.specs.Decode.{Bytes}
-use Rattle.board_spec.specs.FlatMap.{address_count, six_areas, MapRange, Tiles, NeighboursDiffer, IsRight, IsFlatMapOf}
+use Rattle.board_prelude.proofs.Common.{cases_lt, length-append, All-nil, All-cons, All-append, Area, Setup, Bytes, address_count, six_areas, MapRange, Tiles, NeighboursDiffer, IsRight, IsFlatMapOf}
 use Rattle.addr_decode.specs.Edges.{SameAreas}
-use Rattle.map_builder.specs.Map.{most_ranges}
-use Rattle.map_builder.specs.Build.{GoesOn, Built, BuiltOf}
+use Rattle.map_builder.specs.Common.{most_ranges, ContinuesAt, Built, BuiltOf}
 
 abbrev pub range : ℕ → ℕ → List Area → MapRange
 range lo hi areas = record { lo = lo; hi = hi; areas = areas }
@@ -64,7 +57,7 @@ built_cut ranges last addr edge areas built above below other =
     }
 
 pub built_on : (ranges ranges' : List MapRange) (last last' : MapRange) (addr edge : ℕ) (areas : List Area) →
-    Built ranges last addr → addr < edge → edge ≤ 0xFFFF_FFFF → GoesOn ranges ranges' last last' edge areas → Built ranges' last' edge
+    Built ranges last addr → addr < edge → edge ≤ 0xFFFF_FFFF → ContinuesAt ranges ranges' last last' edge areas → Built ranges' last' edge
 built_on ranges ranges' last last' addr edge areas built above below (inl (same, is, last_is)) =
     subst (λ (xs : List MapRange). Built xs last' edge) (sym is)
     (subst (λ (x : MapRange). Built ranges x edge) (sym last_is)
@@ -87,7 +80,7 @@ up_to_edge setup bytes last addr edge begun same so_far x low high =
 pub built_of_on :
     (setup : Setup) (bytes : Bytes) (ranges ranges' : List MapRange) (last last' : MapRange) (addr edge : ℕ) (areas : List Area) →
     last.lo ≤ addr → addr < edge → SameAreas setup bytes addr edge → areas ≡ six_areas setup bytes edge →
-    GoesOn ranges ranges' last last' edge areas → BuiltOf setup bytes ranges last addr → BuiltOf setup bytes ranges' last' edge
+    ContinuesAt ranges ranges' last last' edge areas → BuiltOf setup bytes ranges last addr → BuiltOf setup bytes ranges' last' edge
 built_of_on setup bytes ranges ranges' last last' addr edge areas begun above same row (inl (here, is, last_is)) built =
     subst (λ (xs : List MapRange). BuiltOf setup bytes xs last' edge) (sym is)
     (subst (λ (x : MapRange). BuiltOf setup bytes ranges x edge) (sym last_is)
@@ -111,7 +104,7 @@ built_of_on setup bytes ranges ranges' last last' addr edge areas begun above sa
 
 -- each step adds at most one range, and then leaves fewer edges
 pub few_on : (ranges ranges' : List MapRange) (last last' : MapRange) (edge : ℕ) (areas : List Area) (before after : ℕ) →
-    GoesOn ranges ranges' last last' edge areas → after ≤ before → (areas ≢ last.areas → after < before) →
+    ContinuesAt ranges ranges' last last' edge areas → after ≤ before → (areas ≢ last.areas → after < before) →
     length ranges + before < most_ranges → length ranges' + after < most_ranges
 few_on ranges ranges' last last' edge areas before after (inl (here, is, last_is)) left fewer few = omega (arith, ap (λ (xs : List MapRange). length xs) is)
 few_on ranges ranges' last last' edge areas before after (inr (other, is, last_is)) left fewer few =

@@ -1,36 +1,13 @@
 -- After a change the ranges of a map are right again for each address outside the bounds of the changed windows.
-use Rattle.std.proofs.Common.{◌≡◌, ℕ, zero, suc, ◌+◌, ◌<◌, ◌≤◌, Bool, true, false, inl, inr, List, [], ◌∷◌, ◌++◌, length, get_or, take, Option, Some, None, refl, sym, ◌∙◌, ap, subst, arith}
-use Rattle.std.proofs.lemmas.Bool.{cases_Bool, true≢false, not-true}
-use Rattle.std.specs.Prelude.{IfSome, ◌||◌, not, flat_map, is_some, map}
-use Rattle.std.specs.List.{list_any}
-use Rattle.std.proofs.lemmas.Bool.Decides.{nat_tests}
-use Rattle.board_base.specs.declared.access.Width.{Width}
-use Rattle.board_base.specs.declared.target.Reg.{Reg}
-use Rattle.board_spec.specs.declared.map_change.MapChange.{MapChange}
-use Rattle.board_spec.specs.declared.map_change.MapChange.TheVariants.{Store, Reset}
-use Rattle.board_spec.specs.Setup.{FittedCard, Setup, IsCardList}
-use Rattle.board_spec.specs.Ranges.{largest_top}
-use Rattle.board_spec.specs.MapWrites.{touches_map, reg_after}
-use Rattle.board_base.specs.Access.{bytes_of}
-use Rattle.board_spec.specs.Decode.{Bytes, top_of}
-use Rattle.board_spec.specs.FlatMap.{address_count, six_areas, MapRange, Tiles, IsFlatMapOf}
+use Rattle.std.proofs.Common.{◌≡◌, ℕ, zero, suc, ◌+◌, ◌<◌, ◌≤◌, Bool, true, false, inl, inr, List, [], ◌∷◌, ◌++◌, length, get_or, take, Option, Some, None, refl, sym, ◌∙◌, ap, subst, arith, IfSome, ◌||◌, not, flat_map, is_some, map}
+use Rattle.board_prelude.proofs.Common.{cases_Bool, true≢false, not-true, list_any, nat_tests, Width, Reg, MapChange, Store, Reset, FittedCard, Setup, IsCardList, largest_top, touches_map, reg_after, bytes_of, Bytes, top_of, address_count, six_areas, MapRange, Tiles, IsFlatMapOf, entry_limit}
 use Rattle.pci_bars.specs.Cards.{CardBytes, AreFitted, cards_of}
-use Rattle.addr_decode.proofs.CardLemmas.{no_low_card}
-use Rattle.addr_decode.proofs.NameLemmas.{names_touch}
+use Rattle.addr_decode.proofs.Common.{no_low_card, names_touch}
 use Rattle.addr_decode.specs.declared.register.MapRegister.{MapRegister}
 use Rattle.addr_decode.specs.declared.register.MapRegister.TheVariants.{Pam, RowBoundary, Hole, Smram, ChipSelects, Card}
-use Rattle.addr_decode.specs.MapRegister.{map_register, names_from, names_of}
-use Rattle.addr_decode.specs.MapRegs.{MapBytes, StandsFor}
-use Rattle.addr_decode.specs.Edges.{edges_after}
+use Rattle.addr_decode.specs.Common.{map_register, names_from, names_of, MapBytes, StandsFor, edges_after}
 use Rattle.map_builder.specs.declared.range.Changed.{Changed}
-use Rattle.map_builder.specs.Map.{next_version, HasBoard, IsMapOf}
-use Rattle.board_spec.specs.Limits.{entry_limit}
-use Rattle.map_builder.specs.Build.{IsMapWhere, IsBeside}
-use Rattle.map_builder.specs.Sorted.{sorted, Rise, rows_in}
-use Rattle.map_builder.specs.Applied.{AreChanged}
-use Rattle.map_builder.specs.Changed.{after, bounds, is_card_name, rest_on_registers, name_windows, windows_covered, changed_windows, most_rows}
-use Rattle.map_builder.specs.Rows.{AreMoved}
-use Rattle.map_builder.specs.Unchanged.{IsHeldAt, IsSameByte}
+use Rattle.map_builder.specs.Common.{next_version, IsOfSomeBoard, IsMapOf, IsMapWhere, IsBeside, sorted, Rise, rows_in, AreChanged, after, bounds, is_card_name, rest_on_registers, name_windows, windows_covered, changed_windows, most_rows, AreMoved, IsHeldAt, IsSameByte}
 use Rattle.map_builder.proofs.FindLemmas.{tiles_below}
 use Rattle.map_builder.proofs.OutsideLemmas.{Outside}
 use Rattle.map_builder.proofs.BoundsLemmas.{covered_ordered, changed_ordered, bounds_twice}
@@ -48,7 +25,7 @@ range_below from (range ∷ later) tiles zero d within =
 range_below from (range ∷ later) tiles (suc k) d within = range_below (range.hi + 1) later tiles.2 k d (omega arith)
 
 -- the board of a map after a change
-pub board_after : (old new : MapBytes) (change : MapChange) (board : HasBoard old) → StandsFor board.setup (after board.setup change board.bytes) new → HasBoard new
+pub board_after : (old new : MapBytes) (change : MapChange) (board : IsOfSomeBoard old) → StandsFor board.setup (after board.setup change board.bytes) new → IsOfSomeBoard new
 board_after old new change board stands = record {
   setup = board.setup;
   bytes = after board.setup change board.bytes;
@@ -62,7 +39,7 @@ module _ (old new : MapBytes) (change : MapChange) (ranges : List MapRange) (is_
     (Out : ℕ → Type 0)
     (keeps : (addr : ℕ) → addr < address_count → Out addr →
     six_areas is_map.board.setup (after is_map.board.setup change is_map.board.bytes) addr ≡ six_areas is_map.board.setup is_map.board.bytes addr) where
-  abbrev board : HasBoard old
+  abbrev board : IsOfSomeBoard old
   board = is_map.board
 
   was_map : IsFlatMapOf board.setup board.bytes ranges
@@ -285,7 +262,7 @@ build_within setup bytes change addr all windows old_rows new_rows false alone i
     ]
 
 -- so they are what a change changed, of each board that has the registers
-pub are_changed : (old new : MapBytes) (change : MapChange) (board : HasBoard old) → StandsFor board.setup (after board.setup change board.bytes) new →
+pub are_changed : (old new : MapBytes) (change : MapChange) (board : IsOfSomeBoard old) → StandsFor board.setup (after board.setup change board.bytes) new →
     (all windows : List Changed) (kept alone : Bool) →
     (alone ≡ true → covers_rows change ≡ true) →
     ((setup : Setup) (bytes : Bytes) → StandsFor setup bytes old → sorted all ≡ sorted (changed_windows setup bytes change)) →

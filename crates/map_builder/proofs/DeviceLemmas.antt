@@ -1,16 +1,6 @@
 -- The windows that the registers of a card govern are those that the code finds by the values of its bases.
-use Rattle.std.proofs.Common.{◌≡◌, ◌≢◌, ℕ, zero, suc, ◌+◌, ◌-◌, ◌/◌, ◌<◌, ◌≤◌, inl, inr, Bool, true, false, List, [], ◌∷◌, ◌++◌, length, map, filter, Option, Some, None, refl, ◌∙◌, ap, arith}
-use Rattle.std.specs.Prelude.{◌==◌, ◌&&◌, All, find, flat_map, slice_get, slice_index, if◌then◌else◌}
-use Rattle.std.specs.Option.{option_map_or}
-use Rattle.std.specs.List.{enumerate_from}
-use Rattle.std.proofs.lemmas.Bool.{cases_Bool, eq-eqb, ne_eqb}
-use Rattle.std.proofs.lemmas.Bool.Decides.{nat_tests}
-use Rattle.std.proofs.lemmas.List.{map-append}
-use Rattle.std.proofs.lemmas.List.Elements.{All-head, All-tail}
-use Rattle.board_base.specs.declared.target.Reg.{Reg}
-use Rattle.board_spec.specs.Setup.{Base, MemoryBase, IoBase, FittedCard, Setup, IsCard, card_at}
-use Rattle.board_spec.specs.Bits.{is_within}
-use Rattle.board_spec.specs.Decode.{Bytes, Window, base_value, memory_window, rom_value, rom_window, rom_window_of, vga_window}
+use Rattle.std.proofs.Common.{◌≡◌, ◌≢◌, ℕ, zero, suc, ◌+◌, ◌-◌, ◌/◌, ◌<◌, ◌≤◌, inl, inr, Bool, true, false, List, [], ◌∷◌, ◌++◌, length, map, filter, Option, Some, None, refl, ◌∙◌, ap, arith, ◌==◌, ◌&&◌, All, find, flat_map, slice_get, slice_index, if◌then◌else◌}
+use Rattle.board_prelude.proofs.Common.{option_map_or, enumerate_from, cases_Bool, eq-eqb, ne_eqb, nat_tests, map-append, All-head, All-tail, Reg, Base, MemoryBase, IoBase, FittedCard, Setup, IsCard, card_at, is_within, Bytes, Window, base_value, memory_window, rom_value, rom_window, rom_window_of, vga_window}
 use Rattle.pci_bars.specs.Cards.{CardBytes, HoldsRom, DecodesAs, AreCards, AreDecoded, cards_of}
 use Rattle.map_builder.specs.declared.range.Changed.{Changed}
 use Rattle.addr_decode.specs.declared.register.MapRegister.{MapRegister}
@@ -18,8 +8,7 @@ use Rattle.addr_decode.specs.declared.register.MapRegister.TheVariants.{Pam, Row
 use Rattle.addr_decode.specs.declared.register.CardRegister.{CardRegister}
 use Rattle.addr_decode.specs.declared.register.CardRegister.TheVariants.{Command, Base as BaseByte, ExpansionRom}
 use Rattle.addr_decode.specs.MapRegister.{IsCardNumber, in_device, map_register}
-use Rattle.map_builder.specs.Changed.{decoded, card_windows, name_windows, windows_of}
-use Rattle.map_builder.specs.Held.{block, held_by, held_from, rom_held, vga_held, card_held, device_held}
+use Rattle.map_builder.specs.Common.{decoded, card_windows, name_windows, windows_of, block, held_by, held_from, rom_held, vga_held, card_held, device_held}
 
 -- the windows of bases, the first of them base number `first`
 abbrev pub from_base : Bytes → (dev first : ℕ) → List Base → List Window

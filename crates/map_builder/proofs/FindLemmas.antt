@@ -1,14 +1,8 @@
 -- The ranges of a map by their indices, and the span round an address.
 use Rattle.std.proofs.Common.{◌≡◌, ◌≢◌, ℕ, zero, suc, ◌+◌, ◌-◌, ◌<◌, ◌≤◌, ◌⊎◌, inl, inr, Bool, List, [], ◌∷◌, length, map, get_or, sym, ◌∙◌, ap, subst, arith}
-use Rattle.std.proofs.lemmas.Bool.{cases_lt}
-use Rattle.std.proofs.lemmas.List.{get_or-map, length-map}
-use Rattle.board_base.specs.declared.access.Kind.{Kind}
-use Rattle.board_spec.specs.Setup.{Setup}
-use Rattle.board_spec.specs.Decode.{Bytes, area_of}
-use Rattle.board_spec.specs.FlatMap.{address_count, six_areas, MapRange, Tiles, IsRight, IsFlatMapOf, IsSpan}
+use Rattle.board_prelude.proofs.Common.{cases_lt, get_or-map, length-map, Kind, Setup, Bytes, area_of, address_count, six_areas, MapRange, Tiles, IsRight, IsFlatMapOf, IsSpan}
 use Rattle.map_builder.specs.declared.range.Range.{Range}
-use Rattle.map_builder.specs.Map.{range_of}
-use Rattle.map_builder.specs.Find.{no_range, range_at, in_column, area_at, Holds, IsFirstAlike, IsLastAlike}
+use Rattle.map_builder.specs.Common.{range_of, no_range, range_at, in_column, area_at, Holds, IsFirstAlike, IsLastAlike}
 
 -- ---- ranges that tile, by their indices
 

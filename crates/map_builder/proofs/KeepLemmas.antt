@@ -1,21 +1,16 @@
 -- The ranges of a map between two addresses, as they follow those that were built.
-use Rattle.std.proofs.Common.{◌≡◌, ◌≢◌, ℕ, zero, suc, ◌+◌, ◌-◌, ◌<◌, ◌≤◌, inl, inr, List, [], ◌∷◌, ◌++◌, length, map, take, drop, refl, sym, ◌∙◌, ap, subst, arith, append_assoc}
-use Rattle.std.specs.Prelude.{min}
-use Rattle.std.proofs.lemmas.List.{append-nil, drop_more, map-append}
-use Rattle.board_base.specs.declared.target.Area.{Area}
-use Rattle.board_spec.specs.FlatMap.{address_count, MapRange}
+use Rattle.std.proofs.Common.{◌≡◌, ◌≢◌, ℕ, zero, suc, ◌+◌, ◌-◌, ◌<◌, ◌≤◌, inl, inr, List, [], ◌∷◌, ◌++◌, length, map, take, drop, refl, sym, ◌∙◌, ap, subst, arith, append_assoc, min}
+use Rattle.board_prelude.proofs.Common.{append-nil, drop_more, map-append, Area, address_count, MapRange}
 use Rattle.addr_decode.specs.MapRegs.{MapBytes}
 use Rattle.map_builder.specs.declared.range.Range.{Range}
-use Rattle.map_builder.specs.Map.{range_of}
-use Rattle.map_builder.specs.Find.{no_range, range_at, Holds}
-use Rattle.map_builder.specs.Build.{GoesOn, IsBuilt, IsMapWhere, IsBetween}
+use Rattle.map_builder.specs.Common.{range_of, no_range, range_at, Holds, ContinuesAt, IsBuilt, IsMapWhere, IsBetween}
 use Rattle.map_builder.proofs.BuildLemmas.{range}
 use Rattle.map_builder.proofs.FindLemmas.{Placed, placed}
 use Rattle.map_builder.proofs.RebuildLemmas.{row_at, open_at, differ_at, right_at, kept_on}
 use Rattle.map_builder.proofs.StepLemmas.{AreasAt, built_range}
 
 -- the last range has the areas at which it went on
-areas_on : (ranges ranges' : List MapRange) (last last' : MapRange) (addr : ℕ) (areas : List Area) → GoesOn ranges ranges' last last' addr areas →
+areas_on : (ranges ranges' : List MapRange) (last last' : MapRange) (addr : ℕ) (areas : List Area) → ContinuesAt ranges ranges' last last' addr areas →
     last'.areas ≡ areas
 areas_on ranges ranges' last last' addr areas (inl (here, is, last_is)) = ap (λ (it : MapRange). it.areas) last_is ∙ sym here
 areas_on ranges ranges' last last' addr areas (inr (other, is, last_is)) = ap (λ (it : MapRange). it.areas) last_is
@@ -90,7 +85,7 @@ module _ (regs : MapBytes) (after until : ℕ) (address : until < address_count)
 
 module _ (regs : MapBytes) (after until k : ℕ) (ranges ranges' old : List Range) (last last' : Range) (address : until < address_count) (order : after < until)
     (agrees : IsMapWhere regs (IsBetween after until) (map range_of old)) (holds : Holds old k (after + 1))
-    (on : GoesOn (map range_of ranges) (map range_of ranges') (range_of last) (range_of last') (after + 1) (row_at old k))
+    (on : ContinuesAt (map range_of ranges) (map range_of ranges') (range_of last) (range_of last') (after + 1) (row_at old k))
     (built : IsBuilt regs (map range_of ranges) (range_of last) after) where
   -- to the end of its range, or up to the last address
   pub kept_first : IsBuilt regs (map range_of ranges') (range_of last') (min until (range_at old k).hi)

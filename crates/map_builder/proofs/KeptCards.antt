@@ -1,27 +1,13 @@
 -- The card that answers at an address is the same before and after a change that moves no window round it.
-use Rattle.std.proofs.Common.{◌≡◌, ℕ, zero, suc, ◌+◌, ◌-◌, ◌*◌, ◌/◌, ◌<◌, ◌≤◌, ◌⊎◌, inl, inr, Bool, true, false, cond, List, [], ◌∷◌, ◌++◌, length, map, get_or, Option, Some, None, refl, sym, ◌∙◌, ap, subst, arith}
-use Rattle.std.proofs.Math.Bool.{and-true}
-use Rattle.std.specs.Prelude.{◌==◌, ◌&&◌, All, find, flat_map, slice_get, if◌then◌else◌, is_some, option_map, option_and_then}
-use Rattle.std.specs.Option.{option_map_or}
-use Rattle.std.specs.List.{AllByRecursion}
-use Rattle.std.proofs.lemmas.Bool.{cases_Bool, cases_lt, cond-true, cond-false, eq-eqb, ne_eqb}
-use Rattle.std.proofs.lemmas.Bool.Decides.{nat_tests}
+use Rattle.std.proofs.Common.{◌≡◌, ℕ, zero, suc, ◌+◌, ◌-◌, ◌*◌, ◌/◌, ◌<◌, ◌≤◌, ◌⊎◌, inl, inr, Bool, true, false, cond, List, [], ◌∷◌, ◌++◌, length, map, get_or, Option, Some, None, refl, sym, ◌∙◌, ap, subst, arith, ◌==◌, ◌&&◌, All, find, flat_map, slice_get, if◌then◌else◌, is_some, option_map, option_and_then}
+use Rattle.board_prelude.proofs.Common.{and-true, option_map_or, AllByRecursion, cases_Bool, cases_lt, cond-true, cond-false, eq-eqb, ne_eqb, nat_tests, recursion_from_All, map-append, find-append, Reg, Base, MemoryBase, IoBase, FittedCard, Setup, IsCard, IsCardList, Rises, card_at, is_bit, is_within, Bytes, Window, base_value, is_covered, rom_value, rom_window, rom_window_of, is_rom_on, vga_window, memory_windows, is_enabled_for, memory_claim, card_register}
 use Rattle.std.proofs.lemmas.Option.{slice_get_within}
-use Rattle.std.proofs.lemmas.List.Elements.{recursion_from_All}
-use Rattle.std.proofs.lemmas.List.{map-append}
-use Rattle.std.proofs.lemmas.List.Folds.{find-append}
-use Rattle.board_base.specs.declared.target.Reg.{Reg}
-use Rattle.board_spec.specs.Setup.{Base, MemoryBase, IoBase, FittedCard, Setup, IsCard, IsCardList, Rises, card_at}
-use Rattle.board_spec.specs.Bits.{is_bit, is_within}
-use Rattle.board_spec.specs.Decode.{Bytes, Window, base_value, is_covered, rom_value, rom_window, rom_window_of, is_rom_on, vga_window, memory_windows, is_enabled_for, memory_claim}
-use Rattle.board_spec.specs.RegisterNames.{card_register}
 use Rattle.pci_bars.specs.Cards.{CardBytes}
 use Rattle.addr_decode.specs.declared.register.CardRegister.{CardRegister}
 use Rattle.addr_decode.specs.declared.register.CardRegister.TheVariants.{Command, Base as BaseByte, ExpansionRom}
 use Rattle.addr_decode.specs.declared.register.MapRegister.TheVariants.{Card}
 use Rattle.addr_decode.specs.MapRegister.{IsCardNumber, in_card}
-use Rattle.map_builder.specs.Changed.{decoded, base_windows, card_windows, name_windows, windows_of}
-use Rattle.map_builder.specs.Held.{held_by, card_held}
+use Rattle.map_builder.specs.Common.{decoded, base_windows, card_windows, name_windows, windows_of, held_by, card_held}
 use Rattle.map_builder.proofs.OutsideLemmas.{Outside, outside_left, outside_right, not_covered, none_covered, and_no}
 use Rattle.map_builder.proofs.DeviceLemmas.{from_base, Hold, HoldRom, card_is, windows_of_card}
 

@@ -1,16 +1,6 @@
 -- The areas of an address are the same before and after a change that moves nothing round it.
-use Rattle.std.proofs.Common.{◌≡◌, ℕ, zero, suc, ◌+◌, ◌-◌, ◌*◌, ◌/◌, ◌<◌, ◌≤◌, ◌⊎◌, inl, inr, Bool, true, false, [], ◌∷◌, None, refl, sym, ◌∙◌, ap, subst, arith, lit<}
-use Rattle.std.specs.Prelude.{◌==◌, ◌&&◌, ◌||◌, nat_le, nat_lt, if◌then◌else◌}
-use Rattle.std.proofs.lemmas.Bool.{cases_Bool, cases_lt, ne_eqb}
-use Rattle.std.proofs.lemmas.Bool.Decides.{nat_tests}
-use Rattle.board_base.specs.declared.access.Kind.{Kind}
-use Rattle.board_base.specs.declared.access.Kind.TheVariants.{Fetch, Read, Write}
-use Rattle.board_base.specs.declared.target.Reg.{Reg}
-use Rattle.board_spec.specs.Setup.{Setup, IsCardList}
-use Rattle.board_spec.specs.Bits.{is_bit, is_within}
-use Rattle.board_spec.specs.Decode.{Bytes, boundary, top_of, row_of, is_in, hole_of, is_high_window, nibble, is_open, is_shadow_range, is_shadowed, is_smram_range, is_rom_selected, pam_register, area_of}
-use Rattle.board_spec.specs.RegisterNames.{bridge, isa, card_register}
-use Rattle.board_spec.specs.FlatMap.{six_areas}
+use Rattle.std.proofs.Common.{◌≡◌, ℕ, zero, suc, ◌+◌, ◌-◌, ◌*◌, ◌/◌, ◌<◌, ◌≤◌, ◌⊎◌, inl, inr, Bool, true, false, [], ◌∷◌, None, refl, sym, ◌∙◌, ap, subst, arith, lit<, ◌==◌, ◌&&◌, ◌||◌, nat_le, nat_lt, if◌then◌else◌}
+use Rattle.board_prelude.proofs.Common.{cases_Bool, cases_lt, ne_eqb, nat_tests, Kind, Fetch, Read, Write, Reg, Setup, IsCardList, is_bit, is_within, Bytes, boundary, top_of, row_of, is_in, hole_of, is_high_window, nibble, is_open, is_shadow_range, is_shadowed, is_smram_range, is_rom_selected, pam_register, area_of, bridge, isa, card_register, six_areas}
 use Rattle.addr_decode.specs.MapRegister.{map_register}
 use Rattle.map_builder.specs.Changed.{from_to, pam_windows, windows_of, IsOutside}
 use Rattle.map_builder.proofs.OutsideLemmas.{Outside, and_no}

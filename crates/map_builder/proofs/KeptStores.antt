@@ -1,27 +1,9 @@
 -- A change keeps each register whose windows lie elsewhere.
-use Rattle.std.proofs.Common.{◌≡◌, ℕ, zero, suc, ◌+◌, ◌-◌, ◌<◌, ◌≤◌, inl, inr, true, List, [], ◌∷◌, length, get_or, take, refl, subst, arith}
-use Rattle.std.specs.Prelude.{flat_map}
-use Rattle.std.proofs.lemmas.Bool.{cases_Bool}
-use Rattle.std.proofs.lemmas.Bool.Decides.{nat_tests}
-use Rattle.std.proofs.lemmas.List.Elements.{recursion_from_All}
-use Rattle.board_base.specs.declared.access.Width.{Width}
-use Rattle.board_base.specs.declared.access.Width.TheVariants.{One, Two, Four}
-use Rattle.board_base.specs.declared.target.Reg.{Reg}
-use Rattle.board_base.specs.Access.{bytes_of}
-use Rattle.board_spec.specs.declared.map_change.MapChange.{MapChange}
-use Rattle.board_spec.specs.declared.map_change.MapChange.TheVariants.{Store, Reset}
-use Rattle.board_spec.specs.Setup.{Setup, IsCardList}
-use Rattle.board_spec.specs.Bits.{byte}
-use Rattle.board_spec.specs.RegisterTable.{host_bridge, reset_byte, writable_bits}
-use Rattle.board_spec.specs.Registers.{covers, byte_after}
-use Rattle.board_spec.specs.Decode.{Bytes, top_of}
-use Rattle.board_spec.specs.RegisterNames.{bridge}
-use Rattle.board_spec.specs.MapWrites.{reg_after}
-use Rattle.board_spec.specs.FlatMap.{address_count, six_areas}
-use Rattle.board_base.proofs.MergedLemmas.{merged-all}
+use Rattle.std.proofs.Common.{◌≡◌, ℕ, zero, suc, ◌+◌, ◌-◌, ◌<◌, ◌≤◌, inl, inr, true, List, [], ◌∷◌, length, get_or, take, refl, subst, arith, flat_map}
+use Rattle.board_prelude.proofs.Common.{cases_Bool, nat_tests, recursion_from_All, Width, One, Reg, bytes_of, MapChange, Store, Reset, Setup, IsCardList, byte, host_bridge, reset_byte, writable_bits, covers, byte_after, Bytes, top_of, bridge, reg_after, address_count, six_areas, merged-all}
+use Rattle.board_base.specs.declared.access.Width.TheVariants.{Two, Four}
 use Rattle.map_builder.specs.declared.range.Changed.{Changed}
-use Rattle.map_builder.specs.Changed.{windows_of, windows_covered, after, changed_windows, IsOutside}
-use Rattle.map_builder.specs.Laws.{WindowsHoldChanges, BoundsHoldChanges}
+use Rattle.map_builder.specs.Common.{windows_of, windows_covered, after, changed_windows, IsOutside, WindowsHoldChanges, BoundsHoldChanges}
 use Rattle.map_builder.proofs.OutsideLemmas.{Outside, outside_bounds, outside_left, outside_right}
 use Rattle.map_builder.proofs.WindowLemmas.{offsets}
 use Rattle.map_builder.proofs.KeptCards.{Kept}

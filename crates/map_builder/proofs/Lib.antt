@@ -19,3 +19,4 @@ pub mod RowLemmas
 pub mod UnchangedLemmas
 pub mod TailLemmas
 pub mod MovedRows
+pub mod Common

@@ -1,33 +1,13 @@
 -- What a store to the boundaries of the rows of DRAM moves, and that no more rows are looked up for it than the bound says.
-use Rattle.std.proofs.Common.{◌≡◌, ℕ, zero, suc, ◌⊎◌, Bool, ◌+◌, ◌-◌, ◌*◌, ◌<◌, ◌≤◌, inl, inr, true, false, List, [], ◌∷◌, ◌++◌, take, refl, sym, ◌∙◌, ap, subst, arith, lit<}
-use Rattle.std.specs.Prelude.{◌==◌, ◌&&◌, nat_le, nat_lt, if◌then◌else◌, Option, Some, None, min, max, slice_index, find, flat_map}
-use Rattle.std.specs.List.{AllByRecursion, list_any}
-use Rattle.std.proofs.lemmas.Bool.{cases_Bool, cases_lt, false≢true, and_parts}
-use Rattle.std.proofs.lemmas.Bool.Decides.{nat_tests}
-use Rattle.board_base.specs.declared.access.Width.{Width}
-use Rattle.board_base.specs.declared.access.Width.TheVariants.{One, Two, Four}
-use Rattle.board_base.specs.declared.target.Reg.{Reg}
-use Rattle.board_base.specs.Access.{bytes_of}
-use Rattle.board_base.proofs.WidthLemmas.{some_bytes}
-use Rattle.board_spec.specs.declared.map_change.MapChange.{MapChange}
-use Rattle.board_spec.specs.declared.map_change.MapChange.TheVariants.{Store, Reset}
-use Rattle.board_spec.specs.Setup.{FittedCard, Setup, IsCardList}
-use Rattle.board_spec.specs.Registers.{covers}
-use Rattle.board_spec.specs.Decode.{Bytes, boundary, row_of}
-use Rattle.board_spec.specs.RegisterNames.{bridge}
-use Rattle.board_spec.specs.MapWrites.{reg_after}
-use Rattle.board_spec.specs.FlatMap.{six_areas}
+use Rattle.std.proofs.Common.{◌≡◌, ℕ, zero, suc, ◌⊎◌, Bool, ◌+◌, ◌-◌, ◌*◌, ◌<◌, ◌≤◌, inl, inr, true, false, List, [], ◌∷◌, ◌++◌, take, refl, sym, ◌∙◌, ap, subst, arith, lit<, ◌==◌, ◌&&◌, nat_le, nat_lt, if◌then◌else◌, Option, Some, None, min, max, slice_index, find, flat_map}
+use Rattle.board_prelude.proofs.Common.{AllByRecursion, list_any, cases_Bool, cases_lt, false≢true, and_parts, nat_tests, Width, One, Reg, bytes_of, some_bytes, MapChange, Store, Reset, FittedCard, Setup, IsCardList, covers, Bytes, boundary, row_of, bridge, reg_after, six_areas}
+use Rattle.board_base.specs.declared.access.Width.TheVariants.{Two, Four}
 use Rattle.addr_decode.specs.declared.register.MapRegister.{MapRegister}
 use Rattle.addr_decode.specs.declared.register.MapRegister.TheVariants.{Pam, RowBoundary, Hole, Smram, ChipSelects, Card}
-use Rattle.addr_decode.specs.MapRegister.{map_register, names_of}
-use Rattle.addr_decode.proofs.NameLemmas.{is_name}
-use Rattle.addr_decode.proofs.StoreLemmas.{in_function_0}
-use Rattle.addr_decode.specs.MapRegs.{MapBytes, StandsFor}
-use Rattle.addr_decode.specs.Edges.{edges_of, edges_after}
+use Rattle.addr_decode.specs.Common.{map_register, names_of, MapBytes, StandsFor, edges_of, edges_after}
+use Rattle.addr_decode.proofs.Common.{is_name, in_function_0}
 use Rattle.map_builder.specs.declared.range.Changed.{Changed}
-use Rattle.map_builder.specs.Changed.{from_to, windows_of, windows_covered, after, changed_windows, is_above_first, is_inside, edges_inside, is_window, count_of, IsOutside}
-use Rattle.map_builder.specs.Rows.{is_row_name, stores_rows, is_below, IsHidden, StaysOrHidden, RowStays, IsInRows, AreMoved}
-use Rattle.map_builder.specs.Sorted.{Rise, rows_in}
+use Rattle.map_builder.specs.Common.{from_to, windows_of, windows_covered, after, changed_windows, is_above_first, is_inside, edges_inside, is_window, count_of, IsOutside, is_row_name, stores_rows, is_below, IsHidden, StaysOrHidden, RowStays, IsInRows, AreMoved, Rise, rows_in}
 use Rattle.map_builder.proofs.KeptLemmas.{is_boundary, areas_same, row_window}
 use Rattle.map_builder.proofs.SortedLemmas.{filter_more, one_window}
 

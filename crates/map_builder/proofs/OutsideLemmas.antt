@@ -1,11 +1,7 @@
 -- Addresses outside windows and outside their bounds.
-use Rattle.std.proofs.Common.{◌≡◌, ℕ, ◌+◌, ◌*◌, ◌/◌, ◌%◌, ◌^◌, ◌<◌, inl, inr, Bool, true, false, List, [], ◌∷◌, ◌++◌, map, Option, Some, None, refl, ap, arith}
-use Rattle.std.specs.Prelude.{◌&&◌, unwrap_or, find}
-use Rattle.std.specs.List.{AllByRecursion}
+use Rattle.std.proofs.Common.{◌≡◌, ℕ, ◌+◌, ◌*◌, ◌/◌, ◌%◌, ◌^◌, ◌<◌, inl, inr, Bool, true, false, List, [], ◌∷◌, ◌++◌, map, Option, Some, None, refl, ap, arith, ◌&&◌, unwrap_or, find}
+use Rattle.board_prelude.proofs.Common.{AllByRecursion, ne_eqb, pow_pos, Window, is_covered}
 use Rattle.std.proofs.Math.Pow.{split}
-use Rattle.std.proofs.lemmas.Bool.{ne_eqb}
-use Rattle.std.proofs.lemmas.Nat.{pow_pos}
-use Rattle.board_spec.specs.Decode.{Window, is_covered}
 use Rattle.map_builder.specs.declared.range.Changed.{Changed}
 use Rattle.map_builder.specs.Changed.{from_to, decoded, bounds, bounds_or_zero, both, joined, IsOutside}
 

@@ -1,20 +1,11 @@
 -- What stays of a map that differs in some windows alone: the ranges below them, between them and above them.
-use Rattle.std.proofs.Common.{◌≡◌, ◌≢◌, ℕ, zero, suc, ◌+◌, ◌-◌, ◌<◌, ◌≤◌, inl, inr, List, [], ◌∷◌, ◌++◌, length, map, take, drop, get_or, refl, sym, ◌∙◌, ap, subst, arith}
-use Rattle.std.specs.Prelude.{min}
-use Rattle.std.proofs.lemmas.List.{get_or-map, length-map, map_more, drop_more, drop_all}
-use Rattle.std.proofs.lemmas.Bool.{cases_lt}
-use Rattle.board_base.specs.declared.target.Area.{Area}
-use Rattle.board_spec.specs.Setup.{Setup}
-use Rattle.board_spec.specs.Decode.{Bytes}
-use Rattle.board_spec.specs.FlatMap.{address_count, MapRange, NeighboursDiffer, IsFlatMapOf}
+use Rattle.std.proofs.Common.{◌≡◌, ◌≢◌, ℕ, zero, suc, ◌+◌, ◌-◌, ◌<◌, ◌≤◌, inl, inr, List, [], ◌∷◌, ◌++◌, length, map, take, drop, get_or, refl, sym, ◌∙◌, ap, subst, arith, min}
+use Rattle.board_prelude.proofs.Common.{get_or-map, length-map, drop_more, drop_all, cases_lt, Area, Setup, Bytes, address_count, MapRange, NeighboursDiffer, IsFlatMapOf}
+use Rattle.std.proofs.lemmas.List.{map_more}
 use Rattle.addr_decode.specs.MapRegs.{MapBytes, StandsFor}
 use Rattle.map_builder.specs.declared.range.Changed.{Changed}
 use Rattle.map_builder.specs.declared.range.Range.{Range}
-use Rattle.map_builder.specs.Map.{range_of}
-use Rattle.map_builder.specs.Find.{no_range, range_at, Begins, Holds}
-use Rattle.map_builder.specs.Build.{GoesOn, IsBuilt, IsRightWhere, IsMapWhere, IsBelow, IsBetween, IsBeside}
-use Rattle.map_builder.specs.Changed.{from_to}
-use Rattle.map_builder.specs.Sorted.{AreAbove, Rise, rows_in}
+use Rattle.map_builder.specs.Common.{range_of, no_range, range_at, BeginsBelow, Holds, ContinuesAt, IsBuilt, IsRightWhere, IsMapWhere, IsBelow, IsBetween, IsBeside, from_to, AreAbove, Rise, rows_in}
 use Rattle.map_builder.proofs.BuildLemmas.{range}
 use Rattle.map_builder.proofs.FindLemmas.{Placed, placed}
 use Rattle.map_builder.proofs.StepLemmas.{AreasAt, one_address, same_at_each, is_built_first, built_step, built_over, built_range}
@@ -88,7 +79,7 @@ module _ (regs : MapBytes) (lo : ℕ) (address : lo < address_count) (ranges : L
 
   -- and go on at the first address of the interval
   pub built_to_interval : (k : ℕ) (ranges' : List MapRange) (last' : MapRange) (areas : List Area) → Holds ranges k (lo - 1) → 0 < lo →
-      AreasAt regs lo areas → GoesOn (map range_of (take k ranges)) ranges' (open_at ranges k) last' lo areas →
+      AreasAt regs lo areas → ContinuesAt (map range_of (take k ranges)) ranges' (open_at ranges k) last' lo areas →
       IsBuilt regs ranges' last' lo
   built_to_interval k ranges' last' areas holds above at_lo on =
       built_step regs (map range_of (take k ranges)) ranges' (open_at ranges k) last' (lo - 1) lo areas (omega arith) address
@@ -98,8 +89,8 @@ module _ (regs : MapBytes) (lo : ℕ) (address : lo < address_count) (ranges : L
 -- ---- between windows
 
 -- where the range at an index ends below an address, the next begins at it or below it
-pub begins_next : (ranges : List Range) (k addr : ℕ) → Placed 0 ranges → Begins ranges k addr → (range_at ranges k).hi < addr → addr < address_count →
-    Begins ranges (k + 1) addr
+pub begins_next : (ranges : List Range) (k addr : ℕ) → Placed 0 ranges → BeginsBelow ranges k addr → (range_at ranges k).hi < addr → addr < address_count →
+    BeginsBelow ranges (k + 1) addr
 begins_next ranges k addr is begins low address =
     elim (cases_lt (k + 1) (length ranges)) [
       | inl more ↦ record { within = more; above = omega (arith, is.next k more) }
@@ -107,16 +98,16 @@ begins_next ranges k addr is begins low address =
     ]
 
 -- and so at or below a later address
-pub begins_later : (ranges : List Range) (k addr later : ℕ) → Begins ranges k addr → addr ≤ later → Begins ranges k later
+pub begins_later : (ranges : List Range) (k addr later : ℕ) → BeginsBelow ranges k addr → addr ≤ later → BeginsBelow ranges k later
 begins_later ranges k addr later begins order = record { within = begins.within; above = omega (arith, begins.above) }
 
 -- a range that holds an address begins at it or below it
-pub holds_begins : (ranges : List Range) (k addr later : ℕ) → Holds ranges k addr → addr ≤ later → Begins ranges k later
+pub holds_begins : (ranges : List Range) (k addr later : ℕ) → Holds ranges k addr → addr ≤ later → BeginsBelow ranges k later
 holds_begins ranges k addr later holds order = record { within = holds.within; above = omega (arith, holds.above) }
 
 pub kept_on : (regs : MapBytes) (ranges ranges' : List MapRange) (last last' : MapRange) (old : List Range) (k after hi until : ℕ) →
     IsMapWhere regs (IsBetween after until) (map range_of old) → Holds old k (hi + 1) → after ≤ hi → hi < until → until < address_count →
-    GoesOn ranges ranges' last last' (hi + 1) (row_at old k) → IsBuilt regs ranges last hi → IsBuilt regs ranges' last' (min until (range_at old k).hi)
+    ContinuesAt ranges ranges' last last' (hi + 1) (row_at old k) → IsBuilt regs ranges last hi → IsBuilt regs ranges' last' (min until (range_at old k).hi)
 kept_on regs ranges ranges' last last' old k after hi until agrees holds from order address on built =
     let next : MapRange = range (hi + 1) (min until (range_at old k).hi) (row_at old k) in
     let low : (range_at old k).lo ≤ hi + 1 = holds.above in

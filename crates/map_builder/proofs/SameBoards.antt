@@ -1,24 +1,7 @@
 -- Boards that have the same registers have the same areas at each address.
-use Rattle.std.proofs.Common.{◌≡◌, ℕ, ◌+◌, ◌-◌, ◌*◌, ◌/◌, ◌%◌, ◌<◌, ◌≤◌, inl, inr, Bool, true, false, List, [], ◌∷◌, Option, Some, None, refl, sym, ◌∙◌, subst, arith}
-use Rattle.std.specs.Prelude.{◌==◌, ◌&&◌, ◌||◌, is_some, find}
-use Rattle.std.specs.List.{AllByRecursion}
-use Rattle.std.proofs.lemmas.Bool.{cases_Bool, cases_lt, false≢true}
-use Rattle.std.proofs.lemmas.Bool.Decides.{nat_tests}
-use Rattle.std.proofs.lemmas.List.Elements.{recursion_from_All}
-use Rattle.board_base.specs.declared.access.Kind.{Kind}
-use Rattle.board_base.specs.declared.access.Kind.TheVariants.{Fetch, Read, Write}
-use Rattle.board_base.specs.declared.target.Reg.{Reg}
-use Rattle.board_spec.specs.Setup.{FittedCard, Setup, IsCardList, card_at}
-use Rattle.board_spec.specs.Bits.{is_within}
-use Rattle.board_spec.specs.Decode.{Bytes, memory_claim, area_of}
-use Rattle.board_spec.specs.RegisterNames.{bridge, isa, card_register}
-use Rattle.board_spec.specs.FlatMap.{six_areas}
-use Rattle.board_spec.specs.MapWrites.{has_rom, touches_map}
-use Rattle.board_spec.specs.declared.map_change.MapChange.{MapChange}
-use Rattle.board_spec.proofs.MapWriteLaws.{untouched}
+use Rattle.std.proofs.Common.{◌≡◌, ℕ, ◌+◌, ◌-◌, ◌*◌, ◌/◌, ◌%◌, ◌<◌, ◌≤◌, inl, inr, Bool, true, false, List, [], ◌∷◌, Option, Some, None, refl, sym, ◌∙◌, subst, arith, ◌==◌, ◌&&◌, ◌||◌, is_some, find}
+use Rattle.board_prelude.proofs.Common.{AllByRecursion, cases_Bool, cases_lt, false≢true, nat_tests, recursion_from_All, Kind, Fetch, Read, Write, Reg, FittedCard, Setup, IsCardList, card_at, is_within, Bytes, memory_claim, area_of, bridge, isa, card_register, six_areas, has_rom, touches_map, MapChange, untouched, SameMapBytes, map_bytes_decide}
 use Rattle.map_builder.specs.Changed.{after}
-use Rattle.board_spec.specs.Laws.{SameMapBytes}
-use Rattle.board_spec.proofs.MapByteLaws.{map_bytes_decide}
 use Rattle.pci_bars.specs.Cards.{CardBytes, HoldsRom, DecodesAs, cards_of}
 use Rattle.addr_decode.specs.MapRegs.{MapBytes, StandsFor}
 use Rattle.map_builder.proofs.KeptStores.{same_register}

@@ -1,15 +1,9 @@
 -- Windows in rising order hold the addresses of those that were sorted, and are no more than there are different ones.
-use Rattle.std.proofs.Common.{◌≡◌, ℕ, ◌+◌, ◌<◌, ◌≤◌, ◌⊎◌, inl, inr, Bool, true, false, List, [], ◌∷◌, ◌++◌, length, refl, ap, arith, append_assoc}
-use Rattle.std.specs.Prelude.{◌||◌, nat_lt, nat_le, min, max, filter}
-use Rattle.std.specs.List.{list_any}
-use Rattle.std.proofs.lemmas.Bool.{cases_Bool, cases_lt, or_cases, or_left, or_right, false≢true}
-use Rattle.std.proofs.lemmas.Bool.Decides.{nat_tests}
-use Rattle.board_spec.specs.Setup.{Setup}
-use Rattle.board_spec.specs.Decode.{Bytes}
+use Rattle.std.proofs.Common.{◌≡◌, ℕ, ◌+◌, ◌<◌, ◌≤◌, ◌⊎◌, inl, inr, Bool, true, false, List, [], ◌∷◌, ◌++◌, length, refl, ap, arith, append_assoc, ◌||◌, nat_lt, nat_le, min, max, filter}
+use Rattle.board_prelude.proofs.Common.{list_any, cases_Bool, cases_lt, or_cases, or_left, or_right, false≢true, nat_tests, Setup, Bytes}
 use Rattle.addr_decode.specs.Edges.{edges_of, edges_after}
 use Rattle.map_builder.specs.declared.range.Changed.{Changed}
-use Rattle.map_builder.specs.Changed.{both, is_above_first, is_inside, edges_inside, is_window, count_of, IsOutside}
-use Rattle.map_builder.specs.Sorted.{with_window, sorted, AreAbove, Rise, rows_in}
+use Rattle.map_builder.specs.Common.{both, is_above_first, is_inside, edges_inside, is_window, count_of, IsOutside, with_window, sorted, AreAbove, Rise, rows_in}
 use Rattle.map_builder.proofs.OutsideLemmas.{Outside, outside_both}
 use Rattle.map_builder.proofs.BoundsLemmas.{Ordered}
 

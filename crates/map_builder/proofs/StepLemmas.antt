@@ -1,22 +1,11 @@
 -- A step to a later address, which need not be an edge: how many edges it leaves above it, and what holds of the ranges.
-use Rattle.std.proofs.Common.{◌≡◌, ◌≢◌, ℕ, ◌+◌, ◌<◌, ◌≤◌, inl, inr, true, List, [], ◌∷◌, ◌++◌, length, map, refl, sym, ◌∙◌, ap, arith}
-use Rattle.std.specs.Prelude.{nat_lt, filter}
-use Rattle.std.specs.List.{Contains}
-use Rattle.std.proofs.lemmas.Bool.{cases_Bool, cases_lt}
-use Rattle.std.proofs.lemmas.Bool.Decides.{nat_tests}
-use Rattle.std.proofs.lemmas.List.{length-map, length_push, map_push}
-use Rattle.board_base.specs.declared.target.Area.{Area}
-use Rattle.board_spec.specs.Setup.{Setup}
-use Rattle.board_spec.specs.Decode.{Bytes}
-use Rattle.board_spec.specs.FlatMap.{address_count, six_areas, MapRange}
-use Rattle.addr_decode.specs.MapRegs.{MapBytes, StandsFor}
-use Rattle.addr_decode.specs.Edges.{edges_of, edges_after, SameAreas}
-use Rattle.addr_decode.proofs.EdgeSearchLemmas.{contains_cases}
-use Rattle.addr_decode.proofs.EdgeCounts.{no_more, few_edges_after}
-use Rattle.addr_decode.proofs.EdgeLaws.{areas_change_at_edges}
+use Rattle.std.proofs.Common.{◌≡◌, ◌≢◌, ℕ, ◌+◌, ◌<◌, ◌≤◌, inl, inr, true, List, [], ◌∷◌, ◌++◌, length, map, refl, sym, ◌∙◌, ap, arith, nat_lt, filter}
+use Rattle.board_prelude.proofs.Common.{Contains, cases_Bool, cases_lt, nat_tests, length-map, length_push, Area, Setup, Bytes, address_count, six_areas, MapRange}
+use Rattle.std.proofs.lemmas.List.{map_push}
+use Rattle.addr_decode.specs.Common.{MapBytes, StandsFor, edges_of, edges_after, SameAreas}
+use Rattle.addr_decode.proofs.Common.{contains_cases, no_more, few_edges_after, areas_change_at_edges}
 use Rattle.map_builder.specs.declared.range.Range.{Range}
-use Rattle.map_builder.specs.Map.{range_of, HasBoard}
-use Rattle.map_builder.specs.Build.{GoesOn, IsBuilt, IsWhole}
+use Rattle.map_builder.specs.Common.{range_of, IsOfSomeBoard, ContinuesAt, IsBuilt, IsWhole}
 use Rattle.map_builder.proofs.BuildLemmas.{range, built_first, built_of_first, built_on, built_of_on, few_on, built_all, up_to_edge}
 
 -- ---- edges above an address
@@ -80,7 +69,7 @@ is_built_first regs areas at_first = record {
 
 pub built_step : (regs : MapBytes) (ranges ranges' : List MapRange) (last last' : MapRange) (addr next : ℕ) (areas : List Area) →
     addr < next → next < address_count → StaySame regs addr next → AreasAt regs next areas →
-    GoesOn ranges ranges' last last' next areas → IsBuilt regs ranges last addr → IsBuilt regs ranges' last' next
+    ContinuesAt ranges ranges' last last' next areas → IsBuilt regs ranges last addr → IsBuilt regs ranges' last' next
 built_step regs ranges ranges' last last' addr next areas above address same at_next on is = record {
   built = built_on ranges ranges' last last' addr next areas is.built above (omega arith) on;
   of_board = λ setup bytes stands.
@@ -118,7 +107,7 @@ same_at_each regs lo hi areas order each setup bytes stands x low high =
 -- on through a range that begins after an address, up to another up to which it is right
 pub built_range : (regs : MapBytes) (ranges ranges' : List MapRange) (last last' next : MapRange) (addr hi : ℕ) →
     next.lo ≡ addr + 1 → next.lo ≤ hi → hi < address_count → ((x : ℕ) → next.lo ≤ x → x ≤ hi → AreasAt regs x next.areas) →
-    GoesOn ranges ranges' last last' next.lo next.areas → IsBuilt regs ranges last addr → IsBuilt regs ranges' last' hi
+    ContinuesAt ranges ranges' last last' next.lo next.areas → IsBuilt regs ranges last addr → IsBuilt regs ranges' last' hi
 built_range regs ranges ranges' last last' next addr hi joined order address each on is =
     built_over regs ranges' last' next.lo hi order (same_at_each regs next.lo hi next.areas order each)
     (built_step regs ranges ranges' last last' addr next.lo next.areas (omega arith) (omega arith) (one_address regs addr next.lo joined)
@@ -126,7 +115,7 @@ built_range regs ranges ranges' last last' next addr hi joined order address eac
 
 -- ---- the ranges built up to the last address
 
-pub is_whole : (regs : MapBytes) (board : HasBoard regs) (ranges : List Range) (last : Range) →
+pub is_whole : (regs : MapBytes) (board : IsOfSomeBoard regs) (ranges : List Range) (last : Range) →
     IsBuilt regs (map range_of ranges) (range_of last) 0xFFFF_FFFF → IsWhole regs (ranges ++ last ∷ [])
 is_whole regs board ranges last is =
     let pushed : map range_of (ranges ++ last ∷ []) ≡ map range_of ranges ++ range_of last ∷ [] = map_push range_of ranges last in

@@ -1,18 +1,10 @@
 -- The ranges of a map that follow the last window, as they end those that were built.
-use Rattle.std.proofs.Common.{◌≡◌, ℕ, zero, suc, ◌+◌, ◌-◌, ◌<◌, ◌≤◌, inl, inr, List, [], ◌∷◌, ◌++◌, length, map, take, drop, get_or, refl, sym, ◌∙◌, ap, subst, arith, append_assoc}
-use Rattle.std.specs.List.{AllByRecursion}
-use Rattle.std.specs.Prelude.{min}
-use Rattle.std.proofs.lemmas.List.{length_push, length-map, get_or-map, map-append, drop-map, length-append, length-drop, take_all}
-use Rattle.std.proofs.lemmas.List.Elements.{recursion_from_All, All-drop}
-use Rattle.board_base.specs.declared.target.Area.{Area}
-use Rattle.board_spec.specs.Setup.{Setup}
-use Rattle.board_spec.specs.Decode.{Bytes}
-use Rattle.board_spec.specs.FlatMap.{address_count, MapRange, Tiles, Differs, NeighboursDiffer, IsFlatMapOf}
+use Rattle.std.proofs.Common.{◌≡◌, ℕ, zero, suc, ◌+◌, ◌-◌, ◌<◌, ◌≤◌, inl, inr, List, [], ◌∷◌, ◌++◌, length, map, take, drop, get_or, refl, sym, ◌∙◌, ap, subst, arith, append_assoc, min}
+use Rattle.board_prelude.proofs.Common.{AllByRecursion, length_push, length-map, get_or-map, map-append, length-append, length-drop, take_all, recursion_from_All, All-drop, Area, Setup, Bytes, address_count, MapRange, Tiles, Differs, NeighboursDiffer, IsFlatMapOf}
+use Rattle.std.proofs.lemmas.List.{drop-map}
 use Rattle.addr_decode.specs.MapRegs.{MapBytes, StandsFor}
 use Rattle.map_builder.specs.declared.range.Range.{Range}
-use Rattle.map_builder.specs.Map.{range_of, most_ranges, HasBoard}
-use Rattle.map_builder.specs.Find.{no_range, range_at, Holds}
-use Rattle.map_builder.specs.Build.{GoesOn, IsBuilt, IsRightWhere, IsMapWhere, IsBetween, IsWhole}
+use Rattle.map_builder.specs.Common.{range_of, most_ranges, IsOfSomeBoard, no_range, range_at, Holds, ContinuesAt, IsBuilt, IsRightWhere, IsMapWhere, IsBetween, IsWhole}
 use Rattle.map_builder.proofs.FindLemmas.{tiles_below}
 use Rattle.map_builder.proofs.BuildLemmas.{range, built_all}
 use Rattle.map_builder.proofs.StepLemmas.{one_address, built_range}
@@ -42,7 +34,7 @@ pub record IsWholeOf (regs : MapBytes) (ranges : List MapRange) : Type 0 where
   pub is_map : (setup : Setup) (bytes : Bytes) → StandsFor setup bytes regs → IsFlatMapOf setup bytes ranges
   pub few : length ranges ≤ most_ranges
 
-pub whole_last : (regs : MapBytes) (board : HasBoard regs) (ranges : List MapRange) (last : MapRange) → IsBuilt regs ranges last 0xFFFF_FFFF →
+pub whole_last : (regs : MapBytes) (board : IsOfSomeBoard regs) (ranges : List MapRange) (last : MapRange) → IsBuilt regs ranges last 0xFFFF_FFFF →
     IsWholeOf regs (ranges ++ last ∷ [])
 whole_last regs board ranges last is = record {
   tiles = is.built.tiles;
@@ -53,7 +45,7 @@ whole_last regs board ranges last is = record {
 }
 
 -- the ranges that are built up to an address, and those that follow
-pub whole_tail : (regs : MapBytes) (board : HasBoard regs) (Where : ℕ → Type 0) (rest : List MapRange) (ranges : List MapRange) (last : MapRange) (hi : ℕ) →
+pub whole_tail : (regs : MapBytes) (board : IsOfSomeBoard regs) (Where : ℕ → Type 0) (rest : List MapRange) (ranges : List MapRange) (last : MapRange) (hi : ℕ) →
     IsBuilt regs ranges last hi → hi < address_count → Tiles (hi + 1) rest → Differs last rest → NeighboursDiffer rest →
     ((x : ℕ) → hi < x → x < address_count → Where x) →
     ((setup : Setup) (bytes : Bytes) → StandsFor setup bytes regs → AllByRecursion (IsRightWhere setup bytes Where) rest) →
@@ -68,7 +60,7 @@ whole_tail regs board Where (next ∷ later) ranges last hi built address tiles 
     let order : next.lo ≤ next.hi = tiles.1 in
     let below : next.hi < address_count = omega (arith, tiles_below (next.hi + 1) later tiles.2) in
     let ended : MapRange = range last.lo (next.lo - 1) last.areas in
-    let on : GoesOn ranges (ranges ++ ended ∷ []) last (range next.lo 0xFFFF_FFFF next.areas) next.lo next.areas =
+    let on : ContinuesAt ranges (ranges ++ ended ∷ []) last (range next.lo 0xFFFF_FFFF next.areas) next.lo next.areas =
     inr ((λ same. differs (sym same)), refl, refl) in
     let further : IsBuilt regs (ranges ++ ended ∷ []) (range next.lo 0xFFFF_FFFF next.areas) next.hi =
     built_range regs ranges (ranges ++ ended ∷ []) last (range next.lo 0xFFFF_FFFF next.areas) next hi next.hi joined order below
@@ -81,13 +73,13 @@ whole_tail regs board Where (next ∷ later) ranges last hi built address tiles 
     (append_assoc ranges (ended ∷ []) (next ∷ later) ∙ ap (λ (h : ℕ). ranges ++ range last.lo h last.areas ∷ next ∷ later) same_end) whole
 
 -- the areas of a last range that goes on at an address
-areas_on : (ranges ranges' : List MapRange) (last last' : MapRange) (addr : ℕ) (areas : List Area) → GoesOn ranges ranges' last last' addr areas → last'.areas ≡ areas
+areas_on : (ranges ranges' : List MapRange) (last last' : MapRange) (addr : ℕ) (areas : List Area) → ContinuesAt ranges ranges' last last' addr areas → last'.areas ≡ areas
 areas_on ranges ranges' last last' addr areas (inl (same, is, last_is)) = ap (λ (it : MapRange). it.areas) last_is ∙ sym same
 areas_on ranges ranges' last last' addr areas (inr (other, is, last_is)) = ap (λ (it : MapRange). it.areas) last_is
 
-pub whole_from : (regs : MapBytes) (board : HasBoard regs) (ranges ranges' : List MapRange) (last last' : MapRange) (old : List Range) (k after : ℕ) →
+pub whole_from : (regs : MapBytes) (board : IsOfSomeBoard regs) (ranges ranges' : List MapRange) (last last' : MapRange) (old : List Range) (k after : ℕ) →
     IsMapWhere regs (IsBetween after 0xFFFF_FFFF) (map range_of old) → Holds old k (after + 1) → after < 0xFFFF_FFFF →
-    GoesOn ranges ranges' last last' (after + 1) (range_at old k).row.areas → IsBuilt regs ranges last after →
+    ContinuesAt ranges ranges' last last' (after + 1) (range_at old k).row.areas → IsBuilt regs ranges last after →
     IsWholeOf regs (ranges' ++ range last'.lo (range_at old k).hi last'.areas ∷ drop (k + 1) (map range_of old))
 whole_from regs board ranges ranges' last last' old k after agrees holds more on built =
     let all : List MapRange = map range_of old in

@@ -1,21 +1,10 @@
 -- A store of one byte to a register that keeps its byte changes no area.
-use Rattle.std.proofs.Common.{◌≡◌, ℕ, ◌+◌, ◌*◌, List, Option, None, length, get_or, inl, inr, refl, sym, ◌∙◌, ap, subst, arith}
-use Rattle.std.specs.Prelude.{nat_lt, IfSome}
-use Rattle.std.proofs.lemmas.Bool.{cases_Bool}
-use Rattle.std.proofs.lemmas.Bool.Decides.{nat_tests}
-use Rattle.board_base.specs.declared.access.Width.TheVariants.{One, Two, Four}
-use Rattle.board_base.specs.declared.target.Reg.{Reg}
-use Rattle.board_spec.specs.declared.map_change.MapChange.{MapChange}
-use Rattle.board_spec.specs.declared.map_change.MapChange.TheVariants.{Store, Reset}
-use Rattle.board_spec.specs.Setup.{FittedCard, Setup, IsCardList}
-use Rattle.board_spec.specs.Registers.{covers}
-use Rattle.board_spec.specs.Decode.{Bytes}
-use Rattle.board_spec.specs.RegisterNames.{bridge}
-use Rattle.board_spec.specs.FlatMap.{six_areas}
+use Rattle.std.proofs.Common.{◌≡◌, ℕ, ◌+◌, ◌*◌, List, Option, None, length, get_or, inl, inr, refl, sym, ◌∙◌, ap, subst, arith, nat_lt, IfSome}
+use Rattle.board_prelude.proofs.Common.{cases_Bool, nat_tests, One, Reg, MapChange, Store, Reset, FittedCard, Setup, IsCardList, covers, Bytes, bridge, six_areas}
+use Rattle.board_base.specs.declared.access.Width.TheVariants.{Two, Four}
 use Rattle.addr_decode.specs.declared.register.MapRegister.{MapRegister}
 use Rattle.addr_decode.specs.MapRegister.{map_register, names_of}
-use Rattle.map_builder.specs.Changed.{after}
-use Rattle.map_builder.specs.Unchanged.{IsHeldAt}
+use Rattle.map_builder.specs.Common.{after, IsHeldAt}
 use Rattle.map_builder.proofs.KeptStores.{same_register}
 use Rattle.map_builder.proofs.KeptLemmas.{areas_same}
 use Rattle.map_builder.proofs.MovedRows.{row_stays}

@@ -1,29 +1,14 @@
 -- The windows that registers govern, as the code finds them.
-use Rattle.std.proofs.Common.{◌≡◌, ℕ, zero, suc, ◌+◌, ◌-◌, ◌*◌, ◌/◌, ◌^◌, ◌<◌, ◌≤◌, List, [], ◌∷◌, ◌++◌, length, map, drop, get_or, refl, sym, ◌∙◌, ap, arith, mul_comm, append_assoc}
-use Rattle.std.specs.Prelude.{Option, None, slice_get, slice_index, flat_map, take}
-use Rattle.std.specs.List.{AllByRecursion}
-use Rattle.std.specs.Option.{option_map_or}
-use Rattle.std.proofs.lemmas.List.{drop_all, drop_more, take_all, take_more, append-nil}
-use Rattle.std.proofs.lemmas.Grind.{flat_map-append}
+use Rattle.std.proofs.Common.{◌≡◌, ℕ, zero, suc, ◌+◌, ◌-◌, ◌*◌, ◌/◌, ◌^◌, ◌<◌, ◌≤◌, List, [], ◌∷◌, ◌++◌, length, map, drop, get_or, refl, sym, ◌∙◌, ap, arith, mul_comm, append_assoc, Option, None, slice_get, slice_index, flat_map, take}
+use Rattle.board_prelude.proofs.Common.{AllByRecursion, option_map_or, drop_all, drop_more, take_all, take_more, append-nil, flat_map-append, pow-add, pow_pos, div-lt_iff_lt-mul, Width, One, Reg, bytes_of, FittedCard, Setup, Bytes, reg_after, MapChange, Store}
 use Rattle.std.proofs.lemmas.Option.{slice_get-map, slice_get_past}
-use Rattle.std.proofs.lemmas.Nat.{mul-add-lt, pow-add, pow_pos}
-use Rattle.std.proofs.Math.Nat.{div-lt_iff_lt-mul}
-use Rattle.board_base.specs.declared.access.Width.{Width}
-use Rattle.board_base.specs.declared.access.Width.TheVariants.{One}
-use Rattle.board_base.specs.declared.target.Reg.{Reg}
-use Rattle.board_base.specs.Access.{bytes_of}
-use Rattle.board_spec.specs.Setup.{FittedCard, Setup}
-use Rattle.board_spec.specs.Decode.{Bytes}
-use Rattle.board_spec.specs.MapWrites.{reg_after}
+use Rattle.std.proofs.lemmas.Nat.{mul-add-lt}
 use Rattle.pci_bars.specs.declared.spec.BaseSpec.{BaseSpec}
 use Rattle.pci_bars.specs.Bases.{base_of}
 use Rattle.map_builder.specs.declared.range.Changed.{Changed}
-use Rattle.board_spec.specs.declared.map_change.MapChange.{MapChange}
-use Rattle.board_spec.specs.declared.map_change.MapChange.TheVariants.{Store}
 use Rattle.addr_decode.specs.declared.register.MapRegister.{MapRegister}
 use Rattle.addr_decode.specs.MapRegister.{IsNumberedName, map_register, names_of}
-use Rattle.map_builder.specs.Changed.{name_windows, windows_covered}
-use Rattle.map_builder.specs.Held.{held_by, held_from, held_at}
+use Rattle.map_builder.specs.Common.{name_windows, windows_covered, held_by, held_from, held_at}
 
 -- the last address of a block is an address
 pub block_fits : (inside bits : ℕ) → inside < 2 ^ 32 → bits ≤ 24 → inside / 2 ^ bits * 2 ^ bits + (2 ^ bits - 1) < 2 ^ 32

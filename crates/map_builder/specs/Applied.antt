@@ -1,9 +1,6 @@
 -- What a change makes of a map.
 use Rattle.std.specs.Prelude.{ℕ, ◌≡◌, ◌<◌, List}
-use Rattle.board_spec.specs.declared.map_change.MapChange.{MapChange}
-use Rattle.board_spec.specs.Setup.{Setup}
-use Rattle.board_spec.specs.Decode.{Bytes}
-use Rattle.board_spec.specs.FlatMap.{address_count, six_areas, IsFlatMapOf}
+use Rattle.board_prelude.specs.Common.{MapChange, Setup, Bytes, address_count, six_areas, IsFlatMapOf}
 use Rattle.pci_bars.specs.Cards.{AreCardsOf, cards_of}
 use Rattle.addr_decode.specs.MapRegs.{StandsFor}
 use Rattle.map_builder.specs.declared.range.Changed.{Changed}

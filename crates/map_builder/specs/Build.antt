@@ -1,20 +1,15 @@
 -- The ranges of a map as they are built, from the first address on: the last of them may still go on.
 use Rattle.std.specs.Prelude.{ℕ, ◌≡◌, ◌≢◌, ◌+◌, ◌-◌, ◌<◌, ◌≤◌, ◌⊎◌, List, [], ◌∷◌, ◌++◌, length, map, All}
-use Rattle.board_base.specs.declared.target.Area.{Area}
-use Rattle.board_spec.specs.Setup.{Setup}
-use Rattle.board_spec.specs.Decode.{Bytes}
-use Rattle.board_spec.specs.FlatMap.{address_count, MapRange, six_areas, Tiles, NeighboursDiffer, IsRight, IsFlatMapOf}
-use Rattle.addr_decode.specs.MapRegs.{MapBytes, StandsFor}
-use Rattle.addr_decode.specs.Edges.{edges_after}
+use Rattle.board_prelude.specs.Common.{Area, Setup, Bytes, address_count, MapRange, six_areas, Tiles, NeighboursDiffer, IsRight, IsFlatMapOf, AllByRecursion}
+use Rattle.addr_decode.specs.Common.{MapBytes, StandsFor, edges_after}
 use Rattle.map_builder.specs.declared.range.Changed.{Changed}
 use Rattle.map_builder.specs.declared.range.Range.{Range}
-use Rattle.map_builder.specs.Map.{range_of, most_ranges, HasBoard}
-use Rattle.std.specs.List.{AllByRecursion}
+use Rattle.map_builder.specs.Map.{range_of, most_ranges, IsOfSomeBoard}
 use Rattle.map_builder.specs.Changed.{IsOutside}
 
 -- how the ranges go on at an address with these areas: the last range has them too, or it ends below, and another begins
-abbrev pub GoesOn : (ranges ranges' : List MapRange) → (last last' : MapRange) → (addr : ℕ) → List Area → Type 0
-GoesOn ranges ranges' last last' addr areas =
+abbrev pub ContinuesAt : (ranges ranges' : List MapRange) → (last last' : MapRange) → (addr : ℕ) → List Area → Type 0
+ContinuesAt ranges ranges' last last' addr areas =
     ((areas ≡ last.areas) × (ranges' ≡ ranges) × (last' ≡ last))
     ⊎ ((areas ≢ last.areas)
     × (ranges' ≡ ranges ++ record last { hi = addr - 1 } ∷ [])
@@ -37,7 +32,7 @@ pub record BuiltOf (setup : Setup) (bytes : Bytes) (ranges : List MapRange) (las
 pub record IsBuilt (regs : MapBytes) (ranges : List MapRange) (last : MapRange) (addr : ℕ) : Type 0 where
   pub built : Built ranges last addr
   pub of_board : (setup : Setup) (bytes : Bytes) → StandsFor setup bytes regs → BuiltOf setup bytes ranges last addr
-  pub few : (board : HasBoard regs) → length ranges + edges_after board.setup board.bytes addr < most_ranges
+  pub few : (board : IsOfSomeBoard regs) → length ranges + edges_after board.setup board.bytes addr < most_ranges
 
 -- ---- ranges that were those of a map before a change
 
@@ -63,9 +58,9 @@ abbrev pub IsBeside : List Changed → ℕ → Type 0
 IsBeside windows addr = AllByRecursion (IsOutside addr) windows
 
 -- the ranges of a board are built up to an address, and another map agrees with the board's after it up to another
-pub record IsKept (ranges : List MapRange) (last : MapRange) (before : List MapRange) (after until : ℕ) : Type 0 where
+pub record IsBuiltUpTo (ranges : List MapRange) (last : MapRange) (before : List MapRange) (after until : ℕ) : Type 0 where
   pub regs : MapBytes
-  pub board : HasBoard regs
+  pub board : IsOfSomeBoard regs
   pub built : IsBuilt regs ranges last after
   pub agrees : IsMapWhere regs (IsBetween after until) before
 

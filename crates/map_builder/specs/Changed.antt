@@ -1,23 +1,11 @@
 -- The windows of the address map that each register byte governs, and the bounds of those that a change may change.
 use Rattle.std.specs.Prelude.{ℕ, ◌+◌, ◌-◌, ◌*◌, ◌/◌, ◌^◌, ◌<◌, ◌⊎◌, ◌==◌, nat_lt, nat_le, min, max, Bool, false, ◌&&◌, length, if◌then◌else◌, List, [], ◌∷◌, ◌++◌, take, map, filter, flat_map, Option, Some, None, unwrap_or}
-use Rattle.std.specs.Option.{option_map_or}
-use Rattle.std.specs.List.{enumerate_from, list_any}
-use Rattle.board_base.specs.declared.target.Reg.{Reg}
-use Rattle.board_base.specs.Access.{bytes_of}
-use Rattle.board_spec.specs.declared.map_change.MapChange.{MapChange}
-use Rattle.board_spec.specs.declared.map_change.MapChange.TheVariants.{Store, Reset}
-use Rattle.board_spec.specs.Setup.{FittedCard, Setup, card_at}
-use Rattle.board_spec.specs.Decode.{Bytes, Window, memory_window, rom_window, vga_window}
-use Rattle.board_spec.specs.Ranges.{smram_range, expansion_range, system_bios, hole_at_512_kib, hole_at_15_mib, lower_bios, selectable_bios, largest_top}
-use Rattle.board_spec.specs.FlatMap.{address_count}
-use Rattle.board_spec.specs.Registers.{changed_byte}
-use Rattle.board_spec.specs.MapWrites.{reg_after}
+use Rattle.board_prelude.specs.Common.{option_map_or, enumerate_from, list_any, Reg, bytes_of, MapChange, Store, Reset, FittedCard, Setup, card_at, Bytes, Window, memory_window, rom_window, vga_window, smram_range, expansion_range, system_bios, hole_at_512_kib, hole_at_15_mib, lower_bios, selectable_bios, largest_top, address_count, changed_byte, reg_after}
 use Rattle.addr_decode.specs.declared.register.MapRegister.{MapRegister}
 use Rattle.addr_decode.specs.declared.register.MapRegister.TheVariants.{Pam, RowBoundary, Hole, Smram, ChipSelects, Card}
 use Rattle.addr_decode.specs.declared.register.CardRegister.{CardRegister}
 use Rattle.addr_decode.specs.declared.register.CardRegister.TheVariants.{Command, Base, ExpansionRom}
-use Rattle.addr_decode.specs.MapRegister.{is_of_card, map_register}
-use Rattle.addr_decode.specs.Edges.{edges_of, first_address}
+use Rattle.addr_decode.specs.Common.{is_of_card, map_register, edges_of, first_address}
 use Rattle.map_builder.specs.declared.range.Changed.{Changed}
 
 -- the addresses from a first one to a last one

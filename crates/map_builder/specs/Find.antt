@@ -26,7 +26,7 @@ pub record Holds (ranges : List Range) (k addr : ℕ) : Type 0 where
   pub below : addr ≤ (range_at ranges k).hi
 
 -- the range at an index begins at an address or below it
-pub record Begins (ranges : List Range) (k addr : ℕ) : Type 0 where
+pub record BeginsBelow (ranges : List Range) (k addr : ℕ) : Type 0 where
   pub within : k < length ranges
   pub above : (range_at ranges k).lo ≤ addr
 

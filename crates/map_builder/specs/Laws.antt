@@ -1,14 +1,6 @@
 -- What the laws say: each is proved on a function of `laws`.
 use Rattle.std.specs.Prelude.{ℕ, ◌≡◌, ◌<◌, ◌≤◌, [], None, All}
-use Rattle.board_base.specs.declared.access.Width.TheVariants.{One}
-use Rattle.board_spec.specs.declared.map_change.MapChange.{MapChange}
-use Rattle.board_spec.specs.declared.map_change.MapChange.TheVariants.{Store, Reset}
-use Rattle.board_spec.specs.RegisterNames.{pam, fdhc}
-use Rattle.board_spec.specs.RegisterTable.{reset_byte}
-use Rattle.board_spec.specs.Setup.{Setup, IsCardList}
-use Rattle.board_spec.specs.Ranges.{largest_top}
-use Rattle.board_spec.specs.Decode.{Bytes, top_of}
-use Rattle.board_spec.specs.FlatMap.{address_count, six_areas}
+use Rattle.board_prelude.specs.Common.{One, MapChange, Store, Reset, pam, fdhc, reset_byte, Setup, IsCardList, largest_top, Bytes, top_of, address_count, six_areas}
 use Rattle.map_builder.specs.Changed.{after, changed_windows, bounds_or_zero, most_rows, IsOutside}
 
 -- an address outside the windows that a change may change has the same areas before and after. The last boundary

@@ -8,3 +8,4 @@ pub mod Build
 pub mod Held
 pub mod Applied
 pub mod Laws
+pub mod Common

@@ -1,9 +1,6 @@
 -- The memory map as the crate keeps it: the registers, the ranges and the version.
 use Rattle.std.specs.Prelude.{ℕ, ◌+◌, ◌%◌, ◌^◌, ◌<◌, ◌≤◌, List, length, All, slice_index}
-use Rattle.board_spec.specs.Setup.{Setup, IsCardList}
-use Rattle.board_spec.specs.Ranges.{largest_top}
-use Rattle.board_spec.specs.Decode.{Bytes, top_of}
-use Rattle.board_spec.specs.FlatMap.{MapRange, Tiles, IsFlatMapOf}
+use Rattle.board_prelude.specs.Common.{Setup, IsCardList, largest_top, Bytes, top_of, MapRange, Tiles, IsFlatMapOf}
 use Rattle.pci_bars.specs.Cards.{CardBytes, AreFitted}
 use Rattle.addr_decode.specs.MapRegs.{MapBytes, StandsFor}
 use Rattle.map_builder.specs.declared.range.Changed.{Changed}
@@ -25,7 +22,7 @@ abbrev pub range_of : Range → MapRange
 range_of range = record { lo = range.lo; hi = range.hi; areas = range.row.areas }
 
 -- some board has these registers. The last boundary register is a byte, so that its DRAM ends at most at 255 times 8 MiB
-pub record HasBoard (regs : MapBytes) : Type 0 where
+pub record IsOfSomeBoard (regs : MapBytes) : Type 0 where
   pub setup : Setup
   pub bytes : Bytes
   pub cards : IsCardList setup.cards
@@ -39,7 +36,7 @@ most_ranges = 142
 -- the ranges are the flat map of every board that has these registers, and cover all addresses
 pub record IsMapOf (regs : MapBytes) (ranges : List MapRange) : Type 0 where
   pub fitted : AreFitted regs.cards
-  pub board : HasBoard regs
+  pub board : IsOfSomeBoard regs
   pub tiles : Tiles 0 ranges
   pub map : (setup : Setup) (bytes : Bytes) → StandsFor setup bytes regs → IsFlatMapOf setup bytes ranges
   pub few : length ranges ≤ most_ranges

@@ -1,15 +1,12 @@
 //! The ranges of the memory map, built from the registers on which it depends: all of them, or those that a change of
 //! the registers may have changed.
 ghost use Rattle.std.specs.Prelude.{ℕ, ◌≡◌, ◌≤◌, ◌<◌, ◌+◌, ◌-◌, [], length, map, unwrap_or, IfSome};
-ghost use Rattle.board_spec.specs.Setup.{Setup};
-ghost use Rattle.board_spec.specs.Decode.{Bytes};
-ghost use Rattle.board_spec.specs.FlatMap.{address_count, Tiles, IsFlatMapOf};
+ghost use Rattle.board_prelude.specs.Common.{Setup, Bytes, address_count, Tiles, IsFlatMapOf};
 ghost use Rattle.pci_bars.specs.Cards.{AreFitted};
-ghost use Rattle.addr_decode.specs.MapRegs.{MapBytes, StandsFor, map_bytes};
-ghost use Rattle.addr_decode.specs.Edges.{SameAreas, edges_after};
-ghost use Rattle.map_builder.specs.Map.{range_of, most_ranges, HasBoard};
-ghost use Rattle.map_builder.specs.Find.{Begins, Holds};
-ghost use Rattle.map_builder.specs.Build.{GoesOn, IsBuilt, IsMapWhere, IsBelow, IsBetween, IsBeside, IsKept, IsWhole};
+ghost use Rattle.addr_decode.specs.Common.{MapBytes, StandsFor, map_bytes, SameAreas, edges_after};
+ghost use Rattle.map_builder.specs.Map.{range_of, most_ranges, IsOfSomeBoard};
+ghost use Rattle.map_builder.specs.Find.{BeginsBelow, Holds};
+ghost use Rattle.map_builder.specs.Build.{ContinuesAt, IsBuilt, IsMapWhere, IsBelow, IsBetween, IsBeside, IsBuiltUpTo, IsWhole};
 ghost use Rattle.map_builder.specs.Sorted.{Rise, rows_in as rows_of};
 
 use crate::changed::EVERYTHING;
@@ -29,7 +26,7 @@ pub type Ranges = FixedList<Range, CAPACITY>;
 /// areas are the same, and else a new range begins. Each row that is looked up is a step.
 pub fn ranges_of<L: Ledger>(regs: &MapRegs, steps: &mut Steps<L>) -> Ranges
     requires cards { AreFitted regs.now.cards.items }
-    requires board { HasBoard (map_bytes regs.now) }
+    requires board { IsOfSomeBoard (map_bytes regs.now) }
     ensures tiles { Tiles 0 (map range_of result.items) }
     ensures map { (setup : Setup) (bytes : Bytes) → StandsFor setup bytes (map_bytes regs.now)
         → IsFlatMapOf setup bytes (map range_of result.items) }
@@ -53,7 +50,7 @@ pub fn rebuild<L: Ledger>(
     steps: &mut Steps<L>,
 )
     requires cards { AreFitted regs.now.cards.items }
-    requires board { HasBoard (map_bytes regs.now) }
+    requires board { IsOfSomeBoard (map_bytes regs.now) }
     requires rise { Rise windows.now }
     requires beside { IsMapWhere (map_bytes regs.now) (IsBeside windows.now) (map range_of ranges.old.items) }
     requires few { length ranges.old.items ≤ most_ranges }
@@ -82,7 +79,7 @@ fn sweep<L: Ledger>(
     steps: &mut Steps<L>,
 )
     requires cards { AreFitted regs.now.cards.items }
-    requires board { HasBoard (map_bytes regs.now) }
+    requires board { IsOfSomeBoard (map_bytes regs.now) }
     requires some { 0 < length windows.now }
     requires rise { Rise windows.now }
     requires same { ranges.old.items ≡ before.now }
@@ -157,7 +154,7 @@ fn row_at<L: Ledger>(
     steps: &mut Steps<L>,
 ) -> Range
     requires cards { AreFitted regs.now.cards.items }
-    requires board { HasBoard (map_bytes regs.now) }
+    requires board { IsOfSomeBoard (map_bytes regs.now) }
     requires above { 0 < addr }
     requires built { IsBuilt (map_bytes regs.now) (map range_of ranges.old.items) (range_of last) (addr - 1) }
     ensures built { IsBuilt (map_bytes regs.now) (map range_of ranges.new.items) (range_of result) addr }
@@ -177,9 +174,9 @@ fn keep(
     until: u32,
 ) -> Range
     requires tiles { Tiles 0 (map range_of before.now) }
-    requires from { Begins before.now from after }
+    requires from { BeginsBelow before.now from after }
     requires order { after ≤ until }
-    requires kept { IsKept (map range_of ranges.old.items) (range_of last) (map range_of before.now) after until }
+    requires kept { IsBuiltUpTo (map range_of ranges.old.items) (range_of last) (map range_of before.now) after until }
     ensures built { (regs : MapBytes) → IsBuilt regs (map range_of ranges.old.items) (range_of last) after
         → IsMapWhere regs (IsBetween after until) (map range_of before.now)
         → IsBuilt regs (map range_of ranges.new.items) (range_of result) until }
@@ -209,9 +206,9 @@ fn keep(
 /// the range at index `from` begins at `after` or below.
 fn finish(ranges: &mut Ranges, last: Range, before: &[Range], from: usize, after: u32)
     requires tiles { Tiles 0 (map range_of before.now) }
-    requires from { Begins before.now from after }
-    requires kept { IsKept (map range_of ranges.old.items) (range_of last) (map range_of before.now) after (address_count - 1) }
-    ensures whole { (regs : MapBytes) → HasBoard regs → IsBuilt regs (map range_of ranges.old.items) (range_of last) after
+    requires from { BeginsBelow before.now from after }
+    requires kept { IsBuiltUpTo (map range_of ranges.old.items) (range_of last) (map range_of before.now) after (address_count - 1) }
+    ensures whole { (regs : MapBytes) → IsOfSomeBoard regs → IsBuilt regs (map range_of ranges.old.items) (range_of last) after
         → IsMapWhere regs (IsBetween after (address_count - 1)) (map range_of before.now) → IsWhole regs ranges.new.items }
 {
     if after == LAST_ADDRESS {
@@ -232,7 +229,7 @@ fn finish(ranges: &mut Ranges, last: Range, before: &[Range], from: usize, after
 /// below.
 fn index_from(ranges: &[Range], from: usize, addr: u32) -> usize
     requires tiles { Tiles 0 (map range_of ranges.now) }
-    requires from { Begins ranges.now from addr }
+    requires from { BeginsBelow ranges.now from addr }
     ensures holds { Holds ranges.now result addr }
     ensures from { from ≤ result }
 {
@@ -254,7 +251,7 @@ fn rows_in<L: Ledger>(
     steps: &mut Steps<L>,
 ) -> Range
     requires cards { AreFitted regs.now.cards.items }
-    requires board { HasBoard (map_bytes regs.now) }
+    requires board { IsOfSomeBoard (map_bytes regs.now) }
     requires order { interval.lo ≤ interval.hi }
     requires built { IsBuilt (map_bytes regs.now) (map range_of ranges.old.items) (range_of first) interval.lo }
     ensures built { IsBuilt (map_bytes regs.now) (map range_of ranges.new.items) (range_of result) interval.hi }
@@ -293,7 +290,7 @@ fn edge_up_to(regs: &MapRegs, addr: u32, hi: u32) -> Option<u32>
 fn range_at(ranges: &mut Ranges, last: Range, addr: u32, row: SixAreas) -> Range
     requires room { length ranges.old.items < 160 }
     requires above { last.lo < addr }
-    ensures goes_on { GoesOn (map range_of ranges.old.items) (map range_of ranges.new.items) (range_of last) (range_of result) addr row.areas }
+    ensures goes_on { ContinuesAt (map range_of ranges.old.items) (map range_of ranges.new.items) (range_of last) (range_of result) addr row.areas }
 {
     if row == last.row {
         return last;

@@ -1,16 +1,9 @@
 //! The memory map as one list of ranges.
 ghost use Rattle.std.specs.Prelude.{◌≡◌, ◌≤◌, ◌<◌, ◌+◌, true, false, if◌then◌else◌, [], length, map};
-ghost use Rattle.board_base.specs.declared.access.Kind.{Kind};
-ghost use Rattle.board_spec.specs.Setup.{Setup};
-ghost use Rattle.board_spec.specs.declared.map_change.MapChange.TheVariants.{Store};
-ghost use Rattle.board_spec.specs.MapWrites.{touches_map};
-ghost use Rattle.board_spec.specs.Registers.{changed_byte};
-ghost use Rattle.board_spec.specs.Decode.{Bytes};
-ghost use Rattle.board_spec.specs.FlatMap.{Tiles, IsFlatMapOf, IsSpan};
+ghost use Rattle.board_prelude.specs.Common.{Kind, Setup, Store, touches_map, changed_byte, Bytes, Tiles, IsFlatMapOf, IsSpan};
 ghost use Rattle.pci_bars.specs.Cards.{AreCardsOf, AreFitted, cards_of};
-ghost use Rattle.addr_decode.specs.MapRegister.{AreNumbered, names_of};
-ghost use Rattle.addr_decode.specs.MapRegs.{StandsFor, map_bytes};
-ghost use Rattle.map_builder.specs.Map.{range_of, most_ranges, next_version, HasBoard, IsMapOf};
+ghost use Rattle.addr_decode.specs.Common.{AreNumbered, names_of, StandsFor, map_bytes};
+ghost use Rattle.map_builder.specs.Map.{range_of, most_ranges, next_version, IsOfSomeBoard, IsMapOf};
 ghost use Rattle.map_builder.specs.Changed.{most_rows};
 ghost use Rattle.map_builder.specs.Applied.{AreChanged, IsApplied};
 
@@ -282,7 +275,7 @@ fn uncounted_ranges<L: Ledger>(regs: &MapRegs, blank: Blank) -> Ranges
     requires parts { blank.parts ≡ L.parts }
     requires some_part { 0 < L.parts }
     requires cards { AreFitted regs.now.cards.items }
-    requires board { HasBoard (map_bytes regs.now) }
+    requires board { IsOfSomeBoard (map_bytes regs.now) }
     ensures tiles { Tiles 0 (map range_of result.items) }
     ensures map { (setup : Setup) (bytes : Bytes) → StandsFor setup bytes (map_bytes regs.now)
         → IsFlatMapOf setup bytes (map range_of result.items) }

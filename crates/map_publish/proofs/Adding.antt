@@ -1,12 +1,11 @@
 -- The steps on the length of the list keep the rule.
 use Rattle.std.proofs.Common.{◌≡◌, ℕ, ◌+◌, ◌<◌, ◌==◌, Bool, true, false, List, [], ◌∷◌, ◌++◌, length, refl, ap, sym, subst, arith, inl, length-append, None}
-use Rattle.std.proofs.lemmas.List.{append-nil}
-use Rattle.std.proofs.lemmas.Bool.Decides.{nat_tests}
+use Rattle.board_prelude.proofs.Common.{append-nil, nat_tests}
 use mathlib.Core.List.{IsPrefix}
 use prog.Atomic.{either}
 use Rattle.logbook.specs.Pages.{Cell, cell, keeps, no_nib, step, Moves, Goes}
 use Rattle.map_publish.specs.declared.mark.Mark.{Mark}
-use Rattle.map_publish.specs.Fronts.{IsKept, Adds, Reads}
+use Rattle.map_publish.specs.Fronts.{KeepsLength, AddsStep, ReadsLength}
 use Rattle.map_publish.proofs.Fronts.{prefix_whole}
 
 abbrev pub shown : List Mark → List Mark
@@ -17,7 +16,7 @@ moved xs ys n = Unit {0}
 
 pub adds_goes : (log v : List Mark) (e : Mark) (old : ℕ) → length v ≡ old → IsPrefix v log
     → (b : Bool) → (length log == old) ≡ b
-    → Goes IsKept shown moved 0 (v, (no_nib, None)) (λ n. either (n == old) (old + 1) n) (Adds (step 0 old (old + 1) e) (v, (no_nib, None))) ((length log, true) ∷ (0, true) ∷ []) log
+    → Goes KeepsLength shown moved 0 (v, (no_nib, None)) (λ n. either (n == old) (old + 1) n) (AddsStep (step 0 old (old + 1) e) (v, (no_nib, None))) ((length log, true) ∷ (0, true) ∷ []) log
 adds_goes log v e old len pre true is =
     let here : length log ≡ old = grind (arith, nat_tests) in
     let same : v ≡ log = prefix_whole v log pre (omega arith) in
@@ -43,13 +42,13 @@ adds_goes log v e old len pre false is =
     )
 
 pub adds_moves : (v : List Mark) (e : Mark) (old : ℕ) → length v ≡ old
-    → Moves IsKept shown moved 0 (v, (no_nib, None)) (λ n. either (n == old) (old + 1) n) (Adds (step 0 old (old + 1) e) (v, (no_nib, None)))
+    → Moves KeepsLength shown moved 0 (v, (no_nib, None)) (λ n. either (n == old) (old + 1) n) (AddsStep (step 0 old (old + 1) e) (v, (no_nib, None)))
 adds_moves v e old len cs log kept pre away =
-    let P : List Cell → Type 0 = λ c. (0 < length c) × ((cell c 0).1 ≡ true) × Goes IsKept shown moved 0 (v, (no_nib, None)) (λ n. either (n == old) (old + 1) n) (Adds (step 0 old (old + 1) e) (v, (no_nib, None))) c log in
+    let P : List Cell → Type 0 = λ c. (0 < length c) × ((cell c 0).1 ≡ true) × Goes KeepsLength shown moved 0 (v, (no_nib, None)) (λ n. either (n == old) (old + 1) n) (AddsStep (step 0 old (old + 1) e) (v, (no_nib, None))) c log in
     subst P (sym kept.words) (omega arith, refl, adds_goes log v e old len pre (length log == old) refl)
 
 pub reads_goes : (log v : List Mark) (e : Mark)
-    → Goes IsKept shown moved 0 (v, (no_nib, None)) (λ n. n) (Reads (step 0 0 0 e) (v, (no_nib, None))) ((length log, true) ∷ (0, true) ∷ []) log
+    → Goes KeepsLength shown moved 0 (v, (no_nib, None)) (λ n. n) (ReadsLength (step 0 0 0 e) (v, (no_nib, None))) ((length log, true) ∷ (0, true) ∷ []) log
 reads_goes log v e =
     let all : length log ≡ length (log ++ []) = sym (ap length (append-nil log)) in (
       keeps,
@@ -62,7 +61,7 @@ reads_goes log v e =
     )
 
 -- a look at the length adds nothing
-pub reads_moves : (v : List Mark) (e : Mark) → Moves IsKept shown moved 0 (v, (no_nib, None)) (λ n. n) (Reads (step 0 0 0 e) (v, (no_nib, None)))
+pub reads_moves : (v : List Mark) (e : Mark) → Moves KeepsLength shown moved 0 (v, (no_nib, None)) (λ n. n) (ReadsLength (step 0 0 0 e) (v, (no_nib, None)))
 reads_moves v e cs log kept pre away =
-    let P : List Cell → Type 0 = λ c. (0 < length c) × ((cell c 0).1 ≡ true) × Goes IsKept shown moved 0 (v, (no_nib, None)) (λ n. n) (Reads (step 0 0 0 e) (v, (no_nib, None))) c log in
+    let P : List Cell → Type 0 = λ c. (0 < length c) × ((cell c 0).1 ≡ true) × Goes KeepsLength shown moved 0 (v, (no_nib, None)) (λ n. n) (ReadsLength (step 0 0 0 e) (v, (no_nib, None))) c log in
     subst P (sym kept.words) (omega arith, refl, reads_goes log v e)

@@ -1,22 +1,13 @@
 -- Maps after changes, and the changes of lists.
-use Rattle.std.proofs.Common.{◌≡◌, ◌+◌, ◌<◌, ◌≤◌, List, [], ◌∷◌, ◌++◌, length, refl, sym, ap, ◌∙◌, arith, length-append}
-use Rattle.std.specs.Prelude.{flat_map, reverse}
-use Rattle.std.proofs.lemmas.Bool.Decides.{nat_tests}
-use Rattle.std.proofs.lemmas.Grind.{flat_map-append}
-use Rattle.std.proofs.lemmas.List.{reverse-append}
+use Rattle.std.proofs.Common.{◌≡◌, ◌+◌, ◌<◌, ◌≤◌, List, [], ◌∷◌, ◌++◌, length, refl, sym, ap, ◌∙◌, arith, length-append, flat_map, reverse}
+use Rattle.board_prelude.proofs.Common.{nat_tests, flat_map-append, reverse-append, MapChange, Setup, Bytes, registers_after}
 use mathlib.Core.List.{IsPrefix}
-use Rattle.board_spec.specs.declared.map_change.MapChange.{MapChange}
-use Rattle.board_spec.specs.Setup.{Setup}
-use Rattle.board_spec.specs.Decode.{Bytes}
-use Rattle.board_spec.specs.MapWrites.{registers_after}
 use Rattle.pci_bars.specs.Cards.{cards_of}
 use Rattle.addr_decode.specs.MapRegs.{StandsFor}
-use Rattle.map_builder.specs.Map.{Mapped}
-use Rattle.map_builder.specs.Changed.{after}
-use Rattle.map_publish.specs.Changes.{bytes_after, IsMapAfter}
+use Rattle.map_builder.specs.Common.{Mapped, after}
+use Rattle.map_publish.specs.Common.{bytes_after, IsMapAfter, changes_in, changes_of, opened_of, version_after, with_change, IsMapOfLog}
 use Rattle.map_publish.specs.declared.mark.Mark.{Mark}
 use Rattle.map_publish.specs.declared.mark.Mark.TheVariants.{Changed}
-use Rattle.map_publish.specs.Lists.{changes_in, changes_of, opened_of, version_after, with_change, IsMapOfLog}
 
 -- ---- maps
 

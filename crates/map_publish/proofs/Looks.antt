@@ -1,10 +1,7 @@
 -- Looks, by the map writes from reset on.
 use Rattle.std.proofs.Common.{arith, subst, length-append}
-use Rattle.board_spec.specs.Decode.{Bytes}
-use Rattle.board_spec.specs.FlatMap.{IsSpan}
-use Rattle.board_spec.specs.MapWrites.{registers_after}
-use Rattle.map_publish.specs.Lists.{changes_of}
-use Rattle.map_publish.specs.Laws.{LooksGoOn}
+use Rattle.board_prelude.proofs.Common.{Bytes, IsSpan, registers_after}
+use Rattle.map_publish.specs.Common.{changes_of, LooksGoOn}
 use Rattle.map_publish.proofs.Changes.{registers_after_more}
 
 pub looks_go_on : LooksGoOn

@@ -4,7 +4,7 @@ use Rattle.logbook.specs.Pages.{Cell, Step, View, Book, Named}
 use Rattle.map_publish.specs.declared.mark.Mark.{Mark}
 
 -- the first word is the length of the list. A book has two words, of which the second stays 0
-pub record IsKept (cells : List Cell) (log : List Mark) : Type 0 where
+pub record KeepsLength (cells : List Cell) (log : List Mark) : Type 0 where
   pub words : cells ≡ (length log, true) ∷ (0, true) ∷ []
 
 -- the word of a book that keeps the length
@@ -12,9 +12,9 @@ abbrev pub head_of : Book → Named
 head_of book = record { tracked = true; key = 0; book = book }
 
 -- the entry was added to all that had been seen, or there was more in the list
-abbrev pub Adds : Step Mark → View Mark ℕ → ℕ → View Mark ℕ → Type 0
-Adds step before found now = MatchBool (found == step.old) (now.0 ≡ before.0 ++ step.ask ∷ []) (Unit {0})
+abbrev pub AddsStep : Step Mark → View Mark ℕ → ℕ → View Mark ℕ → Type 0
+AddsStep step before found now = MatchBool (found == step.old) (now.0 ≡ before.0 ++ step.ask ∷ []) (Unit {0})
 
 -- the number that was read is the length of all that is in the list
-abbrev pub Reads : Step Mark → View Mark ℕ → ℕ → View Mark ℕ → Type 0
-Reads step before found now = found ≡ length now.0
+abbrev pub ReadsLength : Step Mark → View Mark ℕ → ℕ → View Mark ℕ → Type 0
+ReadsLength step before found now = found ≡ length now.0

@@ -5,3 +5,4 @@ pub mod Fronts
 pub mod Names
 pub mod Laws
 pub mod Published
+pub mod Common

@@ -18,22 +18,22 @@ abbrev pub nobody : Name
 nobody = record { named = false; number = 0; log_name = 0; cells_name = 0 }
 
 -- what is published is of this book, and its map is that of its list
-pub record IsOf (book : Book) (shown : Shown) : Type 0 where
+pub record IsOfBook (book : Book) (shown : Shown) : Type 0 where
   pub own : shown.front.seen.book ≡ book
   pub map : IsMapOfLog shown.front.seen.log shown.map
 
 -- what is published is of the book that a seat knows, if it knows one
-abbrev pub Knows : Shown → Name → Type 0
-Knows shown given = given.named ≡ true → IsOf (book_of given) shown
+abbrev pub KnowsBook : Shown → Name → Type 0
+KnowsBook shown given = given.named ≡ true → IsOfBook (book_of given) shown
 
 -- the rule: each seat is right
-abbrev pub Holds : Shown → List Name → Type 0
-Holds shown views = (seat : ℕ) (given : Name) → get_elem? views seat ≡ some given → Knows shown given
+abbrev pub AllKnow : Shown → List Name → Type 0
+AllKnow shown views = (seat : ℕ) (given : Name) → get_elem? views seat ≡ some given → KnowsBook shown given
 
 -- the seat learns the name of what is published
-abbrev pub Names : Name → Shown → Shown → Name → Type 0
-Names given before shown now = now ≡ name before.front.seen.book
+abbrev pub LearnsName : Name → Shown → Shown → Name → Type 0
+LearnsName given before shown now = now ≡ name before.front.seen.book
 
 -- the seat keeps its name, and is right
 abbrev pub Stays : Name → Shown → Shown → Name → Type 0
-Stays given before shown now = (now ≡ given) × Knows shown given
+Stays given before shown now = (now ≡ given) × KnowsBook shown given

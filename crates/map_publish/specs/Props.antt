@@ -2,8 +2,7 @@
 use Rattle.std.specs.Prelude.{ℕ, List, Option, Some, None}
 use Rattle.std.specs.Coded.{Unit-prop}
 use Rattle.std.proofs.Props.{props}
-use Rattle.board_spec.specs.Decode.{Bytes}
-use Rattle.board_spec.specs.declared.map_change.MapChange.{MapChange}
+use Rattle.board_prelude.specs.Common.{Bytes, MapChange}
 use Rattle.pci_bars.specs.Cards.{HoldsRom}
 use Rattle.map_builder.specs.Map.{Mapped}
 use Rattle.map_publish.specs.Changes.{IsMapAfter}

@@ -17,9 +17,9 @@ pub struct ListRule;
 impl Rule<Mark, u64> for ListRule {
     ghost use Rattle.std.specs.Prelude.{[]};
     ghost use base.Fml.{ftrue};
-    ghost use Rattle.map_publish.specs.Fronts.{IsKept};
+    ghost use Rattle.map_publish.specs.Fronts.{KeepsLength};
 
-    ghost holds = { λ cells log. IsKept cells log };
+    ghost holds = { λ cells log. KeepsLength cells log };
 
     ghost first = { [] };
 
@@ -45,18 +45,18 @@ impl Gain<Mark, u64> for Nothing {
 struct Add;
 
 impl Play<Mark, u64> for Add {
-    ghost use Rattle.map_publish.specs.Fronts.{Adds};
+    ghost use Rattle.map_publish.specs.Fronts.{AddsStep};
 
-    ghost then = { Adds };
+    ghost then = { AddsStep };
 }
 
 /// The step that reads the length of the list.
 struct Read;
 
 impl Play<Mark, u64> for Read {
-    ghost use Rattle.map_publish.specs.Fronts.{Reads};
+    ghost use Rattle.map_publish.specs.Fronts.{ReadsLength};
 
-    ghost then = { Reads };
+    ghost then = { ReadsLength };
 }
 
 /// The entry of a step that only reads: none is added.

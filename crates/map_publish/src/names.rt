@@ -16,9 +16,9 @@ pub struct Name {
 pub struct Published;
 
 impl Protocol<Shown, Name> for Published {
-    ghost use Rattle.map_publish.specs.Names.{Holds, nobody};
+    ghost use Rattle.map_publish.specs.Names.{AllKnow, nobody};
 
-    ghost holds = { Holds };
+    ghost holds = { AllKnow };
 
     ghost first = { nobody };
 }
@@ -27,9 +27,9 @@ impl Protocol<Shown, Name> for Published {
 pub struct Names;
 
 impl Outcome<Shown, Name> for Names {
-    ghost use Rattle.map_publish.specs.Names.{Names};
+    ghost use Rattle.map_publish.specs.Names.{LearnsName};
 
-    ghost then = { Names };
+    ghost then = { LearnsName };
 }
 
 /// A publish, or an entry of a reader, after which each knows what it knew before.

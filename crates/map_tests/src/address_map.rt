@@ -2,8 +2,7 @@
 
 ghost use Rattle.std.specs.Prelude.{◌≡◌, ◌≤◌, ◌<◌, []};
 ghost use Rattle.board_spec.specs.Setup.{IsBase, IsCard};
-ghost use Rattle.pci_bars.specs.Bases.{base_of};
-ghost use Rattle.pci_bars.specs.Cards.{AreFitted};
+ghost use Rattle.pci_bars.specs.Common.{base_of, AreFitted};
 
 use crate::made::{rom_card, store};
 use addr_decode::{

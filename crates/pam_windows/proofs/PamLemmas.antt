@@ -1,18 +1,7 @@
 -- The PAM registers in the table of registers.
-use Rattle.std.proofs.Common.{◌≡◌, ◌≢◌, ℕ, ◌-◌, ◌<◌, List, [], ◌∷◌, length, get_or, set, false, ◌∙◌, sym, refl, ap, subst, arith, inl, inr, get_or-set_other, get_or-set_same}
-use Rattle.std.specs.Prelude.{map}
-use Rattle.std.proofs.lemmas.Bool.{cases_eq}
-use Rattle.board_base.specs.declared.access.Width.TheVariants.{One}
-use Rattle.board_spec.specs.declared.map_change.MapChange.TheVariants.{Store}
-use Rattle.board_spec.specs.Setup.{Setup}
-use Rattle.board_spec.specs.Bits.{merged}
-use Rattle.board_spec.specs.RegisterTable.{writable_bits}
-use Rattle.board_spec.specs.Registers.{changed_byte}
-use Rattle.board_spec.specs.Decode.{Bytes}
-use Rattle.board_spec.specs.RegisterNames.{bridge, pam, smram, is_same}
+use Rattle.std.proofs.Common.{◌≡◌, ◌≢◌, ℕ, ◌-◌, ◌<◌, List, [], ◌∷◌, length, get_or, set, false, ◌∙◌, sym, refl, ap, subst, arith, inl, inr, get_or-set_other, get_or-set_same, map}
+use Rattle.board_prelude.proofs.Common.{cases_eq, One, Store, Setup, merged, writable_bits, changed_byte, Bytes, bridge, pam, smram, is_same, Each, each_from, changed_byte-one_same, changed_byte-one_other}
 use Rattle.pam_windows.specs.Pam.{IsPamOffset, IsPamOf, pam_byte}
-use Rattle.board_spec.proofs.TableLemmas.{Each, each_from}
-use Rattle.board_spec.proofs.StoreLemmas.{changed_byte-one_same, changed_byte-one_other}
 
 -- what holds at each of the seven offsets
 each_offset : (P : ℕ → Type 0) → Each P 0x59 7 → (off : ℕ) → IsPamOffset off → P off

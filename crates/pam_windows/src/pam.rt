@@ -1,12 +1,6 @@
 //! The programmable attribute map registers, PAM0 to PAM6 (82441FX).
 ghost use Rattle.std.specs.Prelude.{◌≡◌, ◌≤◌, ℕ};
-ghost use Rattle.board_base.specs.declared.access.Width.TheVariants.{One};
-ghost use Rattle.board_spec.specs.declared.map_change.MapChange.TheVariants.{Store};
-ghost use Rattle.board_spec.specs.Setup.{Setup};
-ghost use Rattle.board_spec.specs.RegisterTable.{reset_byte};
-ghost use Rattle.board_spec.specs.Registers.{changed_byte};
-ghost use Rattle.board_spec.specs.Decode.{Bytes, is_shadowed};
-ghost use Rattle.board_spec.specs.RegisterNames.{bridge};
+ghost use Rattle.board_prelude.specs.Common.{One, Store, Setup, reset_byte, changed_byte, Bytes, is_shadowed, bridge};
 ghost use Rattle.pam_windows.specs.Pam.{IsPamOffset, IsPamOf, pam_byte};
 
 use crate::window::Window;

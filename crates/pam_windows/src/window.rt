@@ -1,7 +1,6 @@
 //! The thirteen windows between C0000h and FFFFFh, and the PAM register of each.
 ghost use Rattle.std.specs.Prelude.{◌≡◌, ◌≤◌, ◌↔◌, ℕ, false, IsNone, IfSome};
-ghost use Rattle.board_spec.specs.Decode.{pam_register, is_high_window, nibble, is_open, is_shadow_range};
-ghost use Rattle.board_spec.specs.RegisterNames.{bridge};
+ghost use Rattle.board_prelude.specs.Common.{pam_register, is_high_window, nibble, is_open, is_shadow_range, bridge};
 ghost use Rattle.pam_windows.specs.Windows.{last_window, first_address, last_address, register_offset};
 
 use board_base::Kind;

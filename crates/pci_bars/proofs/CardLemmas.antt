@@ -1,22 +1,8 @@
 -- The registers of a card after a reset, as they are read, and after a store of one byte.
-use Rattle.std.proofs.Common.{◌≡◌, ◌≢◌, ◌⊎◌, ℕ, zero, suc, ◌+◌, ◌-◌, ◌*◌, ◌^◌, ◌<◌, ◌≤◌, false, Option, None, List, [], ◌∷◌, length, get_or, set, Some, inl, inr, ◌∙◌, refl, sym, ap, subst, arith, lit<, lit≤, add-zero, get_or-set_same, get_or-set_other}
-use Rattle.std.specs.Prelude.{◌==◌, slice_index}
-use Rattle.std.proofs.lemmas.Bool.{and_left, ne_eqb, cases_eq, cases_lt}
-use Rattle.std.proofs.lemmas.Bool.Decides.{nat_tests}
-use Rattle.board_base.specs.declared.access.Width.TheVariants.{One, Four}
-use Rattle.board_base.specs.declared.target.Reg.{Reg}
-use Rattle.board_spec.specs.declared.map_change.MapChange.TheVariants.{Store}
-use Rattle.board_spec.specs.Setup.{Base, MemoryBase, IoBase, FittedCard, Setup, IsCard, card_at}
-use Rattle.board_spec.specs.Bits.{byte, merged, wide}
-use Rattle.board_spec.specs.RegisterTable.{card_function, listed, base_reset, base_writable, rom_writable, reset_byte}
-use Rattle.board_spec.specs.Registers.{changed_byte}
-use Rattle.board_spec.specs.MapWrites.{reg_after}
-use Rattle.board_spec.specs.Decode.{Bytes}
-use Rattle.board_spec.specs.RegisterNames.{card_register, base_register, expansion_rom, smram, is_same}
-use Rattle.board_base.proofs.MergedLemmas.{merged-all, merged-none}
-use Rattle.board_spec.proofs.StoreLemmas.{changed_byte-one_same, changed_byte-one_other}
-use Rattle.pci_bars.specs.Bases.{of_base}
-use Rattle.pci_bars.specs.Cards.{CardBytes, HoldsLong, HoldsRom, DecodesAs, IsCardOf, is_kept_offset, header_of}
+use Rattle.std.proofs.Common.{◌≡◌, ◌≢◌, ◌⊎◌, ℕ, zero, suc, ◌+◌, ◌-◌, ◌*◌, ◌^◌, ◌<◌, ◌≤◌, false, Option, None, List, [], ◌∷◌, length, get_or, set, Some, inl, inr, ◌∙◌, refl, sym, ap, subst, arith, lit<, lit≤, add-zero, get_or-set_same, get_or-set_other, ◌==◌, slice_index}
+use Rattle.board_prelude.proofs.Common.{and_left, ne_eqb, cases_eq, cases_lt, nat_tests, One, Reg, Store, Base, MemoryBase, IoBase, FittedCard, Setup, IsCard, card_at, byte, merged, wide, card_function, listed, base_reset, base_writable, rom_writable, reset_byte, changed_byte, reg_after, Bytes, card_register, base_register, expansion_rom, smram, is_same, merged-all, merged-none, changed_byte-one_same, changed_byte-one_other}
+use Rattle.board_base.specs.declared.access.Width.TheVariants.{Four}
+use Rattle.pci_bars.specs.Common.{of_base, CardBytes, HoldsLong, HoldsRom, DecodesAs, IsCardOf, is_kept_offset, header_of}
 use Rattle.pci_bars.proofs.TableLemmas.{byte_of_zero, kept_nowhere, is_fixed, reset_byte-card, writable_bits-card, reset-base, writable-base, reset-rom, writable-rom, reset-header, reset-pin, reset-line, reset-command, writable-line, past_pin, command_writable}
 
 -- ---- four bytes as a number

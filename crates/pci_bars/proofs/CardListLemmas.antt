@@ -1,14 +1,9 @@
 -- The cards in a list by their device numbers.
-use Rattle.std.proofs.Common.{◌≡◌, ℕ, Bor, true, false, get_or, List, [], ◌∷◌, length, ◌++◌, ◌+◌, Option, Some, None, inl, inr, ◌∙◌, refl, sym, ap, subst}
-use Rattle.std.specs.Prelude.{◌==◌, All, find, option_map, nat_lt, is_some, slice_get}
+use Rattle.std.proofs.Common.{◌≡◌, ℕ, Bor, true, false, get_or, List, [], ◌∷◌, length, ◌++◌, ◌+◌, Option, Some, None, inl, inr, ◌∙◌, refl, sym, ap, subst, ◌==◌, All, find, option_map, nat_lt, is_some, slice_get}
 use Rattle.std.specs.Option.{IfSome}
-use Rattle.std.specs.List.{position, position_or_len}
-use Rattle.std.proofs.lemmas.Bool.{cases_Bool, cases_lt, cond-true, cond-false, eqb-true, lt-ltb, le-ltb}
+use Rattle.board_prelude.proofs.Common.{position, position_or_len, cases_Bool, cases_lt, cond-true, cond-false, eqb-true, lt-ltb, le-ltb, All-nil, All-cons, All-append, All-head, All-tail, length-append, map-append, FittedCard, Setup, card_at}
 use Rattle.std.proofs.lemmas.List.Folds.{find_at}
 use Rattle.std.proofs.lemmas.Option.{slice_get_past, slice_get-get_or}
-use Rattle.std.proofs.lemmas.List.Elements.{All-nil, All-cons, All-append, All-head, All-tail}
-use Rattle.std.proofs.lemmas.List.{length-append, map-append}
-use Rattle.board_spec.specs.Setup.{FittedCard, Setup, card_at}
 use Rattle.pci_bars.specs.declared.regs.CardRegs.{CardRegs}
 use Rattle.pci_bars.specs.Cards.{CardBytes, IsCardAdded, AreReset, IsReset, cards_of}
 

@@ -1,21 +1,11 @@
 -- Claims of the cards' registers are those of the windows that a board's registers make.
-use Rattle.std.proofs.Common.{◌≡◌, ℕ, ◌+◌, ◌<◌, ◌≤◌, Bool, true, false, not, List, [], ◌∷◌, ◌++◌, length, Option, Some, None, inl, inr, ◌∙◌, refl, sym, ap, arith, lit<}
-use Rattle.std.specs.Prelude.{◌==◌, ◌&&◌, All, flat_map, option_map, if◌then◌else◌, slice_index}
-use Rattle.std.specs.List.{enumerate_from}
-use Rattle.std.specs.Option.{option_or}
-use Rattle.std.proofs.lemmas.Bool.{cases_Bool}
-use Rattle.std.proofs.lemmas.List.{append-nil}
-use Rattle.std.proofs.lemmas.List.Elements.{All-head, All-tail}
-use Rattle.std.proofs.lemmas.List.Folds.{find-append}
-use Rattle.board_spec.specs.Setup.{Base, MemoryBase, IoBase, FittedCard, Setup, IsCard}
-use Rattle.board_spec.specs.Bits.{byte, is_bit}
-use Rattle.board_spec.specs.Decode.{Bytes, Window, is_covered, base_value, rom_value, memory_window, io_window, rom_window, rom_window_of, is_rom_on, vga_window, unselected_windows, io_windows, is_enabled_for, first_window, memory_claim, memory_shut, rom_unselected, io_claim, io_shut}
+use Rattle.std.proofs.Common.{◌≡◌, ℕ, ◌+◌, ◌<◌, ◌≤◌, Bool, true, false, not, List, [], ◌∷◌, ◌++◌, length, Option, Some, None, inl, inr, ◌∙◌, refl, sym, ap, arith, lit<, ◌==◌, ◌&&◌, All, flat_map, option_map, if◌then◌else◌, slice_index}
+use Rattle.board_prelude.proofs.Common.{enumerate_from, option_or, cases_Bool, append-nil, All-head, All-tail, find-append, Base, MemoryBase, IoBase, FittedCard, Setup, IsCard, byte, is_bit, Bytes, Window, is_covered, base_value, rom_value, memory_window, io_window, rom_window, rom_window_of, is_rom_on, vga_window, unselected_windows, io_windows, is_enabled_for, first_window, memory_claim, memory_shut, rom_unselected, io_claim, io_shut}
 use Rattle.pci_bars.specs.declared.claims.Gate.{Gate}
 use Rattle.pci_bars.specs.declared.claims.Gate.TheVariants.{Open, Shut}
 use Rattle.pci_bars.specs.declared.claims.Windows.{Windows}
 use Rattle.pci_bars.specs.declared.claims.Windows.TheVariants.{Memory, UnselectedRom, Ports}
-use Rattle.pci_bars.specs.Cards.{CardBytes, HoldsRom, DecodesAs, AreCards, AreDecoded, cards_of}
-use Rattle.pci_bars.specs.Claims.{agrees, covering, rom_claim, vga_claim, covering_base, is_enabled, is_gate, first_claim}
+use Rattle.pci_bars.specs.Common.{CardBytes, HoldsRom, DecodesAs, AreCards, AreDecoded, cards_of, agrees, covering, rom_claim, vga_claim, covering_base, is_enabled, is_gate, first_claim}
 
 -- device and base of the first window that counts and covers a place
 abbrev pub pick : (ℕ → Bool) → ℕ → List Window → Option (ℕ × ℕ)

@@ -1,17 +1,7 @@
 -- The bytes behind the bases: as they begin, and after a write.
-use Rattle.std.proofs.Common.{◌≡◌, ◌≢◌, ℕ, ◌+◌, ◌-◌, ◌/◌, ◌%◌, ◌<◌, ◌≤◌, true, false, ◌&&◌, List, [], ◌∷◌, map, Vec, Global, length, get_or, set, take, drop, ◌++◌, replicate, inl, inr, ◌∙◌, refl, sym, ap, arith, get_or-set_same, get_or-set_other, length-append, length-drop, length-take-le}
-use Rattle.std.specs.Prelude.{◌==◌, nat_le, nat_lt, find, if◌then◌else◌, slice_index, unwrap_or, vec_len}
-use Rattle.std.specs.Vec.{with_items}
-use Rattle.std.proofs.lemmas.Bool.{and_from, and_left, and_right, eq-eqb, ne_eqb, le-leb, lt-leb, lt-ltb, le-ltb, cases_lt, cases_eq}
-use Rattle.std.proofs.lemmas.List.{get_or-replicate, get_or_past, set_past, length-replicate, length-map, map-set, get_or-map, with_items_is, drop-drop}
-use Rattle.board_base.specs.declared.access.Width.{Width}
-use Rattle.board_base.specs.declared.target.Target.TheVariants.{Card}
-use Rattle.board_base.specs.Access.{bytes_of}
-use Rattle.board_base.proofs.WidthLemmas.{some_bytes}
-use Rattle.board_spec.specs.declared.event.Entry.{Entry}
-use Rattle.board_spec.specs.Setup.{FittedCard, Setup}
-use Rattle.board_spec.specs.Bits.{byte}
-use Rattle.board_spec.specs.Stored.{CardCell, byte_put, entry_put, stored_of, expansion_byte}
+use Rattle.std.proofs.Common.{◌≡◌, ◌≢◌, ℕ, ◌+◌, ◌-◌, ◌/◌, ◌%◌, ◌<◌, ◌≤◌, true, false, ◌&&◌, List, [], ◌∷◌, map, Vec, Global, length, get_or, set, take, drop, ◌++◌, replicate, inl, inr, ◌∙◌, refl, sym, ap, arith, get_or-set_same, get_or-set_other, length-append, length-drop, length-take-le, ◌==◌, nat_le, nat_lt, find, if◌then◌else◌, slice_index, unwrap_or, vec_len}
+use Rattle.board_prelude.proofs.Common.{with_items, and_from, and_left, and_right, eq-eqb, ne_eqb, le-leb, lt-leb, lt-ltb, le-ltb, cases_lt, cases_eq, get_or-replicate, get_or_past, length-replicate, length-map, map-set, get_or-map, with_items_is, drop-drop, Width, Card, bytes_of, some_bytes, Entry, FittedCard, Setup, byte, CardCell, byte_put, entry_put, stored_of, expansion_byte}
+use Rattle.std.proofs.lemmas.List.{set_past}
 use Rattle.pci_bars.specs.Contents.{IsBaseNumber, slot_number, held, held_byte, kept_size, LiesIn, IsContentsOf}
 
 -- the bytes of a list after those of a value were put from a place on

@@ -1,14 +1,6 @@
 -- What the registers read on which the address map depends.
-use Rattle.std.proofs.Common.{◌≡◌, ◌≢◌, ◌⊎◌, ℕ, ◌+◌, ◌-◌, ◌<◌, ◌≤◌, Bool, true, false, ◌&&◌, ◌||◌, Option, Some, None, get_or, inl, inr, ◌∙◌, refl, sym, ap, arith}
-use Rattle.std.specs.Prelude.{◌==◌, is_some}
-use Rattle.std.proofs.Math.Bool.{and-true}
-use Rattle.std.proofs.lemmas.Bool.{ne_eqb, cases_eq, both_ways}
-use Rattle.std.proofs.lemmas.Bool.Decides.{nat_tests}
-use Rattle.board_spec.specs.Setup.{FittedCard, Setup, IsCard, card_at}
-use Rattle.board_spec.specs.Bits.{byte, is_within}
-use Rattle.board_spec.specs.MapWrites.{is_map_byte}
-use Rattle.board_spec.specs.Decode.{Bytes}
-use Rattle.board_spec.specs.RegisterNames.{card_register}
+use Rattle.std.proofs.Common.{◌≡◌, ◌≢◌, ◌⊎◌, ℕ, ◌+◌, ◌-◌, ◌<◌, ◌≤◌, Bool, true, false, ◌&&◌, ◌||◌, Option, Some, None, get_or, inl, inr, ◌∙◌, refl, sym, ap, arith, ◌==◌, is_some}
+use Rattle.board_prelude.proofs.Common.{and-true, ne_eqb, cases_eq, both_ways, nat_tests, FittedCard, Setup, IsCard, card_at, byte, is_within, is_map_byte, Bytes, card_register}
 use Rattle.pci_bars.specs.Cards.{CardBytes, HoldsRom, DecodesAs, header_of}
 
 -- the offsets of a card's map bytes

@@ -1,16 +1,8 @@
 -- A card in the table of registers.
-use Rattle.std.proofs.Common.{◌≡◌, ◌≢◌, ◌⊎◌, ℕ, zero, suc, ◌+◌, ◌-◌, ◌*◌, ◌<◌, ◌≤◌, Bool, true, false, Option, None, List, [], ◌∷◌, length, get_or, Some, inl, inr, ◌∙◌, refl, sym, ap, subst, arith, lit<, lit≤}
-use Rattle.std.specs.Prelude.{◌==◌, ◌&&◌, ◌||◌, flat_map, if◌then◌else◌, is_some, replicate}
-use Rattle.std.proofs.lemmas.Bool.{ne_eqb, cases_lt, cases_eq}
-use Rattle.std.proofs.lemmas.Bool.Decides.{nat_tests}
-use Rattle.std.proofs.lemmas.List.{get_or_append_left, get_or-append_right}
-use Rattle.board_spec.specs.Setup.{Base, FittedCard, Setup, IsCard, card_at}
-use Rattle.board_spec.specs.Bits.{byte, is_within, long_bytes}
-use Rattle.board_spec.specs.RegisterTable.{Line, line, read_only, card_function, function_lines, listed, base_reset, base_writable, rom_writable, reset_byte, writable_bits}
-use Rattle.board_spec.specs.RegisterNames.{card_register}
-use Rattle.board_spec.proofs.TableLemmas.{listed-past, listed-before, listed-here, Each, each_below}
-use Rattle.pci_bars.specs.Bases.{of_base}
-use Rattle.pci_bars.specs.Cards.{CardBytes, is_kept_offset, header_of}
+use Rattle.std.proofs.Common.{◌≡◌, ◌≢◌, ◌⊎◌, ℕ, zero, suc, ◌+◌, ◌-◌, ◌*◌, ◌<◌, ◌≤◌, Bool, true, false, Option, None, List, [], ◌∷◌, length, get_or, Some, inl, inr, ◌∙◌, refl, sym, ap, subst, arith, lit<, lit≤, ◌==◌, ◌&&◌, ◌||◌, flat_map, if◌then◌else◌, is_some, replicate}
+use Rattle.board_prelude.proofs.Common.{ne_eqb, cases_lt, cases_eq, nat_tests, get_or_append_left, get_or-append_right, Base, FittedCard, Setup, IsCard, card_at, byte, is_within, long_bytes, line, read_only, card_function, function_lines, listed, base_reset, base_writable, rom_writable, reset_byte, writable_bits, card_register, listed-past, listed-before, listed-here, Each, each_below}
+use Rattle.board_spec.specs.RegisterTable.{Line}
+use Rattle.pci_bars.specs.Common.{of_base, CardBytes, is_kept_offset, header_of}
 
 -- ---- the lines of a card
 

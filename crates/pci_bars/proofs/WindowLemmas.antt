@@ -1,21 +1,12 @@
 -- The window that claims a place has the size of its base, and an access that it claims lies in its contents.
-use Rattle.std.proofs.Common.{◌≡◌, ◌≢◌, ℕ, ◌+◌, ◌-◌, ◌*◌, ◌/◌, ◌%◌, ◌^◌, ◌<◌, ◌≤◌, Bool, false, ◌&&◌, List, [], ◌∷◌, ◌++◌, length, Option, None, Some, inl, inr, ◌∙◌, refl, sym, ap, subst, arith, lit<, lit≤}
-use Rattle.std.specs.Prelude.{◌==◌, All, find, flat_map, slice_get}
-use Rattle.std.proofs.lemmas.Bool.{cases_Bool, ne_eqb}
-use Rattle.std.proofs.lemmas.Nat.{pow-add, pow_pos, mod-pow-add}
+use Rattle.std.proofs.Common.{◌≡◌, ◌≢◌, ℕ, ◌+◌, ◌-◌, ◌*◌, ◌/◌, ◌%◌, ◌^◌, ◌<◌, ◌≤◌, Bool, false, ◌&&◌, List, [], ◌∷◌, ◌++◌, length, Option, None, Some, inl, inr, ◌∙◌, refl, sym, ap, subst, arith, lit<, lit≤, ◌==◌, All, find, flat_map, slice_get}
+use Rattle.board_prelude.proofs.Common.{cases_Bool, ne_eqb, pow-add, pow_pos, All-nil, All-cons, All-head, All-tail, All-append, Base, MemoryBase, IoBase, FittedCard, Setup, IsBase, IsExpansionRom, IsCard, card_at, Width, One, bytes_of, window_bits, bits_of_base, Bytes, Window, is_covered, rom_window_of, is_rom_on, io_windows, is_enabled_for, memory_claim, io_claim, base_value}
+use Rattle.std.proofs.lemmas.Nat.{mod-pow-add}
 use Rattle.std.proofs.Math.Nat.{mod-lt}
-use Rattle.std.proofs.lemmas.List.Elements.{All-nil, All-cons, All-head, All-tail, All-append}
-use Rattle.board_spec.specs.Setup.{Base, MemoryBase, IoBase, FittedCard, Setup, IsBase, IsExpansionRom, IsCard, card_at}
-use Rattle.board_base.specs.declared.access.Width.{Width}
-use Rattle.board_base.specs.declared.access.Width.TheVariants.{One, Two, Four}
-use Rattle.board_base.specs.Access.{bytes_of}
-use Rattle.board_spec.specs.Answer.{window_bits, bits_of_base}
-use Rattle.board_spec.specs.Decode.{Bytes, Window, is_covered, rom_window_of, is_rom_on, io_windows, is_enabled_for, memory_claim, io_claim, base_value}
+use Rattle.board_base.specs.declared.access.Width.TheVariants.{Two, Four}
 use Rattle.pci_bars.specs.declared.claims.Windows.{Windows}
 use Rattle.pci_bars.specs.declared.claims.Windows.TheVariants.{Memory, UnselectedRom, Ports}
-use Rattle.pci_bars.specs.Cards.{CardBytes, DecodesAs, AreCards, AreDecoded, cards_of}
-use Rattle.pci_bars.specs.Bases.{base_size}
-use Rattle.pci_bars.specs.Contents.{IsBaseNumber, LiesIn, HaveSizes, kept_size}
+use Rattle.pci_bars.specs.Common.{CardBytes, DecodesAs, AreCards, AreDecoded, cards_of, base_size, IsBaseNumber, LiesIn, HaveSizes, kept_size}
 use Rattle.pci_bars.proofs.BaseLemmas.{is_base}
 use Rattle.pci_bars.proofs.ClaimLemmas.{window_in, base_windows, rom_windows, vga_windows, windows_in, same_windows, io_windows_are}
 

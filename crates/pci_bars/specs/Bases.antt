@@ -1,8 +1,6 @@
 -- The base address registers of a card by their numbers.
 use Rattle.std.specs.Prelude.{ℕ, ◌^◌, ◌==◌, if◌then◌else◌, List, Option, slice_get}
-use Rattle.std.specs.Option.{option_map_or}
-use Rattle.board_spec.specs.Setup.{Base, MemoryBase, IoBase, FittedCard, rom_base, vga_base, vga_bits}
-use Rattle.board_spec.specs.Answer.{bits_of_base, base_of_card, rom_bits}
+use Rattle.board_prelude.specs.Common.{option_map_or, Base, MemoryBase, IoBase, FittedCard, rom_base, vga_base, vga_bits, bits_of_base, base_of_card, rom_bits}
 use Rattle.pci_bars.specs.declared.spec.BaseSpec.{BaseSpec}
 use Rattle.pci_bars.specs.declared.spec.BaseSpec.TheVariants.{Memory, Io}
 

@@ -1,13 +1,7 @@
 -- The registers of a card, and what it means that they are those of a board's configuration space.
 use Rattle.std.specs.Prelude.{◌≡◌, ℕ, ◌+◌, ◌<◌, ◌==◌, Bool, false, ◌&&◌, ◌||◌, List, map, All, slice_index, Option, Some, None, is_some, [], ◌∷◌, ◌++◌, if◌then◌else◌}
 use Rattle.board_base.specs.declared.access.Width.TheVariants.{Four}
-use Rattle.board_base.specs.declared.target.Reg.{Reg}
-use Rattle.board_spec.specs.Setup.{FittedCard, Setup, IsCard, Rises, card_at}
-use Rattle.board_spec.specs.Bits.{byte, is_within, wide}
-use Rattle.board_spec.specs.RegisterNames.{card_register, card_command, base_register, expansion_rom, interrupt_line}
-use Rattle.board_spec.specs.RegisterTable.{reset_byte}
-use Rattle.board_spec.specs.MapWrites.{reg_after}
-use Rattle.board_spec.specs.Decode.{Bytes}
+use Rattle.board_prelude.specs.Common.{Reg, FittedCard, Setup, IsCard, Rises, card_at, byte, is_within, wide, card_register, card_command, base_register, expansion_rom, interrupt_line, reset_byte, reg_after, Bytes}
 
 -- a card, its command register, its interrupt line, its six base address registers, and the register of its
 -- expansion ROM

@@ -1,9 +1,6 @@
 -- Claims as the cards' own registers decide them.
 use Rattle.std.specs.Prelude.{ℕ, ◌+◌, ◌/◌, ◌^◌, ◌==◌, Bool, true, false, not, ◌&&◌, if◌then◌else◌, List, [], ◌∷◌, Option, Some, None, option_map, slice_index}
-use Rattle.std.specs.Option.{option_or}
-use Rattle.board_spec.specs.Setup.{Base, MemoryBase, IoBase, rom_base, vga_base, vga_bits}
-use Rattle.board_spec.specs.Bits.{is_bit}
-use Rattle.board_spec.specs.Ranges.{smram_range}
+use Rattle.board_prelude.specs.Common.{option_or, Base, MemoryBase, IoBase, rom_base, vga_base, vga_bits, is_bit, smram_range}
 use Rattle.pci_bars.specs.declared.claims.Gate.{Gate}
 use Rattle.pci_bars.specs.declared.claims.Gate.TheVariants.{Open, Shut}
 use Rattle.pci_bars.specs.declared.claims.Windows.{Windows}
@@ -14,20 +11,20 @@ use Rattle.pci_bars.specs.Cards.{CardBytes}
 abbrev pub agrees : (bits value place : ℕ) → Bool
 agrees bits value place = value / 2 ^ bits == place / 2 ^ bits
 
-abbrev pub covers : Windows → Base → (value place : ℕ) → Bool
-covers Memory (MemoryBase bits) value place = agrees bits value place
-covers Memory (IoBase bits) value place = false
-covers UnselectedRom base value place = false
-covers Ports (MemoryBase bits) value place = false
-covers Ports (IoBase bits) value place = agrees bits value place
+abbrev pub base_covers : Windows → Base → (value place : ℕ) → Bool
+base_covers Memory (MemoryBase bits) value place = agrees bits value place
+base_covers Memory (IoBase bits) value place = false
+base_covers UnselectedRom base value place = false
+base_covers Ports (MemoryBase bits) value place = false
+base_covers Ports (IoBase bits) value place = agrees bits value place
 
--- the first of these bases that covers a place, where the first of them is number k
+-- the first of these bases that base_covers a place, where the first of them is number k
 abbrev pub covering : Windows → (values : List ℕ) → (place : ℕ) → ℕ → List Base → Option ℕ
 covering windows values place k [] = None
 covering windows values place k (base ∷ later) =
-    if covers windows base (slice_index values k) place then Some k else covering windows values place (k + 1) later
+    if base_covers windows base (slice_index values k) place then Some k else covering windows values place (k + 1) later
 
--- an expansion ROM covers the places that agree with its register
+-- an expansion ROM base_covers the places that agree with its register
 abbrev pub rom_covers : Option ℕ → (register place : ℕ) → Bool
 rom_covers None register place = false
 rom_covers (Some bits) register place = agrees bits register place
@@ -45,7 +42,7 @@ vga_claim Memory vga place = if vga && agrees vga_bits smram_range.0 place then 
 vga_claim UnselectedRom vga place = None
 vga_claim Ports vga place = None
 
--- the base of a card that covers a place
+-- the base of a card that base_covers a place
 abbrev pub covering_base : Windows → (place : ℕ) → CardBytes → Option ℕ
 covering_base windows place card =
     option_or
@@ -66,7 +63,7 @@ abbrev pub is_gate : Gate → Bool → Bool
 is_gate Open enabled = enabled
 is_gate Shut enabled = not enabled
 
--- the first card at whose gate one stands, and that covers a place: its device and its base
+-- the first card at whose gate one stands, and that base_covers a place: its device and its base
 abbrev pub first_claim : Windows → Gate → (place : ℕ) → List CardBytes → Option (ℕ × ℕ)
 first_claim windows gate place [] = None
 first_claim windows gate place (card ∷ later) =

@@ -1,10 +1,6 @@
 -- The contents of the cards' bases: a list of bytes each, found by device and base.
 use Rattle.std.specs.Prelude.{◌≡◌, ◌≢◌, ℕ, ◌+◌, ◌-◌, ◌*◌, ◌^◌, ◌<◌, ◌≤◌, ◌==◌, if◌then◌else◌, List, [], Option, Some, None, get_or, length, slice_index}
-use Rattle.board_base.specs.declared.access.Width.{Width}
-use Rattle.board_base.specs.Access.{bytes_of}
-use Rattle.board_spec.specs.declared.event.Entry.{Entry}
-use Rattle.board_spec.specs.Setup.{FittedCard, Setup, card_at, rom_base, vga_base, vga_bits}
-use Rattle.board_spec.specs.Stored.{card_byte, expansion_byte}
+use Rattle.board_prelude.specs.Common.{Width, bytes_of, Entry, FittedCard, Setup, card_at, rom_base, vga_base, vga_bits, card_byte, expansion_byte}
 use Rattle.pci_bars.specs.Bases.{base_size, of_base}
 
 -- devices 2 to 9 have bases 0 to 5, the expansion ROM as base 6, and the VGA window as base 7

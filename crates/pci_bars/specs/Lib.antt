@@ -2,3 +2,4 @@ pub mod Cards
 pub mod Bases
 pub mod Claims
 pub mod Contents
+pub mod Common

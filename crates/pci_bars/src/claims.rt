@@ -1,11 +1,9 @@
 //! Which card answers at an address or a port (PCI Local Bus 2.1, sections 6.2.2 and 6.2.5).
 ghost use Rattle.std.specs.Prelude.{◌≡◌, ◌≤◌, ◌%◌, ◌^◌, ◌==◌, ℕ, All, None, find, length, map, option_map};
-ghost use Rattle.board_spec.specs.Setup.{Setup, IsBase, IsCard, IsExpansionRom};
-ghost use Rattle.board_spec.specs.Answer.{window_bits};
-ghost use Rattle.board_spec.specs.Decode.{Bytes, Window, memory_claim, memory_shut, rom_unselected, io_claim, io_shut};
+ghost use Rattle.board_prelude.specs.Common.{Setup, IsBase, IsCard, IsExpansionRom, window_bits, Bytes, Window, memory_claim, memory_shut, rom_unselected, io_claim, io_shut};
 ghost use Rattle.pci_bars.specs.Bases.{base_of, bits_in};
 ghost use Rattle.pci_bars.specs.Cards.{AreCards, AreDecoded, cards_of};
-ghost use Rattle.pci_bars.specs.Claims.{covers, covering, covering_base, first_claim, gate_of, is_enabled, rom_claim, rom_covers, vga_claim};
+ghost use Rattle.pci_bars.specs.Claims.{base_covers, covering, covering_base, first_claim, gate_of, is_enabled, rom_claim, rom_covers, vga_claim};
 
 use crate::cards::card_at;
 use crate::regs::CardRegs;
@@ -208,7 +206,7 @@ fn rom_at(rom: Option<u8>, register: u32, windows: Windows, place: u32) -> Optio
 /// Whether an expansion ROM with this register covers a place, selected or not.
 fn rom_covers(rom: Option<u8>, register: u32, place: u32) -> bool
     requires rom { IsExpansionRom rom }
-    ensures covers { result ≡ rom_covers rom register place }
+    ensures base_covers { result ≡ rom_covers rom register place }
 {
     match rom {
         Some(bits) => register >> bits == place >> bits,
@@ -231,7 +229,7 @@ fn vga_at(vga: bool, windows: Windows, place: u32) -> Option<u8>
 /// Whether a base that holds this value decodes a place.
 fn is_covered(base: BaseSpec, windows: Windows, value: u32, place: u32) -> bool
     requires base { IsBase (base_of base) }
-    ensures covers { result ≡ covers windows (base_of base) value place }
+    ensures base_covers { result ≡ base_covers windows (base_of base) value place }
 {
     match (windows, base) {
         (Windows::Memory, BaseSpec::Memory(bits)) => value >> bits == place >> bits,

@@ -1,12 +1,6 @@
 //! The bytes behind the bases of the cards.
 ghost use Rattle.std.specs.Prelude.{◌≡◌, ◌≢◌, ◌≤◌, ◌<◌, ◌+◌, ◌++◌, ◌==◌, ℕ, List, [], ◌∷◌, All, find, length, take, drop, IfOk, unwrap_or};
-ghost use Rattle.board_base.specs.declared.access.Width.{Width};
-ghost use Rattle.board_base.specs.declared.target.Target.TheVariants.{Card};
-ghost use Rattle.board_base.specs.Access.{largest_of};
-ghost use Rattle.board_spec.specs.declared.event.Entry.{Entry};
-ghost use Rattle.board_spec.specs.Setup.{Setup, IsCard, rom_base};
-ghost use Rattle.board_spec.specs.Bits.{wide};
-ghost use Rattle.board_spec.specs.Stored.{CardCell, byte_put, card_byte, entry_put, expansion_byte};
+ghost use Rattle.board_prelude.specs.Common.{Width, Card, largest_of, Entry, Setup, IsCard, rom_base, wide, CardCell, byte_put, card_byte, entry_put, expansion_byte};
 ghost use Rattle.pci_bars.specs.Contents.{IsBaseNumber, slot_number, held, held_byte, kept_size, LiesIn, IsContentsOf};
 
 use crate::cards::CARD_COUNT;

@@ -1,14 +1,6 @@
 //! The configuration registers of a card (PCI Local Bus 2.1, section 6.2).
 ghost use Rattle.std.specs.Prelude.{◌≡◌, ◌≢◌, ◌<◌, ◌/◌, ◌%◌, ℕ, true, Some, slice_index};
-ghost use Rattle.board_base.specs.declared.access.Width.TheVariants.{One};
-ghost use Rattle.board_spec.specs.declared.map_change.MapChange.TheVariants.{Store};
-ghost use Rattle.board_spec.specs.Setup.{Setup, IsCard, card_at};
-ghost use Rattle.board_spec.specs.Bits.{byte, merged};
-ghost use Rattle.board_spec.specs.RegisterTable.{reset_byte};
-ghost use Rattle.board_spec.specs.MapWrites.{is_map_byte};
-ghost use Rattle.board_spec.specs.Registers.{changed_byte};
-ghost use Rattle.board_spec.specs.Decode.{Bytes};
-ghost use Rattle.board_spec.specs.RegisterNames.{card_register};
+ghost use Rattle.board_prelude.specs.Common.{One, Store, Setup, IsCard, card_at, byte, merged, reset_byte, is_map_byte, changed_byte, Bytes, card_register};
 ghost use Rattle.pci_bars.specs.Cards.{DecodesAs, IsCardOf, header_of};
 
 use crate::spec::{BASE_COUNT, CardSpec};

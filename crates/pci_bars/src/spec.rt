@@ -1,8 +1,6 @@
 //! What a card is: its device number, whether it is a VGA adapter, and its bases.
 ghost use Rattle.std.specs.Prelude.{◌≡◌, ◌^◌, ◌≤◌, ℕ, Some, option_map, slice_get, slice_index};
-ghost use Rattle.board_spec.specs.Setup.{IsBase, IsCard};
-ghost use Rattle.board_spec.specs.Answer.{bits_of_base};
-ghost use Rattle.board_spec.specs.RegisterTable.{base_reset, base_writable, rom_writable};
+ghost use Rattle.board_prelude.specs.Common.{IsBase, IsCard, bits_of_base, base_reset, base_writable, rom_writable};
 ghost use Rattle.pci_bars.specs.Bases.{base_of, base_size, bits_in, of_base};
 ghost use Rattle.pci_bars.specs.Contents.{kept_size};
 

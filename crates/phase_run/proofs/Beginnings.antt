@@ -1,14 +1,8 @@
 -- A phase that an order takes in, and an order that begins.
-use Rattle.std.proofs.Common.{◌≡◌, ℕ, ◌≤◌, List, [], ◌∷◌, ◌++◌, length, take, drop, All, Some, Result, Ok, Err, OnOk, sym, ◌∙◌, ap, subst}
-use Rattle.std.specs.Prelude.{reverse}
-use Rattle.std.proofs.lemmas.List.{reverse-append, reverse-reverse, take-append-drop, length-reverse, length-take-le}
-use Rattle.board_spec.specs.declared.event.Entry.{Entry}
-use Rattle.board_spec.specs.Setup.{Setup}
-use Rattle.board_spec.specs.Legal.{IsLegal}
+use Rattle.std.proofs.Common.{◌≡◌, ℕ, ◌≤◌, List, [], ◌∷◌, ◌++◌, length, take, drop, All, Some, Result, Ok, Err, OnOk, sym, ◌∙◌, ap, subst, reverse}
+use Rattle.board_prelude.proofs.Common.{reverse-append, reverse-reverse, take-append-drop, length-reverse, length-take-le, Entry, Setup, IsLegal}
 use Rattle.run_order.specs.declared.done.Done.{Done}
-use Rattle.run_order.specs.Over.{IsWithin, over}
-use Rattle.run_order.specs.Placing.{placed}
-use Rattle.run_order.specs.Room.{Order}
+use Rattle.run_order.specs.Common.{IsPlacedBelow, over, placed, Order}
 use Rattle.run_order.proofs.Over.{over_front}
 use Rattle.phase_run.specs.Placed.{entries_of}
 
@@ -24,13 +18,13 @@ pub legal_front : (setup : Setup) (n : ℕ) (bus : List Entry) → IsLegal setup
 legal_front setup n bus legal = legal_end setup (reverse (drop n bus)) (reverse (take n bus)) (subst (IsLegal setup) (cut_is n bus) legal)
 
 -- what an order takes in over the whole of the bus's history, it takes in over what it was before
-pub taken_in : (bus : List Entry) (opened version : ℕ) (works : List (List Done)) (old new : Order) → opened ≤ length bus → old.bus ≡ opened → All (IsWithin old.bus) old.entries
+pub taken_in : (bus : List Entry) (opened version : ℕ) (works : List (List Done)) (old new : Order) → opened ≤ length bus → old.bus ≡ opened → All (IsPlacedBelow old.bus) old.entries
     → over bus new.entries ≡ placed version (drop old.bus bus) works (over bus old.entries)
     → entries_of (Some new) (reverse bus) ≡ placed version (drop opened bus) works (entries_of (Some old) (reverse (take opened bus)))
 taken_in bus opened version works old new fits size within is =
     let front : over (reverse (reverse (take opened bus))) old.entries ≡ over bus old.entries =
     ap (λ (b : List Entry). over b old.entries) (reverse-reverse (take opened bus))
-    ∙ over_front opened bus old.entries (subst (λ (n : ℕ). All (IsWithin n) old.entries) size within) in
+    ∙ over_front opened bus old.entries (subst (λ (n : ℕ). All (IsPlacedBelow n) old.entries) size within) in
     ap (λ (b : List Entry). over b new.entries) (reverse-reverse bus) ∙ (is ∙ (λ t. placed version (drop (size t) bus) works (sym front t)))
 
 pub front_length : (bus : List Entry) (opened : ℕ) → opened ≤ length bus → length (reverse (take opened bus)) ≡ opened

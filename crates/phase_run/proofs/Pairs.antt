@@ -1,6 +1,5 @@
 -- Lists that agree place by place.
-use Rattle.std.proofs.Common.{◌≡◌, ℕ, ◌<◌, List, [], ◌∷◌, map, refl, arith, length, sym, ◌∙◌, subst}
-use Rattle.std.specs.Prelude.{slice_index_or}
+use Rattle.std.proofs.Common.{◌≡◌, ℕ, ◌<◌, List, [], ◌∷◌, map, refl, arith, length, sym, ◌∙◌, subst, slice_index_or}
 use Rattle.std.proofs.lemmas.List.{get_or-map, length-map, ext_get_or}
 
 pub map_pairs : {X : Type 0} (f : X → ℕ) (xs ys : List X) → length ys ≡ length xs

@@ -1,25 +1,11 @@
 -- A phase, as the history of the run takes it in.
-use Rattle.std.proofs.Common.{◌≡◌, ℕ, ◌+◌, ◌<◌, ◌≤◌, List, [], ◌∷◌, ◌++◌, map, length, take, drop, get_or, flat_map, All, Option, Vec, Global, sym, ◌∙◌, ap, subst, arith}
-use Rattle.std.specs.Prelude.{reverse}
-use Rattle.std.proofs.lemmas.List.{reverse-append, reverse-reverse, length-append, length-map, length-reverse, map-append, append-nil, take-append-drop, drop_more}
-use Rattle.std.proofs.lemmas.Grind.{flat_map-append}
-use Rattle.std.proofs.Math.Seq.{drop-append_seam, take-append_seam}
-use Rattle.std.proofs.lemmas.List.Elements.{All-drop}
-use Rattle.board_spec.specs.declared.event.Entry.{Entry}
-use Rattle.board_spec.specs.declared.event.Statement.{Statement}
-use Rattle.board_spec.specs.Setup.{Setup, IsCardList}
-use Rattle.board_spec.specs.MapWrites.{version_of}
-use Rattle.board_spec.specs.Legal.{IsLegal}
+use Rattle.std.proofs.Common.{◌≡◌, ℕ, ◌+◌, ◌<◌, ◌≤◌, List, [], ◌∷◌, ◌++◌, map, length, take, drop, get_or, flat_map, All, Option, Vec, Global, sym, ◌∙◌, ap, subst, arith, reverse}
+use Rattle.board_prelude.proofs.Common.{reverse-append, reverse-reverse, length-append, length-map, length-reverse, map-append, append-nil, take-append-drop, drop_more, flat_map-append, drop-append_seam, take-append_seam, All-drop, Entry, Statement, Setup, IsCardList, version_of, IsLegal}
 use Rattle.board_core.specs.Kept.{Standing}
 use Rattle.run_order.specs.declared.done.Done.{Done}
-use Rattle.run_order.specs.Placing.{done_by, placed}
-use Rattle.run_order.specs.Room.{Order}
-use Rattle.run_order.specs.PhaseRun.{bare, IsWork, IsPhaseRun, IsPlaced, PhaseRuns}
-use Rattle.run_order.specs.Places.{AreInPlace, AreAllInPlace}
-use Rattle.run_order.specs.Trace.{Begins}
+use Rattle.run_order.specs.Common.{done_by, placed, Order, bare, IsWork, IsPhaseRun, IsPlaced, PhaseRuns, AreInPlace, AreAllInPlace, Begins}
 use Rattle.phase_run.specs.declared.worker.Work.{Work}
-use Rattle.phase_run.specs.Jobs.{IsStatement, HasRun, TakesIn, done_in}
-use Rattle.phase_run.specs.Placed.{entries_of}
+use Rattle.phase_run.specs.Common.{IsStatement, HasRun, TakesIn, done_in, entries_of}
 use Rattle.run_order.proofs.Over.{all_reverse}
 
 -- what a history gained, the oldest first

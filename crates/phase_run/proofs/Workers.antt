@@ -1,35 +1,20 @@
 -- What the workers of a phase leave, put together.
-use Rattle.std.proofs.Common.{◌≡◌, ℕ, ◌+◌, ◌<◌, ◌≤◌, ◌==◌, false, List, [], ◌∷◌, map, length, All, Option, Some, refl, sym, ◌∙◌, ap, subst, arith, inl, inr}
-use Rattle.std.specs.Prelude.{reverse}
-use Rattle.std.specs.List.{Any, range_with_len}
-use Rattle.std.proofs.lemmas.Bool.{cases_lt}
-use Rattle.std.proofs.lemmas.Bool.Decides.{nat_tests}
-use Rattle.std.proofs.lemmas.List.{length-map, length-reverse}
-use Rattle.std.proofs.lemmas.List.Elements.{All-head, All-tail, All-map}
+use Rattle.std.proofs.Common.{◌≡◌, ℕ, ◌+◌, ◌<◌, ◌≤◌, ◌==◌, false, List, [], ◌∷◌, map, length, All, Option, Some, refl, sym, ◌∙◌, ap, subst, arith, inl, inr, reverse}
+use Rattle.board_prelude.proofs.Common.{Any, range_with_len, cases_lt, nat_tests, length-map, length-reverse, All-head, All-tail, Entry, Statement, MapChange, Setup, IsInRange, entries_by, map_writes_of, most_statements}
+use Rattle.std.proofs.lemmas.List.Elements.{All-map}
 use Rattle.bus_turn.specs.Passes.{part_of}
-use Rattle.board_spec.specs.declared.event.Entry.{Entry}
-use Rattle.board_spec.specs.declared.event.Statement.{Statement}
-use Rattle.board_spec.specs.declared.map_change.MapChange.{MapChange}
-use Rattle.board_spec.specs.Setup.{Setup}
-use Rattle.board_spec.specs.InRange.{IsInRange}
-use Rattle.board_spec.specs.Legal.{entries_by}
-use Rattle.board_spec.specs.MapWrites.{map_writes_of}
 use Rattle.board_core.specs.Kept.{Standing}
 use Rattle.board_live.specs.declared.cpu.Cpu.{Cpu}
 use Rattle.board_live.specs.declared.live.Live.{Live}
 use Rattle.board_live.specs.declared.shared.Origin.{Origin}
-use Rattle.board_live.specs.Callers.{IsCallerOf, IsNew, AreAllOf, AreOpened, Closes, seen_of, known_of}
+use Rattle.board_live.specs.Callers.{IsCallerOf, IsNew, AreAllOf, AreOpened, ClosesBoard, seen_of, known_of}
 use Rattle.run_order.specs.declared.done.Done.{Done}
 use Rattle.run_order.specs.declared.done.Done.TheVariants.{Went, Looked}
-use Rattle.run_order.specs.Placing.{done_by}
-use Rattle.run_order.specs.PhaseRun.{IsWork}
-use Rattle.run_order.specs.Trace.{Begins, Extends, IsDone}
-use Rattle.run_order.proofs.Histories.{begins_trans}
+use Rattle.run_order.specs.Common.{done_by, IsWork, Begins, HasMoreWrites, IsDone}
+use Rattle.run_order.proofs.Common.{begins_trans, all_reverse, all_turned}
 use Rattle.phase_run.specs.declared.worker.Work.{Work}
 use Rattle.phase_run.specs.declared.jobs.Job.{Job}
-use Rattle.board_spec.specs.Limits.{most_statements}
-use Rattle.phase_run.specs.Jobs.{IsReady, IsRun, AreAsked, HasRun, done_in}
-use Rattle.run_order.proofs.Over.{all_reverse, all_turned}
+use Rattle.phase_run.specs.Jobs.{IsReadyToWork, IsRun, AreAsked, HasRun, done_in}
 use Rattle.phase_run.proofs.Numbers.{map_reverse, all_mapped, map_twice, same_lengths, numbered_length, numbers_below, same_numbers, by_number}
 
 abbrev cpu_in : Job → Cpu
@@ -60,7 +45,7 @@ pub ready : (live : Live) (board : Standing) (n : ℕ) (cpus : List Cpu) (works 
     → (o : AreOpened board n live cpus) → map cpu_in (reverse jobs) ≡ cpus → map work_in (reverse jobs) ≡ works
     → All (λ work. work.done.items ≡ []) works → All (λ work. work.asked ≤ before) works
     → All (λ statement. IsInRange board.setup statement.event) phase → ((actor : ℕ) → length (entries_by actor board.entries) ≤ before)
-    → before + length phase ≤ most_statements → All (IsReady live board (Some o.all.opened) phase before) jobs
+    → before + length phase ≤ most_statements → All (IsReadyToWork live board (Some o.all.opened) phase before) jobs
 ready live board n cpus works jobs phase before o are_cpus are_works empty asked in_range mine room = λ k d less. record {
   own = from_cpus (IsCallerOf live) jobs cpus are_cpus o.all.own k d less;
   same = from_cpus (λ cpu. part_of cpu.pass ≡ Some o.all.opened) jobs cpus are_cpus o.all.same k d less;
@@ -108,7 +93,7 @@ begins_opened setup actor opened (Went version event ∷ before) seen known d =
 
 -- a worker's part of a phase
 work_of : (live : Live) (board now : Standing) (part : Option Origin) (phase : List Statement) (before : ℕ) (job : Job)
-    → IsRun live board part phase before job → Closes now job.cpu → job.refused ≡ false
+    → IsRun live board part phase before job → ClosesBoard now job.cpu → job.refused ≡ false
     → IsWork board.setup board.entries now.entries phase job.cpu.number job.work.done.items
 work_of live board now part phase before job run closes fine =
     let same : now.setup ≡ board.setup = sym closes.setup ∙ run.setup in
@@ -118,19 +103,19 @@ work_of live board now part phase before job run closes fine =
       trace = (run.done fine).trace;
       closed = record {
         begins = closes.begins;
-        meets = subst (λ (setup : Setup). Extends (known_of job.cpu) (map_writes_of setup now.entries)) same closes.meets;
+        meets = subst (λ (setup : Setup). HasMoreWrites (known_of job.cpu) (map_writes_of setup now.entries)) same closes.meets;
         mine = closes.mine;
       };
       said = (run.done fine).said;
     }
 
 whole_begins : (live : Live) (board now : Standing) (part : Option Origin) (phase : List Statement) (before : ℕ) (jobs : List Job) → 0 < length jobs
-    → All (IsRun live board part phase before) jobs → All (λ job. Closes now job.cpu) jobs → All (λ job. job.refused ≡ false) jobs
+    → All (IsRun live board part phase before) jobs → All (λ job. ClosesBoard now job.cpu) jobs → All (λ job. job.refused ≡ false) jobs
     → (now.setup ≡ board.setup) × Begins board.entries now.entries
 whole_begins live board now part phase before [] some run closes fine = absurd (omega (arith, some))
 whole_begins live board now part phase before (job ∷ jobs) some run closes fine =
     let ran = All-head (IsRun live board part phase before) job jobs run in
-    let closed = All-head (λ (job : Job). Closes now job.cpu) job jobs closes in
+    let closed = All-head (λ (job : Job). ClosesBoard now job.cpu) job jobs closes in
     let trace = (ran.done (All-head (λ (job : Job). job.refused ≡ false) job jobs fine)).trace in
     (sym closed.setup ∙ ran.setup, begins_trans board.entries (seen_of job.cpu) now.entries (begins_opened _ _ _ _ _ _ trace) closed.begins)
 
@@ -145,13 +130,13 @@ none_by n actor (entry ∷ entries) past all =
 pub has_run : (live : Live) (board now : Standing) (n : ℕ) (cpus cpus1 : List Cpu) (works1 : List Work) (jobs jobs1 : List Job) (phase : List Statement) (before : ℕ)
     → (o : AreOpened board n live cpus) → map cpu_in (reverse jobs) ≡ cpus → map cpu_in (reverse jobs1) ≡ cpus1 → map work_in (reverse jobs1) ≡ works1
     → map number_in jobs1 ≡ map number_in jobs → All (IsRun live board (Some o.all.opened) phase before) jobs1 → All (λ job. job.refused ≡ false) jobs1
-    → All (Closes now) cpus1 → 1 ≤ n → HasRun board now phase works1
+    → All (ClosesBoard now) cpus1 → 1 ≤ n → HasRun board now phase works1
 has_run live board now n cpus cpus1 works1 jobs jobs1 phase before o are_cpus are_cpus1 are_works1 same run fine closes some =
     let numbers : map number_by cpus1 ≡ range_with_len 0 n = numbers_again cpus cpus1 jobs jobs1 are_cpus are_cpus1 same ∙ o.numbers in
     let named : map number_in (reverse jobs1) ≡ range_with_len 0 n = job_numbers cpus1 jobs1 n are_cpus1 numbers in
     let size : length (reverse jobs1) ≡ n = numbered_length number_in (reverse jobs1) n named in
     let many : 0 < length jobs1 = omega (arith, size, length-reverse jobs1, some) in
-    let closed = from_cpus (Closes now) jobs1 cpus1 are_cpus1 closes in
+    let closed = from_cpus (ClosesBoard now) jobs1 cpus1 are_cpus1 closes in
     let whole = whole_begins live board now (Some o.all.opened) phase before jobs1 many run closed fine in
     let W : ℕ → List Done → Type 0 = λ actor done. IsWork board.setup board.entries now.entries phase actor done in
     let all : All (λ job. W job.cpu.number job.work.done.items) (reverse jobs1) =
@@ -168,12 +153,12 @@ has_run live board now n cpus cpus1 works1 jobs jobs1 phase before o are_cpus ar
 pub are_asked : (live : Live) (board now : Standing) (n : ℕ) (cpus cpus1 : List Cpu) (works1 : List Work) (jobs jobs1 : List Job) (phase : List Statement) (before : ℕ)
     → (o : AreOpened board n live cpus) → map cpu_in (reverse jobs) ≡ cpus → map cpu_in (reverse jobs1) ≡ cpus1 → map work_in (reverse jobs1) ≡ works1
     → map number_in jobs1 ≡ map number_in jobs → All (IsRun live board (Some o.all.opened) phase before) jobs1 → All (λ job. job.refused ≡ false) jobs1
-    → All (Closes now) cpus1 → All (λ entry. Any (λ cpu. cpu.number ≡ entry.actor) cpus1) now.entries → AreAsked (before + length phase) now.entries works1
+    → All (ClosesBoard now) cpus1 → All (λ entry. Any (λ cpu. cpu.number ≡ entry.actor) cpus1) now.entries → AreAsked (before + length phase) now.entries works1
 are_asked live board now n cpus cpus1 works1 jobs jobs1 phase before o are_cpus are_cpus1 are_works1 same run fine closes callers =
     let numbers : map number_by cpus1 ≡ range_with_len 0 n = numbers_again cpus cpus1 jobs jobs1 are_cpus are_cpus1 same ∙ o.numbers in
     let named : map number_in (reverse jobs1) ≡ range_with_len 0 n = job_numbers cpus1 jobs1 n are_cpus1 numbers in
     let size : length (reverse jobs1) ≡ n = numbered_length number_in (reverse jobs1) n named in
-    let closed = from_cpus (Closes now) jobs1 cpus1 are_cpus1 closes in
+    let closed = from_cpus (ClosesBoard now) jobs1 cpus1 are_cpus1 closes in
     let listed : length works1 ≡ n = ap length (sym are_works1) ∙ (length-map (reverse jobs1) work_in ∙ size) in
     let actors : All (λ entry. entry.actor < n) now.entries = λ k d less. numbers_below number_by cpus1 n _ numbers (callers k d less) in
     let W : ℕ → List Done → Type 0 = λ actor done. length (entries_by actor now.entries) ≤ before + length phase in

@@ -1,25 +1,16 @@
 -- The workers of a phase, and what they leave. Histories have the newest entry first.
 use Rattle.std.specs.Prelude.{ℕ, ◌≡◌, ◌+◌, ◌<◌, ◌≤◌, false, List, [], ◌∷◌, ◌++◌, length, map, All, Option}
 use Rattle.bus_turn.specs.Passes.{part_of}
-use Rattle.board_spec.specs.declared.event.Entry.{Entry}
-use Rattle.board_spec.specs.declared.event.Statement.{Statement}
-use Rattle.board_spec.specs.Setup.{Setup}
-use Rattle.board_spec.specs.InRange.{IsInRange}
-use Rattle.board_spec.specs.Legal.{IsLegal, entries_by}
-use Rattle.board_spec.specs.Orders.{statements_of, HasPhases}
+use Rattle.board_prelude.specs.Common.{Entry, Statement, Setup, IsInRange, IsLegal, entries_by, statements_of, HasPhases, most_statements}
 use Rattle.board_core.specs.Kept.{Standing}
 use Rattle.board_live.specs.declared.shared.Origin.{Origin}
 use Rattle.board_live.specs.declared.live.Live.{Live}
 use Rattle.board_live.specs.Callers.{IsCallerOf, IsNew, setup_of, seen_of, mine_of, known_of}
 use Rattle.run_order.specs.declared.done.Done.{Done}
-use Rattle.run_order.specs.Placing.{done_by}
-use Rattle.run_order.specs.PhaseRun.{IsWork, bare}
-use Rattle.run_order.specs.Places.{AreInPlace}
-use Rattle.run_order.specs.Trace.{Begins}
+use Rattle.run_order.specs.Common.{done_by, IsWork, bare, AreInPlace, Begins}
 use Rattle.phase_run.specs.declared.worker.Work.{Work}
 use Rattle.phase_run.specs.declared.jobs.Job.{Job}
 use Rattle.phase_run.specs.declared.run.Run.{Run}
-use Rattle.board_spec.specs.Limits.{most_statements}
 use Rattle.phase_run.specs.Works.{HasDone}
 
 -- a statement of a processor below `cpus`, with an event in range for this setup
@@ -29,7 +20,7 @@ pub record IsStatement (setup : Setup) (cpus : ℕ) (statement : Statement) : Ty
 
 -- a worker that is about to do a phase, with a caller of a board that was just opened. No processor was given more than
 -- `before` statements until then
-pub record IsReady (live : Live) (board : Standing) (part : Option Origin) (phase : List Statement) (before : ℕ)
+pub record IsReadyToWork (live : Live) (board : Standing) (part : Option Origin) (phase : List Statement) (before : ℕ)
     (job : Job) : Type 0 where
   pub own : IsCallerOf live job.cpu
   pub same : part_of job.cpu.pass ≡ part
@@ -41,7 +32,7 @@ pub record IsReady (live : Live) (board : Standing) (part : Option Origin) (phas
   pub room : before + length phase ≤ most_statements
 
 abbrev pub CanRun : Live → List Statement → Job → Type 0
-CanRun live phase job = (board : Standing) × (part : Option Origin) × (before : ℕ) × IsReady live board part phase before job
+CanRun live phase job = (board : Standing) × (part : Option Origin) × (before : ℕ) × IsReadyToWork live board part phase before job
 
 -- a worker that did its processor's statements of a phase, or was refused memory
 pub record IsRun (live : Live) (board : Standing) (part : Option Origin) (phase : List Statement) (before : ℕ)
@@ -60,7 +51,7 @@ pub record Runs (live : Live) (phase : List Statement) (before now : Job) : Type
   pub number : now.cpu.number ≡ before.cpu.number
   pub run :
       (board : Standing) (part : Option Origin) (asked : ℕ) →
-      IsReady live board part phase asked before → IsRun live board part phase asked now
+      IsReadyToWork live board part phase asked before → IsRun live board part phase asked now
 
 -- no processor was given more than so many statements
 pub record AreAsked (most : ℕ) (entries : List Entry) (works : List Work) : Type 0 where
@@ -81,7 +72,7 @@ pub record HasRun (before now : Standing) (phase : List Statement) (works : List
 
 -- a board between two phases, with 1 to 8 processors, can do a phase with these statements: they are in range, and no
 -- processor was given more than `most` until then
-pub record CanDo (run : Run) (phase : List Statement) : Type 0 where
+pub record CanDoPhase (run : Run) (phase : List Statement) : Type 0 where
   pub some : 1 ≤ length run.works.items
   pub few : length run.works.items ≤ 8
   pub in_range : All (IsStatement run.board.setup (length run.works.items)) phase
@@ -90,7 +81,7 @@ pub record CanDo (run : Run) (phase : List Statement) : Type 0 where
   pub room : most + length phase ≤ most_statements
 
 -- after a phase there are as many processors, each of which was given at most the statements of the phase more
-pub record GoesOn (phase : List Statement) (before now : Run) : Type 0 where
+pub record GrowsBy (phase : List Statement) (before now : Run) : Type 0 where
   pub count : length now.works.items ≡ length before.works.items
   pub asked :
       (most : ℕ) → AreAsked most before.board.entries before.works.items → most + length phase ≤ most_statements →

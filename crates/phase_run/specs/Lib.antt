@@ -2,3 +2,4 @@ pub mod Ended
 pub mod Jobs
 pub mod Placed
 pub mod Works
+pub mod Common

@@ -1,13 +1,8 @@
 -- What a processor did in a phase. Histories and lists of map writes have the newest first, and what it did the oldest.
 use Rattle.std.specs.Prelude.{ℕ, ◌≡◌, List, map, reverse}
-use Rattle.board_spec.specs.declared.event.Entry.{Entry}
-use Rattle.board_spec.specs.declared.event.Statement.{Statement}
-use Rattle.board_spec.specs.declared.map_change.MapChange.{MapChange}
-use Rattle.board_spec.specs.Setup.{Setup}
-use Rattle.board_spec.specs.Orders.{events_by}
+use Rattle.board_prelude.specs.Common.{Entry, Statement, MapChange, Setup, events_by}
 use Rattle.run_order.specs.declared.done.Done.{Done}
-use Rattle.run_order.specs.Placing.{event_of}
-use Rattle.run_order.specs.Trace.{IsDone}
+use Rattle.run_order.specs.Common.{event_of, IsDone}
 
 -- these are the processor's statements of a phase, as they were done: they led from the history `opened` to having seen
 -- `seen` and knowing `known`

@@ -1,14 +1,8 @@
 //! What a worker uses of a caller of the shared board.
 
 ghost use Rattle.std.specs.Prelude.{◌≡◌, ◌<◌, ℕ, List, false, length, OnOk};
-ghost use Rattle.board_spec.specs.declared.event.Entry.{Entry};
-ghost use Rattle.board_spec.specs.declared.map_change.MapChange.{MapChange};
-ghost use Rattle.board_spec.specs.Setup.{Setup};
-ghost use Rattle.board_spec.specs.InRange.{IsInRange};
-ghost use Rattle.board_spec.specs.Legal.{entries_by};
-ghost use Rattle.run_order.specs.Placing.{is_look};
-ghost use Rattle.run_order.specs.Trace.{IsGone, IsLooked};
-ghost use Rattle.board_spec.specs.Limits.{most_statements};
+ghost use Rattle.board_prelude.specs.Common.{Entry, MapChange, Setup, IsInRange, entries_by, most_statements};
+ghost use Rattle.run_order.specs.Common.{is_look, IsGone, IsLooked};
 
 use board_base::{Kind, NoMemory};
 use board_spec::{Event, Look};

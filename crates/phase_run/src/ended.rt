@@ -1,7 +1,7 @@
 //! A run that has ended.
 
 ghost use Rattle.std.specs.Prelude.{◌≡◌, length, reverse, All, IfSome, MatchOption};
-ghost use Rattle.run_order.specs.Over.{IsWithin, over};
+ghost use Rattle.run_order.specs.Over.{IsPlacedBelow, over};
 ghost use Rattle.phase_run.specs.Placed.{entries_of, IsUpTo};
 
 use board_core::Board;
@@ -53,7 +53,7 @@ impl EndedRun {
     pub fn order(&self) -> Option<&[RunEntry]>
         ensures entries { MatchOption result (self.now.bus ≡ reverse self.now.entries)
             (λ order. over self.now.bus order.now ≡ reverse self.now.entries) }
-        ensures within { IfSome result (λ order. All (IsWithin (length self.now.bus)) order.now) }
+        ensures within { IfSome result (λ order. All (IsPlacedBelow (length self.now.bus)) order.now) }
     {
         match &self.order {
             Some(order) => Some(order.entries()),

@@ -3,7 +3,7 @@
 ghost use Rattle.std.specs.Prelude.{◌≡◌, ◌+◌, ◌<◌, ◌≤◌, ℕ, [], All, Option, false, length, map, reverse, vec_capacity, IfOk, IsTrue, IsFalse};
 ghost use Rattle.board_core.specs.Kept.{Standing};
 ghost use Rattle.board_live.specs.declared.shared.Origin.{Origin};
-ghost use Rattle.phase_run.specs.Jobs.{IsReady, CanRun, IsRun, Runs, done_in};
+ghost use Rattle.phase_run.specs.Jobs.{IsReadyToWork, CanRun, IsRun, Runs, done_in};
 
 use crate::worker::Work;
 use board_base::{Gate, NoMemory};
@@ -45,7 +45,7 @@ pub(crate) fn run_jobs<R: Threads + Wait + Sync, G: Gate>(
     requires can { All (CanRun live.now phase.now) jobs.old }
     ensures numbers { map (λ job. job.cpu.number) jobs.new ≡ map (λ job. job.cpu.number) jobs.old }
     ensures run { (board : Standing) (part : Option Origin) (before : ℕ)
-        → All (IsReady live.now board part phase.now before) jobs.old
+        → All (IsReadyToWork live.now board part phase.now before) jobs.old
         → All (IsRun live.now board part phase.now before) jobs.new }
 {
     let count = jobs.len();

@@ -1,8 +1,7 @@
 //! The order of a run beside the history of its board.
 
 ghost use Rattle.std.specs.Prelude.{◌≡◌, ◌<◌, ◌≤◌, All, length, map, take, drop, reverse, OnOk};
-ghost use Rattle.board_spec.specs.Setup.{Setup};
-ghost use Rattle.board_spec.specs.Legal.{IsLegal};
+ghost use Rattle.board_prelude.specs.Common.{Setup, IsLegal};
 ghost use Rattle.run_order.specs.Placing.{placed};
 ghost use Rattle.phase_run.specs.Placed.{entries_of, IsUpTo};
 

@@ -1,14 +1,10 @@
 //! A script's phases, one after another.
 
 ghost use Rattle.std.specs.Prelude.{◌≡◌, ◌≤◌, [], All, length, map, reverse, flat_map, IfOk};
-ghost use Rattle.board_spec.specs.Setup.{IsCardList};
-ghost use Rattle.board_spec.specs.Legal.{IsLegal};
-ghost use Rattle.board_spec.specs.Orders.{IsCompleteFor};
-ghost use Rattle.run_order.specs.PhaseRun.{bare};
-ghost use Rattle.run_order.specs.Places.{AreAllInPlace};
+ghost use Rattle.board_prelude.specs.Common.{IsCardList, IsLegal, IsCompleteFor, most_statements};
+ghost use Rattle.run_order.specs.Common.{bare, AreAllInPlace};
 ghost use Rattle.phase_run.specs.Placed.{entries_of, IsUpTo};
-ghost use Rattle.board_spec.specs.Limits.{most_statements};
-ghost use Rattle.phase_run.specs.Jobs.{IsStatement, CanDo, GoesOn, HasRun, TakesIn};
+ghost use Rattle.phase_run.specs.Jobs.{IsStatement, CanDoPhase, GrowsBy, HasRun, TakesIn};
 
 use crate::ended::EndedRun;
 use crate::jobs::{begin, end, first_works, is_refused, next_works, run_jobs, works_of};
@@ -38,8 +34,8 @@ fn run_workers<R: Threads + Wait + Sync, G: Gate>(
     phase: &[Statement],
     gate: &G,
 ) -> Result<Run, NoMemory>
-    requires can { CanDo run phase.now }
-    ensures goes_on { IfOk result (GoesOn phase.now run) }
+    requires can { CanDoPhase run phase.now }
+    ensures goes_on { IfOk result (GrowsBy phase.now run) }
     ensures run { IfOk result (λ next. HasRun run.board next.board phase.now next.works.items) }
 {
     let Run { board, works } = run;
@@ -70,12 +66,12 @@ fn run_phase<R: Threads + Wait + Sync, G: Gate>(
     placing: &mut Placing,
 ) -> Result<Run, NoMemory>
     requires cards { IsCardList run.board.setup.cards }
-    requires can { CanDo run phase.items }
+    requires can { CanDoPhase run phase.items }
     requires legal { IsLegal run.board.setup (entries_of placing.old.order run.board.entries) }
     requires same { bare (entries_of placing.old.order run.board.entries) ≡ bare run.board.entries }
     requires up_to { IsUpTo placing.old.order run.board.entries }
     ensures setup { IfOk result (λ next. next.board.setup ≡ run.board.setup) }
-    ensures goes_on { IfOk result (GoesOn phase.items run) }
+    ensures goes_on { IfOk result (GrowsBy phase.items run) }
     ensures takes_in { IfOk result (λ next. TakesIn phase.items run.board next.board
         (entries_of placing.old.order run.board.entries) (entries_of placing.new.order next.board.entries)) }
     ensures up_to { IfOk result (λ next. IsUpTo placing.new.order next.board.entries) }

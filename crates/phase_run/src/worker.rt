@@ -1,14 +1,9 @@
 //! A worker of a phase: it does the statements of one processor.
 
 ghost use Rattle.std.specs.Prelude.{◌≡◌, ◌+◌, ◌<◌, ◌≤◌, List, [], ◌∷◌, All, length, reverse, OnOk, IfOk};
-ghost use Rattle.board_spec.specs.declared.event.Entry.{Entry};
-ghost use Rattle.board_spec.specs.InRange.{IsInRange};
-ghost use Rattle.board_spec.specs.Legal.{entries_by};
-ghost use Rattle.board_spec.specs.MapWrites.{map_writes_of};
+ghost use Rattle.board_prelude.specs.Common.{Entry, IsInRange, entries_by, map_writes_of, most_statements};
 ghost use Rattle.run_order.specs.declared.done.Done.{Done};
-ghost use Rattle.run_order.specs.Placing.{event_of};
-ghost use Rattle.run_order.specs.Trace.{IsDone};
-ghost use Rattle.board_spec.specs.Limits.{most_statements};
+ghost use Rattle.run_order.specs.Common.{event_of, IsDone};
 ghost use Rattle.phase_run.specs.Works.{HasDone};
 
 use crate::caller::Caller;

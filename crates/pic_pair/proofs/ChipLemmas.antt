@@ -1,8 +1,6 @@
 -- One chip: its inputs, and the search for its request.
 use Rattle.std.proofs.Common.{◌≡◌, Bool, true, false, not, cond, ◌||◌, ◌&&◌, refl}
-use Rattle.device_spec.specs.Levels.{Levels, has, levels_where}
-use Rattle.device_spec.specs.Pic.{Chip, pending, latches_after}
-use Rattle.device_spec.proofs.Levels.{levels_where-same, has-levels_where}
+use Rattle.device_spec.proofs.Common.{Levels, has, levels_where, Chip, pending, latches_after, levels_where-same, has-levels_where}
 
 -- ---- the pending levels
 

@@ -1,13 +1,10 @@
 -- Sets of levels and the bits of their bytes.
-use Rattle.std.proofs.Common.{◌≡◌, ℕ, zero, suc, ◌+◌, ◌-◌, ◌*◌, ◌%◌, ◌^◌, ◌<◌, ◌≤◌, min, max, Bool, true, false, not, eqb, ltb, ◌||◌, ◌&&◌, length, refl, ap, ◌∙◌, inl, inr, arith}
-use Rattle.std.specs.Prelude.{bit_or, bit_and}
+use Rattle.std.proofs.Common.{◌≡◌, ℕ, zero, suc, ◌+◌, ◌-◌, ◌*◌, ◌%◌, ◌^◌, ◌<◌, ◌≤◌, min, max, Bool, true, false, not, eqb, ltb, ◌||◌, ◌&&◌, length, refl, ap, ◌∙◌, inl, inr, arith, bit_or, bit_and}
 use Rattle.std.specs.Int.{bit_at}
 use mir.Syntax.{w8}
-use Rattle.std.proofs.lemmas.Bool.{cases_eq, cases_order, eq-eqb, ne_eqb, lt-ltb, le-ltb, agree_below_at, eqb-true}
+use Rattle.device_spec.proofs.Common.{cases_eq, eq-eqb, ne_eqb, lt-ltb, le-ltb, agree_below_at, eqb-true, is_bit, levels_where-same, has-levels_where, levels_where-has, Levels, has, levels_where, no_levels, with_level, without_level, levels_of_byte, byte_of_levels}
+use Rattle.std.proofs.lemmas.Bool.{cases_order}
 use Rattle.std.proofs.lemmas.Nat.Bits.{bit_at-lt, bit_at_or, bit_at_and, bit_at_not, bit_at_set_same, bit_at_set_other, bit_at_clear_same, bit_at_clear_other}
-use Rattle.board_base.specs.Bits.{is_bit}
-use Rattle.device_spec.proofs.Levels.{levels_where-same, has-levels_where, levels_where-has}
-use Rattle.device_spec.specs.Levels.{Levels, has, levels_where, no_levels, with_level, without_level, levels_of_byte, byte_of_levels}
 
 -- ---- bits
 

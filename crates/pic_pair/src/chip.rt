@@ -1,8 +1,8 @@
 //! One 8259A interrupt controller.
 ghost use Rattle.std.specs.Prelude.{◌≡◌, ◌+◌, ◌++◌, ◌<◌, ◌&&◌, ◌||◌, not, IfSome, EachIndex, slice_index, false};
-ghost use Rattle.device_spec.specs.Levels.{with_level};
+ghost use Rattle.device_spec.specs.Common.{with_level, acknowledged_if, byte_polled, is_complete, chip_at_reset, chip_after_inputs, pending, priority_order, is_blocking, blocks_itself, is_requested, request, interrupt, acknowledged, chip_after_icw1, first_blocking, chip_after_ocw2, chip_after_ocw3, chip_after_odd_write, chip_after_write, byte_read, chip_after_read};
 ghost use Rattle.pic_pair.specs.View.{awaited_words, cascade_words, mode_words};
-ghost use Rattle.device_spec.specs.Pic.{acknowledged_if, byte_polled, is_complete, chip_at_reset, chip_after_inputs, pending, priority_order, is_blocking, blocks_itself, is_requested, request, interrupt, acknowledged, chip_after_icw1, first_blocking, ended, chip_after_ocw2, chip_after_ocw3, chip_after_odd_write, chip_after_write, byte_read, chip_after_read};
+ghost use Rattle.device_spec.specs.Pic.{ended};
 
 use crate::level_set::LevelSet;
 use board_base::bits::is_set;

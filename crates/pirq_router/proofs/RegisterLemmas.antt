@@ -1,19 +1,6 @@
 -- The route control registers in the table of registers: after a reset, and after a store of one byte.
-use Rattle.std.proofs.Common.{◌≡◌, ◌≢◌, ℕ, ◌+◌, ◌-◌, ◌<◌, [], ◌∷◌, false, ◌∙◌, refl, sym, ap, subst, arith, inl, inr}
-use Rattle.std.specs.Prelude.{replicate, map}
-use Rattle.std.proofs.lemmas.Bool.{cases_Bool}
-use Rattle.std.proofs.lemmas.Bool.Decides.{nat_tests}
-use Rattle.device_spec.specs.Routing.{Routes, is_route_offset, routes_after_write, route_reset}
-use Rattle.board_base.specs.declared.access.Width.TheVariants.{One}
-use Rattle.board_spec.specs.declared.map_change.MapChange.TheVariants.{Store}
-use Rattle.board_spec.specs.Setup.{Setup}
-use Rattle.board_spec.specs.RegisterNames.{isa, pirq}
-use Rattle.board_spec.specs.RegisterTable.{isa_bridge, reset_byte, writable_bits}
-use Rattle.board_spec.specs.Registers.{changed_byte}
-use Rattle.board_spec.specs.Decode.{Bytes}
-use Rattle.board_spec.specs.Interrupts.{pirqs}
-use Rattle.board_spec.proofs.StoreLemmas.{changed_byte-one_same, changed_byte-one_other}
-use Rattle.board_spec.proofs.TableLemmas.{each_below}
+use Rattle.std.proofs.Common.{◌≡◌, ◌≢◌, ℕ, ◌+◌, ◌-◌, ◌<◌, [], ◌∷◌, false, ◌∙◌, refl, sym, ap, subst, arith, inl, inr, replicate, map}
+use Rattle.board_prelude.proofs.Common.{cases_Bool, nat_tests, Routes, is_route_offset, routes_after_write, route_reset, One, Store, Setup, isa, pirq, isa_bridge, reset_byte, writable_bits, changed_byte, Bytes, pirqs, changed_byte-one_same, changed_byte-one_other, each_below}
 use Rattle.pirq_router.specs.Routes.{AreRoutesIn}
 
 pub routes_at_reset : (setup : Setup) → AreRoutesIn (reset_byte setup) (replicate 4 route_reset)

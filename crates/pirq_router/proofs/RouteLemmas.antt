@@ -1,8 +1,6 @@
 -- One pin more, and one line set.
 use Rattle.std.proofs.Common.{zero, suc, ◌≡◌, ℕ, ◌+◌, ◌<◌, Bool, true, false, eqb, ◌||◌, ◌&&◌, List, length, get_or, set, Some, None, refl, sym, ap, ◌∙◌, add-one, get_or-set_same, get_or-set_other, inl, inr}
-use Rattle.std.proofs.Math.Bool.{or-false, and-true, and-false}
-use Rattle.std.proofs.lemmas.Bool.{cases_eq, eq-eqb, ne_eqb}
-use Rattle.device_spec.specs.Routing.{Routes, drives, line_of_route, is_line_driven}
+use Rattle.board_prelude.proofs.Common.{or-false, and-true, and-false, cases_eq, eq-eqb, ne_eqb, Routes, drives, line_of_route, is_line_driven}
 
 -- whether one of the first pins holds the line at 1
 unfoldable pub drives_among : ℕ → Routes → List Bool → ℕ → Bool

@@ -1,14 +1,7 @@
 //! The PIRQ route control registers, PIRQRC[A:D] of the PIIX3.
 ghost use Rattle.std.specs.Prelude.{◌≡◌, ℕ, ◌<◌, ◌-◌, if◌then◌else◌, replicate, IfSome, slice_index_or, true, false};
-ghost use Rattle.board_base.specs.declared.access.Width.TheVariants.{One};
-ghost use Rattle.board_spec.specs.declared.map_change.MapChange.TheVariants.{Store};
-ghost use Rattle.board_spec.specs.Setup.{Setup};
-ghost use Rattle.board_spec.specs.RegisterTable.{reset_byte};
-ghost use Rattle.board_spec.specs.Registers.{changed_byte};
-ghost use Rattle.board_spec.specs.Decode.{Bytes};
-ghost use Rattle.board_spec.specs.RegisterNames.{isa, pirq};
+ghost use Rattle.board_prelude.specs.Common.{One, Store, Setup, reset_byte, changed_byte, Bytes, isa, pirq, route_byte, routes_after_write, route_reset, is_line_driven, is_route_offset, line_of_route};
 ghost use Rattle.pirq_router.specs.Routes.{AreRoutesIn};
-ghost use Rattle.device_spec.specs.Routing.{route_byte, routes_after_write, route_reset, is_line_driven, is_route_offset, line_of_route};
 
 use board_base::bits::{is_set, merged};
 use board_spec::offset::{PIRQRCA, PIRQRCD};

@@ -1,10 +1,7 @@
 -- In modes 2 and 3 a run comes to the begin of a period, and a part of a period ends it.
 use Rattle.std.proofs.Common.{◌≡◌, ℕ, ◌+◌, ◌-◌, ◌*◌, ◌/◌, ◌%◌, ◌<◌, ◌≤◌, ◌==◌, ◌&&◌, not, Bool, true, false, cond, Some, ◌⊎◌, inl, inr, refl, ap, sym, subst, ◌∙◌, arith, nat_lt}
-use Rattle.std.proofs.lemmas.Bool.{cases_Bool, cases_lt, and_parts, true≢false}
-use Rattle.std.proofs.lemmas.Bool.Decides.{nat_tests}
-use Rattle.device_spec.specs.Pit.{Mode, TerminalCount, OneShot, RateGenerator, SquareWave, SoftwareStrobe, HardwareStrobe, CounterState, is_periodic, first_element, load_with, half_end, count_down, count_to_reload, count_half}
-use Rattle.pit_8254.specs.Quiet.{HasCount, is_due, counts, every_pulse, pulses_in_half, quiet_pulses, lowered}
-use Rattle.pit_8254.specs.Runs.{IsPart, IsSettled, IsAtPeriod}
+use Rattle.device_spec.proofs.Common.{cases_Bool, cases_lt, and_parts, true≢false, nat_tests, Mode, TerminalCount, OneShot, RateGenerator, SquareWave, SoftwareStrobe, HardwareStrobe, CounterState, is_periodic, first_element, load_with, half_end, count_down, count_to_reload, count_half}
+use Rattle.pit_8254.specs.Common.{HasCount, is_due, counts, every_pulse, pulses_in_half, quiet_pulses, lowered, IsPart, IsSettled, IsAtPeriod}
 use Rattle.pit_8254.specs.declared.counting.running.Run.{Run}
 use Rattle.pit_8254.proofs.Quiet.{with_element, lowered_few}
 use Rattle.pit_8254.proofs.Settled.{Written, started_count, loaded, load_is}

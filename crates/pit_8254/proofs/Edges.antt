@@ -1,10 +1,7 @@
 -- The pulse after those that are quiet, and where a run ends.
 use Rattle.std.proofs.Common.{◌≡◌, ℕ, suc, ◌+◌, ◌-◌, ◌<◌, ◌≤◌, ◌==◌, ◌&&◌, ◌||◌, not, Bool, true, false, cond, is_some, ◌⊎◌, inl, inr, refl, ap, sym, subst, ◌∙◌, arith}
-use Rattle.std.proofs.lemmas.Bool.{cases_Bool, cases_lt, and_parts, true≢false}
-use Rattle.device_spec.specs.Pit.{Mode, TerminalCount, OneShot, SoftwareStrobe, HardwareStrobe, CounterState, count_down, count_to_end, count_to_strobe, pulse_by_mode, pulse}
-use Rattle.device_spec.specs.PitLaws.{pulses_of}
-use Rattle.pit_8254.specs.Quiet.{is_due, counts, every_pulse, counted_quietly, quiet_pulses, element_after, after_quiet, lowered}
-use Rattle.pit_8254.specs.Runs.{IsPart, IsSettled}
+use Rattle.device_spec.proofs.Common.{cases_Bool, cases_lt, and_parts, true≢false, Mode, TerminalCount, OneShot, SoftwareStrobe, HardwareStrobe, CounterState, count_down, count_to_end, count_to_strobe, pulse_by_mode, pulse, pulses_of}
+use Rattle.pit_8254.specs.Common.{is_due, counts, every_pulse, counted_quietly, quiet_pulses, element_after, after_quiet, lowered, IsPart, IsSettled}
 use Rattle.pit_8254.specs.declared.counting.running.Run.{Run}
 use Rattle.pit_8254.proofs.Quiet.{with_element, counted, settled_pulse, quietly, lowered_few, low}
 use Rattle.pit_8254.proofs.Settled.{by_cond}

@@ -1,15 +1,8 @@
 -- Whole periods.
 use Rattle.std.proofs.Common.{◌≡◌, ℕ, zero, suc, ◌+◌, ◌-◌, ◌*◌, ◌/◌, ◌%◌, ◌<◌, ◌≤◌, Bool, true, false, Some, inl, inr, refl, sym, subst, arith}
 use Rattle.std.proofs.Math.Nat.{suc-mul, zero-mul}
-use Rattle.std.proofs.Math.Bool.{and-false}
-use Rattle.std.proofs.lemmas.Bool.{cases_lt, true≢false}
-use Rattle.device_spec.specs.Pit.{Mode, TerminalCount, OneShot, RateGenerator, SquareWave, SoftwareStrobe, HardwareStrobe, CounterState, is_periodic, pulse}
-use Rattle.device_spec.specs.PitLaws.{pulses_of}
-use Rattle.device_spec.specs.PitPeriods.{IsAtLoad}
-use Rattle.device_spec.proofs.PitPeriods.{rate_repeats, square_repeats}
-use Rattle.pit_8254.specs.Quiet.{rises_of}
-use Rattle.pit_8254.specs.Runs.{IsPart, IsAtPeriod}
-use Rattle.pit_8254.specs.NextRise.{IsFirstRise}
+use Rattle.device_spec.proofs.Common.{and-false, cases_lt, true≢false, Mode, TerminalCount, OneShot, RateGenerator, SquareWave, SoftwareStrobe, HardwareStrobe, CounterState, is_periodic, pulse, pulses_of, IsAtLoad, rate_repeats, square_repeats}
+use Rattle.pit_8254.specs.Common.{rises_of, IsPart, IsAtPeriod, IsFirstRise}
 use Rattle.pit_8254.specs.declared.counting.running.Run.{Run}
 use Rattle.pit_8254.proofs.Runs.{pulses_of-add, rises_of-add}
 

@@ -1,10 +1,6 @@
 -- Quiet pulses change nothing but CE, and come as often as they are told.
 use Rattle.std.proofs.Common.{◌≡◌, ℕ, zero, suc, ◌+◌, ◌-◌, ◌*◌, ◌/◌, ◌%◌, ◌<◌, ◌≤◌, ◌==◌, ◌&&◌, ◌||◌, not, Bool, true, false, cond, inl, inr, refl, ap, sym, subst, ◌∙◌, arith, nat_lt}
-use Rattle.std.proofs.Math.Bool.{and-false}
-use Rattle.std.proofs.lemmas.Bool.{cases_Bool, cases_lt, or_parts, not-false, true≢false}
-use Rattle.std.proofs.lemmas.Bool.Decides.{nat_tests}
-use Rattle.device_spec.specs.Pit.{Mode, TerminalCount, OneShot, RateGenerator, SquareWave, SoftwareStrobe, HardwareStrobe, Notation, Binary, Decimal, modulus, half_end, CounterState, count_down, count_to_end, count_to_reload, count_half, count_to_strobe, pulse_by_mode, pulse}
-use Rattle.device_spec.specs.PitLaws.{pulses_of}
+use Rattle.device_spec.proofs.Common.{and-false, cases_Bool, cases_lt, or_parts, not-false, true≢false, nat_tests, Mode, TerminalCount, OneShot, RateGenerator, SquareWave, SoftwareStrobe, HardwareStrobe, Notation, Binary, Decimal, modulus, half_end, CounterState, count_down, count_to_end, count_to_reload, count_half, count_to_strobe, pulse_by_mode, pulse, pulses_of}
 use Rattle.pit_8254.specs.Quiet.{IsQuiet, rise, rises_of, is_due, counts, every_pulse, pulses_in_half, counted_quietly, quiet_pulses, lowered, element_after, after_quiet}
 
 pub same_cond : (A : Type 0) (b : Bool) (x : A) → cond b x x ≡ x

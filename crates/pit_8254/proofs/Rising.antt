@@ -1,12 +1,7 @@
 -- When OUT next rises.
 use Rattle.std.proofs.Common.{◌≡◌, ◌≢◌, ℕ, zero, suc, ◌+◌, ◌-◌, ◌*◌, ◌/◌, ◌%◌, ◌<◌, ◌≤◌, ◌==◌, ◌&&◌, ◌||◌, not, Bool, true, false, cond, Option, Some, None, nat_lt, inl, inr, refl, ap, sym, subst, ◌∙◌, arith}
-use Rattle.std.proofs.lemmas.Bool.{cases_Bool, cases_lt, or_parts, true≢false}
-use Rattle.device_spec.specs.Pit.{Mode, TerminalCount, OneShot, RateGenerator, SquareWave, SoftwareStrobe, HardwareStrobe, CounterState, PitState, is_periodic, pulse, out_of, pulses}
-use Rattle.device_spec.specs.PitLaws.{pulses_of}
-use Rattle.device_spec.proofs.PitPulses.{counters_apart}
-use Rattle.pit_8254.specs.Quiet.{rise, rises_of, is_due, counts, most_count, every_pulse, pulses_in_half, counted_quietly, quiet_pulses, element_after, after_quiet}
-use Rattle.pit_8254.specs.Runs.{IsPart, IsSettled, IsAtPeriod}
-use Rattle.pit_8254.specs.NextRise.{RisesAt, IsNextRise, IsFirstRise, IsPulseEdge}
+use Rattle.device_spec.proofs.Common.{cases_Bool, cases_lt, or_parts, true≢false, Mode, TerminalCount, OneShot, RateGenerator, SquareWave, SoftwareStrobe, HardwareStrobe, CounterState, PitState, is_periodic, pulse, out_of, pulses, pulses_of, counters_apart}
+use Rattle.pit_8254.specs.Common.{rise, rises_of, is_due, counts, most_count, every_pulse, pulses_in_half, counted_quietly, quiet_pulses, element_after, after_quiet, IsPart, IsSettled, IsAtPeriod, RisesAt, IsNextRise, IsFirstRise, IsPulseEdge}
 use Rattle.pit_8254.specs.declared.counting.running.Run.{Run}
 use Rattle.pit_8254.specs.declared.counting.rising.Edge.{Edge}
 use Rattle.pit_8254.proofs.Quiet.{with_element, counted, settled_pulse, past_two, end_out, strobe_past, half_counts, lowers, runs_quiet, first_element_after, quietly}

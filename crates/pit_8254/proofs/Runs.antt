@@ -1,10 +1,7 @@
 -- Parts of a run of pulses.
 use Rattle.std.proofs.Common.{◌≡◌, ℕ, zero, suc, ◌+◌, ◌-◌, ◌<◌, ◌≤◌, ◌&&◌, not, Bool, true, false, cond, refl, ap, sym, ◌∙◌, arith, add-zero, add-suc, add_assoc}
-use Rattle.device_spec.specs.Pit.{CounterState, PitState, pulse, pulse_all, pulses, rises}
-use Rattle.device_spec.specs.PitLaws.{pulses_of}
-use Rattle.device_spec.proofs.PitPulses.{counters_apart}
-use Rattle.pit_8254.specs.Quiet.{rise, rises_of, quiet_pulses, after_quiet}
-use Rattle.pit_8254.specs.Runs.{IsPart, HasRoom}
+use Rattle.device_spec.proofs.Common.{CounterState, PitState, pulse, pulse_all, pulses, rises, pulses_of, counters_apart}
+use Rattle.pit_8254.specs.Common.{rise, rises_of, quiet_pulses, after_quiet, IsPart, HasRoom}
 use Rattle.pit_8254.specs.declared.counting.running.Run.{Run}
 use Rattle.pit_8254.proofs.Quiet.{quietly}
 

@@ -1,11 +1,7 @@
 -- A pulse settles a counter.
 use Rattle.std.proofs.Common.{◌≡◌, ℕ, ◌≤◌, ◌==◌, ◌&&◌, ◌||◌, not, Bool, true, false, cond, Option, Some, None, is_some, inl, inr, refl, sym, subst, ◌∙◌, arith}
-use Rattle.std.proofs.Math.Bool.{and-false}
-use Rattle.std.proofs.lemmas.Bool.{cases_Bool, and_parts, or_parts, true≢false}
-use Rattle.std.proofs.lemmas.Bool.Decides.{nat_tests}
-use Rattle.device_spec.specs.Pit.{Mode, TerminalCount, OneShot, RateGenerator, SquareWave, SoftwareStrobe, HardwareStrobe, Notation, Binary, Decimal, CounterState, first_element, load, count_down, count_to_end, count_to_reload, half_end, count_half, count_to_strobe, pulse_by_mode, pulse}
-use Rattle.pit_8254.specs.Quiet.{least_count, HasCount, is_due}
-use Rattle.pit_8254.specs.Runs.{SettledIn, IsSettled}
+use Rattle.device_spec.proofs.Common.{and-false, cases_Bool, and_parts, or_parts, true≢false, nat_tests, Mode, TerminalCount, OneShot, RateGenerator, SquareWave, SoftwareStrobe, HardwareStrobe, Notation, Binary, Decimal, CounterState, first_element, load, count_down, count_to_end, count_to_reload, half_end, count_half, count_to_strobe, pulse_by_mode, pulse}
+use Rattle.pit_8254.specs.Common.{least_count, HasCount, is_due, SettledIn, IsSettled}
 use Rattle.pit_8254.proofs.Quiet.{low}
 
 pub by_cond : (P : CounterState → Type 0) (b : Bool) (x y : CounterState) → (b ≡ true → P x) → (b ≡ false → P y) → P (cond b x y)

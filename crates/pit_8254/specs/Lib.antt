@@ -2,3 +2,4 @@ pub mod View
 pub mod Quiet
 pub mod Runs
 pub mod NextRise
+pub mod Common

@@ -1,3 +1,4 @@
 pub mod PmcLemmas
 pub mod RowLemmas
 pub mod TableLemmas
+pub mod Common

@@ -1,17 +1,6 @@
 -- Stores of one byte to the registers of the host bridge.
-use Rattle.std.proofs.Common.{◌≡◌, ◌≢◌, ℕ, ◌+◌, ◌<◌, ◌⊎◌, List, [], ◌∷◌, length, set, false, None, ◌∙◌, refl, sym, ap, subst, arith, inl, inr, get_or-set_other, get_or-set_same}
-use Rattle.std.specs.Prelude.{slice_index}
-use Rattle.std.proofs.lemmas.Bool.{cases_lt, cases_eq, ne_eqb}
-use Rattle.board_base.specs.declared.access.Width.TheVariants.{One}
-use Rattle.board_spec.specs.declared.map_change.MapChange.TheVariants.{Store}
-use Rattle.board_spec.specs.Setup.{Setup}
-use Rattle.board_spec.specs.Bits.{merged}
-use Rattle.board_spec.specs.RegisterTable.{reset_byte, writable_bits}
-use Rattle.board_spec.specs.Registers.{changed_byte}
-use Rattle.board_spec.specs.Decode.{Bytes}
-use Rattle.board_spec.specs.RegisterNames.{bridge, fdhc, smram, is_same}
-use Rattle.board_base.proofs.MergedLemmas.{merged-all, merged-none}
-use Rattle.board_spec.proofs.StoreLemmas.{changed_byte-one_same, changed_byte-one_other}
+use Rattle.std.proofs.Common.{◌≡◌, ◌≢◌, ℕ, ◌+◌, ◌<◌, ◌⊎◌, List, [], ◌∷◌, length, set, false, None, ◌∙◌, refl, sym, ap, subst, arith, inl, inr, get_or-set_other, get_or-set_same, slice_index}
+use Rattle.board_prelude.proofs.Common.{cases_lt, cases_eq, ne_eqb, One, Store, Setup, merged, reset_byte, writable_bits, changed_byte, Bytes, bridge, fdhc, smram, is_same, merged-all, merged-none, changed_byte-one_same, changed_byte-one_other}
 use Rattle.pmc_regs.specs.Pmc.{PmcBytes, IsFixedOffset, IsRowsOf, IsPmcOf}
 use Rattle.pmc_regs.proofs.TableLemmas.{header_byte, row_bytes, rows_are, writable_bits-row, reset_byte-header, reset_byte-blank, writable_bits-fixed}
 

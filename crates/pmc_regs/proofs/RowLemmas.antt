@@ -1,13 +1,8 @@
 -- The rows of DRAM in the list of their boundary registers.
-use Rattle.std.proofs.Common.{◌≡◌, ℕ, zero, suc, ◌+◌, ◌*◌, ◌<◌, ◌≤◌, List, [], ◌∷◌, length, Bool, true, Option, Some, None, cond, ◌∙◌, sym, refl, ap, arith, inl, inr}
-use Rattle.std.specs.Prelude.{nat_lt, is_some, slice_index, IsNone, ◌↔◌}
-use Rattle.std.specs.List.{find, position, position_from}
-use Rattle.std.specs.Option.{option_or}
-use Rattle.std.proofs.lemmas.Bool.{cases_lt, lt-ltb, le-ltb, cond-true, cond-false, false≢true}
+use Rattle.std.proofs.Common.{◌≡◌, ℕ, zero, suc, ◌+◌, ◌*◌, ◌<◌, ◌≤◌, List, [], ◌∷◌, length, Bool, true, Option, Some, None, cond, ◌∙◌, sym, refl, ap, arith, inl, inr, nat_lt, is_some, slice_index, IsNone, ◌↔◌}
+use Rattle.board_prelude.proofs.Common.{find, position, option_or, cases_lt, lt-ltb, le-ltb, cond-true, cond-false, false≢true, find-append, Bytes, boundary, top_of, row_of, bridge}
+use Rattle.std.specs.List.{position_from}
 use Rattle.std.proofs.lemmas.Iterator.Adapters.{position_from-zero}
-use Rattle.std.proofs.lemmas.List.Folds.{find-append}
-use Rattle.board_spec.specs.Decode.{Bytes, boundary, top_of, row_of}
-use Rattle.board_spec.specs.RegisterNames.{bridge}
 use Rattle.pmc_regs.specs.Pmc.{IsRowsOf}
 
 -- the numbers of so many rows, from a first one on

@@ -1,12 +1,7 @@
 -- The registers of the host bridge in the table of registers.
-use Rattle.std.proofs.Common.{◌≡◌, ℕ, ◌+◌, ◌<◌, ◌≤◌, ◌⊎◌, List, [], ◌∷◌, length, ◌∙◌, refl, arith, inl, inr, lit<}
-use Rattle.std.specs.Prelude.{map, slice_index}
-use Rattle.std.proofs.lemmas.Bool.{cases_lt}
-use Rattle.board_spec.specs.Setup.{Setup}
-use Rattle.board_spec.specs.RegisterTable.{Line, host_bridge, listed, reset_byte, writable_bits}
-use Rattle.board_spec.specs.Decode.{Bytes}
-use Rattle.board_spec.specs.RegisterNames.{bridge, drb}
-use Rattle.board_spec.proofs.TableLemmas.{listed-past, listed-before, Each, each_below}
+use Rattle.std.proofs.Common.{◌≡◌, ℕ, ◌+◌, ◌<◌, ◌≤◌, ◌⊎◌, List, [], ◌∷◌, length, ◌∙◌, refl, arith, inl, inr, lit<, map, slice_index}
+use Rattle.board_prelude.proofs.Common.{cases_lt, Setup, host_bridge, listed, reset_byte, writable_bits, Bytes, bridge, drb, listed-past, listed-before, Each, each_below}
+use Rattle.board_spec.specs.RegisterTable.{Line}
 use Rattle.pmc_regs.specs.Pmc.{IsFixedOffset, IsRowsOf}
 
 -- ---- the rows

@@ -1,10 +1,6 @@
 //! The fixed DRAM hole, by its control register FDHC (82441FX).
 ghost use Rattle.std.specs.Prelude.{◌≡◌, ◌↔◌, IsNone};
-ghost use Rattle.board_spec.specs.Setup.{Setup};
-ghost use Rattle.board_spec.specs.Bits.{is_bit, merged};
-ghost use Rattle.board_spec.specs.RegisterNames.{fdhc as hole_register};
-ghost use Rattle.board_spec.specs.RegisterTable.{writable_bits};
-ghost use Rattle.board_spec.specs.Decode.{hole_of as hole_by};
+ghost use Rattle.board_prelude.specs.Common.{Setup, is_bit, merged, fdhc as hole_register, writable_bits, hole_of as hole_by};
 
 use board_spec::bits::merged;
 use board_spec::range::{HOLE_AT_15_MIB, HOLE_AT_512_KIB};

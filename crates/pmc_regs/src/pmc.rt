@@ -9,15 +9,7 @@
 //! | 68     | FDHC            | 00h          | C0       | the hole in DRAM, by bits 7 and 6  |
 //! | others | reserved        | 00h          | 00       |                                    |
 ghost use Rattle.std.specs.Prelude.{◌≡◌, ◌≤◌, ◌<◌, ◌↔◌, IsNone, IfSome};
-ghost use Rattle.board_base.specs.declared.access.Width.TheVariants.{One};
-ghost use Rattle.board_spec.specs.declared.map_change.MapChange.TheVariants.{Store};
-ghost use Rattle.board_spec.specs.Setup.{Setup};
-ghost use Rattle.board_spec.specs.Bits.{is_bit};
-ghost use Rattle.board_spec.specs.Ranges.{largest_top};
-ghost use Rattle.board_spec.specs.RegisterTable.{reset_byte};
-ghost use Rattle.board_spec.specs.Registers.{changed_byte};
-ghost use Rattle.board_spec.specs.Decode.{Bytes, top_of as top_by, row_of as row_by, hole_of as hole_by};
-ghost use Rattle.board_spec.specs.RegisterNames.{bridge, fdhc};
+ghost use Rattle.board_prelude.specs.Common.{One, Store, Setup, is_bit, largest_top, reset_byte, changed_byte, Bytes, top_of as top_by, row_of as row_by, hole_of as hole_by, bridge, fdhc};
 ghost use Rattle.pmc_regs.specs.Pmc.{IsPmcOffset, IsFixedOffset, IsPmcOf};
 
 use crate::hole::{fdhc_after, hole_of};

@@ -1,7 +1,6 @@
 //! The rows of DRAM, by their boundary registers DRB0 to DRB7 (82441FX).
 ghost use Rattle.std.specs.Prelude.{◌≡◌, ◌≤◌, ◌<◌, ◌*◌, ◌↔◌, nat_lt, position, IsNone, IfSome};
-ghost use Rattle.board_spec.specs.Decode.{Bytes, top_of as top_by, row_of as row_by};
-ghost use Rattle.board_spec.specs.Ranges.{largest_top, boundary_unit};
+ghost use Rattle.board_prelude.specs.Common.{Bytes, top_of as top_by, row_of as row_by, largest_top, boundary_unit};
 ghost use Rattle.pmc_regs.specs.Pmc.{IsRowsOf};
 
 use board_spec::range::BOUNDARY_UNIT;

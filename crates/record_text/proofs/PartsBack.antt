@@ -1,20 +1,12 @@
 -- What the record of a part names is this part.
 use Rattle.std.proofs.Common.{◌≡◌, zero, suc, Option, Some, None, refl, arith}
-use Rattle.std.proofs.lemmas.Bool.{lt-ltb}
-use Rattle.board_base.specs.declared.target.Dev.{Dev}
+use Rattle.board_prelude.proofs.Common.{lt-ltb, Dev, Area, Target, Denial, Register, Confadd, NoRegister, Reg, Part}
 use Rattle.board_base.specs.declared.target.Dev.TheVariants as devices
-use Rattle.board_base.specs.declared.target.Area.{Area}
 use Rattle.board_base.specs.declared.target.Area.TheVariants as areas
-use Rattle.board_base.specs.declared.target.Target.{Target}
 use Rattle.board_base.specs.declared.target.Target.TheVariants as targets
-use Rattle.board_base.specs.declared.target.Denial.{Denial}
-use Rattle.board_base.specs.declared.target.Denial.TheVariants.{Register, Confadd, NoRegister}
-use Rattle.board_base.specs.declared.target.Reg.{Reg}
-use Rattle.board_spec.specs.declared.event.Part.{Part}
 use Rattle.script_spec.specs.WellFormed.{FitsDevice, FitsTarget, FitsPart}
 use Rattle.board_records.specs.declared.reply.PartRecord.{PartRecord}
-use Rattle.board_records.specs.Numbers.{device_number}
-use Rattle.board_records.specs.Replies.{target_said, area_said, with_denial, part_said, of_part}
+use Rattle.board_records.specs.Common.{device_number, target_said, area_said, with_denial, part_said, of_part}
 use Rattle.record_text.specs.Parts.{device_of, config_of, target_of, denial_of, part_of, area_of}
 
 device_back : (dev : Dev) → FitsDevice dev → device_of (device_number dev) ≡ Some dev

@@ -1,32 +1,14 @@
 -- What the record of a reply says is this reply.
-use Rattle.std.proofs.Common.{◌≡◌, ℕ, ◌<◌, ◌≤◌, ◌^◌, Bool, true, false, Option, Some, None, [], ◌∷◌, length, All, refl, arith, lit<}
-use Rattle.std.specs.Prelude.{IfSome}
-use Rattle.std.proofs.Math.Nat.{pow-le-pow_right}
-use Rattle.std.proofs.lemmas.Bool.{lt-ltb}
-use Rattle.std.proofs.lemmas.List.Elements.{All-head, All-tail}
-use Rattle.board_base.specs.declared.access.Width.{Width}
-use Rattle.board_base.specs.declared.access.Width.TheVariants.{One, Two as TwoBytes, Four as FourBytes}
-use Rattle.board_base.specs.declared.target.Dev.{Dev}
-use Rattle.board_base.specs.declared.target.Dev.TheVariants.{Pit, Clock, Wires, Ata}
-use Rattle.board_base.specs.declared.target.Target.{Target}
-use Rattle.board_base.specs.declared.target.Target.TheVariants.{Device}
-use Rattle.board_base.specs.declared.target.Denial.{Denial}
-use Rattle.board_base.specs.Access.{bytes_of}
-use Rattle.board_spec.specs.declared.event.Event.{Event}
-use Rattle.board_spec.specs.declared.event.Event.TheVariants.{Memory, Wide, Port, Look as LookAt, Ack, Pulses, Time, Wire, Line, BadSector}
-use Rattle.board_spec.specs.declared.event.Parts.{Parts}
-use Rattle.board_spec.specs.declared.event.Parts.TheVariants.{Two, Three, Four}
-use Rattle.board_spec.specs.declared.event.Look.{Look}
-use Rattle.board_spec.specs.declared.event.Reply.{Reply}
-use Rattle.board_spec.specs.declared.event.Reply.TheVariants.{Bus, Parts as InParts, Saw}
-use Rattle.board_spec.specs.Stored.{is_write}
-use Rattle.board_spec.specs.Answer.{outside_answer}
-use Rattle.board_spec.specs.WideParts.{parts_list, parts_of as cut_of}
+use Rattle.std.proofs.Common.{◌≡◌, ℕ, ◌<◌, ◌≤◌, ◌^◌, Bool, true, false, Option, Some, None, [], ◌∷◌, length, All, refl, arith, lit<, IfSome}
+use Rattle.board_prelude.proofs.Common.{pow-le-pow_right, lt-ltb, All-head, All-tail, Width, One, Dev, Pit, Wires, Ata, Target, Device, Denial, bytes_of, Event, Memory, Wide, Port, Ack, Pulses, Time, Wire, Line, BadSector, Parts, Two, Three, Four, Look, Reply, Bus, Saw, is_write, outside_answer, parts_list, parts_of as cut_of}
+use Rattle.board_base.specs.declared.access.Width.TheVariants.{Two as TwoBytes, Four as FourBytes}
+use Rattle.board_base.specs.declared.target.Dev.TheVariants.{Clock}
+use Rattle.board_spec.specs.declared.event.Event.TheVariants.{Look as LookAt}
+use Rattle.board_spec.specs.declared.event.Reply.TheVariants.{Parts as InParts}
 use Rattle.script_spec.specs.WellFormed.{FitsPart, FitsTarget, IsReplyValue, IsBusReply, IsWideReply, IsLookReply, HasShape}
 use Rattle.board_records.specs.declared.reply.AfterStep.{AfterStep}
 use Rattle.board_records.specs.Replies.{record_said, bus_said, wide_said, look_said, blank}
-use Rattle.record_text.specs.Replies.{bus_of, two_of, three_of, four_of, parts_of, wide_of, look_of, cycle_value_of, formed_by, reply_said}
-use Rattle.record_text.specs.Laws.{RecordSaysReply}
+use Rattle.record_text.specs.Common.{bus_of, two_of, three_of, four_of, parts_of, wide_of, look_of, cycle_value_of, formed_by, reply_said, RecordSaysReply}
 use Rattle.record_text.proofs.PartsBack.{part_back, area_back}
 
 -- ---- by the form

@@ -1,13 +1,10 @@
 -- The line of a log that an event and its reply have, both as records.
 use Rattle.std.specs.Prelude.{ℕ, ◌≡◌, ◌≢◌, ◌<◌, ◌≤◌, ◌⊎◌, List, [], ◌∷◌, ◌++◌, length, drop, Option, Some, None}
-use Rattle.board_spec.specs.declared.event.Entry.{Entry}
-use Rattle.board_spec.specs.Text.{line_feed}
-use Rattle.board_spec.specs.LogText.{line_text}
+use Rattle.board_prelude.specs.Common.{Entry, line_feed, line_text}
 use Rattle.script_spec.specs.Numbers.{◌>>=◌}
 use Rattle.board_records.specs.declared.event.EventRecord.{EventRecord}
 use Rattle.board_records.specs.declared.reply.ReplyRecord.{ReplyRecord}
-use Rattle.board_records.specs.Events.{event_said}
-use Rattle.board_records.specs.Statuses.{no_memory, no_event, no_reply, no_room}
+use Rattle.board_records.specs.Common.{event_said, no_memory, no_event, no_reply, no_room}
 use Rattle.record_text.specs.Replies.{reply_said}
 
 -- the entry of a processor, the number of this entry among its processor's, an event and its reply

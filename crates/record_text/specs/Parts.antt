@@ -1,14 +1,9 @@
 -- What one part of a reply's record names: none where a number of it names nothing, or does not fit where it goes.
 use Rattle.std.specs.Prelude.{ℕ, ◌==◌, nat_lt, if◌then◌else◌, Option, Some, None, option_map}
-use Rattle.board_base.specs.declared.target.Dev.{Dev}
+use Rattle.board_prelude.specs.Common.{Dev, Area, Target, Denial, Register, Confadd, NoRegister, Part}
 use Rattle.board_base.specs.declared.target.Dev.TheVariants as devices
-use Rattle.board_base.specs.declared.target.Area.{Area}
 use Rattle.board_base.specs.declared.target.Area.TheVariants as areas
-use Rattle.board_base.specs.declared.target.Target.{Target}
 use Rattle.board_base.specs.declared.target.Target.TheVariants as targets
-use Rattle.board_base.specs.declared.target.Denial.{Denial}
-use Rattle.board_base.specs.declared.target.Denial.TheVariants.{Register, Confadd, NoRegister}
-use Rattle.board_spec.specs.declared.event.Part.{Part}
 use Rattle.script_spec.specs.Numbers.{◌>>=◌}
 use Rattle.board_records.specs.declared.reply.PartRecord.{PartRecord}
 use Rattle.board_records.specs.Numbers.{dram_target, shadow_target, smram_target, rom_target, card_target, device_target, config_target, abort_target, register_denial, confadd_denial, no_register_denial}

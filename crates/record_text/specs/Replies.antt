@@ -1,9 +1,8 @@
 -- Which reply a record says: none where a number of it names nothing, or does not fit where it goes. What a reply has no
 -- use for is not read, nor what stands after the step.
 use Rattle.std.specs.Prelude.{ℕ, ◌==◌, ◌^◌, nat_lt, nat_le, ◌&&◌, if◌then◌else◌, Option, Some, None}
-use Rattle.board_spec.specs.declared.event.Parts.{Parts}
+use Rattle.board_prelude.specs.Common.{Parts, Reply}
 use Rattle.board_spec.specs.declared.event.Parts.TheVariants as parts
-use Rattle.board_spec.specs.declared.event.Reply.{Reply}
 use Rattle.board_spec.specs.declared.event.Reply.TheVariants as replies
 use Rattle.script_spec.specs.Numbers.{◌>>=◌}
 use Rattle.board_records.specs.declared.reply.ReplyRecord.{ReplyRecord}

@@ -1,47 +1,12 @@
 -- No answer depends on the looks and the numbers before it: each definition over histories gives the same without them.
-use Rattle.std.proofs.Common.{◌≡◌, ℕ, zero, suc, ◌*◌, ◌+◌, ◌==◌, nat_lt, Bool, true, List, [], ◌∷◌, ◌++◌, length, refl, sym, ◌∙◌, ap, inl, inr, Option, Some, None}
-use Rattle.std.specs.Prelude.{unwrap_or, option_map, option_and_then, if◌then◌else◌}
-use Rattle.std.specs.Option.{option_to_list, option_map_or}
-use Rattle.std.proofs.lemmas.Bool.{cases_Bool}
+use Rattle.std.proofs.Common.{◌≡◌, ℕ, zero, suc, ◌*◌, ◌+◌, ◌==◌, nat_lt, Bool, true, List, [], ◌∷◌, ◌++◌, length, refl, sym, ◌∙◌, ap, inl, inr, Option, Some, None, unwrap_or, option_map, option_and_then, if◌then◌else◌}
+use Rattle.board_prelude.proofs.Common.{option_to_list, option_map_or, cases_Bool, WideAccess, PortAccess, Kind, Width, Reg, Target, Dram, Shadow, Smram, Rom, Card, Device, Config, Abort, Dev, Pic0, Pic1, Pit, System, Keyboard, Elcr, Ata, Wires, Vector, Spurious, largest_of, Triggers, triggers_at_reset, trigger_byte, PitState, out_of, pulses, port_read, reset as timer_at_reset, Clock, after_reset as clock_after_reset, read_value, Disk, read_of, Pair, pair_at_reset, pair_after_lines, port_byte, answer_of, Event, Memory, Wide, Port, Ack, Pulses, Time, Wire, Line, BadSector, Look, Parts as PartList, Reply, Bus, Saw, Entry, MapChange, Setup, installed, wide, pirq, control_written, control_after, resets_hard, reset_control, is_hard_reset, address_written, kept_address, config_address, config_store, register_change, byte_with, byte_of, touches_map, map_change_of, map_writes_of, Cell, DramCell, CardCell, entry_put, stored_of, dram_byte, expansion_byte, parts_of, wire_set, wire_of, line_set, irq_of, triggers_after, triggers_of, SystemPort, system_at_reset, system_after, system_of, timer_after, timer_of, clock_after, clock_of, disk_after, disk_with, disk_of, pirqs, levels_with, levels_of, elcr_of, pair_after, pair_pulsed, pair_reset_or_after, pair_stepped, pair_of, device_value, system_value, who_answered, IsOfMemory, SameDevices, MemoryLeavesDevices, IsAnswer, memory_answer, part_answer, wide_value, IsWideAnswer, port_answer, port_value, value_at, IsLookAnswer, map-same, SameDrivers, levels-same, disk_of-same}
 use Rattle.board_base.specs.declared.access.Access.{Access}
-use Rattle.board_base.specs.declared.access.WideAccess.{WideAccess}
-use Rattle.board_base.specs.declared.access.PortAccess.{PortAccess}
-use Rattle.board_base.specs.declared.access.Kind.{Kind}
-use Rattle.board_base.specs.declared.access.Width.{Width}
-use Rattle.board_base.specs.declared.target.Reg.{Reg}
-use Rattle.board_base.specs.declared.target.Target.{Target}
-use Rattle.board_base.specs.declared.target.Target.TheVariants.{Dram, Shadow, Smram, Rom, Card, Device, Config, Abort}
-use Rattle.board_base.specs.declared.target.Dev.{Dev}
-use Rattle.board_base.specs.declared.target.Dev.TheVariants.{Confadd, Reset, Pic0, Pic1, Pit, System, Keyboard, Clock as ClockChip, Elcr, Ata, Wires, Vector, Spurious}
-use Rattle.board_base.specs.Access.{largest_of}
-use Rattle.device_spec.specs.Elcr.{Triggers, triggers_at_reset, trigger_byte}
-use Rattle.device_spec.specs.Pit.{PitState, out_of, pulses, port_read, reset as timer_at_reset}
-use Rattle.device_spec.specs.Clock.{Clock, after_reset as clock_after_reset, read_value}
-use Rattle.device_spec.specs.Ata.State.{Disk}
-use Rattle.device_spec.specs.Ata.Steps.{after_reset as disk_after_reset, read_of}
-use Rattle.device_spec.specs.Pair.{Pair, pair_at_reset, pair_after_lines, port_byte, answer_of}
-use Rattle.board_spec.specs.declared.event.Event.{Event}
-use Rattle.board_spec.specs.declared.event.Event.TheVariants.{Memory, Wide, Port, Look as LookAt, Ack, Pulses, Time, Wire, Line, BadSector}
-use Rattle.board_spec.specs.declared.event.Look.{Look}
-use Rattle.board_spec.specs.declared.event.Parts.{Parts as PartList}
-use Rattle.board_spec.specs.declared.event.Reply.{Reply}
-use Rattle.board_spec.specs.declared.event.Reply.TheVariants.{Bus, Parts, Saw}
-use Rattle.board_spec.specs.declared.event.Entry.{Entry}
-use Rattle.board_spec.specs.declared.map_change.MapChange.{MapChange}
-use Rattle.board_spec.specs.Setup.{Setup, installed}
-use Rattle.board_spec.specs.Bits.{wide}
-use Rattle.board_spec.specs.RegisterNames.{pirq}
-use Rattle.board_spec.specs.Registers.{control_written, control_after, resets_hard, reset_control, is_hard_reset, address_written, kept_address, config_address, config_store, register_change, byte_with, byte_of}
-use Rattle.board_spec.specs.MapWrites.{touches_map, map_change_of, map_writes_of}
-use Rattle.board_spec.specs.Stored.{Cell, DramCell, CardCell, entry_put, stored_of, dram_byte, expansion_byte}
-use Rattle.board_spec.specs.WideParts.{parts_of}
-use Rattle.board_spec.specs.Devices.{wire_set, wire_of, line_set, irq_of, triggers_after, triggers_of, SystemPort, system_at_reset, system_after, system_of, timer_after, timer_of, clock_after, clock_of, disk_after, disk_with, disk_of}
-use Rattle.board_spec.specs.Interrupts.{pirqs, levels_with, levels_of, elcr_of, pair_after, pair_pulsed, pair_reset_or_after, pair_stepped, pair_of, device_value, system_value, who_answered}
-use Rattle.board_spec.specs.DeviceLaws.{IsOfMemory, SameDevices, MemoryLeavesDevices}
-use Rattle.board_spec.specs.Answer.{IsAnswer, memory_answer, part_answer, wide_value, IsWideAnswer, port_answer, port_value, value_at, IsLookAnswer}
-use Rattle.board_spec.proofs.DeviceAlone.{map-same, SameDrivers, levels-same, disk_of-same}
-use Rattle.run_order.specs.Placing.{is_look}
-use Rattle.run_order.specs.PhaseRun.{bare, AnswersAreBlind}
+use Rattle.board_base.specs.declared.target.Dev.TheVariants.{Confadd, Reset, Clock as ClockChip}
+use Rattle.device_spec.specs.Ata.Steps.{after_reset as disk_after_reset}
+use Rattle.board_spec.specs.declared.event.Event.TheVariants.{Look as LookAt}
+use Rattle.board_spec.specs.declared.event.Reply.TheVariants.{Parts}
+use Rattle.run_order.specs.Common.{is_look, bare, AnswersAreBlind}
 
 -- ---- an event that is a look
 

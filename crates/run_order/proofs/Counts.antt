@@ -1,19 +1,11 @@
 -- How many looks there are, and how many entries each has.
-use Rattle.std.proofs.Common.{◌≡◌, ℕ, zero, suc, ◌+◌, ◌-◌, ◌^◌, ◌<◌, ◌≤◌, ◌==◌, true, false, List, [], ◌∷◌, ◌++◌, length, map, take, get_or, set, All, ◌≢◌, refl, sym, ◌∙◌, ap, subst, arith, inl, inr}
-use Rattle.std.specs.Prelude.{slice_index, reverse}
-use Rattle.std.proofs.lemmas.Bool.{cases_Bool, cases_eq}
-use Rattle.std.proofs.lemmas.Bool.Decides.{nat_tests}
-use Rattle.std.proofs.lemmas.List.{take_more, map-append, length-map, get_or-set_other, reverse-append, length-reverse}
-use Rattle.std.proofs.lemmas.Grind.{get_or-set_at}
-use Rattle.std.proofs.lemmas.List.Elements.{All-cons, All-head, All-tail}
-use Rattle.board_spec.specs.declared.event.Entry.{Entry}
-use Rattle.board_spec.specs.Legal.{entries_by}
+use Rattle.std.proofs.Common.{◌≡◌, ℕ, zero, suc, ◌+◌, ◌-◌, ◌^◌, ◌<◌, ◌≤◌, ◌==◌, true, false, List, [], ◌∷◌, ◌++◌, length, map, take, get_or, set, All, ◌≢◌, refl, sym, ◌∙◌, ap, subst, arith, inl, inr, slice_index, reverse}
+use Rattle.board_prelude.proofs.Common.{cases_Bool, cases_eq, nat_tests, take_more, map-append, length-map, get_or-set_other, reverse-append, length-reverse, get_or-set_at, All-cons, All-head, All-tail, Entry, entries_by}
 use Rattle.run_order.specs.declared.done.Done.{Done}
 use Rattle.run_order.specs.declared.done.Done.TheVariants.{Went, Looked}
 use Rattle.run_order.specs.declared.entry.RunEntry.{RunEntry}
-use Rattle.run_order.specs.Over.{IsWithin, entry_of, over}
+use Rattle.run_order.specs.Common.{IsPlacedBelow, entry_of, over, Order, IsOrder, looks_in, all_looks_in}
 use Rattle.run_order.proofs.Over.{within_more}
-use Rattle.run_order.specs.Room.{Order, IsOrder, looks_in, all_looks_in}
 
 looks_append : (xs ys : List Done) → looks_in (xs ++ ys) ≡ looks_in xs + looks_in ys
 looks_append [] ys = omega arith
@@ -87,7 +79,7 @@ counts_more counts actor other entry before eight small own was = elim (cases_eq
 -- an entry more
 pub order_more : (items items' : List RunEntry) (spare bus capacity capacity' : ℕ) (counts : List ℕ) (actor place : ℕ) (entry : RunEntry) (bus' : ℕ)
     → IsOrder (record { entries = reverse items; spare = spare; bus = bus }) capacity counts → items' ≡ items ++ entry ∷ [] → capacity ≤ capacity' → length counts ≡ 8
-    → place ≡ actor → actor < 8 → ((of_bus : List Entry) → (entry_of of_bus entry).actor ≡ actor) → IsWithin bus' entry → bus ≤ bus' → bus' ≤ bus + 1 → 1 ≤ spare
+    → place ≡ actor → actor < 8 → ((of_bus : List Entry) → (entry_of of_bus entry).actor ≡ actor) → IsPlacedBelow bus' entry → bus ≤ bus' → bus' ≤ bus + 1 → 1 ≤ spare
     → IsOrder (record { entries = reverse items'; spare = spare - 1; bus = bus' }) capacity' (set counts place (slice_index counts place + 1))
 order_more items items' spare bus capacity capacity' counts actor place entry bus' kept more wider eight same below own within least next some =
     let old : List RunEntry = reverse items in
@@ -97,7 +89,7 @@ order_more items items' spare bus capacity capacity' counts actor place entry bu
       room = omega (arith, kept.room, some, wider);
       few = omega (arith, kept.few, some);
       fewer = omega (arith, kept.fewer, next);
-      within = All-cons (IsWithin bus') entry old within (λ k d less. within_more bus bus' least (get_or old k d) (kept.within k d less));
+      within = All-cons (IsPlacedBelow bus') entry old within (λ k d less. within_more bus bus' least (get_or old k d) (kept.within k d less));
       counted = λ of_bus other small. counts_more counts actor other (entry_of of_bus entry) (over of_bus old) eight small (own of_bus) (kept.counted of_bus other small);
     })
 

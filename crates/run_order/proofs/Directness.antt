@@ -1,20 +1,10 @@
 -- Each look is in its place.
 use Rattle.std.proofs.Common.{◌≡◌, ℕ, ◌+◌, ◌<◌, ◌≤◌, ◌==◌, nat_le, nat_lt, true, false, List, [], ◌∷◌, ◌++◌, length, All, refl, sym, ◌∙◌, ap, subst, arith, inl, inr}
-use Rattle.std.proofs.lemmas.Bool.{cases_Bool}
-use Rattle.std.proofs.lemmas.Bool.Decides.{nat_tests}
-use Rattle.board_spec.specs.declared.event.Event.{Event}
-use Rattle.board_spec.specs.declared.event.Event.TheVariants.{Memory, Wide, Port, Look as LookAt, Ack, Pulses, Time, Wire, Line, BadSector}
-use Rattle.board_spec.specs.declared.event.Reply.{Reply}
-use Rattle.board_spec.specs.declared.event.Reply.TheVariants.{Saw}
-use Rattle.board_spec.specs.declared.event.Entry.{Entry}
-use Rattle.board_spec.specs.Setup.{Setup}
-use Rattle.board_spec.specs.MapWrites.{map_writes_of, version_of}
-use Rattle.board_spec.specs.Legal.{IsNext, IsLegal, next_entry}
+use Rattle.board_prelude.proofs.Common.{cases_Bool, nat_tests, Event, Memory, Wide, Port, Ack, Pulses, Time, Wire, Line, BadSector, Reply, Saw, Entry, Setup, map_writes_of, version_of, IsNext, IsLegal, next_entry}
+use Rattle.board_spec.specs.declared.event.Event.TheVariants.{Look as LookAt}
 use Rattle.run_order.specs.declared.done.Done.{Done}
 use Rattle.run_order.specs.declared.done.Done.TheVariants.{Went, Looked}
-use Rattle.run_order.specs.Placing.{is_look, with_looks, left_after, with_all_looks, all_left, done_by, without_first, passed, placed}
-use Rattle.run_order.specs.Places.{without_lower, IsPlaceOf, IsInPlace, AreInPlace}
-use Rattle.run_order.specs.PhaseRun.{bare, AnswersAreBlind}
+use Rattle.run_order.specs.Common.{is_look, with_looks, left_after, with_all_looks, all_left, done_by, without_first, passed, placed, without_lower, IsPlaceOf, IsInPlace, AreInPlace, bare, AnswersAreBlind}
 use Rattle.run_order.proofs.Histories.{onto, version_step}
 use Rattle.run_order.proofs.Blindness.{writes_bare}
 use Rattle.run_order.proofs.Fitting.{Headed, Fits, Late}

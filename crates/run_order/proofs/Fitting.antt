@@ -1,21 +1,11 @@
 -- A processor's statements fit into the history of the bus: at each place its looks that are due there are right.
-use Rattle.std.proofs.Common.{◌≡◌, ℕ, ◌+◌, ◌≤◌, ◌==◌, nat_le, false, List, [], ◌∷◌, length, refl, sym, ◌∙◌, ap, subst, arith, inl, inr}
-use Rattle.std.specs.Prelude.{MatchBool}
-use Rattle.std.proofs.lemmas.Bool.{cases_Bool}
-use Rattle.std.proofs.lemmas.Bool.Decides.{nat_tests}
-use Rattle.board_spec.specs.declared.event.Event.{Event}
+use Rattle.std.proofs.Common.{◌≡◌, ℕ, ◌+◌, ◌≤◌, ◌==◌, nat_le, false, List, [], ◌∷◌, length, refl, sym, ◌∙◌, ap, subst, arith, inl, inr, MatchBool}
+use Rattle.board_prelude.proofs.Common.{cases_Bool, nat_tests, Event, Saw, Entry, Setup, version_of, IsAnswer, entries_by}
 use Rattle.board_spec.specs.declared.event.Event.TheVariants.{Look as LookAt}
-use Rattle.board_spec.specs.declared.event.Reply.TheVariants.{Saw}
-use Rattle.board_spec.specs.declared.event.Entry.{Entry}
-use Rattle.board_spec.specs.Setup.{Setup}
-use Rattle.board_spec.specs.MapWrites.{version_of}
-use Rattle.board_spec.specs.Answer.{IsAnswer}
-use Rattle.board_spec.specs.Legal.{entries_by}
 use Rattle.run_order.specs.declared.done.Done.{Done}
 use Rattle.run_order.specs.declared.done.Done.TheVariants.{Went, Looked}
 use Rattle.run_order.proofs.Histories.{onto, begins_before, onto_begins, other_entry, own_later, same_place, version_step}
-use Rattle.run_order.specs.Placing.{is_look}
-use Rattle.run_order.specs.Trace.{Begins}
+use Rattle.run_order.specs.Common.{is_look, Begins}
 use Rattle.run_order.proofs.Following.{Follows}
 
 -- the looks at the front that are due after a history are right there, and K holds of what is left

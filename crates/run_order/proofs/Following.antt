@@ -1,20 +1,10 @@
 -- A processor's statements of a phase in the bus's whole history: where its calls stand, and between which versions its looks.
 use Rattle.std.specs.Prelude.{ℕ, ◌≡◌, ◌≤◌, ◌<◌, false, List, [], ◌∷◌, length, map, All}
-use Rattle.board_spec.specs.declared.event.Event.{Event}
+use Rattle.board_prelude.proofs.Common.{Event, Look, Saw, Entry, Statement, Setup, version_of, IsAnswer, entries_by, IsLegal, events_by}
 use Rattle.board_spec.specs.declared.event.Event.TheVariants.{Look as LookAt}
-use Rattle.board_spec.specs.declared.event.Look.{Look}
-use Rattle.board_spec.specs.declared.event.Reply.TheVariants.{Saw}
-use Rattle.board_spec.specs.declared.event.Entry.{Entry}
-use Rattle.board_spec.specs.declared.event.Statement.{Statement}
-use Rattle.board_spec.specs.Setup.{Setup}
-use Rattle.board_spec.specs.MapWrites.{version_of}
-use Rattle.board_spec.specs.Answer.{IsAnswer}
-use Rattle.board_spec.specs.Legal.{entries_by, IsLegal}
-use Rattle.board_spec.specs.Orders.{events_by}
 use Rattle.run_order.specs.declared.done.Done.{Done}
 use Rattle.run_order.specs.declared.done.Done.TheVariants.{Went, Looked}
-use Rattle.run_order.specs.Placing.{is_look, event_of, done_by}
-use Rattle.run_order.specs.Trace.{Begins}
+use Rattle.run_order.specs.Common.{is_look, event_of, done_by, Begins}
 use Rattle.run_order.proofs.Histories.{onto}
 
 -- what a look saw is the answer after every beginning of the history that has as many map writes

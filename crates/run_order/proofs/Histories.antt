@@ -1,15 +1,6 @@
 -- Beginnings of a history, and a processor's entries in it.
-use Rattle.std.proofs.Common.{◌≡◌, ℕ, ◌+◌, ◌<◌, ◌≤◌, ◌==◌, true, false, List, [], ◌∷◌, ◌++◌, length, refl, sym, ◌∙◌, ap, subst, arith, append_assoc, Option, Some, None, inl, inr}
-use Rattle.std.specs.Option.{option_to_list}
-use Rattle.std.specs.Prelude.{reverse}
-use Rattle.std.proofs.lemmas.List.{reverse-append}
-use Rattle.std.proofs.lemmas.Bool.{cases_Bool}
-use Rattle.std.proofs.lemmas.Bool.Decides.{nat_tests}
-use Rattle.board_spec.specs.declared.event.Entry.{Entry}
-use Rattle.board_spec.specs.declared.map_change.MapChange.{MapChange}
-use Rattle.board_spec.specs.Setup.{Setup}
-use Rattle.board_spec.specs.MapWrites.{version_of, map_change_of, map_writes_of}
-use Rattle.board_spec.specs.Legal.{entries_by}
+use Rattle.std.proofs.Common.{◌≡◌, ℕ, ◌+◌, ◌<◌, ◌≤◌, ◌==◌, true, false, List, [], ◌∷◌, ◌++◌, length, refl, sym, ◌∙◌, ap, subst, arith, append_assoc, Option, Some, None, inl, inr, reverse}
+use Rattle.board_prelude.proofs.Common.{option_to_list, reverse-append, cases_Bool, nat_tests, Entry, MapChange, Setup, version_of, map_change_of, map_writes_of, entries_by}
 use Rattle.run_order.specs.Trace.{Begins}
 
 -- what comes later, the oldest first, put before a list with the newest first

@@ -14,3 +14,4 @@ pub mod Steps
 pub mod Traces
 pub mod Unlooked
 pub mod Wholes
+pub mod Common

@@ -1,11 +1,10 @@
 -- The looks of one processor after another.
 use Rattle.std.proofs.Common.{◌≡◌, ℕ, suc, ◌+◌, ◌<◌, ◌≤◌, List, [], ◌∷◌, ◌++◌, length, take, drop, get_or, set, refl, sym, ◌∙◌, ap, arith}
-use Rattle.std.proofs.lemmas.List.{take_more, drop_more, drop-set-lt, map-append, length-set, take_all, drop_all}
+use Rattle.board_prelude.proofs.Common.{take_more, drop_more, map-append, length-set, take_all, drop_all, Entry}
+use Rattle.std.proofs.lemmas.List.{drop-set-lt}
 use Rattle.std.proofs.Math.Seq.{take-suc-set}
-use Rattle.board_spec.specs.declared.event.Entry.{Entry}
 use Rattle.run_order.specs.declared.done.Done.{Done}
-use Rattle.run_order.specs.Placing.{with_looks, left_after, with_all_looks, all_left}
-use Rattle.run_order.specs.Room.{looks_in, all_looks_in}
+use Rattle.run_order.specs.Common.{with_looks, left_after, with_all_looks, all_left, looks_in, all_looks_in}
 use Rattle.run_order.proofs.Counts.{one_of, count_set}
 
 -- the looks of the first `k` processors have entered: `old` and `before` were there first, and `rests` and `now` are there now

@@ -1,20 +1,8 @@
 -- A phase that was placed is whole.
-use Rattle.std.proofs.Common.{◌≡◌, ℕ, suc, ◌+◌, ◌<◌, ◌≤◌, ◌==◌, Bool, true, false, List, [], ◌∷◌, ◌++◌, map, length, filter, take, drop, refl, sym, ◌∙◌, ap, subst, arith, inl, inr}
-use Rattle.std.specs.Prelude.{reverse, if◌then◌else◌}
-use Rattle.std.proofs.lemmas.Bool.{cases_Bool}
-use Rattle.std.proofs.lemmas.Bool.Decides.{nat_tests}
-use Rattle.std.proofs.lemmas.List.{append-nil, reverse-append, reverse-reverse, map-append, append_cancel_left, length-map, length-reverse, length-take, take_all, drop_all, take-append-le, drop-append-le}
-use Rattle.std.proofs.lemmas.List.Elements.{filter-append}
-use Rattle.board_spec.specs.declared.event.Event.{Event}
-use Rattle.board_spec.specs.declared.event.Entry.{Entry}
-use Rattle.board_spec.specs.declared.event.Statement.{Statement}
-use Rattle.board_spec.specs.Setup.{Setup}
-use Rattle.board_spec.specs.MapWrites.{version_of}
-use Rattle.board_spec.specs.Legal.{IsLegal}
-use Rattle.board_spec.specs.Orders.{statement_of, statements_of, events_by, IsWholePhase, HasPhases}
+use Rattle.std.proofs.Common.{◌≡◌, ℕ, suc, ◌+◌, ◌<◌, ◌≤◌, ◌==◌, Bool, true, false, List, [], ◌∷◌, ◌++◌, map, length, filter, take, drop, refl, sym, ◌∙◌, ap, subst, arith, inl, inr, reverse, if◌then◌else◌}
+use Rattle.board_prelude.proofs.Common.{cases_Bool, nat_tests, append-nil, reverse-append, reverse-reverse, map-append, append_cancel_left, length-map, length-reverse, length-take, take_all, drop_all, take-append-le, drop-append-le, filter-append, Event, Entry, Statement, Setup, version_of, IsLegal, statement_of, statements_of, events_by, IsWholePhase, HasPhases}
 use Rattle.run_order.specs.declared.done.Done.{Done}
-use Rattle.run_order.specs.Placing.{event_of, placed, done_by}
-use Rattle.run_order.specs.PhaseRun.{bare, IsPlaced, AnswersAreBlind}
+use Rattle.run_order.specs.Common.{event_of, placed, done_by, bare, IsPlaced, AnswersAreBlind}
 use Rattle.run_order.proofs.Histories.{onto, onto_is}
 use Rattle.run_order.proofs.Following.{IsHandOver}
 use Rattle.run_order.proofs.Fitting.{Fits, late_by, fits}

@@ -1,19 +1,9 @@
 -- A phase that was run hands over what the law of the places asks.
-use Rattle.std.proofs.Common.{◌≡◌, ℕ, ◌+◌, ◌<◌, ◌≤◌, ◌==◌, false, List, [], ◌∷◌, ◌++◌, map, length, All, refl, sym, ◌∙◌, ap, subst, arith, inl, inr}
-use Rattle.std.specs.Prelude.{reverse}
-use Rattle.std.proofs.lemmas.Bool.{cases_lt}
-use Rattle.std.proofs.lemmas.Bool.Decides.{nat_tests}
-use Rattle.std.proofs.lemmas.List.{append-nil, reverse-reverse}
-use Rattle.std.proofs.lemmas.List.Elements.{All-head, All-tail}
-use Rattle.board_spec.specs.declared.event.Entry.{Entry}
-use Rattle.board_spec.specs.declared.event.Statement.{Statement}
-use Rattle.board_spec.specs.MapWrites.{version_of}
-use Rattle.board_spec.specs.Legal.{IsLegal}
-use Rattle.board_spec.specs.Orders.{events_by}
+use Rattle.std.proofs.Common.{◌≡◌, ℕ, ◌+◌, ◌<◌, ◌≤◌, ◌==◌, false, List, [], ◌∷◌, ◌++◌, map, length, All, refl, sym, ◌∙◌, ap, subst, arith, inl, inr, reverse}
+use Rattle.board_prelude.proofs.Common.{cases_lt, nat_tests, append-nil, reverse-reverse, All-head, All-tail, Entry, Statement, version_of, IsLegal, events_by}
 use Rattle.run_order.specs.declared.done.Done.{Done}
-use Rattle.run_order.specs.Placing.{event_of, done_by}
+use Rattle.run_order.specs.Common.{event_of, done_by, IsWork, AnswersAreBlind, PhaseRuns}
 use Rattle.run_order.proofs.Following.{Follows}
-use Rattle.run_order.specs.PhaseRun.{IsWork, AnswersAreBlind, PhaseRuns}
 use Rattle.run_order.proofs.Histories.{onto, onto_is}
 use Rattle.run_order.proofs.Traces.{follows}
 use Rattle.run_order.proofs.Phases.{phase_placed}

@@ -1,15 +1,9 @@
 -- One entry of the bus after another.
 use Rattle.std.proofs.Common.{◌≡◌, ℕ, zero, suc, ◌+◌, ◌-◌, ◌<◌, ◌≤◌, ◌==◌, true, false, List, [], ◌∷◌, length, All, drop, get_or, set, refl, sym, ◌∙◌, ap, subst, arith}
-use Rattle.std.proofs.lemmas.Bool.Decides.{nat_tests}
-use Rattle.std.proofs.lemmas.List.{drop_more, drop_all, length-map, length-set, get_or-drop, get_or_default}
-use Rattle.std.proofs.lemmas.List.Elements.{All-get_or}
-use Rattle.board_spec.specs.declared.event.Entry.{Entry}
+use Rattle.board_prelude.proofs.Common.{nat_tests, drop_more, drop_all, length-map, length-set, get_or-drop, get_or_default, All-get_or, Entry, next_entry}
 use Rattle.run_order.specs.declared.done.Done.{Done}
 use Rattle.run_order.specs.declared.done.Done.TheVariants.{Went, Looked}
-use Rattle.board_spec.specs.Legal.{next_entry}
-use Rattle.run_order.specs.Over.{nowhere}
-use Rattle.run_order.specs.Placing.{left_after, with_all_looks, all_left, done_by, without_first, passed, noted, placed}
-use Rattle.run_order.specs.Room.{looks_in, all_looks_in}
+use Rattle.run_order.specs.Common.{nowhere, left_after, with_all_looks, all_left, done_by, without_first, passed, noted, placed, looks_in, all_looks_in}
 use Rattle.run_order.proofs.Counts.{count_set}
 
 pub done_at : (rests : List (List Done)) (first k : ℕ) → done_by first (first + k) rests ≡ get_or rests k []

@@ -1,30 +1,17 @@
 -- What the clauses of a worker's calls say is what the law of the places asks.
 use Rattle.std.proofs.Common.{◌≡◌, ℕ, ◌+◌, ◌-◌, ◌≤◌, Bool, List, [], ◌∷◌, ◌++◌, length, refl, sym, ◌∙◌, ap, subst, arith, inl, inr, append_assoc, length-append, ⊎_elim}
-use Rattle.std.specs.Option.{option_to_list}
-use Rattle.board_base.specs.declared.access.Kind.{Kind}
-use Rattle.board_base.specs.declared.target.Area.{Area}
+use Rattle.board_prelude.proofs.Common.{option_to_list, Kind, Area, Look, Entry, MapChange, Setup, IsCardList, byte_of, map_change_of, map_writes_of, version_of, registers_after, Bytes, area_of, IsSpan, SameMapBytes, map_writes_decide, map_bytes_decide}
 use Rattle.board_spec.specs.declared.event.Event.TheVariants.{Look as LookAt}
-use Rattle.board_spec.specs.declared.event.Look.{Look}
-use Rattle.board_spec.specs.declared.event.Entry.{Entry}
-use Rattle.board_spec.specs.declared.map_change.MapChange.{MapChange}
-use Rattle.board_spec.specs.Setup.{Setup, IsCardList}
-use Rattle.board_spec.specs.Registers.{byte_of}
-use Rattle.board_spec.specs.MapWrites.{map_change_of, map_writes_of, version_of, registers_after}
-use Rattle.board_spec.specs.Decode.{Bytes, area_of}
-use Rattle.board_spec.specs.FlatMap.{IsSpan}
-use Rattle.board_spec.specs.Laws.{SameMapBytes}
-use Rattle.board_spec.proofs.MapWriteLaws.{map_writes_decide}
-use Rattle.board_spec.proofs.MapByteLaws.{map_bytes_decide}
 use Rattle.run_order.specs.declared.done.Done.{Done}
 use Rattle.run_order.specs.declared.done.Done.TheVariants.{Went, Looked}
 use Rattle.run_order.proofs.Following.{IsRight, IsCall, Follows}
-use Rattle.run_order.specs.Trace.{Begins, Extends, IsLookOf, IsDone, IsClosed}
+use Rattle.run_order.specs.Trace.{Begins, HasMoreWrites, IsLookOf, IsDone, IsClosed}
 use Rattle.run_order.proofs.Histories.{onto, begins_before, begins_trans}
 
-extends_trans : (first middle last : List MapChange) → Extends first middle → Extends middle last → Extends first last
+extends_trans : (first middle last : List MapChange) → HasMoreWrites first middle → HasMoreWrites middle last → HasMoreWrites first last
 extends_trans first middle last a b = (b.0 ++ a.0, b.1 ∙ (ap (λ (h : List MapChange). b.0 ++ h) a.1 ∙ sym (append_assoc b.0 a.0 first)))
 
-extends_length : (shorter longer : List MapChange) → Extends shorter longer → length shorter ≤ length longer
+extends_length : (shorter longer : List MapChange) → HasMoreWrites shorter longer → length shorter ≤ length longer
 extends_length shorter longer e = omega (arith, ap length e.1 ∙ length-append e.0 shorter)
 
 -- two ends of one list that are as long are one
@@ -34,7 +21,7 @@ same_end [] (y ∷ ys) shorter other e n = absurd (omega (arith, n, ap length e,
 same_end (x ∷ xs) [] shorter other e n = absurd (omega (arith, n, ap length e, length-append xs shorter))
 same_end (x ∷ xs) (y ∷ ys) shorter other e n = same_end xs ys shorter other (cc e) n
 
-writes_begin : (setup : Setup) (more before : List Entry) → Extends (map_writes_of setup before) (map_writes_of setup (more ++ before))
+writes_begin : (setup : Setup) (more before : List Entry) → HasMoreWrites (map_writes_of setup before) (map_writes_of setup (more ++ before))
 unfolding map_writes_of
 writes_begin setup [] before = ([], refl)
 writes_begin setup (entry ∷ more) before =
@@ -42,8 +29,8 @@ writes_begin setup (entry ∷ more) before =
     let change : List MapChange = option_to_list (map_change_of setup (more ++ before) entry.event) in
     (change ++ rest.0, ap (λ (ws : List MapChange). change ++ ws) rest.1 ∙ sym (append_assoc change rest.0 (map_writes_of setup before)))
 
-writes_extend : (setup : Setup) (before whole : List Entry) → Begins before whole → Extends (map_writes_of setup before) (map_writes_of setup whole)
-writes_extend setup before whole b = subst (λ (h : List Entry). Extends (map_writes_of setup before) (map_writes_of setup h)) (sym b.1) (writes_begin setup b.0 before)
+writes_extend : (setup : Setup) (before whole : List Entry) → Begins before whole → HasMoreWrites (map_writes_of setup before) (map_writes_of setup whole)
+writes_extend setup before whole b = subst (λ (h : List Entry). HasMoreWrites (map_writes_of setup before) (map_writes_of setup h)) (sym b.1) (writes_begin setup b.0 before)
 
 -- a span of one state of the registers is one of each state with the same map bytes
 span_moves : (setup : Setup) (bytes other : Bytes) → IsCardList setup.cards → SameMapBytes setup bytes other → (addr : ℕ) (kind : Kind) (smm : Bool) (lo hi : ℕ) (area : Area)
@@ -60,7 +47,7 @@ span_moves setup bytes other cards same addr kind smm lo hi area span =
     }
 
 module _ (setup : Setup) (cards : IsCardList setup.cards) (whole : List Entry) (actor : ℕ) (opened : List Entry) where
-  right : (known : List MapChange) (kind : Kind) (addr : ℕ) (smm : Bool) (look : Look) → IsLookOf setup known kind addr smm look → Extends known (map_writes_of setup whole)
+  right : (known : List MapChange) (kind : Kind) (addr : ℕ) (smm : Bool) (look : Look) → IsLookOf setup known kind addr smm look → HasMoreWrites known (map_writes_of setup whole)
       → IsRight setup whole (LookAt kind addr smm) look
   right known kind addr smm look is e before b version =
       let part = writes_extend setup before whole b in
@@ -71,7 +58,7 @@ module _ (setup : Setup) (cards : IsCardList setup.cards) (whole : List Entry) (
 
   -- what a worker did leads on to what it still has to do
   pub follows_on : (done : List Done) (seen : List Entry) (known : List MapChange) (items : List Done) → IsDone setup actor opened done seen known
-      → Begins seen whole → Extends known (map_writes_of setup whole) → Follows setup whole actor seen (length known) items
+      → Begins seen whole → HasMoreWrites known (map_writes_of setup whole) → Follows setup whole actor seen (length known) items
       → Follows setup whole actor opened (version_of setup opened) (onto done items)
   follows_on [] seen known items d b e f =
       subst (λ (z : List Entry × ℕ). Follows setup whole actor z.0 z.1 items) (λ i. (d.0 i, length (d.1 i))) f

@@ -1,16 +1,7 @@
 -- The placed history has each processor's statements, in its order.
-use Rattle.std.proofs.Common.{◌≡◌, ℕ, ◌+◌, ◌<◌, ◌==◌, nat_le, Bool, true, false, List, [], ◌∷◌, map, length, All, refl, sym, ◌∙◌, ap, subst, arith, inl, inr}
-use Rattle.std.specs.Prelude.{MatchBool}
-use Rattle.std.proofs.lemmas.Bool.{cases_Bool}
-use Rattle.std.proofs.lemmas.Bool.Decides.{nat_tests}
-use Rattle.board_spec.specs.declared.event.Event.{Event}
+use Rattle.std.proofs.Common.{◌≡◌, ℕ, ◌+◌, ◌<◌, ◌==◌, nat_le, Bool, true, false, List, [], ◌∷◌, map, length, All, refl, sym, ◌∙◌, ap, subst, arith, inl, inr, MatchBool}
+use Rattle.board_prelude.proofs.Common.{cases_Bool, nat_tests, Event, Saw, Entry, Setup, version_of, IsAnswer, entries_by, next_entry}
 use Rattle.board_spec.specs.declared.event.Event.TheVariants.{Look as LookAt}
-use Rattle.board_spec.specs.declared.event.Reply.TheVariants.{Saw}
-use Rattle.board_spec.specs.declared.event.Entry.{Entry}
-use Rattle.board_spec.specs.Setup.{Setup}
-use Rattle.board_spec.specs.MapWrites.{version_of}
-use Rattle.board_spec.specs.Answer.{IsAnswer}
-use Rattle.board_spec.specs.Legal.{entries_by, next_entry}
 use Rattle.run_order.specs.declared.done.Done.{Done}
 use Rattle.run_order.specs.declared.done.Done.TheVariants.{Went, Looked}
 use Rattle.run_order.specs.Placing.{event_of, with_looks, left_after, with_all_looks, all_left, without_first, passed, done_by, placed}

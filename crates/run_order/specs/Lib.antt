@@ -5,3 +5,4 @@ pub mod Placing
 pub mod Room
 pub mod Settled
 pub mod Trace
+pub mod Common

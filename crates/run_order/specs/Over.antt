@@ -1,9 +1,7 @@
 -- The history of a run in few bytes, over the bus's history, which has the oldest entry first here.
 use Rattle.std.specs.Prelude.{ℕ, ◌<◌, List, map, None, slice_index_or}
-use Rattle.board_base.specs.declared.target.Target.TheVariants.{Abort}
-use Rattle.board_spec.specs.declared.event.Event.TheVariants.{Look as LookAt, Ack}
-use Rattle.board_spec.specs.declared.event.Reply.TheVariants.{Bus as AnsweredBy, Saw}
-use Rattle.board_spec.specs.declared.event.Entry.{Entry}
+use Rattle.board_prelude.specs.Common.{Abort, Ack, Bus as AnsweredBy, Saw, Entry}
+use Rattle.board_spec.specs.declared.event.Event.TheVariants.{Look as LookAt}
 use Rattle.run_order.specs.declared.entry.RunEntry.{RunEntry}
 use Rattle.run_order.specs.declared.entry.RunEntry.TheVariants.{Bus, Look}
 
@@ -22,6 +20,6 @@ abbrev pub over : List Entry → List RunEntry → List Entry
 over bus entries = map (entry_of bus) entries
 
 -- the place of an entry of the bus is below this count
-abbrev pub IsWithin : ℕ → RunEntry → Type 0
-IsWithin count (Bus actor seq place) = place < count
-IsWithin count (Look actor seq kind smm addr look) = Unit {0}
+abbrev pub IsPlacedBelow : ℕ → RunEntry → Type 0
+IsPlacedBelow count (Bus actor seq place) = place < count
+IsPlacedBelow count (Look actor seq kind smm addr look) = Unit {0}

@@ -1,15 +1,6 @@
 -- A phase that was run, and the history of the run with that phase.
 use Rattle.std.specs.Prelude.{ℕ, ◌≡◌, ◌<◌, if◌then◌else◌, List, [], ◌∷◌, ◌++◌, length, map, reverse, All}
-use Rattle.board_spec.specs.declared.event.Event.{Event}
-use Rattle.board_spec.specs.declared.event.Reply.{Reply}
-use Rattle.board_spec.specs.declared.event.Entry.{Entry}
-use Rattle.board_spec.specs.declared.event.Statement.{Statement}
-use Rattle.board_spec.specs.declared.map_change.MapChange.{MapChange}
-use Rattle.board_spec.specs.Setup.{Setup, IsCardList}
-use Rattle.board_spec.specs.MapWrites.{version_of}
-use Rattle.board_spec.specs.Answer.{IsAnswer}
-use Rattle.board_spec.specs.Legal.{IsLegal}
-use Rattle.board_spec.specs.Orders.{statements_of, events_by, HasPhases}
+use Rattle.board_prelude.specs.Common.{Event, Reply, Entry, Statement, MapChange, Setup, IsCardList, version_of, IsAnswer, IsLegal, statements_of, events_by, HasPhases}
 use Rattle.run_order.specs.declared.done.Done.{Done}
 use Rattle.run_order.specs.Placing.{is_look, event_of, done_by, placed}
 use Rattle.run_order.specs.Places.{AreInPlace}

@@ -1,11 +1,10 @@
 -- What the order of a run is seen as, and what it keeps.
 use Rattle.std.specs.Prelude.{ℕ, ◌≡◌, ◌+◌, ◌^◌, ◌<◌, ◌≤◌, List, [], ◌∷◌, length, slice_index, All}
-use Rattle.board_spec.specs.declared.event.Entry.{Entry}
-use Rattle.board_spec.specs.Legal.{entries_by}
+use Rattle.board_prelude.specs.Common.{Entry, entries_by}
 use Rattle.run_order.specs.declared.done.Done.{Done}
 use Rattle.run_order.specs.declared.done.Done.TheVariants.{Went, Looked}
 use Rattle.run_order.specs.declared.entry.RunEntry.{RunEntry}
-use Rattle.run_order.specs.Over.{IsWithin, over}
+use Rattle.run_order.specs.Over.{IsPlacedBelow, over}
 
 -- the entries, the newest first, the room for more, and how many entries of the bus's history are among them
 pub record Order : Type 0 where
@@ -27,7 +26,7 @@ pub record IsOrder (order : Order) (capacity : ℕ) (counts : List ℕ) : Type 0
   pub room : length order.entries + order.spare ≤ capacity
   pub few : length order.entries + order.spare < most
   pub fewer : order.bus ≤ length order.entries
-  pub within : All (IsWithin order.bus) order.entries
+  pub within : All (IsPlacedBelow order.bus) order.entries
   pub counted :
       (bus : List Entry) (actor : ℕ) → actor < 8 →
       slice_index counts actor ≡ length (entries_by actor (over bus order.entries))

@@ -1,15 +1,7 @@
 -- What a processor did in a phase, by the clauses of its calls. Histories and lists of map writes have the newest
 -- first.
 use Rattle.std.specs.Prelude.{ℕ, ◌≡◌, Bool, false, List, [], ◌∷◌, ◌++◌, length}
-use Rattle.board_base.specs.declared.access.Kind.{Kind}
-use Rattle.board_spec.specs.declared.event.Look.{Look}
-use Rattle.board_spec.specs.declared.event.Event.{Event}
-use Rattle.board_spec.specs.declared.event.Entry.{Entry}
-use Rattle.board_spec.specs.declared.map_change.MapChange.{MapChange}
-use Rattle.board_spec.specs.Setup.{Setup}
-use Rattle.board_spec.specs.MapWrites.{map_writes_of, registers_after}
-use Rattle.board_spec.specs.FlatMap.{IsSpan}
-use Rattle.board_spec.specs.Legal.{entries_by}
+use Rattle.board_prelude.specs.Common.{Kind, Look, Event, Entry, MapChange, Setup, map_writes_of, registers_after, IsSpan, entries_by}
 use Rattle.run_order.specs.declared.done.Done.{Done}
 use Rattle.run_order.specs.declared.done.Done.TheVariants.{Went, Looked}
 use Rattle.run_order.specs.Placing.{is_look}
@@ -19,8 +11,8 @@ abbrev pub Begins : (shorter longer : List Entry) → Type 0
 Begins shorter longer = (more : List Entry) × (longer ≡ more ++ shorter)
 
 -- a list of map writes begins with another
-abbrev pub Extends : (shorter longer : List MapChange) → Type 0
-Extends shorter longer = (more : List MapChange) × (longer ≡ more ++ shorter)
+abbrev pub HasMoreWrites : (shorter longer : List MapChange) → Type 0
+HasMoreWrites shorter longer = (more : List MapChange) × (longer ≡ more ++ shorter)
 
 -- what a look gives after these map writes: their number, and a span of the registers after them
 pub record IsLookOf (setup : Setup) (writes : List MapChange) (kind : Kind) (addr : ℕ) (smm : Bool)
@@ -31,7 +23,7 @@ pub record IsLookOf (setup : Setup) (writes : List MapChange) (kind : Kind) (add
 -- a look of a processor that knew the map writes `older` and then knows `known`
 pub record IsLooked (setup : Setup) (older known : List MapChange) (kind : Kind) (addr : ℕ) (smm : Bool)
     (look : Look) : Type 0 where
-  pub later : Extends older known
+  pub later : HasMoreWrites older known
   pub saw : IsLookOf setup known kind addr smm look
 
 -- a call of the bus, by a processor that had seen the history `seen` and knew the map writes `older`: it found the
@@ -42,7 +34,7 @@ pub record IsGone (setup : Setup) (actor : ℕ) (seen : List Entry) (older : Lis
   pub entry : Entry
   pub begins : Begins seen list
   pub mine : entries_by actor list ≡ entries_by actor seen
-  pub meets : Extends older (map_writes_of setup list)
+  pub meets : HasMoreWrites older (map_writes_of setup list)
   pub own : entry.actor ≡ actor
   pub said : entry.event ≡ event
   pub now_is : now ≡ entry ∷ list
@@ -63,5 +55,5 @@ IsDone setup actor opened (Went version event ∷ before) seen known =
 pub record IsClosed (setup : Setup) (actor : ℕ) (seen : List Entry) (known : List MapChange)
     (whole : List Entry) : Type 0 where
   pub begins : Begins seen whole
-  pub meets : Extends known (map_writes_of setup whole)
+  pub meets : HasMoreWrites known (map_writes_of setup whole)
   pub mine : entries_by actor whole ≡ entries_by actor seen

@@ -1,7 +1,7 @@
 //! An entry of the history of a run, in few bytes.
 
 ghost use Rattle.std.specs.Prelude.{◌≡◌, length};
-ghost use Rattle.run_order.specs.Over.{IsWithin, entry_of};
+ghost use Rattle.run_order.specs.Over.{IsPlacedBelow, entry_of};
 
 use board_base::Kind;
 use board_spec::{Entry, Event, Look, Reply};
@@ -29,7 +29,7 @@ pub enum RunEntry {
 impl RunEntry {
     /// The whole entry, over the bus's history with the oldest entry first.
     pub fn over(&self, bus: &[Entry]) -> Entry
-        requires within { IsWithin (length bus.now) self.now }
+        requires within { IsPlacedBelow (length bus.now) self.now }
         ensures entry { result ≡ entry_of bus.now self.now }
     {
         match *self {

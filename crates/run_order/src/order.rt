@@ -1,12 +1,9 @@
 //! The order of the entries of a run, with the looks of all processors.
 
 ghost use Rattle.std.specs.Prelude.{◌≡◌, ◌-◌, ◌+◌, ◌<◌, ◌≤◌, ℕ, List, [], ◌∷◌, length, map, drop, reverse, slice_index_or, All, max, IsFalse, IsOk, IfOk, OnOk, OnErr};
-ghost use Rattle.board_spec.specs.declared.event.Entry.{Entry};
+ghost use Rattle.board_prelude.specs.Common.{Entry, Saw, Setup, IsLegal, entries_by, next_entry};
 ghost use Rattle.board_spec.specs.declared.event.Event.TheVariants.{Look as LookAt};
-ghost use Rattle.board_spec.specs.declared.event.Reply.TheVariants.{Saw};
-ghost use Rattle.board_spec.specs.Setup.{Setup};
-ghost use Rattle.board_spec.specs.Legal.{IsLegal, entries_by, next_entry};
-ghost use Rattle.run_order.specs.Over.{IsWithin, entry_of, nowhere, over};
+ghost use Rattle.run_order.specs.Over.{IsPlacedBelow, entry_of, nowhere, over};
 ghost use Rattle.run_order.specs.Placing.{with_looks, left_after, with_all_looks, all_left, placed};
 ghost use Rattle.run_order.specs.Room.{in_all, most, looks_in, all_looks_in};
 ghost use Rattle.run_order.specs.Settled.{IsSettledBut};
@@ -106,7 +103,7 @@ impl RunOrder {
     /// All entries, the oldest first.
     pub fn entries(&self) -> &[RunEntry]
         ensures entries { result.now ≡ reverse self.now.entries }
-        ensures within { All (IsWithin self.now.bus) result.now }
+        ensures within { All (IsPlacedBelow self.now.bus) result.now }
     {
         &self.entries
     }
@@ -121,7 +118,7 @@ impl RunOrder {
         ensures placed { OnOk result (over bus.now self.new.entries ≡ placed version (drop self.old.bus bus.now)
             (map (λ done. done.now) works.entry.items) (over bus.now self.old.entries)) }
         ensures bus { OnOk result (self.new.bus ≡ length bus.now) }
-        ensures within { All (IsWithin self.old.bus) self.old.entries }
+        ensures within { All (IsPlacedBelow self.old.bus) self.old.entries }
         ensures keeps { OnOk result (in_all self.old ≤ in_all self.new) }
         ensures unplaced { OnErr result (self.new ≡ self.old) }
         ensures room { length (drop self.old.bus bus.now) + all_looks_in (map (λ done. done.now) works.entry.items)
@@ -163,7 +160,7 @@ impl RunOrder {
     fn push(&mut self, actor: u8, entry: RunEntry, bus: u32)
         requires actor { actor < 8 }
         requires own { (of_bus : List Entry) → (entry_of of_bus entry).actor ≡ actor }
-        requires within { IsWithin bus entry }
+        requires within { IsPlacedBelow bus entry }
         requires least { self.old.bus ≤ bus }
         requires next { bus ≤ self.old.bus + 1 }
         requires room { 1 ≤ self.old.spare }

@@ -1,9 +1,7 @@
 -- What the reader returns for a line.
-use Rattle.std.proofs.Common.{◌≡◌, ℕ, Option, Some, None, List, sym}
-use Rattle.std.specs.Prelude.{IfSome}
+use Rattle.std.proofs.Common.{◌≡◌, ℕ, Option, Some, None, List, sym, IfSome}
 use Rattle.std.specs.Option.{option_map, IfNone}
-use Rattle.script_spec.specs.Grammar.{HasForm}
-use Rattle.script_spec.specs.Items.{read_line}
+use Rattle.script_spec.specs.Common.{HasForm, read_line}
 use Rattle.script_spec.proofs.LineReading.{read_says, nothing_said}
 use Rattle.script_lines.specs.declared.item.Item.{Item as Read}
 use Rattle.script_lines.specs.Items.{line_said, HasNoForm}

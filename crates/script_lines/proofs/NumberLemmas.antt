@@ -1,10 +1,8 @@
 -- Digits, one after the other.
 use Rattle.std.proofs.Common.{◌≡◌, ℕ, ◌+◌, ◌*◌, ◌^◌, ◌<◌, ◌≤◌, Option, Some, None, List, length, get_or, drop, refl, sym, ◌∙◌, arith}
-use Rattle.std.proofs.lemmas.List.{drop_more, drop_all}
+use Rattle.board_prelude.proofs.Common.{drop_more, drop_all, pow-le-pow_right, option_and_then}
 use Rattle.std.proofs.lemmas.Nat.{mul-add-lt}
 use Rattle.std.proofs.lemmas.Grind.{pow_more}
-use Rattle.std.proofs.Math.Nat.{pow-le-pow_right}
-use Rattle.std.specs.Option.{option_and_then}
 use Rattle.script_spec.specs.Numbers.{digit_of, number_after}
 
 -- one more digit leaves the number below one more power, and no larger than all digits allow

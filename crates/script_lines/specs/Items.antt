@@ -1,12 +1,7 @@
 -- What the reader's values say.
 use Rattle.std.specs.Prelude.{ℕ, List, map}
-use Rattle.board_base.specs.declared.moment.Moment.{Moment}
-use Rattle.board_base.specs.Calendar.{moment_of}
-use Rattle.board_spec.specs.declared.event.Event.TheVariants.{Time}
-use Rattle.board_spec.specs.Setup.{Base, MemoryBase, IoBase, FittedCard}
-use Rattle.script_spec.specs.Grammar.{Item, SetCpus, SetMemory, SetRom, SetDisk, FitCard, BeginPhase, HasForm}
-use Rattle.script_spec.specs.Cards.{Tail}
-use Rattle.script_spec.specs.Items.{ask, wire_item, line_item}
+use Rattle.board_prelude.specs.Common.{Moment, moment_of, Time, Base, MemoryBase, IoBase, FittedCard}
+use Rattle.script_spec.specs.Common.{Item, SetCpus, SetMemory, SetRom, SetDisk, FitCard, BeginPhase, HasForm, Tail, ask, wire_item, line_item}
 use Rattle.script_lines.specs.declared.item.Item.{Item as Line}
 use Rattle.script_lines.specs.declared.item.Item.TheVariants.{Cpus, Memory, Rom, Disk, Card, Phase, Statement as Asks}
 use Rattle.script_lines.specs.declared.item.Asked.{Asked}

@@ -2,8 +2,8 @@
 
 ghost use Rattle.std.specs.Prelude.{◌≡◌, ◌*◌, ◌<◌, ◌^◌, IfSome};
 ghost use Rattle.board_base.specs.Access.{bytes_of};
-ghost use Rattle.script_spec.specs.Numbers.{hex_of};
-ghost use Rattle.script_spec.specs.Events.{IsSize, width_of, quad_of, size_of, width_with, is_wide, memory_event, kind_of, smm_of, read_of, write_of, in_of, out_of, look_of, ack_of, number_in, pulses_of, sector_of, event_of};
+ghost use Rattle.script_spec.specs.Common.{hex_of, IsSize, width_of, quad_of, size_of, width_with, is_wide, memory_event, kind_of, smm_of, read_of, write_of, in_of, out_of, look_of, ack_of, number_in, sector_of, event_of};
+ghost use Rattle.script_spec.specs.Events.{pulses_of};
 
 use crate::fields::Fields;
 use crate::item::is_word;

@@ -3,10 +3,7 @@
 ghost use Rattle.std.specs.Prelude.{◌≡◌, ℕ, option_map, bytes_eq, IfSome};
 ghost use Rattle.std.specs.Option.{IfNone};
 ghost use Rattle.std.specs.List.{list_all};
-ghost use Rattle.script_spec.specs.Grammar.{SetCpus, SetMemory, SetRom, SetDisk, FitCard, HasForm, is_name_start, is_name_byte};
-ghost use Rattle.script_spec.specs.Events.{number_in};
-ghost use Rattle.script_spec.specs.Cards.{card_of};
-ghost use Rattle.script_spec.specs.Items.{two_numbers_in, only_moment, moment_asked, wire_asked, line_asked, event_asked, asked_with, asked_of, is_name, name_in, phase_of, statement_of, item_with, item_of};
+ghost use Rattle.script_spec.specs.Common.{SetCpus, SetMemory, SetRom, SetDisk, FitCard, HasForm, is_name_start, is_name_byte, number_in, card_of, two_numbers_in, only_moment, moment_asked, wire_asked, line_asked, event_asked, asked_with, asked_of, is_name, name_in, phase_of, statement_of, item_with, item_of};
 ghost use Rattle.script_lines.specs.Items.{moment_said, asked_said, line_said, HasNoForm};
 
 use crate::card::{CardFields, card_of};

@@ -1,12 +1,7 @@
 -- Fields that spell the bases and the expansion ROM of a card are read as them.
-use Rattle.std.proofs.Common.{◌≡◌, ℕ, ◌+◌, ◌<◌, ◌≤◌, eqb, Option, Some, None, List, [], ◌∷◌, ◌++◌, length, map, All, inl, inr, refl, sym, ap, ◌∙◌, append_assoc, append-nil, arith}
-use Rattle.std.specs.Prelude.{codes, decimal}
-use Rattle.std.proofs.lemmas.Bool.{cases_Bool, eq-eqb, lt-ltb}
-use Rattle.std.proofs.lemmas.List.{length-append}
-use Rattle.std.proofs.lemmas.List.Elements.{All-head, All-tail}
-use Rattle.board_spec.specs.Setup.{Base, MemoryBase, IoBase}
-use Rattle.script_spec.specs.Grammar.{IsBaseForm, IsRomForm}
-use Rattle.script_spec.specs.Cards.{base_of, rom_of, with_base, with_rom, with_field, with_fields}
+use Rattle.std.proofs.Common.{◌≡◌, ℕ, ◌+◌, ◌<◌, ◌≤◌, eqb, Option, Some, None, List, [], ◌∷◌, ◌++◌, length, map, All, inl, inr, refl, sym, ap, ◌∙◌, append_assoc, append-nil, arith, codes, decimal}
+use Rattle.board_prelude.proofs.Common.{cases_Bool, eq-eqb, lt-ltb, length-append, All-head, All-tail, Base, MemoryBase, IoBase}
+use Rattle.script_spec.specs.Common.{IsBaseForm, IsRomForm, base_of, rom_of, with_base, with_rom, with_field, with_fields}
 use Rattle.script_spec.proofs.NumberBack.{decimal_back}
 use Rattle.script_spec.proofs.CardTexts.{fresh}
 

@@ -1,16 +1,7 @@
 -- The card that was read is the one that the fields spell.
-use Rattle.std.proofs.Common.{◌≡◌, ℕ, ◌<◌, ◌≤◌, ◌⊎◌, inl, inr, Bool, true, false, cond, eqb, Option, Some, None, List, [], ◌∷◌, ◌++◌, length, flat_map, All, refl, sym, ap, subst, ◌∙◌, append_assoc, append-nil, arith}
-use Rattle.std.specs.Prelude.{codes, decimal, bytes_eq, if◌then◌else◌}
-use Rattle.std.specs.List.{join_with_byte}
-use Rattle.std.specs.Option.{option_map}
-use Rattle.std.proofs.lemmas.Bool.{cases_Bool, eqb-true, ltb-true}
-use Rattle.std.proofs.lemmas.List.{length-append}
-use Rattle.std.proofs.lemmas.List.Elements.{All-nil, All-cons}
-use Rattle.board_spec.specs.Setup.{Base, MemoryBase, IoBase, FittedCard}
-use Rattle.board_spec.specs.Text.{space}
-use Rattle.script_spec.specs.Grammar.{IsBaseForm, IsRomForm, IsCardForm, base_text, rom_text, card_text}
-use Rattle.script_spec.specs.Numbers.{decimal_of}
-use Rattle.script_spec.specs.Cards.{base_of, Tail, rom_of, has_room, with_base, with_rom, with_field, with_fields, no_tail, vga_of, card_of}
+use Rattle.std.proofs.Common.{◌≡◌, ℕ, ◌<◌, ◌≤◌, ◌⊎◌, inl, inr, Bool, true, false, cond, eqb, Option, Some, None, List, [], ◌∷◌, ◌++◌, length, flat_map, All, refl, sym, ap, subst, ◌∙◌, append_assoc, append-nil, arith, codes, decimal, bytes_eq, if◌then◌else◌}
+use Rattle.board_prelude.proofs.Common.{join_with_byte, option_map, cases_Bool, eqb-true, ltb-true, length-append, All-nil, All-cons, Base, MemoryBase, IoBase, FittedCard, space}
+use Rattle.script_spec.specs.Common.{IsBaseForm, IsRomForm, IsCardForm, base_text, rom_text, card_text, decimal_of, base_of, Tail, rom_of, has_room, with_base, with_rom, with_field, with_fields, no_tail, vga_of, card_of}
 use Rattle.script_spec.proofs.Chains.{some_is, guarded, then_said, mapped}
 use Rattle.script_spec.proofs.NumberTexts.{decimal_read}
 use Rattle.script_spec.proofs.Joins.{word_is}

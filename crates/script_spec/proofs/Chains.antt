@@ -1,8 +1,6 @@
 -- Parts of a chain that said something.
 use Rattle.std.proofs.Common.{◌≡◌, ℕ, ◌≤◌, Bool, true, false, cond, leb, ◌&&◌, Option, Some, None, refl, sym}
-use Rattle.std.specs.Option.{option_and_then, option_map}
-use Rattle.std.proofs.lemmas.Bool.{leb-true}
-use Rattle.board_spec.specs.Bits.{is_within}
+use Rattle.board_prelude.proofs.Common.{option_and_then, option_map, leb-true, is_within}
 
 pub some_is : {A : Type 0} (x y : A) → ◌≡◌ {A = Option A} (Some x) (Some y) → x ≡ y
 some_is x y e = cc

@@ -1,12 +1,7 @@
 -- A text leaves a kind of texts at one line.
 use Rattle.std.proofs.Common.{ℕ, ◌≡◌, ◌≢◌, ◌+◌, ◌⊎◌, true, List, [], ◌∷◌, ◌++◌, length, All, refl, sym, ap, ◌∙◌, inl, inr, append_assoc}
-use Rattle.std.proofs.lemmas.Bool.{ne_eqb, eqb-false}
-use Rattle.std.proofs.lemmas.Grind.{flat_map-append}
-use Rattle.std.proofs.lemmas.List.Elements.{All-nil, All-cons, All-head, All-tail}
-use Rattle.board_spec.specs.Text.{line_feed}
-use Rattle.script_spec.specs.Lines.{text_of_lines, IsOneLine}
-use Rattle.script_spec.specs.Checks.{AreBegun, LeavesAt, IsSomeLog, IsLogOf}
-use Rattle.script_spec.specs.Laws.{OneBadLog, OneDifference}
+use Rattle.board_prelude.proofs.Common.{ne_eqb, eqb-false, flat_map-append, All-nil, All-cons, All-head, All-tail, line_feed}
+use Rattle.script_spec.specs.Common.{text_of_lines, IsOneLine, AreBegun, LeavesAt, IsSomeLog, IsLogOf, OneBadLog, OneDifference}
 use Rattle.script_spec.proofs.Digits.{lacks}
 use Rattle.script_spec.proofs.Fields.{front, back, front-field, back-field, lacks-first, lacks-later}
 

@@ -1,6 +1,5 @@
 -- A text that is cut at a mark.
-use Rattle.std.proofs.Common.{◌≡◌, ℕ, eqb, Some, List, [], ◌∷◌, ◌++◌, refl, sym, ap, ◌∙◌, inl, inr}
-use Rattle.std.specs.Prelude.{true}
+use Rattle.std.proofs.Common.{◌≡◌, ℕ, eqb, Some, List, [], ◌∷◌, ◌++◌, refl, sym, ap, ◌∙◌, inl, inr, true}
 use Rattle.std.proofs.lemmas.Bool.{cases_Bool, eq-eqb, eqb-true}
 use Rattle.script_spec.specs.Cuts.{cut}
 use Rattle.script_spec.proofs.Digits.{lacks}

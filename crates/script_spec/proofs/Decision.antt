@@ -1,14 +1,7 @@
 -- What a text says is found line by line: the items of a script, or the first bad line and the least reason.
-use Rattle.std.proofs.Common.{ℕ, ◌≡◌, ◌⊎◌, ◌+◌, Bool, true, false, Option, Some, None, Result, Ok, Err, List, [], ◌∷◌, ◌++◌, length, refl, sym, ap, subst, ◌∙◌, inl, inr, append-nil, arith}
-use Rattle.std.specs.Fmt.{digits}
-use Rattle.std.specs.Prelude.{◌<◌, nat_lt, if◌then◌else◌, bytes_eq, ◌≤◌}
-use Rattle.std.proofs.lemmas.Bool.{cases_Bool, cases_lt, lt-ltb, le-ltb, true≢false}
-use Rattle.std.proofs.lemmas.Slice.Eq.{bytes_eq-Decides}
-use Rattle.script_spec.specs.Lines.{lines_of}
-use Rattle.script_spec.specs.Grammar.{Item, HasForm}
-use Rattle.script_spec.specs.Items.{read_line}
-use Rattle.script_spec.specs.Reasons.{lacks_setup, least_reason}
-use Rattle.script_spec.specs.ScriptText.{most_bytes, is_skipped, IsBadLine, AreRead, EndsBadly, IsVersion, first_line, BeginsBadly, IsBadLater, Script, IsScriptText}
+use Rattle.std.proofs.Common.{ℕ, ◌≡◌, ◌⊎◌, ◌+◌, Bool, true, false, Option, Some, None, Result, Ok, Err, List, [], ◌∷◌, ◌++◌, length, refl, sym, ap, subst, ◌∙◌, inl, inr, append-nil, arith, ◌<◌, nat_lt, if◌then◌else◌, bytes_eq, ◌≤◌}
+use Rattle.board_prelude.proofs.Common.{digits, cases_Bool, cases_lt, lt-ltb, le-ltb, true≢false, bytes_eq-Decides}
+use Rattle.script_spec.specs.Common.{lines_of, Item, HasForm, read_line, lacks_setup, least_reason, most_bytes, is_skipped, IsBadLine, AreRead, EndsBadly, IsVersion, first_line, BeginsBadly, IsBadLater, Script, IsScriptText}
 use Rattle.script_spec.proofs.LineReading.{read_says, nothing_said}
 use Rattle.script_spec.proofs.Lists.{same_head, not_nil}
 use Rattle.script_spec.proofs.ItemBack.{line_back}

@@ -1,15 +1,8 @@
 -- Fields that spell an event are read as that event.
-use Rattle.std.proofs.Common.{◌≡◌, ℕ, ◌^◌, ◌<◌, inl, inr, Bool, true, false, Some, List, [], ◌∷◌, refl, ap, ◌∙◌, arith}
-use Rattle.std.specs.Prelude.{codes}
-use Rattle.std.proofs.lemmas.Bool.{eq-eqb}
-use Rattle.board_base.specs.declared.access.Kind.{Kind}
-use Rattle.board_base.specs.declared.access.Kind.TheVariants.{Fetch, Read, Write}
-use Rattle.board_base.specs.declared.access.Width.{Width}
-use Rattle.board_base.specs.declared.access.Width.TheVariants.{One, Two, Four}
-use Rattle.board_base.specs.Access.{bytes_of}
-use Rattle.board_spec.specs.declared.event.Event.TheVariants.{Port, Look as LookAt}
-use Rattle.board_spec.specs.Text.{hex_number}
-use Rattle.board_spec.specs.LogText.{size_text, width_text, kind_text}
+use Rattle.std.proofs.Common.{◌≡◌, ℕ, ◌^◌, ◌<◌, inl, inr, Bool, true, false, Some, List, [], ◌∷◌, refl, ap, ◌∙◌, arith, codes}
+use Rattle.board_prelude.proofs.Common.{eq-eqb, Kind, Fetch, Read, Write, Width, One, bytes_of, Port, hex_number, size_text, width_text, kind_text}
+use Rattle.board_base.specs.declared.access.Width.TheVariants.{Two, Four}
+use Rattle.board_spec.specs.declared.event.Event.TheVariants.{Look as LookAt}
 use Rattle.script_spec.specs.Events.{width_of, size_of, kind_of, smm_of, IsSize, memory_event, read_of, write_of, in_of, out_of, look_of}
 use Rattle.script_spec.proofs.Joins.{Spells, Reads, smm_words}
 use Rattle.script_spec.proofs.NumberBack.{plain_is, hex_back}

@@ -1,26 +1,10 @@
 -- Each event of a form is read again from the fields that spell it.
-use Rattle.std.proofs.Common.{◌≡◌, ℕ, ◌%◌, ◌^◌, ◌<◌, ◌⊎◌, inl, inr, Bool, true, false, not, eqb, ◌&&◌, Some, List, [], ◌∷◌, refl, sym, ap, subst, ◌∙◌, arith}
-use Rattle.std.specs.Prelude.{codes, decimal}
-use Rattle.std.specs.List.{join_with_byte}
-use Rattle.std.specs.Option.{option_map}
-use Rattle.std.proofs.lemmas.Bool.{cases_Bool, eqb-true, eq-eqb, ne_eqb}
-use Rattle.board_base.specs.declared.access.Kind.{Kind}
-use Rattle.board_base.specs.declared.access.Kind.TheVariants.{Fetch, Read, Write}
-use Rattle.board_base.specs.declared.access.Width.{Width}
-use Rattle.board_base.specs.declared.access.Width.TheVariants.{One, Two, Four}
-use Rattle.board_base.specs.declared.access.WideAccess.{WideAccess}
-use Rattle.board_base.specs.declared.moment.Moment.{Moment}
-use Rattle.board_base.specs.Access.{bytes_of}
-use Rattle.board_spec.specs.declared.event.Event.{Event}
-use Rattle.board_spec.specs.declared.event.Event.TheVariants.{Memory, Wide, Port, Look as LookAt, Ack, Pulses, Time, Wire, Line, BadSector}
-use Rattle.board_spec.specs.Stored.{is_write}
-use Rattle.board_spec.specs.InRange.{FitsBytes}
-use Rattle.board_spec.specs.Text.{space, hex_number}
-use Rattle.board_spec.specs.LogText.{size_text, width_text, kind_text, level_text, memory_text, moment_text, event_text}
-use Rattle.script_spec.specs.Grammar.{Item, IsDecimal, IsWideForm, IsMomentForm, IsEventForm}
+use Rattle.std.proofs.Common.{◌≡◌, ℕ, ◌%◌, ◌^◌, ◌<◌, ◌⊎◌, inl, inr, Bool, true, false, not, eqb, ◌&&◌, Some, List, [], ◌∷◌, refl, sym, ap, subst, ◌∙◌, arith, codes, decimal}
+use Rattle.board_prelude.proofs.Common.{join_with_byte, option_map, cases_Bool, eqb-true, eq-eqb, ne_eqb, Kind, Fetch, Read, Write, Width, One, WideAccess, Moment, bytes_of, Event, Memory, Wide, Port, Ack, Pulses, Time, Wire, Line, BadSector, is_write, FitsBytes, space, hex_number, size_text, width_text, kind_text, level_text, memory_text, moment_text, event_text}
+use Rattle.board_base.specs.declared.access.Width.TheVariants.{Two, Four}
+use Rattle.board_spec.specs.declared.event.Event.TheVariants.{Look as LookAt}
+use Rattle.script_spec.specs.Common.{Item, IsDecimal, IsWideForm, IsMomentForm, IsEventForm, IsSize, memory_event, read_of, ack_of, number_in, event_of, ask, wire_item, line_item, two_numbers_in, only_moment, moment_asked, wire_asked, line_asked, event_asked, asked_with, asked_of}
 use Rattle.script_spec.proofs.Digits.{lacks, digits_of_decimal}
-use Rattle.script_spec.specs.Events.{IsSize, memory_event, read_of, ack_of, number_in, event_of}
-use Rattle.script_spec.specs.Items.{ask, wire_item, line_item, two_numbers_in, only_moment, moment_asked, wire_asked, line_asked, event_asked, asked_with, asked_of}
 use Rattle.script_spec.proofs.Joins.{Spells, Reads, smm_words, access_joined, write_joined, look_joined, port_joined, out_joined}
 use Rattle.script_spec.proofs.Splits.{Lack}
 use Rattle.script_spec.proofs.ItemTexts.{zero_text, one_text}

@@ -1,20 +1,9 @@
 -- Events that have a form, and that there is no reason to refuse, are in range.
-use Rattle.std.proofs.Common.{ℕ, ◌≡◌, ◌+◌, ◌%◌, ◌≤◌, Bool, true, false, ◌&&◌, leb, List, refl, arith}
-use Rattle.std.specs.Prelude.{is_some}
-use Rattle.std.proofs.lemmas.Bool.{false≢true, and_parts, leb-true, eqb-true}
-use Rattle.board_base.specs.declared.access.Width.{Width}
-use Rattle.board_base.specs.declared.access.Width.TheVariants.{One, Two, Four}
-use Rattle.board_base.specs.declared.moment.Moment.{Moment}
-use Rattle.board_base.specs.Access.{bytes_of}
-use Rattle.board_base.specs.Calendar.{days_in_month, IsMoment}
-use Rattle.board_spec.specs.declared.event.Event.{Event}
-use Rattle.board_spec.specs.declared.event.Event.TheVariants.{Memory, Wide, Port, Look as LookAt, Ack, Pulses, Time, Wire, Line, BadSector}
-use Rattle.board_spec.specs.Setup.{Setup, card_at}
-use Rattle.board_spec.specs.Bits.{is_within}
-use Rattle.board_spec.specs.Stored.{is_write}
-use Rattle.board_spec.specs.InRange.{FitsAccess, FitsBytes, IsInRange, IsScriptSector, IsInVersion}
-use Rattle.script_spec.specs.Grammar.{Item, IsMomentForm, IsEventForm}
-use Rattle.script_spec.specs.Reasons.{has_card, is_moment, is_event_in_range, is_event_placed, is_card_there}
+use Rattle.std.proofs.Common.{ℕ, ◌≡◌, ◌+◌, ◌%◌, ◌≤◌, Bool, true, false, ◌&&◌, leb, List, refl, arith, is_some}
+use Rattle.board_prelude.proofs.Common.{false≢true, and_parts, leb-true, eqb-true, Width, One, Moment, bytes_of, days_in_month, IsMoment, Event, Memory, Wide, Port, Ack, Pulses, Time, Wire, Line, BadSector, Setup, card_at, is_within, is_write, FitsAccess, FitsBytes, IsInRange, IsScriptSector, IsInVersion}
+use Rattle.board_base.specs.declared.access.Width.TheVariants.{Two, Four}
+use Rattle.board_spec.specs.declared.event.Event.TheVariants.{Look as LookAt}
+use Rattle.script_spec.specs.Common.{Item, IsMomentForm, IsEventForm, has_card, is_moment, is_event_in_range, is_event_placed, is_card_there}
 
 pub within : (low high n : ℕ) → is_within low high n ≡ true → (low ≤ n) × (n ≤ high)
 within low high n test =

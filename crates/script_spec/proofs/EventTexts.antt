@@ -1,22 +1,9 @@
 -- The events that were read are those that the fields spell.
-use Rattle.std.proofs.Common.{◌≡◌, ℕ, ◌*◌, ◌%◌, ◌^◌, ◌<◌, ◌⊎◌, inl, inr, Bool, true, false, not, eqb, ◌||◌, Some, List, [], ◌∷◌, refl, sym, ap, subst, ◌∙◌, arith}
-use Rattle.std.specs.Prelude.{codes, decimal, bytes_eq}
-use Rattle.std.specs.List.{join_with_byte}
-use Rattle.std.proofs.lemmas.Bool.{cases_Bool, eqb-true, eq-eqb, true≢false}
-use Rattle.board_base.specs.declared.access.Kind.{Kind}
-use Rattle.board_base.specs.declared.access.Kind.TheVariants.{Fetch, Read, Write}
-use Rattle.board_base.specs.declared.access.Width.{Width}
-use Rattle.board_base.specs.declared.access.Width.TheVariants.{One, Two, Four}
-use Rattle.board_base.specs.Access.{bytes_of}
-use Rattle.board_spec.specs.declared.event.Event.{Event}
-use Rattle.board_spec.specs.declared.event.Event.TheVariants.{Ack}
-use Rattle.board_spec.specs.Stored.{is_write}
-use Rattle.board_spec.specs.InRange.{FitsBytes}
-use Rattle.board_spec.specs.Text.{space, hex_number}
-use Rattle.board_spec.specs.LogText.{size_text, width_text, kind_text, memory_text, event_text}
-use Rattle.script_spec.specs.Grammar.{IsDecimal, IsEventForm}
-use Rattle.script_spec.specs.Numbers.{hex_of}
-use Rattle.script_spec.specs.Events.{width_of, quad_of, size_of, kind_of, smm_of, IsSize, width_with, is_wide, memory_event, read_of, write_of, in_of, out_of, look_of, ack_of, number_in, pulses_of, sector_of, event_of}
+use Rattle.std.proofs.Common.{◌≡◌, ℕ, ◌*◌, ◌%◌, ◌^◌, ◌<◌, ◌⊎◌, inl, inr, Bool, true, false, not, eqb, ◌||◌, Some, List, [], ◌∷◌, refl, sym, ap, subst, ◌∙◌, arith, codes, decimal, bytes_eq}
+use Rattle.board_prelude.proofs.Common.{join_with_byte, cases_Bool, eqb-true, eq-eqb, true≢false, Kind, Fetch, Read, Write, Width, One, bytes_of, Event, Ack, is_write, FitsBytes, space, hex_number, size_text, width_text, kind_text, memory_text, event_text}
+use Rattle.board_base.specs.declared.access.Width.TheVariants.{Two, Four}
+use Rattle.script_spec.specs.Common.{IsDecimal, IsEventForm, hex_of, width_of, quad_of, size_of, kind_of, smm_of, IsSize, width_with, is_wide, memory_event, read_of, write_of, in_of, out_of, look_of, ack_of, number_in, sector_of, event_of}
+use Rattle.script_spec.specs.Events.{pulses_of}
 use Rattle.script_spec.proofs.Chains.{some_is, guarded, then_said, both}
 use Rattle.script_spec.proofs.NumberTexts.{decimal_read, hex_read}
 use Rattle.script_spec.proofs.Joins.{Reads, same, same_as, word_is, smm_words, smm_read, access_joined, write_joined, look_joined, port_joined, out_joined}

@@ -1,22 +1,8 @@
 -- The worked texts of scripts, decided by computation.
-use Rattle.std.specs.Prelude.{ℕ, ◌≡◌, ◌<◌, Bool, true, false, List, [], ◌∷◌, map, All, Result, Ok, Err, Some, None, codes, refl}
-use Rattle.std.proofs.Common.{arith, ap, sym, subst, ◌∙◌}
-use Rattle.std.specs.Fmt.{digits}
-use Rattle.std.specs.List.Sorted.{IsPermutation}
-use Rattle.std.proofs.lemmas.Bool.{false≢true}
-use Rattle.std.proofs.lemmas.List.Elements.{All-nil, All-cons}
+use Rattle.std.proofs.Common.{ℕ, ◌≡◌, ◌<◌, Bool, true, false, List, [], ◌∷◌, map, All, Result, Ok, Err, Some, None, codes, refl, arith, ap, sym, subst, ◌∙◌}
+use Rattle.board_prelude.proofs.Common.{digits, IsPermutation, false≢true, All-nil, All-cons, weekday_of, days_since_1980, days_of_years, days_of_months}
 use Rattle.std.proofs.lemmas.List.Sorted.{IsPermutation-refl}
-use Rattle.board_base.specs.Calendar.{weekday_of, days_since_1980, days_of_years, days_of_months}
-use Rattle.script_spec.specs.Lines.{lines_of, text_of_lines}
-use Rattle.script_spec.specs.Grammar.{Item}
-use Rattle.script_spec.specs.Numbers.{number_after, two_digits_of, after_mark}
-use Rattle.script_spec.specs.Moments.{part_of, year_of, date_of, time_of, moment_with, moment_in}
-use Rattle.script_spec.specs.Cards.{base_of, rom_of, with_base, with_rom, with_field, with_fields, card_of}
-use Rattle.script_spec.specs.Events.{smm_of, memory_event, read_of, write_of, in_of, out_of, look_of, ack_of, number_in, event_of}
-use Rattle.script_spec.specs.Items.{two_numbers_in, only_moment, moment_asked, wire_asked, line_asked, event_asked, asked_with, asked_of, is_name, name_in, phase_of, statement_of, item_with, item_of}
-use Rattle.script_spec.specs.Reasons.{cards_of, least_reason}
-use Rattle.script_spec.specs.ScriptText.{Script, IsSaidBy, IsScriptText, IsScriptBad}
-use Rattle.script_spec.specs.ExampleScripts.{BadText, IsBadText, bad_texts, AreBad, Bound, with_line, IsBound, bounds, AreBounds, TwoProcessors, TwoOrders, WideScript}
+use Rattle.script_spec.specs.Common.{lines_of, text_of_lines, Item, number_after, two_digits_of, after_mark, part_of, year_of, date_of, time_of, moment_with, moment_in, base_of, rom_of, with_base, with_rom, with_field, with_fields, card_of, smm_of, memory_event, read_of, write_of, in_of, out_of, look_of, ack_of, number_in, event_of, two_numbers_in, only_moment, moment_asked, wire_asked, line_asked, event_asked, asked_with, asked_of, is_name, name_in, phase_of, statement_of, item_with, item_of, cards_of, least_reason, Script, IsSaidBy, IsScriptText, IsScriptBad, BadText, IsBadText, bad_texts, AreBad, Bound, with_line, IsBound, bounds, AreBounds, TwoProcessors, TwoOrders, WideScript}
 use Rattle.script_spec.proofs.ReadingLaws.{same_head, same_tail}
 use Rattle.script_spec.proofs.Decision.{judged, judged_lines, AreGoodLines, AreJudged, judged_is}
 use Rattle.script_spec.proofs.ReadingExists.{text_said}

@@ -1,6 +1,5 @@
 -- A text is cut at a byte.
-use Rattle.std.proofs.Common.{ℕ, ◌≡◌, ◌<◌, ◌⊎◌, true, false, not, cond, eqb, List, [], ◌∷◌, ◌++◌, refl}
-use Rattle.std.specs.Prelude.{decimal}
+use Rattle.std.proofs.Common.{ℕ, ◌≡◌, ◌<◌, ◌⊎◌, true, false, not, cond, eqb, List, [], ◌∷◌, ◌++◌, refl, decimal}
 use Rattle.std.proofs.lemmas.Bool.{eq-eqb, and_parts, not-true}
 use Rattle.script_spec.specs.Grammar.{IsDecimal}
 use Rattle.script_spec.proofs.Digits.{lacks, lacks-digits, digits_of_decimal}

@@ -1,13 +1,7 @@
 -- What holds of items that were read.
-use Rattle.std.proofs.Common.{ℕ, ◌≡◌, Bool, true, false, not, ◌&&◌, Option, Some, None, List, [], ◌∷◌, sym, ap, inl, inr}
-use Rattle.std.specs.Prelude.{unwrap_or}
-use Rattle.std.specs.Option.{option_map}
-use Rattle.std.specs.List.{find}
-use Rattle.std.proofs.lemmas.Bool.{not-false, cases_Bool}
-use Rattle.std.proofs.lemmas.Option.{none-some}
-use Rattle.script_spec.specs.Grammar.{Item, IsForm}
-use Rattle.script_spec.specs.Reasons.{Reason, reasons, is_phase, is_misplaced, is_repeated, lacks_setup, is_in_range, is_placed, is_there, passes_limits, least_reason}
-use Rattle.script_spec.specs.ScriptText.{AreRead}
+use Rattle.std.proofs.Common.{ℕ, ◌≡◌, Bool, true, false, not, ◌&&◌, Option, Some, None, List, [], ◌∷◌, sym, ap, inl, inr, unwrap_or}
+use Rattle.board_prelude.proofs.Common.{option_map, find, not-false, cases_Bool, none-some}
+use Rattle.script_spec.specs.Common.{Item, IsForm, Reason, reasons, is_phase, is_misplaced, is_repeated, lacks_setup, is_in_range, is_placed, is_there, passes_limits, least_reason, AreRead}
 
 -- there is no reason to refuse an item after these
 pub record NoReason (before : List Item) (item : Item) : Type 0 where

@@ -1,15 +1,8 @@
 -- Each line of a form is read as what it says.
-use Rattle.std.proofs.Common.{◌≡◌, ℕ, ◌≤◌, ◌⊎◌, inl, inr, true, Some, List, [], ◌∷◌, ◌++◌, refl, sym, ap, subst, ◌∙◌, arith}
-use Rattle.std.specs.Prelude.{codes, decimal}
-use Rattle.std.specs.Option.{option_map}
-use Rattle.std.proofs.lemmas.Bool.{ne_eqb}
-use Rattle.board_spec.specs.declared.event.Event.{Event}
-use Rattle.board_spec.specs.Text.{space}
-use Rattle.board_spec.specs.LogText.{event_text}
-use Rattle.script_spec.specs.Grammar.{Item, SetCpus, SetMemory, SetRom, SetDisk, FitCard, BeginPhase, Ask, AskLevel, IsDecimal, IsForm, IsLevelForm, Says, HasForm, item_text}
+use Rattle.std.proofs.Common.{◌≡◌, ℕ, ◌≤◌, ◌⊎◌, inl, inr, true, Some, List, [], ◌∷◌, ◌++◌, refl, sym, ap, subst, ◌∙◌, arith, codes, decimal}
+use Rattle.board_prelude.proofs.Common.{option_map, ne_eqb, Event, space, event_text}
+use Rattle.script_spec.specs.Common.{Item, SetCpus, SetMemory, SetRom, SetDisk, FitCard, BeginPhase, Ask, AskLevel, IsDecimal, IsForm, IsLevelForm, Says, HasForm, item_text, fields_of, ask, wire_item, line_item, wire_asked, line_asked, asked_with, asked_of, statement_of, item_with, item_of}
 use Rattle.script_spec.proofs.Digits.{lacks}
-use Rattle.script_spec.specs.Fields.{fields_of}
-use Rattle.script_spec.specs.Items.{ask, wire_item, line_item, wire_asked, line_asked, asked_with, asked_of, statement_of, item_with, item_of}
 use Rattle.script_spec.proofs.Joins.{Spells, Reads}
 use Rattle.script_spec.proofs.ItemTexts.{level_joined}
 use Rattle.script_spec.proofs.Splits.{split}

@@ -1,24 +1,10 @@
 -- The item that was read is the one that the line says.
-use Rattle.std.proofs.Common.{◌≡◌, ℕ, zero, suc, ◌≤◌, ◌⊎◌, ◌==◌, inl, inr, Bool, true, false, eqb, leb, ◌&&◌, Some, List, [], ◌∷◌, ◌++◌, length, take, refl, sym, ap, subst, ◌∙◌, append_assoc, arith, lit<}
-use Rattle.std.specs.Prelude.{codes, decimal, bytes_eq, if◌then◌else◌}
-use Rattle.std.specs.List.{join_with_byte, list_all}
-use Rattle.std.specs.Option.{option_map}
-use Rattle.std.proofs.lemmas.Bool.{cases_Bool, eqb-true, leb-true}
+use Rattle.std.proofs.Common.{◌≡◌, ℕ, zero, suc, ◌≤◌, ◌⊎◌, ◌==◌, inl, inr, Bool, true, false, eqb, leb, ◌&&◌, Some, List, [], ◌∷◌, ◌++◌, length, take, refl, sym, ap, subst, ◌∙◌, append_assoc, arith, lit<, codes, decimal, bytes_eq, if◌then◌else◌}
+use Rattle.board_prelude.proofs.Common.{join_with_byte, list_all, option_map, cases_Bool, eqb-true, leb-true, Moment, Event, Time, Wire, Line, space, event_text, moment_text, level_text}
 use Rattle.std.proofs.lemmas.Fmt.{decimal-digits_value}
 use Rattle.std.proofs.lemmas.List.Splits.{join_with_byte-slice_split}
-use Rattle.board_base.specs.declared.moment.Moment.{Moment}
-use Rattle.board_spec.specs.declared.event.Event.{Event}
-use Rattle.board_spec.specs.declared.event.Event.TheVariants.{Time, Wire, Line}
-use Rattle.board_spec.specs.Text.{space}
-use Rattle.board_spec.specs.LogText.{event_text, moment_text, level_text}
-use Rattle.script_spec.specs.Grammar.{Item, IsEventForm, SetCpus, SetMemory, SetRom, SetDisk, FitCard, BeginPhase, AskLevel, IsDecimal, IsName, HasForm, item_text, is_name_start, is_name_byte}
+use Rattle.script_spec.specs.Common.{Item, IsEventForm, SetCpus, SetMemory, SetRom, SetDisk, FitCard, BeginPhase, AskLevel, IsDecimal, IsName, HasForm, item_text, is_name_start, is_name_byte, fields_of, decimal_of, event_of, number_in, card_of, moment_in, ask, two_numbers_in, only_moment, moment_asked, wire_asked, line_asked, event_asked, asked_with, asked_of, is_name, name_in, phase_of, statement_of, item_with, item_of}
 use Rattle.script_spec.proofs.Digits.{own}
-use Rattle.script_spec.specs.Fields.{fields_of}
-use Rattle.script_spec.specs.Numbers.{decimal_of}
-use Rattle.script_spec.specs.Events.{event_of, number_in}
-use Rattle.script_spec.specs.Cards.{card_of}
-use Rattle.script_spec.specs.Moments.{moment_in}
-use Rattle.script_spec.specs.Items.{ask, two_numbers_in, only_moment, moment_asked, wire_asked, line_asked, event_asked, asked_with, asked_of, is_name, name_in, phase_of, statement_of, item_with, item_of}
 use Rattle.script_spec.proofs.Chains.{some_is, guarded, then_said, mapped, both}
 use Rattle.script_spec.proofs.NumberTexts.{decimal_read}
 use Rattle.script_spec.proofs.Joins.{Spells, same, same_as, joined, zipped, word_is}

@@ -1,12 +1,7 @@
 -- Fields that are spelled make a line that is spelled.
-use Rattle.std.proofs.Common.{◌≡◌, ℕ, Bool, true, false, Some, List, [], ◌∷◌, ◌++◌, inl, refl, sym, ap, subst, ◌∙◌, append_assoc, append-nil}
-use Rattle.std.specs.Prelude.{codes, bytes_eq}
-use Rattle.std.specs.List.{AllZip, join_with_byte}
-use Rattle.std.proofs.lemmas.Slice.Eq.{bytes_eq-Decides}
-use Rattle.board_spec.specs.Text.{space}
-use Rattle.board_spec.specs.LogText.{smm_text}
-use Rattle.script_spec.specs.Grammar.{StandsFor}
-use Rattle.script_spec.specs.Events.{smm_of}
+use Rattle.std.proofs.Common.{◌≡◌, ℕ, Bool, true, false, Some, List, [], ◌∷◌, ◌++◌, inl, refl, sym, ap, subst, ◌∙◌, append_assoc, append-nil, codes, bytes_eq}
+use Rattle.board_prelude.proofs.Common.{AllZip, join_with_byte, bytes_eq-Decides, space, smm_text}
+use Rattle.script_spec.specs.Common.{StandsFor, smm_of}
 use Rattle.script_spec.proofs.Chains.{some_is, guarded}
 
 abbrev pub Spells : List ℕ → List ℕ → Type 0

@@ -34,3 +34,4 @@ pub mod ReplyBack
 pub mod LogReading
 pub mod LogLaws
 mod ExampleRuns
+pub mod Common

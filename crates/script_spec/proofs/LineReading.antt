@@ -1,8 +1,6 @@
 -- What a line says is what is read from its fields, so it says at most one thing.
 use Rattle.std.proofs.Common.{ℕ, ◌≡◌, Option, Some, None, List, sym, ◌∙◌}
-use Rattle.script_spec.specs.Grammar.{Item, HasForm}
-use Rattle.script_spec.specs.Items.{read_line}
-use Rattle.script_spec.specs.Laws.{OneItem}
+use Rattle.script_spec.specs.Common.{Item, HasForm, read_line, OneItem}
 use Rattle.script_spec.proofs.Chains.{some_is}
 use Rattle.script_spec.proofs.ItemTexts.{item_read}
 use Rattle.script_spec.proofs.ItemBack.{line_back}

@@ -1,21 +1,8 @@
 -- A line of the log says its entry, and a log its version and its history.
-use Rattle.std.proofs.Common.{ℕ, ◌≡◌, ◌+◌, true, Option, Some, None, List, [], ◌∷◌, ◌++◌, length, map, reverse, get_or, drop, All, refl, sym, ap, ◌∙◌, inl, inr, append_assoc, append-nil, arith}
-use Rattle.std.specs.Prelude.{codes, decimal}
-use Rattle.std.specs.Fmt.{digits}
-use Rattle.std.proofs.lemmas.Grind.{flat_map-append}
+use Rattle.std.proofs.Common.{ℕ, ◌≡◌, ◌+◌, true, Option, Some, None, List, [], ◌∷◌, ◌++◌, length, map, reverse, get_or, drop, All, refl, sym, ap, ◌∙◌, inl, inr, append_assoc, append-nil, arith, codes, decimal}
+use Rattle.board_prelude.proofs.Common.{digits, flat_map-append, map-append, reverse-append, reverse-reverse, All-nil, All-head, All-tail, All-push, Pit, Ack, Entry, outside_answer, space, line_feed, event_text, value_bytes, reply_text, line_text, lines_text, log_text}
 use Rattle.std.proofs.lemmas.Fmt.{decimal_injective}
-use Rattle.std.proofs.lemmas.List.{map-append, reverse-append, reverse-reverse}
-use Rattle.std.proofs.lemmas.List.Elements.{All-nil, All-head, All-tail, All-push}
-use Rattle.board_base.specs.declared.target.Dev.TheVariants.{Pit}
-use Rattle.board_spec.specs.declared.event.Event.TheVariants.{Ack}
-use Rattle.board_spec.specs.declared.event.Entry.{Entry}
-use Rattle.board_spec.specs.Answer.{outside_answer}
-use Rattle.board_spec.specs.Text.{space, line_feed}
-use Rattle.board_spec.specs.LogText.{event_text, value_bytes, reply_text, line_text, lines_text, log_text}
-use Rattle.script_spec.specs.Lines.{text_of_lines, IsOneLine}
-use Rattle.script_spec.specs.ScriptText.{IsVersion}
-use Rattle.script_spec.specs.WellFormed.{IsWellFormed}
-use Rattle.script_spec.specs.Laws.{LineSaysEntry, LogSaysAll}
+use Rattle.script_spec.specs.Common.{text_of_lines, IsOneLine, IsVersion, IsWellFormed, LineSaysEntry, LogSaysAll}
 use Rattle.script_spec.proofs.Digits.{lacks}
 use Rattle.script_spec.proofs.Fields.{front, front-field, lacks-append}
 use Rattle.script_spec.proofs.Chains.{some_is}

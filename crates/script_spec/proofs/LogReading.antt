@@ -1,21 +1,7 @@
 -- A line of the log is taken apart, and its entry is read from it.
-use Rattle.std.proofs.Common.{◌≡◌, ℕ, ◌<◌, true, Option, Some, None, List, [], ◌∷◌, ◌++◌, refl, sym, ap, ◌∙◌, inl, inr, append_assoc, arith}
-use Rattle.std.specs.Prelude.{codes, decimal}
-use Rattle.std.proofs.lemmas.Bool.{lt-ltb}
-use Rattle.std.proofs.lemmas.Grind.{common_steps}
-use Rattle.board_spec.specs.declared.event.Event.{Event}
-use Rattle.board_spec.specs.declared.event.Statement.{Statement}
-use Rattle.board_spec.specs.declared.event.Entry.{Entry}
-use Rattle.board_spec.specs.Text.{space}
-use Rattle.board_spec.specs.LogText.{event_text, value_bytes, reply_text, line_text}
-use Rattle.script_spec.specs.Grammar.{Item, Ask, HasForm, item_text}
-use Rattle.script_spec.specs.WellFormed.{IsWellFormed}
-use Rattle.script_spec.specs.Fields.{fields_of}
-use Rattle.script_spec.specs.Numbers.{◌>>=◌}
-use Rattle.script_spec.specs.Items.{ask, read_line}
-use Rattle.script_spec.specs.Cuts.{cut}
-use Rattle.script_spec.specs.Replies.{reply_in}
-use Rattle.script_spec.specs.Entries.{Pieces, but_last, pieces_of, actor_of}
+use Rattle.std.proofs.Common.{◌≡◌, ℕ, ◌<◌, true, Option, Some, None, List, [], ◌∷◌, ◌++◌, refl, sym, ap, ◌∙◌, inl, inr, append_assoc, arith, codes, decimal}
+use Rattle.board_prelude.proofs.Common.{lt-ltb, common_steps, Event, Statement, Entry, space, event_text, value_bytes, reply_text, line_text}
+use Rattle.script_spec.specs.Common.{Item, Ask, HasForm, item_text, IsWellFormed, fields_of, ◌>>=◌, ask, read_line, cut, reply_in, Pieces, but_last, pieces_of, actor_of}
 use Rattle.script_spec.proofs.Digits.{lacks}
 use Rattle.script_spec.proofs.Fields.{lacks-append, lacks-decimal}
 use Rattle.script_spec.proofs.PlainText.{lacks-word, lacks-plain, decimal_word}

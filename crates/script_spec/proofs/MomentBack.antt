@@ -1,12 +1,7 @@
 -- A field that spells a moment is read as that moment.
 use Rattle.std.proofs.Common.{◌≡◌, ℕ, ◌+◌, ◌*◌, ◌/◌, ◌%◌, ◌<◌, Some, List, [], ◌∷◌, ◌++◌, refl, sym, ap, arith}
-use Rattle.std.proofs.lemmas.Bool.{eq-eqb}
-use Rattle.board_base.specs.declared.moment.Moment.{Moment}
-use Rattle.board_base.specs.Calendar.{moment_of}
-use Rattle.board_spec.specs.LogText.{two_digits, moment_text}
-use Rattle.script_spec.specs.Grammar.{IsMomentForm}
-use Rattle.script_spec.specs.Numbers.{two_digits_of, after_mark}
-use Rattle.script_spec.specs.Moments.{part_of, year_of, date_of, time_of, moment_with, moment_in}
+use Rattle.board_prelude.proofs.Common.{eq-eqb, Moment, moment_of, two_digits, moment_text}
+use Rattle.script_spec.specs.Common.{IsMomentForm, two_digits_of, after_mark, part_of, year_of, date_of, time_of, moment_with, moment_in}
 use Rattle.script_spec.proofs.NumberBack.{digit_so}
 
 two_back : (n : ℕ) (rest : List ℕ) → n < 100 → two_digits_of (two_digits n ++ rest) ≡ Some (n, rest)

@@ -1,12 +1,7 @@
 -- The moment that was read is the one that the field spells.
 use Rattle.std.proofs.Common.{◌≡◌, ℕ, ◌+◌, ◌*◌, ◌/◌, ◌%◌, ◌<◌, eqb, Some, List, [], ◌∷◌, ◌++◌, refl, sym, ap, subst, ◌∙◌, arith}
-use Rattle.std.proofs.lemmas.Bool.{eqb-true}
-use Rattle.board_base.specs.declared.moment.Moment.{Moment}
-use Rattle.board_base.specs.Calendar.{moment_of}
-use Rattle.board_spec.specs.LogText.{two_digits, moment_text}
-use Rattle.script_spec.specs.Grammar.{IsMomentForm}
-use Rattle.script_spec.specs.Numbers.{digit_of, two_digits_of, after_mark}
-use Rattle.script_spec.specs.Moments.{part_of, year_of, Three, date_of, time_of, moment_with, moment_in}
+use Rattle.board_prelude.proofs.Common.{eqb-true, Moment, moment_of, two_digits, moment_text}
+use Rattle.script_spec.specs.Common.{IsMomentForm, digit_of, two_digits_of, after_mark, part_of, year_of, Three, date_of, time_of, moment_with, moment_in}
 use Rattle.script_spec.proofs.Chains.{some_is, guarded, then_said}
 use Rattle.script_spec.proofs.NumberTexts.{ten_is}
 

@@ -1,19 +1,13 @@
 -- The numbers that were read are those whose text a field is.
-use Rattle.std.proofs.Common.{◌≡◌, ℕ, zero, suc, ◌+◌, ◌-◌, ◌*◌, ◌/◌, ◌%◌, ◌^◌, ◌<◌, ◌≤◌, ◌⊎◌, inl, inr, false, not, cond, eqb, leb, ltb, ◌&&◌, Some, None, List, [], ◌∷◌, length, get_or, refl, sym, ap, subst, ◌∙◌, arith, pow-suc, lit<, le-div_iff_mul-le}
-use Rattle.std.specs.Prelude.{decimal}
-use Rattle.std.specs.List.{AllZip}
+use Rattle.std.proofs.Common.{◌≡◌, ℕ, zero, suc, ◌+◌, ◌-◌, ◌*◌, ◌/◌, ◌%◌, ◌^◌, ◌<◌, ◌≤◌, ◌⊎◌, inl, inr, false, not, cond, eqb, leb, ltb, ◌&&◌, Some, None, List, [], ◌∷◌, length, get_or, refl, sym, ap, subst, ◌∙◌, arith, pow-suc, lit<, le-div_iff_mul-le, decimal}
+use Rattle.board_prelude.proofs.Common.{AllZip, AllDigits, digits_value, true≢false, cases_Bool, leb-true, ltb-true, cases_lt, lt-ltb, le-ltb, le-leb, eqb-true, pow-le-pow_right, byte, is_within, hex_digit, hex_number}
 use Rattle.std.specs.Char.{digit_value as value_of_digit}
-use Rattle.std.specs.Str.Parse.{AllDigits, digits_value, digits_value_after}
+use Rattle.std.specs.Str.Parse.{digits_value_after}
 use native.Mathlib.Nat.{div-div-eq-div-mul}
-use Rattle.std.proofs.lemmas.Bool.{true≢false, cases_Bool, leb-true, ltb-true, cases_lt, lt-ltb, le-ltb, le-leb, eqb-true}
 use Rattle.std.proofs.lemmas.Fmt.{decimal-digits_value}
 use Rattle.std.proofs.lemmas.Int.Digits.{digits_value-lt}
-use Rattle.std.proofs.Math.Nat.{pow-le-pow_right}
-use Rattle.board_spec.specs.Bits.{byte, is_within}
-use Rattle.board_spec.specs.Text.{hex_digit, hex_number}
-use Rattle.script_spec.specs.Grammar.{IsDecimal, StandsFor}
+use Rattle.script_spec.specs.Common.{IsDecimal, StandsFor, digit_value, digit_of, number_after, number_of, hex_of, has_leading_zero, decimal_of}
 use Rattle.script_spec.proofs.Digits.{own}
-use Rattle.script_spec.specs.Numbers.{digit_value, digit_of, number_after, number_of, hex_of, has_leading_zero, decimal_of}
 use Rattle.script_spec.proofs.Chains.{some_is, guarded, then_said, both, is_within_is}
 
 -- ---- one digit

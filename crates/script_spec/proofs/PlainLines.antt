@@ -1,22 +1,8 @@
 -- Statements and replies are words and spaces.
-use Rattle.std.proofs.Common.{ℕ, ◌≡◌, ◌+◌, ◌/◌, ◌%◌, ◌<◌, Bool, true, false, ◌||◌, eqb, Option, Some, None, List, [], ◌∷◌, ◌++◌, flat_map, refl, inl, inr, arith}
-use Rattle.std.specs.Prelude.{codes, decimal, if◌then◌else◌}
-use Rattle.std.proofs.lemmas.Bool.{cases_Bool, or_right, and_from}
-use Rattle.board_base.specs.declared.access.Kind.{Kind}
-use Rattle.board_base.specs.declared.access.Kind.TheVariants.{Fetch, Read, Write}
-use Rattle.board_base.specs.declared.moment.Moment.{Moment}
-use Rattle.board_base.specs.declared.target.Target.{Target}
-use Rattle.board_base.specs.declared.target.Denial.{Denial}
-use Rattle.board_base.specs.Access.{bytes_of}
-use Rattle.board_spec.specs.declared.event.Event.{Event}
-use Rattle.board_spec.specs.declared.event.Event.TheVariants.{Memory, Wide, Port, Look as LookAt, Ack, Pulses, Time, Wire, Line, BadSector}
-use Rattle.board_spec.specs.declared.event.Part.{Part}
-use Rattle.board_spec.specs.declared.event.Reply.{Reply}
-use Rattle.board_spec.specs.declared.event.Reply.TheVariants.{Bus, Parts as InParts, Saw}
-use Rattle.board_spec.specs.Stored.{is_write}
-use Rattle.board_spec.specs.WideParts.{parts_list}
-use Rattle.board_spec.specs.Text.{space, hex_number, hex_word, hex_long, area_text, target_text, denial_text}
-use Rattle.board_spec.specs.LogText.{size_text, kind_text, written_text, smm_text, memory_text, level_text, two_digits, moment_text, event_text, value_text, answered_text, reply_text}
+use Rattle.std.proofs.Common.{ℕ, ◌≡◌, ◌+◌, ◌/◌, ◌%◌, ◌<◌, Bool, true, false, ◌||◌, eqb, Option, Some, None, List, [], ◌∷◌, ◌++◌, flat_map, refl, inl, inr, arith, codes, decimal, if◌then◌else◌}
+use Rattle.board_prelude.proofs.Common.{cases_Bool, or_right, and_from, Kind, Fetch, Read, Write, Moment, Target, Denial, bytes_of, Event, Memory, Wide, Port, Ack, Pulses, Time, Wire, Line, BadSector, Part, Reply, Bus, Saw, is_write, parts_list, space, hex_number, hex_word, hex_long, area_text, target_text, denial_text, size_text, kind_text, written_text, smm_text, memory_text, level_text, two_digits, moment_text, event_text, value_text, answered_text, reply_text}
+use Rattle.board_spec.specs.declared.event.Event.TheVariants.{Look as LookAt}
+use Rattle.board_spec.specs.declared.event.Reply.TheVariants.{Parts as InParts}
 use Rattle.script_spec.proofs.PlainText.{is_word_byte, is_word, is_plain, plain-append, plain-word, digit_byte, hex_number_word, decimal_word, area_word, target_word, denial_word}
 
 hex_plain : (bytes n : ℕ) → is_plain (hex_number bytes n) ≡ true

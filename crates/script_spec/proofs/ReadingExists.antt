@@ -1,21 +1,8 @@
 -- Each text is a script's, or bad.
-use Rattle.std.proofs.Common.{ℕ, ◌≡◌, ◌≢◌, ◌<◌, ◌≤◌, ◌⊎◌, Bool, true, false, not, ◌&&◌, ◌||◌, cond, ltb, Option, Some, None, Result, Ok, Err, List, [], ◌∷◌, ◌++◌, map, reverse, get_or, All, filter, refl, sym, ap, ◌∙◌, inl, inr, append_assoc, append-nil, arith}
-use Rattle.std.specs.Prelude.{◌==◌}
-use Rattle.std.specs.Option.{option_map}
-use Rattle.std.specs.List.{find, list_any}
-use Rattle.std.specs.List.Sorted.{IsPermutation}
-use Rattle.std.proofs.lemmas.Bool.{true≢false, false≢true, or_right, or_from, and_parts, and_from, cases_Bool, ltb-true, ltb-false, eqb-false}
-use Rattle.std.proofs.lemmas.Grind.{flat_map-append}
-use Rattle.std.proofs.lemmas.List.{map-append, reverse-append}
-use Rattle.std.proofs.lemmas.List.Elements.{All-nil, All-cons, All-head, All-tail}
-use Rattle.std.proofs.lemmas.List.Sorted.{All-permutation, IsPermutation-refl, IsPermutation-trans, IsPermutation-cons, IsPermutation-middle, IsPermutation-sym}
-use Rattle.board_spec.specs.declared.event.Statement.{Statement}
-use Rattle.board_spec.specs.Setup.{FittedCard, Rises}
-use Rattle.script_spec.specs.Lines.{lines_of}
-use Rattle.script_spec.specs.Grammar.{Item, SetCpus, SetMemory, SetRom, SetDisk, FitCard, BeginPhase, Ask, AskLevel}
-use Rattle.script_spec.specs.Reasons.{is_phase, is_setup, is_cpus, is_memory, is_rom, is_disk, cards_of, has_setup, lacks_setup}
-use Rattle.script_spec.specs.ScriptText.{Script, phase_items, IsSaidBy, IsScriptText, IsScriptBad}
-use Rattle.script_spec.specs.Laws.{SomeReading}
+use Rattle.std.proofs.Common.{ℕ, ◌≡◌, ◌≢◌, ◌<◌, ◌≤◌, ◌⊎◌, Bool, true, false, not, ◌&&◌, ◌||◌, cond, ltb, Option, Some, None, Result, Ok, Err, List, [], ◌∷◌, ◌++◌, map, reverse, get_or, All, filter, refl, sym, ap, ◌∙◌, inl, inr, append_assoc, append-nil, arith, ◌==◌}
+use Rattle.board_prelude.proofs.Common.{option_map, find, list_any, IsPermutation, true≢false, false≢true, or_right, or_from, and_parts, and_from, cases_Bool, ltb-true, ltb-false, eqb-false, flat_map-append, map-append, reverse-append, All-nil, All-cons, All-head, All-tail, All-permutation, IsPermutation-sym, Statement, FittedCard, Rises}
+use Rattle.std.proofs.lemmas.List.Sorted.{IsPermutation-refl, IsPermutation-trans, IsPermutation-cons, IsPermutation-middle}
+use Rattle.script_spec.specs.Common.{lines_of, Item, SetCpus, SetMemory, SetRom, SetDisk, FitCard, BeginPhase, Ask, AskLevel, is_phase, is_setup, is_cpus, is_memory, is_rom, is_disk, cards_of, has_setup, lacks_setup, Script, phase_items, IsSaidBy, IsScriptText, IsScriptBad, SomeReading}
 use Rattle.script_spec.proofs.GoodItems.{NoReason, AreGood, read_good}
 use Rattle.script_spec.proofs.RangeLaws.{none_any}
 use Rattle.script_spec.proofs.Decision.{judged, AreGoodLines, AreJudged, judged_is}

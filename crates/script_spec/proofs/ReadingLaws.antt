@@ -1,9 +1,6 @@
 -- A text says at most one script, and is bad at one line for one reason, but not both: it is decided.
 use Rattle.std.proofs.Common.{ℕ, ◌≡◌, Result, Ok, Err, List, [], ◌∷◌, ◌++◌, refl, sym, ap, ◌∙◌, inl, inr}
-use Rattle.script_spec.specs.Lines.{lines_of}
-use Rattle.script_spec.specs.Grammar.{Item}
-use Rattle.script_spec.specs.ScriptText.{IsSkipped, IsGoodLine, AreRead}
-use Rattle.script_spec.specs.Laws.{NotBoth, OneRefusal}
+use Rattle.script_spec.specs.Common.{lines_of, Item, IsSkipped, IsGoodLine, AreRead, NotBoth, OneRefusal}
 pub use Rattle.script_spec.proofs.Lists.{same_head, same_tail, not_nil, same_some}
 use Rattle.script_spec.proofs.Decision.{judged, text_decided, bad_decided}
 

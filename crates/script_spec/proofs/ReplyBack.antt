@@ -1,41 +1,17 @@
 -- A reply is read back from its words, and what is read has the shape of its event.
-use Rattle.std.proofs.Common.{◌≡◌, ℕ, zero, suc, ◌+◌, ◌-◌, ◌^◌, ◌<◌, ◌≤◌, ◌↔◌, Bool, true, false, eqb, Option, Some, None, List, [], ◌∷◌, ◌++◌, length, All, flat_map, refl, sym, ap, ◌∙◌, inl, inr, append_assoc, append-nil, arith, lit<}
-use Rattle.std.specs.Prelude.{decimal, IfSome, IsTrue}
-use Rattle.std.specs.Option.{option_map}
-use Rattle.std.proofs.Math.Nat.{pow-le-pow_right}
-use Rattle.std.proofs.lemmas.Bool.{cases_Bool, eq-eqb, eqb-true, true≢false}
-use Rattle.std.proofs.lemmas.List.Elements.{All-head, All-tail}
-use Rattle.board_base.specs.declared.access.Kind.{Kind}
-use Rattle.board_base.specs.declared.access.Kind.TheVariants.{Fetch, Read, Write}
-use Rattle.board_base.specs.declared.access.WideAccess.{WideAccess}
-use Rattle.board_base.specs.declared.target.Target.{Target}
-use Rattle.board_base.specs.declared.target.Denial.{Denial}
-use Rattle.board_base.specs.Access.{bytes_of}
-use Rattle.board_spec.specs.declared.event.Event.{Event}
-use Rattle.board_spec.specs.declared.event.Event.TheVariants.{Memory, Wide, Port, Look as LookAt, Ack, Pulses, Time, Wire, Line, BadSector}
-use Rattle.board_spec.specs.declared.event.Look.{Look}
-use Rattle.board_spec.specs.declared.event.Part.{Part}
-use Rattle.board_spec.specs.declared.event.Parts.{Parts}
-use Rattle.board_spec.specs.declared.event.Parts.TheVariants.{Two, Three, Four}
-use Rattle.board_spec.specs.declared.event.Reply.{Reply}
-use Rattle.board_spec.specs.declared.event.Reply.TheVariants.{Bus, Parts as InParts, Saw}
-use Rattle.board_spec.specs.Stored.{is_write}
-use Rattle.board_spec.specs.WideParts.{longest_at, parts_from, parts_of, parts_list}
-use Rattle.board_spec.specs.Text.{space, hex_long, area_text, target_text, denial_text}
-use Rattle.board_spec.specs.LogText.{value_bytes, value_text, answered_text, reply_text}
-use Rattle.script_spec.specs.Grammar.{IsDecimal}
-use Rattle.script_spec.specs.WellFormed.{FitsPart, IsReplyValue, IsBusReply, IsWideReply, IsLookReply, HasShape}
+use Rattle.std.proofs.Common.{◌≡◌, ℕ, zero, suc, ◌+◌, ◌-◌, ◌^◌, ◌<◌, ◌≤◌, ◌↔◌, Bool, true, false, eqb, Option, Some, None, List, [], ◌∷◌, ◌++◌, length, All, flat_map, refl, sym, ap, ◌∙◌, inl, inr, append_assoc, append-nil, arith, lit<, decimal, IfSome, IsTrue}
+use Rattle.board_prelude.proofs.Common.{option_map, pow-le-pow_right, cases_Bool, eq-eqb, eqb-true, true≢false, All-head, All-tail, Kind, Fetch, Read, Write, WideAccess, Target, Denial, bytes_of, Event, Memory, Wide, Port, Ack, Pulses, Time, Wire, Line, BadSector, Look, Part, Parts, Two, Three, Four, Reply, Bus, Saw, is_write, longest_at, parts_from, parts_of, parts_list, space, hex_long, area_text, target_text, denial_text, value_bytes, value_text, answered_text, reply_text}
+use Rattle.board_spec.specs.declared.event.Event.TheVariants.{Look as LookAt}
+use Rattle.board_spec.specs.declared.event.Reply.TheVariants.{Parts as InParts}
+use Rattle.script_spec.specs.Common.{IsDecimal, FitsPart, IsReplyValue, IsBusReply, IsWideReply, IsLookReply, HasShape, fields_of, hex_of, decimal_of, denial_of, area_of, target_of, value_of, bus_of, last_parts, more_parts, parts_in, part_count, parts_with, wide_of, reply_of, reply_in}
 use Rattle.script_spec.proofs.PlainText.{is_word, lacks-word, hex_number_word, decimal_word, area_word, target_word, denial_word}
 use Rattle.script_spec.proofs.PlainLines.{value_word}
 use Rattle.script_spec.proofs.Digits.{lacks}
 use Rattle.script_spec.proofs.CardTexts.{spaced, line_spaced}
 use Rattle.script_spec.proofs.Splits.{Lack, split_exact}
-use Rattle.script_spec.specs.Fields.{fields_of}
-use Rattle.script_spec.specs.Numbers.{hex_of, decimal_of}
 use Rattle.script_spec.proofs.NumberTexts.{decimal_read}
 use Rattle.script_spec.proofs.NumberBack.{decimal_back}
-use Rattle.script_spec.specs.Targets.{denial_of, area_of, target_of}
-use Rattle.script_spec.specs.Replies.{value_of, bus_of, part_of, last_parts, more_parts, parts_in, part_count, parts_with, wide_of, look_of, reply_of, reply_in}
+use Rattle.script_spec.specs.Replies.{part_of, look_of}
 use Rattle.script_spec.proofs.TargetBack.{hex_read, denial_back, area_back, target_back}
 
 -- ---- the words of a reply

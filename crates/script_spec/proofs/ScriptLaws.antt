@@ -1,15 +1,7 @@
 -- A text says at most one script.
 use Rattle.std.proofs.Common.{ℕ, ◌≡◌, ◌<◌, ◌⊎◌, Option, Some, None, Result, Ok, List, [], ◌∷◌, ◌++◌, get_or, map, All, refl, sym, ap, ◌∙◌, inl, inr, append-nil, arith}
-use Rattle.std.specs.Option.{option_map}
-use Rattle.std.specs.List.Sorted.{IsPermutation}
-use Rattle.std.proofs.lemmas.List.Elements.{All-head, All-tail, All-nil, All-cons}
-use Rattle.std.proofs.lemmas.List.Sorted.{All-permutation, IsPermutation-sym}
-use Rattle.board_spec.specs.declared.event.Statement.{Statement}
-use Rattle.board_spec.specs.Setup.{FittedCard, Rises}
-use Rattle.script_spec.specs.Grammar.{Item, SetCpus, SetMemory, SetRom, SetDisk, BeginPhase, Ask}
-use Rattle.script_spec.specs.Reasons.{cards_of}
-use Rattle.script_spec.specs.ScriptText.{Script, phase_items, IsSaidBy}
-use Rattle.script_spec.specs.Laws.{OneScript}
+use Rattle.board_prelude.proofs.Common.{option_map, IsPermutation, All-head, All-tail, All-nil, All-cons, All-permutation, IsPermutation-sym, Statement, FittedCard, Rises}
+use Rattle.script_spec.specs.Common.{Item, SetCpus, SetMemory, SetRom, SetDisk, BeginPhase, Ask, cards_of, Script, phase_items, IsSaidBy, OneScript}
 use Rattle.script_spec.proofs.Decision.{text_decided}
 
 -- ---- cards in rising order

@@ -1,17 +1,8 @@
 -- Each line of a form that asks nothing is read again from its fields.
-use Rattle.std.proofs.Common.{◌≡◌, ℕ, Bool, true, false, Option, Some, None, List, [], ◌∷◌, ◌++◌, length, flat_map, map, leb, ◌&&◌, refl, sym, ap, ◌∙◌, append_assoc, append-nil, arith}
-use Rattle.std.specs.Prelude.{codes, decimal}
-use Rattle.std.specs.List.{join_with_byte, list_all}
-use Rattle.std.specs.Option.{option_map}
-use Rattle.std.proofs.lemmas.Bool.{and_parts, and_from, le-leb}
-use Rattle.board_spec.specs.Setup.{Base, MemoryBase, IoBase, FittedCard}
-use Rattle.board_spec.specs.Text.{space}
-use Rattle.script_spec.specs.Grammar.{Item, SetCpus, SetMemory, SetRom, SetDisk, FitCard, BeginPhase, IsDecimal, IsName, IsCardForm, base_text, rom_text, item_text, is_name_start, is_name_byte}
+use Rattle.std.proofs.Common.{◌≡◌, ℕ, Bool, true, false, Option, Some, None, List, [], ◌∷◌, ◌++◌, length, flat_map, map, leb, ◌&&◌, refl, sym, ap, ◌∙◌, append_assoc, append-nil, arith, codes, decimal}
+use Rattle.board_prelude.proofs.Common.{join_with_byte, list_all, option_map, and_parts, and_from, le-leb, Base, MemoryBase, IoBase, FittedCard, space}
+use Rattle.script_spec.specs.Common.{Item, SetCpus, SetMemory, SetRom, SetDisk, FitCard, BeginPhase, IsDecimal, IsName, IsCardForm, base_text, rom_text, item_text, is_name_start, is_name_byte, number_in, card_of, fields_of, is_name, name_in, phase_of, item_with, item_of}
 use Rattle.script_spec.proofs.Digits.{lacks}
-use Rattle.script_spec.specs.Events.{number_in}
-use Rattle.script_spec.specs.Cards.{card_of}
-use Rattle.script_spec.specs.Fields.{fields_of}
-use Rattle.script_spec.specs.Items.{is_name, name_in, phase_of, item_with, item_of}
 use Rattle.script_spec.proofs.Splits.{Lack, split_exact}
 use Rattle.script_spec.proofs.NumberBack.{decimal_back}
 use Rattle.script_spec.proofs.CardTexts.{spaced, line_spaced, kind_word, card_parts}

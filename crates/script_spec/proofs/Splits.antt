@@ -1,14 +1,10 @@
 -- A line that spells fields has just those fields.
 use Rattle.std.proofs.Common.{◌≡◌, ℕ, inl, inr, Bool, true, false, eqb, leb, List, [], ◌∷◌, ◌++◌, refl, sym, ap, subst, ◌∙◌, All, arith}
-use Rattle.std.specs.List.{join_with_byte}
-use Rattle.std.proofs.lemmas.Bool.{and_parts, leb-true, ne_eqb, true≢false}
-use Rattle.std.proofs.lemmas.List.Elements.{All-nil, All-cons}
+use Rattle.board_prelude.proofs.Common.{join_with_byte, and_parts, leb-true, ne_eqb, true≢false, All-nil, All-cons, space}
 use Rattle.std.proofs.lemmas.List.Splits.{slice_split_none, slice_split_at}
-use Rattle.board_spec.specs.Text.{space}
-use Rattle.script_spec.specs.Grammar.{StandsFor}
+use Rattle.script_spec.specs.Common.{StandsFor, fields_of}
 use Rattle.script_spec.proofs.Digits.{lacks}
 use Rattle.script_spec.proofs.Fields.{lacks-first, lacks-later}
-use Rattle.script_spec.specs.Fields.{fields_of}
 use Rattle.script_spec.proofs.Joins.{Spells, Reads}
 
 abbrev is_space : ℕ → Bool

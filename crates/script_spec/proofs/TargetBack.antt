@@ -1,30 +1,17 @@
 -- A word of a reply is read as what it names.
-use Rattle.std.proofs.Common.{◌≡◌, ℕ, zero, suc, ◌+◌, ◌*◌, ◌/◌, ◌%◌, ◌^◌, ◌<◌, ◌⊎◌, true, false, cond, eqb, ltb, Option, Some, None, List, [], ◌∷◌, ◌++◌, refl, sym, ap, ◌∙◌, inl, inr, append_assoc, arith}
-use Rattle.std.specs.Prelude.{codes, decimal}
-use Rattle.std.specs.Fmt.{digits}
-use Rattle.std.specs.Option.{option_map}
-use Rattle.std.proofs.lemmas.Bool.{lt-ltb, le-ltb, ne_eqb, cases_lt}
+use Rattle.std.proofs.Common.{◌≡◌, ℕ, zero, suc, ◌+◌, ◌*◌, ◌/◌, ◌%◌, ◌^◌, ◌<◌, ◌⊎◌, true, false, cond, eqb, ltb, Option, Some, None, List, [], ◌∷◌, ◌++◌, refl, sym, ap, ◌∙◌, inl, inr, append_assoc, arith, codes, decimal}
+use Rattle.board_prelude.proofs.Common.{digits, option_map, lt-ltb, le-ltb, ne_eqb, cases_lt, Reg, Dev, Area, Target, Denial, Register, Confadd, NoRegister, byte, hex_digit, hex_byte, hex_number, hex_long, hex_offset, register_text, area_text, device_text, target_text, denial_text}
 use Rattle.std.proofs.lemmas.Fmt.{decimal_digit}
-use Rattle.board_base.specs.declared.target.Reg.{Reg}
-use Rattle.board_base.specs.declared.target.Dev.{Dev}
 use Rattle.board_base.specs.declared.target.Dev.TheVariants as devices
-use Rattle.board_base.specs.declared.target.Area.{Area}
 use Rattle.board_base.specs.declared.target.Area.TheVariants as areas
-use Rattle.board_base.specs.declared.target.Target.{Target}
 use Rattle.board_base.specs.declared.target.Target.TheVariants as targets
-use Rattle.board_base.specs.declared.target.Denial.{Denial}
-use Rattle.board_base.specs.declared.target.Denial.TheVariants.{Register, Confadd, NoRegister}
-use Rattle.board_spec.specs.Bits.{byte}
-use Rattle.board_spec.specs.Text.{hex_digit, hex_byte, hex_number, hex_long, hex_offset, register_text, area_text, device_text, target_text, denial_text}
-use Rattle.script_spec.specs.WellFormed.{FitsReg, FitsArea, FitsDevice, FitsTarget, FitsDenial}
+use Rattle.script_spec.specs.Common.{FitsReg, FitsArea, FitsDevice, FitsTarget, FitsDenial, digit_of, number_after, hex_of, cut, digit_in, register_of, denial_with, denial_of, placed_area, area_of, placed_target, device_of, target_of}
 use Rattle.script_spec.proofs.Digits.{lacks}
 use Rattle.script_spec.proofs.Fields.{lacks-append, lacks-decimal}
-use Rattle.script_spec.specs.Numbers.{digit_of, number_after, hex_of}
 use Rattle.script_spec.proofs.Joins.{same}
 use Rattle.script_spec.proofs.NumberTexts.{digit_again}
 use Rattle.script_spec.proofs.NumberBack.{digit_so, hex_digit_read, hex_after, hex_back}
-use Rattle.script_spec.specs.Cuts.{cut, digit_in}
-use Rattle.script_spec.specs.Targets.{register_of, denial_with, denial_of, base_of, placed_area, area_of, card_of, placed_target, device_of, target_of}
+use Rattle.script_spec.specs.Targets.{base_of, card_of}
 use Rattle.script_spec.proofs.CutLemmas.{cut_field}
 
 -- ---- numbers

@@ -1,12 +1,6 @@
 -- The first line by which a text is no log: of any history, or of a script.
 use Rattle.std.specs.Prelude.{ℕ, ◌≡◌, ◌+◌, List, [], ◌∷◌, ◌++◌, length, All}
-use Rattle.board_spec.specs.declared.event.Entry.{Entry}
-use Rattle.board_spec.specs.declared.event.Statement.{Statement}
-use Rattle.board_spec.specs.Setup.{Setup}
-use Rattle.board_spec.specs.Legal.{IsLegal}
-use Rattle.board_spec.specs.Orders.{IsCompleteFor}
-use Rattle.board_spec.specs.Text.{line_feed}
-use Rattle.board_spec.specs.LogText.{log_text}
+use Rattle.board_prelude.specs.Common.{Entry, Statement, Setup, IsLegal, IsCompleteFor, line_feed, log_text}
 use Rattle.script_spec.specs.Lines.{text_of_lines, IsOneLine}
 use Rattle.script_spec.specs.ScriptText.{IsVersion}
 use Rattle.script_spec.specs.WellFormed.{IsWellFormed}

@@ -1,13 +1,8 @@
 -- What a statement asks, by the fields of its line after the processor's number: the reader's way through the forms.
 use Rattle.std.specs.Prelude.{ℕ, ◌*◌, ◌%◌, ◌≡◌, ◌⊎◌, ◌==◌, Bool, true, false, not, ◌&&◌, ◌||◌, List, [], ◌∷◌, if◌then◌else◌, Option, Some, None, codes, bytes_eq}
-use Rattle.std.specs.Option.{option_and_then}
-use Rattle.board_base.specs.declared.access.Width.{Width}
-use Rattle.board_base.specs.declared.access.Width.TheVariants.{One, Two, Four}
-use Rattle.board_base.specs.Access.{bytes_of}
-use Rattle.board_base.specs.declared.access.Kind.{Kind}
-use Rattle.board_base.specs.declared.access.Kind.TheVariants.{Fetch, Read, Write}
-use Rattle.board_spec.specs.declared.event.Event.{Event}
-use Rattle.board_spec.specs.declared.event.Event.TheVariants.{Memory, Wide, Port, Look as LookAt, Ack, Pulses, BadSector}
+use Rattle.board_prelude.specs.Common.{option_and_then, Width, One, bytes_of, Kind, Fetch, Read, Write, Event, Memory, Wide, Port, Ack, Pulses, BadSector}
+use Rattle.board_base.specs.declared.access.Width.TheVariants.{Two, Four}
+use Rattle.board_spec.specs.declared.event.Event.TheVariants.{Look as LookAt}
 use Rattle.script_spec.specs.Numbers.{hex_of, decimal_of, ◌>>=◌}
 
 -- ---- fields

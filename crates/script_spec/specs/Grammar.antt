@@ -1,22 +1,9 @@
 -- What a line of a script says after its first line. A statement is spelled as the log spells it, with hexadecimal
 -- digits in either case, and everything else as it stands. The forms are those of a version of scripts, 1 or 2.
 use Rattle.std.specs.Prelude.{ℕ, ◌≡◌, ◌≢◌, ◌+◌, ◌%◌, ◌^◌, ◌≤◌, ◌<◌, ◌⊎◌, ◌==◌, Bool, true, ◌||◌, if◌then◌else◌, List, [], ◌∷◌, ◌++◌, length, flat_map, take, All, Option, Some, None, codes, decimal}
-use Rattle.std.specs.List.{AllZip, list_all}
+use Rattle.board_prelude.specs.Common.{AllZip, list_all, PortAccess, WideAccess, Moment, bytes_of, weekday_of, Event, Memory, Wide, Port, Ack, Pulses, Time, Wire, Line, BadSector, Statement, Base, MemoryBase, IoBase, FittedCard, is_within, is_write, FitsBytes, space, event_text}
 use Rattle.board_base.specs.declared.access.Access.{Access}
-use Rattle.board_base.specs.declared.access.PortAccess.{PortAccess}
-use Rattle.board_base.specs.declared.access.WideAccess.{WideAccess}
-use Rattle.board_base.specs.declared.moment.Moment.{Moment}
-use Rattle.board_base.specs.Access.{bytes_of}
-use Rattle.board_base.specs.Calendar.{weekday_of}
-use Rattle.board_spec.specs.declared.event.Event.{Event}
-use Rattle.board_spec.specs.declared.event.Event.TheVariants.{Memory, Wide, Port, Look as LookAt, Ack, Pulses, Time, Wire, Line, BadSector}
-use Rattle.board_spec.specs.declared.event.Statement.{Statement}
-use Rattle.board_spec.specs.Setup.{Base, MemoryBase, IoBase, FittedCard}
-use Rattle.board_spec.specs.Bits.{is_within}
-use Rattle.board_spec.specs.Stored.{is_write}
-use Rattle.board_spec.specs.InRange.{FitsBytes}
-use Rattle.board_spec.specs.Text.{space}
-use Rattle.board_spec.specs.LogText.{event_text}
+use Rattle.board_spec.specs.declared.event.Event.TheVariants.{Look as LookAt}
 
 -- what a line says
 pub data Item : Type 0 where

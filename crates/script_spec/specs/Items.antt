@@ -1,9 +1,6 @@
 -- What a line says, by its fields: the reader's way through the forms.
 use Rattle.std.specs.Prelude.{ℕ, ◌==◌, Bool, true, false, ◌&&◌, nat_le, List, [], ◌∷◌, length, if◌then◌else◌, Option, Some, None, option_map, codes, bytes_eq}
-use Rattle.std.specs.List.{list_all}
-use Rattle.board_base.specs.declared.moment.Moment.{Moment}
-use Rattle.board_spec.specs.declared.event.Event.{Event}
-use Rattle.board_spec.specs.declared.event.Event.TheVariants.{Time, Wire as SetWire, Line as SetLine}
+use Rattle.board_prelude.specs.Common.{list_all, Moment, Event, Time, Wire as SetWire, Line as SetLine}
 use Rattle.script_spec.specs.Grammar.{Item, SetCpus, SetMemory, SetRom, SetDisk, FitCard, BeginPhase, Ask, AskLevel, is_name_start, is_name_byte}
 use Rattle.script_spec.specs.Fields.{fields_of}
 use Rattle.script_spec.specs.Numbers.{decimal_of, ◌>>=◌}

@@ -18,3 +18,4 @@ pub mod Checks
 pub mod Laws
 pub mod ExampleScripts
 pub mod Phases
+pub mod Common

@@ -1,7 +1,6 @@
 -- What the field of a moment says: the reader's way through the form.
 use Rattle.std.specs.Prelude.{ℕ, ◌+◌, ◌*◌, List, [], ◌∷◌, Option, Some, None}
-use Rattle.board_base.specs.declared.moment.Moment.{Moment}
-use Rattle.board_base.specs.Calendar.{moment_of}
+use Rattle.board_prelude.specs.Common.{Moment, moment_of}
 use Rattle.script_spec.specs.Numbers.{two_digits_of, after_mark, ◌>>=◌}
 
 -- two digits after a mark, and what follows

@@ -1,15 +1,6 @@
 -- Why a line that has a form is refused, by the items of the lines before it, the newest first.
 use Rattle.std.specs.Prelude.{ℕ, ◌+◌, ◌%◌, ◌==◌, nat_le, nat_lt, Bool, true, false, not, ◌&&◌, ◌||◌, List, [], ◌∷◌, length, filter, sum_by, Option, Some, None, option_map, if◌then◌else◌}
-use Rattle.std.specs.List.{list_all, list_any, find}
-use Rattle.board_base.specs.declared.moment.Moment.{Moment}
-use Rattle.board_base.specs.Access.{bytes_of}
-use Rattle.board_base.specs.Calendar.{days_in_month}
-use Rattle.board_spec.specs.declared.event.Event.{Event}
-use Rattle.board_spec.specs.declared.event.Event.TheVariants.{Memory, Wide, Port, Pulses, Time, Wire, Line, BadSector}
-use Rattle.board_spec.specs.Limits.{most_statements, most_phases, most_pulses, most_card_memory}
-use Rattle.board_spec.specs.Setup.{Base, MemoryBase, IoBase, FittedCard, memory_of_cards}
-use Rattle.board_spec.specs.Bits.{is_within}
-use Rattle.board_spec.specs.InRange.{is_free_line}
+use Rattle.board_prelude.specs.Common.{list_all, list_any, find, Moment, bytes_of, days_in_month, Event, Memory, Wide, Port, Pulses, Time, Wire, Line, BadSector, most_statements, most_phases, most_pulses, most_card_memory, Base, MemoryBase, IoBase, FittedCard, memory_of_cards, is_within, is_free_line}
 use Rattle.script_spec.specs.Grammar.{Item, SetCpus, SetMemory, SetRom, SetDisk, FitCard, BeginPhase, Ask, AskLevel}
 
 -- ---- kinds of items

@@ -1,18 +1,9 @@
 -- What the words of a reply say, by its event: the reader's way through its shapes.
 use Rattle.std.specs.Prelude.{ℕ, zero, suc, ◌+◌, ◌-◌, ◌*◌, ◌==◌, ◌≤◌, Bool, false, List, [], ◌∷◌, length, if◌then◌else◌, Option, Some, None, option_map, codes, bytes_eq}
-use Rattle.board_base.specs.declared.access.WideAccess.{WideAccess}
-use Rattle.board_base.specs.declared.target.Dev.TheVariants.{Pit, Clock, Wires, Ata}
-use Rattle.board_base.specs.Access.{bytes_of}
-use Rattle.board_spec.specs.declared.event.Event.{Event}
-use Rattle.board_spec.specs.declared.event.Event.TheVariants.{Memory, Wide, Port, Look as LookAt, Ack, Pulses, Time, Wire, Line, BadSector}
-use Rattle.board_spec.specs.declared.event.Part.{Part}
-use Rattle.board_spec.specs.declared.event.Parts.{Parts}
-use Rattle.board_spec.specs.declared.event.Parts.TheVariants.{Two, Three, Four}
-use Rattle.board_spec.specs.declared.event.Reply.{Reply}
-use Rattle.board_spec.specs.declared.event.Reply.TheVariants.{Bus, Parts as InParts, Saw}
-use Rattle.board_spec.specs.Stored.{is_write}
-use Rattle.board_spec.specs.WideParts.{longest_at, parts_list}
-use Rattle.board_spec.specs.Answer.{outside_answer}
+use Rattle.board_prelude.specs.Common.{WideAccess, Pit, Wires, Ata, bytes_of, Event, Memory, Wide, Port, Ack, Pulses, Time, Wire, Line, BadSector, Part, Parts, Two, Three, Four, Reply, Bus, Saw, is_write, longest_at, parts_list, outside_answer}
+use Rattle.board_base.specs.declared.target.Dev.TheVariants.{Clock}
+use Rattle.board_spec.specs.declared.event.Event.TheVariants.{Look as LookAt}
+use Rattle.board_spec.specs.declared.event.Reply.TheVariants.{Parts as InParts}
 use Rattle.script_spec.specs.Numbers.{hex_of, decimal_of, ◌>>=◌}
 use Rattle.script_spec.specs.Targets.{denial_of, area_of, target_of}
 

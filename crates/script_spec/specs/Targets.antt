@@ -1,14 +1,9 @@
 -- What the words of a reply name: the reader's way through them.
 use Rattle.std.specs.Prelude.{ℕ, List, if◌then◌else◌, Option, Some, None, option_map, codes, bytes_eq}
-use Rattle.board_base.specs.declared.target.Reg.{Reg}
-use Rattle.board_base.specs.declared.target.Dev.{Dev}
+use Rattle.board_prelude.specs.Common.{Reg, Dev, Area, Target, Denial, Register, Confadd, NoRegister}
 use Rattle.board_base.specs.declared.target.Dev.TheVariants as devices
-use Rattle.board_base.specs.declared.target.Area.{Area}
 use Rattle.board_base.specs.declared.target.Area.TheVariants as areas
-use Rattle.board_base.specs.declared.target.Target.{Target}
 use Rattle.board_base.specs.declared.target.Target.TheVariants as targets
-use Rattle.board_base.specs.declared.target.Denial.{Denial}
-use Rattle.board_base.specs.declared.target.Denial.TheVariants.{Register, Confadd, NoRegister}
 use Rattle.script_spec.specs.Numbers.{hex_of, ◌>>=◌}
 use Rattle.script_spec.specs.Cuts.{cut, digit_in}
 

@@ -1,10 +1,7 @@
 -- The bases of a card one after the other, as a loop reads them.
 use Rattle.std.proofs.Common.{◌≡◌, ℕ, ◌+◌, ◌<◌, true, false, List, [], ◌∷◌, ◌++◌, length, map, take, get_or, Some, None, refl, sym, ap, ◌∙◌, arith}
-use Rattle.std.specs.List.{list_all}
-use Rattle.std.proofs.lemmas.Bool.{and_from}
+use Rattle.board_prelude.proofs.Common.{list_all, and_from, get_or-map, length-map, take_more, map-append, Base}
 use Rattle.std.proofs.lemmas.List.Folds.{list_all_at, list_all_more}
-use Rattle.std.proofs.lemmas.List.{get_or-map, length-map, take_more, map-append}
-use Rattle.board_spec.specs.Setup.{Base}
 use Rattle.pci_bars.specs.declared.spec.BaseSpec.{BaseSpec}
 use Rattle.pci_bars.specs.Bases.{base_of}
 use Rattle.script_spec.specs.Reasons.{is_base_in_range}

@@ -1,10 +1,8 @@
 -- A text up to its first line feed, and after it.
 use Rattle.std.proofs.Common.{◌≡◌, ℕ, ◌+◌, ◌<◌, ◌-◌, Bool, true, false, cond, eqb, Some, None, List, [], ◌∷◌, ◌++◌, length, get_or, take, drop, refl, sym, ap, subst, ◌∙◌, All, arith}
-use Rattle.std.specs.List.{position_or_len, before_first, after_first, onto_first}
-use Rattle.std.proofs.lemmas.Bool.{eqb-true}
-use Rattle.std.proofs.lemmas.List.{take_rest}
-use Rattle.std.proofs.lemmas.Grind.{common_steps, get_or_default_zero}
-use Rattle.std.proofs.lemmas.List.Elements.{All-head, All-tail}
+use Rattle.board_prelude.proofs.Common.{position_or_len, onto_first, eqb-true, take_rest, common_steps, All-head, All-tail}
+use Rattle.std.specs.List.{before_first, after_first}
+use Rattle.std.proofs.lemmas.Grind.{get_or_default_zero}
 use Rattle.std.proofs.lemmas.List.Sums.{split_at_first, fails_before_first, passes_at_first, position_or_len_is}
 use Rattle.memchr.specs.Find.{IsFirstByte}
 use Rattle.script_spec.specs.Lines.{lines_of}

@@ -1,10 +1,7 @@
 -- A name is text.
 use Rattle.std.proofs.Common.{◌≡◌, ℕ, zero, suc, ◌<◌, true, List, [], ◌∷◌, get_or, arith}
-use Rattle.std.specs.List.{list_all}
+use Rattle.board_prelude.proofs.Common.{list_all, and_parts, nat_tests, IsUtf8-from_ascii}
 use Rattle.std.specs.Str.{IsUtf8}
-use Rattle.std.proofs.lemmas.Bool.{and_parts}
-use Rattle.std.proofs.lemmas.Bool.Decides.{nat_tests}
-use Rattle.std.proofs.lemmas.Str.{IsUtf8-from_ascii}
 use Rattle.script_spec.specs.Grammar.{is_name_byte, IsName}
 
 byte_below : (byte : ℕ) → is_name_byte byte ≡ true → byte < 128

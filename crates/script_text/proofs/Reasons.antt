@@ -1,29 +1,17 @@
 -- The least reason for an item, by what is kept of the lines before it.
-use Rattle.std.proofs.Common.{ℕ, ◌≡◌, ◌+◌, ◌<◌, ◌≤◌, Bool, true, false, not, ◌&&◌, ◌||◌, Option, Some, None, Result, Ok, Err, List, [], ◌∷◌, length, filter, flat_map, sum_by, refl, sym, ap, ◌∙◌, arith}
-use Rattle.std.specs.Prelude.{◌==◌, nat_le, nat_lt, is_some, if◌then◌else◌, codes}
-use Rattle.std.specs.Option.{option_map}
+use Rattle.std.proofs.Common.{ℕ, ◌≡◌, ◌+◌, ◌<◌, ◌≤◌, Bool, true, false, not, ◌&&◌, ◌||◌, Option, Some, None, Result, Ok, Err, List, [], ◌∷◌, length, filter, flat_map, sum_by, refl, sym, ap, ◌∙◌, arith, ◌==◌, nat_le, nat_lt, is_some, if◌then◌else◌, codes}
+use Rattle.board_prelude.proofs.Common.{option_map, find, list_any, false≢true, le-ltb, lt-ltb, leb-true, or_right, and_parts, none-some, sum_by-append, sum_by-cons, Event, Memory, Wide, Port, Ack, Pulses, Time, Wire, Line, BadSector, Statement, FittedCard, memory_size, memory_of_cards}
 use Rattle.std.specs.Result.{IsErr, IsErrAnd}
-use Rattle.std.specs.List.{find, list_any}
-use Rattle.std.proofs.lemmas.Bool.{false≢true, le-ltb, lt-ltb, leb-true, or_right, and_parts}
-use Rattle.std.proofs.lemmas.Option.{none-some}
 use Rattle.std.proofs.lemmas.List.Sorted.{list_any-IsPermutation}
-use Rattle.std.proofs.lemmas.List.Sums.{sum_by-append, sum_by-cons}
-use Rattle.board_spec.specs.declared.event.Event.{Event}
-use Rattle.board_spec.specs.declared.event.Event.TheVariants.{Memory, Wide, Port, Look as LookAt, Ack, Pulses, Time, Wire, Line, BadSector}
-use Rattle.board_spec.specs.declared.event.Statement.{Statement}
-use Rattle.board_spec.specs.Setup.{FittedCard, memory_size, memory_of_cards}
-use Rattle.script_spec.specs.Grammar.{Item, SetCpus, SetMemory, SetRom, SetDisk, FitCard, BeginPhase, Ask, AskLevel}
-use Rattle.script_spec.specs.Reasons.{reason, is_phase, is_statement, is_setup, is_cpus, is_memory, is_rom, is_disk, is_cpus_above, cards_of, has_card, has_setup, lacks_setup, is_misplaced, is_repeated, is_event_in_range, is_in_range, is_placed, is_there, pulses_of_event, pulses_of, passes_limits, least_reason}
+use Rattle.board_spec.specs.declared.event.Event.TheVariants.{Look as LookAt}
+use Rattle.script_spec.specs.Common.{Item, SetCpus, SetMemory, SetRom, SetDisk, FitCard, BeginPhase, Ask, AskLevel, reason, is_phase, is_statement, is_setup, is_cpus, is_memory, is_rom, is_disk, is_cpus_above, cards_of, has_card, has_setup, lacks_setup, is_misplaced, is_repeated, is_event_in_range, is_in_range, is_placed, is_there, pulses_of_event, pulses_of, passes_limits, least_reason, ask}
 use Rattle.script_spec.proofs.ReadingLaws.{same_some}
 use Rattle.script_lines.specs.declared.item.Asked.{Asked}
 use Rattle.script_lines.specs.declared.item.Asked.TheVariants.{Event as AnEvent, Moment as AMoment, Wire as WireAt, Line as LineAt}
-use Rattle.script_spec.specs.Items.{ask}
 use Rattle.script_lines.specs.Items.{asked_said, moment_said}
 use Rattle.script_text.specs.declared.fault.Reason.{Reason}
 use Rattle.script_text.specs.declared.reading.Reading.{Reading}
-use Rattle.script_text.specs.Valid.{in_case}
-use Rattle.script_text.specs.Faults.{number_of}
-use Rattle.script_text.specs.Reading.{is_below, IsReadingOf, Judges, Stands}
+use Rattle.script_text.specs.Common.{in_case, number_of, is_below, IsReadingOf, Judges, Stands}
 
 -- ---- of several reasons the least
 

@@ -1,23 +1,13 @@
 -- The run over the lines.
-use Rattle.std.proofs.Common.{◌≡◌, ℕ, ◌+◌, true, false, Result, Ok, Err, List, [], ◌∷◌, ◌++◌, length, refl, sym, ap, ◌∙◌, inl, inr, append_assoc, append-nil, length-append, arith}
-use Rattle.std.specs.Prelude.{IfOk, codes, bytes_eq}
-use Rattle.std.specs.Fmt.{digits}
-use Rattle.std.proofs.lemmas.Bool.{true≢false}
-use Rattle.std.proofs.lemmas.Slice.Eq.{bytes_eq-Decides}
-use Rattle.script_spec.specs.Lines.{lines_of}
-use Rattle.script_spec.specs.Grammar.{Item}
-use Rattle.script_spec.specs.Reasons.{lacks_setup}
-use Rattle.script_spec.specs.ScriptText.{Script as Said, IsBadLine, AreRead, IsVersion, first_line, IsSaidBy, IsScriptText, BeginsBadly, IsBadLater}
-use Rattle.script_spec.specs.ScriptRange.{IsInRangeScript}
-use Rattle.script_spec.proofs.ReadingLaws.{same_head, read_more, skip_more}
-use Rattle.script_spec.proofs.RangeLaws.{scripts_are_in_range}
+use Rattle.std.proofs.Common.{◌≡◌, ℕ, ◌+◌, true, false, Result, Ok, Err, List, [], ◌∷◌, ◌++◌, length, refl, sym, ap, ◌∙◌, inl, inr, append_assoc, append-nil, length-append, arith, IfOk, codes, bytes_eq}
+use Rattle.board_prelude.proofs.Common.{digits, true≢false, bytes_eq-Decides}
+use Rattle.script_spec.specs.Common.{lines_of, Item, lacks_setup, Script as Said, IsBadLine, AreRead, IsVersion, first_line, IsSaidBy, IsScriptText, BeginsBadly, IsBadLater, IsInRangeScript}
+use Rattle.script_spec.proofs.Common.{same_head, read_more, skip_more, scripts_are_in_range}
 use Rattle.script_text.specs.declared.fault.ScriptFault.{ScriptFault}
 use Rattle.script_text.specs.declared.fault.ScriptFault.TheVariants.{Bad, NoMemory}
 use Rattle.script_text.specs.declared.reading.Reading.{Reading}
 use Rattle.script_text.specs.declared.script.Script.{Script}
-use Rattle.script_text.specs.Faults.{OnBad}
-use Rattle.script_text.specs.Reading.{IsReadingOf}
-use Rattle.script_text.specs.Script.{said_of}
+use Rattle.script_text.specs.Common.{OnBad, IsReadingOf, said_of}
 
 -- ---- the first line
 

@@ -1,17 +1,9 @@
 -- What `phase` and statements add to what is kept.
 use Rattle.std.proofs.Common.{◌≡◌, ℕ, ◌+◌, ◌-◌, ◌<◌, ◌≤◌, true, false, not, List, [], ◌∷◌, ◌++◌, Vec, Global, vec_len, length, get_or, map, filter, set, sum_by, refl, sym, ap, ◌∙◌, inl, inr, arith, length-append, append_assoc}
-use Rattle.std.specs.List.{list_any}
-use Rattle.std.proofs.lemmas.Bool.{true≢false, false≢true, cases_Bool, or_parts, ltb-false, not-false}
-use Rattle.std.proofs.lemmas.List.{map-append, map-set, get_or-map, length-map}
-use Rattle.std.proofs.lemmas.List.Sums.{sum_by-cons}
-use Rattle.std.proofs.Math.Seq.{set-append_seam, get_or-append_seam}
-use Rattle.board_spec.specs.declared.event.Statement.{Statement}
-use Rattle.script_spec.specs.Grammar.{Item, BeginPhase, Ask}
-use Rattle.script_spec.specs.Reasons.{is_phase, is_statement, is_setup, has_setup, pulses_of, pulses_of_event, passes_limits}
-use Rattle.script_spec.specs.ScriptText.{phase_items}
-use Rattle.script_spec.specs.Phases.{lists_of}
-use Rattle.script_spec.proofs.GoodItems.{NoReason, no_reason}
-use Rattle.script_spec.proofs.ReadingExists.{reverse_more, phases_more}
+use Rattle.board_prelude.proofs.Common.{list_any, true≢false, false≢true, cases_Bool, or_parts, ltb-false, not-false, map-append, map-set, get_or-map, length-map, sum_by-cons, get_or-append_seam, Statement}
+use Rattle.std.proofs.Math.Seq.{set-append_seam}
+use Rattle.script_spec.specs.Common.{Item, BeginPhase, Ask, is_phase, is_statement, is_setup, has_setup, pulses_of, pulses_of_event, passes_limits, phase_items, lists_of}
+use Rattle.script_spec.proofs.Common.{NoReason, no_reason, reverse_more, phases_more}
 use Rattle.script_text.specs.declared.reading.Reading.{Reading}
 use Rattle.script_text.specs.Reading.{Takes}
 

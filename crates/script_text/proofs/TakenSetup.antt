@@ -1,18 +1,9 @@
 -- What the lines of the setup add to what is kept.
-use Rattle.std.proofs.Common.{◌≡◌, ℕ, ◌+◌, ◌<◌, ◌≤◌, ◌≢◌, true, false, Some, List, [], ◌∷◌, Vec, Global, get_or, insert, sum_by, All, refl, sym, ap, ◌∙◌, inl, inr, arith, one-add}
-use Rattle.std.specs.Prelude.{nat_lt, ◌==◌}
-use Rattle.std.specs.List.{list_any, position_or_len}
-use Rattle.std.specs.List.Sorted.{IsPermutation}
-use Rattle.std.proofs.lemmas.Bool.{true≢false, cases_Bool, or_parts, ltb-true, ltb-false, eqb-false}
-use Rattle.std.proofs.lemmas.List.Elements.{All-nil, All-cons, All-head, All-tail}
-use Rattle.std.proofs.lemmas.List.Sums.{sum_by-cons}
-use Rattle.std.proofs.lemmas.List.Sorted.{All-permutation, IsPermutation-trans, IsPermutation-cons, IsPermutation-insert}
-use Rattle.std.proofs.Math.Bool.{or-false}
-use Rattle.board_spec.specs.Setup.{FittedCard, Rises, memory_size, memory_of_cards}
-use Rattle.script_spec.specs.Grammar.{Item, SetCpus, FitCard}
-use Rattle.script_spec.specs.Reasons.{is_phase, is_setup, is_cpus, is_cpus_above, has_card, cards_of, pulses_of}
-use Rattle.script_spec.proofs.GoodItems.{NoReason, no_reason}
-use Rattle.script_spec.proofs.RangeLaws.{none_any}
+use Rattle.std.proofs.Common.{◌≡◌, ℕ, ◌+◌, ◌<◌, ◌≤◌, ◌≢◌, true, false, Some, List, [], ◌∷◌, Vec, Global, get_or, insert, sum_by, All, refl, sym, ap, ◌∙◌, inl, inr, arith, one-add, nat_lt, ◌==◌}
+use Rattle.board_prelude.proofs.Common.{list_any, position_or_len, IsPermutation, true≢false, cases_Bool, or_parts, ltb-true, ltb-false, eqb-false, All-nil, All-cons, All-head, All-tail, sum_by-cons, All-permutation, or-false, FittedCard, Rises, memory_size, memory_of_cards}
+use Rattle.std.proofs.lemmas.List.Sorted.{IsPermutation-trans, IsPermutation-cons, IsPermutation-insert}
+use Rattle.script_spec.specs.Common.{Item, SetCpus, FitCard, is_phase, is_setup, is_cpus, is_cpus_above, has_card, cards_of, pulses_of}
+use Rattle.script_spec.proofs.Common.{NoReason, no_reason, none_any}
 use Rattle.script_text.specs.declared.reading.Reading.{Reading}
 use Rattle.script_text.proofs.Reasons.{memory_cons}
 use Rattle.script_text.specs.Reading.{Takes}

@@ -2,3 +2,4 @@ pub mod Faults
 pub mod Valid
 pub mod Reading
 pub mod Script
+pub mod Common

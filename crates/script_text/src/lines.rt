@@ -1,8 +1,7 @@
 //! The lines of a text.
 
 ghost use Rattle.std.specs.Prelude.{◌≡◌, ◌<◌, [], ◌∷◌, length, IfSome, MatchOption};
-ghost use Rattle.script_spec.specs.Lines.{lines_of};
-ghost use Rattle.script_spec.specs.ScriptText.{IsVersion, first_line, BeginsBadly, is_skipped};
+ghost use Rattle.script_spec.specs.Common.{lines_of, IsVersion, first_line, BeginsBadly, is_skipped};
 
 use memchr::memchr;
 use script_lines::is_word;

@@ -1,10 +1,7 @@
 //! The run over the lines of a text.
 
 ghost use Rattle.std.specs.Prelude.{◌≡◌, ◌<◌, ◌+◌, ◌^◌, ◌-◌, [], ◌∷◌, ℕ, List, length, IfOk, IfErr, OnOk};
-ghost use Rattle.script_spec.specs.Grammar.{Item as Said};
-ghost use Rattle.script_spec.specs.Lines.{lines_of};
-ghost use Rattle.script_spec.specs.ScriptText.{IsVersion, first_line, AreRead, IsBadLine, IsBadLater, IsScriptText, IsScriptBad};
-ghost use Rattle.script_spec.specs.ScriptRange.{IsInRangeScript};
+ghost use Rattle.script_spec.specs.Common.{Item as Said, lines_of, IsVersion, first_line, AreRead, IsBadLine, IsBadLater, IsScriptText, IsScriptBad, IsInRangeScript};
 ghost use Rattle.script_text.specs.Faults.{OnBad};
 ghost use Rattle.script_text.specs.Reading.{IsReadingOf};
 ghost use Rattle.script_text.specs.Script.{said_of};

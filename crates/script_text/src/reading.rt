@@ -1,9 +1,7 @@
 //! What is kept of the lines of a script so far.
 
 ghost use Rattle.std.specs.Prelude.{◌≡◌, [], List, true, false, IfOk, IfErr};
-ghost use Rattle.script_spec.specs.Grammar.{Item};
-ghost use Rattle.script_spec.specs.Reasons.{lacks_setup};
-ghost use Rattle.script_spec.specs.ScriptText.{IsSaidBy};
+ghost use Rattle.script_spec.specs.Common.{Item, lacks_setup, IsSaidBy};
 ghost use Rattle.script_text.specs.Faults.{number_of};
 ghost use Rattle.script_text.specs.Reading.{IsReadingOf};
 ghost use Rattle.script_text.specs.Script.{said_of};

@@ -1,12 +1,9 @@
 //! Whether an item can stand after those before it, and the least reason if not.
 
 ghost use Rattle.std.specs.Prelude.{◌≡◌, ◌≤◌, ◌<◌, ◌+◌, ◌&&◌, ◌||◌, nat_lt, true, is_some, ℕ, List, length, sum_by, IfOk, IsTrue};
-ghost use Rattle.std.specs.List.{list_any};
-ghost use Rattle.board_spec.specs.Limits.{most_statements, most_pulses};
-ghost use Rattle.board_spec.specs.Setup.{IsBase, IsCard, memory_size};
+ghost use Rattle.board_prelude.specs.Common.{list_any, most_statements, most_pulses, IsBase, IsCard, memory_size};
 ghost use Rattle.pci_bars.specs.Bases.{base_of};
-ghost use Rattle.script_spec.specs.Grammar.{Item as Said, SetCpus, SetMemory, SetRom, SetDisk, FitCard, BeginPhase, Ask, IsForm};
-ghost use Rattle.script_spec.specs.Reasons.{is_phase, is_setup, is_repeated, has_card, is_card_there, pulses_of_event};
+ghost use Rattle.script_spec.specs.Common.{Item as Said, SetCpus, SetMemory, SetRom, SetDisk, FitCard, BeginPhase, Ask, IsForm, is_phase, is_setup, is_repeated, has_card, is_card_there, pulses_of_event};
 ghost use Rattle.script_lines.specs.Items.{card_said, asked_said, line_said};
 ghost use Rattle.script_text.specs.Valid.{item_said, IsValid};
 ghost use Rattle.script_text.specs.Reading.{is_below, IsReadingOf, IsWithinLimits, Judges, Stands};

@@ -1,13 +1,9 @@
 //! Items with their numbers in range.
 
 ghost use Rattle.std.specs.Prelude.{◌≡◌, ◌≤◌, ℕ, length, map, option_map, IfSome};
-ghost use Rattle.std.specs.List.{list_all};
-ghost use Rattle.board_spec.specs.InRange.{is_free_line};
-ghost use Rattle.board_spec.specs.Setup.{IsCard};
-ghost use Rattle.board_spec.specs.Bits.{is_within};
+ghost use Rattle.board_prelude.specs.Common.{list_all, is_free_line, IsCard, is_within};
 ghost use Rattle.pci_bars.specs.Bases.{base_of};
-ghost use Rattle.script_spec.specs.Reasons.{is_base_in_range, is_rom_in_range, is_card_in_range, is_moment, is_event_in_range, is_event_placed, is_in_range, pulses_of_event};
-ghost use Rattle.script_spec.specs.Items.{ask};
+ghost use Rattle.script_spec.specs.Common.{is_base_in_range, is_rom_in_range, is_card_in_range, is_moment, is_event_in_range, is_event_placed, is_in_range, pulses_of_event, ask};
 ghost use Rattle.script_lines.specs.Items.{base_said, card_said, moment_said, asked_said};
 ghost use Rattle.script_text.specs.Valid.{in_case};
 

@@ -1,12 +1,6 @@
 //! The SMRAM control register (82441FX, offset 72h).
 ghost use Rattle.std.specs.Prelude.{◌≡◌, true, false};
-ghost use Rattle.board_base.specs.declared.access.Width.TheVariants.{One};
-ghost use Rattle.board_spec.specs.declared.map_change.MapChange.TheVariants.{Store};
-ghost use Rattle.board_spec.specs.Setup.{Setup};
-ghost use Rattle.board_spec.specs.RegisterTable.{reset_byte};
-ghost use Rattle.board_spec.specs.Registers.{smram_after, changed_byte};
-ghost use Rattle.board_spec.specs.Decode.{Bytes, smram_answers};
-ghost use Rattle.board_spec.specs.RegisterNames.{smram};
+ghost use Rattle.board_prelude.specs.Common.{One, Store, Setup, reset_byte, smram_after, changed_byte, Bytes, smram_answers, smram};
 ghost use Rattle.smram_ctl.specs.Control.{is_locked, IsSmramByte};
 
 use crate::control::{DLCK, SMRAM_RESET, smram_after, smram_reaches};

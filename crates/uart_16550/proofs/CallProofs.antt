@@ -1,11 +1,7 @@
 -- No byte that was received is lost, and all are read in their order.
-use Rattle.std.proofs.Common.{◌≡◌, ℕ, Bool, true, false, not, List, [], ◌∷◌, ◌++◌, length, inl, inr, refl, sym, ap, ◌∙◌, append_assoc}
-use Rattle.std.specs.Prelude.{◌==◌, Option, Some, None}
-use Rattle.std.proofs.lemmas.Bool.{cases_Bool, ne_eqb}
-use Rattle.std.proofs.lemmas.List.{append-nil}
-use Rattle.board_spec.specs.declared.event.Event.{Event}
-use Rattle.board_spec.specs.declared.event.Event.TheVariants.{Memory, Wide, Port, Look as LookAt, Ack, Pulses, Time, Wire, Line, BadSector}
-use Rattle.board_spec.specs.Registers.{control_written, resets_hard}
+use Rattle.std.proofs.Common.{◌≡◌, ℕ, Bool, true, false, not, List, [], ◌∷◌, ◌++◌, length, inl, inr, refl, sym, ap, ◌∙◌, append_assoc, ◌==◌, Option, Some, None}
+use Rattle.board_prelude.proofs.Common.{cases_Bool, ne_eqb, append-nil, Event, Memory, Wide, Port, Ack, Pulses, Time, Wire, Line, BadSector, control_written, resets_hard}
+use Rattle.board_spec.specs.declared.event.Event.TheVariants.{Look as LookAt}
 use Rattle.uart_16550.specs.declared.interrupt.Interrupt.{Interrupt}
 use Rattle.uart_16550.specs.declared.interrupt.Interrupt.TheVariants.{LineStatus, DataAvailable, TransmitterEmpty, ModemStatus}
 use Rattle.uart_16550.specs.declared.register.ReadRegister.{ReadRegister}
@@ -15,13 +11,7 @@ use Rattle.uart_16550.specs.declared.register.WriteRegister.TheVariants as write
 use Rattle.uart_16550.specs.declared.com1.Com1.{Com1}
 use Rattle.uart_16550.specs.declared.com1.Happening.{Happening}
 use Rattle.uart_16550.specs.declared.com1.Happening.TheVariants.{Comes, Happens}
-use Rattle.uart_16550.specs.Uart.{Uart, is_dlab, is_loopback, pending}
-use Rattle.uart_16550.specs.Reads.{register_read, front_of, rest_of, value_of, after_identity, after_value}
-use Rattle.uart_16550.specs.Writes.{register_written, is_emptying, with_value}
-use Rattle.uart_16550.specs.Com1.{com1_irq, is_for_uart, com1_after}
-use Rattle.uart_16550.specs.Calls.{Call, Renews, Receives, Reads, Writes, after_call, brought, front_taken, taken, is_kept, is_keeping, after_calls, all_brought, all_taken, ReadInOrder, calls_of}
-use Rattle.uart_16550.specs.Sent.{Sending, sending_after}
-use Rattle.uart_16550.specs.SerialOrder.{calls_for, all_calls, after_all, bytes_come, SerialReadsInOrder}
+use Rattle.uart_16550.specs.Common.{Uart, is_dlab, is_loopback, pending, register_read, front_of, rest_of, value_of, after_identity, after_value, register_written, is_emptying, with_value, com1_irq, is_for_uart, com1_after, Call, Renews, Receives, Reads, Writes, after_call, brought, front_taken, taken, is_kept, is_keeping, after_calls, all_brought, all_taken, ReadInOrder, calls_of, Sending, sending_after, calls_for, all_calls, after_all, bytes_come, SerialReadsInOrder}
 
 front_and_rest : (queue : List ℕ) → front_taken queue read.Rbr (front_of queue) ++ rest_of queue ≡ queue
 front_and_rest [] = refl

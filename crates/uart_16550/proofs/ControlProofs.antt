@@ -1,21 +1,9 @@
 -- The reset control register of a board with a serial port.
-use Rattle.std.proofs.Common.{◌≡◌, ℕ, Bool, true, false, ◌&&◌, List, [], ◌∷◌, ◌++◌, inl, inr, refl, sym, ap, ◌∙◌}
-use Rattle.std.specs.Prelude.{◌==◌, nat_le, if◌then◌else◌, Some, None}
-use Rattle.std.proofs.lemmas.Bool.{cases_Bool, ne_eqb}
-use Rattle.board_base.specs.declared.access.PortAccess.{PortAccess}
-use Rattle.board_base.specs.Access.{bytes_of}
-use Rattle.board_spec.specs.declared.event.Event.{Event}
-use Rattle.board_spec.specs.declared.event.Event.TheVariants.{Memory, Wide, Port, Look as LookAt, Ack, Pulses, Time, Wire, Line, BadSector}
-use Rattle.board_spec.specs.declared.event.Entry.{Entry}
-use Rattle.board_spec.specs.declared.event.Statement.{Statement}
-use Rattle.board_spec.specs.PortNames.{reset_control_port}
-use Rattle.board_spec.specs.Registers.{control_written, control_after, reset_control, is_hard_reset}
-use Rattle.board_spec.specs.Orders.{statement_of, statements_of}
+use Rattle.std.proofs.Common.{◌≡◌, ℕ, Bool, true, false, ◌&&◌, List, [], ◌∷◌, ◌++◌, inl, inr, refl, sym, ap, ◌∙◌, ◌==◌, nat_le, if◌then◌else◌, Some, None}
+use Rattle.board_prelude.proofs.Common.{cases_Bool, ne_eqb, PortAccess, bytes_of, Event, Memory, Wide, Port, Ack, Pulses, Time, Wire, Line, BadSector, Entry, Statement, reset_control_port, control_written, control_after, reset_control, is_hard_reset, statement_of, statements_of}
+use Rattle.board_spec.specs.declared.event.Event.TheVariants.{Look as LookAt}
 use Rattle.uart_16550.specs.declared.com1.Com1.{Com1}
-use Rattle.uart_16550.specs.Writes.{differ}
-use Rattle.uart_16550.specs.Com1.{is_for_uart, level_of, line_steps, com1_after, board_steps, uart_after}
-use Rattle.uart_16550.specs.Uart.{uart_at_reset}
-use Rattle.uart_16550.specs.Sent.{ControlFollows}
+use Rattle.uart_16550.specs.Common.{differ, is_for_uart, level_of, line_steps, com1_after, board_steps, uart_after, uart_at_reset, ControlFollows}
 use Rattle.uart_16550.proofs.SerialSteps.{statements_joined}
 
 -- the register after statements, the oldest first

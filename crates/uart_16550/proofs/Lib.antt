@@ -3,3 +3,4 @@ pub mod Resets
 pub mod CallProofs
 pub mod ControlProofs
 pub mod Loads
+pub mod Common

@@ -1,16 +1,11 @@
 -- Bytes that are written from outside the bus leave line 4 as it is.
-use Rattle.std.proofs.Common.{◌≡◌, ℕ, List, [], ◌∷◌, ◌++◌, map, refl, ◌∙◌}
-use Rattle.std.specs.Prelude.{Result, Ok, Err, OnOk, OnErr}
-use Rattle.std.proofs.lemmas.List.{length-map}
-use Rattle.board_spec.specs.declared.event.Entry.{Entry}
-use Rattle.board_spec.specs.Devices.{irq_of}
-use Rattle.board_chipset.specs.Chipset.{Running, IsLeftBy}
-use Rattle.board_chipset.specs.Loads.{WriteInTurn, WriteAll, WriteClockByte}
+use Rattle.std.proofs.Common.{◌≡◌, ℕ, List, [], ◌∷◌, ◌++◌, map, refl, ◌∙◌, Result, Ok, Err, OnOk, OnErr}
+use Rattle.board_prelude.proofs.Common.{length-map, Entry, irq_of}
+use Rattle.board_chipset.specs.Common.{Running, IsLeftBy, WriteInTurn, WriteAll, WriteClockByte}
 use Rattle.board_chipset.proofs.LoadSteps.{some_entries, some_clock_entries}
 use Rattle.dram_store.specs.declared.dram.PastTheEnd.{PastTheEnd}
 use Rattle.board_chipset.specs.declared.load.NoClockByte.{NoClockByte}
-use Rattle.uart_16550.specs.Com1.{com1_irq}
-use Rattle.uart_16550.specs.Serial.{Serial, AreOwn, IsLeftBy as IsPortLeftBy}
+use Rattle.uart_16550.specs.Common.{com1_irq, Serial, AreOwn, IsLeftBy as IsPortLeftBy}
 
 -- ---- bytes of the DRAM
 

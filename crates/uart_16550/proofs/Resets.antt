@@ -1,17 +1,6 @@
 -- A change of the memory map is a reset exactly where the event is a hard reset.
-use Rattle.std.proofs.Common.{◌≡◌, ℕ, Bool, true, false, List, refl, inl, inr}
-use Rattle.std.specs.Prelude.{if◌then◌else◌, Option, Some, None, option_map, option_and_then, ◌&&◌}
-use Rattle.std.proofs.lemmas.Bool.{cases_Bool}
-use Rattle.board_base.specs.declared.access.PortAccess.{PortAccess}
-use Rattle.board_base.specs.declared.access.Width.{Width}
-use Rattle.board_base.specs.declared.target.Reg.{Reg}
-use Rattle.board_spec.specs.declared.event.Event.TheVariants.{Port}
-use Rattle.board_spec.specs.declared.event.Entry.{Entry}
-use Rattle.board_spec.specs.declared.map_change.MapChange.{MapChange}
-use Rattle.board_spec.specs.declared.map_change.MapChange.TheVariants.{Store}
-use Rattle.board_spec.specs.Setup.{Setup}
-use Rattle.board_spec.specs.Registers.{is_hard_reset, config_address, config_register, is_config_port}
-use Rattle.board_spec.specs.MapWrites.{touches_map, map_change_of}
+use Rattle.std.proofs.Common.{◌≡◌, ℕ, Bool, true, false, List, refl, inl, inr, if◌then◌else◌, Option, Some, None, option_map, option_and_then, ◌&&◌}
+use Rattle.board_prelude.proofs.Common.{cases_Bool, PortAccess, Width, Reg, Port, Entry, MapChange, Store, Setup, is_hard_reset, config_address, config_register, is_config_port, touches_map, map_change_of}
 use Rattle.uart_16550.specs.Resets.{is_reset}
 
 abbrev touching : Setup → MapChange → Option MapChange

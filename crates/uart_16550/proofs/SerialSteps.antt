@@ -1,21 +1,9 @@
 -- How the histories go on that leave a board with a serial port.
-use Rattle.std.proofs.Common.{◌≡◌, ℕ, ◌<◌, Bool, false, List, [], ◌∷◌, ◌++◌, map, reverse, refl, sym, ap, subst, ◌∙◌, append_assoc, lt_irrefl}
-use Rattle.std.specs.Prelude.{◌==◌, None, unwrap_or}
-use Rattle.std.proofs.lemmas.Bool.{ne_eqb}
-use Rattle.std.proofs.lemmas.List.{reverse-append, map-append}
-use Rattle.board_base.specs.declared.access.PortAccess.{PortAccess}
-use Rattle.board_spec.specs.declared.event.Event.{Event}
-use Rattle.board_spec.specs.declared.event.Event.TheVariants.{Memory, Wide, Port, Look as LookAt, Ack, Pulses, Time, Wire, Line, BadSector}
-use Rattle.board_spec.specs.declared.event.Reply.{Reply}
-use Rattle.board_spec.specs.declared.event.Entry.{Entry}
-use Rattle.board_spec.specs.declared.event.Statement.{Statement}
-use Rattle.board_spec.specs.Setup.{Setup}
-use Rattle.board_spec.specs.Devices.{line_set, irq_of}
-use Rattle.board_spec.specs.Legal.{next_entry}
-use Rattle.board_spec.specs.Orders.{statement_of, statements_of}
+use Rattle.std.proofs.Common.{◌≡◌, ℕ, ◌<◌, Bool, false, List, [], ◌∷◌, ◌++◌, map, reverse, refl, sym, ap, subst, ◌∙◌, append_assoc, lt_irrefl, ◌==◌, None, unwrap_or}
+use Rattle.board_prelude.proofs.Common.{ne_eqb, reverse-append, map-append, PortAccess, Event, Memory, Wide, Port, Ack, Pulses, Time, Wire, Line, BadSector, Reply, Entry, Statement, Setup, line_set, irq_of, next_entry, statement_of, statements_of}
+use Rattle.board_spec.specs.declared.event.Event.TheVariants.{Look as LookAt}
 use Rattle.uart_16550.specs.declared.com1.Com1.{Com1}
-use Rattle.uart_16550.specs.Com1.{com1_irq, com1_actor, level_of, board_event, line_steps, change_steps, com1_after, board_steps, uart_access}
-use Rattle.uart_16550.specs.Serial.{SetsLine, GoesOn, IsNextBy, AreAnswered, AnsweredIsLegal, IsLeftAt, IsLeftAfter}
+use Rattle.uart_16550.specs.Common.{com1_irq, com1_actor, level_of, board_event, line_steps, change_steps, com1_after, board_steps, uart_access, SetsLine, GoesOnBy, IsNextBy, AreAnswered, AnsweredIsLegal, IsLeftAt, IsLeftAfter}
 
 -- a processor is not the port
 pub other_actor : (actor : ℕ) (event : Event) → actor < com1_actor → actor ≡ com1_actor → SetsLine event
@@ -26,7 +14,7 @@ statements_joined more before =
     ap (map statement_of) (reverse-append more before) ∙ map-append statement_of (reverse before) (reverse more)
 
 pub goes_on_twice : (before middle after : List Entry) (first second : List Statement) →
-    GoesOn before first middle → GoesOn middle second after → GoesOn before (first ++ second) after
+    GoesOnBy before first middle → GoesOnBy middle second after → GoesOnBy before (first ++ second) after
 goes_on_twice before middle after first second one two = record {
   more = two.more ++ one.more;
   grows = two.grows ∙ (ap (λ (list : List Entry). two.more ++ list) one.grows ∙ sym (append_assoc two.more one.more before));

@@ -8,3 +8,4 @@ pub mod Serial
 pub mod Calls
 pub mod Sent
 pub mod SerialOrder
+pub mod Common

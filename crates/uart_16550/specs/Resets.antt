@@ -1,7 +1,6 @@
 -- A change of the memory map that is a hard reset.
 use Rattle.std.specs.Prelude.{Bool, true, false, Option, Some, None}
-use Rattle.board_spec.specs.declared.map_change.MapChange.{MapChange}
-use Rattle.board_spec.specs.declared.map_change.MapChange.TheVariants.{Store, Reset}
+use Rattle.board_prelude.specs.Common.{MapChange, Store, Reset}
 
 abbrev pub is_reset : Option MapChange → Bool
 is_reset None = false

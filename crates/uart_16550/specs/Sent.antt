@@ -1,18 +1,13 @@
 -- The bytes that a board with a serial port sends.
 use Rattle.std.specs.Prelude.{ℕ, ◌≡◌, if◌then◌else◌, List, [], ◌∷◌, ◌++◌, Option, Some, None}
-use Rattle.std.specs.Option.{option_to_list}
-use Rattle.board_base.specs.declared.access.PortAccess.{PortAccess}
-use Rattle.board_spec.specs.declared.event.Event.{Event}
-use Rattle.board_spec.specs.declared.event.Entry.{Entry}
-use Rattle.board_spec.specs.declared.event.Statement.{Statement}
-use Rattle.board_spec.specs.Registers.{control_written, control_after, resets_hard, reset_control, is_hard_reset}
+use Rattle.board_prelude.specs.Common.{option_to_list, PortAccess, Event, Entry, Statement, control_written, control_after, resets_hard, reset_control, is_hard_reset}
 use Rattle.uart_16550.specs.declared.com1.Com1.{Com1}
 use Rattle.uart_16550.specs.declared.com1.Happening.{Happening}
 use Rattle.uart_16550.specs.declared.com1.Happening.TheVariants.{Comes, Happens}
 use Rattle.uart_16550.specs.Uart.{Uart, received}
 use Rattle.uart_16550.specs.Writes.{byte_sent}
 use Rattle.uart_16550.specs.Com1.{com1_at_reset, uart_access, offset_of, com1_after, board_steps, change_steps}
-use Rattle.uart_16550.specs.Serial.{GoesOn}
+use Rattle.uart_16550.specs.Serial.{GoesOnBy}
 
 -- the port, and the reset control register of the board
 pub record Sending : Type 0 where
@@ -54,5 +49,5 @@ bytes_sent before (happening ∷ later) = sent_by before happening ++ bytes_sent
 abbrev pub ControlFollows : Type 0
 ControlFollows =
     (history after : List Entry) (actor : ℕ) (event : Event) (com1 : Com1) →
-    GoesOn history (board_steps actor (is_hard_reset history event) event com1) after →
+    GoesOnBy history (board_steps actor (is_hard_reset history event) event com1) after →
     reset_control after ≡ control_after (reset_control history) (control_written event)

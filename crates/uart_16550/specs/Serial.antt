@@ -1,15 +1,6 @@
 -- A board with a serial port, and how it stands to the histories of its board.
 use Rattle.std.specs.Prelude.{◌≡◌, ◌+◌, Bool, List, [], ◌∷◌, ◌++◌, length}
-use Rattle.board_spec.specs.declared.event.Event.{Event}
-use Rattle.board_spec.specs.declared.event.Event.TheVariants.{Line}
-use Rattle.board_spec.specs.declared.event.Reply.{Reply}
-use Rattle.board_spec.specs.declared.event.Entry.{Entry}
-use Rattle.board_spec.specs.declared.event.Statement.{Statement}
-use Rattle.board_spec.specs.Setup.{Setup}
-use Rattle.board_spec.specs.Devices.{irq_of}
-use Rattle.board_spec.specs.Answer.{IsAnswer}
-use Rattle.board_spec.specs.Legal.{entries_by, IsLegal}
-use Rattle.board_spec.specs.Orders.{statements_of}
+use Rattle.board_prelude.specs.Common.{Event, Line, Reply, Entry, Statement, Setup, irq_of, IsAnswer, entries_by, IsLegal, statements_of}
 use Rattle.uart_16550.specs.declared.com1.Com1.{Com1}
 use Rattle.uart_16550.specs.Com1.{com1_irq, com1_actor, level_of}
 
@@ -32,7 +23,7 @@ AreOwn [] = Unit {0}
 AreOwn (entry ∷ before) = IsOwn entry × AreOwn before
 
 -- a history goes on with entries for these statements and no others, in this order
-pub record GoesOn (before : List Entry) (statements : List Statement) (after : List Entry) : Type 0 where
+pub record GoesOnBy (before : List Entry) (statements : List Statement) (after : List Entry) : Type 0 where
   pub more : List Entry
   pub grows : after ≡ more ++ before
   pub same : statements_of more ≡ statements
@@ -74,7 +65,7 @@ module _ {B : Type 0} (is_answer : Setup → List Entry → Event → Reply → 
   pub record IsLeftAfter (board : B) (level : Bool) (before : List Entry) (statements : List Statement) : Type 0 where
     pub after : List Entry
     pub left_at : IsLeftAt left_by board level after
-    pub goes_on : GoesOn before statements after
+    pub goes_on : GoesOnBy before statements after
     pub answered : AreAnswered (is_answer (setup_of board)) before goes_on.more
 
   abbrev pub IsAfter : Serial B → (before : List Entry) → List Statement → Type 0

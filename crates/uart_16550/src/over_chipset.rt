@@ -1,12 +1,8 @@
 //! A chipset with a serial port: events that nothing was proved of, and bytes that are written from outside the bus.
 
 ghost use Rattle.std.specs.Prelude.{◌≡◌, ◌≤◌, ◌<◌, ◌+◌, ◌↔◌, ◌++◌, List, length, IsErr, IfOk, IfErr, OnOk, OnErr};
-ghost use Rattle.board_spec.specs.declared.event.Entry.{Entry};
-ghost use Rattle.board_spec.specs.Setup.{installed};
-ghost use Rattle.board_spec.specs.InRange.{IsInRange};
-ghost use Rattle.board_chipset.specs.Chipset.{IsLeftBy as IsChipsetLeftBy};
-ghost use Rattle.board_chipset.specs.Loads.{WriteAll, WriteClockByte};
-ghost use Rattle.board_chipset.specs.OutOfRange.{IsFault};
+ghost use Rattle.board_prelude.specs.Common.{Entry, installed, IsInRange};
+ghost use Rattle.board_chipset.specs.Common.{IsLeftBy as IsChipsetLeftBy, WriteAll, WriteClockByte, IsFault};
 ghost use Rattle.uart_16550.specs.Serial.{AreOwn, IsLeftBy};
 
 use crate::serial::SerialBoard;

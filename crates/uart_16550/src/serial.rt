@@ -1,12 +1,7 @@
 //! A board with a serial port on COM1.
 
 ghost use Rattle.std.specs.Prelude.{◌≡◌, ◌+◌, ◌<◌, ◌∷◌, [], ℕ, List, true, false, Some, None, if◌then◌else◌, ◌==◌, ◌||◌};
-ghost use Rattle.board_base.specs.declared.access.PortAccess.{PortAccess};
-ghost use Rattle.board_spec.specs.declared.event.Entry.{Entry};
-ghost use Rattle.board_spec.specs.declared.event.Event.TheVariants.{Port, Line};
-ghost use Rattle.board_spec.specs.declared.event.Reply.{Reply};
-ghost use Rattle.board_spec.specs.InRange.{IsInRange, IsBusAccess, is_free_line};
-ghost use Rattle.board_spec.specs.Registers.{is_hard_reset};
+ghost use Rattle.board_prelude.specs.Common.{PortAccess, Entry, Port, Line, Reply, IsInRange, IsBusAccess, is_free_line, is_hard_reset};
 ghost use Rattle.uart_16550.specs.declared.com1.SerialReply.TheVariants.{Board};
 ghost use Rattle.uart_16550.specs.Uart.{has_room, received, is_interrupting};
 ghost use Rattle.uart_16550.specs.Com1.{com1_at_reset, com1_after, com1_irq, com1_actor, is_for_uart, level_of, uart_access, uart_reply, board_event, board_steps, change_steps};

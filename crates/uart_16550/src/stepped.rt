@@ -1,14 +1,7 @@
 //! What a serial port needs of the board that it stands on.
 
 ghost use Rattle.std.specs.Prelude.{◌≡◌, ◌+◌, ◌-◌, ◌≤◌, ◌∷◌, ℕ, List};
-ghost use Rattle.board_spec.specs.declared.event.Entry.{Entry};
-ghost use Rattle.board_spec.specs.declared.event.Event.TheVariants.{Port};
-ghost use Rattle.board_spec.specs.Setup.{Setup};
-ghost use Rattle.board_spec.specs.InRange.{IsInRange};
-ghost use Rattle.board_spec.specs.declared.event.Event.{Event};
-ghost use Rattle.board_spec.specs.declared.event.Reply.{Reply};
-ghost use Rattle.board_spec.specs.Legal.{next_entry};
-ghost use Rattle.board_spec.specs.Registers.{is_hard_reset};
+ghost use Rattle.board_prelude.specs.Common.{Entry, Port, Setup, IsInRange, Event, Reply, next_entry, is_hard_reset};
 ghost use Rattle.uart_16550.specs.Resets.{is_reset};
 
 use board_base::PortAccess;

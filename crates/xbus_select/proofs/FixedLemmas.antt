@@ -1,19 +1,6 @@
 -- The registers of the 82371SB that cannot be written, in the table of registers.
-use Rattle.std.proofs.Common.{◌≡◌, ◌≢◌, ℕ, ◌-◌, ◌<◌, ◌≤◌, List, [], ◌∷◌, false, None, ◌∙◌, ap, sym, refl, subst, arith, inl, inr, lit<}
-use Rattle.std.specs.Prelude.{slice_index}
-use Rattle.std.proofs.lemmas.Bool.{cases_lt, cases_eq, cases_Bool, cond-true, cond-false}
-use Rattle.std.proofs.lemmas.Bool.Decides.{nat_tests}
-use Rattle.std.proofs.lemmas.List.{get_or_past}
-use Rattle.board_base.specs.declared.access.Width.{Width}
-use Rattle.board_base.specs.declared.target.Reg.{Reg}
-use Rattle.board_spec.specs.declared.map_change.MapChange.TheVariants.{Store}
-use Rattle.board_spec.specs.Setup.{Setup}
-use Rattle.board_spec.specs.Bits.{is_within, byte, merged}
-use Rattle.board_spec.specs.RegisterTable.{isa_bridge, ide_function, reset_byte, writable_bits}
-use Rattle.board_spec.specs.RegisterNames.{isa, ide, smram, is_same}
-use Rattle.board_spec.specs.Registers.{covers, byte_after, changed_byte}
-use Rattle.board_base.proofs.MergedLemmas.{merged-none}
-use Rattle.board_spec.proofs.TableLemmas.{Each, each_below}
+use Rattle.std.proofs.Common.{◌≡◌, ◌≢◌, ℕ, ◌-◌, ◌<◌, ◌≤◌, List, [], ◌∷◌, false, None, ◌∙◌, ap, sym, refl, subst, arith, inl, inr, lit<, slice_index}
+use Rattle.board_prelude.proofs.Common.{cases_lt, cases_eq, cases_Bool, cond-true, cond-false, nat_tests, get_or_past, Width, Reg, Store, Setup, is_within, byte, merged, isa_bridge, ide_function, reset_byte, writable_bits, isa, ide, smram, is_same, covers, byte_after, changed_byte, merged-none, Each, each_below}
 
 -- a register has this byte at all times
 pub record IsFixedAt (setup : Setup) (reg : Reg) (byte : ℕ) : Type 0 where

@@ -1,18 +1,6 @@
 -- The registers of the IDE function in the table of registers: after a reset, and after a store of one byte.
-use Rattle.std.proofs.Common.{◌≡◌, ◌≢◌, ℕ, ◌<◌, ◌∙◌, refl, sym, ap, arith}
-use Rattle.std.specs.Prelude.{slice_index}
-use Rattle.std.proofs.lemmas.Bool.Decides.{nat_tests}
-use Rattle.board_base.specs.declared.access.Width.TheVariants.{One}
-use Rattle.board_base.specs.declared.target.Reg.{Reg}
-use Rattle.board_spec.specs.declared.map_change.MapChange.TheVariants.{Store}
-use Rattle.board_spec.specs.Setup.{Setup}
-use Rattle.board_spec.specs.Bits.{merged}
-use Rattle.board_spec.specs.RegisterTable.{ide_function, reset_byte, writable_bits}
-use Rattle.board_spec.specs.Registers.{changed_byte}
-use Rattle.board_spec.specs.Decode.{Bytes}
-use Rattle.board_spec.specs.RegisterNames.{ide, ide_command, idetim, idetim_high}
-use Rattle.board_base.proofs.MergedLemmas.{merged-all}
-use Rattle.board_spec.proofs.StoreLemmas.{changed_byte-one_same, changed_byte-one_other}
+use Rattle.std.proofs.Common.{◌≡◌, ◌≢◌, ℕ, ◌<◌, ◌∙◌, refl, sym, ap, arith, slice_index}
+use Rattle.board_prelude.proofs.Common.{nat_tests, One, Reg, Store, Setup, merged, ide_function, reset_byte, writable_bits, changed_byte, Bytes, ide, ide_command, idetim, idetim_high, merged-all, changed_byte-one_same, changed_byte-one_other}
 use Rattle.xbus_select.specs.Ide.{IdeBytes, IsIdeFixed, IsIdeOf}
 use Rattle.xbus_select.proofs.FixedLemmas.{IsFixedAt, ide_header, ide_fixed, kept_byte, bare}
 

@@ -2,3 +2,4 @@ pub mod FixedLemmas
 pub mod IdeLemmas
 pub mod PiixLemmas
 pub mod PortLemmas
+pub mod Common

@@ -1,19 +1,7 @@
 -- The registers of the ISA bridge in the table of registers: after a reset, and after a store of one byte.
-use Rattle.std.proofs.Common.{◌≡◌, ◌≢◌, ℕ, ◌<◌, inl, inr, ◌∙◌, refl, sym, ap, arith}
-use Rattle.std.specs.Prelude.{slice_index}
-use Rattle.std.proofs.lemmas.Bool.Decides.{nat_tests}
-use Rattle.board_base.specs.declared.access.Width.TheVariants.{One}
-use Rattle.board_base.specs.declared.target.Reg.{Reg}
-use Rattle.board_spec.specs.declared.map_change.MapChange.TheVariants.{Store}
-use Rattle.board_spec.specs.Setup.{Setup}
-use Rattle.board_spec.specs.Bits.{merged}
-use Rattle.board_spec.specs.RegisterTable.{reset_byte, writable_bits}
-use Rattle.board_spec.specs.Registers.{changed_byte}
-use Rattle.board_spec.specs.Decode.{Bytes}
-use Rattle.board_spec.specs.RegisterNames.{isa, ide, xbcs as select_register}
-use Rattle.board_spec.proofs.StoreLemmas.{changed_byte-one_same, changed_byte-one_other}
-use Rattle.xbus_select.specs.Ide.{IdeBytes, IsIdeOf}
-use Rattle.xbus_select.specs.Piix.{PiixBytes, IsPiixRegister, IsIsaFixed, IsPiixOf}
+use Rattle.std.proofs.Common.{◌≡◌, ◌≢◌, ℕ, ◌<◌, inl, inr, ◌∙◌, refl, sym, ap, arith, slice_index}
+use Rattle.board_prelude.proofs.Common.{nat_tests, One, Reg, Store, Setup, merged, reset_byte, writable_bits, changed_byte, Bytes, isa, ide, xbcs as select_register, changed_byte-one_same, changed_byte-one_other}
+use Rattle.xbus_select.specs.Common.{IdeBytes, IsIdeOf, PiixBytes, IsPiixRegister, IsIsaFixed, IsPiixOf}
 use Rattle.xbus_select.proofs.FixedLemmas.{IsFixedAt, isa_header, isa_fixed, kept_byte, bare}
 use Rattle.xbus_select.proofs.IdeLemmas.{ide_stored_at}
 

@@ -1,23 +1,10 @@
 -- At the ports of the keyboard controller, the clock and the primary IDE channel, the device answers
 -- exactly where the chip selects it.
-use Rattle.std.proofs.Common.{◌≡◌, ◌≢◌, ℕ, ◌↔◌, Bool, true, false, Option, Some, None, refl, sym, ap, subst, arith, inl, inr}
-use Rattle.std.specs.Prelude.{◌&&◌, not, if◌then◌else◌, unwrap_or, option_map}
-use Rattle.std.proofs.lemmas.Bool.{cases_eq, false≢true}
-use Rattle.std.proofs.lemmas.Bool.Decides.{nat_tests}
-use Rattle.board_base.specs.declared.access.Width.TheVariants.{One, Two, Four}
-use Rattle.board_base.specs.declared.target.Dev.{Dev}
-use Rattle.board_base.specs.declared.target.Dev.TheVariants.{Keyboard, Clock, Ata}
-use Rattle.board_base.specs.declared.target.Target.{Target}
-use Rattle.board_base.specs.declared.target.Target.TheVariants.{Device}
-use Rattle.board_base.specs.declared.target.Denial.{Denial}
-use Rattle.board_base.specs.declared.target.Denial.TheVariants.{Register}
-use Rattle.device_spec.specs.PortNames.{keyboard_data_port, keyboard_command_port, clock_index_port, clock_data_port, disk_data_port, disk_error_port, disk_count_port, disk_low_port, disk_mid_port, disk_high_port, disk_device_port, disk_status_port, disk_control_port}
-use Rattle.device_spec.specs.PortTable.{is_port_of}
-use Rattle.board_spec.specs.Setup.{Setup}
-use Rattle.board_spec.specs.Bits.{is_bit}
-use Rattle.board_spec.specs.Decode.{Bytes, Window, io_claim}
-use Rattle.board_spec.specs.RegisterNames.{xbcs as select_register, ide_command, idetim, idetim_high}
-use Rattle.board_spec.specs.Ports.{device, nobody, card_port, unselected, port_target_of}
+use Rattle.std.proofs.Common.{◌≡◌, ◌≢◌, ℕ, ◌↔◌, Bool, true, false, Option, Some, None, refl, sym, ap, subst, arith, inl, inr, ◌&&◌, not, if◌then◌else◌, unwrap_or, option_map}
+use Rattle.board_prelude.proofs.Common.{cases_eq, false≢true, nat_tests, One, Dev, Keyboard, Ata, Target, Device, Denial, Register, clock_index_port, clock_data_port, disk_error_port, disk_count_port, disk_low_port, disk_mid_port, disk_high_port, disk_device_port, disk_status_port, is_port_of, Setup, is_bit, Bytes, Window, io_claim, xbcs as select_register, ide_command, idetim, idetim_high, device, nobody, card_port, unselected, port_target_of}
+use Rattle.board_base.specs.declared.access.Width.TheVariants.{Two, Four}
+use Rattle.board_base.specs.declared.target.Dev.TheVariants.{Clock}
+use Rattle.device_spec.specs.PortNames.{keyboard_data_port, keyboard_command_port, disk_data_port, disk_control_port}
 use Rattle.xbus_select.specs.PortSelects.{AnswersAt, KeyboardAnswers, ClockAnswers, DiskAnswers}
 
 -- ---- a device is no card and not nobody

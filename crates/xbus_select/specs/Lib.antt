@@ -1,3 +1,4 @@
 pub mod Ide
 pub mod Piix
 pub mod PortSelects
+pub mod Common

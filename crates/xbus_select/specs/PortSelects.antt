@@ -1,15 +1,7 @@
 -- A device answers at its ports exactly where the chip selects it: each is proved on a function of `laws`.
 use Rattle.std.specs.Prelude.{◌≡◌, ◌↔◌, ℕ, Bool, true}
-use Rattle.board_base.specs.declared.access.Width.{Width}
-use Rattle.board_base.specs.declared.access.Width.TheVariants.{One}
-use Rattle.board_base.specs.declared.target.Dev.{Dev}
-use Rattle.board_base.specs.declared.target.Dev.TheVariants.{Keyboard, Clock, Ata}
-use Rattle.board_base.specs.declared.target.Target.TheVariants.{Device}
-use Rattle.board_base.specs.Access.{bytes_of}
-use Rattle.device_spec.specs.PortTable.{is_port_of}
-use Rattle.board_spec.specs.Setup.{Setup}
-use Rattle.board_spec.specs.Decode.{Bytes}
-use Rattle.board_spec.specs.Ports.{port_target_of}
+use Rattle.board_prelude.specs.Common.{Width, One, Dev, Keyboard, Ata, Device, bytes_of, is_port_of, Setup, Bytes, port_target_of}
+use Rattle.board_base.specs.declared.target.Dev.TheVariants.{Clock}
 use Rattle.xbus_select.specs.Piix.{is_keyboard_port, is_clock_port, is_selected}
 
 -- an access of this width reaches the device exactly where the port's device is selected

@@ -1,13 +1,6 @@
 //! Function 01.1 of the 82371SB, the IDE controller.
 ghost use Rattle.std.specs.Prelude.{◌≡◌, ◌+◌, ◌*◌, ◌/◌};
-ghost use Rattle.board_base.specs.declared.access.Width.TheVariants.{One};
-ghost use Rattle.board_spec.specs.declared.map_change.MapChange.TheVariants.{Store};
-ghost use Rattle.board_spec.specs.Setup.{Setup};
-ghost use Rattle.board_spec.specs.Bits.{is_bit};
-ghost use Rattle.board_spec.specs.RegisterTable.{reset_byte};
-ghost use Rattle.board_spec.specs.Registers.{changed_byte};
-ghost use Rattle.board_spec.specs.Decode.{Bytes};
-ghost use Rattle.board_spec.specs.RegisterNames.{ide as ide_register};
+ghost use Rattle.board_prelude.specs.Common.{One, Store, Setup, is_bit, reset_byte, changed_byte, Bytes, ide as ide_register};
 ghost use Rattle.xbus_select.specs.Ide.{IsIdeOf, is_ide_decoded};
 
 use crate::header::header_byte;

@@ -1,12 +1,6 @@
 //! The functions 01.0 and 01.1 of the 82371SB, and the ports whose devices they select.
 ghost use Rattle.std.specs.Prelude.{◌≡◌, ◌+◌, ◌*◌};
-ghost use Rattle.board_base.specs.declared.access.Width.TheVariants.{One};
-ghost use Rattle.board_spec.specs.declared.map_change.MapChange.TheVariants.{Store};
-ghost use Rattle.board_spec.specs.Setup.{Setup};
-ghost use Rattle.board_spec.specs.RegisterTable.{reset_byte};
-ghost use Rattle.board_spec.specs.Registers.{changed_byte};
-ghost use Rattle.board_spec.specs.Decode.{Bytes};
-ghost use Rattle.board_spec.specs.RegisterNames.{isa};
+ghost use Rattle.board_prelude.specs.Common.{One, Store, Setup, reset_byte, changed_byte, Bytes, isa};
 ghost use Rattle.xbus_select.specs.Piix.{IsPiixRegister, IsOffRouting, IsIsaFixed, piix_register, IsPiixOf, is_selected};
 
 use crate::header::header_byte;

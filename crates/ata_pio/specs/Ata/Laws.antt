@@ -1,12 +1,7 @@
 -- What holds of the disk beyond its rules, said of whole transfers and of any run of accesses.
 use Rattle.std.specs.Prelude.{◌≡◌, ◌⊎◌, ℕ, zero, suc, ◌+◌, ◌*◌, ◌/◌, ◌%◌, ◌<◌, ◌≤◌, ◌==◌, Bool, true, false, ◌&&◌, ◌||◌, List, [], ◌∷◌, ◌++◌, length, Some, Ok, Err}
-use Rattle.board_base.specs.declared.access.Width.{Width}
-use Rattle.board_base.specs.declared.access.Width.TheVariants.{One, Two, Four}
-use Rattle.device_spec.specs.Ata.State.{power_on, is_disk_length, Medium, Registers, Activity, Ready, Failed, Reading, Writing, Identifying, Drive, Disk, sectors_of, word_at, sector_bytes, stored, is_drive_one, is_drq}
-use Rattle.device_spec.specs.Ata.Address.{named, naming, left_of}
-use Rattle.device_spec.specs.Ata.Commands.{readable, counted_down, moved_to, ended, failed, finished, begin_read, begin_write, verified, sector_read, sector_written}
-use Rattle.device_spec.specs.Ata.Steps.{word_of, word_read, word_written, with_drive, after_read, after_write, after_bad, after_reset}
-use Rattle.device_spec.specs.PortNames.{disk_control_port}
+use Rattle.device_spec.specs.Common.{Width, One, Two, Four, power_on, is_disk_length, Medium, Registers, Activity, Ready, Failed, Reading, Writing, Identifying, Drive, Disk, sectors_of, word_at, sector_bytes, stored, is_drive_one, is_drq, named, naming, left_of, readable, counted_down, moved_to, ended, failed, finished, begin_read, begin_write, verified, sector_read, sector_written, word_of, word_read, word_written, with_drive, after_bad, disk_control_port}
+use Rattle.device_spec.specs.Ata.Steps.{after_read, after_write, after_reset}
 
 -- A read of the alternate status changes nothing.
 abbrev pub AlternateStatusReads : Type 0

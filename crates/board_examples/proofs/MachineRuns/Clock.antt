@@ -1,8 +1,7 @@
 -- The examples of the clock, computed.
 use Rattle.std.proofs.Common.{refl}
-use Rattle.board_examples.specs.Machines.Words.{given, told}
+use Rattle.board_examples.specs.Common.{given, told, AnAlarmStays, AHardReset, AMoment, HourForms, Alarms, Interrupts, EachByte}
 use Rattle.device_spec.specs.Clock.{power_on}
-use Rattle.board_examples.specs.Machines.Clock.{AnAlarmStays, AHardReset, AMoment, HourForms, Alarms, Interrupts, EachByte}
 
 pub an_alarm_stays : AnAlarmStays
 unfolding AnAlarmStays given told power_on

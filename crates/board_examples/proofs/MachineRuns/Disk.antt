@@ -1,10 +1,8 @@
 -- The examples of the disk, computed.
 use Rattle.std.proofs.Common.{refl}
-use Rattle.board_examples.specs.Machines.Words.{given, told}
-use Rattle.device_spec.specs.Ata.Commands.{begin_read, sector_read, begin_write, sector_written, verified, obeyed, commanded}
-use Rattle.device_spec.specs.Ata.Steps.{after_word, word_written, register_written, control_written}
-use Rattle.device_spec.specs.Ata.Identify.{identify_word}
-use Rattle.board_examples.specs.Machines.Disk.{passed, filled, PastTheEnd, BadInTheMiddle, ReadToItsEnd, BadIsWritten, WrittenIsGood, WordsOfSector3, LowByteFirst, CommandEnds, Writes, Resets, Commands, Addresses, Identify, Lengths, DiskPorts}
+use Rattle.board_examples.specs.Common.{given, told, passed, filled, PastTheEnd, BadInTheMiddle, ReadToItsEnd, BadIsWritten, WrittenIsGood, WordsOfSector3, LowByteFirst, CommandEnds, Writes, Resets, Commands, Addresses, Identify, Lengths, DiskPorts}
+use Rattle.board_prelude.proofs.Common.{begin_read, sector_read, begin_write, sector_written, verified, obeyed, commanded, after_word, word_written, register_written, identify_word}
+use Rattle.device_spec.specs.Ata.Steps.{control_written}
 
 -- the examples, all computed with the same definitions open
 record AllRun : Type 0 where

@@ -1,10 +1,7 @@
 -- The examples of the pair, computed.
 use Rattle.std.proofs.Common.{refl}
-use Rattle.board_examples.specs.Machines.Words.{given, told, after_lines}
-use Rattle.device_spec.specs.Levels.{levels_where, byte_of_levels}
-use Rattle.device_spec.specs.Pic.{pending, first_selectable, request, chip_after_write, byte_read, chip_after_read, first_blocking}
-use Rattle.device_spec.specs.Pair.{answer_of, pair_after_acknowledge}
-use Rattle.board_examples.specs.Machines.Pair.{initialised, NobodyIsReady, SpuriousAnswers, ALevelStays, AnEdgeIsKept, TheHigherEndsFirst, ANewBeginning, AShortSequence, SpecialMask, ChosenRegisters, Polls, PollsOfOne, ResetAtLevels, EachCommand, AutomaticEnd, ModesEnd, FullyNested, Cascaded}
+use Rattle.board_examples.specs.Common.{given, told, after_lines, initialised, NobodyIsReady, SpuriousAnswers, ALevelStays, AnEdgeIsKept, TheHigherEndsFirst, ANewBeginning, AShortSequence, SpecialMask, ChosenRegisters, Polls, PollsOfOne, ResetAtLevels, EachCommand, AutomaticEnd, ModesEnd, FullyNested, Cascaded}
+use Rattle.board_prelude.proofs.Common.{levels_where, byte_of_levels, pending, first_selectable, request, chip_after_write, byte_read, chip_after_read, first_blocking, answer_of, pair_after_acknowledge}
 
 -- the examples, all computed with the same definitions open
 record AllRun : Type 0 where

@@ -1,8 +1,7 @@
 -- The examples of the timer, computed.
 use Rattle.std.proofs.Common.{refl, arith}
-use Rattle.board_examples.specs.Machines.Words.{given, told, after_lines}
+use Rattle.board_examples.specs.Common.{given, told, after_lines, Ports, AfterReset, ReadBackOf0, Counters1And2, OnePeriod, EachMode, EachCount, EachGate, BytesAndLatches}
 use Rattle.device_spec.specs.Pit.{mode_numbered, access_numbered, programmed, count_of_number, low_byte, high_byte, element_bytes, status_byte, latch_count, latch_status, control, read_back, read_live, read, asks_for_load, complete, take_low, take_byte, write, gate_rises, gate_falls, load, count_down, count_to_end, count_to_reload, count_half, count_to_strobe, pulse_by_mode, pulse, reset, port_read, read_back_chosen, write_control, port_write, set_gate2, out_of, pulse_all, pulses, rises}
-use Rattle.board_examples.specs.Machines.Timer.{Ports, AfterReset, ReadBackOf0, Counters1And2, OnePeriod, EachMode, EachCount, EachGate, BytesAndLatches}
 
 -- the examples, all computed with the same definitions open
 record AllRun : Type 0 where

@@ -1,9 +1,8 @@
 -- Worked examples of the clock.
 use Rattle.std.specs.Prelude.{◌≡◌, ℕ, Bool, true, false, List, [], ◌∷◌, map}
-use Rattle.board_base.specs.declared.moment.Moment.{Moment}
+use Rattle.board_prelude.specs.Common.{Moment, Clock, hour_byte, after_write, after_read, read_value, after_moment, after_reset, civil_time}
 use Rattle.board_examples.specs.Machines.Words.{digit, given, told}
-use Rattle.device_spec.specs.Clock.{Clock, power_on, hour_byte, after_write, after_read, read_value, after_moment, after_reset, interrupt_line}
-use Rattle.device_spec.specs.Told.{civil_time}
+use Rattle.device_spec.specs.Clock.{power_on, interrupt_line}
 
 -- a write of a byte, a read and the byte that it gives, a moment, a hard reset, and the interrupt line
 pub data Line : Type 0 where

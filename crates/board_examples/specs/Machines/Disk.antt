@@ -1,11 +1,9 @@
 -- Worked examples of the ATA disk.
 use Rattle.std.specs.Prelude.{◌≡◌, ℕ, zero, suc, Bool, true, false, List, [], ◌∷◌, ◌++◌, map, replicate, Option, Some, None}
-use Rattle.board_base.specs.declared.access.Width.TheVariants.{One, Two, Four}
+use Rattle.board_prelude.specs.Common.{One, Disk, power_on_drive, power_on_registers, is_interrupt, is_disk_length, power_on, named, naming, identify_word, is_ata_port, read_of, after_bad}
+use Rattle.board_base.specs.declared.access.Width.TheVariants.{Two, Four}
 use Rattle.board_examples.specs.Machines.Words.{digit, given, told}
-use Rattle.device_spec.specs.Ata.State.{Disk, power_on_drive, power_on_registers, is_interrupt, is_disk_length, power_on}
-use Rattle.device_spec.specs.Ata.Address.{named, naming}
-use Rattle.device_spec.specs.Ata.Identify.{identify_word}
-use Rattle.device_spec.specs.Ata.Steps.{is_ata_port, read_of, after_read, after_write, after_reset, after_bad}
+use Rattle.device_spec.specs.Ata.Steps.{after_read, after_write, after_reset}
 
 -- a write of a byte, a read and the byte that it gives, words and double words at the data port, a number
 -- of words that are read and not looked at, or written, the same each; a bad sector, a hard reset, and the interrupt

@@ -2,12 +2,11 @@
 use Rattle.std.specs.Prelude.{ℕ, ◌+◌, ◌*◌, ◌/◌, ◌%◌, ◌==◌, Bool, false, ◌||◌, if◌then◌else◌, List, [], ◌∷◌, ◌++◌, length}
 use Rattle.board_base.specs.declared.access.Width.{Width}
 use Rattle.board_base.specs.declared.access.Width.TheVariants.{One, Two, Four}
-use Rattle.board_base.specs.Bits.{is_bit}
+use Rattle.board_base.specs.Common.{is_bit, bytes_of}
 use Rattle.device_spec.specs.Ata.State.{Medium, Registers, Activity, Ready, Failed, Reading, Writing, Identifying, Drive, Disk, sectors_of, word_at, stored, marked, device_byte, reset_drive, power_on_drive, status_of, is_drq}
 use Rattle.device_spec.specs.Ata.Identify.{identify_word}
 use Rattle.device_spec.specs.Ata.Commands.{ended, sector_read, sector_written, commanded}
 use Rattle.board_base.specs.declared.target.Dev.TheVariants.{Ata}
-use Rattle.board_base.specs.Access.{bytes_of}
 use Rattle.device_spec.specs.PortNames.{disk_error_port, disk_count_port, disk_low_port, disk_mid_port, disk_high_port, disk_device_port, disk_status_port, disk_control_port}
 use Rattle.device_spec.specs.PortTable.{is_port_of}
 

@@ -1,5 +1,4 @@
-use Rattle.bus_turn.specs.Passes.{IsIdle, IsSameCaller, HasSameJoined}
-use Rattle.bus_turn.specs.Turns.{IsOf}
+use Rattle.bus_turn.specs.Common.{IsIdle, IsSameCaller, HasSameJoined, IsOf}
 use Rattle.access_history.proofs.tests.add_all.Given as goal
 
 abbrev pub invariant-loop-seq : goal.invariant-loop-seq

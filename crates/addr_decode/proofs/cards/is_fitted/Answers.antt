@@ -1,5 +1,4 @@
-use Rattle.std.proofs.Common.{◌∙◌, ap, Option}
-use Rattle.std.specs.Prelude.{is_some}
+use Rattle.std.proofs.Common.{◌∙◌, ap, Option, is_some}
 use Rattle.board_spec.specs.Setup.{FittedCard}
 use Rattle.addr_decode.proofs.CardLemmas.{some_card}
 use Rattle.addr_decode.proofs.cards.is_fitted.Goals as goal

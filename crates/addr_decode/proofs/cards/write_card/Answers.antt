@@ -1,5 +1,4 @@
-use Rattle.std.proofs.Common.{◌≡◌, sym, ◌∙◌, ap, Some, List, None}
-use Rattle.std.specs.Prelude.{◌==◌}
+use Rattle.std.proofs.Common.{◌≡◌, sym, ◌∙◌, ap, Some, List, None, ◌==◌}
 use Rattle.std.specs.List.{position}
 use Rattle.pci_bars.specs.Cards.{CardBytes}
 use Rattle.addr_decode.proofs.CardLemmas.{card_written, registers_written, card_kept, no_card_written, no_registers_written}

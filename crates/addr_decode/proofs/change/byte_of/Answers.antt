@@ -1,7 +1,5 @@
 use Rattle.std.proofs.Common.{◌≡◌, ℕ, ◌∙◌, true, sym, ap, subst}
-use Rattle.board_spec.specs.Setup.{IsCard}
-use Rattle.board_spec.specs.MapWrites.{is_map_byte}
-use Rattle.board_spec.specs.RegisterNames.{card_register}
+use Rattle.board_prelude.proofs.Common.{IsCard, is_map_byte, card_register}
 use Rattle.pci_bars.specs.Cards.{DecodesAs}
 use Rattle.pci_bars.proofs.CardListLemmas.{found}
 use Rattle.addr_decode.proofs.change.byte_of.Goals as goal

@@ -1,7 +1,5 @@
-use Rattle.std.proofs.Common.{◌∙◌, ap, List, Option, sym, lit<}
-use Rattle.std.specs.Prelude.{is_some}
-use Rattle.std.specs.List.{list_any}
-use Rattle.board_spec.specs.Setup.{FittedCard}
+use Rattle.std.proofs.Common.{◌∙◌, ap, List, Option, sym, lit<, is_some}
+use Rattle.board_prelude.proofs.Common.{list_any, FittedCard}
 use Rattle.addr_decode.specs.declared.register.MapRegister.{MapRegister}
 use Rattle.addr_decode.specs.MapRegister.{names_from}
 use Rattle.addr_decode.proofs.CardLemmas.{no_low_card}

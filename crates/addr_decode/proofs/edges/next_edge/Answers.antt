@@ -1,8 +1,5 @@
-use Rattle.std.proofs.Common.{rules, ◌≡◌, ◌∙◌, None, ap}
-use Rattle.std.specs.Prelude.{length}
-use Rattle.addr_decode.specs.Edges.{edges_of, fixed_edges}
-use Rattle.addr_decode.specs.EdgeSearch.{nearest}
-use Rattle.addr_decode.specs.MapRegs.{StandsFor, map_bytes}
+use Rattle.std.proofs.Common.{rules, ◌≡◌, ◌∙◌, None, ap, length}
+use Rattle.addr_decode.specs.Common.{edges_of, fixed_edges, nearest, StandsFor, map_bytes}
 use Rattle.addr_decode.proofs.EdgeSearchLemmas.{kept_edges, kept_above, kept_are_edges, in_parts, is_next, is_last}
 use Rattle.addr_decode.proofs.FixedEdgeLemmas.{first_fixed_edge}
 use Rattle.addr_decode.proofs.EdgeLaws.{same_to_next}

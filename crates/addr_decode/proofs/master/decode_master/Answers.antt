@@ -1,7 +1,5 @@
 use Rattle.std.proofs.Common.{◌∙◌, ap}
-use Rattle.board_base.specs.declared.target.Area.{Area}
-use Rattle.board_spec.specs.Decode.{top_of, memory_shut, rom_unselected, abort_denial, rom_denial, denial_in}
-use Rattle.board_spec.specs.RegisterNames.{isa}
+use Rattle.board_prelude.proofs.Common.{Area, top_of, memory_shut, rom_unselected, abort_denial, rom_denial, denial_in, isa}
 use Rattle.addr_decode.specs.Master.{master_denial}
 use Rattle.addr_decode.proofs.master.decode_master.Goals as goal
 

@@ -1,6 +1,5 @@
 use Rattle.std.proofs.Common.{◌∙◌, ap, ℕ, Option}
-use Rattle.board_spec.specs.Decode.{is_in, hole_of, is_shadowed, smram_answers}
-use Rattle.board_spec.specs.RegisterNames.{bridge}
+use Rattle.board_prelude.proofs.Common.{is_in, hole_of, is_shadowed, smram_answers, bridge}
 use Rattle.addr_decode.specs.Memory.{dram_area}
 use Rattle.addr_decode.proofs.memory.dram_area.Goals as goal
 

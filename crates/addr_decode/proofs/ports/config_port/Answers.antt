@@ -1,6 +1,5 @@
 use Rattle.std.proofs.Common.{◌≡◌, ◌∙◌, ℕ, Some, subst, ap, sym}
-use Rattle.std.proofs.lemmas.Bool.{false≢true}
-use Rattle.board_spec.specs.Registers.{kept_address, config_register, is_enabled}
+use Rattle.board_prelude.proofs.Common.{false≢true, kept_address, config_register, is_enabled}
 use Rattle.cfg_ports.specs.Selection.{existing}
 use Rattle.addr_decode.proofs.PortLemmas.{selected_target}
 use Rattle.addr_decode.proofs.ports.config_port.Goals as goal

@@ -1,7 +1,5 @@
 use Rattle.std.proofs.Common.{◌∙◌, sym, ap, subst, Option}
-use Rattle.board_base.specs.declared.target.Target.{Target}
-use Rattle.board_base.specs.declared.target.Denial.{Denial}
-use Rattle.board_spec.specs.Registers.{kept_address}
+use Rattle.board_prelude.proofs.Common.{Target, Denial, kept_address}
 use Rattle.pci_bars.specs.Cards.{AreDecoded}
 use Rattle.addr_decode.specs.declared.onboard.Onboard.TheVariants.{Answers, Denied, Absent}
 use Rattle.addr_decode.specs.Ports.{as_decoded}

@@ -1,7 +1,5 @@
-use Rattle.std.proofs.Common.{Bool, ◌∙◌, ap, Some, None}
-use Rattle.std.specs.Prelude.{if◌then◌else◌}
-use Rattle.board_base.specs.declared.target.Target.TheVariants.{Config, Abort}
-use Rattle.board_base.specs.declared.target.Denial.TheVariants.{NoRegister}
+use Rattle.std.proofs.Common.{Bool, ◌∙◌, ap, Some, None, if◌then◌else◌}
+use Rattle.board_prelude.proofs.Common.{Config, Abort, NoRegister}
 use Rattle.addr_decode.proofs.ports.selected_port.Goals as goal
 
 pub returns-then-function_exists-clause-target : goal.returns-then-function_exists-clause-target

@@ -1,5 +1,4 @@
-use Rattle.std.proofs.Common.{◌∙◌, ap, List, [], None, Option, refl}
-use Rattle.std.specs.Prelude.{option_map, option_and_then}
+use Rattle.std.proofs.Common.{◌∙◌, ap, List, [], None, Option, refl, option_map, option_and_then}
 use Rattle.board_spec.specs.Setup.{FittedCard, Setup}
 use Rattle.pci_bars.specs.Cards.{cards_of}
 use Rattle.addr_decode.specs.declared.register.MapRegister.TheVariants.{Card}

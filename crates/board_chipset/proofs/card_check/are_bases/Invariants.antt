@@ -1,6 +1,5 @@
 -- What is left of the bases decides for all of them.
-use Rattle.std.proofs.Common.{drop, map}
-use Rattle.std.specs.Prelude.{◌↔◌, All}
+use Rattle.std.proofs.Common.{drop, map, ◌↔◌, All}
 use Rattle.board_spec.specs.Setup.{IsBase}
 use Rattle.pci_bars.specs.Bases.{base_of}
 use Rattle.board_chipset.proofs.card_check.are_bases.Given as goal

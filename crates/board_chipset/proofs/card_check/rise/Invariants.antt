@@ -1,6 +1,5 @@
 -- What is left of the cards decides for all of them.
-use Rattle.std.proofs.Common.{drop}
-use Rattle.std.specs.Prelude.{◌↔◌}
+use Rattle.std.proofs.Common.{drop, ◌↔◌}
 use Rattle.board_chipset.specs.Setups.{RiseFrom}
 use Rattle.board_chipset.proofs.card_check.rise.Given as goal
 

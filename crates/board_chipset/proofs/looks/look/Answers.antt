@@ -1,10 +1,7 @@
 use Rattle.std.proofs.Common.{◌≡◌, ℕ, Bool, None, refl, ◌∙◌}
-use Rattle.board_base.specs.declared.access.Kind.{Kind}
+use Rattle.board_prelude.proofs.Common.{Kind, Reply, Bus, Saw, Cell, entry_put, byte_of}
 use Rattle.board_spec.specs.declared.event.Event.TheVariants.{Look as LookAt}
-use Rattle.board_spec.specs.declared.event.Reply.{Reply}
-use Rattle.board_spec.specs.declared.event.Reply.TheVariants.{Bus, Parts, Saw}
-use Rattle.board_spec.specs.Stored.{Cell, entry_put}
-use Rattle.board_spec.specs.Registers.{byte_of}
+use Rattle.board_spec.specs.declared.event.Reply.TheVariants.{Parts}
 use Rattle.board_devices.proofs.DeviceLemmas.{leaves_devices}
 use Rattle.board_chipset.proofs.RegisterSteps.{writes_none}
 use Rattle.board_chipset.proofs.StateSteps.{state_stays}

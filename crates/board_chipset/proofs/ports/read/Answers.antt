@@ -1,7 +1,5 @@
 use Rattle.std.proofs.Common.{ℕ, ◌∙◌, refl, ap, subst}
-use Rattle.board_base.specs.declared.target.Target.{Target}
-use Rattle.board_spec.specs.Registers.{config_address}
-use Rattle.board_spec.specs.Answer.{value_at}
+use Rattle.board_prelude.proofs.Common.{Target, config_address, value_at}
 use Rattle.board_chipset.specs.Ports.{IsEntryOf}
 use Rattle.board_devices.proofs.DeviceLemmas.{leaves_devices}
 use Rattle.board_chipset.proofs.Effects.{Reached, target_reached, reached_in, named, within_function}

@@ -1,6 +1,5 @@
 use Rattle.std.proofs.Common.{refl, ap, subst}
-use Rattle.board_base.specs.declared.target.Dev.{Dev}
-use Rattle.board_base.specs.declared.target.Target.TheVariants.{Device}
+use Rattle.board_prelude.proofs.Common.{Dev, Device}
 use Rattle.board_chipset.specs.Ports.{IsEntryOf}
 use Rattle.board_devices.proofs.DeviceLemmas.{leaves_devices}
 use Rattle.board_chipset.proofs.Effects.{reached_in, entry_reached, entry_writes}

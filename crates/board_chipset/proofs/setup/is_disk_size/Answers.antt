@@ -1,8 +1,5 @@
-use Rattle.std.proofs.Common.{◌≡◌, ◌≢◌, ℕ, ◌/◌, ◌%◌, true, not, sym, ◌∙◌, arith}
-use Rattle.std.specs.Prelude.{◌↔◌, ◌==◌, IsTrue, nat_le}
-use Rattle.std.proofs.lemmas.Bool.{eqb-true}
-use Rattle.std.proofs.lemmas.Bool.Decides.{nat_tests}
-use Rattle.board_spec.specs.Setup.{IsDiskSize}
+use Rattle.std.proofs.Common.{◌≡◌, ◌≢◌, ℕ, ◌/◌, ◌%◌, true, not, sym, ◌∙◌, arith, ◌↔◌, ◌==◌, IsTrue, nat_le}
+use Rattle.board_prelude.proofs.Common.{eqb-true, nat_tests, IsDiskSize}
 use Rattle.board_chipset.proofs.setup.is_disk_size.Goals.{then-size-ne0, else-size-ne0}
 use Rattle.board_chipset.proofs.setup.is_disk_size.Goals as goal
 

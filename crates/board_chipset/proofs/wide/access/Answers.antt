@@ -1,7 +1,5 @@
 use Rattle.std.proofs.Common.{◌≡◌, ◌∙◌, true, refl}
-use Rattle.board_spec.specs.Stored.{is_write}
-use Rattle.board_spec.specs.WideParts.{parts_of, parts_list}
-use Rattle.board_spec.specs.Registers.{byte_of}
+use Rattle.board_prelude.proofs.Common.{is_write, parts_of, parts_list, byte_of}
 use Rattle.board_stores.proofs.MemoryLemmas.{parts_answered}
 use Rattle.board_devices.proofs.DeviceLemmas.{leaves_devices}
 use Rattle.board_chipset.proofs.RegisterSteps.{writes_none}

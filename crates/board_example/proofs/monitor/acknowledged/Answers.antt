@@ -1,6 +1,5 @@
 use Rattle.std.proofs.Common.{[], ◌∷◌, refl}
-use Rattle.board_spec.specs.declared.event.Entry.{Entry}
-use Rattle.board_spec.specs.declared.event.Event.TheVariants.{Ack}
+use Rattle.board_prelude.proofs.Common.{Entry, Ack}
 use Rattle.board_example.proofs.monitor.acknowledged.Goals as goal
 
 pub returns-clause-left : goal.returns-clause-left

@@ -1,9 +1,7 @@
-use Rattle.std.proofs.Common.{◌≡◌, ◌-◌, ◌+◌, ℕ, ◌<◌, ◌++◌, List, [], ◌∷◌, length, ap, ◌∙◌, sym, arith}
-use Rattle.std.specs.Prelude.{map, sum_by}
-use Rattle.std.proofs.lemmas.Result.{err_from_is_err_and}
-use Rattle.std.proofs.lemmas.List.{map_push, length_push}
+use Rattle.std.proofs.Common.{◌≡◌, ◌-◌, ◌+◌, ℕ, ◌<◌, ◌++◌, List, [], ◌∷◌, length, ap, ◌∙◌, sym, arith, map, sum_by}
+use Rattle.board_prelude.proofs.Common.{err_from_is_err_and, length_push, Base, memory_size}
+use Rattle.std.proofs.lemmas.List.{map_push}
 use Rattle.std.proofs.lemmas.List.Sums.{sum_by_push}
-use Rattle.board_spec.specs.Setup.{Base, memory_size}
 use Rattle.pci_bars.specs.declared.spec.BaseSpec.{BaseSpec}
 use Rattle.pci_bars.specs.Bases.{base_of}
 use Rattle.board_image.specs.ImageFields.{bases_fields}

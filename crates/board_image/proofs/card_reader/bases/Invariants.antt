@@ -1,6 +1,5 @@
 -- What is still to be read, after the bases so far, is all that is read, and they took their memory.
-use Rattle.std.proofs.Common.{◌≡◌, ◌-◌, length}
-use Rattle.std.specs.Prelude.{map, sum_by}
+use Rattle.std.proofs.Common.{◌≡◌, ◌-◌, length, map, sum_by}
 use Rattle.board_spec.specs.Setup.{memory_size}
 use Rattle.pci_bars.specs.Bases.{base_of}
 use Rattle.board_image.specs.ImageFields.{bases_fields}

@@ -1,7 +1,5 @@
 use Rattle.std.proofs.Common.{◌≡◌, ℕ, ◌++◌, List, [], ◌∷◌, length, ap, sym, rules}
-use Rattle.std.proofs.lemmas.Result.{err_from_is_err_and}
-use Rattle.board_spec.specs.Setup.{FittedCard}
-use Rattle.board_spec.specs.Limits.{most_card_memory}
+use Rattle.board_prelude.proofs.Common.{err_from_is_err_and, FittedCard, most_card_memory}
 use Rattle.board_image.specs.ImageFields.{cards_fields}
 use Rattle.board_image.proofs.Loops.{goes_on, stops, is_done}
 use Rattle.board_image.proofs.ImageLoops.{card_after, past_card, cards_after, cards_loop}

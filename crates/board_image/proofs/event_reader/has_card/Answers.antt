@@ -1,10 +1,6 @@
-use Rattle.std.proofs.Common.{◌≡◌, ℕ, Bool, true, false, List, [], ◌∷◌, inl, inr, refl, ◌∙◌, sym, rules, tests}
-use Rattle.std.specs.Prelude.{◌==◌, is_some, find}
-use Rattle.std.specs.List.{list_any}
-use Rattle.std.proofs.lemmas.Bool.{cases_Bool}
-use Rattle.std.proofs.lemmas.Iterator.{YieldsList-from_slice}
+use Rattle.std.proofs.Common.{◌≡◌, ℕ, Bool, true, false, List, [], ◌∷◌, inl, inr, refl, ◌∙◌, sym, rules, tests, ◌==◌, is_some, find}
+use Rattle.board_prelude.proofs.Common.{list_any, cases_Bool, YieldsList-from_slice, FittedCard}
 use Rattle.std.proofs.lemmas.Iterator.Search.{any_from_yields_List}
-use Rattle.board_spec.specs.Setup.{FittedCard}
 use Rattle.board_image.proofs.event_reader.has_card.Goals as goal
 
 found : {X : Type 0} (test : X → Bool) (all : List X) → is_some (find test all) ≡ list_any test all

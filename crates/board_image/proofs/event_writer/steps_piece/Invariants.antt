@@ -1,6 +1,5 @@
 -- The steps so far are written.
-use Rattle.std.proofs.Common.{◌≡◌, take}
-use Rattle.std.specs.Prelude.{map, flat_map}
+use Rattle.std.proofs.Common.{◌≡◌, take, map, flat_map}
 use Rattle.board_spec.specs.Orders.{statement_of}
 use Rattle.board_image.specs.ImageBytes.{step_bytes}
 use Rattle.board_image.proofs.event_writer.steps_piece.Given as goal

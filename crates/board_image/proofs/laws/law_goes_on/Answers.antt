@@ -1,8 +1,5 @@
-use Rattle.std.proofs.Common.{◌≡◌, List, ◌++◌, refl, ap, ◌∙◌}
-use Rattle.std.specs.Prelude.{map, reverse}
-use Rattle.std.proofs.lemmas.List.{reverse-append, map-append}
-use Rattle.board_spec.specs.declared.event.Entry.{Entry}
-use Rattle.board_spec.specs.Orders.{statement_of, statements_of}
+use Rattle.std.proofs.Common.{◌≡◌, List, ◌++◌, refl, ap, ◌∙◌, map, reverse}
+use Rattle.board_prelude.proofs.Common.{reverse-append, map-append, Entry, statement_of, statements_of}
 use Rattle.board_image.proofs.laws.law_goes_on.Goals as goal
 
 one_after_other : (more first : List Entry) →

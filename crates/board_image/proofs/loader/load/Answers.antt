@@ -1,6 +1,5 @@
 use Rattle.std.proofs.Common.{◌≡◌, List, length, rules, ap, subst}
-use Rattle.board_spec.specs.declared.event.Statement.{Statement}
-use Rattle.board_spec.specs.Setup.{Setup}
+use Rattle.board_prelude.proofs.Common.{Statement, Setup}
 use Rattle.board_core.specs.Steps.{AreInRange}
 use Rattle.board_image.specs.ImageBytes.{IsImage}
 use Rattle.board_image.proofs.loader.load.Goals as goal

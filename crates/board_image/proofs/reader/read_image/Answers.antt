@@ -1,10 +1,8 @@
 use Rattle.std.proofs.Common.{◌≡◌, ℕ, ◌+◌, ◌-◌, ◌<◌, ◌≤◌, inl, inr, List, [], length, Result, Ok, Err, refl, sym, ap, subst, ◌∙◌, arith}
-use Rattle.board_spec.specs.declared.event.Statement.{Statement}
-use Rattle.board_spec.specs.Setup.{Setup}
+use Rattle.board_prelude.proofs.Common.{Statement, Setup}
 use Rattle.board_image.specs.declared.fault.ImageFault.{ImageFault}
 use Rattle.board_image.specs.declared.fault.ImageFault.TheVariants.{Bad}
-use Rattle.board_image.specs.ImageBytes.{Saved, image_bytes, IsImage}
-use Rattle.board_image.specs.ImageFields.{image_fields}
+use Rattle.board_image.specs.Common.{Saved, image_bytes, IsImage, image_fields}
 use Rattle.board_image.proofs.Formats.{AreBytes, ok_is, not_err}
 use Rattle.board_image.proofs.ImageFormats.{image_back, image_taken, image_bad}
 use Rattle.board_image.proofs.reader.read_image.Goals as goal

@@ -1,6 +1,5 @@
 -- The cards so far are written.
-use Rattle.std.proofs.Common.{◌≡◌, ◌++◌, take}
-use Rattle.std.specs.Prelude.{flat_map}
+use Rattle.std.proofs.Common.{◌≡◌, ◌++◌, take, flat_map}
 use Rattle.board_image.specs.ImageBytes.{card_bytes, head_bytes}
 use Rattle.board_image.proofs.writer.front_piece.Given as goal
 

@@ -1,8 +1,5 @@
-use Rattle.std.proofs.Common.{ℕ, ◌<◌, List, length}
-use Rattle.std.specs.Prelude.{map, All, slice_index_or}
-use Rattle.std.proofs.lemmas.List.{length-map}
-use Rattle.std.proofs.lemmas.List.{get_or-map}
-use Rattle.board_spec.specs.Setup.{IsBase}
+use Rattle.std.proofs.Common.{ℕ, ◌<◌, List, length, map, All, slice_index_or}
+use Rattle.board_prelude.proofs.Common.{length-map, get_or-map, IsBase}
 use Rattle.pci_bars.specs.declared.spec.BaseSpec.{BaseSpec}
 use Rattle.pci_bars.specs.Bases.{base_of}
 use Rattle.board_image.proofs.writer.push_bases.Goals as goal

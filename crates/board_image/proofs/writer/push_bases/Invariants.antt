@@ -1,6 +1,5 @@
 -- The bases so far are written.
-use Rattle.std.proofs.Common.{◌≡◌, ◌++◌, take}
-use Rattle.std.specs.Prelude.{map}
+use Rattle.std.proofs.Common.{◌≡◌, ◌++◌, take, map}
 use Rattle.pci_bars.specs.Bases.{base_of}
 use Rattle.board_image.specs.ImageBytes.{base_byte}
 use Rattle.board_image.proofs.writer.push_bases.Given as goal

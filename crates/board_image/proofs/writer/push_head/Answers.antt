@@ -1,5 +1,4 @@
-use Rattle.std.proofs.Common.{◌≡◌, ℕ, List, ◌++◌, refl, ap, ◌∙◌, subst, append_assoc}
-use Rattle.std.specs.Prelude.{OnOk}
+use Rattle.std.proofs.Common.{◌≡◌, ℕ, List, ◌++◌, refl, ap, ◌∙◌, subst, append_assoc, OnOk}
 use Rattle.board_image.specs.ImageBytes.{head_bytes, magic}
 use Rattle.board_image.proofs.writer.push_head.Goals as goal
 

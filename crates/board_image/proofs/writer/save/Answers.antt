@@ -1,9 +1,5 @@
-use Rattle.std.proofs.Common.{◌≡◌, ℕ, List, ◌++◌, length, sym, ◌∙◌, ap, append_assoc, rules}
-use Rattle.std.specs.Prelude.{map, flat_map, reverse}
-use Rattle.std.proofs.lemmas.List.{length-map, length-reverse}
-use Rattle.board_spec.specs.declared.event.Entry.{Entry}
-use Rattle.board_spec.specs.Setup.{Setup}
-use Rattle.board_spec.specs.Orders.{statement_of, statements_of}
+use Rattle.std.proofs.Common.{◌≡◌, ℕ, List, ◌++◌, length, sym, ◌∙◌, ap, append_assoc, rules, map, flat_map, reverse}
+use Rattle.board_prelude.proofs.Common.{length-map, length-reverse, Entry, Setup, statement_of, statements_of}
 use Rattle.board_image.specs.ImageBytes.{head_bytes, card_bytes, disk_bytes, step_bytes, image_bytes}
 use Rattle.board_image.proofs.writer.save.Goals as goal
 

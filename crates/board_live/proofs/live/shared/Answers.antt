@@ -1,9 +1,7 @@
 use Rattle.std.proofs.Common.{rules, ◌≡◌, ℕ, ◌++◌, List, length, sym, ap, ◌∙◌, subst, arith}
-use Rattle.board_spec.specs.declared.event.Entry.{Entry}
-use Rattle.board_spec.specs.declared.map_change.MapChange.{MapChange}
-use Rattle.board_spec.specs.MapWrites.{map_writes_of}
+use Rattle.board_prelude.proofs.Common.{Entry, MapChange, map_writes_of}
 use Rattle.map_publish.specs.Lists.{opened_of}
-use Rattle.board_live.specs.Known.{oldest, Opens}
+use Rattle.board_live.specs.Known.{oldest, IsMapOpened}
 use Rattle.board_live.proofs.Histories.{oldest_whole}
 use Rattle.board_live.proofs.live.shared.Goals as goal
 
@@ -21,5 +19,5 @@ invariant_of-result c =
           ap (map_writes_of board.setup) (sym whole)
           ∙ ap (λ (w : List MapChange). w ++ map_writes_of board.setup (oldest c.len-opened.result board.entries))
           (sym c.requires.none);
-      opens = subst (λ (h : List Entry). Opens board.setup h (opened_of log)) (sym whole) c.requires.opens;
+      opens = subst (λ (h : List Entry). IsMapOpened board.setup h (opened_of log)) (sym whole) c.requires.opens;
     }

@@ -3,10 +3,8 @@ use Rattle.std.proofs.Common.{ap, sym, subst, ◌∙◌}
 use Rattle.board_spec.specs.InRange.{IsInRange}
 use Rattle.board_chipset.specs.Chipset.{Running, IsLeftBy}
 use Rattle.uart_16550.specs.declared.com1.Happening.TheVariants.{Happens}
-use Rattle.uart_16550.specs.Com1.{uart_access}
-use Rattle.uart_16550.specs.Serial.{Serial}
-use Rattle.board_records.specs.Replies.{serial_said}
-use Rattle.board_records.specs.Steps.{IsHistoryOf, IsStep, after_step}
+use Rattle.uart_16550.specs.Common.{uart_access, Serial}
+use Rattle.board_records.specs.Common.{serial_said, IsHistoryOf, IsAskedStep, after_step}
 use Rattle.board_records.proofs.EventReplies.{reply_is}
 use Rattle.board_records.proofs.calls.told.Goals as goal
 
@@ -16,7 +14,7 @@ returns-clause-done c =
     let same = c.in_ok-test.ensures.same in
     let event = c.args.event.now in
     let new = c.step-reply.new.self in
-    subst (λ (serial : Serial Running). IsStep serial new c.serial_record_of.result (Happens event)) same (record {
+    subst (λ (serial : Serial Running). IsAskedStep serial new c.serial_record_of.result (Happens event)) same (record {
       can = subst (λ (serial : Serial Running). IsInRange serial.board.setup event) (sym same) c.in_ok-test.ensures.in_range;
       setup = step.setup;
       reply = c.step-reply.result;

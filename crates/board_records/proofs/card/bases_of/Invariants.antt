@@ -1,5 +1,4 @@
-use Rattle.std.proofs.Common.{◌≡◌, length, map}
-use Rattle.std.specs.Prelude.{drop}
+use Rattle.std.proofs.Common.{◌≡◌, length, map, drop}
 use Rattle.pci_bars.specs.Bases.{base_of}
 use Rattle.board_records.specs.Cards.{all_said, base_said}
 use Rattle.board_records.proofs.Said.{after_these}

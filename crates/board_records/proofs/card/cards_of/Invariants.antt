@@ -1,5 +1,4 @@
-use Rattle.std.proofs.Common.{◌≡◌}
-use Rattle.std.specs.Prelude.{drop}
+use Rattle.std.proofs.Common.{◌≡◌, drop}
 use Rattle.board_records.specs.Cards.{all_said, card_said}
 use Rattle.board_records.proofs.Said.{after_these}
 use Rattle.board_records.proofs.card.cards_of.Given as goal

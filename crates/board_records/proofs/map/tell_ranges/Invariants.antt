@@ -1,5 +1,4 @@
-use Rattle.std.proofs.Common.{◌≡◌, length, map}
-use Rattle.std.specs.Prelude.{take, drop}
+use Rattle.std.proofs.Common.{◌≡◌, length, map, take, drop}
 use Rattle.map_builder.specs.Map.{range_of}
 use Rattle.board_records.specs.Maps.{range_said}
 use Rattle.board_records.proofs.map.tell_ranges.Given as goal

@@ -1,5 +1,4 @@
-use Rattle.std.proofs.Common.{◌≡◌, length, map}
-use Rattle.std.specs.Prelude.{take, drop}
+use Rattle.std.proofs.Common.{◌≡◌, length, map, take, drop}
 use Rattle.board_records.specs.Maps.{window_said}
 use Rattle.board_records.proofs.map.tell_windows.Given as goal
 

@@ -2,8 +2,7 @@ use Rattle.std.proofs.Common.{◌≡◌, rules, refl}
 use Rattle.std.proofs.KnownBytes.{Keeps-refl}
 use Rattle.command_files.specs.Statuses.{status_of, status_of_put_fault}
 use Rattle.board_run.proofs.Causes.{caused_refusal, caused_put_fault, caused_done, refusal_of}
-use Rattle.command_files.proofs.Refusals.{holds_of_error}
-use Rattle.command_files.proofs.CallLemmas.{none_made, calls_hold}
+use Rattle.command_files.proofs.Common.{holds_of_error, none_made, calls_hold}
 use Rattle.board_run.proofs.PutLemmas.{nothing_put, put_refused}
 use Rattle.board_run.proofs.command.run_command.Goals as goal
 

@@ -1,6 +1,5 @@
 use Rattle.std.proofs.Common.{rules, refl, sym, ◌∙◌, subst}
-use Rattle.board_run.specs.Output.{Sent}
-use Rattle.board_run.specs.Puts.{AllTook}
+use Rattle.board_run.specs.Common.{Sent, AllTook}
 use Rattle.board_run.proofs.SentLemmas.{nothing_sent, then_piece_sent, then_piece_refused}
 use Rattle.command_files.proofs.CallLemmas.{none_made}
 use Rattle.board_run.proofs.PutLemmas.{piece_put, piece_not_put, puts_failed}

@@ -1,8 +1,7 @@
 use Rattle.std.proofs.Common.{◌≡◌, drop}
 use Rattle.log_pieces.specs.Text.{joined}
-use Rattle.board_run.specs.Output.{Sent}
+use Rattle.board_run.specs.Common.{Sent, AllTook}
 use Rattle.command_files.specs.Calls.{OfCalls}
-use Rattle.board_run.specs.Puts.{AllTook}
 use Rattle.board_run.proofs.output.put_all.Given as goal
 
 -- the pieces so far were sent

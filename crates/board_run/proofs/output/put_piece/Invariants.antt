@@ -1,7 +1,6 @@
 use Rattle.std.proofs.Common.{◌≡◌, length}
-use Rattle.board_run.specs.Output.{Sent}
+use Rattle.board_run.specs.Common.{Sent, AllTook}
 use Rattle.command_files.specs.Calls.{OfCalls}
-use Rattle.board_run.specs.Puts.{AllTook}
 use Rattle.board_run.proofs.output.put_piece.Given as goal
 
 abbrev pub invariant-loop-rest : goal.invariant-loop-rest

@@ -1,8 +1,5 @@
-use Rattle.std.proofs.Common.{◌≡◌, List, IfOk, ap, subst, ◌∙◌}
-use Rattle.std.specs.Prelude.{reverse}
-use Rattle.std.proofs.lemmas.List.{reverse-reverse}
-use Rattle.board_spec.specs.declared.event.Entry.{Entry}
-use Rattle.board_spec.specs.LogText.{log_text}
+use Rattle.std.proofs.Common.{◌≡◌, List, IfOk, ap, subst, ◌∙◌, reverse}
+use Rattle.board_prelude.proofs.Common.{reverse-reverse, Entry, log_text}
 use Rattle.board_run.proofs.run.log_of_ended.Goals as goal
 
 pub returns-in-Some : goal.returns-in-Some

@@ -1,6 +1,5 @@
 use Rattle.std.proofs.Common.{◌≡◌, ◌++◌}
-use Rattle.std.specs.String.{string_bytes}
-use Rattle.board_spec.specs.Text.{hex_number}
+use Rattle.board_prelude.proofs.Common.{string_bytes, hex_number}
 use Rattle.board_script.specs.Adds.{KeepsFront}
 use Rattle.board_script.proofs.hex.push_each_byte.Given as goal
 

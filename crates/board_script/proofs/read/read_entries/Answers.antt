@@ -1,5 +1,4 @@
-use Rattle.std.proofs.Common.{[], ◌∷◌, length, subst, arith}
-use Rattle.std.specs.Prelude.{MatchOption}
+use Rattle.std.proofs.Common.{[], ◌∷◌, length, subst, arith, MatchOption}
 use Rattle.std.proofs.lemmas.List.{length-append}
 use Rattle.board_script.specs.Reading.{HasEntry, HasNoEntry}
 use Rattle.board_script.proofs.ReadLines.{no_lines, lines_more, each_more, room_left}

@@ -1,6 +1,5 @@
 use Rattle.std.proofs.Common.{◌≡◌, ◌++◌, [], ◌∷◌, refl, rules}
-use Rattle.std.specs.String.{string_bytes}
-use Rattle.board_spec.specs.Text.{space, hex_long}
+use Rattle.board_prelude.proofs.Common.{string_bytes, space, hex_long}
 use Rattle.board_script.proofs.Joined.{appended_more, appended_twice}
 use Rattle.board_script.proofs.reply.push_interval.Goals as goal
 

@@ -1,13 +1,9 @@
 use Rattle.std.proofs.Common.{◌≡◌, ◌+◌, ◌-◌, ◌<◌, ◌≤◌, ◌++◌, ℕ, [], ◌∷◌, map, arith, ap, ◌∙◌}
-use Rattle.std.proofs.lemmas.List.{map-append, length-append}
+use Rattle.board_prelude.proofs.Common.{map-append, length-append, Width, bytes_of, longest_at}
 use Rattle.arrayvec.specs.ArrayVec.{ArrayVec}
-use Rattle.board_base.specs.declared.access.Width.{Width}
 use Rattle.board_base.specs.declared.access.Access.{Access}
-use Rattle.board_base.specs.Access.{bytes_of}
-use Rattle.board_spec.specs.WideParts.{longest_at}
 use Rattle.board_stores.specs.declared.cut.Cycle.{Cycle}
-use Rattle.board_stores.specs.Targets.{part_in}
-use Rattle.board_stores.specs.Cycles.{accesses}
+use Rattle.board_stores.specs.Common.{part_in, accesses}
 use Rattle.board_stores.proofs.CutLemmas.{part_within, next_part, no_part, all_parts, all_decoded}
 use Rattle.board_stores.proofs.cut.cycles_of.Goals.{then-done-access, else-done-access}
 use Rattle.board_stores.proofs.cut.cycles_of.Goals as goal

@@ -1,6 +1,5 @@
 use Rattle.std.proofs.Common.{◌≡◌, ◌+◌, ◌*◌, List, drop}
-use Rattle.board_spec.specs.declared.event.Entry.{Entry}
-use Rattle.board_spec.specs.Setup.{Setup}
+use Rattle.board_prelude.proofs.Common.{Entry, Setup}
 use Rattle.board_stores.specs.Puts.{HasStores}
 use Rattle.board_stores.proofs.JoinLemmas.{bytes_in, value_of, IsSoFar}
 use Rattle.board_stores.proofs.join.read_cycles.Given as goal

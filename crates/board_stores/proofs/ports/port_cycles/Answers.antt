@@ -1,11 +1,7 @@
 use Rattle.std.proofs.Common.{◌≡◌, ◌+◌, ◌-◌, ◌<◌, ◌≤◌, ◌++◌, ℕ, List, [], ◌∷◌, map, arith, ap, sym, ◌∙◌}
-use Rattle.std.proofs.lemmas.List.{map-append, length-append}
+use Rattle.board_prelude.proofs.Common.{map-append, length-append, Width, PortAccess, bytes_of, longest_at}
 use Rattle.arrayvec.specs.ArrayVec.{ArrayVec}
-use Rattle.board_base.specs.declared.access.Width.{Width}
 use Rattle.board_base.specs.declared.access.Access.{Access}
-use Rattle.board_base.specs.declared.access.PortAccess.{PortAccess}
-use Rattle.board_base.specs.Access.{bytes_of}
-use Rattle.board_spec.specs.WideParts.{longest_at}
 use Rattle.board_stores.specs.declared.ports.PortCycle.{PortCycle}
 use Rattle.board_stores.specs.PortCycles.{cycle_of, port_accesses}
 use Rattle.board_stores.proofs.CutLemmas.{part_within, next_part, no_part}

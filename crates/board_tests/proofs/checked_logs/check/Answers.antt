@@ -1,8 +1,5 @@
 use Rattle.std.proofs.Common.{◌≡◌, ◌++◌, [], List, ap, sym, subst, ◌∙◌, ◌+◌, length, append-nil, length-append, arith}
-use Rattle.std.proofs.lemmas.List.Elements.{All-append}
-use Rattle.board_spec.specs.declared.event.Statement.{Statement}
-use Rattle.board_spec.specs.InRange.{IsInRange}
-use Rattle.board_spec.specs.OrderLaws.{in_file_order}
+use Rattle.board_prelude.proofs.Common.{All-append, Statement, IsInRange, in_file_order}
 use Rattle.board_core.specs.Steps.{AreInRange}
 use Rattle.script_spec.specs.Phases.{lists_of}
 use Rattle.board_tests.proofs.checked_logs.check.Goals as goal

@@ -1,7 +1,5 @@
 use Rattle.std.proofs.Common.{ap, sym, subst, length, length-append, ◌∙◌, ◌+◌, ℕ}
-use Rattle.std.proofs.lemmas.List.Elements.{All-push}
-use Rattle.board_spec.specs.declared.event.Statement.{Statement}
-use Rattle.board_spec.specs.InRange.{IsInRange}
+use Rattle.board_prelude.proofs.Common.{All-push, Statement, IsInRange}
 use Rattle.board_core.specs.Steps.{AreInRange}
 use Rattle.board_tests.proofs.checked_logs.phase.Goals as goal
 

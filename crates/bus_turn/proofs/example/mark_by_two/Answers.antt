@@ -1,7 +1,6 @@
 use Rattle.std.proofs.Common.{rules, ◌≡◌, ℕ, List, [], ◌∷◌, length, drop, All, subst, ap, ◌∙◌}
 use Rattle.std.proofs.lemmas.List.Elements.{All-head}
-use Rattle.bus_turn.specs.Passes.{mine_of, opened_of, joined_of}
-use Rattle.bus_turn.specs.Views.{own_by}
+use Rattle.bus_turn.specs.Common.{mine_of, opened_of, joined_of, own_by}
 use Rattle.bus_turn.proofs.example.mark_by_two.Goals as goal
 
 pub returns-clause-second : goal.returns-clause-second

@@ -1,5 +1,4 @@
-use Rattle.std.proofs.Common.{◌≡◌}
-use Rattle.std.specs.Prelude.{take, reverse}
+use Rattle.std.proofs.Common.{◌≡◌, take, reverse}
 use Rattle.command_words.specs.Commands.{said_by}
 use Rattle.command_files.specs.Calls.{OfCalls}
 use Rattle.command_files.proofs.Places.{AreTaken, WholeBefore}

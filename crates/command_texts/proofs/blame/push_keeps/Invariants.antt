@@ -1,10 +1,7 @@
 -- The lines of the map writes so far.
-use Rattle.std.proofs.Common.{◌≡◌, ◌++◌, take, List}
-use Rattle.std.specs.Prelude.{string_bytes, flat_map}
-use Rattle.board_spec.specs.declared.event.Entry.{Entry}
-use Rattle.board_spec.specs.Setup.{Setup}
-use Rattle.command_texts.specs.Blame.{keep_text}
-use Rattle.command_texts.specs.Writes.{AreWritesOf}
+use Rattle.std.proofs.Common.{◌≡◌, ◌++◌, take, List, string_bytes, flat_map}
+use Rattle.board_prelude.proofs.Common.{Entry, Setup}
+use Rattle.command_texts.specs.Common.{keep_text, AreWritesOf}
 use Rattle.command_texts.proofs.blame.push_keeps.Given as goal
 
 abbrev pub invariant-loop-version : goal.invariant-loop-version

@@ -3,8 +3,7 @@ use Rattle.script_spec.proofs.ReadingLaws.{not_both}
 use Rattle.script_spec.specs.ScriptText.{IsScriptBad}
 use Rattle.script_text.specs.declared.fault.ScriptFault.{ScriptFault}
 use Rattle.script_text.specs.Faults.{OnBad}
-use Rattle.make_script.specs.MakeText.{make_text}
-use Rattle.make_script.specs.MadeScript.{made_script}
+use Rattle.make_script.specs.Common.{make_text, made_script}
 use Rattle.command_texts.proofs.MadeScripts.{text_is_short}
 use Rattle.command_texts.proofs.made.made_script.Goals as goal
 

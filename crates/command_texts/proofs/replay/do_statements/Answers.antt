@@ -1,14 +1,11 @@
-use Rattle.std.proofs.Common.{ℕ, ◌≡◌, List, length, sym, ap, ◌∙◌, subst, arith}
-use Rattle.std.specs.Prelude.{max}
-use Rattle.std.proofs.lemmas.List.{take_all}
+use Rattle.std.proofs.Common.{ℕ, ◌≡◌, List, length, sym, ap, ◌∙◌, subst, arith, max}
+use Rattle.board_prelude.proofs.Common.{take_all, Statement, in_file_order}
 use Rattle.std.proofs.Math.Nat.{le-max_right}
-use Rattle.board_spec.specs.declared.event.Statement.{Statement}
-use Rattle.board_spec.specs.OrderLaws.{in_file_order}
 use Rattle.board_core.specs.Kept.{Standing}
 use Rattle.script_spec.specs.Phases.{lists_of}
 use Rattle.script_text.specs.Script.{said_of}
 use Rattle.log_check.proofs.PhaseLists.{few_so_far}
-use Rattle.command_texts.specs.Done.{HasDone}
+use Rattle.command_texts.specs.Done.{DidStatements}
 use Rattle.command_texts.proofs.Statements.{in_range}
 use Rattle.command_texts.proofs.Done.{done_none}
 use Rattle.command_texts.proofs.PhaseSteps.{phase_in_range, phase_done, phase_length}
@@ -63,7 +60,7 @@ loop-phase-preserved c =
 pub returns-clause-done : goal.returns-clause-done
 returns-clause-done c =
     let phases = c.deref-phase-items.result.now in
-    subst (λ (said : List Statement). HasDone c.args.board.now said c.loop-phase.board)
+    subst (λ (said : List Statement). DidStatements c.args.board.now said c.loop-phase.board)
     (ap (λ ps. in_file_order (lists_of ps)) (take_all c.loop-phase.phase-index phases c.loop-phase-test.false)
     ∙ ap (λ ps. in_file_order (lists_of ps)) c.deref-phase-items.ensures.value)
     c.loop-phase.invariant.done

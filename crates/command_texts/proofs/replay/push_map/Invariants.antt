@@ -1,5 +1,4 @@
-use Rattle.std.proofs.Common.{◌≡◌, ◌++◌, take, map}
-use Rattle.std.specs.Prelude.{string_bytes}
+use Rattle.std.proofs.Common.{◌≡◌, ◌++◌, take, map, string_bytes}
 use Rattle.board_spec.specs.MapText.{map_text}
 use Rattle.map_builder.specs.Map.{range_of}
 use Rattle.command_texts.proofs.replay.push_map.Given as goal

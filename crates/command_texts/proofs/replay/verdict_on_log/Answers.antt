@@ -1,5 +1,4 @@
-use Rattle.std.proofs.Common.{◌∙◌, ap, ◌++◌, ◌∷◌, []}
-use Rattle.std.specs.Prelude.{codes, decimal}
+use Rattle.std.proofs.Common.{◌∙◌, ap, ◌++◌, ◌∷◌, [], codes, decimal}
 use Rattle.board_spec.specs.Text.{line_feed}
 use Rattle.command_texts.proofs.replay.verdict_on_log.Goals as goal
 

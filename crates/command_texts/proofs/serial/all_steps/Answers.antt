@@ -1,9 +1,7 @@
 use Rattle.std.proofs.Common.{◌≡◌, ℕ, ◌+◌, ◌*◌, ◌≤◌, List, length, take, drop, All, ap, sym, subst, ◌∙◌, arith}
-use Rattle.board_spec.specs.declared.event.Statement.{Statement}
-use Rattle.board_spec.specs.Setup.{Setup}
-use Rattle.board_spec.specs.OrderLaws.{in_file_order}
+use Rattle.board_prelude.proofs.Common.{Statement, Setup, in_file_order}
 use Rattle.script_spec.specs.Phases.{lists_of}
-use Rattle.command_texts.specs.SerialSteps.{IsForPort, Place, WentOn}
+use Rattle.command_texts.specs.SerialSteps.{IsForPort, SerialPlace, WentOn}
 use Rattle.command_texts.proofs.SerialReplays.{all_for_port_as, phase_for_port, went_nowhere, went_on_as, went_on_phase, room_for_phase}
 use Rattle.command_texts.proofs.serial.all_steps.Goals as goal
 

@@ -1,9 +1,8 @@
 use Rattle.std.proofs.Common.{◌≡◌, ℕ, List, ap, subst, ◌∙◌}
 use Rattle.board_spec.specs.OrderLaws.{in_file_order}
-use Rattle.script_spec.specs.Phases.{lists_of}
-use Rattle.script_spec.specs.ScriptRange.{statements_in}
+use Rattle.script_spec.specs.Common.{lists_of, statements_in}
 use Rattle.script_text.specs.Script.{said_of}
-use Rattle.command_texts.specs.SerialSteps.{Place, WentOn}
+use Rattle.command_texts.specs.SerialSteps.{SerialPlace, WentOn}
 use Rattle.command_texts.proofs.TransferTexts.{ok_then}
 use Rattle.command_texts.proofs.SerialReplays.{all_for_port_as, went_on_as}
 use Rattle.command_texts.proofs.SerialTexts.{script_for_port, serial_told}
@@ -16,7 +15,7 @@ all_steps-requires-clause-for_port c =
 
 pub returns : goal.returns
 returns c =
-    let last : Place =
+    let last : SerialPlace =
     record { serial = c.all_steps.new.serial; input = c.in_ok-all_steps.field-0.now; sent = c.all_steps.new.sent.items } in
     let went =
     went_on_as _ last _ _ (ap (λ phases. in_file_order (lists_of phases)) c.deref-2.ensures.value) c.in_ok-all_steps.ensures.went_on in

@@ -1,6 +1,5 @@
 -- The sum of the sectors so far.
-use Rattle.std.proofs.Common.{◌≡◌, ◌≤◌, ◌*◌}
-use Rattle.std.specs.Prelude.{slice_index}
+use Rattle.std.proofs.Common.{◌≡◌, ◌≤◌, ◌*◌, slice_index}
 use Rattle.command_texts.specs.Transfers.{sum_below}
 use Rattle.dram_store.specs.Bank.{bank_size}
 use Rattle.command_texts.proofs.transfers.sector_sum.Given as goal

@@ -1,6 +1,5 @@
 use Rattle.std.proofs.Common.{rules, ℕ, ◌≡◌, ◌+◌, ◌-◌, ◌∷◌, ◌++◌, [], length, sym, ap, ◌∙◌, subst}
-use Rattle.board_spec.specs.declared.event.Entry.{Entry}
-use Rattle.board_spec.specs.Legal.{next_entry}
+use Rattle.board_prelude.proofs.Common.{Entry, next_entry}
 use Rattle.command_texts.specs.Writes.{AreWritesOf}
 use Rattle.command_texts.proofs.MapWrites.{writes_same, writes_more, writes_after}
 use Rattle.command_texts.proofs.writes.step_noting.Goals as goal

@@ -1,7 +1,6 @@
 use Rattle.std.proofs.Common.{ℕ, List, take, refl, sym, subst, arith}
-use Rattle.std.proofs.lemmas.List.{take_more}
-use Rattle.board_spec.specs.declared.event.Statement.{Statement}
-use Rattle.command_texts.specs.Done.{HasDone}
+use Rattle.board_prelude.proofs.Common.{take_more, Statement}
+use Rattle.command_texts.specs.Done.{DidStatements}
 use Rattle.command_texts.proofs.Done.{done_none, done_more}
 use Rattle.command_texts.proofs.writes.steps_noting.Goals as goal
 
@@ -18,7 +17,7 @@ loop-statement-preserved c =
     let i : ℕ = c.loop-statement.statement-index in
     record {
       done =
-          subst (λ (said : List Statement). HasDone c.args.board.now said c.step_noting.new.board)
+          subst (λ (said : List Statement). DidStatements c.args.board.now said c.step_noting.new.board)
           (sym (take_more statements i _ c.loop-statement-test.true))
           (done_more c.args.board.now c.loop-statement.board c.step_noting.new.board (take i statements) _
           c.loop-statement.invariant.done c.in_ok-step_noting.ensures.done);

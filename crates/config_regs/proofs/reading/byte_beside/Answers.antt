@@ -1,6 +1,5 @@
 use Rattle.std.proofs.Common.{◌≡◌, ◌≢◌, ℕ, ◌∙◌, sym, ap, subst, refl, arith, List}
-use Rattle.board_base.specs.declared.target.Reg.{Reg}
-use Rattle.board_spec.specs.RegisterNames.{ide}
+use Rattle.board_prelude.proofs.Common.{Reg, ide}
 use Rattle.pmc_regs.specs.Pmc.{IsFixedOffset}
 use Rattle.pci_bars.specs.Cards.{CardBytes, AreCardsOf, cards_of}
 use Rattle.addr_decode.proofs.StandsLemmas.{nameless_in_bridge, nameless_in_isa}

@@ -1,6 +1,5 @@
 use Rattle.std.proofs.Common.{◌≡◌, ℕ, ◌∙◌, sym, ap}
-use Rattle.board_spec.specs.Setup.{IsCard}
-use Rattle.board_spec.specs.RegisterNames.{card_register}
+use Rattle.board_prelude.proofs.Common.{IsCard, card_register}
 use Rattle.pci_bars.specs.Cards.{IsCardOf}
 use Rattle.pci_bars.proofs.CardListLemmas.{found}
 use Rattle.config_regs.proofs.Functions.{no_card}

@@ -1,9 +1,6 @@
 -- The bytes so far are those of the registers.
 use Rattle.std.proofs.Common.{◌≡◌, ℕ, ◌<◌, true, length, slice_index}
-use Rattle.board_spec.specs.Setup.{Setup}
-use Rattle.board_spec.specs.RegisterTable.{function_exists}
-use Rattle.board_spec.specs.Decode.{Bytes}
-use Rattle.board_spec.specs.MapWrites.{reg_after}
+use Rattle.board_prelude.proofs.Common.{Setup, function_exists, Bytes, reg_after}
 use Rattle.addr_decode.specs.MapRegs.{map_bytes}
 use Rattle.config_regs.specs.Config.{AreKeptOf, HasFixed}
 use Rattle.config_regs.proofs.reading.read.Given as goal

@@ -1,8 +1,5 @@
-use Rattle.std.proofs.Common.{◌≡◌, Some, true, sym, ◌∙◌, ap, subst}
-use Rattle.std.specs.Prelude.{is_some, Option}
-use Rattle.board_base.specs.declared.target.Reg.{Reg}
-use Rattle.board_spec.specs.Setup.{FittedCard}
-use Rattle.board_spec.specs.MapWrites.{is_map_byte}
+use Rattle.std.proofs.Common.{◌≡◌, Some, true, sym, ◌∙◌, ap, subst, is_some, Option}
+use Rattle.board_prelude.proofs.Common.{Reg, FittedCard, is_map_byte}
 use Rattle.pci_bars.specs.Cards.{cards_of}
 use Rattle.addr_decode.specs.declared.register.MapRegister.{MapRegister}
 use Rattle.addr_decode.specs.MapRegister.{map_register, place_of}

@@ -1,14 +1,8 @@
-use Rattle.std.proofs.Common.{ℕ, ◌≡◌, ◌+◌, List, [], Some, None, length, refl, sym, ap, ◌∙◌, subst}
-use Rattle.std.specs.Prelude.{MatchResult}
-use Rattle.std.proofs.lemmas.List.Elements.{All-head}
-use Rattle.board_spec.specs.declared.event.Entry.{Entry}
-use Rattle.board_spec.specs.declared.event.Statement.{Statement}
-use Rattle.board_spec.specs.InRange.{IsInRange}
-use Rattle.board_spec.specs.Legal.{next_entry}
-use Rattle.log_check.specs.Fronts.{left_of}
+use Rattle.std.proofs.Common.{ℕ, ◌≡◌, ◌+◌, List, [], Some, None, length, refl, sym, ap, ◌∙◌, subst, MatchResult}
+use Rattle.board_prelude.proofs.Common.{All-head, Entry, Statement, IsInRange, next_entry}
+use Rattle.log_check.specs.Common.{left_of, IsWithin, IsPast, StoppedCheck}
 use Rattle.log_check.proofs.LineSteps.{stops_unnamed, stops_idle, stops_without_memory, past_line, handed_on, phases_of, next_place, walking, made}
 use Rattle.log_check.specs.declared.fault.CheckFault.TheVariants.{NoMemory}
-use Rattle.log_check.specs.Walks.{IsWithin, IsPast, Stopped}
 use Rattle.log_check.proofs.check.check_line.Goals as goal
 
 pub returns-in_default-clause-walked : goal.returns-in_default-clause-walked
@@ -51,7 +45,7 @@ returns-in_err-print_newest-clause-walked c = λ place within past short.
     (made c.in-Some.actor entry (record { number = refl; answer = c.step.ensures.answer }) taken.0 taken.1
     c.next.ensures.others) in
     handed_on c.from_residual.result NoMemory _ _ c.from_residual.ensures.1
-    (subst (λ (entries : List Entry). Stopped c.args.board.now.setup place.version
+    (subst (λ (entries : List Entry). StoppedCheck c.args.board.now.setup place.version
     (phases_of place c.args.front.now.phase.now) place.bytes entries NoMemory)
     (sym (ap (λ board. board.entries) c.step.ensures.entry)) stopped)
 
@@ -80,6 +74,6 @@ returns-clause-walked c = λ place within past short.
     subst (λ (entries : List Entry). MatchResult c.go_past.result
     (λ remaining. IsWithin (next_place place) c.args.front.now.phase.now (left_of c.next.new.self) entries
     × IsPast place entries remaining.now)
-    (λ fault. Stopped c.args.board.now.setup place.version (phases_of place c.args.front.now.phase.now) place.bytes
+    (λ fault. StoppedCheck c.args.board.now.setup place.version (phases_of place c.args.front.now.phase.now) place.bytes
     entries fault))
     (sym (ap (λ board. board.entries) c.step.ensures.entry)) stopped

@@ -1,10 +1,8 @@
 use Rattle.std.proofs.Common.{ℕ, ◌++◌, List, length, sym, ap, ◌∙◌, subst}
-use Rattle.board_spec.specs.declared.event.Statement.{Statement}
-use Rattle.board_spec.specs.Setup.{Setup}
-use Rattle.board_spec.specs.Legal.{IsLegal}
+use Rattle.board_prelude.proofs.Common.{Statement, Setup, IsLegal}
 use Rattle.log_check.specs.declared.fault.CheckFault.TheVariants.{NoMemory}
 use Rattle.script_spec.specs.Phases.{lists_of}
-use Rattle.log_check.specs.Walks.{Failed}
+use Rattle.log_check.specs.Walks.{FailedCheck}
 use Rattle.log_check.proofs.LineSteps.{handed_on}
 use Rattle.log_check.proofs.LogChecks.{known, failed_first, failed_heading, failed_within, passed, failed_end, nothing_left, something_left}
 use Rattle.log_check.proofs.check.check_lines.Goals as goal
@@ -21,7 +19,7 @@ returns-in_err-rest-clause-checked c =
     let phases : List (List Statement) = lists_of c.args.phases.now in
     let printed = c.deref.ensures ∙ c.in_ok-print_heading.ensures.printed in
     handed_on c.from_residual-in_err-rest.result c.in_err-rest.field-0.0 _ _ c.from_residual-in_err-rest.ensures.1
-    (subst (Failed setup c.args.version phases c.args.bytes.now c.args.board.now.entries)
+    (subst (FailedCheck setup c.args.version phases c.args.bytes.now c.args.board.now.entries)
     (sym c.in_err-rest.ensures.cases.0)
     (failed_heading setup c.args.version phases c.args.bytes.now c.args.board.now.entries
     (known setup phases c.law_one_replay.ensures.one c.requires.typed c.requires.in_range) c.requires.fresh

@@ -1,9 +1,6 @@
 use Rattle.std.proofs.Common.{◌+◌, ◌++◌, ◌∷◌, ◌<◌, List, All, length, refl, sym, ◌∙◌, subst, add-zero, arith}
-use Rattle.board_spec.specs.declared.event.Statement.{Statement}
-use Rattle.board_spec.specs.Setup.{Setup}
-use Rattle.log_check.specs.Phases.{IsTyped}
-use Rattle.log_check.specs.Fronts.{left_of}
-use Rattle.log_check.specs.Walks.{Place, IsWithin, Stopped}
+use Rattle.board_prelude.proofs.Common.{Statement, Setup}
+use Rattle.log_check.specs.Common.{IsTyped, left_of, WalkPlace, IsWithin, StoppedCheck}
 use Rattle.log_check.proofs.Steps.{within_start, within_whole}
 use Rattle.log_check.proofs.LineSteps.{handed_on}
 use Rattle.log_check.proofs.check.check_phase.Goals as goal
@@ -38,8 +35,8 @@ loop-preserved c = record {
   spare = omega (arith, c.loop.invariant.spare, c.in_ok-left.ensures.spare);
   walked = λ place complete past.
       let before = c.loop.invariant.walked place complete past in
-      let here : Place = record place { count = c.loop.counter } in
-      let next : Place = record place { count = c.loop.counter + 1 } in
+      let here : WalkPlace = record place { count = c.loop.counter } in
+      let next : WalkPlace = record place { count = c.loop.counter + 1 } in
       let after =
       c.in_ok-left.ensures.walked here
       (subst (λ (phase : List Statement). IsWithin here phase (left_of c.loop.front) c.loop.board.entries)
@@ -56,7 +53,7 @@ loop-preserved c = record {
 pub returns-in_err-left-clause-walked : goal.returns-in_err-left-clause-walked
 returns-in_err-left-clause-walked c = λ place complete past.
     let before = c.loop.invariant.walked place complete past in
-    let here : Place = record place { count = c.loop.counter } in
+    let here : WalkPlace = record place { count = c.loop.counter } in
     let after =
     c.in_err-left.ensures.walked here
     (subst (λ (phase : List Statement). IsWithin here phase (left_of c.loop.front) c.loop.board.entries)
@@ -65,9 +62,9 @@ returns-in_err-left-clause-walked c = λ place complete past.
     (subst (λ (phase : List Statement). c.loop.counter < length phase) (sym c.loop.invariant.phase) c.loop-test.true)
     in
     handed_on c.from_residual.result c.in_err-left.field-0.0 _ _ c.from_residual.ensures.1
-    (subst (λ (setup : Setup). Stopped setup place.version (place.done ++ c.args.phase.now ∷ place.later) place.bytes
+    (subst (λ (setup : Setup). StoppedCheck setup place.version (place.done ++ c.args.phase.now ∷ place.later) place.bytes
     c.check_line.new.board.entries c.in_err-left.field-0.0) c.loop.invariant.setup
-    (subst (λ (phase : List Statement). Stopped c.loop.board.setup place.version (place.done ++ phase ∷ place.later)
+    (subst (λ (phase : List Statement). StoppedCheck c.loop.board.setup place.version (place.done ++ phase ∷ place.later)
     place.bytes c.check_line.new.board.entries c.in_err-left.field-0.0) c.loop.invariant.phase after))
 
 pub returns-clause-walked : goal.returns-clause-walked

@@ -1,15 +1,8 @@
 use Rattle.std.proofs.Common.{ℕ, ◌≡◌, ◌+◌, ◌++◌, [], ◌∷◌, List, All, length, take, drop, refl, sym, ap, ◌∙◌, subst, arith}
-use Rattle.std.proofs.lemmas.List.{take_all}
-use Rattle.board_spec.specs.declared.event.Statement.{Statement}
-use Rattle.board_spec.specs.Setup.{Setup}
-use Rattle.board_spec.specs.InRange.{IsInRange}
-use Rattle.board_spec.specs.LogText.{log_text}
-use Rattle.board_spec.specs.Orders.{statements_of, IsCompleteFor}
-use Rattle.board_spec.specs.OrderLaws.{in_file_order}
+use Rattle.board_prelude.proofs.Common.{take_all, Statement, Setup, IsInRange, log_text, statements_of, IsCompleteFor, in_file_order}
 use Rattle.board_core.specs.Steps.{AreInRange}
 use Rattle.script_spec.specs.Phases.{lists_of}
-use Rattle.log_check.specs.Phases.{IsTyped}
-use Rattle.log_check.specs.Walks.{Place, Stopped}
+use Rattle.log_check.specs.Common.{IsTyped, WalkPlace, StoppedCheck}
 use Rattle.log_check.proofs.LineSteps.{handed_on}
 use Rattle.log_check.proofs.PhaseLists.{phases_cut, phases_more, length_cut, all_of_phase}
 use Rattle.log_check.proofs.check.check_phases.Goals as goal
@@ -63,7 +56,7 @@ loop-phase-preserved c =
     let before : List (List Statement) = lists_of (take i c.args.phases.now) in
     let more : lists_of (take (i + 1) c.args.phases.now) ≡ before ++ c.phase-item.result.items ∷ [] =
     phases_more c.args.phases.now i c.phase-item.result c.loop-phase-test.true c.phase-item.is in
-    let place : ℕ → List ℕ → Place = λ (version : ℕ) (bytes : List ℕ). record {
+    let place : ℕ → List ℕ → WalkPlace = λ (version : ℕ) (bytes : List ℕ). record {
       version = version;
       bytes = bytes;
       done = before;
@@ -96,16 +89,16 @@ returns-in_err-left-clause-walked c = λ version bytes text.
     let later : List (List Statement) = lists_of (drop (i + 1) c.args.phases.now) in
     let cut : lists_of c.args.phases.now ≡ before ++ c.phase-item.result.items ∷ later =
     phases_cut c.args.phases.now i c.phase-item.result c.loop-phase-test.true c.phase-item.is in
-    let place : Place = record { version = version; bytes = bytes; done = before; later = later; count = 0 } in
+    let place : WalkPlace = record { version = version; bytes = bytes; done = before; later = later; count = 0 } in
     let stopped =
     c.in_err-left.ensures.walked place c.loop-phase.invariant.complete
     (c.loop-phase.invariant.past version bytes text) in
     handed_on c.from_residual.result c.in_err-left.field-0.0 _ _ c.from_residual.ensures.1
-    (subst (λ (ps : List (List Statement)). Stopped c.args.board.now.setup version ps bytes
+    (subst (λ (ps : List (List Statement)). StoppedCheck c.args.board.now.setup version ps bytes
     c.check_phase.new.board.entries c.in_err-left.field-0.0) (sym cut)
-    (subst (λ (setup : Setup). Stopped setup version (before ++ c.phase-item.result.items ∷ later) bytes
+    (subst (λ (setup : Setup). StoppedCheck setup version (before ++ c.phase-item.result.items ∷ later) bytes
     c.check_phase.new.board.entries c.in_err-left.field-0.0) c.loop-phase.invariant.setup
-    (subst (λ (phase : List Statement). Stopped c.loop-phase.board.setup version (before ++ phase ∷ later) bytes
+    (subst (λ (phase : List Statement). StoppedCheck c.loop-phase.board.setup version (before ++ phase ∷ later) bytes
     c.check_phase.new.board.entries c.in_err-left.field-0.0) c.deref.ensures.value stopped)))
 
 pub returns-clause-walked : goal.returns-clause-walked

@@ -1,7 +1,5 @@
 use Rattle.std.proofs.Common.{ℕ, ◌≡◌, ◌≤◌, ◌+◌, ◌++◌, List, [], length, take}
-use Rattle.board_spec.specs.Orders.{IsCompleteFor}
-use Rattle.board_spec.specs.OrderLaws.{in_file_order}
-use Rattle.board_spec.specs.LogText.{log_text}
+use Rattle.board_prelude.proofs.Common.{IsCompleteFor, in_file_order, log_text}
 use Rattle.script_spec.specs.Phases.{lists_of}
 use Rattle.log_check.proofs.check.check_phases.Given as goal
 

@@ -1,5 +1,4 @@
-use Rattle.std.proofs.Common.{◌∙◌}
-use Rattle.std.specs.Prelude.{decimal}
+use Rattle.std.proofs.Common.{◌∙◌, decimal}
 use Rattle.log_check.proofs.TextCuts.{named, number_apart, decimal_apart}
 use Rattle.log_check.proofs.field.processor.Goals as goal
 

@@ -1,6 +1,5 @@
 use Rattle.std.proofs.Common.{sym, ◌∙◌, rules, tests}
-use Rattle.std.proofs.lemmas.Iterator.{YieldsList-from_slice}
-use Rattle.std.proofs.lemmas.Iterator.Search.{position_from_yields_List}
+use Rattle.board_prelude.proofs.Common.{YieldsList-from_slice, position_from_yields_List}
 use Rattle.log_lines.proofs.CutPlaces.{is_mark, cut_at, uncut}
 use Rattle.log_lines.proofs.cuts.cut.Goals as goal
 

@@ -1,6 +1,5 @@
 use Rattle.std.proofs.Common.{◌∙◌}
-use Rattle.script_spec.proofs.Chains.{some_is}
-use Rattle.script_spec.proofs.LogReading.{pieces}
+use Rattle.script_spec.proofs.Common.{some_is, pieces}
 use Rattle.log_lines.proofs.LineBack.{pieces_are, not_none, actor_read, asked_read, replied_is, asked_event, asked_seq, reply_found, entry_is}
 use Rattle.log_lines.proofs.entry.entry_of.Goals as goal
 

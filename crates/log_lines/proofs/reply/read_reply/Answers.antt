@@ -1,6 +1,5 @@
 use Rattle.std.proofs.Common.{◌∙◌, ap}
-use Rattle.script_spec.specs.Fields.{fields_of}
-use Rattle.script_spec.specs.Replies.{reply_in}
+use Rattle.script_spec.specs.Common.{fields_of, reply_in}
 use Rattle.script_spec.proofs.ReplyBack.{reply_read}
 use Rattle.log_lines.proofs.reply.read_reply.Goals as goal
 

@@ -1,6 +1,5 @@
 use Rattle.std.proofs.Common.{ℕ, ◌++◌, ◌*◌, ◌≤◌, List, length, map, subst, sym, ap, ◌∙◌}
-use Rattle.std.proofs.lemmas.List.{take_all, length-map}
-use Rattle.board_spec.specs.declared.event.Entry.{Entry}
+use Rattle.board_prelude.proofs.Common.{take_all, length-map, Entry}
 use Rattle.board_script.specs.LinesFrom.{lines_from}
 use Rattle.log_pieces.proofs.Join.{log_of_lines, whole_log}
 use Rattle.log_pieces.proofs.pieces.log_of.Goals as goal

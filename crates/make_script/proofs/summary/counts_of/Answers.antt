@@ -1,7 +1,5 @@
 use Rattle.std.proofs.Common.{rules, ◌≡◌, ◌<◌, ◌^◌, List, length, take, reverse, sym, subst, arith}
-use Rattle.std.proofs.lemmas.List.{length-reverse}
-use Rattle.std.proofs.lemmas.Grind.{common_steps}
-use Rattle.board_spec.specs.declared.event.Entry.{Entry}
+use Rattle.board_prelude.proofs.Common.{length-reverse, common_steps, Entry}
 use Rattle.board_script.proofs.Lines.{reverse-take_more}
 use Rattle.make_script.specs.Counts.{AreCounts, most_counted}
 use Rattle.make_script.proofs.CountLemmas.{counts-room}

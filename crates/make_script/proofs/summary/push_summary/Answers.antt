@@ -1,8 +1,7 @@
 use Rattle.std.proofs.Common.{ℕ, ◌++◌, reverse, sym, ap, ◌∙◌}
-use Rattle.std.proofs.lemmas.List.{length-reverse}
+use Rattle.board_prelude.proofs.Common.{length-reverse, version_of}
 use Rattle.board_script.proofs.Joined.{appended_twice}
 use Rattle.script_spec.specs.Lines.{text_of_lines}
-use Rattle.board_spec.specs.MapWrites.{version_of}
 use Rattle.make_script.specs.Summary.{entry_lines, map_lines, summary_of}
 use Rattle.make_script.proofs.TextLemmas.{text-append, kept-twice}
 use Rattle.make_script.proofs.summary.push_summary.Goals as goal

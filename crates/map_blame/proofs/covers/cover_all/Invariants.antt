@@ -1,5 +1,4 @@
-use Rattle.std.proofs.Common.{◌≡◌, true}
-use Rattle.std.specs.Prelude.{Some, if◌then◌else◌}
+use Rattle.std.proofs.Common.{◌≡◌, true, Some, if◌then◌else◌}
 use Rattle.board_base.specs.declared.target.Reg.{Reg}
 use Rattle.map_blame.specs.Covers.{is_placed, number_at}
 use Rattle.map_blame.proofs.CoverLemmas.{covers_first}

@@ -1,5 +1,4 @@
-use Rattle.std.proofs.Common.{◌≡◌, true, false, ap, sym, ◌∙◌}
-use Rattle.std.specs.Prelude.{◌&&◌}
+use Rattle.std.proofs.Common.{◌≡◌, true, false, ap, sym, ◌∙◌, ◌&&◌}
 use Rattle.board_spec.specs.MapWrites.{is_map_byte}
 use Rattle.map_blame.specs.Covers.{is_number, number_at}
 use Rattle.map_blame.proofs.CoverLemmas.{touches_one}

@@ -1,9 +1,5 @@
-use Rattle.std.proofs.Common.{◌≡◌, ℕ, false, sym, ◌∙◌, ap, subst, arith}
-use Rattle.std.specs.Prelude.{take}
-use Rattle.std.specs.List.{list_any}
-use Rattle.board_base.specs.Access.{bytes_of}
-use Rattle.board_base.proofs.WidthLemmas.{bytes_few}
-use Rattle.board_spec.specs.MapWrites.{reg_after}
+use Rattle.std.proofs.Common.{◌≡◌, ℕ, false, sym, ◌∙◌, ap, subst, arith, take}
+use Rattle.board_prelude.proofs.Common.{list_any, bytes_of, bytes_few, reg_after}
 use Rattle.map_blame.specs.Covers.{is_last_at}
 use Rattle.map_blame.proofs.CoverLemmas.{offsets, any_next, any_at}
 use Rattle.map_blame.proofs.keep.is_last_store.Goals as goal

@@ -1,9 +1,5 @@
-use Rattle.std.proofs.Common.{◌≡◌, false}
-use Rattle.std.specs.Prelude.{take, []}
-use Rattle.std.specs.List.{list_any}
-use Rattle.board_spec.specs.MapWrites.{reg_after}
-use Rattle.board_spec.specs.Setup.{Setup, IsCardList}
-use Rattle.board_spec.specs.Decode.{Bytes}
+use Rattle.std.proofs.Common.{◌≡◌, false, take, []}
+use Rattle.board_prelude.proofs.Common.{list_any, reg_after, Setup, IsCardList, Bytes}
 use Rattle.addr_decode.specs.MapRegs.{StandsFor, map_bytes}
 use Rattle.map_blame.specs.Covers.{is_last_at}
 use Rattle.map_blame.proofs.CoverLemmas.{offsets}

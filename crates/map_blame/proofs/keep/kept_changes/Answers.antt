@@ -1,6 +1,5 @@
 use Rattle.std.proofs.Common.{◌≡◌, ℕ, ◌+◌, List, reverse, length, get_or, sym, ◌∙◌, subst, arith, refl}
-use Rattle.std.proofs.lemmas.Bool.{false≢true}
-use Rattle.std.proofs.lemmas.List.{length-reverse}
+use Rattle.board_prelude.proofs.Common.{false≢true, length-reverse}
 use Rattle.map_blame.proofs.KeptLemmas.{no_change, Rise, AreKept, none_rise, none_kept, rise_on, rise_pushed, kept_on, kept_pushed, kept_found, kept_is, change_is, all_kept}
 use Rattle.map_blame.proofs.keep.kept_changes.Goals as goal
 use Rattle.map_blame.proofs.keep.kept_changes.Goals.{then-is_kept+in_ok-push, else-is_kept}

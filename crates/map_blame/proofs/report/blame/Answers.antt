@@ -1,8 +1,5 @@
-use Rattle.std.proofs.Common.{◌≡◌, [], subst, sym, ◌∙◌}
-use Rattle.std.specs.Prelude.{reverse}
-use Rattle.board_spec.specs.Setup.{IsCardList}
-use Rattle.board_spec.specs.RegisterTable.{reset_byte}
-use Rattle.board_spec.specs.MapWrites.{registers_after}
+use Rattle.std.proofs.Common.{◌≡◌, [], subst, sym, ◌∙◌, reverse}
+use Rattle.board_prelude.proofs.Common.{IsCardList, reset_byte, registers_after}
 use Rattle.addr_decode.specs.MapRegs.{StandsFor, map_bytes}
 use Rattle.map_blame.specs.Watch.{IsAfter}
 use Rattle.map_blame.proofs.KeepLaws.{kept_suffice}

@@ -1,8 +1,5 @@
-use Rattle.std.proofs.Common.{◌≡◌, ◌∷◌, [], get_or, map, sym, ◌∙◌, ap, arith}
-use Rattle.std.specs.Prelude.{◌++◌}
-use Rattle.std.proofs.lemmas.List.{map-append, take_more}
-use Rattle.std.proofs.lemmas.List.Elements.{All-push}
-use Rattle.board_spec.specs.MapWrites.{registers_after}
+use Rattle.std.proofs.Common.{◌≡◌, ◌∷◌, [], get_or, map, sym, ◌∙◌, ap, arith, ◌++◌}
+use Rattle.board_prelude.proofs.Common.{map-append, take_more, All-push, registers_after}
 use Rattle.map_builder.specs.declared.range.Range.{Range}
 use Rattle.map_builder.specs.Find.{no_range}
 use Rattle.map_blame.specs.Watch.{IsWatched}

@@ -1,12 +1,7 @@
-use Rattle.std.proofs.Common.{◌≡◌, [], map, reverse, subst, sym, ap, ◌∙◌}
-use Rattle.std.specs.Prelude.{All}
-use Rattle.std.proofs.lemmas.List.{take_at}
+use Rattle.std.proofs.Common.{◌≡◌, [], map, reverse, subst, sym, ap, ◌∙◌, All}
+use Rattle.board_prelude.proofs.Common.{take_at, Setup, IsCardList, registers_after, Tiles, IsFlatMapOf}
 use Rattle.std.proofs.lemmas.Result.{IfOk-weaker}
-use Rattle.board_spec.specs.Setup.{Setup, IsCardList}
-use Rattle.board_spec.specs.MapWrites.{registers_after}
-use Rattle.board_spec.specs.FlatMap.{Tiles, IsFlatMapOf}
-use Rattle.map_blame.specs.Report.{AreBlamed}
-use Rattle.map_blame.specs.Watch.{IsAfter, IsWatched}
+use Rattle.map_blame.specs.Common.{AreBlamed, IsAfter, IsWatched}
 use Rattle.map_blame.proofs.RangeLemmas.{are_intervals, are_watchable, are_blamed, watched_range}
 use Rattle.map_blame.proofs.watch.blamed_ranges.Goals as goal
 

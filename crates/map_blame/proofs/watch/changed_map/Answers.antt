@@ -1,5 +1,4 @@
-use Rattle.std.proofs.Common.{subst, sym, arith}
-use Rattle.std.specs.Prelude.{List, take, reverse}
+use Rattle.std.proofs.Common.{subst, sym, arith, List, take, reverse}
 use Rattle.board_spec.specs.declared.map_change.MapChange.{MapChange}
 use Rattle.map_blame.specs.Watch.{IsAfter}
 use Rattle.map_blame.proofs.KeptLemmas.{no_change}

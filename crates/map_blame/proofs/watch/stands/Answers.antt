@@ -1,6 +1,6 @@
 use Rattle.std.proofs.Common.{map, subst, sym, ◌∙◌}
-use Rattle.std.proofs.lemmas.Bool.{false≢true, leb-true, leb-false}
-use Rattle.board_spec.specs.FlatMap.{IsFlatMapOf}
+use Rattle.board_prelude.proofs.Common.{false≢true, leb-true, IsFlatMapOf}
+use Rattle.std.proofs.lemmas.Bool.{leb-false}
 use Rattle.map_builder.specs.Map.{range_of}
 use Rattle.map_builder.proofs.AreaLemmas.{rows_eq}
 use Rattle.map_blame.proofs.StandsLemmas.{all_right, other_row, ends_below}

@@ -1,8 +1,5 @@
-use Rattle.std.proofs.Common.{◌≡◌, ◌+◌, ◌<◌, ◌≤◌, List, length, get_or, refl, subst, sym, ◌∙◌, arith}
-use Rattle.std.specs.Prelude.{take, reverse, All}
-use Rattle.std.proofs.lemmas.List.{take_all}
-use Rattle.board_spec.specs.declared.map_change.MapChange.{MapChange}
-use Rattle.board_spec.specs.MapWrites.{registers_after}
+use Rattle.std.proofs.Common.{◌≡◌, ◌+◌, ◌<◌, ◌≤◌, List, length, get_or, refl, subst, sym, ◌∙◌, arith, take, reverse, All}
+use Rattle.board_prelude.proofs.Common.{take_all, MapChange, registers_after}
 use Rattle.map_blame.specs.Watch.{IsInterval, IsAfter, IsWatched}
 use Rattle.map_blame.proofs.KeptLemmas.{no_change}
 use Rattle.map_blame.proofs.WatchLemmas.{taken_more, taken_count, after_change, holds_change}

@@ -1,5 +1,4 @@
-use Rattle.std.proofs.Common.{◌≡◌, ℕ, ◌<◌, [], length}
-use Rattle.std.specs.Prelude.{take, reverse, slice_index_or, All}
+use Rattle.std.proofs.Common.{◌≡◌, ℕ, ◌<◌, [], length, take, reverse, slice_index_or, All}
 use Rattle.board_spec.specs.Setup.{Setup, IsCardList}
 use Rattle.map_blame.specs.declared.watch.Watched.{Watched}
 use Rattle.map_blame.specs.Watch.{IsAfter, IsWatched}

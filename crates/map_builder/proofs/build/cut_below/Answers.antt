@@ -1,10 +1,8 @@
 use Rattle.std.proofs.Common.{List, length, map, take, ap, arith}
-use Rattle.std.proofs.lemmas.List.{length-take}
-use Rattle.board_spec.specs.FlatMap.{MapRange}
+use Rattle.board_prelude.proofs.Common.{length-take, MapRange}
 use Rattle.addr_decode.specs.MapRegs.{map_bytes}
 use Rattle.map_builder.specs.declared.range.Range.{Range}
-use Rattle.map_builder.specs.Map.{range_of}
-use Rattle.map_builder.specs.Build.{GoesOn}
+use Rattle.map_builder.specs.Common.{range_of, ContinuesAt}
 use Rattle.map_builder.proofs.RebuildLemmas.{open_at, built_to_interval}
 use Rattle.map_builder.proofs.build.cut_below.Goals as goal
 
@@ -25,7 +23,7 @@ returns g c =
     let ranges' : List MapRange = map range_of c.range_at.new.ranges.items in
     let lo = c.args.lo in
     let row = c.row.result.areas in
-    let on : GoesOn (map range_of (take c.args.from before)) ranges' (open_at before c.args.from) (range_of c.range_at.result) lo row =
+    let on : ContinuesAt (map range_of (take c.args.from before)) ranges' (open_at before c.args.from) (range_of c.range_at.result) lo row =
     rw c.requires.same at (rw c.truncate-2.ensures.items at c.range_at.ensures.goes_on) in
     record {
       built =

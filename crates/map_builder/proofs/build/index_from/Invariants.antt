@@ -1,10 +1,10 @@
 use Rattle.std.proofs.Common.{◌-◌, ◌≤◌, length}
-use Rattle.map_builder.specs.Find.{Begins}
+use Rattle.map_builder.specs.Find.{BeginsBelow}
 use Rattle.map_builder.proofs.build.index_from.Given as goal
 
 abbrev pub invariant-loop-index : goal.invariant-loop-index
 invariant-loop-index l = record {
-  begins : Begins l.ranges l.index l.addr;
+  begins : BeginsBelow l.ranges l.index l.addr;
   from : l.from ≤ l.index;
 }
 

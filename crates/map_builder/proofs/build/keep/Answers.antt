@@ -1,9 +1,7 @@
 use Rattle.std.proofs.Common.{◌≡◌, ◌+◌, ◌-◌, ◌++◌, ℕ, List, map, min, take, drop, ◌∙◌, ap, subst, arith, lit<}
 use Rattle.std.proofs.lemmas.List.{length-map, length-append}
 use Rattle.map_builder.specs.declared.range.Range.{Range}
-use Rattle.map_builder.specs.Map.{range_of}
-use Rattle.map_builder.specs.Find.{range_at, Holds}
-use Rattle.map_builder.specs.Build.{IsBuilt}
+use Rattle.map_builder.specs.Common.{range_of, range_at, Holds, IsBuilt}
 use Rattle.map_builder.proofs.FindLemmas.{placed}
 use Rattle.map_builder.proofs.RebuildLemmas.{begins_later, begins_next, holds_begins}
 use Rattle.map_builder.proofs.KeepLemmas.{kept_first, kept_later}

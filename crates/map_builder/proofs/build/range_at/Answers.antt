@@ -1,7 +1,5 @@
-use Rattle.std.proofs.Common.{◌-◌, inl, inr, refl, sym, ◌∙◌, ap, List, [], ◌∷◌}
-use Rattle.std.specs.Prelude.{map}
-use Rattle.std.proofs.lemmas.Bool.{false≢true}
-use Rattle.std.proofs.lemmas.List.{map-append}
+use Rattle.std.proofs.Common.{◌-◌, inl, inr, refl, sym, ◌∙◌, ap, List, [], ◌∷◌, map}
+use Rattle.board_prelude.proofs.Common.{false≢true, map-append}
 use Rattle.map_builder.specs.declared.range.Range.{Range}
 use Rattle.map_builder.specs.Map.{range_of}
 use Rattle.map_builder.proofs.AreaLemmas.{rows_eq}

@@ -1,8 +1,7 @@
 use Rattle.std.proofs.Common.{arith, sym, subst, lit<}
 use Rattle.std.proofs.lemmas.List.{length-map}
 use Rattle.addr_decode.specs.MapRegs.{map_bytes}
-use Rattle.map_builder.specs.Map.{range_of}
-use Rattle.map_builder.specs.Build.{IsWhole}
+use Rattle.map_builder.specs.Common.{range_of, IsWhole}
 use Rattle.map_builder.proofs.StepLemmas.{is_whole}
 use Rattle.map_builder.proofs.build.ranges_of.Goals as goal
 

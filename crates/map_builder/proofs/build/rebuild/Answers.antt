@@ -1,10 +1,8 @@
-use Rattle.std.proofs.Common.{◌≡◌, List, [], ◌∷◌, arith, refl, subst, length}
-use Rattle.std.specs.Prelude.{map}
+use Rattle.std.proofs.Common.{◌≡◌, List, [], ◌∷◌, arith, refl, subst, length, map}
 use Rattle.std.proofs.lemmas.Bool.Decides.{nat_tests}
 use Rattle.addr_decode.specs.MapRegs.{map_bytes}
 use Rattle.map_builder.specs.declared.range.Changed.{Changed}
-use Rattle.map_builder.specs.Map.{range_of}
-use Rattle.map_builder.specs.Build.{IsMapWhere, IsBeside}
+use Rattle.map_builder.specs.Common.{range_of, IsMapWhere, IsBeside}
 use Rattle.map_builder.proofs.RebuildLemmas.{all_right}
 use Rattle.map_builder.proofs.build.rebuild.Goals as goal
 

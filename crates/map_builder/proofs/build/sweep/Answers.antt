@@ -1,6 +1,5 @@
 use Rattle.std.proofs.Common.{map, arith}
-use Rattle.addr_decode.specs.MapRegs.{map_bytes}
-use Rattle.addr_decode.specs.Edges.{edges_after}
+use Rattle.addr_decode.specs.Common.{map_bytes, edges_after}
 use Rattle.map_builder.specs.Map.{range_of}
 use Rattle.map_builder.proofs.RebuildLemmas.{holds_begins, begins_later, window_at, first_below, order_at, sweep_first, above, sweep_agrees, sweep_next, sweep_end, rows_at, no_rows}
 use Rattle.map_builder.proofs.build.sweep.Goals as goal

@@ -1,6 +1,5 @@
 use Rattle.std.proofs.Common.{◌∙◌, ◌++◌, ap, subst, sym, List, arith}
-use Rattle.std.proofs.lemmas.List.{append-nil}
-use Rattle.board_spec.specs.Setup.{IsBase}
+use Rattle.board_prelude.proofs.Common.{append-nil, IsBase}
 use Rattle.pci_bars.specs.declared.spec.BaseSpec.{BaseSpec}
 use Rattle.pci_bars.specs.Bases.{base_of}
 use Rattle.pci_bars.proofs.BaseLemmas.{base_within}

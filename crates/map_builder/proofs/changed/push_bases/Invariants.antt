@@ -1,5 +1,4 @@
-use Rattle.std.proofs.Common.{◌≡◌, ◌≤◌, ◌+◌, ◌++◌, length, map}
-use Rattle.std.specs.Prelude.{drop}
+use Rattle.std.proofs.Common.{◌≡◌, ◌≤◌, ◌+◌, ◌++◌, length, map, drop}
 use Rattle.pci_bars.specs.Bases.{base_of}
 use Rattle.map_builder.specs.Held.{held_from}
 use Rattle.map_builder.proofs.changed.push_bases.Given as goal

@@ -1,6 +1,5 @@
 use Rattle.std.proofs.Common.{subst, sym, arith}
-use Rattle.board_base.specs.declared.target.Area.{Area}
-use Rattle.board_spec.specs.FlatMap.{IsSpan}
+use Rattle.board_prelude.proofs.Common.{Area, IsSpan}
 use Rattle.map_builder.specs.Find.{range_at}
 use Rattle.map_builder.proofs.FindLemmas.{is_span}
 use Rattle.map_builder.proofs.find.span_of.Goals as goal

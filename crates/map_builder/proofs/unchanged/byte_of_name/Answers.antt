@@ -1,5 +1,4 @@
-use Rattle.std.proofs.Common.{◌∙◌, sym, ap, Option}
-use Rattle.std.specs.Prelude.{is_some}
+use Rattle.std.proofs.Common.{◌∙◌, sym, ap, Option, is_some}
 use Rattle.addr_decode.specs.declared.register.MapRegister.{MapRegister}
 use Rattle.pci_bars.specs.Cards.{cards_of}
 use Rattle.addr_decode.proofs.NameLemmas.{is_name, named_byte}

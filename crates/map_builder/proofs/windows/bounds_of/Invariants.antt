@@ -1,5 +1,4 @@
-use Rattle.std.proofs.Common.{◌≡◌}
-use Rattle.std.specs.Prelude.{drop}
+use Rattle.std.proofs.Common.{◌≡◌, drop}
 use Rattle.map_builder.specs.Changed.{bounds}
 use Rattle.map_builder.proofs.windows.bounds_of.Given as goal
 

@@ -1,5 +1,4 @@
-use Rattle.std.proofs.Common.{◌≡◌, Bor, None, ◌∙◌}
-use Rattle.std.specs.Prelude.{◌==◌, find, option_map}
+use Rattle.std.proofs.Common.{◌≡◌, Bor, None, ◌∙◌, ◌==◌, find, option_map}
 use Rattle.pci_bars.specs.declared.regs.CardRegs.{CardRegs}
 use Rattle.pci_bars.specs.Cards.{CardBytes}
 use Rattle.pci_bars.proofs.CardListLemmas.{card_is, at_index, at_position, no_position, map_twice}

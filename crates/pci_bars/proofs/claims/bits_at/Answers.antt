@@ -1,8 +1,6 @@
-use Rattle.std.proofs.Common.{Option, Some, ◌∙◌, sym, ap}
-use Rattle.std.specs.Prelude.{option_map}
+use Rattle.std.proofs.Common.{Option, Some, ◌∙◌, sym, ap, option_map}
 use Rattle.board_spec.specs.Setup.{FittedCard, IsCard}
-use Rattle.pci_bars.specs.Bases.{bits_in}
-use Rattle.pci_bars.specs.Cards.{CardBytes}
+use Rattle.pci_bars.specs.Common.{bits_in, CardBytes}
 use Rattle.pci_bars.proofs.CardListLemmas.{find-cards, found}
 use Rattle.pci_bars.proofs.claims.bits_at.Goals as goal
 

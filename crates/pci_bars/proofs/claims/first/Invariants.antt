@@ -1,5 +1,4 @@
-use Rattle.std.proofs.Common.{◌≡◌}
-use Rattle.std.specs.Prelude.{drop}
+use Rattle.std.proofs.Common.{◌≡◌, drop}
 use Rattle.pci_bars.specs.Claims.{first_claim}
 use Rattle.pci_bars.proofs.claims.first.Given as goal
 

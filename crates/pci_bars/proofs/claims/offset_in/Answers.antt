@@ -1,9 +1,6 @@
-use Rattle.std.proofs.Common.{◌≡◌, ℕ, ◌%◌, ◌^◌, List, sym, ◌∙◌, ap}
-use Rattle.std.specs.Prelude.{◌==◌, find}
-use Rattle.board_spec.specs.Answer.{window_bits}
-use Rattle.board_spec.specs.Setup.{FittedCard, Setup}
-use Rattle.pci_bars.specs.Bases.{bits_in}
-use Rattle.pci_bars.specs.Cards.{cards_of}
+use Rattle.std.proofs.Common.{◌≡◌, ℕ, ◌%◌, ◌^◌, List, sym, ◌∙◌, ap, ◌==◌, find}
+use Rattle.board_prelude.proofs.Common.{window_bits, FittedCard, Setup}
+use Rattle.pci_bars.specs.Common.{bits_in, cards_of}
 use Rattle.pci_bars.proofs.WindowLemmas.{memory_claim_sized, io_claim_sized}
 use Rattle.pci_bars.proofs.claims.offset_in.Goals as goal
 

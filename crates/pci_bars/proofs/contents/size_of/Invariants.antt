@@ -1,5 +1,4 @@
-use Rattle.std.proofs.Common.{◌≡◌}
-use Rattle.std.specs.Prelude.{◌==◌, find, drop}
+use Rattle.std.proofs.Common.{◌≡◌, ◌==◌, find, drop}
 use Rattle.pci_bars.proofs.contents.size_of.Given as goal
 
 abbrev pub invariant-loop-spec : goal.invariant-loop-spec

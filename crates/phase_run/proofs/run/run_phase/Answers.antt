@@ -1,17 +1,11 @@
-use Rattle.std.proofs.Common.{◌≡◌, ℕ, ◌<◌, List, Bor, map, length, All, sym, ◌∙◌, ap, subst}
-use Rattle.std.specs.Prelude.{reverse}
+use Rattle.std.proofs.Common.{◌≡◌, ℕ, ◌<◌, List, Bor, map, length, All, sym, ◌∙◌, ap, subst, reverse}
 use Rattle.access_history.specs.Past.{Past}
-use Rattle.board_spec.specs.declared.event.Entry.{Entry}
-use Rattle.board_spec.specs.declared.event.Statement.{Statement}
-use Rattle.board_spec.specs.MapWrites.{version_of}
-use Rattle.board_spec.specs.Legal.{IsLegal}
+use Rattle.board_prelude.proofs.Common.{Entry, Statement, version_of, IsLegal, length-map}
 use Rattle.run_order.specs.declared.done.Done.{Done}
 use Rattle.phase_run.specs.declared.worker.Work.{Work}
-use Rattle.phase_run.specs.Jobs.{IsStatement, GoesOn, HasRun, done_in}
-use Rattle.phase_run.specs.Placed.{IsUpTo}
+use Rattle.phase_run.specs.Common.{IsStatement, GrowsBy, HasRun, done_in, IsUpTo}
 use Rattle.phase_run.proofs.Phases.{gained, gained_all, gained_within, front_is, front_all, back_is, phase_is_run, takes_in}
 use Rattle.phase_run.proofs.run.run_phase.Goals as goal
-use Rattle.std.proofs.lemmas.List.{length-map}
 
 pub add-requires : goal.add-requires
 add-requires g c =
@@ -23,7 +17,7 @@ add-requires g c =
     let old : opened ≡ reverse before.entries = c.entries-opened.ensures.entries ∙ ap (λ (past : Past). reverse past.entries) c.history.ensures.history in
     let is : entries ≡ reverse now.entries = c.entries-entries.ensures.entries ∙ ap (λ (past : Past). reverse past.entries) c.history-2.ensures.history in
     let are : map (λ (done : Bor (List Done)). done.now) c.works_of.result.items ≡ done_in works = c.works_of.ensures.done ∙ ap done_in c.deref-2.ensures.value in
-    let goes_on = subst (λ (phase : List Statement). GoesOn phase c.args.run c.in_ok-run.run') c.deref.ensures.value c.in_ok-run.ensures.goes_on in
+    let goes_on = subst (λ (phase : List Statement). GrowsBy phase c.args.run c.in_ok-run.run') c.deref.ensures.value c.in_ok-run.ensures.goes_on in
     let asked = goes_on.asked c.requires.can.most c.requires.can.asked c.requires.can.room in
     let count : length c.works_of.result.items ≡ length works =
     sym (length-map c.works_of.result.items (λ (done : Bor (List Done)). done.now)) ∙ (ap length are ∙ length-map works (λ (work : Work). work.done.items)) in
@@ -38,7 +32,7 @@ add-requires g c =
     }
 
 pub returns-clause-goes_on : goal.returns-clause-goes_on
-returns-clause-goes_on g c = subst (λ (phase : List Statement). GoesOn phase c.args.run c.in_ok-run.run') c.deref.ensures.value c.in_ok-run.ensures.goes_on
+returns-clause-goes_on g c = subst (λ (phase : List Statement). GrowsBy phase c.args.run c.in_ok-run.run') c.deref.ensures.value c.in_ok-run.ensures.goes_on
 
 pub returns-clause-takes_in : goal.returns-clause-takes_in
 returns-clause-takes_in g c =
@@ -51,7 +45,7 @@ returns-clause-takes_in g c =
     let old : opened ≡ reverse before.entries = c.entries-opened.ensures.entries ∙ ap (λ (past : Past). reverse past.entries) c.history.ensures.history in
     let is : entries ≡ reverse now.entries = c.entries-entries.ensures.entries ∙ ap (λ (past : Past). reverse past.entries) c.history-2.ensures.history in
     let are : lists ≡ done_in works = c.works_of.ensures.done ∙ ap done_in c.deref-2.ensures.value in
-    let goes_on = subst (λ (phase : List Statement). GoesOn phase c.args.run c.in_ok-run.run') c.deref.ensures.value c.in_ok-run.ensures.goes_on in
+    let goes_on = subst (λ (phase : List Statement). GrowsBy phase c.args.run c.in_ok-run.run') c.deref.ensures.value c.in_ok-run.ensures.goes_on in
     let asked = goes_on.asked c.requires.can.most c.requires.can.asked c.requires.can.room in
     let count : length c.args.run.works.items ≡ length works = sym goes_on.count in
     let ran = subst (λ (phase : List Statement). HasRun before now phase works) c.deref.ensures.value c.in_ok-run.ensures.run in

@@ -1,15 +1,7 @@
 use Rattle.std.proofs.Common.{rules, ◌≡◌, ℕ, ◌+◌, ◌<◌, ◌≤◌, List, [], ◌∷◌, ◌++◌, length, flat_map, All, Vec, Global, sym, ◌∙◌, ap, subst, arith, append_assoc}
-use Rattle.std.specs.Vec.Iter.{into_iter_items}
-use Rattle.std.proofs.lemmas.List.{length-append}
-use Rattle.std.proofs.Math.Seq.{get_or-append_seam}
-use Rattle.board_spec.specs.declared.event.Statement.{Statement}
-use Rattle.board_spec.specs.Setup.{Setup}
-use Rattle.board_spec.specs.Legal.{IsLegal}
-use Rattle.board_spec.specs.Orders.{statements_of, HasPhases}
-use Rattle.board_spec.specs.Limits.{most_statements}
+use Rattle.board_prelude.proofs.Common.{into_iter_items, length-append, get_or-append_seam, Statement, Setup, IsLegal, statements_of, HasPhases, most_statements}
 use Rattle.run_order.specs.Places.{AreInPlace, AreAllInPlace}
-use Rattle.phase_run.specs.Jobs.{AreAsked, IsStatement}
-use Rattle.phase_run.specs.Placed.{entries_of}
+use Rattle.phase_run.specs.Common.{AreAsked, IsStatement, entries_of}
 use Rattle.phase_run.proofs.Phases.{phases_more, newest_first, all_in_place, statements_more, statements_within}
 use Rattle.phase_run.proofs.run.run_phases.Goals as goal
 

@@ -1,11 +1,8 @@
 use Rattle.std.proofs.Common.{◌≡◌, ◌++◌, length, map, reverse, flat_map}
-use Rattle.std.specs.Vec.Iter.{into_iter_items, into_iter_len}
-use Rattle.board_spec.specs.Legal.{IsLegal}
-use Rattle.board_spec.specs.Orders.{statements_of, HasPhases}
-use Rattle.run_order.specs.PhaseRun.{bare}
-use Rattle.run_order.specs.Places.{AreAllInPlace}
-use Rattle.phase_run.specs.Jobs.{AreAsked}
-use Rattle.phase_run.specs.Placed.{entries_of, IsUpTo}
+use Rattle.board_prelude.proofs.Common.{into_iter_items, IsLegal, statements_of, HasPhases}
+use Rattle.std.specs.Vec.Iter.{into_iter_len}
+use Rattle.run_order.specs.Common.{bare, AreAllInPlace}
+use Rattle.phase_run.specs.Common.{AreAsked, entries_of, IsUpTo}
 use Rattle.phase_run.proofs.run.run_phases.Given as goal
 
 abbrev pub invariant-loop-phase : goal.invariant-loop-phase

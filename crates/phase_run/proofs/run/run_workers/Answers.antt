@@ -1,10 +1,9 @@
-use Rattle.std.proofs.Common.{rules, ◌≡◌, ℕ, ◌<◌, List, All, length, map, sym, ◌∙◌, ap, subst, arith, false, Some}
-use Rattle.std.specs.Prelude.{reverse}
+use Rattle.std.proofs.Common.{rules, ◌≡◌, ℕ, ◌<◌, List, All, length, map, sym, ◌∙◌, ap, subst, arith, false, Some, reverse}
 use Rattle.board_spec.specs.declared.event.Entry.{Entry}
 use Rattle.board_live.specs.declared.cpu.Cpu.{Cpu}
 use Rattle.phase_run.specs.declared.worker.Work.{Work}
 use Rattle.phase_run.specs.declared.jobs.Job.{Job}
-use Rattle.phase_run.specs.Jobs.{CanRun, IsReady}
+use Rattle.phase_run.specs.Jobs.{CanRun, IsReadyToWork}
 use Rattle.phase_run.proofs.Numbers.{same_lengths, numbered_length, jobs_count, asked_again, lent_back}
 use Rattle.phase_run.proofs.Workers.{ready, all_again, has_run, are_asked}
 use Rattle.phase_run.proofs.run.run_workers.Goals as goal
@@ -89,7 +88,7 @@ close-board-requires g c =
     let back = lent_back c.begin.new.jobs.len c.begin.new.jobs.items lent jobs_len (same_lengths (λ (job : Job). job.cpu.number) (λ (job : Job). job.cpu.number) lent c.begin.new.jobs.items numbers) in
     let cpus : map (λ (job : Job). job.cpu) (reverse lent) ≡ c.end.new.cpus.items = ap (λ (jobs : List Job). map (λ (job : Job). job.cpu) (reverse jobs)) (sym back) ∙ c.end.ensures.cpus in
     let run = c.run_jobs.ensures.run c.args.run.board (Some opened.all.opened) most
-    (subst (All (IsReady c.in-Ok.live c.args.run.board (Some opened.all.opened) c.args.phase.now most)) (sym c.deref_mut.ensures.value) all) in
+    (subst (All (IsReadyToWork c.in-Ok.live c.args.run.board (Some opened.all.opened) c.args.phase.now most)) (sym c.deref_mut.ensures.value) all) in
     record {
       cpus = all_again c.in-Ok.live c.args.run.board c.len-2.result c.in-Ok.cpus.items c.end.new.cpus.items c.begin.new.jobs.items lent c.args.phase.now most
           opened c.begin.ensures.cpus cpus numbers run;
@@ -119,7 +118,7 @@ returns-clause-goes_on g c =
           let all = ready c.in-Ok.live c.args.run.board c.len-2.result c.in-Ok.cpus.items c.in_ok-works.works.items c.begin.new.jobs.items c.args.phase.now most
           opened c.begin.ensures.cpus c.begin.ensures.works c.in_ok-works.ensures.empty next (λ k d less. (c.requires.can.in_range k d less).event) asked.mine room in
           let run = c.run_jobs.ensures.run c.args.run.board (Some opened.all.opened) most
-          (subst (All (IsReady c.in-Ok.live c.args.run.board (Some opened.all.opened) c.args.phase.now most)) (sym c.deref_mut.ensures.value) all) in
+          (subst (All (IsReadyToWork c.in-Ok.live c.args.run.board (Some opened.all.opened) c.args.phase.now most)) (sym c.deref_mut.ensures.value) all) in
           let fine : All (λ (job : Job). job.refused ≡ false) lent =
           subst (All (λ (job : Job). job.refused ≡ false)) (c.deref-2.ensures.value ∙ back) (c.is_refused-refused.ensures.none c.if-refused.false) in
           are_asked c.in-Ok.live c.args.run.board c.close-board.result c.len-2.result c.in-Ok.cpus.items c.end.new.cpus.items c.end.new.works.items c.begin.new.jobs.items lent c.args.phase.now most
@@ -145,7 +144,7 @@ returns-clause-run g c =
     let back = lent_back c.begin.new.jobs.len c.begin.new.jobs.items lent jobs_len (same_lengths (λ (job : Job). job.cpu.number) (λ (job : Job). job.cpu.number) lent c.begin.new.jobs.items numbers) in
     let cpus : map (λ (job : Job). job.cpu) (reverse lent) ≡ c.end.new.cpus.items = ap (λ (jobs : List Job). map (λ (job : Job). job.cpu) (reverse jobs)) (sym back) ∙ c.end.ensures.cpus in
     let run = c.run_jobs.ensures.run c.args.run.board (Some opened.all.opened) most
-    (subst (All (IsReady c.in-Ok.live c.args.run.board (Some opened.all.opened) c.args.phase.now most)) (sym c.deref_mut.ensures.value) all) in
+    (subst (All (IsReadyToWork c.in-Ok.live c.args.run.board (Some opened.all.opened) c.args.phase.now most)) (sym c.deref_mut.ensures.value) all) in
     let works1 : map (λ (job : Job). job.work) (reverse lent) ≡ c.end.new.works.items = ap (λ (jobs : List Job). map (λ (job : Job). job.work) (reverse jobs)) (sym back) ∙ c.end.ensures.works in
     let fine : All (λ (job : Job). job.refused ≡ false) lent =
     subst (All (λ (job : Job). job.refused ≡ false)) (c.deref-2.ensures.value ∙ back) (c.is_refused-refused.ensures.none c.if-refused.false) in

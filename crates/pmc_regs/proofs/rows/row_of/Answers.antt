@@ -1,5 +1,4 @@
-use Rattle.std.proofs.Common.{rules, ◌≡◌, ◌≤◌, ◌∙◌, sym, subst}
-use Rattle.std.specs.Prelude.{IsNone, ◌↔◌}
+use Rattle.std.proofs.Common.{rules, ◌≡◌, ◌≤◌, ◌∙◌, sym, subst, IsNone, ◌↔◌}
 use Rattle.board_spec.specs.Decode.{top_of as top_by}
 use Rattle.pmc_regs.proofs.RowLemmas.{row_below_top, row_above_top, none_above_top}
 use Rattle.pmc_regs.proofs.rows.row_of.Goals as goal

@@ -1,5 +1,4 @@
-use Rattle.std.proofs.Common.{◌≡◌, ◌+◌, ◌<◌, ◌≤◌, length, map}
-use Rattle.std.specs.Prelude.{take}
+use Rattle.std.proofs.Common.{◌≡◌, ◌+◌, ◌<◌, ◌≤◌, length, map, take}
 use Rattle.run_order.specs.Room.{most, all_looks_in}
 use Rattle.run_order.proofs.order.entries_in.Given as goal
 

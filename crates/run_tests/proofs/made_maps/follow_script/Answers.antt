@@ -1,8 +1,5 @@
 use Rattle.std.proofs.Common.{ℕ, ◌≡◌, ◌+◌, List, take, drop, sym, subst, ◌∙◌, ap}
-use Rattle.board_spec.specs.declared.event.Statement.{Statement}
-use Rattle.board_spec.specs.Setup.{Setup}
-use Rattle.board_spec.specs.InRange.{IsInRange}
-use Rattle.board_spec.specs.OrderLaws.{in_file_order}
+use Rattle.board_prelude.proofs.Common.{Statement, Setup, IsInRange, in_file_order}
 use Rattle.board_core.specs.Steps.{AreInRange}
 use Rattle.script_text.specs.Script.{said_of}
 use Rattle.script_spec.specs.Phases.{lists_of}

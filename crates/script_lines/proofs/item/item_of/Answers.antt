@@ -1,7 +1,6 @@
 use Rattle.std.proofs.Common.{◌≡◌, ◌∙◌, ap}
 use Rattle.std.specs.Option.{option_map}
-use Rattle.script_spec.specs.Fields.{fields_of}
-use Rattle.script_spec.specs.Items.{item_of}
+use Rattle.script_spec.specs.Common.{fields_of, item_of}
 use Rattle.script_lines.specs.Items.{line_said}
 use Rattle.script_lines.proofs.ItemReading.{said, unsaid}
 use Rattle.script_lines.proofs.item.item_of.Goals as goal

@@ -1,6 +1,5 @@
 use Rattle.std.proofs.Common.{ap, ◌∙◌, length, nat_lt, unwrap_or, rules, tests}
-use Rattle.std.proofs.lemmas.Iterator.{YieldsList-from_slice}
-use Rattle.std.proofs.lemmas.Iterator.Search.{position_from_yields_List}
+use Rattle.board_prelude.proofs.Common.{YieldsList-from_slice, position_from_yields_List}
 use Rattle.script_text.proofs.CardLemmas.{place_is}
 use Rattle.script_text.proofs.take.place_of.Goals as goal
 

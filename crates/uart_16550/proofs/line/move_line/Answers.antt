@@ -1,8 +1,7 @@
 use Rattle.std.proofs.Common.{◌≡◌, Bool, true, false, refl, not}
 use Rattle.std.proofs.Math.Bool.{beq}
 use Rattle.board_spec.specs.declared.event.Event.TheVariants.{Line}
-use Rattle.uart_16550.specs.Com1.{com1_irq, com1_actor}
-use Rattle.uart_16550.specs.Writes.{differ}
+use Rattle.uart_16550.specs.Common.{com1_irq, com1_actor, differ}
 use Rattle.uart_16550.proofs.SerialSteps.{no_step, one_step}
 use Rattle.uart_16550.proofs.line.move_line.Goals as goal
 

@@ -1,6 +1,5 @@
 use Rattle.std.proofs.Common.{◌≡◌, ◌≤◌, Option, ℕ, sym, subst, map, ◌*◌, ◌+◌, ◌/◌, arith}
-use Rattle.std.proofs.lemmas.Bool.Decides.{nat_tests}
-use Rattle.board_spec.specs.Ranges.{boundary_unit}
+use Rattle.board_prelude.proofs.Common.{nat_tests, boundary_unit}
 use Rattle.addr_decode.specs.EdgeSearch.{nearest}
 use Rattle.addr_decode.proofs.FixedEdgeLemmas.{rows_below, rows_are_far}
 use Rattle.addr_decode.proofs.edges.Nearest.is_before_rows.Goals as goal

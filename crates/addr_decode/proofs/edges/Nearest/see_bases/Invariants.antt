@@ -1,5 +1,4 @@
-use Rattle.std.proofs.Common.{◌≡◌, map}
-use Rattle.std.specs.Prelude.{drop}
+use Rattle.std.proofs.Common.{◌≡◌, map, drop}
 use Rattle.pci_bars.specs.Bases.{base_of}
 use Rattle.addr_decode.specs.EdgeSearch.{nearest, ends_from}
 use Rattle.addr_decode.proofs.edges.Nearest.see_bases.Given as goal

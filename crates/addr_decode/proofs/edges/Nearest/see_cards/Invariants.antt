@@ -1,5 +1,4 @@
-use Rattle.std.proofs.Common.{◌≡◌}
-use Rattle.std.specs.Prelude.{drop, flat_map}
+use Rattle.std.proofs.Common.{◌≡◌, drop, flat_map}
 use Rattle.addr_decode.specs.EdgeSearch.{nearest, ends_of_card}
 use Rattle.addr_decode.proofs.edges.Nearest.see_cards.Given as goal
 

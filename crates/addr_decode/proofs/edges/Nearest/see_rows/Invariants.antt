@@ -1,5 +1,4 @@
-use Rattle.std.proofs.Common.{◌≡◌, ◌*◌, map}
-use Rattle.std.specs.Prelude.{drop}
+use Rattle.std.proofs.Common.{◌≡◌, ◌*◌, map, drop}
 use Rattle.board_spec.specs.Ranges.{boundary_unit}
 use Rattle.addr_decode.specs.EdgeSearch.{nearest}
 use Rattle.addr_decode.proofs.edges.Nearest.see_rows.Given as goal

@@ -1,6 +1,5 @@
 -- The names so far are those of the first registers.
-use Rattle.std.proofs.Common.{◌≡◌, take}
-use Rattle.std.specs.Prelude.{map}
+use Rattle.std.proofs.Common.{◌≡◌, take, map}
 use Rattle.arrayvec.specs.ArrayVec.{array_vec_len}
 use Rattle.board_spec.specs.MapWrites.{reg_after}
 use Rattle.pci_bars.specs.Cards.{cards_of}

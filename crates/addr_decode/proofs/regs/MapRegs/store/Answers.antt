@@ -1,7 +1,5 @@
-use Rattle.std.proofs.Common.{◌≡◌, ◌∙◌, ℕ, refl, subst, arith}
-use Rattle.std.specs.Prelude.{slice_index}
-use Rattle.board_spec.specs.Bits.{byte}
-use Rattle.board_spec.specs.MapWrites.{reg_after}
+use Rattle.std.proofs.Common.{◌≡◌, ◌∙◌, ℕ, refl, subst, arith, slice_index}
+use Rattle.board_prelude.proofs.Common.{byte, reg_after}
 use Rattle.pci_bars.specs.Cards.{AreCardsOf}
 use Rattle.addr_decode.specs.MapRegs.{StandsFor, map_bytes, stored}
 use Rattle.addr_decode.proofs.StoreLemmas.{byte_in_list, few_bytes}

@@ -1,9 +1,7 @@
 use Rattle.std.proofs.Common.{◌≡◌, Some, sym, ◌∙◌, subst}
-use Rattle.board_base.specs.declared.target.Reg.{Reg}
-use Rattle.board_spec.specs.MapWrites.{reg_after}
+use Rattle.board_prelude.proofs.Common.{Reg, reg_after}
 use Rattle.pci_bars.specs.Cards.{AreCardsOf, cards_of}
-use Rattle.addr_decode.specs.MapRegister.{map_register}
-use Rattle.addr_decode.specs.MapRegs.{StandsFor, map_bytes, stored}
+use Rattle.addr_decode.specs.Common.{map_register, StandsFor, map_bytes, stored}
 use Rattle.addr_decode.proofs.NameLemmas.{is_name, IsNameAt}
 use Rattle.addr_decode.proofs.regs.MapRegs.store_after.Goals as goal
 

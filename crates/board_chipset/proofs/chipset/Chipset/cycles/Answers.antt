@@ -1,10 +1,8 @@
 use Rattle.std.proofs.Common.{◌≡◌, ℕ, false, ◌+◌, ◌-◌, ◌*◌, ◌%◌, ◌^◌, ◌∙◌, ap, refl, subst, arith, get_or}
-use Rattle.std.proofs.lemmas.List.{take_all, length-map}
-use Rattle.board_base.specs.declared.access.Width.TheVariants.{One}
-use Rattle.board_spec.specs.Setup.{Setup}
+use Rattle.board_prelude.proofs.Common.{take_all, length-map, One, Setup}
 use Rattle.board_stores.specs.declared.ports.PortCycle.{PortCycle}
 use Rattle.board_stores.specs.PortCycles.{port_accesses}
-use Rattle.board_chipset.specs.PortAccesses.{IsStep}
+use Rattle.board_chipset.specs.PortAccesses.{IsCycleStep}
 use Rattle.board_chipset.proofs.PortAccessSteps.{none_done, cycle_done, shifted, room, shift_most, at_next, at_first, inside, item, placed_item, on_bus, bytes_placed, below_all}
 use Rattle.board_chipset.proofs.chipset.Chipset.cycles.Goals as goal
 
@@ -70,7 +68,7 @@ loop-cycle-preserved c =
       done = cycle_done c.args.self.now.setup c.args.self.now c.loop-cycle.self c.cycle-read.new.self c.args.first
           c.loop-cycle.value read _ c.loop-cycle.reset c.cycle-read.result.1 c.or-reset.result (port_accesses cycles) i cycle
           (inside cycles i none within) (item cycles i none within) c.loop-cycle.invariant.done
-          (subst (λ (setup : Setup). IsStep setup c.loop-cycle.self cycle c.cycle-read.new.self read c.cycle-read.result.1)
+          (subst (λ (setup : Setup). IsCycleStep setup c.loop-cycle.self cycle c.cycle-read.new.self read c.cycle-read.result.1)
           c.loop-cycle.invariant.setup c.cycle-read.ensures.step)
           is c.or-reset.ensures.stronger;
       at = at_next placed read _ small is;

@@ -1,6 +1,5 @@
 use Rattle.std.proofs.Common.{ap, ◌∙◌, refl}
-use Rattle.board_spec.specs.Setup.{Setup}
-use Rattle.board_spec.specs.Registers.{byte_of}
+use Rattle.board_prelude.proofs.Common.{Setup, byte_of}
 use Rattle.board_chipset.proofs.Lefts.{state_of}
 use Rattle.board_chipset.proofs.chipset.Chipset.into_store.Goals as goal
 

@@ -1,9 +1,5 @@
-use Rattle.std.proofs.Common.{ℕ, ◌∙◌, ap, subst}
-use Rattle.std.specs.Prelude.{if◌then◌else◌, Some, None}
-use Rattle.board_base.specs.declared.target.Target.TheVariants.{Config}
-use Rattle.board_spec.specs.declared.map_change.MapChange.TheVariants.{Reset}
-use Rattle.board_spec.specs.Registers.{is_hard_value}
-use Rattle.board_spec.specs.Ports.{Decoded}
+use Rattle.std.proofs.Common.{ℕ, ◌∙◌, ap, subst, if◌then◌else◌, Some, None}
+use Rattle.board_prelude.proofs.Common.{Config, Reset, is_hard_value, Decoded}
 use Rattle.board_chipset.proofs.Effects.{Reached, target_reached, reads_only, writes_beside, writes_at}
 use Rattle.board_chipset.proofs.PortSteps.{beside_of}
 use Rattle.board_chipset.proofs.ChangeSteps.{changes, by_device}

@@ -1,7 +1,5 @@
 use Rattle.std.proofs.Common.{◌≡◌, ◌∙◌, true, false, sym, refl}
-use Rattle.board_spec.specs.declared.map_change.MapChange.TheVariants.{Store}
-use Rattle.board_spec.specs.Registers.{byte_of}
-use Rattle.board_spec.specs.MapWrites.{touches_map}
+use Rattle.board_prelude.proofs.Common.{Store, byte_of, touches_map}
 use Rattle.board_chipset.proofs.registers.Registers.store_change.Goals as goal
 
 pub returns-then-touches : goal.returns-then-touches

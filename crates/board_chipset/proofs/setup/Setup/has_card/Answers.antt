@@ -1,7 +1,5 @@
-use Rattle.std.proofs.Common.{◌∙◌, ap}
-use Rattle.std.specs.Prelude.{◌==◌}
-use Rattle.std.specs.List.{list_any}
-use Rattle.board_spec.specs.Setup.{FittedCard, Setup}
+use Rattle.std.proofs.Common.{◌∙◌, ap, ◌==◌}
+use Rattle.board_prelude.proofs.Common.{list_any, FittedCard, Setup}
 use Rattle.board_chipset.proofs.Openings.{any_found}
 use Rattle.board_chipset.proofs.setup.Setup.has_card.Goals as goal
 

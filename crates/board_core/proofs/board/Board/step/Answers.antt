@@ -1,7 +1,5 @@
-use Rattle.std.proofs.Common.{◌+◌, ◌<◌, ◌^◌, ◌≤◌, ap, sym, refl, subst, arith}
-use Rattle.std.specs.Prelude.{slice_index}
-use Rattle.board_spec.specs.InRange.{IsInRange}
-use Rattle.board_spec.specs.declared.event.Entry.{Entry}
+use Rattle.std.proofs.Common.{◌+◌, ◌<◌, ◌^◌, ◌≤◌, ap, sym, refl, subst, arith, slice_index}
+use Rattle.board_prelude.proofs.Common.{IsInRange, Entry}
 use Rattle.board_core.specs.Kept.{Standing}
 use Rattle.board_core.proofs.Boards.{few_versions, count_fits, stepped}
 use Rattle.board_core.proofs.board.Board.step.Goals as goal

@@ -1,6 +1,5 @@
 use Rattle.std.proofs.Common.{rules, ◌≡◌, ◌∷◌, ◌++◌, [], List, ◌∙◌, refl, ap, arith}
-use Rattle.std.proofs.lemmas.Grind.{common_steps}
-use Rattle.board_spec.specs.declared.event.Entry.{Entry}
+use Rattle.board_prelude.proofs.Common.{common_steps, Entry}
 use Rattle.board_core.specs.Kept.{Standing}
 use Rattle.board_core.proofs.board.Board.steps.Goals as goal
 

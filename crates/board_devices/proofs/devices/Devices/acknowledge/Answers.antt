@@ -1,7 +1,6 @@
 use Rattle.std.proofs.Common.{◌∷◌, refl}
-use Rattle.board_spec.specs.declared.event.Event.TheVariants.{Ack}
+use Rattle.board_prelude.proofs.Common.{Ack, pair_after_acknowledge}
 use Rattle.board_devices.specs.Devices.{DevicesValue}
-use Rattle.device_spec.specs.Pair.{pair_after_acknowledge}
 use Rattle.board_devices.proofs.DeviceLemmas.{all_asked, lined_as, pair_asked, irqs_stay, same_disk}
 use Rattle.board_devices.proofs.devices.Devices.acknowledge.Goals as goal
 

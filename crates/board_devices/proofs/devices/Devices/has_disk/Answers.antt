@@ -1,7 +1,5 @@
-use Rattle.std.proofs.Common.{rules, ◌≡◌, ◌∙◌, ap}
-use Rattle.std.specs.Prelude.{is_some}
+use Rattle.std.proofs.Common.{rules, ◌≡◌, ◌∙◌, ap, is_some, Option}
 use Rattle.device_spec.specs.Ata.State.{Disk}
-use Rattle.std.specs.Prelude.{Option}
 use Rattle.board_devices.proofs.DeviceLemmas.{some_disk}
 use Rattle.board_devices.proofs.devices.Devices.has_disk.Goals as goal
 

@@ -1,9 +1,5 @@
-use Rattle.std.proofs.Common.{rules, ◌≡◌, false, subst, sym}
-use Rattle.std.specs.Prelude.{Bool, ◌↔◌, is_some}
-use Rattle.board_base.specs.declared.target.Dev.TheVariants.{Spurious}
-use Rattle.device_spec.specs.Pic.{interrupt}
-use Rattle.device_spec.specs.Pair.{Pair, answer_of}
-use Rattle.board_spec.specs.Interrupts.{who_answered}
+use Rattle.std.proofs.Common.{rules, ◌≡◌, false, subst, sym, Bool, ◌↔◌, is_some}
+use Rattle.board_prelude.proofs.Common.{Spurious, interrupt, Pair, answer_of, who_answered}
 use Rattle.board_devices.proofs.OutsideLemmas.{spurious_is}
 use Rattle.board_devices.proofs.devices.Devices.interrupt.Goals as goal
 

@@ -1,7 +1,5 @@
 use Rattle.std.proofs.Common.{◌≡◌, ◌∙◌, ap, refl, get_or-set_same, get_or-set_other, length-set, arith, inl, inr, ◌<◌, Bool, ◌||◌}
-use Rattle.std.proofs.lemmas.Bool.{cases_eq}
-use Rattle.board_spec.specs.Devices.{timer_of}
-use Rattle.board_spec.specs.Interrupts.{own_level}
+use Rattle.board_prelude.proofs.Common.{cases_eq, timer_of, own_level}
 use Rattle.board_devices.proofs.DeviceLemmas.{same_levels}
 use Rattle.board_devices.proofs.devices.Devices.levels.Goals as goal
 

@@ -1,9 +1,6 @@
 -- The lines so far have the levels of the history.
 use Rattle.std.proofs.Common.{◌≡◌, ℕ, ◌<◌, List, length, slice_index_or, false}
-use Rattle.board_spec.specs.declared.event.Entry.{Entry}
-use Rattle.board_spec.specs.Setup.{Setup}
-use Rattle.board_spec.specs.Devices.{timer_of}
-use Rattle.board_spec.specs.Interrupts.{level_with}
+use Rattle.board_prelude.proofs.Common.{Entry, Setup, timer_of, level_with}
 use Rattle.board_devices.specs.Devices.{AreAfter, AreRoutesOf}
 use Rattle.board_devices.proofs.devices.Devices.levels.Given as goal
 

@@ -1,8 +1,6 @@
-use Rattle.std.proofs.Common.{◌∷◌, refl}
-use Rattle.board_spec.specs.declared.event.Event.TheVariants.{BadSector}
+use Rattle.std.proofs.Common.{◌∷◌, refl, option_map}
+use Rattle.board_prelude.proofs.Common.{BadSector, after_bad}
 use Rattle.board_devices.specs.Devices.{DevicesValue}
-use Rattle.std.specs.Prelude.{option_map}
-use Rattle.device_spec.specs.Ata.Steps.{after_bad}
 use Rattle.board_devices.proofs.DeviceLemmas.{all_asked, lined_as, pair_asked, irqs_stay}
 use Rattle.board_devices.proofs.devices.Devices.mark_bad.Goals as goal
 

@@ -1,8 +1,6 @@
 use Rattle.std.proofs.Common.{◌∷◌, refl}
-use Rattle.board_spec.specs.declared.event.Event.TheVariants.{Time}
+use Rattle.board_prelude.proofs.Common.{Time, after_moment, civil_time}
 use Rattle.board_devices.specs.Devices.{DevicesValue}
-use Rattle.device_spec.specs.Clock.{after_moment}
-use Rattle.device_spec.specs.Told.{civil_time}
 use Rattle.board_devices.proofs.DeviceLemmas.{all_asked, lined_as, pair_asked, irqs_stay, same_disk}
 use Rattle.board_devices.proofs.devices.Devices.moment.Goals as goal
 

@@ -1,6 +1,5 @@
 use Rattle.std.proofs.Common.{◌≡◌, ◌∙◌, ◌∷◌, List, ap, sym, subst, Bool}
-use Rattle.device_spec.specs.Pair.{Pair, pair_after_lines, pair_at_reset}
-use Rattle.board_spec.specs.Interrupts.{levels_of, elcr_of}
+use Rattle.board_prelude.proofs.Common.{Pair, pair_after_lines, pair_at_reset, levels_of, elcr_of}
 use Rattle.board_devices.specs.Devices.{DevicesValue, AreAfter}
 use Rattle.board_devices.proofs.DeviceLemmas.{reset_after, reset_pair, with_pair, settled_as}
 use Rattle.board_devices.proofs.devices.Devices.reset.Goals as goal

@@ -1,10 +1,6 @@
 use Rattle.std.proofs.Common.{rules, ◌≡◌, ◌∙◌, ◌∷◌, ℕ, List, ap, sym, subst}
-use Rattle.device_spec.specs.Clock.{Clock}
-use Rattle.device_spec.specs.PortNames.{clock_index_port}
-use Rattle.board_spec.specs.declared.event.Entry.{Entry}
-use Rattle.board_spec.specs.Devices.{clock_of}
-use Rattle.board_devices.specs.Devices.{AreDevicesOf}
-use Rattle.board_devices.specs.Outside.{WritesClock}
+use Rattle.board_prelude.proofs.Common.{Clock, clock_index_port, Entry, clock_of}
+use Rattle.board_devices.specs.Common.{AreDevicesOf, WritesClock}
 use Rattle.board_devices.proofs.devices.Devices.set_clock_byte.Goals as goal
 
 pub returns-clause-devices : goal.returns-clause-devices

@@ -1,7 +1,6 @@
-use Rattle.std.proofs.Common.{◌∷◌, refl}
+use Rattle.std.proofs.Common.{◌∷◌, refl, slice_set}
 use Rattle.board_spec.specs.declared.event.Event.TheVariants.{Line}
 use Rattle.board_devices.specs.Devices.{DevicesValue}
-use Rattle.std.specs.Prelude.{slice_set}
 use Rattle.board_devices.proofs.DeviceLemmas.{all_asked, lined_as, pair_asked, free_low, free_set, same_disk}
 use Rattle.board_devices.proofs.devices.Devices.set_line.Goals as goal
 

@@ -1,7 +1,6 @@
-use Rattle.std.proofs.Common.{◌∷◌, refl, arith}
+use Rattle.std.proofs.Common.{◌∷◌, refl, arith, slice_set}
 use Rattle.board_spec.specs.declared.event.Event.TheVariants.{Wire}
 use Rattle.board_devices.specs.Devices.{DevicesValue}
-use Rattle.std.specs.Prelude.{slice_set}
 use Rattle.board_devices.proofs.DeviceLemmas.{all_asked, lined_as, pair_asked, irqs_stay, same_disk, level_set}
 use Rattle.board_devices.proofs.devices.Devices.set_wire.Goals as goal
 

@@ -1,10 +1,7 @@
 use Rattle.std.proofs.Common.{rules, ◌≡◌, ◌∙◌, ◌∷◌, ℕ, Some, refl, ap, sym}
 use Rattle.board_base.specs.declared.target.Dev.TheVariants.{Clock}
-use Rattle.device_spec.specs.Clock.{Clock as ClockState}
-use Rattle.board_spec.specs.Interrupts.{pair_accessed}
-use Rattle.board_devices.specs.Devices.{DevicesValue}
-use Rattle.board_devices.specs.Steps.{after_write}
-use Rattle.board_devices.specs.Outside.{byte_out}
+use Rattle.board_prelude.proofs.Common.{Clock as ClockState, pair_accessed}
+use Rattle.board_devices.specs.Common.{DevicesValue, after_write, byte_out}
 use Rattle.board_devices.proofs.DeviceLemmas.{write_at, write_pair, pair_at, lined_as}
 use Rattle.board_devices.proofs.OutsideLemmas.{clock_written}
 use Rattle.board_devices.proofs.devices.Devices.write_clock.Goals as goal

@@ -1,19 +1,11 @@
 use Rattle.std.proofs.Common.{rules, ◌≡◌, ◌<◌, ◌∷◌, [], ◌++◌, List, drop, reverse, length, sym, ap, ◌∙◌, subst, refl}
-use Rattle.std.proofs.lemmas.List.{reverse-append, reverse-reverse}
+use Rattle.board_prelude.proofs.Common.{reverse-append, reverse-reverse, Entry, Setup, IsAnswer, entries_by, next_entry, map_writes_of}
 use mathlib.Core.List.{IsPrefix}
-use Rattle.bus_turn.specs.Passes.{opened_of as opened_by, seen_of as seen_in, mine_of as mine_in, IsSameCaller as IsSamePass}
-use Rattle.bus_turn.specs.Views.{own_by}
+use Rattle.bus_turn.specs.Common.{opened_of as opened_by, seen_of as seen_in, mine_of as mine_in, IsSameCaller as IsSamePass, own_by}
 use Rattle.bus_turn.proofs.Rows.{prefix_trans}
-use Rattle.board_spec.specs.declared.event.Entry.{Entry}
-use Rattle.board_spec.specs.Setup.{Setup}
-use Rattle.board_spec.specs.Answer.{IsAnswer}
-use Rattle.board_spec.specs.Legal.{entries_by, next_entry}
-use Rattle.board_spec.specs.MapWrites.{map_writes_of}
 use Rattle.map_publish.specs.declared.mark.Mark.{Mark}
 use Rattle.map_publish.specs.Lists.{opened_of}
-use Rattle.board_live.specs.Known.{known_after, most_each}
-use Rattle.board_live.specs.Steps.{IsSameBoard}
-use Rattle.board_live.specs.Passes.{setup_in, opened_in}
+use Rattle.board_live.specs.Common.{known_after, most_each, IsSameBoard, setup_in, opened_in}
 use Rattle.board_live.proofs.Turns.{Finds, finds, known_left, passed_again, opens_again, own_pushed, own_first, passed_idly, HasLearnt, has_learnt}
 use Rattle.board_live.proofs.cpu.Cpu.bus.Goals as goal
 

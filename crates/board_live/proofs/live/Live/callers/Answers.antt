@@ -1,9 +1,8 @@
 use Rattle.std.proofs.Common.{rules, ◌≡◌, ℕ, ◌+◌, List, Some, [], ◌∷◌, ◌++◌, length, map, sym, ap, ◌∙◌, subst, refl, arith, length-append}
-use Rattle.std.specs.List.{range_with_len}
-use Rattle.std.proofs.lemmas.List.Elements.{All-nil, All-same, All-push, All-pop}
+use Rattle.board_prelude.proofs.Common.{range_with_len, All-nil, All-push}
+use Rattle.std.proofs.lemmas.List.Elements.{All-same, All-pop}
 use Rattle.board_live.specs.declared.cpu.Cpu.{Cpu}
-use Rattle.board_live.specs.Passes.{IsViewerFor}
-use Rattle.board_live.specs.Callers.{IsCallerOf, IsNewOf}
+use Rattle.board_live.specs.Common.{IsViewerFor, IsCallerOf, IsNewOf}
 use Rattle.board_live.proofs.Opening.{viewer_for, new_of, numbers_more}
 use Rattle.board_live.proofs.live.Live.callers.Goals as goal
 

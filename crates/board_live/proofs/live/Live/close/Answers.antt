@@ -1,15 +1,11 @@
 use Rattle.std.proofs.Common.{rules, ◌≡◌, ℕ, ◌<◌, List, ◌∷◌, length, drop, get_or, remove, reverse, All, Some, sym, ◌∙◌, subst}
-use Rattle.std.specs.List.{Any}
-use Rattle.std.proofs.lemmas.List.Elements.{All-cons, All-get_or}
-use Rattle.std.proofs.lemmas.List.Sorted.{IsPermutation-remove, IsPermutation-sym, All-permutation}
+use Rattle.board_prelude.proofs.Common.{Any, All-cons, All-get_or, IsPermutation-sym, All-permutation, Entry}
+use Rattle.std.proofs.lemmas.List.Sorted.{IsPermutation-remove}
 use mathlib.Core.List.{IsPrefix}
-use Rattle.bus_turn.specs.Passes.{IsSameCaller as IsSamePass, number_of, opened_of as opened_by, part_of, seen_of as seen_in, mine_of as mine_in}
-use Rattle.bus_turn.specs.Views.{own_by}
-use Rattle.board_spec.specs.declared.event.Entry.{Entry}
+use Rattle.bus_turn.specs.Common.{IsSameCaller as IsSamePass, number_of, opened_of as opened_by, part_of, seen_of as seen_in, mine_of as mine_in, own_by}
 use Rattle.board_core.specs.Kept.{Standing}
 use Rattle.board_live.specs.declared.cpu.Cpu.{Cpu}
-use Rattle.board_live.specs.Steps.{opened_with}
-use Rattle.board_live.specs.Callers.{Closes}
+use Rattle.board_live.specs.Common.{opened_with, ClosesBoard}
 use Rattle.board_live.proofs.Joining.{caught_up, closes, closes_joined, opened_same}
 use Rattle.board_live.proofs.live.Live.close.Goals as goal
 
@@ -50,19 +46,19 @@ returns-clause-cpus g c =
     subst (λ (z : ℕ × List Entry). own_by (λ (entry : Entry). entry.actor) z.0
     (drop (length (opened_by pass)) (reverse done.board.value.entries)) ≡ z.1)
     (λ k. (same.0 k, mines k)) c.close.ensures.mine in
-    let firstly : Closes done.board.value first =
+    let firstly : ClosesBoard done.board.value first =
     closes pass done first (number_of now.pass, mine_in now.pass) has.0 has.1 has.2 own c.close.ensures.begins
     c.close.ensures.opened opened_first (first_part ∙ part) in
-    let others : All (Closes done.board.value) rest =
+    let others : All (ClosesBoard done.board.value) rest =
     λ k d within.
     let cpu = get_or rest k d in
     let its_part : part_of cpu.pass ≡ Some opened = rest_part k d within in
     closes_joined pass done cpu (c.join.ensures.joined k d within) c.close.ensures.joined c.close.ensures.begins
     c.close.ensures.opened
     (opened_same cpu first (its_part ∙ sym first_part) ∙ opened_first) (its_part ∙ part) in
-    let all : All (Closes done.board.value) items =
-    All-permutation (Closes done.board.value) (first ∷ remove items place) items
+    let all : All (ClosesBoard done.board.value) items =
+    All-permutation (ClosesBoard done.board.value) (first ∷ remove items place) items
     (IsPermutation-sym items (first ∷ remove items place) (IsPermutation-remove items place first below is))
-    (All-cons (Closes done.board.value) first (remove items place) firstly
-    (subst (λ (w : List Cpu). All (Closes done.board.value) w) left others)) in
-    subst (λ (b : Standing). All (Closes b) items) (sym c.unshared.ensures.board) all
+    (All-cons (ClosesBoard done.board.value) first (remove items place) firstly
+    (subst (λ (w : List Cpu). All (ClosesBoard done.board.value) w) left others)) in
+    subst (λ (b : Standing). All (ClosesBoard b) items) (sym c.unshared.ensures.board) all

@@ -1,21 +1,15 @@
 use Rattle.std.proofs.Common.{rules, ◌≡◌, ℕ, ◌+◌, ◌≤◌, Option, Some, [], length, map, reverse, All, sym, ap, ◌∙◌, subst, arith}
-use Rattle.std.specs.List.{Any, range_with_len}
-use Rattle.std.proofs.lemmas.List.{reverse-reverse, length-map}
+use Rattle.board_prelude.proofs.Common.{Any, range_with_len, reverse-reverse, length-map, map_writes_of}
 use Rattle.std.proofs.lemmas.List.FromFn.{length-range_with_len}
 use Rattle.std.proofs.lemmas.List.Elements.{All-weaker}
 use Rattle.bus_turn.specs.Passes.{opened_of as opened_by, part_of}
-use Rattle.board_spec.specs.MapWrites.{map_writes_of}
 use Rattle.board_core.specs.Kept.{Standing}
 use Rattle.map_builder.specs.Map.{Mapped}
 use Rattle.map_publish.specs.declared.viewer.Viewer.{Viewer}
 use Rattle.map_publish.specs.Lists.{opened_of, changes_of}
 use Rattle.board_live.specs.declared.cpu.Cpu.{Cpu}
 use Rattle.board_live.specs.declared.shared.Origin.{Origin}
-use Rattle.board_live.specs.Known.{Opens}
-use Rattle.board_live.specs.Origins.{origin_in}
-use Rattle.board_live.specs.Steps.{opened_with}
-use Rattle.board_live.specs.Passes.{callers_in, opened_in, setup_in, IsViewerFor}
-use Rattle.board_live.specs.Callers.{IsNew, IsNewOf}
+use Rattle.board_live.specs.Common.{IsMapOpened, origin_in, opened_with, callers_in, opened_in, setup_in, IsViewerFor, IsNew, IsNewOf}
 use Rattle.board_live.proofs.Standing.{stands_after}
 use Rattle.board_live.proofs.Opening.{opened_viewer, any_numbered}
 use Rattle.board_live.proofs.live.Live.open.Goals as goal
@@ -25,8 +19,8 @@ shared-requires-clause-opens g c =
     let board = c.deref.result.now in
     let map : opened_of c.in-Ok-new.publisher.value.front.seen.log ≡ c.map.result.now = search rules in
     let version : c.map.result.now.version ≡ length (map_writes_of board.setup board.entries) = c.map.ensures.version in
-    subst (λ (b : Standing). Opens b.setup b.entries (opened_of c.in-Ok-new.publisher.value.front.seen.log)) c.deref.ensures
-    (subst (λ (m : Mapped). Opens board.setup board.entries m) (sym map)
+    subst (λ (b : Standing). IsMapOpened b.setup b.entries (opened_of c.in-Ok-new.publisher.value.front.seen.log)) c.deref.ensures
+    (subst (λ (m : Mapped). IsMapOpened board.setup board.entries m) (sym map)
     (record {
       stands = stands_after board.setup board.entries c.map.result.now.regs
           c.map.ensures.stands;

@@ -1,9 +1,5 @@
 use Rattle.std.proofs.Common.{rules, ◌≡◌, ◌≤◌, ◌++◌, List, Option, length, refl, ap, ◌∙◌, arith}
-use Rattle.std.specs.Option.{option_to_list}
-use Rattle.board_spec.specs.declared.event.Entry.{Entry}
-use Rattle.board_spec.specs.declared.map_change.MapChange.{MapChange}
-use Rattle.board_spec.specs.MapWrites.{map_change_of, version_of}
-use Rattle.board_spec.specs.Legal.{next_entry}
+use Rattle.board_prelude.proofs.Common.{option_to_list, Entry, MapChange, map_change_of, version_of, next_entry}
 use Rattle.board_core.specs.Kept.{Standing}
 use Rattle.map_publish.specs.declared.publisher.Publisher.{Publisher}
 use Rattle.map_publish.specs.Lists.{opened_of, changes_of, version_after}

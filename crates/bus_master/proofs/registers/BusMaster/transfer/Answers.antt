@@ -1,14 +1,8 @@
 use Rattle.std.proofs.Common.{◌≡◌, ℕ, ◌%◌, Option, sym, ap, ◌∙◌}
-use Rattle.device_spec.specs.Ata.State.{Disk, Medium}
-use Rattle.board_spec.specs.Setup.{Setup}
-use Rattle.board_spec.specs.Decode.{Bytes}
-use Rattle.board_spec.specs.Stored.{DramCell}
+use Rattle.board_prelude.proofs.Common.{Disk, Medium, Setup, Bytes, DramCell}
 use Rattle.board_chipset.specs.declared.store.Store.{Store}
-use Rattle.bus_master.specs.Registers.{Master}
-use Rattle.bus_master.specs.Transfer.{Moving, Place, done_of, end_of, first_place, medium_of, with_medium}
+use Rattle.bus_master.specs.Common.{Master, Moving, TransferPlace, done_of, end_of, first_place, medium_of, with_medium, cells_of, transfer_of, EndedSo}
 use Rattle.board_chipset.specs.Stores.{IsStoreOf}
-use Rattle.bus_master.specs.Stores.{cells_of, transfer_of}
-use Rattle.bus_master.specs.UnderWay.{IsDone}
 use Rattle.bus_master.proofs.TransferLemmas.{all_moved, disk_is, done_is, same_transfer, smram_kept}
 use Rattle.bus_master.proofs.WordLemmas.{own_medium, same_store}
 use Rattle.bus_master.proofs.WayLemmas.{memory_kept, sectors_kept}
@@ -21,7 +15,7 @@ abbrev of_other : (c : goal.After-moved) → Setup → Bytes → Store → Movin
 of_other c setup bytes other = transfer_of setup bytes c.args.self.now c.args.lba c.args.count other
 
 moved : (c : goal.After-moved) (setup : Setup) (bytes : Bytes) → IsStoreOf setup bytes c.args.store.now →
-    IsDone (of_store c setup bytes) c.transfer-end.new.store c.transfer-end.new.self c.transfer-end.result
+    EndedSo (of_store c setup bytes) c.transfer-end.new.store c.transfer-end.new.self c.transfer-end.result
 moved c setup bytes of =
     all_moved setup bytes c.args.self.now c.args.lba c.args.count c.direction.result
     (c.begin-under_way.ensures.first ∙ ap (λ (master : Master). first_place master.table) c.self.view_is)
@@ -34,7 +28,7 @@ pub returns-clause-registers : goal.returns-clause-registers
 returns-clause-registers c = λ setup bytes of.
     let is = moved c setup bytes of in
     c.end_transfer.ensures.ended (of_store c setup bytes) (sym is.ends)
-    (ap (λ (place : Place). place.table) (sym is.come) ∙ sym c.table.ensures.table)
+    (ap (λ (place : TransferPlace). place.table) (sym is.come) ∙ sym c.table.ensures.table)
 
 pub returns-clause-disk : goal.returns-clause-disk
 returns-clause-disk c = λ setup bytes of. disk_is (moved c setup bytes of) c.transfer-end.ensures.shape
@@ -80,7 +74,7 @@ returns-clause-hidden c = λ setup bytes other of differs.
       done_is is c.moved.ensures.moved ∙ sym (ap done_of hidden),
       c.end_transfer.ensures.ended (of_other c setup bytes other)
           (ap end_of hidden ∙ sym is.ends)
-          (ap (λ (moving : Moving). moving.place.table) hidden ∙ ap (λ (place : Place). place.table) (sym is.come)
+          (ap (λ (moving : Moving). moving.place.table) hidden ∙ ap (λ (place : TransferPlace). place.table) (sym is.come)
           ∙ sym c.table.ensures.table),
       disk_is is c.transfer-end.ensures.shape
           ∙ ap (λ (m : Medium). with_medium c.args.store.now.disk m) (sym medium)

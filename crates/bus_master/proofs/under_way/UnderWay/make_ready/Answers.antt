@@ -1,5 +1,5 @@
 use Rattle.std.proofs.Common.{◌≡◌, Err, None, sym, ap, ◌∙◌, arith, rules}
-use Rattle.bus_master.specs.Transfer.{Place}
+use Rattle.bus_master.specs.Transfer.{TransferPlace}
 use Rattle.bus_master.proofs.StepLemmas.{region_read, region_in_use, ready_over, ready_misses, ready_at_region}
 use Rattle.bus_master.proofs.under_way.UnderWay.make_ready.Goals as goal
 
@@ -22,7 +22,7 @@ returns-in_err-read_descriptor-clause-ready c = λ setup bytes moving of is.
     (ready_at_region is setup bytes c.args.lba (sym c.is_over.ensures.over ∙ c.if-is_over.false)
     (λ tested on. c.in_ok-test_sector.ensures.tested tested on) _ _
     (λ tested on. region_read on setup bytes _ _
-    (sym (ap (λ (p : Place). p.left) c.self.view_is) ∙ c.if-self-eq0.true)
+    (sym (ap (λ (p : TransferPlace). p.left) c.self.view_is) ∙ c.if-self-eq0.true)
     (c.in_err-read_descriptor.ensures.read setup bytes tested of on)))
 
 pub returns-in_ok-read_descriptor-clause-ready : goal.returns-in_ok-read_descriptor-clause-ready
@@ -30,7 +30,7 @@ returns-in_ok-read_descriptor-clause-ready c = λ setup bytes moving of is.
     ready_at_region is setup bytes c.args.lba (sym c.is_over.ensures.over ∙ c.if-is_over.false)
     (λ tested on. c.in_ok-test_sector.ensures.tested tested on) _ _
     (λ tested on. region_read on setup bytes _ _
-    (sym (ap (λ (p : Place). p.left) c.self.view_is) ∙ c.if-self-eq0.true)
+    (sym (ap (λ (p : TransferPlace). p.left) c.self.view_is) ∙ c.if-self-eq0.true)
     (c.in_ok-read_descriptor.ensures.read setup bytes tested of on))
 
 pub returns-in_ok-read_descriptor-clause-sector : goal.returns-in_ok-read_descriptor-clause-sector
@@ -42,4 +42,4 @@ returns-else-self-eq0-clause-ready c = λ setup bytes moving of is.
     ready_at_region is setup bytes c.args.lba (sym c.is_over.ensures.over ∙ c.if-is_over.false)
     (λ tested on. c.in_ok-test_sector.ensures.tested tested on) _ _
     (λ tested on. region_in_use on setup bytes
-    (λ left. c.if-self-eq0.false (ap (λ (p : Place). p.left) c.self.view_is ∙ left)))
+    (λ left. c.if-self-eq0.false (ap (λ (p : TransferPlace). p.left) c.self.view_is ∙ left)))

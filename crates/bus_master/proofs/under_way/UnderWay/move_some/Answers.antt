@@ -1,9 +1,7 @@
 use Rattle.std.proofs.Common.{◌≡◌, ◌≢◌, ℕ, ◌+◌, ◌*◌, ◌%◌, ◌<◌, ◌≤◌, Err, None, sym, ap, subst, ◌∙◌, arith, lit≤, rules}
-use Rattle.board_spec.specs.Setup.{Setup}
-use Rattle.board_spec.specs.Decode.{Bytes}
+use Rattle.board_prelude.proofs.Common.{Setup, Bytes}
 use Rattle.addr_decode.specs.Master.{master_area}
-use Rattle.bus_master.specs.Transfer.{Moving, Place, address_after, kind_of}
-use Rattle.bus_master.specs.UnderWay.{StandsAt}
+use Rattle.bus_master.specs.Common.{Moving, TransferPlace, address_after, kind_of, StandsAt}
 use Rattle.bus_master.proofs.HeldTargets.{cards_fitted}
 use Rattle.bus_master.proofs.WordLemmas.{address_on, came, came_first, came_on, came_words, ends_before, ends_unanswered, inside_sector, one_word, reached_stands, same_answers, same_sector, same_shape, same_store, shape_after}
 use Rattle.bus_master.proofs.under_way.UnderWay.move_some.Goals as goal
@@ -22,7 +20,7 @@ answering-requires c = record { cards = cards_fitted c.requires.sound.2 }
 pub returns-in_err-area-clause-moved : goal.returns-in_err-area-clause-moved
 returns-in_err-area-clause-moved c = λ setup bytes moving of is.
     let passed : c.from_residual-in_err-area.result ≡ Err c.in_err-area.field-0.0 = search rules in
-    let addr = ap (λ (p : Place). p.addr) c.self.view_is in
+    let addr = ap (λ (p : TransferPlace). p.addr) c.self.view_is in
     let ends = rw (c.kind.ensures.kind, addr) at (c.in_err-area.ensures.end setup bytes of.registers) in
     rw passed
     (one_word setup bytes c.args.direction c.args.lba moving c.requires.most
@@ -35,7 +33,7 @@ stretch-words-requires-clause-cards c = cards_fitted c.requires.sound.2
 
 pub loop-init : goal.loop-init
 loop-init c =
-    let addr = ap (λ (p : Place). p.addr) c.self.view_is in
+    let addr = ap (λ (p : TransferPlace). p.addr) c.self.view_is in
     record {
       shape = same_shape c.args.store.now;
       left = omega arith;
@@ -57,10 +55,10 @@ loop-preserved c =
     let on = c.loop.invariant in
     let below = c.loop-test.true in
     let place = c.move_word.ensures.place in
-    let left_is = ap (λ (p : Place). p.left) place in
-    let moved_is = ap (λ (p : Place). p.moved) place in
-    let addr_is = ap (λ (p : Place). p.addr) place in
-    let view = ap (λ (p : Place). p.moved) c.self.view_is in
+    let left_is = ap (λ (p : TransferPlace). p.left) place in
+    let moved_is = ap (λ (p : TransferPlace). p.moved) place in
+    let addr_is = ap (λ (p : TransferPlace). p.addr) place in
+    let view = ap (λ (p : TransferPlace). p.moved) c.self.view_is in
     let whole : c.make_ready.new.self.moved % 2 ≡ 0 = omega (arith, view, c.self.invariant.moved) in
     record {
       shape = shape_after on.shape c.move_word.ensures.shape;
@@ -121,5 +119,5 @@ returns-clause-most c =
 
 pub returns-clause-whole : goal.returns-clause-whole
 returns-clause-whole c =
-    let view = ap (λ (p : Place). p.moved) c.self.view_is in
+    let view = ap (λ (p : TransferPlace). p.moved) c.self.view_is in
     omega (arith, c.loop.invariant.moved, view, c.self.invariant.moved)

@@ -1,11 +1,8 @@
 use Rattle.std.proofs.Common.{◌≡◌, ℕ, ◌+◌, ◌*◌, ◌<◌, ◌≤◌, None}
-use Rattle.board_spec.specs.Setup.{Setup}
-use Rattle.board_spec.specs.Decode.{Bytes}
+use Rattle.board_prelude.proofs.Common.{Setup, Bytes}
 use Rattle.addr_decode.specs.Master.{master_area}
-use Rattle.bus_master.specs.Transfer.{Moving, address_after, kind_of}
+use Rattle.bus_master.specs.Common.{Moving, address_after, kind_of, HasSameShape, StandsAt}
 use Rattle.board_chipset.specs.Stores.{IsStoreOf}
-use Rattle.bus_master.specs.Stores.{HasSameShape}
-use Rattle.bus_master.specs.UnderWay.{StandsAt}
 use Rattle.bus_master.proofs.WordLemmas.{came}
 use Rattle.bus_master.proofs.under_way.UnderWay.move_some.Given as goal
 

@@ -1,6 +1,5 @@
 use Rattle.std.proofs.Common.{◌≡◌, ◌*◌, ◌/◌, Err, None, refl, sym, ap, subst, ◌∙◌, arith, rules}
-use Rattle.bus_master.specs.Transfer.{Moving, Place, words_moved}
-use Rattle.bus_master.specs.UnderWay.{StandsAt}
+use Rattle.bus_master.specs.Common.{Moving, TransferPlace, words_moved, StandsAt}
 use Rattle.bus_master.proofs.WordLemmas.{came_further, came_to_end, no_words, same_shape, same_store, shape_after}
 use Rattle.bus_master.proofs.under_way.UnderWay.move_words.Goals as goal
 
@@ -21,14 +20,14 @@ loop-self-init c =
 
 pub loop-self-smaller : goal.loop-self-smaller
 loop-self-smaller c =
-    let now = ap (λ (p : Place). p.moved) c.self.view_is in
+    let now = ap (λ (p : TransferPlace). p.moved) c.self.view_is in
     omega (arith, c.in_ok-move_some.ensures.some, c.loop-self-test.true, now)
 
 pub loop-self-preserved : goal.loop-self-preserved
 loop-self-preserved c =
     let on = c.loop-self.invariant in
     let moved = c.in_ok-move_some.ensures in
-    let now = ap (λ (p : Place). p.moved) c.self.view_is in
+    let now = ap (λ (p : TransferPlace). p.moved) c.self.view_is in
     record {
       shape = shape_after on.shape moved.shape;
       most = omega (arith, moved.most, now, c.loop-self-test.true);
@@ -45,7 +44,7 @@ loop-self-preserved c =
 pub returns-in_err-move_some-clause-moved : goal.returns-in_err-move_some-clause-moved
 returns-in_err-move_some-clause-moved c = λ setup bytes moving of is.
     let on = c.loop-self.invariant in
-    let now = ap (λ (p : Place). p.moved) c.self.view_is in
+    let now = ap (λ (p : TransferPlace). p.moved) c.self.view_is in
     let passed : c.from_residual.result ≡ Err c.in_err-move_some.field-0.0 = search rules in
     rw passed
     (came_to_end setup bytes c.args.direction c.args.lba (c.loop-self.self.moved / 2) moving c.args.words _
@@ -57,6 +56,6 @@ returns-in_err-move_some-clause-moved c = λ setup bytes moving of is.
 pub returns-clause-moved : goal.returns-clause-moved
 returns-clause-moved c = λ setup bytes moving of is.
     let on = c.loop-self.invariant in
-    let now = ap (λ (p : Place). p.moved) c.self.view_is in
+    let now = ap (λ (p : TransferPlace). p.moved) c.self.view_is in
     let all : c.loop-self.self.moved / 2 ≡ c.args.words = omega (arith, now, on.most, c.loop-self-test.false) in
     rw all at (on.stands setup bytes moving of is)

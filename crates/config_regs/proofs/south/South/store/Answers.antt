@@ -1,8 +1,5 @@
 use Rattle.std.proofs.Common.{refl, subst, arith}
-use Rattle.std.proofs.lemmas.Bool.{true≢false, false≢true}
-use Rattle.board_base.specs.declared.target.Reg.{Reg}
-use Rattle.board_spec.specs.declared.map_change.MapChange.TheVariants.{Store}
-use Rattle.board_spec.specs.Registers.{changed_byte}
+use Rattle.board_prelude.proofs.Common.{true≢false, false≢true, Reg, Store, changed_byte}
 use Rattle.config_regs.specs.Config.{IsSouthOf}
 use Rattle.config_regs.proofs.Functions.{of_device}
 use Rattle.config_regs.proofs.SouthStores.{other_device}

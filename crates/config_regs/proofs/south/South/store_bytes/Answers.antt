@@ -1,10 +1,5 @@
-use Rattle.std.proofs.Common.{◌≡◌, ℕ, ◌+◌, ◌≤◌, subst, arith}
-use Rattle.std.specs.Prelude.{slice_index}
-use Rattle.board_base.specs.Access.{bytes_of}
-use Rattle.board_base.specs.declared.access.Width.TheVariants.{One}
-use Rattle.board_spec.specs.declared.map_change.MapChange.TheVariants.{Store}
-use Rattle.board_spec.specs.Bits.{byte}
-use Rattle.board_spec.specs.Registers.{changed_byte}
+use Rattle.std.proofs.Common.{◌≡◌, ℕ, ◌+◌, ◌≤◌, subst, arith, slice_index}
+use Rattle.board_prelude.proofs.Common.{bytes_of, One, Store, byte, changed_byte}
 use Rattle.xbus_select.specs.Piix.{piix_register}
 use Rattle.addr_decode.proofs.StoreLemmas.{byte_in_list, few_bytes}
 use Rattle.config_regs.specs.Config.{IsSouthOf}

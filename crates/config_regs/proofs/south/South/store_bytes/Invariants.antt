@@ -1,6 +1,5 @@
 -- The registers so far are those after the first bytes.
-use Rattle.board_spec.specs.Setup.{Setup}
-use Rattle.board_spec.specs.Decode.{Bytes}
+use Rattle.board_prelude.proofs.Common.{Setup, Bytes}
 use Rattle.xbus_select.specs.Piix.{piix_register}
 use Rattle.config_regs.specs.Config.{IsSouthOf}
 use Rattle.config_regs.proofs.SouthStores.{so_far}

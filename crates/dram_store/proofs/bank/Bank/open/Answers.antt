@@ -1,5 +1,4 @@
-use Rattle.std.proofs.Common.{◌∙◌, ◌-◌, length, ap}
-use Rattle.std.specs.Prelude.{slice_index}
+use Rattle.std.proofs.Common.{◌∙◌, ◌-◌, length, ap, slice_index}
 use Rattle.dram_store.specs.Bank.{bank_size}
 use Rattle.dram_store.proofs.BankLemmas.{same_byte}
 use Rattle.dram_store.proofs.bank.Bank.open.Goals as goal

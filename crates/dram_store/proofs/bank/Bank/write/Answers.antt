@@ -1,8 +1,5 @@
 use Rattle.std.proofs.Common.{◌≡◌, ◌-◌, ◌++◌, length, replicate, ◌∙◌}
-use Rattle.std.specs.Vec.{with_items}
-use Rattle.std.proofs.lemmas.List.{with_items_is}
-use Rattle.board_base.specs.Access.{bytes_of}
-use Rattle.board_spec.specs.Bits.{byte}
+use Rattle.board_prelude.proofs.Common.{with_items, with_items_is, bytes_of, byte}
 use Rattle.dram_store.specs.Bank.{page_end}
 use Rattle.dram_store.proofs.BankLemmas.{put_in_kept}
 use Rattle.dram_store.proofs.bank.Bank.write.Goals as goal

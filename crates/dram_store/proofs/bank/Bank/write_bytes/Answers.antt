@@ -1,8 +1,5 @@
-use Rattle.std.proofs.Common.{◌≡◌, ◌≤◌, ◌<◌, ◌-◌, ◌+◌, ◌++◌, ℕ, List, length, take, drop, replicate, ◌∙◌, subst, arith}
-use Rattle.std.specs.Prelude.{slice_index}
-use Rattle.std.specs.Vec.{with_items}
-use Rattle.std.proofs.lemmas.List.{with_items_is}
-use Rattle.std.proofs.lemmas.Bool.Decides.{nat_tests}
+use Rattle.std.proofs.Common.{◌≡◌, ◌≤◌, ◌<◌, ◌-◌, ◌+◌, ◌++◌, ℕ, List, length, take, drop, replicate, ◌∙◌, subst, arith, slice_index}
+use Rattle.board_prelude.proofs.Common.{with_items, with_items_is, nat_tests}
 use Rattle.dram_store.specs.Bank.{page_end, IsPut}
 use Rattle.dram_store.proofs.BankLemmas.{put_in_kept}
 use Rattle.dram_store.proofs.StretchLemmas.{stretch_put, length_put, length_same}

@@ -1,6 +1,5 @@
 use Rattle.std.proofs.Common.{ℕ, ◌≡◌, replicate, ◌∙◌, ap, arith}
-use Rattle.std.specs.List.{concat}
-use Rattle.board_spec.specs.Setup.{Setup, installed}
+use Rattle.board_prelude.proofs.Common.{concat, Setup, installed}
 use Rattle.dram_store.proofs.ConcatLemmas.{zero_banks}
 use Rattle.dram_store.proofs.DramLemmas.{fresh}
 use Rattle.dram_store.proofs.dram.Dram.open.Goals as goal

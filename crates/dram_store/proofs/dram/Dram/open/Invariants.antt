@@ -1,5 +1,4 @@
-use Rattle.std.proofs.Common.{◌≡◌, length}
-use Rattle.std.specs.Prelude.{All}
+use Rattle.std.proofs.Common.{◌≡◌, length, All}
 use Rattle.dram_store.specs.Bank.{IsBank, IsZero}
 use Rattle.dram_store.proofs.dram.Dram.open.Given as goal
 

@@ -1,8 +1,6 @@
 use Rattle.std.proofs.Common.{◌≡◌, ◌/◌, ◌<◌, ◌≤◌, [], ◌∙◌, length, arith}
-use Rattle.std.specs.List.{concat}
-use Rattle.board_spec.specs.Bits.{wide}
-use Rattle.dram_store.specs.Bank.{bank_size}
-use Rattle.dram_store.specs.Dram.{dram_at}
+use Rattle.board_prelude.proofs.Common.{concat, wide}
+use Rattle.dram_store.specs.Common.{bank_size, dram_at}
 use Rattle.dram_store.proofs.ConcatLemmas.{bank_at, banks_length, read_here}
 use Rattle.dram_store.proofs.DramLemmas.{read_stored, read_past}
 use Rattle.dram_store.proofs.dram.Dram.read.Goals as goal

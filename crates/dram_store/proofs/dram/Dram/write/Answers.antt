@@ -1,11 +1,7 @@
 use Rattle.std.proofs.Common.{◌≡◌, ◌≤◌, ◌<◌, ◌/◌, ℕ, [], length, refl, ◌∙◌, arith}
-use Rattle.std.specs.List.{concat}
+use Rattle.board_prelude.proofs.Common.{concat, All-get_or, bytes_of, byte}
 use Rattle.std.proofs.lemmas.List.{get_or_read}
-use Rattle.std.proofs.lemmas.List.Elements.{All-get_or}
-use Rattle.board_base.specs.Access.{bytes_of}
-use Rattle.board_spec.specs.Bits.{byte}
-use Rattle.dram_store.specs.Bank.{bank_size, IsBank}
-use Rattle.dram_store.specs.Dram.{IsWritten}
+use Rattle.dram_store.specs.Common.{bank_size, IsBank, IsWritten}
 use Rattle.dram_store.proofs.ConcatLemmas.{bank_at, banks_length, same_length, changed, aligned_fits}
 use Rattle.dram_store.proofs.DramLemmas.{lost, stored}
 use Rattle.dram_store.proofs.dram.Dram.write.Goals as goal

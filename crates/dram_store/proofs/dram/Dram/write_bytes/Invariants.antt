@@ -1,5 +1,4 @@
-use Rattle.std.proofs.Common.{◌≡◌, ◌-◌, ◌≤◌, length}
-use Rattle.std.specs.Prelude.{slice_index}
+use Rattle.std.proofs.Common.{◌≡◌, ◌-◌, ◌≤◌, length, slice_index}
 use Rattle.dram_store.specs.Dram.{IsWritten}
 use Rattle.dram_store.proofs.dram.Dram.write_bytes.Given as goal
 

@@ -1,10 +1,7 @@
-use Rattle.std.proofs.Common.{◌≡◌, ◌≤◌, ◌<◌, ◌/◌, ℕ, [], length, refl, ◌∙◌, arith}
-use Rattle.std.specs.Prelude.{slice_index}
-use Rattle.std.specs.List.{concat}
+use Rattle.std.proofs.Common.{◌≡◌, ◌≤◌, ◌<◌, ◌/◌, ℕ, [], length, refl, ◌∙◌, arith, slice_index}
+use Rattle.board_prelude.proofs.Common.{concat, All-get_or}
 use Rattle.std.proofs.lemmas.List.{get_or_read}
-use Rattle.std.proofs.lemmas.List.Elements.{All-get_or}
-use Rattle.dram_store.specs.Bank.{bank_size, IsBank}
-use Rattle.dram_store.specs.Dram.{IsWritten}
+use Rattle.dram_store.specs.Common.{bank_size, IsBank, IsWritten}
 use Rattle.dram_store.proofs.ConcatLemmas.{bank_at, banks_length, same_length, changed}
 use Rattle.dram_store.proofs.DramLemmas.{lost}
 use Rattle.dram_store.proofs.StretchLemmas.{front_put}

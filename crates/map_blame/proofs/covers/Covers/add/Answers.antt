@@ -1,5 +1,4 @@
-use Rattle.std.proofs.Common.{subst, sym}
-use Rattle.std.specs.Prelude.{◌∷◌}
+use Rattle.std.proofs.Common.{subst, sym, ◌∷◌}
 use Rattle.board_spec.specs.declared.map_change.MapChange.{MapChange}
 use Rattle.map_blame.specs.Covers.{AreCoversOf}
 use Rattle.map_blame.proofs.CoverLemmas.{covers_of_reset}

@@ -1,20 +1,11 @@
-use Rattle.std.proofs.Common.{◌≡◌, ◌+◌, ◌∙◌, true, ap, arith, subst, sym, List, Option}
-use Rattle.std.specs.Prelude.{map, unwrap_or}
-use Rattle.std.proofs.lemmas.List.{length-map}
-use Rattle.board_spec.specs.Setup.{FittedCard, Setup}
-use Rattle.board_spec.specs.Decode.{Bytes}
+use Rattle.std.proofs.Common.{◌≡◌, ◌+◌, ◌∙◌, true, ap, arith, subst, sym, List, Option, map, unwrap_or}
+use Rattle.board_prelude.proofs.Common.{length-map, FittedCard, Setup, Bytes}
 use Rattle.pci_bars.specs.Cards.{AreCardsOf, cards_of}
 use Rattle.addr_decode.specs.declared.register.MapRegister.{MapRegister}
-use Rattle.addr_decode.specs.MapRegister.{AreNumbered, names_of}
+use Rattle.addr_decode.specs.Common.{AreNumbered, names_of, StandsFor, map_bytes, edges_after}
 use Rattle.addr_decode.proofs.NameLemmas.{names_numbered}
-use Rattle.addr_decode.specs.MapRegs.{StandsFor, map_bytes}
-use Rattle.addr_decode.specs.Edges.{edges_after}
 use Rattle.map_builder.specs.declared.range.Changed.{Changed}
-use Rattle.map_builder.specs.Map.{Mapped, next_version, range_of}
-use Rattle.map_builder.specs.Changed.{after, bounds, changed_windows, from_to}
-use Rattle.map_builder.specs.Rows.{stores_rows}
-use Rattle.map_builder.specs.Build.{IsMapWhere, IsBeside}
-use Rattle.map_builder.specs.Sorted.{rows_in, sorted, Rise}
+use Rattle.map_builder.specs.Common.{Mapped, next_version, range_of, after, bounds, changed_windows, from_to, stores_rows, IsMapWhere, IsBeside, rows_in, sorted, Rise}
 use Rattle.map_builder.proofs.ChangeLemmas.{board_after, build_rise, build_few, build_beside, are_changed, keeps_byte, pushed_found, AreFound, KeepsByte}
 use Rattle.map_builder.proofs.MovedRows.{covers_rows, rows_by_names}
 use Rattle.map_builder.proofs.flat_map.FlatMap.apply_named.Given.{Over}

@@ -1,7 +1,5 @@
 use Rattle.std.proofs.Common.{◌≤◌, length, subst}
-use Rattle.board_spec.specs.Setup.{Setup}
-use Rattle.board_spec.specs.Decode.{Bytes}
-use Rattle.board_spec.specs.FlatMap.{IsFlatMapOf}
+use Rattle.board_prelude.proofs.Common.{Setup, Bytes, IsFlatMapOf}
 use Rattle.addr_decode.specs.MapRegs.{StandsFor}
 use Rattle.map_builder.specs.Map.{Mapped, most_ranges}
 use Rattle.map_builder.proofs.flat_map.FlatMap.ranges.Goals as goal

@@ -1,7 +1,5 @@
-use Rattle.std.proofs.Common.{◌≡◌, ◌≢◌, ℕ, ◌<◌, length, set, sym, ap, ◌∙◌, arith}
-use Rattle.std.specs.Prelude.{slice_index}
-use Rattle.std.specs.Vec.{with_items}
-use Rattle.board_base.specs.Access.{bytes_of}
+use Rattle.std.proofs.Common.{◌≡◌, ◌≢◌, ℕ, ◌<◌, length, set, sym, ap, ◌∙◌, arith, slice_index}
+use Rattle.board_prelude.proofs.Common.{with_items, bytes_of}
 use Rattle.pci_bars.specs.Contents.{slot_number, held}
 use Rattle.pci_bars.proofs.ContentsLemmas.{put_byte, lists, lists-set, lists-at, slot_within, IsWritten, written, lost, stored_written}
 use Rattle.pci_bars.proofs.contents.Contents.write.Goals as goal

@@ -1,6 +1,5 @@
 use Rattle.std.proofs.Common.{◌≡◌, ◌<◌, ◌≤◌, ◌+◌, List, ℕ, length, set, sym, ap, ◌∙◌, arith, subst}
-use Rattle.std.specs.Vec.{with_items}
-use Rattle.std.proofs.lemmas.List.{length-map}
+use Rattle.board_prelude.proofs.Common.{with_items, length-map}
 use Rattle.pci_bars.specs.Contents.{slot_number, held}
 use Rattle.pci_bars.proofs.ContentsLemmas.{lists, lists-set, lists-at, stretch, stretch_length, stretch_here, stretch_beside}
 use Rattle.pci_bars.proofs.contents.Contents.write_bytes.Goals.{After-copy_from_slice}

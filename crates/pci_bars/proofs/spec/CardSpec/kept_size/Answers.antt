@@ -1,5 +1,4 @@
-use Rattle.std.proofs.Common.{sym, ◌∙◌, ap}
-use Rattle.std.specs.Prelude.{option_map}
+use Rattle.std.proofs.Common.{sym, ◌∙◌, ap, option_map}
 use Rattle.pci_bars.specs.Bases.{base_of}
 use Rattle.pci_bars.proofs.BaseLemmas.{is_base}
 use Rattle.pci_bars.proofs.spec.CardSpec.kept_size.Goals as goal

@@ -1,5 +1,4 @@
-use Rattle.std.proofs.Common.{◌≡◌, ℕ, ◌≤◌, length, slice_index}
-use Rattle.std.specs.Prelude.{take}
+use Rattle.std.proofs.Common.{◌≡◌, ℕ, ◌≤◌, length, slice_index, take}
 use Rattle.board_spec.specs.RegisterTable.{base_reset}
 use Rattle.pci_bars.specs.Bases.{of_base}
 use Rattle.pci_bars.proofs.spec.CardSpec.reset_bases.Given as goal

@@ -1,9 +1,7 @@
 use Rattle.std.proofs.Common.{rules, ◌≡◌, List, reverse, Option, Some, sym, ◌∙◌, ap}
 use Rattle.board_spec.specs.declared.event.Entry.{Entry}
-use Rattle.run_order.specs.Over.{entry_of, over}
-use Rattle.run_order.specs.Room.{Order}
-use Rattle.phase_run.specs.Ended.{Ended}
-use Rattle.phase_run.specs.Placed.{entries_of}
+use Rattle.run_order.specs.Common.{entry_of, over, Order}
+use Rattle.phase_run.specs.Common.{Ended, entries_of}
 use Rattle.phase_run.proofs.Numbers.{map_reverse}
 use Rattle.phase_run.proofs.ended.EndedRun.order.Goals as goal
 

@@ -1,11 +1,7 @@
 use Rattle.std.proofs.Common.{rules, ◌≡◌, List, map, take, drop, reverse, Option, None, Some, sym, ◌∙◌, ap, subst}
-use Rattle.std.proofs.lemmas.List.{reverse-reverse, length-take-le}
-use Rattle.board_spec.specs.declared.event.Entry.{Entry}
-use Rattle.board_spec.specs.Legal.{IsLegal}
+use Rattle.board_prelude.proofs.Common.{reverse-reverse, length-take-le, Entry, IsLegal}
 use Rattle.run_order.specs.declared.done.Done.{Done}
-use Rattle.run_order.specs.Over.{over}
-use Rattle.run_order.specs.Placing.{placed}
-use Rattle.run_order.specs.Room.{Order, all_looks_in}
+use Rattle.run_order.specs.Common.{over, placed, Order, all_looks_in}
 use Rattle.run_order.proofs.Unlooked.{unlooked}
 use Rattle.phase_run.specs.Placed.{entries_of, IsUpTo}
 use Rattle.phase_run.proofs.Beginnings.{cut_is, legal_front, front_length, taken_in, on_ok}

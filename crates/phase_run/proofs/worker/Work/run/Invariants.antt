@@ -1,8 +1,6 @@
 use Rattle.std.proofs.Common.{◌≡◌, ◌+◌, ◌≤◌, length, map, reverse, take}
-use Rattle.board_spec.specs.Legal.{entries_by}
-use Rattle.board_spec.specs.Orders.{events_by}
-use Rattle.run_order.specs.Placing.{event_of}
-use Rattle.run_order.specs.Trace.{IsDone}
+use Rattle.board_prelude.proofs.Common.{entries_by, events_by}
+use Rattle.run_order.specs.Common.{event_of, IsDone}
 use Rattle.phase_run.proofs.worker.Work.run.Given as goal
 
 abbrev pub invariant-loop-statement : goal.invariant-loop-statement

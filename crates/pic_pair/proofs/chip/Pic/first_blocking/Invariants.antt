@@ -1,7 +1,6 @@
 -- What the search is for is among the levels that are left.
 use Rattle.std.proofs.Common.{◌≡◌, ℕ, ◌<◌, drop, length, get_or}
-use Rattle.std.specs.List.{find}
-use Rattle.device_spec.specs.Pic.{is_blocking, first_blocking}
+use Rattle.device_spec.proofs.Common.{find, is_blocking, first_blocking}
 use Rattle.pic_pair.proofs.chip.Pic.first_blocking.Given as goal
 
 abbrev pub invariant-loop-served : goal.invariant-loop-served

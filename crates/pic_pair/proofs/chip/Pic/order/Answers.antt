@@ -1,7 +1,6 @@
 -- The levels, rotated.
 use Rattle.std.proofs.Common.{◌≡◌, ◌<◌, arith}
-use Rattle.device_spec.specs.Pic.{priority_order}
-use Rattle.device_spec.proofs.Priorities.{priority_order-small}
+use Rattle.device_spec.proofs.Common.{priority_order, priority_order-small}
 use Rattle.pic_pair.proofs.chip.Pic.order.Goals as goal
 
 pub returns : goal.returns

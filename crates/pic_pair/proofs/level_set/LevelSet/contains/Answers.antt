@@ -1,6 +1,5 @@
 use Rattle.std.proofs.Common.{◌∙◌, sym}
-use Rattle.board_base.specs.Bits.{is_bit}
-use Rattle.device_spec.proofs.Levels.{has-levels_where}
+use Rattle.device_spec.proofs.Common.{is_bit, has-levels_where}
 use Rattle.pic_pair.proofs.level_set.LevelSet.contains.Goals as goal
 
 pub returns : goal.returns

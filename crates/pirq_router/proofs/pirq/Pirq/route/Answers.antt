@@ -1,7 +1,6 @@
 -- No line is held at first; then each pin adds its own.
 use Rattle.std.proofs.Common.{◌≡◌, false, get_or, length, Some, None, length-set, refl, sym, ap, ◌∙◌, arith}
-use Rattle.std.proofs.lemmas.List.{get_or-replicate}
-use Rattle.device_spec.specs.Routing.{line_of_route, is_line_driven}
+use Rattle.board_prelude.proofs.Common.{get_or-replicate, line_of_route, is_line_driven}
 use Rattle.pirq_router.proofs.RouteLemmas.{drives_among, drives_among-all, drives_among-none, drives_among-routed, drives_among-unrouted, line-raised}
 use Rattle.pirq_router.proofs.pirq.Pirq.route.Goals as goal
 use Rattle.pirq_router.proofs.pirq.Pirq.route.Goals.{in-Some, in-None}

@@ -1,6 +1,5 @@
 use Rattle.std.proofs.Common.{rules, ◌≡◌, ◌+◌, ◌∙◌, ℕ, Option, Some, None, true, false, sym, subst}
-use Rattle.std.proofs.lemmas.Bool.{true≢false}
-use Rattle.device_spec.specs.Pit.{is_periodic}
+use Rattle.device_spec.proofs.Common.{true≢false, is_periodic}
 use Rattle.pit_8254.specs.NextRise.{IsFirstRise}
 use Rattle.pit_8254.proofs.Periods.{period_rises}
 use Rattle.pit_8254.proofs.Rising.{never_later, rises_after, edge_rises, edge_passes, never, begins_period, all_quiet}

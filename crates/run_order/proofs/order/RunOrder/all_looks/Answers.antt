@@ -1,10 +1,7 @@
 use Rattle.std.proofs.Common.{◌<◌, List, [], length, map, refl, sym, ◌∙◌, ap, arith}
-use Rattle.std.proofs.lemmas.List.{get_or-map, map-set, length-map}
-use Rattle.board_spec.specs.declared.event.Entry.{Entry}
+use Rattle.board_prelude.proofs.Common.{get_or-map, map-set, length-map, Entry}
 use Rattle.run_order.specs.declared.done.Done.{Done}
-use Rattle.run_order.specs.Over.{over}
-use Rattle.run_order.specs.Placing.{with_looks, left_after}
-use Rattle.run_order.specs.Room.{looks_in}
+use Rattle.run_order.specs.Common.{over, with_looks, left_after, looks_in}
 use Rattle.run_order.proofs.Looked.{looked_next, looked_last, looked_fits}
 use Rattle.run_order.proofs.order.RunOrder.all_looks.Goals as goal
 

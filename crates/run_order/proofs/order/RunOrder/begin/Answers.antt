@@ -1,7 +1,5 @@
 use Rattle.std.proofs.Common.{ℕ, ◌∷◌, get_or, ◌∙◌, ap, arith}
-use Rattle.std.proofs.lemmas.List.{get_or_default}
-use Rattle.board_spec.specs.declared.event.Entry.{Entry}
-use Rattle.board_spec.specs.Legal.{next_entry}
+use Rattle.board_prelude.proofs.Common.{get_or_default, Entry, next_entry}
 use Rattle.run_order.specs.Over.{nowhere, over}
 use Rattle.run_order.proofs.Unlooked.{begin_step}
 use Rattle.run_order.proofs.order.RunOrder.begin.Goals as goal

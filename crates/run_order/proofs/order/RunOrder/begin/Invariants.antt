@@ -1,7 +1,5 @@
-use Rattle.std.proofs.Common.{◌≡◌, ◌+◌, ◌≤◌, length, take}
-use Rattle.std.specs.Prelude.{reverse}
-use Rattle.run_order.specs.Over.{over}
-use Rattle.run_order.specs.Room.{in_all}
+use Rattle.std.proofs.Common.{◌≡◌, ◌+◌, ◌≤◌, length, take, reverse}
+use Rattle.run_order.specs.Common.{over, in_all}
 use Rattle.run_order.proofs.order.RunOrder.begin.Given as goal
 
 abbrev pub invariant-loop-entry : goal.invariant-loop-entry

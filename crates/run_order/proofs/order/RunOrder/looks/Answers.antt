@@ -1,6 +1,5 @@
 use Rattle.std.proofs.Common.{refl, sym, ◌∙◌, ap, arith}
-use Rattle.run_order.specs.Over.{over}
-use Rattle.run_order.specs.Placing.{with_looks}
+use Rattle.run_order.specs.Common.{over, with_looks}
 use Rattle.run_order.proofs.order.RunOrder.looks.Goals as goal
 
 pub loop-next-preserved : goal.loop-next-preserved

@@ -1,11 +1,7 @@
 use Rattle.std.proofs.Common.{◌≡◌, ◌<◌, ℕ, List, [], length, map, sym, ◌∙◌, ap, subst, arith}
-use Rattle.std.proofs.lemmas.List.{get_or-map, map-set, length-map}
-use Rattle.board_spec.specs.declared.event.Entry.{Entry}
+use Rattle.board_prelude.proofs.Common.{get_or-map, map-set, length-map, Entry}
 use Rattle.run_order.specs.declared.done.Done.{Done}
-use Rattle.run_order.specs.Over.{over}
-use Rattle.run_order.specs.Placing.{with_looks, left_after}
-use Rattle.run_order.specs.Room.{looks_in, all_looks_in}
-use Rattle.run_order.specs.Settled.{IsSettledBut}
+use Rattle.run_order.specs.Common.{over, with_looks, left_after, looks_in, all_looks_in, IsSettledBut}
 use Rattle.run_order.proofs.Counts.{one_of}
 use Rattle.run_order.proofs.Settled.{one_is_all}
 use Rattle.run_order.proofs.order.RunOrder.next_looks.Goals as goal

@@ -1,11 +1,7 @@
 use Rattle.std.proofs.Common.{◌≡◌, ◌-◌, ◌<◌, ◌+◌, List, [], ℕ, length, All, map, take, drop, sym, ◌∙◌, ap, subst, arith}
-use Rattle.std.proofs.lemmas.List.{get_or-map, map-set, length-map, take_rest}
-use Rattle.board_spec.specs.declared.event.Entry.{Entry}
+use Rattle.board_prelude.proofs.Common.{get_or-map, map-set, length-map, take_rest, Entry}
 use Rattle.run_order.specs.declared.done.Done.{Done}
-use Rattle.run_order.specs.Over.{over}
-use Rattle.run_order.specs.Placing.{noted, without_first, placed}
-use Rattle.run_order.specs.Room.{Order}
-use Rattle.run_order.specs.Settled.{IsSettled}
+use Rattle.run_order.specs.Common.{over, noted, without_first, placed, Order, IsSettled}
 use Rattle.run_order.proofs.Steps.{ArePlaced, placed_first, placed_last, next_of_later, own_place}
 use Rattle.run_order.proofs.Settled.{settled_placed, left_is_settled, looked_again, next_placed, but_one}
 use Rattle.run_order.proofs.order.RunOrder.place_all.Goals as goal

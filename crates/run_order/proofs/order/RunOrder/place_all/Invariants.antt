@@ -1,7 +1,5 @@
 use Rattle.std.proofs.Common.{◌≡◌, ◌+◌, map}
-use Rattle.run_order.specs.Over.{over}
-use Rattle.run_order.specs.Room.{in_all}
-use Rattle.run_order.specs.Settled.{IsSettled}
+use Rattle.run_order.specs.Common.{over, in_all, IsSettled}
 use Rattle.run_order.proofs.Steps.{ArePlaced}
 use Rattle.run_order.proofs.order.RunOrder.place_all.Given as goal
 

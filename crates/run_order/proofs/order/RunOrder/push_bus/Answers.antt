@@ -1,8 +1,6 @@
-use Rattle.std.proofs.Common.{ℕ, ◌∷◌, ◌∙◌, ap}
-use Rattle.std.specs.Prelude.{slice_index_or}
+use Rattle.std.proofs.Common.{ℕ, ◌∷◌, ◌∙◌, ap, slice_index_or}
 use Rattle.board_spec.specs.declared.event.Entry.{Entry}
-use Rattle.run_order.specs.Over.{nowhere, over}
-use Rattle.run_order.specs.Room.{Order}
+use Rattle.run_order.specs.Common.{nowhere, over, Order}
 use Rattle.run_order.proofs.order.RunOrder.push_bus.Goals as goal
 
 pub returns-clause-pushed : goal.returns-clause-pushed

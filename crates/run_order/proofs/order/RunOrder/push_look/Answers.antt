@@ -1,9 +1,7 @@
 use Rattle.std.proofs.Common.{ℕ, ◌∷◌, ◌∙◌, ap}
-use Rattle.board_spec.specs.declared.event.Entry.{Entry}
+use Rattle.board_prelude.proofs.Common.{Entry, Saw}
 use Rattle.board_spec.specs.declared.event.Event.TheVariants.{Look as LookAt}
-use Rattle.board_spec.specs.declared.event.Reply.TheVariants.{Saw}
-use Rattle.run_order.specs.Over.{over}
-use Rattle.run_order.specs.Room.{Order}
+use Rattle.run_order.specs.Common.{over, Order}
 use Rattle.run_order.proofs.order.RunOrder.push_look.Goals as goal
 
 pub returns-clause-pushed : goal.returns-clause-pushed

@@ -1,6 +1,5 @@
 use Rattle.std.proofs.Common.{◌≡◌, sym, ◌∙◌, rules, tests}
-use Rattle.std.proofs.lemmas.Iterator.{YieldsList-from_slice}
-use Rattle.std.proofs.lemmas.Iterator.Search.{position_from_yields_List}
+use Rattle.board_prelude.proofs.Common.{YieldsList-from_slice, position_from_yields_List}
 use Rattle.script_spec.specs.Fields.{fields_of}
 use Rattle.script_lines.proofs.FieldLemmas.{is_space, cut_at, uncut}
 use Rattle.script_lines.proofs.fields.Fields.next.Goals as goal

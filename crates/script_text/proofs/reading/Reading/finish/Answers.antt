@@ -1,7 +1,6 @@
 use Rattle.std.proofs.Common.{◌≡◌, ◌∙◌, not, true, false, Some, refl, sym, ap}
 use Rattle.std.specs.Option.{option_map}
-use Rattle.script_spec.specs.Grammar.{SetCpus, SetMemory, SetRom}
-use Rattle.script_spec.specs.Reasons.{has_setup}
+use Rattle.script_spec.specs.Common.{SetCpus, SetMemory, SetRom, has_setup}
 use Rattle.script_text.proofs.Reasons.{setup_kept, lacks_is}
 use Rattle.script_text.proofs.reading.Reading.finish.Goals as goal
 

@@ -1,6 +1,5 @@
 use Rattle.std.proofs.Common.{◌≡◌, ◌+◌, ◌∙◌, not, true, false, length, refl, sym, ap, arith}
-use Rattle.script_spec.specs.Grammar.{BeginPhase}
-use Rattle.script_spec.specs.Reasons.{has_setup}
+use Rattle.script_spec.specs.Common.{BeginPhase, has_setup}
 use Rattle.script_text.proofs.Reasons.{phase_placed, no_setup, past_limit, no_reason, setup_kept, lacks_is, limits_with, past_phases, within}
 use Rattle.script_text.proofs.reading.Reading.judge_phase.Goals as goal
 

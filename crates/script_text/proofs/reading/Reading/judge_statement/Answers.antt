@@ -1,10 +1,6 @@
 use Rattle.std.proofs.Common.{◌≡◌, ◌+◌, ◌∙◌, ◌&&◌, Bool, true, false, length, refl, sym, ap}
-use Rattle.std.proofs.lemmas.Bool.{and_from}
-use Rattle.std.specs.List.{list_any}
-use Rattle.std.specs.Option.{option_map}
-use Rattle.script_spec.specs.Grammar.{Item}
-use Rattle.script_spec.specs.Reasons.{is_cpus_above, is_card_there, is_in_range, is_there, pulses_of_event, least_reason}
-use Rattle.script_spec.specs.Items.{ask}
+use Rattle.board_prelude.proofs.Common.{and_from, list_any, option_map}
+use Rattle.script_spec.specs.Common.{Item, is_cpus_above, is_card_there, is_in_range, is_there, pulses_of_event, least_reason, ask}
 use Rattle.script_lines.specs.Items.{asked_said}
 use Rattle.script_text.proofs.Reasons.{misplaced, out_of_range, not_placed, not_there, past_limit, no_reason, statement_place, asked_place, asked_repeated, asked_begun, actor_kept, few_pulses, none_in_case, some_in_case, limits_with, past_two}
 use Rattle.script_text.proofs.reading.Reading.judge_statement.Goals as goal

@@ -1,0 +1,16 @@
+-- The definitions that files above cite, passed on from one place. Declares nothing.
+pub use Rattle.board_chipset.specs.Chipset.{IsLeft, Running}
+unfoldable pub use Rattle.board_chipset.specs.Chipset.{IsLeftBy}
+pub use Rattle.board_chipset.specs.Kept.{CanDo, HasRegisters, IsFlat, IsStateOf}
+pub use Rattle.board_chipset.specs.Loads.{IsClockWrite, IsDramWrite, WriteAll, WriteClockByte}
+unfoldable pub use Rattle.board_chipset.specs.Loads.{WriteInTurn}
+pub use Rattle.board_chipset.specs.OutOfRange.{IsFault}
+pub use Rattle.board_chipset.specs.Places.{place_of, port_part}
+pub use Rattle.board_chipset.specs.PortAccesses.{AreCyclesDone, IsCycleStep, bytes_read, read_by, stronger}
+unfoldable pub use Rattle.board_chipset.specs.PortAccesses.{AnswerInTurn, strongest, value_read}
+pub use Rattle.board_chipset.specs.Ports.{IsEntryOf, Writes, reached}
+pub use Rattle.board_chipset.specs.Resets.{reset_of}
+pub use Rattle.board_chipset.specs.Setups.{IsSetupFault}
+pub use Rattle.board_chipset.specs.Steps.{IsForDevices}
+pub use Rattle.board_chipset.specs.Versions.{IsAnswerModulo, version_count}
+unfoldable pub use Rattle.board_chipset.specs.Versions.{AreLastChanged}

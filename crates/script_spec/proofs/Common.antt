@@ -1,0 +1,19 @@
+-- The lemmas and definitions that proofs above cite, passed on from one place. Declares nothing.
+pub use Rattle.script_spec.proofs.Chains.{both, guarded, some_is, then_said}
+pub use Rattle.script_spec.proofs.CheckLaws.{compared, lacks-line, one_difference, one_line}
+pub use Rattle.script_spec.proofs.CutLemmas.{cut_field, cut_joined}
+pub use Rattle.script_spec.proofs.Digits.{lacks, value_of_decimal}
+pub use Rattle.script_spec.proofs.Fields.{back, back-field, front, front-field, lacks-append, lacks-decimal, lacks-first, lacks-later}
+pub use Rattle.script_spec.proofs.GoodItems.{NoReason, no_reason}
+pub use Rattle.script_spec.proofs.Joins.{word_is}
+pub use Rattle.script_spec.proofs.LineReading.{one_item}
+pub use Rattle.script_spec.proofs.LogLaws.{line_whole, lines_joined, lines_whole, log_lines, log_says_all, nothing_more}
+pub use Rattle.script_spec.proofs.LogReading.{actor_said, asked_said, asked_text, line_pieces, pieces, replied_text}
+pub use Rattle.script_spec.proofs.NumberBack.{decimal_back}
+pub use Rattle.script_spec.proofs.NumberTexts.{decimal_read}
+pub use Rattle.script_spec.proofs.PlainLines.{event_plain}
+pub use Rattle.script_spec.proofs.PlainText.{decimal_word, lacks-plain, lacks-word}
+pub use Rattle.script_spec.proofs.RangeLaws.{none_any, scripts_are_in_range}
+pub use Rattle.script_spec.proofs.ReadingExists.{phases_more, reverse_more}
+pub use Rattle.script_spec.proofs.ReadingLaws.{not_both, one_refusal, read_more, same_head, same_some, skip_more}
+pub use Rattle.script_spec.proofs.ScriptLaws.{one_script}
