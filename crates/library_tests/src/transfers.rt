@@ -637,11 +637,17 @@ const SIZES: [Transfer; 3] = [
 
 #[test]
 fn transfers(rt: HostRuntime) -> Result<(), Fail> {
-    let tables: [&[Transfer]; 4] = [&EACH_END, &WHAT_COMES_FIRST, &ACROSS_THE_MAP, &SIZES];
-    for table in tables {
-        for transfer in table {
-            row(&rt, rt.alloc(), transfer)?;
-        }
+    let alloc = rt.alloc();
+    rows(&rt, alloc, &EACH_END)?;
+    rows(&rt, alloc, &WHAT_COMES_FIRST)?;
+    rows(&rt, alloc, &ACROSS_THE_MAP)?;
+    rows(&rt, alloc, &SIZES)
+}
+
+/// Makes each transfer of a table on a board of its own.
+fn rows(rt: &impl Abort, alloc: Global, transfers: &[Transfer]) -> Result<(), Fail> {
+    for transfer in transfers {
+        row(rt, alloc, transfer)?;
     }
     Ok(())
 }
