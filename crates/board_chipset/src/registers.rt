@@ -93,6 +93,7 @@ impl Registers {
             → Writes setup history entry.event None None (Some (Store reg width value))
             → HasRegisters setup (entry ∷ history) self.new }
         ensures south { reg.dev ≢ 1 → self.new.south ≡ self.old.south }
+        ensures routing { result ≡ true → reg.dev ≡ 1 }
         ensures other { result ≡ false → reg.dev ≢ 1 }
     {
         self.map.store(reg, width, value);
