@@ -1,11 +1,10 @@
 -- A board that is fresh, and after a step.
 use Rattle.std.proofs.Common.{◌≡◌, Bool, not, ℕ, zero, suc, ◌+◌, ◌-◌, ◌/◌, Option, Some, None, ◌^◌, ◌<◌, ◌≤◌, List, ◌∷◌, length, inl, inr, refl, sym, ◌∙◌, ap, subst, arith, get_or-set_same, get_or-set_other, ◌↔◌, Result, Ok, Err, ◌==◌, slice_index, slice_set, replicate}
-use Rattle.board_prelude.proofs.Common.{cases_Bool, cases_eq, eq-eqb, ne_eqb, nat_tests, Entry, Setup, IsDisk, IsSetup, entries_by, IsLegal, version_of, IsAnswer}
+use Rattle.board_prelude.proofs.Common.{cases_Bool, cases_eq, eq-eqb, ne_eqb, nat_tests, Entry, Setup, IsDisk, IsSetup, entries_by, IsLegal, version_of, IsAnswer, entry_limit}
 use Rattle.std.proofs.lemmas.List.Filters.{length-filter_both}
-use Rattle.access_history.specs.Past.{Past}
 use Rattle.board_chipset.specs.Common.{Running, IsLeftBy, version_count}
 use Rattle.board_chipset.proofs.Common.{few_entries, state_of}
-use Rattle.board_core.specs.Kept.{HasHistory}
+use Rattle.board_core.specs.Kept.{Playing, HasPlayed}
 
 -- ---- a new board
 
@@ -24,9 +23,8 @@ not_refused {A} {B} {E} {a} {b} {fault} (to, from) = (
 
 -- ---- what a board is fitted with
 
-pub fitted : {chipset : Running} {history : List Entry} {spare : ℕ} {counts : List ℕ} →
-    HasHistory chipset history spare counts → IsSetup chipset.setup
-fitted kept = (state_of refl kept.left).fits
+pub fitted : {replay : Playing} {history : List Entry} → HasPlayed replay history → IsSetup replay.chipset.setup
+fitted played = (state_of refl played.left).fits
 
 -- ---- the numbers of entries
 
@@ -50,33 +48,35 @@ counted_after history counts entry within number below counted who below' =
 
 -- a processor has no more entries than the history
 pub count_fits :
-    (chipset : Running) (history : List Entry) (spare : ℕ) (counts : List ℕ) (actor at : ℕ) → at ≡ actor → actor < 256 →
-    HasHistory chipset history spare counts → slice_index counts at + 1 < 2 ^ 32
-count_fits chipset history spare counts actor at same below kept =
+    (replay : Playing) (history : List Entry) (actor at : ℕ) → at ≡ actor → actor < 256 → HasPlayed replay history →
+    slice_index replay.counts at + 1 < 2 ^ 32
+count_fits replay history actor at same below played =
     let own : Entry → Bool = λ entry. entry.actor == actor in
     let parts = length-filter_both own (λ entry. not (own entry)) (λ entry. refl) history in
-    rw same (omega (arith, kept.counted actor below, parts, kept.room))
+    rw same (omega (arith, played.counted actor below, parts, played.few))
 
 -- ---- a step
 
 -- a board has had fewer changes of its map than entries
-pub few_versions : {chipset : Running} {history : List Entry} {spare : ℕ} {counts : List ℕ} →
-    HasHistory chipset history spare counts → version_of chipset.setup history < version_count
-few_versions {chipset} {history} kept = few_entries chipset.setup history (omega (arith, kept.room))
+pub few_versions : {replay : Playing} {history : List Entry} → HasPlayed replay history →
+    version_of replay.chipset.setup history < version_count
+few_versions {replay} {history} played = few_entries replay.chipset.setup history (omega (arith, played.few))
 
 pub stepped :
-    (history : List Entry) (counts : List ℕ) (entry : Entry) (past : Past) (spare : ℕ) (old new : Running) →
-    length counts ≡ 256 → entry.actor < 256 → 1 ≤ spare →
-    past ≡ record { entries = entry ∷ history; spare = spare - 1 } →
-    entry.seq ≡ slice_index counts entry.actor + 1 → HasHistory old history spare counts → new.setup ≡ old.setup →
-    IsAnswer old.setup history entry.event entry.reply → IsLeftBy new (entry ∷ history) →
-    HasHistory new past.entries past.spare (slice_set counts entry.actor entry.seq)
-stepped history counts entry past spare old new all below some pushed number kept same answer left =
-    let is_number = number ∙ ap (λ (n : ℕ). n + 1) (kept.counted entry.actor below) in
-    rw pushed (record {
-      room = omega (arith, kept.room);
+    (replay : Playing) (history : List Entry) (entry : Entry) (new : Running) →
+    length replay.counts ≡ 256 → entry.actor < 256 → replay.count + 1 < entry_limit →
+    entry.seq ≡ slice_index replay.counts entry.actor + 1 → HasPlayed replay history →
+    new.setup ≡ replay.chipset.setup → IsAnswer replay.chipset.setup history entry.event entry.reply →
+    IsLeftBy new (entry ∷ history) →
+    HasPlayed (record { chipset = new; count = replay.count + 1; counts = slice_set replay.counts entry.actor entry.seq })
+    (entry ∷ history)
+stepped replay history entry new all below few number played same answer left =
+    let is_number = number ∙ ap (λ (n : ℕ). n + 1) (played.counted entry.actor below) in
+    record {
+      few = omega (arith, few, played.count);
       legal = subst (λ (setup : Setup). IsLegal setup (entry ∷ history)) (sym same)
-          (record { number = is_number; answer = answer }, kept.legal);
+          (record { number = is_number; answer = answer }, played.legal);
       left = left;
-      counted = counted_after history counts entry (omega arith) number below kept.counted;
-    })
+      count = ap (λ (n : ℕ). n + 1) played.count;
+      counted = counted_after history replay.counts entry (omega arith) number below played.counted;
+    }

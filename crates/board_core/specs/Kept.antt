@@ -3,12 +3,29 @@ use Rattle.std.specs.Prelude.{ℕ, ◌≡◌, ◌+◌, ◌<◌, List, length, sl
 use Rattle.board_prelude.specs.Common.{Entry, Setup, entries_by, IsLegal, entry_limit}
 use Rattle.board_chipset.specs.Chipset.{Running, IsLeftBy}
 
--- the history left the chipset, with the number of each processor's entries, and room for more
-pub record HasHistory (chipset : Running) (history : List Entry) (spare : ℕ) (counts : List ℕ) : Type 0 where
+-- what a replay is seen as: its chipset, the number of entries so far, and those of each processor. Its history is not
+-- kept: it is whatever history it may have played
+pub record Playing : Type 0 where
+  pub chipset : Running
+  pub count : ℕ
+  pub counts : List ℕ
+
+-- the replay has played this history, the newest entry first: it is legal, and leaves a board as the chipset is
+pub record HasPlayed (replay : Playing) (history : List Entry) : Type 0 where
+  pub few : length history < entry_limit
+  pub legal : IsLegal replay.chipset.setup history
+  pub left : IsLeftBy replay.chipset history
+  pub count : replay.count ≡ length history
+  pub counted : (actor : ℕ) → actor < 256 → slice_index replay.counts actor ≡ length (entries_by actor history)
+
+-- it has played some history
+abbrev pub HasPlayedSome : Playing → Type 0
+HasPlayedSome replay = (history : List Entry) × HasPlayed replay history
+
+-- a board keeps the history that its replay has played, with room for more
+pub record HasHistory (replay : Playing) (history : List Entry) (spare : ℕ) : Type 0 where
   pub room : length history + spare < entry_limit
-  pub legal : IsLegal chipset.setup history
-  pub left : IsLeftBy chipset history
-  pub counted : (actor : ℕ) → actor < 256 → slice_index counts actor ≡ length (entries_by actor history)
+  pub played : HasPlayed replay history
 
 -- what a board is seen as: its setup, its history with the newest entry first, and the room for more
 pub record Standing : Type 0 where

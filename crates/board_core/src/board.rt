@@ -1,20 +1,21 @@
 //! The board: each event is one step, which adds one entry to a history that is legal at every moment.
 
-ghost use Rattle.std.specs.Prelude.{◌≡◌, ◌-◌, ◌+◌, ◌++◌, ◌<◌, ◌≤◌, ◌↔◌, ℕ, List, [], ◌∷◌, length, max, slice_index, Err, IsTrue, IfOk, OnOk, OnErr};
+ghost use Rattle.std.specs.Prelude.{◌≡◌, ◌-◌, ◌+◌, ◌++◌, ◌<◌, ◌≤◌, ◌↔◌, List, [], ◌∷◌, length, max, Err, IsTrue, IfOk, OnOk, OnErr};
 ghost use Rattle.board_prelude.specs.Common.{Entry, most_mib, most_card_memory, entry_limit, IsCardList, IsDisk, IsRomSize, IsSetup, memory_of_cards, IsInRange, IsAnswer, IsLegal, next_entry, statements_of, byte_of, map_change_of, version_of, IsFlatMapOf, disk_of};
 ghost use Rattle.addr_decode.specs.MapRegs.{StandsFor, map_bytes};
 ghost use Rattle.dram_store.specs.Dram.{IsDramOf};
 ghost use Rattle.pci_bars.specs.Contents.{IsContentsOf};
 ghost use Rattle.board_chipset.specs.declared.setup.BoardOpen.{BoardOpen};
 ghost use Rattle.board_chipset.specs.Stores.{IsOfBoard, IsStoreOf};
+ghost use Rattle.board_core.specs.Kept.{HasPlayed};
 ghost use Rattle.board_core.specs.Steps.{AreInRange};
 
+use crate::replay::Replay;
 use access_history::History;
 use addr_decode::MapChange;
 use board_base::NoMemory;
-use board_chipset::{BoardOpen, Chipset, Setup, Store};
-use board_spec::limits::ACTORS;
-use board_spec::{Entry, Event, Reply, Statement};
+use board_chipset::{BoardOpen, Setup, Store};
+use board_spec::{Event, Reply, Statement};
 use map_builder::FlatMap;
 use std::alloc::Global;
 use std::marker::Model;
@@ -22,10 +23,8 @@ use std::marker::Model;
 /// A board. Contracts see its setup, its history and the room for more entries.
 #[derive(Drop)]
 pub struct Board {
-    chipset: Chipset,
+    replay: Replay,
     history: History,
-    /// How many entries each processor has.
-    counts: [u32; ACTORS],
 }
 
 impl Model for Board {
@@ -34,20 +33,12 @@ impl Model for Board {
     ghost Value = { Standing };
 
     ghost view = { λ board. record {
-      setup = board.chipset.setup;
+      setup = board.replay.chipset.setup;
       entries = board.history.entries;
       spare = board.history.spare;
     } };
 
-    ghost invariant = { λ board.
-        HasHistory board.chipset board.history.entries board.history.spare board.counts };
-}
-
-/// No entries yet.
-fn no_entries() -> [u32; ACTORS]
-    ensures none { (actor : ℕ) → slice_index result actor ≡ 0 }
-{
-    [0; ACTORS]
+    ghost invariant = { λ board. HasHistory board.replay board.history.entries board.history.spare };
 }
 
 impl Board {
@@ -63,11 +54,10 @@ impl Board {
         ensures bad_rom { (result ≡ Err BoardOpen.BadRom) ↔ ¬ IsRomSize (length setup.rom) }
         ensures bad_disk { (result ≡ Err BoardOpen.BadDisk) ↔ IsRomSize (length setup.rom) × ¬ IsDisk setup.disk }
     {
-        let chipset = Chipset::open(alloc, setup)?;
+        let replay = Replay::open(alloc, setup)?;
         Ok(Board {
-            chipset,
+            replay,
             history: History::new(alloc),
-            counts: no_entries(),
         })
     }
 
@@ -91,16 +81,9 @@ impl Board {
           spare = self.old.spare - 1;
         } }
     {
-        let reply = self.chipset.step(event);
-        let seq = self.counts[usize::from(actor)] + 1;
-        self.counts[usize::from(actor)] = seq;
-        self.history.push(Entry {
-            actor,
-            seq,
-            event: *event,
-            reply,
-        });
-        reply
+        let entry = self.replay.step(actor, event);
+        self.history.push(entry);
+        entry.reply
     }
 
     /// Does statements in their order.
@@ -117,7 +100,7 @@ impl Board {
             self.step(statement.actor, &statement.event);
         }
         // The prover knows what always holds of a board where a field is used.
-        let _ = &self.chipset;
+        let _ = &self.replay;
     }
 
     /// The events and the replies so far: each reply is the answer of the definitions, and each
@@ -134,7 +117,7 @@ impl Board {
     pub fn map_change(&self, event: &Event) -> Option<MapChange>
         ensures change { result ≡ map_change_of self.now.setup self.now.entries event.now }
     {
-        self.chipset.map_change(event)
+        self.replay.map_change(event)
     }
 
     /// What the board is fitted with, which is a setup that a board can have.
@@ -142,7 +125,7 @@ impl Board {
         ensures setup { result.now ≡ self.now.setup }
         ensures fitted { IsSetup self.now.setup }
     {
-        self.chipset.setup()
+        self.replay.setup()
     }
 
     /// The registers and bytes that the history left. It takes no memory.
@@ -155,8 +138,16 @@ impl Board {
         ensures store { IsStoreOf self.setup (byte_of self.setup self.entries) result }
         ensures sound { IsOfBoard result }
     {
-        let Board { chipset, .. } = self;
-        chipset.into_store()
+        self.into_replay().into_store()
+    }
+
+    /// The board as it stands, without its history, whose memory is given back.
+    pub fn into_replay(self) -> Replay
+        ensures setup { result.chipset.setup ≡ self.setup }
+        ensures played { HasPlayed result self.entries }
+    {
+        let Board { replay, .. } = self;
+        replay
     }
 
     /// The memory map of the registers as they stand. Its version is the number of map writes so far: the stores to a
@@ -166,6 +157,6 @@ impl Board {
         ensures map { IsFlatMapOf self.now.setup (byte_of self.now.setup self.now.entries) result.now.ranges }
         ensures version { result.now.version ≡ version_of self.now.setup self.now.entries }
     {
-        self.chipset.map()
+        self.replay.map()
     }
 }

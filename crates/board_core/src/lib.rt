@@ -3,6 +3,8 @@
 #![tactic(auto)]
 
 mod board;
+mod replay;
 
 pub use board::Board;
 pub use board_chipset::{BoardOpen, Setup, Store, is_disk_size, is_rom_size};
+pub use replay::Replay;

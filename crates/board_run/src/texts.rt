@@ -26,12 +26,8 @@ fn replay(alloc: Global, read: Read) -> Result<Text, NoMemory>
     requires board { HasBoard read }
     ensures text { IfOk result (OnBoard read IsReplayText) }
 {
-    let Prepared {
-        script,
-        mut board,
-        ..
-    } = prepare(alloc, read)?;
-    log_of_replay(alloc, &mut board, script)
+    let Prepared { script, board, .. } = prepare(alloc, read)?;
+    log_of_replay(alloc, board, &script)
 }
 
 /// The address map after the replay of a script.

@@ -24,7 +24,7 @@ done_more old between new first later one two = record {
   legal = λ legal. two.legal (one.legal legal);
 }
 
-newest : (entry : Entry) (before : List Entry) → statements_of (entry ∷ before) ≡ statements_of before ++ statement_of entry ∷ []
+pub newest : (entry : Entry) (before : List Entry) → statements_of (entry ∷ before) ≡ statements_of before ++ statement_of entry ∷ []
 newest entry before =
     ap (map statement_of) (reverse-append (entry ∷ []) before) ∙ map-append statement_of (reverse before) (entry ∷ [])
 

@@ -14,3 +14,4 @@ pub mod SerialReplays
 pub mod Sums
 pub mod TransferTexts
 pub mod SerialTexts
+pub mod ReplayLogs

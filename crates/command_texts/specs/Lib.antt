@@ -1,6 +1,7 @@
 pub mod Fitted
 pub mod Fresh
 pub mod Replays
+pub mod ReplayLog
 pub mod Done
 pub mod Images
 pub mod Blame

@@ -1,4 +1,4 @@
-//! Replays of a script on its board, and the texts of `replay`, `map` and `check`.
+//! Replays of a script on its board, and the texts of `map` and `check`.
 
 ghost use Rattle.std.specs.Prelude.{◌≡◌, ◌∷◌, ◌++◌, ◌≤◌, ◌⊎◌, ℕ, [], Ok, Err, length, map, flat_map, string_bytes, codes, decimal, IfOk, IfErr, OnOk, OnErr};
 ghost use Rattle.board_prelude.specs.Common.{IsLegal, most_statements, log_text, IsReplayOf, IsBegunFor, line_feed, map_text};
@@ -9,12 +9,11 @@ ghost use Rattle.log_check.specs.declared.fault.CheckFault.{CheckFault};
 ghost use Rattle.log_check.specs.Checked.{IsCheckedLog, StandsAfter};
 ghost use Rattle.command_texts.specs.Done.{DidStatements};
 ghost use Rattle.command_texts.specs.Fresh.{IsFreshFor};
-ghost use Rattle.command_texts.specs.Replays.{IsReplayText, IsMapText, IsLegalText};
+ghost use Rattle.command_texts.specs.Replays.{IsMapText, IsLegalText};
 
 use board_base::NoMemory;
 use board_core::Board;
 use board_script::{push_decimal, push_log, push_range, push_words};
-use board_spec::laws::law_lock;
 use log_check::{CheckFault, statement_count};
 use log_pieces::Text;
 use map_builder::Range;
@@ -79,18 +78,6 @@ pub(crate) fn log_of_board(alloc: Global, version: u8, board: &Board) -> Result<
     let mut text = String::new(alloc);
     push_log(&mut text, version, board.history().entries())?;
     Text::whole(alloc, text)
-}
-
-/// The log of a script's replay on its board. The memory of the script is given back before the log takes its own.
-pub fn log_of_replay(alloc: Global, board: &mut Board, script: Script) -> Result<Text, NoMemory>
-    requires fresh { IsFreshFor (said_of script) board.old }
-    ensures text { IfOk result (λ text. IsReplayText board.old.setup (said_of script) text) }
-{
-    replay_script(board, &script)?;
-    let version = script.version;
-    drop(script);
-    law_lock();
-    log_of_board(alloc, version, board)
 }
 
 /// Appends the lines of the ranges of a map.

@@ -65,6 +65,14 @@ uncut (x ∷ xs) some none =
     alone x xs (λ k d lt. rw (get_or_default_zero (x ∷ xs) k d lt)
     (not_so (is_feed (get_or (x ∷ xs) k 0)) (none k (omega arith) lt)))
 
+-- with a line feed at once the first line is empty
+pub begun_empty :
+    (bytes : List ℕ) → false ≡ eqb (length bytes) 0 → get_or bytes 0 0 ≡ 10 →
+    lines_of bytes ≡ [] ∷ lines_of (take (length bytes - 1) (drop 1 bytes))
+unfolding lines_of
+begun_empty [] some feed = absurd cc
+begun_empty (x ∷ xs) some feed = rw (take_rest (x ∷ xs) 1, feed) refl
+
 -- no bytes, no lines
 pub none_left : (bytes : List ℕ) → true ≡ eqb (length bytes) 0 → lines_of bytes ≡ []
 unfolding lines_of

@@ -18,6 +18,10 @@ pub(crate) fn split_line(bytes: &[u8]) -> Option<(&[u8], &[u8])>
     if bytes.is_empty() {
         return None;
     }
+    // An empty line needs no search.
+    if bytes[0] == LINE_FEED {
+        return Some((&[], &bytes[1..]));
+    }
     match memchr(LINE_FEED, bytes) {
         Some(end) => Some((&bytes[..end], &bytes[end + 1..])),
         None => Some((bytes, &[])),

@@ -1,7 +1,11 @@
 use Rattle.std.proofs.Common.{subst}
 use Rattle.memchr.specs.Find.{IsFirstByte}
-use Rattle.script_text.proofs.LineLemmas.{is_feed, cut_at, uncut, none_left}
+use Rattle.script_text.proofs.LineLemmas.{is_feed, cut_at, uncut, none_left, begun_empty}
 use Rattle.script_text.proofs.lines.split_line.Goals as goal
+
+pub returns-then-bytes-eq-LINE_FEED-clause-cases : goal.returns-then-bytes-eq-LINE_FEED-clause-cases
+returns-then-bytes-eq-LINE_FEED-clause-cases c =
+    begun_empty c.args.bytes.now c.if-is_empty.ensures c.if-bytes-eq-LINE_FEED.true
 
 pub returns-in-Some-clause-cases : goal.returns-in-Some-clause-cases
 returns-in-Some-clause-cases c =

@@ -1,0 +1,147 @@
+//! A board that keeps no history: each step returns its entry.
+
+ghost use Rattle.std.specs.Prelude.{◌≡◌, ◌+◌, ◌<◌, ◌≤◌, ◌↔◌, ℕ, List, [], ◌∷◌, length, slice_index, Err, IfOk};
+ghost use Rattle.board_prelude.specs.Common.{Entry, most_mib, most_card_memory, entry_limit, IsCardList, IsDisk, IsRomSize, IsSetup, memory_of_cards, IsInRange, byte_of, map_change_of, version_of, IsFlatMapOf, disk_of};
+ghost use Rattle.addr_decode.specs.MapRegs.{StandsFor, map_bytes};
+ghost use Rattle.dram_store.specs.Dram.{IsDramOf};
+ghost use Rattle.pci_bars.specs.Contents.{IsContentsOf};
+ghost use Rattle.board_chipset.specs.declared.setup.BoardOpen.{BoardOpen};
+ghost use Rattle.board_chipset.specs.Stores.{IsOfBoard, IsStoreOf};
+ghost use Rattle.board_core.specs.Kept.{HasPlayed};
+
+use addr_decode::MapChange;
+use board_chipset::{BoardOpen, Chipset, Setup, Store};
+use board_spec::limits::ACTORS;
+use board_spec::{Entry, Event};
+use map_builder::FlatMap;
+use std::alloc::Global;
+use std::marker::Model;
+
+/// A board that keeps no history. Contracts see its chipset and how many entries there were, and which histories it may
+/// have played.
+#[derive(Drop)]
+pub struct Replay {
+    chipset: Chipset,
+    count: u32,
+    /// How many entries each processor has.
+    counts: [u32; ACTORS],
+}
+
+impl Model for Replay {
+    ghost use Rattle.board_core.specs.Kept.{HasPlayedSome, Playing};
+
+    ghost Value = { Playing };
+
+    ghost view = { λ replay. record { chipset = replay.chipset; count = replay.count; counts = replay.counts } };
+
+    ghost invariant = { λ replay.
+        HasPlayedSome (record { chipset = replay.chipset; count = replay.count; counts = replay.counts }) };
+}
+
+/// No entries yet.
+fn no_entries() -> [u32; ACTORS]
+    ensures none { (actor : ℕ) → slice_index result actor ≡ 0 }
+{
+    [0; ACTORS]
+}
+
+impl Replay {
+    /// The board of a setup, as after power-on. The memory is 1 to 512 MiB; the cards are at most eight in rising order
+    /// of device, with at most 64 MiB of memory together. BadRom exactly where the ROM is not of 64, 128, 256 or
+    /// 512 KiB, and BadDisk exactly where it is and the disk is not of 1 to 65,536 whole sectors.
+    pub fn open(alloc: Global, setup: Setup) -> Result<Replay, BoardOpen>
+        requires low { 1 ≤ setup.mib }
+        requires high { setup.mib ≤ most_mib }
+        requires cards { IsCardList setup.cards }
+        requires windows { memory_of_cards setup.cards ≤ most_card_memory }
+        ensures setup { IfOk result (λ replay. replay.chipset.setup ≡ setup) }
+        ensures fresh { IfOk result (λ replay. HasPlayed replay []) }
+        ensures bad_rom { (result ≡ Err BoardOpen.BadRom) ↔ ¬ IsRomSize (length setup.rom) }
+        ensures bad_disk { (result ≡ Err BoardOpen.BadDisk) ↔ IsRomSize (length setup.rom) × ¬ IsDisk setup.disk }
+    {
+        let chipset = Chipset::open(alloc, setup)?;
+        Ok(Replay {
+            chipset,
+            count: 0,
+            counts: no_entries(),
+        })
+    }
+
+    /// Does an event of a processor, and returns the entry that it adds to the history, which stays legal. There were
+    /// fewer than 3,999,999 entries. It takes no memory.
+    pub fn step(&mut self, actor: u8, event: &Event) -> Entry
+        requires in_range { IsInRange self.old.chipset.setup event.now }
+        requires few { self.old.count + 1 < entry_limit }
+        ensures asked { (result.actor ≡ actor) × (result.event ≡ event.now) }
+        ensures played { (history : List Entry) → HasPlayed self.old history → HasPlayed self.new (result ∷ history) }
+        ensures setup { self.new.chipset.setup ≡ self.old.chipset.setup }
+        ensures count { self.new.count ≡ self.old.count + 1 }
+    {
+        let reply = self.chipset.step(event);
+        let seq = self.counts[usize::from(actor)] + 1;
+        self.counts[usize::from(actor)] = seq;
+        self.count += 1;
+        Entry {
+            actor,
+            seq,
+            event: *event,
+            reply,
+        }
+    }
+
+    /// How many entries there were.
+    pub fn count(&self) -> u32
+        ensures count { result ≡ self.now.count }
+    {
+        self.count
+    }
+
+    /// The change of the memory map that an event would make now: a store to a register that the map depends on, or a
+    /// hard reset. None where it would make none.
+    pub fn map_change(&self, event: &Event) -> Option<MapChange>
+        ensures change { (history : List Entry) → HasPlayed self.now history
+            → result ≡ map_change_of self.now.chipset.setup history event.now }
+    {
+        self.chipset.map_change(event)
+    }
+
+    /// What the board is fitted with, which is a setup that a board can have.
+    pub fn setup(&self) -> &Setup
+        ensures setup { result.now ≡ self.now.chipset.setup }
+        ensures fitted { IsSetup self.now.chipset.setup }
+    {
+        self.chipset.setup()
+    }
+
+    /// The registers and bytes that the history left. It takes no memory.
+    pub fn into_store(self) -> Store
+        ensures regs { (history : List Entry) → HasPlayed self history
+            → StandsFor self.chipset.setup (byte_of self.chipset.setup history) (map_bytes result.regs) }
+        ensures dram { (history : List Entry) → HasPlayed self history
+            → IsDramOf self.chipset.setup history result.dram }
+        ensures contents { (history : List Entry) → HasPlayed self history
+            → IsContentsOf self.chipset.setup history result.contents }
+        ensures rom { result.rom.items ≡ self.chipset.setup.rom }
+        ensures disk { (history : List Entry) → HasPlayed self history
+            → result.disk ≡ disk_of self.chipset.setup history }
+        ensures store { (history : List Entry) → HasPlayed self history
+            → IsStoreOf self.chipset.setup (byte_of self.chipset.setup history) result }
+        ensures sound { IsOfBoard result }
+    {
+        let Replay { chipset, .. } = self;
+        chipset.into_store()
+    }
+
+    /// The memory map of the registers as they stand. Its version is the number of map writes so far: the stores to a
+    /// register that the map depends on, and the hard resets.
+    pub fn map(&self) -> &FlatMap
+        ensures stands { (history : List Entry) → HasPlayed self.now history
+            → StandsFor self.now.chipset.setup (byte_of self.now.chipset.setup history) result.now.regs }
+        ensures map { (history : List Entry) → HasPlayed self.now history
+            → IsFlatMapOf self.now.chipset.setup (byte_of self.now.chipset.setup history) result.now.ranges }
+        ensures version { (history : List Entry) → HasPlayed self.now history
+            → result.now.version ≡ version_of self.now.chipset.setup history }
+    {
+        self.chipset.map()
+    }
+}

@@ -1,0 +1,47 @@
+-- One entry more in the log of a replay.
+use Rattle.std.proofs.Common.{ℕ, ◌≡◌, ◌+◌, List, [], ◌∷◌, ◌++◌, length, refl, sym, ap, ◌∙◌, arith, append_assoc, append-nil, add-one}
+use Rattle.board_prelude.proofs.Common.{Entry, Statement, line_feed, line_text, lines_text, log_text, statement_of, statements_of}
+use Rattle.board_core.specs.Kept.{Playing, HasPlayed}
+use Rattle.log_check.proofs.LogLines.{log_parts, lines-newest}
+use Rattle.command_texts.specs.ReplayLog.{HasLog}
+use Rattle.command_texts.proofs.Done.{newest}
+
+-- the newest entry has the last line
+log-newest :
+    (version : ℕ) (entry : Entry) (history : List Entry) (n : ℕ) → n ≡ length history + 1 →
+    log_text version (entry ∷ history) ≡ log_text version history ++ (line_text n entry ++ line_feed ∷ [])
+log-newest version entry history n is =
+    let line : List ℕ = line_text (length history + 1) entry ++ line_feed ∷ [] in
+    log_parts version (entry ∷ history)
+    ∙ ap (λ (lines : List ℕ). log_text version [] ++ lines)
+      (sym (append-nil (lines_text (entry ∷ history))) ∙ lines-newest entry history [])
+    ∙ sym (append_assoc (log_text version []) (lines_text history) line)
+    ∙ ap (λ (front : List ℕ). front ++ line) (sym (log_parts version history))
+    ∙ ap (λ (k : ℕ). log_text version history ++ (line_text k entry ++ line_feed ∷ [])) (sym is)
+
+statement_is : (entry : Entry) (statement : Statement) → entry.actor ≡ statement.actor → entry.event ≡ statement.event →
+    statement_of entry ≡ statement
+statement_is entry statement actor event = rw (actor, event) refl
+
+pub log_with :
+    (version : ℕ) (old new : Playing) (said : List Statement) (statement : Statement) (entry : Entry) (n : ℕ)
+    (text after : List ℕ) → entry.actor ≡ statement.actor → entry.event ≡ statement.event → n ≡ new.count →
+    ((history : List Entry) → HasPlayed old history → HasPlayed new (entry ∷ history)) →
+    after ≡ text ++ (line_text n entry ++ line_feed ∷ []) → HasLog version old said text →
+    HasLog version new (said ++ statement ∷ []) after
+log_with version old new said statement entry n text after actor event number played more so_far =
+    let history = so_far.history in
+    let now : HasPlayed new (entry ∷ history) = played history so_far.played in
+    let is : n ≡ length history + 1 = number ∙ now.count ∙ add-one (length history) in
+    record {
+      history = entry ∷ history;
+      played = now;
+      same =
+          newest entry history
+          ∙ ap (λ (before : List Statement). before ++ statement_of entry ∷ []) so_far.same
+          ∙ ap (λ (last : Statement). said ++ last ∷ []) (statement_is entry statement actor event);
+      log =
+          more
+          ∙ ap (λ (front : List ℕ). front ++ (line_text n entry ++ line_feed ∷ [])) so_far.log
+          ∙ sym (log-newest version entry history n is);
+    }

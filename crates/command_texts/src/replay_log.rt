@@ -1,0 +1,49 @@
+//! The log of a replay: each line is written as its statement is done, and no history is kept.
+
+ghost use Rattle.std.specs.Prelude.{◌≡◌, ◌+◌, ◌++◌, ◌<◌, ℕ, List, length, string_bytes, IfOk, OnOk};
+ghost use Rattle.board_prelude.specs.Common.{Statement as AStatement, entry_limit};
+ghost use Rattle.board_core.specs.Common.{AreInRange};
+ghost use Rattle.script_text.specs.Script.{said_of};
+ghost use Rattle.command_texts.specs.Fresh.{IsFreshFor};
+ghost use Rattle.command_texts.specs.Replays.{IsReplayText};
+ghost use Rattle.command_texts.specs.ReplayLog.{HasLog};
+
+use board_base::NoMemory;
+use board_core::{Board, Replay};
+use board_script::{push_heading, push_line};
+use board_spec::Statement;
+use board_spec::laws::law_lock;
+use log_pieces::Text;
+use script_text::Script;
+use std::alloc::Global;
+
+/// Does the statements of a phase in their order, and appends the line of each entry.
+fn push_phase(text: &mut String, replay: &mut Replay, phase: &[Statement]) -> Result<(), NoMemory>
+    requires in_range { AreInRange replay.old.chipset.setup phase.now }
+    requires few { replay.old.count + length phase.now < entry_limit }
+    ensures setup { replay.new.chipset.setup ≡ replay.old.chipset.setup }
+    ensures count { OnOk result (replay.new.count ≡ replay.old.count + length phase.now) }
+    ensures log { (version : ℕ) (said : List AStatement) → HasLog version replay.old said (string_bytes text.old)
+        → OnOk result (HasLog version replay.new (said ++ phase.now) (string_bytes text.new)) }
+{
+    for statement in phase {
+        let entry = replay.step(statement.actor, &statement.event);
+        push_line(text, u64::from(replay.count()), &entry)?;
+    }
+    Ok(())
+}
+
+/// The log of a script's replay on its board, which keeps no history meanwhile.
+pub fn log_of_replay(alloc: Global, board: Board, script: &Script) -> Result<Text, NoMemory>
+    requires fresh { IsFreshFor (said_of script.now) board }
+    ensures text { IfOk result (λ text. IsReplayText board.setup (said_of script.now) text) }
+{
+    let mut replay = board.into_replay();
+    let mut text = String::new(alloc);
+    push_heading(&mut text, script.version)?;
+    for phase in &script.phases {
+        push_phase(&mut text, &mut replay, phase)?;
+    }
+    law_lock();
+    Text::whole(alloc, text)
+}
