@@ -1,6 +1,6 @@
 -- A board that is fresh, and after a step.
-use Rattle.std.proofs.Common.{◌≡◌, Bool, not, ℕ, zero, suc, ◌+◌, ◌-◌, ◌/◌, Option, Some, None, ◌^◌, ◌<◌, ◌≤◌, List, ◌∷◌, length, inl, inr, refl, sym, ◌∙◌, ap, subst, arith, get_or-set_same, get_or-set_other, ◌↔◌, Result, Ok, Err, ◌==◌, slice_index, slice_set, replicate}
-use Rattle.board_prelude.proofs.Common.{cases_Bool, cases_eq, eq-eqb, ne_eqb, nat_tests, Entry, Setup, IsDisk, IsSetup, entries_by, IsLegal, version_of, IsAnswer, entry_limit}
+use Rattle.std.proofs.Common.{◌≡◌, Bool, not, ℕ, zero, suc, ◌+◌, ◌^◌, ◌<◌, List, ◌∷◌, length, inl, inr, refl, sym, ◌∙◌, ap, subst, arith, get_or-set_same, get_or-set_other, ◌↔◌, Result, Ok, Err, ◌==◌, slice_index, slice_set, replicate}
+use Rattle.board_prelude.proofs.Common.{cases_eq, eq-eqb, ne_eqb, Entry, Setup, IsSetup, entries_by, IsLegal, version_of, IsAnswer, entry_limit}
 use Rattle.std.proofs.lemmas.List.Filters.{length-filter_both}
 use Rattle.board_chipset.specs.Common.{Running, IsLeftBy, version_count}
 use Rattle.board_chipset.proofs.Common.{few_entries, state_of}
@@ -77,6 +77,6 @@ stepped replay history entry new all below few number played same answer left =
       legal = subst (λ (setup : Setup). IsLegal setup (entry ∷ history)) (sym same)
           (record { number = is_number; answer = answer }, played.legal);
       left = left;
-      count = ap (λ (n : ℕ). n + 1) played.count;
+      count = omega (arith, played.count);
       counted = counted_after history replay.counts entry (omega arith) number below played.counted;
     }

@@ -6,10 +6,8 @@ pub invariant_of-result : goal.invariant_of-result
 invariant_of-result c =
     rw c.new.ensures.empty (record {
       room = omega arith;
-      legal = tt;
-      left = c.in_ok-chipset.ensures.fresh.1;
-      counted = λ actor below. c.no_entries.ensures.none actor;
+      played = c.in_ok-replay.ensures.fresh;
     })
 
 pub returns-clause-bad_disk : goal.returns-clause-bad_disk
-returns-clause-bad_disk c = not_refused c.in_ok-chipset.ensures.bad_disk
+returns-clause-bad_disk c = not_refused c.in_ok-replay.ensures.bad_disk
