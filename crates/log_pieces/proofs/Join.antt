@@ -70,13 +70,13 @@ log_of_lines version entries before heading text none first lines =
     ∙ ap (λ (t : List ℕ). t ++ lines_from 1 entries) (first ∙ ap (λ (t : List ℕ). t ++ log_text version []) none)
     ∙ sym (log_text-lines version entries)
 
-pub whole_log :
+pub whole_of_lines :
     {E : Type 0} (version : ℕ) (entries : List Entry) (before heading text : List ℕ) (result : Result (List ℕ) E)
     → before ≡ [] → heading ≡ before ++ log_text version [] → text ≡ heading ++ lines_from 1 entries
     → IfOk result (λ whole. whole ≡ text) → IfOk result (λ whole. whole ≡ log_text version (reverse entries))
-whole_log version entries before heading text (Ok whole) none first lines is =
+whole_of_lines version entries before heading text (Ok whole) none first lines is =
     is ∙ log_of_lines version entries before heading text none first lines
-whole_log version entries before heading text (Err fault) none first lines is = tt
+whole_of_lines version entries before heading text (Err fault) none first lines is = tt
 
 -- from a place to itself there are no lines
 pub no_lines_between : (start : ℕ) (entries : List Entry) (text : List ℕ) →

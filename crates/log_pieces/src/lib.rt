@@ -5,5 +5,5 @@ mod listed;
 mod pieces;
 mod text;
 
-pub use pieces::{log_by, run_log_by};
+pub use pieces::{log_alone, log_by, run_log_by};
 pub use text::Text;

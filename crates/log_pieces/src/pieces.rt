@@ -77,6 +77,17 @@ fn push_pieces(text: &mut Text, pieces: Vec<Result<String, NoMemory>>) -> Result
     Ok(())
 }
 
+/// The log of a history in one piece.
+fn whole_log<L: Listed>(alloc: Global, version: u8, list: &L) -> Result<Text, NoMemory>
+    requires whole { L.is_whole list.now }
+    ensures text { IfOk result (λ text. text ≡ log_text version (reverse (L.entries list.now))) }
+{
+    let mut text = String::new(alloc);
+    push_heading(&mut text, version)?;
+    push_lines(&mut text, list, 0, list.len())?;
+    Text::whole(alloc, text)
+}
+
 /// The log of a history.
 fn log_of<R: Threads + Sync, L: Listed>(
     rt: &R,
@@ -89,17 +100,23 @@ fn log_of<R: Threads + Sync, L: Listed>(
     ensures text { IfOk result (λ text. text ≡ log_text version (reverse (L.entries list.now))) }
 {
     let len = list.len();
+    if workers < 2 || len < FEW {
+        return whole_log(alloc, version, list);
+    }
     let mut first = String::new(alloc);
     push_heading(&mut first, version)?;
-    if workers < 2 || len < FEW {
-        push_lines(&mut first, list, 0, len)?;
-        return Text::whole(alloc, first);
-    }
     let size = len.div_ceil(usize::from(workers));
     let pieces = pieces_of(rt, alloc, size, list)?;
     let mut text = Text::whole(alloc, first)?;
     push_pieces(&mut text, pieces)?;
     Ok(text)
+}
+
+/// The log of a history, which the thread that asks writes alone.
+pub fn log_alone(alloc: Global, version: u8, entries: &Entries<'_>) -> Result<Text, NoMemory>
+    ensures text { IfOk result (λ text. text ≡ log_text version (reverse entries.now)) }
+{
+    whole_log(alloc, version, &BoardHistory { entries })
 }
 
 /// The log of a history. Of a long one as many threads write the lines as there are workers, a piece each.

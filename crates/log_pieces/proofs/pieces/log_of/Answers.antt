@@ -1,15 +1,8 @@
-use Rattle.std.proofs.Common.{ℕ, ◌++◌, ◌*◌, ◌-◌, ◌≤◌, List, length, string_bytes, ap, ◌∙◌, arith}
+use Rattle.std.proofs.Common.{ℕ, ◌++◌, ◌*◌, ◌≤◌, List, length, ap, ◌∙◌}
 use Rattle.board_prelude.proofs.Common.{take_all, Entry}
 use Rattle.board_script.specs.LinesFrom.{lines_from}
-use Rattle.log_pieces.proofs.Join.{log_of_lines, whole_log}
+use Rattle.log_pieces.proofs.Join.{log_of_lines}
 use Rattle.log_pieces.proofs.pieces.log_of.Goals as goal
-
-pub returns-then-workers-lt2 : goal.returns-then-workers-lt2
-returns-then-workers-lt2 g c = record {
-  text =
-      whole_log c.args.version (g.L.Listed.entries c.args.list.now) _ _ _ c.whole.result
-      c.new-first.ensures.bytes c.in_ok-push_heading.ensures.appended (c.in_ok-push_lines.ensures.appended ∙ ap (λ (es : List Entry). string_bytes c.push_heading.new.text ++ lines_from 1 es) (take_all (c.len-len.result - 0) (g.L.Listed.entries c.args.list.now) (omega (arith, c.len-len.ensures)))) c.whole.ensures.bytes;
-}
 
 pub returns : goal.returns
 returns g c =
