@@ -13,10 +13,10 @@ ghost use Rattle.command_texts.specs.Replays.{IsReplayText, IsMapText, IsLegalTe
 
 use board_base::NoMemory;
 use board_core::Board;
-use board_script::{push_decimal, push_log, push_range, push_words};
+use board_script::{push_decimal, push_range, push_words};
 use board_spec::laws::law_lock;
 use log_check::{CheckFault, statement_count};
-use log_pieces::Text;
+use log_pieces::{Text, log_alone};
 use map_builder::Range;
 use script_text::Script;
 use std::alloc::Global;
@@ -76,9 +76,7 @@ pub fn check_log(
 pub(crate) fn log_of_board(alloc: Global, version: u8, board: &Board) -> Result<Text, NoMemory>
     ensures text { IfOk result (λ text. text ≡ log_text version board.now.entries) }
 {
-    let mut text = String::new(alloc);
-    push_log(&mut text, version, board.history().entries())?;
-    Text::whole(alloc, text)
+    log_alone(alloc, version, &board.history().entries())
 }
 
 /// The log of a script's replay on its board. The memory of the script is given back before the log takes its own.
