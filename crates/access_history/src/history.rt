@@ -2,29 +2,39 @@
 
 ghost use Rattle.std.specs.Prelude.{◌≡◌, ◌+◌, ◌-◌, ◌<◌, ◌≤◌, [], ◌∷◌, length, max, reverse, slice_get, Some, OnOk, OnErr};
 
+use crate::entries::Entries;
+use crate::packed::PackedEntry;
 use board_base::NoMemory;
-use board_spec::Entry;
+use board_spec::{Entry, Part};
 use std::alloc::Global;
 use std::marker::Model;
+
+/// The most parts that an entry has.
+const MOST_PARTS: usize = 4;
 
 /// A history. Contracts see its entries, the newest first, and how many more it has room for.
 #[derive(Drop)]
 pub struct History {
-    entries: Vec<Entry>,
+    entries: Vec<PackedEntry>,
+    /// The parts of the wide accesses, in the order of their entries.
+    parts: Vec<Part>,
     spare: u32,
 }
 
 impl Model for History {
-    ghost use Rattle.std.specs.Prelude.{◌+◌, ◌<◌, ◌≤◌, reverse, vec_capacity, vec_len};
-    ghost use Rattle.board_spec.specs.Limits.{entry_limit};
+    ghost use Rattle.std.specs.Prelude.{reverse, vec_capacity};
+    ghost use Rattle.access_history.specs.Packed.{IsHistory, entries_in};
     ghost use Rattle.access_history.specs.Past.{Past};
 
     ghost Value = { Past };
 
-    ghost view = { λ history. record { entries = reverse history.entries.items; spare = history.spare } };
+    ghost view = { λ history. record {
+      entries = reverse (entries_in history.parts.items history.entries.items);
+      spare = history.spare;
+    } };
 
-    ghost invariant = { λ history. (vec_len history.entries + history.spare ≤ vec_capacity history.entries)
-        × (vec_len history.entries + history.spare < entry_limit) };
+    ghost invariant = { λ history. IsHistory history.entries.items history.parts.items history.spare
+        (vec_capacity history.entries) (vec_capacity history.parts) };
 }
 
 impl History {
@@ -37,6 +47,7 @@ impl History {
     {
         History {
             entries: Vec::new(alloc),
+            parts: Vec::new(alloc),
             spare: 0,
         }
     }
@@ -50,6 +61,7 @@ impl History {
     {
         if n > self.spare {
             self.entries.reserve(n as usize)?;
+            self.parts.reserve(MOST_PARTS * n as usize)?;
             self.spare = n;
         }
         Ok(())
@@ -60,7 +72,8 @@ impl History {
         requires { 1 ≤ self.old.spare }
         ensures pushed { self.new ≡ record { entries = entry ∷ self.old.entries; spare = self.old.spare - 1 } }
     {
-        self.entries.push(entry).unwrap();
+        let packed = PackedEntry::keep(&mut self.parts, &entry);
+        self.entries.push(packed).unwrap();
         self.spare -= 1;
     }
 
@@ -80,17 +93,17 @@ impl History {
     }
 
     /// The entry at a place, counted from 0, the oldest first.
-    pub fn entry(&self, i: u32) -> &Entry
+    pub fn entry(&self, i: u32) -> Entry
         requires { i < length self.now.entries }
-        ensures entry { slice_get (reverse self.now.entries) i ≡ Some result.now }
+        ensures entry { slice_get (reverse self.now.entries) i ≡ Some result }
     {
-        &self.entries[i as usize]
+        self.entries[i as usize].entry(&self.parts)
     }
 
     /// All entries, the oldest first.
-    pub fn entries(&self) -> &[Entry]
-        ensures entries { result.now ≡ reverse self.now.entries }
+    pub fn entries(&self) -> Entries<'_>
+        ensures entries { result ≡ reverse self.now.entries }
     {
-        &self.entries
+        Entries::new(&self.entries, &self.parts)
     }
 }

@@ -5,6 +5,7 @@ ghost use Rattle.board_prelude.specs.Common.{w32, to_le_bytes, bytes_of, stateme
 ghost use Rattle.board_image.specs.ImageBytes.{flag_byte, kind_byte, memory_bytes, wide_bytes, port_bytes, look_bytes, moment_bytes, field_bytes, step_bytes};
 
 use crate::tag::Tag;
+use access_history::Entries;
 use board_base::{Access, Kind, Moment, NoMemory, PortAccess, WideAccess, Width};
 use board_spec::{Entry, Event};
 use std::alloc::Global;
@@ -133,13 +134,13 @@ fn push_step(out: &mut Vec<u8>, entry: &Entry) -> Result<(), NoMemory>
 }
 
 /// The bytes of all steps.
-pub(crate) fn steps_piece(alloc: Global, entries: &[Entry]) -> Result<Vec<u8>, NoMemory>
+pub(crate) fn steps_piece(alloc: Global, entries: &Entries<'_>) -> Result<Vec<u8>, NoMemory>
     ensures bytes { IfOk result (λ piece. piece.items ≡ flat_map step_bytes (map statement_of entries.now)) }
 {
     let room = entries.len().saturating_mul(STEP_ROOM);
     let mut piece = Vec::with_capacity(alloc, room)?;
-    for entry in entries {
-        push_step(&mut piece, entry)?;
+    for i in 0..entries.len() {
+        push_step(&mut piece, &entries.entry(i))?;
     }
     Ok(piece)
 }

@@ -141,6 +141,6 @@ pub fn save(alloc: Global, setup: &Setup, history: &History) -> Result<ImageByte
         front: front_piece(alloc, setup, history.len())?,
         rom: Vec::from_slice(alloc, &setup.rom)?,
         disk: disk_piece(alloc, setup)?,
-        steps: steps_piece(alloc, history.entries())?,
+        steps: steps_piece(alloc, &history.entries())?,
     })
 }

@@ -49,8 +49,8 @@ fn log_of_ended<R: Threads + Sync>(
     ensures text { IfOk result (λ text. text ≡ log_text version run.now.entries) }
 {
     match run.order() {
-        None => log_by(rt, alloc, workers, version, run.bus()),
-        Some(order) => run_log_by(rt, alloc, workers, version, run.bus(), order),
+        None => log_by(rt, alloc, workers, version, &run.bus()),
+        Some(order) => run_log_by(rt, alloc, workers, version, &run.bus(), order),
     }
 }
 

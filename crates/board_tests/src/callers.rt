@@ -5,6 +5,7 @@ ghost use Rattle.board_prelude.specs.Common.{Setup as Fitting, IsInRange};
 ghost use Rattle.board_live.specs.Common.{most_each, IsNoLook, IsCallerOf, IsSameCaller, AreAllOf, mine_of};
 
 use crate::plain::{PAM0, plain_board};
+use access_history::Entries;
 use board_base::{Dev, Kind, PortAccess, Target, Width};
 use board_core::Board;
 use board_live::{Cpu, Live};
@@ -59,12 +60,13 @@ fn is_right(entry: &Entry) -> bool {
 }
 
 /// Whether each of `n` callers has so many right entries, numbered from 1, and nobody else has any.
-fn are_right(entries: &[Entry], n: u8, each: u32) -> bool {
+fn are_right(entries: &Entries<'_>, n: u8, each: u32) -> bool {
     let mut counts = [0_u32; 256];
-    for entry in entries {
+    for i in 0..entries.len() {
+        let entry = entries.entry(i);
         let actor = usize::from(entry.actor);
         counts[actor] = counts[actor].wrapping_add(1);
-        if actor >= usize::from(n) || entry.seq != counts[actor] || !is_right(entry) {
+        if actor >= usize::from(n) || entry.seq != counts[actor] || !is_right(&entry) {
             return false;
         }
     }
@@ -164,7 +166,7 @@ fn shared_by<R: Threads + Wait + Sync>(
 #[test]
 fn two_callers(rt: HostRuntime) -> Result<(), Fail> {
     let board = shared_by(&rt, rt.alloc(), 2, 100)?;
-    assert!(rt; are_right(board.history().entries(), 2, 200));
+    assert!(rt; are_right(&board.history().entries(), 2, 200));
     assert_eq!(rt; board.map().version(), 200);
     Ok(())
 }
@@ -172,7 +174,7 @@ fn two_callers(rt: HostRuntime) -> Result<(), Fail> {
 #[test]
 fn eight_callers(rt: HostRuntime) -> Result<(), Fail> {
     let board = shared_by(&rt, rt.alloc(), 8, 50)?;
-    assert!(rt; are_right(board.history().entries(), 8, 100));
+    assert!(rt; are_right(&board.history().entries(), 8, 100));
     assert_eq!(rt; board.map().version(), 400);
     Ok(())
 }

@@ -1,9 +1,10 @@
 //! The places of looks, by hand.
 
-ghost use Rattle.std.specs.Prelude.{◌<◌, ◌≤◌, length, All, IsTrue, OnOk};
+ghost use Rattle.std.specs.Prelude.{◌<◌, ◌≤◌, length, All, IsTrue};
 ghost use Rattle.run_order.specs.Over.{IsPlacedBelow};
 
 use crate::plain::PAM0;
+use access_history::{Entries, History};
 use arrayvec::ArrayVec;
 use board_base::{Area, Dev, Kind, PortAccess, Target, Width};
 use board_spec::{Entry, Event, Look, Reply};
@@ -79,6 +80,9 @@ struct Phase {
     placed: &'static [(u8, u32, Option<u32>)],
 }
 
+/// How many calls there are at most.
+const MOST_CALLS: u32 = 100;
+
 /// The bus's entry of a call. Its number there does not count looks.
 fn entry_of(actor: u8, seq: u32, call: Call) -> Entry {
     let (event, target) = match call {
@@ -98,13 +102,15 @@ fn entry_of(actor: u8, seq: u32, call: Call) -> Entry {
     }
 }
 
-fn add_calls(bus: &mut Vec<Entry>, calls: &[(u8, Call)]) -> Result<(), Fail>
-    ensures longer { OnOk result (length bus.old.items ≤ length bus.new.items) }
+/// Adds calls to the bus's history, as far as it has room.
+fn add_calls(bus: &mut History, calls: &[(u8, Call)])
+    ensures longer { length bus.old.entries ≤ length bus.new.entries }
 {
     for (actor, call) in calls {
-        bus.push(entry_of(*actor, 1, *call))?;
+        if bus.spare() > 0 {
+            bus.push(entry_of(*actor, 1, *call));
+        }
     }
-    Ok(())
 }
 
 fn works_of(rt: &impl Abort, lists: &[&'static [Done]]) -> Works<'static> {
@@ -118,11 +124,16 @@ fn works_of(rt: &impl Abort, lists: &[&'static [Done]]) -> Works<'static> {
     works
 }
 
-fn have_callers(bus: &[Entry], works: &Works) -> bool
+fn have_callers(bus: &Entries<'_>, works: &Works) -> bool
     ensures callers { IsTrue result → All (λ entry. entry.actor < length works.now.items) bus.now }
 {
     let count = works.len();
-    bus.iter().all(|entry| usize::from(entry.actor) < count)
+    for i in 0..bus.len() {
+        if usize::from(bus.entry(i).actor) >= count {
+            return false;
+        }
+    }
+    true
 }
 
 fn told(entry: &Entry) -> (u8, u32, Option<u32>) {
@@ -135,7 +146,7 @@ fn told(entry: &Entry) -> (u8, u32, Option<u32>) {
 
 /// Whether the entries of an order from a place on are these.
 fn are_placed(
-    bus: &[Entry],
+    bus: &Entries<'_>,
     entries: &[RunEntry],
     from: usize,
     placed: &[(u8, u32, Option<u32>)],
@@ -156,10 +167,12 @@ fn are_placed(
 /// Runs phases one after another, and compares what each added.
 fn run(rt: &impl Abort, alloc: Global, phases: &[Phase]) -> Result<(), Fail> {
     let mut order = RunOrder::new(alloc);
-    let mut bus = Vec::new(alloc);
+    let mut history = History::new(alloc);
+    history.reserve(MOST_CALLS)?;
     for phase in phases {
         let before = order.entries().len();
-        add_calls(&mut bus, phase.calls)?;
+        add_calls(&mut history, phase.calls);
+        let bus = history.entries();
         let works = works_of(rt, phase.works);
         if !have_callers(&bus, &works) {
             panic!(rt; "a call of no processor");

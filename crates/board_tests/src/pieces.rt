@@ -3,6 +3,7 @@
 ghost use Rattle.std.specs.Prelude.{All, IfOk, length};
 ghost use Rattle.run_order.specs.Over.{IsPlacedBelow};
 
+use access_history::{Entries, History};
 use board_base::{Access, Area, Kind, Target, Width};
 use board_script::push_log;
 use board_spec::{Entry, Event, Look, Reply};
@@ -12,9 +13,13 @@ use std::alloc::Global;
 use std::process::Abort;
 use std::test::Fail;
 
+/// How many entries a history has at most.
+const MOST: u32 = 10_000;
+
 /// A history of reads, by three processors in turn.
-fn reads(alloc: Global, count: u32) -> Result<Vec<Entry>, Fail> {
-    let mut entries = Vec::new(alloc);
+fn reads(alloc: Global, count: u32) -> Result<History, Fail> {
+    let mut history = History::new(alloc);
+    history.reserve(MOST)?;
     for i in 0..count {
         let access = Access {
             kind: Kind::Read,
@@ -28,14 +33,16 @@ fn reads(alloc: Global, count: u32) -> Result<Vec<Entry>, Fail> {
             target: Target::Dram(0),
             denial: None,
         };
-        entries.push(Entry {
-            actor: (i % 3) as u8,
-            seq: i / 3 + 1,
-            event: Event::Memory(access),
-            reply,
-        })?;
+        if history.spare() > 0 {
+            history.push(Entry {
+                actor: (i % 3) as u8,
+                seq: i / 3 + 1,
+                event: Event::Memory(access),
+                reply,
+            });
+        }
     }
-    Ok(entries)
+    Ok(history)
 }
 
 /// A look at an address where nobody answers.
@@ -54,11 +61,12 @@ const LOOK: RunEntry = RunEntry::Look {
 };
 
 /// The order of a run in which a look comes after each entry of the bus.
-fn with_looks<R: Abort>(rt: &R, alloc: Global, bus: &[Entry]) -> Result<Vec<RunEntry>, Fail>
+fn with_looks<R: Abort>(rt: &R, alloc: Global, bus: &Entries<'_>) -> Result<Vec<RunEntry>, Fail>
     ensures within { IfOk result (λ order. All (IsPlacedBelow (length bus.now)) order.items) }
 {
     let mut order = Vec::new(alloc);
-    for (place, entry) in bus.iter().enumerate() {
+    for place in 0..bus.len() {
+        let entry = bus.entry(place);
         order.push(RunEntry::Bus {
             actor: entry.actor,
             seq: entry.seq,
@@ -69,11 +77,20 @@ fn with_looks<R: Abort>(rt: &R, alloc: Global, bus: &[Entry]) -> Result<Vec<RunE
     Ok(order)
 }
 
-/// The whole entries of that run.
-fn whole_entries(alloc: Global, bus: &[Entry]) -> Result<Vec<Entry>, Fail> {
+/// The entries of a history.
+fn entries_of(alloc: Global, history: &Entries<'_>) -> Result<Vec<Entry>, Fail> {
     let mut entries = Vec::new(alloc);
-    for entry in bus {
-        entries.push(*entry)?;
+    for i in 0..history.len() {
+        entries.push(history.entry(i))?;
+    }
+    Ok(entries)
+}
+
+/// The whole entries of that run.
+fn whole_entries(alloc: Global, bus: &Entries<'_>) -> Result<Vec<Entry>, Fail> {
+    let mut entries = Vec::new(alloc);
+    for i in 0..bus.len() {
+        entries.push(bus.entry(i))?;
         entries.push(LOOK.over(bus))?;
     }
     Ok(entries)
@@ -112,9 +129,10 @@ fn a_log_in_pieces_is_the_log(rt: HostRuntime) -> Result<(), Fail> {
         (100, 8, 1),
         (0, 8, 1),
     ] {
-        let entries = reads(alloc, count)?;
+        let history = reads(alloc, count)?;
+        let entries = history.entries();
         let text = log_by(&rt, alloc, workers, 2, &entries)?;
-        expect_log(&rt, alloc, &text, &entries, pieces)?;
+        expect_log(&rt, alloc, &text, &entries_of(alloc, &entries)?, pieces)?;
     }
     Ok(())
 }
@@ -124,7 +142,8 @@ fn a_log_in_pieces_is_the_log(rt: HostRuntime) -> Result<(), Fail> {
 fn the_log_of_a_run_has_the_looks(rt: HostRuntime) -> Result<(), Fail> {
     let alloc = rt.alloc();
     for (count, workers, pieces) in [(5_000, 1, 1), (5_000, 3, 4), (4_500, 255, 251), (50, 8, 1)] {
-        let bus = reads(alloc, count)?;
+        let history = reads(alloc, count)?;
+        let bus = history.entries();
         let order = with_looks(&rt, alloc, &bus)?;
         let text = run_log_by(&rt, alloc, workers, 2, &bus, &order)?;
         expect_log(&rt, alloc, &text, &whole_entries(alloc, &bus)?, pieces)?;

@@ -59,7 +59,7 @@ fn summary_of(alloc: Global, board: &Board) -> Result<Text, NoMemory>
     let map = board.map();
     push_summary(
         &mut text,
-        board.history().entries(),
+        &board.history().entries(),
         map.version(),
         map.ranges().len(),
     )?;

@@ -13,9 +13,9 @@ ghost use Rattle.command_texts.specs.Replays.{IsMapText, IsLegalText};
 
 use board_base::NoMemory;
 use board_core::Board;
-use board_script::{push_decimal, push_log, push_range, push_words};
+use board_script::{push_decimal, push_range, push_words};
 use log_check::{CheckFault, statement_count};
-use log_pieces::Text;
+use log_pieces::{Text, log_alone};
 use map_builder::Range;
 use script_text::Script;
 use std::alloc::Global;
@@ -75,9 +75,7 @@ pub fn check_log(
 pub(crate) fn log_of_board(alloc: Global, version: u8, board: &Board) -> Result<Text, NoMemory>
     ensures text { IfOk result (λ text. text ≡ log_text version board.now.entries) }
 {
-    let mut text = String::new(alloc);
-    push_log(&mut text, version, board.history().entries())?;
-    Text::whole(alloc, text)
+    log_alone(alloc, version, &board.history().entries())
 }
 
 /// Appends the lines of the ranges of a map.

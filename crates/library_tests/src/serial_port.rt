@@ -512,7 +512,8 @@ fn row(rt: &impl Abort, alloc: Global, rows: &[Row], asked: &[Asked]) -> Result<
     }
     let entries = serial.board().history().entries();
     assert_eq!(rt; entries.len(), asked.len());
-    for (at, (entry, (actor, request))) in entries.iter().zip(asked).enumerate() {
+    for (at, (actor, request)) in asked.iter().enumerate() {
+        let entry = entries.entry(at);
         assert_eq!(rt;
             (entry.actor, entry.event),
             (*actor, event(rt, *request)),

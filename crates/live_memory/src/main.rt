@@ -133,8 +133,9 @@ fn shared<R: Threads + Wait + Sync>(rt: &R, alloc: Global) -> Result<Board, NoMe
 /// Writes the version of the map and each entry.
 fn tell(rt: &HostRuntime, board: &Board) -> io::Result<()> {
     println!(rt; "version {}", board.map().version())?;
-    for entry in board.history().entries() {
-        println!(rt; "{entry:?}")?;
+    let entries = board.history().entries();
+    for i in 0..entries.len() {
+        println!(rt; "{:?}", entries.entry(i))?;
     }
     Ok(())
 }

@@ -25,7 +25,7 @@ pub(crate) fn print_newest(text: &mut String, history: &History) -> Result<(), N
 {
     let n = history.len();
     text.clear();
-    push_line(text, u64::from(n), history.entry(n - 1))
+    push_line(text, u64::from(n), &history.entry(n - 1))
 }
 
 /// What stands after the line that was printed. Differs at this line exactly where the rest does not begin with it.

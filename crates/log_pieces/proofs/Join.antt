@@ -1,7 +1,6 @@
 -- Pieces that are joined in their order.
-use Rattle.std.proofs.Common.{◌≡◌, ℕ, ◌+◌, ◌*◌, ◌<◌, ◌++◌, List, [], ◌∷◌, length, get_or, take, drop, map, refl, sym, ap, ◌∙◌, subst, append_assoc, append-nil, arith, inl, inr, Result, Ok, Err, IfOk, string_bytes, String, reverse}
-use Rattle.board_prelude.proofs.Common.{Global, cases_lt, drop_all, take_all, length-take-le, length-append, length-map, get_or-map, get_or-append_seam, Entry, line_feed, line_text, log_text}
-use Rattle.std.proofs.lemmas.List.{take-map, drop-map}
+use Rattle.std.proofs.Common.{◌≡◌, ℕ, ◌+◌, ◌*◌, ◌-◌, ◌<◌, ◌≤◌, ◌++◌, List, [], ◌∷◌, length, get_or, take, drop, refl, sym, ap, ◌∙◌, subst, append_assoc, append-nil, arith, inl, inr, Result, Ok, Err, IfOk, string_bytes, String, reverse}
+use Rattle.board_prelude.proofs.Common.{Global, cases_lt, drop_all, take_all, length-take-le, length-append, length-drop, get_or-drop, get_or-append_seam, Entry, line_feed, line_text, log_text}
 use Rattle.std.proofs.Math.Seq.{take-add}
 use Rattle.board_script.specs.LinesFrom.{lines_from}
 use Rattle.board_script.proofs.Parts.{lines_of_parts, log_text-lines, appended_line}
@@ -61,19 +60,6 @@ piece_added size entries done rest lines piece old text new are is so_far added 
     ∙ ap (λ (t : List ℕ). old ++ t) (sym (lines_more (length done * size) size entries))
     ∙ ap (λ (n : ℕ). old ++ lines_from 1 (take n entries)) count
 
--- a piece of elements has the lines of the entries for which they stand
-pub piece_of :
-    {X : Type 0} (entry : X → Entry) (size n : ℕ) (elements own : List X) (piece : Piece)
-    → own ≡ take size (drop (n * size) elements)
-    → IfOk piece (λ text. string_bytes text ≡ lines_from (n * size + 1) (map entry own))
-    → IsPiece size n (map entry elements) piece
-piece_of {X = X} entry size n elements own piece is lines =
-    let same : map entry own ≡ take size (drop (n * size) (map entry elements)) =
-    ap (map entry) is
-    ∙ sym (take-map entry size (drop (n * size) elements))
-    ∙ sym (ap (take size) (drop-map entry (n * size) elements)) in
-    subst (λ (es : List Entry). IfOk piece (λ text. string_bytes text ≡ lines_from (n * size + 1) es)) same lines
-
 -- a heading, and the lines of all entries
 pub log_of_lines :
     (version : ℕ) (entries : List Entry) (before heading text : List ℕ)
@@ -84,24 +70,35 @@ log_of_lines version entries before heading text none first lines =
     ∙ ap (λ (t : List ℕ). t ++ lines_from 1 entries) (first ∙ ap (λ (t : List ℕ). t ++ log_text version []) none)
     ∙ sym (log_text-lines version entries)
 
-pub whole_log :
+pub whole_of_lines :
     {E : Type 0} (version : ℕ) (entries : List Entry) (before heading text : List ℕ) (result : Result (List ℕ) E)
     → before ≡ [] → heading ≡ before ++ log_text version [] → text ≡ heading ++ lines_from 1 entries
     → IfOk result (λ whole. whole ≡ text) → IfOk result (λ whole. whole ≡ log_text version (reverse entries))
-whole_log version entries before heading text (Ok whole) none first lines is =
+whole_of_lines version entries before heading text (Ok whole) none first lines is =
     is ∙ log_of_lines version entries before heading text none first lines
-whole_log version entries before heading text (Err fault) none first lines is = tt
+whole_of_lines version entries before heading text (Err fault) none first lines is = tt
 
--- the line of the entry for which the element at i stands makes the lines one entry longer
-pub line_added :
-    {X : Type 0} (entry : X → Entry) (first : ℕ) (elements : List X) (i : ℕ) (default : X) → i < length elements
-    → (line : Entry) → line ≡ entry (get_or elements i default) → (old lines new : List ℕ)
-    → lines ≡ old ++ lines_from first (take i (map entry elements))
-    → new ≡ lines ++ (line_text (first + i) line ++ line_feed ∷ [])
-    → new ≡ old ++ lines_from first (take (i + 1) (map entry elements))
-line_added entry first elements i default inside line is old lines new so_far added =
-    let within : i < length (map entry elements) = subst (λ (n : ℕ). i < n) (sym (length-map elements entry)) inside in
-    appended_line first (map entry elements) i (entry default) within old lines new so_far
-    (added
-    ∙ ap (λ (e : Entry). lines ++ (line_text (first + i) e ++ line_feed ∷ []))
-    (is ∙ sym (get_or-map entry elements i default (entry default) inside)))
+-- from a place to itself there are no lines
+pub no_lines_between : (start : ℕ) (entries : List Entry) (text : List ℕ) →
+    text ≡ text ++ lines_from (start + 1) (take (start - start) (drop start entries))
+unfolding lines_from
+no_lines_between start entries text =
+    let none : 0 ≡ start - start = omega arith in
+    sym (append-nil text) ∙ ap (λ (n : ℕ). text ++ lines_from (start + 1) (take n (drop start entries))) none
+
+-- the line of the entry at i makes the lines from a place on one entry longer
+pub line_added : (start i : ℕ) (entries : List Entry) (line : Entry) → start ≤ i → i < length entries → get_or entries i line ≡ line → (old lines new : List ℕ)
+    → lines ≡ old ++ lines_from (start + 1) (take (i - start) (drop start entries))
+    → new ≡ lines ++ (line_text (i + 1) line ++ line_feed ∷ [])
+    → new ≡ old ++ lines_from (start + 1) (take (i + 1 - start) (drop start entries))
+line_added start i entries line later inside own old lines new so_far added =
+    let rest : List Entry = drop start entries in
+    let place : start + (i - start) ≡ i = omega (arith, later) in
+    let within : i - start < length rest = omega (arith, length-drop start entries, inside, later) in
+    let own_is : get_or rest (i - start) line ≡ line =
+    get_or-drop start entries (i - start) line ∙ ap (λ (n : ℕ). get_or entries n line) place ∙ own in
+    let number : start + 1 + (i - start) ≡ i + 1 = omega (arith, later) in
+    let size : i - start + 1 ≡ i + 1 - start = omega (arith, later) in
+    appended_line (start + 1) rest (i - start) line within old lines new so_far
+    (added ∙ (λ t. lines ++ (line_text (sym number t) (sym own_is t) ++ line_feed ∷ [])))
+    ∙ ap (λ (n : ℕ). old ++ lines_from (start + 1) (take n rest)) size

@@ -1,19 +1,19 @@
 //! A history is cut into pieces of the same length, and their texts stand one after another.
 
-ghost use Rattle.std.specs.Prelude.{◌≡◌, ◌++◌, ℕ, List, All, ◌+◌, ◌*◌, ◌^◌, ◌<◌, ◌≤◌, [], length, map, take, reverse, string_bytes, OnOk, IfOk};
+ghost use Rattle.std.specs.Prelude.{◌≡◌, ◌++◌, ℕ, List, All, ◌*◌, ◌<◌, ◌≤◌, length, take, reverse, OnOk, IfOk};
 ghost use Rattle.board_prelude.specs.Common.{Entry, log_text};
 ghost use Rattle.board_script.specs.LinesFrom.{lines_from};
 ghost use Rattle.run_order.specs.Over.{over, IsPlacedBelow};
-ghost use Rattle.log_pieces.specs.Pieces.{ArePieces};
+ghost use Rattle.log_pieces.specs.Pieces.{ArePieces, IsPiece};
 
+use crate::listed::{BoardHistory, Listed, RunHistory, push_lines};
 use crate::text::Text;
-use crate::writer::{EntryWriter, LineWriter, RunWriter};
+use access_history::Entries;
 use board_base::NoMemory;
 use board_script::push_heading;
-use board_spec::Entry;
 use run_order::RunEntry;
 use std::alloc::Global;
-use std::thread::{Threads, map_chunks};
+use std::thread::{Threads, map_indices};
 
 /// A shorter history is not worth its threads.
 const FEW: usize = 8192;
@@ -21,49 +21,46 @@ const FEW: usize = 8192;
 /// The room for a line. Most have fewer bytes.
 const LINE_ROOM: usize = 64;
 
-/// The lines of a piece of a history, before which the history has `before` entries.
-fn lines_of_piece<W: LineWriter>(
+/// The lines of piece `n` of a history, counted from 0. Each piece has `size` entries, and the last may have fewer.
+fn lines_of_piece<L: Listed>(
     alloc: Global,
-    writer: &W,
-    before: usize,
-    elements: &[W::Element],
+    list: &L,
+    size: usize,
+    n: usize,
 ) -> Result<String, NoMemory>
-    requires some { 0 < length elements.now }
-    requires fits { before + length elements.now < 2 ^ 64 }
-    requires known { All (W.is_known writer.now) elements.now }
-    ensures lines { IfOk result (λ text. string_bytes text
-        ≡ lines_from (before + 1) (map (W.entry writer.now) elements.now)) }
+    requires whole { L.is_whole list.now }
+    requires some { n * size < length (L.entries list.now) }
+    ensures lines { IsPiece size n (L.entries list.now) result }
 {
-    let room = elements.len().saturating_mul(LINE_ROOM);
-    let mut text = String::with_capacity(alloc, room)?;
-    writer.push(&mut text, before as u64 + 1, elements)?;
+    let len = list.len();
+    let start = n * size;
+    let count = size.min(len - start);
+    let mut text = String::with_capacity(alloc, count.saturating_mul(LINE_ROOM))?;
+    push_lines(&mut text, list, start, start + count)?;
     Ok(text)
 }
 
 /// The lines of all pieces of a history. Each piece is `size` entries long, and the last may be shorter.
-fn pieces_of<R: Threads + Sync, W: LineWriter>(
+fn pieces_of<R: Threads + Sync, L: Listed>(
     rt: &R,
     alloc: Global,
     size: usize,
-    writer: &W,
-    elements: &[W::Element],
+    list: &L,
 ) -> Result<Vec<Result<String, NoMemory>>, NoMemory>
     requires size { 0 < size }
-    requires known { All (W.is_known writer.now) elements.now }
-    ensures pieces { IfOk result (λ pieces. ArePieces size (map (W.entry writer.now) elements.now) pieces.items) }
-    ensures all { IfOk result (λ pieces. length elements.now ≤ length pieces.items * size) }
+    requires whole { L.is_whole list.now }
+    ensures pieces { IfOk result (λ pieces. ArePieces size (L.entries list.now) pieces.items) }
+    ensures all { IfOk result (λ pieces. length (L.entries list.now) ≤ length pieces.items * size) }
 {
-    let pieces = map_chunks(
+    let count = list.len().div_ceil(size);
+    let pieces = map_indices(
         rt,
         alloc,
-        elements,
-        size,
-        &|before: usize, piece: &[W::Element]| -> Result<String, NoMemory>
-            requires { (0 < length piece.now) × (before + length piece.now < 2 ^ 64)
-                × All (W.is_known writer.now) piece.now }
-            ensures { IfOk result (λ text. string_bytes text
-                ≡ lines_from (before + 1) (map (W.entry writer.entry.now) piece.now)) }
-        { lines_of_piece(alloc, writer, before, piece) },
+        count,
+        &|n: usize| -> Result<String, NoMemory>
+            requires { (n * size < length (L.entries list.now)) × L.is_whole list.now }
+            ensures { IsPiece size n (L.entries list.entry.now) result }
+        { lines_of_piece(alloc, list, size, n) },
     )?;
     Ok(pieces)
 }
@@ -80,44 +77,59 @@ fn push_pieces(text: &mut Text, pieces: Vec<Result<String, NoMemory>>) -> Result
     Ok(())
 }
 
-/// The log of a history whose elements are given, the oldest first.
-fn log_of<R: Threads + Sync, W: LineWriter>(
+/// The log of a history in one piece.
+fn whole_log<L: Listed>(alloc: Global, version: u8, list: &L) -> Result<Text, NoMemory>
+    requires whole { L.is_whole list.now }
+    ensures text { IfOk result (λ text. text ≡ log_text version (reverse (L.entries list.now))) }
+{
+    let mut text = String::new(alloc);
+    push_heading(&mut text, version)?;
+    push_lines(&mut text, list, 0, list.len())?;
+    Text::whole(alloc, text)
+}
+
+/// The log of a history.
+fn log_of<R: Threads + Sync, L: Listed>(
     rt: &R,
     alloc: Global,
     workers: u8,
     version: u8,
-    writer: &W,
-    elements: &[W::Element],
+    list: &L,
 ) -> Result<Text, NoMemory>
-    requires known { All (W.is_known writer.now) elements.now }
-    ensures text { IfOk result (λ text. text
-        ≡ log_text version (reverse (map (W.entry writer.now) elements.now))) }
+    requires whole { L.is_whole list.now }
+    ensures text { IfOk result (λ text. text ≡ log_text version (reverse (L.entries list.now))) }
 {
+    let len = list.len();
+    if workers < 2 || len < FEW {
+        return whole_log(alloc, version, list);
+    }
     let mut first = String::new(alloc);
     push_heading(&mut first, version)?;
-    if workers < 2 || elements.len() < FEW {
-        writer.push(&mut first, 1, elements)?;
-        return Text::whole(alloc, first);
-    }
-    let size = elements.len().div_ceil(usize::from(workers));
-    let pieces = pieces_of(rt, alloc, size, writer, elements)?;
+    let size = len.div_ceil(usize::from(workers));
+    let pieces = pieces_of(rt, alloc, size, list)?;
     let mut text = Text::whole(alloc, first)?;
     push_pieces(&mut text, pieces)?;
     Ok(text)
 }
 
-/// The log of a history whose oldest entry comes first. Of a long one as many threads write the lines as there are
-/// workers, a piece each.
+/// The log of a history, which the thread that asks writes alone.
+pub fn log_alone(alloc: Global, version: u8, entries: &Entries<'_>) -> Result<Text, NoMemory>
+    ensures text { IfOk result (λ text. text ≡ log_text version (reverse entries.now)) }
+{
+    whole_log(alloc, version, &BoardHistory { entries })
+}
+
+/// The log of a history. Of a long one as many threads write the lines as there are workers, a piece each.
 pub fn log_by<R: Threads + Sync>(
     rt: &R,
     alloc: Global,
     workers: u8,
     version: u8,
-    entries: &[Entry],
+    entries: &Entries<'_>,
 ) -> Result<Text, NoMemory>
     ensures text { IfOk result (λ text. text ≡ log_text version (reverse entries.now)) }
 {
-    log_of(rt, alloc, workers, version, &EntryWriter, entries)
+    log_of(rt, alloc, workers, version, &BoardHistory { entries })
 }
 
 /// The same of the history of a run, whose entries that went through the turn stand in the bus's history.
@@ -126,11 +138,11 @@ pub fn run_log_by<R: Threads + Sync>(
     alloc: Global,
     workers: u8,
     version: u8,
-    bus: &[Entry],
+    bus: &Entries<'_>,
     order: &[RunEntry],
 ) -> Result<Text, NoMemory>
     requires within { All (IsPlacedBelow (length bus.now)) order.now }
     ensures text { IfOk result (λ text. text ≡ log_text version (reverse (over bus.now order.now))) }
 {
-    log_of(rt, alloc, workers, version, &RunWriter { bus }, order)
+    log_of(rt, alloc, workers, version, &RunHistory { bus, order })
 }

@@ -8,9 +8,9 @@ ghost use Rattle.make_script.specs.Summary.{entry_lines, map_lines, summary_of};
 ghost use Rattle.make_script.specs.Counts.{AreCounts};
 
 use crate::counts::Counts;
+use access_history::Entries;
 use board_base::NoMemory;
 use board_script::{push_decimal, push_words};
-use board_spec::Entry;
 
 /// Appends the line of words and a number.
 fn push_row(text: &mut String, words: &str, number: u64) -> Result<(), NoMemory>
@@ -36,12 +36,12 @@ fn push_rows(text: &mut String, rows: &[(&str, u64)]) -> Result<(), NoMemory>
 }
 
 /// The counts of a history whose oldest entry comes first.
-fn counts_of(entries: &[Entry]) -> Counts
+fn counts_of(entries: &Entries<'_>) -> Counts
     ensures counts { AreCounts (reverse entries.now) result }
 {
     let mut counts = Counts::new();
-    for entry in entries {
-        counts = counts.with(entry);
+    for i in 0..entries.len() {
+        counts = counts.with(&entries.entry(i));
     }
     counts
 }
@@ -83,7 +83,7 @@ fn push_map(text: &mut String, writes: u32, ranges: usize) -> Result<(), NoMemor
 /// the ranges of its map.
 pub fn push_summary(
     text: &mut String,
-    entries: &[Entry],
+    entries: &Entries<'_>,
     map_writes: u32,
     ranges: usize,
 ) -> Result<(), NoMemory>

@@ -4,8 +4,8 @@ ghost use Rattle.std.specs.Prelude.{◌≡◌, length, reverse, All, IfSome, Mat
 ghost use Rattle.run_order.specs.Over.{IsPlacedBelow, over};
 ghost use Rattle.phase_run.specs.Placed.{entries_of, IsUpTo};
 
+use access_history::Entries;
 use board_core::Board;
-use board_spec::Entry;
 use run_order::{RunEntry, RunOrder};
 use std::marker::Model;
 
@@ -43,8 +43,8 @@ impl EndedRun {
     }
 
     /// The entries that went through the bus turn, the oldest first.
-    pub fn bus(&self) -> &[Entry]
-        ensures bus { result.now ≡ self.now.bus }
+    pub fn bus(&self) -> Entries<'_>
+        ensures bus { result ≡ self.now.bus }
     {
         self.board.history().entries()
     }

@@ -5,8 +5,8 @@ ghost use Rattle.board_prelude.specs.Common.{Setup, IsLegal};
 ghost use Rattle.run_order.specs.Placing.{placed};
 ghost use Rattle.phase_run.specs.Placed.{entries_of, IsUpTo};
 
+use access_history::Entries;
 use board_base::NoMemory;
-use board_spec::Entry;
 use run_order::{RunOrder, Works, has_looks};
 use std::alloc::Global;
 
@@ -26,7 +26,7 @@ impl Placing {
         alloc: Global,
         version: u32,
         opened: usize,
-        bus: &[Entry],
+        bus: &Entries<'_>,
         works: Works<'_>,
     ) -> Result<(), NoMemory>
         requires legal { (setup : Setup) × IsLegal setup (reverse bus.now) }
@@ -45,7 +45,7 @@ impl Placing {
         if !has_looks(&works) {
             return Ok(());
         }
-        let mut order = RunOrder::begin(alloc, self.most, &bus[..opened])?;
+        let mut order = RunOrder::begin(alloc, self.most, &bus.before(opened))?;
         order.place(version, bus, works)?;
         self.order = Some(order);
         Ok(())

@@ -81,7 +81,7 @@ fn run_phase<R: Threads + Wait + Sync, G: Gate>(
     let run = run_workers(rt, alloc, run, &phase, gate)?;
     drop(phase);
     let entries = run.board.history().entries();
-    placing.add(alloc, version, opened, entries, works_of(&run.works))?;
+    placing.add(alloc, version, opened, &entries, works_of(&run.works))?;
     law_phase_runs();
     Ok(run)
 }

@@ -3,6 +3,7 @@
 ghost use Rattle.std.specs.Prelude.{◌≡◌, length};
 ghost use Rattle.run_order.specs.Over.{IsPlacedBelow, entry_of};
 
+use access_history::Entries;
 use board_base::Kind;
 use board_spec::{Entry, Event, Look, Reply};
 
@@ -28,13 +29,13 @@ pub enum RunEntry {
 
 impl RunEntry {
     /// The whole entry, over the bus's history with the oldest entry first.
-    pub fn over(&self, bus: &[Entry]) -> Entry
+    pub fn over(&self, bus: &Entries<'_>) -> Entry
         requires within { IsPlacedBelow (length bus.now) self.now }
         ensures entry { result ≡ entry_of bus.now self.now }
     {
         match *self {
             RunEntry::Bus { actor, seq, place } => {
-                let entry = bus[place as usize];
+                let entry = bus.entry(place as usize);
                 Entry {
                     actor,
                     seq,

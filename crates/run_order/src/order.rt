@@ -11,9 +11,9 @@ ghost use Rattle.run_order.specs.Settled.{IsSettledBut};
 use crate::done::Done;
 use crate::entry::RunEntry;
 use crate::next::{NextLook, due_look, has_look, looks_in, noted, without_first};
+use access_history::Entries;
 use arrayvec::ArrayVec;
 use board_base::NoMemory;
-use board_spec::Entry;
 use std::alloc::Global;
 use std::marker::Model;
 
@@ -58,12 +58,12 @@ pub fn has_looks(works: &Works) -> bool
     works.iter().any(|done| has_look(done))
 }
 
-/// How many entries a phase adds: those of the bus, and the looks.
-fn entries_in(later: &[Entry], works: &Works) -> usize
-    ensures count { result < most → result ≡ length later.now + all_looks_in (map (λ done. done.now) works.now.items) }
-    ensures small { result ≤ length later.now + all_looks_in (map (λ done. done.now) works.now.items) }
+/// How many entries a phase adds: those of the bus, which are `later`, and the looks.
+fn entries_in(later: usize, works: &Works) -> usize
+    ensures count { result < most → result ≡ later + all_looks_in (map (λ done. done.now) works.now.items) }
+    ensures small { result ≤ later + all_looks_in (map (λ done. done.now) works.now.items) }
 {
-    let mut count = later.len();
+    let mut count = later;
     for done in works.iter() {
         count = count.saturating_add(looks_in(done));
     }
@@ -85,7 +85,7 @@ impl RunOrder {
 
     /// The order in which a bus has its entries, which are given, the oldest first. It has room for `most` entries in
     /// all. Refused for want of memory, or where there would be 2^32 entries.
-    pub fn begin(alloc: Global, most: usize, entries: &[Entry]) -> Result<RunOrder, NoMemory>
+    pub fn begin(alloc: Global, most: usize, entries: &Entries<'_>) -> Result<RunOrder, NoMemory>
         requires callers { All (λ entry. entry.actor < 8) entries.now }
         requires legal { (setup : Setup) × IsLegal setup (reverse entries.now) }
         ensures same { IfOk result (λ order. over entries.now order.entries ≡ reverse entries.now) }
@@ -94,8 +94,8 @@ impl RunOrder {
     {
         let mut order = RunOrder::new(alloc);
         order.reserve(most.max(entries.len()))?;
-        for entry in entries {
-            order.push_bus(entry.actor);
+        for i in 0..entries.len() {
+            order.push_bus(entries.entry(i).actor);
         }
         Ok(order)
     }
@@ -112,7 +112,12 @@ impl RunOrder {
     /// is the bus's history with them, the oldest first, and `version` that of the map before the phase. Of the room that
     /// there was it uses what it needs, and keeps the rest. Where there is no memory, or there would be 2^32 entries,
     /// nothing changes.
-    pub fn place(&mut self, version: u32, bus: &[Entry], mut works: Works) -> Result<(), NoMemory>
+    pub fn place(
+        &mut self,
+        version: u32,
+        bus: &Entries<'_>,
+        mut works: Works,
+    ) -> Result<(), NoMemory>
         requires gained { self.old.bus ≤ length bus.now }
         requires callers { All (λ entry. entry.actor < length works.items) (drop self.old.bus bus.now) }
         ensures placed { OnOk result (over bus.now self.new.entries ≡ placed version (drop self.old.bus bus.now)
@@ -124,7 +129,7 @@ impl RunOrder {
         ensures room { length (drop self.old.bus bus.now) + all_looks_in (map (λ done. done.now) works.entry.items)
             ≤ self.old.spare → IsOk result }
     {
-        self.reserve(entries_in(&bus[self.bus as usize..], &works))?;
+        self.reserve(entries_in(bus.len() - self.bus as usize, &works))?;
         self.place_all(version, bus, works.as_mut_slice());
         Ok(())
     }
@@ -271,7 +276,7 @@ impl RunOrder {
     }
 
     /// Adds what a phase has, in the room that was reserved.
-    fn place_all(&mut self, version: u32, bus: &[Entry], rests: &mut [&[Done]])
+    fn place_all(&mut self, version: u32, bus: &Entries<'_>, rests: &mut [&[Done]])
         requires gained { self.old.bus ≤ length bus.now }
         requires few { length rests.old ≤ 8 }
         requires callers { All (λ entry. entry.actor < length rests.old) (drop self.old.bus bus.now) }
@@ -283,9 +288,10 @@ impl RunOrder {
         ensures keeps { in_all self.new ≡ in_all self.old }
     {
         let mut version = version;
-        let later = &bus[self.bus as usize..];
+        let later = bus.from(self.bus as usize);
         self.all_looks(version, rests);
-        for entry in later {
+        for i in 0..later.len() {
+            let entry = later.entry(i);
             let actor = usize::from(entry.actor);
             let before = version;
             version = noted(before, rests[actor]);

@@ -4,5 +4,5 @@ use Rattle.board_spec.specs.Orders.{statement_of}
 use Rattle.board_image.specs.ImageBytes.{step_bytes}
 use Rattle.board_image.proofs.event_writer.steps_piece.Given as goal
 
-abbrev pub invariant-loop-entry : goal.invariant-loop-entry
-invariant-loop-entry l = l.piece.items ≡ flat_map step_bytes (map statement_of (take l.entry-index l.entries))
+abbrev pub invariant-loop-i : goal.invariant-loop-i
+invariant-loop-i l = l.piece.items ≡ flat_map step_bytes (map statement_of (take l.i l.entries))

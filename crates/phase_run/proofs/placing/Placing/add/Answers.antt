@@ -1,5 +1,5 @@
-use Rattle.std.proofs.Common.{rules, ◌≡◌, List, map, take, drop, reverse, Option, None, Some, sym, ◌∙◌, ap, subst}
-use Rattle.board_prelude.proofs.Common.{reverse-reverse, length-take-le, Entry, IsLegal}
+use Rattle.std.proofs.Common.{rules, ◌≡◌, List, length, map, take, drop, reverse, Option, None, Some, sym, ◌∙◌, ap, subst}
+use Rattle.board_prelude.proofs.Common.{reverse-reverse, length-take-le, Entry, Setup, IsLegal}
 use Rattle.run_order.specs.declared.done.Done.{Done}
 use Rattle.run_order.specs.Common.{over, placed, Order, all_looks_in}
 use Rattle.run_order.proofs.Unlooked.{unlooked}
@@ -31,7 +31,9 @@ returns-then-not-has_looks-clause-placed c =
     subst (λ (order : Option Order). entries_of order (reverse bus) ≡ placed c.args.version later lists (entries_of order before)) (sym none) (cut ∙ sym same)
 
 pub begin-requires-clause-legal : goal.begin-requires-clause-legal
-begin-requires-clause-legal c = (c.requires.legal.0, legal_front c.requires.legal.0 c.args.opened c.args.bus.now c.requires.legal.1)
+begin-requires-clause-legal c =
+    let setup : Setup = c.requires.legal.0 in
+    (setup, subst (λ (front : List Entry). IsLegal setup (reverse front)) (sym c.before.ensures.entries) (legal_front setup c.args.opened c.args.bus.now c.requires.legal.1))
 
 pub returns-clause-placed : goal.returns-clause-placed
 returns-clause-placed c =
@@ -40,8 +42,10 @@ returns-clause-placed c =
     let lists : List (List Done) = map (λ done. done.now) c.args.works.items in
     let none : c.args.self.now.order ≡ None = search rules in
     let begun : Order = c.in_ok-order.order in
-    let size : begun.bus ≡ c.args.opened = c.in_ok-order.ensures.bus ∙ length-take-le c.args.opened bus c.requires.gained in
+    let front : c.before.result ≡ take c.args.opened bus = c.before.ensures.entries in
+    let size : begun.bus ≡ c.args.opened = c.in_ok-order.ensures.bus ∙ ap length front ∙ length-take-le c.args.opened bus c.requires.gained in
+    let own = subst (λ (b : List Entry). over b begun.entries ≡ reverse b) front c.in_ok-order.ensures.same in
     let same : entries_of (Some begun) before ≡ before =
-    ap (λ (b : List Entry). over b begun.entries) (reverse-reverse (take c.args.opened bus)) ∙ c.in_ok-order.ensures.same in
+    ap (λ (b : List Entry). over b begun.entries) (reverse-reverse (take c.args.opened bus)) ∙ own in
     taken_in bus c.args.opened c.args.version lists begun c.place-2.new.self c.requires.gained size c.place-2.ensures.within c.in_ok-place.ensures.placed
     ∙ ap (placed c.args.version (drop c.args.opened bus) lists) (same ∙ ap (λ (order : Option Order). entries_of order before) (sym none))

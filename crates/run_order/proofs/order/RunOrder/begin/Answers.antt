@@ -1,20 +1,21 @@
-use Rattle.std.proofs.Common.{ℕ, ◌∷◌, get_or, ◌∙◌, ap, arith}
-use Rattle.board_prelude.proofs.Common.{get_or_default, Entry, next_entry}
+use Rattle.std.proofs.Common.{ℕ, ◌<◌, ◌∷◌, length, get_or, sym, ◌∙◌, ap, arith}
+use Rattle.board_prelude.proofs.Common.{Entry, next_entry}
 use Rattle.run_order.specs.Over.{nowhere, over}
 use Rattle.run_order.proofs.Unlooked.{begin_step}
 use Rattle.run_order.proofs.order.RunOrder.begin.Goals as goal
 
-pub loop-entry-preserved : goal.loop-entry-preserved
-loop-entry-preserved c =
-    let l = c.loop-entry in
+pub loop-i-preserved : goal.loop-i-preserved
+loop-i-preserved c =
+    let l = c.loop-i in
     let entries = c.args.entries.now in
     let bus : ℕ → Entry = λ n. get_or entries n nowhere in
-    let is = get_or_default entries l.entry-index _ nowhere c.loop-entry-test.true in
+    let less : l.i < length entries = omega (arith, c.loop-i-test.true, c.len-i-end.ensures.length) in
+    let is = sym (c.entry.ensures.entry nowhere) in
     let at = ap bus l.invariant.bus in
     let pushed = c.push_bus.ensures.pushed entries ∙ (λ t. next_entry (over entries l.order.entries) (is t).actor (at t).event (at t).reply ∷ over entries l.order.entries) in
     record {
-      same = begin_step c.requires.legal.0 entries l.entry-index nowhere c.requires.legal.1 c.loop-entry-test.true (over entries l.order.entries) l.invariant.same _ pushed;
+      same = begin_step c.requires.legal.0 entries l.i nowhere c.requires.legal.1 less (over entries l.order.entries) l.invariant.same _ pushed;
       bus = omega (arith, c.push_bus.ensures.bus, l.invariant.bus);
-      room = omega (arith, c.push_bus.ensures.spare, l.invariant.room, c.loop-entry-test.true);
+      room = omega (arith, c.push_bus.ensures.spare, l.invariant.room, less);
       most = omega (arith, c.push_bus.ensures.keeps, l.invariant.most);
     }

@@ -1,0 +1,18 @@
+use Rattle.std.proofs.Common.{◌<◌, Some, slice_get, length, reverse, ◌∙◌, ap, sym, arith}
+use Rattle.board_prelude.proofs.Common.{length-map, reverse-reverse}
+use Rattle.std.proofs.lemmas.List.{length-reverse}
+use Rattle.access_history.specs.Past.{Past}
+use Rattle.access_history.specs.Packed.{entry_in, entries_in}
+use Rattle.access_history.proofs.Pushed.{entry_at}
+use Rattle.access_history.proofs.history.History.entry.Goals as goal
+
+pub returns : goal.returns
+returns c =
+    let list = c.self.inside.parts.items in
+    let entries = c.self.inside.entries.items in
+    let seen = sym (reverse-reverse (entries_in list entries)) ∙ ap (λ (past : Past). reverse past.entries) c.self.view_is in
+    let within : c.args.i < length entries = omega (arith, c.requires, ap length seen, length-reverse c.args.self.now.entries, length-map entries (entry_in list)) in
+    record {
+      entry = ap (λ all. slice_get all c.args.i) (sym seen) ∙ entry_at list entries c.args.i c.index.result.now within c.index.ensures
+          ∙ ap (λ of. Some (entry_in of c.index.result.now)) (sym c.deref.ensures.value) ∙ ap Some (sym c.entry.ensures.entry);
+    }

@@ -1,0 +1,5 @@
+use Rattle.std.proofs.Common.{◌<◌, All, length, take}
+use Rattle.board_tests.proofs.look_places.have_callers.Given as goal
+
+abbrev pub invariant-loop-i : goal.invariant-loop-i
+invariant-loop-i l = All (λ entry. entry.actor < length l.works.items) (take l.i l.bus)
