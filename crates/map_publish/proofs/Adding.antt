@@ -5,7 +5,7 @@ use mathlib.Core.List.{IsPrefix}
 use prog.Atomic.{either}
 use Rattle.logbook.specs.Pages.{Cell, cell, keeps, no_nib, step, Moves, Goes}
 use Rattle.map_publish.specs.declared.mark.Mark.{Mark}
-use Rattle.map_publish.specs.Fronts.{KeepsLength, AddsStep, ReadsLength}
+use Rattle.map_publish.specs.Fronts.{KeepsLength, AddsStep}
 use Rattle.map_publish.proofs.Fronts.{prefix_whole}
 
 abbrev pub shown : List Mark → List Mark
@@ -46,22 +46,3 @@ pub adds_moves : (v : List Mark) (e : Mark) (old : ℕ) → length v ≡ old
 adds_moves v e old len cs log kept pre away =
     let P : List Cell → Type 0 = λ c. (0 < length c) × ((cell c 0).1 ≡ true) × Goes KeepsLength shown moved 0 (v, (no_nib, None)) (λ n. either (n == old) (old + 1) n) (AddsStep (step 0 old (old + 1) e) (v, (no_nib, None))) c log in
     subst P (sym kept.words) (omega arith, refl, adds_goes log v e old len pre (length log == old) refl)
-
-pub reads_goes : (log v : List Mark) (e : Mark)
-    → Goes KeepsLength shown moved 0 (v, (no_nib, None)) (λ n. n) (ReadsLength (step 0 0 0 e) (v, (no_nib, None))) ((length log, true) ∷ (0, true) ∷ []) log
-reads_goes log v e =
-    let all : length log ≡ length (log ++ []) = sym (ap length (append-nil log)) in (
-      keeps,
-      [],
-      None,
-      tt,
-      record { words = ap (λ (k : ℕ). (k, true) ∷ (0, true) ∷ []) all },
-      inl (refl, refl),
-      all,
-    )
-
--- a look at the length adds nothing
-pub reads_moves : (v : List Mark) (e : Mark) → Moves KeepsLength shown moved 0 (v, (no_nib, None)) (λ n. n) (ReadsLength (step 0 0 0 e) (v, (no_nib, None)))
-reads_moves v e cs log kept pre away =
-    let P : List Cell → Type 0 = λ c. (0 < length c) × ((cell c 0).1 ≡ true) × Goes KeepsLength shown moved 0 (v, (no_nib, None)) (λ n. n) (ReadsLength (step 0 0 0 e) (v, (no_nib, None))) c log in
-    subst P (sym kept.words) (omega arith, refl, reads_goes log v e)

@@ -3,3 +3,4 @@ pub mod Adding
 pub mod Changes
 pub mod Naming
 pub mod Looks
+pub mod Sights

@@ -14,7 +14,3 @@ head_of book = record { tracked = true; key = 0; book = book }
 -- the entry was added to all that had been seen, or there was more in the list
 abbrev pub AddsStep : Step Mark → View Mark ℕ → ℕ → View Mark ℕ → Type 0
 AddsStep step before found now = MatchBool (found == step.old) (now.0 ≡ before.0 ++ step.ask ∷ []) (Unit {0})
-
--- the number that was read is the length of all that is in the list
-abbrev pub ReadsLength : Step Mark → View Mark ℕ → ℕ → View Mark ℕ → Type 0
-ReadsLength step before found now = found ≡ length now.0

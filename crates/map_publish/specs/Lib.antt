@@ -1,5 +1,6 @@
 pub mod Lists
 pub mod Changes
+pub mod Sights
 pub mod Props
 pub mod Fronts
 pub mod Names

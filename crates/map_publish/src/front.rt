@@ -50,28 +50,6 @@ impl Play<Mark, u64> for Add {
     ghost then = { AddsStep };
 }
 
-/// The step that reads the length of the list.
-struct Read;
-
-impl Play<Mark, u64> for Read {
-    ghost use Rattle.map_publish.specs.Fronts.{ReadsLength};
-
-    ghost then = { ReadsLength };
-}
-
-/// The entry of a step that only reads: none is added.
-struct NoEntry;
-
-impl Plain<(), Mark, u64> for NoEntry {
-    ghost use Rattle.std.specs.Prelude.{None};
-    ghost use Rattle.map_publish.specs.Lists.{no_map};
-    ghost use Rattle.map_publish.specs.declared.mark.Mark.TheVariants.{Opened};
-
-    ghost ask = { λ about. Opened no_map };
-
-    ghost state = { λ about. None };
-}
-
 /// The entry that opens a list: a map.
 struct Opens;
 
@@ -101,7 +79,7 @@ type Listed = Seen<Mark, u64, ListRule>;
 /// The entry that a step is to add. It takes no bytes.
 type Asked = Offer<Mark, u64, ListRule, Nothing>;
 
-/// The word that keeps the length of the list. Only the publisher adds to the list; viewers read its length.
+/// The word that keeps the length of the list. Only the publisher has it.
 pub(crate) type Head = Word<Mark, u64, ListRule>;
 
 /// A beginning of the list, of at least the opened map. Only its length takes bytes.
@@ -167,16 +145,6 @@ impl Front {
         let mut both = self.seen.again();
         both.learn(&other.seen);
         self.count <= other.count
-    }
-
-    /// Whether this beginning is the whole list. It adds no entry.
-    pub(crate) fn is_whole(&self, head: &Head) -> bool
-        requires head { head.now ≡ head_of self.now.seen.book }
-    {
-        let mut seen = self.seen.again();
-        let mut asked = self.seen.plain::<Nothing, (), NoEntry>(&());
-        let found = head.load::<Read, Nothing>(&mut seen, &mut asked);
-        found == u64::from(self.count)
     }
 
     /// Adds a change to the list, and returns this beginning with the change at its end. None where the list already

@@ -10,6 +10,7 @@ mod names;
 mod publisher;
 mod sends;
 mod shown;
+mod sight;
 mod viewer;
 
 pub use board_base::{Kind, NoMemory};

@@ -1,6 +1,5 @@
 //! The one who publishes.
 ghost use Rattle.std.specs.Prelude.{◌≡◌, ◌≤◌, ◌<◌, ◌++◌, ◌∷◌, [], All, drop, length, IfOk, OnOk, OnErr, MatchResult};
-ghost use Rattle.std.specs.Arc.{arc_value};
 ghost use Rattle.board_spec.specs.Limits.{entry_limit};
 ghost use Rattle.left_right.specs.Sides.{view};
 ghost use Rattle.map_publish.specs.Lists.{version_after, IsMapOfLog};
@@ -11,13 +10,15 @@ ghost use Rattle.map_publish.specs.Names.{name};
 use crate::front::{Front, Head};
 use crate::names::{Name, Names, Published, Stays, Tells};
 use crate::shown::{Next, Shown};
-use crate::viewer::{Note, Viewer};
+use crate::viewer::{Newest, Note, Viewer};
 use board_base::NoMemory;
 use board_spec::MapChange;
 use core::mem::replace_with;
+use crossbeam_utils::CachePadded;
 use left_right::writer::Writer;
 use map_builder::FlatMap;
 use std::alloc::{AllocError, Global};
+use std::sync::atomic::{AtomicU64, Ordering};
 use std::sync::{Arc, Wait};
 
 pub(crate) type Copies = Writer<Shown, Next, Name, Published>;
@@ -26,10 +27,11 @@ pub(crate) type Copies = Writer<Shown, Next, Name, Published>;
 /// it by `close`.
 pub struct Publisher {
     writer: Copies,
-    head: Arc<Head>,
+    head: Head,
+    newest: Arc<Newest>,
     /// The list of what is published.
     pub front: Front,
-    ghost head_is: { arc_value head ≡ head_of front.seen.book },
+    ghost head_is: { head ≡ head_of front.seen.book },
     ghost quiet: { drop writer.behind writer.log.items ≡ [] },
     ghost shows: { writer.desk.shown.value.front ≡ front },
     ghost listed: { writer.desk.shown.value.list.log ≡ front.seen.log },
@@ -95,9 +97,10 @@ impl Publisher {
         ensures list { MatchResult result (λ _. self.new.front.seen.log ≡ self.old.front.seen.log ++ Changed change.now ∷ []) (λ _. self.new.front.seen.log ≡ self.old.front.seen.log) }
         ensures refused { OnErr result (self.new.front ≡ self.old.front) }
     {
-        let front = self.front.add(&*self.head, change).ok_or(NoMemory)?;
+        let front = self.front.add(&self.head, change).ok_or(NoMemory)?;
         let next = (rt, *change, front.again());
         replace_with(&mut self.writer, next, published)?;
+        self.newest.store(u64::from(front.count), Ordering::Release);
         self.front = front;
         Ok(())
     }
@@ -134,6 +137,7 @@ impl Publisher {
         let Publisher {
             writer,
             head: _head,
+            newest: _newest,
             front: _front,
         } = self;
         let Shown {
@@ -149,11 +153,11 @@ impl Publisher {
         ensures same { self.new.front ≡ self.old.front }
         ensures viewer { IfOk result (λ viewer. viewer.front ≡ self.old.front) }
     {
-        let head = Arc::try_clone(&self.head)?;
+        let newest = Arc::try_clone(&self.newest)?;
         let mut reader = self.writer.factory().reader()?;
         let note = self.writer.tell::<Tells>();
         reader.learn::<Tells>(note);
-        let viewer = Viewer::new(reader, head, self.map().copy(), self.front.again());
+        let viewer = Viewer::new(reader, newest, self.map(), self.front.again());
         Ok(viewer)
     }
 }
@@ -190,7 +194,7 @@ fn publisher_of<R: Wait>(
     ensures list { IfOk result (λ publisher. publisher.front.seen.log ≡ Opened map.now ∷ []) }
 {
     let (head, front) = Front::open(map).ok_or(NoMemory)?;
-    let Ok(head) = Arc::new(alloc, head) else {
+    let Ok(newest) = Arc::new(alloc, CachePadded::new(AtomicU64::new(1))) else {
         return Err(NoMemory);
     };
     let (first, second) = (Shown::new(map, &front), Shown::new(map, &front));
@@ -211,6 +215,7 @@ fn publisher_of<R: Wait>(
     Ok(Publisher {
         writer,
         head,
+        newest,
         front,
     })
 }

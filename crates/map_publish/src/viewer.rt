@@ -1,22 +1,24 @@
 //! One who looks at the published map.
 ghost use Rattle.std.specs.Prelude.{◌≡◌, ◌<◌, ◌≤◌, length, true, is_some, IsTrue, IsFalse};
-ghost use Rattle.std.specs.Arc.{arc_value};
 ghost use Rattle.std.specs.Option.{ForSome};
 ghost use mathlib.Core.List.{IsPrefix};
 ghost use Rattle.left_right.specs.Sides.{view};
-ghost use Rattle.map_publish.specs.Fronts.{head_of};
-ghost use Rattle.map_publish.specs.Lists.{opened_of, changes_of, version_after, IsMapOfLog, IsLookIn};
+ghost use Rattle.map_publish.specs.Lists.{opened_of, version_after, IsMapOfLog, IsLookIn};
 ghost use Rattle.map_publish.specs.Names.{name};
-ghost use Rattle.map_publish.specs.Props.{IsMapAfter-prop};
+ghost use Rattle.map_publish.specs.Props.{IsSightOf-prop};
+ghost use Rattle.map_publish.specs.Sights.{IsSightOf};
 
-use crate::front::{Front, Head};
+use crate::front::Front;
 use crate::names::{Name, Published, Stays};
 use crate::shown::Shown;
+use crate::sight::Sight;
 use board_base::Kind;
 use board_spec::Look;
+use crossbeam_utils::CachePadded;
 use left_right::reader::Reader;
 use map_builder::FlatMap;
 use std::sync::Arc;
+use std::sync::atomic::{AtomicU64, Ordering};
 
 /// What a publisher gives a viewer to learn from: the list as it was published when the note was made. Only its length
 /// takes bytes.
@@ -27,33 +29,35 @@ pub struct Note {
 
 pub(crate) type Place = Reader<Shown, Name, Published>;
 
-/// A viewer. It keeps a copy of the newest map that it was opened with, found by a look, or learnt from a note, and its
-/// place at the published copies.
+/// The length of the list that is published. The publisher raises it after each publish, so that a viewer takes a copy
+/// only where there is a newer one. It has its cache lines to itself.
+pub(crate) type Newest = CachePadded<AtomicU64>;
+
+/// A viewer. It keeps the sight of the newest map that it was opened with, found by a look, or learnt from a note, and
+/// its place at the published copies.
 #[derive(Drop)]
 pub struct Viewer {
     /// None only inside a call that reads what is published.
     reader: Option<Place>,
-    head: Arc<Head>,
-    map: FlatMap,
+    newest: Arc<Newest>,
+    sight: Sight,
     /// The list of that map.
     pub front: Front,
-    ghost is_map: { IsMapOfLog front.seen.log map } by { IsMapAfter-prop (opened_of front.seen.log) (changes_of front.seen.log) map },
+    ghost seen: { IsSightOf front.seen.log sight } by { IsSightOf-prop front.seen.log sight },
     ghost placed: { is_some reader ≡ true },
-    ghost head_is: { arc_value head ≡ head_of front.seen.book },
     ghost tied: { ForSome reader (λ r. view r.place ≡ name front.seen.book) },
 }
 
 impl Viewer {
-    pub(crate) fn new(reader: Place, head: Arc<Head>, map: FlatMap, front: Front) -> Viewer
-        requires map { IsMapOfLog front.seen.log map }
-        requires head { arc_value head ≡ head_of front.seen.book }
+    pub(crate) fn new(reader: Place, newest: Arc<Newest>, map: &FlatMap, front: Front) -> Viewer
+        requires map { IsMapOfLog front.seen.log map.now }
         requires tied { view reader.place ≡ name front.seen.book }
         ensures viewer { result.front ≡ front }
     {
         Viewer {
             reader: Some(reader),
-            head,
-            map,
+            newest,
+            sight: Sight::new(map),
             front,
         }
     }
@@ -94,7 +98,7 @@ impl Viewer {
         requires map { IsMapOfLog front.seen.log map.now }
         ensures learnt { self.new.front ≡ front }
     {
-        self.map.copy_from(map);
+        self.sight.take_in(map);
         self.front = front;
     }
 
@@ -116,16 +120,16 @@ impl Viewer {
     pub fn version(&self) -> u32
         ensures version { result ≡ version_after self.now.front.seen.log }
     {
-        self.map.version()
+        self.sight.version()
     }
 
-    /// Takes in the published map where the list is longer than the viewer's own. No clause can say that it compares
+    /// Takes in the published map where its list is longer than the viewer's own. No clause can say that it compares
     /// them: what a viewer knows is a beginning of the list, whether it looked at the list or not.
     fn keep_up(&mut self)
         ensures own { self.new.front.seen.book ≡ self.old.front.seen.book }
         ensures later { IsPrefix self.old.front.seen.log self.new.front.seen.log }
     {
-        if !self.front.is_whole(&*self.head) {
+        if self.newest.load(Ordering::Acquire) > u64::from(self.front.count) {
             self.refresh();
         }
     }
@@ -145,7 +149,7 @@ impl Viewer {
             Ok(reading) => {
                 let shown = reading.get();
                 if self.front.begins(&shown.front) && self.front.count < shown.front.count {
-                    self.map.copy_from(&shown.map);
+                    self.sight.take_in(&shown.map);
                     self.front = shown.front.again();
                 }
                 self.reader = Some(reading.leave());
@@ -153,13 +157,14 @@ impl Viewer {
         }
     }
 
-    /// A look at the viewer's own copy of the map.
-    fn find(&self, addr: u32, kind: Kind, smm: bool) -> Look
-        ensures look { IsLookIn self.now.front.seen.log addr kind smm result }
+    /// A look at the map that the viewer knows.
+    fn find(&mut self, addr: u32, kind: Kind, smm: bool) -> Look
+        ensures look { IsLookIn self.old.front.seen.log addr kind smm result }
+        ensures same { self.new.front ≡ self.old.front }
     {
-        let span = self.map.find(addr, kind, smm);
+        let span = self.sight.find(addr, kind, smm);
         Look {
-            version: self.map.version(),
+            version: self.sight.version(),
             lo: span.lo,
             hi: span.hi,
             area: span.area,

@@ -1,0 +1,44 @@
+-- What a viewer keeps of a map.
+use Rattle.std.proofs.Common.{◌≡◌, ◌≤◌, ◌∙◌, ℕ, Bool, List, length, map, take, ap, arith}
+use Rattle.std.proofs.lemmas.List.{length-map}
+use Rattle.board_prelude.proofs.Common.{Kind, Area, Setup, Bytes, MapRange, Tiles, IsFlatMapOf, IsSpan}
+use Rattle.addr_decode.specs.MapRegs.{StandsFor}
+use Rattle.map_builder.specs.Map.{Mapped, range_of}
+use Rattle.map_builder.specs.declared.range.Range.{Range}
+use Rattle.map_publish.specs.Common.{IsMapOfLog, bytes_after, changes_of}
+use Rattle.map_publish.specs.declared.mark.Mark.{Mark}
+use Rattle.map_publish.specs.Sights.{IsKept, IsSightOf, Sighted}
+
+-- a span is that of each address in it
+pub span_at :
+    (setup : Setup) (bytes : Bytes) (addr x : ℕ) (kind : Kind) (smm : Bool) (lo hi : ℕ) (area : Area) → IsSpan setup bytes addr kind smm lo hi area →
+    lo ≤ x → x ≤ hi → IsSpan setup bytes x kind smm lo hi area
+span_at setup bytes addr x kind smm lo hi area span above below = record {
+  above = above;
+  below = below;
+  last = span.last;
+  same = span.same;
+  begins = span.begins;
+  ends = span.ends;
+}
+
+-- the ranges of a map are kept, and no span is remembered
+pub kept_of :
+    (of : List MapRange) (seen cells : List Range) (count : ℕ) (kind : Kind) (smm : Bool) (area : Area) → map range_of seen ≡ of → Tiles 0 of →
+    length of ≤ 142 → count ≡ length seen → length cells ≡ 142 → take count cells ≡ seen →
+    IsKept cells count kind smm (record { lo = 1; hi = 0; area = area })
+kept_of of seen cells count kind smm area ranges tiles few all room laid = record {
+  room = room;
+  within = let long = length-map seen range_of in let short = ap length ranges in omega (arith, long, short, few, all);
+  tiles = rw (laid, ranges) tiles;
+  spans = λ some. absurd (omega (arith, some));
+}
+
+-- what is kept of a list's map is of that list
+pub sight_of :
+    (log : List Mark) (of : Mapped) (sight : Sighted) → IsMapOfLog log of → sight.version ≡ of.version →
+    ((setup : Setup) (bytes : Bytes) → StandsFor setup bytes of.regs → IsFlatMapOf setup bytes sight.ranges) → IsSightOf log sight
+sight_of log of sight is_map version flat = record {
+  same = version ∙ is_map.version;
+  flat = λ setup bytes stands. flat setup (bytes_after setup (changes_of log) bytes) (is_map.stands setup bytes stands);
+}
