@@ -2,12 +2,13 @@
 ghost use Rattle.std.specs.Prelude.{◌≡◌, ◌≤◌, length, take};
 ghost use Rattle.board_prelude.specs.Common.{Setup, Bytes, IsFlatMapOf, IsSpan};
 ghost use Rattle.addr_decode.specs.Common.{StandsFor};
+ghost use Rattle.map_builder.specs.Map.{most_ranges};
 
 use board_base::{Area, Kind};
 use map_builder::{FlatMap, Range, Span};
 use std::marker::Model;
 
-/// The most ranges that a map has.
+/// The most ranges that a map has: it has at most 141 edges.
 const MOST_RANGES: usize = 142;
 
 /// No address lies in it.
@@ -43,8 +44,8 @@ impl Model for Sight {
 
 /// Writes ranges over the first of a row.
 fn lay(row: &mut [Range; MOST_RANGES], ranges: &[Range]) -> usize
-    requires few { length ranges.now ≤ 142 }
-    ensures count { (result ≡ length ranges.now) × (length row.new ≡ 142) }
+    requires few { length ranges.now ≤ most_ranges }
+    ensures count { (result ≡ length ranges.now) × (length row.new ≡ most_ranges) }
     ensures laid { take result row.new ≡ ranges.now }
 {
     let count = ranges.len();
