@@ -3,7 +3,7 @@ use Rattle.std.proofs.Common.{◌≡◌, ◌≤◌, ◌∙◌, ℕ, Bool, List, 
 use Rattle.std.proofs.lemmas.List.{length-map}
 use Rattle.board_prelude.proofs.Common.{Kind, Area, Setup, Bytes, MapRange, Tiles, IsFlatMapOf, IsSpan}
 use Rattle.addr_decode.specs.MapRegs.{StandsFor}
-use Rattle.map_builder.specs.Map.{Mapped, range_of}
+use Rattle.map_builder.specs.Map.{Mapped, most_ranges, range_of}
 use Rattle.map_builder.specs.declared.range.Range.{Range}
 use Rattle.map_publish.specs.Common.{IsMapOfLog, bytes_after, changes_of}
 use Rattle.map_publish.specs.declared.mark.Mark.{Mark}
@@ -25,7 +25,7 @@ span_at setup bytes addr x kind smm lo hi area span above below = record {
 -- the ranges of a map are kept, and no span is remembered
 pub kept_of :
     (of : List MapRange) (seen cells : List Range) (count : ℕ) (kind : Kind) (smm : Bool) (area : Area) → map range_of seen ≡ of → Tiles 0 of →
-    length of ≤ 142 → count ≡ length seen → length cells ≡ 142 → take count cells ≡ seen →
+    length of ≤ most_ranges → count ≡ length seen → length cells ≡ most_ranges → take count cells ≡ seen →
     IsKept cells count kind smm (record { lo = 1; hi = 0; area = area })
 kept_of of seen cells count kind smm area ranges tiles few all room laid = record {
   room = room;
