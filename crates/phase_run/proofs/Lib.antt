@@ -1,5 +1,6 @@
 pub mod Beginnings
-pub mod Pairs
+pub mod Due
+pub mod Halves
 pub mod Phases
 pub mod Numbers
 pub mod Workers

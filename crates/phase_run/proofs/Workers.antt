@@ -14,7 +14,8 @@ use Rattle.run_order.specs.Common.{done_by, IsWork, Begins, HasMoreWrites, IsDon
 use Rattle.run_order.proofs.Common.{begins_trans, all_reverse, all_turned}
 use Rattle.phase_run.specs.declared.worker.Work.{Work}
 use Rattle.phase_run.specs.declared.jobs.Job.{Job}
-use Rattle.phase_run.specs.Jobs.{IsReadyToWork, IsRun, AreAsked, HasRun, done_in}
+use Rattle.phase_run.specs.Jobs.{IsReadyToWork, IsRun, AreAsked, AreDue, HasRun, done_in}
+use Rattle.phase_run.proofs.Due.{due_by_number}
 use Rattle.phase_run.proofs.Numbers.{map_reverse, all_mapped, map_twice, same_lengths, numbered_length, numbers_below, same_numbers, by_number}
 
 abbrev cpu_in : Job → Cpu
@@ -41,21 +42,29 @@ to_cpus P jobs cpus e all = subst (All P) e (All-map P cpu_in (reverse jobs) (al
 to_works : (P : Work → Type 0) (jobs : List Job) (works : List Work) → map work_in (reverse jobs) ≡ works → All (λ job. P job.work) jobs → All P works
 to_works P jobs works e all = subst (All P) e (All-map P work_in (reverse jobs) (all_reverse (λ job. P job.work) jobs all))
 
+job_numbers : (cpus1 : List Cpu) (jobs1 : List Job) (n : ℕ) → map cpu_in (reverse jobs1) ≡ cpus1 → map number_by cpus1 ≡ range_with_len 0 n
+    → map number_in (reverse jobs1) ≡ range_with_len 0 n
+job_numbers cpus1 jobs1 n are_cpus1 numbers = sym (map_twice cpu_in number_by (reverse jobs1)) ∙ (ap (map number_by) are_cpus1 ∙ numbers)
+
 pub ready : (live : Live) (board : Standing) (n : ℕ) (cpus : List Cpu) (works : List Work) (jobs : List Job) (phase : List Statement) (before : ℕ)
     → (o : AreOpened board n live cpus) → map cpu_in (reverse jobs) ≡ cpus → map work_in (reverse jobs) ≡ works
-    → All (λ work. work.done.items ≡ []) works → All (λ work. work.asked ≤ before) works
+    → All (λ work. work.done.items ≡ []) works → AreDue phase works → All (λ work. work.asked ≤ before) works
     → All (λ statement. IsInRange board.setup statement.event) phase → ((actor : ℕ) → length (entries_by actor board.entries) ≤ before)
     → before + length phase ≤ most_statements → All (IsReadyToWork live board (Some o.all.opened) phase before) jobs
-ready live board n cpus works jobs phase before o are_cpus are_works empty asked in_range mine room = λ k d less. record {
-  own = from_cpus (IsCallerOf live) jobs cpus are_cpus o.all.own k d less;
-  same = from_cpus (λ cpu. part_of cpu.pass ≡ Some o.all.opened) jobs cpus are_cpus o.all.same k d less;
-  new = from_cpus (IsNew board) jobs cpus are_cpus o.new k d less;
-  in_range = in_range;
-  empty = from_works (λ work. work.done.items ≡ []) jobs works are_works empty k d less;
-  mine = mine _;
-  asked = from_works (λ work. work.asked ≤ before) jobs works are_works asked k d less;
-  room = room;
-}
+ready live board n cpus works jobs phase before o are_cpus are_works empty due asked in_range mine room =
+    let named : map number_in (reverse jobs) ≡ range_with_len 0 n = job_numbers cpus jobs n are_cpus o.numbers in
+    let size : length works ≡ n = sym (ap length are_works) ∙ (length-map (reverse jobs) work_in ∙ numbered_length number_in (reverse jobs) n named) in
+    λ k d less. record {
+      own = from_cpus (IsCallerOf live) jobs cpus are_cpus o.all.own k d less;
+      same = from_cpus (λ cpu. part_of cpu.pass ≡ Some o.all.opened) jobs cpus are_cpus o.all.same k d less;
+      new = from_cpus (IsNew board) jobs cpus are_cpus o.new k d less;
+      in_range = in_range;
+      empty = from_works (λ work. work.done.items ≡ []) jobs works are_works empty k d less;
+      due = due_by_number jobs works phase n are_works named size due k d less;
+      mine = mine _;
+      asked = from_works (λ work. work.asked ≤ before) jobs works are_works asked k d less;
+      room = room;
+    }
 
 -- the numbers of the callers are those before
 numbers_again : (cpus cpus1 : List Cpu) (jobs jobs1 : List Job) → map cpu_in (reverse jobs) ≡ cpus → map cpu_in (reverse jobs1) ≡ cpus1
@@ -63,10 +72,6 @@ numbers_again : (cpus cpus1 : List Cpu) (jobs jobs1 : List Job) → map cpu_in (
 numbers_again cpus cpus1 jobs jobs1 are_cpus are_cpus1 same =
     ap (map number_by) (sym are_cpus1) ∙ (map_twice cpu_in number_by (reverse jobs1) ∙ (map_reverse number_in jobs1
     ∙ (ap reverse same ∙ (sym (map_reverse number_in jobs) ∙ (sym (map_twice cpu_in number_by (reverse jobs)) ∙ ap (map number_by) are_cpus)))))
-
-job_numbers : (cpus1 : List Cpu) (jobs1 : List Job) (n : ℕ) → map cpu_in (reverse jobs1) ≡ cpus1 → map number_by cpus1 ≡ range_with_len 0 n
-    → map number_in (reverse jobs1) ≡ range_with_len 0 n
-job_numbers cpus1 jobs1 n are_cpus1 numbers = sym (map_twice cpu_in number_by (reverse jobs1)) ∙ (ap (map number_by) are_cpus1 ∙ numbers)
 
 pub all_again : (live : Live) (board : Standing) (n : ℕ) (cpus cpus1 : List Cpu) (jobs jobs1 : List Job) (phase : List Statement) (before : ℕ)
     → (o : AreOpened board n live cpus) → map cpu_in (reverse jobs) ≡ cpus → map cpu_in (reverse jobs1) ≡ cpus1 → map number_in jobs1 ≡ map number_in jobs

@@ -1,7 +1,7 @@
 -- The workers of a phase, and what they leave. Histories have the newest entry first.
 use Rattle.std.specs.Prelude.{ℕ, ◌≡◌, ◌+◌, ◌<◌, ◌≤◌, false, List, [], ◌∷◌, ◌++◌, length, map, All, Option}
 use Rattle.bus_turn.specs.Passes.{part_of}
-use Rattle.board_prelude.specs.Common.{Entry, Statement, Setup, IsInRange, IsLegal, entries_by, statements_of, HasPhases, most_statements}
+use Rattle.board_prelude.specs.Common.{Entry, Statement, Setup, IsInRange, IsLegal, entries_by, events_by, range_with_len, statements_of, HasPhases, most_statements}
 use Rattle.board_core.specs.Kept.{Standing}
 use Rattle.board_live.specs.declared.shared.Origin.{Origin}
 use Rattle.board_live.specs.declared.live.Live.{Live}
@@ -18,6 +18,11 @@ pub record IsStatement (setup : Setup) (cpus : ℕ) (statement : Statement) : Ty
   pub actor : statement.actor < cpus
   pub event : IsInRange setup statement.event
 
+-- from processor 0 on, each work says how many statements its processor has in a phase
+abbrev pub AreDue : List Statement → List Work → Type 0
+AreDue phase works =
+    map (λ work. work.due) works ≡ map (λ actor. length (events_by actor phase)) (range_with_len 0 (length works))
+
 -- a worker that is about to do a phase, with a caller of a board that was just opened. No processor was given more than
 -- `before` statements until then
 pub record IsReadyToWork (live : Live) (board : Standing) (part : Option Origin) (phase : List Statement) (before : ℕ)
@@ -27,6 +32,7 @@ pub record IsReadyToWork (live : Live) (board : Standing) (part : Option Origin)
   pub new : IsNew board job.cpu
   pub in_range : All (λ statement. IsInRange board.setup statement.event) phase
   pub empty : job.work.done.items ≡ []
+  pub due : job.work.due ≡ length (events_by job.cpu.number phase)
   pub mine : length (entries_by job.cpu.number board.entries) ≤ before
   pub asked : job.work.asked ≤ before
   pub room : before + length phase ≤ most_statements

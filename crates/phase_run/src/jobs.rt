@@ -1,9 +1,10 @@
 //! The workers of a phase: each has a caller of the shared board.
 
-ghost use Rattle.std.specs.Prelude.{◌≡◌, ◌+◌, ◌<◌, ◌≤◌, ℕ, [], All, Option, false, length, map, reverse, vec_capacity, IfOk, IsTrue, IsFalse};
-ghost use Rattle.board_core.specs.Kept.{Standing};
-ghost use Rattle.board_live.specs.declared.shared.Origin.{Origin};
-ghost use Rattle.phase_run.specs.Jobs.{IsReadyToWork, CanRun, IsRun, Runs, done_in};
+ghost use Rattle.std.specs.Prelude.{◌≡◌, ◌<◌, ◌≤◌, ℕ, [], All, false, length, map, reverse, slice_index, vec_capacity, IfOk, IsTrue, IsFalse};
+ghost use Rattle.std.specs.List.{AllZip};
+ghost use Rattle.std.specs.Thread.{IsSync};
+ghost use Rattle.board_prelude.specs.Common.{events_by};
+ghost use Rattle.phase_run.specs.Jobs.{CanRun, Runs, AreDue, done_in};
 
 use crate::worker::Work;
 use board_base::{Gate, NoMemory};
@@ -13,7 +14,7 @@ use board_spec::limits::ACTORS;
 use run_order::Works;
 use std::alloc::Global;
 use std::sync::Wait;
-use std::thread::{Threads, for_each_mut};
+use std::thread::{Threads, join_mut};
 
 /// A worker, with the caller that it has in a phase.
 pub(crate) struct Job {
@@ -33,7 +34,16 @@ impl Job {
     }
 }
 
-/// Does a phase, each worker on a thread of its own. All have ended when it returns.
+/// Whether none of these workers has a statement in the phase.
+fn are_idle(jobs: &[Job]) -> bool
+    ensures idle { IsTrue result → All (λ job. job.work.due ≡ 0) jobs.now }
+{
+    jobs.iter().all(|job| job.work.due == 0)
+}
+
+/// Does a phase: each worker that has statements in it on a thread of its own, of which the calling thread is one. The
+/// others stay as they are. All have ended when it returns.
+#[cycle(halves)]
 pub(crate) fn run_jobs<R: Threads + Wait + Sync, G: Gate>(
     rt: &R,
     live: &Live,
@@ -43,29 +53,59 @@ pub(crate) fn run_jobs<R: Threads + Wait + Sync, G: Gate>(
 )
     requires some { 0 < length jobs.old }
     requires can { All (CanRun live.now phase.now) jobs.old }
-    ensures numbers { map (λ job. job.cpu.number) jobs.new ≡ map (λ job. job.cpu.number) jobs.old }
-    ensures run { (board : Standing) (part : Option Origin) (before : ℕ)
-        → All (IsReadyToWork live.now board part phase.now before) jobs.old
-        → All (IsRun live.now board part phase.now before) jobs.new }
+    ensures runs { AllZip (Runs live.now phase.now) jobs.old jobs.new }
 {
-    let count = jobs.len();
-    for_each_mut(
+    if jobs.len() == 1 {
+        jobs[0].run(live, rt, phase, gate);
+        return;
+    }
+    let (low, high) = jobs.split_at_mut(jobs.len() / 2);
+    if are_idle(low) {
+        run_jobs(rt, live, phase, gate, high);
+    } else if are_idle(high) {
+        run_jobs(rt, live, phase, gate, low);
+    } else {
+        run_both(rt, live, phase, gate, low, high);
+    }
+}
+
+/// Does a phase, the first workers on another thread and the rest on this one.
+#[cycle(halves)]
+fn run_both<R: Threads + Wait + Sync, G: Gate>(
+    rt: &R,
+    live: &Live,
+    phase: &[Statement],
+    gate: &G,
+    low: &mut [Job],
+    high: &mut [Job],
+)
+    requires some_low { 0 < length low.old }
+    requires some_high { 0 < length high.old }
+    requires can_low { All (CanRun live.now phase.now) low.old }
+    requires can_high { All (CanRun live.now phase.now) high.old }
+    ensures low { AllZip (Runs live.now phase.now) low.old low.new }
+    ensures high { AllZip (Runs live.now phase.now) high.old high.new }
+{
+    join_mut(
         rt,
-        jobs,
-        count,
-        &|_i: usize, job: &mut Job|
-            requires { CanRun live.now phase.now job.old }
-            ensures { Runs live.entry.now phase.entry.now job.old job.new }
-        { job.run(live, rt, phase, gate) },
+        &mut ||
+            requires { IsSync R.row × IsSync G.row × (0 < length low.now) × All (CanRun live.now phase.now) low.now }
+            ensures { AllZip (Runs live.entry.now phase.entry.now) low.entry.now low.exit.now }
+        { run_jobs(rt, live, phase, gate, low) },
+        &mut ||
+            requires { IsSync R.row × IsSync G.row × (0 < length high.now) × All (CanRun live.now phase.now) high.now }
+            ensures { AllZip (Runs live.entry.now phase.entry.now) high.entry.now high.exit.now }
+        { run_jobs(rt, live, phase, gate, high) },
     );
 }
 
 /// How many statements each processor has in a phase.
-fn own_in(phase: &[Statement]) -> [usize; ACTORS] {
+fn own_in(phase: &[Statement]) -> [usize; ACTORS]
+    ensures own { (actor : ℕ) → actor < 256 → slice_index result actor ≡ length (events_by actor phase.now) }
+{
     let mut counts = [0_usize; ACTORS];
     for statement in phase {
-        let actor = usize::from(statement.actor);
-        counts[actor] = counts[actor].saturating_add(1);
+        counts[usize::from(statement.actor)] += 1;
     }
     counts
 }
@@ -78,7 +118,11 @@ pub(crate) fn first_works(alloc: Global, cpus: u8) -> Result<Vec<Work>, NoMemory
     let mut works = Vec::with_capacity(alloc, usize::from(cpus))?;
     for _ in 0..cpus {
         let done = Vec::new(alloc);
-        works.push(Work { done, asked: 0 })?;
+        works.push(Work {
+            done,
+            asked: 0,
+            due: 0,
+        })?;
     }
     Ok(works)
 }
@@ -92,13 +136,15 @@ pub(crate) fn next_works(
     requires few { length works.now ≤ 8 }
     ensures asked { IfOk result (λ next. map (λ work. work.asked) next.items ≡ map (λ work. work.asked) works.now) }
     ensures empty { IfOk result (λ next. All (λ work. work.done.items ≡ []) next.items) }
+    ensures due { IfOk result (λ next. AreDue phase.now next.items) }
 {
     let own = own_in(phase);
     let mut next = Vec::with_capacity(alloc, works.len())?;
     for actor in 0..works.len() {
-        let done = Vec::with_capacity(alloc, own[actor])?;
+        let due = own[actor];
+        let done = Vec::with_capacity(alloc, due)?;
         let asked = works[actor].asked;
-        next.push(Work { done, asked })?;
+        next.push(Work { done, asked, due })?;
     }
     Ok(next)
 }

@@ -12,11 +12,13 @@ use board_spec::{Event, Statement};
 use run_order::Done;
 use std::sync::Wait;
 
-/// What a worker did in a phase, and how many statements its processor was given in all phases so far.
+/// What a worker did in a phase, how many statements its processor was given in all phases so far, and how many it has
+/// in this one.
 #[derive(Drop)]
 pub(crate) struct Work {
     pub done: Vec<Done>,
     pub asked: u32,
+    pub due: usize,
 }
 
 /// Does one statement: a look at the published map, and all else through the bus turn.

@@ -5,6 +5,7 @@ use Rattle.phase_run.specs.declared.worker.Work.{Work}
 use Rattle.phase_run.specs.declared.jobs.Job.{Job}
 use Rattle.phase_run.specs.Jobs.{CanRun, IsReadyToWork}
 use Rattle.phase_run.proofs.Numbers.{same_lengths, numbered_length, jobs_count, asked_again, lent_back}
+use Rattle.phase_run.proofs.Halves.{numbers_stay, all_run}
 use Rattle.phase_run.proofs.Workers.{ready, all_again, has_run, are_asked}
 use Rattle.phase_run.proofs.run.run_workers.Goals as goal
 
@@ -70,7 +71,7 @@ run_jobs-requires-clause-can g c κs within =
     let opened = c.in-Ok.ensures.opened in
     let next = asked_again most c.args.run.works.items c.in_ok-works.works.items (c.in_ok-works.ensures.asked ∙ ap (map (λ (w : Work). w.asked)) c.deref.ensures.value) asked.asked in
     let all = ready c.in-Ok.live c.args.run.board c.len-2.result c.in-Ok.cpus.items c.in_ok-works.works.items c.begin.new.jobs.items c.args.phase.now most
-    opened c.begin.ensures.cpus c.begin.ensures.works c.in_ok-works.ensures.empty next (λ k d less. (c.requires.can.in_range k d less).event) asked.mine room in
+    opened c.begin.ensures.cpus c.begin.ensures.works c.in_ok-works.ensures.empty c.in_ok-works.ensures.due next (λ k d less. (c.requires.can.in_range k d less).event) asked.mine room in
     subst (All (CanRun c.in-Ok.live c.args.phase.now)) (sym c.deref_mut.ensures.value) (λ k d less. (c.args.run.board, Some opened.all.opened, most, all k d less))
 
 pub close-board-requires : goal.close-board-requires
@@ -81,13 +82,13 @@ close-board-requires g c =
     let opened = c.in-Ok.ensures.opened in
     let next = asked_again most c.args.run.works.items c.in_ok-works.works.items (c.in_ok-works.ensures.asked ∙ ap (map (λ (w : Work). w.asked)) c.deref.ensures.value) asked.asked in
     let all = ready c.in-Ok.live c.args.run.board c.len-2.result c.in-Ok.cpus.items c.in_ok-works.works.items c.begin.new.jobs.items c.args.phase.now most
-    opened c.begin.ensures.cpus c.begin.ensures.works c.in_ok-works.ensures.empty next (λ k d less. (c.requires.can.in_range k d less).event) asked.mine room in
+    opened c.begin.ensures.cpus c.begin.ensures.works c.in_ok-works.ensures.empty c.in_ok-works.ensures.due next (λ k d less. (c.requires.can.in_range k d less).event) asked.mine room in
     let lent : List Job = c.run_jobs.new.jobs in
-    let numbers = c.run_jobs.ensures.numbers ∙ ap (map (λ (job : Job). job.cpu.number)) c.deref_mut.ensures.value in
+    let numbers = numbers_stay c.in-Ok.live c.args.phase.now c.deref_mut.result.now lent c.run_jobs.ensures.runs ∙ ap (map (λ (job : Job). job.cpu.number)) c.deref_mut.ensures.value in
     let jobs_len : c.begin.new.jobs.len ≡ length c.begin.new.jobs.items = search rules in
     let back = lent_back c.begin.new.jobs.len c.begin.new.jobs.items lent jobs_len (same_lengths (λ (job : Job). job.cpu.number) (λ (job : Job). job.cpu.number) lent c.begin.new.jobs.items numbers) in
     let cpus : map (λ (job : Job). job.cpu) (reverse lent) ≡ c.end.new.cpus.items = ap (λ (jobs : List Job). map (λ (job : Job). job.cpu) (reverse jobs)) (sym back) ∙ c.end.ensures.cpus in
-    let run = c.run_jobs.ensures.run c.args.run.board (Some opened.all.opened) most
+    let run = all_run c.in-Ok.live c.args.run.board (Some opened.all.opened) c.args.phase.now most c.deref_mut.result.now lent c.run_jobs.ensures.runs
     (subst (All (IsReadyToWork c.in-Ok.live c.args.run.board (Some opened.all.opened) c.args.phase.now most)) (sym c.deref_mut.ensures.value) all) in
     record {
       cpus = all_again c.in-Ok.live c.args.run.board c.len-2.result c.in-Ok.cpus.items c.end.new.cpus.items c.begin.new.jobs.items lent c.args.phase.now most
@@ -103,7 +104,7 @@ returns-clause-goes_on g c =
     let opened = c.in-Ok.ensures.opened in
     let size : length c.in-Ok.cpus.items ≡ c.len-2.result = numbered_length (λ (cpu : Cpu). cpu.number) c.in-Ok.cpus.items c.len-2.result opened.numbers in
     let lent : List Job = c.run_jobs.new.jobs in
-    let numbers = c.run_jobs.ensures.numbers ∙ ap (map (λ (job : Job). job.cpu.number)) c.deref_mut.ensures.value in
+    let numbers = numbers_stay c.in-Ok.live c.args.phase.now c.deref_mut.result.now lent c.run_jobs.ensures.runs ∙ ap (map (λ (job : Job). job.cpu.number)) c.deref_mut.ensures.value in
     let jobs_len : c.begin.new.jobs.len ≡ length c.begin.new.jobs.items = search rules in
     let back = lent_back c.begin.new.jobs.len c.begin.new.jobs.items lent jobs_len (same_lengths (λ (job : Job). job.cpu.number) (λ (job : Job). job.cpu.number) lent c.begin.new.jobs.items numbers) in
     let cpus : map (λ (job : Job). job.cpu) (reverse lent) ≡ c.end.new.cpus.items = ap (λ (jobs : List Job). map (λ (job : Job). job.cpu) (reverse jobs)) (sym back) ∙ c.end.ensures.cpus in
@@ -116,8 +117,8 @@ returns-clause-goes_on g c =
       asked = λ most asked room.
           let next = asked_again most c.args.run.works.items c.in_ok-works.works.items (c.in_ok-works.ensures.asked ∙ ap (map (λ (w : Work). w.asked)) c.deref.ensures.value) asked.asked in
           let all = ready c.in-Ok.live c.args.run.board c.len-2.result c.in-Ok.cpus.items c.in_ok-works.works.items c.begin.new.jobs.items c.args.phase.now most
-          opened c.begin.ensures.cpus c.begin.ensures.works c.in_ok-works.ensures.empty next (λ k d less. (c.requires.can.in_range k d less).event) asked.mine room in
-          let run = c.run_jobs.ensures.run c.args.run.board (Some opened.all.opened) most
+          opened c.begin.ensures.cpus c.begin.ensures.works c.in_ok-works.ensures.empty c.in_ok-works.ensures.due next (λ k d less. (c.requires.can.in_range k d less).event) asked.mine room in
+          let run = all_run c.in-Ok.live c.args.run.board (Some opened.all.opened) c.args.phase.now most c.deref_mut.result.now lent c.run_jobs.ensures.runs
           (subst (All (IsReadyToWork c.in-Ok.live c.args.run.board (Some opened.all.opened) c.args.phase.now most)) (sym c.deref_mut.ensures.value) all) in
           let fine : All (λ (job : Job). job.refused ≡ false) lent =
           subst (All (λ (job : Job). job.refused ≡ false)) (c.deref-2.ensures.value ∙ back) (c.is_refused-refused.ensures.none c.if-refused.false) in
@@ -137,13 +138,13 @@ returns-clause-run g c =
     let opened = c.in-Ok.ensures.opened in
     let next = asked_again most c.args.run.works.items c.in_ok-works.works.items (c.in_ok-works.ensures.asked ∙ ap (map (λ (w : Work). w.asked)) c.deref.ensures.value) asked.asked in
     let all = ready c.in-Ok.live c.args.run.board c.len-2.result c.in-Ok.cpus.items c.in_ok-works.works.items c.begin.new.jobs.items c.args.phase.now most
-    opened c.begin.ensures.cpus c.begin.ensures.works c.in_ok-works.ensures.empty next (λ k d less. (c.requires.can.in_range k d less).event) asked.mine room in
+    opened c.begin.ensures.cpus c.begin.ensures.works c.in_ok-works.ensures.empty c.in_ok-works.ensures.due next (λ k d less. (c.requires.can.in_range k d less).event) asked.mine room in
     let lent : List Job = c.run_jobs.new.jobs in
-    let numbers = c.run_jobs.ensures.numbers ∙ ap (map (λ (job : Job). job.cpu.number)) c.deref_mut.ensures.value in
+    let numbers = numbers_stay c.in-Ok.live c.args.phase.now c.deref_mut.result.now lent c.run_jobs.ensures.runs ∙ ap (map (λ (job : Job). job.cpu.number)) c.deref_mut.ensures.value in
     let jobs_len : c.begin.new.jobs.len ≡ length c.begin.new.jobs.items = search rules in
     let back = lent_back c.begin.new.jobs.len c.begin.new.jobs.items lent jobs_len (same_lengths (λ (job : Job). job.cpu.number) (λ (job : Job). job.cpu.number) lent c.begin.new.jobs.items numbers) in
     let cpus : map (λ (job : Job). job.cpu) (reverse lent) ≡ c.end.new.cpus.items = ap (λ (jobs : List Job). map (λ (job : Job). job.cpu) (reverse jobs)) (sym back) ∙ c.end.ensures.cpus in
-    let run = c.run_jobs.ensures.run c.args.run.board (Some opened.all.opened) most
+    let run = all_run c.in-Ok.live c.args.run.board (Some opened.all.opened) c.args.phase.now most c.deref_mut.result.now lent c.run_jobs.ensures.runs
     (subst (All (IsReadyToWork c.in-Ok.live c.args.run.board (Some opened.all.opened) c.args.phase.now most)) (sym c.deref_mut.ensures.value) all) in
     let works1 : map (λ (job : Job). job.work) (reverse lent) ≡ c.end.new.works.items = ap (λ (jobs : List Job). map (λ (job : Job). job.work) (reverse jobs)) (sym back) ∙ c.end.ensures.works in
     let fine : All (λ (job : Job). job.refused ≡ false) lent =
