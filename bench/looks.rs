@@ -68,17 +68,18 @@ impl Map {
     }
 }
 
-/// The address of a look: all over the map.
-fn address(batch: u32, i: u32) -> u32 {
-    batch.wrapping_mul(BATCH).wrapping_add(i).wrapping_mul(0x9E37_79B1)
+/// The address of a look: all over the map, or all over its ranges.
+fn address(batch: u32, i: u32, scattered: bool) -> u32 {
+    let addr = batch.wrapping_mul(BATCH).wrapping_add(i).wrapping_mul(0x9E37_79B1);
+    if scattered { addr >> (addr % 16) } else { addr }
 }
 
 /// How many looks were made, and a sum of what they saw.
-fn looks(start: Instant, mut look: impl FnMut(u32) -> Look) -> (u64, u32) {
+fn looks(start: Instant, scattered: bool, mut look: impl FnMut(u32) -> Look) -> (u64, u32) {
     let (mut count, mut sum) = (0, 0_u32);
     while start.elapsed() < TIME {
         for i in 0..BATCH {
-            let seen = look(address(count, i));
+            let seen = look(address(count, i, scattered));
             sum = sum.wrapping_add(seen.lo).wrapping_add(seen.hi ^ seen.version).wrapping_add((seen.area == Area::Rom) as u32);
         }
         count += 1;
@@ -92,12 +93,20 @@ enum By {
     Cache,
 }
 
-fn look_by(by: By, start: Instant, map: &ArcSwap<Map>) -> u64 {
+/// What is measured: by so many readers, beside a writer or not, and with scattered addresses or not.
+#[derive(Clone, Copy)]
+struct Row {
+    readers: usize,
+    published: bool,
+    scattered: bool,
+}
+
+fn look_by(by: By, start: Instant, scattered: bool, map: &ArcSwap<Map>) -> u64 {
     let (count, sum) = match by {
-        By::Load => looks(start, |addr| map.load().look(addr, 1)),
+        By::Load => looks(start, scattered, |addr| map.load().look(addr, 1)),
         By::Cache => {
             let mut cache = Cache::new(map);
-            looks(start, |addr| cache.load().look(addr, 1))
+            looks(start, scattered, |addr| cache.load().look(addr, 1))
         }
     };
     std::hint::black_box(sum);
@@ -105,13 +114,13 @@ fn look_by(by: By, start: Instant, map: &ArcSwap<Map>) -> u64 {
 }
 
 /// Looks of so many readers, and the changes of a writer beside them, a second.
-fn measure(by: By, readers: usize, published: bool) -> (u64, u64) {
+fn measure(by: By, row: Row) -> (u64, u64) {
     let map = ArcSwap::from_pointee(Map::new(0));
     let over = AtomicBool::new(false);
     let start = Instant::now();
     let (mut count, mut changes) = (0, 0);
     std::thread::scope(|scope| {
-        let writer = published.then(|| {
+        let writer = row.published.then(|| {
             scope.spawn(|| {
                 let mut version = 0;
                 while !over.load(Ordering::Relaxed) {
@@ -121,7 +130,7 @@ fn measure(by: By, readers: usize, published: bool) -> (u64, u64) {
                 u64::from(version)
             })
         });
-        let readers: Vec<_> = (0..readers).map(|_| scope.spawn(|| look_by(by, start, &map))).collect();
+        let readers: Vec<_> = (0..row.readers).map(|_| scope.spawn(|| look_by(by, start, row.scattered, &map))).collect();
         count = readers.into_iter().map(|reader| reader.join().unwrap()).sum();
         over.store(true, Ordering::Relaxed);
         changes = writer.map_or(0, |writer| writer.join().unwrap());
@@ -131,16 +140,25 @@ fn measure(by: By, readers: usize, published: bool) -> (u64, u64) {
 }
 
 fn main() {
+    let second = 1_000 / TIME.as_millis() as u64;
+    let rows = [(1, false, false), (4, false, false), (1, true, false), (4, true, false), (1, false, true), (1, true, true)];
     for _ in 0..3 {
         let map = Map::new(0);
-        let (count, sum) = looks(Instant::now(), |addr| map.look(addr, 1));
-        println!("arc-swap: searches in a plain map, 1 thread: {} a second (sum {sum})", count * 1_000 / TIME.as_millis() as u64);
+        for scattered in [false, true] {
+            let (count, sum) = looks(Instant::now(), scattered, |addr| map.look(addr, 1));
+            println!("arc-swap: {}searches in a plain map, 1 thread: {} a second (sum {sum})", named(scattered), count * second);
+        }
         for (name, by) in [("load", By::Load), ("cache", By::Cache)] {
-            for (readers, published) in [(1, false), (4, false), (1, true), (4, true)] {
-                let (count, changes) = measure(by, readers, published);
+            for (readers, published, scattered) in rows {
+                let (count, changes) = measure(by, Row { readers, published, scattered });
+                let threads = if readers == 1 { "thread" } else { "threads" };
                 let beside = if published { ", while another publishes" } else { "" };
-                println!("arc-swap: looks by {name}, {readers} thread{}{beside}: {count} a second ({changes} changes a second)", if readers == 1 { "" } else { "s" });
+                println!("arc-swap: {}looks by {name}, {readers} {threads}{beside}: {count} a second ({changes} changes a second)", named(scattered));
             }
         }
     }
+}
+
+fn named(scattered: bool) -> &'static str {
+    if scattered { "scattered " } else { "" }
 }

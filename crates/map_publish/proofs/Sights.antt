@@ -7,7 +7,7 @@ use Rattle.map_builder.specs.Map.{Mapped, most_ranges, range_of}
 use Rattle.map_builder.specs.declared.range.Range.{Range}
 use Rattle.map_publish.specs.Common.{IsMapOfLog, bytes_after, changes_of}
 use Rattle.map_publish.specs.declared.mark.Mark.{Mark}
-use Rattle.map_publish.specs.Sights.{IsKept, IsSightOf, Sighted}
+use Rattle.map_publish.specs.Sights.{IsSight, IsSightOf, Sighted}
 
 -- a span is that of each address in it
 pub span_at :
@@ -22,19 +22,19 @@ span_at setup bytes addr x kind smm lo hi area span above below = record {
   ends = span.ends;
 }
 
--- the ranges of a map are kept, and no span is remembered
+-- the ranges of a map, where no span is remembered
 pub kept_of :
     (of : List MapRange) (seen cells : List Range) (count : ℕ) (kind : Kind) (smm : Bool) (area : Area) → map range_of seen ≡ of → Tiles 0 of →
     length of ≤ most_ranges → count ≡ length seen → length cells ≡ most_ranges → take count cells ≡ seen →
-    IsKept cells count kind smm (record { lo = 1; hi = 0; area = area })
-kept_of of seen cells count kind smm area ranges tiles few all room laid = record {
+    IsSight cells count kind smm (record { lo = 1; hi = 0; area = area })
+kept_of of seen cells count kind smm area ranges tiles few all room copied = record {
   room = room;
   within = let long = length-map seen range_of in let short = ap length ranges in omega (arith, long, short, few, all);
-  tiles = rw (laid, ranges) tiles;
+  tiles = rw (copied, ranges) tiles;
   spans = λ some. absurd (omega (arith, some));
 }
 
--- what is kept of a list's map is of that list
+-- the sight of a list's map is that of the list
 pub sight_of :
     (log : List Mark) (of : Mapped) (sight : Sighted) → IsMapOfLog log of → sight.version ≡ of.version →
     ((setup : Setup) (bytes : Bytes) → StandsFor setup bytes of.regs → IsFlatMapOf setup bytes sight.ranges) → IsSightOf log sight

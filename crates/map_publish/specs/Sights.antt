@@ -2,7 +2,7 @@
 use Rattle.std.specs.Prelude.{ℕ, ◌≡◌, ◌≤◌, Bool, List, length, map, take}
 use Rattle.board_prelude.specs.Common.{Kind, Setup, Bytes, MapRange, Tiles, IsFlatMapOf, IsSpan}
 use Rattle.addr_decode.specs.MapRegs.{StandsFor}
-use Rattle.map_builder.specs.Map.{range_of, most_ranges}
+use Rattle.map_builder.specs.Map.{most_ranges, range_of}
 use Rattle.map_builder.specs.declared.range.Range.{Range}
 use Rattle.map_builder.specs.declared.range.Span.{Span}
 use Rattle.map_publish.specs.declared.mark.Mark.{Mark}
@@ -15,8 +15,8 @@ pub record Sighted : Type 0 where
   pub version : ℕ
 
 -- the first so many cells cover all addresses. Where a span is remembered, it is one of this kind of access in each map
--- of these ranges
-pub record IsKept (cells : List Range) (count : ℕ) (kind : Kind) (smm : Bool) (found : Span) : Type 0 where
+-- that has these ranges
+pub record IsSight (cells : List Range) (count : ℕ) (kind : Kind) (smm : Bool) (found : Span) : Type 0 where
   pub room : length cells ≡ most_ranges
   pub within : count ≤ most_ranges
   pub tiles : Tiles 0 (map range_of (take count cells))
@@ -24,7 +24,7 @@ pub record IsKept (cells : List Range) (count : ℕ) (kind : Kind) (smm : Bool) 
       found.lo ≤ found.hi → (setup : Setup) (bytes : Bytes) → IsFlatMapOf setup bytes (map range_of (take count cells)) →
       IsSpan setup bytes found.lo kind smm found.lo found.hi found.area
 
--- what is kept is of the opened map after the changes: its version, and its ranges
+-- a sight shows the opened map after the changes: its version, and its ranges
 pub record IsSightOf (log : List Mark) (sight : Sighted) : Type 0 where
   pub same : sight.version ≡ version_after log
   pub flat :

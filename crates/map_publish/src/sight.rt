@@ -8,7 +8,7 @@ use board_base::{Area, Kind};
 use map_builder::{FlatMap, Range, Span};
 use std::marker::Model;
 
-/// The most ranges that a map has: it has at most 141 edges.
+/// The most ranges that a map has.
 const MOST_RANGES: usize = 142;
 
 /// No address lies in it.
@@ -33,20 +33,20 @@ pub struct Sight {
 impl Model for Sight {
     ghost use Rattle.std.specs.Prelude.{map, take};
     ghost use Rattle.map_builder.specs.Map.{range_of};
-    ghost use Rattle.map_publish.specs.Sights.{IsKept, Sighted};
+    ghost use Rattle.map_publish.specs.Sights.{IsSight, Sighted};
 
     ghost Value = { Sighted };
 
     ghost view = { λ sight. record { ranges = map range_of (take sight.count sight.ranges); version = sight.version } };
 
-    ghost invariant = { λ sight. IsKept sight.ranges sight.count sight.kind sight.smm sight.found };
+    ghost invariant = { λ sight. IsSight sight.ranges sight.count sight.kind sight.smm sight.found };
 }
 
-/// Writes ranges over the first of a row.
-fn lay(row: &mut [Range; MOST_RANGES], ranges: &[Range]) -> usize
+/// Copies ranges over the first ones of a row, and returns how many they are.
+fn copy_over(row: &mut [Range; MOST_RANGES], ranges: &[Range]) -> usize
     requires few { length ranges.now ≤ most_ranges }
     ensures count { (result ≡ length ranges.now) × (length row.new ≡ most_ranges) }
-    ensures laid { take result row.new ≡ ranges.now }
+    ensures copied { take result row.new ≡ ranges.now }
 {
     let count = ranges.len();
     row[..count].copy_from_slice(ranges);
@@ -61,7 +61,7 @@ impl Sight {
             → IsFlatMapOf setup bytes result.ranges }
     {
         let mut ranges = [Range::default(); MOST_RANGES];
-        let count = lay(&mut ranges, map.ranges());
+        let count = copy_over(&mut ranges, map.ranges());
         Sight {
             ranges,
             count,
@@ -78,7 +78,7 @@ impl Sight {
         ensures map { (setup : Setup) (bytes : Bytes) → StandsFor setup bytes map.now.regs
             → IsFlatMapOf setup bytes self.new.ranges }
     {
-        self.count = lay(&mut self.ranges, map.ranges());
+        self.count = copy_over(&mut self.ranges, map.ranges());
         self.version = map.version();
         self.found = NOTHING;
     }
