@@ -13,7 +13,7 @@ said_before phases i = in_file_order (lists_of (take i phases))
 
 module _ (phases : List (Vec Statement Global)) (i : ℕ) (phase : Vec Statement Global)
     (within : i < length phases) (is : phase ≡ get_or phases i phase) where
-  said_with : said_before phases (i + 1) ≡ said_before phases i ++ phase.items
+  pub said_with : said_before phases (i + 1) ≡ said_before phases i ++ phase.items
   said_with =
       ap in_file_order (phases_more phases i phase within is)
       ∙ statements_cut (lists_of (take i phases)) phase.items []

@@ -1,5 +1,6 @@
 -- One entry more in the log of a replay.
-use Rattle.std.proofs.Common.{ℕ, ◌≡◌, ◌+◌, List, [], ◌∷◌, ◌++◌, length, refl, sym, ap, ◌∙◌, arith, append_assoc, append-nil, add-one}
+use Rattle.std.proofs.Common.{ℕ, ◌≡◌, ◌+◌, ◌<◌, List, [], ◌∷◌, ◌++◌, length, take, get_or, refl, sym, ap, ◌∙◌, subst, append_assoc, append-nil, add-one}
+use Rattle.std.proofs.lemmas.List.{take_more}
 use Rattle.board_prelude.proofs.Common.{Entry, Statement, line_feed, line_text, lines_text, log_text, statement_of, statements_of}
 use Rattle.board_core.specs.Kept.{Playing, HasPlayed}
 use Rattle.log_check.proofs.LogLines.{log_parts, lines-newest}
@@ -32,7 +33,7 @@ pub log_with :
 log_with version old new said statement entry n text after actor event number played more so_far =
     let history = so_far.history in
     let now : HasPlayed new (entry ∷ history) = played history so_far.played in
-    let is : n ≡ length history + 1 = number ∙ now.count ∙ add-one (length history) in
+    let is : n ≡ length history + 1 = number ∙ now.count ∙ sym (add-one (length history)) in
     record {
       history = entry ∷ history;
       played = now;
@@ -45,3 +46,18 @@ log_with version old new said statement entry n text after actor event number pl
           ∙ ap (λ (front : List ℕ). front ++ (line_text n entry ++ line_feed ∷ [])) so_far.log
           ∙ sym (log-newest version entry history n is);
     }
+
+-- and of a phase, one statement further
+pub log_step :
+    (version : ℕ) (now new : Playing) (said phase : List Statement) (i : ℕ) (d : Statement) (entry : Entry) (n : ℕ)
+    (text after : List ℕ) → i < length phase →
+    (entry.actor ≡ (get_or phase i d).actor) × (entry.event ≡ (get_or phase i d).event) → n ≡ new.count →
+    ((history : List Entry) → HasPlayed now history → HasPlayed new (entry ∷ history)) →
+    after ≡ text ++ (line_text n entry ++ line_feed ∷ []) → HasLog version now (said ++ take i phase) text →
+    HasLog version new (said ++ take (i + 1) phase) after
+log_step version now new said phase i d entry n text after within asked number played more so_far =
+    let here : Statement = get_or phase i d in
+    subst (λ (all : List Statement). HasLog version new all after)
+    (append_assoc said (take i phase) (here ∷ [])
+    ∙ ap (λ (front : List Statement). said ++ front) (sym (take_more phase i d within)))
+    (log_with version now new (said ++ take i phase) here entry n text after asked.0 asked.1 number played more so_far)

@@ -1,8 +1,9 @@
 //! The log of a replay: each line is written as its statement is done, and no history is kept.
 
-ghost use Rattle.std.specs.Prelude.{◌≡◌, ◌+◌, ◌++◌, ◌<◌, ℕ, List, length, string_bytes, IfOk, OnOk};
+ghost use Rattle.std.specs.Prelude.{◌≡◌, ◌+◌, ◌++◌, ◌<◌, ℕ, List, [], length, string_bytes, IfOk, OnOk};
 ghost use Rattle.board_prelude.specs.Common.{Statement as AStatement, entry_limit};
-ghost use Rattle.board_core.specs.Common.{AreInRange};
+ghost use Rattle.board_core.specs.Common.{AreInRange, HasPlayed};
+ghost use Rattle.script_spec.specs.Common.{IsInRangeScript, statements_in};
 ghost use Rattle.script_text.specs.Script.{said_of};
 ghost use Rattle.command_texts.specs.Fresh.{IsFreshFor};
 ghost use Rattle.command_texts.specs.Replays.{IsReplayText};
@@ -33,6 +34,23 @@ fn push_phase(text: &mut String, replay: &mut Replay, phase: &[Statement]) -> Re
     Ok(())
 }
 
+/// Writes the log of a script's replay to an empty text. Nothing was played before.
+fn push_replay(text: &mut String, replay: &mut Replay, script: &Script) -> Result<(), NoMemory>
+    requires in_range { IsInRangeScript (said_of script.now) }
+    requires cards { replay.old.chipset.setup.cards ≡ (said_of script.now).cards }
+    requires fresh { HasPlayed replay.old [] }
+    requires empty { string_bytes text.old ≡ [] }
+    ensures setup { replay.new.chipset.setup ≡ replay.old.chipset.setup }
+    ensures log { OnOk result (HasLog (said_of script.now).version replay.new (statements_in (said_of script.now))
+        (string_bytes text.new)) }
+{
+    push_heading(text, script.version)?;
+    for phase in &script.phases {
+        push_phase(text, replay, phase)?;
+    }
+    Ok(())
+}
+
 /// The log of a script's replay on its board, which keeps no history meanwhile.
 pub fn log_of_replay(alloc: Global, board: Board, script: &Script) -> Result<Text, NoMemory>
     requires fresh { IsFreshFor (said_of script.now) board }
@@ -40,10 +58,7 @@ pub fn log_of_replay(alloc: Global, board: Board, script: &Script) -> Result<Tex
 {
     let mut replay = board.into_replay();
     let mut text = String::new(alloc);
-    push_heading(&mut text, script.version)?;
-    for phase in &script.phases {
-        push_phase(&mut text, &mut replay, phase)?;
-    }
+    push_replay(&mut text, &mut replay, script)?;
     law_lock();
     Text::whole(alloc, text)
 }
