@@ -1,53 +1,7 @@
-//! Counters and their modes, a table a test.
+//! Runs of pulses of the timer, and how many pulses come until OUT of counter 0 rises.
 
 use pit_8254::{CONTROL_WORD, COUNTER_0, COUNTER_2, Pit, Rises};
 use std::process::Abort;
-
-/// A row of a script on counter 2: the gate, the control words and counts to write, how many
-/// pulses then come, the level of OUT after them, and what the reads of the counter's port give.
-type Row<'a> = (bool, &'a [u8], &'a [u8], u32, bool, &'a [u8]);
-
-fn run(rt: &impl Abort, rows: &[Row]) {
-    let mut pit = Pit::new();
-    for (at, &(gate, words, counts, pulses, out, reads)) in rows.iter().enumerate() {
-        pit.gate2(gate);
-        for word in words {
-            pit.port_write(CONTROL_WORD, *word);
-        }
-        for count in counts {
-            pit.port_write(COUNTER_2, *count);
-        }
-        let _ = pit.pulses(pulses);
-        assert_eq!(rt; pit.out(2), out, "OUT at row {at}");
-        for byte in reads {
-            assert_eq!(rt; pit.port_read(COUNTER_2), *byte, "a read at row {at}");
-        }
-    }
-}
-
-#[test]
-fn a_reset_programs_every_counter(rt: HostRuntime) {
-    let mut pit = Pit::new();
-    assert_eq!(rt; pit.port_read(CONTROL_WORD), 0xFF);
-    pit.port_write(CONTROL_WORD, 0x30);
-    assert!(rt; !pit.out(0));
-    pit.reset();
-    assert!(rt; pit.out(0));
-    run(&rt, &[(false, &[0xE8], &[], 0, true, &[0xF6, 0, 0])]);
-}
-
-#[test]
-fn a_square_wave_of_five_is_read_back(rt: HostRuntime) {
-    let mut pit = Pit::new();
-    pit.port_write(CONTROL_WORD, 0x16);
-    pit.port_write(COUNTER_0, 5);
-    for (pulses, status, element) in [(0, 0xD6, 0), (3, 0x96, 0), (1, 0x16, 4), (8, 0x96, 2)] {
-        let _ = pit.pulses(pulses);
-        pit.port_write(CONTROL_WORD, 0xC2);
-        assert_eq!(rt; pit.port_read(COUNTER_0), status);
-        assert_eq!(rt; pit.port_read(COUNTER_0), element);
-    }
-}
 
 #[test]
 fn a_million_pulses_count_their_rises(rt: HostRuntime) {
@@ -57,84 +11,6 @@ fn a_million_pulses_count_their_rises(rt: HostRuntime) {
     let rises = pit.pulses(1_000_000);
     assert_eq!(rt; rises.rose, 199_999);
     assert!(rt; !rises.out0);
-    pit.port_write(CONTROL_WORD, 0xC2);
-    assert_eq!(rt; pit.port_read(COUNTER_0), 0x16);
-    assert_eq!(rt; pit.port_read(COUNTER_0), 2);
-}
-
-/// A control word of counter 2 and a count; then CE and OUT after each pulse from a rise of the gate on.
-const MODES: [(u8, u8, [u8; 6], [u8; 6]); 15] = [
-    (0x90, 3, [3, 2, 1, 0, 0xFF, 0xFE], [0, 0, 0, 1, 1, 1]),
-    (0x92, 3, [3, 2, 1, 0, 0xFF, 0xFE], [0, 0, 0, 1, 1, 1]),
-    (0x94, 3, [3, 2, 1, 3, 2, 1], [1, 1, 0, 1, 1, 0]),
-    (0x96, 5, [4, 2, 0, 4, 2, 4], [1, 1, 1, 0, 0, 1]),
-    (0x96, 4, [4, 2, 4, 2, 4, 2], [1, 1, 0, 0, 1, 1]),
-    (0x98, 3, [3, 2, 1, 0, 0xFF, 0xFE], [1, 1, 1, 0, 1, 1]),
-    (0x9A, 3, [3, 2, 1, 0, 0xFF, 0xFE], [1, 1, 1, 0, 1, 1]),
-    (0x9C, 3, [3, 2, 1, 3, 2, 1], [1, 1, 0, 1, 1, 0]),
-    (0x9E, 5, [4, 2, 0, 4, 2, 4], [1, 1, 1, 0, 0, 1]),
-    (0x94, 1, [2, 1, 2, 1, 2, 1], [1, 0, 1, 0, 1, 0]),
-    (0x96, 1, [2, 2, 2, 2, 2, 2], [1, 0, 1, 0, 1, 0]),
-    (0x90, 0, [0, 0xFF, 0xFE, 0xFD, 0xFC, 0xFB], [0; 6]),
-    (0x91, 0, [0, 0x99, 0x98, 0x97, 0x96, 0x95], [0; 6]),
-    (0x95, 0x12, [0x12, 0x11, 0x10, 9, 8, 7], [1; 6]),
-    (0x95, 0x1F, [0x15, 0x14, 0x13, 0x12, 0x11, 0x10], [1; 6]),
-];
-
-#[test]
-fn each_mode_counts_by_its_table(rt: HostRuntime) {
-    let mut pit = Pit::new();
-    for (word, count, elements, levels) in MODES {
-        pit.gate2(false);
-        pit.port_write(CONTROL_WORD, word);
-        pit.port_write(COUNTER_2, count);
-        pit.gate2(true);
-        for (element, level) in elements.iter().zip(&levels) {
-            let _ = pit.pulses(1);
-            assert_eq!(rt; pit.port_read(COUNTER_2), *element, "word {word:02X}");
-            assert_eq!(rt; u8::from(pit.out(2)), *level, "word {word:02X}");
-        }
-    }
-}
-
-#[test]
-fn the_gate_stops_and_triggers(rt: HostRuntime) {
-    run(
-        &rt,
-        &[
-            (true, &[0x94], &[3], 3, false, &[1]),
-            (false, &[], &[], 5, true, &[1]),
-            (true, &[], &[], 1, true, &[3]),
-            (false, &[0x90], &[3], 4, false, &[3]),
-            (true, &[], &[], 2, false, &[1]),
-            (true, &[], &[], 1, true, &[0]),
-            (true, &[0x92], &[3], 4, true, &[0]),
-            (false, &[], &[], 0, true, &[0]),
-            (true, &[], &[], 2, false, &[2]),
-            (false, &[], &[], 2, true, &[0]),
-        ],
-    );
-}
-
-#[test]
-fn bytes_go_low_and_then_high(rt: HostRuntime) {
-    run(
-        &rt,
-        &[
-            (true, &[0xB4], &[0x34, 0x12], 1, true, &[0x34, 0x12]),
-            (true, &[0x80], &[], 1, true, &[]),
-            (true, &[0x80], &[0xFF, 0xFF], 0, true, &[0x34, 0x12, 0x33]),
-            (true, &[0x80], &[], 0, true, &[0x33, 0x12, 0x12]),
-            (true, &[0xC8], &[], 0, true, &[0xF4, 0x33, 0x12]),
-            (true, &[0xA4], &[2], 1, true, &[2]),
-            (true, &[], &[], 1, true, &[1]),
-            (true, &[0xB0, 0xE8], &[2, 0], 1, false, &[0x70]),
-            (true, &[0xE8], &[5], 3, false, &[0x30, 2, 0]),
-            (true, &[], &[0], 1, false, &[5, 0]),
-            (true, &[], &[], 5, true, &[0, 0]),
-            (true, &[0xE8], &[], 0, true, &[0xB0]),
-        ],
-    );
 }
 
 /// So many pulses, by a call for each.
@@ -190,103 +66,74 @@ fn many_pulses_are_single_ones(rt: HostRuntime) {
     }
 }
 
-/// A row of a script on counter 0, whose gate is always 1: the control words and the counts to write, how many pulses
-/// then come, and how many come after them until OUT next rises.
-type RiseRow<'a> = (&'a [u8], &'a [u8], u32, Option<u32>);
+/// Steps on counter 0, whose gate is always 1: `w10` writes the control word 10h, `c3` the byte 3 of a count, `p5` gives
+/// five pulses, and `r4` asks that OUT rises next at the fourth pulse from here on, `r0` that it never does.
+const RISES: &str = "\
+# at reset no count was written
+r0 p5 r0
+# mode 0: a load and the count, and never again until the next count
+w10 r0 c3 r4 p1 r3 p2 r1 p1 r0 p100 r0 c2 r3
+# mode 0 stops between the two bytes of a count
+w30 c2 r0 c0 r3
+# a count of 0 is 65,536, or 10,000 in decimal
+w10 c0 r65537 w11 c0 r10001 w11 c12 r13
+# modes 1 and 5 wait for a rise of the gate
+w12 c3 r0 p9 r0 w1A c3 r0 p9 r0
+# mode 4: OUT is 0 for the one pulse after the count
+w18 c3 r5 p4 r1 p1 r0 c2 r4 w18 c1 p2 r1 c5 r1 p1 r6
+# mode 2: a load, and then every third pulse
+w14 c3 r4 p1 r3 p2 r1 p1 r3
+# a new count waits for the end of the period
+c5 r3 p3 r5 w14 c4 p2 r3
+# a count of 1 is taken as 2, and one of 0 as 65,536
+w14 c1 r3 p1 r2 p1 r1 w14 c0 r65537 w15 c10 r11 p5 r6 w34 cE8 r0 c3 r1001
+# mode 3 with an even count
+w16 c4 r5 p2 r3 p1 r2 p2 r4
+# with an odd count, whose first half is longer
+w16 c5 r6 p3 r3 p1 r2 p2 r5
+# a new count waits for the end of the half
+c6 r6 p6 r6 w16 c1 r3 w16 c0 r65537 w17 c7 r8";
 
-fn rises_in(rt: &impl Abort, rows: &[RiseRow]) {
-    let mut pit = Pit::new();
-    for (at, &(words, counts, pulses, to_rise)) in rows.iter().enumerate() {
-        for word in words {
-            pit.port_write(CONTROL_WORD, *word);
+/// The number that digits say in this base.
+fn number(digits: &[u8], base: u32) -> u32 {
+    let mut number = 0u32;
+    for digit in digits {
+        let value = match *digit {
+            b'A'..=b'F' => *digit - b'A' + 10,
+            _ => digit.wrapping_sub(b'0'),
+        };
+        number = number.wrapping_mul(base).wrapping_add(u32::from(value));
+    }
+    number
+}
+
+/// Does a step, or compares.
+fn take(rt: &impl Abort, pit: &mut Pit, step: &str) {
+    let [kind, digits @ ..] = step.as_bytes() else {
+        panic!(rt; "two spaces");
+    };
+    match *kind {
+        b'w' => pit.port_write(CONTROL_WORD, (number(digits, 16) % 256) as u8),
+        b'c' => pit.port_write(COUNTER_0, (number(digits, 16) % 256) as u8),
+        b'p' => {
+            let _ = pit.pulses(number(digits, 10));
         }
-        for count in counts {
-            pit.port_write(COUNTER_0, *count);
+        b'r' => {
+            let to_rise = pit.pulses_to_rise().unwrap_or(0);
+            assert_eq!(rt; to_rise, number(digits, 10), "{step}");
         }
-        let _ = pit.pulses(pulses);
-        assert_eq!(rt; pit.pulses_to_rise(), to_rise, "at row {at}");
+        _ => panic!(rt; "no step: {step}"),
     }
 }
 
 #[test]
-fn a_counter_rises_once_or_never(rt: HostRuntime) {
-    rises_in(
-        &rt,
-        &[
-            // at reset no count was written
-            (&[], &[], 0, None),
-            (&[], &[], 5, None),
-            // mode 0: a load and the count, and never again until the next count
-            (&[0x10], &[], 0, None),
-            (&[], &[3], 0, Some(4)),
-            (&[], &[], 1, Some(3)),
-            (&[], &[], 2, Some(1)),
-            (&[], &[], 1, None),
-            (&[], &[], 100, None),
-            (&[], &[2], 0, Some(3)),
-            // mode 0 stops between the two bytes of a count
-            (&[0x30], &[2], 0, None),
-            (&[], &[0], 0, Some(3)),
-            // a count of 0 is 65,536, or 10,000 in decimal
-            (&[0x10], &[0], 0, Some(65_537)),
-            (&[0x11], &[0], 0, Some(10_001)),
-            (&[0x11], &[0x12], 0, Some(13)),
-            // modes 1 and 5 wait for a rise of the gate
-            (&[0x12], &[3], 0, None),
-            (&[], &[], 9, None),
-            (&[0x1A], &[3], 0, None),
-            (&[], &[], 9, None),
-            // mode 4: OUT is 0 for the one pulse after the count
-            (&[0x18], &[3], 0, Some(5)),
-            (&[], &[], 4, Some(1)),
-            (&[], &[], 1, None),
-            (&[], &[2], 0, Some(4)),
-            (&[0x18], &[1], 2, Some(1)),
-            (&[], &[5], 0, Some(1)),
-            (&[], &[], 1, Some(6)),
-        ],
-    );
-}
-
-#[test]
-fn a_period_ends_with_a_rise(rt: HostRuntime) {
-    rises_in(
-        &rt,
-        &[
-            // mode 2: a load, and then every third pulse
-            (&[0x14], &[3], 0, Some(4)),
-            (&[], &[], 1, Some(3)),
-            (&[], &[], 2, Some(1)),
-            (&[], &[], 1, Some(3)),
-            // a new count waits for the end of the period
-            (&[], &[5], 0, Some(3)),
-            (&[], &[], 3, Some(5)),
-            (&[0x14], &[4], 2, Some(3)),
-            // a count of 1 is taken as 2, and one of 0 as 65,536
-            (&[0x14], &[1], 0, Some(3)),
-            (&[], &[], 1, Some(2)),
-            (&[], &[], 1, Some(1)),
-            (&[0x14], &[0], 0, Some(65_537)),
-            (&[0x15], &[0x10], 0, Some(11)),
-            (&[], &[], 5, Some(6)),
-            (&[0x34], &[0xE8], 0, None),
-            (&[], &[0x03], 0, Some(1001)),
-            // mode 3 with an even count
-            (&[0x16], &[4], 0, Some(5)),
-            (&[], &[], 2, Some(3)),
-            (&[], &[], 1, Some(2)),
-            (&[], &[], 2, Some(4)),
-            // with an odd count, whose first half is longer
-            (&[0x16], &[5], 0, Some(6)),
-            (&[], &[], 3, Some(3)),
-            (&[], &[], 1, Some(2)),
-            (&[], &[], 2, Some(5)),
-            // a new count waits for the end of the half
-            (&[], &[6], 0, Some(6)),
-            (&[], &[], 6, Some(6)),
-            (&[0x16], &[1], 0, Some(3)),
-            (&[0x16], &[0], 0, Some(65_537)),
-            (&[0x17], &[7], 0, Some(8)),
-        ],
-    );
+fn out_rises_next_after_so_many_pulses(rt: HostRuntime) {
+    let mut pit = Pit::new();
+    for line in RISES.lines() {
+        if !line.starts_with('#') {
+            for step in line.split(' ') {
+                take(&rt, &mut pit, step);
+            }
+        }
+    }
 }

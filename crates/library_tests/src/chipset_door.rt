@@ -1,7 +1,8 @@
 //! What a chipset refuses of events, setups and bytes of which nothing was proved: of each field the first good value and
 //! the first bad one.
 
-use OutOfRange::{Aligned, Alignment, Bytes, Date, Device, End, Line, Pulses, Value};
+use crate::digits::{byte, long};
+use OutOfRange::{Date, End, Value};
 use arrayvec::ArrayVec;
 use board_base::Width::{self, Four, One, Two};
 use board_base::{Access, Kind, Moment, PortAccess, WideAccess};
@@ -12,21 +13,21 @@ use std::alloc::{AllocError, Global};
 use std::process::Abort;
 use std::test::Fail;
 
+fn access(write: bool, port: u16, width: Width, value: u32) -> PortAccess {
+    PortAccess {
+        write,
+        port,
+        width,
+        value,
+    }
+}
+
 fn memory(kind: Kind, addr: u32, width: Width, value: u32) -> Event {
     Event::Memory(Access {
         kind,
         addr,
         width,
         smm: false,
-        value,
-    })
-}
-
-fn port(write: bool, port: u16, width: Width, value: u32) -> Event {
-    Event::Port(PortAccess {
-        write,
-        port,
-        width,
         value,
     })
 }
@@ -54,95 +55,97 @@ fn time(year: u16, month: u8, day: u8, weekday: u8, hour: u8) -> Event {
     })
 }
 
-fn wire(dev: u8) -> Event {
-    Event::Wire { dev, on: true }
+/// Events by their words and three numbers: the field that is out of range, or `good`; what is asked; how many bytes;
+/// where; and the value. Of each field the last or first event that is in range, and then the next, which is not.
+const EVENTS: &str = "\
+good read 2 1000 0
+Alignment read 2 1001 0
+good read 4 1000 0
+Alignment read 4 1002 0
+good write 1 1000 FF
+Value write 1 1000 100
+good write 2 1000 FFFF
+Value write 2 1000 10000
+good read 1 1000 0
+Value read 1 1000 1
+good fetch 4 1000 0
+Value fetch 4 1000 1
+good in 2 1F0 0
+Alignment in 2 1F1 0
+good in 4 CFC 0
+Alignment in 4 CFE 0
+good out 1 80 FF
+Value out 1 80 100
+good in 1 80 0
+Value in 1 80 1
+good wide-read 8 1000 0
+Bytes wide-read 9 1000 0
+good wide-read 2 1001 0
+Bytes wide-read 1 1001 0
+good wide-read 4 1001 0
+Aligned wide-read 4 1000 0
+good wide-read 8 FFFFFFF8 0
+End wide-read 8 FFFFFFF9 0
+good wide-read 4 FFFFFFFB 0
+End wide-read 4 FFFFFFFD 0
+good wide-write 2 1001 FFFF
+Value wide-write 2 1001 10000
+good wide-write 4 1001 FFFFFFFF
+Value wide-write 4 1001 100000000
+good wide-read 8 1000 0
+Value wide-read 8 1000 1
+good pulse 0 0 1
+Pulses pulse 0 0 0
+good pulse 0 0 F4240
+Pulses pulse 0 0 F4241
+good wire 0 4 1
+Device wire 0 5 1
+good irq 0 7 1
+Line irq 0 8 1";
+
+fn width(bytes: u64) -> Width {
+    match bytes {
+        1 => One,
+        2 => Two,
+        _ => Four,
+    }
 }
 
-fn line(irq: u8) -> Event {
-    Event::Line { irq, on: true }
+/// The event of such words, where there is one.
+fn event_of(word: &str, bytes: u64, place: u64, value: u64) -> Option<Event> {
+    let (addr, port) = ((place % 0x1_0000_0000) as u32, (place % 0x1_0000) as u16);
+    let (small, low) = ((place % 0x100) as u8, (value % 0x1_0000_0000) as u32);
+    let count = (bytes % 0x100) as u8;
+    Some(match word {
+        "read" => memory(Kind::Read, addr, width(bytes), low),
+        "fetch" => memory(Kind::Fetch, addr, width(bytes), low),
+        "write" => memory(Kind::Write, addr, width(bytes), low),
+        "in" => Event::Port(access(false, port, width(bytes), low)),
+        "out" => Event::Port(access(true, port, width(bytes), low)),
+        "wide-read" => wide(Kind::Read, count, addr, value),
+        "wide-write" => wide(Kind::Write, count, addr, value),
+        "pulse" => Event::Pulses(low),
+        "wire" => Event::Wire {
+            dev: small,
+            on: true,
+        },
+        "irq" => Event::Line {
+            irq: small,
+            on: true,
+        },
+        _ => return None,
+    })
 }
 
-/// Of each field the last or first event that is in range, the next, which is not, and the field.
-fn rows() -> [(Event, Event, OutOfRange); 24] {
-    let (read, write) = (Kind::Read, Kind::Write);
-    [
-        (
-            memory(read, 0x1000, Two, 0),
-            memory(read, 0x1001, Two, 0),
-            Alignment,
-        ),
-        (
-            memory(read, 0x1000, Four, 0),
-            memory(read, 0x1002, Four, 0),
-            Alignment,
-        ),
-        (
-            memory(write, 0x1000, One, 0xFF),
-            memory(write, 0x1000, One, 0x100),
-            Value,
-        ),
-        (
-            memory(write, 0x1000, Two, 0xFFFF),
-            memory(write, 0x1000, Two, 0x1_0000),
-            Value,
-        ),
-        (
-            memory(read, 0x1000, One, 0),
-            memory(read, 0x1000, One, 1),
-            Value,
-        ),
-        (
-            memory(Kind::Fetch, 0x1000, Four, 0),
-            memory(Kind::Fetch, 0x1000, Four, 1),
-            Value,
-        ),
-        (
-            port(false, 0x1F0, Two, 0),
-            port(false, 0x1F1, Two, 0),
-            Alignment,
-        ),
-        (
-            port(false, 0xCFC, Four, 0),
-            port(false, 0xCFE, Four, 0),
-            Alignment,
-        ),
-        (
-            port(true, 0x80, One, 0xFF),
-            port(true, 0x80, One, 0x100),
-            Value,
-        ),
-        (port(false, 0x80, One, 0), port(false, 0x80, One, 1), Value),
-        (wide(read, 8, 0x1000, 0), wide(read, 9, 0x1000, 0), Bytes),
-        (wide(read, 2, 0x1001, 0), wide(read, 1, 0x1001, 0), Bytes),
-        (wide(read, 4, 0x1001, 0), wide(read, 4, 0x1000, 0), Aligned),
-        (
-            wide(read, 8, 0xFFFF_FFF8, 0),
-            wide(read, 8, 0xFFFF_FFF9, 0),
-            End,
-        ),
-        (
-            wide(read, 4, 0xFFFF_FFFB, 0),
-            wide(read, 4, 0xFFFF_FFFD, 0),
-            End,
-        ),
-        (
-            wide(write, 2, 0x1001, 0xFFFF),
-            wide(write, 2, 0x1001, 0x1_0000),
-            Value,
-        ),
-        (
-            wide(write, 4, 0x1001, 0xFFFF_FFFF),
-            wide(write, 4, 0x1001, 0x1_0000_0000),
-            Value,
-        ),
-        (wide(read, 8, 0x1000, 0), wide(read, 8, 0x1000, 1), Value),
-        (Event::Pulses(1), Event::Pulses(0), Pulses),
-        (Event::Pulses(1_000_000), Event::Pulses(1_000_001), Pulses),
-        (time(2024, 2, 29, 5, 23), time(2023, 2, 29, 4, 23), Date),
-        (time(2099, 12, 31, 5, 23), time(2099, 12, 31, 5, 24), Date),
-        (wire(4), wire(5), Device),
-        (line(7), line(8), Line),
-    ]
+/// What a row wants, and its event.
+fn row_of(alloc: Global, row: &'static str) -> Result<(&'static str, Event), Fail> {
+    let fields: Vec<&str> = row.split(' ').collect(alloc)?;
+    let [wanted, word, bytes, place, value] = fields.as_slice() else {
+        return Err(Fail::from("a row has five fields"));
+    };
+    let numbers = [bytes, place, value].map(|digits: &&str| long(digits.as_bytes()));
+    let event = event_of(word, numbers[0], numbers[1], numbers[2]);
+    Ok((*wanted, event.ok_or("an event in each row")?))
 }
 
 fn card(dev: u8, base: BaseSpec, rom: Option<u8>) -> CardSpec {
@@ -182,14 +185,32 @@ fn chipset(alloc: Global) -> Result<Chipset, Fail> {
     Ok(Chipset::open_checked(alloc, setup(alloc, 1, &cards, 0x1_0000, 512)?)?)
 }
 
+/// Whether an event is done, or which field is out of range.
+fn told(alloc: Global, chipset: &mut Chipset, event: &Event) -> Result<String, AllocError> {
+    match chipset.ask(event) {
+        Ok(_) => "good".to_string(alloc),
+        Err(fault) => format!(in alloc; "{fault:?}"),
+    }
+}
+
 #[test]
 fn each_field_is_tested(rt: HostRuntime) -> Result<(), Fail> {
     let mut chipset = chipset(rt.alloc())?;
-    for (good, bad, fault) in rows() {
-        assert!(rt; chipset.is_in_range(&good), "{good:?}");
-        assert!(rt; chipset.ask(&good).is_ok(), "{good:?}");
-        assert!(rt; !chipset.is_in_range(&bad), "{bad:?}");
-        assert_eq!(rt; chipset.ask(&bad), Err(fault), "{bad:?}");
+    for row in EVENTS.lines() {
+        let (wanted, event) = row_of(rt.alloc(), row)?;
+        assert_eq!(rt; chipset.is_in_range(&event), wanted == "good", "{row}");
+        assert_eq!(rt;
+            told(rt.alloc(), &mut chipset, &event)?.as_str(),
+            wanted,
+            "{row}"
+        );
+    }
+    for event in [time(2024, 2, 29, 5, 23), time(2099, 12, 31, 5, 23)] {
+        assert!(rt; chipset.ask(&event).is_ok(), "{event:?}");
+    }
+    for event in [time(2023, 2, 29, 4, 23), time(2099, 12, 31, 5, 24)] {
+        assert!(rt; !chipset.is_in_range(&event), "{event:?}");
+        assert_eq!(rt; chipset.ask(&event), Err(Date), "{event:?}");
     }
     Ok(())
 }
@@ -219,34 +240,51 @@ fn setups_are_tested(rt: HostRuntime) -> Result<(), Fail> {
     Ok(())
 }
 
+/// Cards: 1 for a good one, the device, 1 for a base of memory and 0 for one of ports, its K and that of the expansion ROM,
+/// or 0 without one.
+const CARDS: &str = "\
+1 2 1 4 0
+0 1 1 4 0
+1 9 1 18 0
+0 A 1 18 0
+0 2 1 3 0
+0 2 1 19 0
+1 2 0 2 0
+0 2 0 1 0
+1 2 0 8 B
+0 2 0 9 0
+0 2 0 8 A
+1 2 0 8 18
+0 2 0 8 19";
+
+/// Whether the card of a row is good, and the card.
+fn card_of(alloc: Global, row: &str) -> Result<(bool, CardSpec), Fail> {
+    let mut numbers = Vec::new(alloc);
+    for digits in row.split(' ') {
+        numbers.push(byte(digits.as_bytes()))?;
+    }
+    let [good, dev, memory, k, rom] = *numbers.as_slice() else {
+        return Err(Fail::from("a row has five numbers"));
+    };
+    let base = if memory == 1 {
+        BaseSpec::Memory(k)
+    } else {
+        BaseSpec::Io(k)
+    };
+    let rom = if rom == 0 { None } else { Some(rom) };
+    Ok((good == 1, card(dev, base, rom)))
+}
+
 /// Opens chipsets with one card each, and then with two.
 #[test]
 fn cards_are_tested(rt: HostRuntime) -> Result<(), Fail> {
     let alloc = rt.alloc();
     let cards = Some(SetupFault::Cards);
-    let rows = [
-        (2, BaseSpec::Memory(4), None, None),
-        (1, BaseSpec::Memory(4), None, cards),
-        (9, BaseSpec::Memory(24), None, None),
-        (10, BaseSpec::Memory(24), None, cards),
-        (2, BaseSpec::Memory(3), None, cards),
-        (2, BaseSpec::Memory(25), None, cards),
-        (2, BaseSpec::Io(2), None, None),
-        (2, BaseSpec::Io(1), None, cards),
-        (2, BaseSpec::Io(8), Some(11), None),
-        (2, BaseSpec::Io(9), None, cards),
-        (2, BaseSpec::Io(8), Some(10), cards),
-        (2, BaseSpec::Io(8), Some(24), None),
-        (2, BaseSpec::Io(8), Some(25), cards),
-    ];
-    for (dev, base, rom, expected) in rows {
-        let fitted = [card(dev, base, rom)];
-        opens(
-            &rt,
-            alloc,
-            setup(alloc, 1, &fitted, 0x1_0000, 512)?,
-            expected,
-        );
+    for row in CARDS.lines() {
+        let (good, fitted) = card_of(alloc, row)?;
+        let expected = if good { None } else { cards };
+        let setup = setup(alloc, 1, &[fitted], 0x1_0000, 512)?;
+        opens(&rt, alloc, setup, expected);
     }
     let same = [
         card(3, BaseSpec::Io(4), None),
@@ -304,23 +342,22 @@ fn bytes_are_written_from_outside(rt: HostRuntime) -> Result<(), Fail> {
     }
     assert_eq!(rt; chipset.dram().read(0xF_FFFF, One), 0x44);
     // The index stays, and so does register D.
-    assert!(rt; chipset.ask(&port(true, 0x70, One, 0x35)).is_ok());
+    assert!(rt;
+        chipset
+            .ask(&Event::Port(access(true, 0x70, One, 0x35)))
+            .is_ok()
+    );
     assert!(rt; chipset.set_clock_byte(0x7F, 0xA5).is_ok());
     assert!(rt; chipset.set_clock_byte(0x0D, 0x12).is_ok());
     assert!(rt; chipset.set_clock_byte(0x80, 0xA5).is_err());
     assert_eq!(rt; chipset.clock_bytes()[0x7F], 0xA5);
-    assert!(rt; chipset.ask(&port(true, 0x71, One, 0x77)).is_ok());
+    assert!(rt;
+        chipset
+            .ask(&Event::Port(access(true, 0x71, One, 0x77)))
+            .is_ok()
+    );
     assert_eq!(rt; chipset.clock_bytes()[0x35], 0x77);
     Ok(())
-}
-
-fn access(write: bool, port: u16, width: Width, value: u32) -> PortAccess {
-    PortAccess {
-        write,
-        port,
-        width,
-        value,
-    }
 }
 
 #[test]

@@ -1,13 +1,15 @@
-//! Images of boards: their bytes, each kind of step, and where bytes are bad.
+//! Images of boards: where bytes are bad, and a board that is saved and loaded. Each table is a row a line, of hexadecimal
+//! numbers: where the bytes are bad, and the bytes.
 
 ghost use Rattle.std.specs.Prelude.{◌≤◌, IfSome};
 ghost use Rattle.board_spec.specs.Setup.{IsSetup};
 
-use board_base::{Access, Kind, Moment, NoMemory, PortAccess, WideAccess, Width};
+use crate::digits::{byte, number};
+use board_base::NoMemory;
 use board_core::Board;
 use board_image::{ImageFault, load, read_image, save};
-use board_spec::{Event, Statement};
-use std::alloc::Global;
+use std::alloc::{AllocError, Global};
+use std::process::Abort;
 use std::test::Fail;
 
 /// The head of an image of a board of 8 MiB with a ROM of 64 KiB, without cards, disk and steps.
@@ -22,11 +24,8 @@ const ROM_SIZE: usize = 0x1_0000;
 /// A VGA card at device 2 with a memory base of 16 bytes.
 const CARD: [u8; 5] = [2, 1, 0, 1, 4];
 
-/// Where the steps begin on a board with that card.
-const STEPS: usize = 26 + 5 + ROM_SIZE;
-
 /// An image with that card and these bytes in the place of one step.
-fn with_step(alloc: Global, step: &[u8]) -> Result<Vec<u8>, NoMemory> {
+fn with_step(alloc: Global, step: &[u8]) -> Result<Vec<u8>, AllocError> {
     let mut bytes = Vec::from_slice(alloc, &HEAD)?;
     bytes[11] = 1;
     bytes[22] = 1;
@@ -36,242 +35,170 @@ fn with_step(alloc: Global, step: &[u8]) -> Result<Vec<u8>, NoMemory> {
     Ok(bytes)
 }
 
-/// The one step of an image.
-fn only_step(alloc: Global, bytes: &[u8]) -> Option<Statement> {
-    let image = read_image(alloc, bytes).ok()?;
-    image.steps.first().copied()
-}
-
 /// Where bytes are bad.
-fn bad_at(alloc: Global, bytes: &[u8]) -> Option<usize> {
+fn bad_at(alloc: Global, bytes: &[u8]) -> Option<u32> {
     match read_image(alloc, bytes) {
-        Err(ImageFault::Bad { at }) => Some(at as usize),
+        Err(ImageFault::Bad { at }) => Some(at),
         _ => None,
     }
 }
 
-/// Each kind of event, and its bytes.
-const EVENTS: [(&[u8], Event); 10] = [
-    (
-        &[1, 2, 1, 2, 0x00, 0x10, 0x00, 0x00, 0xEF, 0xBE, 0x00, 0x00],
-        Event::Memory(Access {
-            kind: Kind::Write,
-            addr: 0x1000,
-            width: Width::Two,
-            smm: true,
-            value: 0xBEEF,
-        }),
-    ),
-    (
-        &[2, 1, 4, 0xF8, 0x0C, 0x70, 0x00, 0x00, 0x80],
-        Event::Port(PortAccess {
-            write: true,
-            port: 0xCF8,
-            width: Width::Four,
-            value: 0x8000_0070,
-        }),
-    ),
-    (
-        &[3, 0, 0, 0xF0, 0xFF, 0xFF, 0xFF],
-        Event::Look {
-            kind: Kind::Fetch,
-            addr: 0xFFFF_FFF0,
-            smm: false,
-        },
-    ),
-    (&[4], Event::Ack),
-    (&[5, 0x40, 0x42, 0x0F, 0x00], Event::Pulses(1_000_000)),
-    (
-        &[6, 0xE8, 0x07, 2, 29, 23, 59, 58],
-        Event::Time(Moment {
-            year: 2024,
-            month: 2,
-            day: 29,
-            weekday: 5,
-            hour: 23,
-            minute: 59,
-            second: 58,
-        }),
-    ),
-    (&[7, 2, 1], Event::Wire { dev: 2, on: true }),
-    (&[8, 15, 0], Event::Line { irq: 15, on: false }),
-    (&[9, 0xFF, 0xFF, 0x00, 0x00], Event::BadSector(65_535)),
-    (
-        &[10, 2, 0, 8, 0xF8, 0xFF, 0xFF, 0xFF, 1, 2, 3, 4, 5, 6, 7, 8],
-        Event::Wide(WideAccess {
-            kind: Kind::Write,
-            bytes: 8,
-            smm: false,
-            addr: 0xFFFF_FFF8,
-            value: 0x0807_0605_0403_0201,
-        }),
-    ),
-];
+/// The place and the bytes of a row.
+fn row_of(alloc: Global, line: &str) -> Result<(u32, Vec<u8>), AllocError> {
+    let mut bytes = Vec::new(alloc);
+    let mut place = None;
+    for digits in line.split(' ') {
+        match place {
+            None => place = Some(number(digits.as_bytes())),
+            Some(_) => bytes.push(byte(digits.as_bytes()))?,
+        }
+    }
+    Ok((place.unwrap_or(0), bytes))
+}
 
-#[test]
-fn each_kind_of_event_is_read(rt: HostRuntime) -> Result<(), Fail> {
-    for (bytes, event) in EVENTS {
-        let mut step = Vec::from_slice(rt.alloc(), &[7])?;
-        step.extend_from_slice(bytes)?;
-        let image = with_step(rt.alloc(), &step)
-            .ok()
-            .ok_or("there was no memory")?;
-        let read = only_step(rt.alloc(), &image);
-        assert_eq!(rt; read, Some(Statement { actor: 7, event }), "{event:?}");
-        step.push(0)?;
-        let longer = with_step(rt.alloc(), &step)
-            .ok()
-            .ok_or("there was no memory")?;
-        assert_eq!(rt; bad_at(rt.alloc(), &longer), Some(image.len()), "{event:?}");
+/// What stands before the bytes of a row.
+#[derive(Clone, Copy)]
+enum Before {
+    Nothing,
+    HeadOfTwoCards,
+    OneStepOfABoard,
+}
+
+/// Compares where the image of a row is bad, beyond what stands before its bytes.
+fn expect_bad(rt: &impl Abort, alloc: Global, before: Before, line: &str) -> Result<(), Fail> {
+    let (place, row) = row_of(alloc, line)?;
+    let (start, image) = match before {
+        Before::Nothing => (0, row),
+        Before::HeadOfTwoCards => {
+            let mut bytes = Vec::from_slice(alloc, &HEAD)?;
+            bytes[11] = 2;
+            bytes.extend_from_slice(&row)?;
+            (26, bytes)
+        }
+        Before::OneStepOfABoard => (26 + 5 + ROM_SIZE as u32, with_step(alloc, &row)?),
+    };
+    let at = Some(place.wrapping_add(start));
+    assert_eq!(rt; bad_at(alloc, &image), at, "{line}");
+    Ok(())
+}
+
+fn are_bad(rt: &impl Abort, alloc: Global, before: Before, table: &str) -> Result<(), Fail> {
+    for line in table.lines() {
+        if !line.starts_with('#') {
+            expect_bad(rt, alloc, before, line)?;
+        }
     }
     Ok(())
 }
 
-/// Steps with a bad field, and its place in the step: what is out of range, and what is not whole.
-const BAD_STEPS: [(&[u8], usize); 40] = [
-    // The processor, and the tag.
-    (&[8, 4], 0),
-    (&[0, 0], 1),
-    (&[0, 11], 1),
-    (&[], 0),
-    (&[0], 1),
-    // An access to memory: kind, smm, width, address, value.
-    (&[0, 1, 3, 0, 1, 0, 0, 0, 0, 0, 0, 0, 0], 2),
-    (&[0, 1, 1, 2, 1, 0, 0, 0, 0, 0, 0, 0, 0], 3),
-    (&[0, 1, 1, 0, 3, 0, 0, 0, 0, 0, 0, 0, 0], 4),
-    (&[0, 1, 1, 0, 2, 1, 0, 0, 0, 0, 0, 0, 0], 5),
-    (&[0, 1, 1, 0, 1, 0, 0, 0, 0, 1, 0, 0, 0], 9),
-    (&[0, 1, 2, 0, 1, 0, 0, 0, 0, 0, 1, 0, 0], 9),
-    (&[0, 1, 2, 0, 1, 0, 0, 0, 0, 0, 0, 0], 9),
-    // An access to a port: write, width, port, value.
-    (&[0, 2, 2, 1, 0, 0, 0, 0, 0, 0], 2),
-    (&[0, 2, 1, 0, 0, 0, 0, 0, 0, 0], 3),
-    (&[0, 2, 1, 4, 2, 0, 0, 0, 0, 0], 4),
-    (&[0, 2, 0, 1, 0, 0, 1, 0, 0, 0], 6),
-    // A look: kind, smm, address.
-    (&[0, 3, 3, 0, 0, 0, 0, 0], 2),
-    (&[0, 3, 0, 2, 0, 0, 0, 0], 3),
-    (&[0, 3, 0, 0, 0, 0, 0], 4),
-    // Pulses.
-    (&[0, 5, 0, 0, 0, 0], 2),
-    (&[0, 5, 0x41, 0x42, 0x0F, 0], 2),
-    // A moment: year, month, day, hour, minute, second.
-    (&[0, 6, 0xBB, 0x07, 1, 1, 0, 0, 0], 2),
-    (&[0, 6, 0xE7, 0x07, 13, 1, 0, 0, 0], 4),
-    (&[0, 6, 0xE7, 0x07, 2, 29, 0, 0, 0], 5),
-    (&[0, 6, 0xE7, 0x07, 2, 28, 24, 0, 0], 6),
-    (&[0, 6, 0xE7, 0x07, 2, 28, 0, 60, 0], 7),
-    (&[0, 6, 0xE7, 0x07, 2, 28, 0, 0, 60], 8),
-    // A card's interrupt pin: the device, the level.
-    (&[0, 7, 3, 1], 2),
-    (&[0, 7, 2, 2], 3),
-    // An interrupt request line: the line, the level.
-    (&[0, 8, 0, 1], 2),
-    (&[0, 8, 8, 1], 2),
-    (&[0, 8, 3, 2], 3),
-    // A sector.
-    (&[0, 9, 0, 0, 1, 0], 2),
-    // A wide access: kind, smm, bytes, address, value.
-    (&[0, 10, 3, 0, 8, 0, 0, 0, 0, 0, 0, 0, 0, 0, 0, 0, 0], 2),
-    (&[0, 10, 1, 2, 8, 0, 0, 0, 0, 0, 0, 0, 0, 0, 0, 0, 0], 3),
-    (&[0, 10, 1, 0, 1, 1, 0, 0, 0, 0, 0, 0, 0, 0, 0, 0, 0], 4),
-    (&[0, 10, 1, 0, 2, 2, 0, 0, 0, 0, 0, 0, 0, 0, 0, 0, 0], 5),
-    (
-        &[
-            0, 10, 1, 0, 8, 0xF9, 0xFF, 0xFF, 0xFF, 0, 0, 0, 0, 0, 0, 0, 0,
-        ],
-        5,
-    ),
-    (&[0, 10, 1, 0, 8, 0, 0, 0, 0, 1, 0, 0, 0, 0, 0, 0, 0], 9),
-    (&[0, 10, 2, 0, 4, 1, 0, 0, 0, 0, 0, 0, 0, 1, 0, 0, 0], 9),
-];
+/// Steps of which a field is out of range or not whole.
+const BAD_STEPS: &str = "\
+# Nothing follows the last step.
+2 00 04 00
+# The processor, and the tag.
+0 08 04
+1 00 00
+1 00 0B
+0
+1 00
+# An access to memory: kind, smm, width, address, value.
+2 00 01 03 00 01 00 00 00 00 00 00 00 00
+3 00 01 01 02 01 00 00 00 00 00 00 00 00
+4 00 01 01 00 03 00 00 00 00 00 00 00 00
+5 00 01 01 00 02 01 00 00 00 00 00 00 00
+9 00 01 01 00 01 00 00 00 00 01 00 00 00
+9 00 01 02 00 01 00 00 00 00 00 01 00 00
+9 00 01 02 00 01 00 00 00 00 00 00 00
+# An access to a port: write, width, port, value.
+2 00 02 02 01 00 00 00 00 00 00
+3 00 02 01 00 00 00 00 00 00 00
+4 00 02 01 04 02 00 00 00 00 00
+6 00 02 00 01 00 00 01 00 00 00
+# A look: kind, smm, address.
+2 00 03 03 00 00 00 00 00
+3 00 03 00 02 00 00 00 00
+4 00 03 00 00 00 00 00
+# Pulses.
+2 00 05 00 00 00 00
+2 00 05 41 42 0F 00
+# A moment: year, month, day, hour, minute, second.
+2 00 06 BB 07 01 01 00 00 00
+4 00 06 E7 07 0D 01 00 00 00
+5 00 06 E7 07 02 1D 00 00 00
+6 00 06 E7 07 02 1C 18 00 00
+7 00 06 E7 07 02 1C 00 3C 00
+8 00 06 E7 07 02 1C 00 00 3C
+# A card's interrupt pin: the device, the level.
+2 00 07 03 01
+3 00 07 02 02
+# An interrupt request line: the line, the level.
+2 00 08 00 01
+2 00 08 08 01
+3 00 08 03 02
+# A sector.
+2 00 09 00 00 01 00
+# A wide access: kind, smm, bytes, address, value.
+2 00 0A 03 00 08 00 00 00 00 00 00 00 00 00 00 00 00
+3 00 0A 01 02 08 00 00 00 00 00 00 00 00 00 00 00 00
+4 00 0A 01 00 01 01 00 00 00 00 00 00 00 00 00 00 00
+5 00 0A 01 00 02 02 00 00 00 00 00 00 00 00 00 00 00
+5 00 0A 01 00 08 F9 FF FF FF 00 00 00 00 00 00 00 00
+9 00 0A 01 00 08 00 00 00 00 01 00 00 00 00 00 00 00
+9 00 0A 02 00 04 01 00 00 00 00 00 00 00 01 00 00 00";
 
 #[test]
 fn a_bad_step_is_bad_at_its_field(rt: HostRuntime) -> Result<(), Fail> {
-    for (step, place) in BAD_STEPS {
-        let image = with_step(rt.alloc(), step)
-            .ok()
-            .ok_or("there was no memory")?;
-        assert_eq!(rt;
-            bad_at(rt.alloc(), &image),
-            Some(STEPS.wrapping_add(place)),
-            "{step:?}"
-        );
-    }
-    Ok(())
+    are_bad(&rt, rt.alloc(), Before::OneStepOfABoard, BAD_STEPS)
 }
 
-/// Heads with one byte changed, and where each is bad.
-const BAD_HEADS: [(usize, u8, usize); 14] = [
-    (0, 0x43, 0),
-    (7, 0x00, 0),
-    (8, 0x02, 8),
-    (9, 0x01, 8),
-    (10, 0, 10),
-    (10, 65, 10),
-    (11, 9, 11),
-    (12, 2, 12),
-    (13, 1, 13),
-    (14, 1, 14),
-    (17, 1, 14),
-    (18, 1, 18),
-    (24, 0x04, 22),
-    (25, 0x01, 22),
-];
+const BAD_HEADS: &str = "\
+# One byte is another.
+0 43 4F 41 52 44 49 4D 47 01 00 08 00 00 00 00 00 01 00 00 00 00 00 00 00 00 00
+0 42 4F 41 52 44 49 4D 00 01 00 08 00 00 00 00 00 01 00 00 00 00 00 00 00 00 00
+8 42 4F 41 52 44 49 4D 47 02 00 08 00 00 00 00 00 01 00 00 00 00 00 00 00 00 00
+8 42 4F 41 52 44 49 4D 47 01 01 08 00 00 00 00 00 01 00 00 00 00 00 00 00 00 00
+A 42 4F 41 52 44 49 4D 47 01 00 00 00 00 00 00 00 01 00 00 00 00 00 00 00 00 00
+A 42 4F 41 52 44 49 4D 47 01 00 41 00 00 00 00 00 01 00 00 00 00 00 00 00 00 00
+B 42 4F 41 52 44 49 4D 47 01 00 08 09 00 00 00 00 01 00 00 00 00 00 00 00 00 00
+C 42 4F 41 52 44 49 4D 47 01 00 08 00 02 00 00 00 01 00 00 00 00 00 00 00 00 00
+D 42 4F 41 52 44 49 4D 47 01 00 08 00 00 01 00 00 01 00 00 00 00 00 00 00 00 00
+E 42 4F 41 52 44 49 4D 47 01 00 08 00 00 00 01 00 01 00 00 00 00 00 00 00 00 00
+E 42 4F 41 52 44 49 4D 47 01 00 08 00 00 00 00 00 01 01 00 00 00 00 00 00 00 00
+12 42 4F 41 52 44 49 4D 47 01 00 08 00 00 00 00 00 01 00 01 00 00 00 00 00 00 00
+16 42 4F 41 52 44 49 4D 47 01 00 08 00 00 00 00 00 01 00 00 00 00 00 00 00 04 00
+16 42 4F 41 52 44 49 4D 47 01 00 08 00 00 00 00 00 01 00 00 00 00 00 00 00 00 01
+# The length of a disk that is said to be there: 0, and no whole sector.
+12 42 4F 41 52 44 49 4D 47 01 00 08 00 01 00 00 00 01 00 00 00 00 00 00 00 00 00
+12 42 4F 41 52 44 49 4D 47 01 00 08 00 01 00 00 00 01 00 01 02 00 00 00 00 00 00
+# Nothing but the head, and less of it.
+1A 42 4F 41 52 44 49 4D 47 01 00 08 00 00 00 00 00 01 00 00 00 00 00 00 00 00 00
+16 42 4F 41 52 44 49 4D 47 01 00 08 00 00 00 00 00 01 00 00 00 00 00 00 00 00
+A 42 4F 41 52 44 49 4D 47 01 00
+0";
 
 #[test]
 fn a_bad_head_is_bad_at_its_field(rt: HostRuntime) -> Result<(), Fail> {
-    for (place, byte, at) in BAD_HEADS {
-        let mut head = HEAD;
-        if let Some(slot) = head.get_mut(place) {
-            *slot = byte;
-        }
-        assert_eq!(rt; bad_at(rt.alloc(), &head), Some(at), "byte {place}");
-    }
-    // The length of a disk that is said to be there: 0, and no whole sector.
-    let mut head = HEAD;
-    head[12] = 1;
-    assert_eq!(rt; bad_at(rt.alloc(), &head), Some(18));
-    head[18] = 1;
-    head[19] = 2;
-    assert_eq!(rt; bad_at(rt.alloc(), &head), Some(18));
-    // Nothing but the head, and each shorter piece of it.
-    assert_eq!(rt; bad_at(rt.alloc(), &HEAD), Some(26));
-    assert_eq!(rt; bad_at(rt.alloc(), &HEAD[..25]), Some(22));
-    assert_eq!(rt; bad_at(rt.alloc(), &HEAD[..10]), Some(10));
-    assert_eq!(rt; bad_at(rt.alloc(), &[]), Some(0));
-    Ok(())
+    are_bad(&rt, rt.alloc(), Before::Nothing, BAD_HEADS)
 }
 
-/// Two cards where one or both are bad, and where.
-const BAD_CARDS: [(&[u8], usize); 11] = [
-    (&[1, 0, 0, 0], 0),
-    (&[10, 0, 0, 0], 0),
-    (&[2, 2, 0, 0], 1),
-    (&[2, 0, 10, 0], 2),
-    (&[2, 0, 25, 0], 2),
-    (&[2, 0, 0, 7], 3),
-    (&[2, 0, 0, 1, 3], 4),
-    (&[2, 0, 0, 1, 0x89], 4),
-    (&[3, 0, 0, 0, 3, 0, 0, 0], 4),
-    // Five windows of 16 MiB are more than 64 MiB.
-    (&[2, 0, 0, 4, 24, 24, 24, 24, 3, 0, 0, 1, 24], 12),
-    (&[2, 0, 0, 0, 3], 5),
-];
+/// Two cards of which one or both are bad.
+const BAD_CARDS: &str = "\
+0 01 00 00 00
+0 0A 00 00 00
+1 02 02 00 00
+2 02 00 0A 00
+2 02 00 19 00
+3 02 00 00 07
+4 02 00 00 01 03
+4 02 00 00 01 89
+4 03 00 00 00 03 00 00 00
+# Five windows of 16 MiB are more than 64 MiB.
+C 02 00 00 04 18 18 18 18 03 00 00 01 18
+5 02 00 00 00 03";
 
 #[test]
 fn a_bad_card_is_bad_at_its_field(rt: HostRuntime) -> Result<(), Fail> {
-    for (cards, place) in BAD_CARDS {
-        let mut bytes = Vec::from_slice(rt.alloc(), &HEAD)?;
-        bytes[11] = 2;
-        bytes.extend_from_slice(cards)?;
-        assert_eq!(rt;
-            bad_at(rt.alloc(), &bytes),
-            Some(place.wrapping_add(26)),
-            "{cards:?}"
-        );
-    }
-    Ok(())
+    are_bad(&rt, rt.alloc(), Before::HeadOfTwoCards, BAD_CARDS)
 }
 
 /// The board of an image.
@@ -303,27 +230,12 @@ fn a_board_is_saved_and_loaded(rt: HostRuntime) -> Result<(), Fail> {
     let write = [
         0, 1, 2, 0, 1, 0x00, 0x10, 0x00, 0x00, 0x5A, 0x00, 0x00, 0x00,
     ];
-    let bytes = with_step(rt.alloc(), &write)
-        .ok()
-        .ok_or("there was no memory")?;
+    let bytes = with_step(rt.alloc(), &write)?;
     let board = board_of(rt.alloc(), &bytes).ok_or("the bytes are an image")?;
     assert_eq!(rt; board.history().len(), 1);
     let saved = image_of(rt.alloc(), &board)
         .ok()
         .ok_or("there was no memory")?;
     assert!(rt; saved == bytes);
-    Ok(())
-}
-
-#[test]
-fn an_image_without_steps_has_only_its_head_and_the_rom(rt: HostRuntime) -> Result<(), Fail> {
-    let mut bytes = Vec::from_slice(rt.alloc(), &HEAD)?;
-    bytes.extend_from_slice(&[0; ROM_SIZE])?;
-    let board = board_of(rt.alloc(), &bytes).ok_or("the bytes are an image")?;
-    let saved = image_of(rt.alloc(), &board)
-        .ok()
-        .ok_or("there was no memory")?;
-    assert_eq!(rt; saved.len(), 65_562);
-    assert!(rt; saved.starts_with(&HEAD));
     Ok(())
 }

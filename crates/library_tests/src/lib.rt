@@ -4,6 +4,8 @@
 #[cfg(test)]
 mod chipset_door;
 #[cfg(test)]
+mod digits;
+#[cfg(test)]
 mod images;
 #[cfg(test)]
 mod serial_port;

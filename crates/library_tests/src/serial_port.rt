@@ -3,401 +3,134 @@
 ghost use Rattle.std.specs.Prelude.{◌≡◌, false, [], IfOk};
 ghost use Rattle.board_prelude.specs.Common.{Setup as Fitting, IsInRange};
 
-use board_base::{Denial, Dev, PortAccess, Target, Width};
+use crate::digits::{byte, number};
+use board_base::{Dev, PortAccess, Target, Width};
 use board_chipset::Chipset;
 use board_core::{Board, BoardOpen, Setup};
+use board_script::{push_heading, push_line};
 use board_spec::{Event, Reply};
 use std::alloc::{AllocError, Global};
 use std::process::Abort;
 use std::test::Fail;
 use uart_16550::{SerialBoard, SerialReply, Uart};
 
-// The offsets of the registers.
-const DATA: u8 = 0;
+/// A new UART for each line of steps: `4=10` writes 10h to the register at offset 4, by which nothing is sent, `0!55`
+/// sends 55h, `2?04` reads 04h, and `0<41` is a byte that comes. There is `room` for one or the queue is `full`, and the
+/// interrupt line is `high` or `low`. Offset 0 is the data, 1 IER, 2 IIR and FCR, 3 LCR, 4 MCR, 5 LSR, 6 MSR, 7 SCR.
+const STEPS: &str = "\
+# After a reset.
+0?00 1?00 2?01 3?00 4?00 5?60 6?B0 7?00 room low
+# Without FIFOs the second looped byte is lost. LSR tells it once; with ELSI it interrupts first.
+4=10 1=05 0=41 full 2?04 0=42 2?06 5?63 5?61 2?04 0?41 5?60 0?00 2?01
+# With FIFOs the first sixteen bytes stay, in their order, and the seventeenth is lost.
+2=01 4=10 0=01 0=02 0=03 0=04 0=05 0=06 0=07 0=08 0=09 0=0A 0=0B 0=0C 0=0D 0=0E 0=0F 0=10 5?61 0=11 2?C1 5?63 \
+0?01 0?02 0?03 0?04 0?05 0?06 0?07 0?08 0?09 0?0A 0?0B 0?0C 0?0D 0?0E 0?0F 0?10 5?60 0?00
+# In loopback RTS is CTS, DTR is DSR, OUT1 is RI and OUT2 is DCD. A ring tells its end alone.
+1=08 4=10 2?00 6?0B 6?00 2?01 4=12 6?11 4=13 6?32 4=17 6?70 4=13 6?34 4=FB 4?1B 6?B8 4=00 6?B0
+# FCR empties the queue by its bit 1, with FIFOs or without, and where it turns them on or off.
+0<41 5?61 2=01 5?60 0<42 0<43 2=01 0?42 5?61 2=03 5?60 0<44 2=00 5?60 2?01 0<45 full 2=02 room 5?60 0?00
+# The empty transmitter is told once, by the read of IIR that gives it. A read that gives another cause leaves it, and so
+# does a read of LSR.
+1=03 0<41 2?04 2?04 0?41 2?02 2?01 0!55 5?60 2?02 2?01 4=10 0=56 2?04
+# It is told again where ETBEI rises, and not where it stays.
+1=02 2?02 2?01 1=02 2?01 1=F0 1?00 1=F2 2?02
+# With DLAB offsets 0 and 1 are the divisor latch, and nothing is sent.
+0<41 3=83 0=0C 1=01 0?0C 1?01 5?61 3=03 1?00 0?41 0!48 3?03 7=A5 5=FF 6=FF 5?60 6?B0 7?A5
+# OUT2 lets the interrupt out.
+1=01 0<41 low 4=08 high 2?04 0?41 low";
 
-const IER: u8 = 1;
-
-const IIR: u8 = 2;
-
-const FCR: u8 = 2;
-
-const LCR: u8 = 3;
-
-const MCR: u8 = 4;
-
-const LSR: u8 = 5;
-
-const MSR: u8 = 6;
-
-const SCR: u8 = 7;
-
-/// What is done to a UART: a register is read and must give this byte; one is written and nothing is sent; a byte is
-/// sent; one comes from outside. There must be room or none, and the interrupt line must have this level.
-#[derive(Clone, Copy)]
-enum Step {
-    Read(u8, u8),
-    Write(u8, u8),
-    Send(u8),
-    Receive(u8),
-    Room(bool),
-    Irq(bool),
-}
-
-use Step::{Irq, Read, Receive, Room, Send, Write};
-
-const AT_RESET: [Step; 10] = [
-    Read(DATA, 0x00),
-    Read(IER, 0x00),
-    Read(IIR, 0x01),
-    Read(LCR, 0x00),
-    Read(MCR, 0x00),
-    Read(LSR, 0x60),
-    Read(MSR, 0xB0),
-    Read(SCR, 0x00),
-    Room(true),
-    Irq(false),
-];
-
-/// Without FIFOs the second looped byte is lost. LSR tells it once; with ELSI it interrupts first.
-const OVERRUN_WITHOUT_FIFOS: [Step; 14] = [
-    Write(MCR, 0x10),
-    Write(IER, 0x05),
-    Write(DATA, 0x41),
-    Room(false),
-    Read(IIR, 0x04),
-    Write(DATA, 0x42),
-    Read(IIR, 0x06),
-    Read(LSR, 0x63),
-    Read(LSR, 0x61),
-    Read(IIR, 0x04),
-    Read(DATA, 0x41),
-    Read(LSR, 0x60),
-    Read(DATA, 0x00),
-    Read(IIR, 0x01),
-];
-
-/// With FIFOs the first sixteen bytes stay, in their order, and the seventeenth is lost.
-const OVERRUN_WITH_FIFOS: [Step; 40] = [
-    Write(FCR, 0x01),
-    Write(MCR, 0x10),
-    Write(DATA, 0x01),
-    Write(DATA, 0x02),
-    Write(DATA, 0x03),
-    Write(DATA, 0x04),
-    Write(DATA, 0x05),
-    Write(DATA, 0x06),
-    Write(DATA, 0x07),
-    Write(DATA, 0x08),
-    Write(DATA, 0x09),
-    Write(DATA, 0x0A),
-    Write(DATA, 0x0B),
-    Write(DATA, 0x0C),
-    Write(DATA, 0x0D),
-    Write(DATA, 0x0E),
-    Write(DATA, 0x0F),
-    Write(DATA, 0x10),
-    Read(LSR, 0x61),
-    Write(DATA, 0x11),
-    Read(IIR, 0xC1),
-    Read(LSR, 0x63),
-    Read(DATA, 0x01),
-    Read(DATA, 0x02),
-    Read(DATA, 0x03),
-    Read(DATA, 0x04),
-    Read(DATA, 0x05),
-    Read(DATA, 0x06),
-    Read(DATA, 0x07),
-    Read(DATA, 0x08),
-    Read(DATA, 0x09),
-    Read(DATA, 0x0A),
-    Read(DATA, 0x0B),
-    Read(DATA, 0x0C),
-    Read(DATA, 0x0D),
-    Read(DATA, 0x0E),
-    Read(DATA, 0x0F),
-    Read(DATA, 0x10),
-    Read(LSR, 0x60),
-    Read(DATA, 0x00),
-];
-
-/// In loopback RTS is CTS, DTR is DSR, OUT1 is RI and OUT2 is DCD. A ring tells its end alone.
-const MODEM_LINES_LOOPED: [Step; 19] = [
-    Write(IER, 0x08),
-    Write(MCR, 0x10),
-    Read(IIR, 0x00),
-    Read(MSR, 0x0B),
-    Read(MSR, 0x00),
-    Read(IIR, 0x01),
-    Write(MCR, 0x12),
-    Read(MSR, 0x11),
-    Write(MCR, 0x13),
-    Read(MSR, 0x32),
-    Write(MCR, 0x17),
-    Read(MSR, 0x70),
-    Write(MCR, 0x13),
-    Read(MSR, 0x34),
-    Write(MCR, 0xFB),
-    Read(MCR, 0x1B),
-    Read(MSR, 0xB8),
-    Write(MCR, 0x00),
-    Read(MSR, 0xB0),
-];
-
-/// FCR empties the queue by its bit 1, with FIFOs or without, and where it turns them on or off.
-const QUEUE_EMPTIED: [Step; 21] = [
-    Receive(0x41),
-    Read(LSR, 0x61),
-    Write(FCR, 0x01),
-    Read(LSR, 0x60),
-    Receive(0x42),
-    Receive(0x43),
-    Write(FCR, 0x01),
-    Read(DATA, 0x42),
-    Read(LSR, 0x61),
-    Write(FCR, 0x03),
-    Read(LSR, 0x60),
-    Receive(0x44),
-    Write(FCR, 0x00),
-    Read(LSR, 0x60),
-    Read(IIR, 0x01),
-    Receive(0x45),
-    Room(false),
-    Write(FCR, 0x02),
-    Room(true),
-    Read(LSR, 0x60),
-    Read(DATA, 0x00),
-];
-
-/// The empty transmitter is told once, by the read of IIR that gives it. A read that gives another cause leaves it, and
-/// so does a read of LSR.
-const EMPTY_TOLD_ONCE: [Step; 14] = [
-    Write(IER, 0x03),
-    Receive(0x41),
-    Read(IIR, 0x04),
-    Read(IIR, 0x04),
-    Read(DATA, 0x41),
-    Read(IIR, 0x02),
-    Read(IIR, 0x01),
-    Send(0x55),
-    Read(LSR, 0x60),
-    Read(IIR, 0x02),
-    Read(IIR, 0x01),
-    Write(MCR, 0x10),
-    Write(DATA, 0x56),
-    Read(IIR, 0x04),
-];
-
-/// It is told again where ETBEI rises, and not where it stays.
-const ETBEI_RISES: [Step; 9] = [
-    Write(IER, 0x02),
-    Read(IIR, 0x02),
-    Read(IIR, 0x01),
-    Write(IER, 0x02),
-    Read(IIR, 0x01),
-    Write(IER, 0xF0),
-    Read(IER, 0x00),
-    Write(IER, 0xF2),
-    Read(IIR, 0x02),
-];
-
-/// With DLAB offsets 0 and 1 are the divisor latch, and nothing is sent.
-const DIVISOR_LATCH: [Step; 18] = [
-    Receive(0x41),
-    Write(LCR, 0x83),
-    Write(DATA, 0x0C),
-    Write(IER, 0x01),
-    Read(DATA, 0x0C),
-    Read(IER, 0x01),
-    Read(LSR, 0x61),
-    Write(LCR, 0x03),
-    Read(IER, 0x00),
-    Read(DATA, 0x41),
-    Send(0x48),
-    Read(LCR, 0x03),
-    Write(SCR, 0xA5),
-    Write(LSR, 0xFF),
-    Write(MSR, 0xFF),
-    Read(LSR, 0x60),
-    Read(MSR, 0xB0),
-    Read(SCR, 0xA5),
-];
-
-/// OUT2 lets the interrupt out.
-const LINE: [Step; 8] = [
-    Write(IER, 0x01),
-    Receive(0x41),
-    Irq(false),
-    Write(MCR, 0x08),
-    Irq(true),
-    Read(IIR, 0x04),
-    Read(DATA, 0x41),
-    Irq(false),
-];
-
-/// Does a step, and compares what comes of it.
-fn act(rt: &impl Abort, uart: &mut Uart, at: usize, step: Step) {
-    match step {
-        Read(off, byte) => {
-            assert!(rt; off < 8);
-            assert_eq!(rt; uart.port_read(off), byte, "at {at}");
-        }
-        Write(off, byte) => {
-            assert!(rt; off < 8);
-            assert_eq!(rt; uart.port_write(off, byte), None, "at {at}");
-        }
-        Send(byte) => assert_eq!(rt; uart.port_write(DATA, byte), Some(byte), "at {at}"),
-        Receive(byte) => {
-            assert!(rt; uart.room(), "at {at}");
+/// Does a step to a register, and compares what comes of it.
+fn access_register(rt: &impl Abort, uart: &mut Uart, step: &str) {
+    let [off, kind, digits @ ..] = step.as_bytes() else {
+        panic!(rt; "no step: {step}");
+    };
+    let (off, byte) = (off.wrapping_sub(b'0'), byte(digits));
+    assert!(rt; off < 8);
+    match *kind {
+        b'?' => assert_eq!(rt; uart.port_read(off), byte, "{step}"),
+        b'=' => assert_eq!(rt; uart.port_write(off, byte), None, "{step}"),
+        b'!' => assert_eq!(rt; uart.port_write(off, byte), Some(byte), "{step}"),
+        _ => {
+            assert!(rt; uart.room(), "{step}");
             uart.receive(byte);
         }
-        Room(room) => assert_eq!(rt; uart.room(), room, "at {at}"),
-        Irq(level) => assert_eq!(rt; uart.irq(), level, "at {at}"),
     }
 }
 
-/// Does the steps of a table to a new UART.
-fn play(rt: &impl Abort, steps: &[Step]) {
-    let mut uart = Uart::new();
-    for (at, step) in steps.iter().enumerate() {
-        act(rt, &mut uart, at, *step);
+/// Does a step, and compares what comes of it.
+fn act(rt: &impl Abort, uart: &mut Uart, step: &str) {
+    match step {
+        "room" => assert!(rt; uart.room()),
+        "full" => assert!(rt; !uart.room()),
+        "high" => assert!(rt; uart.irq()),
+        "low" => assert!(rt; !uart.irq()),
+        _ => access_register(rt, uart, step),
     }
 }
 
 #[test]
 fn registers(rt: HostRuntime) {
-    let tables: [&[Step]; 9] = [
-        &AT_RESET,
-        &OVERRUN_WITHOUT_FIFOS,
-        &OVERRUN_WITH_FIFOS,
-        &MODEM_LINES_LOOPED,
-        &QUEUE_EMPTIED,
-        &EMPTY_TOLD_ONCE,
-        &ETBEI_RISES,
-        &DIVISOR_LATCH,
-        &LINE,
-    ];
-    for steps in tables {
-        play(&rt, steps);
+    for line in STEPS.lines() {
+        if !line.starts_with('#') {
+            let mut uart = Uart::new();
+            for step in line.split(' ') {
+                act(&rt, &mut uart, step);
+            }
+        }
     }
 }
 
-/// What is asked of a board with a serial port: a byte is written to a port or read from it, or two are read; the level
-/// of line 4; an acknowledge; or a byte comes from outside.
-#[derive(Clone, Copy, PartialEq, Eq, Debug)]
-enum Request {
-    Out(u16, u8),
-    In(u16),
-    InWord(u16),
-    Line4(bool),
-    Ack,
-    Comes(u8),
-}
-
-/// What must come: from the UART a value, a byte that is sent, or nothing; from a device of the board a value or none;
-/// all ones, where nobody answers. A byte that comes has no reply.
-#[derive(Clone, Copy)]
-enum Want {
-    Value(u8),
-    Sent(u8),
-    Done,
-    Gives(u32, Dev),
-    By(Dev),
-    Nobody(u32),
-}
-
-/// A row of requests.
-type Row = (Request, Want);
-
-/// What the board itself is asked in a row, and by whom.
-type Asked = (u8, Request);
-
-use Request::{Ack, Comes, In, InWord, Line4, Out};
-use Want::{By, Done, Gives, Nobody, Sent, Value};
-
-/// Two bytes are sent, and one that is looped back is not. The board is asked nothing.
-const HI: [Row; 4] = [
-    (Out(0x3F8, 0x48), Sent(0x48)),
-    (Out(0x3F8, 0x69), Sent(0x69)),
-    (Out(0x3FC, 0x10), Done),
-    (Out(0x3F8, 0x55), Done),
-];
-
-/// The 8259As get the vectors from 20h and 28h on. A byte that comes interrupts by line 4 until it is read.
-const RECEIVED: [Row; 16] = [
-    (Out(0x20, 0x11), By(Dev::Pic0)),
-    (Out(0x21, 0x20), By(Dev::Pic0)),
-    (Out(0x21, 0x04), By(Dev::Pic0)),
-    (Out(0x21, 0x01), By(Dev::Pic0)),
-    (Out(0xA0, 0x11), By(Dev::Pic1)),
-    (Out(0xA1, 0x28), By(Dev::Pic1)),
-    (Out(0xA1, 0x02), By(Dev::Pic1)),
-    (Out(0xA1, 0x01), By(Dev::Pic1)),
-    (Comes(0x41), Done),
-    (Out(0x3FC, 0x08), Done),
-    (Out(0x3F9, 0x01), Done),
-    (Ack, Gives(0x24, Dev::Vector(0))),
-    (In(0x3FA), Value(0x04)),
-    (In(0x3F8), Value(0x41)),
-    (In(0x3FA), Value(0x01)),
-    (In(0x3FD), Value(0x60)),
-];
-
-const RECEIVED_ASKED: [Asked; 11] = [
-    (0, Out(0x20, 0x11)),
-    (0, Out(0x21, 0x20)),
-    (0, Out(0x21, 0x04)),
-    (0, Out(0x21, 0x01)),
-    (0, Out(0xA0, 0x11)),
-    (0, Out(0xA1, 0x28)),
-    (0, Out(0xA1, 0x02)),
-    (0, Out(0xA1, 0x01)),
-    (8, Line4(true)),
-    (0, Ack),
-    (8, Line4(false)),
-];
-
-/// A hard reset with the line up: the board's step comes first, then line 4 goes down.
-const HARD_RESET: [Row; 8] = [
-    (Out(0x3FC, 0x08), Done),
-    (Out(0x3F9, 0x02), Done),
-    (Out(0xCF9, 0x06), By(Dev::Reset)),
-    (In(0x3FC), Value(0x00)),
-    (In(0x3F9), Value(0x00)),
-    (In(0x3FA), Value(0x01)),
-    (In(0x3FE), Value(0xB0)),
-    (InWord(0x3F8), Nobody(0xFFFF)),
-];
-
-const HARD_RESET_ASKED: [Asked; 4] = [
-    (8, Line4(true)),
-    (0, Out(0xCF9, 0x06)),
-    (8, Line4(false)),
-    (0, InWord(0x3F8)),
-];
-
-/// While the UART's line is up the script's level changes nothing on the board, and it is asked all the same. The
-/// script's level holds the line up when the UART's goes down, also by a hard reset.
-const SCRIPT_LEVEL: [Row; 10] = [
-    (Out(0x3FC, 0x08), Done),
-    (Out(0x3F9, 0x02), Done),
-    (Line4(false), By(Dev::Wires)),
-    (Line4(true), By(Dev::Wires)),
-    (In(0x3FA), Value(0x02)),
-    (Line4(false), By(Dev::Wires)),
-    (Line4(true), By(Dev::Wires)),
-    (Out(0x3F8, 0x48), Sent(0x48)),
-    (Out(0xCF9, 0x06), By(Dev::Reset)),
-    (Line4(false), By(Dev::Wires)),
-];
-
-const SCRIPT_LEVEL_ASKED: [Asked; 7] = [
-    (8, Line4(true)),
-    (0, Line4(true)),
-    (0, Line4(true)),
-    (0, Line4(false)),
-    (0, Line4(true)),
-    (0, Out(0xCF9, 0x06)),
-    (0, Line4(false)),
+/// What is asked of a board with a serial port, and the log of what the board itself was asked: there its processor 8 is
+/// the port. `03F8=48` writes a byte to the port, `03F8!48` sends one, and `03FA?04` reads one. `0020>11` writes a byte to
+/// the board, `0071<00` reads one of it, and `03F8:` reads two. `+` and `-` are levels of line 4, `ack` acknowledges, and
+/// `c41` is a byte that comes.
+const REQUESTS: [(&str, &str); 4] = [
+    // Two bytes are sent, and one that is looped back is not.
+    ("03F8!48 03F8!69 03FC=10 03F8=55", "access log 1\n"),
+    // The 8259As get the vectors from 20h and 28h on. A byte that comes interrupts by line 4 until it is read.
+    (
+        "0020>11 0021>20 0021>04 0021>01 00A0>11 00A1>28 00A1>02 00A1>01 c41 03FC=08 03F9=01 ack 03FA?04 03F8?41 03FA?01 03FD?60",
+        "\
+access log 1
+1 0.1 out b 0020 11 = - pic0 -
+2 0.2 out b 0021 20 = - pic0 -
+3 0.3 out b 0021 04 = - pic0 -
+4 0.4 out b 0021 01 = - pic0 -
+5 0.5 out b 00A0 11 = - pic1 -
+6 0.6 out b 00A1 28 = - pic1 -
+7 0.7 out b 00A1 02 = - pic1 -
+8 0.8 out b 00A1 01 = - pic1 -
+9 8.1 irq 4 1 = - wires -
+10 0.9 ack = 24 vec0 -
+11 8.2 irq 4 0 = - wires -
+",
+    ),
+    // A hard reset with the line up: the board's step comes first, then line 4 goes down.
+    (
+        "03FC=08 03F9=02 0CF9>06 03FC?00 03F9?00 03FA?01 03FE?B0 03F8:",
+        "\
+access log 1
+1 8.1 irq 4 1 = - wires -
+2 0.1 out b 0CF9 06 = - reset -
+3 8.2 irq 4 0 = - wires -
+4 0.2 in w 03F8 = FFFF abort none
+",
+    ),
+    // While the port's line is up the script's level changes nothing on the board, and it is asked all the same. The
+    // script's level holds the line up when the port's goes down, also by a hard reset.
+    (
+        "03FC=08 03F9=02 - + 03FA?02 - + 03F8!48 0CF9>06 -",
+        "\
+access log 1
+1 8.1 irq 4 1 = - wires -
+2 0.1 irq 4 1 = - wires -
+3 0.2 irq 4 1 = - wires -
+4 0.3 irq 4 0 = - wires -
+5 0.4 irq 4 1 = - wires -
+6 0.5 out b 0CF9 06 = - reset -
+7 0.6 irq 4 0 = - wires -
+",
+    ),
 ];
 
 /// An access at a port.
@@ -414,38 +147,50 @@ fn access(rt: &impl Abort, write: bool, port: u16, width: Width, value: u8) -> E
     })
 }
 
-/// The event of a request. A byte that comes is none.
-fn event(rt: &impl Abort, request: Request) -> Event
+/// The event of an access to a port.
+fn port_event(rt: &impl Abort, request: &str) -> Event
     ensures in_range { (setup : Fitting) → IsInRange setup result }
 {
-    match request {
-        Out(port, byte) => access(rt, true, port, Width::One, byte),
-        In(port) => access(rt, false, port, Width::One, 0),
-        InWord(port) => access(rt, false, port, Width::Two, 0),
-        Line4(on) => Event::Line { irq: 4, on },
-        _ => Event::Ack,
+    let [a, b, c, d, kind, digits @ ..] = request.as_bytes() else {
+        panic!(rt; "no request: {request}");
+    };
+    let port = (number(&[*a, *b, *c, *d]) % 0x1_0000) as u16;
+    match *kind {
+        b':' => access(rt, false, port, Width::Two, 0),
+        b'?' | b'<' => access(rt, false, port, Width::One, 0),
+        _ => access(rt, true, port, Width::One, byte(digits)),
     }
 }
 
-/// The reply that is wanted.
-fn reply(want: Want) -> SerialReply {
-    let (value, target, denial) = match want {
-        Value(byte) => return from_uart(Some(byte), None),
-        Sent(byte) => return from_uart(None, Some(byte)),
-        Done => return from_uart(None, None),
-        Gives(value, dev) => (Some(value), Target::Device(dev), None),
-        By(dev) => (None, Target::Device(dev), None),
-        Nobody(value) => (Some(value), Target::Abort, Some(Denial::NoRegister)),
-    };
-    SerialReply::Board(Reply::Bus {
-        value,
-        target,
-        denial,
-    })
+/// The event of a request. A byte that comes is none.
+fn event(rt: &impl Abort, request: &str) -> Event
+    ensures in_range { (setup : Fitting) → IsInRange setup result }
+{
+    match request {
+        "+" => Event::Line { irq: 4, on: true },
+        "-" => Event::Line { irq: 4, on: false },
+        "ack" => Event::Ack,
+        _ => port_event(rt, request),
+    }
 }
 
-fn from_uart(value: Option<u8>, sent: Option<u8>) -> SerialReply {
-    SerialReply::Uart { value, sent }
+/// Compares the reply to a request: the port's is in the request, and the board's is in its log.
+fn compare(rt: &impl Abort, request: &str, got: SerialReply) {
+    let [_, _, _, _, kind, digits @ ..] = request.as_bytes() else {
+        assert!(rt; matches!(got, SerialReply::Board(_)), "{request}");
+        return;
+    };
+    let byte = byte(digits);
+    let (value, sent) = match *kind {
+        b'?' => (Some(byte), None),
+        b'!' => (None, Some(byte)),
+        b'=' => (None, None),
+        _ => {
+            assert!(rt; matches!(got, SerialReply::Board(_)), "{request}");
+            return;
+        }
+    };
+    assert_eq!(rt; got, SerialReply::Uart { value, sent }, "{request}");
 }
 
 /// The room of a board for more entries.
@@ -471,22 +216,19 @@ fn receive(rt: &impl Abort, serial: &mut SerialBoard<Board>, byte: u8) {
 }
 
 /// Does a request, and compares the reply.
-fn ask(rt: &impl Abort, serial: &mut SerialBoard<Board>, at: usize, row: Row) {
-    let (request, want) = row;
-    match request {
-        Comes(byte) => receive(rt, serial, byte),
-        _ => {
-            let got = perform(rt, serial, &event(rt, request));
-            assert_eq!(rt; got, reply(want), "at {at}");
-        }
+fn ask(rt: &impl Abort, serial: &mut SerialBoard<Board>, request: &str) {
+    if let [b'c', digits @ ..] = request.as_bytes() {
+        receive(rt, serial, byte(digits));
+        return;
     }
+    let got = perform(rt, serial, &event(rt, request));
+    compare(rt, request, got);
 }
 
 /// Does a request over a chipset, and compares the reply.
-fn ask_chipset(rt: &impl Abort, serial: &mut SerialBoard<Chipset>, row: Row) {
-    let (request, want) = row;
+fn ask_chipset(rt: &impl Abort, serial: &mut SerialBoard<Chipset>, request: &str) {
     let got = serial.step(0, &event(rt, request));
-    assert_eq!(rt; got, reply(want));
+    compare(rt, request, got);
 }
 
 /// A board of 8 MiB without cards and disk, and a ROM of 64 KiB.
@@ -502,37 +244,28 @@ fn setup(alloc: Global) -> Result<Setup, AllocError>
     })
 }
 
-/// Asks a new board with a serial port a row, and compares what the board itself was asked.
-fn row(rt: &impl Abort, alloc: Global, rows: &[Row], asked: &[Asked]) -> Result<(), Fail> {
+/// Asks a new board with a serial port, and compares the log of what the board itself was asked.
+fn expect_log(rt: &impl Abort, alloc: Global, requests: &str, log: &str) -> Result<(), Fail> {
     let mut board = Board::open(alloc, setup(alloc)?)?;
     board.reserve(100)?;
     let mut serial = SerialBoard::open(board);
-    for (at, row) in rows.iter().enumerate() {
-        ask(rt, &mut serial, at, *row);
+    for request in requests.split(' ') {
+        ask(rt, &mut serial, request);
     }
+    let mut text = String::new(alloc);
+    push_heading(&mut text, 1)?;
     let entries = serial.board().history().entries();
-    assert_eq!(rt; entries.len(), asked.len());
-    for (at, (actor, request)) in asked.iter().enumerate() {
-        let entry = entries.entry(at);
-        assert_eq!(rt;
-            (entry.actor, entry.event),
-            (*actor, event(rt, *request)),
-            "at {at}"
-        );
+    for at in 0..entries.len() {
+        push_line(&mut text, at as u64 + 1, &entries.entry(at))?;
     }
+    assert_eq!(rt; text.as_str(), log);
     Ok(())
 }
 
 #[test]
 fn board_with_a_serial_port(rt: HostRuntime) -> Result<(), Fail> {
-    let tables: [(&[Row], &[Asked]); 4] = [
-        (&HI, &[]),
-        (&RECEIVED, &RECEIVED_ASKED),
-        (&HARD_RESET, &HARD_RESET_ASKED),
-        (&SCRIPT_LEVEL, &SCRIPT_LEVEL_ASKED),
-    ];
-    for (rows, asked) in tables {
-        row(&rt, rt.alloc(), rows, asked)?;
+    for (requests, log) in REQUESTS {
+        expect_log(&rt, rt.alloc(), requests, log)?;
     }
     Ok(())
 }
@@ -544,20 +277,18 @@ fn chipset_with_a_serial_port(rt: HostRuntime) -> Result<(), Fail> {
     let mut serial = SerialBoard::open(Chipset::open(alloc, setup(alloc)?)?);
     assert!(rt; serial.room());
     serial.receive(0x41);
-    let rows = [
-        (Out(0x3FC, 0x08), Done),
-        (Out(0x3F9, 0x01), Done),
-        (In(0x3FA), Value(0x04)),
-        (In(0x3F8), Value(0x41)),
-        (Line4(true), By(Dev::Wires)),
-        (In(0x3FD), Value(0x60)),
-    ];
-    for row in rows {
-        ask_chipset(&rt, &mut serial, row);
+    for request in "03FC=08 03F9=01 03FA?04 03F8?41 + 03FD?60".split(' ') {
+        ask_chipset(&rt, &mut serial, request);
     }
     bytes_from_outside(&rt, &mut serial);
-    ask_chipset(&rt, &mut serial, (Out(0x70, 0x10), By(Dev::Clock)));
-    ask_chipset(&rt, &mut serial, (In(0x71), Gives(0x5A, Dev::Clock)));
+    ask_chipset(&rt, &mut serial, "0070>10");
+    let clock = Reply::Bus {
+        value: Some(0x5A),
+        target: Target::Device(Dev::Clock),
+        denial: None,
+    };
+    let got = serial.step(0, &event(&rt, "0071<"));
+    assert_eq!(rt; got, SerialReply::Board(clock));
     Ok(())
 }
 

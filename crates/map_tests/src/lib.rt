@@ -1,13 +1,13 @@
-//! Tests of the PCI cards, the address map, the flat map and the stores behind them.
+//! Tests of the address map, the flat map, the stores behind them and the cycles of accesses to ports.
 #![tactic(auto)]
 
 #[cfg(test)]
 mod address_map;
 #[cfg(test)]
-mod cards;
-#[cfg(test)]
 mod flat_map;
 #[cfg(test)]
 mod made;
+#[cfg(test)]
+mod rows;
 #[cfg(test)]
 mod stores;

@@ -1,29 +1,43 @@
-//! Cards and stores that more than one of the tests makes.
+//! Cards that more than one of the tests has.
 
 ghost use Rattle.std.specs.Prelude.{◌≡◌, ◌≤◌};
-ghost use Rattle.board_spec.specs.Setup.{IsBase, IsCard};
-ghost use Rattle.pci_bars.specs.Bases.{base_of};
+ghost use Rattle.board_spec.specs.Setup.{IsCard};
 
 use arrayvec::ArrayVec;
-use board_base::{Reg, Width};
-use board_spec::MapChange;
 use pci_bars::{BaseSpec, CardSpec};
 
-/// A card with two bases.
-pub fn two_bases(dev: u8, vga: bool, first: BaseSpec, second: BaseSpec) -> CardSpec
+/// A card with one base, of 2^K bytes of memory.
+pub fn memory_card(dev: u8, k: u8) -> CardSpec
     requires from { 2 ≤ dev }
     requires to { dev ≤ 9 }
-    requires first { IsBase (base_of first) }
-    requires second { IsBase (base_of second) }
+    requires least { 4 ≤ k }
+    requires most { k ≤ 24 }
     ensures card { IsCard result }
     ensures dev { result.dev ≡ dev }
 {
     let mut bases = ArrayVec::new();
-    bases.push(first);
-    bases.push(second);
+    bases.push(BaseSpec::Memory(k));
     CardSpec {
         dev,
-        vga,
+        vga: false,
+        bases,
+        rom: None,
+    }
+}
+
+/// A VGA card with a base of 1 MiB of memory and one of 16 ports.
+pub fn vga_card(dev: u8) -> CardSpec
+    requires from { 2 ≤ dev }
+    requires to { dev ≤ 9 }
+    ensures card { IsCard result }
+    ensures dev { result.dev ≡ dev }
+{
+    let mut bases = ArrayVec::new();
+    bases.push(BaseSpec::Memory(20));
+    bases.push(BaseSpec::Io(4));
+    CardSpec {
+        dev,
+        vga: true,
         bases,
         rom: None,
     }
@@ -42,8 +56,4 @@ pub fn rom_card(dev: u8) -> CardSpec
         bases: ArrayVec::new(),
         rom: Some(16),
     }
-}
-
-pub fn store(reg: Reg, width: Width, value: u32) -> MapChange {
-    MapChange::Store { reg, width, value }
 }

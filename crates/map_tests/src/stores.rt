@@ -1,71 +1,66 @@
 //! Stretches of bytes in the DRAM and in a card, and the cycles of an access to ports.
 
-use crate::made;
-use board_base::Width::{Four, One, Two};
-use board_base::{NoMemory, PortAccess, Width};
+use crate::made::vga_card;
+use crate::rows::{numbers, width};
+use board_base::Width::Four;
+use board_base::{NoMemory, PortAccess};
 use board_stores::port_cycles;
 use dram_store::{Dram, PastTheEnd};
-use pci_bars::{BaseSpec, Contents};
+use pci_bars::Contents;
 use std::process::Abort;
+use std::test::Fail;
 
-/// An access to ports, and its cycles, each a port, a width and a value.
-type Cut = ((u16, Width, u32), &'static [(u16, Width, u32)]);
+/// Accesses to ports, and the cycles of each: port, bytes and value.
+const CUTS: &str = "\
+21 1 AB 21 1 AB
+3D4 2 0E0C 3D4 2 0E0C
+CFC 4 11223344 CFC 4 11223344
+21 2 BBAA 21 1 AA 22 1 BB
+3D5 2 0201 3D5 1 01 3D6 1 02
+CFD 4 44332211 CFD 1 11 CFE 2 3322 D00 1 44
+CFE 4 44332211 CFE 2 2211 D00 2 4433
+CFF 4 44332211 CFF 1 11 D00 2 3322 D02 1 44
+FFFD 2 2211 FFFD 1 11 FFFE 1 22
+FFFC 4 44332211 FFFC 4 44332211";
 
-/// Writes to ports that are aligned, and that are not.
-const CUTS: [Cut; 10] = [
-    ((0x21, One, 0xAB), &[(0x21, One, 0xAB)]),
-    ((0x3D4, Two, 0x0E0C), &[(0x3D4, Two, 0x0E0C)]),
-    ((0xCFC, Four, 0x1122_3344), &[(0xCFC, Four, 0x1122_3344)]),
-    ((0x21, Two, 0xBBAA), &[(0x21, One, 0xAA), (0x22, One, 0xBB)]),
-    (
-        (0x3D5, Two, 0x0201),
-        &[(0x3D5, One, 0x01), (0x3D6, One, 0x02)],
-    ),
-    (
-        (0xCFD, Four, 0x4433_2211),
-        &[(0xCFD, One, 0x11), (0xCFE, Two, 0x3322), (0xD00, One, 0x44)],
-    ),
-    (
-        (0xCFE, Four, 0x4433_2211),
-        &[(0xCFE, Two, 0x2211), (0xD00, Two, 0x4433)],
-    ),
-    (
-        (0xCFF, Four, 0x4433_2211),
-        &[(0xCFF, One, 0x11), (0xD00, Two, 0x3322), (0xD02, One, 0x44)],
-    ),
-    (
-        (0xFFFD, Two, 0x2211),
-        &[(0xFFFD, One, 0x11), (0xFFFE, One, 0x22)],
-    ),
-    ((0xFFFC, Four, 0x4433_2211), &[(0xFFFC, Four, 0x4433_2211)]),
-];
+/// The access of a port, bytes and value; a read has no value.
+fn access(write: bool, port: u32, bytes: u32, value: u32) -> PortAccess {
+    PortAccess {
+        write,
+        port: (port % 0x1_0000) as u16,
+        width: width(bytes),
+        value: if write { value } else { 0 },
+    }
+}
+
+/// Compares the cycles of an access with three numbers each.
+fn expect_cycles(rt: &impl Abort, access: &PortAccess, mut wanted: &[u32]) {
+    assert!(rt; u32::from(access.port) + access.width.bytes() <= 0x1_0000);
+    for cycle in &port_cycles(access) {
+        let [port, bytes, value, rest @ ..] = wanted else {
+            panic!(rt; "too many cycles");
+        };
+        assert_eq!(rt;
+            cycle.access,
+            self::access(access.write, *port, *bytes, *value)
+        );
+        wanted = rest;
+    }
+    assert!(rt; wanted.is_empty());
+}
 
 #[test]
-fn ports_are_cut_into_aligned_cycles(rt: HostRuntime) {
-    for ((port, width, value), wanted) in CUTS {
+fn ports_are_cut_into_aligned_cycles(rt: HostRuntime) -> Result<(), Fail> {
+    for row in CUTS.lines() {
+        let numbers = numbers(rt.alloc(), row)?;
+        let [port, bytes, value, cycles @ ..] = numbers.as_slice() else {
+            return Err(Fail::from("a row has an access and its cycles"));
+        };
         for write in [true, false] {
-            let value = if write { value } else { 0 };
-            let access = PortAccess {
-                write,
-                port,
-                width,
-                value,
-            };
-            assert!(rt; u32::from(port) + width.bytes() <= 0x1_0000);
-            let cycles = port_cycles(&access);
-            assert_eq!(rt; cycles.len(), wanted.len(), "at {port}");
-            for (cycle, (port, width, value)) in cycles.iter().zip(wanted) {
-                let value = if write { *value } else { 0 };
-                let wanted = PortAccess {
-                    write,
-                    port: *port,
-                    width: *width,
-                    value,
-                };
-                assert_eq!(rt; cycle.access, wanted);
-            }
+            expect_cycles(&rt, &access(write, *port, *bytes, *value), cycles);
         }
     }
+    Ok(())
 }
 
 /// The bytes of a stretch, which begins four bytes below the second MiB.
@@ -123,12 +118,11 @@ fn expect_bytes(rt: &impl Abort, contents: &Contents, base: u8, off: u32, wanted
 
 #[test]
 fn stretches_of_a_base_stay_in_it(rt: HostRuntime) -> Result<(), NoMemory> {
-    let card = made::two_bases(2, false, BaseSpec::Memory(4), BaseSpec::Memory(4));
-    let mut contents = Contents::open(rt.alloc(), &[card])?;
-    assert_eq!(rt; contents.size(2, 0), 16);
-    contents.write_bytes(2, 0, 8, &STRETCH);
-    expect_bytes(&rt, &contents, 0, 6, [0, 0, 1, 2]);
-    expect_bytes(&rt, &contents, 0, 12, [5, 6, 7, 8]);
+    let mut contents = Contents::open(rt.alloc(), &[vga_card(2)])?;
+    assert_eq!(rt; contents.size(2, 0), 0x10_0000);
+    contents.write_bytes(2, 0, 0xF_FFF8, &STRETCH);
+    expect_bytes(&rt, &contents, 0, 0xF_FFF6, [0, 0, 1, 2]);
+    expect_bytes(&rt, &contents, 0, 0xF_FFFC, [5, 6, 7, 8]);
     expect_bytes(&rt, &contents, 1, 8, [0, 0, 0, 0]);
     Ok(())
 }

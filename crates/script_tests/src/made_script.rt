@@ -1,8 +1,6 @@
-//! Lines of the script, bytes of the images, and the summary of a history made by hand.
+//! Lines of the script, bytes of the images, and the summary of a log.
 
-use crate::registers::PAM0;
-use board_base::{Area, Denial, Dev, Target};
-use board_spec::{Entry, Event, Look, Part, Parts, Reply};
+use crate::logs::read_short;
 use make_script::{make_disk, make_rom, make_text, push_summary};
 use std::test::Fail;
 
@@ -72,71 +70,31 @@ fn the_images_have_their_bytes(rt: HostRuntime) -> Result<(), Fail> {
     Ok(())
 }
 
-/// An answer without a value.
-fn bus(target: Target, denial: Option<Denial>) -> Reply {
-    Reply::Bus {
-        value: None,
-        target,
-        denial,
-    }
-}
-
-/// An answer to a wide access in two parts.
-fn parts(low: Target, high: Target, denial: Option<Denial>) -> Reply {
-    Reply::Parts {
-        value: None,
-        parts: Parts::Two(
-            Part {
-                target: low,
-                denial: None,
-            },
-            Part {
-                target: high,
-                denial,
-            },
-        ),
-    }
-}
-
-fn replies() -> [Reply; 15] {
-    let look = Look {
-        version: 1,
-        lo: 0,
-        hi: 0xFFFF_FFFF,
-        area: Area::Card(2, 0),
-    };
-    [
-        bus(Target::Dram(0), None),
-        bus(Target::Dram(7), None),
-        bus(Target::Shadow(0), None),
-        bus(Target::Smram, None),
-        bus(Target::Rom(0), None),
-        bus(Target::Card(2, 7, 0), None),
-        bus(Target::Config(PAM0), None),
-        bus(Target::Device(Dev::Pit), None),
-        bus(Target::Device(Dev::Vector(0)), None),
-        bus(Target::Device(Dev::Wires), None),
-        bus(Target::Abort, Some(Denial::Register(PAM0))),
-        bus(Target::Abort, Some(Denial::NoRegister)),
-        Reply::Saw(look),
-        parts(Target::Dram(0), Target::Dram(0), None),
-        parts(Target::Dram(0), Target::Abort, Some(Denial::Confadd)),
-    ]
-}
+/// A log of which each line is counted: of a wide access each kind of target that answered a part, once.
+const LOG: &str = "\
+access log 2
+1 0.1 r b 00001000 = 00 dram:0 -
+2 0.2 r b 00700000 = 00 dram:7 -
+3 0.3 r b 000F0000 = 00 shadow:0 -
+4 0.4 r b 000A0000 = 00 smram -
+5 0.5 r b 000F0000 = 00 rom:00000 -
+6 0.6 r b 000A0000 = 00 card:2.7:00000000 -
+7 0.7 in b 0CFD = 00 config:00.0.59 -
+8 0.8 pulse 1 = - pit -
+9 0.9 ack = 08 vec0 -
+10 0.10 irq 10 0 = - wires -
+11 0.11 r b 000F0000 = FF abort 00.0.59
+12 0.12 in b 0CFC = FF abort none
+13 0.13 look r 00000000 = 1 00000000 FFFFFFFF card:2.0
+14 0.14 r w 00001001 = 0000 dram:0 - dram:0 -
+15 0.15 r w 0009FFFF = FF00 dram:0 - abort confadd
+";
 
 #[test]
 fn a_summary_counts_the_entries_by_their_replies(rt: HostRuntime) -> Result<(), Fail> {
-    let mut entries = Vec::new(rt.alloc());
-    for reply in replies() {
-        entries.push(Entry {
-            actor: 0,
-            seq: 1,
-            event: Event::Ack,
-            reply,
-        })?;
-    }
+    let log = read_short(&rt, rt.alloc(), LOG)?;
     let mut text = String::new(rt.alloc());
-    push_summary(&mut text, entries.as_slice(), 10, 9)?;
+    push_summary(&mut text, &log.entries, 10, 9)?;
     assert_eq!(rt;
         text.as_str(),
         "\
