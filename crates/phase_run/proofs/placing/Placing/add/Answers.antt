@@ -33,7 +33,7 @@ returns-then-not-has_looks-clause-placed c =
 pub begin-requires-clause-legal : goal.begin-requires-clause-legal
 begin-requires-clause-legal c =
     let setup : Setup = c.requires.legal.0 in
-    (setup, subst (λ (front : List Entry). IsLegal setup (reverse front)) (sym c.before.ensures.entries) (legal_front setup c.args.opened c.args.bus.now c.requires.legal.1))
+    (setup, subst (λ (front : List Entry). IsLegal setup (reverse front)) (sym c.before-2.ensures.entries) (legal_front setup c.args.opened c.args.bus.now c.requires.legal.1))
 
 pub returns-clause-placed : goal.returns-clause-placed
 returns-clause-placed c =
@@ -42,7 +42,7 @@ returns-clause-placed c =
     let lists : List (List Done) = map (λ done. done.now) c.args.works.items in
     let none : c.args.self.now.order ≡ None = search rules in
     let begun : Order = c.in_ok-order.order in
-    let front : c.before.result ≡ take c.args.opened bus = c.before.ensures.entries in
+    let front : c.before-2.result ≡ take c.args.opened bus = c.before-2.ensures.entries in
     let size : begun.bus ≡ c.args.opened = c.in_ok-order.ensures.bus ∙ ap length front ∙ length-take-le c.args.opened bus c.requires.gained in
     let own = subst (λ (b : List Entry). over b begun.entries ≡ reverse b) front c.in_ok-order.ensures.same in
     let same : entries_of (Some begun) before ≡ before =
