@@ -15,7 +15,7 @@ log-newest version entry history n is =
     let line : List ℕ = line_text (length history + 1) entry ++ line_feed ∷ [] in
     log_parts version (entry ∷ history)
     ∙ ap (λ (lines : List ℕ). log_text version [] ++ lines)
-      (sym (append-nil (lines_text (entry ∷ history))) ∙ lines-newest entry history [])
+    (sym (append-nil (lines_text (entry ∷ history))) ∙ lines-newest entry history [])
     ∙ sym (append_assoc (log_text version []) (lines_text history) line)
     ∙ ap (λ (front : List ℕ). front ++ line) (sym (log_parts version history))
     ∙ ap (λ (k : ℕ). log_text version history ++ (line_text k entry ++ line_feed ∷ [])) (sym is)

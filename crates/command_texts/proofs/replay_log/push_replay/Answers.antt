@@ -49,7 +49,7 @@ loop-phase-preserved c =
       log =
           subst
           (λ (said : List Statement).
-              HasLog c.args.script.now.version c.push_phase.new.replay said (string_bytes c.push_phase.new.text))
+          HasLog c.args.script.now.version c.push_phase.new.replay said (string_bytes c.push_phase.new.text))
           (ap (λ (items : List Statement). said_before phases i ++ items) c.deref.ensures.value
           ∙ sym (said_with phases i c.phase-item.result c.loop-phase-test.true c.phase-item.is))
           (c.in_ok-push_phase.ensures.log c.args.script.now.version (said_before phases i) before.log);
@@ -60,7 +60,7 @@ returns-clause-log c =
     let phases = c.deref-phase-items.result.now in
     subst
     (λ (said : List Statement).
-        HasLog c.args.script.now.version c.loop-phase.replay said (string_bytes c.loop-phase.text))
+    HasLog c.args.script.now.version c.loop-phase.replay said (string_bytes c.loop-phase.text))
     (ap (λ ps. in_file_order (lists_of ps)) (take_all c.loop-phase.phase-index phases c.loop-phase-test.false)
     ∙ ap (λ ps. in_file_order (lists_of ps)) c.deref-phase-items.ensures.value)
     c.loop-phase.invariant.log

@@ -25,11 +25,13 @@ invariant_of-self c =
       seq = slice_index old.counts c.from.result + 1;
       event = c.args.event.now;
       reply = c.step-reply.result;
-    } in
-    (entry ∷ history, rw (c.from-2.ensures)
-    (stepped replay history entry c.step-reply.new.self c.self.told (omega arith) few (rw (c.from.ensures) refl) played
-    c.step-reply.ensures.setup (c.step-reply.ensures.exact history played.left (few_versions played))
-    (c.step-reply.ensures.left history entry played.left refl refl)))
+    } in (
+      entry ∷ history,
+      rw (c.from-2.ensures)
+          (stepped replay history entry c.step-reply.new.self c.self.told (omega arith) few (rw (c.from.ensures) refl) played
+          c.step-reply.ensures.setup (c.step-reply.ensures.exact history played.left (few_versions played))
+          (c.step-reply.ensures.left history entry played.left refl refl)),
+    )
 
 pub returns-clause-played : goal.returns-clause-played
 returns-clause-played c =
