@@ -1,6 +1,7 @@
 //! Lines of the script, bytes of the images, and the summary of a log.
 
 use crate::logs::read_short;
+use access_history::History;
 use make_script::{make_disk, make_rom, make_text, push_summary};
 use std::test::Fail;
 
@@ -93,8 +94,14 @@ access log 2
 #[test]
 fn a_summary_counts_the_entries_by_their_replies(rt: HostRuntime) -> Result<(), Fail> {
     let log = read_short(&rt, rt.alloc(), LOG)?;
+    let mut history = History::new(rt.alloc());
+    history.reserve(20)?;
+    for entry in &log.entries {
+        assert!(rt; history.spare() > 0);
+        history.push(*entry);
+    }
     let mut text = String::new(rt.alloc());
-    push_summary(&mut text, &log.entries, 10, 9)?;
+    push_summary(&mut text, &history.entries(), 10, 9)?;
     assert_eq!(rt;
         text.as_str(),
         "\
@@ -119,7 +126,8 @@ ranges 9
 #[test]
 fn the_summary_of_no_entries_has_all_its_lines(rt: HostRuntime) -> Result<(), Fail> {
     let mut text = String::from_str(rt.alloc(), "before\n")?;
-    push_summary(&mut text, &[], 0, 6)?;
+    let history = History::new(rt.alloc());
+    push_summary(&mut text, &history.entries(), 0, 6)?;
     assert_eq!(rt;
         text.as_str(),
         "\
