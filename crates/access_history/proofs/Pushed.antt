@@ -1,7 +1,7 @@
 -- A history that got an entry.
 use Rattle.std.specs.Prelude.{Some, option_map, slice_get}
 use Rattle.std.proofs.lemmas.Option.{slice_get-map, slice_get_read}
-use Rattle.std.proofs.Common.{◌≡◌, ℕ, ◌+◌, ◌*◌, ◌-◌, ◌<◌, ◌≤◌, List, [], ◌∷◌, ◌++◌, length, map, reverse, slice_index_or, All, refl, sym, ◌∙◌, ap, subst, arith}
+use Rattle.std.proofs.Common.{◌≡◌, ℕ, ◌+◌, ◌-◌, ◌<◌, ◌≤◌, List, [], ◌∷◌, ◌++◌, length, reverse, slice_index_or, refl, sym, ◌∙◌, ap, subst, arith}
 use Rattle.board_prelude.proofs.Common.{reverse-append, length-append, map-append, get_or_append_left, All-nil, All-push, All-head, All-tail, All-cons, Entry, Part}
 use Rattle.access_history.specs.declared.packed.Count.{Count}
 use Rattle.access_history.specs.declared.packed.Count.TheVariants.{Two, Three, Four}
@@ -13,7 +13,7 @@ use Rattle.access_history.specs.Packed.{IsHistory, IsWithin, AreWithin, KeepsPar
 within_more : (n m : ℕ) → n ≤ m → (reply : PackedReply) → IsWithin n reply → IsWithin m reply
 within_more n m more (Read denial target value) within = tt
 within_more n m more (Wrote denial target) within = tt
-within_more n m more (ReadParts count first low high) within = omega (arith, more, within)
+within_more n m more (ReadParts count first value) within = omega (arith, more, within)
 within_more n m more (WroteParts count first) within = omega (arith, more, within)
 within_more n m more (Saw area version lo hi) within = tt
 
@@ -38,7 +38,7 @@ parts_front list more Four first less =
 reply_front : (list more : List Part) (reply : PackedReply) → IsWithin (length list) reply → reply_in (list ++ more) reply ≡ reply_in list reply
 reply_front list more (Read denial target value) within = refl
 reply_front list more (Wrote denial target) within = refl
-reply_front list more (ReadParts count first low high) within = rw (parts_front list more count first within) refl
+reply_front list more (ReadParts count first value) within = rw (parts_front list more count first within) refl
 reply_front list more (WroteParts count first) within = rw (parts_front list more count first within) refl
 reply_front list more (Saw area version lo hi) within = refl
 

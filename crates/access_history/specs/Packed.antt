@@ -1,34 +1,13 @@
 -- What an entry in few bytes stands for. The parts of all wide accesses stand in one list.
-use Rattle.std.specs.Prelude.{ℕ, ◌≡◌, ◌≤◌, ◌<◌, ◌+◌, ◌*◌, ◌^◌, List, [], ◌∷◌, ◌++◌, length, map, slice_index_or, All, Some, None}
-use Rattle.board_prelude.specs.Common.{Abort, Entry, Event, Part, Parts, Reply, Two, Three, Four}
-use Rattle.board_spec.specs.declared.event.Event.TheVariants as AnEvent
+use Rattle.std.specs.Prelude.{ℕ, ◌≡◌, ◌≤◌, ◌<◌, ◌+◌, ◌*◌, List, [], ◌∷◌, ◌++◌, length, map, slice_index_or, All, Some, None}
+use Rattle.board_prelude.specs.Common.{Abort, Entry, Part, Parts, Reply, Two, Three, Four}
 use Rattle.board_spec.specs.declared.event.Reply.TheVariants as AReply
 use Rattle.board_spec.specs.Limits.{entry_limit}
 use Rattle.access_history.specs.declared.packed.Count.{Count}
 use Rattle.access_history.specs.declared.packed.Count.TheVariants as ACount
-use Rattle.access_history.specs.declared.packed.PackedEvent.{PackedEvent}
-use Rattle.access_history.specs.declared.packed.PackedEvent.TheVariants.{Memory, Wide, Port, Look, Ack, Pulses, Time, Wire, Line, BadSector}
 use Rattle.access_history.specs.declared.packed.PackedReply.{PackedReply}
 use Rattle.access_history.specs.declared.packed.PackedReply.TheVariants.{Read, Wrote, ReadParts, WroteParts, Saw}
 use Rattle.access_history.specs.declared.packed.PackedEntry.{PackedEntry}
-
--- a value of 8 bytes
-abbrev pub of_halves : (low high : ℕ) → ℕ
-of_halves low high = high * 2 ^ 32 + low
-
-abbrev pub event_in : PackedEvent → Event
-event_in (Memory kind width smm addr value) =
-    AnEvent.Memory (record { kind = kind; addr = addr; width = width; smm = smm; value = value })
-event_in (Wide kind bytes smm addr low high) =
-    AnEvent.Wide (record { kind = kind; bytes = bytes; smm = smm; addr = addr; value = of_halves low high })
-event_in (Port access) = AnEvent.Port access
-event_in (Look kind smm addr) = AnEvent.Look kind addr smm
-event_in Ack = AnEvent.Ack
-event_in (Pulses count) = AnEvent.Pulses count
-event_in (Time moment) = AnEvent.Time moment
-event_in (Wire dev on) = AnEvent.Wire dev on
-event_in (Line irq on) = AnEvent.Line irq on
-event_in (BadSector sector) = AnEvent.BadSector sector
 
 -- how many parts there are
 abbrev pub number_in : Count → ℕ
@@ -53,7 +32,7 @@ parts_at list ACount.Four first =
 abbrev pub reply_in : List Part → PackedReply → Reply
 reply_in list (Read denial target value) = AReply.Bus (Some value) target denial
 reply_in list (Wrote denial target) = AReply.Bus None target denial
-reply_in list (ReadParts count first low high) = AReply.Parts (parts_at list count first) (Some (of_halves low high))
+reply_in list (ReadParts count first value) = AReply.Parts (parts_at list count first) (Some value)
 reply_in list (WroteParts count first) = AReply.Parts (parts_at list count first) None
 reply_in list (Saw area version lo hi) =
     AReply.Saw (record { version = version; lo = lo; hi = hi; area = area })
@@ -63,7 +42,7 @@ entry_in list packed =
     record {
       actor = packed.actor;
       seq = packed.seq;
-      event = event_in packed.event;
+      event = packed.event;
       reply = reply_in list packed.reply;
     }
 
@@ -84,7 +63,7 @@ count_of (Four first second third fourth) = ACount.Four
 
 -- the parts of a reply are among the first `n` of the list
 abbrev pub IsWithin : (n : ℕ) → PackedReply → Type 0
-IsWithin n (ReadParts count first low high) = first + number_in count ≤ n
+IsWithin n (ReadParts count first value) = first + number_in count ≤ n
 IsWithin n (WroteParts count first) = first + number_in count ≤ n
 IsWithin n _ = Unit {0}
 

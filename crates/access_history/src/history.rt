@@ -68,11 +68,11 @@ impl History {
     }
 
     /// Adds an entry, the newest, in the room that was reserved. It takes no memory.
-    pub fn push(&mut self, entry: Entry)
+    pub fn push(&mut self, entry: &Entry)
         requires { 1 ≤ self.old.spare }
-        ensures pushed { self.new ≡ record { entries = entry ∷ self.old.entries; spare = self.old.spare - 1 } }
+        ensures pushed { self.new ≡ record { entries = entry.now ∷ self.old.entries; spare = self.old.spare - 1 } }
     {
-        let packed = PackedEntry::keep(&mut self.parts, &entry);
+        let packed = PackedEntry::keep(&mut self.parts, entry);
         self.entries.push(packed).unwrap();
         self.spare -= 1;
     }

@@ -1,53 +1,12 @@
-//! An entry in few bytes. Its small fields stand together, before the large ones, so that no room is lost between them.
+//! An entry in few bytes: its event as it is, and its reply without the parts of a wide access, which stand in a list
+//! beside.
 
-ghost use Rattle.std.specs.Prelude.{◌≡◌, ◌≤◌, ◌+◌, ◌++◌, ◌^◌, ◌<◌, ◌/◌, ◌%◌, length, vec_capacity};
-ghost use Rattle.board_spec.specs.declared.event.Event.TheVariants.{Wide};
+ghost use Rattle.std.specs.Prelude.{◌≡◌, ◌≤◌, ◌+◌, ◌++◌, ◌^◌, ◌<◌, length, vec_capacity};
 ghost use Rattle.board_spec.specs.declared.event.Reply.TheVariants.{Parts as InParts};
-ghost use Rattle.access_history.specs.Packed.{IsWithin, KeepsParts, count_of, entry_in, event_in, list_of, number_in, of_halves, parts_at, reply_in};
+ghost use Rattle.access_history.specs.Packed.{IsWithin, KeepsParts, count_of, entry_in, list_of, number_in, parts_at, reply_in};
 
-use board_base::{Access, Area, Denial, Kind, Moment, PortAccess, Target, WideAccess, Width};
+use board_base::{Area, Denial, Target};
 use board_spec::{Entry, Event, Look, Part, Parts, Reply};
-
-/// How many bits the low half of a value of 8 bytes has.
-const HALF: u32 = 32;
-
-/// An event in few bytes. A value of 8 bytes is kept in halves.
-#[derive(Clone, Copy)]
-pub(crate) enum PackedEvent {
-    Memory {
-        kind: Kind,
-        width: Width,
-        smm: bool,
-        addr: u32,
-        value: u32,
-    },
-    Wide {
-        kind: Kind,
-        bytes: u8,
-        smm: bool,
-        addr: u32,
-        low: u32,
-        high: u32,
-    },
-    Port(PortAccess),
-    Look {
-        kind: Kind,
-        smm: bool,
-        addr: u32,
-    },
-    Ack,
-    Pulses(u32),
-    Time(Moment),
-    Wire {
-        dev: u8,
-        on: bool,
-    },
-    Line {
-        irq: u8,
-        on: bool,
-    },
-    BadSector(u32),
-}
 
 /// How many parts a wide access has.
 #[derive(Clone, Copy)]
@@ -72,8 +31,7 @@ pub(crate) enum PackedReply {
     ReadParts {
         count: Count,
         first: u32,
-        low: u32,
-        high: u32,
+        value: u64,
     },
     WroteParts {
         count: Count,
@@ -90,129 +48,10 @@ pub(crate) enum PackedReply {
 /// An entry in few bytes.
 #[derive(Clone, Copy)]
 pub(crate) struct PackedEntry {
-    pub event: PackedEvent,
+    pub event: Event,
     pub reply: PackedReply,
     pub seq: u32,
     pub actor: u8,
-}
-
-/// The low half of a value.
-fn low(value: u64) -> u32
-    ensures low { result ≡ value % 2 ^ 32 }
-{
-    (value % (1 << HALF)) as u32
-}
-
-/// The high half of a value.
-fn high(value: u64) -> u32
-    ensures high { result ≡ value / 2 ^ 32 }
-{
-    (value >> HALF) as u32
-}
-
-/// The value of two halves.
-fn whole(low: u32, high: u32) -> u64
-    ensures whole { result ≡ of_halves low high }
-{
-    u64::from(high) * (1 << HALF) + u64::from(low)
-}
-
-impl PackedEvent {
-    /// An event in few bytes.
-    fn of(event: &Event) -> PackedEvent
-        ensures event { event_in result ≡ event.now }
-    {
-        match *event {
-            Event::Memory(
-                Access {
-                    kind,
-                    addr,
-                    width,
-                    smm,
-                    value,
-                },
-            ) => PackedEvent::Memory {
-                kind,
-                width,
-                smm,
-                addr,
-                value,
-            },
-            Event::Wide(access) => PackedEvent::of_wide(access),
-            Event::Port(access) => PackedEvent::Port(access),
-            Event::Look { kind, addr, smm } => PackedEvent::Look { kind, smm, addr },
-            Event::Ack => PackedEvent::Ack,
-            Event::Pulses(count) => PackedEvent::Pulses(count),
-            Event::Time(moment) => PackedEvent::Time(moment),
-            Event::Wire { dev, on } => PackedEvent::Wire { dev, on },
-            Event::Line { irq, on } => PackedEvent::Line { irq, on },
-            Event::BadSector(sector) => PackedEvent::BadSector(sector),
-        }
-    }
-
-    /// A wide access in few bytes.
-    fn of_wide(access: WideAccess) -> PackedEvent
-        ensures event { event_in result ≡ Wide access }
-    {
-        let WideAccess {
-            kind,
-            bytes,
-            smm,
-            addr,
-            value,
-        } = access;
-        PackedEvent::Wide {
-            kind,
-            bytes,
-            smm,
-            addr,
-            low: low(value),
-            high: high(value),
-        }
-    }
-
-    /// The event itself.
-    fn event(self) -> Event
-        ensures event { result ≡ event_in self }
-    {
-        match self {
-            PackedEvent::Memory {
-                kind,
-                width,
-                smm,
-                addr,
-                value,
-            } => Event::Memory(Access {
-                kind,
-                addr,
-                width,
-                smm,
-                value,
-            }),
-            PackedEvent::Wide {
-                kind,
-                bytes,
-                smm,
-                addr,
-                low,
-                high,
-            } => Event::Wide(WideAccess {
-                kind,
-                bytes,
-                smm,
-                addr,
-                value: whole(low, high),
-            }),
-            PackedEvent::Port(access) => Event::Port(access),
-            PackedEvent::Look { kind, smm, addr } => Event::Look { kind, addr, smm },
-            PackedEvent::Ack => Event::Ack,
-            PackedEvent::Pulses(count) => Event::Pulses(count),
-            PackedEvent::Time(moment) => Event::Time(moment),
-            PackedEvent::Wire { dev, on } => Event::Wire { dev, on },
-            PackedEvent::Line { irq, on } => Event::Line { irq, on },
-            PackedEvent::BadSector(sector) => Event::BadSector(sector),
-        }
-    }
 }
 
 /// Adds the parts of a wide access to a list, in the room that it has, and says how many they are.
@@ -312,8 +151,7 @@ impl PackedReply {
             Some(value) => PackedReply::ReadParts {
                 count,
                 first,
-                low: low(value),
-                high: high(value),
+                value,
             },
             None => PackedReply::WroteParts { count, first },
         }
@@ -342,11 +180,10 @@ impl PackedReply {
             PackedReply::ReadParts {
                 count,
                 first,
-                low,
-                high,
+                value,
             } => Reply::Parts {
                 parts: parts_at(list, count, first),
-                value: Some(whole(low, high)),
+                value: Some(value),
             },
             PackedReply::WroteParts { count, first } => Reply::Parts {
                 parts: parts_at(list, count, first),
@@ -377,7 +214,7 @@ impl PackedEntry {
         ensures capacity { vec_capacity list.old ≤ vec_capacity list.new }
     {
         PackedEntry {
-            event: PackedEvent::of(&entry.event),
+            event: entry.event,
             reply: PackedReply::keep(list, &entry.reply),
             seq: entry.seq,
             actor: entry.actor,
@@ -392,7 +229,7 @@ impl PackedEntry {
         Entry {
             actor: self.actor,
             seq: self.seq,
-            event: self.event.event(),
+            event: self.event,
             reply: self.reply.reply(list),
         }
     }

@@ -30,8 +30,8 @@ fn entries_stand_in_the_order_in_which_they_came(rt: HostRuntime) -> Result<(), 
     let mut history = History::new(rt.alloc());
     assert_eq!(rt; (history.len(), history.spare()), (0, 0));
     history.reserve(3)?;
-    history.push(acknowledged(0, 0x08));
-    history.push(acknowledged(1, 0x0B));
+    history.push(&acknowledged(0, 0x08));
+    history.push(&acknowledged(1, 0x0B));
     assert_eq!(rt; (history.len(), history.spare()), (2, 1));
     history.reserve(2)?;
     assert_eq!(rt; (history.len(), history.spare()), (2, 2));
@@ -133,7 +133,7 @@ fn add<R: Wait>(rt: &R, turn: &Turn<History>, pass: &mut Pass<History>, actor: u
 {
     let mut held = turn.take(rt, pass);
     if held.value.spare() > 0 {
-        held.value.push(Entry {
+        held.value.push(&Entry {
             actor,
             seq,
             ..acknowledged(actor, 0x08)

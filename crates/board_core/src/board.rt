@@ -15,7 +15,7 @@ use access_history::History;
 use addr_decode::MapChange;
 use board_base::NoMemory;
 use board_chipset::{BoardOpen, Setup, Store};
-use board_spec::{Event, Reply, Statement};
+use board_spec::{Entry, Event, Reply, Statement};
 use map_builder::FlatMap;
 use std::alloc::Global;
 use std::marker::Model;
@@ -71,6 +71,22 @@ impl Board {
         self.history.reserve(n)
     }
 
+    /// Does an event of a processor, and returns the entry that it adds to the history. It takes no memory.
+    pub fn play(&mut self, actor: u8, event: &Event) -> Entry
+        requires in_range { IsInRange self.old.setup event.now }
+        requires spare { 1 ≤ self.old.spare }
+        ensures answer { IsAnswer self.old.setup self.old.entries event.now result.reply }
+        ensures next { result ≡ next_entry self.old.entries actor event.now result.reply }
+        ensures entry { self.new ≡ record self.old {
+          entries = result ∷ self.old.entries;
+          spare = self.old.spare - 1;
+        } }
+    {
+        let entry = self.replay.step(actor, event);
+        self.history.push(&entry);
+        entry
+    }
+
     /// Does an event of a processor, and returns the reply. It takes no memory.
     pub fn step(&mut self, actor: u8, event: &Event) -> Reply
         requires in_range { IsInRange self.old.setup event.now }
@@ -81,9 +97,7 @@ impl Board {
           spare = self.old.spare - 1;
         } }
     {
-        let entry = self.replay.step(actor, event);
-        self.history.push(entry);
-        entry.reply
+        self.play(actor, event).reply
     }
 
     /// Does statements in their order.

@@ -13,7 +13,7 @@ ghost use Rattle.log_check.specs.Walks.{WalkPlace, IsWithin, IsPast, StoppedChec
 use crate::fault::CheckFault;
 use crate::field::processor;
 use crate::front::Front;
-use crate::line::{go_past, print_heading, print_newest};
+use crate::line::{go_past, print_heading, print_line};
 use crate::range::{phases_fit, statement_count};
 use board_core::Board;
 use board_spec::Statement;
@@ -49,8 +49,8 @@ fn check_line<'a>(
         return Err(CheckFault::Differs { line });
     };
     law_one_replay();
-    board.step(statement.actor, &statement.event);
-    print_newest(text, board.history())?;
+    let entry = board.play(statement.actor, &statement.event);
+    print_line(text, line - 1, &entry)?;
     go_past(text, rest, line)
 }
 

@@ -1,13 +1,13 @@
 //! The next line of a log: what it must be, and what stands after it.
 
-ghost use Rattle.std.specs.Prelude.{◌≡◌, ◌≢◌, ◌+◌, ◌<◌, ◌++◌, ◌∷◌, [], ℕ, List, length, string_bytes, OnOk, MatchResult};
-ghost use Rattle.board_prelude.specs.Common.{Entry, line_feed, line_text, log_text};
+ghost use Rattle.std.specs.Prelude.{◌≡◌, ◌≢◌, ◌++◌, ◌∷◌, [], ℕ, List, string_bytes, OnOk, MatchResult};
+ghost use Rattle.board_prelude.specs.Common.{line_feed, line_text, log_text};
 ghost use Rattle.log_check.specs.declared.fault.CheckFault.{CheckFault};
 
 use crate::fault::CheckFault;
-use access_history::History;
 use board_base::NoMemory;
 use board_script::{push_heading, push_line};
+use board_spec::Entry;
 
 /// Puts the heading of a log in place of a text, with its line feed.
 pub(crate) fn print_heading(text: &mut String, version: u8) -> Result<(), NoMemory>
@@ -17,15 +17,12 @@ pub(crate) fn print_heading(text: &mut String, version: u8) -> Result<(), NoMemo
     push_heading(text, version)
 }
 
-/// Puts the line of the newest entry in place of a text, with its line feed.
-pub(crate) fn print_newest(text: &mut String, history: &History) -> Result<(), NoMemory>
-    requires some { 0 < length history.now.entries }
-    ensures printed { (entry : Entry) (before : List Entry) → history.now.entries ≡ entry ∷ before
-        → OnOk result (string_bytes text.new ≡ line_text (length before + 1) entry ++ line_feed ∷ []) }
+/// Puts the line of the entry of this number in place of a text, with its line feed.
+pub(crate) fn print_line(text: &mut String, n: u32, entry: &Entry) -> Result<(), NoMemory>
+    ensures printed { OnOk result (string_bytes text.new ≡ line_text n entry.now ++ line_feed ∷ []) }
 {
-    let n = history.len();
     text.clear();
-    push_line(text, u64::from(n), &history.entry(n - 1))
+    push_line(text, u64::from(n), entry)
 }
 
 /// What stands after the line that was printed. Differs at this line exactly where the rest does not begin with it.

@@ -98,7 +98,7 @@ fn a_summary_counts_the_entries_by_their_replies(rt: HostRuntime) -> Result<(), 
     history.reserve(20)?;
     for entry in &log.entries {
         assert!(rt; history.spare() > 0);
-        history.push(*entry);
+        history.push(entry);
     }
     let mut text = String::new(rt.alloc());
     push_summary(&mut text, &history.entries(), 10, 9)?;

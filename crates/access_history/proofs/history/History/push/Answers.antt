@@ -14,8 +14,8 @@ pub returns : goal.returns
 returns c =
     let old = c.self.inside in
     let new_is : c.push.new.self.items ≡ old.entries.items ++ c.keep-packed.result ∷ [] = search rules in
-    let pushed = pushed_entries old.entries.items c.push.new.self.items old.parts.items c.keep-packed.new.list.items c.keep-packed.result c.args.entry
+    let pushed = pushed_entries old.entries.items c.push.new.self.items old.parts.items c.keep-packed.new.list.items c.keep-packed.result c.args.entry.now
     c.self.invariant.within c.keep-packed.ensures.kept c.keep-packed.ensures.entry new_is in
-    let entries = pushed ∙ ap (λ (past : Past). c.args.entry ∷ past.entries) c.self.view_is in
+    let entries = pushed ∙ ap (λ (past : Past). c.args.entry.now ∷ past.entries) c.self.view_is in
     let spare = ap (λ (past : Past). past.spare - 1) c.self.view_is in
     record { pushed = λ t. record { entries = entries t; spare = spare t } }
