@@ -107,7 +107,7 @@ fn wide_accesses_keep_their_parts(rt: HostRuntime) -> Result<(), Fail> {
     history.reserve(4)?;
     for entry in entries {
         if history.spare() > 0 {
-            history.push(entry);
+            history.push(&entry);
         }
     }
     let kept = history.entries();
