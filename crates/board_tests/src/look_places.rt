@@ -108,7 +108,7 @@ fn add_calls(bus: &mut History, calls: &[(u8, Call)])
 {
     for (actor, call) in calls {
         if bus.spare() > 0 {
-            bus.push(entry_of(*actor, 1, *call));
+            bus.push(&entry_of(*actor, 1, *call));
         }
     }
 }

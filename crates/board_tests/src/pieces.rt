@@ -34,7 +34,7 @@ fn reads(alloc: Global, count: u32) -> Result<History, Fail> {
             denial: None,
         };
         if history.spare() > 0 {
-            history.push(Entry {
+            history.push(&Entry {
                 actor: (i % 3) as u8,
                 seq: i / 3 + 1,
                 event: Event::Memory(access),
