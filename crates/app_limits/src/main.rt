@@ -6,7 +6,8 @@ mod files;
 mod longest;
 
 use crate::files::{Files, bytes_of, files_at_the_ends, grow};
-use board_base::{NoMemory, QuietGate, SafeShelf, SafeSink};
+use board_base::NoMemory;
+use board_outside::{QuietGate, SafeShelf, SafeSink};
 use board_run::{board_in_memory, exit_code, fault_text};
 use std::alloc::Global;
 use std::io::Write;

@@ -22,4 +22,4 @@ pub use Rattle.std.proofs.lemmas.Slice.Eq.{bytes_eq-Decides}
 pub use Rattle.std.proofs.lemmas.Str.{IsUtf8-from_ascii}
 pub use Rattle.board_base.proofs.MergedLemmas.{merged-all, merged-none}
 pub use Rattle.board_base.proofs.WidthLemmas.{bytes_few, some_bytes}
-pub use Rattle.board_base.specs.Common.{Appends, Keeps, OfFile, ReadConsumes}
+pub use Rattle.board_base.specs.Common.{Appends, Keeps, ReadConsumes}

@@ -1,6 +1,7 @@
 -- A read or a write after tries that left the known bytes as they were.
 use Rattle.std.proofs.Common.{◌≡◌, ℕ, zero, suc, ◌+◌, ◌-◌, ◌≤◌, List, [], ◌++◌, length, take, drop, Option, None, Some, Result, Ok, Err, refl, sym, ap, subst, ◌∙◌, arith}
-use Rattle.board_base.proofs.Common.{Keeps, Appends, ReadConsumes, drop-drop, drop_at, take_at, length-drop, OfFile}
+use Rattle.board_base.proofs.Common.{Keeps, Appends, ReadConsumes, drop-drop, drop_at, take_at, length-drop}
+use Rattle.board_outside.specs.Outside.{OfFile}
 use Rattle.std.specs.Io.KnownBytes.{Consumes, IsAtEnd, WriteAppends}
 
 pub kept : (old mid new : Option (List ℕ)) → Keeps old mid → Keeps mid new → Keeps old new

@@ -7,7 +7,7 @@ ghost use Rattle.board_files.specs.Folder.{Gives};
 use crate::folder::Folder;
 use crate::tries::read_on;
 use arrayvec::ArrayVec;
-use board_base::{Failed, Shelf, keep_name};
+use board_outside::{Failed, Shelf, keep_name};
 use std::io;
 use std::io::{ErrorKind, Read};
 

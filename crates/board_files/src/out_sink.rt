@@ -1,10 +1,10 @@
 //! A writer as a sink.
 
 ghost use Rattle.std.specs.Prelude.{◌≡◌, ◌≤◌, None};
-ghost use Rattle.board_base.specs.Counts.{next_fault};
+ghost use Rattle.board_outside.specs.Counts.{next_fault};
 
 use crate::tries::write_on;
-use board_base::{PutFault, Sink};
+use board_outside::{PutFault, Sink};
 use std::io::Write;
 
 /// A writer that is given pieces as large as they come. What it took is known where the writer says it. A write that

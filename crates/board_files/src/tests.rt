@@ -3,7 +3,7 @@
 ghost use Rattle.std.specs.Prelude.{None};
 
 use crate::{FileShelf, Folder, OutSink};
-use board_base::{Failed, PutFault, Shelf, Sink};
+use board_outside::{Failed, PutFault, Shelf, Sink};
 use std::io;
 use std::io::{ErrorKind, Read, Write};
 use std::process::Abort;

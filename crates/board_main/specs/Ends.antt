@@ -1,6 +1,6 @@
 -- How the program ends.
 use Rattle.std.specs.Prelude.{ℕ, ◌≡◌, ◌↔◌, Bool, true, false, List, Option, None}
-use Rattle.board_base.specs.Outside.{Rose}
+use Rattle.board_outside.specs.Outside.{Rose}
 use Rattle.command_words.specs.Words.{Command}
 use Rattle.command_files.specs.declared.status.Status.{Status}
 use Rattle.command_files.specs.declared.status.Status.TheVariants.{Done, Usage, WriteFault}

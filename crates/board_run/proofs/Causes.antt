@@ -1,7 +1,9 @@
 -- What each way out of a command says of its cause.
 use Rattle.std.proofs.Common.{◌≡◌, ◌≢◌, ℕ, inl, inr, List, Option, Some, None, refl, sym, subst}
-use Rattle.board_prelude.proofs.Common.{Appends, Keeps, PutFault, Rose}
-use Rattle.board_base.specs.declared.fault.PutFault.TheVariants.{Failed, NoMemory as NoMemoryForPut}
+use Rattle.board_prelude.proofs.Common.{Appends, Keeps}
+use Rattle.board_outside.specs.Outside.{Rose}
+use Rattle.board_outside.specs.declared.fault.PutFault.{PutFault}
+use Rattle.board_outside.specs.declared.fault.PutFault.TheVariants.{Failed, NoMemory as NoMemoryForPut}
 use Rattle.command_files.specs.declared.status.Which.{Which}
 use Rattle.command_files.specs.declared.status.Status.{Status}
 use Rattle.command_files.specs.declared.status.Status.TheVariants.{Done, Usage, ReadFault, WriteFault, TooLong, BadScript, BadImage, Differs, OtherBoard, NoMemory}

@@ -1,6 +1,6 @@
 -- The status that the words and the files ask for comes, while the outside is quiet.
 use Rattle.std.proofs.Common.{◌≡◌, ℕ, List, inl, inr, Option, Some, None, refl, sym, subst, arith}
-use Rattle.board_base.specs.Outside.{Rose}
+use Rattle.board_outside.specs.Outside.{Rose}
 use Rattle.command_files.specs.declared.status.Status.{Status}
 use Rattle.command_files.specs.declared.status.Status.TheVariants.{Done, Usage, ReadFault, WriteFault, TooLong, BadScript, BadImage, Differs, OtherBoard, NoMemory}
 use Rattle.command_words.specs.Words.{Command}

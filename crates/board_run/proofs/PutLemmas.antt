@@ -1,7 +1,9 @@
 -- The puts that were made, one part of a text after another.
 use Rattle.std.proofs.Common.{◌≡◌, ℕ, inl, inr, List, [], ◌∷◌, ◌++◌, Option, Some, None, refl, sym, subst, Result, Ok, Err, IsErr}
-use Rattle.board_prelude.proofs.Common.{result_ok, Put, Made, PutFault}
-use Rattle.board_base.specs.declared.fault.PutFault.TheVariants.{Failed, NoMemory as NoMemoryForPut}
+use Rattle.board_prelude.proofs.Common.{result_ok}
+use Rattle.board_outside.specs.Outside.{Put, Made}
+use Rattle.board_outside.specs.declared.fault.PutFault.{PutFault}
+use Rattle.board_outside.specs.declared.fault.PutFault.TheVariants.{Failed, NoMemory as NoMemoryForPut}
 use Rattle.command_words.specs.Words.{Command}
 use Rattle.command_files.specs.declared.status.Status.{Status}
 use Rattle.command_files.specs.declared.status.Status.TheVariants.{Done, Usage, ReadFault, WriteFault, TooLong, BadScript, BadImage, Differs, OtherBoard, NoMemory}

@@ -1,6 +1,7 @@
 -- What the status of a command says of the words, of the files that it read, of the outside, and of what was put.
 use Rattle.std.specs.Prelude.{◌≡◌, ◌≢◌, ℕ, ◌⊎◌, List, Option, Some, None}
-use Rattle.board_prelude.specs.Common.{Appends, Keeps, Rose}
+use Rattle.board_prelude.specs.Common.{Appends, Keeps}
+use Rattle.board_outside.specs.Outside.{Rose}
 use Rattle.command_words.specs.Words.{Command}
 use Rattle.command_files.specs.declared.status.Which.{Which}
 use Rattle.command_files.specs.declared.status.Status.{Status}

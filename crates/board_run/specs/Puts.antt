@@ -1,6 +1,6 @@
 -- Which puts a command makes to a sink. A list of calls has the latest first.
 use Rattle.std.specs.Prelude.{◌≡◌, ◌≢◌, ◌⊎◌, List, [], ◌∷◌, None, Result, MatchResult}
-use Rattle.board_base.specs.Outside.{Put}
+use Rattle.board_outside.specs.Outside.{Put}
 use Rattle.command_files.specs.declared.status.Status.{Status}
 use Rattle.command_files.specs.declared.status.Status.TheVariants.{Done, WriteFault, NoMemory}
 

@@ -1,7 +1,7 @@
 //! The commands, from their words to the bytes that are written.
 
 ghost use Rattle.std.specs.Prelude.{◌≡◌, ◌↔◌, Some, None, IfErr};
-ghost use Rattle.board_base.specs.Outside.{Rose};
+ghost use Rattle.board_outside.specs.Outside.{Rose};
 ghost use Rattle.command_words.specs.Common.{asked, IsCommand, said_by};
 ghost use Rattle.command_files.specs.declared.status.Status.{Status};
 ghost use Rattle.command_files.specs.Common.{status_of, IsRefusal, shelf_call, OfCalls, FetchesOf, AreFetchesOf};
@@ -11,7 +11,7 @@ ghost use Rattle.board_run.specs.Puts.{ArePutsOf};
 
 use crate::output::put_all;
 use crate::texts::text_of;
-use board_base::{Gate, Shelf, Sink};
+use board_outside::{Gate, Shelf, Sink};
 use command_files::laws::law_one_status;
 use command_files::{Status, read_files};
 use command_words::{Command, command_of};

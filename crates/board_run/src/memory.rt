@@ -1,13 +1,13 @@
 //! The commands over files in memory, where nothing outside can fail.
 
 ghost use Rattle.std.specs.Prelude.{◌≡◌, ◌≢◌, ◌↔◌, [], Some, None};
-ghost use Rattle.board_base.specs.Files.{file_named};
+ghost use Rattle.board_outside.specs.Files.{file_named};
 ghost use Rattle.command_words.specs.Words.{asked};
 ghost use Rattle.command_files.specs.declared.status.Which.{Which};
 ghost use Rattle.board_run.specs.Outcomes.{IsCaused, IsExact};
 
 use crate::command::board;
-use board_base::{Gate, SafeShelf, SafeSink};
+use board_outside::{Gate, SafeShelf, SafeSink};
 use command_files::Status;
 use std::alloc::Global;
 use std::sync::Wait;

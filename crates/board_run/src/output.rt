@@ -1,12 +1,13 @@
 //! A whole text, put piece by piece to a sink.
 
 ghost use Rattle.std.specs.Prelude.{◌≡◌, ◌≤◌, drop, length, IfErr, OnOk, OnErr};
-ghost use Rattle.board_prelude.specs.Common.{Appends, Rose};
+ghost use Rattle.board_prelude.specs.Common.{Appends};
+ghost use Rattle.board_outside.specs.Outside.{Rose};
 ghost use Rattle.board_run.specs.Output.{AppendsFront};
 ghost use Rattle.command_files.specs.Calls.{OfCalls};
 ghost use Rattle.board_run.specs.Puts.{PutsBy};
 
-use board_base::{PutFault, Sink};
+use board_outside::{PutFault, Sink};
 use log_pieces::Text;
 
 /// The bytes that are left after the first `count`.

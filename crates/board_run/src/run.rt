@@ -7,7 +7,8 @@ ghost use Rattle.script_spec.specs.ScriptRange.{IsInRangeScript};
 ghost use Rattle.script_text.specs.Script.{said_of};
 ghost use Rattle.board_run.specs.Texts.{IsRunText};
 
-use board_base::{Gate, NoMemory};
+use board_base::NoMemory;
+use board_outside::Gate;
 use board_core::Board;
 use board_spec::laws::law_lock;
 use log_pieces::{Text, log_by, run_log_by};

@@ -9,7 +9,8 @@ ghost use Rattle.board_run.specs.Statuses.{HasNoText};
 
 use crate::prepare::{Prepared, prepare};
 use crate::run::log_of_run;
-use board_base::{Gate, NoMemory};
+use board_base::NoMemory;
+use board_outside::Gate;
 use command_files::{Read, Status};
 use command_texts::{
     blame_after_replay, image_of_replay, is_same_board, log_of_replay, log_of_resumed,

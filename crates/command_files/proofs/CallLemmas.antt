@@ -1,6 +1,6 @@
 -- The calls that were made, one after another, and the fetches of one file.
 use Rattle.std.proofs.Common.{◌≡◌, ◌≢◌, ℕ, ◌≤◌, ◌+◌, List, [], ◌∷◌, ◌++◌, Option, Some, None, refl, sym, ap, ◌∙◌, subst, append_assoc, arith, Result, Ok, Err}
-use Rattle.board_base.specs.Outside.{Fetch, Made}
+use Rattle.board_outside.specs.Outside.{Fetch, Made}
 use Rattle.command_files.specs.Calls.{OfCalls, count_of, place_after, BroughtBytes, FoundEnd, IsReading, FetchesOnce, ReadsBy}
 
 -- ---- lists of calls

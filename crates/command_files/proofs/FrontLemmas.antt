@@ -1,7 +1,7 @@
 -- A front of a file that grows by the file's next piece is a front again.
 use Rattle.std.proofs.Common.{◌≡◌, ℕ, ◌+◌, List, ◌++◌, Option, Some, None, take, drop, length, sym, ◌∙◌, ap}
 use Rattle.std.proofs.Math.Seq.{take-add}
-use Rattle.board_base.specs.Outside.{OfFile}
+use Rattle.board_outside.specs.Outside.{OfFile}
 use Rattle.command_files.specs.Files.{IsLongerFront}
 
 pub longer_front :

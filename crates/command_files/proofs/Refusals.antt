@@ -1,6 +1,6 @@
 -- What holds where the shelf tells its files, and of a result that is an error.
 use Rattle.std.proofs.Common.{◌≡◌, ℕ, List, Option, Some, None, refl, sym, subst, Result, Err, IfErr}
-use Rattle.board_base.specs.Outside.{OfFile}
+use Rattle.board_outside.specs.Outside.{OfFile}
 use Rattle.command_files.specs.Common.{Files, OfFiles}
 
 pub of_files : (told : Option Files) (P : Files → Type 0) → ((files : Files) → told ≡ Some files → P files) → OfFiles told P

@@ -1,6 +1,6 @@
 -- What a shelf tells of a command, and why a command ended before it had its text.
 use Rattle.std.specs.Prelude.{◌≡◌, ◌<◌, ◌++◌, ℕ, List, ◌∷◌, length, take, Option, Some, None}
-use Rattle.board_base.specs.Outside.{Rose, OfFile}
+use Rattle.board_outside.specs.Outside.{Rose, OfFile}
 use Rattle.script_spec.specs.ScriptText.{IsScriptBad}
 use Rattle.command_words.specs.Words.{Command, Resume}
 use Rattle.command_files.specs.declared.status.Which.{Which}

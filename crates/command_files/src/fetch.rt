@@ -1,7 +1,7 @@
 //! The files that a command reads.
 
 ghost use Rattle.std.specs.Prelude.{◌≡◌, ◌≢◌, ◌<◌, ◌≤◌, ◌^◌, length, IfOk, IfErr, OnOk, vec_len};
-ghost use Rattle.board_base.specs.Outside.{OfFile};
+ghost use Rattle.board_outside.specs.Outside.{OfFile};
 ghost use Rattle.command_files.specs.declared.status.Which.{Which};
 ghost use Rattle.command_files.specs.declared.status.Status.{Status};
 ghost use Rattle.command_files.specs.Table.{limit_of};
@@ -10,7 +10,7 @@ ghost use Rattle.command_files.specs.Calls.{OfCalls, ReadsBy};
 
 use crate::files::{FileFault, read_file};
 use crate::status::{Status, Which};
-use board_base::Shelf;
+use board_outside::Shelf;
 use std::alloc::Global;
 
 /// The most bytes of a script: 16 MiB.

@@ -1,11 +1,11 @@
 //! Whole files, read in pieces from a shelf.
 
 ghost use Rattle.std.specs.Prelude.{◌≡◌, ◌≢◌, ◌<◌, ◌≤◌, ◌+◌, ◌++◌, ◌^◌, length, take, IfOk, IfErr, OnOk, vec_len};
-ghost use Rattle.board_base.specs.Outside.{Rose, OfFile};
+ghost use Rattle.board_outside.specs.Outside.{Rose, OfFile};
 ghost use Rattle.command_files.specs.Files.{IsLongerFront};
 ghost use Rattle.command_files.specs.Calls.{OfCalls, FetchesOnce, ReadsBy};
 
-use board_base::{Failed, Shelf};
+use board_outside::{Failed, Shelf};
 use std::alloc::{AllocError, Global};
 
 /// Why a file could not be read.

@@ -14,7 +14,7 @@ use crate::fetch::fetch;
 use crate::read::Read;
 use crate::status::{Status, Which};
 use crate::table::files_of;
-use board_base::Shelf;
+use board_outside::Shelf;
 use command_words::Command;
 use std::alloc::Global;
 

@@ -1,5 +1,5 @@
 -- The definitions that files above cite, passed on from one place. Declares nothing.
-pub use Rattle.board_base.specs.Common.{AllByRecursion, AllDigits, AllPairs, AllZip, Any, Appends, Contains, Global, IsMoment, IsPermutation, Keeps, Made, MergedBits, OfFile, Put, Rose, Vec, and_zero_r, bytes_of, concat, days_in_month, digits_value, enumerate_from, find, from_le_bytes, into_iter_items, is_bit, is_leap, join_with_byte, largest_of, list_all, list_any, moment_of, onto_first, option_and_then, option_eq, option_map, option_map_or, option_or, option_to_list, position, position_or_len, range_with_len, result_ok, string_bytes, to_le_bytes, w16, w32, w64, w8, with_items}
+pub use Rattle.board_base.specs.Common.{AllByRecursion, AllDigits, AllPairs, AllZip, Any, Appends, Contains, Global, IsMoment, IsPermutation, Keeps, MergedBits, Vec, and_zero_r, bytes_of, concat, days_in_month, digits_value, enumerate_from, find, from_le_bytes, into_iter_items, is_bit, is_leap, join_with_byte, largest_of, list_all, list_any, moment_of, onto_first, option_and_then, option_eq, option_map, option_map_or, option_or, option_to_list, position, position_or_len, range_with_len, result_ok, string_bytes, to_le_bytes, w16, w32, w64, w8, with_items}
 unfoldable pub use Rattle.board_base.specs.Common.{days_of_months, days_of_years, days_since_1980, digits, weekday_of}
 pub use Rattle.board_base.specs.declared.access.Kind.{Kind}
 pub use Rattle.board_base.specs.declared.access.Kind.TheVariants.{Fetch, Read, Write}
@@ -8,7 +8,6 @@ pub use Rattle.board_base.specs.declared.access.WideAccess.{WideAccess}
 pub use Rattle.board_base.specs.declared.access.Width.{Width}
 pub use Rattle.board_base.specs.declared.access.Width.TheVariants.{Four, One, Two}
 pub use Rattle.board_base.specs.declared.fault.NoMemory.{NoMemory}
-pub use Rattle.board_base.specs.declared.fault.PutFault.{PutFault}
 pub use Rattle.board_base.specs.declared.moment.Moment.{Moment}
 pub use Rattle.board_base.specs.declared.target.Area.{Area}
 pub use Rattle.board_base.specs.declared.target.Denial.{Denial}

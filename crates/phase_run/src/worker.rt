@@ -7,7 +7,8 @@ ghost use Rattle.run_order.specs.Common.{event_of, IsDone};
 ghost use Rattle.phase_run.specs.Works.{HasDone};
 
 use crate::caller::Caller;
-use board_base::{Gate, NoMemory};
+use board_base::NoMemory;
+use board_outside::Gate;
 use board_spec::{Event, Statement};
 use run_order::Done;
 use std::sync::Wait;

@@ -1,6 +1,6 @@
 //! A command over any shelf, sink and gate, and the files that the tests give it.
 
-use board_base::{Gate, QuietGate, SafeShelf, SafeSink, Shelf, Sink};
+use board_outside::{Gate, QuietGate, SafeShelf, SafeSink, Shelf, Sink};
 use board_run::{Status, board};
 use std::alloc::Global;
 use std::sync::Wait;

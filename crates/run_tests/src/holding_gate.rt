@@ -1,6 +1,6 @@
 //! A gate that forces an order of statements.
 
-use board_base::Gate;
+use board_outside::Gate;
 use std::sync::atomic::{AtomicU32, Ordering};
 
 /// How often a gate looks whether it may go on: so often that a machine with much else to do starts the other thread

@@ -3,7 +3,8 @@
 use crate::commands::{answer, files_of, status_of};
 use crate::holding_gate::HoldingGate;
 use crate::holding_gate::Moment::{self, After, Before};
-use board_base::{MemShelf, QuietGate, SafeShelf, SafeSink, SlowShelf};
+use board_outside::{QuietGate, SafeShelf, SafeSink};
+use outside_doubles::{MemShelf, SlowShelf};
 use board_run::Status;
 use std::test::Fail;
 

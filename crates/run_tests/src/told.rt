@@ -1,9 +1,10 @@
 //! A shelf and a sink that keep the calls made of them, and tell them.
 
 ghost use Rattle.std.specs.Prelude.{map, Some, option_map, string_bytes};
-ghost use Rattle.board_base.specs.Files.{file_named};
+ghost use Rattle.board_outside.specs.Files.{file_named};
 
-use board_base::{Failed, PutFault, Shelf, Sink, SlowShelf, SlowSink};
+use board_outside::{Failed, PutFault, Shelf, Sink};
+use outside_doubles::{SlowShelf, SlowSink};
 use std::alloc::Global;
 use std::process::Abort;
 

@@ -1,4 +1,4 @@
-use Rattle.board_base.specs.Files.{file_named}
+use Rattle.board_outside.specs.Files.{file_named}
 use Rattle.std.specs.Prelude.{Some}
 use Rattle.command_words.specs.Words.{asked}
 use Rattle.board_run.proofs.Exact.{always_exact}

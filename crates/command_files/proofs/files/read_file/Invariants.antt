@@ -1,5 +1,5 @@
 use Rattle.std.proofs.Common.{◌≡◌, ◌+◌, ◌-◌, ◌<◌, vec_len}
-use Rattle.board_base.specs.Outside.{OfFile}
+use Rattle.board_outside.specs.Outside.{OfFile}
 use Rattle.command_files.specs.Common.{IsFront, OfCalls}
 use Rattle.command_files.proofs.CallLemmas.{ReadTo}
 use Rattle.command_files.proofs.files.read_file.Given as goal
