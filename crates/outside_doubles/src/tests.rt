@@ -1,6 +1,8 @@
 use super::*;
 use arrayvec::ArrayVec;
-use board_outside::{Failed, Gate, PutFault, QuietGate, SafeShelf, SafeSink, Shelf, Sink, keep_name};
+use board_outside::{
+    Failed, Gate, PutFault, QuietGate, SafeShelf, SafeSink, Shelf, Sink, keep_name,
+};
 use std::alloc::Global;
 use std::test::Fail;
 
