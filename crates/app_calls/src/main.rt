@@ -1,0 +1,85 @@
+//! Calls of the library that no command makes, each a line of standard input: a word for what is called, and what it is
+//! given. Each line is told with what it answers. `#` begins a comment, which is told as it is.
+#![tactic(auto)]
+
+mod bus;
+mod cards;
+mod events;
+mod images;
+mod map;
+mod media;
+mod memory;
+mod numbers;
+mod ports;
+mod registers;
+mod requests;
+mod stretches;
+mod timer;
+
+use board_base::NoMemory;
+use std::alloc::Global;
+use std::io::Write;
+use std::process::ExitCode;
+
+/// The exit code for want of memory or of input.
+const FAILED: u8 = 8;
+
+/// Does what a line asks of a part of the board, and appends the answer.
+fn answer_of_part(alloc: Global, words: &[&str], text: &mut String) -> Result<(), NoMemory> {
+    match words {
+        ["timer", steps @ ..] => timer::tell(steps, text),
+        ["timer-runs"] => timer::tell_runs(text),
+        ["clock", addresses @ ..] => media::tell_clock(addresses, text),
+        ["disk", rest @ ..] => media::tell_disk(alloc, rest, text),
+        ["edges", rest @ ..] => map::tell_edges(rest, text),
+        ["touches", rest @ ..] => map::tell_touches(rest, text),
+        ["changes", rest @ ..] => map::tell_changes(rest, text),
+        ["windows", rest @ ..] => map::tell_windows(rest, text),
+        ["cycles", rest @ ..] => stretches::tell_cycles(rest, text),
+        ["dram", rest @ ..] => stretches::tell_dram(alloc, rest, text),
+        ["card-bytes", steps @ ..] => stretches::tell_card(alloc, steps, text),
+        _ => Ok(text.push_str("no such call")?),
+    }
+}
+
+/// Does what a line asks, and appends the answer.
+fn answer(alloc: Global, words: &[&str], text: &mut String) -> Result<(), NoMemory> {
+    match words {
+        ["image", kind, bytes @ ..] => images::tell(alloc, kind, bytes, text),
+        ["event", rest @ ..] => events::tell(alloc, rest, text),
+        ["setup", rest @ ..] => cards::tell_setup(alloc, rest, text),
+        ["cards", cards @ ..] => cards::tell_cards(alloc, cards, text),
+        ["memory", steps @ ..] => memory::tell(alloc, steps, text),
+        ["ports", steps @ ..] => ports::tell(alloc, steps, text),
+        ["uart", steps @ ..] => registers::tell(alloc, steps, text),
+        ["serial", requests @ ..] => requests::tell_board(alloc, requests, text),
+        ["chipset", requests @ ..] => requests::tell_chipset(alloc, requests, text),
+        ["bus", steps @ ..] => bus::tell(alloc, steps, text),
+        _ => answer_of_part(alloc, words, text),
+    }
+}
+
+/// Tells a line and its answer.
+fn tell<W: Write>(alloc: Global, out: &mut W, line: &str) -> Result<(), NoMemory> {
+    if line.starts_with('#') {
+        let _ = writeln!(out, "{line}");
+        return Ok(());
+    }
+    let words: Vec<&str> = line.split(' ').collect(alloc)?;
+    let mut text = String::new(alloc);
+    answer(alloc, &words, &mut text)?;
+    let _ = writeln!(out, "{line}: {}", text.as_str());
+    Ok(())
+}
+
+fn main(rt: HostRuntime) -> ExitCode {
+    for line in rt.lines(rt.alloc()) {
+        let Ok(line) = line else {
+            return ExitCode::from(FAILED);
+        };
+        if tell(rt.alloc(), &mut rt.stdout(), line.as_str()).is_err() {
+            return ExitCode::from(FAILED);
+        }
+    }
+    ExitCode::from(0)
+}
