@@ -14,6 +14,7 @@ mod ports;
 mod registers;
 mod requests;
 mod stretches;
+mod texts;
 mod timer;
 
 use board_base::NoMemory;
@@ -38,6 +39,8 @@ fn answer_of_part(alloc: Global, words: &[&str], text: &mut String) -> Result<()
         ["cycles", rest @ ..] => stretches::tell_cycles(rest, text),
         ["dram", rest @ ..] => stretches::tell_dram(alloc, rest, text),
         ["card-bytes", steps @ ..] => stretches::tell_card(alloc, steps, text),
+        ["made", rest @ ..] => texts::tell_made(alloc, rest, text),
+        ["made-image", rest @ ..] => texts::tell_image(alloc, rest, text),
         _ => Ok(text.push_str("no such call")?),
     }
 }
@@ -59,15 +62,41 @@ fn answer(alloc: Global, words: &[&str], text: &mut String) -> Result<(), NoMemo
     }
 }
 
+/// Does what a line asks of a text, which is all behind the first word, and appends the answer; false where it asks no such
+/// thing.
+fn answer_of_text(
+    alloc: Global,
+    word: &str,
+    rest: &str,
+    text: &mut String,
+) -> Result<bool, NoMemory> {
+    match word {
+        "item-1" => texts::tell_item(alloc, 1, rest, text)?,
+        "item-2" => texts::tell_item(alloc, 2, rest, text)?,
+        "entry-1" => texts::tell_entry(alloc, 1, rest, text)?,
+        "entry-2" => texts::tell_entry(alloc, 2, rest, text)?,
+        "script" => texts::tell_script(alloc, rest, text)?,
+        "long-script" => texts::tell_long_script(alloc, rest, text)?,
+        "log" => texts::tell_log(alloc, rest, text)?,
+        "numbered" => texts::tell_numbered(alloc, rest, text)?,
+        "summary" => texts::tell_summary(alloc, rest, text)?,
+        _ => return Ok(false),
+    }
+    Ok(true)
+}
+
 /// Tells a line and its answer.
 fn tell<W: Write>(alloc: Global, out: &mut W, line: &str) -> Result<(), NoMemory> {
     if line.starts_with('#') {
         let _ = writeln!(out, "{line}");
         return Ok(());
     }
-    let words: Vec<&str> = line.split(' ').collect(alloc)?;
     let mut text = String::new(alloc);
-    answer(alloc, &words, &mut text)?;
+    let (word, rest) = line.split_once(' ').unwrap_or((line, ""));
+    if !answer_of_text(alloc, word, rest, &mut text)? {
+        let words: Vec<&str> = line.split(' ').collect(alloc)?;
+        answer(alloc, &words, &mut text)?;
+    }
     let _ = writeln!(out, "{line}: {}", text.as_str());
     Ok(())
 }
