@@ -5,7 +5,7 @@ use Rattle.board_prelude.proofs.Common.{reverse-append, reverse-reverse, Stateme
 use Rattle.script_spec.specs.Common.{Script as Said, IsScriptBad, IsLogOf, DiffersAt}
 use Rattle.script_spec.proofs.Common.{same_some, not_both, one_refusal, one_script, one_difference}
 use Rattle.board_image.specs.Common.{Saved, OneSpelling}
-use Rattle.command_texts.specs.Images.{IsForBoard}
+use Rattle.script_spec.specs.Boards.{IsForBoard}
 use Rattle.command_words.specs.Words.{Command, Replay, Run, Map, Check, Make, Dma, Save, Resume, Serial, Blame}
 use Rattle.command_files.specs.declared.status.Which.{Which}
 use Rattle.command_files.specs.declared.status.Which.TheVariants.{Script, Rom, Disk, Log, Image, Input}

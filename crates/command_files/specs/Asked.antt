@@ -4,7 +4,7 @@ use Rattle.std.specs.Prelude.{ℕ, ◌<◌, ◌≤◌, List, length}
 use Rattle.board_spec.specs.Setup.{IsRomSize, IsDiskSize}
 use Rattle.script_spec.specs.Common.{IsScriptBad, IsLogOf, DiffersAt}
 use Rattle.board_image.specs.Laws.{IsImageOf}
-use Rattle.command_texts.specs.Images.{IsForBoard}
+use Rattle.script_spec.specs.Boards.{IsForBoard}
 use Rattle.command_words.specs.Words.{Command, Check, Resume}
 use Rattle.command_files.specs.declared.status.Which.{Which}
 use Rattle.command_files.specs.declared.status.Which.TheVariants.{Script, Rom, Disk, Image}

@@ -3,7 +3,7 @@ use Rattle.std.specs.Prelude.{ℕ, ◌≡◌, ◌≤◌, ◌++◌, List, [], ◌
 use Rattle.board_spec.specs.Setup.{Setup, IsRomSize, IsDiskSize, IsDisk}
 use Rattle.script_spec.specs.Common.{Script as Said, IsScriptText, IsInRangeScript}
 use Rattle.board_image.specs.ImageBytes.{Saved, IsImage, image_bytes}
-use Rattle.command_texts.specs.Fitted.{fitted}
+use Rattle.script_spec.specs.Boards.{fitted}
 use Rattle.command_words.specs.Words.{Command, Make, Resume}
 use Rattle.command_files.specs.declared.status.Which.{Which}
 use Rattle.command_files.specs.declared.status.Which.TheVariants.{Script, Rom, Disk, Log, Image, Input}

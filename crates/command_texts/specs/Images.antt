@@ -1,5 +1,5 @@
 -- What `save` and `resume` put: the image of a board, and the log of a board that goes on from its image.
-use Rattle.std.specs.Prelude.{ℕ, ◌≡◌, ◌++◌, List, is_some}
+use Rattle.std.specs.Prelude.{ℕ, ◌≡◌, ◌++◌, List}
 use Rattle.board_prelude.specs.Common.{Entry, Setup, IsReplayOf, statements_of, LockLaw, log_text}
 use Rattle.script_spec.specs.Common.{Script as Said, statements_in}
 use Rattle.board_image.specs.ImageBytes.{Saved, image_bytes}
@@ -10,13 +10,6 @@ pub record IsSaveText (setup : Setup) (script : Said) (text : List ℕ) : Type 0
   pub history : List Entry
   pub replay : IsReplayOf setup (statements_in script) history
   pub image : text ≡ image_bytes setup (statements_of history)
-
--- a script is for a board like this one: it has as much memory, the same cards, and a disk where this one has one.
--- What the ROM and the disk hold may differ
-pub record IsForBoard (setup : Setup) (script : Said) : Type 0 where
-  pub memory : setup.mib ≡ script.mib
-  pub cards : setup.cards ≡ script.cards
-  pub disk : is_some setup.disk ≡ is_some script.disk
 
 -- a log of this version can say every step of an image, whatever the version of the script
 abbrev pub resumed_version : ℕ

@@ -3,7 +3,7 @@ use Rattle.std.specs.Prelude.{ℕ, ◌≡◌, ◌++◌, ◌∷◌, [], List, len
 use Rattle.board_prelude.specs.Common.{Entry, line_feed, Setup, byte_of, IsReplayOf, LockLaw, log_text, MapRange, IsFlatMapOf, map_text}
 use Rattle.script_spec.specs.Common.{Script as Said, IsScriptText, statements_in, IsLogOf}
 use Rattle.make_script.specs.Common.{make_text, rom_image, disk_image, summary_of}
-use Rattle.command_texts.specs.Fitted.{fitted}
+use Rattle.script_spec.specs.Boards.{fitted}
 
 -- the log of the replay of a script: of the one legal history whose statements are the script's in the order of the
 -- file, in which nothing outside SMM reaches SMRAM once it is locked

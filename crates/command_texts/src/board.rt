@@ -4,7 +4,8 @@ ghost use Rattle.std.specs.Prelude.{◌≡◌, [], length, option_map, IfOk, IfE
 ghost use Rattle.board_spec.specs.Setup.{IsRomSize, IsDisk, IsCardList};
 ghost use Rattle.script_spec.specs.ScriptRange.{IsInRangeScript};
 ghost use Rattle.script_text.specs.Script.{said_of};
-ghost use Rattle.command_texts.specs.Fitted.{fitted, IsNotOpened};
+ghost use Rattle.command_texts.specs.Fitted.{IsNotOpened};
+ghost use Rattle.script_spec.specs.Boards.{fitted};
 
 use board_base::NoMemory;
 use board_core::{Board, BoardOpen, Setup};

@@ -6,7 +6,8 @@ ghost use Rattle.script_spec.specs.ScriptRange.{IsInRangeScript, statements_in};
 ghost use Rattle.script_text.specs.Script.{said_of};
 ghost use Rattle.board_image.specs.ImageBytes.{IsImage};
 ghost use Rattle.command_texts.specs.Fresh.{IsFreshFor};
-ghost use Rattle.command_texts.specs.Images.{IsForBoard, IsSaveText, IsResumeText};
+ghost use Rattle.command_texts.specs.Images.{IsSaveText, IsResumeText};
+ghost use Rattle.script_spec.specs.Boards.{IsForBoard};
 
 use crate::replay::{do_statements, log_of_board, replay_script};
 use board_base::NoMemory;

@@ -19,3 +19,4 @@ pub mod Laws
 pub mod ExampleScripts
 pub mod Phases
 pub mod Common
+pub mod Boards
