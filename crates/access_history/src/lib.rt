@@ -9,6 +9,3 @@ mod packed;
 pub use board_spec::{Entry, Event, Look, Reply};
 pub use entries::Entries;
 pub use history::History;
-
-#[cfg(test)]
-mod tests;

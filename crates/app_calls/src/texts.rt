@@ -2,12 +2,16 @@
 
 use access_history::History;
 use board_base::NoMemory;
-use board_script::{Log, LogFault, push_lines, push_log, read_log};
+use board_script::{Log, LogFault, push_heading, push_line, push_lines, push_log, read_log};
+use board_spec::Entry;
 use log_lines::entry_of;
 use make_script::{make_disk, make_rom, make_text, push_summary};
 use script_lines::item_of;
 use script_text::{ScriptFault, read_script};
 use std::alloc::{AllocError, Global};
+
+/// Room for the entries of a row.
+const MOST_ENTRIES: u32 = 100;
 
 /// The most bytes of a text of a row.
 const MOST_BYTES: usize = 1 << 24;
@@ -95,7 +99,25 @@ fn read(alloc: Global, log: &str) -> Result<Log, LogFault> {
     read_log(alloc, log.as_bytes())
 }
 
-/// Tells whether a log is written again as it was read, or its first bad line.
+/// A log from a history of its entries.
+fn from_history(alloc: Global, version: u8, entries: &[Entry]) -> Result<String, NoMemory> {
+    let mut history = History::new(alloc);
+    history.reserve(MOST_ENTRIES)?;
+    for entry in entries {
+        if history.spare() > 0 {
+            history.push(entry);
+        }
+    }
+    let mut text = String::new(alloc);
+    push_heading(&mut text, version)?;
+    let kept = history.entries();
+    for at in 0..kept.len() {
+        push_line(&mut text, at as u64 + 1, &kept.entry(at))?;
+    }
+    Ok(text)
+}
+
+/// Tells whether a log is written again as it was read, from its entries and from a history of them, or its first bad line.
 pub fn tell_log(alloc: Global, log: &str, text: &mut String) -> Result<(), NoMemory> {
     let log = plain(alloc, log)?;
     match read(alloc, log.as_str()) {
@@ -104,7 +126,8 @@ pub fn tell_log(alloc: Global, log: &str, text: &mut String) -> Result<(), NoMem
         Ok(Log { version, entries }) => {
             let mut again = String::new(alloc);
             push_log(&mut again, version, &entries)?;
-            let same = again.as_str() == log.as_str();
+            let kept = from_history(alloc, version, &entries)?;
+            let same = again.as_str() == log.as_str() && kept.as_str() == log.as_str();
             let word = if same { "the same" } else { "another" };
             write!(text, "{} entries, {word} again", entries.len())?;
         }
@@ -129,7 +152,7 @@ pub fn tell_summary(alloc: Global, log: &str, text: &mut String) -> Result<(), N
         return Ok(text.push_str("bad")?);
     };
     let mut history = History::new(alloc);
-    history.reserve(20)?;
+    history.reserve(MOST_ENTRIES)?;
     for entry in &log.entries {
         if history.spare() > 0 {
             history.push(entry);

@@ -1,4 +1,4 @@
-//! Tests of the board: callers and viewers on threads, the places of looks in a run, logs in pieces, and logs with a byte changed.
+//! Tests of the board: callers and viewers on threads, histories by turns, the places of looks in a run, logs in pieces, and logs with a byte changed.
 #![tactic(auto)]
 
 #[cfg(test)]
@@ -11,5 +11,7 @@ mod look_places;
 mod pieces;
 #[cfg(test)]
 mod plain;
+#[cfg(test)]
+mod turns;
 #[cfg(test)]
 mod viewers;

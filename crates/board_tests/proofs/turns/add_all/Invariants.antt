@@ -1,5 +1,5 @@
 use Rattle.bus_turn.specs.Common.{IsIdle, IsSameCaller, HasSameJoined, IsOf}
-use Rattle.access_history.proofs.tests.add_all.Given as goal
+use Rattle.board_tests.proofs.turns.add_all.Given as goal
 
 abbrev pub invariant-loop-seq : goal.invariant-loop-seq
 invariant-loop-seq g l = record {

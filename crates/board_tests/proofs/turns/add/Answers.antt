@@ -1,7 +1,7 @@
 use Rattle.std.proofs.Common.{rules, ◌≡◌, List, [], ◌∷◌, ◌++◌, reverse, ap, ◌∙◌}
 use Rattle.board_prelude.proofs.Common.{reverse-append, Entry}
 use Rattle.bus_turn.specs.Passes.{seen_of}
-use Rattle.access_history.proofs.tests.add.Goals as goal
+use Rattle.board_tests.proofs.turns.add.Goals as goal
 
 pub commit-requires-clause-adds : goal.commit-requires-clause-adds
 commit-requires-clause-adds g c =
