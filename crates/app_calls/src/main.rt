@@ -2,6 +2,7 @@
 //! given. Each line is told with what it answers. `#` begins a comment, which is told as it is.
 #![tactic(auto)]
 
+mod bridge;
 mod bus;
 mod cards;
 mod events;
@@ -13,6 +14,7 @@ mod numbers;
 mod ports;
 mod registers;
 mod requests;
+mod south;
 mod stretches;
 mod texts;
 mod timer;
@@ -24,6 +26,28 @@ use std::process::ExitCode;
 
 /// The exit code for want of memory or of input.
 const FAILED: u8 = 8;
+
+/// Does what a line asks of a chip's registers, and appends the answer.
+fn answer_of_chip(alloc: Global, words: &[&str], text: &mut String) -> Result<(), NoMemory> {
+    match words {
+        ["space", rest @ ..] => bridge::tell_space(rest, text),
+        ["confadd", steps @ ..] => bridge::tell_address(steps, text),
+        ["window", addr] => bridge::tell_window(addr, text),
+        ["pam", steps @ ..] => bridge::tell_pam(steps, text),
+        ["pmc", steps @ ..] => bridge::tell_pmc(steps, text),
+        ["rows", rest @ ..] => bridge::tell_rows(alloc, rest, text),
+        ["hole", old, written] => bridge::tell_hole(old, written, text),
+        ["smram", steps @ ..] => bridge::tell_smram(steps, text),
+        ["elcr", steps @ ..] => south::tell_elcr(steps, text),
+        ["routes", steps @ ..] => south::tell_routes(steps, text),
+        ["ide", offsets @ ..] => south::tell_ide(offsets, text),
+        ["isa", offsets @ ..] => south::tell_isa(offsets, text),
+        ["selects", rest @ ..] => south::tell_selects(rest, text),
+        ["bios", xbcs, addr, size] => south::tell_bios(xbcs, addr, size, text),
+        ["xbcs", old, written] => south::tell_xbcs(old, written, text),
+        _ => Ok(text.push_str("no such call")?),
+    }
+}
 
 /// Does what a line asks of a part of the board, and appends the answer.
 fn answer_of_part(alloc: Global, words: &[&str], text: &mut String) -> Result<(), NoMemory> {
@@ -41,7 +65,7 @@ fn answer_of_part(alloc: Global, words: &[&str], text: &mut String) -> Result<()
         ["card-bytes", steps @ ..] => stretches::tell_card(alloc, steps, text),
         ["made", rest @ ..] => texts::tell_made(alloc, rest, text),
         ["made-image", rest @ ..] => texts::tell_image(alloc, rest, text),
-        _ => Ok(text.push_str("no such call")?),
+        _ => answer_of_chip(alloc, words, text),
     }
 }
 

@@ -5,7 +5,7 @@ ghost use Rattle.board_spec.specs.Setup.{IsCard};
 
 use crate::events::port_access;
 use crate::memory::bytes_of;
-use crate::numbers::{byte, number};
+use crate::numbers::{byte, number, width};
 use arrayvec::ArrayVec;
 use board_base::NoMemory;
 use board_stores::port_cycles;
@@ -47,6 +47,31 @@ fn push_bytes(text: &mut String, bytes: &[u8]) -> Result<(), AllocError> {
     Ok(())
 }
 
+/// An access of a width, as `4.100=11223344` and `4.100?`; told where it is not aligned or the value is too large.
+fn act_aligned(
+    dram: &mut Dram,
+    bytes: &str,
+    step: &str,
+    text: &mut String,
+) -> Result<(), AllocError> {
+    let width = width(bytes);
+    let (addr, value) = match step.split_once('=') {
+        Some((addr, value)) => (number(addr), Some(number(value))),
+        None => (number(step.trim_end_matches('?')), None),
+    };
+    if !width.is_aligned(addr) {
+        return text.push_str("not aligned");
+    }
+    match value {
+        Some(value) if width.fits(value) => {
+            dram.write(addr, width, value);
+            text.push('-')
+        }
+        Some(_) => text.push_str("too large"),
+        None => write!(text, "{:X}", dram.read(addr, width)),
+    }
+}
+
 /// A step at memory: `FFFFC=01020304` writes a stretch as the bus does, `FFFFC+0102` loads one whole or not at all, `FFFFC?`
 /// reads eight bytes, `kept1` tells how many bytes of a MiB are kept.
 fn act(alloc: Global, dram: &mut Dram, step: &str, text: &mut String) -> Result<(), AllocError> {
@@ -55,6 +80,9 @@ fn act(alloc: Global, dram: &mut Dram, step: &str, text: &mut String) -> Result<
             Some(bytes) => write!(text, "{:X}", bytes.len()),
             None => text.push_str("none"),
         };
+    }
+    if let Some((bytes, step)) = step.split_once('.') {
+        return act_aligned(dram, bytes, step, text);
     }
     if let Some((addr, digits)) = step.split_once('=') {
         let bytes = bytes_of(alloc, digits)?;
@@ -71,12 +99,12 @@ fn act(alloc: Global, dram: &mut Dram, step: &str, text: &mut String) -> Result<
     push_bytes(text, &found)
 }
 
-/// Does all steps at a new memory of 1 or 2 MiB.
+/// Does all steps at a new memory of 1 to 3 MiB.
 pub fn tell_dram(alloc: Global, words: &[&str], text: &mut String) -> Result<(), NoMemory> {
     let [mib, steps @ ..] = words else {
         return Ok(text.push_str("no memory")?);
     };
-    let mut dram = Dram::open(alloc, if *mib == "2" { 2 } else { 1 })?;
+    let mut dram = Dram::open(alloc, 1 + number(mib).wrapping_sub(1) % 3)?;
     for step in steps {
         if !text.is_empty() {
             text.push(' ')?;

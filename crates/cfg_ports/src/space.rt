@@ -67,29 +67,3 @@ impl Space {
         self.bytes = self.reset;
     }
 }
-
-#[cfg(test)]
-mod tests {
-    use super::*;
-
-    #[test]
-    fn writes_change_the_bits_of_the_mask(rt: HostRuntime) {
-        for (off, reset, mask, written, read) in [
-            (0x00, 0x86, 0x00, 0xFF, 0x86),
-            (0x59, 0x00, 0x30, 0xFF, 0x30),
-            (0x5B, 0x00, 0x33, 0x20, 0x20),
-            (0x60, 0x01, 0xFF, 0x02, 0x02),
-            (0x68, 0x00, 0xC0, 0x7F, 0x40),
-            (0x4E, 0x03, 0xC7, 0x38, 0x00),
-            (0xFF, 0x80, 0x8F, 0x7A, 0x0A),
-        ] {
-            let mut space = Space::new([reset; 256], [mask; 256]);
-            assert_eq!(rt; space.read(off), reset, "at {off}");
-            space.write(off, written);
-            assert_eq!(rt; space.read(off), read, "at {off}");
-            assert_eq!(rt; space.read(off ^ 1), reset, "beside {off}");
-            space.reset();
-            assert_eq!(rt; space.read(off), reset, "at {off} after a reset");
-        }
-    }
-}

@@ -91,26 +91,3 @@ pub fn window_of(addr: u32) -> Option<Window>
         off: PAM1 + (index / 2) as u8,
     })
 }
-
-#[cfg(test)]
-mod tests {
-    use super::*;
-
-    #[test]
-    fn addresses_have_their_windows(rt: HostRuntime) {
-        for (addr, expected) in [
-            (0xB_FFFF, None),
-            (0xC_0000, Some((0, 0xC_0000, 0xC_3FFF, 0x5A))),
-            (0xC_BFFF, Some((2, 0xC_8000, 0xC_BFFF, 0x5B))),
-            (0xC_C000, Some((3, 0xC_C000, 0xC_FFFF, 0x5B))),
-            (0xD_0000, Some((4, 0xD_0000, 0xD_3FFF, 0x5C))),
-            (0xE_FFFF, Some((11, 0xE_C000, 0xE_FFFF, 0x5F))),
-            (0xF_0000, Some((12, 0xF_0000, 0xF_FFFF, 0x59))),
-            (0xF_FFFF, Some((12, 0xF_0000, 0xF_FFFF, 0x59))),
-            (0x10_0000, None),
-        ] {
-            let window = window_of(addr).map(|w| (w.index, w.lo, w.hi, w.off));
-            assert_eq!(rt; window, expected, "at {addr}");
-        }
-    }
-}

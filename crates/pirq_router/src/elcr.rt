@@ -58,21 +58,3 @@ impl Elcr {
         *self = Elcr::new();
     }
 }
-
-#[cfg(test)]
-mod tests {
-    use super::*;
-
-    #[test]
-    fn registers_keep_the_writable_bits(rt: HostRuntime) {
-        let mut elcr = Elcr::new();
-        for (high, byte, kept) in [(false, 0xFF, 0xF8), (true, 0xFF, 0xDE), (true, 0x08, 0x08)] {
-            elcr.write(high, byte);
-            assert_eq!(rt; elcr.read(high), kept, "of {byte}");
-        }
-        assert_eq!(rt; elcr.read(false), 0xF8);
-        elcr.reset();
-        assert_eq!(rt; elcr.read(false), 0);
-        assert_eq!(rt; elcr.read(true), 0);
-    }
-}

@@ -29,21 +29,3 @@ pub fn fdhc_after(old: u8, written: u8) -> u8
 {
     merged(WRITABLE, old, written)
 }
-
-#[cfg(test)]
-mod tests {
-    use super::*;
-
-    #[test]
-    fn two_bits_choose_the_hole(rt: HostRuntime) {
-        for (old, written, fdhc, hole) in [
-            (0x00, 0x3F, 0x00, None),
-            (0x80, 0x40, 0x40, Some((0x8_0000, 0x9_FFFF))),
-            (0x40, 0xBF, 0x80, Some((0xF0_0000, 0xFF_FFFF))),
-            (0x00, 0xC0, 0xC0, None),
-        ] {
-            assert_eq!(rt; fdhc_after(old, written), fdhc, "of {written}");
-            assert_eq!(rt; hole_of(fdhc), hole, "by {fdhc}");
-        }
-    }
-}

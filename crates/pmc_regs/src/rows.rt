@@ -43,30 +43,3 @@ pub fn end_of(boundary: u8) -> u32
 {
     u32::from(boundary) * BOUNDARY_UNIT
 }
-
-#[cfg(test)]
-mod tests {
-    use super::*;
-
-    #[test]
-    fn an_address_is_in_the_first_row_that_ends_above_it(rt: HostRuntime) {
-        let rising = [1, 1, 2, 2, 2, 4, 4, 4];
-        let falling = [4, 3, 2, 2, 2, 2, 2, 2];
-        for (drb, addr, row) in [
-            (rising, 0x000_0000, Some(0)),
-            (rising, 0x07F_FFFF, Some(0)),
-            (rising, 0x080_0000, Some(2)),
-            (rising, 0x0FF_FFFF, Some(2)),
-            (rising, 0x100_0000, Some(5)),
-            (rising, 0x1FF_FFFF, Some(5)),
-            (rising, 0x200_0000, None),
-            (falling, 0x0FF_FFFF, Some(0)),
-            (falling, 0x100_0000, None),
-            ([0; 8], 0, None),
-            ([0xFF; 8], 0x7F7F_FFFF, Some(0)),
-            ([0xFF; 8], 0x7F80_0000, None),
-        ] {
-            assert_eq!(rt; row_of(&drb, addr), row, "at {addr}");
-        }
-    }
-}

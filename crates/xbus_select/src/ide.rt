@@ -124,31 +124,3 @@ pub fn decodes_ide_channel(idetim: u16) -> bool
 {
     is_set((idetim >> 8).into(), IDE_DECODE_ENABLE)
 }
-
-#[cfg(test)]
-mod tests {
-    use super::*;
-
-    #[test]
-    fn ide_function_holds_what_the_datasheet_lists(rt: HostRuntime) {
-        let mut ide = Ide::new();
-        for (off, reset, ones) in [
-            (0x02, 0x10, 0x10),
-            (0x04, 0x00, 0x05),
-            (0x06, 0x80, 0x80),
-            (0x09, 0x80, 0x80),
-            (0x0E, 0x00, 0x00),
-            (0x40, 0x00, 0xFF),
-            (0x41, 0x00, 0xFF),
-            (0x42, 0x00, 0x00),
-            (0x4E, 0x00, 0x00),
-            (0x60, 0x00, 0x00),
-        ] {
-            assert_eq!(rt; ide.read(off), reset, "at {off}");
-            ide.write(off, 0xFF);
-            assert_eq!(rt; ide.read(off), ones, "at {off} after ones");
-            ide.reset();
-            assert_eq!(rt; ide.read(off), reset, "at {off} after a reset");
-        }
-    }
-}
