@@ -6,13 +6,12 @@
 ghost use Rattle.std.specs.Prelude.{IfOk};
 ghost use Rattle.board_chipset.specs.Stores.{IsOfBoard};
 
-use crate::events::port_access;
-use crate::numbers::{byte, number};
 use arrayvec::ArrayVec;
 use board_base::{Access, Kind, NoMemory, Width};
 use board_chipset::{Chipset, Setup, Store};
 use board_spec::Event;
 use bus_master::{BusMaster, Done};
+use call_words::{byte, number, port_access};
 use pci_bars::CardSpec;
 use std::alloc::{AllocError, Global};
 

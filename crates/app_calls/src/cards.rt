@@ -1,9 +1,9 @@
 //! Setups of which nothing was proved: opened, or the first part that no board can have.
 
-use crate::numbers::{byte, number};
 use arrayvec::ArrayVec;
 use board_base::NoMemory;
 use board_chipset::{Chipset, Setup};
+use call_words::{byte, number};
 use pci_bars::{BaseSpec, CardSpec};
 use std::alloc::{AllocError, Global};
 

@@ -2,10 +2,10 @@
 //! range.
 
 use crate::cards::{card, setup};
-use crate::numbers::{byte, long, number, port, width};
 use board_base::{Access, Kind, Moment, NoMemory, PortAccess, WideAccess};
 use board_chipset::Chipset;
 use board_spec::Event;
+use call_words::{byte, long, number, port, port_access, width};
 use pci_bars::BaseSpec;
 use std::alloc::Global;
 
@@ -49,16 +49,6 @@ fn wide(word: &str, bytes: &str, addr: &str, value: &str) -> Option<Event> {
         addr: number(addr),
         value: long(value),
     }))
-}
-
-/// An access to a port.
-pub fn port_access(write: bool, bytes: &str, at: &str, value: &str) -> PortAccess {
-    PortAccess {
-        write,
-        port: port(at),
-        width: width(bytes),
-        value: number(value),
-    }
 }
 
 /// A date and an hour, whose weekday is from 1 for Sunday.

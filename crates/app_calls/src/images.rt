@@ -3,10 +3,10 @@
 ghost use Rattle.std.specs.Prelude.{◌≤◌, IfOk};
 ghost use Rattle.board_spec.specs.Setup.{IsSetup};
 
-use crate::numbers::byte;
 use board_base::NoMemory;
 use board_core::Board;
 use board_image::{ImageFault, load, read_image, save};
+use call_words::byte;
 use std::alloc::{AllocError, Global};
 
 /// The head of an image of a board of 8 MiB with a ROM of 64 KiB, without cards, disk and steps.

@@ -2,22 +2,15 @@
 //! given. Each line is told with what it answers. `#` begins a comment, which is told as it is.
 #![tactic(auto)]
 
-mod bridge;
 mod bus;
 mod cards;
 mod events;
 mod images;
-mod map;
-mod media;
 mod memory;
-mod numbers;
 mod ports;
 mod registers;
 mod requests;
-mod south;
-mod stretches;
 mod texts;
-mod timer;
 
 use board_base::NoMemory;
 use std::alloc::Global;
@@ -26,48 +19,6 @@ use std::process::ExitCode;
 
 /// The exit code for want of memory or of input.
 const FAILED: u8 = 8;
-
-/// Does what a line asks of a chip's registers, and appends the answer.
-fn answer_of_chip(alloc: Global, words: &[&str], text: &mut String) -> Result<(), NoMemory> {
-    match words {
-        ["space", rest @ ..] => bridge::tell_space(rest, text),
-        ["confadd", steps @ ..] => bridge::tell_address(steps, text),
-        ["window", addr] => bridge::tell_window(addr, text),
-        ["pam", steps @ ..] => bridge::tell_pam(steps, text),
-        ["pmc", steps @ ..] => bridge::tell_pmc(steps, text),
-        ["rows", rest @ ..] => bridge::tell_rows(alloc, rest, text),
-        ["hole", old, written] => bridge::tell_hole(old, written, text),
-        ["smram", steps @ ..] => bridge::tell_smram(steps, text),
-        ["elcr", steps @ ..] => south::tell_elcr(steps, text),
-        ["routes", steps @ ..] => south::tell_routes(steps, text),
-        ["ide", offsets @ ..] => south::tell_ide(offsets, text),
-        ["isa", offsets @ ..] => south::tell_isa(offsets, text),
-        ["selects", rest @ ..] => south::tell_selects(rest, text),
-        ["bios", xbcs, addr, size] => south::tell_bios(xbcs, addr, size, text),
-        ["xbcs", old, written] => south::tell_xbcs(old, written, text),
-        _ => Ok(text.push_str("no such call")?),
-    }
-}
-
-/// Does what a line asks of a part of the board, and appends the answer.
-fn answer_of_part(alloc: Global, words: &[&str], text: &mut String) -> Result<(), NoMemory> {
-    match words {
-        ["timer", steps @ ..] => timer::tell(steps, text),
-        ["timer-runs"] => timer::tell_runs(text),
-        ["clock", addresses @ ..] => media::tell_clock(addresses, text),
-        ["disk", rest @ ..] => media::tell_disk(alloc, rest, text),
-        ["edges", rest @ ..] => map::tell_edges(rest, text),
-        ["touches", rest @ ..] => map::tell_touches(rest, text),
-        ["changes", rest @ ..] => map::tell_changes(rest, text),
-        ["windows", rest @ ..] => map::tell_windows(rest, text),
-        ["cycles", rest @ ..] => stretches::tell_cycles(rest, text),
-        ["dram", rest @ ..] => stretches::tell_dram(alloc, rest, text),
-        ["card-bytes", steps @ ..] => stretches::tell_card(alloc, steps, text),
-        ["made", rest @ ..] => texts::tell_made(alloc, rest, text),
-        ["made-image", rest @ ..] => texts::tell_image(alloc, rest, text),
-        _ => answer_of_chip(alloc, words, text),
-    }
-}
 
 /// Does what a line asks, and appends the answer.
 fn answer(alloc: Global, words: &[&str], text: &mut String) -> Result<(), NoMemory> {
@@ -82,7 +33,9 @@ fn answer(alloc: Global, words: &[&str], text: &mut String) -> Result<(), NoMemo
         ["serial", requests @ ..] => requests::tell_board(alloc, requests, text),
         ["chipset", requests @ ..] => requests::tell_chipset(alloc, requests, text),
         ["bus", steps @ ..] => bus::tell(alloc, steps, text),
-        _ => answer_of_part(alloc, words, text),
+        ["made", rest @ ..] => texts::tell_made(alloc, rest, text),
+        ["made-image", rest @ ..] => texts::tell_image(alloc, rest, text),
+        _ => Ok(text.push_str("no such call")?),
     }
 }
 

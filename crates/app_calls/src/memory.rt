@@ -2,29 +2,12 @@
 //! `7FFF?` reads one as the guest does, `c35=A5` puts a byte into the clock, `c35?` tells it, and `0070>35` is the guest's
 //! write of a port.
 
-use crate::events::{chipset, port_access};
-use crate::numbers::{byte, number};
+use crate::events::chipset;
 use board_base::{Access, Kind, NoMemory, Width};
 use board_chipset::Chipset;
 use board_spec::{Event, Reply};
+use call_words::{byte, bytes_of, number, port_access};
 use std::alloc::{AllocError, Global};
-
-/// The bytes of an even count of digits.
-pub fn bytes_of(alloc: Global, digits: &str) -> Result<Vec<u8>, AllocError> {
-    let mut bytes = Vec::new(alloc);
-    let mut high = None;
-    for digit in digits.chars() {
-        let value = digit.to_digit(16).unwrap_or(0) as u8 % 16;
-        match high {
-            None => high = Some(value),
-            Some(first) => {
-                bytes.push(first * 16 + value)?;
-                high = None;
-            }
-        }
-    }
-    Ok(bytes)
-}
 
 fn word_of(done: bool) -> &'static str {
     if done { "put" } else { "refused" }

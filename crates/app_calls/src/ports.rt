@@ -1,9 +1,10 @@
 //! Accesses to ports that need not be aligned, each a word: `21,2` reads two bytes from port 21h on, and `21,2=55AA`
 //! writes them. Told are the value, the reset that is made, or why it is refused.
 
-use crate::events::{chipset, port_access};
+use crate::events::chipset;
 use board_base::NoMemory;
 use board_chipset::{Chipset, PortReply, ResetKind};
+use call_words::port_access;
 use std::alloc::{AllocError, Global};
 
 fn reset_word(reset: ResetKind) -> &'static str {

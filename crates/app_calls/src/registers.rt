@@ -1,8 +1,8 @@
 //! A new 16550, each step a word: `4=10` writes 10h to the register at offset 4, `0<41` is a byte that comes, `2?` reads,
 //! `room?` and `line?` ask. A read is told with its byte, a write with the byte that was sent.
 
-use crate::numbers::byte;
 use board_base::NoMemory;
+use call_words::byte;
 use std::alloc::{AllocError, Global};
 use uart_16550::Uart;
 

@@ -6,12 +6,12 @@
 ghost use Rattle.std.specs.Prelude.{◌≡◌, [], IfOk, IfSome};
 ghost use Rattle.board_prelude.specs.Common.{Setup as Fitting, IsInRange};
 
-use crate::numbers::{byte, number, port};
 use board_base::{NoMemory, PortAccess, Width};
 use board_chipset::Chipset;
 use board_core::{Board, Setup};
 use board_script::{push_heading, push_line};
 use board_spec::{Event, Reply};
+use call_words::{byte, number, port};
 use std::alloc::{AllocError, Global};
 use uart_16550::{SerialBoard, SerialReply};
 

@@ -4,6 +4,7 @@ use access_history::History;
 use board_base::NoMemory;
 use board_script::{Log, LogFault, push_heading, push_line, push_lines, push_log, read_log};
 use board_spec::Entry;
+use call_words::decimal;
 use log_lines::entry_of;
 use make_script::{make_disk, make_rom, make_text, push_summary};
 use script_lines::item_of;
@@ -15,16 +16,6 @@ const MOST_ENTRIES: u32 = 100;
 
 /// The most bytes of a text of a row.
 const MOST_BYTES: usize = 1 << 24;
-
-/// The number that decimal digits say.
-fn decimal(digits: &str) -> u32 {
-    let mut number = 0u32;
-    for digit in digits.as_bytes() {
-        let value = u32::from(digit.wrapping_sub(b'0'));
-        number = number.wrapping_mul(10).wrapping_add(value);
-    }
-    number
-}
 
 /// The bytes that a text of a row stands for.
 fn plain(alloc: Global, text: &str) -> Result<String, AllocError> {

@@ -3,12 +3,10 @@
 ghost use Rattle.std.specs.Prelude.{◌≡◌};
 ghost use Rattle.board_spec.specs.Setup.{IsCard};
 
-use crate::events::port_access;
-use crate::memory::bytes_of;
-use crate::numbers::{byte, number, width};
 use arrayvec::ArrayVec;
 use board_base::NoMemory;
 use board_stores::port_cycles;
+use call_words::{byte, bytes_of, number, port_access, width};
 use dram_store::Dram;
 use pci_bars::{BaseSpec, CardSpec, Contents};
 use std::alloc::{AllocError, Global};

@@ -1,7 +1,7 @@
 //! The south bridge's parts by themselves, each line a new one.
 
-use crate::numbers::{byte, number, port};
 use board_base::NoMemory;
+use call_words::{byte, number, port};
 use pirq_router::{Elcr, Pirq};
 use std::alloc::AllocError;
 use xbus_select::{Ide, Piix, rom_offset, rom_selected, xbcs_after};
@@ -69,11 +69,8 @@ pub fn tell_ide(offsets: &[&str], text: &mut String) -> Result<(), NoMemory> {
         ide.write(off, 0xFF);
         let ones = ide.read(off);
         ide.reset();
-        write!(
-            text,
-            "{off:02X}={before:02X},{ones:02X},{:02X} ",
-            ide.read(off)
-        )?;
+        let anew = ide.read(off);
+        write!(text, "{off:02X}={before:02X},{ones:02X},{anew:02X} ")?;
     }
     Ok(())
 }
@@ -87,11 +84,8 @@ pub fn tell_isa(offsets: &[&str], text: &mut String) -> Result<(), NoMemory> {
         piix.write(0, off, 0xFF);
         let ones = piix.read(0, off);
         piix.reset();
-        write!(
-            text,
-            "{off:02X}={before:02X},{ones:02X},{:02X} ",
-            piix.read(0, off)
-        )?;
+        let anew = piix.read(0, off);
+        write!(text, "{off:02X}={before:02X},{ones:02X},{anew:02X} ")?;
     }
     Ok(())
 }

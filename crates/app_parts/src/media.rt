@@ -2,9 +2,9 @@
 //! port give; `disk 2` has so many sectors of bytes 02h, of which `1.FF=ABCD` sets a word, `1.1FD:0103` sets bytes,
 //! `bad1` marks a sector, `1.FF?` tells a word, `ok1` whether a sector can be read, and `id54` a word of IDENTIFY DEVICE.
 
-use crate::numbers::{byte, number, port};
 use ata_pio::Ata;
 use board_base::{NoMemory, Width};
+use call_words::{byte, number, port};
 use cmos_clock::Cmos;
 use std::alloc::{AllocError, Global};
 

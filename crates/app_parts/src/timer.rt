@@ -2,20 +2,10 @@
 //! counter 2, `g1` and `g0` are levels of gate 2, `p5` gives five pulses at once, and `rose5` too and tells how often OUT of
 //! counter 0 rose, and its level. `?` asks after how many pulses it next rises.
 
-use crate::numbers::byte;
 use board_base::NoMemory;
+use call_words::{byte, decimal};
 use pit_8254::{CONTROL_WORD, COUNTER_0, COUNTER_2, Pit, Rises};
 use std::alloc::{AllocError, Global};
-
-/// The number that decimal digits say.
-fn decimal(digits: &str) -> u32 {
-    let mut number = 0u32;
-    for digit in digits.as_bytes() {
-        let value = u32::from(digit.wrapping_sub(b'0'));
-        number = number.wrapping_mul(10).wrapping_add(value);
-    }
-    number
-}
 
 /// A step that tells nothing; false where it is none.
 fn change(pit: &mut Pit, step: &str) -> bool {
