@@ -1,5 +1,5 @@
-"""A small tree in which tests/board-script tries ./board: the script and its tools over seven crates, and a program `rt` that
-proves nothing but notes what is asked of it."""
+"""A small tree in which tests/board-script tries ./board: the script and its tools over six crates, and a program `rt`
+that proves nothing but notes what is asked of it."""
 import os
 import pathlib
 import shutil
@@ -10,6 +10,9 @@ import time
 
 ROOT = pathlib.Path(__file__).resolve().parent.parent
 sys.path.insert(0, str(ROOT / "tools"))
+from crate_sources import Crates
+from release_files import Member, write_archive, write_sources
+from release_layout import layout
 
 CRATES = ("base: arrayvec\nleft may_wait=1: base\nright: base\naside: base\nboard_app: left right\n"
           "board_c staticlib: left\n")
@@ -75,8 +78,8 @@ does = {"lib": prove, "check": prove, "run": link, "try": attempt, "version": la
 sys.exit(does[sys.argv[1]]())
 """
 
-# It tells its words, its folder, what it asks of the C library, its open files and the signals that it ignores; says what
-# the file `said` has, and ends with the status that stands in `status`.
+# It tells its words, its folder, what it asks of the C library, its open files and the signals that it ignores; says
+# what the file `said` has, and ends with the status that stands in `status`.
 PROGRAM = r"""#!/bin/sh
 case $* in
 --help) printf 'board: a chipset\n\nusage: board replay FILE\n\n  replay FILE     does it\n' && exit 0 ;;
@@ -91,6 +94,16 @@ grep SigIgn /proc/$$/status
 [ ! -e wait ] || { echo >began; sleep 30; }
 exit "$(cat status)"
 """
+
+
+# What ./board --pack makes of that program and of a library.
+RELEASE = layout(ROOT, PROGRAM.encode(), {
+    "include/board.h": Member((ROOT / "include/board.h").read_bytes()),
+    "lib/libboard.a": Member(b"static\n"),
+    "lib/libboard.so.2": Member(b"shared\n", is_run=True),
+    "lib/libboard.so": Member(link="libboard.so.2"),
+    "lib/pkgconfig/board.pc": Member(b"Name: board\n"),
+})
 
 
 class Tree:
@@ -144,7 +157,8 @@ class Tree:
 
     def environment(self):
         return {**os.environ, "PATH": f"{self.room}/bin:{os.environ['PATH']}", "GLIBC_TUNABLES": self.tunables,
-                "HOME": str(self.room / "home"), "XDG_CACHE_HOME": "", "BOARD_QUIET": "", "BOARD_JOBS": "4", "DESTDIR": ""}
+                "HOME": str(self.room / "home"), "XDG_CACHE_HOME": "", "BOARD_QUIET": "", "BOARD_JOBS": "4",
+                "DESTDIR": ""}
 
     def start(self, *words, script=None, env=None, **how):
         """Starts the script, by its first line or by a shell, in a folder beside the tree."""
@@ -175,21 +189,13 @@ class Tree:
 
     def pack(self, program=PROGRAM.encode()):
         """Packs a program and a library of these sources by hand, as ./board --pack does."""
-        from crate_sources import Crates
-        from release_files import Member, write_archive, write_sources
-        from release_layout import layout
-
-        library = {"include/board.h": Member((self.top / "include/board.h").read_bytes()),
-                   "lib/libboard.a": Member(b"static\n"), "lib/libboard.so.2": Member(b"shared\n", is_run=True),
-                   "lib/libboard.so": Member(link="libboard.so.2"), "lib/pkgconfig/board.pc": Member(b"Name: board\n")}
-        crates = Crates(self.top)
-        write_archive(self.top, layout(self.top, PROGRAM.encode(), library) | {"bin/board": Member(program, is_run=True)}, "kit")
-        write_sources(crates)
+        write_archive(self.top, {**RELEASE, "bin/board": Member(program, is_run=True)}, "kit")
+        write_sources(Crates(self.top))
 
     def told(self, *words, is_quiet=False):
-        """What the program tells, in the caller's folder: it has the three open files that each program has, beside that of
-        ls; a file's size ends it not, and where the script waits for it neither what is typed; and large pages are asked
-        for."""
+        """What the program tells, in the caller's folder: it has the three open files that each program has, beside that
+        of ls; a file's size ends it not, and where the script waits for it neither what is typed; and large pages are
+        asked for."""
         ignored = [signal.SIGXFSZ] if is_quiet else [signal.SIGXFSZ, signal.SIGINT, signal.SIGQUIT]
         mask = sum(1 << it - 1 for it in ignored)
         tunables = ":".join(it for it in (self.tunables, "glibc.malloc.hugetlb=1") if it)

@@ -79,8 +79,7 @@ class State:
             raise Refused(f"the program cannot be kept in {self.folder}: {fault.strerror}") from fault
 
     def mark(self, crates: Crates, begun: int) -> None:
-        """Lists what the program is made of, all of which was looked at since a time. The list is as old as this look, so
-        that it says nothing where something changed meanwhile."""
+        """Lists what the program is made of, all of which was looked at since a time, unless something changed meanwhile."""
         names = [str(self.program), SUMS, *crates.names(PROGRAM)]
         names = [name for name in names if (crates.root / name).exists()]
         handle, name = tempfile.mkstemp(dir=self.folder, prefix=LIST)

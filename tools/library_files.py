@@ -26,8 +26,8 @@ def shared(root: pathlib.Path) -> str:
 
 
 def pc_text(root: pathlib.Path, up: str, lib: str, include: str, is_found: bool = False) -> bytes:
-    """board.pc of a folder that is `up` from where it lies. Where the system's loader does not find the library by itself a
-    program that is linked with it looks in its folder."""
+    """board.pc of a folder that is `up` from where it lies. Where the system's loader does not find the library by itself
+    a program that is linked with it looks in its folder."""
     names = {"up": up, "lib": lib, "include": include, "version": interface(root),
              "rpath": "" if is_found else "-Wl,-rpath,${libdir} "}
     text = (root / "include/board.pc.in").read_text()
@@ -68,7 +68,8 @@ def linked(crates: Crates, static: bytes) -> dict[str, Member]:
         objects = extracted(room, [room / "board.a", kit_folder() / "c/liblibc_c.a"])
         call(["ar", "crsD", "libboard.a", *objects], room)
         soname = pathlib.Path(shared(root)).name
-        call([compiler(), "-shared", "-o", soname, f"-Wl,-soname,{soname}", "-Wl,--build-id=none",
+        (room / "exports").write_text("{ global: board_*; local: *; };\n")
+        call([compiler(), "-shared", "-o", soname, f"-Wl,-soname,{soname}", "-Wl,--version-script,exports",
               "-Wl,--whole-archive", "libboard.a", "-Wl,--no-whole-archive"], room)
         return {
             HEADER: Member((root / HEADER).read_bytes()),

@@ -1,8 +1,8 @@
 """Proves a crate and all below it, several at a time.
 
-In one tree `rt` does one thing at a time, so there is a lane for each two processors, and each but one has a copy of the
-sources. A lane takes the crate from which the longest chain of crates goes up, among those whose crates below are proved.
-What is made of a crate goes into the copy and comes back, so an earlier call's is used."""
+In one tree `rt` does one thing at a time, so there is a lane for each two processors, and each but one has a copy of
+the sources. A lane takes the crate from which the longest chain of crates goes up, among those whose crates below are
+proved. What is made of a crate goes into the copy and comes back, so an earlier call's is used."""
 import os
 import pathlib
 import shutil

@@ -1,7 +1,6 @@
 """Proves and builds the program and the library of the sources, unless that was done."""
 import contextlib
 import fcntl
-import os
 import pathlib
 import signal
 import time

@@ -1,5 +1,5 @@
-"""The files of release/: an archive of what --install puts below a folder, the sum of each of its files, and the sources
-that they were made of."""
+"""The files of release/: an archive of what --install puts below a folder, the sum of each of its files, and the
+sources that they were made of."""
 import io
 import gzip
 import pathlib

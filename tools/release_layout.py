@@ -1,11 +1,10 @@
-"""What a release has, and what --install puts below a folder: the program, the library, the man page and the completion of a
-shell, by their names."""
+"""What a release has, and what --install puts below a folder: the program, the library, the man page and the completion
+of a shell, by their names."""
 import pathlib
 import subprocess
 import tempfile
 
 from board_says import Refused
-from library_files import PC, pc_text
 from release_files import THE_PROGRAM, Member
 
 MAN, COMPLETION = "share/man/man1/board.1", "share/bash-completion/completions/board"

@@ -18,7 +18,8 @@ def processors() -> int:
     """How many the proofs take: BOARD_JOBS, or those that have 2 GB of memory each."""
     if os.environ.get("BOARD_JOBS", "").isdigit():
         return max(1, int(os.environ["BOARD_JOBS"]))
-    room = [int(line.split()[1]) * 1000 for line in text_of("/proc/meminfo").splitlines() if line.startswith("MemAvailable:")]
+    lines = text_of("/proc/meminfo").splitlines()
+    room = [int(line.split()[1]) * 1000 for line in lines if line.startswith("MemAvailable:")]
     room += [int(it) for it in text_of("/sys/fs/cgroup/memory.max").split() if it.isdigit()]
     most = len(os.sched_getaffinity(0))
     return max(1, min([most, *(int(it / BYTES_A_PROCESSOR) for it in room)]))
@@ -40,14 +41,14 @@ class Children:
         self.is_over = False
 
     def run(self, words: list[str], folder: pathlib.Path, log: pathlib.Path, output: Optional[TextIO] = None) -> int:
-        """Runs rt with what it says in a file, and its output too where it goes nowhere else. Its status, or one where all
-        are to end."""
+        """Runs rt with what it says in a file, and its output too where it goes nowhere else. Its status, or one where
+        all are to end."""
         with self.lock:
             if self.is_over:
                 return 1
             with open(log, "wb") as it:
-                child = subprocess.Popen(["rt", *words], cwd=folder, stdin=subprocess.DEVNULL, stdout=output or it, stderr=it,
-                                         start_new_session=True)
+                child = subprocess.Popen(["rt", *words], cwd=folder, stdin=subprocess.DEVNULL, stdout=output or it,
+                                         stderr=it, start_new_session=True)
             self.running.add(child)
         status = child.wait()
         with self.lock:

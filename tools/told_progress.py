@@ -1,5 +1,5 @@
-"""Says meanwhile how far something is: on a terminal in one line that is written over, elsewhere in a line of its own where
-it is a new one, at most each ten seconds."""
+"""Says meanwhile how far something is: on a terminal in one line that is written over, elsewhere in a line of its own
+where it is a new one, at most each ten seconds."""
 import sys
 import time
 
