@@ -1,5 +1,6 @@
 """What the tools share: the registers by name, the lines of a log, and how the program is called."""
 import argparse
+import os
 import pathlib
 import re
 import signal
@@ -223,21 +224,22 @@ class Board:
     def __init__(self, words: argparse.Namespace):
         self.program = words.program.resolve()
         self.folder = (words.images or words.script.parent).resolve()
-        # where it has to be built it says so itself, meanwhile
+        # where it is not of these sources it says so itself
         if self.program == ROOT / "board" and self.run("--version", stderr=None).returncode:
-            stop(4, f"the program {self.program} is not built")
+            stop(4, f"the program {self.program} does not run")
 
     @staticmethod
     def add_words(about: argparse.ArgumentParser) -> None:
         images = "where the ROM and the disk lie, if not beside the script"
-        program = "stands for ./board, which takes the packed program or proves and builds one first"
+        program = "stands for ./board, which runs the program that was packed or proved of these sources"
         about.add_argument("--images", type=pathlib.Path, metavar="FOLDER", help=images)
         about.add_argument("--program", type=pathlib.Path, default=ROOT / "board", help=program)
 
     def run(self, command: str, *files: pathlib.Path, stderr=subprocess.PIPE) -> subprocess.CompletedProcess:
         words = [self.program, command, *(file.resolve() for file in files)]
         try:
-            return subprocess.run(words, cwd=self.folder, stdout=subprocess.PIPE, stderr=stderr, text=True)
+            return subprocess.run(words, cwd=self.folder, stdout=subprocess.PIPE, stderr=stderr, text=True,
+                                  env={**os.environ, "BOARD_QUIET": "1"})
         except OSError as fault:
             stop(4, f"the program {self.program} does not run: {fault.strerror}")
 
