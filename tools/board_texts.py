@@ -1,5 +1,6 @@
 """What the tools share: the registers by name, the lines of a log, and how the program is called."""
 import argparse
+import os
 import pathlib
 import re
 import signal
@@ -230,14 +231,17 @@ class Board:
     @staticmethod
     def add_words(about: argparse.ArgumentParser) -> None:
         images = "where the ROM and the disk lie, if not beside the script"
-        program = "stands for ./board, which takes the packed program or proves and builds one first"
+        program = "stands for $BOARD, or ./board, which takes the packed program or proves and builds one first"
+        default = pathlib.Path(os.environ.get("BOARD") or ROOT / "board")
         about.add_argument("--images", type=pathlib.Path, metavar="FOLDER", help=images)
-        about.add_argument("--program", type=pathlib.Path, default=ROOT / "board", help=program)
+        about.add_argument("--program", type=pathlib.Path, default=default, help=program)
 
     def run(self, command: str, *files: pathlib.Path, stderr=subprocess.PIPE) -> subprocess.CompletedProcess:
         words = [self.program, command, *(file.resolve() for file in files)]
         try:
-            return subprocess.run(words, cwd=self.folder, stdout=subprocess.PIPE, stderr=stderr, text=True)
+            run = subprocess.run(words, cwd=self.folder, stdin=subprocess.DEVNULL, stdout=subprocess.PIPE, stderr=stderr)
+            texts = [(it or b"").decode("latin-1") for it in (run.stdout, run.stderr)]
+            return subprocess.CompletedProcess(words, run.returncode, *texts)
         except OSError as fault:
             stop(4, f"the program {self.program} does not run: {fault.strerror}")
 
