@@ -221,12 +221,16 @@ def stop(status: int, why: str) -> NoReturn:
 class Board:
     """The program, run in the folder where the images lie."""
 
+    ready: set[pathlib.Path] = set()  # the programs that were found to run
+
     def __init__(self, words: argparse.Namespace):
         self.program = words.program.resolve()
         self.folder = (words.images or words.script.parent).resolve()
         # where it has to be built it says so itself, meanwhile
-        if self.program == ROOT / "board" and self.run("--version", stderr=None).returncode:
-            stop(4, f"the program {self.program} is not built")
+        if self.program == ROOT / "board" and self.program not in self.ready:
+            if self.run("--version", stderr=None).returncode:
+                stop(4, f"the program {self.program} is not built")
+            self.ready.add(self.program)
 
     @staticmethod
     def add_words(about: argparse.ArgumentParser) -> None:
