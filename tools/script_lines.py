@@ -118,13 +118,14 @@ def card_kind(field: str, fields: list[str], version: int) -> Optional[str]:
 def base(field: str, fields: list[str], version: int) -> Optional[str]:
     at = FIRST_OF_CARD + next(k for k, it in enumerate(fields[FIRST_OF_CARD:]) if it is field)
     if BASE.fullmatch(field):
-        if any(re.fullmatch("x[0-9]+", it) for it in fields[FIRST_OF_CARD:at]):
-            return "a card is vga or plain, with its bases, and one xK at the end: a base stands after it"
         return None
     if re.fullmatch("x(0|[1-9][0-9]{0,8})", field):
         if version == 1:
             return "xK is of version 2: begin with `board 2`"
-        return None if at == len(fields) - 1 else "a card is vga or plain, with its bases, and one xK at the end alone"
+        if at == len(fields) - 1:
+            return None
+        more = ": a base stands after it" if BASE.fullmatch(fields[at + 1]) else ""
+        return f"a card is vga or plain, with its bases, and one xK at the end alone{more}"
     form = "a card is vga or plain, with at most six bases, each mK or iK, and in version 2 one xK at the end"
     if re.fullmatch("[MIX][0-9]+", field):
         return "words are written in lower-case letters: m, i and x too"
@@ -285,8 +286,8 @@ CHARACTERS: list[Callable[[str], Optional[str]]] = [
     of("^\x00[ -~]|^[ -~]\x00", "the file is UTF-16: `iconv -f UTF-16LE -t UTF-8` or `-f UTF-16BE` makes it plain"),
     of("\x00", "a NUL stands in it, a byte 00: `tr -d '\\000'` takes all of them away"),
     of("^\xef\xbb\xbf", "a byte order mark stands before it: save the file without one"),
+    of("\r.", "a carriage return stands in it, in place of a line feed: tr '\\r' '\\n' makes lines"),
     of("\r$", "a carriage return stands at its end (CRLF): tr -d '\\r' takes all of them away"),
-    of("\r", "a carriage return stands in it, in place of a line feed: tr '\\r' '\\n' makes lines"),
     of("\t", "a tab stands in it: fields are separated by one space"),
     of("^ +$", "spaces stand alone in it: an empty line has none"),
     of("^ ", "a space stands at its head"),
