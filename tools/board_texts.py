@@ -221,25 +221,32 @@ def stop(status: int, why: str) -> NoReturn:
 class Board:
     """The program, run in the folder where the images lie."""
 
+    ready: set[pathlib.Path] = set()  # the programs that were found to run
+
     def __init__(self, words: argparse.Namespace):
         self.program = words.program.resolve()
         self.folder = (words.images or words.script.parent).resolve()
         # where it is not of these sources it says so itself
-        if self.program == ROOT / "board" and self.run("--version", stderr=None).returncode:
-            stop(4, f"the program {self.program} does not run")
+        if self.program == ROOT / "board" and self.program not in self.ready:
+            if self.run("--version", stderr=None).returncode:
+                stop(4, f"the program {self.program} does not run")
+            self.ready.add(self.program)
 
     @staticmethod
     def add_words(about: argparse.ArgumentParser) -> None:
         images = "where the ROM and the disk lie, if not beside the script"
-        program = "stands for ./board, which runs the program that was packed or proved of these sources"
+        program = "stands for $BOARD, or ./board, which runs the program that was packed or proved of these sources"
+        default = pathlib.Path(os.environ.get("BOARD") or ROOT / "board")
         about.add_argument("--images", type=pathlib.Path, metavar="FOLDER", help=images)
-        about.add_argument("--program", type=pathlib.Path, default=ROOT / "board", help=program)
+        about.add_argument("--program", type=pathlib.Path, default=default, help=program)
 
     def run(self, command: str, *files: pathlib.Path, stderr=subprocess.PIPE) -> subprocess.CompletedProcess:
         words = [self.program, command, *(file.resolve() for file in files)]
         try:
-            return subprocess.run(words, cwd=self.folder, stdout=subprocess.PIPE, stderr=stderr, text=True,
-                                  env={**os.environ, "BOARD_QUIET": "1"})
+            run = subprocess.run(words, cwd=self.folder, stdin=subprocess.DEVNULL, stdout=subprocess.PIPE, stderr=stderr,
+                                 env={**os.environ, "BOARD_QUIET": "1"})
+            texts = [(it or b"").decode("latin-1") for it in (run.stdout, run.stderr)]
+            return subprocess.CompletedProcess(words, run.returncode, *texts)
         except OSError as fault:
             stop(4, f"the program {self.program} does not run: {fault.strerror}")
 

@@ -1,5 +1,5 @@
 """What monitors print of their accesses, line by line: QEMU's trace, the kernel's tracepoints of KVM, and a plain form
-for all others. Each reader gives the events of its lines. What a line tells is taken as it stands here; what the board
+for all others; Bochs has a file of its own. Each reader gives the events of its lines. What a line tells is taken as it stands here; what the board
 makes of it is decided in from-trace."""
 import datetime
 import re
@@ -215,7 +215,27 @@ def check_range(event: Event) -> None:
         raise Broken("a port of eight bytes")
 
 
-READERS: dict[str, Callable[[], Reader]] = {"qemu": lambda: qemu, "kvm": Kvm, "plain": lambda: plain}
+def bochs_reader() -> Reader:
+    from trace_bochs import bochs  # which takes the event from here
+
+    return bochs
+
+
+READERS: dict[str, Callable[[], Reader]] = {
+    "qemu": lambda: qemu,
+    "kvm": Kvm,
+    "bochs": bochs_reader,
+    "plain": lambda: plain,
+}
+# What a trace of each form has to have, so that it tells anything.
+LOOKED_FOR = {
+    "qemu": "lines `memory_region_ops_read cpu 0 mr .. addr .. value .. size .. name '..'`, as -trace "
+    "'memory_region_ops_*' -D FILE writes them",
+    "kvm": "lines `kvm_pio: pio_read at 0x.. size .. count .. val 0x..`, as the kernel's tracepoints print them",
+    "bochs": "lines `event at t=.. IO addr=0x.. size=.. op=read val=0x..`, as its debugger prints them with "
+    "bx_guard.report.io",
+    "plain": "lines `0 in b 71 = 26`, `0 r d FFFFFFF0 = ..`",
+}
 
 
 def events(form: str, lines: list[str]) -> Iterator[Event]:

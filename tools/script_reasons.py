@@ -1,0 +1,255 @@
+"""Why a script is refused: the ten reasons, and which half or which limit of each holds."""
+import datetime
+import re
+from dataclasses import dataclass, field
+from typing import Optional
+
+from board_texts import WIDTHS
+from script_lines import CHARACTERS, cause
+
+MOST_STATEMENTS, MOST_PHASES, MOST_PULSES, MOST_BASES = 250_000, 1_000, 100_000_000, 64 << 20
+MOST_BYTES = 120
+REASONS = {
+    1: "it is the first line, and neither `board 1` nor `board 2`",
+    2: "it has more than 120 bytes; a comment counts too",
+    3: "it has none of the forms of its version",
+    4: "a setup line stands after the first `phase`, or a statement before it",
+    5: "a setup line of its kind came before; of `card` one of the same device",
+    6: "here a phase begins or the file ends, and `cpus`, `memory` or `rom` is missing",
+    7: "a number is out of its range, or the calendar has no such moment: cpus 1 to 8, memory 1 to 64, card and wire 2 "
+    "to 9, mK 4 to 24, iK 2 to 8, xK 11 to 24, pulse 1 to 1,000,000, irq 1, 3 to 7, 9 to 12 or 15, a level 0 or 1, "
+    "bad 0 to 65,535, a year 1980 to 2099",
+    8: "the address or the port is no multiple of the width, or a wide access passes FFFFFFFF; `board 2` lets memory "
+    "be accessed anywhere, but not ports",
+    9: "the processor is not below `cpus`, or `wire` names a device without a card",
+    10: "with it there are more than 250,000 statements, 1,000 phases, 100,000,000 pulses, or 64 MiB behind bases",
+}
+
+
+@dataclass
+class Before:
+    """What the lines before a refused one have said. All of them are right."""
+
+    version: int = 1
+    setup: dict[str, int] = field(default_factory=dict)  # each word, and of a card `card D`, with its line
+    cpus: int = 0
+    bases: int = 0  # bytes of memory behind bases of cards
+    phases: int = 0
+    first_phase: int = 0  # its line
+    statements: int = 0
+    pulses: int = 0
+
+    @staticmethod
+    def of(lines: list[str]) -> "Before":
+        before = Before(2 if lines[:1] == ["board 2"] else 1)
+        for number, line in enumerate(lines[1:], 2):
+            if line and not line.startswith("#"):
+                before.note(number, line.split(" "))
+        return before
+
+    def note(self, number: int, words: list[str]) -> None:
+        if words[0] == "phase":
+            self.phases += 1
+            self.first_phase = self.first_phase or number
+        elif words[0].isdecimal():
+            self.statements += 1
+            self.pulses += int(words[2]) if words[1] == "pulse" else 0
+        else:
+            self.setup[" ".join(words[: 2 if words[0] == "card" else 1])] = number
+            self.cpus = int(words[1]) if words[0] == "cpus" else self.cpus
+            self.bases += bases_of(words)
+
+    @property
+    def cards(self) -> list[str]:
+        return [key.split(" ")[1] for key in self.setup if key.startswith("card ")]
+
+    @property
+    def missing(self) -> list[str]:
+        return [word for word in ("cpus", "memory", "rom") if word not in self.setup]
+
+
+def bases_of(words: list[str]) -> int:
+    return sum(1 << int(it[1:]) for it in words[3:] if it[0] == "m") if words[0] == "card" else 0
+
+
+# ---- reason 1
+
+NO_SCRIPTS = [
+    ("^access log [12]", "it is a log, and no script: `board check SCRIPT LOG` reads it"),
+    ("^BOARDIMG", "it is an image that `board save` wrote, and no script: `board resume IMAGE SCRIPT` reads it"),
+    ("^[0-9A-F]{8} [0-9A-F]{8} ", "it is a map that `board map` wrote, and no script"),
+    ("^# statement, value", "it is a file of values, and no script: `tools/compare SCRIPT VALUES` reads it"),
+    ("memory_region_ops_|kvm_pio|event at t=", "it is the trace of a monitor, and no script: tools/from-trace makes one of it"),
+    ("^\x1f\x8b", "it is packed by gzip: gunzip it first"),
+    ("^\x7fELF|^PK", "it is a program or an archive, and no script"),
+    ("^#!", "a line stands before `board 1`: no other line is the first"),
+]
+
+
+def first_line(line: str, size: int) -> str:
+    """What is wrong with a first line."""
+    if size == 0:
+        return "the file is empty: it has 0 bytes"
+    for pattern, text in NO_SCRIPTS:
+        if re.search(pattern, line):
+            return text
+    if line == "":
+        return "an empty line stands before `board 1`"
+    if line.startswith("#"):
+        return "a comment stands before `board 1`: it comes after the first line"
+    for find in CHARACTERS:
+        if text := find(line):
+            return text
+    words = line.split(" ")
+    if re.fullmatch("board ?[0-9.]*", line.lower()) and line != line.lower():
+        return "words are written in lower-case letters"
+    if words[0] == "board" or re.fullmatch("board[0-9]+", line):
+        return "`board` stands in the first line alone, as `board 1` or `board 2`: there is no other version" \
+            if re.fullmatch("board [0-9]+", line) else "the first line is, as `board 1` or `board 2`, two words alone"
+    if cause(line, 2) is None:
+        return "`board 1` is missing: the first line is a line of a script that comes after it"
+    return "`board 1` is missing: " + (cause(line, 2) or "")
+
+
+# ---- reasons 2 to 10
+
+
+def too_long(line: str) -> str:
+    size = len(line)
+    what = "a comment counts too: break it" if line.startswith("#") else "no form needs so many"
+    if line.rstrip() != line:
+        what = f"{size - len(line.rstrip())} of them are spaces at its end"
+    return f"it has {size} bytes, {size - MOST_BYTES} more than a line may have; {what}"
+
+
+def order(line: str, before: Before) -> str:
+    word = line.split(" ")[0]
+    if before.phases:
+        return f"`{word}` is a setup line, and the first `phase` stands in line {before.first_phase}: move it above that"
+    return "it is a statement, and no `phase` stands before it"
+
+
+def came_before(line: str, before: Before) -> str:
+    words = line.split(" ")
+    key = " ".join(words[: 2 if words[0] == "card" else 1])
+    return f"`{key}` came before, in line {before.setup[key]}"
+
+
+def range_of(what: str, given: str, first: int, last: int) -> Optional[str]:
+    return None if first <= int(given) <= last else f"{what} is {given}, and goes from {first:,} to {last:,}"
+
+
+OWN_LINES = {
+    0: "the timer drives it",
+    2: "the slave stands there",
+    8: "the clock drives it",
+    13: "no coprocessor is there",
+    14: "the disk drives it",
+}
+
+
+def out_of_range(line: str, before: Before) -> Optional[str]:
+    words = line.split(" ")
+    if words[0] == "cpus":
+        return range_of("the number of processors", words[1], 1, 8)
+    if words[0] == "memory":
+        return range_of("the number of MiB", words[1], 1, 64)
+    if words[0] == "card":
+        return card_out_of_range(words)
+    word, fields = words[1], words[2:]
+    if word == "pulse":
+        return range_of("the number of pulses", fields[0], 1, 1_000_000)
+    if word == "bad":
+        return range_of("the sector", fields[0], 0, 65_535)
+    if word == "wire":
+        return range_of("the device", fields[0], 2, 9) or range_of("the level", fields[1], 0, 1)
+    if word == "irq":
+        return line_out_of_range(int(fields[0])) or range_of("the level", fields[1], 0, 1)
+    return no_moment(fields[0]) if word == "moment" else None
+
+
+def card_out_of_range(words: list[str]) -> Optional[str]:
+    found = range_of("the device", words[1], 2, 9)
+    for it in words[3:]:
+        first, last = {"m": (4, 24), "i": (2, 8), "x": (11, 24)}[it[0]]
+        found = found or range_of(f"K of {it}", it[1:], first, last)
+    return found
+
+
+def line_out_of_range(number: int) -> Optional[str]:
+    if number in OWN_LINES:
+        return f"line {number} is none that `irq` sets: {OWN_LINES[number]}"
+    return f"line {number} is not there: the last is 15" if number > 15 else None
+
+
+def no_moment(text: str) -> Optional[str]:
+    year, month, day, hour, minute, second = map(int, re.split("[-T:]", text))
+    if not 1980 <= year <= 2099:
+        return f"the year is {year}, and goes from 1980 to 2099"
+    found = range_of("the month", str(month), 1, 12)
+    if found:
+        return found
+    last = (datetime.date(year + month // 12, month % 12 + 1, 1) - datetime.timedelta(1)).day
+    if not 1 <= day <= last:
+        return f"the day is {day}, and this month of {year} has {last}"
+    return (range_of("the hour", str(hour), 0, 23) or range_of("the minute", str(minute), 0, 59)
+            or range_of("the second", str(second), 0, 59))
+
+
+def unaligned(line: str, before: Before) -> str:
+    words = line.split(" ")
+    width = WIDTHS[words[2]] if words[1] != "look" else 1
+    place = int(words[3], 16)
+    if words[1] in ("in", "out"):
+        cut = ", ".join(f"{place + k:04X}" for k in range(width))
+        return f"the port {words[3]} is no multiple of {width}, in both versions: cut the access, as into bytes at {cut}"
+    if place + width > 1 << 32:
+        return f"{width} bytes at {words[3]} pass FFFFFFFF, the last address"
+    return f"the address {words[3]} is no multiple of {width}: `board 2` lets it stand there"
+
+
+def nobody_there(line: str, before: Before) -> str:
+    """Which half of reason 9 holds, or both."""
+    words, found = line.split(" "), []
+    if int(words[0]) >= before.cpus:
+        last = before.cpus - 1
+        found.append(f"processor {words[0]} is not there: `cpus {before.cpus}` in line {before.setup['cpus']} has "
+                     + ("processor 0 alone" if last == 0 else f"0 to {last}"))
+    if words[1] == "wire" and words[2] not in before.cards:
+        fitted = ", ".join(before.cards) or "none"
+        found.append(f"`wire {words[2]}` names device {words[2]}, and no `card {words[2]}` is fitted: the cards are {fitted}")
+    return "; and ".join(found)
+
+
+def too_many(line: str, before: Before) -> str:
+    """Which limit of reason 10 is passed."""
+    words = line.split(" ")
+    if words[0] == "phase":
+        return f"it is phase {before.phases + 1:,}, and a script has at most {MOST_PHASES:,}"
+    if words[0] == "card":
+        total = before.bases + bases_of(words)
+        return f"with it {total >> 20} MiB and {total % (1 << 20)} bytes lie behind memory bases, and at most 64 MiB may"
+    if before.statements == MOST_STATEMENTS:
+        return f"it is statement {MOST_STATEMENTS + 1:,}, and a script has at most {MOST_STATEMENTS:,}"
+    pulses = before.pulses + int(words[2])
+    return f"with it there are {pulses:,} pulses, and a script has at most {MOST_PULSES:,}"
+
+
+OF_REASON = {
+    2: lambda line, before: too_long(line),
+    3: lambda line, before: cause(line, before.version),
+    4: order,
+    5: came_before,
+    6: lambda line, before: f"missing: {', '.join(before.missing)}",
+    7: out_of_range,
+    8: unaligned,
+    9: nobody_there,
+    10: too_many,
+}
+
+
+def cause_of(reason: int, line: str, lines_before: list[str], size: int) -> Optional[str]:
+    """The cause of a refusal. `size` is that of the file."""
+    if reason == 1:
+        return first_line(line, size)
+    return OF_REASON[reason](line, Before.of(lines_before))
