@@ -98,6 +98,7 @@ IDETIM = [
     flag("IDE Decode Enable", 15, "ports decoded", "not decoded"),
     flag("SITRE", 14, "slave timing apart", "one timing"),
     Field("ISP", 13, 12, lambda value: f"{5 - value} clocks"),
+    number("reserved", 11, 10),
     Field("RCT", 9, 8, lambda value: f"{4 - value} clocks"),
     *(flag(f"{name}{drive}", 4 * drive + bit, "1", "0") for drive in (1, 0) for bit, name in [*enumerate(DRIVE_BITS)][::-1]),
 ]

@@ -52,13 +52,14 @@ function rowFor(number) {
     cell("value", entry.look ? `version ${entry.value}` : entry.value === "-" ? "" : entry.value),
     ...(data.beside ? [otherCell(number)] : []),
     cell("target", entry.look ? `${target} ${entry.look.first} to ${entry.look.last}` : entry.replies.map((it) => it.target).join(" ")),
-    markOf(number),
+    ...(entry.look ? [] : [markOf(number)]),
   ]);
   row.id = `s${number}`;
   row.dataset.number = number;
   row.setAttribute("role", "option");
   row.classList.toggle("match", isMatch(number));
-  row.classList.toggle("denied", row.lastChild.childNodes.length > 0 && row.lastChild.firstChild.nodeType === 1);
+  row.classList.toggle("look", Boolean(entry.look));
+  row.classList.toggle("denied", row.querySelector(".mark .lead") !== null);
   return row;
 }
 
