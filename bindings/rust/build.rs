@@ -76,7 +76,8 @@ fn by_release(out: &Path) -> Outcome<Option<Found>> {
     for entry in folder {
         let archive = entry?.path();
         let list = members(&archive);
-        let named = |name: &str| list.iter().find(|member| Path::new(member).file_name() == Some(name.as_ref())).cloned();
+        let named =
+            |name: &str| list.iter().find(|member| Path::new(member).file_name() == Some(name.as_ref())).cloned();
         if let (Some(library), Some(header)) = (named(LIBRARY), named(HEADER)) {
             let wanted = [&library, &header];
             if !Command::new("tar").arg("-xzf").arg(&archive).arg("-C").arg(out).args(wanted).status()?.success() {
@@ -105,7 +106,8 @@ fn find() -> Outcome<Found> {
         return Ok(found);
     }
     by_release(&out)?.ok_or_else(|| {
-        format!("no {} was found: `./board --library DIR` makes it, and BOARD_DIR=DIR says where it lies", LIBRARY).into()
+        format!("no {} was found: `./board --library DIR` makes it, and BOARD_DIR=DIR says where it lies", LIBRARY)
+            .into()
     })
 }
 

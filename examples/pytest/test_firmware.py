@@ -29,7 +29,7 @@ def test_shadowing_a_bios(board):
 
 
 def test_smram_locked(board):
-    """DOPEN lets the firmware put its handler in place. Once DLCK is set SMRAM answers in system management mode alone."""
+    """DOPEN lets the firmware put its handler in place. Once DLCK is set SMRAM answers in its own mode alone."""
     configure(board, SMRAM, 0x4A)  # DOPEN, SMRAME
     board.write(0xA8000, 1, 0x5A)
     configure(board, SMRAM, 0x1A)  # DLCK, SMRAME
@@ -51,7 +51,7 @@ def test_timer_interrupt(board):
 
 
 def test_alarm_of_the_clock(board):
-    """An alarm at 12:35:00 raises line 8, which is level 0 of the slave. Register C says why, and reading it ends it."""
+    """An alarm at 12:35:00 raises line 8, level 0 of the slave. Register C says why, and reading it ends it."""
     set_up_interrupts(board)
     for address, value in ((0x01, 0x00), (0x03, 0x35), (0x05, 0x12), (0x0B, 0x22)):
         set_clock(board, address, value)  # the alarm in BCD; then its interrupt, and hours to 23

@@ -18,6 +18,6 @@ from .replies import Answer, Denial, Look, Part, Register, Reset, Target, Value
 from .script import Line, Script, ScriptError, replay
 
 __all__ = [
-    "INTERFACE", "Answer", "Board", "BoardError", "Card", "Denial", "Event", "LibraryError", "Line", "Look", "Map", "Part",
-    "Range", "Register", "Reset", "Script", "ScriptError", "Target", "Value", "Window", "errors", "replay",
+    "INTERFACE", "Answer", "Board", "BoardError", "Card", "Denial", "Event", "LibraryError", "Line", "Look", "Map",
+    "Part", "Range", "Register", "Reset", "Script", "ScriptError", "Target", "Value", "Window", "errors", "replay",
 ]

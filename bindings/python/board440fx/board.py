@@ -35,12 +35,14 @@ def _cycles(port: int, count: int) -> Iterator[tuple[int, int, int]]:
 class Board:
     """A PC board as after power-on.
 
-    It is closed at the end of its `with`, by close(), or where nobody has it any more. Threads may share it: a call waits
-    for the one before it.
+    It is closed at the end of its `with`, by close(), or where nobody has it any more. Threads may share it: a call
+    waits for the one before it.
     """
 
-    def __init__(self, memory: int = 8, cards: Iterable[Card | str] = (), rom: bytes = DEFAULT_ROM, disk: bytes = b"") -> None:
-        """A board of these MiB of memory, 1 to 512, with copies of the bytes of a ROM and a disk; no bytes are no disk."""
+    def __init__(
+        self, memory: int = 8, cards: Iterable[Card | str] = (), rom: bytes = DEFAULT_ROM, disk: bytes = b""
+    ) -> None:
+        """A board of so many MiB of memory, 1 to 512, with copies of a ROM and a disk; no bytes are no disk."""
         self.last: Answer | None = None
         self.watch: Callable[[Answer], object] | None = None  # is told each answer
         self._handle = records.HandleRecord()
@@ -64,7 +66,9 @@ class Board:
     def __enter__(self) -> "Board":
         return self
 
-    def __exit__(self, kind: type[BaseException] | None, fault: BaseException | None, trace: TracebackType | None) -> None:
+    def __exit__(
+        self, kind: type[BaseException] | None, fault: BaseException | None, trace: TracebackType | None
+    ) -> None:
         self.close()
 
     def __del__(self) -> None:
@@ -109,8 +113,8 @@ class Board:
         return self.step(Event.write(addr, bytes, value, smm=smm))
 
     def in_(self, port: int, bytes: int = 1) -> Value:
-        """Reads a port of 1, 2 or 4 bytes. One that is not aligned is cut into cycles, as the bus cuts it; the answer is then
-        the last cycle's but for the value, which is the whole."""
+        """Reads a port of 1, 2 or 4 bytes. One that is not aligned is cut into cycles, as the bus cuts it; the answer is
+        then the last cycle's but for the value, which is the whole."""
         whole = 0
         with self._lock:
             for at, size, done in _cycles(port, bytes):
@@ -120,8 +124,8 @@ class Board:
             return Value(self.last)
 
     def out(self, port: int, bytes: int, value: int) -> Answer:
-        """Writes a port of 1, 2 or 4 bytes, cut as in_ cuts; the answer is then the last cycle's but for the reset, which is
-        the strongest."""
+        """Writes a port of 1, 2 or 4 bytes, cut as in_ cuts; the answer is then the last cycle's but for the reset,
+        which is the strongest."""
         cycles = list(_cycles(port, bytes))
         if value >> 8 * bytes:
             raise BadValue(f"{value:#x}")
@@ -192,7 +196,7 @@ class Board:
 
     @property
     def pulses_to_rise(self) -> int | None:
-        """After how many pulses of the 8254's clock line 0 next rises; None where it does not, unless something is written."""
+        """After how many pulses of the 8254's clock line 0 next rises; None: not unless something is written."""
         pulses = records.U32()
         self._ask("board_pulses_to_rise", pulses)
         return pulses.value or None

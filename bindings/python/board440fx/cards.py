@@ -11,8 +11,8 @@ _FORM = re.compile(r"([0-9]{1,3}) (vga|plain)((?: [mi][0-9]{1,2})*)(?: x([0-9]{1
 
 @dataclass(frozen=True)
 class Card:
-    """A card as a script has it: `m24` is a base of 2 to the power of 24 bytes of memory, `i6` one of 64 ports, and rom is
-    log2 of the bytes of its expansion ROM, or 0. Whether a board can be fitted with it Board says."""
+    """A card as a script has it: `m24` is a base of 2 to the power of 24 bytes of memory, `i6` one of 64 ports, and
+    rom is log2 of the bytes of its expansion ROM, or 0. Whether a board can be fitted with it Board says."""
 
     device: int
     vga: bool = False

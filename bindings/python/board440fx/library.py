@@ -1,6 +1,7 @@
 """Finds libboard.so, and refuses a library whose interface is another than this module's.
 
-It is looked for in the folder BOARD_DIR, then where pkg-config has it, then in the archives of the repository's release folder.
+It is looked for in the folder BOARD_DIR, then where pkg-config has it, then in the archives of the repository's
+release folder.
 """
 import ctypes
 import functools
@@ -106,4 +107,4 @@ def library() -> ctypes.CDLL:
         found = search()
         if found is not None:
             return found
-    raise LibraryError(f"no {LIBRARY} was found: `./board --library DIR` makes it, and BOARD_DIR=DIR says where it lies")
+    raise LibraryError(f"no {LIBRARY} was found: `./board --library DIR` makes it, and BOARD_DIR=DIR says where it is")

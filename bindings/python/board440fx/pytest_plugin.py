@@ -3,8 +3,8 @@
     def test_shadow(board):
         assert board.read(0xE0000) == 0x55
 
-fails with `r b 000E0000 = FF abort 00.0.5E` and `denied by 00.0.5E (PAM5)`. `@pytest.mark.board(memory=16, rom=..)` says what
-the board is opened with. Under a failed test stand the last accesses of it that were denied.
+fails with `r b 000E0000 = FF abort 00.0.5E` and `denied by 00.0.5E (PAM5)`. `@pytest.mark.board(memory=16, rom=..)`
+says what the board is opened with. Under a failed test stand the last accesses of it that were denied.
 """
 from collections import deque
 from typing import Any, Generator, Iterator

@@ -88,7 +88,8 @@ class HandleRecord(c.Structure):
 
 
 class EventRecord(c.Structure):
-    _fields_ = [("value", U64), ("addr", U32), ("what", U8), ("kind", U8), ("bytes", U8), ("smm", U8), ("reserved", U64)]
+    _fields_ = [("value", U64), ("addr", U32), ("what", U8), ("kind", U8), ("bytes", U8), ("smm", U8),
+                ("reserved", U64)]
 
 
 class PartRecord(c.Structure):
@@ -133,7 +134,9 @@ RECORDS: dict[str, type[c.Structure]] = {
     "board_base": BaseRecord, "board_card": CardRecord,
 }
 
-NUMBERS: list[type[IntEnum]] = [What, KindNumber, TargetNumber, DeviceNumber, DenialNumber, Form, ResetNumber, BaseNumber]
+NUMBERS: list[type[IntEnum]] = [
+    What, KindNumber, TargetNumber, DeviceNumber, DenialNumber, Form, ResetNumber, BaseNumber,
+]
 
 _HANDLE, _BYTES, _SIZE = c.POINTER(HandleRecord), c.POINTER(U8), c.c_size_t
 

@@ -7,8 +7,8 @@ from .errors import NoReply
 from .events import Event
 from .records import DenialNumber, DeviceNumber, Form, PartRecord, ReplyRecord, TargetNumber
 
-# The registers of the 82441FX and the 82371SB by name, and those that each function has by PCI Local Bus 2.1, section 6.2:
-# function, or none, first offset, last offset.
+# The registers of the 82441FX and the 82371SB by name, and those that each function has by PCI Local Bus 2.1, section
+# 6.2: function, or none, first offset, last offset.
 REGISTERS: list[tuple[str, tuple[int, int] | None, int, int]] = [
     *((f"PAM{k}", (0, 0), 0x59 + k, 0x59 + k) for k in range(7)),
     *((f"DRB{k}", (0, 0), 0x60 + k, 0x60 + k) for k in range(8)),
@@ -104,7 +104,7 @@ class Part(NamedTuple):
 
 @dataclass(frozen=True)
 class Look:
-    """What a look tells: the version of the map, and the longest interval in which this kind of access has this area."""
+    """What a look tells: the version of the map, and the longest interval in which such an access has this area."""
 
     version: int
     lo: int

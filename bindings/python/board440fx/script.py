@@ -16,7 +16,7 @@ class ScriptError(ValueError):
 
 @dataclass(frozen=True)
 class Line:
-    """A line of a log: its number, the processor, which of the processor's statements it is, what was asked and replied."""
+    """A line of a log: its number, the processor, which of the processor's statements it is, event and answer."""
 
     number: int
     processor: int

@@ -33,9 +33,10 @@ def configure(board, register, value):
 
 def set_up_interrupts(board):
     """Both 8259A with their vectors at 08h and 70h, all levels open."""
-    for port, values in ((0x20, (0x11,)), (0x21, (0x08, 0x04, 0x01, 0x00)), (0xA0, (0x11,)), (0xA1, (0x70, 0x02, 0x01, 0x00))):
-        for value in values:
-            board.out(port, 1, value)
+    for first, base, cascade in ((0x20, 0x08, 0x04), (0xA0, 0x70, 0x02)):
+        board.out(first, 1, 0x11)
+        for word in (base, cascade, 0x01, 0x00):
+            board.out(first + 1, 1, word)
 
 
 def test_a_fetch_reaches_the_rom():
@@ -60,7 +61,8 @@ def test_a_shut_window_is_denied_by_its_register(board):
     assert board.read(0xF0000) == 0x5A
     assert board.denied_by is None
     denial = board.write(0xF0000, 1, 0).denied_by
-    assert (denial, denial.name, denial.in_words, denial.register) == ("00.0.59", "PAM0", "00.0.59 (PAM0)", (0, 0, 0x59))
+    assert (denial, denial.name, denial.in_words) == ("00.0.59", "PAM0", "00.0.59 (PAM0)")
+    assert denial.register == (0, 0, 0x59)
     assert board.denied_by == denial
 
 

@@ -29,7 +29,10 @@ def test_a_failure_of_another_kind_shows_what_was_denied(pytester):
     """)
     result = pytester.runpytest(*PLUGIN)
     result.assert_outcomes(failed=1)
-    result.stdout.fnmatch_lines(["*the last 5 accesses that were denied*", "w b 000F0004 00 = *: denied by 01.0.4E (XBCS)"])
+    result.stdout.fnmatch_lines([
+        "*the last 5 accesses that were denied*",
+        "w b 000F0004 00 = *: denied by 01.0.4E (XBCS)",
+    ])
     result.stdout.no_fnmatch_line("w b 000F0003 00*")
 
 

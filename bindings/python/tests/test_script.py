@@ -8,17 +8,19 @@ from board440fx import Card, Event, Script, ScriptError, errors, replay
 EXAMPLES = pathlib.Path(__file__).resolve().parents[3] / "examples"
 # The replay of this script has no serial port, and a board here has one.
 OTHERS = {"serial"}
-SCRIPTS = sorted(path for path in EXAMPLES.glob("*.script") if path.with_suffix(".log").exists() and path.stem not in OTHERS)
+SCRIPTS = sorted(
+    path for path in EXAMPLES.glob("*.script") if path.with_suffix(".log").exists() and path.stem not in OTHERS
+)
 
 STATEMENTS = [
-    "r b 000A0000", "f d FFFFFFF0", "w q 00001003 8877665544332211", "w b 000A0000 77 smm", "r w 000A0000 smm", "in b 0070",
-    "out d 0CF8 80000058", "look f 000A0000", "look w 000A0000 smm", "ack", "pulse 1000000", "moment 2024-02-29T12:35:00",
-    "wire 2 1", "irq 15 0", "bad 65535", "receive 41",
+    "r b 000A0000", "f d FFFFFFF0", "w q 00001003 8877665544332211", "w b 000A0000 77 smm", "r w 000A0000 smm",
+    "in b 0070", "out d 0CF8 80000058", "look f 000A0000", "look w 000A0000 smm", "ack", "pulse 1000000",
+    "moment 2024-02-29T12:35:00", "wire 2 1", "irq 15 0", "bad 65535", "receive 41",
 ]
 NO_STATEMENTS = [
-    "", "r", "r b A0000", "r x 000A0000", "r b 000A0000 00", "r  b 000A0000", "w b 000A0000 177", "w b 000A0000 +7", "in b 70",
-    "in b 0070 smm", "out q 0070 0000000100000000", "look x 000A0000", "ack 0", "pulse -1", "moment 2024-02-29 12:35:00",
-    "moment 2024-02-29T12:35:0", "irq 1 2", "é", "ack\n",
+    "", "r", "r b A0000", "r x 000A0000", "r b 000A0000 00", "r  b 000A0000", "w b 000A0000 177", "w b 000A0000 +7",
+    "in b 70", "in b 0070 smm", "out q 0070 0000000100000000", "look x 000A0000", "ack 0", "pulse -1",
+    "moment 2024-02-29 12:35:00", "moment 2024-02-29T12:35:0", "irq 1 2", "é", "ack\n",
 ]
 HEAD = "board 1\ncpus 1\nmemory 8\nrom r64\n"
 

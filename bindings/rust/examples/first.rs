@@ -1,4 +1,5 @@
-//! A shadow window that is open for writes alone: the write reaches the DRAM behind it, the read nobody, and PAM2 is why.
+//! A shadow window that is open for writes alone: the write reaches the DRAM behind it, the read nobody, and PAM2 says
+//! why.
 
 use board_440fx::{Board, Error, Event, Width};
 

@@ -11,8 +11,8 @@ const PORTS: u32 = 0x10000;
 
 /// A PC board. Dropping it frees it.
 ///
-/// It may move to another thread ([`Send`]); threads share it under a lock of theirs, since one call at a time is inside
-/// it. A call that is refused leaves it as it was.
+/// It may move to another thread ([`Send`]); threads share it under a lock of theirs, since one call at a time is
+/// inside it. A call that is refused leaves it as it was.
 ///
 /// ```
 /// use board_440fx::{Board, Denial};
@@ -61,7 +61,8 @@ impl Board {
         let closed = raw::Handle { at: ptr::null_mut(), open: false };
         let board = Board { handle: UnsafeCell::new(closed), last: None };
         let mut records: Vec<raw::Card> = cards.iter().map(Card::record).collect();
-        records.push(raw::Card::default()); // so that the pointer is to one also where there is none
+        // one more, so that the pointer is to a card also where there is none
+        records.push(raw::Card::default());
         // SAFETY: the handle is zeros, and each pointer is good for as many as the count beside it says.
         check(unsafe {
             raw::board_open(
@@ -89,8 +90,8 @@ impl Board {
         Ok(answer)
     }
 
-    /// The answer to the last event that was done; of a port that is not aligned, as [`Board::input`] and [`Board::out`]
-    /// have it.
+    /// The answer to the last event that was done; of a port that is not aligned, as [`Board::input`] and
+    /// [`Board::out`] have it.
     pub fn last(&self) -> Option<&Answer> {
         self.last.as_ref()
     }
@@ -141,7 +142,8 @@ struct Cycle {
     shift: u32,
 }
 
-/// The cycles of an access, in rising order: each the widest of 4, 2 or 1 bytes that is aligned and does not pass the end.
+/// The cycles of an access, in rising order: each the widest of 4, 2 or 1 bytes that is aligned and does not pass its
+/// end.
 fn cycles(port: u16, width: Width) -> Result<impl Iterator<Item = Cycle>, Error> {
     let bytes = u32::from(width.bytes());
     if width == Width::Qword {
@@ -167,8 +169,8 @@ fn cycles(port: u16, width: Width) -> Result<impl Iterator<Item = Cycle>, Error>
 
 /// Ports. One that is not aligned is cut into cycles, as the bus cuts it.
 impl Board {
-    /// Reads a port of one, two or four bytes. Where it was cut the answer, [`Board::last`], is the last cycle's but for the
-    /// value, which is the whole.
+    /// Reads a port of one, two or four bytes. Where it was cut the answer, [`Board::last`], is the last cycle's but
+    /// for the value, which is the whole.
     pub fn input(&mut self, port: u16, width: Width) -> Result<u32, Error> {
         let mut bits = 0;
         for Cycle { port, width, shift } in cycles(port, width)? {
@@ -180,8 +182,8 @@ impl Board {
         Ok(bits as u32)
     }
 
-    /// Writes a port of one, two or four bytes. Where it was cut the answer is the last cycle's but for the reset, which is
-    /// the strongest.
+    /// Writes a port of one, two or four bytes. Where it was cut the answer is the last cycle's but for the reset,
+    /// which is the strongest.
     pub fn out(&mut self, port: u16, width: Width, value: u32) -> Result<Answer, Error> {
         if u64::from(value) > width.mask() {
             return Err(Error::Value);
@@ -309,7 +311,8 @@ impl Board {
         self.map().map(Ranges::of)
     }
 
-    /// After how many pulses of the 8254's clock line 0 next rises; none where it does not, unless something is written.
+    /// After how many pulses of the 8254's clock line 0 next rises; none where it does not, unless something is
+    /// written.
     pub fn pulses_to_rise(&self) -> Result<Option<u32>, Error> {
         let mut pulses = 0;
         // SAFETY: as of `decode`.

@@ -120,7 +120,9 @@ impl Event {
     #[must_use]
     pub fn in_smm(mut self) -> Event {
         match &mut self {
-            Event::Fetch { smm, .. } | Event::Read { smm, .. } | Event::Write { smm, .. } | Event::Look { smm, .. } => *smm = true,
+            Event::Fetch { smm, .. } | Event::Read { smm, .. } | Event::Write { smm, .. } | Event::Look { smm, .. } => {
+                *smm = true
+            }
             _ => (),
         }
         self
@@ -191,7 +193,9 @@ impl fmt::Display for Event {
                 write!(f, "w {width} {addr:08X} {}{}", Value { bits: value, width }, mode(smm))
             }
             Event::In { port, width } => write!(f, "in {width} {port:04X}"),
-            Event::Out { port, width, value } => write!(f, "out {width} {port:04X} {}", Value { bits: u64::from(value), width }),
+            Event::Out { port, width, value } => {
+                write!(f, "out {width} {port:04X} {}", Value { bits: u64::from(value), width })
+            }
             Event::Look { kind, addr, smm } => write!(f, "look {kind} {addr:08X}{}", mode(smm)),
             Event::Acknowledge => f.write_str("ack"),
             Event::Pulse(count) => write!(f, "pulse {count}"),

@@ -22,7 +22,8 @@ macro_rules! record {
         $(
             // SAFETY: no field is read; the pointer is to a place for a record.
             let field = unsafe { std::ptr::addr_of!((*at).$field) };
-            lines.push(format!("{}.{} {} {}", $c, stringify!($field), field as usize - at as usize, size_behind(field)));
+            let offset = field as usize - at as usize;
+            lines.push(format!("{}.{} {} {}", $c, stringify!($field), offset, size_behind(field)));
         )*
         lines
     }};
@@ -40,8 +41,8 @@ fn records() -> Vec<String> {
         record!("board_base" Base: kind bits),
         record!("board_card" Card: device vga rom bases base reserved),
         record!("board_part" Part: offset target unit base denial denial_dev denial_fun denial_off reserved),
-        record!("board_reply" Reply: value version seen lo hi form has_value parts interrupt reset part sent has_sent irq4
-            serial_room reserved),
+        record!("board_reply" Reply: value version seen lo hi form has_value parts interrupt reset part sent has_sent
+            irq4 serial_room reserved),
         record!("board_area" Area: target unit base reserved),
         record!("board_range" Range: lo hi area),
         record!("board_window" Window: lo hi),
@@ -89,7 +90,8 @@ fn in_c() -> BTreeSet<String> {
     fs::create_dir_all(&folder).unwrap();
     let program = folder.join("layout");
     let compiler = env::var_os("CC").unwrap_or_else(|| "cc".into());
-    let compiled = Command::new(compiler).arg("-I").arg(env!("BOARD_INCLUDE")).arg(source).arg("-o").arg(&program).status();
+    let compiled =
+        Command::new(compiler).arg("-I").arg(env!("BOARD_INCLUDE")).arg(source).arg("-o").arg(&program).status();
     assert!(compiled.unwrap().success());
     let printed = Command::new(&program).output().unwrap().stdout;
     fs::remove_dir_all(&folder).unwrap();

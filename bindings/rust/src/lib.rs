@@ -14,8 +14,8 @@
 //! # Ok::<(), board_440fx::Error>(())
 //! ```
 //!
-//! The crate stands over `libboard.a`, the packed C library; `build.rs` says where that is looked for. Nothing here panics.
-//! What the library proves of its calls is in the repository's docs/LIBRARY.md. This crate around it is tested.
+//! The crate stands over `libboard.a`, the packed C library; `build.rs` says where that is looked for. Nothing here
+//! panics. What is proved of the library's calls is in the repository's docs/LIBRARY.md. This crate is tested.
 
 #![deny(missing_docs)]
 #![deny(unsafe_op_in_unsafe_fn)]
@@ -33,6 +33,7 @@ mod log;
 mod map;
 mod raw;
 mod reply;
+mod target;
 
 pub use access::{Kind, Moment, Value, Width};
 pub use board::Board;
@@ -42,7 +43,8 @@ pub use error::Error;
 pub use event::Event;
 pub use log::Line;
 pub use map::{Area, Map, Range, Ranges, Window};
-pub use reply::{Answer, Denial, Device, Look, Part, Parts, Register, Reply, Reset, Target};
+pub use reply::{Answer, Look, Parts, Reply, Reset};
+pub use target::{Denial, Device, Part, Register, Target};
 
 /// The version of `board.h` that this crate is for: `build.rs` refuses a library of another.
 pub const INTERFACE: u32 = 2;

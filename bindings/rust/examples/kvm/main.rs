@@ -155,7 +155,8 @@ fn main() -> Outcome<()> {
     let rom = pages(ROM_RANGE, -1)?;
     rom.chunks_exact_mut(bios.len()).for_each(|copy| copy.copy_from_slice(&bios));
     let (processor, memory) = (Processor::open(TICK_MICROSECONDS)?, pages(MIB << 20, -1)?);
-    let mut monitor = Monitor { board, processor, memory, rom, slots: 0, version: u32::MAX, begun: Instant::now(), pulses: 0 };
+    let mut monitor =
+        Monitor { board, processor, memory, rom, slots: 0, version: u32::MAX, begun: Instant::now(), pulses: 0 };
     monitor.prepare()?;
     monitor.run()
 }

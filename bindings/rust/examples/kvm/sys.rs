@@ -17,6 +17,7 @@ extern "C" {
 /// What a signal calls: it is enough that it ends a run.
 extern "C" fn wake(_: c_int) {}
 
+const SIGALRM: c_int = 14;
 const CPUID_WORDS: usize = 10; // of each leaf: function, index, flags, eax, ebx, ecx, edx, and three more
 const MOST_LEAVES: u32 = 256;
 
@@ -76,10 +77,10 @@ impl Processor {
         call(cpu, 0x4008_AE90, id.as_mut_ptr())?; // KVM_SET_CPUID2
         let mut at_start = [0; 312];
         call(cpu, 0x8138_AE83, &mut at_start)?; // KVM_GET_SREGS
-        let every = [0, tick as c_long, 0, tick as c_long]; // seconds and microseconds, twice
-        // SAFETY: a handler that does nothing, and a record of the kind that setitimer reads; 14 is SIGALRM.
+        let every = [0, tick as c_long, 0, tick as c_long];
+        // SAFETY: a handler that does nothing, and seconds and microseconds, twice, as setitimer reads them.
         unsafe {
-            signal(14, wake);
+            signal(SIGALRM, wake);
             setitimer(0, &every, ptr::null_mut());
         }
         Ok(Processor { vm, cpu, at_start, data })
