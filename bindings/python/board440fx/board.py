@@ -54,6 +54,7 @@ class Board:
         fitted = [Card.parse(card) if isinstance(card, str) else card for card in cards]
         cards_said = [card.record() for card in sorted(fitted, key=lambda card: card.device)]
         array = (records.CardRecord * (len(cards_said) + 1))(*cards_said)  # good for one also where there is none
+        rom, disk = bytes(rom), bytes(disk)
         check(self._library.board_open(self._handle, memory, array, len(cards_said), rom, len(rom), disk, len(disk)))
 
     # ---- its end
@@ -113,8 +114,8 @@ class Board:
         return self.step(Event.write(addr, bytes, value, smm=smm))
 
     def in_(self, port: int, bytes: int = 1) -> Value:
-        """Reads a port of 1, 2 or 4 bytes. One that is not aligned is cut into cycles, as the bus cuts it; the answer is
-        then the last cycle's but for the value, which is the whole."""
+        """Reads a port of 1, 2 or 4 bytes. One that is not aligned is cut into cycles, as the bus cuts it; the answer
+        is then the last cycle's but for the value, which is the whole."""
         whole = 0
         with self._lock:
             for at, size, done in _cycles(port, bytes):
@@ -232,7 +233,7 @@ class Board:
         """Puts bytes into the memory that the board keeps, whatever the map says."""
         if not 0 <= addr < U32:
             raise PastEnd(f"{addr:#x}")
-        self._ask("board_dram_write", addr, data, len(data))
+        self._ask("board_dram_write", addr, bytes(data), len(data))
 
     def cmos_write(self, address: int, byte: int) -> None:
         """Writes a byte of the clock, 0 to 127, as writes of ports 70h and 71h would."""
