@@ -7,7 +7,7 @@ from typing import Any, Callable, Iterable, Iterator, NoReturn
 
 from . import records
 from .cards import Card
-from .errors import BadBytes, BadSize, BadValue, NoByte, NoMemory, NoReply, NoSector, PastEnd, PastLastAddress, check
+from .errors import BadSize, BadValue, NoByte, NoEvent, NoMemory, NoReply, NoSector, PastEnd, check
 from .events import Event, Kind
 from .library import library
 from .maps import Map, Window, range_of
@@ -21,10 +21,8 @@ DEFAULT_ROM = bytes(PORTS)
 def _cycles(port: int, count: int) -> Iterator[tuple[int, int, int]]:
     """The cycles that the bus makes of an access to a port, in rising order: each the widest of 4, 2 or 1 bytes that is
     aligned and does not pass the end. Of each the port, the bytes, and how many bytes come before it."""
-    if count not in (1, 2, 4):
-        raise BadBytes(count)
-    if not 0 <= port <= PORTS - count:
-        raise PastLastAddress(f"{port:#x}")
+    if count not in (1, 2, 4) or not 0 <= port <= PORTS - count:
+        raise NoEvent(f"{count} bytes at port {port:#x}")
     done = 0
     while done < count:
         cycle = next(size for size in (4, 2, 1) if size <= count - done and (port + done) % size == 0)

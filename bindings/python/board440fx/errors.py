@@ -46,31 +46,19 @@ class NoEvent(BoardError, status=7):
 
 
 class Alignment(BoardError, status=8):
-    """an address or a port is no multiple of the width"""
+    """a port is no multiple of the width"""
 
 
 class BadValue(BoardError, status=9):
     """a value does not fit the width"""
 
 
-class BadBytes(BoardError, status=10):
-    """no such access has that width"""
-
-
-class Aligned(BoardError, status=11):
-    """one bus cycle moves a wide access"""
-
-
 class PastLastAddress(BoardError, status=12):
-    """an access ends past the last address"""
+    """an access to memory ends past the last address"""
 
 
 class BadPulses(BoardError, status=13):
     """a count of pulses is not 1 to 1,000,000"""
-
-
-class BadDate(BoardError, status=14):
-    """the clock cannot have a date or time"""
 
 
 class NoDevice(BoardError, status=15):

@@ -50,8 +50,7 @@ def test_each_status_has_its_exception():
     text = (header_folder() / "board.h").read_text()
     body = re.search(r"enum board_status \{(.*?)\};", text, re.S)[1]
     statuses = {int(number) for name, number in re.findall(r"^\s*BOARD_(\w+) = (\d+)", body, re.M) if name != "OK"}
-    assert len(statuses) > 20
-    assert statuses <= set(errors.BoardError.by_status)
+    assert statuses == set(errors.BoardError.by_status) - {errors.OtherStatus.status}
 
 
 def test_a_status_without_a_name():

@@ -52,9 +52,9 @@ def test_boards_that_cannot_be(words, fault):
     (Event.write(0x1000, 8, 1 << 64), errors.NoEvent),
     (Event.write(0x1000, 8, -1), errors.NoEvent),
     (Event.read(0x1000, 257), errors.NoEvent),
-    (Event.parse("moment 2023-02-29T12:00:00"), (errors.NoEvent, errors.BadDate)),
-    (Event.time(datetime.datetime(1979, 1, 1)), (errors.NoEvent, errors.BadDate)),
-    (Event.time(datetime.datetime(99, 1, 1)), (errors.NoEvent, errors.BadDate)),
+    (Event.parse("moment 2023-02-29T12:00:00"), errors.NoEvent),
+    (Event.time(datetime.datetime(1979, 1, 1)), errors.NoEvent),
+    (Event.time(datetime.datetime(99, 1, 1)), errors.NoEvent),
 ])
 def test_events_that_cannot_be(board, event, fault):
     board.write(0x1000, 1, 0x5A)
@@ -66,11 +66,11 @@ def test_events_that_cannot_be(board, event, fault):
 
 
 @pytest.mark.parametrize("call, fault", [
-    (lambda board: board.in_(0xFFFE, 4), errors.PastLastAddress),
-    (lambda board: board.out(0x10000, 1, 0), errors.PastLastAddress),
-    (lambda board: board.out(-1, 1, 0), errors.PastLastAddress),
-    (lambda board: board.in_(0x20, 3), errors.BadBytes),
-    (lambda board: board.in_(0x20, 8), errors.BadBytes),
+    (lambda board: board.in_(0xFFFE, 4), errors.NoEvent),
+    (lambda board: board.out(0x10000, 1, 0), errors.NoEvent),
+    (lambda board: board.out(-1, 1, 0), errors.NoEvent),
+    (lambda board: board.in_(0x20, 3), errors.NoEvent),
+    (lambda board: board.in_(0x20, 8), errors.NoEvent),
     (lambda board: board.out(0x20, 1, 0x100), errors.BadValue),
     (lambda board: board.out(0x20, 1, -1), errors.BadValue),
     (lambda board: board.look("x", 0), errors.NoEvent),

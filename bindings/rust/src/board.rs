@@ -146,11 +146,8 @@ struct Cycle {
 /// end.
 fn cycles(port: u16, width: Width) -> Result<impl Iterator<Item = Cycle>, Error> {
     let bytes = u32::from(width.bytes());
-    if width == Width::Qword {
-        return Err(Error::Bytes);
-    }
-    if u32::from(port) + bytes > PORTS {
-        return Err(Error::End);
+    if width == Width::Qword || u32::from(port) + bytes > PORTS {
+        return Err(Error::NoEvent);
     }
     let mut done = 0;
     Ok(std::iter::from_fn(move || {
@@ -185,11 +182,12 @@ impl Board {
     /// Writes a port of one, two or four bytes. Where it was cut the answer is the last cycle's but for the reset,
     /// which is the strongest.
     pub fn out(&mut self, port: u16, width: Width, value: u32) -> Result<Answer, Error> {
+        let cycles = cycles(port, width)?;
         if u64::from(value) > width.mask() {
             return Err(Error::Value);
         }
         let mut reset = None;
-        for Cycle { port, width, shift } in cycles(port, width)? {
+        for Cycle { port, width, shift } in cycles {
             let value = (u64::from(value) >> shift & width.mask()) as u32;
             reset = reset.max(self.step(&Event::Out { port, width, value })?.reset);
         }

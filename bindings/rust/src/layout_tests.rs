@@ -128,10 +128,6 @@ fn statuses_in_c() -> Vec<(String, u32)> {
 
 #[test]
 fn each_status_has_its_variant() {
-    let in_c = statuses_in_c();
-    assert!(in_c.len() > 20, "only {} were found", in_c.len());
-    for (name, number) in in_c {
-        let variant = STATUSES.iter().find(|(known, _)| *known == number).map(|(_, variant)| in_capitals(variant));
-        assert_eq!(variant, Some(name), "status {number}");
-    }
+    let here: Vec<_> = STATUSES.iter().map(|(number, variant)| (in_capitals(variant), *number)).collect();
+    assert_eq!(here, statuses_in_c());
 }
