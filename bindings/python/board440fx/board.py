@@ -1,0 +1,245 @@
+"""The board itself."""
+import datetime
+import threading
+from dataclasses import replace
+from types import TracebackType
+from typing import Any, Callable, Iterable, Iterator, NoReturn
+
+from . import records
+from .cards import Card
+from .errors import BadSize, BadValue, NoByte, NoEvent, NoMemory, NoReply, NoSector, PastEnd, check
+from .events import Event, Kind
+from .library import library
+from .maps import Map, Window, range_of
+from .replies import Answer, Denial, Look, Part, Reset, Value, answer_of, part_of
+
+PORTS = 0x10000
+U32 = 1 << 32
+DEFAULT_ROM = bytes(PORTS)
+
+
+def _cycles(port: int, count: int) -> Iterator[tuple[int, int, int]]:
+    """The cycles that the bus makes of an access to a port, in rising order: each the widest of 4, 2 or 1 bytes that is
+    aligned and does not pass the end. Of each the port, the bytes, and how many bytes come before it."""
+    if count not in (1, 2, 4) or not 0 <= port <= PORTS - count:
+        raise NoEvent(f"{count} bytes at port {port:#x}")
+    done = 0
+    while done < count:
+        cycle = next(size for size in (4, 2, 1) if size <= count - done and (port + done) % size == 0)
+        yield port + done, cycle, done
+        done += cycle
+
+
+class Board:
+    """A PC board as after power-on.
+
+    It is closed at the end of its `with`, by close(), or where nobody has it any more. Threads may share it: a call
+    waits for the one before it.
+    """
+
+    def __init__(
+        self, memory: int = 8, cards: Iterable[Card | str] = (), rom: bytes = DEFAULT_ROM, disk: bytes = b""
+    ) -> None:
+        """A board of so many MiB of memory, 1 to 512, with copies of a ROM and a disk; no bytes are no disk."""
+        self.last: Answer | None = None
+        self.watch: Callable[[Answer], object] | None = None  # is told each answer
+        self._handle = records.HandleRecord()
+        self._reply = records.ReplyRecord()
+        self._lock = threading.RLock()
+        self._library = library()
+        if not 0 <= memory < U32:
+            raise BadSize(memory)
+        fitted = [Card.parse(card) if isinstance(card, str) else card for card in cards]
+        cards_said = [card.record() for card in sorted(fitted, key=lambda card: card.device)]
+        array = (records.CardRecord * (len(cards_said) + 1))(*cards_said)  # good for one also where there is none
+        rom, disk = bytes(rom), bytes(disk)
+        check(self._library.board_open(self._handle, memory, array, len(cards_said), rom, len(rom), disk, len(disk)))
+
+    # ---- its end
+
+    def close(self) -> None:
+        """Frees the board. What is asked of it from then on raises Closed."""
+        with self._lock:
+            self._library.board_close(self._handle)
+
+    def __enter__(self) -> "Board":
+        return self
+
+    def __exit__(
+        self, kind: type[BaseException] | None, fault: BaseException | None, trace: TracebackType | None
+    ) -> None:
+        self.close()
+
+    def __del__(self) -> None:
+        if hasattr(self, "_library"):
+            self.close()
+
+    def __reduce__(self) -> NoReturn:
+        raise TypeError("a board cannot be copied")
+
+    def __repr__(self) -> str:
+        return f"<Board {self.last!r}>" if self._handle.open else "<Board closed>"
+
+    # ---- its steps
+
+    def step(self, event: Event) -> Answer:
+        """Does an event, and tells the reply."""
+        record = event.record()
+        with self._lock:
+            status = self._library.board_step(self._handle, record, self._reply)
+            check(status, event)
+            answer = answer_of(event, self._reply)
+            self.last = answer
+        if self.watch:
+            self.watch(answer)
+        return answer
+
+    @property
+    def denied_by(self) -> Denial | None:
+        """What denied the last access."""
+        return self.last.denied_by if self.last else None
+
+    def fetch(self, addr: int, bytes: int = 1, *, smm: bool = False) -> Value:
+        """Fetches code of 1, 2, 4 or 8 bytes, aligned or not."""
+        return Value(self.step(Event.fetch(addr, bytes, smm=smm)))
+
+    def read(self, addr: int, bytes: int = 1, *, smm: bool = False) -> Value:
+        """Reads memory of 1, 2, 4 or 8 bytes, aligned or not."""
+        return Value(self.step(Event.read(addr, bytes, smm=smm)))
+
+    def write(self, addr: int, bytes: int, value: int, *, smm: bool = False) -> Answer:
+        """Writes memory of 1, 2, 4 or 8 bytes, aligned or not."""
+        return self.step(Event.write(addr, bytes, value, smm=smm))
+
+    def in_(self, port: int, bytes: int = 1) -> Value:
+        """Reads a port of 1, 2 or 4 bytes. One that is not aligned is cut into cycles, as the bus cuts it; the answer
+        is then the last cycle's but for the value, which is the whole."""
+        whole = 0
+        with self._lock:
+            for at, size, done in _cycles(port, bytes):
+                answer = self.step(Event.in_(at, size))
+                whole |= (answer.value or 0) << 8 * done
+            self.last = replace(answer, event=Event.in_(port, bytes), value=whole)
+            return Value(self.last)
+
+    def out(self, port: int, bytes: int, value: int) -> Answer:
+        """Writes a port of 1, 2 or 4 bytes, cut as in_ cuts; the answer is then the last cycle's but for the reset,
+        which is the strongest."""
+        cycles = list(_cycles(port, bytes))
+        if value >> 8 * bytes:
+            raise BadValue(f"{value:#x}")
+        reset = Reset.NONE
+        with self._lock:
+            for at, size, done in cycles:
+                answer = self.step(Event.out(at, size, value >> 8 * done & (1 << 8 * size) - 1))
+                reset = max(reset, answer.reset)
+            self.last = replace(answer, event=Event.out(port, bytes, value), reset=reset)
+            return self.last
+
+    def look(self, kind: Kind, addr: int, *, smm: bool = False) -> Look:
+        """Looks where a fetch (`f`), a read (`r`) or a write (`w`) would land. Nothing happens."""
+        look = self.step(Event.look(kind, addr, smm=smm)).look
+        if look is None:
+            raise NoReply
+        return look
+
+    def acknowledge(self) -> Value:
+        """Acknowledges the interrupt: the vector."""
+        return Value(self.step(Event.acknowledge()))
+
+    def pulse(self, count: int) -> Answer:
+        """Gives the 8254 1 to 1,000,000 pulses of its clock, 1.193182 MHz."""
+        return self.step(Event.pulse(count))
+
+    def time(self, moment: datetime.datetime) -> Answer:
+        """Gives the clock a moment to show."""
+        return self.step(Event.time(moment))
+
+    def wire(self, device: int, level: bool) -> Answer:
+        """Sets INTA# of the card at a device."""
+        return self.step(Event.wire(device, level))
+
+    def irq(self, line: int, level: bool) -> Answer:
+        """Sets an interrupt request line: 1, 3 to 7, 9 to 12 or 15."""
+        return self.step(Event.irq(line, level))
+
+    def bad_sector(self, sector: int) -> Answer:
+        """Lets a sector of the disk go bad."""
+        return self.step(Event.bad_sector(sector))
+
+    def receive(self, byte: int) -> Answer:
+        """COM1 receives a byte: SerialFull where serial_room of the last answer is not set."""
+        return self.step(Event.receive(byte))
+
+    # ---- what is asked between two steps: the board stays as it is
+
+    def _ask(self, call: str, *words: Any) -> None:
+        with self._lock:
+            check(getattr(self._library, call)(self._handle, *words))
+
+    def decode(self, event: Event) -> Part:
+        """Where an access of one bus cycle would land, and what would deny it."""
+        part = records.PartRecord()
+        self._ask("board_decode", event.record(), part)
+        return part_of(part)
+
+    @property
+    def map(self) -> Map:
+        """The memory map: a list of ranges."""
+        found = records.MapRecord()
+        ranges = (records.RangeRecord * records.MOST_RANGES)()
+        windows = (records.WindowRecord * records.MOST_WINDOWS)()
+        self._ask("board_ranges", found, ranges, len(ranges), windows, len(windows))
+        changed = [Window(window.lo, window.hi) for window in windows[: found.windows]]
+        return Map(found.version, map(range_of, ranges[: found.ranges]), changed)
+
+    @property
+    def pulses_to_rise(self) -> int | None:
+        """After how many pulses of the 8254's clock line 0 next rises; None: not unless something is written."""
+        pulses = records.U32()
+        self._ask("board_pulses_to_rise", pulses)
+        return pulses.value or None
+
+    def dram_read(self, addr: int, count: int) -> bytes:
+        """Bytes of the memory that the board keeps: FFh past the installed memory."""
+        if not 0 <= addr < U32 or not 0 <= count <= U32 - addr:
+            raise PastEnd(f"{addr:#x}")
+        try:
+            into = (records.U8 * max(count, 1))()
+        except MemoryError:
+            raise NoMemory(count) from None
+        self._ask("board_dram_read", addr, into, count)
+        return bytes(into[:count])
+
+    def disk_read(self, sector: int) -> bytes:
+        """The 512 bytes of a sector, also of one that is bad."""
+        if not 0 <= sector < U32:
+            raise NoSector(sector)
+        into = (records.U8 * records.SECTOR)()
+        self._ask("board_disk_read", sector, into, len(into))
+        return bytes(into)
+
+    def cmos_read(self, address: int) -> int:
+        """A byte of the clock, 0 to 127."""
+        byte = records.U8()
+        self._ask("board_cmos_read", _byte(address, NoByte), byte)
+        return byte.value
+
+    # ---- bytes that the guest did not write; no reply, and nothing else changes
+
+    def dram_write(self, addr: int, data: bytes) -> None:
+        """Puts bytes into the memory that the board keeps, whatever the map says."""
+        if not 0 <= addr < U32:
+            raise PastEnd(f"{addr:#x}")
+        self._ask("board_dram_write", addr, bytes(data), len(data))
+
+    def cmos_write(self, address: int, byte: int) -> None:
+        """Writes a byte of the clock, 0 to 127, as writes of ports 70h and 71h would."""
+        self._ask("board_cmos_write", _byte(address, NoByte), _byte(byte, BadValue))
+
+
+def _byte(number: int, refusal: type[Exception]) -> int:
+    """A number that fits a byte: ctypes would cut it."""
+    if not 0 <= number <= 0xFF:
+        raise refusal(number)
+    return number

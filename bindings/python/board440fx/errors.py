@@ -1,0 +1,116 @@
+"""Why a call was refused: the statuses of board.h, each an exception."""
+from typing import ClassVar
+
+
+class BoardError(Exception):
+    """A call was refused; the board is as it was."""
+
+    status: ClassVar[int] = 0
+    by_status: ClassVar[dict[int, type["BoardError"]]] = {}
+
+    def __init_subclass__(cls, *, status: int) -> None:
+        cls.status = status
+        BoardError.by_status[status] = cls
+
+    def __init__(self, about: object = None) -> None:
+        text = type(self).__doc__ or type(self).__name__
+        super().__init__(text if about is None else f"{about}: {text}")
+
+
+class Closed(BoardError, status=1):
+    """the handle holds no board"""
+
+
+class NoMemory(BoardError, status=2):
+    """memory was refused"""
+
+
+class BadSize(BoardError, status=3):
+    """the guest's memory is not of 1 to 512 MiB"""
+
+
+class BadCards(BoardError, status=4):
+    """the cards are none that a board can be fitted with"""
+
+
+class BadRom(BoardError, status=5):
+    """the ROM is not of 64, 128, 256 or 512 KiB"""
+
+
+class BadDisk(BoardError, status=6):
+    """the disk is not of 1 to 65,536 whole sectors of 512 bytes"""
+
+
+class NoEvent(BoardError, status=7):
+    """that is no event"""
+
+
+class Alignment(BoardError, status=8):
+    """a port is no multiple of the width"""
+
+
+class BadValue(BoardError, status=9):
+    """a value does not fit the width"""
+
+
+class PastLastAddress(BoardError, status=12):
+    """an access to memory ends past the last address"""
+
+
+class BadPulses(BoardError, status=13):
+    """a count of pulses is not 1 to 1,000,000"""
+
+
+class NoDevice(BoardError, status=15):
+    """no card has the device number"""
+
+
+class NoLine(BoardError, status=16):
+    """the line cannot be set from outside"""
+
+
+class NoCycle(BoardError, status=17):
+    """the event is no access that one bus cycle makes"""
+
+
+class NoSector(BoardError, status=18):
+    """there is no disk, or it has no such sector"""
+
+
+class PastEnd(BoardError, status=19):
+    """the bytes do not all lie in the installed memory"""
+
+
+class NoByte(BoardError, status=20):
+    """the clock has 128 bytes"""
+
+
+class BadLength(BoardError, status=21):
+    """a sector has 512 bytes"""
+
+
+class NoReply(BoardError, status=22):
+    """that is no reply"""
+
+
+class NoRoom(BoardError, status=23):
+    """the text does not fit"""
+
+
+class SerialFull(BoardError, status=24):
+    """COM1 can receive no byte: its queue is full, or loopback is on"""
+
+
+class OtherStatus(BoardError, status=-1):
+    """a status that this module has no name for"""
+
+
+class LibraryError(OSError):
+    """The library was not found, or has another interface."""
+
+
+def check(status: int, about: object = None) -> None:
+    """Raises the exception of a status that is not BOARD_OK."""
+    if status:
+        known = BoardError.by_status.get(status)
+        raise known(about) if known else OtherStatus(status)

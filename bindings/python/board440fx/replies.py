@@ -1,0 +1,253 @@
+"""Replies: what answered, what denied it, and what stands after the step."""
+from dataclasses import dataclass
+from enum import IntEnum
+from typing import NamedTuple
+
+from .errors import NoReply
+from .events import Event
+from .records import DenialNumber, DeviceNumber, Form, PartRecord, ReplyRecord, TargetNumber
+
+# The registers of the 82441FX and the 82371SB by name, and those that each function has by PCI Local Bus 2.1, section
+# 6.2: function, or none, first offset, last offset.
+REGISTERS: list[tuple[str, tuple[int, int] | None, int, int]] = [
+    *((f"PAM{k}", (0, 0), 0x59 + k, 0x59 + k) for k in range(7)),
+    *((f"DRB{k}", (0, 0), 0x60 + k, 0x60 + k) for k in range(8)),
+    ("FDHC", (0, 0), 0x68, 0x68),
+    ("SMRAM", (0, 0), 0x72, 0x72),
+    ("XBCS", (1, 0), 0x4E, 0x4F),
+    *((f"PIRQRC{letter}", (1, 0), 0x60 + k, 0x60 + k) for k, letter in enumerate("ABCD")),
+    ("IDETIM", (1, 1), 0x40, 0x41),
+    ("command", None, 0x04, 0x05),
+    ("expansion ROM base", None, 0x30, 0x33),
+]
+
+DEVICES = {
+    DeviceNumber.CONFADD: "confadd", DeviceNumber.RESET_CONTROL: "reset", DeviceNumber.PIC0: "pic0",
+    DeviceNumber.PIC1: "pic1", DeviceNumber.PIT: "pit", DeviceNumber.SYSTEM: "sys", DeviceNumber.KEYBOARD: "kbd",
+    DeviceNumber.CLOCK: "clock", DeviceNumber.ELCR: "elcr", DeviceNumber.ATA: "ata", DeviceNumber.WIRES: "wires",
+    DeviceNumber.VECTOR0: "vec0", DeviceNumber.VECTOR1: "vec1", DeviceNumber.SPURIOUS0: "spur0",
+    DeviceNumber.SPURIOUS1: "spur1", DeviceNumber.UART: "uart",
+}
+
+
+class Reset(IntEnum):
+    """A reset that a step made: none, of the processor alone, or of the board too."""
+
+    NONE = 0
+    SOFT = 1
+    HARD = 2
+
+
+class Register(NamedTuple):
+    """A register of configuration space. Its text is that of a log, `00.0.59`."""
+
+    device: int
+    function: int
+    offset: int
+
+    @property
+    def name(self) -> str | None:
+        """Its name in the datasheet, where the map, the ports or the lines depend on it."""
+        for name, function, first, last in REGISTERS:
+            if function in (None, (self.device, self.function)) and first <= self.offset <= last:
+                return name
+        return None
+
+    def __str__(self) -> str:
+        return f"{self.device:02X}.{self.function}.{self.offset:02X}"
+
+
+class Denial(str):
+    """What kept an access out, as in a log: a register, `confadd` or `none`."""
+
+    register: Register | None
+
+    def __new__(cls, text: str, register: Register | None = None) -> "Denial":
+        denial = super().__new__(cls, text)
+        denial.register = register
+        return denial
+
+    @property
+    def name(self) -> str | None:
+        """The name of the register."""
+        return self.register.name if self.register else None
+
+    @property
+    def in_words(self) -> str:
+        """With the name of the register."""
+        return f"{self} ({self.name})" if self.name else str(self)
+
+
+class Target(str):
+    """What answered, as in a log, with its fields beside it."""
+
+    number: TargetNumber
+    unit: int
+    base: int
+    offset: int
+
+    def __new__(cls, text: str, number: TargetNumber, unit: int = 0, base: int = 0, offset: int = 0) -> "Target":
+        target = super().__new__(cls, text)
+        target.number, target.unit, target.base, target.offset = number, unit, base, offset
+        return target
+
+
+class Part(NamedTuple):
+    """What answered an access, or one part of a wide one, and what denied it."""
+
+    target: Target
+    denied_by: Denial | None
+
+    def __str__(self) -> str:
+        return f"{self.target} {self.denied_by or '-'}"
+
+
+@dataclass(frozen=True)
+class Look:
+    """What a look tells: the version of the map, and the longest interval in which such an access has this area."""
+
+    version: int
+    lo: int
+    hi: int
+    area: str
+
+    def __str__(self) -> str:
+        return f"{self.version} {self.lo:08X} {self.hi:08X} {self.area}"
+
+
+def area_text(number: int, unit: int, base: int) -> str:
+    """An area as in a map."""
+    match number:
+        case TargetNumber.DRAM:
+            return f"dram:{unit}"
+        case TargetNumber.SHADOW:
+            return f"shadow:{unit}"
+        case TargetNumber.SMRAM:
+            return "smram"
+        case TargetNumber.ROM:
+            return "rom"
+        case TargetNumber.CARD:
+            return f"card:{unit}.{base}"
+        case TargetNumber.ABORT:
+            return "abort"
+    raise NoReply(number)
+
+
+def _target_text(part: PartRecord) -> str:
+    match part.target:
+        case TargetNumber.ROM:
+            return f"rom:{part.offset:05X}"
+        case TargetNumber.CARD:
+            return f"card:{part.unit}.{part.base}:{part.offset:08X}"
+        case TargetNumber.IS_DEVICE:
+            return DEVICES[DeviceNumber(part.unit)]
+        case TargetNumber.CONFIG:
+            return f"config:{Register(part.unit, part.base, part.offset)}"
+    return area_text(part.target, part.unit, part.base)
+
+
+def _denial(part: PartRecord) -> Denial | None:
+    match part.denial:
+        case DenialNumber.NOT_DENIED:
+            return None
+        case DenialNumber.BY_REGISTER:
+            register = Register(part.denial_dev, part.denial_fun, part.denial_off)
+            return Denial(str(register), register)
+        case DenialNumber.BY_CONFADD:
+            return Denial("confadd")
+        case DenialNumber.BY_NO_REGISTER:
+            return Denial("none")
+    raise NoReply(part.denial)
+
+
+def part_of(part: PartRecord) -> Part:
+    """A part of a reply, of its record."""
+    target = Target(_target_text(part), TargetNumber(part.target), part.unit, part.base, part.offset)
+    return Part(target, _denial(part))
+
+
+@dataclass(frozen=True)
+class Answer:
+    """A reply, and what stands after its step. Its text is what stands behind the ` = ` of a log's line."""
+
+    event: Event
+    value: int | None
+    parts: tuple[Part, ...]
+    look: Look | None
+    version: int
+    interrupt: bool
+    reset: Reset
+    sent: int | None
+    irq4: bool
+    serial_room: bool
+
+    @property
+    def target(self) -> Target | None:
+        """What answered, the first part of a wide access; none of a look."""
+        return self.parts[0].target if self.parts else None
+
+    @property
+    def denied_by(self) -> Denial | None:
+        """What denied it, or the first part of it that was denied."""
+        return next((part.denied_by for part in self.parts if part.denied_by), None)
+
+    def __str__(self) -> str:
+        if self.look:
+            return str(self.look)
+        value = "-" if self.value is None else f"{self.value:0{self.event.digits()}X}"
+        return " ".join([value, *map(str, self.parts)])
+
+    def __repr__(self) -> str:
+        return f"<{self.event} = {self}>"
+
+
+class Value(int):
+    """What an access read: a number that knows its answer."""
+
+    answer: Answer
+
+    def __new__(cls, answer: Answer) -> "Value":
+        if answer.value is None:
+            raise NoReply(answer)
+        value = super().__new__(cls, answer.value)
+        value.answer = answer
+        return value
+
+    @property
+    def target(self) -> Target | None:
+        """What answered."""
+        return self.answer.target
+
+    @property
+    def denied_by(self) -> Denial | None:
+        """What denied it."""
+        return self.answer.denied_by
+
+    def __repr__(self) -> str:
+        return repr(self.answer)
+
+    def __str__(self) -> str:
+        return int.__repr__(self)
+
+
+def answer_of(event: Event, reply: ReplyRecord) -> Answer:
+    """An answer, of the record of its reply."""
+    parts: tuple[Part, ...] = ()
+    look = None
+    if reply.form == Form.LOOK_REPLY:
+        first = reply.part[0]
+        look = Look(reply.seen, reply.lo, reply.hi, area_text(first.target, first.unit, first.base))
+    else:
+        parts = tuple(part_of(reply.part[k]) for k in range(reply.parts))
+    return Answer(
+        event=event,
+        value=reply.value if reply.has_value else None,
+        parts=parts,
+        look=look,
+        version=reply.version,
+        interrupt=bool(reply.interrupt),
+        reset=Reset(reply.reset),
+        sent=reply.sent if reply.has_sent else None,
+        irq4=bool(reply.irq4),
+        serial_room=bool(reply.serial_room),
+    )

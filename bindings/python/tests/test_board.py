@@ -1,0 +1,186 @@
+"""The board from Python. Expected values are those of the datasheets, or worked out by hand."""
+import copy
+import datetime
+import pickle
+import threading
+
+import pytest
+
+from board440fx import Board, Card, Event, Reset, errors
+
+CONFIG_ADDRESS, CONFIG_DATA, RESET_CONTROL = 0xCF8, 0xCFC, 0xCF9
+AFTER_RESET = """\
+00000000 0009FFFF dram:0 dram:0 dram:0 dram:0 dram:0 dram:0
+000A0000 000EFFFF abort abort abort abort abort abort
+000F0000 000FFFFF rom rom rom rom rom rom
+00100000 007FFFFF dram:0 dram:0 dram:0 dram:0 dram:0 dram:0
+00800000 FFFEFFFF abort abort abort abort abort abort
+FFFF0000 FFFFFFFF rom rom rom rom rom rom
+"""
+
+
+@pytest.fixture
+def board():
+    with Board() as opened:
+        yield opened
+
+
+def configure(board, register, value):
+    """Writes a byte of a register of a function: device * 800h + function * 100h + offset."""
+    board.out(CONFIG_ADDRESS, 4, 0x80000000 | register & ~3)
+    board.out(CONFIG_DATA + register % 4, 1, value)
+
+
+def set_up_interrupts(board):
+    """Both 8259A with their vectors at 08h and 70h, all levels open."""
+    for first, base, cascade in ((0x20, 0x08, 0x04), (0xA0, 0x70, 0x02)):
+        board.out(first, 1, 0x11)
+        for word in (base, cascade, 0x01, 0x00):
+            board.out(first + 1, 1, word)
+
+
+def test_a_fetch_reaches_the_rom():
+    rom = bytearray(65536)
+    rom[0xFFF0:0xFFF4] = b"\xEA\x5B\xE0\x00"
+    with Board(rom=bytes(rom)) as board:
+        value = board.fetch(0xFFFFFFF0, 4)
+        assert (value, value.target) == (0x00E05BEA, "rom:0FFF0")
+        assert (value.target.offset, value.denied_by) == (0xFFF0, None)
+
+
+def test_memory_keeps_what_is_written(board):
+    assert str(board.write(0x1003, 8, 0x8877665544332211)) == "- dram:0 - dram:0 - dram:0 - dram:0 -"
+    assert [board.read(0x1003), board.read(0x1004, 2), board.read(0x1007, 4)] == [0x11, 0x3322, 0x88776655]
+    assert board.read(0x1003, 8) == 0x8877665544332211
+
+
+def test_a_shut_window_is_denied_by_its_register(board):
+    configure(board, 0x59, 0x20)
+    assert board.write(0xF0000, 1, 0x5A).target == "shadow:0"
+    configure(board, 0x59, 0x10)
+    assert board.read(0xF0000) == 0x5A
+    assert board.denied_by is None
+    denial = board.write(0xF0000, 1, 0).denied_by
+    assert (denial, denial.name, denial.in_words) == ("00.0.59", "PAM0", "00.0.59 (PAM0)")
+    assert denial.register == (0, 0, 0x59)
+    assert board.denied_by == denial
+
+
+def test_smram_answers_in_its_mode_alone(board):
+    configure(board, 0x72, 0x0A)
+    assert board.read(0xA8000).denied_by.name == "SMRAM"
+    assert board.read(0xA8000, smm=True).target == "smram"
+    assert board.decode(Event.read(0xA8000)).denied_by == "00.0.72"
+
+
+def test_what_is_read_is_a_number_and_a_line(board):
+    value = board.read(0xCC000)
+    assert repr(value) == "<r b 000CC000 = FF abort 00.0.5B>"
+    assert (str(value), f"{value:02X}", value + 1, value == 0xFF) == ("255", "FF", 256, True)
+    assert repr(board.last) == repr(value)
+
+
+def test_the_timer_interrupts(board):
+    set_up_interrupts(board)
+    for port, value in ((0x43, 0x34), (0x40, 5), (0x40, 0)):
+        board.out(port, 1, value)
+    assert board.pulses_to_rise == 6  # one loads the count, and five count it down
+    assert not board.pulse(5).interrupt
+    assert board.pulse(1).interrupt
+    vector = board.acknowledge()
+    assert (vector, vector.target) == (0x08, "vec0")
+
+
+def test_the_clock_shows_a_moment(board):
+    board.time(datetime.datetime(2024, 2, 29, 12, 34, 56))
+    assert [board.cmos_read(address) for address in (4, 2, 0)] == [0x12, 0x34, 0x56]
+    board.cmos_write(0x40, 0x5A)
+    board.out(0x70, 1, 0x40)
+    assert board.in_(0x71) == 0x5A
+
+
+def test_a_sector_is_read():
+    disk = b"".join(bytes([sector]) * 512 for sector in range(1, 5))
+    with Board(disk=disk) as board:
+        configure(board, 0x904, 1)
+        configure(board, 0x941, 0x80)
+        for port, value in ((0x1F6, 0xE0), (0x1F2, 1), (0x1F3, 2), (0x1F4, 0), (0x1F5, 0), (0x1F7, 0x20)):
+            board.out(port, 1, value)
+        assert board.in_(0x1F7) == 0x58
+        assert board.in_(0x1F0, 2) == 0x0303
+        assert board.disk_read(2) == bytes([3]) * 512
+
+
+def test_com1_sends_and_receives(board):
+    answer = board.out(0x3F8, 1, ord("H"))
+    assert (answer.sent, answer.target, answer.serial_room) == (ord("H"), "uart", True)
+    board.receive(ord("k"))
+    assert board.in_(0x3F8) == ord("k")
+    board.out(0x3FC, 1, 0x10)  # loopback
+    with pytest.raises(errors.SerialFull):
+        board.receive(ord("k"))
+
+
+def test_a_port_that_is_not_aligned_is_cut(board):
+    set_up_interrupts(board)
+    board.out(0x21, 2, 0x115A)  # 21h is the mask, 22h nobody's
+    assert board.in_(0x21) == 0x5A
+    assert repr(board.in_(0x21, 2)) == "<in w 0021 = FF5A abort none>"
+    assert board.in_(0x20, 2) == 0xFFFF  # aligned, and nobody's in this width
+    board.out(RESET_CONTROL, 1, 2)
+    answer = board.out(RESET_CONTROL, 2, 6)
+    assert (answer.reset, answer.target) == (Reset.HARD, "abort")
+
+
+def test_the_map_after_a_reset(board):
+    assert str(board.map) == AFTER_RESET
+    assert (len(board.map), board.map.version, board.map.at(0xF8000).area("r")) == (6, 0, "rom")
+    configure(board, 0x59, 0x30)
+    assert str(board.look("w", 0xF8000)) == "1 000F0000 000FFFFF shadow:0"
+    assert board.map.version == board.last.version == 1
+    assert any(window.lo <= 0xF0000 and 0xFFFFF <= window.hi for window in board.map.windows)
+
+
+def test_a_card_answers_where_it_is_placed():
+    with Board(cards=["3 plain", Card(2, bases=("m12", "i4"))]) as board:
+        configure(board, 0x1013, 0xE0)
+        configure(board, 0x1015, 0x60)
+        assert board.in_(0x6000).denied_by == "02.0.04"
+        configure(board, 0x1004, 3)
+        assert board.write(0xE0000010, 1, 0x77).target == "card:2.0:00000010"
+        assert board.read(0xE0000010) == 0x77
+        assert board.in_(0x6000).target == "card:2.1:00000000"
+        assert board.wire(2, True).target == "wires"
+
+
+def test_bytes_are_put_and_told_whatever_the_map_says(board):
+    board.dram_write(0xA0000, b"\x01\x02\x03")
+    assert board.dram_read(0x9FFFF, 4) == b"\x00\x01\x02\x03"
+    assert board.dram_read(8 << 20, 2) == b"\xFF\xFF"
+    assert board.dram_read(0, 0) == b""
+
+
+def test_threads_share_a_board(board):
+    def write(first):
+        for addr in range(first, first + 2000):
+            board.write(addr, 1, first >> 12)
+
+    threads = [threading.Thread(target=write, args=(first << 12,)) for first in range(1, 5)]
+    for thread in threads:
+        thread.start()
+    for thread in threads:
+        thread.join()
+    for first in range(1, 5):
+        assert board.dram_read(first << 12, 2000) == bytes([first]) * 2000
+
+
+def test_a_board_is_not_copied_and_not_used_after_its_end(board):
+    for copied in (copy.copy, copy.deepcopy, pickle.dumps):
+        with pytest.raises(TypeError):
+            copied(board)
+    board.close()
+    board.close()
+    for call in (lambda: board.read(0), lambda: board.map, lambda: board.cmos_read(0)):
+        with pytest.raises(errors.Closed):
+            call()
+    assert repr(board) == "<Board closed>"

@@ -1,0 +1,354 @@
+//! The board itself.
+
+use crate::error::check;
+use crate::raw;
+use crate::{Answer, Builder, Card, Error, Event, Kind, Look, Map, Moment, Part, Ranges, Reply, Value, Width};
+use std::cell::UnsafeCell;
+use std::fmt;
+use std::ptr;
+
+const PORTS: u32 = 0x10000;
+
+/// A PC board. Dropping it frees it.
+///
+/// It may move to another thread ([`Send`]); threads share it under a lock of theirs, since one call at a time is
+/// inside it. A call that is refused leaves it as it was.
+///
+/// ```
+/// use board_440fx::{Board, Denial};
+/// use std::sync::Mutex;
+/// use std::thread;
+///
+/// let board = Mutex::new(Board::builder().memory_mib(8).rom(&[0; 65536]).open()?);
+/// thread::scope(|threads| {
+///     threads.spawn(|| board.lock().map(|mut board| board.write_u32(0x1000, 7)));
+/// });
+/// let mut board = board.into_inner().expect("no thread panicked");
+/// assert_eq!(board.read_u32(0x1000)?, 7);
+/// assert_eq!(board.read_u8(0xE000_0000)?, 0xFF);
+/// assert_eq!(board.last().and_then(|answer| answer.denied_by()), Some(Denial::NoRegister));
+/// # Ok::<(), board_440fx::Error>(())
+/// ```
+pub struct Board {
+    handle: UnsafeCell<raw::Handle>,
+    last: Option<Answer>,
+}
+
+// SAFETY: the handle holds no thread's own things, and the library lets a board move between two calls.
+unsafe impl Send for Board {}
+
+impl fmt::Debug for Board {
+    fn fmt(&self, f: &mut fmt::Formatter<'_>) -> fmt::Result {
+        f.debug_struct("Board").field("last", &self.last).finish_non_exhaustive()
+    }
+}
+
+impl Drop for Board {
+    fn drop(&mut self) {
+        // SAFETY: the handle is what a call left, and nobody else is in it.
+        unsafe { raw::board_close(self.handle.get()) }
+    }
+}
+
+/// Opening it, and its steps.
+impl Board {
+    /// What a board is opened with.
+    pub fn builder<'a>() -> Builder<'a> {
+        Builder::new()
+    }
+
+    pub(crate) fn open(mib: u32, cards: &[Card], rom: &[u8], disk: &[u8]) -> Result<Board, Error> {
+        let closed = raw::Handle { at: ptr::null_mut(), open: false };
+        let board = Board { handle: UnsafeCell::new(closed), last: None };
+        let mut records: Vec<raw::Card> = cards.iter().map(Card::record).collect();
+        // one more, so that the pointer is to a card also where there is none
+        records.push(raw::Card::default());
+        // SAFETY: the handle is zeros, and each pointer is good for as many as the count beside it says.
+        check(unsafe {
+            raw::board_open(
+                board.handle.get(),
+                mib,
+                records.as_ptr(),
+                cards.len(),
+                rom.as_ptr(),
+                rom.len(),
+                disk.as_ptr(),
+                disk.len(),
+            )
+        })?;
+        Ok(board)
+    }
+
+    /// Does an event, and tells the reply.
+    pub fn step(&mut self, event: &Event) -> Result<Answer, Error> {
+        let record = event.record();
+        let mut reply = raw::Reply::default();
+        // SAFETY: the handle is what a call left, nobody else is in it, and the records are the library's.
+        check(unsafe { raw::board_step(self.handle.get(), &record, &mut reply) })?;
+        let answer = Answer::of(event, &reply)?;
+        self.last = Some(answer);
+        Ok(answer)
+    }
+
+    /// The answer to the last event that was done; of a port that is not aligned, as [`Board::input`] and
+    /// [`Board::out`] have it.
+    pub fn last(&self) -> Option<&Answer> {
+        self.last.as_ref()
+    }
+
+    /// Does an event that reads.
+    fn value(&mut self, event: &Event) -> Result<u64, Error> {
+        self.step(event)?.value().ok_or(Error::NoReply)
+    }
+}
+
+/// The calls of memory of one width.
+macro_rules! memory_calls {
+    ($($width:ident $value:ident $fetch:ident $read:ident $write:ident $bytes:literal)*) => {
+        /// Memory, outside system management mode, aligned or not. In it: [`Board::step`] with [`Event::in_smm`].
+        impl Board {
+            $(
+                #[doc = concat!("Fetches ", $bytes, " of code.")]
+                pub fn $fetch(&mut self, addr: u32) -> Result<$value, Error> {
+                    self.value(&Event::fetch(addr, Width::$width)).map(|bits| bits as $value)
+                }
+
+                #[doc = concat!("Reads ", $bytes, " of memory.")]
+                pub fn $read(&mut self, addr: u32) -> Result<$value, Error> {
+                    self.value(&Event::read(addr, Width::$width)).map(|bits| bits as $value)
+                }
+
+                #[doc = concat!("Writes ", $bytes, " of memory.")]
+                pub fn $write(&mut self, addr: u32, value: $value) -> Result<Answer, Error> {
+                    self.step(&Event::write(addr, Width::$width, u64::from(value)))
+                }
+            )*
+        }
+    };
+}
+
+memory_calls! {
+    Byte u8 fetch_u8 read_u8 write_u8 "a byte"
+    Word u16 fetch_u16 read_u16 write_u16 "two bytes"
+    Dword u32 fetch_u32 read_u32 write_u32 "four bytes"
+    Qword u64 fetch_u64 read_u64 write_u64 "eight bytes"
+}
+
+/// A cycle that the bus makes of an access to a port.
+struct Cycle {
+    port: u16,
+    width: Width,
+    /// How many bits of the access come before it.
+    shift: u32,
+}
+
+/// The cycles of an access, in rising order: each the widest of 4, 2 or 1 bytes that is aligned and does not pass its
+/// end.
+fn cycles(port: u16, width: Width) -> Result<impl Iterator<Item = Cycle>, Error> {
+    let bytes = u32::from(width.bytes());
+    if width == Width::Qword || u32::from(port) + bytes > PORTS {
+        return Err(Error::NoEvent);
+    }
+    let mut done = 0;
+    Ok(std::iter::from_fn(move || {
+        let at = u32::from(port) + done;
+        let width = match bytes - done {
+            0 => return None,
+            4 if at % 4 == 0 => Width::Dword,
+            left if left >= 2 && at % 2 == 0 => Width::Word,
+            _ => Width::Byte,
+        };
+        let cycle = Cycle { port: at as u16, width, shift: 8 * done };
+        done += u32::from(width.bytes());
+        Some(cycle)
+    }))
+}
+
+/// Ports. One that is not aligned is cut into cycles, as the bus cuts it.
+impl Board {
+    /// Reads a port of one, two or four bytes. Where it was cut the answer, [`Board::last`], is the last cycle's but
+    /// for the value, which is the whole.
+    pub fn input(&mut self, port: u16, width: Width) -> Result<u32, Error> {
+        let mut bits = 0;
+        for Cycle { port, width, shift } in cycles(port, width)? {
+            bits |= self.value(&Event::In { port, width })? << shift;
+        }
+        if let Some(Answer { reply: Reply::Bus { value, .. }, .. }) = &mut self.last {
+            *value = Some(Value { bits, width });
+        }
+        Ok(bits as u32)
+    }
+
+    /// Writes a port of one, two or four bytes. Where it was cut the answer is the last cycle's but for the reset,
+    /// which is the strongest.
+    pub fn out(&mut self, port: u16, width: Width, value: u32) -> Result<Answer, Error> {
+        let cycles = cycles(port, width)?;
+        if u64::from(value) > width.mask() {
+            return Err(Error::Value);
+        }
+        let mut reset = None;
+        for Cycle { port, width, shift } in cycles {
+            let value = (u64::from(value) >> shift & width.mask()) as u32;
+            reset = reset.max(self.step(&Event::Out { port, width, value })?.reset);
+        }
+        let last = self.last.as_mut().ok_or(Error::NoReply)?;
+        last.reset = reset;
+        Ok(*last)
+    }
+
+    /// Reads a byte of a port.
+    pub fn in_u8(&mut self, port: u16) -> Result<u8, Error> {
+        self.input(port, Width::Byte).map(|bits| bits as u8)
+    }
+
+    /// Reads two bytes of a port.
+    pub fn in_u16(&mut self, port: u16) -> Result<u16, Error> {
+        self.input(port, Width::Word).map(|bits| bits as u16)
+    }
+
+    /// Reads four bytes of a port.
+    pub fn in_u32(&mut self, port: u16) -> Result<u32, Error> {
+        self.input(port, Width::Dword)
+    }
+
+    /// Writes a byte to a port.
+    pub fn out_u8(&mut self, port: u16, value: u8) -> Result<Answer, Error> {
+        self.out(port, Width::Byte, u32::from(value))
+    }
+
+    /// Writes two bytes to a port.
+    pub fn out_u16(&mut self, port: u16, value: u16) -> Result<Answer, Error> {
+        self.out(port, Width::Word, u32::from(value))
+    }
+
+    /// Writes four bytes to a port.
+    pub fn out_u32(&mut self, port: u16, value: u32) -> Result<Answer, Error> {
+        self.out(port, Width::Dword, value)
+    }
+}
+
+/// Interrupts, time, and what happens from outside.
+impl Board {
+    /// Looks where an access would land. Nothing happens.
+    pub fn look(&mut self, kind: Kind, addr: u32, smm: bool) -> Result<Look, Error> {
+        match self.step(&Event::Look { kind, addr, smm })?.reply {
+            Reply::Look(look) => Ok(look),
+            _ => Err(Error::NoReply),
+        }
+    }
+
+    /// Acknowledges the interrupt: the vector.
+    pub fn acknowledge(&mut self) -> Result<u8, Error> {
+        self.value(&Event::Acknowledge).map(|bits| bits as u8)
+    }
+
+    /// Gives the 8254 1 to 1,000,000 pulses of its clock, 1.193182 MHz.
+    pub fn pulse(&mut self, count: u32) -> Result<Answer, Error> {
+        self.step(&Event::Pulse(count))
+    }
+
+    /// Gives the clock a moment to show.
+    pub fn time(&mut self, moment: Moment) -> Result<Answer, Error> {
+        self.step(&Event::Time(moment))
+    }
+
+    /// Sets INTA# of the card at a device.
+    pub fn wire(&mut self, device: u8, level: bool) -> Result<Answer, Error> {
+        self.step(&Event::Wire { device, level })
+    }
+
+    /// Sets an interrupt request line: 1, 3 to 7, 9 to 12 or 15.
+    pub fn irq(&mut self, line: u8, level: bool) -> Result<Answer, Error> {
+        self.step(&Event::Irq { line, level })
+    }
+
+    /// Lets a sector of the disk go bad.
+    pub fn bad_sector(&mut self, sector: u32) -> Result<Answer, Error> {
+        self.step(&Event::BadSector(sector))
+    }
+
+    /// COM1 receives a byte: [`Error::SerialFull`] where `serial_room` of the last answer is not set.
+    pub fn receive(&mut self, byte: u8) -> Result<Answer, Error> {
+        self.step(&Event::Receive(byte))
+    }
+}
+
+/// What is asked between two steps: the board stays as it is. And bytes that the guest did not write.
+impl Board {
+    /// Where an access of one bus cycle would land, and what would deny it.
+    pub fn decode(&self, event: &Event) -> Result<Part, Error> {
+        let record = event.record();
+        let mut part = raw::Part::default();
+        // SAFETY: as of `step`. A board is in one thread, and no call runs inside another, so nobody else is in it.
+        check(unsafe { raw::board_decode(self.handle.get(), &record, &mut part) })?;
+        Part::of(&part).ok_or(Error::NoReply)
+    }
+
+    /// The memory map, with what its last change changed.
+    pub fn map(&self) -> Result<Map, Error> {
+        let mut map = raw::Map::default();
+        let mut ranges = [raw::Range::default(); raw::MOST_RANGES];
+        let mut windows = [raw::Window::default(); raw::MOST_WINDOWS];
+        let (room, windows_room) = (ranges.len(), windows.len());
+        // SAFETY: as of `decode`; each pointer is good for the room beside it.
+        check(unsafe {
+            raw::board_ranges(
+                self.handle.get(),
+                &mut map,
+                ranges.as_mut_ptr(),
+                room,
+                windows.as_mut_ptr(),
+                windows_room,
+            )
+        })?;
+        Map::of(&map, &ranges, &windows)
+    }
+
+    /// The ranges of the memory map in rising order.
+    pub fn ranges(&self) -> Result<Ranges, Error> {
+        self.map().map(Ranges::of)
+    }
+
+    /// After how many pulses of the 8254's clock line 0 next rises; none where it does not, unless something is
+    /// written.
+    pub fn pulses_to_rise(&self) -> Result<Option<u32>, Error> {
+        let mut pulses = 0;
+        // SAFETY: as of `decode`.
+        check(unsafe { raw::board_pulses_to_rise(self.handle.get(), &mut pulses) })?;
+        Ok((pulses != 0).then_some(pulses))
+    }
+
+    /// Bytes of the memory that the board keeps: FFh past the installed memory.
+    pub fn dram_read(&self, addr: u32, into: &mut [u8]) -> Result<(), Error> {
+        // SAFETY: as of `decode`; the pointer is good for as many bytes.
+        check(unsafe { raw::board_dram_read(self.handle.get(), addr, into.as_mut_ptr(), into.len()) })
+    }
+
+    /// A sector of the disk, also one that is bad.
+    pub fn disk_read(&self, sector: u32) -> Result<[u8; raw::SECTOR], Error> {
+        let mut bytes = [0; raw::SECTOR];
+        // SAFETY: as of `decode`; the pointer is good for as many bytes.
+        check(unsafe { raw::board_disk_read(self.handle.get(), sector, bytes.as_mut_ptr(), bytes.len()) })?;
+        Ok(bytes)
+    }
+
+    /// A byte of the clock, 0 to 127.
+    pub fn cmos_read(&self, address: u8) -> Result<u8, Error> {
+        let mut byte = 0;
+        // SAFETY: as of `decode`.
+        check(unsafe { raw::board_cmos_read(self.handle.get(), address, &mut byte) })?;
+        Ok(byte)
+    }
+
+    /// Puts bytes into the memory that the board keeps, whatever the map says.
+    pub fn dram_write(&mut self, addr: u32, from: &[u8]) -> Result<(), Error> {
+        // SAFETY: as of `step`; the pointer is good for as many bytes.
+        check(unsafe { raw::board_dram_write(self.handle.get(), addr, from.as_ptr(), from.len()) })
+    }
+
+    /// Writes a byte of the clock, 0 to 127, as writes of ports 70h and 71h would.
+    pub fn cmos_write(&mut self, address: u8, byte: u8) -> Result<(), Error> {
+        // SAFETY: as of `step`.
+        check(unsafe { raw::board_cmos_write(self.handle.get(), address, byte) })
+    }
+}
