@@ -5,6 +5,7 @@ mod asks;
 mod bytes;
 mod exports;
 mod handle;
+pub mod laws;
 mod text;
 mod version;
 
