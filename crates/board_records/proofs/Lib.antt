@@ -2,3 +2,4 @@ pub mod EventReplies
 pub mod Filled
 pub mod Said
 pub mod Cycles
+pub mod Reserves
