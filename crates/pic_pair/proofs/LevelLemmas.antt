@@ -1,5 +1,5 @@
 -- Sets of levels and the bits of their bytes.
-use Rattle.std.proofs.Common.{◌≡◌, ℕ, zero, suc, ◌+◌, ◌-◌, ◌*◌, ◌%◌, ◌^◌, ◌<◌, ◌≤◌, min, max, Bool, true, false, not, eqb, ltb, ◌||◌, ◌&&◌, length, refl, ap, ◌∙◌, inl, inr, arith, bit_or, bit_and}
+use Rattle.std.proofs.Common.{◌≡◌, ℕ, zero, suc, ◌+◌, ◌-◌, ◌*◌, ◌%◌, ◌^◌, ◌<◌, ◌≤◌, min, max, Bool, true, false, not, eqb, ltb, ◌||◌, ◌&&◌, length, refl, ap, ◌∙◌, ◌↔◌, inl, inr, arith, bit_or, bit_and}
 use Rattle.std.specs.Int.{bit_at}
 use mir.Syntax.{w8}
 use Rattle.device_spec.proofs.Common.{cases_eq, eq-eqb, ne_eqb, lt-ltb, le-ltb, agree_below_at, eqb-true, is_bit, levels_where-same, has-levels_where, levels_where-has, Levels, has, levels_where, no_levels, with_level, without_level, levels_of_byte, byte_of_levels}
@@ -83,6 +83,14 @@ pub byte-levels : (n : ℕ) → n < 256 → n ≡ byte_of_levels (levels_of_byte
 unfolding is_own_byte byte_of_levels levels_where
 byte-levels n small =
     eqb-true n (byte_of_levels (levels_of_byte n)) (agree_below_at is_own_byte (λ _. true) 256 n refl small)
+
+-- and that of no levels is 0
+pub levels-none : (n : ℕ) → n < 256 → (eqb n 0 ≡ true) ↔ (levels_of_byte n ≡ no_levels)
+unfolding byte_of_levels levels_where
+levels-none n small = (
+  λ zero. ap levels_of_byte (eqb-true n 0 zero),
+  λ none. eq-eqb n 0 (byte-levels n small ∙ ap byte_of_levels none),
+)
 
 -- ---- a set made level by level
 

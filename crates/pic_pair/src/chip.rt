@@ -1,6 +1,7 @@
 //! One 8259A interrupt controller.
 ghost use Rattle.std.specs.Prelude.{◌≡◌, ◌+◌, ◌++◌, ◌<◌, ◌&&◌, ◌||◌, not, IfSome, EachIndex, slice_index, false};
 ghost use Rattle.device_spec.specs.Common.{with_level, acknowledged_if, byte_polled, is_complete, chip_at_reset, chip_after_inputs, pending, priority_order, is_blocking, blocks_itself, is_requested, request, interrupt, acknowledged, chip_after_icw1, first_blocking, chip_after_ocw2, chip_after_ocw3, chip_after_odd_write, chip_after_write, byte_read, chip_after_read};
+ghost use Rattle.device_spec.specs.Levels.{levels_where};
 ghost use Rattle.pic_pair.specs.View.{awaited_words, cascade_words, mode_words};
 ghost use Rattle.device_spec.specs.Pic.{ended};
 
@@ -286,21 +287,42 @@ impl Pic {
         self.is_blocking(level) && !(self.fully_nested && self.has_slave && level == CASCADE)
     }
 
-    /// Whether a level is pending, not masked and not blocked by itself.
-    fn asks(&self, level: u8) -> bool
-        requires { level < 8 }
-        ensures asks { result ≡ (is_requested self.now level && not (blocks_itself self.now level)) }
+    /// The levels that are pending and not masked.
+    fn requested(&self) -> LevelSet
+        ensures requested { result ≡ levels_where (is_requested self.now) }
     {
-        self.pending().contains(level) && !self.masked.contains(level) && !self.blocks_itself(level)
+        self.pending().difference(&self.masked)
     }
 
-    /// The first level that can be selected.
+    /// Whether a level is one of those requested, and not blocked by itself.
+    fn asks(&self, requested: &LevelSet, level: u8) -> bool
+        requires level { level < 8 }
+        requires requested { requested.now ≡ levels_where (is_requested self.now) }
+        ensures asks { result ≡ (is_requested self.now level && not (blocks_itself self.now level)) }
+    {
+        requested.contains(level) && !self.blocks_itself(level)
+    }
+
+    /// The first level that can be selected. Where none is requested, none is searched for.
     fn request(&self) -> Option<u8>
         ensures request { result ≡ request self.now }
         ensures level { IfSome result (λ level. level < 8) }
     {
+        let requested = self.requested();
+        if requested.is_empty() {
+            return None;
+        }
+        self.first_selectable(&requested)
+    }
+
+    /// The first level that can be selected, of those requested.
+    fn first_selectable(&self, requested: &LevelSet) -> Option<u8>
+        requires requested { requested.now ≡ levels_where (is_requested self.now) }
+        ensures request { result ≡ request self.now }
+        ensures level { IfSome result (λ level. level < 8) }
+    {
         for level in self.order() {
-            if self.asks(level) {
+            if self.asks(requested, level) {
                 return Some(level);
             }
             if self.is_blocking(level) {

@@ -1,5 +1,5 @@
 //! Sets of the eight levels of an interrupt controller, as bit masks.
-ghost use Rattle.std.specs.Prelude.{◌≡◌, ◌<◌, ◌&&◌, ◌||◌, not, length};
+ghost use Rattle.std.specs.Prelude.{◌≡◌, ◌↔◌, ◌<◌, ◌&&◌, ◌||◌, not, length, true};
 ghost use Rattle.device_spec.specs.Levels.{has, levels_where, no_levels, with_level, without_level, levels_of_byte, byte_of_levels};
 
 use board_base::bits::is_set;
@@ -55,6 +55,13 @@ impl LevelSet {
         ensures byte { result ≡ byte_of_levels self.now }
     {
         self.bits
+    }
+
+    /// Whether the set has no level.
+    pub fn is_empty(&self) -> bool
+        ensures none { (result ≡ true) ↔ (self.now ≡ no_levels) }
+    {
+        self.bits == 0
     }
 
     /// Whether the set has the level.
