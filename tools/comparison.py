@@ -117,6 +117,18 @@ class Comparison:
         self.kinds = dict.fromkeys(KINDS, 0)
         self.group: Optional[Difference] = None
 
+    def walk(self, file: pathlib.Path, values: dict[int, Value], log: list[Entry]) -> Iterator[Difference]:
+        """The differences of a whole log, in its order, from the values of a file."""
+        if max(values) > len(log):
+            stop(4, f"{file}: statement {max(values)} is not in this script, which has {len(log)}")
+        for entry in log:
+            given = values.get(entry.number)
+            if given is not None and (entry.value == "-" or entry.statement.startswith("look ")):
+                stop(4, f"{file}: statement {entry.number} reads nothing in this script")
+            difference = self.take(entry, given)
+            if difference:
+                yield difference
+
     def take(self, entry: Entry, given: Optional[Value]) -> Optional[Difference]:
         """The difference at an entry, where there is one that does not belong to the one before."""
         difference = self.compared(entry, given) if given is not None else None

@@ -1,34 +1,32 @@
 """The values of another monitor beside a log: the differences by kinds, the kind of the first difference first."""
-import collections
 import pathlib
 from typing import Any
 
-from board_texts import Entry
-from show_parts.answers import config_key, config_text
-from trace_values import compared, device, values_of
+from board_texts import Entry, stop
+from comparison import Comparison, Value, installed_of, values_of
+
+HOWS = ("agree", "differ", "not")
 
 
-def kind_of(entry: Entry) -> str:
-    """What is alike in differences: the register or the port, and what answered."""
-    if entry.target.startswith("config:"):
-        place = entry.target[7:]
-        return f"{place} {config_text(config_key(entry))['names']}".strip()
-    return f"{device(entry)} at {entry.words[2]}" if entry.words[0] in ("r", "f", "in") else device(entry)
+def how_of(entry: Entry, given: Value) -> str:
+    """How a value stands to the log's."""
+    return "not" if given.why else "agree" if entry.value == given.value else "differ"
 
 
-def beside(file: pathlib.Path, log: list[Entry], excepted: list[str]) -> dict[str, Any]:
+def beside(file: pathlib.Path, script: str, log: list[Entry], excepted: list[str]) -> dict[str, Any]:
     """The values by statement, the differences by kinds, and the counts by what answered."""
-    counts: dict[str, collections.Counter] = collections.defaultdict(collections.Counter)
+    comparison = Comparison(installed_of(script), excepted)
+    values = values_of(file)
+    if not values:
+        stop(4, f"{file}: no value: looked for lines `STATEMENT VALUE`, as `158 1AF4 @180`")
     kinds: dict[str, list[int]] = {}
-    rows, hows = [], ("agree", "differ", "not")
-    for entry, given, how in compared(file, values_of(file), log, excepted):
-        counts[device(entry)][how] += 1
-        rows.append((entry.number, given.value, hows.index(how), given.line or "", given.why or ""))
-        if how == "differ":
-            kinds.setdefault(kind_of(entry), []).append(entry.number)
+    for it in comparison.walk(file, values, log):
+        kinds.setdefault(it.reasons[0].text(), []).append(it.entry.number)
+    rows = [(number, given.value, HOWS.index(how_of(log[number - 1], given)), given.line or "", given.why or "")
+            for number, given in sorted(values.items())]
     return {
         "name": file.name,
-        "rows": [list(column) for column in zip(*rows)] or [[], [], [], [], []],
+        "rows": [list(column) for column in zip(*rows)],
         "kinds": [{"name": name, "numbers": numbers} for name, numbers in kinds.items()],
-        "counts": [[name, *(count[how] for how in hows)] for name, count in sorted(counts.items())],
+        "counts": [[name, *(count[how] for how in HOWS)] for name, count in sorted(comparison.counts.items())],
     }
