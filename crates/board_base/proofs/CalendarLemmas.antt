@@ -1,12 +1,14 @@
 -- The calendar of `specs/Calendar.antt` is that of `jiff`.
-use Rattle.std.proofs.Common.{◌≡◌, ℕ, zero, suc, ◌+◌, ◌-◌, ◌%◌, ◌≤◌, refl, arith, ℤ, pos}
+use Rattle.std.proofs.Common.{◌≡◌, ℕ, zero, suc, ◌+◌, ◌-◌, ◌%◌, ◌≤◌, Bool, true, false, ◌&&◌, leb, refl, arith, ℤ, pos}
 use Rattle.std.proofs.lemmas.Bool.Decides.{nat_tests}
+use Rattle.std.proofs.lemmas.Bool.{and_from, and_parts, false≢true, le-leb, leb-true}
 use Rattle.std.specs.Int.{IsInRange}
 use Rattle.jiff_core.specs.Calendar.{days_in_month as jiff_days_in_month, days_of_months as jiff_days_of_months, day_count, days_from_civil, weekday_number}
 use Rattle.jiff_core.proofs.CalendarLemmas.{days_from_civil-day_count, day_count-day_of_year, day_count-next_year, weekday_number-parts}
 use Rattle.jiff_core.proofs.MarchLemmas.{day_count-early}
 use Rattle.jiff_core.proofs.SignedLemmas.{signed_arith}
-use Rattle.board_base.specs.Calendar.{days_in_month, days_in_year, days_of_months, days_of_years, days_since_1980, weekday_of, IsDate, WeekdaysFollow}
+use Rattle.board_base.specs.Calendar.{days_in_month, days_in_year, days_of_months, days_of_years, days_since_1980, weekday_of, is_moment, IsDate, IsTime, MomentsDecided, WeekdaysFollow}
+use Rattle.board_base.specs.Bits.{is_within}
 
 -- the months of a year have as many days
 months_agree : (year n : ℕ) → jiff_days_of_months (pos year) n ≡ days_of_months year n
@@ -109,3 +111,61 @@ weekdays_follow =
       next_month = λ year month h. omega (arith, next_month year month h);
       next_year = λ year h. omega (arith, next_year year h);
     }
+
+-- ---- which moments there are
+
+six : (a b c d e f : Bool) → (a && b && c && d && e && f) ≡ true →
+    (a ≡ true) × (b ≡ true) × (c ≡ true) × (d ≡ true) × (e ≡ true) × (f ≡ true)
+six false b c d e f test = absurd (false≢true test)
+six true false c d e f test = absurd (false≢true test)
+six true true false d e f test = absurd (false≢true test)
+six true true true false e f test = absurd (false≢true test)
+six true true true true false f test = absurd (false≢true test)
+six true true true true true false test = absurd (false≢true test)
+six true true true true true true test = (refl, refl, refl, refl, refl, refl)
+
+inside : (low high n : ℕ) → is_within low high n ≡ true → (low ≤ n) × (n ≤ high)
+inside low high n test =
+    let both = and_parts (leb low n) (leb n high) test in
+    (leb-true low n both.0, leb-true n high both.1)
+
+is_inside : (low high n : ℕ) → low ≤ n → n ≤ high → is_within low high n ≡ true
+is_inside low high n first last = and_from (leb low n) (leb n high) (le-leb low n first) (le-leb n high last)
+
+moment_decides : (year month day hour minute second : ℕ) →
+    is_moment year month day hour minute second ≡ true → IsDate year month day × IsTime hour minute second
+moment_decides year month day hour minute second test =
+    let parts = six _ _ _ _ _ _ test in
+    let years = inside _ _ year parts.0 in
+    let months = inside _ _ month parts.1 in
+    let days = inside _ _ day parts.2 in (
+      record {
+        year_low = years.0;
+        year_high = years.1;
+        month_low = months.0;
+        month_high = months.1;
+        day_low = days.0;
+        day_high = days.1;
+      },
+      record {
+        hour_high = leb-true hour _ parts.3;
+        minute_high = leb-true minute _ parts.4;
+        second_high = leb-true second _ parts.5;
+      },
+    )
+
+moment_decided : (year month day hour minute second : ℕ) →
+    IsDate year month day × IsTime hour minute second → is_moment year month day hour minute second ≡ true
+moment_decided year month day hour minute second (date, time) =
+    rw (
+      is_inside 1980 2099 year date.year_low date.year_high,
+      is_inside 1 12 month date.month_low date.month_high,
+      is_inside 1 (days_in_month year month) day date.day_low date.day_high,
+      le-leb hour 23 time.hour_high,
+      le-leb minute 59 time.minute_high,
+      le-leb second 59 time.second_high,
+    ) refl
+
+pub moments_decided : MomentsDecided
+moments_decided year month day hour minute second =
+    (moment_decides year month day hour minute second, moment_decided year month day hour minute second)

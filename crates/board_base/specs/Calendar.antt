@@ -1,7 +1,8 @@
 -- The Gregorian calendar in the years 1980 to 2099, with the days of the week counted on from
 -- Tuesday, 1 January 1980.
-use Rattle.std.specs.Prelude.{◌≡◌, ℕ, zero, suc, ◌+◌, ◌-◌, ◌%◌, ◌≤◌, Bool, not, ◌&&◌, ◌||◌, ◌==◌, if◌then◌else◌}
+use Rattle.std.specs.Prelude.{◌≡◌, ℕ, zero, suc, ◌+◌, ◌-◌, ◌%◌, ◌≤◌, ◌↔◌, Bool, true, not, ◌&&◌, ◌||◌, ◌==◌, nat_le, if◌then◌else◌}
 use Rattle.board_base.specs.declared.moment.Moment.{Moment}
+use Rattle.board_base.specs.Bits.{is_within}
 
 -- every fourth year, but of the centuries only every fourth
 abbrev pub is_leap : (year : ℕ) → Bool
@@ -30,6 +31,19 @@ pub record IsTime (hour minute second : ℕ) : Type 0 where
   pub hour_high : hour ≤ 23
   pub minute_high : minute ≤ 59
   pub second_high : second ≤ 59
+
+-- whether the calendar has this day, in a year from 1980 to 2099, and the day this second: what a reader of numbers asks
+-- (`moments_decided`)
+abbrev pub is_moment : (year month day hour minute second : ℕ) → Bool
+is_moment year month day hour minute second =
+    is_within 1980 2099 year && is_within 1 12 month && is_within 1 (days_in_month year month) day
+    && nat_le hour 23 && nat_le minute 59 && nat_le second 59
+
+-- a date and a time of day are decided so
+abbrev pub MomentsDecided : Type 0
+MomentsDecided =
+    (year month day hour minute second : ℕ) →
+    (is_moment year month day hour minute second ≡ true) ↔ (IsDate year month day × IsTime hour minute second)
 
 -- the days of this many years, the first of them 1980
 unfoldable pub days_of_years : (years : ℕ) → ℕ

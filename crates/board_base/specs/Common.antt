@@ -15,5 +15,5 @@ pub use Rattle.std.specs.Vec.Iter.{into_iter_items}
 pub use Rattle.std.specs.declared.vec.Vec.{Vec}
 pub use Rattle.board_base.specs.Access.{bytes_of, largest_of}
 pub use Rattle.board_base.specs.Bits.{MergedBits, bit, is_bit, merged}
-pub use Rattle.board_base.specs.Calendar.{IsMoment, days_in_month, is_leap, moment_of}
+pub use Rattle.board_base.specs.Calendar.{IsMoment, days_in_month, is_leap, is_moment, moment_of}
 unfoldable pub use Rattle.board_base.specs.Calendar.{days_of_months, days_of_years, days_since_1980, weekday_of}

@@ -1,7 +1,7 @@
 //! A date and a time of day, as the clock keeps it.
 ghost use Rattle.std.specs.Prelude.{IfSome};
 ghost use Rattle.std.specs.Option.{SomeIff};
-ghost use Rattle.board_base.specs.Calendar.{IsDate, IsMoment, IsTime, moment_of, weekday_of, WeekdaysFollow};
+ghost use Rattle.board_base.specs.Calendar.{IsDate, IsMoment, IsTime, moment_of, weekday_of, MomentsDecided, WeekdaysFollow};
 
 use jiff::civil::Date;
 
@@ -50,6 +50,11 @@ impl Moment {
     /// A law of the calendar: each day has the weekday after that of the day before it.
     pub fn weekdays_follow()
         ensures law { WeekdaysFollow }
+    {}
+
+    /// A law of the calendar: `is_moment` says whether there is such a moment.
+    pub fn moments_decided()
+        ensures law { MomentsDecided }
     {}
 }
 

@@ -32,7 +32,7 @@ pub use Rattle.board_spec.specs.RegisterTable.{base_reset, base_writable, functi
 unfoldable pub use Rattle.board_spec.specs.RegisterTable.{card_function, host_bridge, ide_function, isa_bridge, reset_byte, writable_bits}
 pub use Rattle.board_spec.specs.Registers.{address_written, bus_of, byte_after, byte_with, changed_byte, config_register, config_store, control_after, control_written, covers, device_of, function_of, is_config_port, is_enabled, is_hard_reset, is_hard_value, kept_address, register_change, register_of, resets_hard, smram_after}
 unfoldable pub use Rattle.board_spec.specs.Registers.{byte_of, config_address, reset_control}
-pub use Rattle.board_spec.specs.Setup.{Base, FittedCard, IoBase, IsBase, IsCard, IsCardList, IsDisk, IsDiskSize, IsExpansionRom, IsRomSize, IsSetup, MemoryBase, Rises, Setup, card_at, installed, memory_of_cards, memory_size, rom_base, vga_base, vga_bits}
+pub use Rattle.board_spec.specs.Setup.{Base, FittedCard, IoBase, IsBase, IsCard, IsCardList, IsDisk, IsDiskSize, IsExpansionRom, IsRomSize, IsSetup, MemoryBase, Rises, Setup, card_at, installed, is_base_in_range, is_rom_in_range, is_rom_size, memory_of_cards, memory_size, rom_base, vga_base, vga_bits}
 pub use Rattle.board_spec.specs.Stored.{CardCell, Cell, DramCell, byte_put, card_byte, distance, dram_byte, entry_put, expansion_byte, first_cell, is_write, memory_put, port_put}
 unfoldable pub use Rattle.board_spec.specs.Stored.{parts_put, stored_of}
 pub use Rattle.board_spec.specs.Text.{area_text, base_text, denial_text, device_text, hex_byte, hex_digit, hex_long, hex_number, hex_offset, hex_word, line_feed, register_text, space, target_text}
@@ -40,7 +40,7 @@ pub use Rattle.board_spec.specs.WideParts.{joined, longest_at, part_at, parts_li
 unfoldable pub use Rattle.board_spec.specs.WideParts.{parts_from}
 pub use Rattle.board_spec.specs.WideStores.{ByteByByte}
 unfoldable pub use Rattle.board_spec.specs.WideStores.{after_stores}
-pub use Rattle.device_spec.specs.Common.{Abort, Access, AllByRecursion, AllDigits, AllPairs, AllZip, Answer, Any, Appends, Area, Ata, Binary, Card, Chip, CivilTime, Clock, Confadd, Config, Contains, CounterState, CountersAreApart, Decimal, Denial, Dev, Device, Disk, Dram, Elcr, Fetch, Four, Global, HardwareStrobe, HighByte, Icw2, Icw3, Icw4, IsAtLoad, IsMoment, IsPermutation, Keeps, Keyboard, Kind, Levels, LowByte, LowThenHigh, Medium, MergedBits, Mode, Moment, NoMemory, NoRegister, Notation, One, OneShot, Pair, Pic0, Pic1, Pit, PitState, PortAccess, PulsesAddUp, RateGenerator, RateRepeats, Read, Reg, Register, ReservedLinesRest, Rom, Routes, SameLevelsAgain, Shadow, Smram, SoftwareStrobe, Spurious, SquareRepeats, SquareWave, System, Target, TerminalCount, Triggers, Two, Vec, Vector, WideAccess, Width, Wires, Word, Write, acknowledged, acknowledged_if, after_bad, after_moment, after_read, after_reset, after_write, alarm_fits, alarm_rings, and_zero_r, answer_at, bcd, blocks_itself, byte_at, byte_of_value, byte_value, byte_values, bytes_of, cascade, chip_after_even_write, chip_after_inputs, chip_after_ocw2, chip_after_odd_write, chip_after_word, chip_answer, chip_at_reset, civil_time, clock_data_port, clock_index_port, concat, control_of, control_reset, count_of_bytes, data_byte, day_at, days_in_month, device_at, digits_value, disk_count_port, disk_device_port, disk_error_port, disk_high_port, disk_low_port, disk_mid_port, disk_status_port, drives, enumerate_from, find, from_le_bytes, half_end, has, holds_time, hour_alarm_at, hour_at, hour_byte, interrupt, into_iter_items, is_24_hour, is_ata_port, is_binary, is_blocking, is_complete, is_disk_length, is_interrupt, is_leap, is_odd_port, is_periodic, is_port_of, is_requested, is_route_offset, is_slave_port, is_terminal_count, join_with_byte, largest_of, last_level, latches_after, levels_at_power_on, levels_of_byte, line_of_route, list_all, list_any, master_inputs, minute_alarm_at, minute_at, modulus, moment_of, month_at, named, naming, no_levels, number_byte, onto_first, option_and_then, option_eq, option_map, option_map_or, option_or, option_to_list, pair_acknowledged, pair_acknowledged_at, pair_after_lines, pair_after_read, pair_after_write, pair_at_reset, pair_read, pair_written, port_byte, position, position_or_len, power_on, power_on_drive, power_on_registers, priority_order, put, range_with_len, read_of, read_value, register_a, register_b, register_c, register_d, result_ok, route_byte, route_reset, routes_after_write, second_alarm_at, second_at, sector_bytes, sectors_of, select_of, settled, string_bytes, tell, time_bytes, to_le_bytes, trigger_byte, triggers_after_write, triggers_at_reset, update_interrupts, w16, w32, w64, w8, weekday_at, with_items, with_level, without_level, word_at, worth, written, year_at}
+pub use Rattle.device_spec.specs.Common.{Abort, Access, AllByRecursion, AllDigits, AllPairs, AllZip, Answer, Any, Appends, Area, Ata, Binary, Card, Chip, CivilTime, Clock, Confadd, Config, Contains, CounterState, CountersAreApart, Decimal, Denial, Dev, Device, Disk, Dram, Elcr, Fetch, Four, Global, HardwareStrobe, HighByte, Icw2, Icw3, Icw4, IsAtLoad, IsMoment, IsPermutation, Keeps, Keyboard, Kind, Levels, LowByte, LowThenHigh, Medium, MergedBits, Mode, Moment, NoMemory, NoRegister, Notation, One, OneShot, Pair, Pic0, Pic1, Pit, PitState, PortAccess, PulsesAddUp, RateGenerator, RateRepeats, Read, Reg, Register, ReservedLinesRest, Rom, Routes, SameLevelsAgain, Shadow, Smram, SoftwareStrobe, Spurious, SquareRepeats, SquareWave, System, Target, TerminalCount, Triggers, Two, Vec, Vector, WideAccess, Width, Wires, Word, Write, acknowledged, acknowledged_if, after_bad, after_moment, after_read, after_reset, after_write, alarm_fits, alarm_rings, and_zero_r, answer_at, bcd, blocks_itself, byte_at, byte_of_value, byte_value, byte_values, bytes_of, cascade, chip_after_even_write, chip_after_inputs, chip_after_ocw2, chip_after_odd_write, chip_after_word, chip_answer, chip_at_reset, civil_time, clock_data_port, clock_index_port, concat, control_of, control_reset, count_of_bytes, data_byte, day_at, days_in_month, device_at, digits_value, disk_count_port, disk_device_port, disk_error_port, disk_high_port, disk_low_port, disk_mid_port, disk_status_port, drives, enumerate_from, find, from_le_bytes, half_end, has, holds_time, hour_alarm_at, hour_at, hour_byte, interrupt, into_iter_items, is_24_hour, is_ata_port, is_binary, is_blocking, is_complete, is_disk_length, is_interrupt, is_leap, is_moment, is_odd_port, is_periodic, is_port_of, is_requested, is_route_offset, is_slave_port, is_terminal_count, join_with_byte, largest_of, last_level, latches_after, levels_at_power_on, levels_of_byte, line_of_route, list_all, list_any, master_inputs, minute_alarm_at, minute_at, modulus, moment_of, month_at, named, naming, no_levels, number_byte, onto_first, option_and_then, option_eq, option_map, option_map_or, option_or, option_to_list, pair_acknowledged, pair_acknowledged_at, pair_after_lines, pair_after_read, pair_after_write, pair_at_reset, pair_read, pair_written, port_byte, position, position_or_len, power_on, power_on_drive, power_on_registers, priority_order, put, range_with_len, read_of, read_value, register_a, register_b, register_c, register_d, result_ok, route_byte, route_reset, routes_after_write, second_alarm_at, second_at, sector_bytes, sectors_of, select_of, settled, string_bytes, tell, time_bytes, to_le_bytes, trigger_byte, triggers_after_write, triggers_at_reset, update_interrupts, w16, w32, w64, w8, weekday_at, with_items, with_level, without_level, word_at, worth, written, year_at}
 unfoldable pub use Rattle.device_spec.specs.Common.{access_numbered, after_word, answer_of, asks_for_load, begin_read, begin_write, byte_of_levels, byte_read, chip_after_read, chip_after_write, commanded, complete, control, count_down, count_half, count_of_number, count_to_end, count_to_reload, count_to_strobe, days_of_months, days_of_years, days_since_1980, digits, element_bytes, first_blocking, first_selectable, gate_falls, gate_rises, high_byte, identify_word, is_line_driven, latch_count, latch_status, levels_where, load, low_byte, mode_numbered, obeyed, out_of, pair_after_acknowledge, pending, port_read, port_write, programmed, pulse, pulse_all, pulse_by_mode, pulses, pulses_of, read, read_back, read_back_chosen, read_live, register_written, request, reset, rises, sector_read, sector_written, set_gate2, status_byte, take_byte, take_low, verified, weekday_of, word_written, write, write_control}
 pub use Rattle.device_spec.specs.declared.port.Select.{Select}
 pub use Rattle.device_spec.specs.declared.port.Select.TheVariants.{Always, IdeChannel, XbcsBit0, XbcsBit1}

@@ -24,22 +24,22 @@ line_where false answer = None
 
 -- ---- DRAM rows and the fixed hole (82441FX, DRB and FDHC)
 
--- the address at which a row of DRAM ends: its boundary register counts 8 MiB
+-- the address at which a row of DRAM ends: its boundary register counts 8 MiB (82441FX, DRB)
 abbrev pub boundary : Bytes → ℕ → ℕ
 boundary bytes row = bytes (drb row) * boundary_unit
 
--- the top of DRAM is the last boundary
+-- the top of DRAM is the last boundary (82441FX, DRB7)
 abbrev pub top_of : Bytes → ℕ
 top_of bytes = boundary bytes 7
 
--- the row of an address below the top: the least whose boundary lies above the address
+-- the row of an address below the top: the least whose boundary lies above the address (82441FX, DRB)
 unfoldable pub row_of : Bytes → ℕ → Option ℕ
 row_of bytes addr =
     if nat_lt addr (top_of bytes)
     then find (λ row. nat_lt addr (boundary bytes row)) (0 ∷ 1 ∷ 2 ∷ 3 ∷ 4 ∷ 5 ∷ 6 ∷ 7 ∷ [])
     else None
 
--- the hole, first and last address, by bits 7 and 6 of FDHC
+-- the hole, first and last address, by bits 7 and 6 of FDHC (82441FX, FDHC, Hole Enable)
 abbrev pub hole_of : ℕ → Option (ℕ × ℕ)
 hole_of control =
     if control / 0x40 == 1 then Some hole_at_512_kib else
@@ -67,7 +67,7 @@ nibble byte false = byte % 0x10
 abbrev pub is_shadow_range : ℕ → Bool
 is_shadow_range addr = lies_in shadow_range addr
 
--- bit 0 of the nibble opens the window for reads and fetches, bit 1 for writes
+-- bit 0 of the nibble opens the window for reads and fetches, bit 1 for writes (82441FX, PAM, RE and WE)
 abbrev pub is_open : ℕ → Kind → Bool
 is_open enables Fetch = is_bit enables 0
 is_open enables Read = is_bit enables 0
@@ -84,8 +84,8 @@ is_fetch Fetch = true
 is_fetch Read = false
 is_fetch Write = false
 
--- the table of the datasheet over SMRAME, DCLS and DOPEN. Where DCLS and DOPEN are both set, this board lets
--- every fetch reach SMRAM and sends data to PCI
+-- the table of the datasheet over SMRAME, DCLS and DOPEN (82441FX, SMRAM register, SMRAM space cycles). Where DCLS and
+-- DOPEN are both set, this board lets every fetch reach SMRAM and sends data to PCI (profile)
 abbrev pub reaches_smram : (enabled closed opened : Bool) → Kind → Bool → Bool
 reaches_smram false closed opened kind smm = false
 reaches_smram true false opened kind smm = smm || opened
@@ -99,6 +99,7 @@ is_smram_range addr = lies_in smram_range addr
 
 -- ---- the BIOS ROM (82371SB, XBCS)
 
+-- the BIOS ranges, always or by bits 6 and 7: Lower BIOS Enable and Extended BIOS Enable (82371SB, XBCS)
 abbrev pub is_rom_selected : ℕ → ℕ → Bool
 is_rom_selected selects addr =
     lies_in system_bios addr
@@ -143,7 +144,7 @@ rom_window_of bytes dev (Some bits) = record { dev = dev; base = rom_base; insid
 abbrev pub rom_window : Bytes → FittedCard → List Window
 rom_window bytes card = rom_window_of bytes card.dev card.rom
 
--- bit 0 of the ROM's register selects it
+-- bit 0 of the ROM's register selects it (PCI Local Bus 2.1, section 6.2.5.2)
 abbrev pub is_rom_on : Bytes → ℕ → Bool
 is_rom_on bytes dev = is_bit (bytes (expansion_rom dev)) 0
 
@@ -166,7 +167,7 @@ abbrev pub io_windows : Bytes → FittedCard → List Window
 io_windows bytes card =
     flat_map (λ numbered. io_window bytes card.dev numbered.0 numbered.1) (enumerate_from 0 card.bases)
 
--- bit 1 of a card's command enables its memory, bit 0 its ports
+-- bit 1 of a card's command enables its memory, bit 0 its ports (PCI Local Bus 2.1, section 6.2.2)
 abbrev pub is_enabled_for : ℕ → Bytes → ℕ → Bool
 is_enabled_for command_bit bytes dev = is_bit (bytes (card_command dev)) command_bit
 
@@ -207,7 +208,7 @@ card_area window = Card window.dev window.base
 
 -- the areas of the memory map in the order in which they answer, over what the registers say of the
 -- address: its row of DRAM, whether SMRAM answers, its shadow window is open, it lies in the hole,
--- the ROM is selected, and the card that claims it (`law_areas` says who answers where)
+-- the ROM is selected, and the card that claims it (`law_areas` says who answers where; 82441FX, System Address Map)
 abbrev pub area_under : (row : Option ℕ) → (opened shadowed hole rom : Bool) → (claim : Option Window) → ℕ → Area
 area_under row opened shadowed hole rom claim addr =
     first_of
@@ -246,7 +247,7 @@ abort_denial top shut unselected addr =
     ∷ [])
     NoRegister
 
--- a write to the ROM is denied by XBCS bit 2, or by the chip itself
+-- a write to the ROM is denied by XBCS bit 2, or by the chip itself (82371SB, XBCS, BIOSCS# Write Protect)
 abbrev pub rom_denial : ℕ → Denial
 rom_denial selects = if is_bit selects 2 then NoRegister else Register xbcs
 

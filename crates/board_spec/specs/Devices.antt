@@ -67,7 +67,8 @@ triggers_of (entry ∷ before) =
 
 -- ---- port 61h
 
--- bits 1 and 0 as written, and the bit that flips after each read
+-- bits 1 and 0 as written (82371SB, NMISC: speaker data and timer counter 2 enable), and the bit that flips after each
+-- read
 pub record SystemPort : Type 0 where
   pub kept : ℕ
   pub flip : Bool

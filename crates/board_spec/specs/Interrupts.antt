@@ -15,7 +15,7 @@ use Rattle.board_spec.specs.Devices.{device_reached, wire_of, irq_of, triggers_o
 
 -- ---- the lines
 
--- INTA# of the card at device d goes to PIRQ (d - 1) mod 4, where 0 is A
+-- INTA# of the card at device d goes to PIRQ (d - 1) mod 4, where 0 is A (this board's wiring)
 abbrev pub pirq_of_card : ℕ → ℕ
 pirq_of_card dev = (dev - 1) % 4
 
@@ -23,7 +23,7 @@ pirq_of_card dev = (dev - 1) % 4
 abbrev pub card_devices : List ℕ
 card_devices = 2 ∷ 3 ∷ 4 ∷ 5 ∷ 6 ∷ 7 ∷ 8 ∷ 9 ∷ []
 
--- a PIRQ is the or of its wires
+-- a PIRQ is the or of its wires (PCI Local Bus 2.1, section 2.2.6: interrupt pins are shared)
 abbrev pub pirq_level : List Entry → ℕ → Bool
 pirq_level history k = list_any (λ dev. pirq_of_card dev == k && wire_of history dev) card_devices
 
@@ -39,6 +39,7 @@ abbrev pub pirq_levels : List Entry → List Bool
 pirq_levels history = map (pirq_level history) pirqs
 
 -- what drives a line besides the routing: 0 the timer, 8 the clock, 14 the disk, and the free lines `irq`
+-- (82371SB, Interrupt Controller: IRQ0, IRQ8# and IRQ14)
 abbrev pub own_level : Setup → List Entry → PitState → ℕ → Bool
 own_level setup history timer line =
     if line == 0 then out_of 0 timer else
@@ -108,7 +109,8 @@ pair_of setup (entry ∷ before) = pair_stepped setup entry before entry.event (
 
 -- ---- what the devices give
 
--- port 61h: bits 1 and 0 as written, bit 4 flips, bit 5 is OUT of counter 2
+-- port 61h: bits 1 and 0 as written, bit 4 flips, bit 5 is OUT of counter 2 (82371SB, NMISC; that bit 4 flips with each
+-- read: profile)
 abbrev pub system_value : SystemPort → PitState → ℕ
 system_value port timer = port.kept + (if port.flip then 0x10 else 0) + (if out_of 2 timer then 0x20 else 0)
 

@@ -20,7 +20,7 @@ device dev = record { target = Device dev; denial = None }
 abbrev pub nobody : Denial → Decoded
 nobody denial = record { target = Abort; denial = Some denial }
 
--- a card answers at the port modulo the size of its base
+-- a card answers at the port modulo the size of its base (PCI Local Bus 2.1, section 6.2.5.1)
 abbrev pub card_port : ℕ → Window → Decoded
 card_port port window =
     record { target = Card window.dev window.base (port % 2 ^ window.bits); denial = None }
@@ -35,12 +35,13 @@ abbrev pub unselected : Setup → Bytes → ℕ → Denial → Decoded
 unselected setup bytes port denial =
     unwrap_or (option_map (card_port port) (io_claim setup bytes port)) (nobody denial)
 
--- a device that a bit of XBCS selects
+-- a device that a bit of XBCS selects (82371SB, XBCS: RTC Address Location and KBC Address Location enables)
 abbrev pub by_xbcs : (bit : ℕ) → Dev → Setup → Bytes → ℕ → Decoded
 by_xbcs bit dev setup bytes port =
     if is_bit (bytes xbcs) bit then device dev else unselected setup bytes port (Register xbcs)
 
--- the disk answers where one is fitted, bit 0 of the IDE command and bit 15 of IDETIM are set
+-- the disk answers where one is fitted, bit 0 of the IDE command and bit 15 of IDETIM are set (82371SB, PCICMD of the
+-- IDE function, I/O Space Enable; IDETIM, IDE Decode Enable)
 abbrev pub by_channel : (disk : Bool) → Dev → Setup → Bytes → ℕ → Decoded
 by_channel false dev setup bytes port = unselected setup bytes port NoRegister
 by_channel true dev setup bytes port =

@@ -1,6 +1,6 @@
 -- The registers by the names of their datasheets: the 82441FX, the 82371SB, and PCI Local Bus 2.1, section 6.2.
 use Rattle.std.specs.Prelude.{ℕ, ◌+◌, ◌*◌, ◌==◌, Bool, ◌&&◌}
-use Rattle.board_base.specs.declared.target.Reg.{Reg}
+use Rattle.device_spec.specs.Common.{Reg, first_route}
 
 -- a register of the host bridge, of the ISA bridge, of the IDE function and of a card, by its offset
 abbrev pub bridge : ℕ → Reg
@@ -17,36 +17,36 @@ card_register dev off = record { dev = dev; fun = 0; off = off }
 
 -- ---- the host bridge
 
--- PAM0 to PAM6, the programmable attribute maps
+-- PAM0 to PAM6, the programmable attribute maps (82441FX)
 abbrev pub pam : ℕ → Reg
 pam k = bridge (0x59 + k)
 
--- DRB0 to DRB7, the DRAM row boundaries
+-- DRB0 to DRB7, the DRAM row boundaries (82441FX)
 abbrev pub drb : ℕ → Reg
 drb row = bridge (0x60 + row)
 
--- the fixed DRAM hole
+-- the fixed DRAM hole (82441FX, FDHC)
 abbrev pub fdhc : Reg
 fdhc = bridge 0x68
 
--- SMRAM control
+-- SMRAM control (82441FX)
 abbrev pub smram : Reg
 smram = bridge 0x72
 
 -- ---- the ISA bridge and the IDE function
 
--- the X-bus chip selects
+-- the X-bus chip selects (82371SB, XBCS)
 abbrev pub xbcs : Reg
 xbcs = isa 0x4E
 
--- PIRQRCA to PIRQRCD, the routes of the PCI interrupts
+-- PIRQRCA to PIRQRCD, the routes of the PCI interrupts (82371SB)
 abbrev pub pirq : ℕ → Reg
-pirq k = isa (0x60 + k)
+pirq k = isa (first_route + k)
 
 abbrev pub ide_command : Reg
 ide_command = ide 0x04
 
--- IDETIM of the primary channel, its low and its high byte
+-- IDETIM of the primary channel, its low and its high byte (82371SB)
 abbrev pub idetim : Reg
 idetim = ide 0x40
 

@@ -2,7 +2,7 @@
 -- of the 82441FX (00.0) and the 82371SB (01.0 and 01.1) list them, and the cards' by PCI Local Bus
 -- 2.1, section 6.2. What no line lists reads 00 and ignores writes.
 use Rattle.std.specs.Prelude.{ℕ, ◌+◌, ◌-◌, ◌^◌, ◌==◌, Bool, ◌&&◌, nat_lt, nat_le, if◌then◌else◌, List, [], ◌∷◌, get_or, length, replicate, flat_map, Option, Some, None, is_some, option_map, unwrap_or}
-use Rattle.board_base.specs.declared.target.Reg.{Reg}
+use Rattle.device_spec.specs.Common.{Reg, route_mask, route_reset}
 use Rattle.board_spec.specs.Setup.{Base, MemoryBase, IoBase, FittedCard, Setup, card_at}
 use Rattle.board_spec.specs.Bits.{long_bytes}
 use Rattle.board_spec.specs.RegisterNames.{pam, drb, fdhc, smram, xbcs, pirq, ide_command, idetim, card_command, base_register, expansion_rom, interrupt_line}
@@ -41,7 +41,7 @@ isa_bridge =
     ∷ line 0x08 (0x00 ∷ 0x00 ∷ 0x01 ∷ 0x06 ∷ []) read_only  -- class 060100h
     ∷ line 0x0E (0x80 ∷ []) read_only  -- header type: several functions
     ∷ line xbcs.off (0x03 ∷ 0x00 ∷ []) (0xC7 ∷ 0x00 ∷ [])
-    ∷ line (pirq 0).off (replicate 4 0x80) (replicate 4 0x8F)  -- PIRQRCA to PIRQRCD
+    ∷ line (pirq 0).off (replicate 4 route_reset) (replicate 4 route_mask)  -- PIRQRCA to PIRQRCD
     ∷ []
 
 -- 01.1, the IDE function of the 82371SB

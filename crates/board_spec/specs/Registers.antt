@@ -23,7 +23,7 @@ control_written (Port access) =
     if access.write && access.port == reset_control_port && bytes_of access.width == 1 then Some access.value else None
 control_written _ = None
 
--- a write of this value resets hard where bits 2 and 1 are set and bit 2 was not
+-- a write of this value resets hard where bits 2 and 1 are set and bit 2 was not (82371SB, RC: RCPU and SRST)
 abbrev pub is_hard_value : ℕ → ℕ → Bool
 is_hard_value control value = is_bit value 2 && is_bit value 1 && not (is_bit control 2)
 
@@ -53,6 +53,7 @@ address_written (Port access) =
 address_written _ = None
 
 -- the bits that the configuration address keeps: enable, bus, device, function and register
+-- (PCI Local Bus 2.1, Configuration Mechanism #1; 82441FX, CONFADD)
 abbrev pub kept_address : ℕ → ℕ
 kept_address value = bit_and value 0x80FF_FFFC
 
@@ -83,7 +84,7 @@ register_of address = address % 0x100
 abbrev pub is_config_port : ℕ → Bool
 is_config_port port = lies_in config_data_ports port
 
--- the register at a configuration port, where the address is enabled and its function exists
+-- the register at a configuration port, where the address is enabled and its function exists (82441FX, CONFDATA)
 abbrev pub config_register : Setup → ℕ → ℕ → Option Reg
 config_register setup address port =
     if is_enabled address && function_exists setup (bus_of address) (device_of address) (function_of address)
@@ -111,7 +112,7 @@ covers at width reg =
     at.dev == reg.dev && at.fun == reg.fun && nat_le at.off reg.off && nat_lt reg.off (at.off + bytes_of width)
 
 -- the SMRAM register. Bits: 6 DOPEN, 5 DCLS, 4 DLCK, 3 SMRAME; 7 reads 0 and 2 to 0 read 010. DLCK stays
--- once it is set, and where it is set DOPEN is 0 (`law_smram` says so bit by bit)
+-- once it is set, and where it is set DOPEN is 0 (`law_smram` says so bit by bit; 82441FX, SMRAM register)
 abbrev pub smram_after : ℕ → ℕ → ℕ
 smram_after old written =
     let lock = max (bit old 4) (bit written 4) in

@@ -1,5 +1,6 @@
 -- What a board is fitted with. Every definition here is for one fixed setup.
-use Rattle.std.specs.Prelude.{ℕ, ◌≡◌, ◌<◌, ◌≤◌, ◌==◌, ◌*◌, ◌^◌, ◌⊎◌, Bool, List, [], ◌∷◌, length, All, sum_by, flat_map, Option, Some, None, find}
+use Rattle.std.specs.Prelude.{ℕ, ◌≡◌, ◌<◌, ◌≤◌, ◌==◌, ◌*◌, ◌^◌, ◌⊎◌, Bool, true, ◌||◌, List, [], ◌∷◌, length, All, sum_by, flat_map, Option, Some, None, find}
+use Rattle.board_base.specs.Bits.{is_within}
 use Rattle.board_spec.specs.Limits.{most_mib, most_card_memory}
 
 -- a base address register of a card, for memory or for I/O ports, of 2 ^ bits bytes
@@ -55,6 +56,15 @@ abbrev pub IsExpansionRom : Option ℕ → Type 0
 IsExpansionRom None = Unit {0}
 IsExpansionRom (Some bits) = (11 ≤ bits) × (bits ≤ 24)
 
+-- the same asked of numbers that are read
+abbrev pub is_base_in_range : Base → Bool
+is_base_in_range (MemoryBase bits) = is_within 4 24 bits
+is_base_in_range (IoBase bits) = is_within 2 8 bits
+
+abbrev pub is_rom_in_range : Option ℕ → Bool
+is_rom_in_range None = true
+is_rom_in_range (Some bits) = is_within 11 24 bits
+
 pub record IsCard (card : FittedCard) : Type 0 where
   pub first : 2 ≤ card.dev
   pub last : card.dev ≤ 9
@@ -83,6 +93,10 @@ memory_of_cards cards = sum_by memory_size (flat_map (λ card. card.bases) cards
 -- a ROM of 64, 128, 256 or 512 KiB
 abbrev pub IsRomSize : ℕ → Type 0
 IsRomSize size = (size ≡ 0x1_0000) ⊎ (size ≡ 0x2_0000) ⊎ (size ≡ 0x4_0000) ⊎ (size ≡ 0x8_0000)
+
+-- the same asked of numbers that are read (`is_disk_length` asks so of a disk)
+abbrev pub is_rom_size : ℕ → Bool
+is_rom_size size = size == 0x1_0000 || size == 0x2_0000 || size == 0x4_0000 || size == 0x8_0000
 
 -- a disk of 1 to 65,536 whole sectors of 512 bytes
 abbrev pub IsDiskSize : ℕ → Type 0

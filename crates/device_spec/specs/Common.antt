@@ -1,5 +1,5 @@
 -- The definitions that files above cite, passed on from one place. Declares nothing.
-pub use Rattle.board_base.specs.Common.{AllByRecursion, AllDigits, AllPairs, AllZip, Any, Appends, Contains, Global, IsMoment, IsPermutation, Keeps, MergedBits, Vec, and_zero_r, bytes_of, concat, days_in_month, digits_value, enumerate_from, find, from_le_bytes, into_iter_items, is_bit, is_leap, join_with_byte, largest_of, list_all, list_any, moment_of, onto_first, option_and_then, option_eq, option_map, option_map_or, option_or, option_to_list, position, position_or_len, range_with_len, result_ok, string_bytes, to_le_bytes, w16, w32, w64, w8, with_items}
+pub use Rattle.board_base.specs.Common.{AllByRecursion, AllDigits, AllPairs, AllZip, Any, Appends, Contains, Global, IsMoment, IsPermutation, Keeps, MergedBits, Vec, and_zero_r, bytes_of, concat, days_in_month, digits_value, enumerate_from, find, from_le_bytes, into_iter_items, is_bit, is_leap, is_moment, join_with_byte, largest_of, list_all, list_any, moment_of, onto_first, option_and_then, option_eq, option_map, option_map_or, option_or, option_to_list, position, position_or_len, range_with_len, result_ok, string_bytes, to_le_bytes, w16, w32, w64, w8, with_items}
 unfoldable pub use Rattle.board_base.specs.Common.{days_of_months, days_of_years, days_since_1980, digits, weekday_of}
 pub use Rattle.board_base.specs.declared.access.Kind.{Kind}
 pub use Rattle.board_base.specs.declared.access.Kind.TheVariants.{Fetch, Read, Write}
@@ -41,7 +41,7 @@ pub use Rattle.device_spec.specs.PitPeriods.{IsAtLoad, RateRepeats, SquareRepeat
 pub use Rattle.device_spec.specs.PortLaws.{ConfigApart, PortsApart}
 pub use Rattle.device_spec.specs.PortNames.{clock_data_port, clock_index_port, disk_control_port, disk_count_port, disk_device_port, disk_error_port, disk_high_port, disk_low_port, disk_mid_port, disk_status_port}
 pub use Rattle.device_spec.specs.PortTable.{device_at, first_with, is_port_of, select_of}
-pub use Rattle.device_spec.specs.Routing.{Routes, drives, is_reserved_line, is_route_offset, is_routed, line_in, line_of_route, route_byte, route_reset, routes_after_write}
+pub use Rattle.device_spec.specs.Routing.{Routes, drives, first_route, is_reserved_line, is_route_offset, is_routed, line_in, line_of_route, route_byte, route_mask, route_reset, routes_after_write}
 unfoldable pub use Rattle.device_spec.specs.Routing.{is_line_driven}
 pub use Rattle.device_spec.specs.RoutingLaws.{ReservedLinesRest}
 pub use Rattle.device_spec.specs.Told.{civil_time}

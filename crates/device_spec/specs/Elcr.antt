@@ -1,5 +1,5 @@
--- The edge/level control registers of the PIIX3: ELCR1 at port 4D0h for lines 0 to 7 and ELCR2 at port
--- 4D1h for lines 8 to 15. A bit at 1 says that its line is level triggered.
+-- The edge/level control registers: ELCR1 at port 4D0h for lines 0 to 7 and ELCR2 at port 4D1h for lines 8 to 15. A bit
+-- at 1 says that its line is level triggered (82371SB, ELCR: Edge/Level Control Registers).
 use Rattle.std.specs.Prelude.{ℕ, Bool, if◌then◌else◌}
 use Rattle.board_base.specs.Bits.{merged}
 
@@ -8,7 +8,7 @@ pub record Triggers : Type 0 where
   pub low : ℕ
   pub high : ℕ
 
--- the bits that can be written: lines 0, 1, 2, 8 and 13 stay edge triggered
+-- the bits that can be written: lines 0, 1, 2, 8 and 13 stay edge triggered (82371SB, ELCR)
 abbrev pub low_trigger_mask : ℕ
 low_trigger_mask = 0xF8
 

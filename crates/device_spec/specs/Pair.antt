@@ -1,5 +1,6 @@
 -- The two 8259As of a PC: the master at ports 20h and 21h has the lines 0 to 7, the slave at A0h and
--- A1h has the lines 8 to 15, and the slave's INT is input 2 of the master.
+-- A1h has the lines 8 to 15, and the slave's INT is input 2 of the master (8259A, Cascade Mode; 82371SB, Interrupt
+-- Controller).
 use Rattle.std.specs.Prelude.{ℕ, Bool, true, false, Option, Some, None, List, ◌∷◌, ◌+◌, ◌/◌, ◌%◌, ◌==◌, is_some, take, drop, replicate, if◌then◌else◌}
 use Rattle.board_base.specs.Bits.{is_bit}
 use Rattle.device_spec.specs.Levels.{Levels, with_level, without_level, levels_of_byte}
@@ -13,7 +14,8 @@ pub record Pair : Type 0 where
 abbrev pub master_inputs : Levels → Levels
 master_inputs levels = without_level levels cascade
 
--- The slave's INT at 1 sets the latch of input 2; its fall does not clear it (this board's choice).
+-- The slave's INT at 1 sets the latch of input 2 (8259A, Cascade Mode); its fall does not clear it (this board's
+-- choice).
 abbrev pub settled : Pair → Pair
 settled pair =
     if is_some (interrupt pair.slave)
@@ -43,7 +45,7 @@ pair_after_lines pair levels elcr =
 
 -- ---- ports
 
--- bit 7 of the port chooses the chip, and bit 0 is its input A0
+-- bit 7 of the port chooses the chip, and bit 0 is its input A0 (82371SB, Interrupt Controller registers)
 abbrev pub is_slave_port : ℕ → Bool
 is_slave_port port = is_bit port 7
 
@@ -82,12 +84,13 @@ pub record Answer : Type 0 where
   pub chip : ℕ
   pub is_spurious : Bool
 
--- A chip answers with its base plus the level, or spuriously with its base plus the last level.
+-- A chip answers with its base plus the level, or spuriously with its base plus the last level
+-- (8259A, Interrupt Sequence).
 abbrev pub chip_answer : ℕ → Chip → Option ℕ → Answer
 chip_answer number chip None = record { vector = chip.base + last_level; chip = number; is_spurious = true }
 chip_answer number chip (Some level) = record { vector = chip.base + level; chip = number; is_spurious = false }
 
--- The master answers, and the slave where the master's level is 2.
+-- The master answers, and the slave where the master's level is 2 (8259A, Cascade Mode).
 abbrev pub answer_at : Pair → Option ℕ → Answer
 answer_at pair None = chip_answer 0 pair.master None
 answer_at pair (Some level) =
@@ -96,8 +99,8 @@ answer_at pair (Some level) =
 unfoldable pub answer_of : Pair → Answer
 answer_of pair = answer_at pair (interrupt pair.master)
 
--- Where the master has a level, it is acknowledged, and for level 2 the slave's own one too. A spurious
--- answer changes no set of the chip that gives it (this board's choice).
+-- Where the master has a level, it is acknowledged, and for level 2 the slave's own one too (8259A, Cascade Mode). A
+-- spurious answer changes no set of the chip that gives it (this board's choice).
 abbrev pub pair_acknowledged : Pair → ℕ → Pair
 pair_acknowledged pair level =
     record {

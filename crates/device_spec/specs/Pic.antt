@@ -4,15 +4,16 @@ use Rattle.std.specs.Prelude.{ℕ, Bool, true, false, Option, Some, None, List, 
 use Rattle.board_base.specs.Common.{find, list_any, is_bit}
 use Rattle.device_spec.specs.Levels.{Levels, all_levels, has, levels_where, no_levels, with_level, without_level, levels_of_byte, byte_of_levels}
 
--- the input of the master to which the slave is wired
+-- the input of the master to which the slave is wired (82371SB, Interrupt Controller: IRQ2)
 abbrev pub cascade : ℕ
 cascade = 2
 
--- the level that is lowest after a reset and after ICW1, and whose vector a spurious answer gives
+-- the level that is lowest after a reset and after ICW1 (8259A, Initialization Command Words 1 and 2), and whose vector
+-- a spurious answer gives (8259A, Interrupt Sequence)
 abbrev pub last_level : ℕ
 last_level = 7
 
--- the initialisation command words that follow ICW1
+-- the initialisation command words that follow ICW1 (8259A, Initialization Command Words)
 pub data Word : Type 0 where
   Icw2 : Word
   Icw3 : Word
@@ -65,7 +66,7 @@ chip_at_reset has_slave inputs =
 
 -- ---- inputs
 
--- A rise of an input sets its latch. A fall clears it (this board's choice).
+-- A rise of an input sets its latch (8259A, Edge and Level Triggered Modes). A fall clears it (this board's choice).
 abbrev pub latches_after : Levels → Levels → Levels → Levels
 latches_after latches before now =
     levels_where (λ level.
@@ -78,6 +79,7 @@ chip_after_inputs chip inputs triggers =
     record chip { latches = latches_after chip.latches chip.inputs inputs; inputs = inputs; triggers = triggers }
 
 -- the pending levels (IRR): of the level triggered ones the inputs at 1, of the others the latches
+-- (8259A, Edge and Level Triggered Modes)
 unfoldable pub pending : Chip → Levels
 pending chip =
     levels_where (λ level. if has chip.triggers level then has chip.inputs level else has chip.latches level)
@@ -85,24 +87,25 @@ pending chip =
 -- ---- priority
 
 -- the levels from the highest priority to the lowest: those after the lowest, and round to it
+-- (8259A, Automatic Rotation and Specific Rotation)
 abbrev pub priority_order : ℕ → List ℕ
 priority_order lowest = drop (lowest + 1) all_levels ++ take (lowest + 1) all_levels
 
--- whether a level is in service and so blocks; in special mask mode a masked one does not
+-- whether a level is in service and so blocks; in special mask mode a masked one does not (8259A, Special Mask Mode)
 abbrev pub is_blocking : Chip → ℕ → Bool
 is_blocking chip level = has chip.in_service level && not (chip.special_mask && has chip.masked level)
 
--- In special fully nested mode the level of a slave does not block itself.
+-- In special fully nested mode the level of a slave does not block itself (8259A, The Special Fully Nested Mode).
 abbrev pub blocks_itself : Chip → ℕ → Bool
 blocks_itself chip level =
     is_blocking chip level && not (chip.fully_nested && (chip.has_slave && (level == cascade)))
 
--- whether a level is pending and not masked
+-- whether a level is pending and not masked (8259A, Interrupt Masks)
 abbrev pub is_requested : Chip → ℕ → Bool
 is_requested chip level = has (pending chip) level && not (has chip.masked level)
 
 -- Whether a level can be selected after the given levels of higher priority: where it is requested, and
--- neither one of them nor the level itself blocks it.
+-- neither one of them nor the level itself blocks it (8259A, Fully Nested Mode).
 abbrev pub is_selectable : Chip → List ℕ → ℕ → Bool
 is_selectable chip higher level =
     is_requested chip level && not (list_any (is_blocking chip) higher || blocks_itself chip level)
@@ -113,7 +116,7 @@ first_selectable chip higher [] = None
 first_selectable chip higher (level ∷ lower) =
     if is_selectable chip higher level then Some level else first_selectable chip (higher ++ level ∷ []) lower
 
--- the level that the chip requests service for
+-- the level that the chip requests service for (8259A, Priority Resolver)
 unfoldable pub request : Chip → Option ℕ
 request chip = first_selectable chip [] (priority_order chip.lowest)
 
@@ -123,7 +126,7 @@ interrupt chip = if chip.is_ready then request chip else None
 
 -- ---- acknowledge
 
--- a chip whose level was acknowledged
+-- a chip whose level was acknowledged (8259A, Interrupt Sequence; Automatic End of Interrupt Mode; Automatic Rotation)
 abbrev pub acknowledged : Chip → ℕ → Chip
 acknowledged chip level =
     record chip {
@@ -139,11 +142,13 @@ acknowledged_if chip (Some level) = acknowledged chip level
 
 -- ---- writes at the even port
 
--- ICW1 begins a sequence: ICW2, then ICW3 where bit 1 is 0, then ICW4 where bit 0 is 1.
+-- ICW1 begins a sequence: ICW2, then ICW3 where bit 1 is 0, then ICW4 where bit 0 is 1
+-- (8259A, Initialization Command Words).
 abbrev pub words_after_icw1 : ℕ → List Word
 words_after_icw1 byte =
     Icw2 ∷ ((if is_bit byte 1 then [] else Icw3 ∷ []) ++ (if is_bit byte 0 then Icw4 ∷ [] else []))
 
+-- what ICW1 clears (8259A, Initialization Command Words 1 and 2, points a to f)
 abbrev pub chip_after_icw1 : Chip → ℕ → Chip
 chip_after_icw1 chip byte =
     record chip {
@@ -160,11 +165,12 @@ chip_after_icw1 chip byte =
       reads_in_service = false;
     }
 
--- the level that a non-specific end of interrupt is for: the first that blocks
+-- the level that a non-specific end of interrupt is for: the first that blocks (8259A, End of Interrupt; Special Mask
+-- Mode: a masked one in service is not ended so)
 unfoldable pub first_blocking : Chip → Option ℕ
 first_blocking chip = find (is_blocking chip) (priority_order chip.lowest)
 
--- a chip whose level left service, and became the lowest where it rotates
+-- a chip whose level left service, and became the lowest where it rotates (8259A, End of Interrupt; Automatic Rotation)
 abbrev pub ended : Bool → Chip → Option ℕ → Chip
 ended rotates chip None = chip
 ended rotates chip (Some level) =
@@ -173,7 +179,7 @@ ended rotates chip (Some level) =
       lowest = if rotates then level else chip.lowest;
     }
 
--- OCW2, by its bits 7 to 5 (R, SL and EOI), with the level of its bits 2 to 0
+-- OCW2, by its bits 7 to 5 (R, SL and EOI), with the level of its bits 2 to 0 (8259A, Operation Control Word 2)
 abbrev pub chip_after_ocw2 : Chip → ℕ → ℕ → Chip
 chip_after_ocw2 chip command level =
     -- non-specific EOI
@@ -193,6 +199,7 @@ chip_after_ocw2 chip command level =
     else chip
 
 -- OCW3: bits 6 and 5 set or clear special mask mode, bit 2 polls, bits 1 and 0 choose what a read gives
+-- (8259A, Operation Control Word 3)
 abbrev pub chip_after_ocw3 : Chip → ℕ → Chip
 chip_after_ocw3 chip byte =
     record chip {
@@ -201,7 +208,7 @@ chip_after_ocw3 chip byte =
       reads_in_service = if is_bit byte 1 then is_bit byte 0 else chip.reads_in_service;
     }
 
--- the byte is ICW1 where bit 4 is 1, else OCW3 where bit 3 is 1, and else OCW2
+-- the byte is ICW1 where bit 4 is 1, else OCW3 where bit 3 is 1, and else OCW2 (8259A, the command words at A0 = 0)
 abbrev pub chip_after_even_write : Chip → ℕ → Chip
 chip_after_even_write chip byte =
     if is_bit byte 4 then chip_after_icw1 chip byte
@@ -210,7 +217,8 @@ chip_after_even_write chip byte =
 
 -- ---- writes at the odd port
 
--- ICW2 gives the base of the vectors, ICW3 is ignored, and ICW4 gives two modes.
+-- ICW2 gives the base of the vectors, ICW3 is ignored, and ICW4 gives two modes
+-- (8259A, Initialization Command Words 1 and 2, 3 and 4).
 abbrev pub chip_after_word : Chip → Word → ℕ → Chip
 chip_after_word chip Icw2 byte = record chip { base = byte / 8 * 8 }
 chip_after_word chip Icw3 byte = chip
@@ -221,7 +229,7 @@ abbrev pub is_complete : List Word → Bool
 is_complete [] = true
 is_complete (word ∷ later) = false
 
--- the first awaited word, or else OCW1, the mask
+-- the first awaited word, or else OCW1, the mask (8259A, Operation Control Word 1)
 abbrev pub chip_after_odd_write : Chip → List Word → ℕ → Chip
 chip_after_odd_write chip [] byte = record chip { masked = levels_of_byte byte }
 chip_after_odd_write chip (word ∷ later) byte =
@@ -234,20 +242,21 @@ chip_after_write chip is_odd byte =
 
 -- ---- reads
 
--- A poll is a read that acknowledges this chip alone: bit 7 and the level where there is one, else 0
--- (this board's choice).
+-- A poll is a read that acknowledges this chip alone: bit 7 and the level where there is one
+-- (8259A, Poll Command), else 0 (this board's choice).
 abbrev pub byte_polled : Option ℕ → ℕ
 byte_polled None = 0
 byte_polled (Some level) = 0x80 + level
 
 -- what a read of the even or the odd port gives: the pending levels or those in service, and the mask
+-- (8259A, Reading the 8259A Status)
 unfoldable pub byte_read : Chip → Bool → ℕ
 byte_read chip is_odd =
     if chip.polls then byte_polled (interrupt chip)
     else byte_of_levels
     (if is_odd then chip.masked else if chip.reads_in_service then chip.in_service else pending chip)
 
--- a chip after a read
+-- a chip after a read (8259A, Poll Command)
 unfoldable pub chip_after_read : Chip → Chip
 chip_after_read chip =
     if chip.polls then record (acknowledged_if chip (interrupt chip)) { polls = false } else chip

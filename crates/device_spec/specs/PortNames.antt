@@ -11,7 +11,7 @@ reset_control_port = 0xCF9
 abbrev pub config_data_ports : ℕ × ℕ
 config_data_ports = (0xCFC, 0xCFF)
 
--- the 8259A pair, and the edge and level control
+-- the 8259A pair, and the edge and level control (82371SB, Interrupt Controller registers, ELCR)
 abbrev pub master_ports : ℕ × ℕ
 master_ports = (0x20, 0x21)
 
@@ -21,7 +21,7 @@ slave_ports = (0xA0, 0xA1)
 abbrev pub elcr_ports : ℕ × ℕ
 elcr_ports = (0x4D0, 0x4D1)
 
--- the 8254: its three counters and the control word register
+-- the 8254: its three counters and the control word register (82371SB, Counter/Timer registers)
 abbrev pub counter0_port : ℕ
 counter0_port = 0x40
 
@@ -37,11 +37,11 @@ control_word_port = 0x43
 abbrev pub timer_ports : ℕ × ℕ
 timer_ports = (counter0_port, control_word_port)
 
--- port B of the system
+-- port B of the system (82371SB, NMISC: NMI Status and Control Register)
 abbrev pub system_port : ℕ
 system_port = 0x61
 
--- the keyboard controller's data and command, and the clock's index and data
+-- the keyboard controller's data and command, and the clock's index and data (82371SB, XBCS, RTCI and RTCD)
 abbrev pub keyboard_data_port : ℕ
 keyboard_data_port = 0x60
 
@@ -58,7 +58,8 @@ abbrev pub clock_ports : ℕ × ℕ
 clock_ports = (clock_index_port, clock_data_port)
 
 -- The primary IDE channel: data, the other registers of the command block, and the control block. A write of the
--- error register's port is one of the features, of the status's a command, and of the control block device control.
+-- error register's port is one of the features, of the status's a command, and of the control block device control
+-- (ATA, Command Block and Control Block registers; 82371SB, IDE: the primary channel).
 abbrev pub disk_data_port : ℕ
 disk_data_port = 0x1F0
 

@@ -1,9 +1,9 @@
 -- Events that have a form, and that there is no reason to refuse, are in range.
 use Rattle.std.proofs.Common.{ℕ, ◌≡◌, ◌+◌, ◌%◌, ◌≤◌, Bool, true, false, ◌&&◌, leb, List, refl, arith, is_some}
-use Rattle.board_prelude.proofs.Common.{false≢true, and_parts, leb-true, eqb-true, Width, One, Moment, bytes_of, days_in_month, IsMoment, Event, Memory, Wide, Port, Ack, Pulses, Time, Wire, Line, BadSector, Setup, card_at, is_within, is_write, FitsAccess, FitsBytes, IsInRange, IsScriptSector, IsInVersion}
+use Rattle.board_prelude.proofs.Common.{false≢true, and_parts, leb-true, eqb-true, Width, One, Moment, bytes_of, days_in_month, IsMoment, Event, Memory, Wide, Port, Ack, Pulses, Time, Wire, Line, BadSector, Setup, card_at, is_within, is_write, FitsAccess, FitsBytes, IsInRange, IsScriptSector, IsInVersion, is_moment}
 use Rattle.board_base.specs.declared.access.Width.TheVariants.{Two, Four}
 use Rattle.board_spec.specs.declared.event.Event.TheVariants.{Look as LookAt}
-use Rattle.script_spec.specs.Common.{Item, IsMomentForm, IsEventForm, has_card, is_moment, is_event_in_range, is_event_placed, is_card_there}
+use Rattle.script_spec.specs.Common.{Item, IsMomentForm, IsEventForm, has_card, is_event_in_range, is_event_placed, is_card_there}
 
 pub within : (low high n : ℕ) → is_within low high n ≡ true → (low ≤ n) × (n ≤ high)
 within low high n test =
@@ -27,7 +27,7 @@ six true true true true false f test = absurd (false≢true test)
 six true true true true true false test = absurd (false≢true test)
 six true true true true true true test = (refl, refl, refl, refl, refl, refl)
 
-moment_there : (m : Moment) → IsMomentForm m → is_moment m ≡ true → IsMoment m
+moment_there : (m : Moment) → IsMomentForm m → is_moment m.year m.month m.day m.hour m.minute m.second ≡ true → IsMoment m
 moment_there m form test =
     let parts = six _ _ _ _ _ _ test in
     let year = within _ _ m.year parts.0 in

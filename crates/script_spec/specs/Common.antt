@@ -23,7 +23,7 @@ unfoldable pub use Rattle.script_spec.specs.Moments.{date_of, moment_in, moment_
 pub use Rattle.script_spec.specs.Numbers.{decimal_of, digit_of, digit_value, has_leading_zero, hex_of, number_of, ◌>>=◌}
 unfoldable pub use Rattle.script_spec.specs.Numbers.{after_mark, number_after, two_digits_of}
 pub use Rattle.script_spec.specs.Phases.{lists_of}
-pub use Rattle.script_spec.specs.Reasons.{Reason, cards_of, has_card, has_setup, is_base_in_range, is_card_in_range, is_card_there, is_cpus, is_cpus_above, is_disk, is_event_in_range, is_event_placed, is_in_range, is_memory, is_misplaced, is_moment, is_phase, is_placed, is_repeated, is_rom, is_rom_in_range, is_setup, is_statement, is_there, lacks_setup, passes_limits, pulses_of, pulses_of_event, reason, reasons}
+pub use Rattle.script_spec.specs.Reasons.{Reason, cards_of, has_card, has_setup, is_card_in_range, is_card_there, is_cpus, is_cpus_above, is_disk, is_event_in_range, is_event_placed, is_in_range, is_memory, is_misplaced, is_phase, is_placed, is_repeated, is_rom, is_setup, is_statement, is_there, lacks_setup, passes_limits, pulses_of, pulses_of_event, reason, reasons}
 unfoldable pub use Rattle.script_spec.specs.Reasons.{least_reason}
 pub use Rattle.script_spec.specs.Replies.{IsNarrow, no_value, parts_with, value_of}
 unfoldable pub use Rattle.script_spec.specs.Replies.{bus_of, last_parts, more_parts, part_count, parts_in, reply_in, reply_of, wide_of}

@@ -1,6 +1,6 @@
 -- Why a line that has a form is refused, by the items of the lines before it, the newest first.
 use Rattle.std.specs.Prelude.{ℕ, ◌+◌, ◌%◌, ◌==◌, nat_le, nat_lt, Bool, true, false, not, ◌&&◌, ◌||◌, List, [], ◌∷◌, length, filter, sum_by, Option, Some, None, option_map, if◌then◌else◌}
-use Rattle.board_prelude.specs.Common.{list_all, list_any, find, Moment, bytes_of, days_in_month, Event, Memory, Wide, Port, Pulses, Time, Wire, Line, BadSector, most_statements, most_phases, most_pulses, most_card_memory, Base, MemoryBase, IoBase, FittedCard, memory_of_cards, is_within, is_free_line}
+use Rattle.board_prelude.specs.Common.{list_all, list_any, find, bytes_of, is_moment, Event, Memory, Wide, Port, Pulses, Time, Wire, Line, BadSector, most_statements, most_phases, most_pulses, most_card_memory, FittedCard, is_base_in_range, is_rom_in_range, memory_of_cards, is_within, is_free_line}
 use Rattle.script_spec.specs.Grammar.{Item, SetCpus, SetMemory, SetRom, SetDisk, FitCard, BeginPhase, Ask, AskLevel}
 
 -- ---- kinds of items
@@ -78,25 +78,12 @@ largest_mib = 64
 abbrev pub largest_pulses : ℕ
 largest_pulses = 1_000_000
 
-abbrev pub is_base_in_range : Base → Bool
-is_base_in_range (MemoryBase bits) = is_within 4 24 bits
-is_base_in_range (IoBase bits) = is_within 2 8 bits
-
-abbrev pub is_rom_in_range : Option ℕ → Bool
-is_rom_in_range None = true
-is_rom_in_range (Some bits) = is_within 11 24 bits
-
 abbrev pub is_card_in_range : FittedCard → Bool
 is_card_in_range card = is_within 2 9 card.dev && list_all is_base_in_range card.bases && is_rom_in_range card.rom
 
-abbrev pub is_moment : Moment → Bool
-is_moment m =
-    is_within 1980 2099 m.year && is_within 1 12 m.month && is_within 1 (days_in_month m.year m.month) m.day
-    && nat_le m.hour 23 && nat_le m.minute 59 && nat_le m.second 59
-
 abbrev pub is_event_in_range : Event → Bool
 is_event_in_range (Pulses count) = is_within 1 largest_pulses count
-is_event_in_range (Time moment) = is_moment moment
+is_event_in_range (Time m) = is_moment m.year m.month m.day m.hour m.minute m.second
 is_event_in_range (Wire dev on) = is_within 2 9 dev
 is_event_in_range (Line irq on) = is_free_line irq
 is_event_in_range (BadSector sector) = nat_le sector 0xFFFF

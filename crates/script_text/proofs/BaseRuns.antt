@@ -4,7 +4,7 @@ use Rattle.board_prelude.proofs.Common.{list_all, and_from, get_or-map, length-m
 use Rattle.std.proofs.lemmas.List.Folds.{list_all_at, list_all_more}
 use Rattle.pci_bars.specs.declared.spec.BaseSpec.{BaseSpec}
 use Rattle.pci_bars.specs.Bases.{base_of}
-use Rattle.script_spec.specs.Reasons.{is_base_in_range}
+use Rattle.board_prelude.specs.Common.{is_base_in_range}
 use Rattle.script_lines.specs.declared.card.BaseField.{BaseField}
 use Rattle.script_lines.specs.Items.{base_said}
 use Rattle.script_text.specs.Valid.{in_case}

@@ -1,9 +1,9 @@
 //! Items with their numbers in range.
 
 ghost use Rattle.std.specs.Prelude.{◌≡◌, ◌≤◌, ℕ, length, map, option_map, IfSome};
-ghost use Rattle.board_prelude.specs.Common.{list_all, is_free_line, IsCard, is_within};
+ghost use Rattle.board_prelude.specs.Common.{list_all, is_free_line, IsCard, is_within, is_base_in_range, is_rom_in_range, is_moment};
 ghost use Rattle.pci_bars.specs.Bases.{base_of};
-ghost use Rattle.script_spec.specs.Common.{is_base_in_range, is_rom_in_range, is_card_in_range, is_moment, is_event_in_range, is_event_placed, is_in_range, pulses_of_event, ask};
+ghost use Rattle.script_spec.specs.Common.{is_card_in_range, is_event_in_range, is_event_placed, is_in_range, pulses_of_event, ask};
 ghost use Rattle.script_lines.specs.Items.{base_said, card_said, moment_said, asked_said};
 ghost use Rattle.script_text.specs.Valid.{in_case};
 
@@ -156,7 +156,8 @@ fn is_free_line(irq: u32) -> bool
 
 /// Whether the calendar and the clock have this moment.
 fn is_moment(moment: &Moment) -> bool
-    ensures moment { result ≡ is_moment moment.now }
+    ensures moment { result
+        ≡ is_moment moment.now.year moment.now.month moment.now.day moment.now.hour moment.now.minute moment.now.second }
 {
     let Moment {
         year,

@@ -8,7 +8,8 @@ use Rattle.uart_16550.specs.Uart.{Uart, uart_at_reset, is_interrupting}
 use Rattle.uart_16550.specs.Reads.{byte_read, after_read}
 use Rattle.uart_16550.specs.Writes.{differ, after_write, byte_sent}
 
--- the ports of the eight registers, the interrupt line, and the number under which the port itself moves that line
+-- the ports of the eight registers (PC16550D, 8.0) and the interrupt line, as a PC has them for COM1, and the number
+-- under which the port itself moves that line
 abbrev pub com1_ports : ℕ × ℕ
 com1_ports = (0x3F8, 0x3FF)
 

@@ -9,7 +9,7 @@ use Rattle.uart_16550.specs.declared.register.ReadRegister.TheVariants.{Rbr, Dll
 use Rattle.uart_16550.specs.Names.{dr, oe, thre, temt, dcts, ddsr, teri, ddcd, cts, dsr, ri, dcd}
 use Rattle.uart_16550.specs.Uart.{Uart, no_changes, is_dlab, lines_of, pending, flag}
 
--- the register that a read reaches. With DLAB at 1 the divisor latch stands at 0 and 1
+-- the register that a read reaches. With DLAB at 1 the divisor latch stands at 0 and 1 (PC16550D, 8.0 and 8.1)
 abbrev pub register_read : Bool → (off : ℕ) → ReadRegister
 register_read dlab off =
     if off == 0 then (if dlab then Dll else Rbr) else
@@ -29,7 +29,7 @@ abbrev pub rest_of : List ℕ → List ℕ
 rest_of [] = []
 rest_of (byte ∷ later) = later
 
--- bits 3 to 0 of IIR: the interrupt that is pending, and 1 where none is
+-- bits 3 to 0 of IIR: the interrupt that is pending, and 1 where none is (PC16550D, 8.6)
 abbrev pub identity_of : Option Interrupt → ℕ
 identity_of (Some LineStatus) = 6
 identity_of (Some DataAvailable) = 4
@@ -37,14 +37,15 @@ identity_of (Some TransmitterEmpty) = 2
 identity_of (Some ModemStatus) = 0
 identity_of None = 1
 
--- bits 7 and 6 say that the FIFOs are on
+-- bits 7 and 6 say that the FIFOs are on (PC16550D, 8.6)
 abbrev pub iir_of : Uart → ℕ
 iir_of uart = identity_of (pending uart) + (if uart.fifos then 0xC0 else 0)
 
--- the transmitter is always empty
+-- the transmitter is always empty (PC16550D, 8.4: bits 5 and 6)
 abbrev pub lsr_of : Uart → ℕ
 lsr_of uart = flag (not (length uart.queue == 0)) dr + flag uart.overrun oe + flag true thre + flag true temt
 
+-- the changes in bits 3 to 0 and the lines in bits 7 to 4 (PC16550D, 8.9)
 abbrev pub msr_with : ModemLines → ModemChanges → ℕ
 msr_with lines changes =
     flag changes.dcts dcts + flag changes.ddsr ddsr + flag changes.teri teri + flag changes.ddcd ddcd
@@ -65,11 +66,12 @@ value_of uart Lsr = lsr_of uart
 value_of uart Msr = msr_of uart
 value_of uart Scr = uart.scr
 
--- a read of IIR that gives the empty THR clears it
+-- a read of IIR that gives the empty THR clears it (PC16550D, 8.6, Interrupt Reset Control)
 abbrev pub after_identity : Option Interrupt → Uart → Uart
 after_identity (Some TransmitterEmpty) uart = record uart { emptied = false }
 after_identity told uart = uart
 
+-- a read of LSR clears the overrun (PC16550D, 8.4), and one of MSR the changes (8.9)
 unfoldable pub after_value : Uart → ReadRegister → Uart
 after_value uart Rbr = record uart { queue = rest_of uart.queue }
 after_value uart Iir = after_identity (pending uart) uart

@@ -1,5 +1,6 @@
 -- A 16550 as a machine: its state, the interrupt that it asks for, and the register at each offset.
--- The line rate is not modelled: a byte is sent as soon as it is written.
+-- The line rate is not modelled: a byte is sent as soon as it is written. Sections are those of National's PC16550D
+-- data sheet.
 use Rattle.std.specs.Prelude.{ℕ, ◌^◌, ◌==◌, Bool, true, false, not, ◌&&◌, ◌||◌, nat_le, if◌then◌else◌, List, [], ◌∷◌, ◌++◌, length, Option, is_some, find}
 use Rattle.board_spec.specs.Bits.{is_bit}
 use Rattle.uart_16550.specs.declared.interrupt.Interrupt.{Interrupt}
@@ -48,7 +49,7 @@ is_dlab uart = is_bit uart.lcr dlab
 abbrev pub is_loopback : Uart → Bool
 is_loopback uart = is_bit uart.mcr loop_enable
 
--- ---- the queue: 16 bytes with FIFOs, and one without
+-- ---- the queue: 16 bytes with FIFOs, and one without (PC16550D, 8.5)
 
 abbrev pub queue_size : Uart → ℕ
 queue_size uart = if uart.fifos then 16 else 1
@@ -56,14 +57,15 @@ queue_size uart = if uart.fifos then 16 else 1
 abbrev pub is_full : Uart → Bool
 is_full uart = nat_le (queue_size uart) (length uart.queue)
 
--- a byte can come from outside
+-- a byte can come from outside: in loopback SIN is disconnected (PC16550D, 8.8)
 abbrev pub has_room : Uart → Bool
 has_room uart = not (is_full uart) && not (is_loopback uart)
 
 abbrev pub received : Uart → ℕ → Uart
 received uart byte = record uart { queue = uart.queue ++ byte ∷ [] }
 
--- ---- the lines of the modem: in loopback the port's own outputs, else a modem that is there and does not ring
+-- ---- the lines of the modem: in loopback the port's own outputs (PC16550D, 8.8), else a modem that is there and does
+-- not ring (this board's choice)
 
 abbrev pub lines_of : (mcr : ℕ) → ModemLines
 lines_of mcr =
@@ -76,14 +78,14 @@ lines_of mcr =
 abbrev pub is_any_change : ModemChanges → Bool
 is_any_change changes = changes.dcts || changes.ddsr || changes.teri || changes.ddcd
 
--- what each interrupt is for
+-- what each interrupt is for (PC16550D, 8.6, Interrupt Control Functions)
 abbrev pub has_condition : Uart → Interrupt → Bool
 has_condition uart LineStatus = uart.overrun
 has_condition uart DataAvailable = not (length uart.queue == 0)
 has_condition uart TransmitterEmpty = uart.emptied
 has_condition uart ModemStatus = is_any_change uart.changes
 
--- the bit of IER that enables it
+-- the bit of IER that enables it (PC16550D, 8.7)
 abbrev pub enable_of : Interrupt → ℕ
 enable_of LineStatus = elsi
 enable_of DataAvailable = erbfi
@@ -93,11 +95,11 @@ enable_of ModemStatus = edssi
 abbrev pub is_raised : Uart → Interrupt → Bool
 is_raised uart interrupt = is_bit uart.ier (enable_of interrupt) && has_condition uart interrupt
 
--- the pending interrupt is the first that is raised, in the data sheet's order
+-- the pending interrupt is the first that is raised, in the data sheet's order (PC16550D, 8.6)
 abbrev pub pending : Uart → Option Interrupt
 pending uart = find (is_raised uart) (LineStatus ∷ DataAvailable ∷ TransmitterEmpty ∷ ModemStatus ∷ [])
 
--- the level of the interrupt line, which OUT2 lets out
+-- the level of the interrupt line, which OUT2 lets out (PC16550D, 8.8; that OUT2 gates it: the PC's wiring)
 abbrev pub is_interrupting : Uart → Bool
 is_interrupting uart = is_some (pending uart) && is_bit uart.mcr out2
 

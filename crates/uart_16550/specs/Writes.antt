@@ -8,7 +8,7 @@ use Rattle.uart_16550.specs.declared.register.WriteRegister.TheVariants.{Thr, Dl
 use Rattle.uart_16550.specs.Names.{etbei, fifo_enable, receiver_reset}
 use Rattle.uart_16550.specs.Uart.{Uart, is_dlab, is_loopback, is_full, received, lines_of}
 
--- the register that a write reaches. With DLAB at 1 the divisor latch stands at 0 and 1
+-- the register that a write reaches. With DLAB at 1 the divisor latch stands at 0 and 1 (PC16550D, 8.0 and 8.1)
 abbrev pub register_written : Bool → (off : ℕ) → WriteRegister
 register_written dlab off =
     if off == 0 then (if dlab then Dll else Thr) else
@@ -19,7 +19,8 @@ register_written dlab off =
     if off == 5 then Lsr else
     if off == 6 then Msr else Scr
 
--- ---- THR: a byte is sent at once, so THR is empty again. In loopback it comes back, and is lost in a full queue
+-- ---- THR: a byte is sent at once, so THR is empty again. In loopback it comes back (PC16550D, 8.8), and is lost in a
+-- full queue (8.4, OE)
 
 abbrev pub looped : Uart → ℕ → Uart
 looped uart byte = if is_full uart then record uart { overrun = true } else received uart byte
@@ -28,13 +29,13 @@ abbrev pub thr_written : Uart → ℕ → Uart
 thr_written uart byte =
     let empty : Uart = record uart { emptied = true } in if is_loopback uart then looped empty byte else empty
 
--- ---- IER, bits 3 to 0. Where ETBEI rises, the empty THR interrupts again
+-- ---- IER, bits 3 to 0 (PC16550D, 8.7). Where ETBEI rises, the empty THR interrupts again
 
 abbrev pub ier_written : Uart → ℕ → Uart
 ier_written uart byte =
     record uart { ier = byte % 16; emptied = uart.emptied || is_bit byte etbei && not (is_bit uart.ier etbei) }
 
--- ---- FCR: bit 0 turns the FIFOs on or off. Its change, or bit 1, empties the queue
+-- ---- FCR: bit 0 turns the FIFOs on or off. Its change, or bit 1, empties the queue (PC16550D, 8.5)
 
 abbrev pub differ : Bool → Bool → Bool
 differ true other = not other
@@ -50,7 +51,7 @@ fcr_written uart byte =
       queue = if is_emptying uart byte then [] else uart.queue;
     }
 
--- ---- MCR, bits 4 to 0: the lines of the modem may change with it
+-- ---- MCR, bits 4 to 0 (PC16550D, 8.8): the lines of the modem may change with it (8.9)
 
 abbrev pub changes_after : ModemChanges → (old new : ModemLines) → ModemChanges
 changes_after changes old new = record {
@@ -67,7 +68,7 @@ mcr_written uart byte =
       changes = changes_after uart.changes (lines_of uart.mcr) (lines_of (byte % 32));
     }
 
--- ---- LSR and MSR are read only
+-- ---- LSR and MSR are read only (PC16550D, 8.4: a write is for testing alone)
 
 unfoldable pub with_value : Uart → WriteRegister → (byte : ℕ) → Uart
 with_value uart Thr byte = thr_written uart byte

@@ -2,7 +2,8 @@
 use Rattle.std.specs.Prelude.{ℕ, ◌+◌, ◌-◌, ◌*◌, ◌/◌, ◌%◌, ◌==◌, nat_lt, ◌||◌, if◌then◌else◌, Option, Some, None}
 use Rattle.device_spec.specs.Ata.State.{Registers, is_lba}
 
--- Every track has 63 sectors, which are counted from 1, and every cylinder has 16 heads.
+-- Every track has 63 sectors, which are counted from 1, and every cylinder has 16 heads (ATA, CHS translation; the
+-- numbers are this board's choice).
 abbrev pub track_sectors : ℕ
 track_sectors = 63
 
@@ -12,11 +13,11 @@ heads = 16
 abbrev pub cylinder_sectors : ℕ
 cylinder_sectors = 1008
 
--- the head, or bits 27:24 of an LBA
+-- the head, or bits 27:24 of an LBA (ATA, Device/Head register)
 abbrev pub head_of : Registers → ℕ
 head_of r = r.device % 16
 
--- the 28-bit LBA
+-- the 28-bit LBA (ATA, Sector Number, Cylinder Low and Cylinder High registers)
 abbrev pub lba_of : Registers → ℕ
 lba_of r = r.low + 256 * (r.mid + 256 * (r.high + 256 * head_of r))
 
@@ -25,6 +26,7 @@ abbrev pub cylinder_of : Registers → ℕ
 cylinder_of r = r.mid + 256 * r.high
 
 -- the sector by cylinder, head and sector, of which there is no sector 0 and none above 63
+-- (ATA, Sector Number register)
 abbrev pub chs_of : Registers → Option ℕ
 chs_of r =
     if (r.low == 0) || nat_lt track_sectors r.low then None
@@ -56,6 +58,7 @@ naming r sector =
     }
 
 -- how many sectors are left once one more was moved: the count is modulo 256, so that 0 asks for 256
+-- (ATA, Sector Count register)
 abbrev pub left_of : Registers → ℕ
 left_of r = (r.count + 255) % 256
 

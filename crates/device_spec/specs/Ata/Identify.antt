@@ -1,4 +1,4 @@
--- The words of IDENTIFY DEVICE for a disk of n sectors.
+-- The words of IDENTIFY DEVICE for a disk of n sectors (ATA, IDENTIFY DEVICE).
 use Rattle.std.specs.Prelude.{ℕ, ◌+◌, ◌-◌, ◌*◌, ◌/◌, ◌%◌, ◌==◌, nat_le, ◌&&◌, ◌||◌, min, max, if◌then◌else◌, List, slice_index_or, codes}
 use Rattle.device_spec.specs.Ata.Address.{track_sectors, heads, cylinder_sectors}
 
@@ -10,11 +10,12 @@ cylinders_of n = max 1 (n / cylinder_sectors)
 abbrev pub chs_sectors : ℕ → ℕ
 chs_sectors n = min (cylinders_of n * cylinder_sectors) n
 
--- a word of a text that is padded with spaces: its first character is in the high byte
+-- a word of a text that is padded with spaces: its first character is in the high byte (ATA, IDENTIFY DEVICE, Serial
+-- number)
 abbrev pub text_word : List ℕ → ℕ → ℕ
 text_word text k = 256 * slice_index_or text (2 * k) 32 + slice_index_or text (2 * k + 1) 32
 
--- The words that are not 0: general configuration, geometry and capacity.
+-- The words that are not 0: general configuration, geometry and capacity (ATA, IDENTIFY DEVICE).
 abbrev pub number_word : ℕ → ℕ → ℕ
 number_word n k =
     if k == 0 then 0x0040

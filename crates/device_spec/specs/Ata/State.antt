@@ -9,7 +9,8 @@ pub record Medium : Type 0 where
   pub bad : List Bool
 
 -- The registers of the task file, one byte each, and the two bits that device control keeps: SRST,
--- which holds the disk in reset, and nIEN, which keeps its interrupt from the line.
+-- which holds the disk in reset, and nIEN, which keeps its interrupt from the line
+-- (ATA, Command Block registers; Device Control register).
 pub record Registers : Type 0 where
   pub features : ℕ
   pub error : ℕ
@@ -49,7 +50,7 @@ sectors_of medium = length medium.bad
 abbrev pub is_bad : Medium → ℕ → Bool
 is_bad medium sector = slice_index_or medium.bad sector false
 
--- a word of a sector, its lower byte first
+-- a word of a sector, its lower byte first (ATA, Data register)
 abbrev pub word_at : Medium → ℕ → ℕ → ℕ
 word_at medium sector word =
     slice_index medium.bytes (512 * sector + 2 * word) + 256 * slice_index medium.bytes (512 * sector + 2 * word + 1)
@@ -73,18 +74,19 @@ marked medium sector = record medium { bad = slice_set medium.bad sector true }
 abbrev pub is_disk_length : ℕ → Bool
 is_disk_length n = (n % 512 == 0) && ((nat_lt 0 n) && (nat_le n (512 * 65536)))
 
--- bits of the device register: 6 addresses by LBA, 4 chooses drive 1, which is not there
+-- bits of the device register: 6 addresses by LBA, 4 chooses drive 1, which is not there (ATA, Device/Head register)
 abbrev pub is_lba : Registers → Bool
 is_lba r = is_bit r.device 6
 
 abbrev pub is_drive_one : Registers → Bool
 is_drive_one r = is_bit r.device 4
 
--- what the device register keeps of a byte written: bits 7 and 5 read as 1
+-- what the device register keeps of a byte written: bits 7 and 5 read as 1 (ATA, Device/Head register)
 abbrev pub device_byte : ℕ → ℕ
 device_byte n = bit_or n 0xA0
 
--- The signature: the registers after a reset or a diagnosis. Features and device control stay.
+-- The signature: the registers after a reset or a diagnosis (ATA, EXECUTE DEVICE DIAGNOSTIC; software reset). Features
+-- and device control stay.
 abbrev pub signed : Registers → Registers
 signed r = record r { error = 0x01; count = 0x01; low = 0x01; mid = 0x00; high = 0x00; device = 0xA0 }
 
@@ -118,6 +120,7 @@ power_on bytes = record {
 }
 
 -- the status of what is under way: DRDY and DSC, with ERR after an error, or with DRQ while words are to move
+-- (ATA, Status register)
 abbrev pub ready_status : ℕ
 ready_status = 0x50
 
@@ -134,11 +137,11 @@ activity_status (Reading sector word) = data_status
 activity_status (Writing sector bytes) = data_status
 activity_status (Identifying word) = data_status
 
--- BSY alone
+-- BSY alone (ATA, Status register)
 abbrev pub busy_status : ℕ
 busy_status = 0x80
 
--- the status: 0 for drive 1, and busy while SRST holds the disk
+-- the status: 0 for drive 1, and busy while SRST holds the disk (ATA, Device Control register; a device that is absent)
 abbrev pub status_of : Drive → ℕ
 status_of drive =
     if is_drive_one drive.registers then 0x00
@@ -148,6 +151,7 @@ status_of drive =
 abbrev pub is_drq : Drive → Bool
 is_drq drive = status_of drive == data_status
 
--- the interrupt line: a request that nIEN does not keep back and that is not drive 1's
+-- the interrupt line: a request that nIEN does not keep back and that is not drive 1's (ATA, INTRQ; Device Control
+-- register, nIEN)
 abbrev pub is_interrupt : Drive → Bool
 is_interrupt drive = drive.request && (not drive.registers.nien && not (is_drive_one drive.registers))

@@ -11,11 +11,12 @@ use Rattle.device_spec.specs.PortNames.{disk_error_port, disk_count_port, disk_l
 use Rattle.device_spec.specs.PortTable.{is_port_of}
 
 -- The ports, by width: words at the data port, and bytes at the registers of the task file and at
--- device control.
+-- device control (ATA, I/O register addresses; of four bytes: 82371SB, IDE data port).
 abbrev pub is_ata_port : ℕ → Width → Bool
 is_ata_port port width = is_port_of Ata port (bytes_of width)
 
--- The word that a read of the data port gives: FFFF where no word is to be read.
+-- The word that a read of the data port gives (ATA, Data register): FFFF where no word is to be read (this board's
+-- choice).
 abbrev pub activity_word : Medium → Activity → ℕ
 activity_word medium Ready = 0xFFFF
 activity_word medium Failed = 0xFFFF
@@ -26,7 +27,7 @@ activity_word medium (Identifying word) = identify_word (sectors_of medium) word
 abbrev pub word_of : Disk → ℕ
 word_of disk = if is_drq disk.drive then activity_word disk.medium disk.drive.activity else 0xFFFF
 
--- The drive once a word was read.
+-- The drive once a word was read (ATA, PIO data in commands).
 abbrev pub after_activity_word : Medium → Activity → Drive → Drive
 after_activity_word medium Ready drive = drive
 after_activity_word medium Failed drive = drive
@@ -39,7 +40,7 @@ after_activity_word medium (Identifying word) drive =
 unfoldable pub after_word : Medium → Drive → Drive
 after_word medium drive = if is_drq drive then after_activity_word medium drive.activity drive else drive
 
--- The disk once a word was written, its lower byte first: the 256th stores its sector.
+-- The disk once a word was written, its lower byte first: the 256th stores its sector (ATA, PIO data out commands).
 abbrev pub bytes_written : ℕ → List ℕ → Disk → Disk
 bytes_written sector bytes disk =
     if length bytes == 512
@@ -60,7 +61,8 @@ activity_written (Identifying w) word disk = disk
 unfoldable pub word_written : ℕ → Disk → Disk
 word_written word disk = if is_drq disk.drive then activity_written disk.drive.activity word disk else disk
 
--- A byte that is written to a register of the task file: not while words are to move, nor under SRST.
+-- A byte that is written to a register of the task file: not while words are to move, nor under SRST
+-- (ATA, Command Block registers: not written while BSY or DRQ is 1).
 abbrev pub with_register : ℕ → ℕ → Registers → Registers
 with_register port byte r =
     if port == disk_error_port then record r { features = byte }
@@ -76,7 +78,7 @@ register_written port byte drive =
     else record drive { registers = with_register port byte drive.registers }
 
 -- Device control keeps SRST, bit 2, and nIEN, bit 1. SRST takes the request away, and as it goes the
--- signature stands.
+-- signature stands (ATA, Device Control register).
 abbrev pub with_control : ℕ → Registers → Registers
 with_control byte r = record r { srst = is_bit byte 2; nien = is_bit byte 1 }
 
@@ -86,7 +88,7 @@ control_written byte drive =
     if is_bit byte 2 then record drive { registers = r; request = false }
     else (if drive.registers.srst then reset_drive r else record drive { registers = r })
 
--- What a read of a register gives: error, count, address, device, and else the status.
+-- What a read of a register gives: error, count, address, device, and else the status (ATA, I/O register addresses).
 abbrev pub register_of : ℕ → Drive → ℕ
 register_of port drive =
     if port == disk_error_port then drive.registers.error
@@ -110,7 +112,8 @@ read_of port One disk = register_of port disk.drive
 read_of port Two disk = word_of disk
 read_of port Four disk = word_of disk + 65536 * word_of (word_read disk)
 
--- The disk after the read: the status at 1F7 takes the request away, and no other register changes anything.
+-- The disk after the read: the status at 1F7 takes the request away, and no other register changes anything
+-- (ATA, Status register; Alternate Status register).
 abbrev pub register_read : ℕ → Disk → Disk
 register_read port disk = if port == disk_status_port then with_drive disk (record disk.drive { request = false }) else disk
 
@@ -131,7 +134,7 @@ after_write port One value disk = byte_written port (value % 256) disk
 after_write port Two value disk = word_written (value % 65536) disk
 after_write port Four value disk = word_written (value / 65536) (word_written (value % 65536) disk)
 
--- A hard reset: the drive is as at power-on, and the sectors stay as they are.
+-- A hard reset: the drive is as at power-on, and the sectors stay as they are (ATA, power-on and hardware reset).
 abbrev pub after_reset : Disk → Disk
 after_reset disk = with_drive disk power_on_drive
 
