@@ -1,7 +1,9 @@
 //! A folder's files as a shelf.
 
-ghost use Rattle.std.specs.Prelude.{◌≡◌, ◌<◌, ◌≤◌, ℕ, List, take, drop, length, Some, None, IfOk, OnOk};
+ghost use Rattle.std.specs.Prelude.{◌≡◌, ◌<◌, ◌≤◌, ℕ, List, take, drop, length, Some, None, IfOk, OnOk, OnErr};
 ghost use Rattle.std.specs.Io.KnownBytes.{ReadConsumes, IsAtEnd};
+ghost use Rattle.board_outside.specs.Counts.{next_fault};
+ghost use Rattle.board_outside.specs.Outside.{OfFile};
 ghost use Rattle.board_files.specs.Folder.{Gives};
 
 use crate::folder::Folder;
@@ -123,7 +125,21 @@ impl<F: Folder> Shelf for FileShelf<F> {
 
     ghost fetches = { λ _. None };
 
-    fn fetch(&mut self, name: &str, at: u64, into: &mut [u8]) -> Result<usize, Failed> {
+    // More than a shelf has to promise: a fetch that fails is one fault.
+    fn fetch(&mut self, name: &str, at: u64, into: &mut [u8]) -> Result<usize, Failed>
+        requires room { 0 < length into.old }
+        ensures fits { IfOk result (λ k. k ≤ length into.new) }
+        ensures bytes { IfOk result (λ k. OfFile (F.files self.old.folder) name.now
+            (λ file. take k into.new ≡ take k (drop at file))) }
+        ensures end { IfOk result (λ k. k ≡ 0 → OfFile (F.files self.old.folder) name.now
+            (λ file. length file ≤ at)) }
+        ensures folder { self.new.folder ≡ self.old.folder }
+        ensures fault { OnErr result (self.new.faults ≡ next_fault self.old.faults) }
+        ensures quiet { OnOk result (self.new.faults ≡ self.old.faults) }
+        ensures never_falls { self.old.faults ≤ self.new.faults }
+        ensures names { OnErr result (self.new.failed_name.items ≡ take 255 name.now) }
+        ensures still { OnOk result (self.new.failed_name ≡ self.old.failed_name) }
+    {
         match self.read_at(name, at, into) {
             Ok(count) => Ok(count),
             Err(_) => {

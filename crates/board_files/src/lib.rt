@@ -7,6 +7,7 @@
 mod file_shelf;
 mod folder;
 mod out_sink;
+mod patient;
 #[cfg(test)]
 mod tests;
 mod tries;
@@ -14,3 +15,4 @@ mod tries;
 pub use file_shelf::FileShelf;
 pub use folder::{Folder, SystemFolder};
 pub use out_sink::OutSink;
+pub use patient::Patient;

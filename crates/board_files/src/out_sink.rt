@@ -1,6 +1,7 @@
 //! A writer as a sink.
 
-ghost use Rattle.std.specs.Prelude.{◌≡◌, ◌≤◌, None};
+ghost use Rattle.std.specs.Prelude.{◌≡◌, ◌<◌, ◌≤◌, None, length, take, IfOk, IfErr, OnOk, OnErr};
+ghost use Rattle.std.specs.Io.KnownBytes.{Appends, Keeps};
 ghost use Rattle.board_outside.specs.Counts.{next_fault};
 
 use crate::tries::write_on;
@@ -51,7 +52,19 @@ impl<W: Write> Sink for OutSink<W> {
 
     ghost puts = { λ _. None };
 
-    fn put(&mut self, piece: &[u8]) -> Result<usize, PutFault> {
+    // More than a sink has to promise: it is never refused for want of memory, and a put that fails is one fault.
+    fn put(&mut self, piece: &[u8]) -> Result<usize, PutFault>
+        requires some { 0 < length piece.now }
+        ensures only { IfErr result (λ fault. fault ≡ PutFault.Failed) }
+        ensures progress { IfOk result (λ k. 0 < k) }
+        ensures fits { IfOk result (λ k. k ≤ length piece.now) }
+        ensures appends { IfOk result (λ k. Appends (W.contents self.old.out) (W.contents self.new.out)
+            (take k piece.now)) }
+        ensures refused { OnErr result (Keeps (W.contents self.old.out) (W.contents self.new.out)) }
+        ensures fault { OnErr result (self.new.faults ≡ next_fault self.old.faults) }
+        ensures quiet { OnOk result (self.new.faults ≡ self.old.faults) }
+        ensures never_falls { self.old.faults ≤ self.new.faults }
+    {
         match write_on(&mut self.out, piece) {
             Ok(count) if count > 0 => Ok(count),
             _ => Err(self.fail()),

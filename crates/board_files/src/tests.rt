@@ -2,7 +2,8 @@
 
 ghost use Rattle.std.specs.Prelude.{None};
 
-use crate::{FileShelf, Folder, OutSink};
+use crate::tries::{read_on, write_on};
+use crate::{FileShelf, Folder, OutSink, Patient};
 use board_outside::{Failed, PutFault, Shelf, Sink};
 use std::io;
 use std::io::{ErrorKind, Read, Write};
@@ -249,4 +250,66 @@ fn a_writer_takes_little_and_fails_late(rt: HostRuntime) {
         taken: [0; 5],
     });
     assert!(rt; sink.put(&BYTES) == Err(PutFault::Failed));
+}
+
+/// A file and a writer whose first call fails, and which then moves a byte a call.
+#[derive(Drop)]
+struct Stumbler {
+    kind: Option<ErrorKind>,
+}
+
+impl Stumbler {
+    fn new(kind: ErrorKind) -> Stumbler {
+        Stumbler { kind: Some(kind) }
+    }
+
+    fn step(&mut self) -> io::Result<usize> {
+        match self.kind.take() {
+            Some(kind) => Err(io::Error::from(kind)),
+            None => Ok(1),
+        }
+    }
+}
+
+impl Read for Stumbler {
+    fn read(&mut self, into: &mut [u8]) -> io::Result<usize> {
+        if into.is_empty() {
+            return Ok(0);
+        }
+        self.step()
+    }
+}
+
+impl Write for Stumbler {
+    fn write(&mut self, bytes: &[u8]) -> io::Result<usize> {
+        if bytes.is_empty() {
+            return Ok(0);
+        }
+        self.step()
+    }
+
+    fn flush(&mut self) -> io::Result<()> {
+        Ok(())
+    }
+}
+
+/// Errors, whether a read and a write are made again after one, and whether a patient writer goes on.
+const STUMBLES: [(ErrorKind, bool, bool); 5] = [
+    (ErrorKind::Interrupted, true, false),
+    (ErrorKind::WouldBlock, false, true),
+    (ErrorKind::StorageFull, false, false),
+    (ErrorKind::BrokenPipe, false, false),
+    (ErrorKind::Other, false, false),
+];
+
+/// Only a call that a signal interrupted is made again, and a patient writer waits only where there is no room yet.
+#[test]
+fn an_error_is_not_tried_again(rt: HostRuntime) {
+    for (kind, again, patient) in STUMBLES {
+        let mut into = [0; 8];
+        assert_eq!(rt; read_on(&mut Stumbler::new(kind), &mut into).is_ok(), again);
+        assert_eq!(rt; write_on(&mut Stumbler::new(kind), b"bytes").is_ok(), again);
+        let mut waits = Patient::new(&rt, Stumbler::new(kind));
+        assert_eq!(rt; waits.write(b"bytes").is_ok(), patient);
+    }
 }
