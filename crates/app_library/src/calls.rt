@@ -10,12 +10,7 @@ use std::alloc::{AllocError, Global};
 use std::io::Write;
 
 /// An event.
-pub fn step<W: Write>(
-    out: &mut W,
-    door: &mut Door,
-    event: &EventRecord,
-    reply: &mut ReplyRecord,
-) {
+pub fn step<W: Write>(out: &mut W, door: &mut Door, event: &EventRecord, reply: &mut ReplyRecord) {
     let status = door.step(event, reply);
     tell::status(out, status);
     if status == OK {

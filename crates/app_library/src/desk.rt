@@ -1,8 +1,7 @@
 //! The board that is open, the cards for the next one, and the last event with its reply.
 
-use crate::calls;
-use crate::tell;
 use crate::words::{Numbers, card_of, event_of};
+use crate::{calls, tell};
 use board_base::NoMemory;
 use board_records::status::OK;
 use board_records::{CardRecord, Door, EventRecord, ReplyRecord};

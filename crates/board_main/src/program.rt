@@ -8,8 +8,8 @@ ghost use Rattle.board_main.specs.Ends.{Ends, HasStatus, EndsBy, IsOwnAnswer};
 
 use crate::answers::{OwnAnswer, own_answer, write_answer};
 use crate::words::words_of;
-use board_outside::QuietGate;
 use board_files::{FileShelf, Folder, OutSink, SystemFolder};
+use board_outside::QuietGate;
 use board_run::{Status, board, exit_code, fault_text};
 use std::alloc::Global;
 use std::env::Env;

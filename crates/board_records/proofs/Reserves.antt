@@ -48,13 +48,21 @@ part_reserve target denial = denied_reserve (target_said target) denial (target_
 valued_reserve : (said : ReplyRecord) (value : Option ℕ) → IsReserveZero said → IsReserveZero (with_value said value)
 valued_reserve said None zero = zero
 valued_reserve said (Some value) zero = record {
-  whole = zero.whole; first = zero.first; second = zero.second; third = zero.third; fourth = zero.fourth;
+  whole = zero.whole;
+  first = zero.first;
+  second = zero.second;
+  third = zero.third;
+  fourth = zero.fourth;
 }
 
 sent_reserve : (said : ReplyRecord) (sent : Option ℕ) → IsReserveZero said → IsReserveZero (with_sent said sent)
 sent_reserve said None zero = zero
 sent_reserve said (Some byte) zero = record {
-  whole = zero.whole; first = zero.first; second = zero.second; third = zero.third; fourth = zero.fourth;
+  whole = zero.whole;
+  first = zero.first;
+  second = zero.second;
+  third = zero.third;
+  fourth = zero.fourth;
 }
 
 parts_reserve : (said : ReplyRecord) (some : Parts) → IsReserveZero said → IsReserveZero (with_parts said some)
@@ -84,19 +92,31 @@ bus_reserve : (value : Option ℕ) (target : Target) (denial : Option Denial) (a
     IsReserveZero (bus_said value target denial after)
 unfolding bus_said blank
 bus_reserve value target denial after = valued_reserve _ value (record {
-  whole = refl; first = part_reserve target denial; second = refl; third = refl; fourth = refl;
+  whole = refl;
+  first = part_reserve target denial;
+  second = refl;
+  third = refl;
+  fourth = refl;
 })
 
 wide_reserve : (some : Parts) (value : Option ℕ) (after : AfterStep) → IsReserveZero (wide_said some value after)
 unfolding wide_said blank
 wide_reserve some value after = valued_reserve _ value (parts_reserve _ some (record {
-  whole = refl; first = refl; second = refl; third = refl; fourth = refl;
+  whole = refl;
+  first = refl;
+  second = refl;
+  third = refl;
+  fourth = refl;
 }))
 
 look_reserve : (look : Look) (after : AfterStep) → IsReserveZero (look_said look after)
 unfolding look_said blank
 look_reserve look after = record {
-  whole = refl; first = area_reserve look.area; second = refl; third = refl; fourth = refl;
+  whole = refl;
+  first = area_reserve look.area;
+  second = refl;
+  third = refl;
+  fourth = refl;
 }
 
 record_reserve : (reply : Reply) (after : AfterStep) → IsReserveZero (record_said reply after)
@@ -108,7 +128,11 @@ record_reserve (replies.Saw look) after = look_reserve look after
 uart_reserve : (value sent : Option ℕ) (after : AfterStep) → IsReserveZero (uart_said value sent after)
 unfolding uart_said blank
 uart_reserve value sent after = sent_reserve _ sent (valued_reserve _ value (record {
-  whole = refl; first = refl; second = refl; third = refl; fourth = refl;
+  whole = refl;
+  first = refl;
+  second = refl;
+  third = refl;
+  fourth = refl;
 }))
 
 pub reply_reserve : (reply : SerialReply) (after : AfterStep) → IsReserveZero (serial_said reply after)

@@ -8,8 +8,8 @@ ghost use Rattle.script_text.specs.Script.{said_of};
 ghost use Rattle.board_run.specs.Texts.{IsRunText};
 
 use board_base::NoMemory;
-use board_outside::Gate;
 use board_core::Board;
+use board_outside::Gate;
 use board_spec::laws::law_lock;
 use log_pieces::{Text, log_by, run_log_by};
 use phase_run::{EndedRun, run_phases};

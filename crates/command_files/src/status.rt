@@ -4,9 +4,9 @@ ghost use Rattle.std.specs.Prelude.{◌≡◌};
 ghost use Rattle.command_files.specs.Status.{code_of};
 
 use board_base::NoMemory;
-use board_outside::PutFault;
 use board_core::BoardOpen;
 use board_image::ImageFault;
+use board_outside::PutFault;
 use log_check::CheckFault;
 use script_text::ScriptFault;
 

@@ -8,8 +8,8 @@ ghost use Rattle.phase_run.specs.Jobs.{CanRun, Runs, AreDue, done_in};
 
 use crate::worker::Work;
 use board_base::NoMemory;
-use board_outside::Gate;
 use board_live::{Cpu, Live};
+use board_outside::Gate;
 use board_spec::Statement;
 use board_spec::limits::ACTORS;
 use run_order::Works;

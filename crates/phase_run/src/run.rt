@@ -11,9 +11,9 @@ use crate::jobs::{begin, end, first_works, is_refused, next_works, run_jobs, wor
 use crate::placing::Placing;
 use crate::worker::Work;
 use board_base::NoMemory;
-use board_outside::Gate;
 use board_core::Board;
 use board_live::Live;
+use board_outside::Gate;
 use board_spec::Statement;
 use run_order::laws::law_phase_runs;
 use std::alloc::Global;

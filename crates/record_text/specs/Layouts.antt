@@ -90,18 +90,68 @@ pub record EventLies : Type 0 where
 
 pub record PartLies : Type 0 where
   pub fields : (said : PartRecord) → part.the_type.as_values said
-      ≡ (said.offset, (said.target, (said.unit, (said.base,
-      (said.denial, (said.denial_dev, (said.denial_fun, (said.denial_off, (said.reserved, tt)))))))))
+      ≡ (
+        said.offset,
+        (
+          said.target,
+          (
+            said.unit,
+            (
+              said.base,
+              (said.denial, (said.denial_dev, (said.denial_fun, (said.denial_off, (said.reserved, tt))))),
+            ),
+          ),
+        ),
+      )
   pub at : places part.the_row.mir
       ≡ (0, 4) ∷ (4, 1) ∷ (5, 1) ∷ (6, 1) ∷ (7, 1) ∷ (8, 1) ∷ (9, 1) ∷ (10, 1) ∷ (11, 1) ∷ []
   pub size : bytes part.the_row.mir ≡ 12
 
 pub record ReplyLies : Type 0 where
   pub fields : (said : ReplyRecord) → reply.the_type.as_values said
-      ≡ (said.value, (said.version, (said.seen, (said.lo, (said.hi,
-      (said.form, (said.has_value, (said.parts, (said.interrupt, (said.reset,
-      (said.part0, (said.part1, (said.part2, (said.part3,
-      (said.sent, (said.has_sent, (said.irq4, (said.serial_room, (said.reserved, tt)))))))))))))))))))
+      ≡ (
+        said.value,
+        (
+          said.version,
+          (
+            said.seen,
+            (
+              said.lo,
+              (
+                said.hi,
+                (
+                  said.form,
+                  (
+                    said.has_value,
+                    (
+                      said.parts,
+                      (
+                        said.interrupt,
+                        (
+                          said.reset,
+                          (
+                            said.part0,
+                            (
+                              said.part1,
+                              (
+                                said.part2,
+                                (
+                                  said.part3,
+                                  (said.sent, (said.has_sent, (said.irq4, (said.serial_room, (said.reserved, tt))))),
+                                ),
+                              ),
+                            ),
+                          ),
+                        ),
+                      ),
+                    ),
+                  ),
+                ),
+              ),
+            ),
+          ),
+        ),
+      )
   pub at : places reply.the_row.mir
       ≡ (0, 8) ∷ (8, 4) ∷ (12, 4) ∷ (16, 4) ∷ (20, 4) ∷ (24, 1) ∷ (25, 1) ∷ (26, 1) ∷ (27, 1) ∷ (28, 4)
       ∷ (32, 12) ∷ (44, 12) ∷ (56, 12) ∷ (68, 12) ∷ (80, 1) ∷ (81, 1) ∷ (82, 1) ∷ (83, 1) ∷ (84, 4) ∷ []

@@ -4,8 +4,8 @@ use crate::commands::{answer, files_of, status_of};
 use crate::holding_gate::HoldingGate;
 use crate::holding_gate::Moment::{self, After, Before};
 use board_outside::{QuietGate, SafeShelf, SafeSink};
-use outside_doubles::{MemShelf, SlowShelf};
 use board_run::Status;
+use outside_doubles::{MemShelf, SlowShelf};
 use std::test::Fail;
 
 /// Two processors, of which one looks while the other opens a window.

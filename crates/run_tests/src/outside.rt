@@ -3,8 +3,8 @@
 use crate::commands::{ROM_SIZE, SETUP, files_of, status_of};
 use crate::told::{ToldShelf, ToldSink};
 use board_outside::QuietGate;
-use outside_doubles::{MemShelf, MemSink, SlowShelf, SlowSink};
 use board_run::{Status, Which};
+use outside_doubles::{MemShelf, MemSink, SlowShelf, SlowSink};
 use std::alloc::Global;
 use std::process::Abort;
 use std::sync::Wait;
