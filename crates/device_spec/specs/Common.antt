@@ -7,7 +7,7 @@ pub use Rattle.board_base.specs.declared.access.PortAccess.{PortAccess}
 pub use Rattle.board_base.specs.declared.access.WideAccess.{WideAccess}
 pub use Rattle.board_base.specs.declared.access.Width.{Width}
 pub use Rattle.board_base.specs.declared.access.Width.TheVariants.{Four, One, Two}
-pub use Rattle.board_base.specs.declared.fault.NoMemory.{NoMemory}
+pub use Rattle.board_base.specs.declared.no_memory.NoMemory.{NoMemory}
 pub use Rattle.board_base.specs.declared.moment.Moment.{Moment}
 pub use Rattle.board_base.specs.declared.target.Area.{Area}
 pub use Rattle.board_base.specs.declared.target.Denial.{Denial}
