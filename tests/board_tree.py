@@ -194,7 +194,7 @@ class Tree:
 
     def told(self, *words, is_quiet=False):
         """What the program tells, in the caller's folder: it has the three open files that each program has, beside that
-        of ls; a file's size ends it not, and where the script waits for it neither what is typed; and large pages are
+        of ls; a file's size does not end it, nor what is typed where the script waits for it; and large pages are
         asked for."""
         ignored = [signal.SIGXFSZ] if is_quiet else [signal.SIGXFSZ, signal.SIGINT, signal.SIGQUIT]
         mask = sum(1 << it - 1 for it in ignored)

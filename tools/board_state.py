@@ -3,6 +3,7 @@ import errno
 import os
 import pathlib
 import tempfile
+import time
 from dataclasses import dataclass
 from typing import Optional
 
@@ -12,6 +13,7 @@ from release_files import SUMS
 
 NO_ROOM = (errno.ENOSPC, errno.EDQUOT)
 LIST = "made-of-"  # how the name of a list begins
+SECONDS_OF_A_CALL = 3600  # within which a call turns to the list that it made
 
 
 def folders(root: pathlib.Path) -> list[pathlib.Path]:
@@ -79,7 +81,7 @@ class State:
             raise Refused(f"the program cannot be kept in {self.folder}: {fault.strerror}") from fault
 
     def mark(self, crates: Crates, begun: int) -> None:
-        """Lists what the program is made of, all of which was looked at since a time, unless something changed meanwhile."""
+        """Lists what the program is made of, which was looked at since a time, unless something changed meanwhile."""
         names = [str(self.program), SUMS, *crates.names(PROGRAM)]
         names = [name for name in names if (crates.root / name).exists()]
         handle, name = tempfile.mkstemp(dir=self.folder, prefix=LIST)
@@ -95,13 +97,21 @@ class State:
         os.unlink(name)
 
     def _turn_to(self, name: str) -> None:
-        """Lets `ready` name another list, and takes away those before."""
+        """Lets `ready` name another list, and takes away the one before, and what calls left that were cut off."""
+        before = os.readlink(self.ready) if self.ready.is_symlink() else None
         link = self.folder / f".{name}"
         os.symlink(name, link)
         os.replace(link, self.ready)
         for old in self.folder.glob(f"{LIST}*"):
-            if old.name != name:
+            if old.name == before or old.name != name and is_old(old):
                 old.unlink(missing_ok=True)
+
+
+def is_old(file: pathlib.Path) -> bool:
+    try:
+        return time.time() - file.stat().st_mtime > SECONDS_OF_A_CALL
+    except FileNotFoundError:  # another call took it away
+        return False
 
 
 def is_younger(crates: Crates, begun: int) -> bool:

@@ -26,8 +26,8 @@ def shared(root: pathlib.Path) -> str:
 
 
 def pc_text(root: pathlib.Path, up: str, lib: str, include: str, is_found: bool = False) -> bytes:
-    """board.pc of a folder that is `up` from where it lies. Where the system's loader does not find the library by itself
-    a program that is linked with it looks in its folder."""
+    """board.pc of a folder that is `up` from where it lies. A program that is linked with the library looks for it in its
+    folder, but where the system's loader finds it by itself."""
     names = {"up": up, "lib": lib, "include": include, "version": interface(root),
              "rpath": "" if is_found else "-Wl,-rpath,${libdir} "}
     text = (root / "include/board.pc.in").read_text()

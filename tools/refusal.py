@@ -32,7 +32,8 @@ def bad_script(file: str, rest: str) -> Optional[str]:
     if where is None or lines is None or int(where[2]) not in REASONS:
         return None
     number, reason = int(where[1]), REASONS[int(where[2])]
-    line = f'"{printable(lines[number - 1])}"' if number <= len(lines) else "the end of the file"
+    is_end = number > len(lines) or number == len(lines) and lines[-1] == ""
+    line = "the end of the file" if is_end else f'"{printable(lines[number - 1])}"'
     return f"line {number} of {file} is {line}, and {reason}; {explain_tool()} {file} says more"
 
 
