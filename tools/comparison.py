@@ -41,6 +41,15 @@ def installed_of(script: str) -> int:
     return int(found[1]) << 20 if found else 0
 
 
+def rom_of(script: str, folder: pathlib.Path) -> bytes:
+    """The ROM that a script names, or nothing where it cannot be read."""
+    found = re.search(r"^rom (\S+)$", script, re.M)
+    try:
+        return (folder / found[1]).read_bytes() if found else b""
+    except OSError:
+        return b""
+
+
 @dataclass
 class Difference:
     """A value that the monitor gave otherwise."""
@@ -109,8 +118,8 @@ def ranges(numbers: list[int]) -> str:
 class Comparison:
     """Takes the entries of a log in their order, each with what the monitor gave there."""
 
-    def __init__(self, installed: int, excepted: list[str]):
-        self.state = State(installed)
+    def __init__(self, installed: int, excepted: list[str], rom: bytes = b""):
+        self.state = State(installed, rom)
         self.excepted = tuple(excepted)
         self.counts: dict[str, collections.Counter] = collections.defaultdict(collections.Counter)
         self.not_compared: collections.Counter = collections.Counter()

@@ -15,6 +15,7 @@ OWN_REGISTERS = {
     "01.1": (0x40, 0x41),
 }
 LOCK, LOCK_BYTE = 0x10, 0x72
+DRIVE = 0x10
 ICW1, OCW3, READ_SERVICE, POLL = 0x10, 0x08, 3, 4
 
 
@@ -50,6 +51,13 @@ class Byte:
         return self.given == 0 and self.target == "rom"
 
     @property
+    def is_unselected_rom(self) -> bool:
+        """Whether the ROM's byte was given at an address where XBCS has to select the ROM. A zero tells nothing."""
+        rom, at = self.state.rom, self.place
+        is_range = 0xE0000 <= at < 0xF0000 or 0xFFF8_0000 <= at < 0xFFFF_0000
+        return bool(is_range and rom and self.given and rom[at % len(rom)] == self.given)
+
+    @property
     def is_own_register(self) -> bool:
         return self.offset in OWN_REGISTERS.get(self.function, ())
 
@@ -69,6 +77,7 @@ class State:
     """What the entries of a log before a difference have done."""
 
     installed: int  # bytes of memory
+    rom: bytes = b""
     writers: Writers = field(default_factory=Writers)
     written: dict[int, int] = field(default_factory=dict)  # of memory, whoever took it
     is_locked: bool = False
@@ -80,6 +89,7 @@ class State:
     pit_tells_status: bool = False
     disk_command: Optional[int] = None
     disk_words: int = 0
+    drive_1: bool = False  # is chosen, which is not there
 
     def note(self, entry: Entry) -> None:
         words, kind = entry.words, entry.target.partition(":")[0]
@@ -113,6 +123,8 @@ class State:
             self.pit_tells_status = value >> 6 == 3 and not value & 0x10
         elif kind == "ata" and port == 0x1F7:
             self.disk_command, self.disk_words = value, 0
+        elif kind == "ata" and port == 0x1F6:
+            self.drive_1 = bool(value & DRIVE)
 
     def note_config(self, entry: Entry, value: int) -> None:
         offset, size = int(entry.target[12:], 16), WIDTHS[entry.words[1]]
@@ -142,7 +154,7 @@ class State:
     def note_reset(self) -> None:
         self.is_locked, self.clock_index, self.confadd_written = False, 0, 0
         self.pics = (Pic(), Pic())
-        self.disk_command = None
+        self.disk_command, self.drive_1 = None, False
 
     # ---- what a row asks
 

@@ -9,7 +9,7 @@ from trace_lines import Broken, Event, fields
 
 PORT = r"event at t=\d+ IO addr=(0x[0-9a-f]+) size=([124]) op=(read|write) val=(0x[0-9a-f]+)"
 VECTOR = r"event at t=\d+ IRQ irq=(\d+) vec=([0-9a-f]+)"
-MEMORY = r"\[CPU(\d+) (\w+)\]: (?:LIN 0x[0-9a-f]+ )?PHY (0x[0-9a-f]+) \(len=(\d+), [^)]*\)(?:: 0x([0-9A-Fa-f]+))?.*"
+MEMORY = r"\[CPU(\d+) (\w+)\]: (?:LIN 0x[0-9a-f]+ )?PHY (0x[0-9a-f]+) \(len=(\d+), [^)]*\)(?:: ((?:0x[0-9A-Fa-f]+ ?)+))?.*"
 LINE = re.compile(r"\d+d\[PIC\s*\] IRQ line (\d+) now (high|low)")
 MOST_AT_ONCE = 8
 
@@ -41,4 +41,7 @@ def memory(line: str) -> Optional[Event]:
     cpu, word, address, size, value = fields(MEMORY, line, "an access to memory")
     if word not in ("RD", "WR") or value is None or int(size) not in range(1, MOST_AT_ONCE + 1):
         return None
-    return Event(0, "r" if word == "RD" else "w", int(cpu), int(address, 16), int(size), int(value, 16))
+    digits = "".join(part[2:] for part in value.split())  # eight bytes stand as two words, the high one first
+    if len(digits) != 2 * int(size):
+        raise Broken("a value of other bytes than are accessed")
+    return Event(0, "r" if word == "RD" else "w", int(cpu), int(address, 16), int(size), int(digits, 16))
