@@ -43,6 +43,7 @@ class Browser:
         self.session = self.do("Target.attachToTarget", targetId=target, flatten=True)["sessionId"]
         for domain in ("Page", "Runtime", "Log"):
             self.do(f"{domain}.enable")
+        self.do("Performance.enable", timeDomain="threadTicks")
 
     @staticmethod
     def give(commands, answers):
@@ -125,6 +126,11 @@ class Browser:
         if "exceptionDetails" in told:
             raise Refused(told["exceptionDetails"].get("exception", {}).get("description", "a fault of the page"))
         return told["result"].get("value")
+
+    def used(self):
+        """The seconds of a processor that the page's thread has used."""
+        metrics = self.do("Performance.getMetrics")["metrics"]
+        return next(it["value"] for it in metrics if it["name"] == "TaskDuration")
 
     def key(self, key, shift=False):
         """Presses a key and lets it go."""

@@ -1,7 +1,7 @@
 // The statements with their replies. Rows are made when they are seen.
 
 const ROW_HEIGHT = 22; // as in the style
-const SPARE_ROWS = 12;
+const SPARE_ROWS = 6;
 const list = byId("list");
 const listWindow = byId("window");
 let drawn = new Map(); // the rows that are there, by their numbers
@@ -72,9 +72,13 @@ function drawList() {
     const number = numberAt(row);
     rows.set(number, drawn.get(number) || rowFor(number));
   }
-  const isSame = rows.size === drawn.size && [...rows.keys()].every((it) => drawn.has(it));
+  for (const [number, row] of drawn) if (!rows.has(number)) row.remove();
+  let here = listWindow.firstChild;
+  for (const row of rows.values()) {
+    if (row === here) here = here.nextSibling;
+    else listWindow.insertBefore(row, here);
+  }
   drawn = rows;
-  if (!isSame) listWindow.replaceChildren(...rows.values());
   listWindow.style.transform = `translateY(${first * ROW_HEIGHT}px)`;
   markChosen();
 }
