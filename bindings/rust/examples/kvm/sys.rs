@@ -64,6 +64,7 @@ impl Processor {
         let file = OpenOptions::new().read(true).write(true).open("/dev/kvm")?;
         let kvm = file.as_raw_fd();
         let vm = call::<u8>(kvm, 0xAE01, ptr::null_mut())?; // KVM_CREATE_VM
+
         // pages that some hosts need for themselves, outside the ROM's range
         call(vm, 0x4008_AE48, &mut 0xFEFF_C000u64)?; // KVM_SET_IDENTITY_MAP_ADDR
         call(vm, 0xAE47, 0xFEFF_D000 as *mut u8)?; // KVM_SET_TSS_ADDR
