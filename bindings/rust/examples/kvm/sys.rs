@@ -64,7 +64,10 @@ impl Processor {
         let file = OpenOptions::new().read(true).write(true).open("/dev/kvm")?;
         let kvm = file.as_raw_fd();
         let vm = call::<u8>(kvm, 0xAE01, ptr::null_mut())?; // KVM_CREATE_VM
-        call(vm, 0xAE47, 0xFEFF_D000 as *mut u8)?; // KVM_SET_TSS_ADDR: pages that Intel's need for themselves
+
+        // pages that some hosts need for themselves, outside the ROM's range
+        call(vm, 0x4008_AE48, &mut 0xFEFF_C000u64)?; // KVM_SET_IDENTITY_MAP_ADDR
+        call(vm, 0xAE47, 0xFEFF_D000 as *mut u8)?; // KVM_SET_TSS_ADDR
         let cpu = call::<u8>(vm, 0xAE41, ptr::null_mut())?; // KVM_CREATE_VCPU
         let data = pages(call::<u8>(kvm, 0xAE04, ptr::null_mut())? as usize, cpu)?; // KVM_GET_VCPU_MMAP_SIZE
         let mut id = vec![0; 2 + MOST_LEAVES as usize * CPUID_WORDS];
