@@ -23,7 +23,6 @@ pub extern "C" fn board_ranges(
     ensures closed { handle.old.full ≡ false → result ≡ closed }
     ensures open { handle.old.full ≡ true → result ≡ ok }
     ensures version { result ≡ ok → IsSomeAnd handle.old.held (λ serial. IsVersionSaid serial.board map.new.version) }
-    ensures reserve { result ≡ ok → map.new.reserved ≡ 0 }
     ensures ranges { result ≡ ok → IsSomeAnd handle.old.held
         (λ serial. AreRangesTold serial.board map.new.ranges ranges.old ranges.new) }
     ensures windows { result ≡ ok → IsSomeAnd handle.old.held
@@ -55,7 +54,6 @@ pub extern "C" fn board_decode(
     ensures open { handle.old.full ≡ true → result ≢ closed }
     ensures done { result ≡ ok → IsSomeAnd handle.old.held
         (λ serial. IsSomeAnd (asked_said event.now) (IsAskedPlace serial.board part.new)) }
-    ensures reserve { result ≡ ok → part.new.reserved ≡ 0 }
     ensures refused { handle.old.full ≡ true → result ≢ ok
         → IsSomeAnd handle.old.held (λ serial. IsNotPlaced serial.board (asked_said event.now) result) }
     ensures untold { result ≢ ok → part.new ≡ part.old }

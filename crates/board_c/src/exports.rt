@@ -1,7 +1,7 @@
 //! The functions that C calls. One call at a time is inside a handle, and its pointers are good: what the caller owes.
 
 ghost use Rattle.std.specs.Prelude.{◌≡◌, ◌≢◌, true, false, IsSomeAnd};
-ghost use Rattle.board_records.specs.Common.{IsOpenedWith, IsOpenRefusal, OnBoth, setup_said, asked_said, ok, closed, IsEventRefusal, IsAskedStep, IsReserveZero};
+ghost use Rattle.board_records.specs.Common.{IsOpenedWith, IsOpenRefusal, OnBoth, setup_said, asked_said, ok, closed, IsEventRefusal, IsAskedStep};
 
 use crate::handle::Handle;
 use board_records::status::{CLOSED, NO_MEMORY, OK};
@@ -56,7 +56,6 @@ pub extern "C" fn board_step(
     ensures open { handle.old.full ≡ true → result ≢ closed }
     ensures done { result ≡ ok → IsSomeAnd (asked_said event.now)
         (λ asked. OnBoth handle.old.held handle.new.held (λ old new. IsAskedStep old new reply.new asked)) }
-    ensures reserve { result ≡ ok → IsReserveZero reply.new }
     ensures refused { handle.old.full ≡ true → result ≢ ok
         → IsSomeAnd handle.old.held (λ serial. IsEventRefusal serial (asked_said event.now) result) }
     ensures unchanged { handle.old.full ≡ true → result ≢ ok → handle.new.held ≡ handle.old.held }

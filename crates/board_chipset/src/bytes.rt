@@ -1,7 +1,7 @@
 //! What a monitor can read of a chipset's bytes without an access on the bus.
 
-ghost use Rattle.std.specs.Prelude.{◌≡◌, ◌<◌, List, option_map};
-ghost use Rattle.board_prelude.specs.Common.{Entry, clock_of, data_byte, disk_of};
+ghost use Rattle.std.specs.Prelude.{◌≡◌, List, option_map};
+ghost use Rattle.board_prelude.specs.Common.{Entry, clock_of, disk_of};
 ghost use Rattle.dram_store.specs.Dram.{IsDramOf};
 ghost use Rattle.pci_bars.specs.Contents.{IsContentsOf};
 ghost use Rattle.board_chipset.specs.Chipset.{IsLeftBy};
@@ -36,15 +36,6 @@ impl Chipset {
             → option_map (λ disk. disk.now) result ≡ disk_of self.now.setup history }
     {
         self.state.devices.disk()
-    }
-
-    /// What a read of port 71h would give with this index at port 70h, 0 to 127. It clears no flag of the clock.
-    pub fn clock_byte(&self, index: u8) -> u8
-        requires index { index < 128 }
-        ensures byte { (history : List Entry) → IsLeftBy self.now history
-            → result ≡ data_byte (record (clock_of history) { index = index }) }
-    {
-        self.state.devices.clock_byte(index)
     }
 
     /// The 128 bytes of the clock by address, as they are kept. A read of the flags of register C and of register D

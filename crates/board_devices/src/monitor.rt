@@ -2,7 +2,7 @@
 
 ghost use Rattle.std.specs.Prelude.{◌≡◌, ◌+◌, ◌*◌, ◌<◌, ◌≤◌, ◌↔◌, ◌∷◌, List, option_map, IfSome, true, false};
 ghost use Rattle.board_base.specs.declared.target.Dev.TheVariants.{Clock as ClockChip};
-ghost use Rattle.board_prelude.specs.Common.{Spurious, Entry, Setup, timer_of, clock_of, disk_of, acknowledged_by, after_write, data_byte};
+ghost use Rattle.board_prelude.specs.Common.{Spurious, Entry, Setup, timer_of, clock_of, disk_of, acknowledged_by, after_write};
 ghost use Rattle.pit_8254.specs.Common.{most_count, IsNextRise};
 ghost use Rattle.cmos_clock.specs.Outside.{with_byte};
 ghost use Rattle.board_devices.specs.Devices.{AreDevicesOf};
@@ -54,15 +54,6 @@ impl Devices {
             → result.now ≡ (clock_of history).bytes }
     {
         self.clock.bytes()
-    }
-
-    /// What a read of port 71h would give with this index at port 70h, 0 to 127. It clears no flag of the clock.
-    pub fn clock_byte(&self, index: u8) -> u8
-        requires index { index < 128 }
-        ensures byte { (setup : Setup) (history : List Entry) → AreDevicesOf setup history self.now
-            → result ≡ data_byte (record (clock_of history) { index = index }) }
-    {
-        self.clock.look_at(index)
     }
 
     /// Writes the byte of the clock at an address below 128, and then the lines reach the pair. It is as if a

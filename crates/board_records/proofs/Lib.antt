@@ -2,4 +2,3 @@ pub mod EventReplies
 pub mod Filled
 pub mod Said
 pub mod Cycles
-pub mod Reserves

@@ -1,6 +1,6 @@
 -- The bytes of a chipset, out and in.
 use Rattle.std.specs.Prelude.{ℕ, ◌≡◌, ◌≢◌, ◌+◌, ◌<◌, ◌≤◌, ◌⊎◌, List, ◌++◌, length, slice_index, IfSome, IsSomeAnd}
-use Rattle.board_prelude.specs.Common.{sectors_of, sector_bytes, data_byte, Entry, clock_of, disk_of, installed, dram_byte}
+use Rattle.board_prelude.specs.Common.{sectors_of, sector_bytes, Entry, clock_of, disk_of, installed, dram_byte}
 use Rattle.board_chipset.specs.Common.{Running, IsLeftBy, WriteAll, WriteClockByte}
 use Rattle.uart_16550.specs.Serial.{Serial, AreOwn}
 use Rattle.board_records.specs.Statuses.{no_sector, bad_length}
@@ -19,14 +19,13 @@ IsSectorTold chipset sector bytes =
     IsSomeAnd (disk_of chipset.setup history)
     (λ disk. (sector < sectors_of disk.medium) × (bytes ≡ sector_bytes disk.medium sector))
 
--- why none are told: there is no disk, or it has no such sector; or it has the sector, and there is not the room of it
+-- why none are told: the disk has no such sector; or there is not the room of one
 abbrev pub IsSectorRefusal : Running → (sector room status : ℕ) → Type 0
 IsSectorRefusal chipset sector room status =
     (history : List Entry) → IsLeftBy chipset history →
     ((status ≡ no_sector) × IfSome (disk_of chipset.setup history) (λ disk. sectors_of disk.medium ≤ sector)) ⊎
     ((status ≡ bad_length) ×
-    IsSomeAnd (disk_of chipset.setup history)
-    (λ disk. (sector < sectors_of disk.medium) × (room ≢ length (sector_bytes disk.medium sector))))
+    IfSome (disk_of chipset.setup history) (λ disk. room ≢ length (sector_bytes disk.medium sector)))
 
 -- these bytes stand in the DRAM from an address on, as if processors had written them one after another
 pub record IsDramWritten (old new : Serial Running) (addr : ℕ) (bytes : List ℕ) : Type 0 where
@@ -40,11 +39,9 @@ pub record IsDramWritten (old new : Serial Running) (addr : ℕ) (bytes : List �
 abbrev pub clock_bytes : ℕ
 clock_bytes = 128
 
--- what a read of port 71h would give with this address at port 70h: of register C its flags, which stay as they are
 abbrev pub IsClockByte : Running → (address byte : ℕ) → Type 0
 IsClockByte chipset address byte =
-    (history : List Entry) → IsLeftBy chipset history →
-    byte ≡ data_byte (record (clock_of history) { index = address })
+    (history : List Entry) → IsLeftBy chipset history → byte ≡ slice_index (clock_of history).bytes address
 
 -- this byte stands in the clock, as if a processor had written it
 pub record IsClockWritten (old new : Serial Running) (address byte : ℕ) : Type 0 where

@@ -5,10 +5,6 @@ use Rattle.board_base.specs.declared.target.Dev.TheVariants.{Confadd, Reset, Clo
 use Rattle.board_chipset.specs.declared.reset_control.ResetKind.{ResetKind}
 use Rattle.board_chipset.specs.declared.reset_control.ResetKind.TheVariants.{None as NoReset, Soft, Hard}
 
--- the version of these numbers and of the calls
-abbrev pub interface : ℕ
-interface = 2
-
 -- ---- what is asked
 
 abbrev pub memory_event : ℕ

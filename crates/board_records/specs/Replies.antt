@@ -1,5 +1,5 @@
 -- The record of a reply, with what stands after its step.
-use Rattle.std.specs.Prelude.{ℕ, ◌≡◌, Option, Some, None}
+use Rattle.std.specs.Prelude.{ℕ, Option, Some, None}
 use Rattle.board_prelude.specs.Common.{Area, Target, Denial, Register, Confadd, NoRegister, Part, Parts, Look, Reply}
 use Rattle.board_base.specs.declared.target.Area.TheVariants as areas
 use Rattle.board_base.specs.declared.target.Target.TheVariants as targets
@@ -140,13 +140,3 @@ uart_said value sent after =
 unfoldable pub serial_said : SerialReply → AfterStep → ReplyRecord
 serial_said (OfBoard reply) after = record_said reply after
 serial_said (OfUart value sent) after = uart_said value sent after
-
--- ---- what is kept for later versions
-
--- it is 0, in the reply and in each of its parts
-pub record IsReserveZero (said : ReplyRecord) : Type 0 where
-  pub whole : said.reserved ≡ 0
-  pub first : said.part0.reserved ≡ 0
-  pub second : said.part1.reserved ≡ 0
-  pub third : said.part2.reserved ≡ 0
-  pub fourth : said.part3.reserved ≡ 0

@@ -6,7 +6,6 @@ ghost use Rattle.board_chipset.specs.Common.{IsLeftBy as IsChipsetLeftBy, IsFaul
 ghost use Rattle.uart_16550.specs.declared.com1.Happening.TheVariants.{Comes, Happens};
 ghost use Rattle.board_records.specs.Doors.{IsOpenedWith, IsOpenRefusal, disk_of, setup_said};
 ghost use Rattle.board_records.specs.Events.{asked_said};
-ghost use Rattle.board_records.specs.Replies.{IsReserveZero};
 ghost use Rattle.board_records.specs.Statuses.{ok, closed, IsEventRefusal};
 ghost use Rattle.board_records.specs.Steps.{IsAskedStep, after_step};
 
@@ -82,7 +81,6 @@ pub(crate) fn step(
     reply: &mut ReplyRecord,
 ) -> u32
     ensures done { result ≡ ok → IsSomeAnd (asked_said event.now) (IsAskedStep serial.old serial.new reply.new) }
-    ensures reserve { result ≡ ok → IsReserveZero reply.new }
     ensures refused { result ≢ ok → IsEventRefusal serial.old (asked_said event.now) result }
     ensures unchanged { result ≢ ok → serial.new ≡ serial.old }
     ensures untold { result ≢ ok → reply.new ≡ reply.old }
@@ -98,7 +96,6 @@ pub(crate) fn step(
 /// Gives COM1 a byte. Refused with `SERIAL_FULL` where it has no room.
 fn receive(serial: &mut SerialBoard<Chipset>, byte: u8, reply: &mut ReplyRecord) -> u32
     ensures done { result ≡ ok → IsAskedStep serial.old serial.new reply.new (Comes byte) }
-    ensures reserve { result ≡ ok → IsReserveZero reply.new }
     ensures refused { result ≢ ok → IsEventRefusal serial.old (Some (Comes byte)) result }
     ensures unchanged { result ≢ ok → serial.new ≡ serial.old }
     ensures untold { result ≢ ok → reply.new ≡ reply.old }
@@ -119,7 +116,6 @@ fn receive(serial: &mut SerialBoard<Chipset>, byte: u8, reply: &mut ReplyRecord)
 /// Does an event. Refused with why where it is out of range.
 fn done(serial: &mut SerialBoard<Chipset>, event: &Event, reply: &mut ReplyRecord) -> u32
     ensures done { result ≡ ok → IsAskedStep serial.old serial.new reply.new (Happens event.now) }
-    ensures reserve { result ≡ ok → IsReserveZero reply.new }
     ensures refused { result ≢ ok → IsEventRefusal serial.old (Some (Happens event.now)) result }
     ensures unchanged { result ≢ ok → serial.new ≡ serial.old }
     ensures untold { result ≢ ok → reply.new ≡ reply.old }
@@ -137,7 +133,6 @@ fn done(serial: &mut SerialBoard<Chipset>, event: &Event, reply: &mut ReplyRecor
 /// Does an event, and gives the record of its reply.
 fn told(serial: &mut SerialBoard<Chipset>, event: &Event) -> Result<ReplyRecord, OutOfRange>
     ensures done { IfOk result (λ said. IsAskedStep serial.old serial.new said (Happens event.now)) }
-    ensures reserve { IfOk result IsReserveZero }
     ensures fault { IfErr result (λ fault. IsFault serial.old.board.setup event.now fault) }
     ensures unchanged { OnErr result (serial.new ≡ serial.old) }
 {

@@ -7,7 +7,6 @@ ghost use Rattle.board_records.specs.Doors.{IsOpenedWith, IsOpenRefusal, OnBoth,
 ghost use Rattle.board_records.specs.Events.{asked_said};
 ghost use Rattle.board_records.specs.Maps.{AreRangesTold, AreWindowsTold, IsVersionSaid};
 ghost use Rattle.board_records.specs.Places.{IsAskedPlace, IsNotPlaced, IsRiseTold};
-ghost use Rattle.board_records.specs.Replies.{IsReserveZero};
 ghost use Rattle.board_records.specs.Statuses.{ok, closed, no_byte, past_end, IsEventRefusal};
 ghost use Rattle.board_records.specs.Steps.{IsAskedStep};
 
@@ -67,7 +66,6 @@ impl Door {
     pub fn step(&mut self, event: &EventRecord, reply: &mut ReplyRecord) -> u32
         ensures done { result ≡ ok → IsSomeAnd (asked_said event.now)
             (λ asked. OnBoth self.old self.new (λ old new. IsAskedStep old new reply.new asked)) }
-        ensures reserve { result ≡ ok → IsReserveZero reply.new }
         ensures refused { result ≢ ok
             → IsSomeAnd self.old (λ serial. IsEventRefusal serial (asked_said event.now) result) }
         ensures unchanged { result ≢ ok → self.new ≡ self.old }
@@ -86,7 +84,6 @@ impl Door {
         windows: &mut [WindowRecord],
     )
         ensures version { IsSomeAnd self.now (λ serial. IsVersionSaid serial.board told.new.version) }
-        ensures reserve { told.new.reserved ≡ 0 }
         ensures ranges { IsSomeAnd self.now
             (λ serial. AreRangesTold serial.board told.new.ranges ranges.old ranges.new) }
         ensures windows { IsSomeAnd self.now
@@ -100,7 +97,6 @@ impl Door {
     pub fn tell_place(&self, event: &EventRecord, part: &mut PartRecord) -> u32
         ensures done { result ≡ ok → IsSomeAnd self.now
             (λ serial. IsSomeAnd (asked_said event.now) (IsAskedPlace serial.board part.new)) }
-        ensures reserve { result ≡ ok → part.new.reserved ≡ 0 }
         ensures refused { result ≢ ok
             → IsSomeAnd self.now (λ serial. IsNotPlaced serial.board (asked_said event.now) result) }
         ensures untold { result ≢ ok → part.new ≡ part.old }
@@ -136,8 +132,7 @@ impl Door {
         tell_sector(self.serial.board(), sector, into)
     }
 
-    /// Tells what a read of port 71h would give with this address at port 70h; no flag of register C is cleared. Refused
-    /// with `NO_BYTE` from address 128 on.
+    /// Tells the byte of the clock at an address. Refused with `NO_BYTE` from address 128 on.
     pub fn tell_clock_byte(&self, address: u8, byte: &mut u8) -> u32
         ensures done { result ≡ ok → IsSomeAnd self.now (λ serial. IsClockByte serial.board address byte.new) }
         ensures within { result ≡ ok → address < clock_bytes }

@@ -56,7 +56,6 @@ pub(crate) fn tell_map(
     windows: &mut [WindowRecord],
 )
     ensures version { IsVersionSaid chipset.now told.new.version }
-    ensures reserve { told.new.reserved ≡ 0 }
     ensures ranges { AreRangesTold chipset.now told.new.ranges ranges.old ranges.new }
     ensures windows { AreWindowsTold chipset.now told.new.windows windows.old windows.new }
 {

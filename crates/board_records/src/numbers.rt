@@ -1,8 +1,5 @@
 //! The numbers by which a record names the cases of an enum. 0 names none, so a record of zeros is that of no event.
 
-/// The version of these numbers and of the calls.
-pub const INTERFACE: u32 = 2;
-
 /// An access to memory.
 pub const MEMORY_EVENT: u8 = 1;
 /// An access to a port.

@@ -21,7 +21,6 @@ use uart_16550::{Happening, is_for_uart};
 /// (`NO_EVENT`), or no access of one bus cycle in range (`NO_CYCLE`).
 pub(crate) fn tell_place(chipset: &Chipset, event: &EventRecord, part: &mut PartRecord) -> u32
     ensures done { result ≡ ok → IsSomeAnd (asked_said event.now) (IsAskedPlace chipset.now part.new) }
-    ensures reserve { result ≡ ok → part.new.reserved ≡ 0 }
     ensures refused { result ≢ ok → IsNotPlaced chipset.now (asked_said event.now) result }
     ensures untold { result ≢ ok → part.new ≡ part.old }
     ensures open { result ≢ closed }
@@ -35,7 +34,6 @@ pub(crate) fn tell_place(chipset: &Chipset, event: &EventRecord, part: &mut Part
 
 fn placed(chipset: &Chipset, asked: &Event, part: &mut PartRecord) -> u32
     ensures done { result ≡ ok → IsEventPlaced chipset.now part.new asked.now }
-    ensures reserve { result ≡ ok → part.new.reserved ≡ 0 }
     ensures refused { result ≢ ok → IsNotPlaced chipset.now (Some (Happens asked.now)) result }
     ensures untold { result ≢ ok → part.new ≡ part.old }
     ensures open { result ≢ closed }
@@ -52,7 +50,6 @@ fn placed(chipset: &Chipset, asked: &Event, part: &mut PartRecord) -> u32
 /// What would answer an access of one bus cycle, and what would deny it. None for another event, or one out of range.
 fn place_of(chipset: &Chipset, asked: &Event) -> Option<PartRecord>
     ensures placed { IfSome result (λ said. IsEventPlaced chipset.now said asked.now) }
-    ensures reserve { IfSome result (λ said. said.reserved ≡ 0) }
     ensures none { result ≡ None → (history : List Entry) → IsLeftBy chipset.now history
         → ¬ (IsInRange chipset.now.setup asked.now × IsCycle asked.now) }
 {

@@ -239,7 +239,6 @@ fn parted(record: ReplyRecord, parts: Parts) -> ReplyRecord
 
 pub(crate) fn of_part(part: Part) -> PartRecord
     ensures part { result ≡ of_part part }
-    ensures reserve { result.reserved ≡ 0 }
 {
     part_record(part.target, part.denial)
 }

@@ -25,16 +25,16 @@ pub const NO_EVENT: u32 = 7;
 pub const ALIGNMENT: u32 = 8;
 /// A value does not fit the width, or is not 0 where nothing is written.
 pub const VALUE: u32 = 9;
-/// A wide access has not 2, 4 or 8 bytes, which no record says.
-const BYTES: u32 = 10;
-/// One bus cycle moves a wide access, which no record says.
-const ALIGNED: u32 = 11;
+/// A wide access has not 2, 4 or 8 bytes.
+pub const BYTES: u32 = 10;
+/// One bus cycle moves a wide access.
+pub const ALIGNED: u32 = 11;
 /// A wide access ends past FFFFFFFFh.
 pub const END: u32 = 12;
 /// A count of pulses is not 1 to 1,000,000.
 pub const PULSES: u32 = 13;
-/// The clock cannot have a date or time, which no record says.
-const DATE: u32 = 14;
+/// The clock cannot have a date or time.
+pub const DATE: u32 = 14;
 /// No card has the device number.
 pub const DEVICE: u32 = 15;
 /// The line cannot be set from outside.

@@ -153,18 +153,6 @@ impl Cmos {
         &self.bytes
     }
 
-    /// What a read of port 71h would give with this index, 0 to 127. It clears no flag.
-    pub fn look_at(&self, index: u8) -> u8
-        requires index { index < 128 }
-        ensures value { result ≡ data_byte (record self.now { index = index }) }
-    {
-        match index as usize {
-            REGISTER_C => self.flags(),
-            REGISTER_D => VALID,
-            address => self.bytes[address],
-        }
-    }
-
     /// The index: the address that port 71h reads and writes, 0 to 127.
     pub fn index(&self) -> u8
         ensures index { result ≡ self.now.index }
@@ -206,7 +194,11 @@ impl Cmos {
     fn data(&self) -> u8
         ensures value { result ≡ data_byte self.now }
     {
-        self.look_at(self.index)
+        match self.index as usize {
+            REGISTER_C => self.flags(),
+            REGISTER_D => VALID,
+            address => self.bytes[address],
+        }
     }
 
     /// The byte of register C: bit 7 is the interrupt line, bit 5 the flag of the alarm, bit 4 that of the update.

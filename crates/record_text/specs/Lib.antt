@@ -3,4 +3,3 @@ pub mod Replies
 pub mod Lines
 pub mod Laws
 pub mod Common
-pub mod Layouts

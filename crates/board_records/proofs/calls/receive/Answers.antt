@@ -1,16 +1,10 @@
-use Rattle.std.proofs.Common.{None, refl, sym, ap, subst, ◌∙◌}
+use Rattle.std.proofs.Common.{None, refl, sym, ap, ◌∙◌}
 use Rattle.board_chipset.specs.declared.reset_control.ResetKind.TheVariants.{None as NoReset}
 use Rattle.uart_16550.specs.declared.com1.SerialReply.TheVariants.{Uart as OfUart}
 use Rattle.uart_16550.specs.Com1.{change_steps}
 use Rattle.board_records.specs.Common.{serial_said, after_step}
-use Rattle.board_records.specs.Replies.{IsReserveZero}
-use Rattle.board_records.proofs.Reserves.{reply_reserve}
 use Rattle.board_records.proofs.EventReplies.{after_as}
 use Rattle.board_records.proofs.calls.receive.Goals as goal
-
-pub returns-clause-reserve : goal.returns-clause-reserve
-returns-clause-reserve c = λ ok.
-    subst IsReserveZero (sym c.serial_record_of.ensures.said) (reply_reserve (OfUart None None) c.after_step.result)
 
 pub returns-clause-done : goal.returns-clause-done
 returns-clause-done c = λ ok. record {

@@ -5,14 +5,8 @@ use Rattle.board_chipset.specs.Chipset.{Running, IsLeftBy}
 use Rattle.uart_16550.specs.declared.com1.Happening.TheVariants.{Happens}
 use Rattle.uart_16550.specs.Common.{uart_access, Serial}
 use Rattle.board_records.specs.Common.{serial_said, IsHistoryOf, IsAskedStep, after_step}
-use Rattle.board_records.specs.Replies.{IsReserveZero}
 use Rattle.board_records.proofs.EventReplies.{reply_is}
-use Rattle.board_records.proofs.Reserves.{reply_reserve}
 use Rattle.board_records.proofs.calls.told.Goals as goal
-
-pub returns-clause-reserve : goal.returns-clause-reserve
-returns-clause-reserve c =
-    subst IsReserveZero (sym c.serial_record_of.ensures.said) (reply_reserve c.step-reply.result c.after_step.result)
 
 pub returns-clause-done : goal.returns-clause-done
 returns-clause-done c =

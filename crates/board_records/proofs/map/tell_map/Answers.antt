@@ -1,4 +1,4 @@
-use Rattle.std.proofs.Common.{refl, ◌∙◌, ap, sym, List, length, map}
+use Rattle.std.proofs.Common.{◌∙◌, ap, sym, List, length, map}
 use Rattle.std.proofs.lemmas.List.{length-map}
 use Rattle.std.proofs.lemmas.Simd.{map-map}
 use Rattle.map_builder.specs.Map.{range_of}
@@ -11,7 +11,6 @@ returns c =
     let same = c.ranges-all.ensures.ranges in
     record {
       version = λ history left. c.version.ensures.version ∙ c.map-map.ensures.version history left;
-      reserve = refl;
       ranges = record {
         ranges = c.map-map.result.now.ranges;
         flat = c.map-map.ensures.map;
