@@ -1,10 +1,13 @@
-/* board.h: the proved PC board (82441FX, 82371SB, two 8259A, 8254, MC146818, ATA by PIO, a 16550 on COM1) as a C library.
+/* board.h: the proved PC board (82441FX, 82371SB, two 8259A, 8254, MC146818, ATA by PIO, a 16550
+ * on COM1) as a C library.
  *
- * A board is a handle of two words, which the caller keeps; every call takes a pointer to it. A call that is refused
- * leaves the board and the reply as they were. Nothing prints, traps or ends the process.
+ * A board is a handle of two words, which the caller keeps; every call takes a pointer to it. A
+ * call that is refused leaves the board and the reply as they were. Nothing prints, traps or ends
+ * the process.
  *
- * The caller owes: each pointer is good for what it points to, and for as many as the count beside it says, and is not NULL,
- * also where that count is 0; no two of a call overlap; one call at a time is inside a handle, which the caller's lock sees to; a handle is zeros or what a call left,
+ * The caller owes: each pointer is good for what it points to, and for as many as the count beside
+ * it says, and is not NULL, also where that count is 0; no two of a call overlap; one call at a
+ * time is inside a handle, which the caller's lock sees to; a handle is zeros or what a call left,
  * and is not copied to go on with both; malloc, realloc and free are those of one heap. */
 #ifndef BOARD_H
 #define BOARD_H
@@ -15,7 +18,7 @@
 extern "C" {
 #endif
 
-/* The version of this interface. */
+/* The version of this interface: the records and numbers of this file, and the calls. */
 #define BOARD_INTERFACE 2u
 
 /* A handle. Zeros are a closed one. */
@@ -24,46 +27,72 @@ typedef struct board {
     bool open;
 } board;
 
-/* How a call ends. */
+/* How a call ends. At each call stand the statuses that it can give; none gives 10, 11 or 14. */
 enum board_status {
     BOARD_OK = 0,
-    BOARD_CLOSED = 1,     /* the handle holds no board; or, at board_open, it holds one */
-    BOARD_NO_MEMORY = 2,
-    BOARD_BAD_SIZE = 3,   /* the guest's memory is not of 1 to 512 MiB */
-    BOARD_BAD_CARDS = 4,  /* a record says no card, or the cards are none that a board can be fitted with */
-    BOARD_BAD_ROM = 5,    /* the ROM is not of 64, 128, 256 or 512 KiB */
-    BOARD_BAD_DISK = 6,   /* the disk is not of 1 to 65,536 whole sectors of 512 bytes */
-    BOARD_NO_EVENT = 7,   /* the record names no event */
-    BOARD_ALIGNMENT = 8,  /* an address or a port is no multiple of the width */
-    BOARD_VALUE = 9,      /* a value does not fit the width, or is not 0 where nothing is written */
-    BOARD_BYTES = 10,     /* a wide access has not 2, 4 or 8 bytes */
-    BOARD_ALIGNED = 11,   /* one bus cycle moves a wide access */
-    BOARD_END = 12,       /* a wide access ends past FFFFFFFFh */
-    BOARD_PULSES = 13,    /* a count of pulses is not 1 to 1,000,000 */
-    BOARD_DATE = 14,      /* the clock cannot have a date or time */
-    BOARD_DEVICE = 15,    /* no card has the device number */
-    BOARD_LINE = 16,      /* the line cannot be set from outside */
-    BOARD_NO_CYCLE = 17,  /* the event is no access that one bus cycle makes */
-    BOARD_NO_SECTOR = 18, /* there is no disk, or it has no such sector */
-    BOARD_PAST_END = 19,  /* the bytes do not all lie in the installed memory */
-    BOARD_NO_BYTE = 20,   /* the clock has 128 bytes */
+    BOARD_CLOSED = 1,      /* the handle holds no board; or, at board_open, it holds one */
+    BOARD_NO_MEMORY = 2,   /* malloc refused */
+    BOARD_BAD_SIZE = 3,    /* the guest's memory is not of 1 to 512 MiB */
+    BOARD_BAD_CARDS = 4,   /* a record says no card, or no board can be fitted with the cards */
+    BOARD_BAD_ROM = 5,     /* the ROM is not of 64, 128, 256 or 512 KiB */
+    BOARD_BAD_DISK = 6,    /* the disk is not of 1 to 65,536 whole sectors of 512 bytes */
+    BOARD_NO_EVENT = 7,    /* the record names no event */
+    BOARD_ALIGNMENT = 8,   /* a port is no multiple of the width */
+    BOARD_VALUE = 9,       /* a value does not fit the width, or is not 0 for a read */
+    BOARD_END = 12,        /* an access to memory ends past FFFFFFFFh */
+    BOARD_PULSES = 13,     /* a count of pulses is not 1 to 1,000,000 */
+    BOARD_DEVICE = 15,     /* no card has the device number */
+    BOARD_LINE = 16,       /* the line cannot be set from outside */
+    BOARD_NO_CYCLE = 17,   /* the event is no access that one bus cycle makes */
+    BOARD_NO_SECTOR = 18,  /* there is no disk, or it has no such sector */
+    BOARD_PAST_END = 19,   /* the bytes do not all lie in the installed memory */
+    BOARD_NO_BYTE = 20,    /* the clock has 128 bytes */
     BOARD_BAD_LENGTH = 21, /* a sector has 512 bytes */
-    BOARD_NO_REPLY = 22,  /* the record is that of no reply */
-    BOARD_NO_ROOM = 23,   /* the text does not fit */
+    BOARD_NO_REPLY = 22,   /* the record is that of no reply */
+    BOARD_NO_ROOM = 23,    /* the text does not fit */
     BOARD_SERIAL_FULL = 24 /* COM1 can receive no byte: its queue is full, or loopback is on */
 };
 
+/* What a status says, in a line without a line feed. */
+static inline const char *board_status_text(uint32_t status) {
+    switch (status) {
+    case BOARD_OK: return "done";
+    case BOARD_CLOSED: return "the handle is closed, or was open already";
+    case BOARD_NO_MEMORY: return "out of memory";
+    case BOARD_BAD_SIZE: return "the memory is not of 1 to 512 MiB";
+    case BOARD_BAD_CARDS: return "no board can be fitted with these cards";
+    case BOARD_BAD_ROM: return "the ROM is not of 64, 128, 256 or 512 KiB";
+    case BOARD_BAD_DISK: return "the disk is not of 1 to 65,536 whole sectors of 512 bytes";
+    case BOARD_NO_EVENT: return "the record names no event";
+    case BOARD_ALIGNMENT: return "the port is no multiple of the width";
+    case BOARD_VALUE: return "the value does not fit the width, or nothing is written";
+    case BOARD_END: return "the access ends past FFFFFFFFh";
+    case BOARD_PULSES: return "the count of pulses is not 1 to 1,000,000";
+    case BOARD_DEVICE: return "no card has this device number";
+    case BOARD_LINE: return "the line cannot be set from outside";
+    case BOARD_NO_CYCLE: return "the event is no access of one bus cycle in range";
+    case BOARD_NO_SECTOR: return "there is no disk, or it has no such sector";
+    case BOARD_PAST_END: return "the bytes do not all lie in the installed memory";
+    case BOARD_NO_BYTE: return "the clock has no byte at this address";
+    case BOARD_BAD_LENGTH: return "the room is not the 512 bytes of a sector";
+    case BOARD_NO_REPLY: return "the record is that of no reply";
+    case BOARD_NO_ROOM: return "the text does not fit";
+    case BOARD_SERIAL_FULL: return "COM1 has no room for a byte";
+    default: return "no status of this library";
+    }
+}
+
 /* What is asked. */
 enum board_what {
-    BOARD_MEMORY = 1,     /* kind, addr, bytes 1, 2, 4 or 8, smm, value; one bus cycle where it is aligned */
+    BOARD_MEMORY = 1,     /* kind, addr, bytes 1, 2, 4 or 8, smm, value */
     BOARD_PORT = 2,       /* kind BOARD_READ or BOARD_WRITE, addr, bytes 1, 2 or 4, value */
     BOARD_LOOK = 3,       /* kind, addr, smm: where would such an access land? */
     BOARD_ACK = 4,        /* interrupt acknowledge */
     BOARD_PULSE = 5,      /* value: 1 to 1,000,000 pulses of the 8254's clock */
-    BOARD_TIME = 6,       /* value: year, month, day, hour, minute, second as digits, 20261128143000 */
+    BOARD_TIME = 6,       /* value: year to second as digits, 20261128143000; years 1980 to 2099 */
     BOARD_WIRE = 7,       /* INTA# of the card at device addr takes the level value, 0 or 1 */
-    BOARD_IRQ = 8,        /* interrupt request line addr takes the level value, 0 or 1; of line 4 the board hears the or
-                           * with the level of COM1 */
+    BOARD_IRQ = 8,        /* interrupt request line addr takes the level value, 0 or 1; of line 4
+                           * the board hears the or with the level of COM1 */
     BOARD_BAD_SECTOR = 9, /* sector addr of the disk goes bad */
     BOARD_SERIAL = 10     /* COM1 receives the byte value, 0 to 255, from outside */
 };
@@ -110,10 +139,15 @@ enum board_device {
     BOARD_VECTOR1,
     BOARD_SPURIOUS0,
     BOARD_SPURIOUS1,
-    BOARD_UART /* the 16550 of COM1: accesses of one byte at 3F8h to 3FFh, whatever card decodes them */
+    BOARD_UART /* the 16550 of COM1: accesses of one byte at 3F8h to 3FFh, before any card */
 };
 
-enum board_denial { BOARD_NOT_DENIED = 0, BOARD_BY_REGISTER = 1, BOARD_BY_CONFADD = 2, BOARD_BY_NO_REGISTER = 3 };
+enum board_denial {
+    BOARD_NOT_DENIED = 0,
+    BOARD_BY_REGISTER = 1,
+    BOARD_BY_CONFADD = 2,
+    BOARD_BY_NO_REGISTER = 3
+};
 
 /* What answered an access, or one part of a wide one, and what denied it. */
 typedef struct board_part {
@@ -142,12 +176,12 @@ typedef struct board_reply {
     uint8_t form;      /* board_form */
     uint8_t has_value;
     uint8_t parts;     /* how many of part[] are filled, 1 to 4 */
-    uint8_t interrupt; /* 1 where INT is asserted after the step, so that a processor may acknowledge */
+    uint8_t interrupt; /* 1 where INT is asserted after the step: a processor may acknowledge */
     uint32_t reset;    /* board_reset: the reset that the step made */
     board_part part[4];
     uint8_t sent;        /* the byte that COM1 sent in this step; 0 where it sent none */
     uint8_t has_sent;
-    uint8_t irq4;        /* the level of interrupt request line 4 after the step: the or of COM1's and of BOARD_IRQ's */
+    uint8_t irq4;        /* line 4 after the step: the or of COM1's level and of BOARD_IRQ's */
     uint8_t serial_room; /* 1 where COM1 can receive a byte */
     uint32_t reserved;
 } board_reply;
@@ -160,8 +194,8 @@ typedef struct board_area {
     uint8_t reserved;
 } board_area;
 
-/* A range of the memory map, first and last address: what a fetch, a read and a write reach outside system management
- * mode, and then in it. */
+/* A range of the memory map, first and last address: what a fetch, a read and a write reach outside
+ * system management mode, and then in it. */
 typedef struct board_range {
     uint32_t lo;
     uint32_t hi;
@@ -174,7 +208,8 @@ typedef struct board_window {
     uint32_t hi;
 } board_window;
 
-/* The memory map: how many ranges it has, how many windows its last change changed, also where there was less room. */
+/* The memory map: how many ranges it has, how many windows its last change changed, also where
+ * there was less room. */
 typedef struct board_map {
     uint64_t ranges;
     uint64_t windows;
@@ -194,8 +229,8 @@ typedef struct board_base {
     uint8_t bits;
 } board_base;
 
-/* A PCI card. Bases past the count of bases are not read; reserved is 0. The memory bases of all cards have at most
- * 64 MiB together. */
+/* A PCI card. Bases past the count of bases are not read; reserved is 0. The memory bases of all
+ * cards have at most 64 MiB together. */
 typedef struct board_card {
     uint8_t device; /* its device number, 2 to 9 */
     uint8_t vga;    /* 1 for a VGA adapter, else 0 */
@@ -205,59 +240,88 @@ typedef struct board_card {
     uint64_t reserved;
 } board_card;
 
-/* Opens a board with these cards, in rising order of device, over copies of the ROM's and the disk's bytes. A disk of no
- * bytes is none. */
-uint32_t board_open(board *handle, uint32_t mib, const board_card *cards, size_t card_count, const uint8_t *rom, size_t rom_bytes, const uint8_t *disk, size_t disk_bytes);
-/* Does an event, and tells the reply. */
+/* Opens a board with these cards, in rising order of device, over copies of the ROM's and the
+ * disk's bytes. A disk of no bytes is none.
+ * CLOSED, NO_MEMORY; BAD_CARDS where a record says no card, and else the first of BAD_SIZE,
+ * BAD_CARDS, BAD_ROM, BAD_DISK that holds. */
+uint32_t board_open(board *handle, uint32_t mib, const board_card *cards, size_t card_count,
+                    const uint8_t *rom, size_t rom_bytes, const uint8_t *disk, size_t disk_bytes);
+/* Does an event, and tells the reply.
+ * CLOSED, NO_EVENT; of BOARD_MEMORY VALUE, END; of BOARD_PORT ALIGNMENT, VALUE; of BOARD_PULSE
+ * PULSES; of BOARD_WIRE DEVICE; of BOARD_IRQ LINE; of BOARD_SERIAL SERIAL_FULL. */
 uint32_t board_step(board *handle, const board_event *event, board_reply *reply);
 /* Frees the board. The handle is closed from then on. */
 void board_close(board *handle);
 
 /* ---- what is asked between two steps: the board stays as it is */
 
-/* Tells the memory map: its version, its ranges in rising order, which cover all addresses, and the windows that its last
- * change changed; an address beside them has the areas that it had before. Of each as many are told as there is room
- * for, and map says how many there are. */
-uint32_t board_ranges(board *handle, board_map *map, board_range *ranges, size_t room, board_window *windows, size_t windows_room);
-/* Tells where a BOARD_MEMORY or BOARD_PORT event of one bus cycle would land, and what would deny it. */
+/* Tells the memory map: its version, its ranges in rising order, which cover all addresses, and the
+ * windows that its last change changed; an address beside them has the areas that it had before. Of
+ * each as many are told as there is room for, and map says how many there are.
+ * CLOSED. */
+uint32_t board_ranges(board *handle, board_map *map, board_range *ranges, size_t room,
+                      board_window *windows, size_t windows_room);
+/* Tells where a BOARD_MEMORY or BOARD_PORT event of one bus cycle would land, and what would deny
+ * it.
+ * CLOSED, NO_EVENT; NO_CYCLE also where the event is out of range. */
 uint32_t board_decode(board *handle, const board_event *event, board_part *part);
-/* Tells after how many pulses of the 8254's clock line 0 next rises: 0 where it does not, unless something is written. */
+/* Tells after how many pulses of the 8254's clock line 0 next rises: 0 where it does not, unless
+ * something is written.
+ * CLOSED. */
 uint32_t board_pulses_to_rise(board *handle, uint32_t *pulses);
-/* Tells bytes of the memory that the board keeps, as the guest's reads would: FFh past the installed memory. */
+/* Tells bytes of the memory that the board keeps, as the guest's reads would: FFh past the
+ * installed memory.
+ * CLOSED. */
 uint32_t board_dram_read(board *handle, uint32_t addr, uint8_t *into, size_t bytes);
-/* Tells the 512 bytes of a sector, also of one that is bad. */
+/* Tells the 512 bytes of a sector, also of one that is bad.
+ * CLOSED, NO_SECTOR; of a sector that is there BAD_LENGTH. */
 uint32_t board_disk_read(board *handle, uint32_t sector, uint8_t *into, size_t bytes);
-/* Tells a byte of the clock, address 0 to 127. */
+/* Tells a byte of the clock as it is kept, address 0 to 127. Of registers C and D (12 and 13) that
+ * is 0: a guest's read of port 71h gives the flags of C, and of D 80h.
+ * CLOSED, NO_BYTE. */
 uint32_t board_cmos_read(board *handle, uint8_t address, uint8_t *byte);
 
 /* ---- bytes that the guest did not write; no reply, and nothing else changes */
 
-/* Puts bytes into the memory that the board keeps, as the guest's writes would, whatever the map says. */
+/* Puts bytes into the memory that the board keeps, as the guest's writes would, whatever the map
+ * says.
+ * CLOSED, PAST_END. */
 uint32_t board_dram_write(board *handle, uint32_t addr, const uint8_t *from, size_t bytes);
-/* Writes a byte of the clock, address 0 to 127, as the guest's writes of ports 70h and 71h would: registers A to D take
- * what a write changes of them. */
+/* Writes a byte of the clock, address 0 to 127, as the guest's writes of ports 70h and 71h would:
+ * registers A and B take what a write changes of them, C and D nothing.
+ * CLOSED, NO_BYTE. */
 uint32_t board_cmos_write(board *handle, uint8_t address, uint8_t byte);
 
-/* ---- over board_step */
+/* ---- over board_step, with its statuses */
 
-static inline uint32_t board_ask(board *handle, uint8_t what, uint8_t kind, uint32_t addr, uint8_t bytes, uint8_t smm, uint64_t value, board_reply *reply) {
+static inline uint32_t board_ask(board *handle, uint8_t what, uint8_t kind, uint32_t addr,
+                                 uint8_t bytes, uint8_t smm, uint64_t value, board_reply *reply) {
     board_event event = {value, addr, what, kind, bytes, smm, 0};
     return board_step(handle, &event, reply);
 }
 
-static inline uint32_t board_fetch(board *handle, uint32_t addr, uint8_t bytes, bool smm, board_reply *reply) {
+/* Fetches, reads or writes 1, 2, 4 or 8 bytes of memory, aligned or not.
+ * CLOSED, NO_EVENT of another count of bytes, END; of a write VALUE. */
+static inline uint32_t board_fetch(board *handle, uint32_t addr, uint8_t bytes, bool smm,
+                                   board_reply *reply) {
     return board_ask(handle, BOARD_MEMORY, BOARD_FETCH, addr, bytes, smm, 0, reply);
 }
 
-static inline uint32_t board_read(board *handle, uint32_t addr, uint8_t bytes, bool smm, board_reply *reply) {
+static inline uint32_t board_read(board *handle, uint32_t addr, uint8_t bytes, bool smm,
+                                  board_reply *reply) {
     return board_ask(handle, BOARD_MEMORY, BOARD_READ, addr, bytes, smm, 0, reply);
 }
 
-static inline uint32_t board_write(board *handle, uint32_t addr, uint8_t bytes, bool smm, uint64_t value, board_reply *reply) {
+/* A value of more than 32 bits for an aligned access of at most 4 bytes is NO_EVENT. */
+static inline uint32_t board_write(board *handle, uint32_t addr, uint8_t bytes, bool smm,
+                                   uint64_t value, board_reply *reply) {
     return board_ask(handle, BOARD_MEMORY, BOARD_WRITE, addr, bytes, smm, value, reply);
 }
 
-static inline uint32_t board_look(board *handle, uint8_t kind, uint32_t addr, bool smm, board_reply *reply) {
+/* Tells where an access would land, and the longest interval in which it does.
+ * CLOSED, NO_EVENT of another kind. */
+static inline uint32_t board_look(board *handle, uint8_t kind, uint32_t addr, bool smm,
+                                  board_reply *reply) {
     return board_ask(handle, BOARD_LOOK, kind, addr, 0, smm, 0, reply);
 }
 
@@ -272,66 +336,85 @@ static inline uint8_t board_cycle(uint32_t port, uint32_t bytes) {
     return bytes >= 2 && port % 2 == 0 ? 2 : 1;
 }
 
-/* Reads a port of 1, 2 or 4 bytes. Where it is not aligned the bus cuts it into cycles in rising order, and the reply is
- * the last one's but for the value, which is the whole. */
+/* What refuses an access to ports before its first cycle, but for its value. */
+static inline uint32_t board_port_status(const board *handle, uint16_t port, uint8_t bytes) {
+    if (!handle->open) return BOARD_CLOSED;
+    if (bytes != 1 && bytes != 2 && bytes != 4) return BOARD_NO_EVENT;
+    return (uint32_t)port + bytes > 0x10000 ? BOARD_NO_EVENT : BOARD_OK;
+}
+
+/* Reads a port of 1, 2 or 4 bytes. Where it is not aligned the bus cuts it into cycles in rising
+ * order, and the reply is the last one's but for the value, which is the whole.
+ * CLOSED, NO_EVENT of another count of bytes and past port FFFFh. */
 static inline uint32_t board_in(board *handle, uint16_t port, uint8_t bytes, board_reply *reply) {
     uint64_t value = 0;
-    uint32_t done = 0, status = BOARD_BYTES;
-    if (bytes != 1 && bytes != 2 && bytes != 4) return BOARD_BYTES;
-    if ((uint32_t)port + bytes > 0x10000) return BOARD_END;
-    while (done < bytes) {
+    uint32_t done = 0, status = board_port_status(handle, port, bytes);
+    while (status == BOARD_OK && done < bytes) {
         uint8_t cycle = board_cycle(port + done, bytes - done);
         status = board_ask(handle, BOARD_PORT, BOARD_READ, port + done, cycle, 0, 0, reply);
-        if (status != BOARD_OK) return status;
-        value |= reply->value << (8 * done);
+        if (status == BOARD_OK) value |= reply->value << (8 * done);
         done += cycle;
     }
-    reply->value = value;
+    if (status == BOARD_OK) reply->value = value;
     return status;
 }
 
-/* Writes a port of 1, 2 or 4 bytes, cut as board_in cuts. Each cut makes its own reset: reply->reset is the strongest. */
-static inline uint32_t board_out(board *handle, uint16_t port, uint8_t bytes, uint32_t value, board_reply *reply) {
-    uint32_t done = 0, reset = BOARD_NO_RESET, status = BOARD_BYTES;
-    if (bytes != 1 && bytes != 2 && bytes != 4) return BOARD_BYTES;
-    if ((uint32_t)port + bytes > 0x10000) return BOARD_END;
-    if (bytes < 4 && value >> (8 * bytes) != 0) return BOARD_VALUE;
-    while (done < bytes) {
+/* Writes a port of 1, 2 or 4 bytes, cut as board_in cuts. Each cut makes its own reset:
+ * reply->reset is the strongest.
+ * CLOSED, NO_EVENT as board_in, VALUE. */
+static inline uint32_t board_out(board *handle, uint16_t port, uint8_t bytes, uint32_t value,
+                                 board_reply *reply) {
+    uint32_t done = 0, reset = BOARD_NO_RESET, status = board_port_status(handle, port, bytes);
+    if (status == BOARD_OK && bytes < 4 && value >> (8 * bytes) != 0) return BOARD_VALUE;
+    while (status == BOARD_OK && done < bytes) {
         uint8_t cycle = board_cycle(port + done, bytes - done);
         uint32_t part = (uint32_t)(((uint64_t)value >> (8 * done)) & ((1ull << (8 * cycle)) - 1));
         status = board_ask(handle, BOARD_PORT, BOARD_WRITE, port + done, cycle, 0, part, reply);
-        if (status != BOARD_OK) return status;
-        if (reply->reset > reset) reset = reply->reset;
+        if (status == BOARD_OK && reply->reset > reset) reset = reply->reset;
         done += cycle;
     }
-    reply->reset = reset;
+    if (status == BOARD_OK) reply->reset = reset;
     return status;
 }
 
-/* Acknowledges the interrupt: reply->value is its vector. */
+/* Acknowledges the interrupt: reply->value is its vector.
+ * CLOSED. */
 static inline uint32_t board_ack(board *handle, board_reply *reply) {
     return board_ask(handle, BOARD_ACK, 0, 0, 0, 0, 0, reply);
 }
 
+/* Gives the 8254 pulses of its clock, 1,193,182 of them a second.
+ * CLOSED, PULSES. */
 static inline uint32_t board_pulse(board *handle, uint32_t pulses, board_reply *reply) {
     return board_ask(handle, BOARD_PULSE, 0, 0, 0, 0, pulses, reply);
 }
 
-static inline uint32_t board_time(board *handle, uint32_t year, uint32_t month, uint32_t day, uint32_t hour, uint32_t minute, uint32_t second, board_reply *reply) {
-    uint64_t digits = ((((year * 100ull + month) * 100 + day) * 100 + hour) * 100 + minute) * 100 + second;
-    if (month > 99 || day > 99 || hour > 99 || minute > 99 || second > 99) return BOARD_NO_EVENT;
-    return board_ask(handle, BOARD_TIME, 0, 0, 0, 0, digits, reply);
+/* Gives the clock a moment to show.
+ * CLOSED, NO_EVENT where the calendar of 1980 to 2099 has no such moment. */
+static inline uint32_t board_time(board *handle, uint32_t year, uint32_t month, uint32_t day,
+                                  uint32_t hour, uint32_t minute, uint32_t second,
+                                  board_reply *reply) {
+    uint64_t date = (year * 100ull + month) * 100 + day;
+    uint64_t digits = ((date * 100 + hour) * 100 + minute) * 100 + second;
+    bool is_date = year <= 9999 && month <= 99 && day <= 99;
+    bool is_time = hour <= 99 && minute <= 99 && second <= 99;
+    return board_ask(handle, BOARD_TIME, 0, 0, 0, 0, is_date && is_time ? digits : 0, reply);
 }
 
+/* Sets an interrupt request line.
+ * CLOSED, LINE. */
 static inline uint32_t board_irq(board *handle, uint8_t line, bool level, board_reply *reply) {
     return board_ask(handle, BOARD_IRQ, 0, line, 0, 0, level, reply);
 }
 
-/* COM1 receives a byte: BOARD_SERIAL_FULL where reply->serial_room was 0 last. */
+/* COM1 receives a byte.
+ * CLOSED, SERIAL_FULL where reply->serial_room was 0 last. */
 static inline uint32_t board_receive(board *handle, uint8_t byte, board_reply *reply) {
     return board_ask(handle, BOARD_SERIAL, 0, 0, 0, 0, byte, reply);
 }
 
+/* Sets INTA# of the card at a device.
+ * CLOSED, DEVICE. */
 static inline uint32_t board_wire(board *handle, uint8_t device, bool level, board_reply *reply) {
     return board_ask(handle, BOARD_WIRE, 0, device, 0, 0, level, reply);
 }
@@ -341,11 +424,14 @@ static inline uint32_t board_wire(board *handle, uint8_t device, bool level, boa
 /* Room that is enough for every line of a log. */
 enum { BOARD_LONGEST_LINE = 256 };
 
-/* Writes line `number` of a log, from 1 on, with its line feed and no zero after it: statement `statement`, from 1 on, of a
- * processor, the event and what board_step replied to it. bytes is how long the line is, also at BOARD_NO_ROOM; then, as
- * where the event is none (BOARD_NO_EVENT) or the reply (BOARD_NO_REPLY), nothing is written. The same statement in a
- * script is the processor, a space, and what stands between the line's second space and its ` = `. */
-uint32_t board_text(const board_event *event, const board_reply *reply, uint64_t number, uint8_t processor, uint32_t statement, uint8_t *into, size_t room, size_t *bytes);
+/* Writes line `number` of a log, from 1 on, with its line feed and no zero after it: statement
+ * `statement`, from 1 on, of a processor, the event and what board_step replied to it. bytes is how
+ * long the line is, also at NO_ROOM; then, as at each other refusal, nothing is written. LIBRARY.md
+ * has what stands around the lines of a log. It takes memory, and gives it back.
+ * NO_EVENT, NO_REPLY, NO_MEMORY, NO_ROOM. */
+uint32_t board_text(const board_event *event, const board_reply *reply, uint64_t number,
+                    uint8_t processor, uint32_t statement, uint8_t *into, size_t room,
+                    size_t *bytes);
 
 #ifdef __cplusplus
 }

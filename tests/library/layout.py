@@ -18,6 +18,8 @@ FIELDS = {("Handle", "full"): "open", ("RangeRecord", "areas"): "area", ("ReplyR
 # numbers that have a name of their own there
 NUMBERS = {"PULSES_EVENT": "BOARD_PULSE", "LINE_EVENT": "BOARD_IRQ", "DEVICE_TARGET": "BOARD_IS_DEVICE",
            "RESET_DEVICE": "BOARD_RESET_CONTROL"}
+# statuses of events that no record says, which have no name there
+NOT_GIVEN = {"BYTES", "ALIGNED", "DATE"}
 
 
 def structs(text):
@@ -85,10 +87,12 @@ def main():
     for name in ("numbers", "status"):
         text = (root / f"crates/board_records/src/{name}.rt").read_text()
         for constant, value in re.findall(r"^pub const (\w+): u\d+ = (\d+);", text, re.M):
+            if name == "status" and constant in NOT_GIVEN:
+                continue
             c = in_c(constant, name == "status")
             print(f'_Static_assert({c} == {value}, "{constant}");')
             count += 1
-    if count < 60:
+    if count < 65:
         sys.exit(f"layout: only {count} numbers were found")
     print("int main(void) { return 0; }")
 

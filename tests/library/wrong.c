@@ -23,6 +23,7 @@ static const struct { const char *name; board_event event; uint32_t status; } ev
     {"no kind of 4", {.what = BOARD_LOOK, .kind = 4}, BOARD_NO_EVENT},
     {"three bytes", {.what = BOARD_MEMORY, .kind = BOARD_READ, .bytes = 3}, BOARD_NO_EVENT},
     {"fetch of a port", {.what = BOARD_PORT, .kind = BOARD_FETCH, .bytes = 1}, BOARD_NO_EVENT},
+    {"a port of three bytes", {.what = BOARD_PORT, .kind = BOARD_READ, .bytes = 3}, BOARD_NO_EVENT},
     {"a port of 17 bits", {.what = BOARD_PORT, .kind = BOARD_READ, .bytes = 1, .addr = 0x10000}, BOARD_NO_EVENT},
     {"a port of 8 bytes", {.what = BOARD_PORT, .kind = BOARD_READ, .bytes = 8}, BOARD_NO_EVENT},
     {"a value of 33 bits", {.what = BOARD_MEMORY, .kind = BOARD_WRITE, .bytes = 4, .value = 1ull << 32}, BOARD_NO_EVENT},
@@ -118,6 +119,7 @@ static void asked(board *b, board *closed) {
     expect("sector of a closed handle", board_disk_read(closed, 0, bytes, 512), BOARD_CLOSED);
     expect("byte of a closed handle", board_cmos_read(closed, 0, &byte), BOARD_CLOSED);
     expect("no such sector", board_disk_read(b, 1, bytes, 512), BOARD_NO_SECTOR);
+    expect("half of no such sector", board_disk_read(b, 1, bytes, 256), BOARD_NO_SECTOR);
     expect("half a sector", board_disk_read(b, 0, bytes, 256), BOARD_BAD_LENGTH);
     expect("byte 128", board_cmos_read(b, 128, &byte), BOARD_NO_BYTE);
     must("a refused call told bytes", is_untouched(bytes, 0, sizeof bytes) && byte == 0xA5);
@@ -204,10 +206,58 @@ static void text(board *b) {
     must("the longest text", bytes <= BOARD_LONGEST_LINE);
 }
 
-/* ---- opening */
-
 static const uint8_t *rom_bytes;
 static const board_card no_card;
+
+/* ---- the calls over board_step, and what needs no board */
+
+/* the same status as board_step of the same record, and no cycle done before a refusal */
+static void inline_calls(board *b, board *closed) {
+    static const struct { uint16_t port; uint8_t bytes; uint32_t status; } rows[] = {
+        {0x80, 0, BOARD_NO_EVENT}, {0x80, 3, BOARD_NO_EVENT}, {0x80, 8, BOARD_NO_EVENT}, {0xFFFF, 2, BOARD_NO_EVENT},
+        {0xFFFE, 4, BOARD_NO_EVENT}, {0xFFFC, 4, BOARD_OK}, {0xFFFD, 2, BOARD_OK}, {0xFFFF, 1, BOARD_OK},
+    };
+    static const uint32_t dates[][6] = {
+        {1844676433, 1, 1, 0, 0, 0}, {10000, 1, 1, 0, 0, 0}, {1979, 12, 31, 23, 59, 59}, {2100, 1, 1, 0, 0, 0},
+        {2028, 100, 1, 0, 0, 0}, {2028, 2, 30, 0, 0, 0}, {2028, 2, 29, 24, 0, 0}, {2028, 2, 29, 0, 60, 0}, {2028, 2, 29, 0, 0, 60},
+        {2028, 2, 29, 0, 0, 4294967295u},
+    };
+    board_reply r;
+    for (size_t k = 0; k < sizeof rows / sizeof *rows; k++) {
+        expect("in", board_in(b, rows[k].port, rows[k].bytes, &r), rows[k].status);
+        expect("out", board_out(b, rows[k].port, rows[k].bytes, 0, &r), rows[k].status);
+        expect("in of a closed handle", board_in(closed, rows[k].port, rows[k].bytes, &r), BOARD_CLOSED);
+        expect("out of a closed handle", board_out(closed, rows[k].port, rows[k].bytes, 0, &r), BOARD_CLOSED);
+    }
+    expect("a byte of 9 bits out", board_out(b, 0x80, 1, 256, &r), BOARD_VALUE);
+    expect("a word of 17 bits out", board_out(b, 0x81, 2, 0x10000, &r), BOARD_VALUE);
+    for (size_t k = 0; k < sizeof dates / sizeof *dates; k++) {
+        const uint32_t *d = dates[k];
+        memset(&r, 0xA5, sizeof r);
+        expect("a date", board_time(b, d[0], d[1], d[2], d[3], d[4], d[5], &r), BOARD_NO_EVENT);
+        must("a refused date told a reply", is_untouched(&r, 0, sizeof r));
+    }
+    expect("a date of a closed handle", board_time(closed, 2028, 2, 29, 0, 0, 0, &r), BOARD_CLOSED);
+}
+
+static void texts(void) {
+    for (uint32_t status = 0; status <= BOARD_SERIAL_FULL; status++) {
+        int none = status == 10 || status == 11 || status == 14;
+        must("the text of a status", (strcmp(board_status_text(status), board_status_text(UINT32_MAX)) == 0) == none);
+    }
+}
+
+/* A board without a disk has no sector, whatever the room. */
+static void no_disk(void) {
+    uint8_t bytes[512];
+    board b = {0};
+    expect("a board without a disk", board_open(&b, 1, &no_card, 0, rom_bytes, 65536, rom_bytes, 0), BOARD_OK);
+    expect("a sector of no disk", board_disk_read(&b, 0, bytes, 512), BOARD_NO_SECTOR);
+    expect("half a sector of no disk", board_disk_read(&b, 0, bytes, 256), BOARD_NO_SECTOR);
+    board_close(&b);
+}
+
+/* ---- opening */
 
 /* a board with one card, and how it is refused */
 static void open_with(const char *what, board_card card, size_t count, uint32_t status) {
@@ -316,6 +366,8 @@ int main(void) {
     expect("step of a closed handle", board_step(&b, &(board_event){.what = BOARD_ACK}, &reply), BOARD_CLOSED);
     opening(&b);
     cards();
+    no_disk();
+    texts();
     free(rom);
     expect("look", board_look(&b, BOARD_READ, 0, false, &before), BOARD_OK);
     for (size_t i = 0; i < sizeof events / sizeof *events; i++) {
@@ -333,6 +385,7 @@ int main(void) {
     text(&b);
     written(&b, &closed);
     serial(&b, &closed);
+    inline_calls(&b, &closed);
     board_close(&b);
     board_close(&b);
     return failed;

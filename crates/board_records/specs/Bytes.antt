@@ -19,13 +19,14 @@ IsSectorTold chipset sector bytes =
     IsSomeAnd (disk_of chipset.setup history)
     (λ disk. (sector < sectors_of disk.medium) × (bytes ≡ sector_bytes disk.medium sector))
 
--- why none are told: the disk has no such sector; or there is not the room of one
+-- why none are told: there is no disk, or it has no such sector; or it has the sector, and there is not the room of it
 abbrev pub IsSectorRefusal : Running → (sector room status : ℕ) → Type 0
 IsSectorRefusal chipset sector room status =
     (history : List Entry) → IsLeftBy chipset history →
     ((status ≡ no_sector) × IfSome (disk_of chipset.setup history) (λ disk. sectors_of disk.medium ≤ sector)) ⊎
     ((status ≡ bad_length) ×
-    IfSome (disk_of chipset.setup history) (λ disk. room ≢ length (sector_bytes disk.medium sector)))
+    IsSomeAnd (disk_of chipset.setup history)
+    (λ disk. (sector < sectors_of disk.medium) × (room ≢ length (sector_bytes disk.medium sector))))
 
 -- these bytes stand in the DRAM from an address on, as if processors had written them one after another
 pub record IsDramWritten (old new : Serial Running) (addr : ℕ) (bytes : List ℕ) : Type 0 where

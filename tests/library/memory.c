@@ -1,0 +1,130 @@
+/* Memory, by counted allocations: what a board takes is given back by board_close, whatever was done with it; a board takes
+ * nothing after it was opened but for the bytes that are stored; and BOARD_NO_MEMORY comes exactly where an allocation was
+ * refused, after which nothing is held. Linked with --wrap of malloc, realloc and free. */
+#include "board.h"
+#include <stdio.h>
+#include <stdlib.h>
+
+void *__real_malloc(size_t size);
+void *__real_realloc(void *at, size_t size);
+void __real_free(void *at);
+
+/* blocks that are held, bytes that were asked for, allocations so far, and the one that is refused, from 1 on */
+static size_t held, asked, allocations, refused;
+
+static int is_refused(size_t size) {
+    asked += size;
+    return ++allocations == refused;
+}
+
+void *__wrap_malloc(size_t size) {
+    void *at = is_refused(size) ? NULL : __real_malloc(size);
+    held += at != NULL;
+    return at;
+}
+
+void *__wrap_realloc(void *at, size_t size) {
+    if (is_refused(size)) return NULL;
+    void *moved = __real_realloc(at, size);
+    held += at == NULL && moved != NULL;
+    return moved;
+}
+
+void __wrap_free(void *at) {
+    held -= at != NULL;
+    __real_free(at);
+}
+
+static int failed;
+
+static void must(const char *what, int holds) {
+    if (holds) return;
+    printf("memory: %s\n", what);
+    failed = 1;
+}
+
+/* the largest board: eight cards with all their bases and 64 MiB behind them, 512 KiB of ROM, 65,536 sectors */
+enum { MIB = 512, CARDS = 8, ROM = 512 << 10, DISK = 65536 * 512 };
+
+static board_card cards[CARDS];
+static uint8_t *rom, *disk;
+
+static void fit_cards(void) {
+    for (int k = 0; k < CARDS; k++) {
+        cards[k] = (board_card){.device = (uint8_t)(2 + k), .vga = k == 0, .rom = 24, .bases = 6, .base = {{BOARD_MEMORY_BASE, 23}}};
+        for (int base = 1; base < 6; base++) cards[k].base[base] = (board_base){BOARD_IO_BASE, 8};
+    }
+}
+
+static uint32_t open_largest(board *b) {
+    return board_open(b, MIB, cards, CARDS, rom, ROM, disk, DISK);
+}
+
+/* bytes into the DRAM, a line of a log, and events of many kinds */
+static void use(board *b) {
+    const uint8_t bytes[3] = {1, 2, 3};
+    board_event event = {.what = BOARD_MEMORY, .kind = BOARD_READ, .bytes = 4, .addr = 0x1000};
+    board_reply r;
+    uint8_t line[BOARD_LONGEST_LINE];
+    size_t length;
+    for (uint32_t addr = 0; addr < MIB << 20; addr += 64 << 20) must("bytes", !board_dram_write(b, addr + 5, bytes, 3));
+    must("a step", !board_step(b, &event, &r) && !board_text(&event, &r, 1, 0, 1, line, sizeof line, &length));
+    must("a port", !board_out(b, 0xCF8, 4, 0x80000058, &r) && !board_out(b, 0xCFF, 1, 0x20, &r));
+    must("pulses", !board_pulse(b, 1000000, &r) && !board_receive(b, 'a', &r) && board_receive(b, 'b', &r));
+}
+
+/* Each open gives all back. */
+static void balance(void) {
+    board b = {0};
+    size_t before = held;
+    for (int k = 0; k < 3; k++) {
+        must("the largest board", open_largest(&b) == BOARD_OK && held > before);
+        use(&b);
+        board_close(&b);
+        must("a closed board holds memory", held == before);
+        board_close(&b);
+        must("a board was closed twice", held == before);
+    }
+    must("no board was refused", board_open(&b, MIB, cards, CARDS, rom, ROM - 1, disk, DISK) == BOARD_BAD_ROM);
+    must("a refused open holds memory", held == before && !b.open);
+}
+
+/* Each allocation of an open is refused in turn. */
+static void refusals(void) {
+    size_t n = 0;
+    uint32_t status;
+    do {
+        board b = {0};
+        size_t before = held;
+        allocations = 0, refused = ++n;
+        status = open_largest(&b);
+        must("a refusal, and another status", (status == BOARD_NO_MEMORY) == (allocations >= n) && b.open == (status == BOARD_OK));
+        refused = 0;
+        must("an open without memory holds some", status == BOARD_OK || held == before);
+        board_close(&b);
+    } while (status == BOARD_NO_MEMORY);
+    must("an open that takes no memory", n > 1);
+    printf("memory: %zu allocations of an open, each refused once\n", n - 1);
+}
+
+/* What an open of a small board takes, and what the calls after it take. */
+static void counts(void) {
+    board b = {0};
+    board_reply r;
+    asked = allocations = 0;
+    must("a small board", !board_open(&b, 8, cards, 0, rom, 65536, disk, 0));
+    printf("memory: a board without disk and cards takes %zu bytes over its ROM\n", asked - 65536);
+    allocations = 0;
+    for (uint32_t k = 0; k < 10000; k++) board_read(&b, k * 64, 4, false, &r), board_pulse(&b, 100, &r), board_ack(&b, &r);
+    must("a read took memory", allocations == 0);
+    board_close(&b);
+}
+
+int main(void) {
+    rom = calloc(ROM, 1), disk = calloc(DISK, 1);
+    fit_cards();
+    balance();
+    refusals();
+    counts();
+    return failed;
+}
