@@ -28,7 +28,7 @@ module _ (setup : Setup) (history : List Entry) (entry : Entry) (soft : is_hard_
   unfolding triggers_of
   triggers_soft = rw soft refl
 
-  disk_with_soft : (bytes : List ℕ) → disk_with bytes (entry ∷ history) ≡ disk_after entry.event entry.reply (disk_with bytes history)
+  pub disk_with_soft : (bytes : List ℕ) → disk_with bytes (entry ∷ history) ≡ disk_after entry.event entry.reply (disk_with bytes history)
   unfolding disk_with
   disk_with_soft bytes = rw soft refl
 
@@ -54,7 +54,7 @@ module _ (setup : Setup) (history : List Entry) (entry : Entry) (soft : is_hard_
 
 -- ---- the pair after an entry
 
-abbrev NotPulses : Event → Type 0
+abbrev pub NotPulses : Event → Type 0
 NotPulses (Pulses count) = ⊥
 NotPulses _ = Unit {0}
 
@@ -381,6 +381,15 @@ lined_as setup history entry step stepped old next between after is made others 
     ap (λ (d : DevicesValue). d.pair) made ∙ (pair ∙ ap step is.pair) in
     settled_as setup (entry ∷ history) between after are kept (lined are)
     (stepped ∙ sym (ap (λ (p : Pair). pair_after_lines p (levels_of setup (entry ∷ history)) (elcr_of (entry ∷ history))) seen))
+
+-- an entry after which no line can have moved, so that the lines do not reach the pair
+pub stood_as : (setup : Setup) (history : List Entry) (entry : Entry) (step : Pair → Pair) →
+    pair_of setup (entry ∷ history) ≡ step (pair_of setup history) →
+    (old next after : DevicesValue) → AreDevicesOf setup history old → after ≡ next →
+    AreAfter setup (entry ∷ history) next → next.pair ≡ step old.pair → AreDevicesOf setup (entry ∷ history) after
+stood_as setup history entry step stepped old next after is made others pair =
+    subst (λ (d : DevicesValue). AreDevicesOf setup (entry ∷ history) d) (sym made)
+    (record { others = others; pair = pair ∙ (ap step is.pair ∙ sym stepped) })
 
 -- ---- events that ask nothing of the devices
 

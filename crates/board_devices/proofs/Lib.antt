@@ -1,3 +1,5 @@
 pub mod DeviceLemmas
+mod ChipSteps
 mod PulseLemmas
+mod StandingLines
 pub mod OutsideLemmas

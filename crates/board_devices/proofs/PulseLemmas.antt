@@ -1,9 +1,10 @@
 -- Many pulses of the timer leave the pair as two sets of levels do.
-use Rattle.std.proofs.Common.{◌≡◌, ℕ, zero, suc, ◌+◌, ◌*◌, ◌/◌, ◌%◌, ◌<◌, ◌==◌, nat_lt, ◌&&◌, ◌||◌, not, Bool, true, false, cond, List, [], ◌∷◌, Option, Some, None, is_some, take, drop, inl, inr, refl, ap, sym, subst, ◌∙◌, arith, slice_set}
+use Rattle.std.proofs.Common.{◌≡◌, ℕ, zero, suc, ◌+◌, ◌*◌, ◌/◌, ◌%◌, ◌<◌, ◌==◌, nat_lt, ◌&&◌, ◌||◌, not, Bool, true, false, cond, List, [], ◌∷◌, Option, Some, None, is_some, take, drop, inl, inr, refl, ap, sym, subst, ◌∙◌, arith, lit<, slice_set}
 use Rattle.board_prelude.proofs.Common.{cases_Bool, or_parts, true≢false, nat_tests, Levels, has, levels_where, no_levels, with_level, levels_of_byte, Chip, Word, Icw2, Icw3, Icw4, interrupt, latches_after, chip_after_inputs, acknowledged, acknowledged_if, first_blocking, chip_after_word, chip_after_odd_write, is_complete, chip_after_ocw2, chip_after_even_write, chip_after_write, chip_after_read, Pair, settled, master_inputs, pair_at_reset, levels_at_power_on, pair_after_lines, pair_after_write, pair_after_read, pair_acknowledged, pair_acknowledged_at, pair_after_acknowledge, is_slave_port, is_odd_port, PitState, out_of, pulses, rises, Triggers, PortAccess, Dev, Pic0, Pic1, Event, Port, Ack, Pulses, Reply, Entry, Setup, is_hard_reset, device_reached, timer_of, levels_with, levels_of, elcr_of, pair_pulsed, pair_accessed, pair_after, pair_reset_or_after, pair_stepped, pair_of, pair_has_seen, levels_where-same, has-levels_where, same-levels, inputs-again, settled-asks, settled-quiet, latched}
 use Rattle.board_base.specs.Bits.{is_bit}
 use Rattle.device_spec.specs.Pic.{ended}
 use Rattle.board_devices.specs.Common.{DevicesValue, AreDevicesOf, Asks, lines_at, pair_after_run}
+use Rattle.board_devices.proofs.ChipSteps.{Keeps, write_keeps, acknowledged_keeps, read_keeps}
 use Rattle.board_devices.proofs.DeviceLemmas.{levels_pulsed, other_pair, all_pulses}
 
 -- ---- the latch of line 0 at the master
@@ -54,67 +55,14 @@ lines_fresh pair levels elcr is =
     (record { master = chip_after_inputs pair.master low triggers; slave = chip_after_inputs pair.slave (drop 8 levels) (levels_of_byte (elcr / 256)) })
     (record { fresh = inputs_fresh pair.master low triggers is.fresh })
 
-by_cond : (P : Chip → Type 0) (b : Bool) (x y : Chip) → P x → P y → P (cond b x y)
-by_cond P true x y p q = p
-by_cond P false x y p q = q
-
-record Fresh (chip : Chip) : Type 0 where
-  stays : is_stale chip ≡ false
-
-ended_fresh : (rotates : Bool) (chip : Chip) (level : Option ℕ) → Fresh chip → Fresh (ended rotates chip level)
-ended_fresh rotates chip None h = h
-ended_fresh rotates chip (Some level) h = record { stays = h.stays }
-
-word_fresh : (chip : Chip) (word : Word) (byte : ℕ) → Fresh chip → Fresh (chip_after_word chip word byte)
-word_fresh chip Icw2 byte h = record { stays = h.stays }
-word_fresh chip Icw3 byte h = h
-word_fresh chip Icw4 byte h = record { stays = h.stays }
-
-odd_fresh : (chip : Chip) (words : List Word) (byte : ℕ) → Fresh chip → Fresh (chip_after_odd_write chip words byte)
-odd_fresh chip [] byte h = record { stays = h.stays }
-odd_fresh chip (word ∷ later) byte h = word_fresh (record chip { awaited = later; is_ready = chip.is_ready || is_complete later }) word byte (record { stays = h.stays })
-
-none_fresh : (level : Bool) → (has no_levels 0 && not level) ≡ false
-unfolding levels_where
-none_fresh level = refl
-
-ocw2_fresh : (chip : Chip) (command level : ℕ) → Fresh chip → Fresh (chip_after_ocw2 chip command level)
-ocw2_fresh chip command level h =
-    by_cond Fresh (command == 0b001) _ _ (ended_fresh false chip (first_blocking chip) h)
-    (by_cond Fresh (command == 0b011) _ _ (ended_fresh false chip (Some level) h)
-    (by_cond Fresh (command == 0b101) _ _ (ended_fresh true chip (first_blocking chip) h)
-    (by_cond Fresh (command == 0b111) _ _ (ended_fresh true chip (Some level) h)
-    (by_cond Fresh (command == 0b100) _ _ (record { stays = h.stays })
-    (by_cond Fresh (command == 0b000) _ _ (record { stays = h.stays })
-    (by_cond Fresh (command == 0b110) _ _ (record { stays = h.stays }) h))))))
-
-even_fresh : (chip : Chip) (byte : ℕ) → Fresh chip → Fresh (chip_after_even_write chip byte)
-even_fresh chip byte h =
-    by_cond Fresh (is_bit byte 4) _ _ (record { stays = none_fresh (has chip.inputs 0) })
-    (by_cond Fresh (is_bit byte 3) _ _ (record { stays = h.stays }) (ocw2_fresh chip (byte / 32) (byte % 8) h))
-
-write_fresh : (chip : Chip) (is_odd : Bool) (byte : ℕ) → Fresh chip → Fresh (chip_after_write chip is_odd byte)
-unfolding chip_after_write
-write_fresh chip is_odd byte h = by_cond Fresh is_odd _ _ (odd_fresh chip chip.awaited byte h) (even_fresh chip byte h)
-
 fewer_fresh : (kept latch before : Bool) → (latch && not before) ≡ false → ((kept && latch) && not before) ≡ false
 fewer_fresh true latch before h = h
 fewer_fresh false latch before h = refl
 
-acknowledged_fresh : (chip : Chip) (level : ℕ) → Fresh chip → Fresh (acknowledged chip level)
-unfolding levels_where
-acknowledged_fresh chip level h = record { stays = fewer_fresh (not (0 == level)) (has chip.latches 0) (has chip.inputs 0) h.stays }
-
-acknowledged_if_fresh : (chip : Chip) (level : Option ℕ) → Fresh chip → Fresh (acknowledged_if chip level)
-acknowledged_if_fresh chip None h = h
-acknowledged_if_fresh chip (Some level) h = acknowledged_fresh chip level h
-
-unpolled : (chip : Chip) → Fresh chip → Fresh (record chip { polls = false })
-unpolled chip h = record { stays = h.stays }
-
-read_fresh : (chip : Chip) → Fresh chip → Fresh (chip_after_read chip)
-unfolding chip_after_read
-read_fresh chip h = by_cond Fresh chip.polls _ _ (unpolled (acknowledged_if chip (interrupt chip)) (acknowledged_if_fresh chip (interrupt chip) h)) h
+-- a step of the chip itself makes no latch stale
+keeps_fresh : (old new : Chip) → Keeps old new → is_stale old ≡ false → is_stale new ≡ false
+keeps_fresh old new keeps h =
+    rw (keeps.latches 0 (lit< tt), keeps.inputs) (fewer_fresh (keeps.kept 0) (has old.latches 0) (has old.inputs 0) h)
 
 by_pair : (b : Bool) (x y : Pair) → IsFresh x → IsFresh y → IsFresh (cond b x y)
 by_pair true x y p q = p
@@ -124,21 +72,25 @@ pub pair_write_fresh : (pair : Pair) (port byte : ℕ) → IsFresh pair → IsFr
 pair_write_fresh pair port byte is =
     let slave = record pair { slave = chip_after_write pair.slave (is_odd_port port) byte } in
     let master = record pair { master = chip_after_write pair.master (is_odd_port port) byte } in
-    settled_fresh (cond (is_slave_port port) slave master) (by_pair (is_slave_port port) slave master (record { fresh = is.fresh }) (record { fresh = (write_fresh pair.master (is_odd_port port) byte (record { stays = is.fresh })).stays }))
+    settled_fresh (cond (is_slave_port port) slave master) (by_pair (is_slave_port port) slave master (record { fresh = is.fresh }) (record { fresh = keeps_fresh pair.master (chip_after_write pair.master (is_odd_port port) byte) (write_keeps pair.master (is_odd_port port) byte) is.fresh }))
 
 pub pair_read_fresh : (pair : Pair) (port : ℕ) → IsFresh pair → IsFresh (pair_after_read pair port)
 pair_read_fresh pair port is =
     let slave = record pair { slave = chip_after_read pair.slave } in
     let master = record pair { master = chip_after_read pair.master } in
-    settled_fresh (cond (is_slave_port port) slave master) (by_pair (is_slave_port port) slave master (record { fresh = is.fresh }) (record { fresh = (read_fresh pair.master (record { stays = is.fresh })).stays }))
+    settled_fresh (cond (is_slave_port port) slave master) (by_pair (is_slave_port port) slave master (record { fresh = is.fresh }) (record { fresh = keeps_fresh pair.master (chip_after_read pair.master) (read_keeps pair.master) is.fresh }))
 
 at_fresh : (pair : Pair) (level : Option ℕ) → IsFresh pair → IsFresh (pair_acknowledged_at pair level)
 at_fresh pair None is = is
-at_fresh pair (Some level) is = settled_fresh (pair_acknowledged pair level) (record { fresh = (acknowledged_fresh pair.master level (record { stays = is.fresh })).stays })
+at_fresh pair (Some level) is = settled_fresh (pair_acknowledged pair level) (record { fresh = keeps_fresh pair.master (acknowledged pair.master level) (acknowledged_keeps pair.master level) is.fresh })
 
 pub pair_acknowledge_fresh : (pair : Pair) → IsFresh pair → IsFresh (pair_after_acknowledge pair)
 unfolding pair_after_acknowledge
 pair_acknowledge_fresh pair is = at_fresh pair (interrupt pair.master) is
+
+none_fresh : (level : Bool) → (has no_levels 0 && not level) ≡ false
+unfolding levels_where
+none_fresh level = refl
 
 pub pair_reset_fresh : (levels : List Bool) → IsFresh (pair_at_reset levels)
 pair_reset_fresh levels = record { fresh = none_fresh _ }

@@ -30,6 +30,15 @@ is_chip _ = false
 abbrev pub is_chip_port : Dev → (port bytes : ℕ) → Bool
 is_chip_port dev port bytes = is_chip (Some dev) && is_port_of dev port bytes
 
+-- whether a read of a device, or a write to it, can move an interrupt line or change which are level triggered: any
+-- access to the clock or the disk, and a write to the timer or to the edge and level control
+abbrev pub moves_lines : Dev → (write : Bool) → Bool
+moves_lines Clock write = true
+moves_lines Ata write = true
+moves_lines Pit write = write
+moves_lines Elcr write = write
+moves_lines _ write = false
+
 -- an event asks nothing of the devices: an access to memory, a look, or an access at a port that reached none of them
 abbrev pub PassesBy : Event → Option Dev → Type 0
 PassesBy (Memory access) reached = Unit {0}

@@ -6,7 +6,7 @@ ghost use Rattle.device_spec.specs.Ata.Steps.{after_read as disk_after_read, aft
 ghost use Rattle.pic_pair.specs.View.{answer_shown};
 ghost use Rattle.board_devices.specs.Steps.{value_read, after_read, after_write};
 ghost use Rattle.board_devices.specs.Devices.{AreDevicesOf, AreRoutesOf};
-ghost use Rattle.board_devices.specs.Events.{is_chip_port, ReachesDevice, Asks};
+ghost use Rattle.board_devices.specs.Events.{is_chip_port, moves_lines, ReachesDevice, Asks};
 
 use crate::devices::Devices;
 use board_base::bits::is_set;
@@ -19,8 +19,8 @@ use pirq_router::Pirq;
 const GATE_2: u32 = 0;
 
 impl Devices {
-    /// Reads a port of a device, which may change its state, and then the lines reach the pair. Without a disk
-    /// its ports read all ones.
+    /// Reads a port of a device, which may change its state, and then the lines reach the pair where one can have moved.
+    /// Without a disk its ports read all ones.
     pub fn read(&mut self, routes: &Pirq, dev: Dev, access: &PortAccess) -> u32
         requires port { is_chip_port dev access.now.port (bytes_of access.now.width) ≡ true }
         ensures value { (setup : Setup) (history : List Entry) → AreDevicesOf setup history self.old
@@ -30,11 +30,13 @@ impl Devices {
             → AreRoutesOf setup (entry ∷ history) routes.now → AreDevicesOf setup (entry ∷ history) self.new }
     {
         let value = self.read_port(dev, access);
-        self.settle(routes);
+        if moves_lines(dev, false) {
+            self.settle(routes);
+        }
         value
     }
 
-    /// Writes a port of a device, and then the lines reach the pair.
+    /// Writes a port of a device, and then the lines reach the pair where one can have moved.
     pub fn write(&mut self, routes: &Pirq, dev: Dev, access: &PortAccess)
         requires port { is_chip_port dev access.now.port (bytes_of access.now.width) ≡ true }
         requires fits { access.now.value ≤ largest_of access.now.width }
@@ -43,10 +45,12 @@ impl Devices {
             → AreRoutesOf setup (entry ∷ history) routes.now → AreDevicesOf setup (entry ∷ history) self.new }
     {
         self.write_port(dev, access);
-        self.settle(routes);
+        if moves_lines(dev, true) {
+            self.settle(routes);
+        }
     }
 
-    /// Acknowledges an interrupt: the vector, and who gives it. Then the lines reach the pair.
+    /// Acknowledges an interrupt: the vector, and who gives it. No line moves by it, whatever the routes are.
     pub fn acknowledge(&mut self, routes: &Pirq) -> (u8, Dev)
         ensures vector { (setup : Setup) (history : List Entry) → AreDevicesOf setup history self.old
             → result.0 ≡ vector_of setup history }
@@ -57,7 +61,6 @@ impl Devices {
             → AreDevicesOf setup (entry ∷ history) self.new }
     {
         let ack = self.answer();
-        self.settle(routes);
         (ack.vector, who_answered(&ack))
     }
 
@@ -146,6 +149,19 @@ impl Devices {
         if let Some(disk) = &mut self.disk {
             disk.port_write(access.port, access.width, access.value);
         }
+    }
+}
+
+/// Whether a read of a device, or a write to it, can move an interrupt line or change which are level triggered.
+fn moves_lines(dev: Dev, write: bool) -> bool
+    ensures moves { result ≡ moves_lines dev write }
+{
+    match dev {
+        Dev::Clock => true,
+        Dev::Ata => true,
+        Dev::Pit => write,
+        Dev::Elcr => write,
+        _ => false,
     }
 }
 

@@ -4,7 +4,7 @@ ghost use Rattle.std.specs.Prelude.{◌≡◌, ◌+◌, ◌*◌, ◌<◌, ◌∷
 ghost use Rattle.board_prelude.specs.Common.{option_map_or, is_interrupt, pair_after_lines, timer_of, Entry, Setup, pirq_levels, own_level, levels_of, elcr_of};
 ghost use Rattle.board_devices.specs.Devices.{AreWiresOf, AreAfter, AreDevicesOf, AreRoutesOf};
 ghost use Rattle.board_devices.specs.Events.{Leaves};
-ghost use Rattle.board_devices.specs.Laws.{LeavesDevices};
+ghost use Rattle.board_devices.specs.Laws.{AccessLeavesLines, AcknowledgeLeavesLines, LeavesDevices};
 
 use crate::devices::Devices;
 use board_spec::laws::devices::law_pair;
@@ -124,6 +124,14 @@ impl Devices {
 /// pair last saw them.
 pub fn law_left_alone()
     ensures left { LeavesDevices }
+{
+    law_pair();
+}
+
+/// An access that can move no line, and an acknowledge, leave the pair as they themselves made it.
+pub fn law_lines_stand()
+    ensures access { AccessLeavesLines }
+    ensures acknowledge { AcknowledgeLeavesLines }
 {
     law_pair();
 }

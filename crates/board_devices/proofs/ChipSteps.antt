@@ -1,0 +1,103 @@
+-- What a chip of the pair does by itself leaves its inputs, and latches nothing.
+use Rattle.std.proofs.Common.{◌≡◌, ℕ, ◌/◌, ◌%◌, ◌<◌, ◌==◌, ◌&&◌, ◌||◌, not, Bool, true, false, cond, List, [], ◌∷◌, Option, Some, None, length, refl, ap, ◌∙◌}
+use Rattle.board_prelude.proofs.Common.{Levels, has, levels_where, no_levels, Chip, Word, Icw2, Icw3, Icw4, interrupt, acknowledged, acknowledged_if, first_blocking, chip_after_word, chip_after_odd_write, is_complete, chip_after_ocw2, chip_after_even_write, chip_after_write, chip_after_read, has-levels_where}
+use Rattle.board_base.specs.Bits.{is_bit}
+use Rattle.device_spec.specs.Pic.{ended}
+
+-- a chip before and after a step: of its latches the step keeps these
+pub record Keeps (old new : Chip) : Type 0 where
+  pub inputs : new.inputs ≡ old.inputs
+  pub triggers : new.triggers ≡ old.triggers
+  pub kept : ℕ → Bool
+  pub latches : (level : ℕ) → level < 8 → has new.latches level ≡ (kept level && has old.latches level)
+  pub whole : length old.latches ≡ 8 → length new.latches ≡ 8
+
+-- a set of levels is a list of eight
+pub eight : (test : ℕ → Bool) → length (levels_where test) ≡ 8
+unfolding levels_where
+eight test = refl
+
+-- ---- steps that keep all latches, and those that clear some
+
+all_kept : (old new : Chip) → new.inputs ≡ old.inputs → new.triggers ≡ old.triggers → new.latches ≡ old.latches → Keeps old new
+all_kept old new inputs triggers latches = record {
+  inputs = inputs;
+  triggers = triggers;
+  kept = λ _. true;
+  latches = λ level small. ap (λ (set : Levels). has set level) latches;
+  whole = λ whole. ap (λ (set : Levels). length set) latches ∙ whole;
+}
+
+pub unmoved : (chip : Chip) → Keeps chip chip
+unmoved chip = all_kept chip chip refl refl refl
+
+cleared : (old new : Chip) (kept : ℕ → Bool) → new.inputs ≡ old.inputs → new.triggers ≡ old.triggers →
+    new.latches ≡ levels_where (λ level. kept level && has old.latches level) → Keeps old new
+cleared old new kept inputs triggers latches = record {
+  inputs = inputs;
+  triggers = triggers;
+  kept = kept;
+  latches = λ level small.
+      ap (λ (set : Levels). has set level) latches
+      ∙ has-levels_where (λ level. kept level && has old.latches level) level small;
+  whole = λ whole. ap (λ (set : Levels). length set) latches ∙ eight (λ level. kept level && has old.latches level);
+}
+
+by_cond : (P : Chip → Type 0) (b : Bool) (x y : Chip) → P x → P y → P (cond b x y)
+by_cond P true x y p q = p
+by_cond P false x y p q = q
+
+-- ---- writes
+
+ended_keeps : (rotates : Bool) (chip : Chip) (level : Option ℕ) → Keeps chip (ended rotates chip level)
+ended_keeps rotates chip None = unmoved chip
+ended_keeps rotates chip (Some level) = all_kept chip (ended rotates chip (Some level)) refl refl refl
+
+word_keeps : (old chip : Chip) (word : Word) (byte : ℕ) → Keeps old chip → Keeps old (chip_after_word chip word byte)
+word_keeps old chip Icw2 byte is = record { inputs = is.inputs; triggers = is.triggers; kept = is.kept; latches = is.latches; whole = is.whole }
+word_keeps old chip Icw3 byte is = is
+word_keeps old chip Icw4 byte is = record { inputs = is.inputs; triggers = is.triggers; kept = is.kept; latches = is.latches; whole = is.whole }
+
+odd_keeps : (chip : Chip) (words : List Word) (byte : ℕ) → Keeps chip (chip_after_odd_write chip words byte)
+odd_keeps chip [] byte = all_kept chip (chip_after_odd_write chip [] byte) refl refl refl
+odd_keeps chip (word ∷ later) byte =
+    let next : Chip = record chip { awaited = later; is_ready = chip.is_ready || is_complete later } in
+    word_keeps chip next word byte (all_kept chip next refl refl refl)
+
+ocw2_keeps : (chip : Chip) (command level : ℕ) → Keeps chip (chip_after_ocw2 chip command level)
+ocw2_keeps chip command level =
+    by_cond (Keeps chip) (command == 0b001) _ _ (ended_keeps false chip (first_blocking chip))
+    (by_cond (Keeps chip) (command == 0b011) _ _ (ended_keeps false chip (Some level))
+    (by_cond (Keeps chip) (command == 0b101) _ _ (ended_keeps true chip (first_blocking chip))
+    (by_cond (Keeps chip) (command == 0b111) _ _ (ended_keeps true chip (Some level))
+    (by_cond (Keeps chip) (command == 0b100) _ _ (all_kept chip _ refl refl refl)
+    (by_cond (Keeps chip) (command == 0b000) _ _ (all_kept chip _ refl refl refl)
+    (by_cond (Keeps chip) (command == 0b110) _ _ (all_kept chip _ refl refl refl) (unmoved chip)))))))
+
+even_keeps : (chip : Chip) (byte : ℕ) → Keeps chip (chip_after_even_write chip byte)
+even_keeps chip byte =
+    by_cond (Keeps chip) (is_bit byte 4) _ _ (cleared chip _ (λ _. false) refl refl refl)
+    (by_cond (Keeps chip) (is_bit byte 3) _ _ (all_kept chip _ refl refl refl) (ocw2_keeps chip (byte / 32) (byte % 8)))
+
+pub write_keeps : (chip : Chip) (is_odd : Bool) (byte : ℕ) → Keeps chip (chip_after_write chip is_odd byte)
+unfolding chip_after_write
+write_keeps chip is_odd byte =
+    by_cond (Keeps chip) is_odd _ _ (odd_keeps chip chip.awaited byte) (even_keeps chip byte)
+
+-- ---- acknowledges, and reads, which may poll
+
+pub acknowledged_keeps : (chip : Chip) (level : ℕ) → Keeps chip (acknowledged chip level)
+acknowledged_keeps chip level = cleared chip (acknowledged chip level) (λ l. not (l == level)) refl refl refl
+
+pub acknowledged_if_keeps : (chip : Chip) (level : Option ℕ) → Keeps chip (acknowledged_if chip level)
+acknowledged_if_keeps chip None = unmoved chip
+acknowledged_if_keeps chip (Some level) = acknowledged_keeps chip level
+
+unpolled : (old chip : Chip) → Keeps old chip → Keeps old (record chip { polls = false })
+unpolled old chip is = record { inputs = is.inputs; triggers = is.triggers; kept = is.kept; latches = is.latches; whole = is.whole }
+
+pub read_keeps : (chip : Chip) → Keeps chip (chip_after_read chip)
+unfolding chip_after_read
+read_keeps chip =
+    by_cond (Keeps chip) chip.polls _ _ (unpolled chip (acknowledged_if chip (interrupt chip)) (acknowledged_if_keeps chip (interrupt chip)))
+    (unmoved chip)
