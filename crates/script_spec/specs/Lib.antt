@@ -17,5 +17,6 @@ pub mod Entries
 pub mod Checks
 pub mod Laws
 pub mod ExampleScripts
+pub mod ExampleEntries
 pub mod Phases
 pub mod Common
