@@ -34,4 +34,5 @@ pub mod ReplyBack
 pub mod LogReading
 pub mod LogLaws
 mod ExampleRuns
+mod EntryRuns
 pub mod Common

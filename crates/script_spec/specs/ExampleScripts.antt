@@ -57,6 +57,14 @@ bad_texts =
     ∷ bad (codes "board 2" ∷ codes "card 2 plain x10" ∷ []) 2 7
     -- a ROM without a name
     ∷ bad (codes "board 1" ∷ codes "rom " ∷ []) 2 3
+    -- of two reasons the least: 4 before 5 and 7, 5 before 7 and 10, 7 before 9 and 10, 9 before 10
+    ∷ sixth (codes "board 1") (codes "memory 65") 4
+    ∷ bad (codes "board 1" ∷ codes "cpus 1" ∷ codes "cpus 9" ∷ []) 3 5
+    ∷ bad (codes "board 1" ∷ codes "card 2 plain" ∷ codes "card 2 plain m25" ∷ []) 3 5
+    ∷ bad (codes "board 1" ∷ codes "card 9 plain" ∷ codes "card 9 plain m24 m24 m24 m24 m24" ∷ []) 3 5
+    ∷ bad (codes "board 1" ∷ codes "card 10 plain m24 m24 m24 m24 m24" ∷ []) 2 7
+    ∷ sixth (codes "board 1") (codes "1 pulse 0") 7
+    ∷ bad (codes "board 1" ∷ codes "phase 1" ∷ []) 2 3
     ∷ []
 
 unfoldable pub AreBad : Type 0
@@ -111,6 +119,18 @@ bounds =
     ∷ bound 6 (codes "card 9 plain i8") (codes "card 9 plain i9") 7
     ∷ bound 6 (codes "card 9 plain x11") (codes "card 9 plain x10") 7
     ∷ bound 6 (codes "card 9 plain x24") (codes "card 9 plain x25") 7
+    -- the characters of a name, and the first: each border of the digits and of both alphabets
+    ∷ bound 4 (codes "rom a-b_c.d-") (codes "rom -a") 3
+    ∷ bound 4 (codes "rom _a") (codes "rom .a") 3
+    ∷ bound 4 (codes "rom 9") (codes "rom :") 3
+    ∷ bound 4 (codes "rom 0") (codes "rom /") 3
+    ∷ bound 4 (codes "rom A") (codes "rom @") 3
+    ∷ bound 4 (codes "rom Z") (codes "rom [") 3
+    ∷ bound 4 (codes "rom a") (codes "rom `") 3
+    ∷ bound 4 (codes "rom z") (codes "rom {") 3
+    ∷ bound 4 (codes "rom az") (codes "rom a{") 3
+    ∷ bound 4 (codes "rom a0") (codes "rom a/") 3
+    ∷ bound 4 (codes "rom a9") (codes "rom a b") 3
     -- six bases, and 64 MiB behind all of them
     ∷ bound 6 (codes "card 9 plain i2 i2 i2 i2 i2 i2") (codes "card 9 plain i2 i2 i2 i2 i2 i2 i2") 3
     ∷ bound 6 (codes "card 9 plain m24 m24 m24 m24") (codes "card 9 plain m24 m24 m24 m24 m4") 10
@@ -121,9 +141,16 @@ bounds =
     ∷ bound 8 (codes "0 pulse 1") (codes "0 pulse 1000000000") 3
     ∷ bound 8 (codes "0 pulse 1") (codes "0 pulse 01") 3
     ∷ bound 8 (codes "0 bad 65535") (codes "0 bad 65536") 7
+    -- nine digits are a number, out of range, and ten are none
+    ∷ bound 8 (codes "0 bad 0") (codes "0 bad 999999999") 7
+    ∷ bound 8 (codes "0 bad 0") (codes "0 bad 1000000000") 3
+    ∷ bound 8 (codes "0 ack") (codes "999999999 ack") 9
+    ∷ bound 8 (codes "0 ack") (codes "1000000000 ack") 3
     -- cards and interrupt lines, and their levels
     ∷ bound 8 (codes "0 wire 2 0") (codes "0 wire 1 0") 7
     ∷ bound 8 (codes "0 wire 9 1") (codes "0 wire 10 1") 7
+    ∷ bound 8 (codes "0 wire 9 1") (codes "0 wire 127 1") 7
+    ∷ bound 8 (codes "0 wire 9 1") (codes "0 wire 128 1") 7
     ∷ bound 8 (codes "0 wire 2 1") (codes "0 wire 3 1") 9
     ∷ bound 8 (codes "0 wire 2 1") (codes "0 wire 2 2") 7
     ∷ bound 8 (codes "0 irq 1 0") (codes "0 irq 0 0") 7

@@ -17,6 +17,7 @@ pub mod Entries
 pub mod Checks
 pub mod Laws
 pub mod ExampleScripts
+pub mod ExampleEntries
 pub mod Phases
 pub mod Common
 pub mod Boards

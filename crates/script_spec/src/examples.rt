@@ -1,5 +1,6 @@
 //! Worked examples of the definitions: texts of scripts, and what they say.
 
+ghost use Rattle.script_spec.specs.ExampleEntries.{NameBorders, EntryBorders};
 ghost use Rattle.script_spec.specs.ExampleScripts.{AreBad, AreBounds, TwoProcessors, TwoOrders, WideScript};
 
 /// Texts that are bad, each at its first bad line, for the least reason.
@@ -30,4 +31,11 @@ pub fn two_orders()
 #[tactic(auto, using(crate::proofs::ExampleRuns::wide_script))]
 pub fn wide_script()
     ensures says { WideScript }
+{}
+
+/// What an entry of a log can name, and what it can say.
+#[tactic(auto, using(crate::proofs::EntryRuns::name_borders, crate::proofs::EntryRuns::entry_borders))]
+pub fn entry_borders()
+    ensures names { NameBorders }
+    ensures entries { EntryBorders }
 {}
