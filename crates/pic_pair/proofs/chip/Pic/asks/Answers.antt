@@ -1,5 +1,5 @@
 -- The set has the levels that are requested.
-use Rattle.std.proofs.Common.{◌≡◌, ◌∙◌, Bool, true, false, not, ap, sym}
+use Rattle.std.proofs.Common.{◌≡◌, ◌∙◌, true, false, not, ap, sym}
 use Rattle.device_spec.specs.Common.{is_requested}
 use Rattle.pic_pair.proofs.ChipLemmas.{requested-has}
 use Rattle.pic_pair.proofs.chip.Pic.asks.Goals as goal
