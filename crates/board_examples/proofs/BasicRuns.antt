@@ -4,7 +4,7 @@ use Rattle.board_prelude.proofs.Common.{length-map-range_with_len, get_or-map-ra
 use Rattle.board_examples.specs.Basics.{counting_rom, ShadowingTheBios, OneWindowForWrites, MemoryAfterReset, ConfigurationPorts, SmramLockedUntilReset, VgaBesideSmram, NoRowOfDram, CardInTheHole, HoleAt512Kib, TwoCardsAtOneAddress, XbcsOverASoftReset, RomAfterReset, CardMovedUnderTheRom}
 use Rattle.board_examples.proofs.Spans.{two_cards_span, low_card_span, gap_span, high_card_span}
 
-rom_size : length counting_rom ≡ 0x1_0000
+pub rom_size : length counting_rom ≡ 0x1_0000
 unfolding counting_rom
 rom_size = length-map-range_with_len (λ off. off % 0x100) 0 0x1_0000
 

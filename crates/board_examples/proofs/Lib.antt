@@ -16,6 +16,7 @@ mod ResetRuns
 mod VersionRuns
 mod WindowRuns
 mod EventRuns
+mod SetupRuns
 mod TargetTexts
 mod CheckedLogRuns
 mod MachineRuns

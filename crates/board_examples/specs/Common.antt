@@ -11,7 +11,7 @@ unfoldable pub use Rattle.board_examples.specs.Interrupts.{ClockInterrupts, Devi
 pub use Rattle.board_examples.specs.Machines.Clock.{AMoment, Alarms, EachByte, HourForms, Interrupts}
 unfoldable pub use Rattle.board_examples.specs.Machines.Clock.{AHardReset, AnAlarmStays}
 pub use Rattle.board_examples.specs.Machines.Disk.{Addresses, Commands, DiskPorts, Identify, Lengths, Resets, Writes}
-unfoldable pub use Rattle.board_examples.specs.Machines.Disk.{BadInTheMiddle, BadIsWritten, CommandEnds, LowByteFirst, PastTheEnd, ReadToItsEnd, WordsOfSector3, WrittenIsGood, filled, passed}
+unfoldable pub use Rattle.board_examples.specs.Machines.Disk.{BadInTheMiddle, BadIsWritten, CommandEnds, LowByteFirst, PastTheEnd, ReadToItsEnd, WordsOfSector3, WordsTheWrongWay, WrittenIsGood, filled, passed}
 pub use Rattle.board_examples.specs.Machines.Pair.{AutomaticEnd, Cascaded, EachCommand, FullyNested, ModesEnd}
 unfoldable pub use Rattle.board_examples.specs.Machines.Pair.{ALevelStays, ANewBeginning, AShortSequence, AnEdgeIsKept, ChosenRegisters, NobodyIsReady, Polls, PollsOfOne, ResetAtLevels, SpecialMask, SpuriousAnswers, TheHigherEndsFirst, initialised}
 pub use Rattle.board_examples.specs.Machines.Timer.{BytesAndLatches, EachCount, EachGate, EachMode, OnePeriod, Ports}
@@ -23,8 +23,8 @@ pub use Rattle.board_examples.specs.Masks.{card_written, full_board, functions_t
 unfoldable pub use Rattle.board_examples.specs.Masks.{CardWritten, FunctionsToldApart, HostWritten, IdeWritten, IsaWritten, VgaWritten}
 pub use Rattle.board_examples.specs.Orders.{addressed, look_last, opened, phases, sees_rom}
 unfoldable pub use Rattle.board_examples.specs.Orders.{LookAlone, LookFirst, LookFirstLogged, LookLast, LookLastLogged, LookTooEarly}
-pub use Rattle.board_examples.specs.Ports.{base_past_the_ports, nobody_selected, words_at_byte_ports}
-unfoldable pub use Rattle.board_examples.specs.Ports.{BasePastThePorts, NobodySelected, WordsAtBytePorts}
+pub use Rattle.board_examples.specs.Ports.{base_past_the_ports, bases_by_number, nobody_selected, numbered_board, shut_over_devices, words_at_byte_ports, words_at_chips}
+unfoldable pub use Rattle.board_examples.specs.Ports.{BasePastThePorts, BasesByNumber, NobodySelected, ShutOverDevices, WordsAtBytePorts, WordsAtChips}
 pub use Rattle.board_examples.specs.Resets.{bridges_after_reset, cards_after_reset}
 unfoldable pub use Rattle.board_examples.specs.Resets.{BridgesAfterReset, CardsAfterReset}
 pub use Rattle.board_examples.specs.Roms.{expansion_rom, rom_card_board, shut_before_unselected, shut_board}

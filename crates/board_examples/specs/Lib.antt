@@ -15,6 +15,7 @@ pub mod Interrupts
 pub mod Versions
 pub mod Windows
 pub mod Events
+pub mod Setups
 pub mod Targets
 pub mod CheckedLogs
 pub mod Machines

@@ -1,6 +1,7 @@
-//! Events at the borders of what a board can be asked.
+//! Events at the borders of what a board can be asked, and setups at those of what it can be fitted with.
 
-ghost use Rattle.board_examples.specs.Events.{AccessBorders, WideBorders, OutsideBorders};
+ghost use Rattle.board_examples.specs.Events.{AccessBorders, WideBorders, OutsideBorders, MomentBorders, StatementBorders};
+ghost use Rattle.board_examples.specs.Setups.{SetupBorders};
 
 /// Which events are in range.
 #[tactic(auto, using(crate::proofs::EventRuns::access_borders, crate::proofs::EventRuns::wide_borders, crate::proofs::EventRuns::outside_borders))]
@@ -8,4 +9,17 @@ pub fn borders()
     ensures accesses { AccessBorders }
     ensures wide { WideBorders }
     ensures outside { OutsideBorders }
+{}
+
+/// Which moments there are, and which statements a script can have.
+#[tactic(auto, using(crate::proofs::EventRuns::moment_borders, crate::proofs::EventRuns::statement_borders))]
+pub fn statements()
+    ensures moments { MomentBorders }
+    ensures statements { StatementBorders }
+{}
+
+/// What a board can be fitted with.
+#[tactic(auto, using(crate::proofs::SetupRuns::setup_borders))]
+pub fn setups()
+    ensures borders { SetupBorders }
 {}

@@ -5,7 +5,7 @@ ghost use Rattle.board_examples.specs.Machines.Pair.{NobodyIsReady, SpuriousAnsw
 ghost use Rattle.board_examples.specs.Machines.Timer.{Ports, AfterReset, ReadBackOf0, Counters1And2, OnePeriod, EachMode, EachCount, EachGate, BytesAndLatches};
 ghost use Rattle.board_examples.specs.Machines.Clock.{AnAlarmStays, AHardReset, AMoment, HourForms, Alarms, Interrupts, EachByte};
 ghost use Rattle.board_examples.specs.Machines.Routing.{RouteBytes, LinesDriven, TriggerBytes};
-ghost use Rattle.board_examples.specs.Machines.Disk.{PastTheEnd, BadInTheMiddle, ReadToItsEnd, BadIsWritten, WrittenIsGood, WordsOfSector3, LowByteFirst, CommandEnds, Writes, Resets, Commands, Addresses, Identify, Lengths, DiskPorts};
+ghost use Rattle.board_examples.specs.Machines.Disk.{PastTheEnd, BadInTheMiddle, ReadToItsEnd, BadIsWritten, WrittenIsGood, WordsOfSector3, LowByteFirst, CommandEnds, WordsTheWrongWay, Writes, Resets, Commands, Addresses, Identify, Lengths, DiskPorts};
 
 // The 8259A pair
 
@@ -279,6 +279,12 @@ pub fn low_byte_first()
 #[tactic(auto, using(crate::proofs::MachineRuns::Disk::command_ends))]
 pub fn command_ends()
     ensures example { CommandEnds }
+{}
+
+/// Words moved against a command.
+#[tactic(auto, using(crate::proofs::MachineRuns::Disk::words_the_wrong_way))]
+pub fn words_the_wrong_way()
+    ensures example { WordsTheWrongWay }
 {}
 
 /// Writes past the end and to their end.

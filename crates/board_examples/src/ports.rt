@@ -1,6 +1,6 @@
 //! Accesses to ports that reach nobody.
 
-ghost use Rattle.board_examples.specs.Ports.{NobodySelected, WordsAtBytePorts, BasePastThePorts};
+ghost use Rattle.board_examples.specs.Ports.{NobodySelected, WordsAtBytePorts, WordsAtChips, BasePastThePorts, ShutOverDevices, BasesByNumber};
 
 /// Functions, devices and buses that are not there.
 #[tactic(auto, using(crate::proofs::PortRuns::nobody_selected_runs))]
@@ -14,8 +14,26 @@ pub fn words_at_byte_ports()
     ensures history { WordsAtBytePorts }
 {}
 
+/// Words and doublewords at the ports of the 8259A pair, the 8254, the keyboard controller and edge and level control.
+#[tactic(auto, using(crate::proofs::DeviceRuns::words_at_chips_runs))]
+pub fn words_at_chips()
+    ensures history { WordsAtChips }
+{}
+
 /// A card's ports above FFFFh.
 #[tactic(auto, using(crate::proofs::PortRuns::base_past_the_ports_runs))]
 pub fn base_past_the_ports()
     ensures history { BasePastThePorts }
+{}
+
+/// A card's shut base over the ports of a disk that is not there, and over those of the clock.
+#[tactic(auto, using(crate::proofs::PortRuns::shut_over_devices_runs))]
+pub fn shut_over_devices()
+    ensures history { ShutOverDevices }
+{}
+
+/// The I/O bases of one card, each by its number.
+#[tactic(auto, using(crate::proofs::PortRuns::bases_by_number_runs))]
+pub fn bases_by_number()
+    ensures history { BasesByNumber }
 {}

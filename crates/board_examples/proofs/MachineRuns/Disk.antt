@@ -1,6 +1,6 @@
 -- The examples of the disk, computed.
 use Rattle.std.proofs.Common.{refl}
-use Rattle.board_examples.specs.Common.{given, told, passed, filled, PastTheEnd, BadInTheMiddle, ReadToItsEnd, BadIsWritten, WrittenIsGood, WordsOfSector3, LowByteFirst, CommandEnds, Writes, Resets, Commands, Addresses, Identify, Lengths, DiskPorts}
+use Rattle.board_examples.specs.Common.{given, told, passed, filled, PastTheEnd, BadInTheMiddle, ReadToItsEnd, BadIsWritten, WrittenIsGood, WordsOfSector3, LowByteFirst, CommandEnds, WordsTheWrongWay, Writes, Resets, Commands, Addresses, Identify, Lengths, DiskPorts}
 use Rattle.board_prelude.proofs.Common.{begin_read, sector_read, begin_write, sector_written, verified, obeyed, commanded, after_word, word_written, register_written, identify_word}
 use Rattle.device_spec.specs.Ata.Steps.{control_written}
 
@@ -14,6 +14,7 @@ record AllRun : Type 0 where
   pub words_of_sector_3_runs : WordsOfSector3
   pub low_byte_first_runs : LowByteFirst
   pub command_ends_runs : CommandEnds
+  pub words_the_wrong_way_runs : WordsTheWrongWay
   pub writes_runs : Writes
   pub resets_runs : Resets
   pub commands_runs : Commands
@@ -22,7 +23,7 @@ record AllRun : Type 0 where
   pub lengths_runs : Lengths
 
 all_run : AllRun
-unfolding PastTheEnd BadInTheMiddle ReadToItsEnd BadIsWritten WrittenIsGood WordsOfSector3 LowByteFirst CommandEnds given told passed filled begin_read sector_read begin_write sector_written verified obeyed commanded after_word word_written register_written control_written identify_word
+unfolding PastTheEnd BadInTheMiddle ReadToItsEnd BadIsWritten WrittenIsGood WordsOfSector3 LowByteFirst CommandEnds WordsTheWrongWay given told passed filled begin_read sector_read begin_write sector_written verified obeyed commanded after_word word_written register_written control_written identify_word
 all_run = record {
   past_the_end_runs = λ bytes. refl;
   bad_in_the_middle_runs = λ bytes. refl;
@@ -32,6 +33,7 @@ all_run = record {
   words_of_sector_3_runs = refl;
   low_byte_first_runs = refl;
   command_ends_runs = refl;
+  words_the_wrong_way_runs = refl;
   writes_runs = record {
     past_the_end = refl;
     to_its_end = refl;
@@ -118,6 +120,9 @@ low_byte_first = all_run.low_byte_first_runs
 
 pub command_ends : CommandEnds
 command_ends = all_run.command_ends_runs
+
+pub words_the_wrong_way : WordsTheWrongWay
+words_the_wrong_way = all_run.words_the_wrong_way_runs
 
 pub writes : Writes
 writes = all_run.writes_runs

@@ -51,6 +51,7 @@ all_run = record {
     software_strobe = refl;
     hardware_strobe = refl;
     before_count = refl;
+    written_twice = refl;
   };
   bytes_and_latches_runs = record {
     in_turn = refl;

@@ -199,6 +199,18 @@ command_ends =
 unfoldable pub CommandEnds : Type 0
 CommandEnds = Gives (disk_of 4 counting_bytes) command_ends
 
+-- a word that is read while a sector is written, or written while a sector or the words of IDENTIFY DEVICE are read, is
+-- lost, and the command goes on with its next word
+abbrev pub words_the_wrong_way : List Line
+words_the_wrong_way =
+    Out 0x1F6 0xE0 ∷ Out 0x1F2 0x01 ∷ Out 0x1F3 0x01 ∷ Out 0x1F7 0x30 ∷ OutWord 0x1111 ∷ InWord 0xFFFF
+    ∷ InLong 0xFFFF_FFFF ∷ In 0x3F6 0x58 ∷ Fill 254 0x2222 ∷ In 0x3F6 0x58 ∷ OutWord 0x2222 ∷ In 0x3F6 0x50
+    ∷ Out 0x1F7 0x20 ∷ InWord 0x1111 ∷ OutWord 0x4444 ∷ OutLong 0x6666_5555 ∷ In 0x3F6 0x58 ∷ InWord 0x2222
+    ∷ Out 0x1F7 0xEC ∷ InWord 0x0040 ∷ OutWord 0x7777 ∷ In 0x3F6 0x58 ∷ InWord 0x0001 ∷ []
+
+unfoldable pub WordsTheWrongWay : Type 0
+WordsTheWrongWay = Gives (disk_of 4 counting_bytes) words_the_wrong_way
+
 -- SRST in the middle of a read holds the disk, and leaves the signature when it goes; features stay
 abbrev pub reset_in_the_middle : List Line
 reset_in_the_middle =

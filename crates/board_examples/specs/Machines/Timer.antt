@@ -179,6 +179,12 @@ rise_before_count =
     Out 0x43 0x92 ∷ Gate true ∷ Out 0x42 3 ∷ Pulses 1 ∷ In 0x42 3 ∷ Level 2 false
     ∷ Gate false ∷ Out 0x43 0x92 ∷ Gate true ∷ Pulses 1 ∷ Out 0x42 3 ∷ Pulses 1 ∷ In 0x42 0 ∷ Level 2 true ∷ []
 
+-- a gate that is written 1 while it is 1 does not rise: no second trigger comes, in mode 1 nor in mode 2
+abbrev pub gate_written_twice : List Line
+gate_written_twice =
+    Out 0x43 0x92 ∷ Out 0x42 5 ∷ Gate true ∷ Pulses 2 ∷ In 0x42 4 ∷ Gate true ∷ Pulses 1 ∷ In 0x42 3 ∷ Level 2 false
+    ∷ Out 0x43 0x94 ∷ Out 0x42 5 ∷ Pulses 2 ∷ In 0x42 4 ∷ Gate true ∷ Pulses 1 ∷ In 0x42 3 ∷ []
+
 pub record EachGate : Type 0 where
   pub rate : Answers gate_of_rate
   pub square : Answers gate_of_square
@@ -187,6 +193,7 @@ pub record EachGate : Type 0 where
   pub software_strobe : Answers gate_of_software_strobe
   pub hardware_strobe : Answers gate_of_hardware_strobe
   pub before_count : Answers rise_before_count
+  pub written_twice : Answers gate_written_twice
 
 -- ---- bytes and latches
 
