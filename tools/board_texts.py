@@ -226,10 +226,10 @@ class Board:
     def __init__(self, words: argparse.Namespace):
         self.program = words.program.resolve()
         self.folder = (words.images or words.script.parent).resolve()
-        # where it has to be built it says so itself, meanwhile
+        # where it is not of these sources it says so itself
         if self.program == ROOT / "board" and self.program not in self.ready:
             if self.run("--version", stderr=None).returncode:
-                stop(4, f"the program {self.program} is not built")
+                stop(4, f"the program {self.program} does not run")
             self.ready.add(self.program)
 
     @staticmethod
@@ -243,7 +243,8 @@ class Board:
     def run(self, command: str, *files: pathlib.Path, stderr=subprocess.PIPE) -> subprocess.CompletedProcess:
         words = [self.program, command, *(file.resolve() for file in files)]
         try:
-            run = subprocess.run(words, cwd=self.folder, stdin=subprocess.DEVNULL, stdout=subprocess.PIPE, stderr=stderr)
+            run = subprocess.run(words, cwd=self.folder, stdin=subprocess.DEVNULL, stdout=subprocess.PIPE, stderr=stderr,
+                                 env={**os.environ, "BOARD_QUIET": "1"})
             texts = [(it or b"").decode("latin-1") for it in (run.stdout, run.stderr)]
             return subprocess.CompletedProcess(words, run.returncode, *texts)
         except OSError as fault:
