@@ -102,6 +102,7 @@ class Kinds(Case):
         ("0 out b 01F7 E7\n", "0 in b 01F7", "40", CHOICE, "Disk"),
         ("0 out b 01F7 EC\n", "0 in w 01F0", "0041", ABSENT, "another disk"),
         ("0 out b 01F6 B0\n", "0 in b 01F4", "FF", CHOICE, "Disk"),
+        ("0 out b 01F7 EC\n0 in w 01F0\n0 out b 01F7 EC\n", "0 in w 01F0", "0041", CHOICE, "Disk"),
     ]
 
     def difference(self, setup, before, last, given):
