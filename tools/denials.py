@@ -21,7 +21,6 @@ HEARERS = [
     ("the configuration address", (CONFADD,), (4,)),
 ]
 DISK_PORTS = (*range(0x1F0, 0x1F8), 0x3F6)
-ENABLE = 1 << 31
 
 
 def heard(widths: tuple[int, ...]) -> str:
@@ -30,12 +29,14 @@ def heard(widths: tuple[int, ...]) -> str:
 
 def other_width(port: int, size: int) -> Optional[str]:
     """Which device at a port hears another width."""
-    for name, ports, widths in HEARERS:
-        found = [it for it in range(port, port + size) if it in ports]
-        if found and (size not in widths or found[0] != port):
-            return f"{name} hears {heard(widths)} at {found[0]:X}h, not {COUNT[size]}"
+    if any(port in ports and size in widths for _, ports, widths in HEARERS):
+        return None
     if CONFADD <= port < CONFADD + 4:
         return f"the configuration address hears four bytes at {CONFADD:X}h, not {COUNT[size]} at {port:X}h"
+    for name, ports, widths in HEARERS:
+        found = [it for it in range(port, port + size) if it in ports]
+        if found:
+            return f"{name} hears {heard(widths)} at {found[0]:X}h, not {COUNT[size]}"
     return None
 
 

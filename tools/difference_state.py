@@ -15,7 +15,7 @@ OWN_REGISTERS = {
     "01.1": (0x40, 0x41),
 }
 LOCK, LOCK_BYTE = 0x10, 0x72
-DRIVE = 0x10
+DRIVE, HELD_RESET = 0x10, 0x04
 ICW1, OCW3, READ_SERVICE, POLL = 0x10, 0x08, 3, 4
 
 
@@ -90,6 +90,7 @@ class State:
     disk_command: Optional[int] = None
     disk_words: int = 0
     drive_1: bool = False  # is chosen, which is not there
+    disk_is_cut: bool = False  # a command came in the middle of a sector
 
     def note(self, entry: Entry) -> None:
         words, kind = entry.words, entry.target.partition(":")[0]
@@ -121,10 +122,19 @@ class State:
             self.note_pic(self.pics[kind == "pic1"], port, value)
         elif kind == "pit" and port == 0x43:
             self.pit_tells_status = value >> 6 == 3 and not value & 0x10
-        elif kind == "ata" and port == 0x1F7:
+        elif kind == "ata":
+            self.note_disk(entry, port, value)
+
+    def note_disk(self, entry: Entry, port: int, value: int) -> None:
+        if port == 0x1F0:
+            self.disk_words += WIDTHS[entry.words[1]] // 2
+        elif port == 0x1F7:
+            self.disk_is_cut = self.disk_is_cut or self.disk_words % WORDS_OF_A_SECTOR != 0
             self.disk_command, self.disk_words = value, 0
-        elif kind == "ata" and port == 0x1F6:
+        elif port == 0x1F6:
             self.drive_1 = bool(value & DRIVE)
+        elif port == 0x3F6 and value & HELD_RESET:
+            self.disk_is_cut, self.disk_command, self.disk_words = False, None, 0
 
     def note_config(self, entry: Entry, value: int) -> None:
         offset, size = int(entry.target[12:], 16), WIDTHS[entry.words[1]]
@@ -154,7 +164,7 @@ class State:
     def note_reset(self) -> None:
         self.is_locked, self.clock_index, self.confadd_written = False, 0, 0
         self.pics = (Pic(), Pic())
-        self.disk_command, self.drive_1 = None, False
+        self.disk_command, self.disk_words, self.drive_1, self.disk_is_cut = None, 0, False, False
 
     # ---- what a row asks
 

@@ -224,6 +224,8 @@ DEVICES = [
 ]
 
 DISK = [
+    Row("disk-cut", CHOICE, "Disk", "a command in the middle of a transfer ends it and is done", "ata",
+        when=lambda it: it.state.disk_is_cut),
     Row("another-disk", ABSENT, "", "another disk: its names, numbers and abilities in IDENTIFY DEVICE", "ata",
         when=lambda it: it.state.is_identify(it)),
     Row("disk-absent", CHOICE, "Disk", "the registers of an absent drive are those of the channel", "ata",

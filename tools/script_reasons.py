@@ -9,21 +9,6 @@ from script_lines import CHARACTERS, cause
 
 MOST_STATEMENTS, MOST_PHASES, MOST_PULSES, MOST_BASES = 250_000, 1_000, 100_000_000, 64 << 20
 MOST_BYTES = 120
-REASONS = {
-    1: "it is the first line, and neither `board 1` nor `board 2`",
-    2: "it has more than 120 bytes; a comment counts too",
-    3: "it has none of the forms of its version",
-    4: "a setup line stands after the first `phase`, or a statement before it",
-    5: "a setup line of its kind came before; of `card` one of the same device",
-    6: "here a phase begins or the file ends, and `cpus`, `memory` or `rom` is missing",
-    7: "a number is out of its range, or the calendar has no such moment: cpus 1 to 8, memory 1 to 64, card and wire 2 "
-    "to 9, mK 4 to 24, iK 2 to 8, xK 11 to 24, pulse 1 to 1,000,000, irq 1, 3 to 7, 9 to 12 or 15, a level 0 or 1, "
-    "bad 0 to 65,535, a year 1980 to 2099",
-    8: "the address or the port is no multiple of the width, or a wide access passes FFFFFFFF; `board 2` lets memory "
-    "be accessed anywhere, but not ports",
-    9: "the processor is not below `cpus`, or `wire` names a device without a card",
-    10: "with it there are more than 250,000 statements, 1,000 phases, 100,000,000 pulses, or 64 MiB behind bases",
-}
 
 
 @dataclass
