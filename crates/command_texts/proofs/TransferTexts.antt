@@ -16,6 +16,7 @@ pub cells_left : (setup : Setup) (history : List Entry) (store : Store) → IsDr
 cells_left setup history store dram contents = record {
   dram = λ addr. read_stored setup history store.dram addr One dram;
   cards = contents.bytes;
+  roms = λ dev off. refl;
 }
 
 dram_here : (dram : List ℕ) (addr : ℕ) → addr < length dram → slice_index dram addr ≡ dram_at dram addr

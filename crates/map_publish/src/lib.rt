@@ -7,6 +7,7 @@ pub mod laws;
 mod list;
 mod mark;
 mod names;
+mod newest;
 mod publisher;
 mod sends;
 mod shown;

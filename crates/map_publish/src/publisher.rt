@@ -9,17 +9,16 @@ ghost use Rattle.map_publish.specs.Names.{name};
 
 use crate::front::{Front, Head};
 use crate::names::{Name, Names, Published, Stays, Tells};
+use crate::newest::Teller;
 use crate::shown::{Next, Shown};
-use crate::viewer::{Newest, Note, Viewer};
+use crate::viewer::{Note, Viewer};
 use board_base::NoMemory;
 use board_spec::MapChange;
 use core::mem::replace_with;
-use crossbeam_utils::CachePadded;
 use left_right::writer::Writer;
 use map_builder::FlatMap;
 use std::alloc::{AllocError, Global};
-use std::sync::atomic::{AtomicU64, Ordering};
-use std::sync::{Arc, Wait};
+use std::sync::Wait;
 
 pub(crate) type Copies = Writer<Shown, Next, Name, Published>;
 
@@ -28,10 +27,11 @@ pub(crate) type Copies = Writer<Shown, Next, Name, Published>;
 pub struct Publisher {
     writer: Copies,
     head: Head,
-    newest: Arc<Newest>,
+    teller: Teller,
     /// The list of what is published.
     pub front: Front,
     ghost head_is: { head ≡ head_of front.seen.book },
+    ghost told: { teller.told ≡ front.count },
     ghost quiet: { drop writer.behind writer.log.items ≡ [] },
     ghost shows: { writer.desk.shown.value.front ≡ front },
     ghost listed: { writer.desk.shown.value.list.log ≡ front.seen.log },
@@ -100,7 +100,7 @@ impl Publisher {
         let front = self.front.add(&self.head, change).ok_or(NoMemory)?;
         let next = (rt, *change, front.again());
         replace_with(&mut self.writer, next, published)?;
-        self.newest.store(u64::from(front.count), Ordering::Release);
+        self.teller.tell(front.count);
         self.front = front;
         Ok(())
     }
@@ -137,7 +137,7 @@ impl Publisher {
         let Publisher {
             writer,
             head: _head,
-            newest: _newest,
+            teller: _teller,
             front: _front,
         } = self;
         let Shown {
@@ -153,7 +153,7 @@ impl Publisher {
         ensures same { self.new.front ≡ self.old.front }
         ensures viewer { IfOk result (λ viewer. viewer.front ≡ self.old.front) }
     {
-        let newest = Arc::try_clone(&self.newest)?;
+        let newest = self.teller.newest()?;
         let mut reader = self.writer.factory().reader()?;
         let note = self.writer.tell::<Tells>();
         reader.learn::<Tells>(note);
@@ -194,9 +194,7 @@ fn publisher_of<R: Wait>(
     ensures list { IfOk result (λ publisher. publisher.front.seen.log ≡ Opened map.now ∷ []) }
 {
     let (head, front) = Front::open(map).ok_or(NoMemory)?;
-    let Ok(newest) = Arc::new(alloc, CachePadded::new(AtomicU64::new(1))) else {
-        return Err(NoMemory);
-    };
+    let teller = Teller::new(alloc)?;
     let (first, second) = (Shown::new(map, &front), Shown::new(map, &front));
     let writer = Copies::new(alloc, first, second, readers as usize)?;
     let (writer, result) = named(rt, writer);
@@ -215,7 +213,7 @@ fn publisher_of<R: Wait>(
     Ok(Publisher {
         writer,
         head,
-        newest,
+        teller,
         front,
     })
 }

@@ -10,15 +10,15 @@ ghost use Rattle.map_publish.specs.Sights.{IsSightOf};
 
 use crate::front::Front;
 use crate::names::{Name, Published, Stays};
+use crate::newest::Newest;
 use crate::shown::Shown;
 use crate::sight::Sight;
 use board_base::Kind;
 use board_spec::Look;
-use crossbeam_utils::CachePadded;
 use left_right::reader::Reader;
 use map_builder::FlatMap;
 use std::sync::Arc;
-use std::sync::atomic::{AtomicU64, Ordering};
+use std::sync::atomic::Ordering;
 
 /// What a publisher gives a viewer to learn from: the list as it was published when the note was made. Only its length
 /// takes bytes.
@@ -28,10 +28,6 @@ pub struct Note {
 }
 
 pub(crate) type Place = Reader<Shown, Name, Published>;
-
-/// The length of the list that is published. The publisher raises it after each publish, so that a viewer takes a copy
-/// only where there is a newer one. It has its cache lines to itself.
-pub(crate) type Newest = CachePadded<AtomicU64>;
 
 /// A viewer. It keeps the sight of the newest map that it was opened with, found by a look, or learnt from a note, and
 /// its place at the published copies.
