@@ -3,7 +3,7 @@
 #![tactic(auto)]
 
 use board_base::NoMemory;
-use board_files::SystemFolder;
+use board_files::{FileShelf, OutSink, SystemFolder};
 use board_main::run_words;
 use board_run::{Status, exit_code};
 use std::alloc::Global;
@@ -25,13 +25,15 @@ fn words_of(alloc: Global, line: &str) -> Result<Vec<String>, NoMemory> {
     Ok(words)
 }
 
-/// How a command ends, and what it puts. What is said goes to `errors`.
+/// How a command ends. What it puts goes to `out`, and what is said to `errors`.
 fn answer<R: Files + AllocGlobal + Threads + Wait + Sync>(
     rt: &R,
     words: &[String],
-    errors: &mut Vec<u8>,
-) -> (Status, Vec<u8>) {
-    run_words(rt, SystemFolder { rt }, words, Vec::new(rt.alloc()), errors)
+    out: &mut OutSink<Vec<u8>>,
+    errors: &mut OutSink<Vec<u8>>,
+) -> Status {
+    let mut shelf = FileShelf::new(SystemFolder { rt });
+    run_words(rt, words, &mut shelf, out, errors)
 }
 
 /// Does a command, and writes its words, its exit code, what standard error is told, and what it puts.
@@ -41,14 +43,16 @@ fn tell<R: Files + AllocGlobal + Threads + Wait + Sync, W: Write>(
     line: &str,
 ) -> Result<(), NoMemory> {
     let words = words_of(rt.alloc(), line)?;
-    let mut errors = Vec::new(rt.alloc());
-    let (status, text) = answer(rt, &words, &mut errors);
+    let mut put = OutSink::new(Vec::new(rt.alloc()));
+    let mut said = OutSink::new(Vec::new(rt.alloc()));
+    let status = answer(rt, &words, &mut put, &mut said);
+    let errors = said.into_inner();
     let _ = write!(out, "{line}: {} ", exit_code(&status));
     write_whole(out, &errors);
     if errors.is_empty() {
         let _ = writeln!(out, "");
     }
-    write_whole(out, &text);
+    write_whole(out, &put.into_inner());
     Ok(())
 }
 

@@ -1,18 +1,15 @@
-//! Commands over real files, nearly all of which fail, each with its exit code and what standard error is told. After them
-//! come what the program answers of itself, and the command of this program's own words, as `board` does it.
+//! Commands over real files, nearly all of which fail, each by the whole program, with its exit code and what standard
+//! error is told. After them come what the program answers of itself, and the command of this program's own words, as
+//! `board` does it.
 #![tactic(auto)]
 
-ghost use Rattle.std.specs.Prelude.{◌≡◌, false, map, string_bytes, None, IfOk};
-ghost use Rattle.command_files.specs.declared.status.Status.{Status};
-ghost use Rattle.command_words.specs.Words.{command_of};
-ghost use Rattle.board_main.specs.Words.{is_own};
-ghost use Rattle.app_failures.specs.Words.{words_in};
+mod lines;
+mod shaken;
 
-use board_base::NoMemory;
-use board_files::SystemFolder;
-use board_main::{run_program, run_words};
-use board_run::{Status, exit_code};
-use std::alloc::Global;
+use crate::lines::{Bytes, NoRoom, Row};
+use crate::shaken::{Shaken, ShakenFolder};
+use board_files::{FileShelf, Folder, OutSink, SystemFolder};
+use board_main::{CommandLine, SystemLine, run_program};
 use std::fs::File;
 use std::io::Write;
 use std::process::ExitCode;
@@ -21,7 +18,7 @@ use std::sync::Wait;
 use std::thread::Threads;
 
 /// The words of each command, cut at spaces.
-const COMMANDS: [&str; 20] = [
+const COMMANDS: [&str; 24] = [
     "make 1",
     "",
     "replay",
@@ -42,69 +39,125 @@ const COMMANDS: [&str; 20] = [
     "resume good nothing",
     "resume image-of-2 good",
     "serial good /dev/zero",
+    // 67,108,865 bytes are read of it.
+    "check good /dev/zero",
+    "replay /proc/self/cwd/good",
+    // Of 200 bytes.
+    "replay a-name-of-fifty-bytes-is-longer-than-others-are...a-name-of-fifty-bytes-is-longer-than-others-are...a-name-of-fifty-bytes-is-longer-than-others-are...a-name-of-fifty-bytes-is-longer-than-others-are...",
+    "--help --version",
 ];
 
 /// Words of commands whose output is a full disk.
-const FULL: [&str; 4] = ["replay good", "map good", "make 1", "--version"];
+const FULL: [&str; 5] = ["replay good", "map good", "make 1", "--version", "--help"];
+
+/// Words of commands whose calls a signal interrupts.
+const SHAKEN: [&str; 3] = ["replay good", "check good good", "--version"];
 
 /// Words that the program answers of itself.
 const OWN: [&str; 2] = ["--help", "--version"];
 
-/// The words of a line, cut at each space.
-fn words_of(alloc: Global, line: &str) -> Result<Vec<String>, NoMemory>
-    ensures words { IfOk result (λ words. map string_bytes words.items ≡ words_in line.now) }
-{
-    let mut words = Vec::new(alloc);
-    for word in line.split(' ') {
-        words.push(word.to_string(alloc)?)?;
+/// Command lines with a word that is no UTF-8, and how each is shown.
+const NO_TEXT: [(&str, &[&[u8]]); 3] = [
+    ("replay \\xFF", &[b"board", b"replay", b"\xff"]),
+    ("\\xC3 good", &[b"board", b"\xc3", b"good"]),
+    ("--help \\x80", &[b"board", b"--help", b"\x80"]),
+];
+
+/// The greatest exit code.
+const MOST_CODE: u8 = 9;
+
+/// Does what a command line asks for, and writes its exit code and what standard error is told.
+fn run<R: AllocGlobal + Threads + Wait + Sync, L: CommandLine, F: Folder + Drop, W: Write>(
+    rt: &R,
+    told: &mut impl Write,
+    line: &L,
+    folder: F,
+    output: &mut OutSink<W>,
+) {
+    let mut shelf = FileShelf::new(folder);
+    let mut errors = OutSink::new(Vec::new(rt.alloc()));
+    let code = run_program(rt, line, &mut shelf, output, &mut errors);
+    for number in 0..=MOST_CODE {
+        if code == ExitCode::from(number) {
+            let _ = write!(told, "{number} ");
+        }
     }
-    Ok(words)
+    let said = errors.into_inner();
+    let _ = told.write_all(&said);
+    if said.is_empty() {
+        let _ = writeln!(told, "");
+    }
 }
 
-/// How a command ends that writes to this output. What is said goes to `errors`.
-fn status_of<R: Files + AllocGlobal + Threads + Wait + Sync, W: Write + Drop, E: Write>(
+/// Does what a command line asks for, with real files and this file as output.
+fn tell<R: Files + AllocGlobal + Threads + Wait + Sync, L: CommandLine>(
     rt: &R,
-    line: &str,
-    output: W,
-    errors: &mut E,
-) -> Status
-    ensures usage { result ≡ Status.Usage
-        → (is_own (words_in line.now) ≡ false) × (command_of (words_in line.now) ≡ None) }
-{
-    match words_of(rt.alloc(), line) {
-        Ok(words) => run_words(rt, SystemFolder { rt }, &words, output, errors).0,
-        Err(_) => Status::NoMemory,
-    }
-}
-
-/// Does a command, and writes its words, its exit code and what standard error is told.
-fn tell<R: Files + AllocGlobal + Threads + Wait + Sync, W: Write>(
-    rt: &R,
-    out: &mut W,
-    line: &str,
+    told: &mut impl Write,
+    line: &L,
     output: &str,
 ) {
-    let Ok(file) = File::create(rt, output) else {
-        return;
-    };
-    let mut said = Vec::new(rt.alloc());
-    let status = status_of(rt, line, file, &mut said);
-    let _ = write!(out, "{line}: {} ", exit_code(&status));
-    let _ = out.write_all(&said);
-    if said.is_empty() {
-        let _ = writeln!(out, "");
+    if let Ok(file) = File::create(rt, output) {
+        run(rt, told, line, SystemFolder { rt }, &mut OutSink::new(file));
     }
+}
+
+/// Does what a command line asks for, and then writes what was put.
+fn show<R: AllocGlobal + Threads + Wait + Sync, L: CommandLine, F: Folder + Drop>(
+    rt: &R,
+    told: &mut impl Write,
+    line: &L,
+    folder: F,
+) {
+    let mut output = OutSink::new(Shaken::new(Vec::new(rt.alloc())));
+    run(rt, told, line, folder, &mut output);
+    let Shaken { inner, .. } = output.into_inner();
+    let _ = told.write_all(&inner);
 }
 
 fn main(rt: HostRuntime) -> ExitCode {
+    let mut out = rt.stdout();
+    let alloc = rt.alloc();
     for line in COMMANDS {
-        tell(&rt, &mut rt.stdout(), line, "/dev/null");
+        let _ = write!(out, "{line}: ");
+        tell(&rt, &mut out, &Row { line, alloc }, "/dev/null");
     }
     for line in FULL {
-        tell(&rt, &mut rt.stdout(), line, "/dev/full");
+        let _ = write!(out, "{line} >/dev/full: ");
+        tell(&rt, &mut out, &Row { line, alloc }, "/dev/full");
+    }
+    for (line, words) in NO_TEXT {
+        let _ = write!(out, "{line}: ");
+        let given = (Bytes(words), alloc);
+        tell(&rt, &mut out, &SystemLine { rt: &given }, "/dev/null");
+    }
+    let _ = write!(out, "no memory for words: ");
+    tell(&rt, &mut out, &NoRoom, "/dev/null");
+    for line in SHAKEN {
+        let _ = write!(out, "{line}, interrupted: ");
+        show(
+            &rt,
+            &mut out,
+            &Row { line, alloc },
+            ShakenFolder { rt: &rt },
+        );
     }
     for line in OWN {
-        let _ = status_of(&rt, line, rt.stdout(), &mut rt.stderr());
+        let _ = write!(out, "{line}: ");
+        show(
+            &rt,
+            &mut out,
+            &Row { line, alloc },
+            SystemFolder { rt: &rt },
+        );
     }
-    run_program(&rt, rt.stdout(), rt.stderr())
+    let mut shelf = FileShelf::new(SystemFolder { rt: &rt });
+    let mut output = OutSink::new(rt.stdout());
+    let mut errors = OutSink::new(rt.stderr());
+    run_program(
+        &rt,
+        &SystemLine { rt: &rt },
+        &mut shelf,
+        &mut output,
+        &mut errors,
+    )
 }

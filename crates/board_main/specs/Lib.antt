@@ -1,4 +1,5 @@
-pub mod Words
 pub mod Own
+pub mod Given
+pub mod Outputs
 pub mod Ends
 pub mod Common

@@ -1,12 +1,14 @@
 //! The answers to `--help` and `--version`, for which no board is opened.
 
-ghost use Rattle.std.specs.Prelude.{◌≡◌, map, is_some, string_bytes, IfSome, OnOk};
+ghost use Rattle.std.specs.Prelude.{◌≡◌, map, string_bytes};
 ghost use Rattle.board_main.specs.declared.answers.OwnAnswer.{OwnAnswer};
-ghost use Rattle.board_main.specs.Words.{is_own, is_own_word, is_help, is_help_word};
-ghost use Rattle.board_main.specs.Own.{is_help_answer, AppendsOwn};
+ghost use Rattle.board_main.specs.Own.{own_of, own_by, own_text};
+ghost use Rattle.board_main.specs.Outputs.{IsPut, out_call};
 
+use crate::put::{put_text, put_three};
+use board_files::OutSink;
+use board_outside::Failed;
 use board_run::USAGE;
-use std::io;
 use std::io::Write;
 
 const TITLE: &str = "\
@@ -54,18 +56,16 @@ pub enum OwnAnswer {
 
 /// The answer to `--help` and to `--version`, each as the only word. All other words are the board's.
 pub fn own_answer(words: &[String]) -> Option<OwnAnswer>
-    ensures own { is_some result ≡ is_own (map string_bytes words.now) }
-    ensures help { IfSome result (λ own. is_help_answer own ≡ is_help (map string_bytes words.now)) }
+    ensures own { result ≡ own_of (map string_bytes words.now) }
 {
     match words {
-        [word] => own_of(word.as_str()),
+        [word] => own_by(word.as_str()),
         _ => None,
     }
 }
 
-fn own_of(word: &str) -> Option<OwnAnswer>
-    ensures own { is_some result ≡ is_own_word word.now }
-    ensures help { IfSome result (λ own. is_help_answer own ≡ is_help_word word.now) }
+fn own_by(word: &str) -> Option<OwnAnswer>
+    ensures own { result ≡ own_by word.now }
 {
     match word {
         "--help" => Some(OwnAnswer::Help),
@@ -74,22 +74,13 @@ fn own_of(word: &str) -> Option<OwnAnswer>
     }
 }
 
-/// Writes the help, in which the usage text stands.
-fn write_help<W: Write>(output: &mut W) -> io::Result<()>
-    ensures written { OnOk result (AppendsOwn OwnAnswer.Help (W.contents output.old) (W.contents output.new)) }
-{
-    output.write_all(TITLE.as_bytes())?;
-    output.write_all(USAGE.as_bytes())?;
-    output.write_all(COMMANDS.as_bytes())
-}
-
 /// Writes an answer of the program's own.
-pub fn write_answer<W: Write>(output: &mut W, own: OwnAnswer) -> io::Result<()>
-    ensures written { OnOk result (AppendsOwn own (W.contents output.old) (W.contents output.new)) }
+pub fn write_answer<W: Write>(out: &mut OutSink<W>, own: OwnAnswer) -> Result<(), Failed>
+    ensures put { IsPut result (own_text own) (out_call W.contents out.old out.new) }
 {
     match own {
-        OwnAnswer::Help => write_help(output),
-        OwnAnswer::Version => output.write_all(VERSION.as_bytes()),
+        OwnAnswer::Help => put_three(out, TITLE, USAGE, COMMANDS),
+        OwnAnswer::Version => put_text(out, VERSION),
     }
 }
 

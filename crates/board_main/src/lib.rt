@@ -2,7 +2,9 @@
 #![tactic(auto)]
 
 mod answers;
+mod line;
 mod program;
-mod words;
+mod put;
 
+pub use line::{CommandLine, SystemLine, WordFault};
 pub use program::{run_program, run_words};

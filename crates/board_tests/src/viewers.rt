@@ -83,6 +83,37 @@ fn a_viewer_that_learnt_nothing_sees_each_change(rt: HostRuntime) -> Result<(), 
     seen
 }
 
+/// How many changes are published one after another.
+const CHANGES: u32 = 500;
+
+/// A change that opens PAM0's window for reads, or one that shuts it again, and what a read reaches after it.
+fn nth_change(count: u32) -> (MapChange, Area) {
+    if count % 2 == 1 {
+        (pam0(0x10), Area::Shadow(0))
+    } else {
+        (pam0(0x20), Area::Rom)
+    }
+}
+
+/// A look that begins after a change was published shows that change.
+fn each_is_seen<R: Wait + Abort>(rt: &R, publisher: &mut Publisher, mut viewers: Vec<Viewer>) {
+    for count in 1..=CHANGES {
+        let (change, area) = nth_change(count);
+        assert!(rt; publish(rt, publisher, &change));
+        for viewer in &mut viewers {
+            assert_eq!(rt; read(viewer), at_pam0(count, area));
+        }
+    }
+}
+
+#[test]
+fn eight_viewers_see_each_change(rt: HostRuntime) -> Result<(), Fail> {
+    let (mut publisher, viewers) = open(&rt, rt.alloc(), reset_map(), 8).map_err(|_| "open")?;
+    each_is_seen(&rt, &mut publisher, viewers);
+    publisher.close(&rt);
+    Ok(())
+}
+
 /// The last viewer of those that were opened with a publisher.
 fn last(publisher: &Publisher, mut viewers: Vec<Viewer>) -> Result<Viewer, Fail>
     requires own { All (λ viewer. viewer.front ≡ publisher.now.front) viewers.items }

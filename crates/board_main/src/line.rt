@@ -1,30 +1,60 @@
 //! The words of the command line.
 
-ghost use Rattle.std.specs.Prelude.{◌≡◌, ◌⊎◌, IfErr};
-ghost use Rattle.command_files.specs.declared.status.Status.{Status};
+ghost use Rattle.std.specs.Prelude.{◌≡◌, ℕ, List, Option, None};
+ghost use Rattle.std.specs.IoError.{error_kind};
+ghost use Rattle.board_main.specs.Given.{AreRead, bytes_read, fault_of};
 
-use board_run::Status;
 use std::env;
 use std::env::Env;
 use std::io::{Error, ErrorKind};
 
-/// The words after the program's name. Refused with Usage where one is not UTF-8, and with NoMemory for want of memory.
-pub fn words_of<R: Env + AllocGlobal>(rt: &R) -> Result<Vec<String>, Status>
-    ensures refused { IfErr result (λ status. (status ≡ Status.Usage) ⊎ (status ≡ Status.NoMemory)) }
-{
-    let args = env::args(rt).map_err(|error| refusal(&error))?;
-    args.skip(1)
-        .collect(rt.alloc())
-        .map_err(|_| Status::NoMemory)
+/// Why the words could not be read.
+#[derive(Clone, Copy, PartialEq, Eq, Debug)]
+pub enum WordFault {
+    /// One of them is not UTF-8.
+    NoText,
+    /// There was no memory for them.
+    NoRoom,
 }
 
-/// The status of an error of `env::args`, which refuses a word that is not UTF-8, and else only for want of memory.
-fn refusal(error: &Error) -> Status
-    ensures refused { (result ≡ Status.Usage) ⊎ (result ≡ Status.NoMemory) }
+/// A command line.
+pub trait CommandLine {
+    // The words after the program's name, byte by byte; None where it does not say.
+    ghost given: { Self → Option (List (List ℕ)) };
+
+    /// Reads the words after the program's name.
+    fn words(&self) -> Result<Vec<String>, WordFault>
+        ensures read { AreRead (given self.now) (bytes_read result) };
+}
+
+/// The command line of the system, of whose words nothing is known.
+#[derive(Drop)]
+pub struct SystemLine<'a, R: Env + AllocGlobal> {
+    pub rt: &'a R,
+}
+
+impl<R: Env + AllocGlobal> CommandLine for SystemLine<'_, R> {
+    ghost given = { λ _. None };
+
+    fn words(&self) -> Result<Vec<String>, WordFault> {
+        match env::args(self.rt) {
+            Ok(args) => args
+                .skip(1)
+                .collect(self.rt.alloc())
+                .map_err(|_| WordFault::NoRoom),
+            Err(error) => Err(fault_of(&error)),
+        }
+    }
+}
+
+/// Why `env::args` refused the words: where one is not UTF-8 it says that they are invalid data, and else that memory ran
+/// out.
+fn fault_of(error: &Error) -> WordFault
+    ensures fault { result ≡ fault_of (error_kind error.now) }
 {
     match error.kind() {
-        ErrorKind::InvalidData => Status::Usage,
-        _ => Status::NoMemory,
+        ErrorKind::InvalidData => WordFault::NoText,
+        _ => WordFault::NoRoom,
     }
 }
 
@@ -79,14 +109,15 @@ mod tests {
     #[test]
     fn each_word_after_the_name_is_one(rt: HostRuntime) -> Result<(), Fail> {
         for (line, words) in LINES {
-            match (words_of(&(Given(line), rt.alloc())), words) {
+            let given = (Given(line), rt.alloc());
+            match (SystemLine { rt: &given }.words(), words) {
                 (Ok(found), Some(words)) => {
                     assert_eq!(rt; found.len(), words.len());
                     for (one, word) in found.iter().zip(words) {
                         assert_eq!(rt; one.as_str(), *word);
                     }
                 }
-                (Err(status), None) => assert!(rt; status == Status::Usage),
+                (Err(fault), None) => assert_eq!(rt; fault, WordFault::NoText),
                 (Ok(_), None) => assert!(rt; false, "a word that is no UTF-8 was taken"),
                 (Err(_), Some(_)) => assert!(rt; false, "a good word was refused"),
             }

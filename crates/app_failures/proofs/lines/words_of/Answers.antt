@@ -1,7 +1,7 @@
 use Rattle.std.proofs.Common.{◌∙◌, lit<}
 use Rattle.std.proofs.lemmas.Iterator.Splits.{YieldsList-from_str_split}
 use Rattle.std.proofs.lemmas.Iterator.Consumers.{YieldsList-at, YieldsList-end}
-use Rattle.app_failures.proofs.words_of.Goals as goal
+use Rattle.app_failures.proofs.lines.words_of.Goals as goal
 
 pub returns : goal.returns
 returns c =

@@ -1,0 +1,73 @@
+//! Command lines that a row gives.
+
+ghost use Rattle.std.specs.Prelude.{◌≡◌, map, string_bytes, Some, None, IfOk};
+ghost use Rattle.app_failures.specs.Words.{words_in};
+
+use board_base::NoMemory;
+use board_main::{CommandLine, WordFault};
+use std::alloc::Global;
+use std::env::{Env, FillError};
+
+/// The words of a line, cut at each space.
+#[derive(Drop)]
+pub struct Row<'a> {
+    pub line: &'a str,
+    pub alloc: Global,
+}
+
+fn words_of(alloc: Global, line: &str) -> Result<Vec<String>, NoMemory>
+    ensures words { IfOk result (λ words. map string_bytes words.items ≡ words_in line.now) }
+{
+    let mut words = Vec::new(alloc);
+    for word in line.split(' ') {
+        words.push(word.to_string(alloc)?)?;
+    }
+    Ok(words)
+}
+
+impl CommandLine for Row<'_> {
+    ghost given = { λ row. Some (words_in row.line.now) };
+
+    fn words(&self) -> Result<Vec<String>, WordFault> {
+        match words_of(self.alloc, self.line) {
+            Ok(words) => Ok(words),
+            Err(_) => Err(WordFault::NoRoom),
+        }
+    }
+}
+
+/// A line for whose words there is no memory.
+pub struct NoRoom;
+
+impl CommandLine for NoRoom {
+    ghost given = { λ _. None };
+
+    fn words(&self) -> Result<Vec<String>, WordFault> {
+        Err(WordFault::NoRoom)
+    }
+}
+
+/// The words of a command line, with the program's name, as the system has them.
+#[derive(Clone, Copy)]
+pub struct Bytes(pub &'static [&'static [u8]]);
+
+impl Env for Bytes {
+    fn arg(&self, i: usize, buf: &mut [u8]) -> Result<usize, FillError> {
+        let Some(word) = self.0.get(i) else {
+            return Err(FillError::NotPresent);
+        };
+        if word.len() > buf.len() {
+            return Err(FillError::TooLong);
+        }
+        buf[..word.len()].copy_from_slice(word);
+        Ok(word.len())
+    }
+
+    fn var(&self, _name: &str, _buf: &mut [u8]) -> Result<usize, FillError> {
+        Err(FillError::NotPresent)
+    }
+
+    fn var_at(&self, _i: usize, _buf: &mut [u8]) -> Result<usize, FillError> {
+        Err(FillError::NotPresent)
+    }
+}
