@@ -59,7 +59,7 @@ pub fn bytes_of(alloc: Global, digits: &str) -> Result<Vec<u8>, AllocError> {
         match high {
             None => high = Some(value),
             Some(first) => {
-                bytes.push(first * 16 + value)?;
+                bytes.push(first.wrapping_mul(16).wrapping_add(value))?;
                 high = None;
             }
         }
