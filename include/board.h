@@ -20,6 +20,8 @@ extern "C" {
 
 /* The version of this interface: the records and numbers of this file, and the calls. */
 #define BOARD_INTERFACE 2u
+/* That of the library: BOARD_INTERFACE where this file is its own. No handle, no refusal. */
+uint32_t board_version(void);
 
 /* A handle. Zeros are a closed one. */
 typedef struct board {

@@ -240,7 +240,8 @@ static void inline_calls(board *b, board *closed) {
     expect("a date of a closed handle", board_time(closed, 2028, 2, 29, 0, 0, 0, &r), BOARD_CLOSED);
 }
 
-static void texts(void) {
+static void versions(void) {
+    must("the version", board_version() == BOARD_INTERFACE);
     for (uint32_t status = 0; status <= BOARD_SERIAL_FULL; status++) {
         int none = status == 10 || status == 11 || status == 14;
         must("the text of a status", (strcmp(board_status_text(status), board_status_text(UINT32_MAX)) == 0) == none);
@@ -367,7 +368,7 @@ int main(void) {
     opening(&b);
     cards();
     no_disk();
-    texts();
+    versions();
     free(rom);
     expect("look", board_look(&b, BOARD_READ, 0, false, &before), BOARD_OK);
     for (size_t i = 0; i < sizeof events / sizeof *events; i++) {

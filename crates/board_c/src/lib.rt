@@ -6,6 +6,7 @@ mod bytes;
 mod exports;
 mod handle;
 mod text;
+mod version;
 
 pub use asks::{board_decode, board_pulses_to_rise, board_ranges};
 pub use bytes::{
@@ -14,3 +15,4 @@ pub use bytes::{
 pub use exports::{board_close, board_open, board_step};
 pub use handle::Handle;
 pub use text::board_text;
+pub use version::board_version;
