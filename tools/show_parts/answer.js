@@ -20,7 +20,8 @@ function answerLine(entry, part, denial) {
   line.append(kindOf(target) === "abort" ? "" : `${wordsOfTarget(entry, target)}; `);
   line.append(element("b", "denial", `⊘ ${denial.text.words}. `));
   if (denial.text.hint) line.append(element("span", "hint", `${denial.text.hint}. `));
-  if (denial.text.place !== "none") line.append(denial.writer ? "Last written by " : "As after ", leadTo(denial.writer));
+  const isRegister = denial.text.place !== "none";
+  if (isRegister) line.append(denial.writer ? "Last written by " : "As after ", leadTo(denial.writer));
   return line;
 }
 
@@ -45,6 +46,7 @@ function showAnswer() {
   const denials = new Map(denialsOf(place.at).map((it) => [it.part, it]));
   const value = entry.value === "-" ? "" : entry.look ? ` at version ${entry.value}` : ` = ${entry.value}`;
   const head = element("p", "said", `${place.at}. ${entry.words.join(" ")}${value}`);
-  const lines = entry.look ? [lookLine(entry.look)] : entry.replies.map((_, part) => answerLine(entry, part, denials.get(part)));
+  const parts = entry.replies.map((_, part) => answerLine(entry, part, denials.get(part)));
+  const lines = entry.look ? [lookLine(entry.look)] : parts;
   box.replaceChildren(head, ...lines, ...otherLine(place.at));
 }

@@ -1,4 +1,4 @@
-// The flat map after the chosen statement. What the statement changed lights up; a range leads to the write that made it.
+// The flat map after the chosen statement. What it changed lights up; a range leads to the write that made it.
 
 const KIND_NAMES = ["fetch", "read", "write", "fetch", "read", "write"];
 let drawnMap = "";

@@ -35,8 +35,8 @@ def port_settings(state: State) -> list[str]:
     """Statements that bring the ports to a state. Bit 2 of reset control is set without bit 1 first, as both at once
     reset the board."""
     control = state["0CF9"]
-    lines = [f"0 out b {port} {state[port]:02X}" for port in ("04D0", "04D1")]
-    return [*lines, f"0 out b 0CF9 {control & 4:02X}", f"0 out b 0CF9 {control:02X}", f"0 out d 0CF8 {state['0CF8']:08X}"]
+    writes = [("04D0", state["04D0"]), ("04D1", state["04D1"]), ("0CF9", control & 4), ("0CF9", control)]
+    return [*(f"0 out b {port} {value:02X}" for port, value in writes), f"0 out d 0CF8 {state['0CF8']:08X}"]
 
 
 @dataclass
