@@ -55,14 +55,14 @@ def test_memory_keeps_what_is_written(board):
 
 
 def test_a_shut_window_is_denied_by_its_register(board):
-    configure(board, 0x59, 0x20)
-    assert board.write(0xF0000, 1, 0x5A).target == "shadow:0"
-    configure(board, 0x59, 0x10)
-    assert board.read(0xF0000) == 0x5A
+    configure(board, 0x5A, 0x02)
+    assert board.write(0xC0000, 1, 0x5A).target == "shadow:0"
+    configure(board, 0x5A, 0x01)
+    assert board.read(0xC0000) == 0x5A
     assert board.denied_by is None
-    denial = board.write(0xF0000, 1, 0).denied_by
-    assert (denial, denial.name, denial.in_words) == ("00.0.59", "PAM0", "00.0.59 (PAM0)")
-    assert denial.register == (0, 0, 0x59)
+    denial = board.write(0xC0000, 1, 0).denied_by
+    assert (denial, denial.name, denial.in_words) == ("00.0.5A", "PAM1", "00.0.5A (PAM1)")
+    assert denial.register == (0, 0, 0x5A)
     assert board.denied_by == denial
 
 

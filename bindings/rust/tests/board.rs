@@ -56,13 +56,13 @@ fn memory_keeps_what_is_written() {
 #[test]
 fn a_shut_window_is_denied_by_its_register() {
     let mut board = opened();
-    configure(&mut board, 0x59, 0x20);
-    assert_eq!(board.write_u8(0xF0000, 0x5A).unwrap().target(), Some(Target::Shadow { row: 0 }));
-    configure(&mut board, 0x59, 0x10);
-    assert_eq!(board.read_u8(0xF0000), Ok(0x5A));
-    let answer = board.write_u8(0xF0000, 0).unwrap();
-    assert_eq!(answer.denied_by(), denied_by(0, 0, 0x59));
-    assert_eq!(answer.denied_by().map(|denial| format!("{denial:#}")), Some("00.0.59 (PAM0)".to_string()));
+    configure(&mut board, 0x5A, 0x02);
+    assert_eq!(board.write_u8(0xC0000, 0x5A).unwrap().target(), Some(Target::Shadow { row: 0 }));
+    configure(&mut board, 0x5A, 0x01);
+    assert_eq!(board.read_u8(0xC0000), Ok(0x5A));
+    let answer = board.write_u8(0xC0000, 0).unwrap();
+    assert_eq!(answer.denied_by(), denied_by(0, 0, 0x5A));
+    assert_eq!(answer.denied_by().map(|denial| format!("{denial:#}")), Some("00.0.5A (PAM1)".to_string()));
 }
 
 #[test]
