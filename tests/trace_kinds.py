@@ -70,6 +70,7 @@ class Kinds(Case):
         (SELECT.format("80000068") + "0 out b 0CFC 40\n0 w b 00080000 07\n", "0 r b 00080000", "07", DATASHEET,
          "82441FX, FDHC"),
         ("0 w b 00800000 08\n", "0 r b 00800000", "08", DATASHEET, "82441FX, DRB"),
+        (SELECT.format("80000058") + "0 out b 0CFF 20\n", "0 r b 000CC000", "7F", ABSENT, "memory of a card"),
         ("", "0 r d D0000000", "00000000", DATASHEET, "PCI Local Bus 2.1, 3.3.3.1"),
         ("", "0 r d FFFFFFF0", "00000000", ABSENT, "another ROM"),
         ("", "0 r b FFFE0012", "12", DATASHEET, "82371SB, XBCS"),
@@ -146,6 +147,21 @@ class Kinds(Case):
         self.check(setup, [(shut, "0 in b 01F7", "50", DATASHEET, "82371SB, IDETIM"),
                            ("", "0 in b 01F7", "50", DATASHEET, "82371SB, function 1, PCICMD")])
         self.check(SETUP, [("", "0 in b 01F7", "50", ABSENT, "a device that the other has")])
+
+    def test_a_rom_that_is_shadowed_is_no_dram(self):
+        """A byte that was read there before it was written came from a ROM on PCI, also after the same was written."""
+        lines = SELECT.format("80000058") + "0 out b 0CFF 20\n0 r b 000CC000\n0 w b 000CC000 55\n0 r b 000CC000\n"
+        values = self.file("it.values", "3 55\n5 55\n")
+        run = self.run_tool("compare", self.file("it.script", SETUP + lines), values)
+        self.assertIn("differences: 0 by a datasheet, 0 a choice of this board, 2 not modelled here", run.stdout)
+
+    def test_a_vector_of_the_slave(self):
+        """The other gave the slave's vector where this board's master has none: its bits 7 to 3 are of an ICW2."""
+        lines = "".join(f"0 out b {port} {byte}\n" for port, byte in (
+            ("0020", "11"), ("0021", "08"), ("0021", "04"), ("0021", "01"), ("0021", "00"),
+            ("00A0", "11"), ("00A1", "70"), ("00A1", "02"), ("00A1", "01"), ("00A1", "00")))
+        it = self.difference(SETUP, lines, "0 ack", "76")
+        self.assertEqual(it["reasons"][0]["name"], "spurious")
 
     def test_words_of_identify_are_one_difference(self):
         (self.folder / "d4").write_bytes((EXAMPLES / "d4").read_bytes())

@@ -205,10 +205,9 @@ PORTS = [
 DEVICES = [
     Row("mask", DATASHEET, "8259A, Operation Command Word 1 (OCW1)", "the odd port gives the mask", "pic[01]",
         when=lambda it: it.place & 1 and it.state.pic_is_masked(it)),
-    Row("in-service", DATASHEET, "8259A, Reading the 8259A Status", "the in-service register", "pic[01]",
-        when=lambda it: not it.place & 1 and it.state.pic_tells_service(it)),
     Row("vector-base", DATASHEET, "8259A, Initialization Command Words 1 and 2 (ICW1, ICW2)",
-        "bits 7 to 3 of a vector are those of ICW2", "vec[01]|spur[01]", bits=0xF8),
+        "bits 7 to 3 of a vector are those of ICW2", "vec[01]|spur[01]", bits=0xF8,
+        when=lambda it: it.given & 0xF8 not in it.state.vector_bases),
     Row("spurious", DATASHEET, "8259A, Edge and Level Triggered Modes",
         "where the request went before it was acknowledged the answer is level 7", "spur[01]"),
     Row("timer-status", DATASHEET, "8254, Read-Back Command", "the status has the control word in bits 5 to 0", "pit",
@@ -241,7 +240,7 @@ DISK = [
     Row("disk-seek", CHOICE, "Disk", "DSC is 1 whenever the disk is ready", "ata", bits=0x10,
         when=lambda it: it.is_disk_status and it.differing == 0x10),
     Row("disk-data", DATASHEET, "ATA/ATAPI-4, Status register", "DRQ is 1 while words are to move", "ata", bits=0x08,
-        when=lambda it: it.is_disk_status and it.state.disk_takes and not it.given & 0x81),
+        when=lambda it: it.is_disk_status and it.state.disk_takes and not (it.given | it.ours) & 0x81),
 ]
 TABLE = REGISTERS + MEMORY + PORTS + DEVICES + DISK
 
