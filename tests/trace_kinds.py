@@ -580,6 +580,35 @@ class DrawMap(Case):
         self.assertTrue(run.stdout.startswith("<svg "), run.stderr)
 
 
+class BusyDisk(Case):
+    # Speaks QEMU's test protocol, writes what it was asked, and has a disk that is busy for two polls after a command.
+    FAKE = """#!{}
+import sys
+busy = 0
+for line in sys.stdin:
+    print(line.strip(), file=open("asked", "a"))
+    if line.startswith("outb 0x01F7"):
+        busy = 2
+    elif line.startswith("inb 0x3f6"):
+        busy -= 1
+    answer = 0x80 if line.startswith("inb 0x3f6") and busy >= 0 else 0x1258
+    print("OK" + (" 0x%x" % answer if line.startswith("in") else ""), flush=True)
+"""
+
+    def test_a_busy_disk_is_waited_for(self):
+        fake = self.file("fake", self.FAKE.format(sys.executable))
+        fake.chmod(0o755)
+        (self.folder / "d").write_bytes(bytes(512))
+        lines = ["0 out b 01F7 EC", "0 in w 01F0", "0 in b 01F7", "0 out b 03F6 04", "0 in b 01F7", "0 in b 0021"]
+        script = self.file("it.script", SETUP.replace("phase", "disk d\nphase") + "\n".join(lines) + "\n")
+        run = self.run_tool("ask-qemu", script, "trace", "--qemu", fake)
+        self.assertEqual((run.returncode, run.stdout), (0, "6 statements\n"), run.stderr)
+        asked = ["inb 0x3f6", "outb 0x01F7 0xEC", *["inb 0x3f6"] * 3, "inw 0x01F0", "inb 0x3f6", "inb 0x01F7",
+                 "inb 0x3f6", "outb 0x03F6 0x04", "inb 0x01F7", "inb 0x0021"]
+        self.assertEqual((self.folder / "asked").read_text().splitlines(), asked)
+        self.assertIn("0 in w 01F0 = 1258\n", (self.folder / "trace").read_text())
+
+
 class Cards(Case):
     def test_what_reaches_a_card_is_left_out(self):
         """The statements that ask-qemu leaves out: the card's registers, its base, also shut, and its window."""

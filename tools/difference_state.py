@@ -5,7 +5,6 @@ from typing import Iterator, Optional
 
 from board_texts import WIDTHS, Entry, Writers
 
-DRAM_KINDS = ("dram", "shadow", "smram", "rom", "abort")
 TIMES = (0, 2, 4, 6, 7, 8, 9, 0x0C, 0x32)
 COMMANDS = (0x20, 0x30, 0x40, 0x90, 0x91, 0xE7, 0xEC, 0xEF)
 IDENTIFY, WORDS_OF_A_SECTOR = 0xEC, 256

@@ -1,3 +1,4 @@
+#!/usr/bin/env python3
 """Why another monitor gave a value that this board does not give: each kind of difference is a row of one table, which
 compare, watch and explain say and docs/QEMU.md and docs/BOCHS.md cite. `tools/differences.py` prints the table.
 
@@ -5,9 +6,11 @@ A row is found byte by byte, for the bits that differ: the first row that fits e
 table. Of these the first kind is that of the difference. What no row fits is called a choice: no datasheet is known to
 ask for what the board answers there."""
 import re
+import sys
 from dataclasses import dataclass, field
 from typing import Callable, Optional
 
+sys.dont_write_bytecode = True
 from difference_state import Byte
 
 DATASHEET, CHOICE, ABSENT, DATE = "by a datasheet", "a choice of this board", "not modelled here", "a date"
@@ -290,7 +293,7 @@ def reasons_of(differing: list[Byte]) -> list[Reason]:
 def main() -> None:
     print("| Row | Kind | By | What |\n|---|---|---|---|")
     for row in TABLE:
-        by = f"docs/DECISIONS.md, {row.by}" if row.kind == CHOICE else row.by
+        by = f"docs/DECISIONS.md, {row.by}" if row.kind == CHOICE else row.by.format(chip="of the chip")
         print(f"| `{row.name}` | {row.kind} | {by} | {row.what} |")
 
 
