@@ -235,7 +235,7 @@ class Board:
     @staticmethod
     def add_words(about: argparse.ArgumentParser) -> None:
         images = "where the ROM and the disk lie, if not beside the script"
-        program = "stands for $BOARD, or ./board, which takes the packed program or proves and builds one first"
+        program = "stands for $BOARD, or ./board, which runs the program that was packed or proved of these sources"
         default = pathlib.Path(os.environ.get("BOARD") or ROOT / "board")
         about.add_argument("--images", type=pathlib.Path, metavar="FOLDER", help=images)
         about.add_argument("--program", type=pathlib.Path, default=default, help=program)
