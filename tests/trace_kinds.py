@@ -70,6 +70,7 @@ class Kinds(Case):
         (SELECT.format("80000068") + "0 out b 0CFC 40\n0 w b 00080000 07\n", "0 r b 00080000", "07", DATASHEET,
          "82441FX, FDHC"),
         ("0 w b 00800000 08\n", "0 r b 00800000", "08", DATASHEET, "82441FX, DRB"),
+        (SELECT.format("80000058") + "0 out b 0CFF 20\n", "0 r b 000CC000", "7F", ABSENT, "memory of a card"),
         ("", "0 r d D0000000", "00000000", DATASHEET, "PCI Local Bus 2.1, 3.3.3.1"),
         ("", "0 r d FFFFFFF0", "00000000", ABSENT, "another ROM"),
         ("", "0 r b FFFE0012", "12", DATASHEET, "82371SB, XBCS"),
@@ -146,6 +147,21 @@ class Kinds(Case):
         self.check(setup, [(shut, "0 in b 01F7", "50", DATASHEET, "82371SB, IDETIM"),
                            ("", "0 in b 01F7", "50", DATASHEET, "82371SB, function 1, PCICMD")])
         self.check(SETUP, [("", "0 in b 01F7", "50", ABSENT, "a device that the other has")])
+
+    def test_a_rom_that_is_shadowed_is_no_dram(self):
+        """A byte that was read there before it was written came from a ROM on PCI, also after the same was written."""
+        lines = SELECT.format("80000058") + "0 out b 0CFF 20\n0 r b 000CC000\n0 w b 000CC000 55\n0 r b 000CC000\n"
+        values = self.file("it.values", "3 55\n5 55\n")
+        run = self.run_tool("compare", self.file("it.script", SETUP + lines), values)
+        self.assertIn("differences: 0 by a datasheet, 0 a choice of this board, 2 not modelled here", run.stdout)
+
+    def test_a_vector_of_the_slave(self):
+        """The other gave the slave's vector where this board's master has none: its bits 7 to 3 are of an ICW2."""
+        lines = "".join(f"0 out b {port} {byte}\n" for port, byte in (
+            ("0020", "11"), ("0021", "08"), ("0021", "04"), ("0021", "01"), ("0021", "00"),
+            ("00A0", "11"), ("00A1", "70"), ("00A1", "02"), ("00A1", "01"), ("00A1", "00")))
+        it = self.difference(SETUP, lines, "0 ack", "76")
+        self.assertEqual(it["reasons"][0]["name"], "spurious")
 
     def test_words_of_identify_are_one_difference(self):
         (self.folder / "d4").write_bytes((EXAMPLES / "d4").read_bytes())
@@ -562,6 +578,35 @@ class DrawMap(Case):
         script = self.file("it.script", SETUP)
         run = subprocess.run([sys.executable, ROOT / "docs/draw-map", script, PROGRAM], capture_output=True, text=True)
         self.assertTrue(run.stdout.startswith("<svg "), run.stderr)
+
+
+class BusyDisk(Case):
+    # Speaks QEMU's test protocol, writes what it was asked, and has a disk that is busy for two polls after a command.
+    FAKE = """#!{}
+import sys
+busy = 0
+for line in sys.stdin:
+    print(line.strip(), file=open("asked", "a"))
+    if line.startswith("outb 0x01F7"):
+        busy = 2
+    elif line.startswith("inb 0x3f6"):
+        busy -= 1
+    answer = 0x80 if line.startswith("inb 0x3f6") and busy >= 0 else 0x1258
+    print("OK" + (" 0x%x" % answer if line.startswith("in") else ""), flush=True)
+"""
+
+    def test_a_busy_disk_is_waited_for(self):
+        fake = self.file("fake", self.FAKE.format(sys.executable))
+        fake.chmod(0o755)
+        (self.folder / "d").write_bytes(bytes(512))
+        lines = ["0 out b 01F7 EC", "0 in w 01F0", "0 in b 01F7", "0 out b 03F6 04", "0 in b 01F7", "0 in b 0021"]
+        script = self.file("it.script", SETUP.replace("phase", "disk d\nphase") + "\n".join(lines) + "\n")
+        run = self.run_tool("ask-qemu", script, "trace", "--qemu", fake)
+        self.assertEqual((run.returncode, run.stdout), (0, "6 statements\n"), run.stderr)
+        asked = ["inb 0x3f6", "outb 0x01F7 0xEC", *["inb 0x3f6"] * 3, "inw 0x01F0", "inb 0x3f6", "inb 0x01F7",
+                 "inb 0x3f6", "outb 0x03F6 0x04", "inb 0x01F7", "inb 0x0021"]
+        self.assertEqual((self.folder / "asked").read_text().splitlines(), asked)
+        self.assertIn("0 in w 01F0 = 1258\n", (self.folder / "trace").read_text())
 
 
 class Cards(Case):

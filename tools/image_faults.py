@@ -5,7 +5,7 @@ import re
 from dataclasses import dataclass
 from typing import Optional
 
-SECTOR, MOST_SECTORS = 512, 65_536
+SECTOR = 512
 ROM_SIZES = (65_536, 131_072, 262_144, 524_288)
 LIMITS = {"script": 16 << 20, "rom": 512 << 10, "disk": 32 << 20, "log": 64 << 20, "image": 40 << 20, "input": 1 << 20}
 ALLOWED = {
