@@ -141,6 +141,16 @@ def test_the_map_after_a_reset(board):
     assert any(window.lo <= 0xF0000 and 0xFFFFF <= window.hi for window in board.map.windows)
 
 
+def test_each_kind_of_access_has_its_area(board):
+    configure(board, 0x59, 0x20)  # PAM0: writes alone
+    bios = board.map.at(0xF8000)
+    assert (bios.area("f"), bios.area("r"), bios.area("w")) == ("rom", "rom", "shadow:0")
+    configure(board, 0x72, 0x2A)  # SMRAME and DCLS: code alone
+    smram = board.map.at(0xA8000)
+    assert (smram.area("f", smm=True), smram.area("r", smm=True)) == ("smram", "abort")
+    assert smram.area("f") == smram.area("r") == "abort"
+
+
 def test_a_card_answers_where_it_is_placed():
     with Board(cards=["3 plain", Card(2, bases=("m12", "i4"))]) as board:
         configure(board, 0x1013, 0xE0)

@@ -168,6 +168,20 @@ FFFF0000 FFFFFFFF rom rom rom rom rom rom
 }
 
 #[test]
+fn each_kind_of_access_has_its_area() {
+    let mut board = opened();
+    configure(&mut board, 0x59, 0x20); // PAM0: writes alone
+    configure(&mut board, 0x72, 0x2A); // SMRAME and DCLS: code alone
+    let areas = |addr: u32, smm| {
+        let range = board.ranges().unwrap().find(|range| range.lo <= addr && addr <= range.hi).unwrap();
+        [Kind::Fetch, Kind::Read, Kind::Write].map(|kind| range.area(kind, smm).to_string())
+    };
+    assert_eq!(areas(0xF8000, false), ["rom", "rom", "shadow:0"]);
+    assert_eq!(areas(0xA8000, true)[..2], ["smram", "abort"]);
+    assert_eq!(areas(0xA8000, false)[..2], ["abort", "abort"]);
+}
+
+#[test]
 fn a_card_answers_where_it_is_placed() {
     let card = Card::new(2).memory(12).io(4);
     let mut board = Board::builder().rom(ROM).card(card).open().unwrap();
