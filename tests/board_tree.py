@@ -145,11 +145,11 @@ class Tree:
         (self.room / "elsewhere/status").write_text(str(number))
 
     def kit_part(self):
-        """Makes the small C part that the kit has."""
+        """Makes the small C part that the kit has, whose object has the name of the library's."""
         part = self.room / "kit/c"
-        (part / "heap.c").write_text("int heap(void) { return 1; }\n")
-        subprocess.run(["cc", "-fPIC", "-c", "heap.c"], cwd=part, check=True)
-        subprocess.run(["ar", "crs", "liblibc_c.a", "heap.o"], cwd=part, check=True)
+        (part / "c.c").write_text("int heap(void) { return 1; }\n")
+        subprocess.run(["cc", "-fPIC", "-c", "c.c"], cwd=part, check=True)
+        subprocess.run(["ar", "crs", "liblibc_c.a", "c.o"], cwd=part, check=True)
 
     def seconds(self, each):
         """How long the proof of a crate takes."""

@@ -9,7 +9,10 @@ import tempfile
 import time
 
 PROGRAMS = ("chromium", "chromium-browser", "google-chrome")
-WORDS = ("--headless", "--no-sandbox", "--disable-gpu", "--hide-scrollbars", "--remote-debugging-pipe", "--no-first-run")
+WORDS = (
+    *("--headless", "--no-sandbox", "--disable-gpu", "--hide-scrollbars", "--no-first-run"),
+    "--remote-debugging-pipe",
+)
 READS, WRITES = 3, 4  # the descriptors by which Chromium reads commands and writes answers
 
 

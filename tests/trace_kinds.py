@@ -1,9 +1,8 @@
-"""Tests of the kinds of differences, the clock's offset, files, recorded traces, watch, and what explain says of statuses
-and denials. tests/trace-tools runs them."""
+"""Tests of the kinds of differences, the clock's offset, files, recorded traces, watch, and what explain says of
+statuses and denials. tests/trace-tools runs them."""
 import gzip
 import json
 import os
-import re
 import resource
 import socket
 import subprocess
@@ -11,18 +10,17 @@ import sys
 import threading
 import time
 
-from trace_case import EXAMPLES, LOADED, PROGRAM, ROOT, SETUP, TOOLS, TRACES, Case, ran
+from trace_case import EXAMPLES, LOADED, PROGRAM, ROOT, SETUP, TOOLS, TRACES, Case
 import differences
 import trace_clock
-import trace_lines
 
 DATASHEET, CHOICE, ABSENT, DATE = differences.KINDS
 SELECT = "0 out d 0CF8 {}\n"
 
 
 class Kinds(Case):
-    # Each difference: the statements before it, the one that differs, what the other gave, and its kind with the section
-    # or the heading. By hand from the datasheets and docs/DECISIONS.md.
+    # Each difference: the statements before it, the one that differs, what the other gave, and its kind with the
+    # section or the heading. By hand from the datasheets and docs/DECISIONS.md.
     ROWS = [
         (SELECT.format("80000000"), "0 in w 0CFE", "7190", DATASHEET, "82441FX, VID and DID"),
         (SELECT.format("80000004"), "0 in w 0CFC", "0000", DATASHEET, "82441FX, PCICMD"),
@@ -38,7 +36,8 @@ class Kinds(Case):
         (SELECT.format("80000060"), "0 in b 0CFC", "00", DATASHEET, "82441FX, DRB"),
         (SELECT.format("80000068") + "0 out b 0CFC 80\n", "0 in b 0CFC", "00", DATASHEET, "82441FX, FDHC"),
         (SELECT.format("80000068") + "0 out b 0CFC FF\n", "0 in b 0CFC", "FF", CHOICE, "Registers"),
-        (SELECT.format("80000070") + "0 out b 0CFE 1A\n0 out b 0CFE 4A\n", "0 in b 0CFE", "4A", DATASHEET, "82441FX, SMRAM"),
+        (SELECT.format("80000070") + "0 out b 0CFE 1A\n0 out b 0CFE 4A\n", "0 in b 0CFE", "4A", DATASHEET,
+         "82441FX, SMRAM"),
         (SELECT.format("80000070") + "0 out b 0CFE 1A\n0 out b 0CFE 32\n", "0 in b 0CFE", "1A", CHOICE, "Registers"),
         (SELECT.format("80000804"), "0 in w 0CFC", "0000", DATASHEET, "82371SB, function 0, PCICMD"),
         (SELECT.format("80000804"), "0 in w 0CFE", "0200", CHOICE, "Registers"),
@@ -47,24 +46,31 @@ class Kinds(Case):
         (SELECT.format("8000084C") + "0 out b 0CFE 43\n", "0 in b 0CFE", "03", DATASHEET, "82371SB, XBCS"),
         (SELECT.format("80000860"), "0 in b 0CFC", "00", DATASHEET, "82371SB, PIRQRC"),
         (SELECT.format("80000860") + "0 out b 0CFC FF\n", "0 in b 0CFC", "FF", CHOICE, "Registers"),
-        (SELECT.format("80000904") + "0 out w 0CFC FFFF\n", "0 in w 0CFC", "0507", DATASHEET, "82371SB, function 1, PCICMD"),
+        (SELECT.format("80000904") + "0 out w 0CFC FFFF\n", "0 in w 0CFC", "0507", DATASHEET,
+         "82371SB, function 1, PCICMD"),
         (SELECT.format("80000920"), "0 in d 0CFC", "00000001", ABSENT, "BMIBA"),
         (SELECT.format("80000940") + "0 out w 0CFC 8000\n", "0 in w 0CFC", "0000", DATASHEET, "82371SB, IDETIM"),
-        (SELECT.format("FFFFFFFF"), "0 in d 0CF8", "FFFFFFFF", DATASHEET, "PCI Local Bus 2.1, Configuration Mechanism #1"),
-        (SELECT.format("80000058") + "0 out b 0CFF 31\n0 out b 0CF9 06\n" + SELECT.format("80000058"), "0 in b 0CFF", "31",
+        (SELECT.format("FFFFFFFF"), "0 in d 0CF8", "FFFFFFFF", DATASHEET,
+         "PCI Local Bus 2.1, Configuration Mechanism #1"),
+        (SELECT.format("80000058") + "0 out b 0CFF 31\n0 out b 0CF9 06\n" + SELECT.format("80000058"), "0 in b 0CFF",
+         "31",
          DATASHEET, "82371SB, RC"),
         ("0 out b 0CF9 02\n", "0 in b 0CF9", "00", DATASHEET, "82371SB, RC"),
         ("0 out b 0CF9 02\n", "0 in b 0CF9", "12", CHOICE, "Registers"),
         (SELECT.format("80001800"), "0 in w 0CFC", "8139", ABSENT, "a function of PCI that the other has"),
         ("", "0 in d 0CFC", "00000000", CHOICE, "Ports"),
         # memory
-        (SELECT.format("80000058") + "0 out b 0CFF 20\n0 w b 000CC000 02\n", "0 r b 000CC000", "02", DATASHEET, "82441FX, PAM"),
-        (SELECT.format("80000058") + "0 out b 0CFF 10\n0 w b 000CC000 03\n", "0 r b 000CC000", "03", DATASHEET, "82441FX, PAM"),
+        (SELECT.format("80000058") + "0 out b 0CFF 20\n0 w b 000CC000 02\n", "0 r b 000CC000", "02", DATASHEET,
+         "82441FX, PAM"),
+        (SELECT.format("80000058") + "0 out b 0CFF 10\n0 w b 000CC000 03\n", "0 r b 000CC000", "03", DATASHEET,
+         "82441FX, PAM"),
         ("0 w b 000CC000 03\n", "0 r b 000CC000", "05", ABSENT, "memory of a card"),
         ("", "0 r b 000CC000", "00", CHOICE, "Memory"),
         ("0 w b 000A0000 11\n", "0 r b 000A0000", "11", DATASHEET, "82441FX, SMRAM"),
-        (SELECT.format("80000068") + "0 out b 0CFC 40\n0 w b 00080000 07\n", "0 r b 00080000", "07", DATASHEET, "82441FX, FDHC"),
+        (SELECT.format("80000068") + "0 out b 0CFC 40\n0 w b 00080000 07\n", "0 r b 00080000", "07", DATASHEET,
+         "82441FX, FDHC"),
         ("0 w b 00800000 08\n", "0 r b 00800000", "08", DATASHEET, "82441FX, DRB"),
+        (SELECT.format("80000058") + "0 out b 0CFF 20\n", "0 r b 000CC000", "7F", ABSENT, "memory of a card"),
         ("", "0 r d D0000000", "00000000", DATASHEET, "PCI Local Bus 2.1, 3.3.3.1"),
         ("", "0 r d FFFFFFF0", "00000000", ABSENT, "another ROM"),
         ("", "0 r b FFFE0012", "12", DATASHEET, "82371SB, XBCS"),
@@ -80,7 +86,8 @@ class Kinds(Case):
         # the 8259A, the timer and the clock
         ("0 out b 0020 11\n0 out b 0021 08\n0 out b 0021 04\n0 out b 0021 01\n0 out b 0021 FE\n", "0 in b 0021", "00",
          DATASHEET, "8259A, Operation Command Word 1"),
-        ("0 out b 0020 11\n0 out b 0021 08\n0 out b 0021 04\n0 out b 0021 01\n0 out b 0021 FF\n", "0 ack", "08", DATASHEET,
+        ("0 out b 0020 11\n0 out b 0021 08\n0 out b 0021 04\n0 out b 0021 01\n0 out b 0021 FF\n", "0 ack", "08",
+         DATASHEET,
          "8259A, Edge and Level Triggered Modes"),
         ("0 out b 0020 11\n0 out b 0021 08\n0 out b 0021 04\n0 out b 0021 01\n0 irq 5 1\n", "0 ack", "25", DATASHEET,
          "8259A, Initialization Command Words"),
@@ -97,7 +104,8 @@ class Kinds(Case):
     OF_A_DISK = [
         ("0 out b 01F7 A1\n", "0 in b 01F7", "41", CHOICE, "Disk"),
         ("0 out b 01F7 C6\n", "0 in b 01F7", "50", CHOICE, "Disk"),
-        ("0 out b 01F6 E0\n0 out b 01F2 01\n0 out b 01F7 20\n", "0 in b 01F7", "50", DATASHEET, "ATA/ATAPI-4, Status register"),
+        ("0 out b 01F6 E0\n0 out b 01F2 01\n0 out b 01F7 20\n", "0 in b 01F7", "50", DATASHEET,
+         "ATA/ATAPI-4, Status register"),
         ("0 out b 01F7 E7\n", "0 in b 01F7", "52", ABSENT, "index mark"),
         ("0 out b 01F7 E7\n", "0 in b 01F7", "40", CHOICE, "Disk"),
         ("0 out b 01F7 EC\n", "0 in w 01F0", "0041", ABSENT, "another disk"),
@@ -140,6 +148,21 @@ class Kinds(Case):
                            ("", "0 in b 01F7", "50", DATASHEET, "82371SB, function 1, PCICMD")])
         self.check(SETUP, [("", "0 in b 01F7", "50", ABSENT, "a device that the other has")])
 
+    def test_a_rom_that_is_shadowed_is_no_dram(self):
+        """A byte that was read there before it was written came from a ROM on PCI, also after the same was written."""
+        lines = SELECT.format("80000058") + "0 out b 0CFF 20\n0 r b 000CC000\n0 w b 000CC000 55\n0 r b 000CC000\n"
+        values = self.file("it.values", "3 55\n5 55\n")
+        run = self.run_tool("compare", self.file("it.script", SETUP + lines), values)
+        self.assertIn("differences: 0 by a datasheet, 0 a choice of this board, 2 not modelled here", run.stdout)
+
+    def test_a_vector_of_the_slave(self):
+        """The other gave the slave's vector where this board's master has none: its bits 7 to 3 are of an ICW2."""
+        lines = "".join(f"0 out b {port} {byte}\n" for port, byte in (
+            ("0020", "11"), ("0021", "08"), ("0021", "04"), ("0021", "01"), ("0021", "00"),
+            ("00A0", "11"), ("00A1", "70"), ("00A1", "02"), ("00A1", "01"), ("00A1", "00")))
+        it = self.difference(SETUP, lines, "0 ack", "76")
+        self.assertEqual(it["reasons"][0]["name"], "spurious")
+
     def test_words_of_identify_are_one_difference(self):
         (self.folder / "d4").write_bytes((EXAMPLES / "d4").read_bytes())
         setup = SETUP.replace("phase", "disk d4\nphase")
@@ -150,7 +173,8 @@ class Kinds(Case):
         run = self.run_tool("compare", script, self.file("it.values", values), "--all")
         self.assertIn(f"statement {first} on: not modelled here: another disk", run.stdout)
         self.assertIn("words 0, 1, 3\n", run.stdout)
-        self.assertIn("differences: 0 by a datasheet, 0 a choice of this board, 1 not modelled here, 0 a date\n", run.stdout)
+        counts = "differences: 0 by a datasheet, 0 a choice of this board, 1 not modelled here, 0 a date\n"
+        self.assertIn(counts, run.stdout)
 
     def test_rows_and_documents_say_the_same(self):
         """Each row of QEMU.md and BOCHS.md has a kind, and a section where it is by a datasheet, of the table; each
@@ -220,7 +244,8 @@ class Clock(Case):
     def test_periodic_interrupts_are_left_out(self):
         words = "0 out b a0 11\n0 out b a1 70\n0 out b a1 2\n0 out b a1 1\n"
         said = self.convert("plain", words + "0 out b 70 b\n0 out b 71 42\n0 ack = 70\n0 in b a1 = 0\n")[2]
-        self.assertIn("left out: 1 of acknowledges of the clock's periodic interrupt, which the board has not (0071)\n", said)
+        periodic = "acknowledges of the clock's periodic interrupt, which the board has not"
+        self.assertIn(f"left out: 1 of {periodic} (0071)\n", said)
 
 
 class Files(Case):
@@ -245,7 +270,8 @@ class Files(Case):
             self.assertEqual((self.folder / "r64").stat().st_size, 65536)
 
     def test_nothing_understood(self):
-        rows = [("qemu", "5@1.5:other_event x 1\n", "no line was understood as qemu: looked for lines `memory_region_ops"),
+        rows = [("qemu", "5@1.5:other_event x 1\n",
+                 "no line was understood as qemu: looked for lines `memory_region_ops"),
                 ("kvm", "# tracer: nop\n", "looked for lines `kvm_pio"),
                 ("bochs", "Next at t=0\n", "looked for lines `event at t="),
                 ("plain", "", "looked for lines `0 in b 71 = 26`"),
@@ -276,7 +302,8 @@ class Files(Case):
 
     def test_a_full_disk(self):
         run = self.given("t", "/dev/full", "v")
-        self.assertEqual((run.returncode, run.stderr), (4, "from-trace: /dev/full: No space left on device: nothing is left of it\n"))
+        wrong = "from-trace: /dev/full: No space left on device: nothing is left of it\n"
+        self.assertEqual((run.returncode, run.stderr), (4, wrong))
         self.assertFalse((self.folder / "v").exists())
         self.file("long", self.TRACE * 3000)
         words = [sys.executable, TOOLS / "from-trace", "plain", "long", "s", "v"]
@@ -287,13 +314,14 @@ class Files(Case):
         self.assertEqual(len(run.stderr.splitlines()), 1, run.stderr)
         self.assertEqual(sorted(it.name for it in self.folder.iterdir()), ["long", "r64", "t"])
         with open("/dev/full", "w") as full:
-            run = subprocess.run([sys.executable, TOOLS / "from-trace", "plain", "t", "s", "v"], cwd=self.folder, stdout=full,
+            run = subprocess.run([sys.executable, TOOLS / "from-trace", "plain", "t", "s", "v"], cwd=self.folder,
+                                 stdout=full,
                                  stderr=subprocess.PIPE, text=True)
         self.assertEqual((run.returncode, run.stderr), (4, "from-trace: standard output: No space left on device\n"))
 
 
 class Recorded(Case):
-    """Boots that were recorded on a busy machine. In each the differences are those of docs/QEMU.md and docs/BOCHS.md."""
+    """Boots that were recorded on a busy machine. In each the differences are those of docs/QEMU.md and BOCHS.md."""
 
     def counts(self, trace, *words):
         form = trace.split(".")[1]
@@ -311,13 +339,15 @@ class Recorded(Case):
         counts, by = self.counts("busy.qemu.gz")
         self.assertEqual(counts, [4, 0, 3, 0])
         self.assertEqual(by, ["PCI Local Bus 2.1, 6.1: Configuration Space Organization"] * 2
-                         + ["82441FX, PCICMD: PCI Command Register", "82371SB, function 0, PCICMD: PCI Command Register"])
+                         + ["82441FX, PCICMD: PCI Command Register",
+                            "82371SB, function 0, PCICMD: PCI Command Register"])
 
     def test_qemu_with_a_disk(self):
         self.make_disk()
         counts, by = self.counts("busy-disk.qemu.gz", "--memory", "32", "--disk", "d")
         self.assertEqual(counts, [4, 4, 4, 0])
-        self.assertEqual(by[2:], ["82441FX, PCICMD: PCI Command Register", "82371SB, function 0, PCICMD: PCI Command Register"])
+        self.assertEqual(by[2:], ["82441FX, PCICMD: PCI Command Register",
+                                  "82371SB, function 0, PCICMD: PCI Command Register"])
 
     def test_bochs(self):
         self.make_disk()
@@ -417,14 +447,17 @@ class Statuses(Case):
         disk = SETUP.replace("phase", "disk d\nphase")
         absent = SETUP.replace("r64", "R64")
         rows = [
-            (absent, {}, f"line 4 names the ROM `R64`: the folder {self.folder} has no file R64, but r64: capital letters"),
-            (SETUP.replace("r64", "bios"), {}, f"the folder {self.folder} has no file bios: .*of a ROM's size it has r64"),
+            (absent, {},
+             f"line 4 names the ROM `R64`: the folder {self.folder} has no file R64, but r64: capital letters"),
+            (SETUP.replace("r64", "bios"), {},
+             f"the folder {self.folder} has no file bios: .*of a ROM's size it has r64"),
             (SETUP, {"r64": b"short"}, "r64 has 5 bytes, and a ROM has 65536, 131072, 262144 or 524288 bytes"),
             (SETUP, {"r64": b""}, "r64 has 0 bytes, .* it is empty"),
             (SETUP, {"r64": b"\x1f\x8b" + bytes(70000)}, "packed by gzip"),
             (SETUP, {"r64": bytes(600000)}, "r64 has 600000 bytes, and a ROM has"),
             (disk, {}, f"line 5 names the disk `d`: the folder {self.folder} has no file d"),
-            (disk, {"d": bytes(1000)}, "d has 1000 bytes, and a disk has 1 to 65536 sectors of 512 bytes: 1 sectors and 488"),
+            (disk, {"d": bytes(1000)},
+             "d has 1000 bytes, and a disk has 1 to 65536 sectors of 512 bytes: 1 sectors and 488"),
             (disk, {"d": b""}, "d has 0 bytes, and a disk has 1 to 65536 sectors of 512 bytes: it is empty"),
             (disk, {"d": b"QFI\xfb" + bytes(995)}, "qcow2"),
         ]
@@ -460,7 +493,8 @@ class Statuses(Case):
         self.assertEqual(self.explain(SETUP, "--said", "nonsense").returncode, 2)
 
     def test_images_of_boards(self):
-        saved = subprocess.run([PROGRAM, "save", self.file("it.script", SETUP)], cwd=self.folder, capture_output=True).stdout
+        saved = subprocess.run([PROGRAM, "save", self.file("it.script", SETUP)], cwd=self.folder,
+                               capture_output=True).stdout
         rows = [
             (b"", SETUP, "is empty"),
             (b"not an image", SETUP, "does not begin with BOARDIMG"),
@@ -503,7 +537,8 @@ class Statuses(Case):
             ("0 in d 0020", "the master 8259A hears one byte at 20h, not four"),
             ("0 in w 00A0", "the slave 8259A hears one byte at A0h, not two"),
             ("0 out d 0040 00000000", "the 8254 hears one byte at 40h, not four"),
-            ("0 in w 0060", "port B of the system hears one byte at 61h|the keyboard controller's socket hears one byte at 60h"),
+            ("0 in w 0060",
+             "port B of the system hears one byte at 61h|the keyboard controller's socket hears one byte at 60h"),
             ("0 in w 04D0", "edge and level control hears one byte at 4D0h, not two"),
             ("0 in w 0CF8", "the configuration address hears four bytes at CF8h, not two at CF8h"),
             ("0 in b 0CFA", "the configuration address hears four bytes at CF8h, not one byte at CFAh"),
@@ -514,7 +549,8 @@ class Statuses(Case):
             ("0 in b 0092", "nobody is there: the board has no port 92"),
             ("0 in b 0402", "no register keeps it out: nobody is there"),
             ("0 r d D0000000", "no register keeps it out: nobody is there"),
-            (SELECT.format("80001800") + "0 in w 0CFC", "function 00:03.0 is not there: a line `card 3 vga` or `card 3 plain`"),
+            (SELECT.format("80001800") + "0 in w 0CFC",
+             "function 00:03.0 is not there: a line `card 3 vga` or `card 3 plain`"),
             (SELECT.format("80000B00") + "0 in w 0CFC", "function 00:01.3 is not there: the board has 00:00.0"),
             (SELECT.format("8000084C") + "0 out b 0CFE 07\n0 w b 000F0000 00", "the ROM chip itself cannot be written"),
         ]
@@ -528,7 +564,8 @@ class Statuses(Case):
                          ("denied", 1, "the clock hears one byte at 70h, not two"))
         self.assertEqual(total, {"item": "denials", "denied": 1, "parts": 1, "statements": 1})
         refused = json.loads(self.explain(SETUP + "0 ack 0\n", "--json").stdout)
-        self.assertEqual((refused["item"], refused["line"], refused["reason"], refused["text"]), ("refused", 6, 3, "0 ack 0"))
+        self.assertEqual((refused["item"], refused["line"], refused["reason"], refused["text"]), ("refused", 6, 3,
+                                                                                                  "0 ack 0"))
         status = json.loads(self.explain(SETUP.replace("r64", "none"), "--json").stdout)
         self.assertEqual((status["item"], status["status"], status["said"]), ("status", 2, "read fault: rom"))
 
@@ -543,9 +580,38 @@ class DrawMap(Case):
         self.assertTrue(run.stdout.startswith("<svg "), run.stderr)
 
 
+class BusyDisk(Case):
+    # Speaks QEMU's test protocol, writes what it was asked, and has a disk that is busy for two polls after a command.
+    FAKE = """#!{}
+import sys
+busy = 0
+for line in sys.stdin:
+    print(line.strip(), file=open("asked", "a"))
+    if line.startswith("outb 0x01F7"):
+        busy = 2
+    elif line.startswith("inb 0x3f6"):
+        busy -= 1
+    answer = 0x80 if line.startswith("inb 0x3f6") and busy >= 0 else 0x1258
+    print("OK" + (" 0x%x" % answer if line.startswith("in") else ""), flush=True)
+"""
+
+    def test_a_busy_disk_is_waited_for(self):
+        fake = self.file("fake", self.FAKE.format(sys.executable))
+        fake.chmod(0o755)
+        (self.folder / "d").write_bytes(bytes(512))
+        lines = ["0 out b 01F7 EC", "0 in w 01F0", "0 in b 01F7", "0 out b 03F6 04", "0 in b 01F7", "0 in b 0021"]
+        script = self.file("it.script", SETUP.replace("phase", "disk d\nphase") + "\n".join(lines) + "\n")
+        run = self.run_tool("ask-qemu", script, "trace", "--qemu", fake)
+        self.assertEqual((run.returncode, run.stdout), (0, "6 statements\n"), run.stderr)
+        asked = ["inb 0x3f6", "outb 0x01F7 0xEC", *["inb 0x3f6"] * 3, "inw 0x01F0", "inb 0x3f6", "inb 0x01F7",
+                 "inb 0x3f6", "outb 0x03F6 0x04", "inb 0x01F7", "inb 0x0021"]
+        self.assertEqual((self.folder / "asked").read_text().splitlines(), asked)
+        self.assertIn("0 in w 01F0 = 1258\n", (self.folder / "trace").read_text())
+
+
 class Cards(Case):
     def test_what_reaches_a_card_is_left_out(self):
-        """The statements that ask-qemu leaves out: the card's registers, its base, also while it is shut, and its window."""
+        """The statements that ask-qemu leaves out: the card's registers, its base, also shut, and its window."""
         lines = ["0 out d 0CF8 80001010", "0 out d 0CFC E0000000", "0 r b E0000000", "0 out d 0CF8 80001004",
                  "0 out b 0CFC 03", "0 r b E0000000", "0 in b 0021", "0 r b 000A0000"]
         script = self.file("it.script", SETUP.replace("phase", "card 2 vga m20\nphase") + "\n".join(lines) + "\n")

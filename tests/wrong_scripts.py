@@ -1,5 +1,5 @@
-"""Wrong scripts, each with the line and the reason of its refusal and a part of the cause that tools/explain has to say.
-All were worked out by hand from docs/FORMATS.md."""
+"""Wrong scripts, each with the line and the reason of its refusal and a part of the cause that tools/explain has to
+say. All were worked out by hand from docs/FORMATS.md."""
 
 HEAD = "board 1\ncpus 1\nmemory 8\nrom r64\n"
 SETUP = HEAD + "phase\n"
@@ -248,7 +248,8 @@ WHOLE = [
     (HEAD_2 + "phase\n0 r q FFFFFFF9\n", 6, 8, "8 bytes at FFFFFFF9 pass FFFFFFFF"),
     (HEAD_2 + "phase\n0 in w 0CFD\n", 6, 8, "in both versions"),
     (HEAD + "card 2 vga m20\nphase\n0 wire 3 1\n", 7, 9, "`wire 3` names device 3.* the cards are 2"),
-    (HEAD.replace("cpus 1", "cpus 2") + "phase\n2 ack\n", 6, 9, "processor 2 is not there: `cpus 2` in line 2 has 0 to 1"),
+    (HEAD.replace("cpus 1", "cpus 2") + "phase\n2 ack\n", 6, 9,
+     "processor 2 is not there: `cpus 2` in line 2 has 0 to 1"),
     (SETUP + "0 pulse 1000000\n" * 101, 106, 10, "101,000,000 pulses, and a script has at most 100,000,000"),
     (SETUP + "phase\n" * 1000, 1005, 10, "it is phase 1,001"),
     (HEAD + "".join(f"card {d} plain m24\n" for d in (2, 3, 4, 5)) + "card 6 plain m4\n", 9, 10,

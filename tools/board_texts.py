@@ -243,8 +243,8 @@ class Board:
     def run(self, command: str, *files: pathlib.Path, stderr=subprocess.PIPE) -> subprocess.CompletedProcess:
         words = [self.program, command, *(file.resolve() for file in files)]
         try:
-            run = subprocess.run(words, cwd=self.folder, stdin=subprocess.DEVNULL, stdout=subprocess.PIPE, stderr=stderr,
-                                 env={**os.environ, "BOARD_QUIET": "1"})
+            run = subprocess.run(words, cwd=self.folder, stdin=subprocess.DEVNULL, stdout=subprocess.PIPE,
+                                 stderr=stderr, env={**os.environ, "BOARD_QUIET": "1"})
             texts = [(it or b"").decode("latin-1") for it in (run.stdout, run.stderr)]
             return subprocess.CompletedProcess(words, run.returncode, *texts)
         except OSError as fault:

@@ -148,7 +148,8 @@ class Comparison:
 
     def compared(self, entry: Entry, given: Value) -> Optional[Difference]:
         if len(given.value) != len(entry.value):
-            stop(4, f"statement {entry.number} reads {entry.value}, and the monitor's value {given.value} has another width")
+            wrong = f"the monitor's value {given.value} has another width"
+            stop(4, f"statement {entry.number} reads {entry.value}, and {wrong}")
         given.why = given.why or ("except" if self.excepted and entry.target.startswith(self.excepted) else None)
         how = "not" if given.why else "agree" if entry.value == given.value else "differ"
         self.counts[device(entry)][how] += 1

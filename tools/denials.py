@@ -54,7 +54,8 @@ def of_port(port: int, size: int, confadd: int, has_disk: bool) -> str:
     if port in DISK_PORTS and not has_disk and other_width(port, size) is None:
         return "no disk is fitted: the script has no line `disk NAME`"
     name = named(OTHER_PORTS, port)
-    return other_width(port, size) or (f"{OTHER_DENIALS['none']}: the board has no {name}" if name else OTHER_DENIALS["none"])
+    nobody = OTHER_DENIALS["none"] + (f": the board has no {name}" if name else "")
+    return other_width(port, size) or nobody
 
 
 def why(entry: Entry, denial: str, target: str, confadd: int, has_disk: bool) -> str:

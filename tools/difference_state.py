@@ -5,7 +5,6 @@ from typing import Iterator, Optional
 
 from board_texts import WIDTHS, Entry, Writers
 
-DRAM_KINDS = ("dram", "shadow", "smram", "rom", "abort")
 TIMES = (0, 2, 4, 6, 7, 8, 9, 0x0C, 0x32)
 COMMANDS = (0x20, 0x30, 0x40, 0x90, 0x91, 0xE7, 0xEC, 0xEF)
 IDENTIFY, WORDS_OF_A_SECTOR = 0xEC, 256
@@ -16,7 +15,7 @@ OWN_REGISTERS = {
 }
 LOCK, LOCK_BYTE = 0x10, 0x72
 DRIVE, HELD_RESET = 0x10, 0x04
-ICW1, OCW3, READ_SERVICE, POLL = 0x10, 0x08, 3, 4
+ICW1, OCW3, POLL = 0x10, 0x08, 4
 
 
 @dataclass
@@ -44,10 +43,10 @@ class Byte:
 
     @property
     def is_dram(self) -> bool:
-        """Whether what was given is what was written there last, whoever took it, or what memory begins with. Zeros
-        that nobody wrote tell nothing where nobody answers."""
+        """Whether what was given is what was written there last, whoever took it, and what it did not give before; or
+        what memory begins with. Zeros that nobody wrote tell nothing where nobody answers."""
         if self.place in self.state.written:
-            return self.state.written[self.place] == self.given
+            return self.state.written[self.place] == self.given and self.state.seen.get(self.place) != self.given
         return self.given == 0 and self.target == "rom"
 
     @property
@@ -68,8 +67,9 @@ class Byte:
 
 @dataclass
 class Pic:
-    is_masked: bool = False
-    tells_service: bool = False
+    is_masked: bool = False  # its mask was set, and the next read of its odd port gives it
+    awaits_base: bool = False
+    base: Optional[int] = None
 
 
 @dataclass
@@ -80,6 +80,7 @@ class State:
     rom: bytes = b""
     writers: Writers = field(default_factory=Writers)
     written: dict[int, int] = field(default_factory=dict)  # of memory, whoever took it
+    seen: dict[int, int] = field(default_factory=dict)  # what the other gave before, where nobody had written
     is_locked: bool = False
     has_windows: bool = False  # a PAM register was written
     confadd_written: int = 0
@@ -153,12 +154,11 @@ class State:
     @staticmethod
     def note_pic(pic: Pic, port: int, value: int) -> None:
         if port & 1:
-            return
-        if value & ICW1:
-            pic.is_masked, pic.tells_service = True, False
-        elif value & OCW3 and value & 2:
-            pic.tells_service = value & 3 == READ_SERVICE
-        if value & (ICW1 | OCW3) == OCW3 and value & POLL:
+            if pic.awaits_base:
+                pic.awaits_base, pic.base = False, value & 0xF8
+        elif value & ICW1:
+            pic.is_masked = pic.awaits_base = True
+        elif value & OCW3 and value & POLL:
             pic.is_masked = False  # the next read is a poll
 
     def note_reset(self) -> None:
@@ -189,8 +189,9 @@ class State:
     def pic_is_masked(self, byte: Byte) -> bool:
         return self.pics[byte.target == "pic1"].is_masked
 
-    def pic_tells_service(self, byte: Byte) -> bool:
-        return self.pics[byte.target == "pic1"].tells_service
+    @property
+    def vector_bases(self) -> list[Optional[int]]:
+        return [pic.base for pic in self.pics]
 
     def is_identify(self, byte: Byte) -> bool:
         return byte.place == 0x1F0 and self.disk_command == IDENTIFY and self.disk_words < WORDS_OF_A_SECTOR
@@ -226,6 +227,8 @@ def differing(state: State, entry: Entry, given: str) -> list[Byte]:
     for at, (place, target, denial) in enumerate(parts_of(entry)):
         if theirs[at] == ours[at]:
             continue
+        if entry.words[0] in ("r", "f") and place not in state.written:
+            state.seen.setdefault(place, theirs[at])
         kind, _, rest = target.partition(":")
         byte = Byte(state, entry, at, place, theirs[at], ours[at], kind, denial)
         if kind == "config":

@@ -1,3 +1,4 @@
+#!/usr/bin/env python3
 """Why another monitor gave a value that this board does not give: each kind of difference is a row of one table, which
 compare, watch and explain say and docs/QEMU.md and docs/BOCHS.md cite. `tools/differences.py` prints the table.
 
@@ -5,9 +6,11 @@ A row is found byte by byte, for the bits that differ: the first row that fits e
 table. Of these the first kind is that of the difference. What no row fits is called a choice: no datasheet is known to
 ask for what the board answers there."""
 import re
+import sys
 from dataclasses import dataclass, field
 from typing import Callable, Optional
 
+sys.dont_write_bytecode = True
 from difference_state import Byte
 
 DATASHEET, CHOICE, ABSENT, DATE = "by a datasheet", "a choice of this board", "not modelled here", "a date"
@@ -79,7 +82,8 @@ REGISTERS = [
     Row("command-on", DATASHEET, "82371SB, function 0, PCICMD: PCI Command Register",
         "ports, memory and bus master are always enabled", "config", "01.0", (4,), 0x07),
     Row("command-ide", DATASHEET, "82371SB, function 1, PCICMD: PCI Command Register",
-        "it is 0000 at first, bits 0 and 2 keep what is written, and there is no memory to enable", "config", "01.1", (4,), 0x07),
+        "it is 0000 at first, bits 0 and 2 keep what is written, and there is no memory to enable", "config", "01.1",
+        (4,), 0x07),
     Row("command", CHOICE, "Registers", "the other bits of a command register are constants", "config", "", (4, 5)),
     Row("status-timing", DATASHEET, "82441FX, PCISTS: PCI Status Register",
         "DEVSEL# is medium", "config", "00.0", (7,), 0x06),
@@ -157,7 +161,8 @@ MEMORY = [
         "DRAM ends where DRB7 says, and an access above it goes to PCI", "abort", denial="00[.]0[.]67",
         when=lambda it: it.is_dram),
     Row("lower-bios", DATASHEET, "82371SB, XBCS: X-Bus Chip Select Register",
-        "bit 6 at 0, as it is at first, does not select the ROM at E0000 to EFFFF and FFFE0000 to FFFEFFFF, nor bit 7 below",
+        "bit 6 at 0, as it is at first, does not select the ROM at E0000 to EFFFF and FFFE0000 to FFFEFFFF, nor bit 7 "
+        "below",
         "abort", when=lambda it: it.is_memory and it.is_unselected_rom),
     Row("master-abort", DATASHEET, "PCI Local Bus 2.1, 3.3.3.1: Master Initiated Termination",
         "a read that ends in a master abort gives all ones", "abort",
@@ -203,10 +208,9 @@ PORTS = [
 DEVICES = [
     Row("mask", DATASHEET, "8259A, Operation Command Word 1 (OCW1)", "the odd port gives the mask", "pic[01]",
         when=lambda it: it.place & 1 and it.state.pic_is_masked(it)),
-    Row("in-service", DATASHEET, "8259A, Reading the 8259A Status", "the in-service register", "pic[01]",
-        when=lambda it: not it.place & 1 and it.state.pic_tells_service(it)),
     Row("vector-base", DATASHEET, "8259A, Initialization Command Words 1 and 2 (ICW1, ICW2)",
-        "bits 7 to 3 of a vector are those of ICW2", "vec[01]|spur[01]", bits=0xF8),
+        "bits 7 to 3 of a vector are those of ICW2", "vec[01]|spur[01]", bits=0xF8,
+        when=lambda it: it.given & 0xF8 not in it.state.vector_bases),
     Row("spurious", DATASHEET, "8259A, Edge and Level Triggered Modes",
         "where the request went before it was acknowledged the answer is level 7", "spur[01]"),
     Row("timer-status", DATASHEET, "8254, Read-Back Command", "the status has the control word in bits 5 to 0", "pit",
@@ -239,7 +243,7 @@ DISK = [
     Row("disk-seek", CHOICE, "Disk", "DSC is 1 whenever the disk is ready", "ata", bits=0x10,
         when=lambda it: it.is_disk_status and it.differing == 0x10),
     Row("disk-data", DATASHEET, "ATA/ATAPI-4, Status register", "DRQ is 1 while words are to move", "ata", bits=0x08,
-        when=lambda it: it.is_disk_status and it.state.disk_takes and not it.given & 0x81),
+        when=lambda it: it.is_disk_status and it.state.disk_takes and not (it.given | it.ours) & 0x81),
 ]
 TABLE = REGISTERS + MEMORY + PORTS + DEVICES + DISK
 
@@ -289,7 +293,7 @@ def reasons_of(differing: list[Byte]) -> list[Reason]:
 def main() -> None:
     print("| Row | Kind | By | What |\n|---|---|---|---|")
     for row in TABLE:
-        by = f"docs/DECISIONS.md, {row.by}" if row.kind == CHOICE else row.by
+        by = f"docs/DECISIONS.md, {row.by}" if row.kind == CHOICE else row.by.format(chip="of the chip")
         print(f"| `{row.name}` | {row.kind} | {by} | {row.what} |")
 
 

@@ -5,7 +5,7 @@ import re
 from dataclasses import dataclass
 from typing import Optional
 
-SECTOR, MOST_SECTORS = 512, 65_536
+SECTOR = 512
 ROM_SIZES = (65_536, 131_072, 262_144, 524_288)
 LIMITS = {"script": 16 << 20, "rom": 512 << 10, "disk": 32 << 20, "log": 64 << 20, "image": 40 << 20, "input": 1 << 20}
 ALLOWED = {
@@ -19,7 +19,7 @@ OTHER_FORMS = {
     b"conectix": "it is a VHD image: `qemu-img convert -O raw` makes it a plain one",
     b"BOARDIMG": "it is an image that `board save` wrote",
 }
-MAGIC, VERSION = b"BOARDIMG", 1
+MAGIC, VERSION, HEAD = b"BOARDIMG", 1, 26  # of an image of a board, with the bytes up to its cards
 
 
 @dataclass
@@ -116,14 +116,15 @@ def of_board_image(file: pathlib.Path) -> str:
         return f"the image {file} is empty"
     if data[:8] != MAGIC:
         return f"the image {file} does not begin with BOARDIMG: it is not what `board save` writes"
-    if len(data) < 26:
-        return f"the image {file} is cut off: it has {len(data)} bytes, and its head has 26"
+    if len(data) < HEAD:
+        return f"the image {file} is cut off: it has {len(data)} bytes, and its head has {HEAD}"
     version = int.from_bytes(data[8:10], "little")
     if version != VERSION:
         return f"the image {file} has version {version}, and there is version 1 alone"
     rom, disk = (int.from_bytes(data[at : at + 4], "little") for at in (14, 18))
-    if len(data) < 26 + rom + disk:
-        return f"the image {file} is cut off: it has {len(data)} bytes, and its ROM and disk alone need {26 + rom + disk}"
+    if len(data) < HEAD + rom + disk:
+        return (f"the image {file} is cut off: it has {len(data)} bytes, and its ROM and disk alone need "
+                f"{HEAD + rom + disk}")
     return f"the image {file} has a field that no board has, or bytes after its last step"
 
 
@@ -137,7 +138,8 @@ def other_board(file: pathlib.Path, lines: list[str]) -> str:
     if data[10] != int(memory):
         found.append(f"the image has memory {data[10]}, the script memory {memory}")
     if bool(data[12]) != has_disk:
-        found.append("the image has a disk, the script has none" if data[12] else "the script has a disk, the image has none")
+        one, other = ("image", "script") if data[12] else ("script", "image")
+        found.append(f"the {one} has a disk, the {other} has none")
     if data[11] != len(cards):
         found.append(f"the image has {data[11]} cards, the script {len(cards)}")
     return "; ".join(found) or "the cards differ in their devices, kinds or bases"

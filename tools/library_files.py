@@ -81,14 +81,17 @@ def linked(crates: Crates, static: bytes) -> dict[str, Member]:
 
 
 def extracted(room: pathlib.Path, archives: list[pathlib.Path]) -> list[str]:
-    """The objects of archives, put into a folder, by their names."""
+    """The objects of archives, put into a folder, by their names; where one is taken a number stands before it."""
     found: list[str] = []
     for archive in archives:
-        names = call(["ar", "t", str(archive)], room).split()
-        if len({*found, *names}) < len(found) + len(names):
-            raise Refused(f"two objects of the library have one name: {' '.join(names)}")
-        call(["ar", "x", str(archive)], room)
-        found += names
+        counts: dict[str, int] = {}
+        for name in call(["ar", "t", str(archive)], room).splitlines():
+            counts[name] = counts.get(name, 0) + 1
+            with tempfile.TemporaryDirectory(dir=room) as place:
+                call(["ar", "xN", str(counts[name]), str(archive), name], pathlib.Path(place))
+                own = name if name not in found else f"{len(found)}-{name}"
+                os.rename(f"{place}/{name}", room / own)
+            found.append(own)
     return sorted(found)
 
 

@@ -12,7 +12,7 @@ from typing import Callable, Optional
 
 from board_says import Refused
 from crate_sources import CRATES, PROGRAM, Crates
-from proof_estimate import Estimate
+from proof_estimate import Estimate, was_kept
 from rt_children import Children, processors, text_of
 
 WAITS = "rt: waiting for another rt"
@@ -72,8 +72,9 @@ class Lanes:
     def text(self) -> str:
         now = time.monotonic()
         with self.lock:
-            running = {name: now - at for name, at in self.begun.items() if name not in self.done}
-            if any(last_line(self.place / name).startswith(WAITS) for name in running):
+            running = {name: (now - at, text_of(str(self.place / name)))
+                       for name, at in self.begun.items() if name not in self.done}
+            if any(said.rstrip().rpartition("\n")[2].startswith(WAITS) for _, said in running.values()):
                 return "waiting for an rt in the same tree"
             return self.estimate.text(running)
 
@@ -127,7 +128,7 @@ class Lanes:
                 self.failed[name] = said
             else:
                 self.done.add(name)
-                self.estimate.end(name, time.monotonic() - begun, not said.strip())
+                self.estimate.end(name, time.monotonic() - begun, was_kept(said))
 
     def _lend(self, tree: pathlib.Path, name: str) -> None:
         """Lets a copy of the tree have what is proved so far, and what an earlier call kept of a crate."""
@@ -150,7 +151,3 @@ def link_or_copy(old: str, new: str) -> None:
 def move(old: pathlib.Path, new: pathlib.Path) -> None:
     if old.exists():
         os.rename(old, new)
-
-
-def last_line(file: pathlib.Path) -> str:
-    return text_of(str(file)).rstrip().rpartition("\n")[2]

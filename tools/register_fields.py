@@ -1,5 +1,5 @@
-"""The fields of the registers, by the names of the 82441FX, the 82371SB and PCI Local Bus 2.1. Where each register stands
-is said in board_texts; here is what its bits say."""
+"""The fields of the registers, by the names of the 82441FX, the 82371SB and PCI Local Bus 2.1: what the bits of each
+register say whose place board_texts has."""
 import re
 from dataclasses import dataclass
 from typing import Callable, Iterator, Optional
@@ -93,14 +93,14 @@ PIRQRC = [
     flag("IRQ Routing Enable", 7, "not routed", "routed"),
     Field("IRQ Routing", 3, 0, routed_line),
 ]
-DRIVE_BITS = ("TIME", "IE", "PPE", "DTE")
+DRIVE_BITS = ((3, "DTE"), (2, "PPE"), (1, "IE"), (0, "TIME"))
 IDETIM = [
     flag("IDE Decode Enable", 15, "ports decoded", "not decoded"),
     flag("SITRE", 14, "slave timing apart", "one timing"),
     Field("ISP", 13, 12, lambda value: f"{5 - value} clocks"),
     number("reserved", 11, 10),
     Field("RCT", 9, 8, lambda value: f"{4 - value} clocks"),
-    *(flag(f"{name}{drive}", 4 * drive + bit, "1", "0") for drive in (1, 0) for bit, name in [*enumerate(DRIVE_BITS)][::-1]),
+    *(flag(f"{name}{drive}", 4 * drive + bit, "1", "0") for drive in (1, 0) for bit, name in DRIVE_BITS),
 ]
 
 # ---- any function
@@ -183,7 +183,10 @@ PORTS = {
     ],
 }
 CHIPS = {"00.0": "82441FX host bridge", "01.0": "82371SB ISA bridge", "01.1": "82371SB IDE function"}
-IDENTITY = ("vendor id", "device id", "status", "revision id", "class code", "header type", "subsystem vendor id", "subsystem id")
+IDENTITY = (
+    *("vendor id", "device id", "subsystem vendor id", "subsystem id"),
+    *("status", "revision id", "class code", "header type"),
+)
 ABSENT = {"BMIBA"}  # the board has no such register; a monitor may
 
 
@@ -224,6 +227,15 @@ def registers_of(function: str, bases: list[str] = ()) -> list[Register]:
 # ---- which field denies
 
 
+DENYING_BITS = {
+    "SMRAM": "bits 6:3",
+    "FDHC": "bits 7:6",
+    "DRB7": "bits 7:0",
+    "IDETIM": "bit 15",
+    "expansion ROM base": "bit 0",
+}
+
+
 def denying_bits(name: str, words: list[str], address: int) -> str:
     """The bits of a register that decide a denied access: of a statement's words, at this address or port."""
     is_port, is_write = words[0] in ("in", "out"), words[0] == "w"
@@ -234,7 +246,7 @@ def denying_bits(name: str, words: list[str], address: int) -> str:
         return f"bit {xbcs_bit(address, is_port, is_write)}"
     if name == "command":
         return "bit 0" if is_port else "bit 1"
-    return {"SMRAM": "bits 6:3", "FDHC": "bits 7:6", "DRB7": "bits 7:0", "IDETIM": "bit 15", "expansion ROM base": "bit 0"}[name]
+    return DENYING_BITS[name]
 
 
 def xbcs_bit(address: int, is_port: bool, is_write: bool) -> Optional[int]:

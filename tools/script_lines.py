@@ -183,7 +183,8 @@ FORMS = {
     "ack": Form("A ack", "0 ack"),
     "pulse": Form("A pulse N", "0 pulse 100", (("N", number("the number of pulses")),)),
     "moment": Form("A moment YYYY-MM-DDTHH:MM:SS", "0 moment 2024-02-29T12:00:00", (("its moment", moment),)),
-    "wire": Form("A wire D L", "0 wire 2 1", (("its device", number("the device")), ("its level", number("the level")))),
+    "wire": Form("A wire D L", "0 wire 2 1",
+                 (("its device", number("the device")), ("its level", number("the level")))),
     "irq": Form("A irq N L", "0 irq 5 1", (("its line", number("the line")), ("its level", number("the level")))),
     "bad": Form("A bad N", "0 bad 17", (("its sector", number("the sector")),)),
 }
@@ -193,7 +194,8 @@ MEANT = {
     "read": "r", "write": "w", "fetch": "f", "rd": "r", "wr": "w", "inb": "in b", "inw": "in w", "inl": "in d",
     "outb": "out b", "outw": "out w", "outl": "out d", "ind": "in d", "outd": "out d", "rb": "r b", "wb": "w b",
     "rw": "r w", "ww": "w w", "cpu": "cpus", "mem": "memory", "ram": "memory", "bios": "rom", "hda": "disk",
-    "phases": "phase", "tick": "pulse", "time": "moment", "date": "moment", "int": "irq", "inta": "ack", "pulses": "pulse",
+    "phases": "phase", "tick": "pulse", "pulses": "pulse", "time": "moment", "date": "moment", "int": "irq",
+    "inta": "ack",
 }
 
 
@@ -237,7 +239,9 @@ def of_more(word: str, more: list[str]) -> str:
     if more[0].lower() == "smm":
         if word in ("in", "out"):
             return "smm stands at accesses to memory alone"
-        return "smm stands once, and at the end" if more[0] == "smm" else "words are written in lower-case letters: smm too"
+        if more[0] != "smm":
+            return "words are written in lower-case letters: smm too"
+        return "smm stands once, and at the end"
     if word in ("r", "f"):
         return f"`{word}` has a field too many, `{more[0]}`: a read ends with its address, or with smm"
     if word == "in":
@@ -298,7 +302,8 @@ def of(pattern: str, text: str) -> Callable[[str], Optional[str]]:
 
 
 CHARACTERS: list[Callable[[str], Optional[str]]] = [
-    of("^\xff\xfe|^\xfe\xff", "the file is UTF-16, as its byte order mark says: `iconv -f UTF-16 -t UTF-8` makes it plain"),
+    of("^\xff\xfe|^\xfe\xff",
+       "the file is UTF-16, as its byte order mark says: `iconv -f UTF-16 -t UTF-8` makes it plain"),
     of("^\x00[ -~]|^[ -~]\x00", "the file is UTF-16: `iconv -f UTF-16LE -t UTF-8` or `-f UTF-16BE` makes it plain"),
     of("\x00", "a NUL stands in it, a byte 00: `tr -d '\\000'` takes all of them away"),
     of("^\xef\xbb\xbf", "a byte order mark stands before it: save the file without one"),

@@ -64,7 +64,8 @@ NO_SCRIPTS = [
     ("^BOARDIMG", "it is an image that `board save` wrote, and no script: `board resume IMAGE SCRIPT` reads it"),
     ("^[0-9A-F]{8} [0-9A-F]{8} ", "it is a map that `board map` wrote, and no script"),
     ("^# statement, value", "it is a file of values, and no script: `tools/compare SCRIPT VALUES` reads it"),
-    ("memory_region_ops_|kvm_pio|event at t=", "it is the trace of a monitor, and no script: tools/from-trace makes one of it"),
+    ("memory_region_ops_|kvm_pio|event at t=",
+     "it is the trace of a monitor, and no script: tools/from-trace makes one of it"),
     ("^\x1f\x8b", "it is packed by gzip: gunzip it first"),
     ("^\x7fELF|^PK", "it is a program or an archive, and no script"),
     ("^#!", "a line stands before `board 1`: no other line is the first"),
@@ -110,7 +111,8 @@ def too_long(line: str) -> str:
 def order(line: str, before: Before) -> str:
     word = line.split(" ")[0]
     if before.phases:
-        return f"`{word}` is a setup line, and the first `phase` stands in line {before.first_phase}: move it above that"
+        first = before.first_phase
+        return f"`{word}` is a setup line, and the first `phase` stands in line {first}: move it above that"
     return "it is a statement, and no `phase` stands before it"
 
 
@@ -187,7 +189,8 @@ def unaligned(line: str, before: Before) -> str:
     place = int(words[3], 16)
     if words[1] in ("in", "out"):
         cut = ", ".join(f"{place + k:04X}" for k in range(width))
-        return f"the port {words[3]} is no multiple of {width}, in both versions: cut the access, as into bytes at {cut}"
+        wrong = f"the port {words[3]} is no multiple of {width}, in both versions"
+        return f"{wrong}: cut the access, as into bytes at {cut}"
     if place + width > 1 << 32:
         return f"{width} bytes at {words[3]} pass FFFFFFFF, the last address"
     return f"the address {words[3]} is no multiple of {width}: `board 2` lets it stand there"
@@ -202,7 +205,8 @@ def nobody_there(line: str, before: Before) -> str:
                      + ("processor 0 alone" if last == 0 else f"0 to {last}"))
     if words[1] == "wire" and words[2] not in before.cards:
         fitted = ", ".join(before.cards) or "none"
-        found.append(f"`wire {words[2]}` names device {words[2]}, and no `card {words[2]}` is fitted: the cards are {fitted}")
+        device = words[2]
+        found.append(f"`wire {device}` names device {device}, and no `card {device}` is fitted: the cards are {fitted}")
     return "; and ".join(found)
 
 
@@ -213,7 +217,8 @@ def too_many(line: str, before: Before) -> str:
         return f"it is phase {before.phases + 1:,}, and a script has at most {MOST_PHASES:,}"
     if words[0] == "card":
         total = before.bases + bases_of(words)
-        return f"with it {total >> 20} MiB and {total % (1 << 20)} bytes lie behind memory bases, and at most 64 MiB may"
+        size = f"{total >> 20} MiB and {total % (1 << 20)} bytes"
+        return f"with it {size} lie behind memory bases, and at most 64 MiB may"
     if before.statements == MOST_STATEMENTS:
         return f"it is statement {MOST_STATEMENTS + 1:,}, and a script has at most {MOST_STATEMENTS:,}"
     pulses = before.pulses + int(words[2])

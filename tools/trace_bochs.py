@@ -1,6 +1,6 @@
 """What the debugger of Bochs prints of its accesses: `event at t=N IO ..` and `event at t=N IRQ ..`, which its flags
-bx_guard.report.io and .irq turn on, and `[CPU0 RD]: ..` and `[CPU0 WR]: ..`, which `trace-mem on` does. The lines of the
-interrupt controller come from its log, by `debug: action=ignore, pic=report`. All other lines tell nothing."""
+bx_guard.report.io and .irq turn on, and `[CPU0 RD]: ..` and `[CPU0 WR]: ..`, which `trace-mem on` does. The lines of
+the interrupt controller come from its log, by `debug: action=ignore, pic=report`. All other lines tell nothing."""
 import re
 from dataclasses import replace
 from typing import Optional
@@ -9,7 +9,10 @@ from trace_lines import Broken, Event, fields
 
 PORT = r"event at t=\d+ IO addr=(0x[0-9a-f]+) size=([124]) op=(read|write) val=(0x[0-9a-f]+)"
 VECTOR = r"event at t=\d+ IRQ irq=(\d+) vec=([0-9a-f]+)"
-MEMORY = r"\[CPU(\d+) (\w+)\]: (?:LIN 0x[0-9a-f]+ )?PHY (0x[0-9a-f]+) \(len=(\d+), [^)]*\)(?:: ((?:0x[0-9A-Fa-f]+ ?)+))?.*"
+MEMORY = (
+    r"\[CPU(\d+) (\w+)\]: (?:LIN 0x[0-9a-f]+ )?PHY (0x[0-9a-f]+) \(len=(\d+), [^)]*\)"
+    r"(?:: ((?:0x[0-9A-Fa-f]+ ?)+))?.*"
+)
 LINE = re.compile(r"\d+d\[PIC\s*\] IRQ line (\d+) now (high|low)")
 MOST_AT_ONCE = 8
 
@@ -25,7 +28,8 @@ def bochs_event(line: str) -> Optional[Event]:
         return Event(0, "line", place=int(level[1]), value=int(level[2] == "high"))
     if re.match(r"event at t=-?\d+ IO ", line):
         port, size, word, value = fields(PORT, line, "an IO event")
-        return Event(0, "in" if word == "read" else "out", 0, int(port, 16), int(size), int(value, 16) % (1 << 8 * int(size)))
+        number = int(value, 16) % (1 << 8 * int(size))
+        return Event(0, "in" if word == "read" else "out", 0, int(port, 16), int(size), number)
     if re.match(r"event at t=-?\d+ IRQ ", line):
         _, vector = fields(VECTOR, line, "an IRQ event")
         return Event(0, "ack", value=int(vector, 16))

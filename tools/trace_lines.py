@@ -1,6 +1,6 @@
 """What monitors print of their accesses, line by line: QEMU's trace, the kernel's tracepoints of KVM, and a plain form
-for all others; Bochs has a file of its own. Each reader gives the events of its lines. What a line tells is taken as it stands here; what the board
-makes of it is decided in from-trace."""
+for all others; Bochs has a file of its own. Each reader gives the events of its lines. What a line tells is taken as it
+stands here; what the board makes of it is decided in trace_convert."""
 import datetime
 import re
 from dataclasses import dataclass, replace

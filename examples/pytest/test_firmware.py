@@ -24,7 +24,7 @@ def test_shadowing_a_bios(board):
     assert value == 0x03020100
     assert value.target == "shadow:0"
     board.write(0xF0000, 1, 0x55)
-    assert board.denied_by.name == "PAM0"
+    assert board.denied_by.name == "XBCS"  # a write goes to the ROM, which is not to be written
     assert board.read(0xF0000) == 0x00
 
 

@@ -6,9 +6,13 @@ function wordsOfTarget(entry, target) {
   return data.config[`${target.slice(7)} ${entry.words[1]}`].words;
 }
 
+function badge(target) {
+  return element("span", `badge f-${familyOf(target)}`, target);
+}
+
 function answerLine(entry, part, denial) {
   const { target } = entry.replies[part];
-  const line = element("p", "", [element("span", `badge f-${familyOf(target)}`, target), " "]);
+  const line = element("p", "", [badge(target), " "]);
   if (!denial) {
     line.append(kindOf(target) === "abort" ? "nobody answers" : `answered by ${wordsOfTarget(entry, target)}`);
     return line;
@@ -16,8 +20,13 @@ function answerLine(entry, part, denial) {
   line.append(kindOf(target) === "abort" ? "" : `${wordsOfTarget(entry, target)}; `);
   line.append(element("b", "denial", `⊘ ${denial.text.words}. `));
   if (denial.text.hint) line.append(element("span", "hint", `${denial.text.hint}. `));
-  if (denial.text.place !== "none") line.append(denial.writer ? "Last written by " : "As after ", leadTo(denial.writer));
+  const isRegister = denial.text.place !== "none";
+  if (isRegister) line.append(denial.writer ? "Last written by " : "As after ", leadTo(denial.writer));
   return line;
+}
+
+function lookLine({ first, last, area }) {
+  return element("p", "", [badge(area), ` from ${first} to ${last}`]);
 }
 
 function otherLine(number) {
@@ -37,8 +46,7 @@ function showAnswer() {
   const denials = new Map(denialsOf(place.at).map((it) => [it.part, it]));
   const value = entry.value === "-" ? "" : entry.look ? ` at version ${entry.value}` : ` = ${entry.value}`;
   const head = element("p", "said", `${place.at}. ${entry.words.join(" ")}${value}`);
-  const lines = entry.look
-    ? [element("p", "", [element("span", `badge f-${familyOf(entry.look.area)}`, entry.look.area), ` from ${entry.look.first} to ${entry.look.last}`])]
-    : entry.replies.map((_, part) => answerLine(entry, part, denials.get(part)));
+  const parts = entry.replies.map((_, part) => answerLine(entry, part, denials.get(part)));
+  const lines = entry.look ? [lookLine(entry.look)] : parts;
   box.replaceChildren(head, ...lines, ...otherLine(place.at));
 }

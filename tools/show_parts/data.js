@@ -73,8 +73,8 @@ if (data.beside) {
   const [numbers, values, hows, lines, whys] = data.beside.rows;
   numbers.forEach((number, k) => {
     const how = ["agree", "differ", "not"][hows[k]];
-    const why = [whys[k] && `not compared: ${whys[k]}`, lines[k] && `line ${lines[k]} of the trace`].filter(Boolean).join("; ");
-    given.set(number, { value: values[k], how, why });
+    const why = [whys[k] && `not compared: ${whys[k]}`, lines[k] && `line ${lines[k]} of the trace`];
+    given.set(number, { value: values[k], how, why: why.filter(Boolean).join("; ") });
   });
 }
 

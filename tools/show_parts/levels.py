@@ -26,7 +26,7 @@ SOURCES = {TIMER: "8254 OUT0", 8: "clock", 14: "disk"}
 
 @dataclass
 class Line:
-    """A line: the level before the first statement, the statements that turn it, and those in which it fell and rose."""
+    """A line: the level before the first statement, the statements that turn it, those in which it fell and rose."""
 
     name: str
     source: str
@@ -75,7 +75,7 @@ def probes_after(entry: Entry, resets: set[int]) -> list[str]:
 
 
 def is_kept(entry: Entry) -> bool:
-    """Whether a statement can matter to a line: a write of configuration space, or anything of a device but the pair."""
+    """Whether a statement can matter to a line: a write of configuration space, or one for a device but the pair."""
     kind = entry.target.partition(":")[0]
     return kind in ("pit", "sys", "clock", "ata", "wires", "reset", "confadd") or is_route(entry) or is_ide(entry)
 
@@ -85,8 +85,8 @@ def is_ide(entry: Entry) -> bool:
 
 
 def questions(log: list[Entry], resets: set[int]) -> tuple[list[str], list[tuple[int, int]], int]:
-    """The statements with what is asked between them; of each question its place and the statement before it; and how far
-    they fit into one script."""
+    """The statements with what is asked between them; of each question its place and the statement before it; and how
+    far they fit into one script."""
     statements, asked = list(PREPARED), []
     for entry in log:
         if not is_kept(entry):
@@ -96,7 +96,8 @@ def questions(log: list[Entry], resets: set[int]) -> tuple[list[str], list[tuple
         if len(statements) + 1 + len(settled) + len(probes) > MOST_STATEMENTS:
             return statements, asked, entry.number - 1
         statements += [entry.line(), *settled]
-        asked += [(len(statements) + k, entry.number) for k, probe in enumerate(probes) if not probe.startswith("0 out")]
+        reads = (k for k, probe in enumerate(probes) if not probe.startswith("0 out"))
+        asked += [(len(statements) + k, entry.number) for k in reads]
         statements += probes
     return statements, asked, len(log)
 

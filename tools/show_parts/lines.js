@@ -101,7 +101,8 @@ function ticks(height, width) {
   for (let number = Math.ceil(view.first / step) * step; number < view.first + view.span; number += step) {
     if (number < 1 || number > count) continue;
     const x = xOf(number, width);
-    found.push(svg("path", { d: `M${x} 0V${height}`, class: "tick" }), svg("text", { x, y: height + 12, class: "tick" }, String(number)));
+    found.push(svg("path", { d: `M${x} 0V${height}`, class: "tick" }));
+    found.push(svg("text", { x, y: height + 12, class: "tick" }, String(number)));
   }
   return found;
 }
@@ -135,7 +136,8 @@ function showLines() {
   const width = Math.max(box.clientWidth - NAME_WIDTH - 12, 100);
   const rows = movingLines.length + (data.acknowledges.length ? 1 : 0);
   const height = rows * LINE_HEIGHT + 4;
-  const picture = svg("svg", { width: NAME_WIDTH + width + 12, height: height + 16, role: "img", "aria-label": "timing diagram" });
+  const size = { width: NAME_WIDTH + width + 12, height: height + 16 };
+  const picture = svg("svg", { ...size, role: "img", "aria-label": "timing diagram" });
   picture.append(...ticks(height, width), ...cursor(height, width), ...unasked(height, width));
   movingLines.forEach((line, k) => picture.append(...lineGroup(line, k * LINE_HEIGHT, width)));
   if (data.acknowledges.length) picture.append(...acknowledgeMarks(movingLines.length * LINE_HEIGHT, width));
@@ -157,7 +159,8 @@ function startLines() {
   const isStill = !movingLines.length && !data.acknowledges.length;
   const still = "no interrupt line moves in this log, and nothing is acknowledged";
   const ended = data.linesUntil < count ? `; the levels were asked up to statement ${data.linesUntil}` : "";
-  byId("lines-note").textContent = isStill ? still : `levels after each statement; a notch: down and up again within one${ended}`;
+  const note = `levels after each statement; a notch: down and up again within one${ended}`;
+  byId("lines-note").textContent = isStill ? still : note;
   document.body.classList.toggle("still", isStill);
   byId("closer").onclick = () => zoom(1 / 2);
   byId("wider").onclick = () => zoom(2);

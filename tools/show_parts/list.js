@@ -42,16 +42,20 @@ function markOf(number) {
   return element("span", "mark", lead);
 }
 
+function answeredBy(entry) {
+  const { look, replies } = entry;
+  return look ? `${look.area} ${look.first} to ${look.last}` : replies.map((it) => it.target).join(" ");
+}
+
 function rowFor(number) {
   const entry = entryOf(number);
-  const target = targetOf(entry);
-  const row = element("div", `row f-${familyOf(target)}`, [
+  const row = element("div", `row f-${familyOf(targetOf(entry))}`, [
     cell("number", String(number)),
     cell("turn", entry.turn),
     cell("statement", entry.words.join(" ")),
     cell("value", entry.look ? `version ${entry.value}` : entry.value === "-" ? "" : entry.value),
     ...(data.beside ? [otherCell(number)] : []),
-    cell("target", entry.look ? `${target} ${entry.look.first} to ${entry.look.last}` : entry.replies.map((it) => it.target).join(" ")),
+    cell("target", answeredBy(entry)),
     ...(entry.look ? [] : [markOf(number)]),
   ]);
   row.id = `s${number}`;
@@ -116,9 +120,10 @@ function seeChosen() {
 }
 
 function headList() {
-  const names = ["no.", "who", "statement", "read", ...(data.beside ? [data.beside.name] : []), "answered by", "kept out by"];
-  const classes = ["number", "turn", "statement", "value", ...(data.beside ? ["other"] : []), "target", "mark"];
-  byId("heads").replaceChildren(...names.map((name, k) => cell(classes[k], name)));
+  const other = data.beside ? { other: data.beside.name } : {};
+  const before = { number: "no.", turn: "who", statement: "statement", value: "read" };
+  const names = { ...before, ...other, target: "answered by", mark: "kept out by" };
+  byId("heads").replaceChildren(...Object.entries(names).map(([name, text]) => cell(name, text)));
 }
 
 let drawing = 0;

@@ -96,7 +96,8 @@ function startBar() {
 function startTexts() {
   const denied = new Set(data.denied[0]).size;
   byId("title").textContent = data.title;
-  byId("about").textContent = `${data.setup.slice(1).join(", ")}: ${count} statements, ${denied} denied, ${data.maps.at.length - 1} map writes`;
+  const counts = `${count} statements, ${denied} denied, ${data.maps.at.length - 1} map writes`;
+  byId("about").textContent = `${data.setup.slice(1).join(", ")}: ${counts}`;
   const rows = KEYS.map(([keys, what]) => element("tr", "", [element("th", "", keys), element("td", "", what)]));
   const close = element("button", "", "close", { type: "button", onclick: () => byId("keys").close() });
   byId("keys").replaceChildren(element("h2", "", "Keys"), element("table", "", rows), close);

@@ -1,4 +1,4 @@
-// The flat map after the chosen statement. What the statement changed lights up; a range leads to the write that made it.
+// The flat map after the chosen statement. What it changed lights up; a range leads to the write that made it.
 
 const KIND_NAMES = ["fetch", "read", "write", "fetch", "read", "write"];
 let drawnMap = "";
@@ -62,8 +62,8 @@ function areaCell(column) {
   const area = data.maps.areas[column.area];
   const marks = (column.isHit ? "▸ " : "") + (column.isChanged ? "● " : "");
   const cellName = `area f-${familyOf(area)}${column.isChanged ? " changed" : ""}${column.isHit ? " hit" : ""}`;
-  const title = [column.isHit && "the chosen access", column.isChanged && `before: ${column.was}`].filter(Boolean).join("; ");
-  return element("td", cellName, marks + area, { colSpan: column.span, title });
+  const title = [column.isHit && "the chosen access", column.isChanged && `before: ${column.was}`];
+  return element("td", cellName, marks + area, { colSpan: column.span, title: title.filter(Boolean).join("; ") });
 }
 
 function rangeRow(range, before, access) {

@@ -60,12 +60,15 @@ class Stand:
     from_reset: list[str]
     columns: list[Column]
 
+    def looks(self) -> list[str]:
+        """The looks at the next run of each kind of access that has one."""
+        return [look(it.kind, it.next) for it in self.columns if it.next <= TOP]
 
-def ask(asker: Asker, stands: list[Stand]) -> None:
+
+def ask(asker: Asker, waiting: list[Stand]) -> None:
     """Asks the next run of each kind of access in each state, until none is left."""
-    waiting = stands
-    while any(it.next <= TOP for stand in waiting for it in stand.columns):
-        asked = [[*stand.steps, *(look(it.kind, it.next) for it in stand.columns if it.next <= TOP)] for stand in waiting]
+    while any(it.looks() for it in waiting):
+        asked = [[*it.steps, *it.looks()] for it in waiting]
         begun = 0
         for piece in pieces(asked, len(max((it.from_reset for it in waiting), key=len))):
             here = waiting[begun : begun + len(piece)]

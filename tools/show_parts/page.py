@@ -2,6 +2,7 @@
 import html
 import json
 import pathlib
+from dataclasses import dataclass
 from typing import Any, Optional
 
 from board_texts import Entry
@@ -14,6 +15,16 @@ from show_parts.registers import Walk, shown_registers, values
 
 FOLDER = pathlib.Path(__file__).resolve().parent
 SCRIPTS = ("data", "place", "list", "answer", "map", "registers", "lines", "search", "beside", "main")
+
+
+@dataclass
+class Asked:
+    """A log, its board, and what the board said of registers and maps."""
+
+    asker: Asker
+    log: list[Entry]
+    walk: Walk
+    maps: list[list[Range]]
 
 
 def registers_data(asker: Asker, walk: Walk) -> list[dict[str, Any]]:
@@ -48,9 +59,11 @@ def register_data(register: Register, walk: Walk) -> dict[str, Any]:
 def maps_data(maps: list[list[Range]], walk: Walk) -> dict[str, Any]:
     """The maps by version. Ranges and areas are kept once each."""
     areas, ranges = Interned(), Interned()
-    versions: list[list[int]] = []
-    for ranges_now in maps:
-        versions.append([ranges.of(it, [it.first, it.last, [areas.of(a) for a in it.areas], it.since]) for it in ranges_now])
+
+    def range_of(it: Range) -> int:
+        return ranges.of(it, [it.first, it.last, [areas.of(area) for area in it.areas], it.since])
+
+    versions = [[range_of(it) for it in ranges_now] for ranges_now in maps]
     return {
         "kinds": KINDS,
         "areas": areas.values,
@@ -60,17 +73,16 @@ def maps_data(maps: list[list[Range]], walk: Walk) -> dict[str, Any]:
     }
 
 
-def page(
-    title: str, asker: Asker, log_text: str, log: list[Entry], walk: Walk, maps: list[list[Range]], other: Optional[dict[str, Any]]
-) -> str:
+def page(title: str, log_text: str, asked: Asked, other: Optional[dict[str, Any]]) -> str:
     """The whole text of the page."""
+    asker, log, walk = asked.asker, asked.log, asked.walk
     lines, until = levels_of(asker, log, walk)
     data = {
         "title": title,
         "setup": asker.setup,
         **answers(log),
         "chips": registers_data(asker, walk),
-        "maps": maps_data(maps, walk),
+        "maps": maps_data(asked.maps, walk),
         "lines": [vars(it) for it in lines],
         "linesUntil": until,
         "beside": other,

@@ -8,7 +8,8 @@ function fieldSpans(register, held, before) {
   return register.fields.map(([name, bits], k) => {
     const isChanged = old !== null && old[k][0] !== texts[k][0];
     const parts = [element("span", "bits", bits), " ", element("b", "", name), ` ${texts[k][1]}`];
-    return element("span", `field${isChanged ? " changed" : ""}`, parts, { title: isChanged ? `before: ${old[k][1]}` : "" });
+    const title = isChanged ? `before: ${old[k][1]}` : "";
+    return element("span", `field${isChanged ? " changed" : ""}`, parts, { title });
   });
 }
 

@@ -35,8 +35,8 @@ def port_settings(state: State) -> list[str]:
     """Statements that bring the ports to a state. Bit 2 of reset control is set without bit 1 first, as both at once
     reset the board."""
     control = state["0CF9"]
-    lines = [f"0 out b {port} {state[port]:02X}" for port in ("04D0", "04D1")]
-    return [*lines, f"0 out b 0CF9 {control & 4:02X}", f"0 out b 0CF9 {control:02X}", f"0 out d 0CF8 {state['0CF8']:08X}"]
+    writes = [("04D0", state["04D0"]), ("04D1", state["04D1"]), ("0CF9", control & 4), ("0CF9", control)]
+    return [*(f"0 out b {port} {value:02X}" for port, value in writes), f"0 out d 0CF8 {state['0CF8']:08X}"]
 
 
 @dataclass
@@ -73,22 +73,15 @@ def shown_registers(asker: Asker) -> dict[str, list[Register]]:
 
 
 def places_of(asker: Asker) -> list[str]:
-    """All places at which something stands."""
-    functions = functions_of(asker)
-    offsets = [0x00, 0x08, *range(0x10, 0x28, 4), 0x30]
-    places = [place_of(it, offset) for it in functions if it not in CHIPS for offset in offsets]
-    for function, registers in shown_registers(asker).items():
-        places += [place_of(function, int(it.place[5:], 16)) for it in registers if it.place not in PORTS]
-        places += [place_of(function, 0x00), place_of(function, 0x08)]
-    return [*dict.fromkeys(places), *PORTS]
+    """The places of all registers that are shown. All on which the map depends are among them."""
+    shown = [it.place for registers in shown_registers(asker).values() for it in registers]
+    return [*PORTS, *dict.fromkeys(place_of(it[:4], int(it[5:], 16)) for it in shown if it not in PORTS)]
 
 
 def question(entry: Entry) -> list[str]:
     """A statement that may write a register, and what is asked after it."""
     port = entry.words[2]
-    if entry.target.startswith("config:"):
-        return [entry.line(), "0 in d 0CFC", VERSION]
-    read = f"0 in {PORTS[port]} {port}"
+    read = "0 in d 0CFC" if entry.target.startswith("config:") else f"0 in {PORTS[port]} {port}"
     return [entry.line(), read, VERSION]
 
 
@@ -97,13 +90,9 @@ def is_write(entry: Entry) -> bool:
 
 
 def state_at_reset(asker: Asker, places: list[str]) -> State:
-    reads = [[address_of(it), "0 in d 0CFC"] if it not in PORTS else [f"0 in {PORTS[it]} {it}"] for it in places]
-    ports = [it for it in reads if len(it) == 1]
-    spaces = [it for it in reads if len(it) == 2]
-    replies = asker.replies([line for read in [*ports, *spaces] for line in read])
-    values = [int(it[0], 16) for it in replies if it[0] != "-"]
-    ordered = [*(it for it in places if it in PORTS), *(it for it in places if it not in PORTS)]
-    return dict(zip(ordered, values))
+    reads = [[f"0 in {PORTS[it]} {it}"] if it in PORTS else [address_of(it), "0 in d 0CFC"] for it in places]
+    replies = asker.replies([line for read in reads for line in read])
+    return dict(zip(places, (int(value, 16) for value, *_ in replies if value != "-")))
 
 
 def walk(asker: Asker, log: list[Entry]) -> Walk:

@@ -1,6 +1,7 @@
 // The search box. Words that stand together must all hold; one with a minus before it must not.
 
 const SEARCH_PIECE = 20000; // statements that are looked at before the browser may do something else
+const EXAMPLES = ["denied", "target:smram", "addr:E0000-FFFFF", "port:20-21", "reg:PAM", "cpu:0", "smm", "differs"];
 let tests = [];
 let matches = null; // the numbers of the statements that were found, or null where nothing is searched
 let searching = 0;
@@ -115,7 +116,7 @@ function nextIn(numbers, step) {
 }
 
 function startSearch() {
-  const examples = ["denied", "target:smram", "addr:E0000-FFFFF", "port:20-21", "reg:PAM", "cpu:0", "smm", ...(data.beside ? ["differs"] : [])];
+  const examples = EXAMPLES.filter((it) => it !== "differs" || data.beside);
   byId("examples").replaceChildren(...examples.map((it) => element("option", "", undefined, { value: it })));
   const input = byId("find");
   input.addEventListener("input", () => {

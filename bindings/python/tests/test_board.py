@@ -55,14 +55,14 @@ def test_memory_keeps_what_is_written(board):
 
 
 def test_a_shut_window_is_denied_by_its_register(board):
-    configure(board, 0x59, 0x20)
-    assert board.write(0xF0000, 1, 0x5A).target == "shadow:0"
-    configure(board, 0x59, 0x10)
-    assert board.read(0xF0000) == 0x5A
+    configure(board, 0x5A, 0x02)
+    assert board.write(0xC0000, 1, 0x5A).target == "shadow:0"
+    configure(board, 0x5A, 0x01)
+    assert board.read(0xC0000) == 0x5A
     assert board.denied_by is None
-    denial = board.write(0xF0000, 1, 0).denied_by
-    assert (denial, denial.name, denial.in_words) == ("00.0.59", "PAM0", "00.0.59 (PAM0)")
-    assert denial.register == (0, 0, 0x59)
+    denial = board.write(0xC0000, 1, 0).denied_by
+    assert (denial, denial.name, denial.in_words) == ("00.0.5A", "PAM1", "00.0.5A (PAM1)")
+    assert denial.register == (0, 0, 0x5A)
     assert board.denied_by == denial
 
 
@@ -139,6 +139,16 @@ def test_the_map_after_a_reset(board):
     assert str(board.look("w", 0xF8000)) == "1 000F0000 000FFFFF shadow:0"
     assert board.map.version == board.last.version == 1
     assert any(window.lo <= 0xF0000 and 0xFFFFF <= window.hi for window in board.map.windows)
+
+
+def test_each_kind_of_access_has_its_area(board):
+    configure(board, 0x59, 0x20)  # PAM0: writes alone
+    bios = board.map.at(0xF8000)
+    assert (bios.area("f"), bios.area("r"), bios.area("w")) == ("rom", "rom", "shadow:0")
+    configure(board, 0x72, 0x2A)  # SMRAME and DCLS: code alone
+    smram = board.map.at(0xA8000)
+    assert (smram.area("f", smm=True), smram.area("r", smm=True)) == ("smram", "abort")
+    assert smram.area("f") == smram.area("r") == "abort"
 
 
 def test_a_card_answers_where_it_is_placed():

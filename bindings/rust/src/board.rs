@@ -21,7 +21,7 @@ const PORTS: u32 = 0x10000;
 ///
 /// let board = Mutex::new(Board::builder().memory_mib(8).rom(&[0; 65536]).open()?);
 /// thread::scope(|threads| {
-///     threads.spawn(|| board.lock().map(|mut board| board.write_u32(0x1000, 7)));
+///     threads.spawn(|| board.lock().expect("no thread panicked").write_u32(0x1000, 7));
 /// });
 /// let mut board = board.into_inner().expect("no thread panicked");
 /// assert_eq!(board.read_u32(0x1000)?, 7);

@@ -56,13 +56,13 @@ fn memory_keeps_what_is_written() {
 #[test]
 fn a_shut_window_is_denied_by_its_register() {
     let mut board = opened();
-    configure(&mut board, 0x59, 0x20);
-    assert_eq!(board.write_u8(0xF0000, 0x5A).unwrap().target(), Some(Target::Shadow { row: 0 }));
-    configure(&mut board, 0x59, 0x10);
-    assert_eq!(board.read_u8(0xF0000), Ok(0x5A));
-    let answer = board.write_u8(0xF0000, 0).unwrap();
-    assert_eq!(answer.denied_by(), denied_by(0, 0, 0x59));
-    assert_eq!(answer.denied_by().map(|denial| format!("{denial:#}")), Some("00.0.59 (PAM0)".to_string()));
+    configure(&mut board, 0x5A, 0x02);
+    assert_eq!(board.write_u8(0xC0000, 0x5A).unwrap().target(), Some(Target::Shadow { row: 0 }));
+    configure(&mut board, 0x5A, 0x01);
+    assert_eq!(board.read_u8(0xC0000), Ok(0x5A));
+    let answer = board.write_u8(0xC0000, 0).unwrap();
+    assert_eq!(answer.denied_by(), denied_by(0, 0, 0x5A));
+    assert_eq!(answer.denied_by().map(|denial| format!("{denial:#}")), Some("00.0.5A (PAM1)".to_string()));
 }
 
 #[test]
@@ -165,6 +165,20 @@ FFFF0000 FFFFFFFF rom rom rom rom rom rom
     let map = board.map().unwrap();
     assert_eq!((map.version, board.last().unwrap().version), (1, 1));
     assert!(map.windows.iter().any(|window| window.lo <= 0xF0000 && 0xFFFFF <= window.hi));
+}
+
+#[test]
+fn each_kind_of_access_has_its_area() {
+    let mut board = opened();
+    configure(&mut board, 0x59, 0x20); // PAM0: writes alone
+    configure(&mut board, 0x72, 0x2A); // SMRAME and DCLS: code alone
+    let areas = |addr: u32, smm| {
+        let range = board.ranges().unwrap().find(|range| range.lo <= addr && addr <= range.hi).unwrap();
+        [Kind::Fetch, Kind::Read, Kind::Write].map(|kind| range.area(kind, smm).to_string())
+    };
+    assert_eq!(areas(0xF8000, false), ["rom", "rom", "shadow:0"]);
+    assert_eq!(areas(0xA8000, true)[..2], ["smram", "abort"]);
+    assert_eq!(areas(0xA8000, false)[..2], ["abort", "abort"]);
 }
 
 #[test]

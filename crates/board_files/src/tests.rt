@@ -1,6 +1,6 @@
 //! Readers and writers that take a byte at once, are interrupted, and fail late.
 
-ghost use Rattle.std.specs.Prelude.{None};
+ghost use Rattle.std.specs.Prelude.{◌≡◌, None, IfOk};
 
 use crate::tries::{read_on, write_on};
 use crate::{FileShelf, Folder, OutSink, Patient};
@@ -263,7 +263,9 @@ impl Stumbler {
         Stumbler { kind: Some(kind) }
     }
 
-    fn step(&mut self) -> io::Result<usize> {
+    fn step(&mut self) -> io::Result<usize>
+        ensures one { IfOk result (λ count. count ≡ 1) }
+    {
         match self.kind.take() {
             Some(kind) => Err(io::Error::from(kind)),
             None => Ok(1),
