@@ -62,7 +62,7 @@ struct Machine {
 }
 
 /// The store of a board whose card is enabled, and on which these doublewords were written.
-fn machine(alloc: Global, words: &[&str]) -> Result<Machine, NoMemory> {
+fn new_machine(alloc: Global, words: &[&str]) -> Result<Machine, NoMemory> {
     let Ok(mut chipset) = Chipset::open_checked(alloc, setup(alloc)?) else {
         return Err(NoMemory);
     };
@@ -191,7 +191,7 @@ pub fn tell(alloc: Global, steps: &[&str], text: &mut String) -> Result<(), NoMe
         .take_while(|step| step.starts_with('w'))
         .count();
     let (words, steps) = steps.split_at(written.min(steps.len()));
-    let mut machine = machine(alloc, words)?;
+    let mut machine = new_machine(alloc, words)?;
     for step in steps {
         if !text.is_empty() {
             text.push(' ')?;
