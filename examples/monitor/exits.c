@@ -12,6 +12,7 @@ enum {
     PORTS = 0x10000,
     MOST_BYTES = 8        /* of one event to memory */
 };
+#define FOUR_GIB 0x100000000ull /* from there on the board has no addresses */
 
 static uint32_t all_ones(unsigned bytes) { return bytes < 4 ? (1u << 8 * bytes) - 1 : UINT32_MAX; }
 
@@ -55,27 +56,16 @@ void machine_out(machine *m, uint16_t port, unsigned bytes, uint32_t value) {
     }
 }
 
-/* How many bytes the next part of an access has, as the board cuts it: the longest of 4, 2 and 1 that is aligned. */
-static size_t part_bytes(const board_reply *reply, uint32_t addr, size_t left) {
-    size_t bytes = 4;
-    if (reply->parts == 1) return left;
-    while (bytes > left || addr % bytes) bytes /= 2;
-    return bytes;
-}
-
 /* Main memory is the monitor's: where the board says that a part landed there, its bytes are moved there. */
 static void move_parts(machine *m, const board_reply *reply, const board_event *event, uint8_t *data) {
-    uint64_t end = (uint64_t)m->options.mib << 20;
-    uint32_t addr = event->addr;
-    size_t left = event->bytes;
+    uint32_t addr = event->addr, left = event->bytes;
     for (unsigned k = 0; k < reply->parts; k++) {
-        size_t bytes = part_bytes(reply, addr, left);
-        uint8_t target = reply->part[k].target;
-        if ((target == BOARD_DRAM || target == BOARD_SHADOW) && addr + bytes <= end) {
+        uint8_t bytes = board_cycle(addr, left), target = reply->part[k].target;
+        if ((target == BOARD_DRAM || target == BOARD_SHADOW) && board_is_installed(m->options.mib, addr, bytes)) {
             if (event->kind == BOARD_WRITE) memcpy(m->memory + addr, data, bytes);
             else memcpy(data, m->memory + addr, bytes);
         }
-        addr += (uint32_t)bytes;
+        addr += bytes;
         data += bytes;
         left -= bytes;
     }
@@ -90,19 +80,15 @@ static void memory_event(machine *m, uint8_t kind, uint32_t addr, uint8_t bytes,
     move_parts(m, &reply, &event, data);
 }
 
-void machine_memory(machine *m, uint8_t kind, uint32_t addr, size_t bytes, uint8_t *data) {
+void machine_memory(machine *m, uint8_t kind, uint64_t addr, size_t bytes, uint8_t *data) {
     m->counts.memory++;
-    if (m->options.nothing) {
-        if (kind == BOARD_READ) memset(data, UINT8_MAX, bytes);
-        return;
-    }
-    while (bytes > 0) {
+    while (!m->options.nothing && bytes > 0 && addr < FOUR_GIB) {
         uint8_t count = MOST_BYTES;
-        while (count > bytes || addr > UINT32_MAX - (count - 1u)) count /= 2;
-        memory_event(m, kind, addr, count, data);
+        while (count > bytes || addr + count > FOUR_GIB) count /= 2;
+        memory_event(m, kind, (uint32_t)addr, count, data);
         addr += count;
         data += count;
         bytes -= count;
-        if (addr == 0) return;
     }
+    if (kind == BOARD_READ) memset(data, UINT8_MAX, bytes); /* from nobody */
 }

@@ -86,15 +86,15 @@ uint64_t processor_time(void);
 
 uint32_t machine_in(machine *m, uint16_t port, unsigned bytes);
 void machine_out(machine *m, uint16_t port, unsigned bytes, uint32_t value);
-/* An access outside the slots, kind BOARD_READ or BOARD_WRITE, of any number of bytes. */
-void machine_memory(machine *m, uint8_t kind, uint32_t addr, size_t bytes, uint8_t *data);
+/* An access outside the slots, kind BOARD_READ or BOARD_WRITE, of any number of bytes. At 4 GiB and above it reaches nobody. */
+void machine_memory(machine *m, uint8_t kind, uint64_t addr, size_t bytes, uint8_t *data);
 
 /* ---- slots.c */
 
 /* Makes the slots anew where the map has changed. */
 void slots_follow_map(machine *m);
 /* The host's bytes behind an address that a kind of access reaches without an exit, or none. */
-uint8_t *slots_find(machine *m, uint32_t addr, bool write);
+uint8_t *slots_find(machine *m, uint64_t addr, bool write);
 
 /* ---- clock.c */
 
