@@ -106,10 +106,9 @@ void machine_open(machine *m, const options *wanted) {
     }
     record_open(&m->record, wanted, m->rom, m->rom_bytes, disk, disk_bytes);
     if (wanted->disk) munmap(disk, disk_bytes + 1);
-    m->date_at_start = time(NULL);
     prepare_registers(m);
     prepare_cmos(m);
-    clock_runs_to(m, 0);
+    clock_start(m);
     slots_follow_map(m);
     console_open();
 }

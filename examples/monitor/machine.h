@@ -55,8 +55,7 @@ typedef struct machine {
     uint64_t time;        /* nanoseconds since the power came, as the processor said last */
     uint64_t pulses;      /* of the 8254's clock until then */
     uint64_t wake;        /* when the clock must run next: line 0 rises, or a second begins */
-    int64_t date_at_start;
-    int64_t date; /* that the MC146818 was given last */
+    uint64_t second;      /* since the power came, for which the MC146818 got a date last */
     bool console_closed;
     machine_counts counts;
     record record;
@@ -98,6 +97,8 @@ uint8_t *slots_find(machine *m, uint64_t addr, bool write);
 
 /* ---- clock.c */
 
+/* Gives the MC146818 the host's date. */
+void clock_start(machine *m);
 /* So many nanoseconds have passed since the power came: gives the 8254 its pulses and the MC146818 its date. */
 void clock_runs_to(machine *m, uint64_t nanoseconds);
 /* Sets m->wake after a write to the 8254 or a reset. */
