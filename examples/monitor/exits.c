@@ -9,6 +9,7 @@ enum {
     PIT_LAST = 0x43,
     SYSTEM_PORT = 0x61,   /* its bits 4 and 5 show the 8254 */
     DISK_DATA = 0x1F0,
+    SYSTEM_CONTROL = 0x92,
     PORTS = 0x10000,
     MOST_BYTES = 8        /* of one event to memory */
 };
@@ -18,6 +19,19 @@ static uint32_t all_ones(unsigned bytes) { return bytes < 4 ? (1u << 8 * bytes) 
 
 static bool shows_time(uint32_t port) { return (port >= PIT_FIRST && port <= PIT_LAST) || port == SYSTEM_PORT; }
 
+/* The board has a socket at ports 60h and 64h, and nobody at 92h. */
+static bool is_keyboard(const machine *m, const board_reply *reply, uint32_t port, uint8_t bytes) {
+    const board_part *p = &reply->part[0];
+    if (!m->options.keyboard || bytes != 1) return false;
+    return port == SYSTEM_CONTROL ? p->target == BOARD_ABORT : p->target == BOARD_IS_DEVICE && p->unit == BOARD_KEYBOARD;
+}
+
+static uint32_t use_keyboard(machine *m, uint8_t kind, uint32_t port, uint32_t value) {
+    if (kind == BOARD_READ) return keyboard_read(m, port);
+    keyboard_write(m, port, (uint8_t)value);
+    return 0;
+}
+
 /* One bus cycle at a port, kind BOARD_READ or BOARD_WRITE: what it reads. */
 static uint32_t cycle_at(machine *m, uint8_t kind, uint32_t port, uint8_t bytes, uint32_t value) {
     board_reply reply;
@@ -25,6 +39,7 @@ static uint32_t cycle_at(machine *m, uint8_t kind, uint32_t port, uint8_t bytes,
     if (shows_time(port)) clock_runs_to(m, processor_time());
     machine_step(m, &(board_event){.what = BOARD_PORT, .kind = kind, .addr = port, .bytes = bytes, .value = value}, &reply);
     if (kind == BOARD_WRITE && shows_time(port)) clock_plan(m);
+    if (is_keyboard(m, &reply, port, bytes)) return use_keyboard(m, kind, port, value);
     if (port == DISK_DATA) m->counts.disk_words += bytes / 2;
     return (uint32_t)reply.value;
 }

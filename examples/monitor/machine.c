@@ -108,6 +108,7 @@ void machine_open(machine *m, const options *wanted) {
     if (wanted->disk) munmap(disk, disk_bytes + 1);
     prepare_registers(m);
     prepare_cmos(m);
+    if (wanted->keyboard) keyboard_reset(m);
     clock_start(m);
     slots_follow_map(m);
     console_open();
@@ -146,6 +147,7 @@ uint32_t machine_take_reset(machine *m) {
     m->counts.resets[reset]++;
     if (reset == BOARD_HARD_RESET) {
         prepare_registers(m);
+        if (m->options.keyboard) keyboard_reset(m);
         clock_plan(m);
     }
     return reset;

@@ -39,6 +39,21 @@ typedef struct machine_counts {
     uint64_t resets[BOARD_HARD_RESET + 1];
 } machine_counts;
 
+/* An 8042 and its keyboard (keyboard.c). */
+typedef struct keyboard {
+    uint8_t queue[16]; /* bytes for port 60h */
+    size_t count;
+    uint8_t last;      /* that port 60h gave */
+    uint8_t command_byte;
+    uint8_t awaits;    /* the controller's command that a byte at port 60h follows, or 0 */
+    bool keyboard_awaits;
+    bool was_command;  /* the last write was at port 64h */
+    bool tested;
+    bool line;         /* the level of line 1 */
+    uint8_t a20;
+    uint8_t fast_restart; /* bit 0 of port 92h */
+} keyboard;
+
 typedef struct machine {
     board board;
     options options;
@@ -57,6 +72,7 @@ typedef struct machine {
     uint64_t wake;        /* when the clock must run next: line 0 rises, or a second begins */
     uint64_t second;      /* since the power came, for which the MC146818 got a date last */
     bool console_closed;
+    keyboard keyboard;
     machine_counts counts;
     record record;
     explain explain;
@@ -103,6 +119,12 @@ void clock_start(machine *m);
 void clock_runs_to(machine *m, uint64_t nanoseconds);
 /* Sets m->wake after a write to the 8254 or a reset. */
 void clock_plan(machine *m);
+
+/* ---- keyboard.c: ports 60h, 64h and 92h with options.keyboard */
+
+void keyboard_reset(machine *m);
+uint8_t keyboard_read(machine *m, uint32_t port);
+void keyboard_write(machine *m, uint32_t port, uint8_t value);
 
 /* ---- console.c */
 

@@ -3,9 +3,6 @@
 bits 16
 org 7C00h
 
-COM1 equ 3F8h
-LINE_STATUS equ 5          ; its bit 5: the transmitter is empty
-
 start:
     xor ax, ax
     mov ds, ax
@@ -42,37 +39,7 @@ same_day:
     cli
     hlt
 
-; two digits of al
-two:
-    push ax
-    shr al, 4
-    call digit
-    pop ax
-    and al, 15
-digit:
-    add al, '0'
-put:
-    push dx
-    mov ah, al
-    mov dx, COM1 + LINE_STATUS
-wait_empty:
-    in al, dx
-    test al, 20h
-    jz wait_empty
-    mov dx, COM1
-    mov al, ah
-    out dx, al
-    pop dx
-    ret
-
-print:
-    lodsb
-    test al, al
-    jz printed
-    call put
-    jmp print
-printed:
-    ret
+%include "com1.asm"
 
 says: db "clock: after 9 July 2011 comes ", 0
 line: db 13, 10, 0
