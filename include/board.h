@@ -332,10 +332,30 @@ static inline board_area board_area_of(const board_range *range, uint8_t kind, b
     return range->area[(kind + 2) % 3 + (smm ? 3 : 0)];
 }
 
-/* The widest cycle of 4, 2 or 1 bytes that begins at a port and is aligned, of these many bytes. */
-static inline uint8_t board_cycle(uint32_t port, uint32_t bytes) {
-    if (bytes >= 4 && port % 4 == 0) return 4;
-    return bytes >= 2 && port % 2 == 0 ? 2 : 1;
+/* Rows are decoded as the guest writes their boundaries, also past the memory that the board has. A
+ * monitor that keeps the guest's memory itself, of mib MiB as at board_open, asks before it maps or
+ * moves a byte: past that end the guest reads ones, and writes are lost. */
+
+/* Whether bytes of memory from an address on are all there. */
+static inline bool board_is_installed(uint32_t mib, uint64_t addr, uint64_t bytes) {
+    uint64_t end = (uint64_t)mib << 20;
+    return addr <= end && bytes <= end - addr;
+}
+
+/* Cuts a range where the memory ends. False, and the range as it was, where none of it is there. */
+static inline bool board_range_clip(board_range *range, uint32_t mib) {
+    uint64_t end = (uint64_t)mib << 20;
+    if (range->lo >= end) return false;
+    if (range->hi >= end) range->hi = (uint32_t)(end - 1);
+    return true;
+}
+
+/* How many bytes the next cycle of an access has that begins at a port or an address: the most of 4,
+ * 2 and 1 that are aligned there and not more than the bytes that are left. So the bus cuts an access
+ * to ports, and one to memory into its parts. */
+static inline uint8_t board_cycle(uint32_t addr, uint64_t bytes) {
+    if (bytes >= 4 && addr % 4 == 0) return 4;
+    return bytes >= 2 && addr % 2 == 0 ? 2 : 1;
 }
 
 /* What refuses an access to ports before its first cycle, but for its value. */

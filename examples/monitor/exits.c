@@ -9,13 +9,28 @@ enum {
     PIT_LAST = 0x43,
     SYSTEM_PORT = 0x61,   /* its bits 4 and 5 show the 8254 */
     DISK_DATA = 0x1F0,
+    SYSTEM_CONTROL = 0x92,
     PORTS = 0x10000,
     MOST_BYTES = 8        /* of one event to memory */
 };
+#define FOUR_GIB 0x100000000ull /* from there on the board has no addresses */
 
 static uint32_t all_ones(unsigned bytes) { return bytes < 4 ? (1u << 8 * bytes) - 1 : UINT32_MAX; }
 
 static bool shows_time(uint32_t port) { return (port >= PIT_FIRST && port <= PIT_LAST) || port == SYSTEM_PORT; }
+
+/* The board has a socket at ports 60h and 64h, and nobody at 92h. */
+static bool is_keyboard(const machine *m, const board_reply *reply, uint32_t port, uint8_t bytes) {
+    const board_part *p = &reply->part[0];
+    if (!m->options.keyboard || bytes != 1) return false;
+    return port == SYSTEM_CONTROL ? p->target == BOARD_ABORT : p->target == BOARD_IS_DEVICE && p->unit == BOARD_KEYBOARD;
+}
+
+static uint32_t use_keyboard(machine *m, uint8_t kind, uint32_t port, uint32_t value) {
+    if (kind == BOARD_READ) return keyboard_read(m, port);
+    keyboard_write(m, port, (uint8_t)value);
+    return 0;
+}
 
 /* One bus cycle at a port, kind BOARD_READ or BOARD_WRITE: what it reads. */
 static uint32_t cycle_at(machine *m, uint8_t kind, uint32_t port, uint8_t bytes, uint32_t value) {
@@ -24,6 +39,7 @@ static uint32_t cycle_at(machine *m, uint8_t kind, uint32_t port, uint8_t bytes,
     if (shows_time(port)) clock_runs_to(m, processor_time());
     machine_step(m, &(board_event){.what = BOARD_PORT, .kind = kind, .addr = port, .bytes = bytes, .value = value}, &reply);
     if (kind == BOARD_WRITE && shows_time(port)) clock_plan(m);
+    if (is_keyboard(m, &reply, port, bytes)) return use_keyboard(m, kind, port, value);
     if (port == DISK_DATA) m->counts.disk_words += bytes / 2;
     return (uint32_t)reply.value;
 }
@@ -55,27 +71,16 @@ void machine_out(machine *m, uint16_t port, unsigned bytes, uint32_t value) {
     }
 }
 
-/* How many bytes the next part of an access has, as the board cuts it: the longest of 4, 2 and 1 that is aligned. */
-static size_t part_bytes(const board_reply *reply, uint32_t addr, size_t left) {
-    size_t bytes = 4;
-    if (reply->parts == 1) return left;
-    while (bytes > left || addr % bytes) bytes /= 2;
-    return bytes;
-}
-
 /* Main memory is the monitor's: where the board says that a part landed there, its bytes are moved there. */
 static void move_parts(machine *m, const board_reply *reply, const board_event *event, uint8_t *data) {
-    uint64_t end = (uint64_t)m->options.mib << 20;
-    uint32_t addr = event->addr;
-    size_t left = event->bytes;
+    uint32_t addr = event->addr, left = event->bytes;
     for (unsigned k = 0; k < reply->parts; k++) {
-        size_t bytes = part_bytes(reply, addr, left);
-        uint8_t target = reply->part[k].target;
-        if ((target == BOARD_DRAM || target == BOARD_SHADOW) && addr + bytes <= end) {
+        uint8_t bytes = board_cycle(addr, left), target = reply->part[k].target;
+        if ((target == BOARD_DRAM || target == BOARD_SHADOW) && board_is_installed(m->options.mib, addr, bytes)) {
             if (event->kind == BOARD_WRITE) memcpy(m->memory + addr, data, bytes);
             else memcpy(data, m->memory + addr, bytes);
         }
-        addr += (uint32_t)bytes;
+        addr += bytes;
         data += bytes;
         left -= bytes;
     }
@@ -90,19 +95,15 @@ static void memory_event(machine *m, uint8_t kind, uint32_t addr, uint8_t bytes,
     move_parts(m, &reply, &event, data);
 }
 
-void machine_memory(machine *m, uint8_t kind, uint32_t addr, size_t bytes, uint8_t *data) {
+void machine_memory(machine *m, uint8_t kind, uint64_t addr, size_t bytes, uint8_t *data) {
     m->counts.memory++;
-    if (m->options.nothing) {
-        if (kind == BOARD_READ) memset(data, UINT8_MAX, bytes);
-        return;
-    }
-    while (bytes > 0) {
+    while (!m->options.nothing && bytes > 0 && addr < FOUR_GIB) {
         uint8_t count = MOST_BYTES;
-        while (count > bytes || addr > UINT32_MAX - (count - 1u)) count /= 2;
-        memory_event(m, kind, addr, count, data);
+        while (count > bytes || addr + count > FOUR_GIB) count /= 2;
+        memory_event(m, kind, (uint32_t)addr, count, data);
         addr += count;
         data += count;
         bytes -= count;
-        if (addr == 0) return;
     }
+    if (kind == BOARD_READ) memset(data, UINT8_MAX, bytes); /* from nobody */
 }

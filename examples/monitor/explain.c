@@ -84,9 +84,8 @@ void explain_step(explain *x, const board_event *event, const board_reply *reply
     if (event->what != BOARD_PORT && event->what != BOARD_MEMORY) return;
     for (unsigned k = 0; k < reply->parts && left > 0; k++) {
         const board_part *p = &reply->part[k];
-        uint32_t bytes = 4;
+        uint8_t bytes = board_cycle(addr, left);
         if (p->denial != BOARD_NOT_DENIED || p->target == BOARD_ABORT) note(x, event, p, addr);
-        while (bytes > left || addr % bytes) bytes /= 2;
         addr += bytes;
         left -= bytes;
     }

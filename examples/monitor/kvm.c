@@ -208,7 +208,7 @@ static const char *serve(void) {
         if (m.slots_moved) move_slots();
         return NULL;
     case KVM_EXIT_MMIO:
-        machine_memory(&m, run->mmio.is_write ? BOARD_WRITE : BOARD_READ, (uint32_t)run->mmio.phys_addr, run->mmio.len, run->mmio.data);
+        machine_memory(&m, run->mmio.is_write ? BOARD_WRITE : BOARD_READ, run->mmio.phys_addr, run->mmio.len, run->mmio.data);
         return NULL;
     case KVM_EXIT_HLT:
         if (!run->if_flag) return "halted with interrupts off";

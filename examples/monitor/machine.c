@@ -106,10 +106,10 @@ void machine_open(machine *m, const options *wanted) {
     }
     record_open(&m->record, wanted, m->rom, m->rom_bytes, disk, disk_bytes);
     if (wanted->disk) munmap(disk, disk_bytes + 1);
-    m->date_at_start = time(NULL);
     prepare_registers(m);
     prepare_cmos(m);
-    clock_runs_to(m, 0);
+    if (wanted->keyboard) keyboard_reset(m);
+    clock_start(m);
     slots_follow_map(m);
     console_open();
 }
@@ -147,6 +147,7 @@ uint32_t machine_take_reset(machine *m) {
     m->counts.resets[reset]++;
     if (reset == BOARD_HARD_RESET) {
         prepare_registers(m);
+        if (m->options.keyboard) keyboard_reset(m);
         clock_plan(m);
     }
     return reset;

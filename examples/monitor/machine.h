@@ -39,6 +39,21 @@ typedef struct machine_counts {
     uint64_t resets[BOARD_HARD_RESET + 1];
 } machine_counts;
 
+/* An 8042 and its keyboard (keyboard.c). */
+typedef struct keyboard {
+    uint8_t queue[16]; /* bytes for port 60h */
+    size_t count;
+    uint8_t last;      /* that port 60h gave */
+    uint8_t command_byte;
+    uint8_t awaits;    /* the controller's command that a byte at port 60h follows, or 0 */
+    bool keyboard_awaits;
+    bool was_command;  /* the last write was at port 64h */
+    bool tested;
+    bool line;         /* the level of line 1 */
+    uint8_t a20;
+    uint8_t fast_restart; /* bit 0 of port 92h */
+} keyboard;
+
 typedef struct machine {
     board board;
     options options;
@@ -55,9 +70,9 @@ typedef struct machine {
     uint64_t time;        /* nanoseconds since the power came, as the processor said last */
     uint64_t pulses;      /* of the 8254's clock until then */
     uint64_t wake;        /* when the clock must run next: line 0 rises, or a second begins */
-    int64_t date_at_start;
-    int64_t date; /* that the MC146818 was given last */
+    uint64_t second;      /* since the power came, for which the MC146818 got a date last */
     bool console_closed;
+    keyboard keyboard;
     machine_counts counts;
     record record;
     explain explain;
@@ -86,22 +101,30 @@ uint64_t processor_time(void);
 
 uint32_t machine_in(machine *m, uint16_t port, unsigned bytes);
 void machine_out(machine *m, uint16_t port, unsigned bytes, uint32_t value);
-/* An access outside the slots, kind BOARD_READ or BOARD_WRITE, of any number of bytes. */
-void machine_memory(machine *m, uint8_t kind, uint32_t addr, size_t bytes, uint8_t *data);
+/* An access outside the slots, kind BOARD_READ or BOARD_WRITE, of any number of bytes. At 4 GiB and above it reaches nobody. */
+void machine_memory(machine *m, uint8_t kind, uint64_t addr, size_t bytes, uint8_t *data);
 
 /* ---- slots.c */
 
 /* Makes the slots anew where the map has changed. */
 void slots_follow_map(machine *m);
 /* The host's bytes behind an address that a kind of access reaches without an exit, or none. */
-uint8_t *slots_find(machine *m, uint32_t addr, bool write);
+uint8_t *slots_find(machine *m, uint64_t addr, bool write);
 
 /* ---- clock.c */
 
+/* Gives the MC146818 the host's date. */
+void clock_start(machine *m);
 /* So many nanoseconds have passed since the power came: gives the 8254 its pulses and the MC146818 its date. */
 void clock_runs_to(machine *m, uint64_t nanoseconds);
 /* Sets m->wake after a write to the 8254 or a reset. */
 void clock_plan(machine *m);
+
+/* ---- keyboard.c: ports 60h, 64h and 92h with options.keyboard */
+
+void keyboard_reset(machine *m);
+uint8_t keyboard_read(machine *m, uint32_t port);
+void keyboard_write(machine *m, uint32_t port, uint8_t value);
 
 /* ---- console.c */
 

@@ -15,6 +15,7 @@ static const char usage[] =
     "  --seconds N       ends after N seconds\n"
     "  --log NAME        writes NAME.script and NAME.log, for `board check`, with NAME.rom and NAME.disk\n"
     "  --explain         says of each access that nobody answered or that a register denied which register it was\n"
+    "  --keyboard        a keyboard controller at ports 60h and 64h, and port 92h\n"
     "  --quiet           leaves out what the firmware says on port 402h\n"
     "  --timing          measures the board's steps\n"
     "  --speed N         Bochs: instructions a microsecond (50)\n"
@@ -37,6 +38,7 @@ static uint32_t number(const char *word, uint32_t most) {
 /* A flag of one word. */
 static bool take_flag(options *o, const char *word) {
     if (!strcmp(word, "--explain")) o->explain = true;
+    else if (!strcmp(word, "--keyboard")) o->keyboard = true;
     else if (!strcmp(word, "--quiet")) o->quiet = true;
     else if (!strcmp(word, "--timing")) o->timing = true;
     else if (!strcmp(word, "--nothing")) o->nothing = true;

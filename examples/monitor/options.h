@@ -16,6 +16,7 @@ typedef struct options {
     uint32_t seconds; /* of the host's time after which the monitor ends; 0: none */
     uint32_t speed;   /* instructions a microsecond, where the processor's own pace is the time (Bochs) */
     bool explain;
+    bool keyboard; /* an 8042 stands in the board's socket */
     bool quiet;  /* what the firmware says on port 402h is not shown */
     bool timing; /* the steps' time is measured */
     bool nothing; /* once the guest runs, all exits are answered by nothing: what the board's answers cost */

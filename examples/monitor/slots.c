@@ -23,10 +23,8 @@ static void add(machine *m, uint32_t first, uint32_t last, uint8_t *host, bool r
 }
 
 /* Main memory, as far as it is installed: past that a row is decoded and nothing is there. */
-static void add_memory(machine *m, const board_range *range, bool read_only) {
-    uint64_t end = (uint64_t)m->options.mib << 20;
-    if (range->lo >= end) return;
-    add(m, range->lo, range->hi < end ? range->hi : (uint32_t)(end - 1), m->memory + range->lo, read_only);
+static void add_memory(machine *m, board_range range, bool read_only) {
+    if (board_range_clip(&range, m->options.mib)) add(m, range.lo, range.hi, m->memory + range.lo, read_only);
 }
 
 /* The ROM, which stands in a long range again and again. */
@@ -46,7 +44,7 @@ static void add_rom(machine *m, const board_range *range) {
 static void add_range(machine *m, const board_range *range) {
     board_area fetch = board_area_of(range, BOARD_FETCH, false), read = board_area_of(range, BOARD_READ, false);
     if (!is_same(fetch, read)) return;
-    if (is_memory(read)) add_memory(m, range, !is_memory(board_area_of(range, BOARD_WRITE, false)));
+    if (is_memory(read)) add_memory(m, *range, !is_memory(board_area_of(range, BOARD_WRITE, false)));
     else if (read.target == BOARD_ROM) add_rom(m, range);
 }
 
@@ -66,7 +64,7 @@ void slots_follow_map(machine *m) {
     m->counts.maps++;
 }
 
-uint8_t *slots_find(machine *m, uint32_t addr, bool write) {
+uint8_t *slots_find(machine *m, uint64_t addr, bool write) {
     for (size_t k = 0; k < m->slot_count; k++) {
         const memory_slot *s = &m->slots[k];
         if (s->first <= addr && addr <= s->last) return write && s->read_only ? NULL : s->host + (addr - s->first);

@@ -64,19 +64,19 @@ static void set(int reg, uint32_t value) { uc_reg_write(uc, reg, &value); }
 static uint64_t on_read(uc_engine *u, uint64_t offset, unsigned bytes, void *first) {
     uint64_t value = 0;
     (void)u;
-    machine_memory(&m, BOARD_READ, (uint32_t)((uintptr_t)first + offset), bytes, (uint8_t *)&value);
+    machine_memory(&m, BOARD_READ, (uintptr_t)first + offset, bytes, (uint8_t *)&value);
     return value;
 }
 
 static void on_write(uc_engine *u, uint64_t offset, unsigned bytes, uint64_t value, void *first) {
     (void)u;
-    machine_memory(&m, BOARD_WRITE, (uint32_t)((uintptr_t)first + offset), bytes, (uint8_t *)&value);
+    machine_memory(&m, BOARD_WRITE, (uintptr_t)first + offset, bytes, (uint8_t *)&value);
 }
 
 /* A write to a read-only slot: the board says where it lands. */
 static bool on_write_protected(uc_engine *u, uc_mem_type type, uint64_t addr, int bytes, int64_t value, void *x) {
     (void)u, (void)type, (void)x;
-    machine_memory(&m, BOARD_WRITE, (uint32_t)addr, (size_t)bytes, (uint8_t *)&value);
+    machine_memory(&m, BOARD_WRITE, addr, (size_t)bytes, (uint8_t *)&value);
     return true;
 }
 

@@ -120,11 +120,52 @@ static void counts(void) {
     board_close(&b);
 }
 
+/* Of the calls on an open board the text alone takes memory, and gives it back. */
+static void each_call(void) {
+    static board_range ranges[BOARD_MOST_RANGES];
+    static board_window windows[BOARD_MOST_WINDOWS];
+    static uint8_t bytes[4096];
+    board b = {0};
+    board_reply r;
+    board_map map;
+    board_part part;
+    board_event event = {.what = BOARD_MEMORY, .kind = BOARD_READ, .bytes = 4, .addr = 0x1000};
+    uint32_t pulses;
+    uint8_t byte, line[BOARD_LONGEST_LINE];
+    size_t length;
+    must("a board with a disk", !board_open(&b, 8, cards, CARDS, rom, ROM, disk, DISK));
+    size_t before = held;
+    allocations = 0;
+    for (uint32_t k = 0; k < 64; k++) { /* the registers of the north bridge, a write and a read in parts, a sector */
+        board_out(&b, 0xCF8, 4, 0x80000040 + k / 4 * 4, &r), board_out(&b, (uint16_t)(0xCFC + k % 4), 1, k * 37 & 0xFF, &r);
+        board_write(&b, 0xBFFFD + k * 8, 8, k & 1, UINT64_MAX, &r), board_fetch(&b, 0xFFFFF + k, 4, false, &r);
+        board_ranges(&b, &map, ranges, BOARD_MOST_RANGES, windows, BOARD_MOST_WINDOWS);
+    }
+    board_out(&b, 0xCF8, 4, 0x80000904, &r), board_out(&b, 0xCFC, 1, 1, &r);
+    board_out(&b, 0xCF8, 4, 0x80000940, &r), board_out(&b, 0xCFC, 2, 0x8000, &r), board_out(&b, 0x1F6, 1, 0xE0, &r);
+    board_out(&b, 0x1F2, 1, 1, &r), board_out(&b, 0x1F7, 1, 0x30, &r);
+    for (int k = 0; k < 256; k++) board_out(&b, 0x1F0, 2, 0xA55A, &r);
+    must("the disk took the sector", !board_disk_read(&b, 0, bytes, 512) && bytes[0] == 0x5A && bytes[511] == 0xA5);
+    event.what = BOARD_BAD_SECTOR, board_step(&b, &event, &r), event.what = BOARD_MEMORY;
+    board_look(&b, BOARD_WRITE, 0xF0000, false, &r), board_irq(&b, 3, true, &r), board_wire(&b, 2, true, &r);
+    board_time(&b, 2026, 11, 29, 12, 0, 0, &r), board_receive(&b, 'a', &r), board_in(&b, 0x3F8, 1, &r);
+    board_decode(&b, &event, &part), board_pulses_to_rise(&b, &pulses);
+    board_dram_write(&b, 0, bytes, sizeof bytes), board_dram_read(&b, 0, bytes, sizeof bytes);
+    board_cmos_write(&b, 0x30, 1), board_cmos_read(&b, 0x30, &byte);
+    board_out(&b, 0xCF9, 1, 2, &r), board_out(&b, 0xCF9, 1, 6, &r);
+    must("a call took memory", allocations == 0);
+    must("a hard reset", r.reset == BOARD_HARD_RESET && !board_read(&b, 0x1000, 4, false, &r));
+    must("a text", !board_text(&event, &r, 1, 0, 1, line, sizeof line, &length));
+    must("a text takes memory, and gives it back", allocations > 0 && held == before);
+    board_close(&b);
+}
+
 int main(void) {
     rom = calloc(ROM, 1), disk = calloc(DISK, 1);
     fit_cards();
     balance();
     refusals();
     counts();
+    each_call();
     return failed;
 }

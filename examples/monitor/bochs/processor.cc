@@ -38,22 +38,22 @@ static void end(const char *reason) {
 // ---- memory: one handler over all addresses, in the place of Bochs's own memory
 
 static bool read_memory(bx_phy_address addr, unsigned bytes, void *data, void *) {
-  Bit8u *host = slots_find(&m, (Bit32u)addr, false);
+  Bit8u *host = slots_find(&m, addr, false);
   if (host) memcpy(data, host, bytes);
-  else machine_memory(&m, BOARD_READ, (Bit32u)addr, bytes, (Bit8u *)data);
+  else machine_memory(&m, BOARD_READ, addr, bytes, (Bit8u *)data);
   return true;
 }
 
 static bool write_memory(bx_phy_address addr, unsigned bytes, void *data, void *) {
-  Bit8u *host = slots_find(&m, (Bit32u)addr, true);
+  Bit8u *host = slots_find(&m, addr, true);
   pageWriteStampTable.decWriteStamp(addr); // code that Bochs has decoded from there is stale
   if (host) memcpy(host, data, bytes);
-  else machine_memory(&m, BOARD_WRITE, (Bit32u)addr, bytes, (Bit8u *)data);
+  else machine_memory(&m, BOARD_WRITE, addr, bytes, (Bit8u *)data);
   return true;
 }
 
 static Bit8u *direct_memory(bx_phy_address addr, unsigned access, void *) {
-  return slots_find(&m, (Bit32u)addr, access == BX_WRITE || access == BX_RW);
+  return slots_find(&m, addr, access == BX_WRITE || access == BX_RW);
 }
 
 static void move_slots() {
