@@ -1,0 +1,3 @@
+mod SerialRuns
+mod ImageRuns
+mod RecordRuns

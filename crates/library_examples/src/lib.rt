@@ -1,0 +1,8 @@
+//! Worked examples of the UART, of images and of records: each function does nothing, and its clauses are the examples,
+//! which are computed from the definitions. They stand above the crates that they speak of, so that no other crate has
+//! to be proved again for them.
+#![tactic(auto)]
+
+pub mod images;
+pub mod records;
+pub mod serial;

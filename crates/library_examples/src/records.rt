@@ -1,0 +1,21 @@
+//! Worked examples of records, by the numbers of `board.h`: each function does nothing, and its clause is the example.
+
+ghost use Rattle.library_examples.specs.Records.{MemorySaid, OthersSaid, TimeSaid};
+
+/// What records of accesses to memory say.
+#[tactic(auto, using(crate::proofs::RecordRuns::memory_said))]
+pub fn memory_said()
+    ensures events { MemorySaid }
+{}
+
+/// What records of every other kind say.
+#[tactic(auto, using(crate::proofs::RecordRuns::others_said))]
+pub fn others_said()
+    ensures events { OthersSaid }
+{}
+
+/// What the digits of a moment say.
+#[tactic(auto, using(crate::proofs::RecordRuns::time_said))]
+pub fn time_said()
+    ensures events { TimeSaid }
+{}
