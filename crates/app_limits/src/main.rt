@@ -1,21 +1,17 @@
 //! Commands over files in memory, at the limits of what they take: the largest board, the longest script with its log and
-//! its image, the most rounds of `make`, and files with as many bytes as they may have, and with one more. Then runs of
-//! eight processors, of which some act, each on a thread of its own.
+//! its image, the most rounds of `make`, and files with as many bytes as they may have, and with one more.
 #![tactic(auto)]
 
-mod crew;
 mod files;
 mod longest;
 
-use crate::crew::{Roll, reading_script};
 use crate::files::{Files, bytes_of, files_at_the_ends, grow};
 use board_base::NoMemory;
-use board_outside::{Gate, QuietGate, SafeShelf, SafeSink};
+use board_outside::{QuietGate, SafeShelf, SafeSink};
 use board_run::{board_in_memory, exit_code, fault_text};
 use std::alloc::Global;
 use std::io::Write;
 use std::process::ExitCode;
-use std::rt::Files as SystemFiles;
 use std::sync::Wait;
 use std::thread::Threads;
 
@@ -23,9 +19,8 @@ use std::thread::Threads;
 const NO_MEMORY: u8 = 8;
 
 /// Commands whose whole output is shown.
-const SHOWN: [&str; 6] = [
+const SHOWN: [&str; 5] = [
     "make 20000",
-    "blame writes",
     "replay ends",
     "dma ends in 00001000 65280 256",
     "serial ends input",
@@ -34,22 +29,6 @@ const SHOWN: [&str; 6] = [
 
 /// Commands whose output is the longest log.
 const LOGS: [&str; 3] = ["replay longest", "run longest", "resume image setup"];
-
-/// Commands whose output is long, of which the size is shown.
-const LONG: [&str; 2] = ["serial port input", "resume image longest"];
-
-/// Processors that act in the one phase of a script.
-const CREWS: [&[u8]; 6] = [
-    &[0],
-    &[7],
-    &[0, 7],
-    &[2, 3],
-    &[1, 4, 6],
-    &[0, 1, 2, 3, 4, 5, 6, 7],
-];
-
-/// How many statements each of them does.
-const TIMES: u32 = 12;
 
 /// Files with the most bytes that they may have, with one more, or with a number that no such file has, and a command that
 /// reads them.
@@ -79,16 +58,15 @@ fn words_of(alloc: Global, line: &str) -> Result<Vec<String>, NoMemory> {
 }
 
 /// What a command puts. Its words and its exit code are written, and why it was not done.
-fn output_of<R: AllocGlobal + Threads + Wait + Sync, W: Write, G: Gate>(
+fn output_of<R: AllocGlobal + Threads + Wait + Sync, W: Write>(
     rt: &R,
     told: &mut W,
     shelf: &mut SafeShelf,
     line: &str,
-    gate: &G,
 ) -> Result<Vec<u8>, NoMemory> {
     let words = words_of(rt.alloc(), line)?;
     let mut out = SafeSink::new(rt.alloc());
-    let status = board_in_memory(rt, rt.alloc(), &words, shelf, &mut out, gate);
+    let status = board_in_memory(rt, rt.alloc(), &words, shelf, &mut out, &QuietGate);
     let text = fault_text(rt.alloc(), &status)?;
     let _ = writeln!(told, "{line}: {} {}", exit_code(&status), text.as_str());
     Ok(out.bytes)
@@ -109,91 +87,27 @@ fn tell_all<R: AllocGlobal + Threads + Wait + Sync, W: Write>(
         files: files_at_the_ends(rt.alloc())?,
     };
     for line in SHOWN {
-        let text = output_of(rt, told, &mut shelf, line, &QuietGate)?;
+        let text = output_of(rt, told, &mut shelf, line)?;
         let _ = told.write_all(&text);
     }
-    let image = output_of(rt, told, &mut shelf, "save longest", &QuietGate)?;
+    let image = output_of(rt, told, &mut shelf, "save longest")?;
     let _ = writeln!(told, "{} bytes", image.len());
     shelf.files.push(("image".to_string(rt.alloc())?, image))?;
     for line in LOGS {
-        let text = output_of(rt, told, &mut shelf, line, &QuietGate)?;
+        let text = output_of(rt, told, &mut shelf, line)?;
         compare(told, &text, &shelf.files);
     }
-    for line in LONG {
-        let text = output_of(rt, told, &mut shelf, line, &QuietGate)?;
-        let _ = writeln!(told, "{} bytes", text.len());
-    }
-    let log = output_of(rt, told, &mut shelf, "run crew", &QuietGate)?;
-    shelf.files.push(("crewlog".to_string(rt.alloc())?, log))?;
-    let legal = output_of(rt, told, &mut shelf, "check crew crewlog", &QuietGate)?;
-    let _ = told.write_all(&legal);
     for (name, size, line) in GROWN {
         grow(&mut shelf.files, name, size)?;
         let _ = writeln!(told, "{name} of {size} bytes");
-        output_of(rt, told, &mut shelf, line, &QuietGate)?;
-    }
-    Ok(())
-}
-
-/// How many of these processors came last on a thread that no earlier one of them came on.
-fn threads_of<R: SystemFiles + AllocGlobal>(roll: &Roll<R>, actors: &[u8]) -> u32 {
-    let mut count: u32 = 0;
-    for place in 0..actors.len() {
-        let own = roll.thread_of(actors[place]);
-        if actors[..place]
-            .iter()
-            .all(|actor| roll.thread_of(*actor) != own)
-        {
-            count = count.saturating_add(1);
-        }
-    }
-    count
-}
-
-/// Runs the script of some processors, and writes how the gate was called: whether each call was the next of its
-/// processor, whether each came for all statements, on how many threads, and whether one of them is the caller's.
-fn tell_crew<R: SystemFiles + AllocGlobal + Threads + Wait + Sync, W: Write>(
-    rt: &R,
-    told: &mut W,
-    actors: &[u8],
-) -> Result<(), NoMemory> {
-    let mut files = Vec::new(rt.alloc());
-    let script = reading_script(rt.alloc(), actors, TIMES)?;
-    files.push(("reads".to_string(rt.alloc())?, script))?;
-    files.push((
-        "rom".to_string(rt.alloc())?,
-        vec![in rt.alloc(); 0; 0x1_0000]?,
-    ))?;
-    let mut shelf = SafeShelf { files };
-    let roll = Roll::new(rt);
-    output_of(rt, told, &mut shelf, "run reads", &roll)?;
-    let here = roll.thread();
-    let each = actors.iter().all(|actor| roll.heard(*actor) == TIMES * 2);
-    let own = actors.iter().any(|actor| roll.thread_of(*actor) == here);
-    let _ = writeln!(
-        told,
-        "of {}: strange {}, each {each}, threads {}, the caller's {own}",
-        actors.len(),
-        roll.strange(),
-        threads_of(&roll, actors)
-    );
-    Ok(())
-}
-
-fn tell_crews<R: SystemFiles + AllocGlobal + Threads + Wait + Sync, W: Write>(
-    rt: &R,
-    told: &mut W,
-) -> Result<(), NoMemory> {
-    for actors in CREWS {
-        tell_crew(rt, told, actors)?;
+        output_of(rt, told, &mut shelf, line)?;
     }
     Ok(())
 }
 
 fn main(rt: HostRuntime) -> ExitCode {
-    let told = &mut rt.stdout();
-    if tell_all(&rt, told).is_err() || tell_crews(&rt, told).is_err() {
-        return ExitCode::from(NO_MEMORY);
+    match tell_all(&rt, &mut rt.stdout()) {
+        Ok(()) => ExitCode::from(0),
+        Err(NoMemory) => ExitCode::from(NO_MEMORY),
     }
-    ExitCode::from(0)
 }
