@@ -19,19 +19,22 @@ WAITS = "rt: waiting for another rt"
 
 
 class Lanes:
-    """The proofs of a crate and of those below it. `out` is where copies and what rt says lie meanwhile."""
+    """The proofs of a crate and of those below it, but for those that this call proved before. `out` is where copies and
+    what rt says lie meanwhile."""
 
-    def __init__(self, crates: Crates, top: str, out: pathlib.Path):
+    def __init__(self, crates: Crates, top: str, out: pathlib.Path, proved: set[str]):
         self.crates, self.top, self.place = crates, top, out / "lanes"
         self.names = crates.needed(top)
         count = processors()
         self.each, self.count = min(count, 2), max(1, count // 2)
         self.estimate = Estimate(crates, self.names, self.count)
         self.order = sorted(self.names, key=self.estimate.chain, reverse=True)
-        self.order.remove(top)
+        self.done = proved.intersection(self.order)
+        self.order = [name for name in self.order if name != top and name not in self.done]
+        for name in self.done:
+            self.estimate.end(name, 0, True)
         self.children, self.lock = Children(), threading.Lock()
         self.begun: dict[str, float] = {}  # when each was taken, by the clock
-        self.done: set[str] = set()
         self.failed: dict[str, str] = {}  # what rt said of each that is not proved
         self.fault: Optional[BaseException] = None
 

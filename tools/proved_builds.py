@@ -18,6 +18,7 @@ from told_progress import Progress
 # What rt makes of each, and the words that link it once it is proved.
 MADE = {PROGRAM: "board_app", LIBRARY: "libboard_c.a"}
 LINKING = {PROGRAM: ["run", "--", "--version"]}
+PROVED: set[str] = set()  # the crates that this call proved
 
 
 @dataclass
@@ -93,7 +94,9 @@ def build_now(crates: Crates, top: str, sources: Sources, progress: Progress) ->
     say(f"{why or f'the packed {WHAT[top]} is of these sources'}; one is proved and built here")
     out = crates.root / "crates" / PROGRAM / "out"
     note_file(crates, top).unlink(missing_ok=True)
-    Lanes(crates, top, out).prove(progress.tell)
+    lanes = Lanes(crates, top, out, PROVED)
+    lanes.prove(progress.tell)
+    PROVED.update(lanes.done)
     if top in LINKING:
         link(crates, top, out / "program.log", progress)
     data = made(crates, top).read_bytes()
