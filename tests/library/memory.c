@@ -143,7 +143,8 @@ static void each_call(void) {
     }
     board_out(&b, 0xCF8, 4, 0x80000904, &r), board_out(&b, 0xCFC, 1, 1, &r);
     board_out(&b, 0xCF8, 4, 0x80000940, &r), board_out(&b, 0xCFC, 2, 0x8000, &r), board_out(&b, 0x1F6, 1, 0xE0, &r);
-    board_out(&b, 0x1F2, 1, 1, &r), board_out(&b, 0x1F7, 1, 0x30, &r);
+    for (uint16_t port = 0x1F2; port <= 0x1F5; port++) board_out(&b, port, 1, port == 0x1F2, &r); /* one sector, sector 0 */
+    board_out(&b, 0x1F7, 1, 0x30, &r);
     for (int k = 0; k < 256; k++) board_out(&b, 0x1F0, 2, 0xA55A, &r);
     must("the disk took the sector", !board_disk_read(&b, 0, bytes, 512) && bytes[0] == 0x5A && bytes[511] == 0xA5);
     event.what = BOARD_BAD_SECTOR, board_step(&b, &event, &r), event.what = BOARD_MEMORY;
