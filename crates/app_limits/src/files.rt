@@ -1,6 +1,6 @@
 //! The files of the commands, each of which may have as many bytes as it has, or nearly so.
 
-use crate::longest::{longest_log, longest_script};
+use crate::longest::{longest_log, longest_script, lookers, map_writes, resumed_log};
 use board_base::NoMemory;
 use std::alloc::Global;
 
@@ -100,6 +100,9 @@ pub fn files_at_the_ends(alloc: Global) -> Result<Files, NoMemory> {
     files.push(("ends".to_string(alloc)?, ends.as_bytes().to_vec(alloc)?))?;
     files.push(("longest".to_string(alloc)?, longest_script(alloc)?))?;
     files.push(("log".to_string(alloc)?, longest_log(alloc)?))?;
+    files.push(("resumed".to_string(alloc)?, resumed_log(alloc)?))?;
+    files.push(("writes".to_string(alloc)?, map_writes(alloc)?))?;
+    files.push(("lookers".to_string(alloc)?, lookers(alloc)?))?;
     files.push(("rom".to_string(alloc)?, rom(alloc)?))?;
     files.push(("disk".to_string(alloc)?, disk(alloc)?))?;
     files.push(("input".to_string(alloc)?, vec![in alloc; 0; INPUT_SIZE]?))?;

@@ -5,7 +5,7 @@
 mod files;
 mod longest;
 
-use crate::files::{Files, bytes_of, files_at_the_ends, grow};
+use crate::files::{bytes_of, files_at_the_ends, grow};
 use board_base::NoMemory;
 use board_outside::{QuietGate, SafeShelf, SafeSink};
 use board_run::{board_in_memory, exit_code, fault_text};
@@ -19,16 +19,22 @@ use std::thread::Threads;
 const NO_MEMORY: u8 = 8;
 
 /// Commands whose whole output is shown.
-const SHOWN: [&str; 5] = [
+const SHOWN: [&str; 6] = [
     "make 20000",
     "replay ends",
     "dma ends in 00001000 65280 256",
     "serial ends input",
     "check longest log",
+    "blame writes",
 ];
 
-/// Commands whose output is the longest log.
-const LOGS: [&str; 3] = ["replay longest", "run longest", "resume image setup"];
+/// Commands, and the log that each puts.
+const LOGS: [(&str, &str); 4] = [
+    ("replay longest", "log"),
+    ("run longest", "log"),
+    ("resume image setup", "log"),
+    ("resume image longest", "resumed"),
+];
 
 /// Files with the most bytes that they may have, with one more, or with a number that no such file has, and a command that
 /// reads them.
@@ -72,10 +78,22 @@ fn output_of<R: AllocGlobal + Threads + Wait + Sync, W: Write>(
     Ok(out.bytes)
 }
 
-/// Writes how many bytes a text has, and whether it is the longest log.
-fn compare<W: Write>(told: &mut W, text: &[u8], files: &Files) {
-    let log = bytes_of(files, "log");
+/// Writes how many bytes a text has, and whether it is a log.
+fn compare<W: Write>(told: &mut W, text: &[u8], log: &[u8]) {
     let _ = writeln!(told, "{} bytes, the log: {}", text.len(), text == log);
+}
+
+/// Lets eight processors look at the map and write it, and checks the log, whose order is that of the run.
+fn look_and_write<R: AllocGlobal + Threads + Wait + Sync, W: Write>(
+    rt: &R,
+    told: &mut W,
+    shelf: &mut SafeShelf,
+) -> Result<(), NoMemory> {
+    let log = output_of(rt, told, shelf, "run lookers")?;
+    shelf.files.push(("looked".to_string(rt.alloc())?, log))?;
+    let answer = output_of(rt, told, shelf, "check lookers looked")?;
+    let _ = told.write_all(&answer);
+    Ok(())
 }
 
 /// Does all commands.
@@ -93,10 +111,11 @@ fn tell_all<R: AllocGlobal + Threads + Wait + Sync, W: Write>(
     let image = output_of(rt, told, &mut shelf, "save longest")?;
     let _ = writeln!(told, "{} bytes", image.len());
     shelf.files.push(("image".to_string(rt.alloc())?, image))?;
-    for line in LOGS {
+    for (line, log) in LOGS {
         let text = output_of(rt, told, &mut shelf, line)?;
-        compare(told, &text, &shelf.files);
+        compare(told, &text, bytes_of(&shelf.files, log));
     }
+    look_and_write(rt, told, &mut shelf)?;
     for (name, size, line) in GROWN {
         grow(&mut shelf.files, name, size)?;
         let _ = writeln!(told, "{name} of {size} bytes");
