@@ -52,7 +52,7 @@ pub fn map_writes(alloc: Global) -> Result<Vec<u8>, NoMemory> {
     for _ in 0..MAP_WRITES / 2 {
         script.push_str(PAM0_BY_TURNS)?;
     }
-    script.as_bytes().to_vec(alloc)
+    Ok(script.as_bytes().to_vec(alloc)?)
 }
 
 /// A script of as many phases as there may be, in each of which eight processors look at the map and write it.
@@ -65,7 +65,7 @@ pub fn lookers(alloc: Global) -> Result<Vec<u8>, NoMemory> {
             looker(&mut script, cpu, 16 * (phase % 4))?;
         }
     }
-    script.as_bytes().to_vec(alloc)
+    Ok(script.as_bytes().to_vec(alloc)?)
 }
 
 /// The statements of one processor in such a phase.
@@ -106,5 +106,5 @@ fn log_of_rounds(alloc: Global, rounds: u32) -> Result<Vec<u8>, NoMemory> {
             }
         }
     }
-    log.as_bytes().to_vec(alloc)
+    Ok(log.as_bytes().to_vec(alloc)?)
 }

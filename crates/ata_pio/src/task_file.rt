@@ -1,4 +1,17 @@
-//! The registers of the task file, and the sector that its address registers name.
+//! The registers of the task file, and the sector that its address registers name (AT Attachment).
+//!
+//! | port | read                                 | write          | power-on |
+//! |------|--------------------------------------|----------------|----------|
+//! | 1F0h | data                                 | data           |          |
+//! | 1F1h | error                                | features       | 01h, 00h |
+//! | 1F2h | sector count                         | the same       | 01h      |
+//! | 1F3h | LBA 7 to 0, or the sector            | the same       | 01h      |
+//! | 1F4h | LBA 15 to 8, or the cylinder's low   | the same       | 00h      |
+//! | 1F5h | LBA 23 to 16, or the cylinder's high | the same       | 00h      |
+//! | 1F6h | device: bit 6 LBA, bit 4 drive 1,    | the same       | A0h      |
+//! |      | 3 to 0 LBA 27 to 24 or the head      |                |          |
+//! | 1F7h | status                               | command        |          |
+//! | 3F6h | alternate status                     | device control | 00h      |
 
 ghost use Rattle.std.specs.Prelude.{◌≡◌, ◌+◌, ◌*◌, ◌<◌};
 ghost use Rattle.device_spec.specs.Common.{signed, power_on_registers, is_lba, is_drive_one, lba_of, chs_of, named, naming, head_of, counted, with_head, with_register, with_control};

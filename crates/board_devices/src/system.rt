@@ -1,4 +1,11 @@
 //! System control port B, 61h.
+//!
+//! | bit  | what                                  | write   |
+//! |------|---------------------------------------|---------|
+//! | 0, 1 | gate of counter 2, speaker            | kept    |
+//! | 4    | refresh: the other level at each read | ignored |
+//! | 5    | OUT of counter 2                      | ignored |
+//! | else | 0                                     | ignored |
 
 ghost use Rattle.std.specs.Prelude.{◌≡◌, ◌%◌, ◌<◌, ◌+◌, not, if◌then◌else◌};
 ghost use Rattle.board_spec.specs.Devices.{system_at_reset};

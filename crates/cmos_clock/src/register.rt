@@ -1,4 +1,14 @@
 //! What stands at which address (MC146818 datasheet, "Address Map").
+//!
+//! | address | register                                 | a write keeps | effect                                  |
+//! |---------|------------------------------------------|---------------|-----------------------------------------|
+//! | 00-05   | seconds, minutes, hours, and their alarm | FF each       | in the form that register B says        |
+//! | 06-09   | day of the week, day, month, year        | FF each       |                                         |
+//! | 0A      | A                                        | 7F            | none; bit 7, UIP, reads 0               |
+//! | 0B      | B                                        | FF            | SET, AIE, UIE, binary, 24 hours         |
+//! | 0C      | C: the flags                             | 00            | a read clears them                      |
+//! | 0D      | D                                        | 00            | reads 80h: the memory is valid          |
+//! | 0E-7F   | memory                                   | FF each       |                                         |
 
 pub const SECOND: usize = 0x00;
 

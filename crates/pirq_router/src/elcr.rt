@@ -1,4 +1,9 @@
 //! The edge/level control registers of the PIIX3, ports 4D0h and 4D1h.
+//!
+//! | port | lines   | reset | writable | effect of a bit at 1                                    |
+//! |------|---------|-------|----------|---------------------------------------------------------|
+//! | 4D0h | 0 to 7  | 00h   | F8       | its line is level triggered; 0, 1 and 2 never are       |
+//! | 4D1h | 8 to 15 | 00h   | DE       | its line is level triggered; 8 and 13 never are         |
 ghost use Rattle.std.specs.Prelude.{◌≡◌};
 ghost use Rattle.device_spec.specs.Elcr.{trigger_byte, triggers_after_write, triggers_at_reset};
 

@@ -1,5 +1,14 @@
 //! The 8254 programmable interval timer: three counters and a control word register, at ports 40h to 43h.
 //!
+//! | port       | read                             | write                                             |
+//! |------------|----------------------------------|---------------------------------------------------|
+//! | 40h to 42h | counter 0, 1 or 2: its count, or | a byte of its count                               |
+//! |            | what a command latched           |                                                   |
+//! | 43h        | FFh                              | control word, of bits 7 and 6 for a counter:      |
+//! |            |                                  | 5 and 4 its bytes, 3 to 1 its mode, 0 BCD; with   |
+//! |            |                                  | 5 and 4 at 0 a counter latch; 7 and 6 at 1: a     |
+//! |            |                                  | read-back of the counters of bits 3 to 1          |
+//!
 //! `device_spec` describes the chip in the terms of its datasheet, and each call of a `Pit` is one step of it.
 #![tactic(auto)]
 

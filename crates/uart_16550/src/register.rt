@@ -1,4 +1,15 @@
 //! The registers and their bits, by the names of the PC16550D data sheet (8.0, "Registers"). Bit 0 is the lowest.
+//!
+//! | offset | read | write | with DLAB |
+//! |--------|------|-------|-----------|
+//! | 0      | RBR  | THR   | DLL       |
+//! | 1      | IER  | IER   | DLM       |
+//! | 2      | IIR  | FCR   |           |
+//! | 3      | LCR  | LCR   |           |
+//! | 4      | MCR  | MCR   |           |
+//! | 5      | LSR  |       |           |
+//! | 6      | MSR  |       |           |
+//! | 7      | SCR  | SCR   |           |
 
 ghost use Rattle.std.specs.Prelude.{◌≡◌, ◌≤◌, ◌<◌, ◌^◌};
 ghost use Rattle.uart_16550.specs.Uart.{flag};

@@ -1,0 +1,206 @@
+/* A legacy virtio block card (virtio 0.9.5, "Appendix D: Block Device") with --virtio FILE, which may have any size and is
+ * written through: one base of ports, INTA#. The board decodes the card, its bases and its interrupt; here is what answers
+ * at its ports, and what it is by its configuration bytes. */
+#define _GNU_SOURCE
+#include "machine.h"
+#include <errno.h>
+#include <fcntl.h>
+#include <stdio.h>
+#include <stdlib.h>
+#include <string.h>
+#include <sys/stat.h>
+#include <unistd.h>
+
+enum { SECTOR_BITS = 9, RING_BITS = 7, RING = 1 << RING_BITS, PAGE_BITS = 12, MOST_CHAIN = RING, ID_BYTES = 20 };
+/* Registers at base 0, and behind them the device's own: its capacity in sectors. */
+enum { HOST_FEATURES = 0, GUEST_FEATURES = 4, QUEUE_PAGE = 8, QUEUE_SIZE = 12, QUEUE_SELECT = 14, QUEUE_NOTIFY = 16, STATUS = 18, ISR = 19, CAPACITY = 20, CAPACITY_HIGH = 24 };
+enum { FEATURE_FLUSH = 1 << 9 };
+enum { NEXT = 1, WRITTEN_BY_CARD = 2 };                    /* flags of a descriptor */
+enum { NO_INTERRUPT = 1 };                                 /* flags of the available ring */
+enum { DO_READ = 0, DO_WRITE = 1, DO_FLUSH = 4, DO_ID = 8 };
+enum { DONE = 0, FAILED = 1, UNSUPPORTED = 2 };
+enum { ISR_QUEUE = 1 };
+
+typedef struct descriptor {
+    uint64_t addr;
+    uint32_t bytes;
+    uint16_t flags, next;
+} descriptor;
+
+typedef struct header {
+    uint32_t what, reserved;
+    uint64_t sector;
+} header;
+
+void virtio_open(virtio_blk *v, const char *name) {
+    struct stat about;
+    v->file = open(name, O_RDWR | O_CLOEXEC);
+    if (v->file < 0 || fstat(v->file, &about)) {
+        fprintf(stderr, "monitor: %s: %s\n", name, strerror(errno));
+        exit(1);
+    }
+    v->sectors = (uint64_t)about.st_size >> SECTOR_BITS;
+}
+
+void virtio_reset(virtio_blk *v) { *v = (virtio_blk){.file = v->file, .sectors = v->sectors, .line = v->line}; }
+
+/* The card's interrupt line is the board's INTA# of its device. */
+static void set_line(machine *m, bool on) {
+    board_reply reply;
+    if (m->virtio.line == on) return;
+    m->virtio.line = on;
+    machine_step(m, &(board_event){.what = BOARD_WIRE, .addr = VIRTIO_DEVICE, .value = on}, &reply);
+}
+
+/* Guest memory that the card may move: it lies in the memory that is fitted, and below A0000h or from 1 MiB on, so that no
+ * byte of SMRAM moves. */
+static uint8_t *memory_at(machine *m, uint64_t addr, uint64_t bytes) {
+    uint64_t end = (uint64_t)m->options.mib << 20;
+    if (bytes > end || addr > end - bytes || (addr < 0x100000 && addr + bytes > 0xA0000)) return NULL;
+    return m->memory + addr;
+}
+
+/* Moves a stretch of a request between file and memory. */
+static bool move(virtio_blk *v, uint32_t what, uint8_t *at, uint32_t bytes, uint64_t place) {
+    if (place > v->sectors << SECTOR_BITS || bytes > (v->sectors << SECTOR_BITS) - place) return false;
+    while (bytes > 0) {
+        ssize_t moved = what == DO_READ ? pread(v->file, at, bytes, (off_t)place) : pwrite(v->file, at, bytes, (off_t)place);
+        if (moved < 0 && errno == EINTR) continue;
+        if (moved <= 0) return false;
+        at += moved;
+        place += (uint64_t)moved;
+        bytes -= (uint32_t)moved;
+    }
+    return true;
+}
+
+/* One stretch of data of a request, `place` bytes from the file's beginning: its status, and how many bytes it wrote. */
+static uint8_t do_stretch(machine *m, uint32_t what, const descriptor *d, uint64_t place, uint32_t *written) {
+    virtio_blk *v = &m->virtio;
+    uint8_t *at = memory_at(m, d->addr, d->bytes);
+    bool is_in = what == DO_READ || what == DO_ID;
+    if (!at || is_in != !!(d->flags & WRITTEN_BY_CARD)) return FAILED;
+    if (what == DO_ID) {
+        char id[ID_BYTES] = "board virtio";
+        memcpy(at, id, d->bytes < ID_BYTES ? d->bytes : ID_BYTES);
+    } else if (!move(v, what, at, d->bytes, place)) {
+        return FAILED;
+    }
+    if (is_in) *written += d->bytes;
+    return DONE;
+}
+
+/* Does a request: a header, its data, and a byte for its status. Returns how many bytes of memory it wrote. */
+static uint32_t do_chain(machine *m, const uint8_t *ring, uint16_t first) {
+    descriptor d;
+    header asked = {0};
+    uint64_t place = 0;
+    uint32_t written = 0;
+    uint8_t status = DONE;
+    uint16_t at = first;
+    for (unsigned k = 0; k < MOST_CHAIN; k++) {
+        memcpy(&d, ring + sizeof d * (at % RING), sizeof d);
+        const uint8_t *here = memory_at(m, d.addr, k == 0 ? sizeof asked : 1);
+        if (!here || (k == 0 && d.bytes < sizeof asked)) return written;
+        if (k == 0) {
+            memcpy(&asked, here, sizeof asked);
+            place = asked.sector << SECTOR_BITS;
+            if (asked.sector > m->virtio.sectors) status = FAILED;
+            if (asked.what == DO_FLUSH && fdatasync(m->virtio.file)) status = FAILED;
+            if (asked.what > DO_WRITE && asked.what != DO_FLUSH && asked.what != DO_ID) status = UNSUPPORTED;
+        } else if (d.flags & NEXT) {
+            if (status == DONE && asked.what != DO_FLUSH) status = do_stretch(m, asked.what, &d, place, &written);
+            place += d.bytes;
+        } else {
+            uint8_t *last = memory_at(m, d.addr, 1);
+            if (last && d.flags & WRITTEN_BY_CARD) *last = status;
+            return written + 1;
+        }
+        if (!(d.flags & NEXT)) return written;
+        at = d.next;
+    }
+    return written;
+}
+
+/* Does what the guest has put into the available ring, and gives it back by the used ring. */
+static void do_queue(machine *m) {
+    virtio_blk *v = &m->virtio;
+    size_t used_at = ((sizeof(descriptor) * RING + 6 + 2 * RING) + (1 << PAGE_BITS) - 1) >> PAGE_BITS << PAGE_BITS;
+    uint8_t *ring = memory_at(m, (uint64_t)v->page << PAGE_BITS, used_at + 6 + 8 * RING);
+    if (!ring || !v->page) return;
+    uint8_t *available = ring + sizeof(descriptor) * RING, *used = ring + used_at;
+    uint16_t flags, newest, done;
+    memcpy(&flags, available, 2);
+    memcpy(&newest, available + 2, 2);
+    memcpy(&done, used + 2, 2);
+    bool any = v->seen != newest;
+    for (; v->seen != newest; v->seen++, done++) {
+        uint16_t first;
+        memcpy(&first, available + 4 + 2 * (v->seen % RING), 2);
+        uint32_t entry[2] = {first, do_chain(m, ring, first)};
+        memcpy(used + 4 + 8 * (done % RING), entry, sizeof entry);
+    }
+    memcpy(used + 2, &done, 2);
+    if (any) v->isr |= ISR_QUEUE;
+    if (any && !(flags & NO_INTERRUPT)) set_line(m, true);
+}
+
+uint32_t virtio_read(machine *m, uint32_t offset, unsigned bytes) {
+    virtio_blk *v = &m->virtio;
+    switch (offset) {
+    case HOST_FEATURES: return FEATURE_FLUSH;
+    case GUEST_FEATURES: return v->features;
+    case QUEUE_PAGE: return v->selected ? 0 : v->page;
+    case QUEUE_SIZE: return v->selected ? 0 : RING;
+    case QUEUE_SELECT: return v->selected;
+    case STATUS: return v->status;
+    case ISR: {
+        uint8_t isr = v->isr;
+        v->isr = 0;
+        set_line(m, false);
+        return isr;
+    }
+    }
+    if (offset < CAPACITY || offset >= CAPACITY + 8) return 0;
+    uint64_t rest = v->sectors >> 8 * (offset - CAPACITY);
+    return (uint32_t)(bytes < 4 ? rest & ((1u << 8 * bytes) - 1) : rest);
+}
+
+void virtio_write(machine *m, uint32_t offset, uint32_t value) {
+    virtio_blk *v = &m->virtio;
+    switch (offset) {
+    case GUEST_FEATURES: v->features = value & FEATURE_FLUSH; break;
+    case QUEUE_PAGE:
+        if (v->selected) break;
+        v->page = value;
+        v->seen = 0;
+        break;
+    case QUEUE_SELECT: v->selected = (uint16_t)value; break;
+    case QUEUE_NOTIFY: do_queue(m); break;
+    case STATUS:
+        v->status = (uint8_t)value;
+        if (!value) {
+            virtio_reset(v);
+            set_line(m, false);
+        }
+        break;
+    }
+}
+
+/* What the card is: its bytes stand in the place of those that the board gives every card. */
+static const struct {
+    uint8_t offset, value;
+} identity[] = {
+    {0x00, 0xF4}, {0x01, 0x1A}, {0x02, 0x01}, {0x03, 0x10}, /* 1AF4:1001 */
+    {0x08, 0}, {0x09, 0}, {0x0A, 0x80}, {0x0B, 0x01},       /* revision 0, mass storage of another kind */
+    {0x2C, 0xF4}, {0x2D, 0x1A}, {0x2E, 0x02}, {0x2F, 0},    /* subsystem: a block device */
+};
+
+uint32_t virtio_identity(uint32_t offset, unsigned bytes, uint32_t value) {
+    for (size_t k = 0; k < sizeof identity / sizeof *identity; k++) {
+        unsigned place = identity[k].offset - offset;
+        if (identity[k].offset < offset || place >= bytes) continue;
+        value = (value & ~(0xFFu << 8 * place)) | (uint32_t)identity[k].value << 8 * place;
+    }
+    return value;
+}
