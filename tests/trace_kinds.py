@@ -1,15 +1,16 @@
 """Tests of the kinds of differences, the clock's offset, files, recorded traces, watch, and what explain says of
 statuses and denials. tests/trace-tools runs them."""
+import errno
 import gzip
 import json
 import os
 import resource
+import signal
 import socket
 import subprocess
 import sys
 import threading
 import time
-import unittest
 
 from trace_case import EXAMPLES, LOADED, PROGRAM, ROOT, SETUP, TOOLS, TRACES, Case
 import differences
@@ -380,10 +381,46 @@ class Recorded(Case):
         self.assertEqual((statements[-2:], values), (["0 irq 4 1", "0 ack"], ["6 0C @6"]))
 
 
-@unittest.skipIf("CI" in os.environ, "it was once seen to wait for ever on its pipe")
 class Watch(Case):
+    SECONDS = 120  # for all that one waits for; it takes half a second where nothing else runs
+
     def trace(self):
         return gzip.decompress((TRACES / "busy.qemu.gz").read_bytes())
+
+    def started(self, *words):
+        """A watch of its own. It is killed where it takes too long, so that no read or write of a test waits for it."""
+        words = [sys.executable, TOOLS / "watch", *words, "--rom", "r64", "--program", PROGRAM]
+        said = (self.folder / "said").open("w")
+        heeds = lambda: signal.signal(signal.SIGINT, signal.SIG_DFL)  # which a shell's background job does not
+        watch = subprocess.Popen(words, cwd=self.folder, stdout=subprocess.PIPE, stderr=said, text=True,
+                                 preexec_fn=heeds)
+        alarm = threading.Timer(self.SECONDS, watch.kill)
+        alarm.start()
+        for step in (said.close, watch.stdout.close, watch.wait, watch.kill, alarm.cancel):  # the last one first
+            self.addCleanup(step)
+        return watch
+
+    def why(self, watch):
+        """What to say where a watch has not done what was waited for."""
+        said = (self.folder / "said").read_text()
+        return f"the watch: status {watch.poll()} (-9: killed after {self.SECONDS} s), and said: {said!r}"
+
+    def until(self, watch, take):
+        """What `take` gives, once that is not None, while the watch runs."""
+        while (it := take()) is None:
+            self.assertIsNone(watch.poll(), self.why(watch))
+            time.sleep(0.001)
+        return it
+
+    def pipe_of(self, pipe):
+        """A pipe's end to write to; None where nobody reads it yet."""
+        try:
+            number = os.open(pipe, os.O_WRONLY | os.O_NONBLOCK)
+        except OSError as fault:
+            self.assertEqual(fault.errno, errno.ENXIO)
+            return None
+        os.set_blocking(number, True)
+        return open(number, "wb")
 
     def test_a_file(self):
         self.file("trace", self.trace().decode("latin-1"))
@@ -398,37 +435,38 @@ class Watch(Case):
         """The first difference is told before the writer writes on."""
         pipe = self.folder / "pipe"
         os.mkfifo(pipe)
-        words = [sys.executable, TOOLS / "watch", pipe, "--rom", "r64", "--program", PROGRAM]
-        watch = subprocess.Popen(words, cwd=self.folder, stdout=subprocess.PIPE, text=True)
+        watch = self.started(pipe)
         lines = self.trace().split(b"\n")
-        with pipe.open("wb", buffering=0) as it:
+        with self.until(watch, lambda: self.pipe_of(pipe)) as it:
             it.write(b"\n".join(lines[:184]) + b"\n")
-            self.assertIn("line 184 of the trace: 0 in w 0CFC\n", watch.stdout.readline())
+            it.flush()
+            self.assertIn("line 184 of the trace: 0 in w 0CFC\n", watch.stdout.readline(), self.why(watch))
             it.write(b"\n".join(lines[184:300]) + b"\n")
         rest = watch.stdout.read()
-        self.assertEqual(watch.wait(), 1)
+        self.assertEqual(watch.wait(), 1, self.why(watch))
         self.assertIn("line 187 of the trace: 0 in w 0CFE\n", rest)
         self.assertIn("  the guest's last accesses before it:\n", rest)
 
     def test_a_socket(self):
-        """A socket that is not there is made, and its writer told from."""
+        """A socket that is not there is made, and its writer told from. It is listened at once its name is there."""
         place = self.folder / "socket"
+        watch = self.started(place, "--stop")
+        self.until(watch, lambda: place.exists() or None)
+        with socket.socket(socket.AF_UNIX) as it:
+            it.connect(str(place))
+            it.sendall(b"\n".join(self.trace().split(b"\n")[:184]) + b"\n")
+            text = watch.stdout.read()
+        self.assertEqual(watch.wait(), 1, self.why(watch))
+        self.assertIn("line 184 of the trace", text)
+        self.assertFalse(place.exists())
 
-        def write():
-            for _ in range(200):
-                if place.exists():
-                    break
-                time.sleep(0.05)
-            with socket.socket(socket.AF_UNIX) as it:
-                it.connect(str(place))
-                it.sendall(self.trace())
-
-        writer = threading.Thread(target=write)
-        writer.start()
-        run = self.run_tool("watch", "socket", "--rom", "r64", "--stop")
-        writer.join()
-        self.assertEqual(run.returncode, 1, run.stderr)
-        self.assertIn("line 184 of the trace", run.stdout)
+    def test_an_interrupt_before_the_writer_comes(self):
+        place = self.folder / "socket"
+        watch = self.started(place)
+        self.until(watch, lambda: place.exists() or None)
+        watch.send_signal(signal.SIGINT)
+        self.assertEqual((watch.stdout.read(), watch.wait()), ("", 2), self.why(watch))
+        self.assertIn("watch: interrupted: what came so far is counted\n", (self.folder / "said").read_text())
         self.assertFalse(place.exists())
 
     def test_other_endings(self):
