@@ -32,6 +32,16 @@ static uint32_t use_keyboard(machine *m, uint8_t kind, uint32_t port, uint32_t v
     return 0;
 }
 
+static bool is_fw_cfg(const machine *m, const board_reply *reply, uint8_t kind, uint32_t port, uint8_t bytes) {
+    return m->options.fw_cfg && reply->part[0].target == BOARD_ABORT && fw_cfg_hears(kind, port, bytes);
+}
+
+static uint32_t use_fw_cfg(machine *m, uint8_t kind, uint32_t port, uint32_t value) {
+    if (kind == BOARD_READ) return fw_cfg_read(m);
+    fw_cfg_write(m, port, (uint16_t)value);
+    return 0;
+}
+
 /* One bus cycle at a port, kind BOARD_READ or BOARD_WRITE: what it reads. */
 static uint32_t cycle_at(machine *m, uint8_t kind, uint32_t port, uint8_t bytes, uint32_t value) {
     board_reply reply;
@@ -40,6 +50,7 @@ static uint32_t cycle_at(machine *m, uint8_t kind, uint32_t port, uint8_t bytes,
     machine_step(m, &(board_event){.what = BOARD_PORT, .kind = kind, .addr = port, .bytes = bytes, .value = value}, &reply);
     if (kind == BOARD_WRITE && shows_time(port)) clock_plan(m);
     if (is_keyboard(m, &reply, port, bytes)) return use_keyboard(m, kind, port, value);
+    if (is_fw_cfg(m, &reply, kind, port, bytes)) return use_fw_cfg(m, kind, port, value);
     if (port == DISK_DATA) m->counts.disk_words += bytes / 2;
     return (uint32_t)reply.value;
 }

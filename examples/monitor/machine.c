@@ -107,7 +107,8 @@ void machine_open(machine *m, const options *wanted) {
     record_open(&m->record, wanted, m->rom, m->rom_bytes, disk, disk_bytes);
     if (wanted->disk) munmap(disk, disk_bytes + 1);
     prepare_registers(m);
-    prepare_cmos(m);
+    if (wanted->fw_cfg) fw_cfg_reset(m);
+    else prepare_cmos(m);
     if (wanted->keyboard) keyboard_reset(m);
     clock_start(m);
     slots_follow_map(m);
@@ -148,6 +149,7 @@ uint32_t machine_take_reset(machine *m) {
     if (reset == BOARD_HARD_RESET) {
         prepare_registers(m);
         if (m->options.keyboard) keyboard_reset(m);
+        if (m->options.fw_cfg) fw_cfg_reset(m);
         clock_plan(m);
     }
     return reset;

@@ -54,6 +54,13 @@ typedef struct keyboard {
     uint8_t fast_restart; /* bit 0 of port 92h */
 } keyboard;
 
+/* QEMU's fw_cfg (fw_cfg.c). */
+typedef struct fw_cfg {
+    uint8_t item[160]; /* the bytes of the selected item; the longest is the directory, of 132 */
+    size_t bytes;
+    size_t next;       /* the byte that is read next */
+} fw_cfg;
+
 typedef struct machine {
     board board;
     options options;
@@ -73,6 +80,7 @@ typedef struct machine {
     uint64_t second;      /* since the power came, for which the MC146818 got a date last */
     bool console_closed;
     keyboard keyboard;
+    fw_cfg fw_cfg;
     machine_counts counts;
     record record;
     explain explain;
@@ -125,6 +133,14 @@ void clock_plan(machine *m);
 void keyboard_reset(machine *m);
 uint8_t keyboard_read(machine *m, uint32_t port);
 void keyboard_write(machine *m, uint32_t port, uint8_t value);
+
+/* ---- fw_cfg.c: ports 510h and 511h with options.fw_cfg */
+
+void fw_cfg_reset(machine *m);
+/* Whether such an access is one that the device hears. */
+bool fw_cfg_hears(uint8_t kind, uint32_t port, uint8_t bytes);
+uint8_t fw_cfg_read(machine *m);
+void fw_cfg_write(machine *m, uint32_t port, uint16_t value);
 
 /* ---- console.c */
 

@@ -16,6 +16,8 @@ static const char usage[] =
     "  --log NAME        writes NAME.script and NAME.log, for `board check`, with NAME.rom and NAME.disk\n"
     "  --explain         says of each access that nobody answered or that a register denied which register it was\n"
     "  --keyboard        a keyboard controller at ports 60h and 64h, and port 92h\n"
+    "  --fw-cfg          QEMU's fw_cfg at ports 510h and 511h, and nothing of memory in the clock's bytes\n"
+    "  --text            with --fw-cfg SeaBIOS takes COM1 for its screen and keyboard\n"
     "  --quiet           leaves out what the firmware says on port 402h\n"
     "  --timing          measures the board's steps\n"
     "  --speed N         Bochs: instructions a microsecond (50)\n"
@@ -39,6 +41,8 @@ static uint32_t number(const char *word, uint32_t most) {
 static bool take_flag(options *o, const char *word) {
     if (!strcmp(word, "--explain")) o->explain = true;
     else if (!strcmp(word, "--keyboard")) o->keyboard = true;
+    else if (!strcmp(word, "--fw-cfg")) o->fw_cfg = true;
+    else if (!strcmp(word, "--text")) o->text = true;
     else if (!strcmp(word, "--quiet")) o->quiet = true;
     else if (!strcmp(word, "--timing")) o->timing = true;
     else if (!strcmp(word, "--nothing")) o->nothing = true;
@@ -65,5 +69,6 @@ void options_read(options *o, int count, char **words) {
         if (k + 1 == count || !take_option(o, words[k], words[k + 1])) refuse(words[k]);
         k++;
     }
+    if (o->text && !o->fw_cfg) refuse("--text: only with --fw-cfg");
     if (o->log && o->mib > MOST_SCRIPT_MIB) refuse("--log: a script has at most 64 MiB");
 }

@@ -17,6 +17,8 @@ typedef struct options {
     uint32_t speed;   /* instructions a microsecond, where the processor's own pace is the time (Bochs) */
     bool explain;
     bool keyboard; /* an 8042 stands in the board's socket */
+    bool fw_cfg; /* QEMU's fw_cfg tells of memory and disk, and the clock's bytes do not */
+    bool text;   /* fw_cfg says that there is no picture */
     bool quiet;  /* what the firmware says on port 402h is not shown */
     bool timing; /* the steps' time is measured */
     bool nothing; /* once the guest runs, all exits are answered by nothing: what the board's answers cost */
