@@ -42,6 +42,15 @@ static uint32_t use_fw_cfg(machine *m, uint8_t kind, uint32_t port, uint32_t val
     return 0;
 }
 
+/* What the virtio card gives in the place of the board's value: at its ports, and of its configuration bytes. */
+static uint32_t use_virtio(machine *m, const board_part *p, uint8_t kind, uint8_t bytes, uint32_t value) {
+    if (p->unit != VIRTIO_DEVICE) return value;
+    if (p->target == BOARD_CONFIG && kind == BOARD_READ) return virtio_identity(p->offset, bytes, value);
+    if (p->target == BOARD_CARD && kind == BOARD_READ) return virtio_read(m, p->offset, bytes);
+    if (p->target == BOARD_CARD) virtio_write(m, p->offset, value);
+    return value;
+}
+
 /* One bus cycle at a port, kind BOARD_READ or BOARD_WRITE: what it reads. */
 static uint32_t cycle_at(machine *m, uint8_t kind, uint32_t port, uint8_t bytes, uint32_t value) {
     board_reply reply;
@@ -52,6 +61,7 @@ static uint32_t cycle_at(machine *m, uint8_t kind, uint32_t port, uint8_t bytes,
     if (is_keyboard(m, &reply, port, bytes)) return use_keyboard(m, kind, port, value);
     if (is_fw_cfg(m, &reply, kind, port, bytes)) return use_fw_cfg(m, kind, port, value);
     if (port == DISK_DATA) m->counts.disk_words += bytes / 2;
+    if (m->options.virtio) return use_virtio(m, &reply.part[0], kind, bytes, kind == BOARD_READ ? (uint32_t)reply.value : value);
     return (uint32_t)reply.value;
 }
 

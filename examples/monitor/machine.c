@@ -92,14 +92,14 @@ static void prepare_cmos(machine *m) {
 
 void machine_open(machine *m, const options *wanted) {
     size_t disk_bytes = 0;
-    board_card no_card = {0};
+    board_card card = {.device = VIRTIO_DEVICE, .bases = 1, .base = {{BOARD_IO_BASE, VIRTIO_BASE_BITS}}};
     uint8_t no_disk = 0, *disk = &no_disk;
     memset(m, 0, sizeof *m);
     m->options = *wanted;
     m->rom = read_file(wanted->rom, &m->rom_bytes);
     if (wanted->disk) disk = read_file(wanted->disk, &disk_bytes);
     m->memory = pages((size_t)wanted->mib << 20);
-    uint32_t status = board_open(&m->board, wanted->mib, &no_card, 0, m->rom, m->rom_bytes, disk, disk_bytes);
+    uint32_t status = board_open(&m->board, wanted->mib, &card, wanted->virtio ? 1 : 0, m->rom, m->rom_bytes, disk, disk_bytes);
     if (status != BOARD_OK) {
         fprintf(stderr, "monitor: board_open: status %u (5: the ROM's size, 6: the disk's)\n", status);
         exit(1);
@@ -110,6 +110,7 @@ void machine_open(machine *m, const options *wanted) {
     if (wanted->fw_cfg) fw_cfg_reset(m);
     else prepare_cmos(m);
     if (wanted->keyboard) keyboard_reset(m);
+    if (wanted->virtio) virtio_open(&m->virtio, wanted->virtio);
     clock_start(m);
     slots_follow_map(m);
     console_open();
@@ -149,6 +150,7 @@ uint32_t machine_take_reset(machine *m) {
     if (reset == BOARD_HARD_RESET) {
         prepare_registers(m);
         if (m->options.keyboard) keyboard_reset(m);
+        if (m->options.virtio) virtio_reset(m);
         if (m->options.fw_cfg) fw_cfg_reset(m);
         clock_plan(m);
     }

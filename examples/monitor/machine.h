@@ -61,6 +61,18 @@ typedef struct fw_cfg {
     size_t next;       /* the byte that is read next */
 } fw_cfg;
 
+/* A legacy virtio block card (virtio_blk.c). */
+typedef struct virtio_blk {
+    int file;
+    uint64_t sectors;
+    uint32_t features; /* that the guest took */
+    uint32_t page;     /* of the one queue, 0 until the guest gives it */
+    uint16_t selected; /* queue */
+    uint16_t seen;     /* how many requests were done, modulo 65536 */
+    uint8_t status, isr;
+    bool line;         /* the level of INTA# */
+} virtio_blk;
+
 typedef struct machine {
     board board;
     options options;
@@ -80,6 +92,7 @@ typedef struct machine {
     uint64_t second;      /* since the power came, for which the MC146818 got a date last */
     bool console_closed;
     keyboard keyboard;
+    virtio_blk virtio;
     fw_cfg fw_cfg;
     machine_counts counts;
     record record;
@@ -141,6 +154,16 @@ void fw_cfg_reset(machine *m);
 bool fw_cfg_hears(uint8_t kind, uint32_t port, uint8_t bytes);
 uint8_t fw_cfg_read(machine *m);
 void fw_cfg_write(machine *m, uint32_t port, uint16_t value);
+
+/* ---- virtio_blk.c: a card at VIRTIO_DEVICE with options.virtio */
+
+void virtio_open(virtio_blk *v, const char *name);
+void virtio_reset(machine *m);
+/* A read and a write at an offset in the card's base. */
+uint32_t virtio_read(machine *m, uint32_t offset, unsigned bytes);
+void virtio_write(machine *m, uint32_t offset, uint32_t value);
+/* What a read of configuration bytes gives, where the board gives this value. */
+uint32_t virtio_identity(uint32_t offset, unsigned bytes, uint32_t value);
 
 /* ---- console.c */
 

@@ -11,6 +11,7 @@ static const char usage[] =
     "  --rom FILE        the BIOS (/usr/share/seabios/bios.bin)\n"
     "  --disk FILE       the disk as it begins; none without this\n"
     "  --keep-disk FILE  writes the disk as it ends\n"
+    "  --virtio FILE     a virtio block card over a file of any size, written through\n"
     "  --memory MIB      1 to 512 (8); 1 to 64 with --log\n"
     "  --seconds N       ends after N seconds\n"
     "  --log NAME        writes NAME.script and NAME.log, for `board check`, with NAME.rom and NAME.disk\n"
@@ -54,6 +55,7 @@ static bool take_option(options *o, const char *word, const char *value) {
     if (!strcmp(word, "--rom")) o->rom = value;
     else if (!strcmp(word, "--disk")) o->disk = value;
     else if (!strcmp(word, "--keep-disk")) o->keep_disk = value;
+    else if (!strcmp(word, "--virtio")) o->virtio = value;
     else if (!strcmp(word, "--log")) o->log = value;
     else if (!strcmp(word, "--memory")) o->mib = number(value, MOST_MIB);
     else if (!strcmp(word, "--seconds")) o->seconds = number(value, MOST_SECONDS);

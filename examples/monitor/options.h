@@ -7,9 +7,13 @@
 extern "C" {
 #endif
 
+/* The card of --virtio: its device, and log2 of its ports. */
+enum { VIRTIO_DEVICE = 3, VIRTIO_BASE_BITS = 6 };
+
 typedef struct options {
     const char *rom;
     const char *disk;      /* NULL: none */
+    const char *virtio;    /* the file of a virtio block card, or NULL */
     const char *keep_disk; /* where the disk is written at the end, or NULL */
     const char *log;       /* the front of the names of script and log, or NULL */
     uint32_t mib;

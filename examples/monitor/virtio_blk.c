@@ -42,14 +42,18 @@ void virtio_open(virtio_blk *v, const char *name) {
     v->sectors = (uint64_t)about.st_size >> SECTOR_BITS;
 }
 
-void virtio_reset(virtio_blk *v) { *v = (virtio_blk){.file = v->file, .sectors = v->sectors, .line = v->line}; }
-
 /* The card's interrupt line is the board's INTA# of its device. */
 static void set_line(machine *m, bool on) {
     board_reply reply;
     if (m->virtio.line == on) return;
     m->virtio.line = on;
     machine_step(m, &(board_event){.what = BOARD_WIRE, .addr = VIRTIO_DEVICE, .value = on}, &reply);
+}
+
+void virtio_reset(machine *m) {
+    virtio_blk *v = &m->virtio;
+    *v = (virtio_blk){.file = v->file, .sectors = v->sectors, .line = v->line};
+    set_line(m, false);
 }
 
 /* Guest memory that the card may move: it lies in the memory that is fitted, and below A0000h or from 1 MiB on, so that no
@@ -179,10 +183,7 @@ void virtio_write(machine *m, uint32_t offset, uint32_t value) {
     case QUEUE_NOTIFY: do_queue(m); break;
     case STATUS:
         v->status = (uint8_t)value;
-        if (!value) {
-            virtio_reset(v);
-            set_line(m, false);
-        }
+        if (!value) virtio_reset(m);
         break;
     }
 }
