@@ -15,6 +15,11 @@ pub state_of : {chipset : Running} {setup : Setup} {state : State} {history : Li
 unfolding IsLeftBy
 state_of same left = rw (← same) at left
 
+pub left_as : {chipset : Running} {setup : Setup} {state : State} {history : List Entry} →
+    record { setup = setup; state = state } ≡ chipset → IsStateOf setup history state → IsLeftBy chipset history
+unfolding IsLeftBy
+left_as same is = rw (← same) is
+
 pub can_do : (chipset : Running) (setup : Setup) (state : State) (rom : List ℕ) (event : Event) →
     record { setup = setup; state = state } ≡ chipset → setup.rom ≡ rom →
     IsLeft chipset → IsInRange chipset.setup event → CanDo state rom event

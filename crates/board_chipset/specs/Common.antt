@@ -1,4 +1,5 @@
 -- The definitions that files above cite, passed on from one place. Declares nothing.
+pub use Rattle.board_chipset.specs.BusReplies.{reply_of, wide_reply_of}
 pub use Rattle.board_chipset.specs.Chipset.{IsLeft, Running}
 unfoldable pub use Rattle.board_chipset.specs.Chipset.{IsLeftBy}
 pub use Rattle.board_chipset.specs.Kept.{CanDo, HasRegisters, IsFlat, IsStateOf}

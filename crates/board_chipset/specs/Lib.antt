@@ -1,3 +1,4 @@
+pub mod BusReplies
 pub mod Chipset
 pub mod Faults
 pub mod Kept

@@ -69,8 +69,8 @@ fn in_case(holds: bool, fault: OutOfRange) -> Result<(), OutOfRange>
     if holds { Ok(()) } else { Err(fault) }
 }
 
-/// Whether an access to memory is in range; if not, its first field that is not.
-fn test_memory(access: &Access) -> Result<(), OutOfRange>
+/// Whether an access to memory of one bus cycle is in range; if not, its first field that is not.
+pub fn test_memory(access: &Access) -> Result<(), OutOfRange>
     ensures exact { MatchResult result
         (λ _. IsBusAccess (is_write access.now.kind) access.now.addr access.now.width access.now.value)
         (λ fault. IsBusFault (is_write access.now.kind) access.now.addr access.now.width access.now.value fault) }
@@ -79,8 +79,8 @@ fn test_memory(access: &Access) -> Result<(), OutOfRange>
     test_bus(writes, access.addr, access.width, access.value)
 }
 
-/// Whether an access to a port is in range; if not, its first field that is not.
-fn test_port(access: &PortAccess) -> Result<(), OutOfRange>
+/// Whether an access at a port of one bus cycle is in range; if not, its first field that is not.
+pub fn test_port(access: &PortAccess) -> Result<(), OutOfRange>
     ensures exact { MatchResult result
         (λ _. IsBusAccess access.now.write access.now.port access.now.width access.now.value)
         (λ fault. IsBusFault access.now.write access.now.port access.now.width access.now.value fault) }

@@ -2,6 +2,8 @@
 //! which takes no memory, and whose reply is the answer to the history so far. That history is not kept.
 #![tactic(auto)]
 
+mod bus;
+mod bus_reply;
 mod bytes;
 mod card_check;
 mod check;
@@ -23,10 +25,11 @@ mod step;
 mod store;
 mod wide;
 
+pub use bus_reply::{BusReply, WideReply};
 pub use check::SetupFault;
 pub use chipset::Chipset;
 pub use dram_store::PastTheEnd;
-pub use in_range::OutOfRange;
+pub use in_range::{OutOfRange, test_memory, test_port};
 pub use load::NoClockByte;
 pub use port_access::PortReply;
 pub use reset_control::ResetKind;

@@ -2,36 +2,37 @@
 
 ghost use Rattle.std.specs.Prelude.{◌≡◌, List, ◌∷◌};
 ghost use Rattle.board_prelude.specs.Common.{Entry, Memory, Setup, IsBusAccess, is_write, memory_answer};
+ghost use Rattle.board_chipset.specs.BusReplies.{reply_of};
 ghost use Rattle.board_chipset.specs.Kept.{IsState, IsStateOf};
 
+use crate::bus_reply::BusReply;
 use crate::state::State;
 use board_base::Access;
-use board_spec::Reply;
 use board_stores::{decoded, read, write};
 
 /// Does an access to memory of one bus cycle, and returns the reply.
-pub fn access(state: &mut State, rom: &[u8], access: &Access) -> Reply
+pub fn access(state: &mut State, rom: &[u8], access: &Access) -> BusReply
     requires bus { IsBusAccess (is_write access.now.kind) access.now.addr access.now.width access.now.value }
     requires kept { IsState state.old rom.now }
     ensures answer { (setup : Setup) (history : List Entry) → IsStateOf setup history state.old
         → setup.rom ≡ rom.now
-        → result ≡ memory_answer setup history access.now }
+        → reply_of result ≡ memory_answer setup history access.now }
     ensures board { (setup : Setup) (history : List Entry) (entry : Entry)
         → IsStateOf setup history state.old → setup.rom ≡ rom.now
-        → entry.event ≡ Memory access.now → entry.reply ≡ result → IsStateOf setup (entry ∷ history) state.new }
+        → entry.event ≡ Memory access.now → entry.reply ≡ reply_of result → IsStateOf setup (entry ∷ history) state.new }
 {
     let answer = decoded(state.registers.regs(), rom, access);
     let (target, denial) = (answer.target, answer.denial);
     if access.kind.is_write() {
         write(&mut state.stores, access, &answer);
-        return Reply::Bus {
+        return BusReply {
             value: None,
             target,
             denial,
         };
     }
     let value = Some(read(&state.stores, rom, access, &answer));
-    Reply::Bus {
+    BusReply {
         value,
         target,
         denial,

@@ -1,7 +1,7 @@
 //! What a monitor asks of a chipset between two steps; and `ask`, which takes any event and refuses one out of range.
 
-ghost use Rattle.std.specs.Prelude.{◌≡◌, ◌≤◌, ◌<◌, ◌↔◌, true, false, List, ◌∷◌, IfSome, IfOk, IfErr, OnErr, IsTrue, IsErr};
-ghost use Rattle.board_prelude.specs.Common.{Spurious, Entry, IsInRange, IsAnswer, timer_of, acknowledged_by, version_of, is_hard_reset};
+ghost use Rattle.std.specs.Prelude.{◌≡◌, ◌≤◌, ◌<◌, ◌↔◌, true, false, List, ◌∷◌, IfSome, IfOk, IfErr, OnErr, IsTrue, IsErr, MatchResult};
+ghost use Rattle.board_prelude.specs.Common.{Spurious, Entry, Port, IsInRange, IsAnswer, timer_of, acknowledged_by, version_of, is_hard_reset};
 ghost use Rattle.pit_8254.specs.NextRise.{IsNextRise};
 ghost use Rattle.board_devices.specs.Outside.{is_interrupting};
 ghost use Rattle.board_chipset.specs.Chipset.{IsLeftBy};
@@ -11,7 +11,8 @@ ghost use Rattle.board_chipset.specs.Versions.{version_count, AreLastChanged, Is
 
 use crate::chipset::Chipset;
 use crate::in_range::{OutOfRange, test};
-use crate::reset_control::{ResetKind, reset_of};
+use crate::reset_control::{ResetKind, reset_of, reset_of_access};
+use board_base::PortAccess;
 use board_spec::{Event, Reply};
 use map_builder::Changed;
 
@@ -21,6 +22,14 @@ impl Chipset {
         ensures in_range { IsTrue result ↔ IsInRange self.now.setup event.now }
     {
         test(&self.setup, event).is_ok()
+    }
+
+    /// Tests an event. Refused exactly where it is out of range, with the first field that is.
+    pub fn test(&self, event: &Event) -> Result<(), OutOfRange>
+        ensures exact { MatchResult result
+            (λ _. IsInRange self.now.setup event.now) (λ fault. IsFault self.now.setup event.now fault) }
+    {
+        test(&self.setup, event)
     }
 
     /// Does an event as `step` does it. Refused exactly where the event is out of range, with the first field that is;
@@ -61,6 +70,16 @@ impl Chipset {
             → (result ≡ ResetKind.Hard) ↔ (is_hard_reset history event.now ≡ true) }
     {
         reset_of(&self.state.registers.control, event)
+    }
+
+    /// The same of an access at a port, which is no event yet.
+    pub fn reset_by(&self, access: &PortAccess) -> ResetKind
+        ensures kind { (history : List Entry) → IsLeftBy self.now history
+            → result ≡ reset_of history (Port access.now) }
+        ensures hard { (history : List Entry) → IsLeftBy self.now history
+            → (result ≡ ResetKind.Hard) ↔ (is_hard_reset history (Port access.now) ≡ true) }
+    {
+        reset_of_access(&self.state.registers.control, access)
     }
 
     /// The windows in which the last change of the memory map may have changed what answers, in rising order, none

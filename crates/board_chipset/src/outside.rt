@@ -2,19 +2,21 @@
 
 ghost use Rattle.std.specs.Prelude.{◌≡◌, ℕ, List, ◌∷◌, None};
 ghost use Rattle.board_prelude.specs.Common.{Device, Bus, Entry, Setup, IsAnswer};
+ghost use Rattle.board_chipset.specs.BusReplies.{reply_of};
 ghost use Rattle.board_chipset.specs.Kept.{CanDo, IsStateOf};
 ghost use Rattle.board_chipset.specs.Steps.{IsForDevices};
 
+use crate::bus_reply::BusReply;
 use crate::state::State;
 use board_base::{Dev, Target};
-use board_spec::{Event, Reply};
+use board_spec::Event;
 
 /// Does an event that only the devices have a part in, and returns the reply.
-pub fn answer(state: &mut State, event: &Event) -> Reply
+pub fn answer(state: &mut State, event: &Event) -> BusReply
     requires devices { IsForDevices event.now }
     requires in_range { (rom : List ℕ) × CanDo state.old rom event.now }
     ensures answer { (setup : Setup) (history : List Entry) → IsStateOf setup history state.old
-        → IsAnswer setup history event.now result }
+        → IsAnswer setup history event.now (reply_of result) }
     ensures board { (setup : Setup) (history : List Entry) (entry : Entry) → IsStateOf setup history state.old
         → entry.event ≡ event.now → IsStateOf setup (entry ∷ history) state.new }
 {
@@ -50,10 +52,10 @@ pub fn answer(state: &mut State, event: &Event) -> Reply
 }
 
 /// The reply of a device, with the value that it gave, if it gave one.
-fn answered(value: Option<u32>, dev: Dev) -> Reply
-    ensures reply { result ≡ Bus value (Device dev) None }
+fn answered(value: Option<u32>, dev: Dev) -> BusReply
+    ensures reply { reply_of result ≡ Bus value (Device dev) None }
 {
-    Reply::Bus {
+    BusReply {
         value,
         target: Target::Device(dev),
         denial: None,

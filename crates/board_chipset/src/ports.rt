@@ -3,37 +3,38 @@
 ghost use Rattle.std.specs.Prelude.{◌≡◌, ℕ, true, false, List, ◌∷◌};
 ghost use Rattle.board_prelude.specs.Common.{Entry, Port, Device, Config, Setup, IsBusAccess, port_answer, port_value, value_at};
 ghost use Rattle.board_base.specs.declared.target.Dev.TheVariants.{Reset};
+ghost use Rattle.board_chipset.specs.BusReplies.{reply_of};
 ghost use Rattle.board_chipset.specs.Kept.{IsState, IsStateOf};
 ghost use Rattle.board_chipset.specs.Ports.{IsEntryOf, Reaching, reached};
 
+use crate::bus_reply::BusReply;
 use crate::state::State;
 use board_base::{Dev, PortAccess, Reg, Target};
-use board_spec::Reply;
 
 /// The byte that a read of the keyboard controller's empty socket gives.
 const EMPTY_SOCKET: u32 = 0xFF;
 
 /// Does an access at a port, and returns the reply: the value where it reads, what answered, and what denied it.
-pub fn access(state: &mut State, access: &PortAccess) -> Reply
+pub fn access(state: &mut State, access: &PortAccess) -> BusReply
     requires bus { IsBusAccess access.now.write access.now.port access.now.width access.now.value }
     requires kept { (rom : List ℕ) × IsState state.old rom }
     ensures answer { (setup : Setup) (history : List Entry) → IsStateOf setup history state.old
-        → result ≡ port_answer setup history access.now }
+        → reply_of result ≡ port_answer setup history access.now }
     ensures board { (setup : Setup) (history : List Entry) (entry : Entry) → IsStateOf setup history state.old
-        → entry.event ≡ Port access.now → entry.reply ≡ result → IsStateOf setup (entry ∷ history) state.new }
+        → entry.event ≡ Port access.now → entry.reply ≡ reply_of result → IsStateOf setup (entry ∷ history) state.new }
 {
     let disk = state.devices.has_disk();
     let (target, denial) = state.registers.decode_port(access.port, access.width, disk);
     if access.write {
         write(state, target, access);
-        return Reply::Bus {
+        return BusReply {
             value: None,
             target,
             denial,
         };
     }
     let value = Some(read(state, target, access));
-    Reply::Bus {
+    BusReply {
         value,
         target,
         denial,

@@ -1,6 +1,6 @@
 //! The reset control register, port 0CF9h of the 82371SB.
 
-ghost use Rattle.std.specs.Prelude.{◌≡◌, Some};
+ghost use Rattle.std.specs.Prelude.{◌≡◌, ◌↔◌, true, Some};
 ghost use Rattle.board_prelude.specs.Common.{Port, control_written, is_hard_value, control_after};
 ghost use Rattle.board_chipset.specs.Resets.{reset_by, reset_by_written};
 
@@ -23,6 +23,15 @@ pub enum ResetKind {
     None,
     Soft,
     Hard,
+}
+
+impl ResetKind {
+    /// Whether it resets the whole board.
+    pub fn is_hard(self) -> bool
+        ensures hard { (result ≡ true) ↔ (self ≡ ResetKind.Hard) }
+    {
+        matches!(self, ResetKind::Hard)
+    }
 }
 
 /// The reset control register. Contracts see its byte, of which bits 2 and 1 are kept.
@@ -99,7 +108,7 @@ pub fn reset_of(control: &ResetControl, event: &Event) -> ResetKind
 }
 
 /// The reset that an access at a port would make.
-fn reset_of_access(control: &ResetControl, access: &PortAccess) -> ResetKind
+pub fn reset_of_access(control: &ResetControl, access: &PortAccess) -> ResetKind
     ensures kind { result ≡ reset_by_written control.now (control_written (Port access.now)) }
 {
     if access.write && access.port == RESET_CONTROL && access.width == Width::One {

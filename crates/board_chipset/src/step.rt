@@ -20,10 +20,10 @@ pub fn step(state: &mut State, rom: &[u8], event: &Event) -> Reply
         → entry.event ≡ event.now → entry.reply ≡ result → IsStateOf setup (entry ∷ history) state.new }
 {
     match event {
-        Event::Memory(access) => memory::access(state, rom, access),
-        Event::Wide(access) => wide::access(state, rom, access),
-        Event::Port(access) => ports::access(state, access),
-        Event::Look { kind, addr, smm } => looks::look(state, *kind, *addr, *smm),
-        _ => outside::answer(state, event),
+        Event::Memory(access) => memory::access(state, rom, access).reply(),
+        Event::Wide(access) => wide::access(state, rom, access).reply(),
+        Event::Port(access) => ports::access(state, access).reply(),
+        Event::Look { kind, addr, smm } => Reply::Saw(looks::look(state, *kind, *addr, *smm)),
+        _ => outside::answer(state, event).reply(),
     }
 }

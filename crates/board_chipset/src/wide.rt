@@ -3,25 +3,27 @@
 ghost use Rattle.std.specs.Prelude.{◌≡◌, ◌≤◌, List, ◌∷◌, length};
 ghost use Rattle.board_prelude.specs.Common.{Entry, Wide, Setup, IsWideAccess, parts_list, IsAnswer};
 ghost use Rattle.board_stores.specs.Cycles.{answers};
+ghost use Rattle.board_chipset.specs.BusReplies.{wide_reply_of};
 ghost use Rattle.board_chipset.specs.Kept.{IsState, IsStateOf};
 
+use crate::bus_reply::WideReply;
 use crate::state::State;
 use board_base::WideAccess;
+use board_spec::Parts;
 use board_spec::laws::law_parts;
-use board_spec::{Parts, Reply};
 use board_stores::{Cycle, cycles_of, read_cycles, write_cycles};
 
 /// Does a wide access, and returns the reply. First each of its cycles is decoded, then they are done one after
 /// another.
-pub fn access(state: &mut State, rom: &[u8], access: &WideAccess) -> Reply
+pub fn access(state: &mut State, rom: &[u8], access: &WideAccess) -> WideReply
     requires wide { IsWideAccess access.now }
     requires kept { IsState state.old rom.now }
     ensures answer { (setup : Setup) (history : List Entry) → IsStateOf setup history state.old
         → setup.rom ≡ rom.now
-        → IsAnswer setup history (Wide access.now) result }
+        → IsAnswer setup history (Wide access.now) (wide_reply_of result) }
     ensures board { (setup : Setup) (history : List Entry) (entry : Entry)
         → IsStateOf setup history state.old → setup.rom ≡ rom.now
-        → entry.event ≡ Wide access.now → entry.reply ≡ result → IsStateOf setup (entry ∷ history) state.new }
+        → entry.event ≡ Wide access.now → entry.reply ≡ wide_reply_of result → IsStateOf setup (entry ∷ history) state.new }
 {
     law_parts();
     let cut = cycles_of(state.registers.regs(), rom, access);
@@ -29,10 +31,10 @@ pub fn access(state: &mut State, rom: &[u8], access: &WideAccess) -> Reply
     let parts = parts_of(cycles);
     if access.kind.is_write() {
         write_cycles(&mut state.stores, cycles);
-        return Reply::Parts { value: None, parts };
+        return WideReply { value: None, parts };
     }
     let value = Some(read_cycles(&state.stores, rom, cycles));
-    Reply::Parts { value, parts }
+    WideReply { value, parts }
 }
 
 /// The parts of the reply, one for each of the two to four cycles.
