@@ -2,6 +2,17 @@
 
 use log_lines::entry_of;
 use script_lines::item_of;
+use std::process::Abort;
+
+/// Whether a line says an item of a script of this version.
+fn is_item(version: u8, line: &str) -> bool {
+    item_of(version, line.as_bytes()).is_some()
+}
+
+/// Whether a line says an entry of a log of this version.
+fn is_entry(version: u8, line: &str) -> bool {
+    entry_of(version, line.as_bytes()).is_some()
+}
 
 /// Lines of scripts of version 2 that say something, in range or not.
 const FORMS: &str = "\
@@ -58,23 +69,26 @@ phase\r
 0 wire 4
 ack";
 
-#[test]
-fn lines_of_scripts_with_a_form_say_something(rt: HostRuntime) {
-    for line in FORMS.split('\n') {
-        assert!(rt; item_of(2, line.as_bytes()).is_some(), "{line}");
-    }
-    for line in FORMLESS.split('\n') {
-        assert!(rt; item_of(2, line.as_bytes()).is_none(), "{line}");
+/// Tests whether the lines of a table say an item of version 2.
+fn are_items(rt: &impl Abort, table: &str, wanted: bool) {
+    for line in table.split('\n') {
+        assert!(rt; is_item(2, line) == wanted, "{line}");
     }
 }
 
 #[test]
+fn lines_of_scripts_with_a_form_say_something(rt: HostRuntime) {
+    are_items(&rt, FORMS, true);
+    are_items(&rt, FORMLESS, false);
+}
+
+#[test]
 fn version_one_has_no_wide_accesses_and_no_expansion_roms(rt: HostRuntime) {
-    assert!(rt; item_of(1, b"0 r q 00001000").is_none());
-    assert!(rt; item_of(1, b"card 2 plain x16").is_none());
-    assert!(rt; item_of(1, b"0 r d 00001001").is_some());
-    assert!(rt; entry_of(1, b"1 0.1 w w 0009FFFF BBAA = - dram:0 - abort 00.0.72").is_none());
-    assert!(rt; entry_of(1, b"1 0.1 w w 0009FFFE BBAA = - dram:0 -").is_some());
+    assert!(rt; !is_item(1, "0 r q 00001000"));
+    assert!(rt; !is_item(1, "card 2 plain x16"));
+    assert!(rt; is_item(1, "0 r d 00001001"));
+    assert!(rt; !is_entry(1, "1 0.1 w w 0009FFFF BBAA = - dram:0 - abort 00.0.72"));
+    assert!(rt; is_entry(1, "1 0.1 w w 0009FFFE BBAA = - dram:0 -"));
 }
 
 /// Lines of entries of version 2.
@@ -112,12 +126,15 @@ access log 1
 1 0.1 moment 2023-02-29T00:00:00 = - clock -
 1 0.1 wire 4 2 = - wires -";
 
+/// Tests whether the lines of a table say an entry of version 2.
+fn are_entries(rt: &impl Abort, table: &str, wanted: bool) {
+    for line in table.split('\n') {
+        assert!(rt; is_entry(2, line) == wanted, "{line}");
+    }
+}
+
 #[test]
 fn lines_of_logs_with_an_entry_say_it(rt: HostRuntime) {
-    for line in ENTRIES.split('\n') {
-        assert!(rt; entry_of(2, line.as_bytes()).is_some(), "{line}");
-    }
-    for line in OTHERS.split('\n') {
-        assert!(rt; entry_of(2, line.as_bytes()).is_none(), "{line}");
-    }
+    are_entries(&rt, ENTRIES, true);
+    are_entries(&rt, OTHERS, false);
 }

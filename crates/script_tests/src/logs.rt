@@ -1,5 +1,6 @@
 //! Logs that are read and written again, and texts that are none.
 
+use access_history::Entry;
 use board_script::{Log, LogFault, push_lines, push_log, read_log};
 use std::alloc::Global;
 use std::process::Abort;
@@ -51,15 +52,37 @@ const TWO_PROCESSORS: &str = "\
 3 1.1 look r 000F0000 = 1 000F0000 000FFFFF shadow:0
 ";
 
+/// The text of entries.
+fn written(alloc: Global, version: u8, entries: &[Entry]) -> Result<String, Fail> {
+    let mut text = String::new(alloc);
+    push_log(&mut text, version, entries)?;
+    Ok(text)
+}
+
+/// Whether a text is read as a log of this version and so many lines, which is written as the text again.
+fn is_same(
+    rt: &impl Abort,
+    alloc: Global,
+    version: u8,
+    count: usize,
+    text: &str,
+) -> Result<bool, Fail> {
+    let log = read_short(rt, alloc, text)?;
+    if log.version != version || log.entries.len() != count {
+        return Ok(false);
+    }
+    let again = written(alloc, version, &log.entries)?;
+    Ok(again.as_str() == text)
+}
+
 /// Reads the lines of a log after the heading of a version, and writes them again.
 fn expect_same(rt: &impl Abort, alloc: Global, version: u8, lines: &str) -> Result<(), Fail> {
     let text = format!(in alloc; "access log {version}\n{lines}")?;
-    let log = read_short(rt, alloc, text.as_str())?;
-    assert_eq!(rt; log.version, version);
-    assert_eq!(rt; log.entries.len(), lines.lines().count());
-    let mut again = String::new(alloc);
-    push_log(&mut again, version, &log.entries)?;
-    assert_eq!(rt; again.as_str(), text.as_str());
+    let count = lines.lines().count();
+    assert!(rt;
+        is_same(rt, alloc, version, count, text.as_str())?,
+        "{lines}"
+    );
     Ok(())
 }
 
@@ -120,14 +143,19 @@ fn bad_line(rt: &impl Abort, alloc: Global, text: &str) -> u32 {
     }
 }
 
+/// The same of the text of a row, in digits.
+fn told(rt: &impl Abort, alloc: Global, row: &str) -> Result<String, Fail> {
+    let text = row.replace(alloc, '|', "\n")?;
+    let line = bad_line(rt, alloc, text.as_str());
+    Ok(format!(in alloc; "{line}")?)
+}
+
 #[test]
 fn other_texts_are_bad_at_a_line(rt: HostRuntime) -> Result<(), Fail> {
     for row in BAD.split('\n') {
-        let (wanted, text) = row.split_once(": ").ok_or("a colon in each row")?;
-        let text = text.replace(rt.alloc(), '|', "\n")?;
-        let line = bad_line(&rt, rt.alloc(), text.as_str());
-        let line = format!(in rt.alloc(); "{line}")?;
-        assert_eq!(rt; line.as_str(), wanted, "{row}");
+        let (wanted, text) = row.split_once(": ").expect(&rt, "a colon in each row");
+        let line = told(&rt, rt.alloc(), text)?;
+        assert!(rt; line.as_str() == wanted, "{row}");
     }
     Ok(())
 }
