@@ -1,15 +1,10 @@
-use Rattle.std.proofs.Common.{rules, ◌≡◌, ◌∙◌, ℕ, Bool, List, ap, subst, sym, if◌then◌else◌}
+use Rattle.std.proofs.Common.{rules, ◌≡◌, ◌∙◌, ℕ, Bool, ap, sym, if◌then◌else◌}
 use Rattle.board_prelude.proofs.Common.{false≢true, Setup, touches_map, Store}
 use Rattle.pci_bars.specs.Cards.{cards_of}
-use Rattle.addr_decode.specs.MapRegs.{StandsFor, map_bytes}
-use Rattle.map_builder.specs.Map.{Mapped, next_version}
+use Rattle.map_builder.specs.Map.{next_version}
 use Rattle.map_builder.proofs.ChangeLemmas.{names_touched}
-use Rattle.map_builder.proofs.flat_map.FlatMap.store.Goals.{After-touch_map}
-use Rattle.map_builder.proofs.flat_map.FlatMap.store.Goals as goal
-
--- the cards that the registers inside a map have are those that it is seen to have
-same_cards : (inside seen : Mapped) → inside ≡ seen → cards_of inside.regs.cards ≡ cards_of seen.regs.cards
-same_cards inside seen is = ap (λ (flat : Mapped). cards_of flat.regs.cards) is
+use Rattle.map_builder.proofs.flat_map.FlatMap.store_named.Goals.{After-touch_map}
+use Rattle.map_builder.proofs.flat_map.FlatMap.store_named.Goals as goal
 
 -- a store of a setup with these cards touches the map where it was found so
 found :
@@ -17,8 +12,8 @@ found :
     c.touch_map.result ≡ touches_map setup (Store c.args.reg c.args.width c.args.value)
 found c setup same =
     c.touch_map.ensures.touched
-    ∙ names_touched setup c.self.inside.regs.cards.items c.args.reg c.args.width c.args.value c.as_slice.result.now c.self.invariant.fitted
-    (same ∙ sym (same_cards _ _ c.self.view_is)) (c.as_slice.ensures.value ∙ c.names-names.ensures.named)
+    ∙ names_touched setup c.args.self.now.regs.cards c.args.reg c.args.width c.args.value c.args.names.now c.requires.fitted same
+    c.requires.names
 
 pub set_beside-requires : goal.set_beside-requires
 set_beside-requires c = record {
@@ -29,25 +24,37 @@ set_beside-requires c = record {
 abbrev version_if : ℕ → Bool → ℕ
 version_if version touched = if touched then next_version version else version
 
-pub returns-then-touch_map-clause-version : goal.returns-then-touch_map-clause-version
-returns-then-touch_map-clause-version c = λ setup same.
-    c.apply_uncounted.ensures.applied.version
-    ∙ ap (version_if c.args.self.now.version)
-    (sym c.if-touch_map.true ∙ found (goal.at.returns-then-touch_map-clause-version c).After-touch_map setup same)
+pub returns-then-touch_map : goal.returns-then-touch_map
+returns-then-touch_map c = record {
+  stored =
+      let here = (goal.at.returns-then-touch_map c).After-touch_map in
+      let applied = c.apply_uncounted.ensures.applied in
+      record {
+        stands = applied.stands;
+        cards = applied.cards;
+        same_cards = applied.same_cards;
+        version = λ setup same.
+            applied.version ∙ ap (version_if c.args.self.now.version) (sym c.if-touch_map.true ∙ found here setup same);
+        windows = λ setup bytes stands touched. applied.windows setup bytes stands;
+        same_windows = λ setup same not. absurd (false≢true (sym not ∙ sym (found here setup same) ∙ c.if-touch_map.true));
+        map = applied.map;
+      };
+}
 
-pub returns-else-touch_map-clause-version : goal.returns-else-touch_map-clause-version
-returns-else-touch_map-clause-version c = λ setup same.
-    c.set_beside.ensures.version
-    ∙ ap (version_if c.args.self.now.version)
-    (sym c.if-touch_map.false ∙ found (goal.at.returns-else-touch_map-clause-version c).After-touch_map setup same)
-
-pub returns-then-touch_map-clause-same_windows : goal.returns-then-touch_map-clause-same_windows
-returns-then-touch_map-clause-same_windows c = λ setup same not.
-    absurd (false≢true (sym not ∙ sym (found (goal.at.returns-then-touch_map-clause-same_windows c).After-touch_map setup same) ∙ c.if-touch_map.true))
-
-pub returns-else-touch_map-clause-windows : goal.returns-else-touch_map-clause-windows
-returns-else-touch_map-clause-windows c = λ setup bytes stands touched.
-    absurd (false≢true (sym c.if-touch_map.false ∙ found (goal.at.returns-else-touch_map-clause-windows c).After-touch_map setup stands.cards.0 ∙ touched))
-
-pub returns-then-touch_map-clause-windows : goal.returns-then-touch_map-clause-windows
-returns-then-touch_map-clause-windows c = λ setup bytes stands touched. c.apply_uncounted.ensures.applied.windows setup bytes stands
+pub returns-else-touch_map : goal.returns-else-touch_map
+returns-else-touch_map c = record {
+  stored =
+      let here = (goal.at.returns-else-touch_map c).After-touch_map in
+      let beside = c.set_beside.ensures in
+      record {
+        stands = beside.stands;
+        cards = beside.cards;
+        same_cards = beside.same_cards;
+        version = λ setup same.
+            beside.version ∙ ap (version_if c.args.self.now.version) (sym c.if-touch_map.false ∙ found here setup same);
+        windows = λ setup bytes stands touched.
+            absurd (false≢true (sym c.if-touch_map.false ∙ found here setup stands.cards.0 ∙ touched));
+        same_windows = λ setup same not. beside.windows;
+        map = beside.map;
+      };
+}
