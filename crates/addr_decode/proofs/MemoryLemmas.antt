@@ -1,6 +1,6 @@
 -- The memory map in the order of the code is that of the definitions.
 use Rattle.std.proofs.Common.{◌≡◌, ℕ, Bool, true, false, not, ◌&&◌, Option, Some, None, refl, sym, ◌∙◌, ap, arith, is_some, unwrap_or, [], ◌∷◌, option_map, if◌then◌else◌}
-use Rattle.board_prelude.proofs.Common.{nat_tests, Area, Kind, Setup, lies_in, upper_memory, Window, first_of, line_where, is_smram_range, is_shadow_range, card_area, area_under, Bytes, row_of, is_in, hole_of, pam_register, is_high_window, nibble, is_open, is_shadowed, smram_answers, is_rom_selected, memory_claim, area_of, xbcs as select_register, smram as smram_register, fdhc as hole_register}
+use Rattle.board_prelude.proofs.Common.{nat_tests, Area, Denial, Kind, top_of, memory_shut, rom_unselected, abort_denial, rom_denial, denial_in, denial_of, Setup, lies_in, upper_memory, Window, first_of, line_where, is_smram_range, is_shadow_range, card_area, area_under, Bytes, row_of, is_in, hole_of, pam_register, is_high_window, nibble, is_open, is_shadowed, smram_answers, is_rom_selected, memory_claim, area_of, xbcs as select_register, smram as smram_register, fdhc as hole_register}
 use Rattle.board_base.specs.declared.target.Area.TheVariants.{Dram, Shadow, Smram, Rom, Abort}
 use Rattle.addr_decode.specs.Common.{dram_area, row_area, above_dram, beside_dram, area_by, master_area}
 
@@ -116,6 +116,40 @@ either_answers setup bytes addr kind smm dram beside is_dram is_beside =
     ∙ or_beside dram (is_rom_selected (bytes select_register) addr) (memory_claim setup bytes addr)
     ∙ ap (λ (found : Option Area). above_dram found (is_rom_selected (bytes select_register) addr) (memory_claim setup bytes addr)) is_dram
     ∙ sym (by_parts setup bytes addr kind smm)
+
+-- where DRAM answers nothing denies
+is_undenied : (area dram : Area) (kind : Kind) (abort rom : Denial) → Some area ≡ Some dram → None ≡ denial_in dram kind abort rom →
+    None ≡ denial_in area kind abort rom
+is_undenied area dram kind abort rom is undenied =
+    let same : area ≡ dram = ap (λ (it : Option Area). unwrap_or it area) is in
+    undenied ∙ ap (λ (it : Area). denial_in it kind abort rom) (sym same)
+
+undenied_by : (smram shadow opened shadowed hole : Bool) (row : ℕ) (area : Area) (kind : Kind) (abort rom : Denial) →
+    Some area ≡ (if smram then line_where opened Smram else if shadow then line_where shadowed (Shadow row) else line_where (not hole) (Dram row)) →
+    None ≡ denial_in area kind abort rom
+undenied_by true shadow true shadowed hole row area kind abort rom is = is_undenied area Smram kind abort rom is refl
+undenied_by true shadow false shadowed hole row area kind abort rom is = absurd (cc)
+undenied_by false true opened true hole row area kind abort rom is = is_undenied area (Shadow row) kind abort rom is refl
+undenied_by false true opened false hole row area kind abort rom is = absurd (cc)
+undenied_by false false opened shadowed true row area kind abort rom is = absurd (cc)
+undenied_by false false opened shadowed false row area kind abort rom is = is_undenied area (Dram row) kind abort rom is refl
+
+undenied_in : (row : Option ℕ) (opened shadowed hole : Bool) (addr : ℕ) (area : Area) (kind : Kind) (abort rom : Denial) →
+    Some area ≡ dram_area row opened shadowed hole addr → None ≡ denial_in area kind abort rom
+undenied_in None opened shadowed hole addr area kind abort rom is = absurd (cc)
+undenied_in (Some row) opened shadowed hole addr area kind abort rom is =
+    undenied_by (is_smram_range addr) (is_shadow_range addr) opened shadowed hole row area kind abort rom is
+
+pub dram_undenied : (setup : Setup) (bytes : Bytes) (addr : ℕ) (kind : Kind) (smm : Bool) (area : Area) →
+    Some area ≡ dram_by bytes addr kind smm → None ≡ denial_of setup bytes addr kind smm
+unfolding denial_of
+dram_undenied setup bytes addr kind smm area is =
+    let abort : Denial = abort_denial (top_of bytes) (memory_shut setup bytes addr) (rom_unselected setup bytes addr) addr in
+    let rom : Denial = rom_denial (bytes select_register) in
+    undenied_in (row_of bytes addr) (smram_answers (bytes smram_register) kind smm) (is_shadowed bytes addr kind)
+    (is_in (hole_of (bytes hole_register)) addr) addr area kind abort rom is
+    ∙ ap (λ (it : Area). denial_in it kind abort rom)
+    (either_answers setup bytes addr kind smm (Some area) (beside_dram setup bytes addr) is refl)
 
 -- at an address of a shadow window
 row_shadow : (row : ℕ) (opened shadowed hole : Bool) (addr : ℕ) → is_smram_range addr ≡ false → is_shadow_range addr ≡ true →

@@ -1,6 +1,6 @@
 //! What a change of the configuration space makes of the registers that the address map depends on.
-ghost use Rattle.std.specs.Prelude.{◌≡◌, ◌≢◌, ◌≤◌, ◌<◌, ◌⊎◌, None, true, false};
-ghost use Rattle.board_prelude.specs.Common.{Store, Setup, changed_byte, Bytes, card_register, is_map_byte, reg_after, touches_map};
+ghost use Rattle.std.specs.Prelude.{◌≡◌, ◌≢◌, ◌≤◌, ◌<◌, ◌⊎◌, None, true, false, is_some};
+ghost use Rattle.board_prelude.specs.Common.{list_any, Store, Setup, changed_byte, Bytes, card_register, is_map_byte, reg_after, touches_map};
 ghost use Rattle.pci_bars.specs.Cards.{AreCards, AreCardsOf, AreDecoded, AreFitted, cards_of};
 ghost use Rattle.addr_decode.specs.MapRegister.{IsNumbered, map_register, names_from, names_of, place_of};
 ghost use Rattle.addr_decode.specs.MapRegs.{StandsFor, map_bytes, stored};
@@ -24,7 +24,17 @@ pub fn touches(regs: &MapRegs, reg: Reg, width: Width) -> bool
     ensures touched { (setup : Setup) (bytes : Bytes) → StandsFor setup bytes (map_bytes regs.now)
         → result ≡ touches_map setup (Store reg width 0) }
 {
-    touch_map(regs.names_from(reg, width).as_slice())
+    has_name(regs, reg, width)
+}
+
+/// Whether one of the registers that a store covers has a name.
+fn has_name(regs: &MapRegs, reg: Reg, width: Width) -> bool
+    ensures named { result ≡ list_any is_some (names_from (cards_of regs.now.cards.items) reg width) }
+{
+    match width {
+        Width::One => touch_map(&[regs.name_alone(reg)]),
+        Width::Two | Width::Four => touch_map(regs.names_from(reg, width).as_slice()),
+    }
 }
 
 impl MapRegs {
@@ -44,6 +54,7 @@ impl MapRegs {
     }
 
     /// Makes a change as `apply` does, where the names of the registers that it stores to are known.
+    #[inline(always)]
     pub fn apply_named(&mut self, change: &MapChange, names: &[Option<MapRegister>])
         requires cards { AreFitted self.old.cards.items }
         requires names { names.now ≡ names_of (cards_of self.old.cards.items) change.now }
@@ -61,6 +72,7 @@ impl MapRegs {
     }
 
     /// Stores the bytes of a value in rising offset, in the registers with these names.
+    #[inline(always)]
     fn store(&mut self, reg: Reg, width: Width, value: u32, names: &[Option<MapRegister>])
         requires cards { AreFitted self.old.cards.items }
         requires names { names.now ≡ names_from (cards_of self.old.cards.items) reg width }
@@ -78,6 +90,7 @@ impl MapRegs {
     }
 
     /// Stores a byte in the register `k` offsets after another, by its name.
+    #[inline(always)]
     fn store_after(&mut self, reg: Reg, k: u8, name: Option<MapRegister>, byte: u8)
         requires cards { AreFitted self.old.cards.items }
         requires name { name ≡ map_register (cards_of self.old.cards.items) (reg_after reg k) }
@@ -94,6 +107,7 @@ impl MapRegs {
     }
 
     /// Stores a byte in a register.
+    #[inline(always)]
     fn set(&mut self, register: MapRegister, byte: u8)
         requires cards { AreFitted self.old.cards.items }
         requires number { IsNumbered register }

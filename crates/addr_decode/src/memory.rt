@@ -1,6 +1,6 @@
 //! The memory map of the 82441FX and the 82371SB: which area an access reaches, and what denies it.
 ghost use Rattle.std.specs.Prelude.{◌≡◌, true, false, Some, unwrap_or};
-ghost use Rattle.board_prelude.specs.Common.{Read, Write, Setup, Bytes, line_where, is_in, hole_of as hole_by, row_of as row_by, is_shadow_range, is_shadowed, smram_answers, area_of, denial_of, fdhc, smram};
+ghost use Rattle.board_prelude.specs.Common.{Read, Write, Setup, Bytes, line_where, is_in, hole_of as hole_by, row_of as row_by, is_shadow_range, is_shadowed, smram_answers, area_of, denial_of, denial_in as denial_by, abort_denial, rom_denial, top_of, memory_shut, rom_unselected, fdhc, smram, xbcs as select_register};
 ghost use Rattle.board_base.specs.declared.target.Area.TheVariants.{Shadow};
 ghost use Rattle.pam_windows.specs.Pam.{IsPamOf};
 ghost use Rattle.pci_bars.specs.Cards.{AreFitted};
@@ -19,7 +19,8 @@ use smram_ctl::smram_reaches;
 use xbus_select::rom_selected;
 
 /// The area that a memory access reaches, and what denies it: None where the area answers, unless it is the ROM
-/// and the access writes.
+/// and the access writes. Nothing denies an access that reaches DRAM.
+#[inline(always)]
 pub fn decode(regs: &MapRegs, addr: u32, kind: Kind, smm: bool) -> (Area, Option<Denial>)
     requires cards { AreFitted regs.now.cards.items }
     ensures area { (setup : Setup) (bytes : Bytes) → StandsFor setup bytes (map_bytes regs.now)
@@ -27,7 +28,23 @@ pub fn decode(regs: &MapRegs, addr: u32, kind: Kind, smm: bool) -> (Area, Option
     ensures denial { (setup : Setup) (bytes : Bytes) → StandsFor setup bytes (map_bytes regs.now)
         → result.1 ≡ denial_of setup bytes addr kind smm }
 {
-    let area = area_of(regs, addr, kind, smm);
+    match dram_area(regs, addr, kind, smm) {
+        Some(area) => (area, None),
+        None => decode_beside_dram(regs, addr, kind),
+    }
+}
+
+/// The area that an access reaches where DRAM does not answer, and what denies it.
+fn decode_beside_dram(regs: &MapRegs, addr: u32, kind: Kind) -> (Area, Option<Denial>)
+    requires cards { AreFitted regs.now.cards.items }
+    ensures area { (setup : Setup) (bytes : Bytes) → StandsFor setup bytes (map_bytes regs.now)
+        → result.0 ≡ beside_dram setup bytes addr }
+    ensures denial { (setup : Setup) (bytes : Bytes) → StandsFor setup bytes (map_bytes regs.now)
+        → result.1 ≡ denial_by result.0 kind
+        (abort_denial (top_of bytes) (memory_shut setup bytes addr) (rom_unselected setup bytes addr) addr)
+        (rom_denial (bytes select_register)) }
+{
+    let area = area_beside_dram(regs, addr);
     (area, denial_in(regs, area, addr, kind))
 }
 

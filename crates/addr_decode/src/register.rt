@@ -1,6 +1,6 @@
 //! The registers that the address map depends on, each named once.
-ghost use Rattle.std.specs.Prelude.{◌≡◌, is_some, option_map};
-ghost use Rattle.board_prelude.specs.Common.{list_any, reg_after};
+ghost use Rattle.std.specs.Prelude.{◌≡◌, [], ◌∷◌, is_some, option_map};
+ghost use Rattle.board_prelude.specs.Common.{One, list_any, reg_after};
 ghost use Rattle.pci_bars.specs.Cards.{cards_of};
 ghost use Rattle.addr_decode.specs.declared.register.CardRegister.TheVariants.{ExpansionRom};
 ghost use Rattle.addr_decode.specs.declared.register.MapRegister.TheVariants.{Card};
@@ -116,6 +116,14 @@ impl MapRegs {
             names.push(self.register_after(reg, k));
         }
         names
+    }
+
+    /// The name of the one register to which a store of one byte goes.
+    #[inline(always)]
+    pub fn name_alone(&self, reg: Reg) -> Option<MapRegister>
+        ensures named { result ∷ [] ≡ names_from (cards_of self.now.cards.items) reg One }
+    {
+        self.register_after(reg, 0)
     }
 
     /// The name of the register `k` offsets after another. Past offset FFh there is none.

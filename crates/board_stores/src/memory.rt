@@ -16,6 +16,7 @@ use board_spec::wide::read_at;
 use pci_bars::offset_in;
 
 /// What an access to memory reaches, and what denies it: None where something answers, unless it writes to the ROM.
+#[inline(always)]
 pub fn decoded(map: &MapRegs, rom: &[u8], access: &Access) -> Part
     requires cards { AreFitted map.now.cards.items }
     requires rom { IsRomSize (length rom.now) }
@@ -47,6 +48,7 @@ pub fn target_in(map: &MapRegs, rom: &[u8], area: Area, addr: u32) -> Target
 }
 
 /// The value that a read gives, by what it reaches.
+#[inline(always)]
 pub fn read(stores: &Stores, rom: &[u8], access: &Access, answer: &Part) -> u32
     requires ready { IsReady rom.now stores.now.contents access.now answer.now }
     ensures stands { result ≡ value_with stores.now rom.now answer.now.target access.now.addr access.now.width }
@@ -60,6 +62,7 @@ pub fn read(stores: &Stores, rom: &[u8], access: &Access, answer: &Part) -> u32
 }
 
 /// Does a write, by what it reaches. A write to the ROM is lost.
+#[inline(always)]
 pub fn write(stores: &mut Stores, access: &Access, answer: &Part)
     requires ready { (rom : List ℕ) × IsReady rom stores.old.contents access.now answer.now }
     requires writes { is_write access.now.kind ≡ true }

@@ -32,6 +32,7 @@ impl Stores {
     }
 
     /// The value that a read at an address or a port gives, by what it reaches. Where nobody answers it is all ones.
+    #[inline(always)]
     pub fn read(&self, target: Target, place: u32, width: Width) -> u32
         requires stored { IsStored self.now.contents target width }
         requires aligned { place % bytes_of width ≡ 0 }
@@ -47,6 +48,7 @@ impl Stores {
     }
 
     /// Stores the bytes of a write at an address or a port, by what it reaches. Where nobody answers they are lost.
+    #[inline(always)]
     pub fn write(&mut self, target: Target, place: u32, width: Width, value: u32)
         requires stored { IsStored self.old.contents target width }
         requires aligned { place % bytes_of width ≡ 0 }

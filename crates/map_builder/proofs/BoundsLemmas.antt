@@ -1,6 +1,6 @@
 -- Each window that a change may change ends where it begins or above.
-use Rattle.std.proofs.Common.{◌≡◌, ℕ, ◌-◌, ◌/◌, ◌≤◌, inl, inr, List, [], ◌∷◌, ◌++◌, map, take, Option, Some, None, refl, ◌∙◌, ap, arith, ◌==◌, ◌&&◌, flat_map, filter, min, max}
-use Rattle.board_prelude.proofs.Common.{AllByRecursion, option_map_or, cases_Bool, nat_tests, Reg, bytes_of, MapChange, Store, Reset, FittedCard, Setup, card_at, is_within, Bytes, Window, rom_window, vga_window, reg_after}
+use Rattle.std.proofs.Common.{◌≡◌, ℕ, ◌/◌, ◌≤◌, inl, inr, List, [], ◌∷◌, ◌++◌, map, take, Option, Some, None, refl, ◌∙◌, ap, arith, ◌==◌, flat_map, filter, min, max}
+use Rattle.board_prelude.proofs.Common.{AllByRecursion, option_map_or, cases_Bool, nat_tests, Reg, bytes_of, MapChange, Store, Reset, FittedCard, Setup, card_at, Bytes, Window, rom_window, vga_window, reg_after}
 use Rattle.map_builder.specs.declared.range.Changed.{Changed}
 use Rattle.addr_decode.specs.declared.register.MapRegister.{MapRegister}
 use Rattle.addr_decode.specs.declared.register.MapRegister.TheVariants.{Pam, RowBoundary, Hole, Smram, ChipSelects, Card}

@@ -1,12 +1,13 @@
 -- After a change the ranges of a map are right again for each address outside the bounds of the changed windows.
 use Rattle.std.proofs.Common.{◌≡◌, ℕ, zero, suc, ◌+◌, ◌<◌, ◌≤◌, Bool, true, false, inl, inr, List, [], ◌∷◌, ◌++◌, length, get_or, take, Option, Some, None, refl, sym, ◌∙◌, ap, subst, arith, IfSome, ◌||◌, not, flat_map, is_some, map}
-use Rattle.board_prelude.proofs.Common.{cases_Bool, true≢false, not-true, list_any, nat_tests, Width, Reg, MapChange, Store, Reset, FittedCard, Setup, IsCardList, largest_top, touches_map, reg_after, bytes_of, Bytes, top_of, address_count, six_areas, MapRange, Tiles, IsFlatMapOf, entry_limit}
+use Rattle.board_prelude.proofs.Common.{cases_Bool, true≢false, not-true, append-nil, list_any, Width, One, Reg, MapChange, Store, Reset, FittedCard, Setup, IsCardList, largest_top, touches_map, reg_after, bytes_of, Bytes, top_of, address_count, six_areas, MapRange, Tiles, IsFlatMapOf, entry_limit}
 use Rattle.pci_bars.specs.Cards.{CardBytes, AreFitted, cards_of}
 use Rattle.addr_decode.proofs.Common.{no_low_card, names_touch}
 use Rattle.addr_decode.specs.declared.register.MapRegister.{MapRegister}
 use Rattle.addr_decode.specs.declared.register.MapRegister.TheVariants.{Pam, RowBoundary, Hole, Smram, ChipSelects, Card}
-use Rattle.addr_decode.specs.Common.{map_register, names_from, names_of, MapBytes, StandsFor, edges_after}
+use Rattle.addr_decode.specs.Common.{is_of_card, map_register, names_from, names_of, MapBytes, StandsFor, edges_after}
 use Rattle.map_builder.specs.declared.range.Changed.{Changed}
+use Rattle.map_builder.specs.Changed.{register_windows}
 use Rattle.map_builder.specs.Common.{next_version, IsOfSomeBoard, IsMapOf, IsMapWhere, IsBeside, sorted, Rise, rows_in, AreChanged, after, bounds, is_card_name, rest_on_registers, name_windows, windows_covered, changed_windows, most_rows, AreMoved, IsHeldAt, IsSameByte}
 use Rattle.map_builder.proofs.FindLemmas.{tiles_below}
 use Rattle.map_builder.proofs.OutsideLemmas.{Outside}
@@ -15,6 +16,7 @@ use Rattle.map_builder.proofs.SortedLemmas.{rise_sorted, outside_sorted, beside_
 use Rattle.map_builder.proofs.MovedRows.{covers_rows, rows_keep, moved_rise, moved_within, moved_few}
 use Rattle.map_builder.proofs.UnchangedLemmas.{same_bytes, unchanged_keep}
 use Rattle.map_builder.proofs.KeptStores.{top_after, changes_keep}
+use Rattle.map_builder.proofs.WindowLemmas.{covered_by_names}
 use Rattle.map_builder.proofs.SameBoards.{boards_same, untouched_areas}
 
 -- the last address of a range is an address
@@ -177,6 +179,32 @@ pushed_found old new change names none first all kept same named keeps same_is n
     (λ move.
     twice move setup (after setup change bytes) now
     ∙ ap (λ (windows : List Changed). windows ++ windows_covered setup (after setup change bytes) change) covered)
+
+-- those of one register of a bridge rest on nothing, so that they are the same on each board, before the change and after
+bridge_windows : (setup setup' : Setup) (bytes bytes' : Bytes) (register : MapRegister) → is_of_card register ≡ false →
+    register_windows setup bytes register ≡ register_windows setup' bytes' register
+bridge_windows setup setup' bytes bytes' (Pam number) bridge = refl
+bridge_windows setup setup' bytes bytes' (RowBoundary row) bridge = refl
+bridge_windows setup setup' bytes bytes' Hole bridge = refl
+bridge_windows setup setup' bytes bytes' Smram bridge = refl
+bridge_windows setup setup' bytes bytes' ChipSelects bridge = refl
+bridge_windows setup setup' bytes bytes' (Card dev register) bridge = absurd (true≢false bridge)
+
+pub bridge_found : (setup setup' : Setup) (bytes bytes' : Bytes) (reg : Reg) (value : ℕ) (register : MapRegister) (cards : List FittedCard) →
+    is_of_card register ≡ false → setup'.cards ≡ cards → Some register ∷ [] ≡ names_of cards (Store reg One value) →
+    sorted (register_windows setup bytes register) ≡ sorted (changed_windows setup' bytes' (Store reg One value))
+bridge_found setup setup' bytes bytes' reg value register cards bridge same named =
+    let change : MapChange = Store reg One value in
+    let rests : rest_on_registers (Some register ∷ []) ≡ false = rw bridge refl in
+    let bridges : rest_on_registers (names_of setup'.cards change) ≡ false =
+    subst (λ (names : List (Option MapRegister)). rest_on_registers names ≡ false)
+    (named ∙ ap (λ (specs : List FittedCard). names_of specs change) (sym same)) rests in
+    let covered : register_windows setup' bytes' register ++ [] ≡ windows_covered setup' bytes' change =
+    covered_by_names setup' bytes' change reg One value cards (Some register ∷ []) refl same named in
+    ap sorted
+    (bridge_windows setup setup' bytes bytes' register bridge ∙ sym (append-nil (register_windows setup' bytes' register)) ∙ covered)
+    ∙ (found_once setup' bytes' change (windows_covered setup' bytes' change) refl
+    (fixed_same setup' (after setup' change bytes') bytes' change bridges)).sorted_same
 
 -- ---- the windows that are built anew: those that changed, or where rows alone are stored what moves of them
 

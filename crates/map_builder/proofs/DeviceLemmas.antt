@@ -1,10 +1,7 @@
 -- The windows that the registers of a card govern are those that the code finds by the values of its bases.
-use Rattle.std.proofs.Common.{◌≡◌, ◌≢◌, ℕ, zero, suc, ◌+◌, ◌-◌, ◌/◌, ◌<◌, ◌≤◌, inl, inr, Bool, true, false, List, [], ◌∷◌, ◌++◌, length, map, filter, Option, Some, None, refl, ◌∙◌, ap, arith, ◌==◌, ◌&&◌, All, find, flat_map, slice_get, slice_index, if◌then◌else◌}
-use Rattle.board_prelude.proofs.Common.{option_map_or, enumerate_from, cases_Bool, eq-eqb, ne_eqb, nat_tests, map-append, All-head, All-tail, Reg, Base, MemoryBase, IoBase, FittedCard, Setup, IsCard, card_at, is_within, Bytes, Window, base_value, memory_window, rom_value, rom_window, rom_window_of, vga_window}
+use Rattle.std.proofs.Common.{◌≡◌, ◌≢◌, ℕ, zero, suc, ◌+◌, ◌/◌, ◌<◌, ◌≤◌, inl, inr, Bool, List, [], ◌∷◌, ◌++◌, length, map, filter, Option, Some, None, refl, ◌∙◌, ap, arith, ◌==◌, All, find, flat_map, slice_get, slice_index}
+use Rattle.board_prelude.proofs.Common.{option_map_or, enumerate_from, cases_Bool, eq-eqb, ne_eqb, map-append, All-head, All-tail, Reg, Base, MemoryBase, IoBase, FittedCard, Setup, IsCard, card_at, Bytes, Window, base_value, memory_window, rom_value, rom_window, rom_window_of, vga_window}
 use Rattle.pci_bars.specs.Cards.{CardBytes, HoldsRom, DecodesAs, AreCards, AreDecoded, cards_of}
-use Rattle.map_builder.specs.declared.range.Changed.{Changed}
-use Rattle.addr_decode.specs.declared.register.MapRegister.{MapRegister}
-use Rattle.addr_decode.specs.declared.register.MapRegister.TheVariants.{Pam, RowBoundary, Hole, Smram, ChipSelects, Card}
 use Rattle.addr_decode.specs.declared.register.CardRegister.{CardRegister}
 use Rattle.addr_decode.specs.declared.register.CardRegister.TheVariants.{Command, Base as BaseByte, ExpansionRom}
 use Rattle.addr_decode.specs.MapRegister.{IsCardNumber, in_device, map_register}

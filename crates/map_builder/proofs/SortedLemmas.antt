@@ -431,3 +431,14 @@ step_overlap rising later window other not_before overlap =
 pub step_last : (rising : List Changed) (window : Changed) → rising ++ with_window window [] ≡ rising ++ window ∷ []
 unfolding with_window
 step_last rising window = refl
+
+-- ---- those that rise already
+
+pub one_sorted : (window : Changed) → sorted (window ∷ []) ≡ window ∷ []
+unfolding sorted with_window
+one_sorted window = refl
+
+pub two_sorted : (window other : Changed) → nat_lt other.hi window.lo ≡ false → nat_lt window.hi other.lo ≡ true →
+    sorted (window ∷ other ∷ []) ≡ window ∷ other ∷ []
+unfolding sorted with_window
+two_sorted window other not_before behind = rw (not_before, behind) refl

@@ -1,6 +1,6 @@
 -- The windows that registers govern, as the code finds them.
 use Rattle.std.proofs.Common.{◌≡◌, ℕ, zero, suc, ◌+◌, ◌-◌, ◌*◌, ◌/◌, ◌^◌, ◌<◌, ◌≤◌, List, [], ◌∷◌, ◌++◌, length, map, drop, get_or, refl, sym, ◌∙◌, ap, arith, mul_comm, append_assoc, Option, None, slice_get, slice_index, flat_map, take}
-use Rattle.board_prelude.proofs.Common.{AllByRecursion, option_map_or, drop_all, drop_more, take_all, take_more, append-nil, flat_map-append, pow-add, pow_pos, div-lt_iff_lt-mul, Width, One, Reg, bytes_of, FittedCard, Setup, Bytes, reg_after, MapChange, Store}
+use Rattle.board_prelude.proofs.Common.{AllByRecursion, option_map_or, drop_all, drop_more, take_all, take_more, append-nil, flat_map-append, pow-add, pow_pos, div-lt_iff_lt-mul, Width, Reg, bytes_of, FittedCard, Setup, Bytes, reg_after, MapChange, Store}
 use Rattle.std.proofs.lemmas.Option.{slice_get-map, slice_get_past}
 use Rattle.std.proofs.lemmas.Nat.{mul-add-lt}
 use Rattle.pci_bars.specs.declared.spec.BaseSpec.{BaseSpec}

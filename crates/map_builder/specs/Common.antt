@@ -1,5 +1,5 @@
 -- The definitions that files above cite, passed on from one place. Declares nothing.
-pub use Rattle.map_builder.specs.Applied.{AreChanged, IsApplied}
+pub use Rattle.map_builder.specs.Applied.{AreChanged, IsApplied, IsChangedBy, IsStored}
 pub use Rattle.map_builder.specs.Build.{Built, BuiltOf, ContinuesAt, IsBelow, IsBeside, IsBetween, IsBuilt, IsMapWhere, IsRightWhere, IsWhole}
 pub use Rattle.map_builder.specs.Changed.{IsOutside, after, base_windows, both, bounds_or_zero, card_windows, changed_windows, decoded, edges_inside, from_to, is_above_first, is_card_name, is_inside, is_window, most_rows, name_windows, rest_on_registers, windows_of}
 unfoldable pub use Rattle.map_builder.specs.Changed.{bounds, count_of, windows_covered}

@@ -149,7 +149,7 @@ fn push_of_register(windows: &mut Covered, regs: &MapRegs, register: MapRegister
 }
 
 /// Adds a range as a window.
-fn push_range(windows: &mut Covered, range: AddressRange)
+pub fn push_range(windows: &mut Covered, range: AddressRange)
     requires room { length windows.old.items ≤ 63 }
     ensures windows { windows.new.items ≡ windows.old.items ++ from_to range.first range.last ∷ [] }
 {
@@ -160,7 +160,7 @@ fn push_range(windows: &mut Covered, range: AddressRange)
 }
 
 /// Adds two ranges as windows.
-fn push_two(windows: &mut Covered, first: AddressRange, second: AddressRange)
+pub fn push_two(windows: &mut Covered, first: AddressRange, second: AddressRange)
     requires room { length windows.old.items ≤ 62 }
     ensures windows { windows.new.items
         ≡ windows.old.items ++ from_to first.first first.last ∷ from_to second.first second.last ∷ [] }
@@ -170,7 +170,7 @@ fn push_two(windows: &mut Covered, first: AddressRange, second: AddressRange)
 }
 
 /// The shadow windows of a PAM register: that of PAM0, and the two of PAM1 to PAM6.
-fn windows_of_pam(number: u8) -> Changed
+pub fn windows_of_pam(number: u8) -> Changed
     requires number { number < 7 }
     ensures windows { result ≡ pam_windows number }
 {

@@ -1,12 +1,13 @@
 //! The memory map as one list of ranges.
-ghost use Rattle.std.specs.Prelude.{◌≡◌, ◌≤◌, ◌<◌, ◌+◌, true, false, if◌then◌else◌, [], length, map};
-ghost use Rattle.board_prelude.specs.Common.{Kind, Setup, Store, touches_map, changed_byte, Bytes, Tiles, IsFlatMapOf, IsSpan};
+ghost use Rattle.std.specs.Prelude.{◌≡◌, ◌≤◌, ◌<◌, ◌+◌, true, false, if◌then◌else◌, [], ◌∷◌, Some, length, map};
+ghost use Rattle.board_prelude.specs.Common.{One, Kind, Setup, Store, touches_map, changed_byte, Bytes, Tiles, IsFlatMapOf, IsSpan};
 ghost use Rattle.pci_bars.specs.Cards.{AreCardsOf, AreFitted, cards_of};
-ghost use Rattle.addr_decode.specs.Common.{AreNumbered, names_of, StandsFor, map_bytes};
+ghost use Rattle.addr_decode.specs.Common.{AreNumbered, is_of_card, names_from, names_of, StandsFor, map_bytes};
 ghost use Rattle.map_builder.specs.Map.{range_of, most_ranges, next_version, IsOfSomeBoard, IsMapOf};
 ghost use Rattle.map_builder.specs.Changed.{most_rows};
-ghost use Rattle.map_builder.specs.Applied.{AreChanged, IsApplied};
+ghost use Rattle.map_builder.specs.Applied.{AreChanged, IsApplied, IsChangedBy, IsStored};
 
+use crate::bridge::choose_in_bridge;
 use crate::build::{CAPACITY, Ranges, ranges_of, rebuild};
 use crate::changed::{Covered, keeps_windows, push_again, push_covered};
 use crate::find::span_of;
@@ -242,16 +243,102 @@ impl FlatMap {
         ensures map { (setup : Setup) (bytes : Bytes) → StandsFor setup bytes self.new.regs
             → IsFlatMapOf setup bytes self.new.ranges }
     {
-        let change = MapChange::Store { reg, width, value };
-        let names = self.regs.names(&change);
-        if touch_map(names.as_slice()) {
-            self.apply_uncounted::<Brand>(&change, names.as_slice(), Blank::new(1));
+        match width {
+            Width::One => self.store_byte(reg, value),
+            Width::Two | Width::Four => {
+                let names = self.regs.names_from(reg, width);
+                self.store_named(reg, width, value, names.as_slice());
+            }
+        }
+    }
+
+    /// Stores one byte, the low one of a value.
+    fn store_byte(&mut self, reg: Reg, value: u32)
+        ensures stored { IsStored self.old self.new (Store reg One value) }
+    {
+        let name = self.regs.name_alone(reg);
+        match name {
+            Some(register) => self.store_register(reg, value, register),
+            None => self.store_named(reg, Width::One, value, &[name]),
+        }
+    }
+
+    /// Stores one byte, the low one of a value, in the register with a name.
+    #[inline(always)]
+    fn store_register(&mut self, reg: Reg, value: u32, register: MapRegister)
+        requires fitted { AreFitted self.old.regs.cards }
+        requires name { Some register ∷ [] ≡ names_from (cards_of self.old.regs.cards) reg One }
+        ensures stored { IsStored self.old self.new (Store reg One value) }
+    {
+        if register.is_of_card() {
+            self.store_named(reg, Width::One, value, &[Some(register)]);
         } else {
-            self.set_beside(&change, names.as_slice());
+            self.store_in_bridge::<Brand>(reg, value, register, Blank::new(1));
+        }
+    }
+
+    /// Stores one byte, the low one of a value, in the register of a bridge with a name. It looks at the register's
+    /// windows once, and tells no bounds.
+    #[inline(always)]
+    fn store_in_bridge<L: Ledger>(
+        &mut self,
+        reg: Reg,
+        value: u32,
+        register: MapRegister,
+        blank: Blank,
+    )
+        requires name_of { Some register ∷ [] ≡ names_from (cards_of self.old.regs.cards) reg One }
+        requires bridge { is_of_card register ≡ false }
+        requires name { blank.name ≡ L.name }
+        requires parts { blank.parts ≡ L.parts }
+        requires some_part { 0 < L.parts }
+        ensures changed { IsChangedBy self.old self.new (Store reg One value) }
+    {
+        let mut steps = Steps::<L>::new(blank);
+        let change = MapChange::Store {
+            reg,
+            width: Width::One,
+            value,
+        };
+        let names = [Some(register)];
+        let boundaries = self.regs.drb;
+        let before = byte_alone(&self.regs, &names);
+        self.regs.apply_named(&change, &names);
+        let kept = is_same_byte(before, byte_alone(&self.regs, &names));
+        choose_in_bridge(
+            &mut self.chosen,
+            kept,
+            register,
+            &boundaries,
+            &self.regs.drb,
+        );
+        rebuild(
+            &mut self.ranges,
+            &mut self.before,
+            &self.regs,
+            self.chosen.as_slice(),
+            &mut steps,
+        );
+        self.version = self.version.wrapping_add(1);
+    }
+
+    /// Stores as `store` does, where the names of the registers that it stores to are known.
+    #[inline(always)]
+    fn store_named(&mut self, reg: Reg, width: Width, value: u32, names: &[Option<MapRegister>])
+        requires fitted { AreFitted self.old.regs.cards }
+        requires names { names.now ≡ names_from (cards_of self.old.regs.cards) reg width }
+        ensures stored { IsStored self.old self.new (Store reg width value) }
+    {
+        let change = MapChange::Store { reg, width, value };
+        if touch_map(names) {
+            self.apply_uncounted::<Brand>(&change, names, Blank::new(1));
+        } else {
+            self.set_beside(&change, names);
         }
     }
 
     /// Stores to registers of which the map depends on none.
+    #[inline(always)]
     fn set_beside(&mut self, change: &MapChange, names: &[Option<MapRegister>])
         requires names { names.now ≡ names_of (cards_of self.old.regs.cards) change.now }
         requires beside { (setup : Setup) (bytes : Bytes) → StandsFor setup bytes self.old.regs → touches_map setup change.now ≡ false }

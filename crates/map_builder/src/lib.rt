@@ -1,6 +1,7 @@
 //! The memory map as one list of ranges, built from the registers on which it depends.
 #![tactic(auto)]
 
+mod bridge;
 mod build;
 mod changed;
 mod find;

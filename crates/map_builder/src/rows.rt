@@ -70,7 +70,7 @@ fn is_row_name(name: Option<MapRegister>) -> bool
 }
 
 /// Sets `chosen` to the least window of all addresses whose row may change, or to none where there are none.
-fn choose_moved(chosen: &mut Windows, old: &[u8; 8], new: &[u8; 8])
+pub fn choose_moved(chosen: &mut Windows, old: &[u8; 8], new: &[u8; 8])
     ensures moved { AreMoved old.now new.now chosen.new.items }
 {
     chosen.truncate(0);

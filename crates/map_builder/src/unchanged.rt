@@ -9,6 +9,7 @@ use addr_decode::{MapRegister, MapRegs};
 
 /// The byte of the one register to which a change stores, by the names of those that it stores to. None where they are
 /// not one, or the map does not depend on it.
+#[inline(always)]
 pub fn byte_alone(regs: &MapRegs, names: &[Option<MapRegister>]) -> Option<u8>
     requires cards { AreFitted regs.now.cards.items }
     requires names { AreNumbered names.now }
@@ -24,6 +25,7 @@ pub fn byte_alone(regs: &MapRegs, names: &[Option<MapRegister>]) -> Option<u8>
 }
 
 /// The byte of the register with a name. None where there is no name.
+#[inline(always)]
 fn byte_of_name(regs: &MapRegs, name: Option<MapRegister>) -> Option<u8>
     requires cards { AreFitted regs.now.cards.items }
     requires number { IsNumberedName name }
@@ -39,6 +41,7 @@ fn byte_of_name(regs: &MapRegs, name: Option<MapRegister>) -> Option<u8>
 }
 
 /// Whether there are two bytes, and they are the same.
+#[inline(always)]
 pub fn is_same_byte(before: Option<u8>, later: Option<u8>) -> bool
     ensures same { result ≡ true → IsSameByte before later }
     ensures other { IsSameByte before later → result ≡ true }

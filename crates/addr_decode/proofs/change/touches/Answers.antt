@@ -1,6 +1,5 @@
-use Rattle.std.proofs.Common.{◌∙◌, ap, List, Option, sym, lit<, is_some}
+use Rattle.std.proofs.Common.{◌∙◌, ap, List, sym, lit<, is_some}
 use Rattle.board_prelude.proofs.Common.{list_any, FittedCard}
-use Rattle.addr_decode.specs.declared.register.MapRegister.{MapRegister}
 use Rattle.addr_decode.specs.MapRegister.{names_from}
 use Rattle.addr_decode.proofs.CardLemmas.{no_low_card}
 use Rattle.addr_decode.proofs.NameLemmas.{names_touch}
@@ -10,8 +9,7 @@ pub returns : goal.returns
 returns c = record {
   touched = λ setup bytes stands.
       let cards = c.args.regs.now.cards.items in
-      c.touch_map.ensures.touched
-      ∙ ap (λ (names : List (Option MapRegister)). list_any is_some names) (c.as_slice.ensures.value ∙ c.names_from.ensures.named)
+      c.has_name.ensures.named
       ∙ ap (λ (fitted : List FittedCard). list_any is_some (names_from fitted c.args.reg c.args.width)) (sym stands.cards.0)
       ∙ names_touch setup c.args.reg c.args.width 0
       (no_low_card setup cards 0 (lit< tt) c.requires.cards.each stands.cards.0)

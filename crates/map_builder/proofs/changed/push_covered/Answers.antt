@@ -1,4 +1,4 @@
-use Rattle.std.proofs.Common.{◌≡◌, ◌∙◌, ◌++◌, ap, List, Option, sym, subst}
+use Rattle.std.proofs.Common.{◌∙◌, ◌++◌, ap, List, Option, sym, subst}
 use Rattle.pci_bars.specs.Cards.{cards_of}
 use Rattle.addr_decode.specs.declared.register.MapRegister.{MapRegister}
 use Rattle.addr_decode.specs.MapRegister.{AreNumbered}

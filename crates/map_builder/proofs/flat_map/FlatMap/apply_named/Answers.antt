@@ -1,4 +1,4 @@
-use Rattle.std.proofs.Common.{◌≡◌, ◌+◌, ◌∙◌, true, ap, arith, subst, sym, List, Option, map, unwrap_or}
+use Rattle.std.proofs.Common.{◌≡◌, ◌∙◌, true, ap, arith, subst, sym, List, Option, map, unwrap_or}
 use Rattle.board_prelude.proofs.Common.{length-map, FittedCard, Setup, Bytes}
 use Rattle.pci_bars.specs.Cards.{AreCardsOf, cards_of}
 use Rattle.addr_decode.specs.declared.register.MapRegister.{MapRegister}
