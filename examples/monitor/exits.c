@@ -42,6 +42,10 @@ static uint32_t use_fw_cfg(machine *m, uint8_t kind, uint32_t port, uint32_t val
     return 0;
 }
 
+static bool is_disk(const machine *m, const board_reply *reply) {
+    return m->options.bochs_bios && reply->part[0].target == BOARD_IS_DEVICE && reply->part[0].unit == BOARD_ATA;
+}
+
 /* One bus cycle at a port, kind BOARD_READ or BOARD_WRITE: what it reads. */
 static uint32_t cycle_at(machine *m, uint8_t kind, uint32_t port, uint8_t bytes, uint32_t value) {
     board_reply reply;
@@ -52,6 +56,7 @@ static uint32_t cycle_at(machine *m, uint8_t kind, uint32_t port, uint8_t bytes,
     if (is_keyboard(m, &reply, port, bytes)) return use_keyboard(m, kind, port, value);
     if (is_fw_cfg(m, &reply, kind, port, bytes)) return use_fw_cfg(m, kind, port, value);
     if (port == DISK_DATA) m->counts.disk_words += bytes / 2;
+    if (is_disk(m, &reply)) return identify_see(m, kind, port, bytes, kind == BOARD_READ ? (uint32_t)reply.value : value);
     return (uint32_t)reply.value;
 }
 

@@ -81,6 +81,7 @@ typedef struct machine {
     bool console_closed;
     keyboard keyboard;
     fw_cfg fw_cfg;
+    uint32_t identify;    /* words that were read since IDENTIFY DEVICE (identify.c) */
     machine_counts counts;
     record record;
     explain explain;
@@ -141,6 +142,11 @@ void fw_cfg_reset(machine *m);
 bool fw_cfg_hears(uint8_t kind, uint32_t port, uint8_t bytes);
 uint8_t fw_cfg_read(machine *m);
 void fw_cfg_write(machine *m, uint32_t port, uint16_t value);
+
+/* ---- identify.c: with options.bochs_bios */
+
+/* Sees an access that the disk answered, with the value that is written or was read: the value that the guest reads. */
+uint32_t identify_see(machine *m, uint8_t kind, uint32_t port, uint8_t bytes, uint32_t value);
 
 /* ---- console.c */
 
