@@ -51,6 +51,10 @@ static uint32_t use_virtio(machine *m, const board_part *p, uint8_t kind, uint8_
     return value;
 }
 
+static bool is_disk(const machine *m, const board_reply *reply) {
+    return m->options.bochs_bios && reply->part[0].target == BOARD_IS_DEVICE && reply->part[0].unit == BOARD_ATA;
+}
+
 /* One bus cycle at a port, kind BOARD_READ or BOARD_WRITE: what it reads. */
 static uint32_t cycle_at(machine *m, uint8_t kind, uint32_t port, uint8_t bytes, uint32_t value) {
     board_reply reply;
@@ -62,6 +66,7 @@ static uint32_t cycle_at(machine *m, uint8_t kind, uint32_t port, uint8_t bytes,
     if (is_fw_cfg(m, &reply, kind, port, bytes)) return use_fw_cfg(m, kind, port, value);
     if (port == DISK_DATA) m->counts.disk_words += bytes / 2;
     if (m->options.virtio) return use_virtio(m, &reply.part[0], kind, bytes, kind == BOARD_READ ? (uint32_t)reply.value : value);
+    if (is_disk(m, &reply)) return identify_see(m, kind, port, bytes, kind == BOARD_READ ? (uint32_t)reply.value : value);
     return (uint32_t)reply.value;
 }
 

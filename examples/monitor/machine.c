@@ -15,7 +15,11 @@ enum {
     DRB0 = 0x60,      /* of 00.0: where rows of memory end, in 8 MiB */
     ROWS = 8,
     ROW_MIB = 8,
-    SOUTH_BRIDGE = 1, /* 01.0 */
+    HOST_BRIDGE = 0,  /* 00.0: its device times 8, and its function */
+    SOUTH_BRIDGE = 8, /* 01.0 */
+    IDE = 9,          /* 01.1 */
+    COMMAND = 0x04,   /* of each function: bit 0 decodes its ports */
+    IDETIM_HIGH = 0x41, /* of 01.1: bit 7 decodes the disk */
     XBCS = 0x4E,      /* of 01.0 */
     XBCS_BIOS = 0xC3, /* the clock, the keyboard controller, and the BIOS from FFF80000h and from E0000h on */
     CMOS_INDEX = 0x70,
@@ -59,8 +63,8 @@ static void out(machine *m, uint32_t port, uint8_t bytes, uint32_t value) {
     machine_step(m, &(board_event){.what = BOARD_PORT, .kind = BOARD_WRITE, .addr = port, .bytes = bytes, .value = value}, &reply);
 }
 
-static void write_config(machine *m, uint32_t device, uint32_t offset, uint8_t value) {
-    out(m, CONFIG_ADDRESS, 4, CONFIG_ENABLE | device << 11 | (offset & ~3u));
+static void write_config(machine *m, uint32_t function, uint32_t offset, uint8_t value) {
+    out(m, CONFIG_ADDRESS, 4, CONFIG_ENABLE | function << 8 | (offset & ~3u));
     out(m, CONFIG_DATA + (offset & 3), 1, value);
 }
 
@@ -69,7 +73,10 @@ static void write_config(machine *m, uint32_t device, uint32_t offset, uint8_t v
 static void prepare_registers(machine *m) {
     uint32_t end = (m->options.mib + ROW_MIB - 1) / ROW_MIB;
     write_config(m, SOUTH_BRIDGE, XBCS, XBCS_BIOS);
-    for (uint32_t row = 0; row < ROWS; row++) write_config(m, 0, DRB0 + row, (uint8_t)(row + 1 < ROWS && row + 1 < end ? row + 1 : end));
+    for (uint32_t row = 0; row < ROWS; row++) write_config(m, HOST_BRIDGE, DRB0 + row, (uint8_t)(row + 1 < ROWS && row + 1 < end ? row + 1 : end));
+    if (!m->options.bochs_bios) return;
+    write_config(m, IDE, COMMAND, 0x01);
+    write_config(m, IDE, IDETIM_HIGH, 0x80);
 }
 
 /* What the battery keeps: how much memory there is, in KiB from 1 MiB on and in 64 KiB from 16 MiB on. */

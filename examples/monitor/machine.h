@@ -94,6 +94,7 @@ typedef struct machine {
     keyboard keyboard;
     virtio_blk virtio;
     fw_cfg fw_cfg;
+    uint32_t identify;    /* words that were read since IDENTIFY DEVICE (identify.c) */
     machine_counts counts;
     record record;
     explain explain;
@@ -164,6 +165,11 @@ uint32_t virtio_read(machine *m, uint32_t offset, unsigned bytes);
 void virtio_write(machine *m, uint32_t offset, uint32_t value);
 /* What a read of configuration bytes gives, where the board gives this value. */
 uint32_t virtio_identity(uint32_t offset, unsigned bytes, uint32_t value);
+
+/* ---- identify.c: with options.bochs_bios */
+
+/* Sees an access that the disk answered, with the value that is written or was read: the value that the guest reads. */
+uint32_t identify_see(machine *m, uint8_t kind, uint32_t port, uint8_t bytes, uint32_t value);
 
 /* ---- console.c */
 

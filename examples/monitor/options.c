@@ -19,6 +19,7 @@ static const char usage[] =
     "  --keyboard        a keyboard controller at ports 60h and 64h, and port 92h\n"
     "  --fw-cfg          QEMU's fw_cfg at ports 510h and 511h, and nothing of memory in the clock's bytes\n"
     "  --text            with --fw-cfg SeaBIOS takes COM1 for its screen and keyboard\n"
+    "  --bochs-bios      what Bochs's BIOS wants: the disk is decoded, and words 4 and 5 of IDENTIFY DEVICE are not 0\n"
     "  --quiet           leaves out what the firmware says on port 402h\n"
     "  --timing          measures the board's steps\n"
     "  --speed N         Bochs: instructions a microsecond (50)\n"
@@ -43,6 +44,7 @@ static bool take_flag(options *o, const char *word) {
     if (!strcmp(word, "--explain")) o->explain = true;
     else if (!strcmp(word, "--keyboard")) o->keyboard = true;
     else if (!strcmp(word, "--fw-cfg")) o->fw_cfg = true;
+    else if (!strcmp(word, "--bochs-bios")) o->bochs_bios = true;
     else if (!strcmp(word, "--text")) o->text = true;
     else if (!strcmp(word, "--quiet")) o->quiet = true;
     else if (!strcmp(word, "--timing")) o->timing = true;

@@ -22,6 +22,7 @@ typedef struct options {
     bool explain;
     bool keyboard; /* an 8042 stands in the board's socket */
     bool fw_cfg; /* QEMU's fw_cfg tells of memory and disk, and the clock's bytes do not */
+    bool bochs_bios; /* what Bochs's BIOS takes for given: the disk is decoded, words 4 and 5 of IDENTIFY DEVICE are not 0 */
     bool text;   /* fw_cfg says that there is no picture */
     bool quiet;  /* what the firmware says on port 402h is not shown */
     bool timing; /* the steps' time is measured */

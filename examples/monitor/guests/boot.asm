@@ -16,6 +16,7 @@ start:
     mov ss, ax
     mov sp, 7C00h
     cld
+    sti                    ; SeaBIOS has, Bochs's BIOS has not
     mov [drive], dl
     mov si, running
     call print
