@@ -118,23 +118,28 @@ either_answers setup bytes addr kind smm dram beside is_dram is_beside =
     ∙ sym (by_parts setup bytes addr kind smm)
 
 -- where DRAM answers nothing denies
-is_undenied : (area dram : Area) (kind : Kind) (abort rom : Denial) → Some area ≡ Some dram → None ≡ denial_in dram kind abort rom →
+is_undenied : (area dram : Area) (kind : Kind) (abort rom : Denial) → Some area ≡ Some dram → None ≡ denial_in dram
+    kind abort rom →
     None ≡ denial_in area kind abort rom
 is_undenied area dram kind abort rom is undenied =
     let same : area ≡ dram = ap (λ (it : Option Area). unwrap_or it area) is in
     undenied ∙ ap (λ (it : Area). denial_in it kind abort rom) (sym same)
 
 undenied_by : (smram shadow opened shadowed hole : Bool) (row : ℕ) (area : Area) (kind : Kind) (abort rom : Denial) →
-    Some area ≡ (if smram then line_where opened Smram else if shadow then line_where shadowed (Shadow row) else line_where (not hole) (Dram row)) →
+    Some area ≡ (if smram then line_where opened Smram else if shadow then line_where shadowed (Shadow row) else
+    line_where (not hole) (Dram row)) →
     None ≡ denial_in area kind abort rom
 undenied_by true shadow true shadowed hole row area kind abort rom is = is_undenied area Smram kind abort rom is refl
 undenied_by true shadow false shadowed hole row area kind abort rom is = absurd (cc)
-undenied_by false true opened true hole row area kind abort rom is = is_undenied area (Shadow row) kind abort rom is refl
+undenied_by false true opened true hole row area kind abort rom is = is_undenied area (Shadow row) kind abort rom is
+    refl
 undenied_by false true opened false hole row area kind abort rom is = absurd (cc)
 undenied_by false false opened shadowed true row area kind abort rom is = absurd (cc)
-undenied_by false false opened shadowed false row area kind abort rom is = is_undenied area (Dram row) kind abort rom is refl
+undenied_by false false opened shadowed false row area kind abort rom is = is_undenied area (Dram row) kind abort rom
+    is refl
 
-undenied_in : (row : Option ℕ) (opened shadowed hole : Bool) (addr : ℕ) (area : Area) (kind : Kind) (abort rom : Denial) →
+undenied_in : (row : Option ℕ) (opened shadowed hole : Bool) (addr : ℕ) (area : Area) (kind : Kind)
+    (abort rom : Denial) →
     Some area ≡ dram_area row opened shadowed hole addr → None ≡ denial_in area kind abort rom
 undenied_in None opened shadowed hole addr area kind abort rom is = absurd (cc)
 undenied_in (Some row) opened shadowed hole addr area kind abort rom is =
@@ -144,7 +149,8 @@ pub dram_undenied : (setup : Setup) (bytes : Bytes) (addr : ℕ) (kind : Kind) (
     Some area ≡ dram_by bytes addr kind smm → None ≡ denial_of setup bytes addr kind smm
 unfolding denial_of
 dram_undenied setup bytes addr kind smm area is =
-    let abort : Denial = abort_denial (top_of bytes) (memory_shut setup bytes addr) (rom_unselected setup bytes addr) addr in
+    let abort : Denial = abort_denial (top_of bytes) (memory_shut setup bytes addr) (rom_unselected setup bytes addr)
+    addr in
     let rom : Denial = rom_denial (bytes select_register) in
     undenied_in (row_of bytes addr) (smram_answers (bytes smram_register) kind smm) (is_shadowed bytes addr kind)
     (is_in (hole_of (bytes hole_register)) addr) addr area kind abort rom is

@@ -180,7 +180,8 @@ pushed_found old new change names none first all kept same named keeps same_is n
     twice move setup (after setup change bytes) now
     ∙ ap (λ (windows : List Changed). windows ++ windows_covered setup (after setup change bytes) change) covered)
 
--- those of one register of a bridge rest on nothing, so that they are the same on each board, before the change and after
+-- those of one register of a bridge rest on nothing, so that they are the same on each board, before the change and
+-- after
 bridge_windows : (setup setup' : Setup) (bytes bytes' : Bytes) (register : MapRegister) → is_of_card register ≡ false →
     register_windows setup bytes register ≡ register_windows setup' bytes' register
 bridge_windows setup setup' bytes bytes' (Pam number) bridge = refl
@@ -190,7 +191,8 @@ bridge_windows setup setup' bytes bytes' Smram bridge = refl
 bridge_windows setup setup' bytes bytes' ChipSelects bridge = refl
 bridge_windows setup setup' bytes bytes' (Card dev register) bridge = absurd (true≢false bridge)
 
-pub bridge_found : (setup setup' : Setup) (bytes bytes' : Bytes) (reg : Reg) (value : ℕ) (register : MapRegister) (cards : List FittedCard) →
+pub bridge_found : (setup setup' : Setup) (bytes bytes' : Bytes) (reg : Reg) (value : ℕ) (register : MapRegister)
+    (cards : List FittedCard) →
     is_of_card register ≡ false → setup'.cards ≡ cards → Some register ∷ [] ≡ names_of cards (Store reg One value) →
     sorted (register_windows setup bytes register) ≡ sorted (changed_windows setup' bytes' (Store reg One value))
 bridge_found setup setup' bytes bytes' reg value register cards bridge same named =
@@ -202,7 +204,8 @@ bridge_found setup setup' bytes bytes' reg value register cards bridge same name
     let covered : register_windows setup' bytes' register ++ [] ≡ windows_covered setup' bytes' change =
     covered_by_names setup' bytes' change reg One value cards (Some register ∷ []) refl same named in
     ap sorted
-    (bridge_windows setup setup' bytes bytes' register bridge ∙ sym (append-nil (register_windows setup' bytes' register)) ∙ covered)
+    (bridge_windows setup setup' bytes bytes' register bridge ∙ sym
+    (append-nil (register_windows setup' bytes' register)) ∙ covered)
     ∙ (found_once setup' bytes' change (windows_covered setup' bytes' change) refl
     (fixed_same setup' (after setup' change bytes') bytes' change bridges)).sorted_same
 

@@ -20,29 +20,34 @@ pub record AreChanged (setup : Setup) (bytes : Bytes) (change : MapChange) (wind
 -- its registers become those after the change, its ranges are their map, its version is the next. It
 -- keeps the windows that changed. What is told are the bounds of those that the change may change
 pub record IsApplied (old new : Mapped) (change : MapChange) (result : Changed) : Type 0 where
-  pub stands : (setup : Setup) (bytes : Bytes) → StandsFor setup bytes old.regs → StandsFor setup (after setup change bytes) new.regs
+  pub stands : (setup : Setup) (bytes : Bytes) → StandsFor setup bytes old.regs → StandsFor setup
+      (after setup change bytes) new.regs
   pub cards : (setup : Setup) (bytes : Bytes) → AreCardsOf setup bytes old.regs.cards →
       AreCardsOf setup (after setup change bytes) new.regs.cards
   pub same_cards : cards_of new.regs.cards ≡ cards_of old.regs.cards
   pub version : new.version ≡ next_version old.version
   pub map : (setup : Setup) (bytes : Bytes) → StandsFor setup bytes new.regs → IsFlatMapOf setup bytes new.ranges
   pub changed : (setup : Setup) (bytes : Bytes) → StandsFor setup bytes old.regs → result ≡ bounds_or_zero (changed_windows setup bytes change)
-  pub windows : (setup : Setup) (bytes : Bytes) → StandsFor setup bytes old.regs → AreChanged setup bytes change new.changed
+  pub windows : (setup : Setup) (bytes : Bytes) → StandsFor setup bytes old.regs → AreChanged setup bytes change
+      new.changed
 
 -- the same, of which nothing is told
 pub record IsChangedBy (old new : Mapped) (change : MapChange) : Type 0 where
-  pub stands : (setup : Setup) (bytes : Bytes) → StandsFor setup bytes old.regs → StandsFor setup (after setup change bytes) new.regs
+  pub stands : (setup : Setup) (bytes : Bytes) → StandsFor setup bytes old.regs → StandsFor setup
+      (after setup change bytes) new.regs
   pub cards : (setup : Setup) (bytes : Bytes) → AreCardsOf setup bytes old.regs.cards →
       AreCardsOf setup (after setup change bytes) new.regs.cards
   pub same_cards : cards_of new.regs.cards ≡ cards_of old.regs.cards
   pub version : new.version ≡ next_version old.version
   pub map : (setup : Setup) (bytes : Bytes) → StandsFor setup bytes new.regs → IsFlatMapOf setup bytes new.ranges
-  pub windows : (setup : Setup) (bytes : Bytes) → StandsFor setup bytes old.regs → AreChanged setup bytes change new.changed
+  pub windows : (setup : Setup) (bytes : Bytes) → StandsFor setup bytes old.regs → AreChanged setup bytes change
+      new.changed
 
 -- a store is a change where it covers a byte that the map depends on. Else it leaves the ranges, the version and the
 -- windows that changed
 pub record IsStored (old new : Mapped) (store : MapChange) : Type 0 where
-  pub stands : (setup : Setup) (bytes : Bytes) → StandsFor setup bytes old.regs → StandsFor setup (after setup store bytes) new.regs
+  pub stands : (setup : Setup) (bytes : Bytes) → StandsFor setup bytes old.regs → StandsFor setup
+      (after setup store bytes) new.regs
   pub cards : (setup : Setup) (bytes : Bytes) → AreCardsOf setup bytes old.regs.cards →
       AreCardsOf setup (after setup store bytes) new.regs.cards
   pub same_cards : cards_of new.regs.cards ≡ cards_of old.regs.cards

@@ -7,10 +7,12 @@ use Rattle.addr_decode.proofs.memory.decode.Goals as goal
 pub returns-in-Some : goal.returns-in-Some
 returns-in-Some c = record {
   area = λ setup bytes stands.
-      either_answers setup bytes c.args.addr c.args.kind c.args.smm (Some c.in-Some.area) (beside_dram setup bytes c.args.addr)
+      either_answers setup bytes c.args.addr c.args.kind c.args.smm (Some c.in-Some.area)
+      (beside_dram setup bytes c.args.addr)
       (c.in-Some.ensures.dram setup bytes stands) refl;
   denial = λ setup bytes stands.
-      dram_undenied setup bytes c.args.addr c.args.kind c.args.smm c.in-Some.area (c.in-Some.ensures.dram setup bytes stands);
+      dram_undenied setup bytes c.args.addr c.args.kind c.args.smm c.in-Some.area
+      (c.in-Some.ensures.dram setup bytes stands);
 }
 
 pub returns-in-None : goal.returns-in-None

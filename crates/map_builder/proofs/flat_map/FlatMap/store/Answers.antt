@@ -5,9 +5,11 @@ use Rattle.map_builder.proofs.flat_map.FlatMap.store.Goals.{After-store_byte}
 use Rattle.map_builder.proofs.flat_map.FlatMap.store.Goals as goal
 
 -- a byte is stored as the store says
-stored : (c : After-store_byte) → IsStored c.args.self.now c.store_byte.new.self (Store c.args.reg c.args.width c.args.value)
+stored : (c : After-store_byte) → IsStored c.args.self.now c.store_byte.new.self
+    (Store c.args.reg c.args.width c.args.value)
 stored c =
-    subst (λ (width : Width). IsStored c.args.self.now c.store_byte.new.self (Store c.args.reg width c.args.value)) (sym c.in-One.is)
+    subst (λ (width : Width). IsStored c.args.self.now c.store_byte.new.self (Store c.args.reg width c.args.value))
+    (sym c.in-One.is)
     c.store_byte.ensures.stored
 
 pub returns-in-One-clause-stands : goal.returns-in-One-clause-stands

@@ -14,22 +14,27 @@ use Rattle.map_builder.proofs.flat_map.FlatMap.store_in_bridge.Goals.{After-choo
 use Rattle.map_builder.proofs.flat_map.FlatMap.store_in_bridge.Goals as goal
 
 -- the registers inside a map are those that it is seen to have
-stood : (inside seen : Mapped) (setup : Setup) (bytes : Bytes) → inside ≡ seen → StandsFor setup bytes seen.regs → StandsFor setup bytes inside.regs
+stood : (inside seen : Mapped) (setup : Setup) (bytes : Bytes) → inside ≡ seen → StandsFor setup bytes seen.regs →
+    StandsFor setup bytes inside.regs
 stood inside seen setup bytes is stands = subst (λ (flat : Mapped). StandsFor setup bytes flat.regs) (sym is) stands
 
 abbrev store : (g : Over) → After-choose_in_bridge g → MapChange
 store g c = Store c.args.reg One c.args.value
 
 -- the name is that of the register before, and after
-named : (g : Over) (c : After-choose_in_bridge g) → Some c.args.register ∷ [] ≡ names_of (cards_of c.self.inside.regs.cards.items) (store g c)
-named g c = c.requires.name_of ∙ ap (λ (flat : Mapped). names_of (cards_of flat.regs.cards) (store g c)) (sym c.self.view_is)
+named : (g : Over) (c : After-choose_in_bridge g) → Some c.args.register ∷ [] ≡ names_of
+    (cards_of c.self.inside.regs.cards.items) (store g c)
+named g c = c.requires.name_of ∙ ap (λ (flat : Mapped). names_of (cards_of flat.regs.cards) (store g c))
+    (sym c.self.view_is)
 
-named_after : (g : Over) (c : After-choose_in_bridge g) → Some c.args.register ∷ [] ≡ names_of (cards_of c.apply_named.new.self.cards.items) (store g c)
+named_after : (g : Over) (c : After-choose_in_bridge g) → Some c.args.register ∷ [] ≡ names_of
+    (cards_of c.apply_named.new.self.cards.items) (store g c)
 named_after g c =
     named g c ∙ ap (λ (cards : List FittedCard). names_of cards (store g c)) (sym c.apply_named.ensures.same_cards)
 
 -- a store to the register of a row covers rows alone
-rows_alone : (g : Over) (c : After-choose_in_bridge g) → is_row_name (Some c.args.register) ≡ true → covers_rows (store g c) ≡ true
+rows_alone : (g : Over) (c : After-choose_in_bridge g) → is_row_name (Some c.args.register) ≡ true → covers_rows
+    (store g c) ≡ true
 rows_alone g c is =
     rows_by_names (cards_of c.self.inside.regs.cards.items) (store g c)
     (subst (λ (names : List (Option MapRegister)). stores_rows names ≡ true) (named g c) (rw is refl))
@@ -38,7 +43,8 @@ rows_alone g c is =
 keeps : (g : Over) (c : After-choose_in_bridge g) → c.is_same_byte-kept.result ≡ true →
     KeepsByte (map_bytes c.self.inside.regs) (map_bytes c.apply_named.new.self) (store g c)
 keeps g c kept =
-    keeps_byte (map_bytes c.self.inside.regs) (map_bytes c.apply_named.new.self) (store g c) c.byte_alone-before.result c.byte_alone.result
+    keeps_byte (map_bytes c.self.inside.regs) (map_bytes c.apply_named.new.self) (store g c) c.byte_alone-before.result
+    c.byte_alone.result
     (c.is_same_byte-kept.ensures.same kept) (c.byte_alone-before.ensures.held (store g c) (named g c))
     (c.byte_alone.ensures.held (store g c) (named_after g c))
 
@@ -47,14 +53,17 @@ abbrev windows : (g : Over) → After-choose_in_bridge g → List Changed
 windows g c = register_windows c.self.invariant.board.setup c.self.invariant.board.bytes c.args.register
 
 -- when sorted they are those that change, of each board that has the registers
-sorted_found : (g : Over) (c : After-choose_in_bridge g) (setup : Setup) (bytes : Bytes) → StandsFor setup bytes (map_bytes c.self.inside.regs) →
+sorted_found : (g : Over) (c : After-choose_in_bridge g) (setup : Setup) (bytes : Bytes) → StandsFor setup bytes
+    (map_bytes c.self.inside.regs) →
     sorted (windows g c) ≡ sorted (changed_windows setup bytes (store g c))
 sorted_found g c setup bytes stands =
-    bridge_found c.self.invariant.board.setup setup c.self.invariant.board.bytes bytes c.args.reg c.args.value c.args.register
+    bridge_found c.self.invariant.board.setup setup c.self.invariant.board.bytes bytes c.args.reg c.args.value
+    c.args.register
     (cards_of c.self.inside.regs.cards.items) c.requires.bridge stands.cards.0 (named g c)
 
 -- and they are chosen, where the register changes and is none of a row
-others : (g : Over) (c : After-choose_in_bridge g) → c.is_same_byte-kept.result ≡ false → is_row_name (Some c.args.register) ≡ false →
+others : (g : Over) (c : After-choose_in_bridge g) → c.is_same_byte-kept.result ≡ false → is_row_name
+    (Some c.args.register) ≡ false →
     c.choose_in_bridge.new.chosen.items ≡ sorted (windows g c)
 others g c moves other =
     c.choose_in_bridge.ensures.others moves other c.self.invariant.board.setup c.self.invariant.board.bytes
@@ -80,7 +89,8 @@ pub rebuild-requires-clause-board : goal.rebuild-requires-clause-board
 rebuild-requires-clause-board g c =
     let board = c.self.invariant.board in
     let chosen = (goal.at.rebuild-requires-clause-board g c).After-choose_in_bridge in
-    board_after (map_bytes c.self.inside.regs) (map_bytes c.apply_named.new.self) (store g chosen) board (c.apply_named.ensures.stands board.setup board.bytes board.stands)
+    board_after (map_bytes c.self.inside.regs) (map_bytes c.apply_named.new.self) (store g chosen) board
+    (c.apply_named.ensures.stands board.setup board.bytes board.stands)
 
 pub rebuild-requires-clause-rise : goal.rebuild-requires-clause-rise
 rebuild-requires-clause-rise g c =
@@ -97,10 +107,14 @@ pub rebuild-requires-clause-beside : goal.rebuild-requires-clause-beside
 rebuild-requires-clause-beside g c =
     let board = c.self.invariant.board in
     let chosen = (goal.at.rebuild-requires-clause-beside g c).After-choose_in_bridge in
-    subst (λ (all : List Changed). IsMapWhere (map_bytes c.apply_named.new.self) (IsBeside all) (map range_of c.self.inside.ranges.items)) (sym c.as_slice.ensures.items)
-    (build_beside (map_bytes c.self.inside.regs) (map_bytes c.apply_named.new.self) (store g chosen) (map range_of c.self.inside.ranges.items) c.self.invariant
-    (c.apply_named.ensures.stands board.setup board.bytes board.stands) (windows g chosen) c.choose_in_bridge.new.chosen.items c.is_same_byte-kept.result
-    (is_row_name (Some c.args.register)) (rows_alone g chosen) (sorted_found g chosen board.setup board.bytes board.stands) (keeps g chosen)
+    subst (λ (all : List Changed). IsMapWhere (map_bytes c.apply_named.new.self) (IsBeside all)
+    (map range_of c.self.inside.ranges.items)) (sym c.as_slice.ensures.items)
+    (build_beside (map_bytes c.self.inside.regs) (map_bytes c.apply_named.new.self) (store g chosen)
+    (map range_of c.self.inside.ranges.items) c.self.invariant
+    (c.apply_named.ensures.stands board.setup board.bytes board.stands) (windows g chosen)
+    c.choose_in_bridge.new.chosen.items c.is_same_byte-kept.result
+    (is_row_name (Some c.args.register)) (rows_alone g chosen)
+    (sorted_found g chosen board.setup board.bytes board.stands) (keeps g chosen)
     (others g chosen) c.choose_in_bridge.ensures.rows)
 
 pub rebuild-requires-clause-few : goal.rebuild-requires-clause-few
@@ -123,9 +137,11 @@ invariant_of-self g c =
 pub returns : goal.returns
 returns g c = record {
   changed = record {
-    stands = λ setup bytes stands. c.apply_named.ensures.stands setup bytes (stood _ c.args.self.now setup bytes c.self.view_is stands);
+    stands = λ setup bytes stands. c.apply_named.ensures.stands setup bytes
+        (stood _ c.args.self.now setup bytes c.self.view_is stands);
     cards = λ setup bytes are.
-        c.apply_named.ensures.cards setup bytes (subst (λ (flat : Mapped). AreCardsOf setup bytes flat.regs.cards) (sym c.self.view_is) are);
+        c.apply_named.ensures.cards setup bytes (subst (λ (flat : Mapped). AreCardsOf setup bytes flat.regs.cards)
+        (sym c.self.view_is) are);
     same_cards = c.apply_named.ensures.same_cards ∙ ap (λ (flat : Mapped). cards_of flat.regs.cards) c.self.view_is;
     version = ap (λ (flat : Mapped). next_version flat.version) c.self.view_is;
     map = c.rebuild.ensures.map;
@@ -134,8 +150,10 @@ returns g c = record {
         let chosen = (goal.at.returns g c).After-choose_in_bridge in
         let here = stood _ c.args.self.now setup bytes c.self.view_is stands in
         are_changed (map_bytes c.self.inside.regs) (map_bytes c.apply_named.new.self) (store g chosen) board
-        (c.apply_named.ensures.stands board.setup board.bytes board.stands) (windows g chosen) c.choose_in_bridge.new.chosen.items c.is_same_byte-kept.result
-        (is_row_name (Some c.args.register)) (rows_alone g chosen) (sorted_found g chosen) (keeps g chosen) c.choose_in_bridge.ensures.none (others g chosen) c.choose_in_bridge.ensures.rows
+        (c.apply_named.ensures.stands board.setup board.bytes board.stands) (windows g chosen)
+        c.choose_in_bridge.new.chosen.items c.is_same_byte-kept.result
+        (is_row_name (Some c.args.register)) (rows_alone g chosen) (sorted_found g chosen) (keeps g chosen)
+        c.choose_in_bridge.ensures.none (others g chosen) c.choose_in_bridge.ensures.rows
         setup bytes here (c.apply_named.ensures.stands setup bytes here);
   };
 }

@@ -12,13 +12,15 @@ found :
     c.touch_map.result ≡ touches_map setup (Store c.args.reg c.args.width c.args.value)
 found c setup same =
     c.touch_map.ensures.touched
-    ∙ names_touched setup c.args.self.now.regs.cards c.args.reg c.args.width c.args.value c.args.names.now c.requires.fitted same
+    ∙ names_touched setup c.args.self.now.regs.cards c.args.reg c.args.width c.args.value c.args.names.now
+    c.requires.fitted same
     c.requires.names
 
 pub set_beside-requires : goal.set_beside-requires
 set_beside-requires c = record {
   names = search rules;
-  beside = λ setup bytes stands. sym (found (goal.at.set_beside-requires c).After-touch_map setup stands.cards.0) ∙ c.if-touch_map.false;
+  beside = λ setup bytes stands. sym (found (goal.at.set_beside-requires c).After-touch_map setup stands.cards.0) ∙
+      c.if-touch_map.false;
 }
 
 abbrev version_if : ℕ → Bool → ℕ
@@ -36,7 +38,8 @@ returns-then-touch_map c = record {
         version = λ setup same.
             applied.version ∙ ap (version_if c.args.self.now.version) (sym c.if-touch_map.true ∙ found here setup same);
         windows = λ setup bytes stands touched. applied.windows setup bytes stands;
-        same_windows = λ setup same not. absurd (false≢true (sym not ∙ sym (found here setup same) ∙ c.if-touch_map.true));
+        same_windows = λ setup same not. absurd (false≢true (sym not ∙ sym (found here setup same) ∙
+            c.if-touch_map.true));
         map = applied.map;
       };
 }

@@ -10,7 +10,8 @@ use Rattle.map_builder.proofs.flat_map.FlatMap.store_register.Goals as goal
 touched : (c : After-store_in_bridge) (setup : Setup) → setup.cards ≡ cards_of c.args.self.now.regs.cards →
     true ≡ touches_map setup (Store c.args.reg One c.args.value)
 touched c setup same =
-    names_touched setup c.args.self.now.regs.cards c.args.reg One c.args.value (Some c.args.register ∷ []) c.requires.fitted same
+    names_touched setup c.args.self.now.regs.cards c.args.reg One c.args.value (Some c.args.register ∷ [])
+    c.requires.fitted same
     c.requires.name
 
 abbrev version_if : ℕ → Bool → ℕ
