@@ -1,4 +1,5 @@
 pub mod EventReplies
+pub mod AskedSteps
 pub mod Filled
 pub mod Said
 pub mod Cycles

@@ -1,8 +1,10 @@
 //! The calls of a chipset with a serial port, in numbers.
 
-ghost use Rattle.std.specs.Prelude.{◌≡◌, ◌≢◌, List, IfOk, IfErr, OnErr, IsSomeAnd, Some, option_map};
-ghost use Rattle.board_spec.specs.declared.event.Entry.{Entry};
-ghost use Rattle.board_chipset.specs.Common.{IsLeftBy as IsChipsetLeftBy, IsFault};
+ghost use Rattle.std.specs.Prelude.{◌≡◌, ◌≢◌, ◌==◌, ℕ, Bool, true, false, List, IfOk, IfErr, IsSomeAnd, Some, option_map};
+ghost use Rattle.board_prelude.specs.Common.{Entry, IsBusAccess, IsInRange, IsWideAccess, Line, Memory, Port, Wide, is_write};
+ghost use Rattle.board_spec.specs.declared.event.Event.TheVariants.{Look as LookAt};
+ghost use Rattle.board_chipset.specs.Common.{IsLeftBy as IsChipsetLeftBy, IsForDevices};
+ghost use Rattle.uart_16550.specs.Com1.{is_for_uart};
 ghost use Rattle.uart_16550.specs.declared.com1.Happening.TheVariants.{Comes, Happens};
 ghost use Rattle.board_records.specs.Doors.{IsOpenedWith, IsOpenRefusal, disk_of, setup_said};
 ghost use Rattle.board_records.specs.Events.{asked_said};
@@ -11,13 +13,15 @@ ghost use Rattle.board_records.specs.Steps.{IsAskedStep, after_step};
 
 use crate::asked::asked_of;
 use crate::card::{CardRecord, cards_of};
-use crate::event::EventRecord;
-use crate::reply::{AfterStep, ReplyRecord, serial_record_of};
+use crate::event::{EventRecord, cycle_of, look_of, port_of};
+use crate::numbers::{LOOK_EVENT, MEMORY_EVENT, PORT_EVENT};
+use crate::reply::{AfterStep, ReplyRecord, tell, tell_bus, tell_look, tell_uart, tell_wide};
 use crate::status::{BAD_CARDS, NO_EVENT, NO_MEMORY, OK, SERIAL_FULL, fault_status, setup_status};
-use board_chipset::{Chipset, OutOfRange, ResetKind, Setup};
+use board_base::{Access, Kind, PortAccess, WideAccess};
+use board_chipset::{Chipset, ResetKind, Setup, test_memory, test_port};
 use board_spec::Event;
 use std::alloc::{AllocError, Global};
-use uart_16550::{Happening, SerialBoard, SerialReply};
+use uart_16550::{Happening, SerialBoard, is_for_uart};
 
 /// A chipset with a serial port and these cards, over copies of these bytes. A disk of no bytes is none. Refused with
 /// `BAD_CARDS` where a record says no card; with the first field that no board can have, which may be the cards too; and
@@ -86,6 +90,128 @@ pub(crate) fn step(
     ensures untold { result ≢ ok → reply.new ≡ reply.old }
     ensures open { result ≢ closed }
 {
+    if event.what == MEMORY_EVENT {
+        if let Some(access) = cycle_of(event) {
+            return memory(serial, &access, reply);
+        }
+        return other(serial, event, reply);
+    }
+    if event.what == PORT_EVENT {
+        return match port_of(event) {
+            Some(access) => port(serial, &access, reply),
+            None => NO_EVENT,
+        };
+    }
+    if event.what == LOOK_EVENT {
+        return match look_of(event) {
+            Some(kind) => {
+                look(serial, kind, event, reply);
+                OK
+            }
+            None => NO_EVENT,
+        };
+    }
+    other(serial, event, reply)
+}
+
+/// Looks at the memory map.
+fn look(serial: &SerialBoard<Chipset>, kind: Kind, event: &EventRecord, reply: &mut ReplyRecord)
+    ensures done { IsAskedStep serial.now serial.now reply.new
+        (Happens (LookAt kind event.now.addr (event.now.smm == 1))) }
+{
+    let said = serial.look(kind, event.addr, event.is_smm());
+    let after = after_step(serial, ResetKind::None);
+    tell_look(reply, &said, after);
+}
+
+/// Does an access to memory of one bus cycle. Refused with why where it is out of range.
+fn memory(serial: &mut SerialBoard<Chipset>, access: &Access, reply: &mut ReplyRecord) -> u32
+    ensures done { result ≡ ok → IsAskedStep serial.old serial.new reply.new (Happens (Memory access.now)) }
+    ensures refused { result ≢ ok → IsEventRefusal serial.old (Some (Happens (Memory access.now))) result }
+    ensures unchanged { result ≢ ok → serial.new ≡ serial.old }
+    ensures untold { result ≢ ok → reply.new ≡ reply.old }
+    ensures open { result ≢ closed }
+{
+    match test_memory(access) {
+        Ok(()) => {
+            memory_access(serial, access, reply);
+            OK
+        }
+        Err(fault) => fault_status(fault),
+    }
+}
+
+/// Does an access to memory of one bus cycle, which is in range.
+fn memory_access(serial: &mut SerialBoard<Chipset>, access: &Access, reply: &mut ReplyRecord)
+    requires bus { IsBusAccess (is_write access.now.kind) access.now.addr access.now.width access.now.value }
+    ensures done { IsAskedStep serial.old serial.new reply.new (Happens (Memory access.now)) }
+{
+    let said = serial.memory(access);
+    let after = after_step(serial, ResetKind::None);
+    tell_bus(reply, &said, after);
+}
+
+/// Does an access at a port. Refused with why where it is out of range.
+fn port(serial: &mut SerialBoard<Chipset>, access: &PortAccess, reply: &mut ReplyRecord) -> u32
+    ensures done { result ≡ ok → IsAskedStep serial.old serial.new reply.new (Happens (Port access.now)) }
+    ensures refused { result ≢ ok → IsEventRefusal serial.old (Some (Happens (Port access.now))) result }
+    ensures unchanged { result ≢ ok → serial.new ≡ serial.old }
+    ensures untold { result ≢ ok → reply.new ≡ reply.old }
+    ensures open { result ≢ closed }
+{
+    match test_port(access) {
+        Ok(()) => {
+            port_access(serial, access, reply);
+            OK
+        }
+        Err(fault) => fault_status(fault),
+    }
+}
+
+/// Does an access at a port, which is in range.
+fn port_access(serial: &mut SerialBoard<Chipset>, access: &PortAccess, reply: &mut ReplyRecord)
+    requires bus { IsBusAccess access.now.write access.now.port access.now.width access.now.value }
+    ensures done { IsAskedStep serial.old serial.new reply.new (Happens (Port access.now)) }
+{
+    if is_for_uart(access) {
+        uart_access(serial, access, reply);
+    } else {
+        board_access(serial, access, reply);
+    }
+}
+
+/// Does an access to the UART, which is in range.
+fn uart_access(serial: &mut SerialBoard<Chipset>, access: &PortAccess, reply: &mut ReplyRecord)
+    requires uart { is_for_uart access.now ≡ true }
+    requires bus { IsBusAccess access.now.write access.now.port access.now.width access.now.value }
+    ensures done { IsAskedStep serial.old serial.new reply.new (Happens (Port access.now)) }
+{
+    let reset = serial.board().reset_by(access);
+    let said = serial.uart_access(access);
+    let after = after_step(serial, reset);
+    tell_uart(reply, said.value, said.sent, after);
+}
+
+/// Does an access at a port of the board, which is in range.
+fn board_access(serial: &mut SerialBoard<Chipset>, access: &PortAccess, reply: &mut ReplyRecord)
+    requires board { is_for_uart access.now ≡ false }
+    requires bus { IsBusAccess access.now.write access.now.port access.now.width access.now.value }
+    ensures done { IsAskedStep serial.old serial.new reply.new (Happens (Port access.now)) }
+{
+    let reset = serial.board().reset_by(access);
+    let said = serial.port(access);
+    let after = after_step(serial, reset);
+    tell_bus(reply, &said, after);
+}
+
+/// Does what a record asks, whatever it is.
+fn other(serial: &mut SerialBoard<Chipset>, event: &EventRecord, reply: &mut ReplyRecord) -> u32
+    ensures done { result ≡ ok → IsSomeAnd (asked_said event.now) (IsAskedStep serial.old serial.new reply.new) }
+    ensures refused { result ≢ ok → IsEventRefusal serial.old (asked_said event.now) result }
+    ensures unchanged { result ≢ ok → serial.new ≡ serial.old }
+    ensures untold { result ≢ ok → reply.new ≡ reply.old }
+    ensures open { result ≢ closed }
+{
     match asked_of(event) {
         Some(Happening::Comes(byte)) => receive(serial, byte, reply),
         Some(Happening::Happens(event)) => done(serial, &event, reply),
@@ -101,16 +227,16 @@ fn receive(serial: &mut SerialBoard<Chipset>, byte: u8, reply: &mut ReplyRecord)
     ensures untold { result ≢ ok → reply.new ≡ reply.old }
     ensures open { result ≢ closed }
 {
-    if !serial.room() {
-        return SERIAL_FULL;
+    match serial.room() {
+        false => SERIAL_FULL,
+        true => {
+            serial.receive(byte);
+            let mut record = ReplyRecord::default();
+            tell_uart(&mut record, None, None, after_step(serial, ResetKind::None));
+            *reply = record;
+            OK
+        }
     }
-    serial.receive(byte);
-    let none = SerialReply::Uart {
-        value: None,
-        sent: None,
-    };
-    *reply = serial_record_of(&none, after_step(serial, ResetKind::None));
-    OK
 }
 
 /// Does an event. Refused with why where it is out of range.
@@ -121,25 +247,76 @@ fn done(serial: &mut SerialBoard<Chipset>, event: &Event, reply: &mut ReplyRecor
     ensures untold { result ≢ ok → reply.new ≡ reply.old }
     ensures open { result ≢ closed }
 {
-    match told(serial, event) {
-        Ok(record) => {
-            *reply = record;
+    match serial.test(event) {
+        Ok(()) => {
+            happened(serial, event, reply);
             OK
         }
         Err(fault) => fault_status(fault),
     }
 }
 
-/// Does an event, and gives the record of its reply.
-fn told(serial: &mut SerialBoard<Chipset>, event: &Event) -> Result<ReplyRecord, OutOfRange>
-    ensures done { IfOk result (λ said. IsAskedStep serial.old serial.new said (Happens event.now)) }
-    ensures fault { IfErr result (λ fault. IsFault serial.old.board.setup event.now fault) }
-    ensures unchanged { OnErr result (serial.new ≡ serial.old) }
+/// Does an event, which is in range.
+fn happened(serial: &mut SerialBoard<Chipset>, event: &Event, reply: &mut ReplyRecord)
+    requires in_range { IsInRange serial.old.board.setup event.now }
+    ensures done { IsAskedStep serial.old serial.new reply.new (Happens event.now) }
+{
+    if let Event::Wide(access) = event {
+        wide(serial, access, reply);
+    } else if is_outside(event) {
+        outside(serial, event, reply);
+    } else {
+        by_step(serial, event, reply);
+    }
+}
+
+/// Does a wide access, which is in range.
+fn wide(serial: &mut SerialBoard<Chipset>, access: &WideAccess, reply: &mut ReplyRecord)
+    requires wide { IsWideAccess access.now }
+    ensures done { IsAskedStep serial.old serial.new reply.new (Happens (Wide access.now)) }
+{
+    let said = serial.wide(access);
+    let after = after_step(serial, ResetKind::None);
+    tell_wide(reply, &said, after);
+}
+
+/// Whether an event is for the devices of the chipset alone: no access, no look, and no level of a line.
+fn is_outside(event: &Event) -> bool
+    ensures devices { result ≡ true → IsForDevices event.now }
+    ensures no_line { result ≡ true → (irq : ℕ) (on : Bool) → event.now ≡ Line irq on → ⊥ }
+{
+    match event {
+        Event::Ack => true,
+        Event::Pulses(_) => true,
+        Event::Time(_) => true,
+        Event::Wire { .. } => true,
+        Event::BadSector(_) => true,
+        _ => false,
+    }
+}
+
+/// Does an event that is for the devices of the chipset alone.
+fn outside(serial: &mut SerialBoard<Chipset>, event: &Event, reply: &mut ReplyRecord)
+    requires devices { IsForDevices event.now }
+    requires no_line { (irq : ℕ) (on : Bool) → event.now ≡ Line irq on → ⊥ }
+    requires in_range { IsInRange serial.old.board.setup event.now }
+    ensures done { IsAskedStep serial.old serial.new reply.new (Happens event.now) }
 {
     let reset = serial.board().reset_of(event);
-    serial.test(event)?;
-    let reply = serial.step(0, event);
-    Ok(serial_record_of(&reply, after_step(serial, reset)))
+    let said = serial.outside(event);
+    let after = after_step(serial, reset);
+    tell_bus(reply, &said, after);
+}
+
+/// Does any event.
+fn by_step(serial: &mut SerialBoard<Chipset>, event: &Event, reply: &mut ReplyRecord)
+    requires in_range { IsInRange serial.old.board.setup event.now }
+    ensures done { IsAskedStep serial.old serial.new reply.new (Happens event.now) }
+{
+    let reset = serial.board().reset_of(event);
+    let said = serial.step(0, event);
+    let after = after_step(serial, reset);
+    tell(reply, &said, after);
 }
 
 /// What stands after a step, with the reset that the step made.

@@ -1,8 +1,10 @@
 //! Events as records of numbers.
 
-ghost use Rattle.std.specs.Prelude.{◌≡◌, ◌==◌, option_map, option_and_then};
-ghost use Rattle.board_spec.specs.declared.event.Event.TheVariants.{Line, Look as LookAt, Wide, Wire};
-ghost use Rattle.board_records.specs.Events.{event_said, asked_by, kind_said, direction_said, width_said, wide_access, cycle_said, access_said, port_said, moment_said, digits_said, level_said, pulses_said};
+ghost use Rattle.std.specs.Prelude.{◌≡◌, ◌==◌, IfSome, Some, option_map, option_and_then};
+ghost use Rattle.board_spec.specs.declared.event.Event.TheVariants.{Line, Look as LookAt, Memory, Port, Wide, Wire};
+ghost use Rattle.uart_16550.specs.declared.com1.Happening.TheVariants.{Happens};
+ghost use Rattle.board_records.specs.Numbers.{look_event, memory_event, port_event};
+ghost use Rattle.board_records.specs.Events.{asked_said, event_said, is_plain, asked_by, kind_said, direction_said, width_said, wide_access, cycle_said, access_said, port_said, moment_said, digits_said, level_said, pulses_said};
 
 use crate::numbers::{
     ACK_EVENT, BAD_SECTOR_EVENT, FETCH_KIND, LINE_EVENT, LOOK_EVENT, MEMORY_EVENT, PORT_EVENT,
@@ -27,8 +29,15 @@ pub struct EventRecord {
 }
 
 impl EventRecord {
+    /// Whether what is kept for later versions is 0, and the flag of management mode 0 or 1.
+    fn is_plain(&self) -> bool
+        ensures plain { result ≡ is_plain self.now }
+    {
+        self.reserved == 0 && self.smm <= 1
+    }
+
     /// Whether the access is made in system management mode.
-    fn is_smm(&self) -> bool
+    pub(crate) fn is_smm(&self) -> bool
         ensures smm { result ≡ (self.now.smm == 1) }
     {
         self.smm == 1
@@ -41,10 +50,82 @@ impl EventRecord {
 pub fn event_of(record: &EventRecord) -> Option<Event>
     ensures said { result ≡ event_said record.now }
 {
-    if record.reserved != 0 || record.smm > 1 {
+    if !record.is_plain() {
         return None;
     }
     asked_by(record)
+}
+
+/// The access to memory of one bus cycle that a record of `MEMORY_EVENT` says. None where it says another access, or none.
+#[tactic(auto, unfolding(crate::specs::Events::asked_said, crate::specs::Events::event_said, crate::specs::Events::asked_by))]
+pub(crate) fn cycle_of(record: &EventRecord) -> Option<Access>
+    requires memory { record.now.what ≡ memory_event }
+    ensures said { IfSome result (λ access. asked_said record.now ≡ Some (Happens (Memory access))) }
+{
+    if !record.is_plain() {
+        return None;
+    }
+    match kind_of(record.kind) {
+        Some(kind) => kind_cycle(record, kind),
+        None => None,
+    }
+}
+
+#[tactic(auto, unfolding(crate::specs::Events::access_said))]
+fn kind_cycle(record: &EventRecord, kind: Kind) -> Option<Access>
+    ensures said { IfSome result (λ access. access_said record.now kind ≡ Some (Memory access)) }
+{
+    if record.bytes == 8 {
+        return None;
+    }
+    match width_of(record.bytes) {
+        Some(width) => width_cycle(record, kind, width),
+        None => None,
+    }
+}
+
+#[tactic(auto, unfolding(crate::specs::Events::cycle_said))]
+fn width_cycle(record: &EventRecord, kind: Kind, width: Width) -> Option<Access>
+    ensures said { IfSome result (λ access. cycle_said record.now kind width ≡ Some (Memory access)) }
+{
+    if !width.is_aligned(record.addr) {
+        return None;
+    }
+    let Ok(value) = u32::try_from(record.value) else {
+        return None;
+    };
+    Some(Access {
+        kind,
+        addr: record.addr,
+        width,
+        smm: record.is_smm(),
+        value,
+    })
+}
+
+/// The access at a port that a record of `PORT_EVENT` says. None exactly where it says none.
+#[tactic(auto, unfolding(crate::specs::Events::asked_said, crate::specs::Events::event_said, crate::specs::Events::asked_by))]
+pub(crate) fn port_of(record: &EventRecord) -> Option<PortAccess>
+    requires port { record.now.what ≡ port_event }
+    ensures said { asked_said record.now ≡ option_map (λ access. Happens (Port access)) result }
+{
+    if !record.is_plain() {
+        return None;
+    }
+    port_access(record)
+}
+
+/// The kind of access of a look that a record of `LOOK_EVENT` says. None exactly where it says none.
+#[tactic(auto, unfolding(crate::specs::Events::asked_said, crate::specs::Events::event_said, crate::specs::Events::asked_by))]
+pub(crate) fn look_of(record: &EventRecord) -> Option<Kind>
+    requires look { record.now.what ≡ look_event }
+    ensures said { asked_said record.now
+        ≡ option_map (λ kind. Happens (LookAt kind record.now.addr (record.now.smm == 1))) result }
+{
+    if !record.is_plain() {
+        return None;
+    }
+    kind_of(record.kind)
 }
 
 /// The event by the number of what is asked.
@@ -173,24 +254,33 @@ fn look_event(record: &EventRecord) -> Option<Event>
 fn port_event(record: &EventRecord) -> Option<Event>
     ensures said { result ≡ option_and_then (λ width. option_and_then (port_said record.now width) (direction_said record.now.kind)) (width_said record.now.bytes) }
 {
-    match width_of(record.bytes) {
-        Some(width) => directed_port_event(record, width),
+    match port_access(record) {
+        Some(access) => Some(Event::Port(access)),
         None => None,
     }
 }
 
-fn directed_port_event(record: &EventRecord, width: Width) -> Option<Event>
-    ensures said { result ≡ option_and_then (port_said record.now width) (direction_said record.now.kind) }
+fn port_access(record: &EventRecord) -> Option<PortAccess>
+    ensures said { option_map (λ access. Port access) result ≡ option_and_then (λ width. option_and_then (port_said record.now width) (direction_said record.now.kind)) (width_said record.now.bytes) }
+{
+    match width_of(record.bytes) {
+        Some(width) => directed_access(record, width),
+        None => None,
+    }
+}
+
+fn directed_access(record: &EventRecord, width: Width) -> Option<PortAccess>
+    ensures said { option_map (λ access. Port access) result ≡ option_and_then (port_said record.now width) (direction_said record.now.kind) }
 {
     match direction_of(record.kind) {
-        Some(write) => bus_port_event(record, width, write),
+        Some(write) => bus_access(record, width, write),
         None => None,
     }
 }
 
 #[tactic(auto, unfolding(crate::specs::Events::port_said))]
-fn bus_port_event(record: &EventRecord, width: Width, write: bool) -> Option<Event>
-    ensures said { result ≡ port_said record.now width write }
+fn bus_access(record: &EventRecord, width: Width, write: bool) -> Option<PortAccess>
+    ensures said { option_map (λ access. Port access) result ≡ port_said record.now width write }
 {
     let Ok(port) = u16::try_from(record.addr) else {
         return None;
@@ -198,12 +288,12 @@ fn bus_port_event(record: &EventRecord, width: Width, write: bool) -> Option<Eve
     let Ok(value) = u32::try_from(record.value) else {
         return None;
     };
-    Some(Event::Port(PortAccess {
+    Some(PortAccess {
         write,
         port,
         width,
         value,
-    }))
+    })
 }
 
 #[tactic(auto, unfolding(crate::specs::Events::pulses_said))]

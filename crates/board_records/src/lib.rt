@@ -20,4 +20,4 @@ pub use card::{BaseRecord, CardRecord, cards_of};
 pub use door::Door;
 pub use event::{EventRecord, event_of};
 pub use map::{AreaRecord, MapRecord, RangeRecord, WindowRecord};
-pub use reply::{AfterStep, PartRecord, ReplyRecord, record_of, serial_record_of};
+pub use reply::{AfterStep, PartRecord, ReplyRecord, tell};

@@ -3,7 +3,7 @@
 ghost use Rattle.std.specs.Prelude.{◌≡◌, Some};
 ghost use Rattle.board_base.specs.declared.target.Denial.TheVariants.{Register};
 ghost use Rattle.board_records.specs.Numbers.{device_number, reset_number};
-ghost use Rattle.board_records.specs.Replies.{placed, target_said, area_said, with_denial, part_said, blank, with_value, with_parts, look_said, bus_said, wide_said, record_said, of_part, uart_part, uart_said, serial_said};
+ghost use Rattle.board_records.specs.Replies.{placed, no_part, target_said, area_said, with_denial, part_said, blank, with_value, with_parts, look_said, bus_said, wide_said, record_said, of_part, uart_part, uart_said, serial_said};
 
 use crate::numbers::{
     ABORT_TARGET, ATA_DEVICE, BUS_REPLY, CARD_TARGET, CLOCK_DEVICE, CONFADD_DENIAL, CONFADD_DEVICE,
@@ -14,7 +14,7 @@ use crate::numbers::{
     WIRES_DEVICE,
 };
 use board_base::{Area, Denial, Dev, Reg, Target};
-use board_chipset::ResetKind;
+use board_chipset::{BusReply, ResetKind, WideReply};
 use board_spec::{Look, Part, Parts, Reply};
 use uart_16550::SerialReply;
 
@@ -73,107 +73,165 @@ pub struct AfterStep {
     pub serial_room: bool,
 }
 
-/// The record of a reply, with what stands after its step.
+/// Tells a reply of a board with a serial port, with what stands after its step. Each field is written in its place.
+#[tactic(auto, unfolding(crate::specs::Replies::serial_said))]
+pub fn tell(told: &mut ReplyRecord, reply: &SerialReply, after: AfterStep)
+    ensures said { told.new ≡ serial_said reply.now after }
+{
+    match reply {
+        SerialReply::Board(reply) => tell_board(told, reply, after),
+        SerialReply::Uart { value, sent } => tell_uart(told, *value, *sent, after),
+    }
+}
+
+/// Tells a reply of the board.
 #[tactic(auto, unfolding(crate::specs::Replies::record_said))]
-pub fn record_of(reply: &Reply, after: AfterStep) -> ReplyRecord
-    ensures said { result ≡ record_said reply.now after }
+fn tell_board(told: &mut ReplyRecord, reply: &Reply, after: AfterStep)
+    ensures said { told.new ≡ record_said reply.now after }
 {
     match reply {
         Reply::Bus {
             value,
             target,
             denial,
-        } => bus_record(*value, *target, *denial, after),
-        Reply::Parts { parts, value } => wide_record(*parts, *value, after),
-        Reply::Saw(look) => look_record(*look, after),
+        } => {
+            let said = BusReply {
+                value: *value,
+                target: *target,
+                denial: *denial,
+            };
+            tell_bus(told, &said, after);
+        }
+        Reply::Parts { parts, value } => {
+            let said = WideReply {
+                value: *value,
+                parts: *parts,
+            };
+            tell_wide(told, &said, after);
+        }
+        Reply::Saw(look) => tell_look(told, look, after),
     }
 }
 
+/// Tells a reply to one bus cycle.
 #[tactic(auto, unfolding(crate::specs::Replies::bus_said))]
-fn bus_record(
-    value: Option<u32>,
-    target: Target,
-    denial: Option<Denial>,
-    after: AfterStep,
-) -> ReplyRecord
-    ensures said { result ≡ bus_said value target denial after }
+pub(crate) fn tell_bus(told: &mut ReplyRecord, reply: &BusReply, after: AfterStep)
+    ensures said { told.new ≡ bus_said reply.now.value reply.now.target reply.now.denial after }
 {
-    let record = ReplyRecord {
-        form: BUS_REPLY,
-        parts: 1,
-        part0: part_record(target, denial),
-        ..blank(after)
-    };
-    match value {
-        Some(value) => valued(record, value.into()),
-        None => record,
+    tell_after(told, after);
+    told.form = BUS_REPLY;
+    told.parts = 1;
+    told.part0 = part_record(reply.target, reply.denial);
+    if let Some(value) = reply.value {
+        tell_value(told, value.into());
     }
 }
 
+/// Tells a reply to a wide access.
 #[tactic(auto, unfolding(crate::specs::Replies::wide_said))]
-fn wide_record(parts: Parts, value: Option<u64>, after: AfterStep) -> ReplyRecord
-    ensures said { result ≡ wide_said parts value after }
+pub(crate) fn tell_wide(told: &mut ReplyRecord, reply: &WideReply, after: AfterStep)
+    ensures said { told.new ≡ wide_said reply.now.parts reply.now.value after }
 {
-    let record = parted(
-        ReplyRecord {
-            form: PARTS_REPLY,
-            ..blank(after)
-        },
-        parts,
-    );
-    match value {
-        Some(value) => valued(record, value),
-        None => record,
+    tell_after(told, after);
+    told.form = PARTS_REPLY;
+    tell_parts(told, &reply.parts);
+    if let Some(value) = reply.value {
+        tell_value(told, value);
     }
 }
 
+/// Tells a reply to a look.
 #[tactic(auto, unfolding(crate::specs::Replies::look_said))]
-fn look_record(look: Look, after: AfterStep) -> ReplyRecord
-    ensures said { result ≡ look_said look after }
+pub(crate) fn tell_look(told: &mut ReplyRecord, look: &Look, after: AfterStep)
+    ensures said { told.new ≡ look_said look.now after }
 {
-    ReplyRecord {
-        form: LOOK_REPLY,
-        parts: 1,
-        part0: area_record(look.area),
-        seen: look.version,
-        lo: look.lo,
-        hi: look.hi,
-        ..blank(after)
-    }
+    tell_after(told, after);
+    told.form = LOOK_REPLY;
+    told.parts = 1;
+    told.part0 = area_record(look.area);
+    told.seen = look.version;
+    told.lo = look.lo;
+    told.hi = look.hi;
 }
 
-/// The record of a reply of a board with a serial port, with what stands after its step.
-#[tactic(auto, unfolding(crate::specs::Replies::serial_said))]
-pub fn serial_record_of(reply: &SerialReply, after: AfterStep) -> ReplyRecord
-    ensures said { result ≡ serial_said reply.now after }
-{
-    match reply {
-        SerialReply::Board(reply) => record_of(reply, after),
-        SerialReply::Uart { value, sent } => uart_record(*value, *sent, after),
-    }
-}
-
+/// Tells a reply of the UART, or that COM1 received a byte.
 #[tactic(auto, unfolding(crate::specs::Replies::uart_said))]
-fn uart_record(value: Option<u8>, sent: Option<u8>, after: AfterStep) -> ReplyRecord
-    ensures said { result ≡ uart_said value sent after }
+pub(crate) fn tell_uart(
+    told: &mut ReplyRecord,
+    value: Option<u8>,
+    sent: Option<u8>,
+    after: AfterStep,
+)
+    ensures said { told.new ≡ uart_said value sent after }
 {
-    let record = ReplyRecord {
-        form: BUS_REPLY,
-        parts: 1,
-        part0: uart_part(),
-        ..blank(after)
-    };
-    let record = match value {
-        Some(value) => valued(record, value.into()),
-        None => record,
-    };
-    match sent {
-        Some(sent) => ReplyRecord {
-            sent,
-            has_sent: 1,
-            ..record
-        },
-        None => record,
+    tell_after(told, after);
+    told.form = BUS_REPLY;
+    told.parts = 1;
+    told.part0 = uart_part();
+    if let Some(value) = value {
+        tell_value(told, value.into());
+    }
+    if let Some(sent) = sent {
+        told.sent = sent;
+        told.has_sent = 1;
+    }
+}
+
+/// Tells what stands after the step, and nothing else.
+#[tactic(auto, unfolding(crate::specs::Replies::blank))]
+fn tell_after(told: &mut ReplyRecord, after: AfterStep)
+    ensures blank { told.new ≡ blank after }
+{
+    told.value = 0;
+    told.version = after.version;
+    told.seen = 0;
+    told.lo = 0;
+    told.hi = 0;
+    told.form = 0;
+    told.has_value = 0;
+    told.parts = 0;
+    told.interrupt = u8::from(after.interrupt);
+    told.reset = reset_number(after.reset);
+    told.part0 = no_part();
+    told.part1 = no_part();
+    told.part2 = no_part();
+    told.part3 = no_part();
+    told.sent = 0;
+    told.has_sent = 0;
+    told.irq4 = u8::from(after.irq4);
+    told.serial_room = u8::from(after.serial_room);
+    told.reserved = 0;
+}
+
+fn tell_value(told: &mut ReplyRecord, value: u64)
+    ensures value { told.new ≡ with_value told.old (Some value) }
+{
+    told.value = value;
+    told.has_value = 1;
+}
+
+fn tell_parts(told: &mut ReplyRecord, parts: &Parts)
+    ensures parts { told.new ≡ with_parts told.old parts.now }
+{
+    match parts {
+        Parts::Two(a, b) => {
+            told.parts = 2;
+            told.part0 = of_part(*a);
+            told.part1 = of_part(*b);
+        }
+        Parts::Three(a, b, c) => {
+            told.parts = 3;
+            told.part0 = of_part(*a);
+            told.part1 = of_part(*b);
+            told.part2 = of_part(*c);
+        }
+        Parts::Four(a, b, c, d) => {
+            told.parts = 4;
+            told.part0 = of_part(*a);
+            told.part1 = of_part(*b);
+            told.part2 = of_part(*c);
+            told.part3 = of_part(*d);
+        }
     }
 }
 
@@ -184,57 +242,11 @@ pub(crate) fn uart_part() -> PartRecord
     placed(DEVICE_TARGET, UART_DEVICE, 0, 0)
 }
 
-/// What every record has of what stands after the step.
-#[tactic(auto, unfolding(crate::specs::Replies::blank))]
-fn blank(after: AfterStep) -> ReplyRecord
-    ensures blank { result ≡ blank after }
+/// A part that is not filled.
+fn no_part() -> PartRecord
+    ensures none { result ≡ no_part }
 {
-    ReplyRecord {
-        version: after.version,
-        interrupt: u8::from(after.interrupt),
-        reset: reset_number(after.reset),
-        irq4: u8::from(after.irq4),
-        serial_room: u8::from(after.serial_room),
-        ..ReplyRecord::default()
-    }
-}
-
-fn valued(record: ReplyRecord, value: u64) -> ReplyRecord
-    ensures value { result ≡ with_value «record» (Some value) }
-{
-    ReplyRecord {
-        value,
-        has_value: 1,
-        ..record
-    }
-}
-
-fn parted(record: ReplyRecord, parts: Parts) -> ReplyRecord
-    ensures parts { result ≡ with_parts «record» parts }
-{
-    match parts {
-        Parts::Two(a, b) => ReplyRecord {
-            parts: 2,
-            part0: of_part(a),
-            part1: of_part(b),
-            ..record
-        },
-        Parts::Three(a, b, c) => ReplyRecord {
-            parts: 3,
-            part0: of_part(a),
-            part1: of_part(b),
-            part2: of_part(c),
-            ..record
-        },
-        Parts::Four(a, b, c, d) => ReplyRecord {
-            parts: 4,
-            part0: of_part(a),
-            part1: of_part(b),
-            part2: of_part(c),
-            part3: of_part(d),
-            ..record
-        },
-    }
+    placed(0, 0, 0, 0)
 }
 
 pub(crate) fn of_part(part: Part) -> PartRecord

@@ -3,4 +3,5 @@ pub mod Resets
 pub mod CallProofs
 pub mod ControlProofs
 pub mod Loads
+pub mod OverChipset
 pub mod Common

@@ -1,7 +1,14 @@
--- A change of the memory map is a reset exactly where the event is a hard reset.
-use Rattle.std.proofs.Common.{◌≡◌, ℕ, Bool, true, false, List, refl, inl, inr, if◌then◌else◌, Option, Some, None, option_map, option_and_then, ◌&&◌}
+-- Which accesses at a port are a hard reset, by the change of the memory map and by the kind of reset.
+use Rattle.std.proofs.Common.{◌≡◌, ◌↔◌, ℕ, Bool, true, false, List, refl, inl, inr, if◌then◌else◌, Option, Some, None, option_map, option_and_then, ◌&&◌}
 use Rattle.board_prelude.proofs.Common.{cases_Bool, PortAccess, Width, Reg, Port, Entry, MapChange, Store, Setup, is_hard_reset, config_address, config_register, is_config_port, touches_map, map_change_of}
 use Rattle.uart_16550.specs.Resets.{is_reset}
+
+-- tests that hold of the same are equal
+pub same_when_true : (one other : Bool) → (one ≡ true) ↔ (other ≡ true) → one ≡ other
+same_when_true true true is = refl
+same_when_true true false is = absurd (cc (is.0 refl))
+same_when_true false true is = absurd (cc (is.1 refl))
+same_when_true false false is = refl
 
 abbrev touching : Setup → MapChange → Option MapChange
 touching setup change = if touches_map setup change then Some change else None

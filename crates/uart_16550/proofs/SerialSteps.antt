@@ -1,5 +1,5 @@
 -- How the histories go on that leave a board with a serial port.
-use Rattle.std.proofs.Common.{◌≡◌, ℕ, ◌<◌, Bool, false, List, [], ◌∷◌, ◌++◌, map, reverse, refl, sym, ap, subst, ◌∙◌, append_assoc, lt_irrefl, ◌==◌, None, unwrap_or}
+use Rattle.std.proofs.Common.{◌≡◌, ℕ, ◌<◌, Bool, true, false, List, [], ◌∷◌, ◌++◌, map, reverse, refl, sym, ap, subst, ◌∙◌, append_assoc, lt_irrefl, ◌==◌, None, unwrap_or}
 use Rattle.board_prelude.proofs.Common.{ne_eqb, reverse-append, map-append, PortAccess, Event, Memory, Wide, Port, Ack, Pulses, Time, Wire, Line, BadSector, Reply, Entry, Statement, Setup, line_set, irq_of, next_entry, statement_of, statements_of}
 use Rattle.board_spec.specs.declared.event.Event.TheVariants.{Look as LookAt}
 use Rattle.uart_16550.specs.declared.com1.Com1.{Com1}
@@ -119,6 +119,11 @@ is_plain (BadSector sector) no_port no_line = record {
 abbrev pub with_level : Com1 → Bool → Com1
 with_level com1 on = record com1 { script_level = on }
 
+-- a level that stays is no step
+pub same_level : (level : Bool) → line_steps level level ≡ []
+same_level true = refl
+same_level false = refl
+
 -- nothing happened yet
 pub fresh_left : {B : Type 0} (left_by : B → List Entry → Type 0) (board : B) → left_by board [] →
     IsLeftAt left_by board false []
@@ -213,23 +218,31 @@ module _ {B : Type 0} (is_answer : Setup → List Entry → Event → Reply → 
             (subst (λ (list : List Entry). AreAnswered answers list last.goes_on.more) one.goes_on.grows last.answered);
       }
 
-  -- the board does an access, and then hears of the line what is new
-  pub accessed : (old middle new : B) (com1 next : Com1) (history : List Entry) (actor : ℕ) (access : PortAccess) (reply : Reply)
-      (was now : Bool) → IsLeftAt left_by old (level_of com1) history → setup_of middle ≡ setup_of old →
-      setup_of new ≡ setup_of middle →
-      is_answer (setup_of old) history (Port access) reply →
-      left_by middle (next_entry history actor (Port access) reply ∷ history) → actor < com1_actor →
-      was ≡ level_of com1 → now ≡ level_of next →
-      ((after : List Entry) → IsLeftAt left_by middle was after →
-      IsLeftAfter is_answer setup_of left_by new now after (line_steps was now)) →
-      IsLeftAfter is_answer setup_of left_by new (level_of next) history
-      (record { actor = actor; event = Port access } ∷ change_steps com1 next)
-  accessed old middle new com1 next history actor access reply was now left_at same stays answer left below was_is now_is moved =
-      then_more middle new (level_of com1) (level_of next) history (record { actor = actor; event = Port access } ∷ [])
-      (change_steps com1 next) stays
-      (one_step old middle (level_of com1) (level_of com1) history actor (Port access) reply left_at same answer left refl
-      (other_actor actor (Port access) below))
-      (rw (was_is, now_is) at moved)
+  -- the board does an access
+  module _ (old middle : B) (com1 : Com1) (history : List Entry) (actor : ℕ) (access : PortAccess) (reply : Reply)
+      (left_at : IsLeftAt left_by old (level_of com1) history) (same : setup_of middle ≡ setup_of old)
+      (answer : is_answer (setup_of old) history (Port access) reply)
+      (left : left_by middle (next_entry history actor (Port access) reply ∷ history)) (below : actor < com1_actor) where
+    pub accessed : IsLeftAfter is_answer setup_of left_by middle (level_of com1) history
+        (record { actor = actor; event = Port access } ∷ [])
+    accessed =
+        one_step old middle (level_of com1) (level_of com1) history actor (Port access) reply left_at same answer left refl
+        (other_actor actor (Port access) below)
+
+    -- the port stays as it is
+    pub accessed_alone : IsLeftAfter is_answer setup_of left_by middle (level_of com1) history
+        (record { actor = actor; event = Port access } ∷ change_steps com1 com1)
+    accessed_alone = rw (same_level (level_of com1)) accessed
+
+    -- and then the board hears of the line what is new
+    pub accessed_and_moved : (new : B) (next : Com1) → setup_of new ≡ setup_of middle →
+        ((after : List Entry) → IsLeftAt left_by middle (level_of com1) after →
+        IsLeftAfter is_answer setup_of left_by new (level_of next) after (change_steps com1 next)) →
+        IsLeftAfter is_answer setup_of left_by new (level_of next) history
+        (record { actor = actor; event = Port access } ∷ change_steps com1 next)
+    accessed_and_moved new next stays moved =
+        then_more middle new (level_of com1) (level_of next) history (record { actor = actor; event = Port access } ∷ [])
+        (change_steps com1 next) stays accessed moved
 
   -- the board does an event that is for it alone
   pub plain_step : (old new : B) (com1 : Com1) (history : List Entry) (actor : ℕ) (event : Event) (resets : Bool) (reply : Reply) →

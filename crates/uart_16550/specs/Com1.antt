@@ -3,6 +3,7 @@ use Rattle.std.specs.Prelude.{ℕ, ◌-◌, ◌==◌, Bool, false, ◌&&◌, ◌
 use Rattle.board_prelude.specs.Common.{PortAccess, bytes_of, Event, Port, Line, Statement, is_within}
 use Rattle.uart_16550.specs.declared.com1.Com1.{Com1}
 use Rattle.uart_16550.specs.declared.com1.SerialReply.{SerialReply}
+use Rattle.uart_16550.specs.declared.com1.UartReply.{UartReply}
 use Rattle.uart_16550.specs.declared.com1.SerialReply.TheVariants.{Uart as FromUart}
 use Rattle.uart_16550.specs.Uart.{Uart, uart_at_reset, is_interrupting}
 use Rattle.uart_16550.specs.Reads.{byte_read, after_read}
@@ -47,6 +48,10 @@ abbrev pub uart_reply : PortAccess → Uart → SerialReply
 uart_reply access uart =
     if access.write then FromUart None (byte_sent uart (offset_of access) access.value)
     else FromUart (Some (byte_read uart (offset_of access))) None
+
+-- a reply of the UART, as one of the board with the port
+abbrev pub from_uart : UartReply → SerialReply
+from_uart said = FromUart said.value said.sent
 
 -- ---- an event: what it makes of the port, and the steps that the board does for it
 

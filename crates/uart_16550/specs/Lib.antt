@@ -5,6 +5,7 @@ pub mod Writes
 pub mod Com1
 pub mod Resets
 pub mod Serial
+pub mod OverChipset
 pub mod Calls
 pub mod Sent
 pub mod SerialOrder

@@ -3,7 +3,7 @@
 ghost use Rattle.std.specs.Prelude.{◌≡◌, ◌-◌, ◌<◌, ◌≤◌, ◌||◌, true, Some, None};
 ghost use Rattle.board_spec.specs.InRange.{IsBusAccess};
 ghost use Rattle.uart_16550.specs.Uart.{is_interrupting, uart_at_reset};
-ghost use Rattle.uart_16550.specs.Com1.{com1_at_reset, is_for_uart, level_of, offset_of, uart_after, uart_reply};
+ghost use Rattle.uart_16550.specs.Com1.{com1_at_reset, from_uart, is_for_uart, level_of, offset_of, uart_after, uart_reply};
 
 use crate::uart::Uart;
 use board_base::PortAccess;
@@ -34,6 +34,25 @@ pub enum SerialReply {
     Board(Reply),
     /// The UART was read, and gave a value; or it was written, and maybe sent a byte.
     Uart { value: Option<u8>, sent: Option<u8> },
+}
+
+/// What the UART replies to an access: it was read, and gave a value; or it was written, and maybe sent a byte.
+#[derive(Clone, Copy, PartialEq, Eq, Debug)]
+pub struct UartReply {
+    pub value: Option<u8>,
+    pub sent: Option<u8>,
+}
+
+impl UartReply {
+    /// The same as a reply of the board with the port.
+    pub fn reply(self) -> SerialReply
+        ensures reply { result ≡ from_uart self }
+    {
+        SerialReply::Uart {
+            value: self.value,
+            sent: self.sent,
+        }
+    }
 }
 
 /// Whether an access is for the UART: it is of one byte, and at one of its ports.
@@ -69,18 +88,18 @@ impl Com1 {
     }
 
     /// Does an access to the UART.
-    pub fn access(&mut self, access: &PortAccess) -> SerialReply
+    pub fn access(&mut self, access: &PortAccess) -> UartReply
         requires uart { is_for_uart access.now ≡ true }
         requires bus { IsBusAccess access.now.write access.now.port access.now.width access.now.value }
-        ensures reply { result ≡ uart_reply access.now self.old.uart }
+        ensures reply { from_uart result ≡ uart_reply access.now self.old.uart }
         ensures after { self.new ≡ record self.old { uart = uart_after access.now self.old.uart } }
     {
         let off = (access.port - COM1) as u8;
         if access.write {
             let sent = self.uart.port_write(off, access.value as u8);
-            return SerialReply::Uart { value: None, sent };
+            return UartReply { value: None, sent };
         }
         let value = Some(self.uart.port_read(off));
-        SerialReply::Uart { value, sent: None }
+        UartReply { value, sent: None }
     }
 }

@@ -15,7 +15,7 @@ mod serial;
 mod stepped;
 mod uart;
 
-pub use com1::{Happening, SerialReply, is_for_uart};
+pub use com1::{Happening, SerialReply, UartReply, is_for_uart};
 pub use serial::SerialBoard;
 pub use stepped::SteppedBoard;
 pub use uart::Uart;

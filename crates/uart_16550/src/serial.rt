@@ -3,11 +3,11 @@
 ghost use Rattle.std.specs.Prelude.{◌≡◌, ◌+◌, ◌<◌, ◌∷◌, [], ℕ, List, true, false, Some, None, if◌then◌else◌, ◌==◌, ◌||◌};
 ghost use Rattle.board_prelude.specs.Common.{PortAccess, Entry, Port, Line, Reply, IsInRange, IsBusAccess, is_free_line, is_hard_reset};
 ghost use Rattle.uart_16550.specs.declared.com1.SerialReply.TheVariants.{Board};
-ghost use Rattle.uart_16550.specs.Uart.{has_room, received, is_interrupting};
-ghost use Rattle.uart_16550.specs.Com1.{com1_at_reset, com1_after, com1_irq, com1_actor, is_for_uart, level_of, uart_access, uart_reply, board_event, board_steps, change_steps};
+ghost use Rattle.uart_16550.specs.Uart.{has_room, received, is_interrupting, uart_at_reset};
+ghost use Rattle.uart_16550.specs.Com1.{com1_at_reset, com1_after, com1_irq, com1_actor, from_uart, is_for_uart, level_of, uart_access, uart_reply, board_event, board_steps, change_steps};
 ghost use Rattle.uart_16550.specs.Serial.{IsLeftBy, IsAfter};
 
-use crate::com1::{COM1_IRQ, Com1, SerialReply, is_for_uart};
+use crate::com1::{COM1_IRQ, Com1, SerialReply, UartReply, is_for_uart};
 use crate::line::move_line;
 use crate::stepped::SteppedBoard;
 use crate::uart::Uart;
@@ -101,7 +101,7 @@ impl<B: SteppedBoard> SerialBoard<B> {
         match event {
             Event::Port(access) => {
                 if is_for_uart(access) {
-                    return self.uart_access(access);
+                    return self.uart_access(access).reply();
                 }
                 SerialReply::Board(self.board_access(actor, access))
             }
@@ -110,14 +110,14 @@ impl<B: SteppedBoard> SerialBoard<B> {
         }
     }
 
-    /// Does an access to the UART.
-    fn uart_access(&mut self, access: &PortAccess) -> SerialReply
+    /// Does an access to the UART, as `step` does it.
+    pub fn uart_access(&mut self, access: &PortAccess) -> UartReply
         requires uart { is_for_uart access.now ≡ true }
         requires bus { IsBusAccess access.now.write access.now.port access.now.width access.now.value }
         requires spare { B.has_room self.old.board 1 }
         ensures setup { B.setup self.new.board ≡ B.setup self.old.board }
         ensures spare { (n : ℕ) → B.has_room self.old.board (n + 1) → B.has_room self.new.board n }
-        ensures reply { result ≡ uart_reply access.now self.old.com1.uart }
+        ensures reply { from_uart result ≡ uart_reply access.now self.old.com1.uart }
         ensures com1 { self.new.com1 ≡ com1_after false (Port access.now) self.old.com1 }
         ensures history { (history : List Entry) → IsLeftBy B.is_left_by self.old history
             → IsAfter B.is_answer B.setup B.is_left_by self.new history (change_steps self.old.com1 self.new.com1) }
@@ -145,13 +145,26 @@ impl<B: SteppedBoard> SerialBoard<B> {
             (record { actor = actor; event = Port access.now } ∷ change_steps self.old.com1 self.new.com1) }
     {
         let resets = self.board.resets_hard(access);
-        let old = self.com1.level();
         let reply = self.board.step(actor, &Event::Port(*access));
-        if resets {
-            self.com1.uart = Uart::new();
+        if !resets {
+            return reply;
         }
-        move_line(&mut self.board, old, self.com1.level());
+        self.renew();
         reply
+    }
+
+    /// Makes the UART new, as a hard reset of the board does. The port gives the board a change of line 4.
+    pub(crate) fn renew(&mut self)
+        requires spare { B.has_room self.old.board 1 }
+        ensures setup { B.setup self.new.board ≡ B.setup self.old.board }
+        ensures spare { (n : ℕ) → B.has_room self.old.board (n + 1) → B.has_room self.new.board n }
+        ensures com1 { self.new.com1 ≡ record self.old.com1 { uart = uart_at_reset } }
+        ensures history { (history : List Entry) → IsLeftBy B.is_left_by self.old history
+            → IsAfter B.is_answer B.setup B.is_left_by self.new history (change_steps self.old.com1 self.new.com1) }
+    {
+        let old = self.com1.level();
+        self.com1.uart = Uart::new();
+        move_line(&mut self.board, old, self.com1.level());
     }
 
     /// Gives an interrupt line a level: line 4 that of the port and the script together.

@@ -98,7 +98,7 @@ impl SteppedBoard for Chipset {
     }
 
     fn resets_hard(&self, access: &PortAccess) -> bool {
-        is_reset(self.map_change(&Event::Port(*access)))
+        self.reset_by(access).is_hard()
     }
 
     ghost fewer = { λ chipset n room. tt };

@@ -3,12 +3,13 @@ use Rattle.board_chipset.specs.declared.reset_control.ResetKind.TheVariants.{Non
 use Rattle.uart_16550.specs.declared.com1.SerialReply.TheVariants.{Uart as OfUart}
 use Rattle.uart_16550.specs.Com1.{change_steps}
 use Rattle.board_records.specs.Common.{serial_said, after_step}
+use Rattle.board_records.proofs.AskedSteps.{uart_told}
 use Rattle.board_records.proofs.EventReplies.{after_as}
 use Rattle.board_records.proofs.calls.receive.Goals as goal
 
-pub returns-clause-done : goal.returns-clause-done
-returns-clause-done c = λ ok. record {
-  can = sym c.if-not-room.ensures.room;
+pub returns-in-true-clause-done : goal.returns-in-true-clause-done
+returns-in-true-clause-done c = λ ok. record {
+  can = sym c.room.ensures.room ∙ c.in-true.is;
   setup = c.receive.ensures.setup;
   reply = OfUart None None;
   answered = λ history left.
@@ -18,7 +19,8 @@ returns-clause-done c = λ ok. record {
         com1 = c.receive.ensures.com1;
         goes_on = after_as c.receive.new.self history _ _ (ap (change_steps c.args.serial.now.com1) c.receive.ensures.com1) gone;
         told =
-            c.serial_record_of.ensures.said
+            c.tell_uart.ensures.said
+            ∙ uart_told None None c.after_step.result
             ∙ ap (serial_said (OfUart None None))
             (c.after_step.ensures.after gone.after gone.left_at.left
             ∙ ap (λ setup. after_step setup gone.after NoReset c.receive.new.self.com1) c.receive.ensures.setup);

@@ -1,0 +1,50 @@
+-- What an access at a port makes of a chipset with a serial port, in the words of a step that was asked; and the record of
+-- each kind of reply as that of a reply of both.
+use Rattle.std.proofs.Common.{◌≡◌, ℕ, true, false, List, ◌∷◌, Option, refl}
+use Rattle.board_prelude.proofs.Common.{Target, Denial, PortAccess, Parts, Port, Bus, Look, Saw, Entry, is_hard_reset}
+use Rattle.board_spec.specs.declared.event.Reply.TheVariants as replies
+use Rattle.board_chipset.specs.Common.{Running}
+use Rattle.uart_16550.specs.declared.com1.Com1.{Com1}
+use Rattle.uart_16550.specs.declared.com1.Happening.TheVariants.{Happens}
+use Rattle.uart_16550.specs.declared.com1.SerialReply.TheVariants.{Board as OfBoard, Uart as OfUart}
+use Rattle.uart_16550.specs.Common.{change_steps, com1_after, is_for_uart, Serial, sending_after, steps_for}
+use Rattle.board_records.specs.declared.reply.AfterStep.{AfterStep}
+use Rattle.board_records.specs.Replies.{bus_said, look_said, uart_said, wide_said, record_said, serial_said}
+use Rattle.board_records.specs.Steps.{port_of}
+
+pub bus_told : (value : Option ℕ) (target : Target) (denial : Option Denial) (after : AfterStep) →
+    bus_said value target denial after ≡ serial_said (OfBoard (Bus value target denial)) after
+unfolding serial_said record_said
+bus_told value target denial after = refl
+
+pub wide_told : (parts : Parts) (value : Option ℕ) (after : AfterStep) →
+    wide_said parts value after ≡ serial_said (OfBoard (replies.Parts parts value)) after
+unfolding serial_said record_said
+wide_told parts value after = refl
+
+pub look_told : (look : Look) (after : AfterStep) → look_said look after ≡ serial_said (OfBoard (Saw look)) after
+unfolding serial_said record_said
+look_told look after = refl
+
+pub uart_told : (value sent : Option ℕ) (after : AfterStep) →
+    uart_said value sent after ≡ serial_said (OfUart value sent) after
+unfolding serial_said
+uart_told value sent after = refl
+
+module _ (old : Serial Running) (next : Com1) (history : List Entry) (access : PortAccess) where
+  -- an access that is not for the UART
+  pub board_steps_are : is_for_uart access ≡ false →
+      next ≡ com1_after (is_hard_reset history (Port access)) (Port access) old.com1 →
+      record { actor = 0; event = Port access } ∷ change_steps old.com1 next
+      ≡ steps_for 0 (port_of old history) (Happens (Port access))
+  board_steps_are other is = rw (is, other) refl
+
+  -- one that is
+  pub uart_steps_are : is_for_uart access ≡ true → next ≡ com1_after false (Port access) old.com1 →
+      change_steps old.com1 next ≡ steps_for 0 (port_of old history) (Happens (Port access))
+  uart_steps_are uart is = rw (is, uart) refl
+
+  -- no hard reset can be one, so the UART is as the access leaves it
+  pub uart_com1_is : is_for_uart access ≡ true → next ≡ com1_after false (Port access) old.com1 →
+      next ≡ (sending_after (port_of old history) (Happens (Port access))).com1
+  uart_com1_is uart is = rw (is, uart) refl

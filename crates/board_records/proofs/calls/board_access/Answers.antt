@@ -1,0 +1,41 @@
+use Rattle.std.proofs.Common.{ap, sym, subst, ◌∙◌, lit<}
+use Rattle.board_chipset.specs.Chipset.{Running, IsLeftBy}
+use Rattle.board_chipset.specs.Common.{reply_of}
+use Rattle.uart_16550.specs.declared.com1.SerialReply.TheVariants.{Board as OfBoard}
+use Rattle.board_records.specs.Common.{serial_said, after_step}
+use Rattle.board_records.proofs.AskedSteps.{bus_told, board_steps_are}
+use Rattle.board_records.proofs.EventReplies.{after_as}
+use Rattle.board_records.proofs.calls.board_access.Goals as goal
+
+pub returns : goal.returns
+returns c =
+    let step = c.port-said.ensures in
+    let said = c.port-said.result in
+    let old = c.args.serial.now in
+    let new = c.port-said.new.self in
+    record {
+      done = record {
+        can = c.requires.bus;
+        setup = step.setup;
+        reply = OfBoard (reply_of said);
+        answered = λ history left.
+            let com1 = step.com1 history left in
+            let gone = step.history history 0 (lit< tt) left in
+            record {
+              answer = rw (c.requires.board) (step.answer history left);
+              com1 = com1;
+              goes_on =
+                  after_as new history _ _
+                  (board_steps_are old new.com1 history c.args.access.now c.requires.board com1) gone;
+              told =
+                  c.tell_bus.ensures.said
+                  ∙ bus_told said.value said.target said.denial c.after_step-after.result
+                  ∙ ap (serial_said (OfBoard (reply_of said)))
+                  (c.after_step-after.ensures.after gone.after gone.left_at.left
+                  ∙ ap (λ setup. after_step setup gone.after c.reset_by-reset.result new.com1) step.setup
+                  ∙ ap (λ reset. after_step old.board.setup gone.after reset new.com1)
+                  (c.reset_by-reset.ensures.kind history
+                  (subst (λ (chipset : Running). IsLeftBy chipset history) (sym c.board.ensures.board) left.left)));
+            };
+      };
+    }

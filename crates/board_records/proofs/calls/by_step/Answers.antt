@@ -1,0 +1,36 @@
+-- `by_step`: the reply is that of the step, and what stands after it is what the chipset tells then.
+use Rattle.std.proofs.Common.{ap, sym, subst, ◌∙◌}
+use Rattle.board_chipset.specs.Chipset.{Running, IsLeftBy}
+use Rattle.uart_16550.specs.Common.{uart_access}
+use Rattle.board_records.specs.Common.{serial_said, after_step}
+use Rattle.board_records.proofs.EventReplies.{reply_is}
+use Rattle.board_records.proofs.calls.by_step.Goals as goal
+
+pub returns : goal.returns
+returns c =
+    let step = c.step-said.ensures in
+    let event = c.args.event.now in
+    let old = c.args.serial.now in
+    let new = c.step-said.new.self in
+    record {
+      done = record {
+        can = c.requires.in_range;
+        setup = step.setup;
+        reply = c.step-said.result;
+        answered = λ history left.
+            let gone = step.history history left in
+            record {
+              answer = reply_is old history event (uart_access event) c.step-said.result left step.uart step.board;
+              com1 = step.com1 history left;
+              goes_on = gone;
+              told =
+                  c.tell.ensures.said
+                  ∙ ap (serial_said c.step-said.result)
+                  (c.after_step-after.ensures.after gone.after gone.left_at.left
+                  ∙ ap (λ setup. after_step setup gone.after c.reset_of-reset.result new.com1) step.setup
+                  ∙ ap (λ reset. after_step old.board.setup gone.after reset new.com1)
+                  (c.reset_of-reset.ensures.kind history
+                  (subst (λ (chipset : Running). IsLeftBy chipset history) (sym c.board.ensures.board) left.left)));
+            };
+      };
+    }

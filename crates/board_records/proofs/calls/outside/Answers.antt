@@ -1,0 +1,40 @@
+use Rattle.std.proofs.Common.{ap, sym, subst, ◌∙◌, lit<}
+use Rattle.board_spec.specs.Registers.{is_hard_reset}
+use Rattle.board_chipset.specs.Chipset.{Running, IsLeftBy}
+use Rattle.board_chipset.specs.Common.{reply_of}
+use Rattle.uart_16550.specs.declared.com1.SerialReply.TheVariants.{Board as OfBoard}
+use Rattle.board_records.specs.Common.{serial_said, after_step}
+use Rattle.board_records.proofs.AskedSteps.{bus_told}
+use Rattle.board_records.proofs.calls.outside.Goals as goal
+
+pub returns : goal.returns
+returns c =
+    let step = c.outside-said.ensures in
+    let said = c.outside-said.result in
+    let event = c.args.event.now in
+    let old = c.args.serial.now in
+    let new = c.outside-said.new.self in
+    record {
+      done = record {
+        can = c.requires.in_range;
+        setup = step.setup;
+        reply = OfBoard (reply_of said);
+        answered = λ history left.
+            let resets = is_hard_reset history event in
+            let gone = step.history history 0 resets (lit< tt) left in
+            record {
+              answer = rw (step.other) (step.answer history left);
+              com1 = step.com1 resets;
+              goes_on = gone;
+              told =
+                  c.tell_bus.ensures.said
+                  ∙ bus_told said.value said.target said.denial c.after_step-after.result
+                  ∙ ap (serial_said (OfBoard (reply_of said)))
+                  (c.after_step-after.ensures.after gone.after gone.left_at.left
+                  ∙ ap (λ setup. after_step setup gone.after c.reset_of-reset.result new.com1) step.setup
+                  ∙ ap (λ reset. after_step old.board.setup gone.after reset new.com1)
+                  (c.reset_of-reset.ensures.kind history
+                  (subst (λ (chipset : Running). IsLeftBy chipset history) (sym c.board.ensures.board) left.left)));
+            };
+      };
+    }

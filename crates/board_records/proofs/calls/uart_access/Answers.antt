@@ -1,0 +1,39 @@
+use Rattle.std.proofs.Common.{ap, sym, subst, ◌∙◌}
+use Rattle.board_chipset.specs.Chipset.{Running, IsLeftBy}
+use Rattle.uart_16550.specs.Common.{from_uart}
+use Rattle.board_records.specs.Common.{serial_said, after_step}
+use Rattle.board_records.proofs.AskedSteps.{uart_told, uart_steps_are, uart_com1_is}
+use Rattle.board_records.proofs.EventReplies.{after_as}
+use Rattle.board_records.proofs.calls.uart_access.Goals as goal
+
+pub returns : goal.returns
+returns c =
+    let step = c.uart_access-said.ensures in
+    let said = c.uart_access-said.result in
+    let old = c.args.serial.now in
+    let new = c.uart_access-said.new.self in
+    record {
+      done = record {
+        can = c.requires.bus;
+        setup = step.setup;
+        reply = from_uart said;
+        answered = λ history left.
+            let gone = step.history history left in
+            record {
+              answer = rw (c.requires.uart) step.reply;
+              com1 = uart_com1_is old new.com1 history c.args.access.now c.requires.uart step.com1;
+              goes_on =
+                  after_as new history _ _
+                  (uart_steps_are old new.com1 history c.args.access.now c.requires.uart step.com1) gone;
+              told =
+                  c.tell_uart.ensures.said
+                  ∙ uart_told said.value said.sent c.after_step-after.result
+                  ∙ ap (serial_said (from_uart said))
+                  (c.after_step-after.ensures.after gone.after gone.left_at.left
+                  ∙ ap (λ setup. after_step setup gone.after c.reset_by-reset.result new.com1) step.setup
+                  ∙ ap (λ reset. after_step old.board.setup gone.after reset new.com1)
+                  (c.reset_by-reset.ensures.kind history
+                  (subst (λ (chipset : Running). IsLeftBy chipset history) (sym c.board.ensures.board) left.left)));
+            };
+      };
+    }

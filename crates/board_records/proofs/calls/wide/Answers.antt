@@ -1,0 +1,33 @@
+use Rattle.std.proofs.Common.{ap, ◌∙◌, lit<}
+use Rattle.board_chipset.specs.declared.reset_control.ResetKind.TheVariants.{None as NoReset}
+use Rattle.board_chipset.specs.Common.{wide_reply_of}
+use Rattle.uart_16550.specs.declared.com1.SerialReply.TheVariants.{Board as OfBoard}
+use Rattle.board_records.specs.Common.{serial_said, after_step}
+use Rattle.board_records.proofs.AskedSteps.{wide_told}
+use Rattle.board_records.proofs.calls.wide.Goals as goal
+
+pub returns : goal.returns
+returns c =
+    let step = c.wide-said.ensures in
+    let said = c.wide-said.result in
+    let new = c.wide-said.new.self in
+    record {
+      done = record {
+        can = c.requires.wide;
+        setup = step.setup;
+        reply = OfBoard (wide_reply_of said);
+        answered = λ history left.
+            let gone = step.history history 0 (lit< tt) left in
+            record {
+              answer = step.answer history left;
+              com1 = step.com1;
+              goes_on = gone;
+              told =
+                  c.tell_wide.ensures.said
+                  ∙ wide_told said.parts said.value c.after_step-after.result
+                  ∙ ap (serial_said (OfBoard (wide_reply_of said)))
+                  (c.after_step-after.ensures.after gone.after gone.left_at.left
+                  ∙ ap (λ setup. after_step setup gone.after NoReset new.com1) step.setup);
+            };
+      };
+    }
