@@ -1,14 +1,14 @@
 -- Events that move no line: the lines reach the pair as it saw them, and leave it.
-use Rattle.std.proofs.Common.{◌≡◌, ℕ, ◌+◌, ◌*◌, ◌/◌, ◌%◌, ◌<◌, ◌==◌, ◌&&◌, ◌||◌, not, Bool, true, false, cond, List, [], ◌∷◌, Option, Some, None, length, take, drop, refl, sym, ap, subst, ◌∙◌, inl, inr, map, is_some, arith}
-use Rattle.board_prelude.proofs.Common.{cases_Bool, and-false, nat_tests, true≢false, is_bit, Levels, has, levels_where, with_level, levels_of_byte, levels_where-same, Chip, interrupt, latches_after, chip_after_inputs, acknowledged, acknowledged_if, chip_after_write, chip_after_read, Pair, settled, master_inputs, pair_after_lines, pair_written, pair_read, pair_after_write, pair_after_read, pair_acknowledged, pair_acknowledged_at, pair_after_acknowledge, is_slave_port, is_odd_port, same-levels, settled-asks, settled-quiet, latched, PairHasSeen, PortAccess, Dev, Pic0, Pic1, Pit, System, Keyboard, Elcr, Ata, Wires, Vector, Spurious, bytes_of, is_port_of, PitState, out_of, set_gate2, port_read, Clock as ClockState, Triggers, Disk, Event, Port, Ack, Reply, Entry, Setup, is_hard_reset, is_config_port, device_reached, timer_accessed, clock_accessed, triggers_accessed, disk_accessed, timer_after, timer_of, clock_of, triggers_of, disk_with, wire_set, line_set, triggers_after, clock_after, disk_after, config_store, byte_of, routes_of, levels_of, elcr_of, pair_accessed, pair_after, pair_of, levels-same, elcr-same}
+use Rattle.std.proofs.Common.{◌≡◌, ℕ, ◌/◌, ◌%◌, ◌==◌, ◌&&◌, ◌||◌, not, Bool, true, false, cond, List, [], ◌∷◌, Option, Some, None, length, take, drop, refl, sym, ap, subst, ◌∙◌, inl, inr, is_some, arith}
+use Rattle.board_prelude.proofs.Common.{cases_Bool, and-false, nat_tests, true≢false, is_bit, Levels, has, levels_of_byte, levels_where-same, Chip, interrupt, latches_after, chip_after_inputs, acknowledged, acknowledged_if, chip_after_write, chip_after_read, Pair, settled, master_inputs, pair_after_lines, pair_written, pair_read, pair_after_write, pair_after_read, pair_acknowledged, pair_acknowledged_at, pair_after_acknowledge, is_slave_port, is_odd_port, same-levels, settled-asks, settled-quiet, latched, PairHasSeen, PortAccess, Dev, Pic0, Pic1, Pit, System, Keyboard, Elcr, Ata, Wires, Vector, Spurious, bytes_of, PitState, out_of, set_gate2, port_read, Clock as ClockState, Triggers, Disk, Event, Port, Ack, Reply, Entry, Setup, is_hard_reset, is_config_port, device_reached, timer_accessed, clock_accessed, triggers_accessed, disk_accessed, timer_after, timer_of, clock_of, triggers_of, disk_with, wire_set, line_set, triggers_after, clock_after, disk_after, config_store, byte_of, routes_of, levels_of, elcr_of, pair_accessed, pair_after, pair_of, levels-same, elcr-same}
 use Rattle.device_spec.specs.Pit.{Access, LowByte, HighByte, LowThenHigh, CounterState, read, read_live}
 use Rattle.device_spec.specs.PortNames.{counter0_port, counter1_port, counter2_port}
 use Rattle.device_spec.proofs.Common.{levels_where-has}
 use Rattle.board_spec.specs.Registers.{config_address}
 use Rattle.board_base.specs.declared.target.Dev.TheVariants.{Confadd, Reset, Clock}
-use Rattle.board_devices.specs.Common.{AccessLeavesLines, AcknowledgeLeavesLines, is_chip, is_chip_port, moves_lines, ReachesDevice, Asks}
+use Rattle.board_devices.specs.Common.{AccessLeavesLines, AcknowledgeLeavesLines, is_chip_port, moves_lines}
 use Rattle.board_devices.proofs.ChipSteps.{Keeps, eight, unmoved, write_keeps, read_keeps, acknowledged_keeps, acknowledged_if_keeps}
-use Rattle.board_devices.proofs.DeviceLemmas.{timer_soft, clock_soft, triggers_soft, disk_with_soft, wire_step, irq_step, pair_soft, NotPulses, not_pulses}
+use Rattle.board_devices.proofs.DeviceLemmas.{timer_soft, clock_soft, triggers_soft, disk_with_soft, wire_step, irq_step, pair_soft, NotPulses}
 
 -- ---- a chip whose inputs stand
 

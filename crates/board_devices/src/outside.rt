@@ -10,8 +10,7 @@ ghost use Rattle.board_devices.specs.PulsedPair.{pair_after_run};
 use crate::devices::Devices;
 use crate::lines::TIMER_LINE;
 use board_base::Moment;
-use device_spec::LINE_COUNT;
-use pic_pair::PicPair;
+use pic_pair::{Lines, PicPair};
 use pirq_router::Pirq;
 use pit_8254::Rises;
 
@@ -75,7 +74,7 @@ impl Devices {
 impl Devices {
     /// Runs the timer for `count` pulses, after which the lines with these levels reach the pair.
     #[tactic(auto, unfolding(device_spec::specs::Pit::out_of))]
-    fn run(&mut self, count: u32, levels: [bool; LINE_COUNT], elcr: u16)
+    fn run(&mut self, count: u32, levels: Lines, elcr: u16)
         ensures after { self.new ≡ record self.old {
           timer = pulses count self.old.timer;
           pair = pair_after_run levels elcr (nat_lt 0 (rises count self.old.timer))
@@ -98,9 +97,9 @@ impl Devices {
     fn put_wire(&mut self, dev: u8, on: bool)
         requires high { dev ≤ 9 }
         ensures after { self.new ≡ record self.old { wires = slice_set self.old.wires dev on } }
-        ensures room { length self.old.wires ≡ 10 }
+        ensures room { length self.old.wires ≡ 16 }
     {
-        self.wires[usize::from(dev)] = on;
+        self.wires = self.wires.with(dev, on);
     }
 
     /// Keeps the level of a line.
@@ -109,7 +108,7 @@ impl Devices {
         ensures after { self.new ≡ record self.old { irqs = slice_set self.old.irqs irq on } }
         ensures room { length self.old.irqs ≡ 16 }
     {
-        self.irqs[usize::from(irq)] = on;
+        self.irqs = self.irqs.with(irq, on);
     }
 
     /// A sector of the disk goes bad, where a disk is fitted.
@@ -124,20 +123,11 @@ impl Devices {
 
 /// The lines reach the pair after pulses, and leave what they would have left after each single one. Where line 0 rose
 /// and stayed at 1, it is given at 0 and then at 1, whatever came before.
-fn reach(pair: &mut PicPair, levels: [bool; LINE_COUNT], elcr: u16, rises: Rises)
+fn reach(pair: &mut PicPair, levels: Lines, elcr: u16, rises: Rises)
     ensures pair { pair.new ≡ pair_after_run levels elcr (nat_lt 0 rises.rose) rises.out0 pair.old }
 {
     if rises.rose > 0 && rises.out0 {
-        pair.lines(with_timer(levels, false), elcr);
+        pair.lines(levels.with(TIMER_LINE, false), elcr);
     }
-    pair.lines(with_timer(levels, rises.out0), elcr);
-}
-
-/// The levels of the lines, with that of the timer's line.
-fn with_timer(levels: [bool; LINE_COUNT], timer: bool) -> [bool; LINE_COUNT]
-    ensures levels { result ≡ slice_set levels 0 timer }
-{
-    let mut levels = levels;
-    levels[TIMER_LINE] = timer;
-    levels
+    pair.lines(levels.with(TIMER_LINE, rises.out0), elcr);
 }
