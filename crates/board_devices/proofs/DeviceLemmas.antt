@@ -1,6 +1,6 @@
 -- What an entry leaves of each device.
 use Rattle.std.proofs.Common.{◌≡◌, ℕ, ◌+◌, ◌<◌, ◌≤◌, Bool, true, false, ◌||◌, ◌&&◌, List, [], ◌∷◌, Option, Some, None, length, get_or, refl, sym, ◌∙◌, ap, subst, arith, inl, inr, ◌*◌, ◌/◌, ◌%◌, replicate, eq-eqb, ne_eqb, get_or-set_same, get_or-set_other, length-set, ◌↔◌, is_some, Result, Err, ◌==◌, unwrap_or, map, option_map, slice_index_or, slice_set, if◌then◌else◌}
-use Rattle.board_prelude.proofs.Common.{or-false, and-false, nat_tests, cases_eq, cases_Bool, lt-ltb, le-leb, get_or-replicate, ext_get_or, length-map, get_or-map, each_below, same-levels, pair_has_seen, levels-same, PairHasSeen, PortAccess, Dev, Pic0, Pic1, Pit, System, Keyboard, Elcr, Ata, Wires, Vector, Spurious, bytes_of, PitState, out_of, pulses, reset as timer_at_reset, Clock as ClockState, after_reset as clock_after_reset, Triggers, triggers_at_reset, reserved-rest, Pair, levels_at_power_on, port_byte, pair_after_lines, pair_at_reset, port_read, read_value, trigger_byte, Disk, option_map_or, is_disk_length, power_on as disk_at_power_on, Event, Memory, Wide, Port, Ack, Pulses, Time, Wire, Line, BadSector, Reply, Entry, Setup, IsDiskSize, is_free_line, reset_control, control_written, resets_hard, is_hard_reset, SystemPort, system_at_reset, device_reached, wire_set, wire_of, line_set, irq_of, triggers_accessed, triggers_after, triggers_of, system_accessed, system_after, system_of, timer_accessed, timer_after, timer_of, clock_accessed, clock_after, clock_of, disk_accessed, disk_after, disk_with, disk_of, routes_of, pirq_levels, pair_pulsed, own_level, level_with, all_lines, levels_with, levels_of, elcr_of, device_value, pair_accessed, pair_after, pair_reset_or_after, pair_stepped, pair_of}
+use Rattle.board_prelude.proofs.Common.{or-false, and-false, nat_tests, cases_eq, cases_Bool, lt-ltb, le-leb, get_or-replicate, ext_get_or, length-map, get_or-map, each_below, same-levels, pair_has_seen, levels-same, pair-pulsed, PairHasSeen, PortAccess, Dev, Pic0, Pic1, Pit, System, Keyboard, Elcr, Ata, Wires, Vector, Spurious, bytes_of, PitState, out_of, pulses, reset as timer_at_reset, Clock as ClockState, after_reset as clock_after_reset, Triggers, triggers_at_reset, reserved-rest, Pair, levels_at_power_on, port_byte, pair_after_lines, pair_at_reset, port_read, read_value, trigger_byte, Disk, option_map_or, is_disk_length, power_on as disk_at_power_on, Event, Memory, Wide, Port, Ack, Pulses, Time, Wire, Line, BadSector, Reply, Entry, Setup, IsDiskSize, is_free_line, reset_control, control_written, resets_hard, is_hard_reset, SystemPort, system_at_reset, device_reached, wire_set, wire_of, line_set, irq_of, triggers_accessed, triggers_after, triggers_of, system_accessed, system_after, system_of, timer_accessed, timer_after, timer_of, clock_accessed, clock_after, clock_of, disk_accessed, disk_after, disk_with, disk_of, routes_of, pirq_levels, pair_pulsed, own_level, level_with, all_lines, levels_with, levels_of, elcr_of, device_value, pair_accessed, pair_after, pair_reset_or_after, pair_stepped, pair_of}
 use Rattle.board_prelude.specs.Common.{is_interrupt}
 use Rattle.board_devices.specs.Common.{LeavesDevices, DevicesValue, AreWiresOf, AreIrqsOf, AreAfter, AreDevicesOf, is_chip_port, ReachesDevice, Asks, is_chip, PassesBy, Leaves, value_read, after_read, after_write}
 use Rattle.ata_pio.specs.declared.ata.AtaOpen.{AtaOpen}
@@ -602,32 +602,34 @@ pub levels_pulsed : (setup : Setup) (history : List Entry) (timer later : PitSta
 unfolding levels_with
 levels_pulsed setup history timer later = rw (timer_line setup history later) refl
 
--- the devices after the first k pulses of an event
-pub record Pulsed (setup : Setup) (history : List Entry) (old devices : DevicesValue) (levels : List Bool) (elcr k : ℕ) : Type 0 where
-  pub timer : devices.timer ≡ pulses k (timer_of history)
-  pub pair : devices.pair ≡ pair_pulsed setup history k (pair_of setup history)
+-- the devices after the pulses of an event
+pub record Pulsed (setup : Setup) (history : List Entry) (old devices : DevicesValue) (count : ℕ) : Type 0 where
+  pub timer : devices.timer ≡ pulses count old.timer
+  pub pair : devices.pair ≡ pair_pulsed setup history count (pair_of setup history)
   pub others : devices ≡ record old { timer = devices.timer; pair = devices.pair }
-  pub levels_are : levels ≡ levels_with setup history (pulses k (timer_of history))
-  pub elcr_is : elcr ≡ elcr_of history
 
 pub other_pair : (old devices : DevicesValue) (timer : PitState) (pair : Pair) → devices ≡ record old { timer = timer; pair = pair } →
     devices ≡ record old { timer = devices.timer; pair = devices.pair }
 other_pair old devices timer pair is = rw is refl
 
--- after all of them the devices are those of the history with the event
-pub all_pulses : (setup : Setup) (history : List Entry) (entry : Entry) (old devices : DevicesValue) (levels : List Bool) (elcr count : ℕ) →
-    AreDevicesOf setup history old → Asks history entry (Pulses count) → Pulsed setup history old devices levels elcr count →
+-- all but the pair, after them
+pub others_pulsed : (setup : Setup) (history : List Entry) (entry : Entry) (old : DevicesValue) (timer : PitState) (pair : Pair) (count : ℕ) →
+    AreAfter setup history old → Asks history entry (Pulses count) → timer ≡ pulses count old.timer →
+    AreAfter setup (entry ∷ history) (record old { timer = timer; pair = pair })
+others_pulsed setup history entry old timer pair count are asks is =
+    all_asked setup history entry (Pulses count) asks old (record old { timer = timer; pair = pair }) are
+    is refl refl refl (same_disk old.disk) (λ dev low high. refl) (λ line below. irqs_stay history old.irqs line are.irqs below)
+
+-- and the devices, which are those of the history with the event
+pub all_pulses : (setup : Setup) (history : List Entry) (entry : Entry) (old devices : DevicesValue) (count : ℕ) →
+    AreDevicesOf setup history old → Asks history entry (Pulses count) → Pulsed setup history old devices count →
     AreDevicesOf setup (entry ∷ history) devices
-unfolding pair_of
-all_pulses setup history entry old devices levels elcr count are asks so =
-    let timer : pulses count (timer_of history) ≡ pulses count old.timer = ap (λ (t : PitState). pulses count t) (sym are.others.timer) in
-    record {
-      others =
-          subst (λ (d : DevicesValue). AreAfter setup (entry ∷ history) d) (sym so.others)
-          (all_asked setup history entry (Pulses count) asks old (record old { timer = devices.timer; pair = devices.pair }) are.others
-          (so.timer ∙ timer) refl refl refl (same_disk old.disk) (λ dev low high. refl) (λ line below. irqs_stay history old.irqs line are.others.irqs below));
-      pair = so.pair ∙ sym (rw asks.event_is refl);
-    }
+all_pulses setup history entry old devices count are asks so = record {
+  others =
+      subst (λ (d : DevicesValue). AreAfter setup (entry ∷ history) d) (sym so.others)
+      (others_pulsed setup history entry old devices.timer devices.pair count are.others asks so.timer);
+  pair = so.pair ∙ sym (pair-pulsed setup history entry count asks.event_is);
+}
 
 -- ---- the disk
 
