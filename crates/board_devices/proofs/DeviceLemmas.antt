@@ -108,19 +108,19 @@ with_pair setup history devices pair is = record {
 
 -- every device after an access that reached one of them
 module _ (setup : Setup) (history : List Entry) (entry : Entry) (dev : Dev) (access : PortAccess) (reaches : ReachesDevice history entry dev access) where
-  timer_at : timer_of (entry ∷ history) ≡ timer_accessed (Some dev) access (timer_of history)
+  pub timer_at : timer_of (entry ∷ history) ≡ timer_accessed (Some dev) access (timer_of history)
   timer_at = timer_soft setup history entry reaches.soft ∙ rw (reaches.event, reaches.device) refl
 
-  clock_at : clock_of (entry ∷ history) ≡ clock_accessed (Some dev) access (clock_of history)
+  pub clock_at : clock_of (entry ∷ history) ≡ clock_accessed (Some dev) access (clock_of history)
   clock_at = clock_soft setup history entry reaches.soft ∙ rw (reaches.event, reaches.device) refl
 
   system_at : system_of (entry ∷ history) ≡ system_accessed (Some dev) access (system_of history)
   system_at = system_soft setup history entry reaches.soft ∙ rw (reaches.event, reaches.device) refl
 
-  triggers_at : triggers_of (entry ∷ history) ≡ triggers_accessed (Some dev) access (triggers_of history)
+  pub triggers_at : triggers_of (entry ∷ history) ≡ triggers_accessed (Some dev) access (triggers_of history)
   triggers_at = triggers_soft setup history entry reaches.soft ∙ rw (reaches.event, reaches.device) refl
 
-  disk_at : disk_of setup (entry ∷ history) ≡ option_map (λ disk. disk_accessed (Some dev) access disk) (disk_of setup history)
+  pub disk_at : disk_of setup (entry ∷ history) ≡ option_map (λ disk. disk_accessed (Some dev) access disk) (disk_of setup history)
   disk_at = disk_soft setup history entry reaches.soft ∙ rw (reaches.event, reaches.device) refl
 
   wires_at : (wires : List Bool) → AreWiresOf history wires → AreWiresOf (entry ∷ history) wires
@@ -162,7 +162,7 @@ same_disk None = refl
 same_disk (Some disk) = refl
 
 -- what holds of each device with ports of its own holds of the device at a port
-at_port : (P : Dev → Type 0) (dev : Dev) (access : PortAccess) → is_chip_port dev access.port (bytes_of access.width) ≡ true →
+pub at_port : (P : Dev → Type 0) (dev : Dev) (access : PortAccess) → is_chip_port dev access.port (bytes_of access.width) ≡ true →
     P Pic0 → P Pic1 → P Pit → P System → P Clock → P Elcr → P Ata → P dev
 at_port P Pic0 access port pic0 pic1 pit system clock elcr ata = pic0
 at_port P Pic1 access port pic0 pic1 pit system clock elcr ata = pic1

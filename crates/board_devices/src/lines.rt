@@ -4,9 +4,11 @@ ghost use Rattle.std.specs.Prelude.{◌≡◌, ℕ, ◌+◌, ◌*◌, ◌<◌, �
 ghost use Rattle.board_prelude.specs.Common.{option_map_or, is_interrupt, pair_after_lines, timer_of, Entry, Setup, pirq_levels, own_level, levels_of, elcr_of};
 ghost use Rattle.board_devices.specs.Devices.{AreWiresOf, AreAfter, AreDevicesOf, AreRoutesOf};
 ghost use Rattle.board_devices.specs.Events.{Leaves};
-ghost use Rattle.board_devices.specs.Laws.{AccessLeavesLines, AcknowledgeLeavesLines, LeavesDevices};
+ghost use Rattle.board_devices.specs.Steps.{driven};
+ghost use Rattle.board_devices.specs.Laws.{AccessLeavesLines, StillLeavesLines, AcknowledgeLeavesLines, LeavesDevices};
 
 use crate::devices::Devices;
+use board_base::Dev;
 use board_spec::laws::devices::law_pair;
 use pic_pair::Lines;
 use pirq_router::Pirq;
@@ -51,6 +53,18 @@ impl Devices {
             || slice_index_or self.now.wires (first + 4) false) }
     {
         self.wires.level(first) | self.wires.level(first + PINS)
+    }
+
+    /// The level of the line that a device drives; where it drives none, 0.
+    pub(crate) fn driven(&self, dev: Dev) -> bool
+        ensures level { result ≡ driven dev self.now }
+    {
+        match dev {
+            Dev::Pit => self.timer.out(0),
+            Dev::Clock => self.clock.irq(),
+            Dev::Ata => self.disk_irq(),
+            _ => false,
+        }
     }
 
     /// The level of the disk's line, which is 0 without a disk.
@@ -118,9 +132,10 @@ pub fn law_left_alone()
     law_pair();
 }
 
-/// An access that can move no line, and an acknowledge, leave the pair as they themselves made it.
+/// An access that can move no line, one that moved none, and an acknowledge leave the pair as they themselves made it.
 pub fn law_lines_stand()
     ensures access { AccessLeavesLines }
+    ensures still { StillLeavesLines }
     ensures acknowledge { AcknowledgeLeavesLines }
 {
     law_pair();
