@@ -65,8 +65,8 @@ static uint32_t cycle_at(machine *m, uint8_t kind, uint32_t port, uint8_t bytes,
     if (is_keyboard(m, &reply, port, bytes)) return use_keyboard(m, kind, port, value);
     if (is_fw_cfg(m, &reply, kind, port, bytes)) return use_fw_cfg(m, kind, port, value);
     if (port == DISK_DATA) m->counts.disk_words += bytes / 2;
-    if (m->options.virtio) return use_virtio(m, &reply.part[0], kind, bytes, kind == BOARD_READ ? (uint32_t)reply.value : value);
     if (is_disk(m, &reply)) return identify_see(m, kind, port, bytes, kind == BOARD_READ ? (uint32_t)reply.value : value);
+    if (m->options.virtio) return use_virtio(m, &reply.part[0], kind, bytes, kind == BOARD_READ ? (uint32_t)reply.value : value);
     return (uint32_t)reply.value;
 }
 

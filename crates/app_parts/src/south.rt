@@ -2,6 +2,7 @@
 
 use board_base::NoMemory;
 use call_words::{byte, number, port};
+use device_spec::LINE_COUNT;
 use pirq_router::{Elcr, Pirq};
 use std::alloc::AllocError;
 use xbus_select::{Ide, Piix, rom_offset, rom_selected, xbcs_after};
@@ -31,8 +32,9 @@ fn push_route(text: &mut String, pirq: &Pirq, pins: &str) -> Result<(), AllocErr
         *level = *digit == b'1';
     }
     let mut driven = 0u32;
-    for (line, level) in pirq.route(levels).iter().enumerate() {
-        if *level {
+    let lines = pirq.route(levels);
+    for line in 0..LINE_COUNT {
+        if lines.level(line as u8) {
             write!(text, "line {line} ")?;
             driven = driven.wrapping_add(1);
         }

@@ -1,6 +1,6 @@
 -- What a chip of the pair does by itself leaves its inputs, and latches nothing.
 use Rattle.std.proofs.Common.{◌≡◌, ℕ, ◌/◌, ◌%◌, ◌<◌, ◌==◌, ◌&&◌, ◌||◌, not, Bool, true, false, cond, List, [], ◌∷◌, Option, Some, None, length, refl, ap, ◌∙◌}
-use Rattle.board_prelude.proofs.Common.{Levels, has, levels_where, no_levels, Chip, Word, Icw2, Icw3, Icw4, interrupt, acknowledged, acknowledged_if, first_blocking, chip_after_word, chip_after_odd_write, is_complete, chip_after_ocw2, chip_after_even_write, chip_after_write, chip_after_read, has-levels_where}
+use Rattle.board_prelude.proofs.Common.{Levels, has, levels_where, Chip, Word, Icw2, Icw3, Icw4, interrupt, acknowledged, acknowledged_if, first_blocking, chip_after_word, chip_after_odd_write, is_complete, chip_after_ocw2, chip_after_even_write, chip_after_write, chip_after_read, has-levels_where}
 use Rattle.board_base.specs.Bits.{is_bit}
 use Rattle.device_spec.specs.Pic.{ended}
 

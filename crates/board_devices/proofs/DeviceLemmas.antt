@@ -1,10 +1,11 @@
 -- What an entry leaves of each device.
-use Rattle.std.proofs.Common.{◌≡◌, ℕ, ◌+◌, ◌<◌, ◌≤◌, Bool, true, false, ◌||◌, ◌&&◌, List, [], ◌∷◌, Option, Some, None, length, get_or, refl, sym, ◌∙◌, ap, subst, arith, inl, inr, ◌*◌, ◌/◌, ◌%◌, replicate, eq-eqb, ne_eqb, get_or-set_same, get_or-set_other, ◌↔◌, is_some, Result, Err, ◌==◌, unwrap_or, map, option_map, slice_index_or, slice_set, if◌then◌else◌}
-use Rattle.board_prelude.proofs.Common.{or-false, and-false, nat_tests, cases_eq, cases_Bool, lt-ltb, le-leb, get_or-replicate, ext_get_or, length-map, get_or-map, each_below, same-levels, pair_has_seen, levels-same, PairHasSeen, PortAccess, Dev, Pic0, Pic1, Pit, System, Keyboard, Elcr, Ata, Wires, Vector, Spurious, bytes_of, PitState, out_of, pulses, reset as timer_at_reset, Clock as ClockState, after_reset as clock_after_reset, Triggers, triggers_at_reset, reserved-rest, Pair, levels_at_power_on, port_byte, pair_after_lines, pair_at_reset, port_read, read_value, trigger_byte, Disk, is_disk_length, power_on as disk_at_power_on, Event, Memory, Wide, Port, Ack, Pulses, Time, Wire, Line, BadSector, Reply, Entry, Setup, IsDiskSize, is_free_line, reset_control, control_written, resets_hard, is_hard_reset, SystemPort, system_at_reset, device_reached, wire_set, wire_of, line_set, irq_of, triggers_accessed, triggers_after, triggers_of, system_accessed, system_after, system_of, timer_accessed, timer_after, timer_of, clock_accessed, clock_after, clock_of, disk_accessed, disk_after, disk_with, disk_of, routes_of, pirq_levels, pair_pulsed, level_with, all_lines, levels_with, levels_of, elcr_of, device_value, pair_accessed, pair_after, pair_reset_or_after, pair_stepped, pair_of}
+use Rattle.std.proofs.Common.{◌≡◌, ℕ, ◌+◌, ◌<◌, ◌≤◌, Bool, true, false, ◌||◌, ◌&&◌, List, [], ◌∷◌, Option, Some, None, length, get_or, refl, sym, ◌∙◌, ap, subst, arith, inl, inr, ◌*◌, ◌/◌, ◌%◌, replicate, eq-eqb, ne_eqb, get_or-set_same, get_or-set_other, length-set, ◌↔◌, is_some, Result, Err, ◌==◌, unwrap_or, map, option_map, slice_index_or, slice_set, if◌then◌else◌}
+use Rattle.board_prelude.proofs.Common.{or-false, and-false, nat_tests, cases_eq, cases_Bool, lt-ltb, le-leb, get_or-replicate, ext_get_or, length-map, get_or-map, each_below, same-levels, pair_has_seen, levels-same, pair-pulsed, PairHasSeen, PortAccess, Dev, Pic0, Pic1, Pit, System, Keyboard, Elcr, Ata, Wires, Vector, Spurious, bytes_of, PitState, out_of, pulses, reset as timer_at_reset, Clock as ClockState, after_reset as clock_after_reset, Triggers, triggers_at_reset, reserved-rest, Pair, levels_at_power_on, port_byte, pair_after_lines, pair_at_reset, port_read, read_value, trigger_byte, Disk, option_map_or, is_disk_length, power_on as disk_at_power_on, Event, Memory, Wide, Port, Ack, Pulses, Time, Wire, Line, BadSector, Reply, Entry, Setup, IsDiskSize, is_free_line, reset_control, control_written, resets_hard, is_hard_reset, SystemPort, system_at_reset, device_reached, wire_set, wire_of, line_set, irq_of, triggers_accessed, triggers_after, triggers_of, system_accessed, system_after, system_of, timer_accessed, timer_after, timer_of, clock_accessed, clock_after, clock_of, disk_accessed, disk_after, disk_with, disk_of, routes_of, pirq_levels, pair_pulsed, own_level, level_with, all_lines, levels_with, levels_of, elcr_of, device_value, pair_accessed, pair_after, pair_reset_or_after, pair_stepped, pair_of}
+use Rattle.board_prelude.specs.Common.{is_interrupt}
 use Rattle.board_devices.specs.Common.{LeavesDevices, DevicesValue, AreWiresOf, AreIrqsOf, AreAfter, AreDevicesOf, is_chip_port, ReachesDevice, Asks, is_chip, PassesBy, Leaves, value_read, after_read, after_write}
 use Rattle.ata_pio.specs.declared.ata.AtaOpen.{AtaOpen}
 use Rattle.board_base.specs.declared.target.Dev.TheVariants.{Confadd, Reset, Clock}
-use Rattle.device_spec.specs.Clock.{power_on as clock_at_power_on}
+use Rattle.device_spec.specs.Clock.{interrupt_line, power_on as clock_at_power_on}
 use Rattle.device_spec.specs.Ata.Steps.{after_reset as disk_after_reset}
 use Rattle.device_spec.specs.PortNames.{elcr_ports}
 use Rattle.board_spec.specs.declared.event.Event.TheVariants.{Look as LookAt}
@@ -107,19 +108,19 @@ with_pair setup history devices pair is = record {
 
 -- every device after an access that reached one of them
 module _ (setup : Setup) (history : List Entry) (entry : Entry) (dev : Dev) (access : PortAccess) (reaches : ReachesDevice history entry dev access) where
-  timer_at : timer_of (entry ∷ history) ≡ timer_accessed (Some dev) access (timer_of history)
+  pub timer_at : timer_of (entry ∷ history) ≡ timer_accessed (Some dev) access (timer_of history)
   timer_at = timer_soft setup history entry reaches.soft ∙ rw (reaches.event, reaches.device) refl
 
-  clock_at : clock_of (entry ∷ history) ≡ clock_accessed (Some dev) access (clock_of history)
+  pub clock_at : clock_of (entry ∷ history) ≡ clock_accessed (Some dev) access (clock_of history)
   clock_at = clock_soft setup history entry reaches.soft ∙ rw (reaches.event, reaches.device) refl
 
   system_at : system_of (entry ∷ history) ≡ system_accessed (Some dev) access (system_of history)
   system_at = system_soft setup history entry reaches.soft ∙ rw (reaches.event, reaches.device) refl
 
-  triggers_at : triggers_of (entry ∷ history) ≡ triggers_accessed (Some dev) access (triggers_of history)
+  pub triggers_at : triggers_of (entry ∷ history) ≡ triggers_accessed (Some dev) access (triggers_of history)
   triggers_at = triggers_soft setup history entry reaches.soft ∙ rw (reaches.event, reaches.device) refl
 
-  disk_at : disk_of setup (entry ∷ history) ≡ option_map (λ disk. disk_accessed (Some dev) access disk) (disk_of setup history)
+  pub disk_at : disk_of setup (entry ∷ history) ≡ option_map (λ disk. disk_accessed (Some dev) access disk) (disk_of setup history)
   disk_at = disk_soft setup history entry reaches.soft ∙ rw (reaches.event, reaches.device) refl
 
   wires_at : (wires : List Bool) → AreWiresOf history wires → AreWiresOf (entry ∷ history) wires
@@ -161,7 +162,7 @@ same_disk None = refl
 same_disk (Some disk) = refl
 
 -- what holds of each device with ports of its own holds of the device at a port
-at_port : (P : Dev → Type 0) (dev : Dev) (access : PortAccess) → is_chip_port dev access.port (bytes_of access.width) ≡ true →
+pub at_port : (P : Dev → Type 0) (dev : Dev) (access : PortAccess) → is_chip_port dev access.port (bytes_of access.width) ≡ true →
     P Pic0 → P Pic1 → P Pit → P System → P Clock → P Elcr → P Ata → P dev
 at_port P Pic0 access port pic0 pic1 pit system clock elcr ata = pic0
 at_port P Pic1 access port pic0 pic1 pit system clock elcr ata = pic1
@@ -350,6 +351,34 @@ same_levels setup history levels size each =
     each k low
     ∙ ap (λ (line : ℕ). level_with setup history (timer_of history) line) (sym (line_numbered k low))
     ∙ sym (get_or-map (level_with setup history (timer_of history)) all_lines k 0 false low))
+
+-- the levels set from outside, with those of the timer, the clock and the disk, are what drives each line itself
+pub own_levels : (setup : Setup) (history : List Entry) (irqs : List Bool) (timer clock disk : Bool) (line : ℕ) → length irqs ≡ 16 →
+    timer ≡ out_of 0 (timer_of history) → clock ≡ interrupt_line (clock_of history) →
+    disk ≡ option_map_or (λ disk. is_interrupt disk.drive) (disk_of setup history) false →
+    AreIrqsOf history irqs → line < 16 →
+    slice_index_or (slice_set (slice_set (slice_set irqs 0 timer) 8 clock) 14 disk) line false ≡ own_level setup history (timer_of history) line
+own_levels setup history irqs timer clock disk line size timer_is clock_is disk_is are below =
+    let timed : List Bool = slice_set irqs 0 timer in
+    let clocked : List Bool = slice_set timed 8 clock in
+    let timed_size : length timed ≡ 16 = length-set irqs 0 timer ∙ size in
+    let clocked_size : length clocked ≡ 16 = length-set timed 8 clock ∙ timed_size in
+    elim (cases_eq line 14) [
+      | inl last ↦ rw last (get_or-set_same clocked 14 disk false (omega (arith, clocked_size)) ∙ disk_is)
+      | inr other ↦
+          get_or-set_other clocked 14 line disk false other
+          ∙ elim (cases_eq line 8) [
+            | inl eighth ↦ rw eighth (get_or-set_same timed 8 clock false (omega (arith, timed_size)) ∙ clock_is)
+            | inr apart ↦
+                get_or-set_other timed 8 line clock false apart
+                ∙ elim (cases_eq line 0) [
+                  | inl first ↦ rw first (get_or-set_same irqs 0 timer false (omega (arith, size)) ∙ timer_is)
+                  | inr free ↦
+                      rw (ne_eqb line 0 free, ne_eqb line 8 apart, ne_eqb line 14 other)
+                      (get_or-set_other irqs 0 line timer false free ∙ are line below)
+                ]
+          ]
+    ]
 
 -- ---- the lines reach the pair
 
@@ -544,7 +573,7 @@ module _ (setup : Setup) (history : List Entry) (entry : Entry) (hard : is_hard_
 
 pub at_power_on : (setup : Setup) (devices : DevicesValue) → devices.timer ≡ timer_at_reset → devices.clock ≡ clock_at_power_on →
     devices.triggers ≡ triggers_at_reset → devices.system ≡ system_at_reset → devices.disk ≡ disk_of setup [] →
-    devices.wires ≡ replicate 10 false → devices.irqs ≡ replicate 16 false → devices.pair ≡ pair_at_reset levels_at_power_on →
+    devices.wires ≡ replicate 16 false → devices.irqs ≡ replicate 16 false → devices.pair ≡ pair_at_reset levels_at_power_on →
     AreDevicesOf setup [] devices
 unfolding timer_of clock_of triggers_of system_of wire_of irq_of pair_of
 at_power_on setup devices timer clock triggers system disk wires irqs pair = record {
@@ -554,7 +583,7 @@ at_power_on setup devices timer clock triggers system disk wires irqs pair = rec
     disk = disk;
     triggers = triggers;
     system = system;
-    wires = λ dev low high. rw wires (get_or-replicate 10 dev false false (omega (arith, high)));
+    wires = λ dev low high. rw wires (get_or-replicate 16 dev false false (omega (arith, high)));
     irqs = λ line below. rw irqs (get_or-replicate 16 line false false below ∙ sym (and-false (is_free_line line)));
   };
   pair = pair;
@@ -573,32 +602,34 @@ pub levels_pulsed : (setup : Setup) (history : List Entry) (timer later : PitSta
 unfolding levels_with
 levels_pulsed setup history timer later = rw (timer_line setup history later) refl
 
--- the devices after the first k pulses of an event
-pub record Pulsed (setup : Setup) (history : List Entry) (old devices : DevicesValue) (levels : List Bool) (elcr k : ℕ) : Type 0 where
-  pub timer : devices.timer ≡ pulses k (timer_of history)
-  pub pair : devices.pair ≡ pair_pulsed setup history k (pair_of setup history)
+-- the devices after the pulses of an event
+pub record Pulsed (setup : Setup) (history : List Entry) (old devices : DevicesValue) (count : ℕ) : Type 0 where
+  pub timer : devices.timer ≡ pulses count old.timer
+  pub pair : devices.pair ≡ pair_pulsed setup history count (pair_of setup history)
   pub others : devices ≡ record old { timer = devices.timer; pair = devices.pair }
-  pub levels_are : levels ≡ levels_with setup history (pulses k (timer_of history))
-  pub elcr_is : elcr ≡ elcr_of history
 
 pub other_pair : (old devices : DevicesValue) (timer : PitState) (pair : Pair) → devices ≡ record old { timer = timer; pair = pair } →
     devices ≡ record old { timer = devices.timer; pair = devices.pair }
 other_pair old devices timer pair is = rw is refl
 
--- after all of them the devices are those of the history with the event
-pub all_pulses : (setup : Setup) (history : List Entry) (entry : Entry) (old devices : DevicesValue) (levels : List Bool) (elcr count : ℕ) →
-    AreDevicesOf setup history old → Asks history entry (Pulses count) → Pulsed setup history old devices levels elcr count →
+-- all but the pair, after them
+pub others_pulsed : (setup : Setup) (history : List Entry) (entry : Entry) (old : DevicesValue) (timer : PitState) (pair : Pair) (count : ℕ) →
+    AreAfter setup history old → Asks history entry (Pulses count) → timer ≡ pulses count old.timer →
+    AreAfter setup (entry ∷ history) (record old { timer = timer; pair = pair })
+others_pulsed setup history entry old timer pair count are asks is =
+    all_asked setup history entry (Pulses count) asks old (record old { timer = timer; pair = pair }) are
+    is refl refl refl (same_disk old.disk) (λ dev low high. refl) (λ line below. irqs_stay history old.irqs line are.irqs below)
+
+-- and the devices, which are those of the history with the event
+pub all_pulses : (setup : Setup) (history : List Entry) (entry : Entry) (old devices : DevicesValue) (count : ℕ) →
+    AreDevicesOf setup history old → Asks history entry (Pulses count) → Pulsed setup history old devices count →
     AreDevicesOf setup (entry ∷ history) devices
-unfolding pair_of
-all_pulses setup history entry old devices levels elcr count are asks so =
-    let timer : pulses count (timer_of history) ≡ pulses count old.timer = ap (λ (t : PitState). pulses count t) (sym are.others.timer) in
-    record {
-      others =
-          subst (λ (d : DevicesValue). AreAfter setup (entry ∷ history) d) (sym so.others)
-          (all_asked setup history entry (Pulses count) asks old (record old { timer = devices.timer; pair = devices.pair }) are.others
-          (so.timer ∙ timer) refl refl refl (same_disk old.disk) (λ dev low high. refl) (λ line below. irqs_stay history old.irqs line are.others.irqs below));
-      pair = so.pair ∙ sym (rw asks.event_is refl);
-    }
+all_pulses setup history entry old devices count are asks so = record {
+  others =
+      subst (λ (d : DevicesValue). AreAfter setup (entry ∷ history) d) (sym so.others)
+      (others_pulsed setup history entry old devices.timer devices.pair count are.others asks so.timer);
+  pair = so.pair ∙ sym (pair-pulsed setup history entry count asks.event_is);
+}
 
 -- ---- the disk
 

@@ -1,11 +1,10 @@
 -- Many pulses of the timer leave the pair as two sets of levels do.
-use Rattle.std.proofs.Common.{◌≡◌, ℕ, zero, suc, ◌+◌, ◌*◌, ◌/◌, ◌%◌, ◌<◌, ◌==◌, nat_lt, ◌&&◌, ◌||◌, not, Bool, true, false, cond, List, [], ◌∷◌, Option, Some, None, is_some, take, drop, inl, inr, refl, ap, sym, subst, ◌∙◌, arith, lit<, slice_set}
-use Rattle.board_prelude.proofs.Common.{cases_Bool, or_parts, true≢false, nat_tests, Levels, has, levels_where, no_levels, with_level, levels_of_byte, Chip, Word, Icw2, Icw3, Icw4, interrupt, latches_after, chip_after_inputs, acknowledged, acknowledged_if, first_blocking, chip_after_word, chip_after_odd_write, is_complete, chip_after_ocw2, chip_after_even_write, chip_after_write, chip_after_read, Pair, settled, master_inputs, pair_at_reset, levels_at_power_on, pair_after_lines, pair_after_write, pair_after_read, pair_acknowledged, pair_acknowledged_at, pair_after_acknowledge, is_slave_port, is_odd_port, PitState, out_of, pulses, rises, Triggers, PortAccess, Dev, Pic0, Pic1, Event, Port, Ack, Pulses, Reply, Entry, Setup, is_hard_reset, device_reached, timer_of, levels_with, levels_of, elcr_of, pair_pulsed, pair_accessed, pair_after, pair_reset_or_after, pair_stepped, pair_of, pair_has_seen, levels_where-same, has-levels_where, same-levels, inputs-again, settled-asks, settled-quiet, latched}
-use Rattle.board_base.specs.Bits.{is_bit}
-use Rattle.device_spec.specs.Pic.{ended}
-use Rattle.board_devices.specs.Common.{DevicesValue, AreDevicesOf, Asks, lines_at, pair_after_run}
+use Rattle.std.proofs.Common.{◌≡◌, ℕ, zero, suc, ◌+◌, ◌/◌, ◌%◌, ◌<◌, ◌==◌, nat_lt, ◌&&◌, ◌||◌, not, Bool, true, false, cond, List, [], ◌∷◌, Option, Some, None, is_some, take, drop, inl, inr, refl, ap, sym, subst, ◌∙◌, arith, lit<, slice_set}
+use Rattle.board_prelude.proofs.Common.{cases_Bool, or_parts, true≢false, nat_tests, Levels, has, levels_where, no_levels, with_level, levels_of_byte, Chip, interrupt, latches_after, chip_after_inputs, acknowledged, chip_after_write, chip_after_read, Pair, settled, master_inputs, pair_at_reset, levels_at_power_on, pair_after_lines, pair_after_write, pair_after_read, pair_acknowledged, pair_acknowledged_at, pair_after_acknowledge, is_slave_port, is_odd_port, PitState, out_of, pulses, rises, PortAccess, Dev, Pic0, Pic1, Event, Port, Ack, Pulses, Reply, Entry, Setup, is_hard_reset, device_reached, timer_of, config_store, byte_of, routes_of, levels_with, levels_of, elcr_of, elcr-same, timer-pulsed, triggers-pulsed, levels-pulsed, pair_pulsed, pair_accessed, pair_after, pair_reset_or_after, pair_stepped, pair_of, pair_has_seen, levels_where-same, has-levels_where, same-levels, inputs-again, settled-asks, settled-quiet, latched}
+use Rattle.board_spec.specs.Registers.{config_address}
+use Rattle.board_devices.specs.Common.{DevicesValue, AreAfter, AreDevicesOf, Asks, lines_at, pair_after_run}
 use Rattle.board_devices.proofs.ChipSteps.{Keeps, write_keeps, acknowledged_keeps, read_keeps}
-use Rattle.board_devices.proofs.DeviceLemmas.{levels_pulsed, other_pair, all_pulses}
+use Rattle.board_devices.proofs.DeviceLemmas.{levels_pulsed, other_pair, others_pulsed, all_pulses}
 
 -- ---- the latch of line 0 at the master
 
@@ -293,38 +292,96 @@ always_fresh setup (entry ∷ before) = stepped_fresh setup entry before entry.e
 
 -- ---- the devices
 
-same_run : (count : ℕ) (levels lines : List Bool) (elcr bits : ℕ) (timer other : PitState) (pair same : Pair) → levels ≡ lines → elcr ≡ bits → timer ≡ other → pair ≡ same →
-    pair_after_run levels elcr (nat_lt 0 (rises count timer)) (out_of 0 (pulses count timer)) pair
-    ≡ pair_after_run lines bits (nat_lt 0 (rises count other)) (out_of 0 (pulses count other)) same
-same_run count levels lines elcr bits timer other pair same a b c d =
-    ap (λ (l : List Bool). pair_after_run l elcr (nat_lt 0 (rises count timer)) (out_of 0 (pulses count timer)) pair) a
-    ∙ (ap (λ (e : ℕ). pair_after_run lines e (nat_lt 0 (rises count timer)) (out_of 0 (pulses count timer)) pair) b
-    ∙ (ap (λ (t : PitState). pair_after_run lines bits (nat_lt 0 (rises count t)) (out_of 0 (pulses count t)) pair) c
-    ∙ ap (pair_after_run lines bits (nat_lt 0 (rises count other)) (out_of 0 (pulses count other))) d))
+-- line 0 is given at a level of its own, whatever the lines have there
+run_again : (levels : List Bool) (elcr : ℕ) (x rose out : Bool) (pair : Pair) → pair_after_run (slice_set levels 0 x) elcr rose out pair ≡ pair_after_run levels elcr rose out pair
+run_again [] elcr x rose out pair = refl
+run_again (y ∷ rest) elcr x rose out pair = refl
 
--- the devices after pulses, whose pair saw two sets of levels at most
-pub after_pulses : (setup : Setup) (history : List Entry) (entry : Entry) (old devices : DevicesValue) (levels : List Bool) (elcr count : ℕ) →
-    AreDevicesOf setup history old → Asks history entry (Pulses count) → levels ≡ levels_of setup history →
-    elcr ≡ old.triggers.low + 0x100 * old.triggers.high →
-    devices ≡ record old {
-      timer = pulses count old.timer;
-      pair = pair_after_run levels elcr (nat_lt 0 (rises count old.timer)) (out_of 0 (pulses count old.timer)) old.pair;
-    } → AreDevicesOf setup (entry ∷ history) devices
-after_pulses setup history entry old devices levels elcr count are asks lines_are bits is =
-    let t : old.timer ≡ timer_of history = are.others.timer in
-    let bits_are : elcr ≡ elcr_of history = bits ∙ ap (λ (x : Triggers). x.low + 0x100 * x.high) are.others.triggers in
-    let seen_then : pair_after_lines (pair_of setup history) (levels_of setup history) (elcr_of history) ≡ pair_of setup history = pair_has_seen same-levels setup history in
-    let same : levels_of setup history ≡ slice_set (levels_of setup history) 0 (out_of 0 (timer_of history)) = levels_pulsed setup history (timer_of history) (timer_of history) in
-    let seen : lines_at (levels_of setup history) (elcr_of history) (out_of 0 (timer_of history)) (pair_of setup history) ≡ pair_of setup history =
-    ap (λ (l : List Bool). pair_after_lines (pair_of setup history) l (elcr_of history)) (sym same) ∙ seen_then in
-    let run = pulsed setup history count (always_fresh setup history) seen in
-    all_pulses setup history entry old devices (levels_with setup history (pulses count (timer_of history))) (elcr_of history) count are asks (record {
-      timer = ap (λ (d : DevicesValue). d.timer) is ∙ ap (λ (x : PitState). pulses count x) t;
-      pair =
-          ap (λ (d : DevicesValue). d.pair) is
-          ∙ (same_run count levels (levels_of setup history) elcr (elcr_of history) old.timer (timer_of history) old.pair (pair_of setup history) lines_are bits_are t are.pair
-          ∙ sym run);
-      others = other_pair old devices _ _ is;
-      levels_are = refl;
-      elcr_is = refl;
-    })
+same_run : (levels lines : List Bool) (elcr bits n m : ℕ) (out level : Bool) (pair same : Pair) → levels ≡ lines → elcr ≡ bits → n ≡ m → out ≡ level → pair ≡ same →
+    pair_after_run levels elcr (nat_lt 0 n) out pair ≡ pair_after_run lines bits (nat_lt 0 m) level same
+same_run levels lines elcr bits n m out level pair same a b c d e = rw (a, b, c, d, e) refl
+
+-- no route moves
+pub routes_pulsed : (setup : Setup) (history : List Entry) (entry : Entry) (count : ℕ) → Asks history entry (Pulses count) →
+    routes_of setup (entry ∷ history) ≡ routes_of setup history
+unfolding byte_of
+routes_pulsed setup history entry count asks =
+    let none : config_store setup (config_address history) entry.event ≡ None = rw asks.event_is refl in
+    rw (asks.soft, none) refl
+
+-- `run` are the devices whose timer alone ran
+module _ (setup : Setup) (history : List Entry) (entry : Entry) (old run : DevicesValue) (count : ℕ) (are : AreDevicesOf setup history old) (asks : Asks history entry (Pulses count)) (is : run ≡ record old { timer = pulses count old.timer }) where
+  abbrev stood : List Bool
+  stood = levels_of setup history
+
+  abbrev before : PitState
+  before = timer_of history
+
+  abbrev after : PitState
+  after = pulses count (timer_of history)
+
+  abbrev saw : Pair
+  saw = pair_of setup history
+
+  timer_is : pulses count old.timer ≡ after
+  timer_is = ap (λ (t : PitState). pulses count t) are.others.timer
+
+  pair_is : run.pair ≡ saw
+  pair_is = ap (λ (d : DevicesValue). d.pair) is ∙ are.pair
+
+  -- the lines as the pair saw them
+  seen : lines_at stood (elcr_of history) (out_of 0 before) saw ≡ saw
+  seen =
+      ap (λ (l : List Bool). pair_after_lines saw l (elcr_of history)) (sym (levels_pulsed setup history before before))
+      ∙ pair_has_seen same-levels setup history
+
+  ran : pair_pulsed setup history count saw ≡ pair_after_run stood (elcr_of history) (nat_lt 0 (rises count before)) (out_of 0 after) saw
+  ran = pulsed setup history count (always_fresh setup history) seen
+
+  -- all but the pair
+  pub after_run : AreAfter setup (entry ∷ history) run
+  after_run =
+      subst (λ (d : DevicesValue). AreAfter setup (entry ∷ history) d) (sym is)
+      (others_pulsed setup history entry old (pulses count old.timer) old.pair count are.others asks refl)
+
+  whole : (devices : DevicesValue) → devices ≡ record run { pair = devices.pair } → devices.pair ≡ pair_pulsed setup history count saw →
+      AreDevicesOf setup (entry ∷ history) devices
+  whole devices others pair =
+      all_pulses setup history entry old devices count are asks
+      (record {
+        timer = ap (λ (d : DevicesValue). d.timer) others ∙ ap (λ (d : DevicesValue). d.timer) is;
+        pair = pair;
+        others = other_pair old devices (pulses count old.timer) devices.pair (others ∙ ap (λ (d : DevicesValue). record d { pair = devices.pair }) is);
+      })
+
+  -- the lines then reach the pair
+  pub gave : (devices : DevicesValue) (rose : ℕ) (out : Bool) → rose ≡ rises count old.timer → out ≡ out_of 0 (pulses count old.timer) →
+      devices ≡ record run { pair = devices.pair } →
+      devices.pair ≡ pair_after_run (levels_of setup (entry ∷ history)) (elcr_of (entry ∷ history)) (nat_lt 0 rose) out run.pair →
+      AreDevicesOf setup (entry ∷ history) devices
+  gave devices rose out rose_is out_is others lined =
+      let lines : levels_of setup (entry ∷ history) ≡ slice_set stood 0 (out_of 0 after) =
+      ap (λ (t : PitState). levels_with setup (entry ∷ history) t) (timer-pulsed history entry count asks.event_is)
+      ∙ (levels-pulsed setup history entry count after asks.event_is
+      ∙ levels_pulsed setup history before after) in
+      let bits : elcr_of (entry ∷ history) ≡ elcr_of history = elcr-same (entry ∷ history) history (triggers-pulsed history entry count asks.event_is) in
+      whole devices others
+      (lined
+      ∙ (same_run _ _ _ _ rose (rises count before) out (out_of 0 after) run.pair saw lines bits
+      (rose_is ∙ ap (λ (t : PitState). rises count t) are.others.timer)
+      (out_is ∙ ap (λ (t : PitState). out_of 0 t) timer_is)
+      pair_is
+      ∙ (run_again stood (elcr_of history) (out_of 0 after) (nat_lt 0 (rises count before)) (out_of 0 after) saw
+      ∙ sym ran)))
+
+  -- and where line 0 did not move they need not
+  pub rested : rises count old.timer ≡ 0 → out_of 0 (pulses count old.timer) ≡ out_of 0 old.timer → AreDevicesOf setup (entry ∷ history) run
+  rested none same =
+      whole run refl
+      (pair_is
+      ∙ sym (ran
+      ∙ (same_run stood stood (elcr_of history) (elcr_of history) (rises count before) 0 (out_of 0 after) (out_of 0 before) saw saw refl refl
+      (sym (ap (λ (t : PitState). rises count t) are.others.timer) ∙ none)
+      (sym (ap (λ (t : PitState). out_of 0 t) timer_is) ∙ (same ∙ ap (λ (t : PitState). out_of 0 t) are.others.timer))
+      refl
+      ∙ seen)))

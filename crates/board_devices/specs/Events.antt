@@ -1,6 +1,7 @@
 -- What an entry asks of the devices.
 use Rattle.std.specs.Prelude.{ℕ, ◌≡◌, ◌&&◌, Bool, true, false, List, Option, Some}
-use Rattle.board_prelude.specs.Common.{PortAccess, Dev, Pic0, Pic1, Pit, System, Elcr, Ata, is_port_of, Event, Memory, Wide, Port, Entry, is_hard_reset, device_reached}
+use Rattle.board_prelude.specs.Common.{PortAccess, Dev, Pic0, Pic1, Pit, System, Elcr, Ata, is_port_of, Event, Memory, Wide, Port, Entry, Setup, is_hard_reset, device_reached, option_map_or, out_of, is_interrupt, timer_of, clock_of, disk_of}
+use Rattle.device_spec.specs.Clock.{interrupt_line}
 use Rattle.board_base.specs.declared.target.Dev.TheVariants.{Clock}
 use Rattle.board_spec.specs.declared.event.Event.TheVariants.{Look}
 
@@ -50,3 +51,15 @@ PassesBy _ reached = ⊥
 pub record Leaves (history : List Entry) (entry : Entry) : Type 0 where
   pub passes : PassesBy entry.event (device_reached entry.reply)
   pub soft : is_hard_reset history entry.event ≡ false
+
+-- whether a write to a device changes which lines are level triggered
+abbrev pub sets_triggers : Dev → Bool
+sets_triggers Elcr = true
+sets_triggers _ = false
+
+-- the level of the line that a device drives after a history; where it drives none, 0
+abbrev pub level_driven : Dev → Setup → List Entry → Bool
+level_driven Pit setup history = out_of 0 (timer_of history)
+level_driven Clock setup history = interrupt_line (clock_of history)
+level_driven Ata setup history = option_map_or (λ disk. is_interrupt disk.drive) (disk_of setup history) false
+level_driven _ setup history = false

@@ -1,8 +1,8 @@
 -- What the laws of this crate say: they are proved on functions of `lines`.
-use Rattle.std.specs.Prelude.{◌≡◌, true, false, List, ◌∷◌, Some}
+use Rattle.std.specs.Prelude.{◌≡◌, ◌&&◌, true, false, List, ◌∷◌, Some}
 use Rattle.board_prelude.specs.Common.{PortAccess, Dev, bytes_of, Ack, Entry, Setup, routes_of, pair_after_acknowledge, pair_accessed, pair_of}
 use Rattle.board_devices.specs.Devices.{DevicesValue, AreDevicesOf}
-use Rattle.board_devices.specs.Events.{Asks, Leaves, ReachesDevice, is_chip_port, moves_lines}
+use Rattle.board_devices.specs.Events.{Asks, Leaves, ReachesDevice, is_chip_port, moves_lines, sets_triggers, level_driven}
 
 -- an event that reaches no device and moves no route leaves every device, and the pair too, since the lines stand as
 -- it saw them
@@ -20,6 +20,16 @@ AccessLeavesLines =
     (setup : Setup) (history : List Entry) (entry : Entry) (dev : Dev) (access : PortAccess) →
     is_chip_port dev access.port (bytes_of access.width) ≡ true → ReachesDevice history entry dev access →
     moves_lines dev access.write ≡ false →
+    pair_of setup (entry ∷ history) ≡ pair_accessed (Some dev) access (pair_of setup history)
+
+-- and so does one after which the device that it reached drives its line as before, where it is no write to the edge
+-- and level control
+abbrev pub StillLeavesLines : Type 0
+StillLeavesLines =
+    (setup : Setup) (history : List Entry) (entry : Entry) (dev : Dev) (access : PortAccess) →
+    is_chip_port dev access.port (bytes_of access.width) ≡ true → ReachesDevice history entry dev access →
+    (access.write && sets_triggers dev) ≡ false →
+    level_driven dev setup (entry ∷ history) ≡ level_driven dev setup history →
     pair_of setup (entry ∷ history) ≡ pair_accessed (Some dev) access (pair_of setup history)
 
 -- and so does an acknowledge

@@ -1,6 +1,7 @@
 -- What an access at a port does to the devices, before the lines reach the pair.
-use Rattle.std.specs.Prelude.{ℕ, ◌%◌, ◌==◌, not, option_map}
-use Rattle.board_prelude.specs.Common.{option_map_or, PortAccess, Dev, Pic0, Pic1, Pit, System, Elcr, Ata, largest_of, pair_after_read, pair_after_write, port_byte, port_read, port_write, set_gate2, read_value, after_read as clock_after_read, after_write as clock_after_write, trigger_byte, triggers_after_write, read_of, is_bit, system_value}
+use Rattle.std.specs.Prelude.{ℕ, ◌%◌, ◌==◌, Bool, false, not, option_map}
+use Rattle.board_prelude.specs.Common.{option_map_or, PortAccess, Dev, Pic0, Pic1, Pit, System, Elcr, Ata, largest_of, pair_after_read, pair_after_write, port_byte, port_read, port_write, set_gate2, read_value, after_read as clock_after_read, after_write as clock_after_write, trigger_byte, triggers_after_write, read_of, is_bit, system_value, out_of, is_interrupt}
+use Rattle.device_spec.specs.Clock.{interrupt_line}
 use Rattle.board_base.specs.declared.target.Dev.TheVariants.{Clock}
 use Rattle.device_spec.specs.Ata.Steps.{after_read as disk_after_read, after_write as disk_after_write}
 use Rattle.device_spec.specs.PortNames.{elcr_ports}
@@ -48,3 +49,10 @@ after_write Ata access devices =
       disk = option_map (λ disk. disk_after_write access.port access.width access.value disk) devices.disk;
     }
 after_write _ access devices = devices
+
+-- the level of the line that a device drives; where it drives none, 0
+abbrev pub driven : Dev → DevicesValue → Bool
+driven Pit devices = out_of 0 devices.timer
+driven Clock devices = interrupt_line devices.clock
+driven Ata devices = option_map_or (λ disk. is_interrupt disk.drive) devices.disk false
+driven _ devices = false

@@ -1,12 +1,12 @@
 //! Accesses at the ports of the devices.
 
-ghost use Rattle.std.specs.Prelude.{◌≡◌, ◌∷◌, ◌≤◌, List, true, false, ◌%◌, option_map};
+ghost use Rattle.std.specs.Prelude.{◌≡◌, ◌∷◌, ◌≤◌, List, true, false, ◌%◌, ◌&&◌, option_map};
 ghost use Rattle.board_prelude.specs.Common.{bytes_of, largest_of, Entry, Setup, device_value, vector_of, acknowledged_by, Ack as AckEvent, option_map_or, answer_of, pair_after_acknowledge, set_gate2, is_ata_port, read_of, is_bit, who_answered};
 ghost use Rattle.device_spec.specs.Ata.Steps.{after_read as disk_after_read, after_write as disk_after_write};
 ghost use Rattle.pic_pair.specs.View.{answer_shown};
-ghost use Rattle.board_devices.specs.Steps.{value_read, after_read, after_write};
+ghost use Rattle.board_devices.specs.Steps.{value_read, after_read, after_write, driven};
 ghost use Rattle.board_devices.specs.Devices.{AreDevicesOf, AreRoutesOf};
-ghost use Rattle.board_devices.specs.Events.{is_chip_port, moves_lines, ReachesDevice, Asks};
+ghost use Rattle.board_devices.specs.Events.{is_chip_port, sets_triggers, ReachesDevice, Asks};
 
 use crate::devices::Devices;
 use board_base::bits::is_set;
@@ -19,8 +19,8 @@ use pirq_router::Pirq;
 const GATE_2: u32 = 0;
 
 impl Devices {
-    /// Reads a port of a device, which may change its state, and then the lines reach the pair where one can have moved.
-    /// Without a disk its ports read all ones.
+    /// Reads a port of a device, which may change its state, and then the lines reach the pair where one moved. Without a
+    /// disk its ports read all ones.
     pub fn read(&mut self, routes: &Pirq, dev: Dev, access: &PortAccess) -> u32
         requires port { is_chip_port dev access.now.port (bytes_of access.now.width) ≡ true }
         ensures value { (setup : Setup) (history : List Entry) → AreDevicesOf setup history self.old
@@ -29,14 +29,15 @@ impl Devices {
             → ReachesDevice history entry dev access.now → access.now.write ≡ false
             → AreRoutesOf setup (entry ∷ history) routes.now → AreDevicesOf setup (entry ∷ history) self.new }
     {
+        let before = self.driven(dev);
         let value = self.read_port(dev, access);
-        if moves_lines(dev, false) {
+        if self.moved(dev, false, before) {
             self.settle(routes);
         }
         value
     }
 
-    /// Writes a port of a device, and then the lines reach the pair where one can have moved.
+    /// Writes a port of a device, and then the lines reach the pair where one moved, or which are level triggered.
     pub fn write(&mut self, routes: &Pirq, dev: Dev, access: &PortAccess)
         requires port { is_chip_port dev access.now.port (bytes_of access.now.width) ≡ true }
         requires fits { access.now.value ≤ largest_of access.now.width }
@@ -44,10 +45,20 @@ impl Devices {
             → ReachesDevice history entry dev access.now → access.now.write ≡ true
             → AreRoutesOf setup (entry ∷ history) routes.now → AreDevicesOf setup (entry ∷ history) self.new }
     {
+        let before = self.driven(dev);
         self.write_port(dev, access);
-        if moves_lines(dev, true) {
+        if self.moved(dev, true, before) {
             self.settle(routes);
         }
+    }
+
+    /// Whether the lines, or which of them are level triggered, moved by an access to a device that before it drove its
+    /// line at this level.
+    fn moved(&self, dev: Dev, write: bool, before: bool) -> bool
+        ensures triggers { result ≡ false → (write && sets_triggers dev) ≡ false }
+        ensures level { result ≡ false → driven dev self.now ≡ before }
+    {
+        write && sets_triggers(dev) || self.driven(dev) != before
     }
 
     /// Acknowledges an interrupt: the vector, and who gives it. No line moves by it, whatever the routes are.
@@ -152,15 +163,12 @@ impl Devices {
     }
 }
 
-/// Whether a read of a device, or a write to it, can move an interrupt line or change which are level triggered.
-fn moves_lines(dev: Dev, write: bool) -> bool
-    ensures moves { result ≡ moves_lines dev write }
+/// Whether a write to a device changes which lines are level triggered.
+fn sets_triggers(dev: Dev) -> bool
+    ensures sets { result ≡ sets_triggers dev }
 {
     match dev {
-        Dev::Clock => true,
-        Dev::Ata => true,
-        Dev::Pit => write,
-        Dev::Elcr => write,
+        Dev::Elcr => true,
         _ => false,
     }
 }

@@ -8,15 +8,11 @@ ghost use Rattle.board_devices.specs.Devices.{AreDevicesOf, AreRoutesOf};
 use crate::system::SystemPort;
 use ata_pio::{Ata, AtaOpen};
 use cmos_clock::Cmos;
-use device_spec::LINE_COUNT;
-use pic_pair::PicPair;
+use pic_pair::{Lines, PicPair};
 use pirq_router::{Elcr, Pirq};
 use pit_8254::Pit;
 use std::alloc::Global;
 use std::marker::Model;
-
-/// Device numbers on the bus end below this one: cards have 2 to 9.
-pub(crate) const DEVICE_COUNT: usize = 10;
 
 /// The devices of the board. Contracts see the state of each machine.
 #[derive(Drop)]
@@ -27,10 +23,10 @@ pub struct Devices {
     pub(crate) disk: Option<Ata>,
     pub(crate) triggers: Elcr,
     pub(crate) system: SystemPort,
-    /// INTA# of each card, by its device number.
-    pub(crate) wires: [bool; DEVICE_COUNT],
+    /// INTA# of each card, by its device number, 2 to 9.
+    pub(crate) wires: Lines,
     /// The levels that were set from outside, by line.
-    pub(crate) irqs: [bool; LINE_COUNT],
+    pub(crate) irqs: Lines,
 }
 
 impl Model for Devices {
@@ -73,8 +69,8 @@ impl Devices {
             disk,
             triggers: Elcr::new(),
             system: SystemPort::new(),
-            wires: [false; DEVICE_COUNT],
-            irqs: [false; LINE_COUNT],
+            wires: Lines::low(),
+            irqs: Lines::low(),
         }
     }
 
@@ -134,7 +130,7 @@ impl Devices {
     }
 
     /// Resets the pair with its lines at these levels.
-    fn reset_pair(&mut self, levels: [bool; LINE_COUNT])
+    fn reset_pair(&mut self, levels: Lines)
         ensures after { self.new ≡ record self.old { pair = pair_at_reset levels } }
     {
         self.pair.reset(levels);

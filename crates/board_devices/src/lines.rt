@@ -1,35 +1,37 @@
 //! The sixteen interrupt lines.
 
-ghost use Rattle.std.specs.Prelude.{◌≡◌, ◌+◌, ◌*◌, ◌<◌, ◌∷◌, ◌||◌, List, slice_index_or, false};
+ghost use Rattle.std.specs.Prelude.{◌≡◌, ℕ, ◌+◌, ◌*◌, ◌<◌, ◌∷◌, ◌||◌, List, slice_index_or, false};
 ghost use Rattle.board_prelude.specs.Common.{option_map_or, is_interrupt, pair_after_lines, timer_of, Entry, Setup, pirq_levels, own_level, levels_of, elcr_of};
 ghost use Rattle.board_devices.specs.Devices.{AreWiresOf, AreAfter, AreDevicesOf, AreRoutesOf};
 ghost use Rattle.board_devices.specs.Events.{Leaves};
-ghost use Rattle.board_devices.specs.Laws.{AccessLeavesLines, AcknowledgeLeavesLines, LeavesDevices};
+ghost use Rattle.board_devices.specs.Steps.{driven};
+ghost use Rattle.board_devices.specs.Laws.{AccessLeavesLines, StillLeavesLines, AcknowledgeLeavesLines, LeavesDevices};
 
 use crate::devices::Devices;
+use board_base::Dev;
 use board_spec::laws::devices::law_pair;
-use device_spec::LINE_COUNT;
+use pic_pair::Lines;
 use pirq_router::Pirq;
 
 /// The line of the timer, that of the clock, and that of the disk.
-pub(crate) const TIMER_LINE: usize = 0;
+pub(crate) const TIMER_LINE: u8 = 0;
 
-const CLOCK_LINE: usize = 8;
+const CLOCK_LINE: u8 = 8;
 
-const DISK_LINE: usize = 14;
+const DISK_LINE: u8 = 14;
 
 /// The first card on each of the pins PIRQA# to PIRQD#, by its device number; the second is as many devices on as
 /// there are pins.
-const FIRST_ON_PIRQA: usize = 5;
+const FIRST_ON_PIRQA: u8 = 5;
 
-const FIRST_ON_PIRQB: usize = 2;
+const FIRST_ON_PIRQB: u8 = 2;
 
-const FIRST_ON_PIRQC: usize = 3;
+const FIRST_ON_PIRQC: u8 = 3;
 
-const FIRST_ON_PIRQD: usize = 4;
+const FIRST_ON_PIRQD: u8 = 4;
 
 /// How many pins PIRQA# to PIRQD# are.
-const PINS: usize = 4;
+const PINS: u8 = 4;
 
 impl Devices {
     /// PIRQA to PIRQD: INTA# of the card at device d goes to number (d - 1) mod 4, and each is the or of its wires.
@@ -45,27 +47,24 @@ impl Devices {
     }
 
     /// The level of a pin that two cards share, of which this is the first.
-    fn pin(&self, first: usize) -> bool
+    fn pin(&self, first: u8) -> bool
         requires first { first < 6 }
         ensures level { result ≡ (slice_index_or self.now.wires first false
             || slice_index_or self.now.wires (first + 4) false) }
     {
-        self.wires[first] | self.wires[first + PINS]
+        self.wires.level(first) | self.wires.level(first + PINS)
     }
 
-    /// The level of a line, where the PCI interrupts hold these at 1.
-    fn level(&self, routed: &[bool; LINE_COUNT], line: usize) -> bool
-        requires line { line < 16 }
-        ensures level { (setup : Setup) (history : List Entry) → AreAfter setup history self.now
-            → result ≡ (own_level setup history (timer_of history) line || slice_index_or routed.now line false) }
+    /// The level of the line that a device drives; where it drives none, 0.
+    pub(crate) fn driven(&self, dev: Dev) -> bool
+        ensures level { result ≡ driven dev self.now }
     {
-        let own = match line {
-            TIMER_LINE => self.timer.out(0),
-            CLOCK_LINE => self.clock.irq(),
-            DISK_LINE => self.disk_irq(),
-            _ => self.irqs[line],
-        };
-        own | routed[line]
+        match dev {
+            Dev::Pit => self.timer.out(0),
+            Dev::Clock => self.clock.irq(),
+            Dev::Ata => self.disk_irq(),
+            _ => false,
+        }
     }
 
     /// The level of the disk's line, which is 0 without a disk.
@@ -79,16 +78,21 @@ impl Devices {
     }
 
     /// The levels of the lines, with the PCI interrupts routed so.
-    pub(crate) fn levels(&self, routes: &Pirq) -> [bool; LINE_COUNT]
+    pub(crate) fn levels(&self, routes: &Pirq) -> Lines
         ensures levels { (setup : Setup) (history : List Entry) → AreAfter setup history self.now
             → AreRoutesOf setup history routes.now → result ≡ levels_of setup history }
     {
-        let routed = routes.route(self.pins());
-        let mut levels = [false; LINE_COUNT];
-        for line in 0..LINE_COUNT {
-            levels[line] = self.level(&routed, line);
-        }
-        levels
+        self.own_levels().union(&routes.route(self.pins()))
+    }
+
+    /// What the devices on the board and the levels set from outside drive.
+    fn own_levels(&self) -> Lines
+        ensures own { (setup : Setup) (history : List Entry) (line : ℕ) → AreAfter setup history self.now → line < 16
+            → slice_index_or result line false ≡ own_level setup history (timer_of history) line }
+    {
+        let timed = self.irqs.with(TIMER_LINE, self.timer.out(0));
+        let clocked = timed.with(CLOCK_LINE, self.clock.irq());
+        clocked.with(DISK_LINE, self.disk_irq())
     }
 
     /// Gives the lines to the pair as they stand, and with them the edge and level control.
@@ -128,9 +132,10 @@ pub fn law_left_alone()
     law_pair();
 }
 
-/// An access that can move no line, and an acknowledge, leave the pair as they themselves made it.
+/// An access that can move no line, one that moved none, and an acknowledge leave the pair as they themselves made it.
 pub fn law_lines_stand()
     ensures access { AccessLeavesLines }
+    ensures still { StillLeavesLines }
     ensures acknowledge { AcknowledgeLeavesLines }
 {
     law_pair();

@@ -1,30 +1,32 @@
 //! What comes from outside the bus: pulses of the timer's clock, moments, levels, and sectors that go bad. After each
 //! event, and as if after each single pulse, the lines reach the pair.
 
-ghost use Rattle.std.specs.Prelude.{◌≡◌, ◌<◌, ◌≤◌, ◌∷◌, List, length, nat_lt, slice_set, option_map, true};
-ghost use Rattle.board_prelude.specs.Common.{out_of, pulses, rises, after_moment, civil_time, after_bad, IsMoment, Entry, Pulses, Time, Wire, Line, BadSector, Setup, is_free_line};
-ghost use Rattle.board_devices.specs.Devices.{AreDevicesOf, AreRoutesOf};
+ghost use Rattle.std.specs.Prelude.{◌≡◌, ◌<◌, ◌≤◌, ◌∷◌, List, length, nat_lt, slice_set, option_map, true, false};
+ghost use Rattle.board_prelude.specs.Common.{out_of, pulses, rises, after_moment, civil_time, after_bad, IsMoment, Entry, Pulses, Time, Wire, Line, BadSector, Setup, is_free_line, levels_of, elcr_of};
+ghost use Rattle.board_devices.specs.Devices.{AreAfter, AreDevicesOf, AreRoutesOf};
 ghost use Rattle.board_devices.specs.Events.{Asks};
 ghost use Rattle.board_devices.specs.PulsedPair.{pair_after_run};
 
 use crate::devices::Devices;
 use crate::lines::TIMER_LINE;
 use board_base::Moment;
-use device_spec::LINE_COUNT;
-use pic_pair::PicPair;
+use pic_pair::{Lines, PicPair};
 use pirq_router::Pirq;
 use pit_8254::Rises;
 
 impl Devices {
-    /// Runs the timer for `count` pulses of its clock input. The lines reach the pair as if after each single one.
+    /// Runs the timer for `count` pulses of its clock input. The lines reach the pair as if after each single one, and
+    /// where line 0 did not move they need not.
     pub fn pulses(&mut self, routes: &Pirq, count: u32)
         ensures devices { (setup : Setup) (history : List Entry) (entry : Entry) → AreDevicesOf setup history self.old
             → Asks history entry (Pulses count) → AreRoutesOf setup history routes.now
             → AreDevicesOf setup (entry ∷ history) self.new }
     {
-        let levels = self.levels(routes);
-        let elcr = self.elcr();
-        self.run(count, levels, elcr);
+        let before = self.timer.out(0);
+        let rises = self.run(count);
+        if moved(before, rises) {
+            self.give(routes, rises);
+        }
     }
 
     /// Gives the clock a moment to show.
@@ -73,16 +75,26 @@ impl Devices {
 }
 
 impl Devices {
-    /// Runs the timer for `count` pulses, after which the lines with these levels reach the pair.
+    /// Runs the timer for `count` pulses.
     #[tactic(auto, unfolding(device_spec::specs::Pit::out_of))]
-    fn run(&mut self, count: u32, levels: [bool; LINE_COUNT], elcr: u16)
-        ensures after { self.new ≡ record self.old {
-          timer = pulses count self.old.timer;
-          pair = pair_after_run levels elcr (nat_lt 0 (rises count self.old.timer))
-              (out_of 0 (pulses count self.old.timer)) self.old.pair;
-        } }
+    fn run(&mut self, count: u32) -> Rises
+        ensures after { self.new ≡ record self.old { timer = pulses count self.old.timer } }
+        ensures rose { result.rose ≡ rises count self.old.timer }
+        ensures out0 { result.out0 ≡ out_of 0 (pulses count self.old.timer) }
     {
-        let rises = self.timer.pulses(count);
+        self.timer.pulses(count)
+    }
+
+    /// The lines as they stand after pulses reach the pair, and leave what they would have left after each single one.
+    fn give(&mut self, routes: &Pirq, rises: Rises)
+        ensures pair { (setup : Setup) (history : List Entry) → AreAfter setup history self.old
+            → AreRoutesOf setup history routes.now
+            → self.new.pair ≡ pair_after_run (levels_of setup history) (elcr_of history) (nat_lt 0 rises.rose)
+            rises.out0 self.old.pair }
+        ensures others { self.new ≡ record self.old { pair = self.new.pair } }
+    {
+        let levels = self.levels(routes);
+        let elcr = self.elcr();
         reach(&mut self.pair, levels, elcr, rises);
     }
 
@@ -98,9 +110,9 @@ impl Devices {
     fn put_wire(&mut self, dev: u8, on: bool)
         requires high { dev ≤ 9 }
         ensures after { self.new ≡ record self.old { wires = slice_set self.old.wires dev on } }
-        ensures room { length self.old.wires ≡ 10 }
+        ensures room { length self.old.wires ≡ 16 }
     {
-        self.wires[usize::from(dev)] = on;
+        self.wires = self.wires.with(dev, on);
     }
 
     /// Keeps the level of a line.
@@ -109,7 +121,7 @@ impl Devices {
         ensures after { self.new ≡ record self.old { irqs = slice_set self.old.irqs irq on } }
         ensures room { length self.old.irqs ≡ 16 }
     {
-        self.irqs[usize::from(irq)] = on;
+        self.irqs = self.irqs.with(irq, on);
     }
 
     /// A sector of the disk goes bad, where a disk is fitted.
@@ -122,22 +134,20 @@ impl Devices {
     }
 }
 
-/// The lines reach the pair after pulses, and leave what they would have left after each single one. Where line 0 rose
-/// and stayed at 1, it is given at 0 and then at 1, whatever came before.
-fn reach(pair: &mut PicPair, levels: [bool; LINE_COUNT], elcr: u16, rises: Rises)
+/// Whether line 0 moved in pulses, before which it was at this level.
+fn moved(before: bool, rises: Rises) -> bool
+    ensures rose { result ≡ false → rises.rose ≡ 0 }
+    ensures level { result ≡ false → rises.out0 ≡ before }
+{
+    rises.rose > 0 || rises.out0 != before
+}
+
+/// The lines reach the pair. Where line 0 rose and stayed at 1, it is given at 0 and then at 1, whatever came before.
+fn reach(pair: &mut PicPair, levels: Lines, elcr: u16, rises: Rises)
     ensures pair { pair.new ≡ pair_after_run levels elcr (nat_lt 0 rises.rose) rises.out0 pair.old }
 {
     if rises.rose > 0 && rises.out0 {
-        pair.lines(with_timer(levels, false), elcr);
+        pair.lines(levels.with(TIMER_LINE, false), elcr);
     }
-    pair.lines(with_timer(levels, rises.out0), elcr);
-}
-
-/// The levels of the lines, with that of the timer's line.
-fn with_timer(levels: [bool; LINE_COUNT], timer: bool) -> [bool; LINE_COUNT]
-    ensures levels { result ≡ slice_set levels 0 timer }
-{
-    let mut levels = levels;
-    levels[TIMER_LINE] = timer;
-    levels
+    pair.lines(levels.with(TIMER_LINE, rises.out0), elcr);
 }

@@ -1,9 +1,9 @@
 -- Sets of levels and the bits of their bytes.
-use Rattle.std.proofs.Common.{◌≡◌, ℕ, zero, suc, ◌+◌, ◌-◌, ◌*◌, ◌%◌, ◌^◌, ◌<◌, ◌≤◌, min, max, Bool, true, false, not, eqb, ltb, ◌||◌, ◌&&◌, length, refl, ap, ◌∙◌, ◌↔◌, inl, inr, arith, bit_or, bit_and}
-use Rattle.std.specs.Int.{bit_at}
+use Rattle.std.proofs.Common.{◌≡◌, ℕ, zero, suc, ◌-◌, ◌*◌, ◌%◌, ◌^◌, ◌<◌, min, max, Bool, true, not, eqb, ◌||◌, ◌&&◌, refl, ap, ◌∙◌, ◌↔◌, inl, inr, arith, bit_or, bit_and}
+use Rattle.std.specs.Int.{Width, bit_at, bit_not}
+use mir.Val.{bits}
 use mir.Syntax.{w8}
-use Rattle.device_spec.proofs.Common.{cases_eq, eq-eqb, ne_eqb, lt-ltb, le-ltb, agree_below_at, eqb-true, is_bit, levels_where-same, has-levels_where, levels_where-has, Levels, has, levels_where, no_levels, with_level, without_level, levels_of_byte, byte_of_levels}
-use Rattle.std.proofs.lemmas.Bool.{cases_order}
+use Rattle.device_spec.proofs.Common.{cases_eq, eq-eqb, ne_eqb, agree_below_at, eqb-true, is_bit, levels_where-same, has-levels_where, has, levels_where, no_levels, with_level, without_level, levels_of_byte, byte_of_levels}
 use Rattle.std.proofs.lemmas.Nat.Bits.{bit_at-lt, bit_at_or, bit_at_and, bit_at_not, bit_at_set_same, bit_at_set_other, bit_at_clear_same, bit_at_clear_other}
 
 -- ---- bits
@@ -39,18 +39,18 @@ is_bit-and a b l = ap (λ x. eqb x 1) (bit_at_and a b l) ∙ min-bits (bit_at a 
 pub is_bit-not : (b l : ℕ) → b < 256 → l < 8 → is_bit (255 - b) l ≡ not (is_bit b l)
 is_bit-not b l small h = ap (λ x. eqb x 1) (bit_at_not w8 b l small h) ∙ not-bit (bit_at b l) (bit_at-lt b l)
 
-pub is_bit-set : (n k l : ℕ) → k < 8 → l < 8 → is_bit (bit_or n (1 * 2 ^ k % 256)) l ≡ (eqb l k || is_bit n l)
-is_bit-set n k l hk hl =
+pub is_bit-set : (w : Width) (n k l : ℕ) → k < bits w → is_bit (bit_or n (1 * 2 ^ k % 2 ^ bits w)) l ≡ (eqb l k || is_bit n l)
+is_bit-set w n k l hk =
     elim (cases_eq l k) [
-      | inl same ↦ rw (same, eq-eqb k k refl) (ap (λ x. eqb x 1) (bit_at_set_same w8 n k hk))
-      | inr other ↦ rw (ne_eqb l k other) (ap (λ x. eqb x 1) (bit_at_set_other w8 n k hk l other))
+      | inl same ↦ rw (same, eq-eqb k k refl) (ap (λ x. eqb x 1) (bit_at_set_same w n k hk))
+      | inr other ↦ rw (ne_eqb l k other) (ap (λ x. eqb x 1) (bit_at_set_other w n k hk l other))
     ]
 
-pub is_bit-clear : (n k l : ℕ) → k < 8 → l < 8 → is_bit (bit_and n (255 - 1 * 2 ^ k % 256)) l ≡ (not (eqb l k) && is_bit n l)
-is_bit-clear n k l hk hl =
+pub is_bit-clear : (w : Width) (n k l : ℕ) → k < bits w → l < bits w → is_bit (bit_and n (bit_not w (1 * 2 ^ k % 2 ^ bits w))) l ≡ (not (eqb l k) && is_bit n l)
+is_bit-clear w n k l hk hl =
     elim (cases_eq l k) [
-      | inl same ↦ rw (same, eq-eqb k k refl) (ap (λ x. eqb x 1) (bit_at_clear_same w8 n k hk))
-      | inr other ↦ rw (ne_eqb l k other) (ap (λ x. eqb x 1) (bit_at_clear_other w8 n k hk l hl other))
+      | inl same ↦ rw (same, eq-eqb k k refl) (ap (λ x. eqb x 1) (bit_at_clear_same w n k hk))
+      | inr other ↦ rw (ne_eqb l k other) (ap (λ x. eqb x 1) (bit_at_clear_other w n k hk l hl other))
     ]
 
 -- ---- what the operations on masks do to the sets
@@ -69,11 +69,11 @@ levels-rest a b small =
 
 pub levels-set : (n k : ℕ) → k < 8 → levels_of_byte (bit_or n (1 * 2 ^ k % 256)) ≡ with_level (levels_of_byte n) k
 levels-set n k hk =
-    levels_where-same _ (λ l. eqb l k || has (levels_of_byte n) l) (λ l h. rw (has-levels_where (is_bit n) l h) (is_bit-set n k l hk h))
+    levels_where-same _ (λ l. eqb l k || has (levels_of_byte n) l) (λ l h. rw (has-levels_where (is_bit n) l h) (is_bit-set w8 n k l hk))
 
 pub levels-cleared : (n k : ℕ) → k < 8 → levels_of_byte (bit_and n (255 - 1 * 2 ^ k % 256)) ≡ without_level (levels_of_byte n) k
 levels-cleared n k hk =
-    levels_where-same _ (λ l. not (eqb l k) && has (levels_of_byte n) l) (λ l h. rw (has-levels_where (is_bit n) l h) (is_bit-clear n k l hk h))
+    levels_where-same _ (λ l. not (eqb l k) && has (levels_of_byte n) l) (λ l h. rw (has-levels_where (is_bit n) l h) (is_bit-clear w8 n k l hk h))
 
 -- the byte of a byte's set
 is_own_byte : ℕ → Bool
@@ -91,50 +91,3 @@ levels-none n small = (
   λ zero. ap levels_of_byte (eqb-true n 0 zero),
   λ none. eq-eqb n 0 (byte-levels n small ∙ ap byte_of_levels none),
 )
-
--- ---- a set made level by level
-
--- the levels below i of a list
-unfoldable pub front_levels : Levels → ℕ → Levels
-front_levels levels i = levels_where (λ k. ltb k i && has levels k)
-
-front-here : (levels : Levels) (i k : ℕ) → has levels i ≡ true → (eqb k i || (ltb k i && has levels k)) ≡ (ltb k (i + 1) && has levels k)
-front-here levels i k here =
-    elim (cases_order k i) [
-      | inl same ↦ rw (same, eq-eqb i i refl, lt-ltb i (i + 1) (omega arith), here) refl
-      | inr apart ↦ elim apart [
-        | inl below ↦ rw (ne_eqb k i (λ e. omega arith), lt-ltb k i below, lt-ltb k (i + 1) (omega arith)) refl
-        | inr above ↦ rw (ne_eqb k i (λ e. omega arith), le-ltb k i (omega arith), le-ltb k (i + 1) (omega arith)) refl
-      ]
-    ]
-
-front-absent : (levels : Levels) (i k : ℕ) → has levels i ≡ false → (ltb k i && has levels k) ≡ (ltb k (i + 1) && has levels k)
-front-absent levels i k absent =
-    elim (cases_order k i) [
-      | inl same ↦ rw (same, le-ltb i i (omega arith), lt-ltb i (i + 1) (omega arith), absent) refl
-      | inr apart ↦ elim apart [
-        | inl below ↦ rw (lt-ltb k i below, lt-ltb k (i + 1) (omega arith)) refl
-        | inr above ↦ rw (le-ltb k i (omega arith), le-ltb k (i + 1) (omega arith)) refl
-      ]
-    ]
-
-pub front_levels-with : (levels : Levels) (i : ℕ) → i < 8 → has levels i ≡ true → with_level (front_levels levels i) i ≡ front_levels levels (i + 1)
-unfolding front_levels
-front_levels-with levels i small here =
-    levels_where-same (λ k. eqb k i || has (front_levels levels i) k) (λ k. ltb k (i + 1) && has levels k) (λ k h. rw (has-levels_where (λ k. ltb k i && has levels k) k h) (front-here levels i k here))
-
-pub front_levels-without : (levels : Levels) (i : ℕ) → has levels i ≡ false → front_levels levels i ≡ front_levels levels (i + 1)
-unfolding front_levels
-front_levels-without levels i absent =
-    levels_where-same (λ k. ltb k i && has levels k) (λ k. ltb k (i + 1) && has levels k) (λ k h. front-absent levels i k absent)
-
-pub front_levels-all : (levels : Levels) (i : ℕ) → length levels ≡ 8 → 8 ≤ i → front_levels levels i ≡ levels
-unfolding front_levels
-front_levels-all levels i all h =
-    levels_where-same (λ k. ltb k i && has levels k) (λ k. has levels k) (λ k small. rw (lt-ltb k i (omega arith)) refl)
-    ∙ levels_where-has levels all
-
-pub front_levels-none : (levels : Levels) → no_levels ≡ front_levels levels 0
-unfolding front_levels
-front_levels-none levels =
-    levels_where-same (λ _. false) (λ k. ltb k 0 && has levels k) (λ k small. rw (le-ltb k 0 (omega arith)) refl)

@@ -1,5 +1,5 @@
 //! Sets of the eight levels of an interrupt controller, as bit masks.
-ghost use Rattle.std.specs.Prelude.{◌≡◌, ◌↔◌, ◌<◌, ◌&&◌, ◌||◌, not, length, true};
+ghost use Rattle.std.specs.Prelude.{◌≡◌, ◌↔◌, ◌<◌, ◌&&◌, ◌||◌, not, true};
 ghost use Rattle.device_spec.specs.Levels.{has, levels_where, no_levels, with_level, without_level, levels_of_byte, byte_of_levels};
 
 use board_base::bits::is_set;
@@ -34,20 +34,6 @@ impl LevelSet {
         ensures levels { result ≡ levels_of_byte byte }
     {
         LevelSet { bits: byte }
-    }
-
-    /// The set of the levels that are `true`.
-    pub fn from_levels(levels: &[bool]) -> LevelSet
-        requires { length levels.now ≡ 8 }
-        ensures levels { result ≡ levels.now }
-    {
-        let mut set = LevelSet::empty();
-        for (level, is_in) in levels.iter().enumerate() {
-            if *is_in {
-                set.insert(level as u8);
-            }
-        }
-        set
     }
 
     /// The byte with the bits of the set's levels.

@@ -1,8 +1,10 @@
-//! The pair of 8259A interrupt controllers of a PC.
+//! The pair of 8259A interrupt controllers of a PC, and the levels of its sixteen lines.
 #![tactic(auto)]
 
 mod chip;
 mod level_set;
+mod lines;
 mod pair;
 
+pub use lines::Lines;
 pub use pair::{Ack, PicPair};

@@ -5,12 +5,13 @@ ghost use Rattle.pic_pair.specs.View.{answer_shown};
 
 use crate::chip::{CASCADE, Pic};
 use crate::level_set::LevelSet;
+use crate::lines::Lines;
 use board_base::bits::is_set;
-use device_spec::LINE_COUNT;
 use std::marker::Model;
 
-/// How many of the lines are the master's.
-const MASTER_LINES: usize = 8;
+/// The line of the timer, which is 1 at power-on.
+const TIMER_LINE: u8 = 0;
+
 /// The number of the master, and that of the slave.
 const MASTER: u8 = 0;
 
@@ -51,13 +52,11 @@ impl PicPair {
     pub fn new() -> PicPair
         ensures power_on { result ≡ pair_at_reset levels_at_power_on }
     {
-        let mut levels = [false; LINE_COUNT];
-        levels[0] = true;
-        PicPair::at_reset(&levels)
+        PicPair::at_reset(&Lines::low().with(TIMER_LINE, true))
     }
 
     /// Resets both chips, with the sixteen lines at these levels.
-    pub fn reset(&mut self, levels: [bool; LINE_COUNT])
+    pub fn reset(&mut self, levels: Lines)
         ensures reset { self.new ≡ pair_at_reset levels }
     {
         *self = PicPair::at_reset(&levels);
@@ -82,19 +81,16 @@ impl PicPair {
     }
 
     /// Gives the sixteen lines their levels. Bit k of `elcr` says that line k is level triggered.
-    pub fn lines(&mut self, levels: [bool; LINE_COUNT], elcr: u16)
+    pub fn lines(&mut self, levels: Lines, elcr: u16)
         ensures lines { self.new ≡ pair_after_lines self.old levels elcr }
     {
-        let (low, high) = levels.split_at(MASTER_LINES);
         let [low_triggers, high_triggers] = elcr.to_le_bytes();
         self.master.set_inputs(
-            master_inputs(LevelSet::from_levels(low)),
+            master_inputs(levels.masters()),
             master_inputs(LevelSet::from_byte(low_triggers)),
         );
-        self.slave.set_inputs(
-            LevelSet::from_levels(high),
-            LevelSet::from_byte(high_triggers),
-        );
+        self.slave
+            .set_inputs(levels.slaves(), LevelSet::from_byte(high_triggers));
         self.settle();
     }
 
@@ -159,13 +155,12 @@ impl PicPair {
     }
 
     /// The pair after a reset, with its lines at these levels.
-    fn at_reset(levels: &[bool; LINE_COUNT]) -> PicPair
+    fn at_reset(levels: &Lines) -> PicPair
         ensures reset { result ≡ pair_at_reset levels.now }
     {
-        let (low, high) = levels.split_at(MASTER_LINES);
         PicPair {
-            master: Pic::new(true, master_inputs(LevelSet::from_levels(low))),
-            slave: Pic::new(false, LevelSet::from_levels(high)),
+            master: Pic::new(true, master_inputs(levels.masters())),
+            slave: Pic::new(false, levels.slaves()),
         }
     }
 

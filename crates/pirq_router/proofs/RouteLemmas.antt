@@ -1,6 +1,6 @@
 -- One pin more, and one line set.
-use Rattle.std.proofs.Common.{zero, suc, ◌≡◌, ℕ, ◌+◌, ◌<◌, Bool, true, false, eqb, ◌||◌, ◌&&◌, List, length, get_or, set, Some, None, refl, sym, ap, ◌∙◌, add-one, get_or-set_same, get_or-set_other, inl, inr}
-use Rattle.board_prelude.proofs.Common.{or-false, and-true, and-false, cases_eq, eq-eqb, ne_eqb, Routes, drives, line_of_route, is_line_driven}
+use Rattle.std.proofs.Common.{zero, suc, ◌≡◌, ℕ, ◌+◌, ◌<◌, Bool, true, false, eqb, ◌||◌, ◌&&◌, List, length, get_or, set, Option, Some, None, refl, sym, ap, ◌∙◌, add-one, get_or-set_same, get_or-set_other, inl, inr}
+use Rattle.board_prelude.proofs.Common.{or-false, cases_eq, eq-eqb, ne_eqb, Routes, drives, line_of_route, is_line_driven}
 
 -- whether one of the first pins holds the line at 1
 unfoldable pub drives_among : ℕ → Routes → List Bool → ℕ → Bool
@@ -32,23 +32,22 @@ pub drives_among-more : (k : ℕ) (routes : Routes) (pins : List Bool) (line : �
 unfolding drives_among
 drives_among-more k routes pins line = rw (add-one k) refl
 
--- a list of lines where a pin's level was added to the line that it is routed to
-pub line-raised : (lines : List Bool) (routed line : ℕ) (level : Bool) → routed < length lines → get_or (set lines routed (get_or lines routed false || level)) line false ≡ (get_or lines line false || (level && eqb routed line))
-line-raised lines routed line level h =
+-- a pin at 0 drives no line
+drives-none : (routed : Option ℕ) (line : ℕ) → drives routed false line ≡ false
+drives-none None line = refl
+drives-none (Some at) line = refl
+
+pub drives-low : (on : Bool) (routed : Option ℕ) (line : ℕ) → on ≡ (on || drives routed false line)
+drives-low on routed line = sym (ap (λ (b : Bool). on || b) (drives-none routed line) ∙ or-false on)
+
+or-true : (b : Bool) → true ≡ (b || true)
+or-true true = refl
+or-true false = refl
+
+-- and one at 1 the line that it is routed to
+pub line-raised : (lines : List Bool) (routed line : ℕ) → routed < length lines → get_or (set lines routed true) line false ≡ (get_or lines line false || (true && eqb routed line))
+line-raised lines routed line h =
     elim (cases_eq line routed) [
-      | inl same ↦ rw (same, get_or-set_same lines routed (get_or lines routed false || level) false h, eq-eqb routed routed refl) (ap (λ b. get_or lines routed false || b) (sym (and-true level)))
-      | inr other ↦ rw (get_or-set_other lines routed line (get_or lines routed false || level) false other, ne_eqb routed line (λ e. other (sym e)), and-false level) (sym (or-false (get_or lines line false)))
+      | inl same ↦ rw (same, get_or-set_same lines routed true false h, eq-eqb routed routed refl) (or-true (get_or lines routed false))
+      | inr other ↦ rw (get_or-set_other lines routed line true false other, ne_eqb routed line (λ e. other (sym e))) (sym (or-false (get_or lines line false)))
     ]
-
--- the next pin adds nothing where it is not routed
-pub drives_among-unrouted : (k : ℕ) (routes : Routes) (pins : List Bool) (line : ℕ) → line_of_route (get_or routes k 0) ≡ None → drives_among (k + 1) routes pins line ≡ drives_among k routes pins line
-drives_among-unrouted k routes pins line e =
-    drives_among-more k routes pins line
-    ∙ ap (λ o. drives_among k routes pins line || drives o (get_or pins k false) line) e
-    ∙ or-false (drives_among k routes pins line)
-
--- and adds its level to the line that it is routed to
-pub drives_among-routed : (k : ℕ) (routes : Routes) (pins : List Bool) (line routed : ℕ) → line_of_route (get_or routes k 0) ≡ Some routed → drives_among (k + 1) routes pins line ≡ (drives_among k routes pins line || (get_or pins k false && eqb routed line))
-drives_among-routed k routes pins line routed e =
-    drives_among-more k routes pins line
-    ∙ ap (λ o. drives_among k routes pins line || drives o (get_or pins k false) line) e

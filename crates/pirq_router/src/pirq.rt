@@ -3,13 +3,13 @@
 //! | offset | register           | reset    | writable | effect                                             |
 //! |--------|--------------------|----------|----------|----------------------------------------------------|
 //! | 60-63  | PIRQRCA to PIRQRCD | 80h each | 8F each  | bit 7 at 1: not routed; bits 3 to 0: to which line |
-ghost use Rattle.std.specs.Prelude.{◌≡◌, ℕ, ◌<◌, ◌-◌, if◌then◌else◌, replicate, IfSome, slice_index_or, true, false};
-ghost use Rattle.board_prelude.specs.Common.{One, Store, Setup, reset_byte, changed_byte, Bytes, isa, pirq, route_byte, routes_after_write, route_reset, is_line_driven, is_route_offset, line_of_route};
+ghost use Rattle.std.specs.Prelude.{◌≡◌, ℕ, ◌<◌, ◌-◌, if◌then◌else◌, replicate, IfSome, slice_index_or, ◌||◌, true, false};
+ghost use Rattle.board_prelude.specs.Common.{One, Store, Setup, reset_byte, changed_byte, Bytes, isa, pirq, route_byte, routes_after_write, route_reset, drives, is_line_driven, is_route_offset, line_of_route};
 ghost use Rattle.pirq_router.specs.Routes.{AreRoutesIn};
 
 use board_base::bits::{is_set, merged};
 use board_spec::offset::{PIRQRCA, PIRQRCD};
-use device_spec::LINE_COUNT;
+use pic_pair::Lines;
 use std::marker::Model;
 
 /// How many PCI interrupt pins are routed, PIRQA# to PIRQD#.
@@ -84,17 +84,28 @@ impl Pirq {
     }
 
     /// The lines that the pins hold at 1: each one that a pin at 1 is routed to.
-    pub fn route(&self, pins: [bool; 4]) -> [bool; LINE_COUNT]
+    pub fn route(&self, pins: [bool; 4]) -> Lines
         ensures lines { (line : ℕ) → line < 16 → slice_index_or result line false ≡ is_line_driven self.now pins line }
     {
-        let mut lines = [false; LINE_COUNT];
+        let mut lines = Lines::low();
         for pin in 0..PINS {
-            match line_of_route(self.bytes[pin]) {
-                Some(line) => lines[line] |= pins[pin],
-                None => {}
-            }
+            lines = joined(lines, self.bytes[pin], pins[pin]);
         }
         lines
+    }
+}
+
+/// The lines, joined by that which a pin of this level drives, where a register's byte routes the pin.
+fn joined(lines: Lines, byte: u8, level: bool) -> Lines
+    ensures lines { (line : ℕ) → line < 16 → slice_index_or result line false
+        ≡ (slice_index_or lines line false || drives (line_of_route byte) level line) }
+{
+    if !level {
+        return lines;
+    }
+    match line_of_route(byte) {
+        Some(line) => lines.with(line, true),
+        None => lines,
     }
 }
 
@@ -109,7 +120,7 @@ fn pin_at(offset: u8) -> Option<usize>
 }
 
 /// The line that a register's byte routes its pin to: not 0, 1, 2, 8 or 13.
-fn line_of_route(byte: u8) -> Option<usize>
+fn line_of_route(byte: u8) -> Option<u8>
     ensures line { result ≡ line_of_route byte }
     ensures small { IfSome result (λ line. line < 16) }
 {
@@ -117,6 +128,6 @@ fn line_of_route(byte: u8) -> Option<usize>
     match line {
         0 | 1 | 2 | 8 | 13 => None,
         _ if is_set(byte.into(), DISABLE) => None,
-        _ => Some(line as usize),
+        _ => Some(line),
     }
 }

@@ -31,11 +31,11 @@ const INITIALISE: [Step; 8] = [
 /// Line 0 alone, which is 1 from power-on.
 const IDLE: Step = Lines(0x0001, 0);
 
-fn levels_of(mask: u16) -> [bool; 16] {
-    let mut levels = [false; 16];
+fn levels_of(mask: u16) -> crate::Lines {
+    let mut levels = crate::Lines::low();
     let mut rest = mask;
-    for level in levels.iter_mut() {
-        *level = rest % 2 == 1;
+    for line in 0..16 {
+        levels = levels.with(line, rest % 2 == 1);
         rest /= 2;
     }
     levels

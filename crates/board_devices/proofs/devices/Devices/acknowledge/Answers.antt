@@ -1,4 +1,4 @@
-use Rattle.std.proofs.Common.{◌∷◌, refl}
+use Rattle.std.proofs.Common.{refl}
 use Rattle.board_prelude.proofs.Common.{Ack, pair_after_acknowledge, pair_has_seen, same-levels}
 use Rattle.board_devices.specs.Devices.{DevicesValue}
 use Rattle.board_devices.proofs.DeviceLemmas.{all_asked, stood_as, irqs_stay, same_disk}

@@ -1,0 +1,103 @@
+//! The levels of the sixteen interrupt lines, as a bit mask.
+ghost use Rattle.std.specs.Prelude.{◌≡◌, ℕ, ◌<◌, ◌||◌, length, replicate, take, drop, slice_index_or, slice_set, true, false};
+
+use crate::level_set::LevelSet;
+use board_base::bits::is_set;
+use std::marker::Model;
+
+/// How many of the lines are the master's.
+const MASTER_LINES: u32 = 8;
+
+/// The levels of the sixteen interrupt lines.
+///
+/// Contracts see the list of sixteen Booleans that say which lines are at 1.
+#[derive(Drop)]
+pub struct Lines {
+    bits: u16,
+}
+
+impl Model for Lines {
+    ghost use Rattle.std.specs.Prelude.{Bool, List};
+
+    ghost Value = { List Bool };
+
+    ghost use Rattle.pic_pair.specs.Lines.{lines_of};
+
+    ghost view = { λ lines. lines_of lines.bits };
+}
+
+impl Lines {
+    /// All lines at 0.
+    pub fn low() -> Lines
+        ensures low { result ≡ replicate 16 false }
+    {
+        Lines { bits: 0 }
+    }
+
+    /// The level of a line.
+    pub fn level(&self, line: u8) -> bool
+        requires { line < 16 }
+        ensures level { result ≡ slice_index_or self.now line false }
+    {
+        is_set(self.bits.into(), line.into())
+    }
+
+    /// The same levels, but with this one for a line.
+    pub fn with(&self, line: u8, on: bool) -> Lines
+        requires { line < 16 }
+        ensures set { result ≡ slice_set self.now line on }
+        ensures size { length self.now ≡ 16 }
+    {
+        if on {
+            return self.raised(line);
+        }
+        self.lowered(line)
+    }
+
+    /// The lines that are at 1 here or there.
+    pub fn union(&self, other: &Lines) -> Lines
+        ensures either { (line : ℕ) → line < 16 → slice_index_or result line false
+            ≡ (slice_index_or self.now line false || slice_index_or other.now line false) }
+        ensures size { length result ≡ 16 }
+    {
+        Lines {
+            bits: self.bits | other.bits,
+        }
+    }
+
+    /// The master's lines, 0 to 7.
+    pub(crate) fn masters(&self) -> LevelSet
+        ensures levels { result ≡ take 8 self.now }
+    {
+        LevelSet::from_byte((self.bits % (1 << MASTER_LINES)) as u8)
+    }
+
+    /// The slave's lines, 8 to 15.
+    pub(crate) fn slaves(&self) -> LevelSet
+        ensures levels { result ≡ drop 8 self.now }
+    {
+        LevelSet::from_byte((self.bits >> MASTER_LINES) as u8)
+    }
+
+    /// The same levels, but with a line at 1.
+    fn raised(&self, line: u8) -> Lines
+        requires { line < 16 }
+        ensures set { result ≡ slice_set self.now line true }
+        ensures size { length self.now ≡ 16 }
+    {
+        Lines {
+            bits: self.bits | 1 << line,
+        }
+    }
+
+    /// The same levels, but with a line at 0.
+    fn lowered(&self, line: u8) -> Lines
+        requires { line < 16 }
+        ensures set { result ≡ slice_set self.now line false }
+        ensures size { length self.now ≡ 16 }
+    {
+        Lines {
+            bits: self.bits & !(1 << line),
+        }
+    }
+}
