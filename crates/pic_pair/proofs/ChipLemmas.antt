@@ -1,9 +1,11 @@
 -- One chip: its inputs, and that it has no request where no level is requested.
-use Rattle.std.proofs.Common.{◌≡◌, ℕ, ◌≤◌, ◌<◌, Bool, true, false, not, cond, ◌||◌, ◌&&◌, List, [], ◌∷◌, ◌++◌, None, refl, sym, ap, ◌∙◌, inl, inr}
-use Rattle.std.proofs.lemmas.Bool.{cases_lt}
+use Rattle.std.proofs.Common.{◌≡◌, ℕ, ◌+◌, ◌%◌, ◌≤◌, ◌<◌, Bool, true, false, not, cond, ◌||◌, ◌&&◌, List, [], ◌∷◌, ◌++◌, eqb, length, get_or, drop, take, Some, None, refl, length-append, length-drop, length-take, arith, sym, ap, ◌∙◌, inl, inr}
+use Rattle.std.proofs.lemmas.Bool.{cases_lt, agree_below}
 use Rattle.std.proofs.lemmas.List.{get_or_past}
-use Rattle.device_spec.specs.Common.{Levels, has, levels_where, no_levels, Chip, pending, latches_after, is_requested, first_selectable, request, priority_order}
-use Rattle.device_spec.proofs.Common.{levels_where-same, has-levels_where}
+use Rattle.device_spec.specs.Common.{Levels, has, levels_where, no_levels, Chip, pending, latches_after, is_requested, first_selectable, blocks_itself, is_blocking, request, priority_order}
+use Rattle.device_spec.specs.Levels.{all_levels}
+use Rattle.device_spec.proofs.Priorities.{scan, scan-found, scan-blocked, scan-past, scan-end}
+use Rattle.device_spec.proofs.Common.{agree_below_at, eqb-true, levels_where-same, has-levels_where}
 
 -- ---- the pending levels
 
@@ -58,3 +60,51 @@ none_requested chip none = none_selectable chip [] (priority_order chip.lowest) 
 -- the set of the requested levels has those
 pub requested-has : (chip : Chip) (set : Levels) (l : ℕ) → l < 8 → set ≡ levels_where (is_requested chip) → has set l ≡ is_requested chip l
 requested-has chip set l small is = ap (λ (s : Levels). has s l) is ∙ has-levels_where (is_requested chip) l small
+
+-- ---- the order of priority
+
+-- the places of an order stand for the levels behind the lowest, and round to it
+stands_at : ℕ → ℕ → Bool
+stands_at lowest place = eqb ((lowest + 1 + place) % 8) (get_or (priority_order lowest) place 0)
+
+stand_so : ℕ → Bool
+stand_so lowest = agree_below (stands_at lowest) (λ _. true) 8
+
+pub level-at : (lowest place : ℕ) → lowest < 8 → place < 8 → (lowest + 1 + place) % 8 ≡ get_or (priority_order lowest) place 0
+unfolding stands_at stand_so
+level-at lowest place small within =
+    let here = agree_below_at stand_so (λ _. true) 8 lowest refl small in
+    eqb-true ((lowest + 1 + place) % 8) (get_or (priority_order lowest) place 0) (agree_below_at (stands_at lowest) (λ _. true) 8 place here within)
+
+pub order-length : (lowest : ℕ) → length (priority_order lowest) ≡ 8
+order-length lowest =
+    length-append (drop (lowest + 1) all_levels) (take (lowest + 1) all_levels)
+    ∙ omega (arith, length-drop (lowest + 1) all_levels, length-take (lowest + 1) all_levels)
+
+-- ---- the search for a level, which a chip finds at a place of its order
+
+module _ (chip : Chip) (place level : ℕ) (here : level ≡ get_or (priority_order chip.lowest) place 0) where
+  abbrev rest : List ℕ
+  rest = drop place (priority_order chip.lowest)
+
+  abbrev asks : ℕ → Bool
+  asks l = is_requested chip l && not (blocks_itself chip l)
+
+  within : place < 8 → place < length (priority_order chip.lowest)
+  within small = omega (arith, order-length chip.lowest)
+
+  pub found-here : place < 8 → asks level ≡ true → scan chip rest ≡ Some level
+  found-here small found =
+      scan-found chip (priority_order chip.lowest) place (within small) (sym (ap asks here) ∙ found)
+      ∙ ap (λ (l : ℕ). Some l) (sym here)
+
+  pub blocked-here : place < 8 → asks level ≡ false → is_blocking chip level ≡ true → scan chip rest ≡ None
+  blocked-here small passes blocks =
+      scan-blocked chip (priority_order chip.lowest) place (within small) (sym (ap asks here) ∙ passes) (sym (ap (is_blocking chip) here) ∙ blocks)
+
+  pub past-here : place < 8 → asks level ≡ false → is_blocking chip level ≡ false → scan chip rest ≡ scan chip (drop (place + 1) (priority_order chip.lowest))
+  past-here small passes none =
+      scan-past chip (priority_order chip.lowest) place (within small) (sym (ap asks here) ∙ passes) (sym (ap (is_blocking chip) here) ∙ none)
+
+pub none-left : (chip : Chip) (place : ℕ) → 8 ≤ place → scan chip (drop place (priority_order chip.lowest)) ≡ None
+none-left chip place past = scan-end chip (priority_order chip.lowest) place (omega (arith, order-length chip.lowest))

@@ -5,7 +5,7 @@
 //! | even | what OCW3 chose: the levels pending   | ICW1 where bit 4 is 1, OCW3 where bits 4 and 3 are  |
 //! |      | or those in service; a poll           | 0 and 1, else OCW2: ends of interrupt, priorities   |
 //! | odd  | the mask; a poll                      | ICW2 to ICW4 while they are awaited, else OCW1      |
-ghost use Rattle.std.specs.Prelude.{◌≡◌, ◌+◌, ◌++◌, ◌<◌, ◌&&◌, ◌||◌, not, IfSome, EachIndex, slice_index, false};
+ghost use Rattle.std.specs.Prelude.{◌≡◌, ◌+◌, ◌++◌, ◌<◌, ◌&&◌, ◌||◌, not, IfSome, slice_index, false};
 ghost use Rattle.device_spec.specs.Common.{with_level, acknowledged_if, byte_polled, is_complete, chip_at_reset, chip_after_inputs, pending, priority_order, is_blocking, blocks_itself, is_requested, request, interrupt, acknowledged, chip_after_icw1, first_blocking, chip_after_ocw2, chip_after_ocw3, chip_after_odd_write, chip_after_write, byte_read, chip_after_read};
 ghost use Rattle.device_spec.specs.Levels.{levels_where};
 ghost use Rattle.pic_pair.specs.View.{awaited_words, cascade_words, mode_words};
@@ -19,8 +19,8 @@ use std::marker::Model;
 pub const CASCADE: u8 = 2;
 /// The level of lowest priority after a reset or ICW1.
 const LAST_LEVEL: u8 = 7;
-/// The levels, IR0 to IR7.
-const LEVELS: [u8; 8] = [0, 1, 2, 3, 4, 5, 6, 7];
+/// How many levels there are, IR0 to IR7.
+const LEVEL_COUNT: u8 = 8;
 
 /// ICW1: the bit that marks it among the words of the even port.
 const ICW1: u32 = 4;
@@ -267,14 +267,13 @@ impl Pic {
         high.union(&latched)
     }
 
-    /// The levels from the highest priority to the lowest.
-    fn order(&self) -> [u8; 8]
-        ensures order { result ≡ priority_order self.now.lowest }
-        ensures levels { EachIndex result (λ place. slice_index result place < 8) }
+    /// The level at a place in the order from the highest priority to the lowest.
+    fn level_at(&self, place: u8) -> u8
+        requires place { place < 8 }
+        ensures level { result ≡ slice_index (priority_order self.now.lowest) place }
+        ensures small { result < 8 }
     {
-        let mut order = LEVELS;
-        order.rotate_left(self.lowest as usize + 1);
-        order
+        (self.lowest + 1 + place) % LEVEL_COUNT
     }
 
     /// Whether a level in service blocks those after it.
@@ -327,7 +326,8 @@ impl Pic {
         ensures request { result ≡ request self.now }
         ensures level { IfSome result (λ level. level < 8) }
     {
-        for level in self.order() {
+        for place in 0..LEVEL_COUNT {
+            let level = self.level_at(place);
             if self.asks(requested, level) {
                 return Some(level);
             }
@@ -343,7 +343,8 @@ impl Pic {
         ensures first { result ≡ first_blocking self.now }
         ensures level { IfSome result (λ level. level < 8) }
     {
-        for served in self.order() {
+        for place in 0..LEVEL_COUNT {
+            let served = self.level_at(place);
             if self.is_blocking(served) {
                 return Some(served);
             }
