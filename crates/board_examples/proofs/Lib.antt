@@ -17,6 +17,7 @@ mod VersionRuns
 mod WindowRuns
 mod EventRuns
 mod SetupRuns
+mod LimitRuns
 mod TargetTexts
 mod CheckedLogRuns
 mod MachineRuns

@@ -16,6 +16,7 @@ pub mod Versions
 pub mod Windows
 pub mod Events
 pub mod Setups
+pub mod Limits
 pub mod Targets
 pub mod CheckedLogs
 pub mod Machines

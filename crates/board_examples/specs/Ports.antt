@@ -96,10 +96,13 @@ words_at_chips =
     ∷ gets Pic1 0xA1 0x5A
     ∷ outputs Two 0x60 0x0100 (lost NoRegister)
     ∷ inputs Two 0x60 (floats 0xFFFF NoRegister)
+    ∷ inputs Four 0x60 (floats 0xFFFF_FFFF NoRegister)
+    ∷ inputs Two 0x64 (floats 0xFFFF NoRegister)
     ∷ inputs Four 0x64 (floats 0xFFFF_FFFF NoRegister)
     ∷ gets System 0x61 0x20
     ∷ outputs Two 0x4D0 0x0E20 (lost NoRegister)
     ∷ inputs Two 0x4D0 (floats 0xFFFF NoRegister)
+    ∷ inputs Four 0x4D0 (floats 0xFFFF_FFFF NoRegister)
     ∷ gets Elcr 0x4D0 0x00
     ∷ gets Elcr 0x4D1 0x00
     ∷ outputs Two 0x42 0x1600 (lost NoRegister)

@@ -1,6 +1,7 @@
 //! Events at the borders of what a board can be asked, and setups at those of what it can be fitted with.
 
 ghost use Rattle.board_examples.specs.Events.{AccessBorders, WideBorders, OutsideBorders, MomentBorders, StatementBorders};
+ghost use Rattle.board_examples.specs.Limits.{AmountBorders, AreaBorders};
 ghost use Rattle.board_examples.specs.Setups.{SetupBorders};
 
 /// Which events are in range.
@@ -22,4 +23,11 @@ pub fn statements()
 #[tactic(auto, using(crate::proofs::SetupRuns::setup_borders))]
 pub fn setups()
     ensures borders { SetupBorders }
+{}
+
+/// How much a script may ask for, and which areas a look of a log can name.
+#[tactic(auto, using(crate::proofs::LimitRuns::amount_borders, crate::proofs::LimitRuns::area_borders))]
+pub fn amounts()
+    ensures borders { AmountBorders }
+    ensures areas { AreaBorders }
 {}

@@ -8,6 +8,7 @@ use Rattle.board_chipset.specs.declared.store.Store.{Store}
 use Rattle.bus_master.specs.declared.done.Done.{Done}
 use Rattle.bus_master.specs.Common.{Master, register_of, Moving, transferred, done_of, master_after, medium_of, with_medium, cells_of, transfer_of, IsCell}
 use Rattle.command_words.specs.declared.transfer.Transfer.{Transfer}
+use Rattle.command_texts.specs.Laws.{RomsAreRead}
 use Rattle.command_texts.specs.Transfers.{AreCellsAfter, HasTransferText, started, transfer_after, sum_below, dram_sum, disk_sum, ended_line, sums_line, transfer_text}
 use Rattle.command_texts.proofs.Sums.{sum_below-same}
 
@@ -18,6 +19,10 @@ cells_left setup history store dram contents = record {
   cards = contents.bytes;
   roms = λ dev off. refl;
 }
+
+-- and of the expansion ROMs they are no other
+pub roms_are_read : RomsAreRead
+roms_are_read setup history cells are dev off = are.roms dev off
 
 dram_here : (dram : List ℕ) (addr : ℕ) → addr < length dram → slice_index dram addr ≡ dram_at dram addr
 dram_here dram addr within = rw (lt-ltb addr (length dram) within) refl

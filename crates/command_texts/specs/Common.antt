@@ -4,7 +4,7 @@ unfoldable pub use Rattle.command_texts.specs.Blame.{entry_of_version}
 pub use Rattle.command_texts.specs.Done.{DidStatements}
 pub use Rattle.command_texts.specs.Fitted.{IsNotOpened}
 pub use Rattle.command_texts.specs.Images.{IsResumeText, IsSaveText}
-pub use Rattle.command_texts.specs.Laws.{EntryOfVersionIsFirst, IsFirstWith, first_entries}
+pub use Rattle.command_texts.specs.Laws.{EntryOfVersionIsFirst, IsFirstWith, RomsAreRead, first_entries}
 pub use Rattle.command_texts.specs.Replays.{HasSummary, IsLegalText, IsMakeText, IsMapText, IsReplayText, made_setup_of}
 pub use Rattle.command_texts.specs.Serial.{IsSerialText, bytes_before, happenings_of, left_after, sent_in, steps_for_all}
 unfoldable pub use Rattle.command_texts.specs.Serial.{happenings_in, steps_in}

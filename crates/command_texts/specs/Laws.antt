@@ -1,7 +1,9 @@
 -- What the laws say: each is proved on a function of `laws`.
-use Rattle.std.specs.Prelude.{ℕ, ◌≡◌, ◌-◌, ◌≤◌, List, length, drop}
-use Rattle.board_prelude.specs.Common.{Entry, Setup, version_of}
+use Rattle.std.specs.Prelude.{ℕ, ◌≡◌, ◌+◌, ◌-◌, ◌%◌, ◌≤◌, List, length, drop}
+use Rattle.board_prelude.specs.Common.{Entry, Setup, CardCell, version_of}
+use Rattle.bus_master.specs.Common.{Cells}
 use Rattle.command_texts.specs.Blame.{entry_of_version}
+use Rattle.command_texts.specs.Transfers.{AreCellsAfter}
 
 -- the first entries of a history, so many
 abbrev pub first_entries : (count : ℕ) → List Entry → List Entry
@@ -17,3 +19,9 @@ abbrev pub EntryOfVersionIsFirst : Type 0
 EntryOfVersionIsFirst =
     (setup : Setup) (history : List Entry) (version : ℕ) → version ≤ version_of setup history →
     IsFirstWith setup history version (entry_of_version setup history version)
+
+-- of an expansion ROM, base 6 of a card, a transfer reads the offset plus the device number, modulo 256
+abbrev pub RomsAreRead : Type 0
+RomsAreRead =
+    (setup : Setup) (history : List Entry) (cells : Cells) → AreCellsAfter setup history cells → (dev off : ℕ) →
+    cells (CardCell dev 6 off) ≡ (off + dev) % 256

@@ -383,7 +383,7 @@ pub record Identify : Type 0 where
 
 pub record Lengths : Type 0 where
   pub taken : map is_disk_length (512 ∷ 2_048 ∷ 33_554_432 ∷ []) ≡ (true ∷ true ∷ true ∷ [])
-  pub refused : map is_disk_length (0 ∷ 1 ∷ 511 ∷ 513 ∷ 2_049 ∷ 33_554_944 ∷ []) ≡ replicate 6 false
+  pub refused : map is_disk_length (0 ∷ 1 ∷ 511 ∷ 513 ∷ 768 ∷ 2_049 ∷ 33_554_944 ∷ []) ≡ replicate 7 false
   pub sectors : (power_on counting_bytes).medium.bad ≡ replicate 4 false
   pub bytes : (power_on counting_bytes).medium.bytes ≡ counting_bytes
   pub drive : (power_on counting_bytes).drive ≡ power_on_drive
