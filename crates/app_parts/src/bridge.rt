@@ -2,6 +2,7 @@
 
 ghost use Rattle.pmc_regs.specs.Pmc.{IsPmcOffset};
 
+use crate::told::push_byte;
 use board_base::{Kind, NoMemory};
 use board_spec::offset::{PAM0, PAM6, SMRAM};
 use board_spec::port::CONFIG_DATA;
@@ -23,17 +24,28 @@ const KINDS: [Kind; 3] = [Kind::Fetch, Kind::Read, Kind::Write];
 /// `59=FF` writes a byte of 256 that all have this value after a reset and this mask; told are that byte before, after and
 /// after a reset, and the one beside it.
 pub fn tell_space(words: &[&str], text: &mut String) -> Result<(), NoMemory> {
-    let [off, reset, mask, written] = words else {
-        return Ok(text.push_str("no space")?);
-    };
-    let off = byte(off);
-    let mut space = Space::new([byte(reset); 256], [byte(mask); 256]);
+    match words {
+        [off, reset, mask, written] => {
+            let mut space = Space::new([byte(reset); 256], [byte(mask); 256]);
+            Ok(push_space(text, &mut space, byte(off), byte(written))?)
+        }
+        _ => Ok(text.push_str("no space")?),
+    }
+}
+
+/// Writes a byte, and tells it before, after and after a reset, and the one beside it.
+fn push_space(
+    text: &mut String,
+    space: &mut Space,
+    off: u8,
+    written: u8,
+) -> Result<(), AllocError> {
     let before = space.read(off);
-    space.write(off, byte(written));
+    space.write(off, written);
     let (after, beside) = (space.read(off), space.read(off ^ 1));
     space.reset();
     let anew = space.read(off);
-    Ok(write!(text, "{before:02X} {after:02X} {beside:02X} {anew:02X}")?)
+    write!(text, "{before:02X} {after:02X} {beside:02X} {anew:02X}")
 }
 
 /// What is selected by a byte of the data port: bus, device, function and offset.
@@ -51,6 +63,17 @@ fn push_selected(text: &mut String, conf_add: &ConfAdd, place: u16) -> Result<()
     }
 }
 
+/// A step that writes the configuration address, or selects by a byte of the data port.
+fn act_address(conf_add: &mut ConfAdd, step: &str, text: &mut String) -> Result<(), AllocError> {
+    match step.strip_prefix('=') {
+        Some(value) => {
+            conf_add.write(number(value));
+            Ok(())
+        }
+        None => push_selected(text, conf_add, port(step)),
+    }
+}
+
 /// The configuration address: `=80000058` writes it, `?` reads it, `reset` is a hard reset, `3` selects by byte 3 of the data
 /// port.
 pub fn tell_address(steps: &[&str], text: &mut String) -> Result<(), NoMemory> {
@@ -59,10 +82,7 @@ pub fn tell_address(steps: &[&str], text: &mut String) -> Result<(), NoMemory> {
         match *step {
             "?" => write!(text, "{:08X} ", conf_add.read())?,
             "reset" => conf_add.reset(),
-            _ => match step.strip_prefix('=') {
-                Some(value) => conf_add.write(number(value)),
-                None => push_selected(text, &conf_add, port(step))?,
-            },
+            _ => act_address(&mut conf_add, step, text)?,
         }
     }
     Ok(())
@@ -92,19 +112,36 @@ fn push_opens(text: &mut String, pam: &Pam, addr: u32) -> Result<(), AllocError>
     Ok(())
 }
 
+/// A step that writes or reads a PAM register.
+fn act_register(pam: &mut Pam, step: &str, text: &mut String) -> Result<(), AllocError> {
+    match step.split_once('=') {
+        Some((index, value)) => {
+            pam.write(PAM0 + byte(index) % PAM_COUNT, byte(value));
+            Ok(())
+        }
+        None => {
+            let index = byte(step.trim_end_matches('?')) % PAM_COUNT;
+            push_byte(text, pam.read(PAM0 + index))
+        }
+    }
+}
+
+/// A step at the PAM registers that is no reset.
+fn act_pam(pam: &mut Pam, step: &str, text: &mut String) -> Result<(), AllocError> {
+    match step.strip_prefix('@') {
+        Some(addr) => push_opens(text, pam, number(addr)),
+        None => act_register(pam, step, text),
+    }
+}
+
 /// The PAM registers: `2=20` writes PAM2, `2?` reads it, `@CC000` asks of the window of an address, `reset` is one.
 pub fn tell_pam(steps: &[&str], text: &mut String) -> Result<(), NoMemory> {
     let mut pam = Pam::new();
     for step in steps {
         if *step == "reset" {
             pam.reset();
-        } else if let Some(addr) = step.strip_prefix('@') {
-            push_opens(text, &pam, number(addr))?;
-        } else if let Some((index, value)) = step.split_once('=') {
-            pam.write(PAM0 + byte(index) % PAM_COUNT, byte(value));
         } else {
-            let index = byte(step.trim_end_matches('?')) % PAM_COUNT;
-            write!(text, "{:02X} ", pam.read(PAM0 + index))?;
+            act_pam(&mut pam, step, text)?;
         }
     }
     Ok(())
@@ -143,6 +180,24 @@ fn push_row(text: &mut String, row: Option<u8>) -> Result<(), AllocError> {
     }
 }
 
+/// A step that asks what the registers say.
+fn ask_pmc(pmc: &Pmc, step: &str, text: &mut String) -> Result<(), AllocError> {
+    match step.strip_prefix("row") {
+        Some(addr) => push_row(text, pmc.row_of(number(addr.trim_end_matches('?')))),
+        None => push_byte(text, pmc.read(pmc_offset(step.trim_end_matches('?')))),
+    }
+}
+
+fn act_pmc(pmc: &mut Pmc, step: &str, text: &mut String) -> Result<(), AllocError> {
+    match step.split_once('=') {
+        Some((off, value)) => {
+            pmc.write(pmc_offset(off), byte(value));
+            Ok(())
+        }
+        None => ask_pmc(pmc, step, text),
+    }
+}
+
 /// The registers beside these: `60=02` writes one, `60?` reads it, `top?`, `hole?` and `row7FFFFF?` ask what they say.
 pub fn tell_pmc(steps: &[&str], text: &mut String) -> Result<(), NoMemory> {
     let mut pmc = Pmc::new();
@@ -151,37 +206,28 @@ pub fn tell_pmc(steps: &[&str], text: &mut String) -> Result<(), NoMemory> {
             "reset" => pmc.reset(),
             "top?" => write!(text, "{:X} ", pmc.top())?,
             "hole?" => push_hole(text, pmc.hole())?,
-            _ => tell_pmc_step(&mut pmc, step, text)?,
+            _ => act_pmc(&mut pmc, step, text)?,
         }
     }
     Ok(())
 }
 
-fn tell_pmc_step(pmc: &mut Pmc, step: &str, text: &mut String) -> Result<(), AllocError> {
-    if let Some(addr) = step.strip_prefix("row") {
-        return push_row(text, pmc.row_of(number(addr.trim_end_matches('?'))));
+/// Eight boundaries, one a byte.
+fn boundaries_of(alloc: Global, digits: &str) -> Result<[u8; ROW_COUNT], AllocError> {
+    let bytes = bytes_of(alloc, digits)?;
+    let mut drb = [0; ROW_COUNT];
+    for (boundary, byte) in drb.iter_mut().zip(&bytes) {
+        *boundary = *byte;
     }
-    if let Some((off, value)) = step.split_once('=') {
-        pmc.write(pmc_offset(off), byte(value));
-        return Ok(());
-    }
-    write!(
-        text,
-        "{:02X} ",
-        pmc.read(pmc_offset(step.trim_end_matches('?')))
-    )
+    Ok(drb)
 }
 
 /// The rows of addresses by eight boundaries.
 pub fn tell_rows(alloc: Global, words: &[&str], text: &mut String) -> Result<(), NoMemory> {
-    let [boundaries, addresses @ ..] = words else {
+    let Some((boundaries, addresses)) = words.split_first() else {
         return Ok(text.push_str("no rows")?);
     };
-    let bytes = bytes_of(alloc, boundaries)?;
-    let mut drb = [0; ROW_COUNT];
-    for (index, boundary) in drb.iter_mut().enumerate() {
-        *boundary = bytes.get(index).copied().unwrap_or(0);
-    }
+    let drb = boundaries_of(alloc, boundaries)?;
     for addr in addresses {
         push_row(text, row_of(&drb, number(addr)))?;
     }
@@ -195,23 +241,37 @@ pub fn tell_hole(old: &str, written: &str, text: &mut String) -> Result<(), NoMe
     Ok(push_hole(text, hole_of(fdhc))?)
 }
 
+/// Whether a fetch, a read and a write reach SMRAM.
+fn push_reaches(text: &mut String, smram: &Smram, smm: bool) -> Result<(), AllocError> {
+    for kind in KINDS {
+        text.push_str(if smram.reaches(kind, smm) { "+" } else { "-" })?;
+    }
+    Ok(())
+}
+
+/// A step that asks what the SMRAM register says.
+fn ask_smram(smram: &Smram, step: &str, text: &mut String) -> Result<(), AllocError> {
+    match step {
+        "?" => write!(text, "{:02X}", smram.read()),
+        "locked?" => text.push_str(if smram.locked() { " locked " } else { " open " }),
+        _ => {
+            push_reaches(text, smram, true)?;
+            push_reaches(text, smram, false)
+        }
+    }
+}
+
 /// The SMRAM register: `=58` writes it, `?` reads it, `locked?` and `reaches?` ask what it says: of a fetch, a read and a
 /// write in SMM and then outside it.
 pub fn tell_smram(steps: &[&str], text: &mut String) -> Result<(), NoMemory> {
     let mut smram = Smram::new();
     for step in steps {
-        match *step {
-            "reset" => smram.reset(),
-            "?" => write!(text, "{:02X}", smram.read())?,
-            "locked?" => text.push_str(if smram.locked() { " locked " } else { " open " })?,
-            "reaches?" => {
-                for smm in [true, false] {
-                    for kind in KINDS {
-                        text.push_str(if smram.reaches(kind, smm) { "+" } else { "-" })?;
-                    }
-                }
-            }
-            _ => smram.write(byte(step.trim_start_matches('='))),
+        if *step == "reset" {
+            smram.reset();
+        } else if step.ends_with('?') {
+            ask_smram(&smram, step, text)?;
+        } else {
+            smram.write(byte(step.trim_start_matches('=')));
         }
     }
     Ok(())

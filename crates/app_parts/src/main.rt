@@ -8,6 +8,7 @@ mod media;
 mod south;
 mod stretches;
 mod timer;
+mod told;
 
 use board_base::NoMemory;
 use std::alloc::Global;
@@ -17,44 +18,102 @@ use std::process::ExitCode;
 /// The exit code for want of memory or of input.
 const FAILED: u8 = 8;
 
-/// Does what a line asks of a chip's registers, and appends the answer.
-fn answer_of_chip(alloc: Global, words: &[&str], text: &mut String) -> Result<(), NoMemory> {
-    match words {
-        ["space", rest @ ..] => bridge::tell_space(rest, text),
-        ["confadd", steps @ ..] => bridge::tell_address(steps, text),
-        ["window", addr] => bridge::tell_window(addr, text),
-        ["pam", steps @ ..] => bridge::tell_pam(steps, text),
-        ["pmc", steps @ ..] => bridge::tell_pmc(steps, text),
-        ["rows", rest @ ..] => bridge::tell_rows(alloc, rest, text),
-        ["hole", old, written] => bridge::tell_hole(old, written, text),
-        ["smram", steps @ ..] => bridge::tell_smram(steps, text),
-        ["elcr", steps @ ..] => south::tell_elcr(steps, text),
-        ["routes", steps @ ..] => south::tell_routes(steps, text),
-        ["ide", offsets @ ..] => south::tell_ide(offsets, text),
-        ["isa", offsets @ ..] => south::tell_isa(offsets, text),
-        ["selects", rest @ ..] => south::tell_selects(rest, text),
-        ["bios", xbcs, addr, size] => south::tell_bios(xbcs, addr, size, text),
-        ["xbcs", old, written] => south::tell_xbcs(old, written, text),
+/// The word at a place; the empty word where there is none.
+fn word<'a>(words: &[&'a str], at: usize) -> &'a str {
+    words.get(at).copied().unwrap_or("")
+}
+
+/// Appends what the BIOS ranges and ports of the south bridge answer.
+fn answer_of_select(call: &str, words: &[&str], text: &mut String) -> Result<(), NoMemory> {
+    match call {
+        "selects" => south::tell_selects(words, text),
+        "bios" => south::tell_bios(word(words, 0), word(words, 1), word(words, 2), text),
+        "xbcs" => south::tell_xbcs(word(words, 0), word(words, 1), text),
         _ => Ok(text.push_str("no such call")?),
     }
 }
 
-/// Does what a line asks of a part of the board, and appends the answer.
-fn answer(alloc: Global, words: &[&str], text: &mut String) -> Result<(), NoMemory> {
-    match words {
-        ["timer", steps @ ..] => timer::tell(steps, text),
-        ["timer-runs"] => timer::tell_runs(text),
-        ["clock", addresses @ ..] => media::tell_clock(addresses, text),
-        ["disk", rest @ ..] => media::tell_disk(alloc, rest, text),
-        ["edges", rest @ ..] => map::tell_edges(rest, text),
-        ["touches", rest @ ..] => map::tell_touches(rest, text),
-        ["changes", rest @ ..] => map::tell_changes(rest, text),
-        ["windows", rest @ ..] => map::tell_windows(rest, text),
-        ["cycles", rest @ ..] => stretches::tell_cycles(rest, text),
-        ["dram", rest @ ..] => stretches::tell_dram(alloc, rest, text),
-        ["card-bytes", steps @ ..] => stretches::tell_card(alloc, steps, text),
-        _ => answer_of_chip(alloc, words, text),
+/// Appends what the registers of the south bridge answer.
+fn answer_of_south(call: &str, words: &[&str], text: &mut String) -> Result<(), NoMemory> {
+    match call {
+        "elcr" => south::tell_elcr(words, text),
+        "routes" => south::tell_routes(words, text),
+        "ide" => south::tell_ide(words, text),
+        "isa" => south::tell_isa(words, text),
+        _ => answer_of_select(call, words, text),
     }
+}
+
+/// Appends what the host bridge answers of shadow windows, rows, hole and SMRAM.
+fn answer_of_rows(
+    alloc: Global,
+    call: &str,
+    words: &[&str],
+    text: &mut String,
+) -> Result<(), NoMemory> {
+    match call {
+        "window" => bridge::tell_window(word(words, 0), text),
+        "pam" => bridge::tell_pam(words, text),
+        "pmc" => bridge::tell_pmc(words, text),
+        "rows" => bridge::tell_rows(alloc, words, text),
+        "hole" => bridge::tell_hole(word(words, 0), word(words, 1), text),
+        "smram" => bridge::tell_smram(words, text),
+        _ => answer_of_south(call, words, text),
+    }
+}
+
+/// Appends what stretches of bytes answer, and the host bridge's address.
+fn answer_of_bytes(
+    alloc: Global,
+    call: &str,
+    words: &[&str],
+    text: &mut String,
+) -> Result<(), NoMemory> {
+    match call {
+        "dram" => stretches::tell_dram(alloc, words, text),
+        "card-bytes" => stretches::tell_card(alloc, words, text),
+        "space" => bridge::tell_space(words, text),
+        "confadd" => bridge::tell_address(words, text),
+        _ => answer_of_rows(alloc, call, words, text),
+    }
+}
+
+/// Appends what the address map answers.
+fn answer_of_map(
+    alloc: Global,
+    call: &str,
+    words: &[&str],
+    text: &mut String,
+) -> Result<(), NoMemory> {
+    match call {
+        "edges" => map::tell_edges(words, text),
+        "touches" => map::tell_touches(words, text),
+        "changes" => map::tell_changes(words, text),
+        "windows" => map::tell_windows(words, text),
+        "cycles" => stretches::tell_cycles(words, text),
+        _ => answer_of_bytes(alloc, call, words, text),
+    }
+}
+
+/// Does what a call asks of a part of the board, and appends the answer.
+fn answer(alloc: Global, call: &str, words: &[&str], text: &mut String) -> Result<(), NoMemory> {
+    match call {
+        "timer" => timer::tell(words, text),
+        "timer-runs" => timer::tell_runs(text),
+        "clock" => media::tell_clock(words, text),
+        "disk" => media::tell_disk(alloc, words, text),
+        _ => answer_of_map(alloc, call, words, text),
+    }
+}
+
+/// What a line answers.
+fn answered(alloc: Global, line: &str) -> Result<String, NoMemory> {
+    let words: Vec<&str> = line.split(' ').collect(alloc)?;
+    let mut text = String::new(alloc);
+    if let Some((call, words)) = words.split_first() {
+        answer(alloc, call, words, &mut text)?;
+    }
+    Ok(text)
 }
 
 /// Tells a line and its answer.
@@ -63,9 +122,7 @@ fn tell<W: Write>(alloc: Global, out: &mut W, line: &str) -> Result<(), NoMemory
         let _ = writeln!(out, "{line}");
         return Ok(());
     }
-    let words: Vec<&str> = line.split(' ').collect(alloc)?;
-    let mut text = String::new(alloc);
-    answer(alloc, &words, &mut text)?;
+    let text = answered(alloc, line)?;
     let _ = writeln!(out, "{line}: {}", text.as_str());
     Ok(())
 }

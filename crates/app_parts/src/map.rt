@@ -8,6 +8,7 @@ ghost use Rattle.board_spec.specs.Setup.{IsCard};
 ghost use Rattle.pci_bars.specs.Cards.{AreFitted};
 ghost use Rattle.map_builder.specs.Map.{next_version};
 
+use crate::told::{push_some, space};
 use addr_decode::{MapChange, MapRegs, next_edge, touches};
 use arrayvec::ArrayVec;
 use board_base::{NoMemory, Reg, Steps, Width};
@@ -109,44 +110,55 @@ fn change(word: &str) -> Option<MapChange> {
     })
 }
 
+/// Makes a change, or tells the next edge above an address.
+fn act(regs: &mut MapRegs, step: &str, text: &mut String) -> Result<(), AllocError>
+    requires fitted { AreFitted regs.old.cards.items }
+    ensures fitted { AreFitted regs.new.cards.items }
+{
+    match change(step) {
+        Some(change) => {
+            regs.apply(&change);
+            text.push('-')
+        }
+        None => push_some(text, next_edge(regs, number(step.trim_end_matches('?')))),
+    }
+}
+
 /// Stores, and the next edges above addresses.
 pub fn tell_edges(words: &[&str], text: &mut String) -> Result<(), NoMemory> {
-    let [cards, steps @ ..] = words else {
+    let Some((cards, steps)) = words.split_first() else {
         return Ok(text.push_str("no cards")?);
     };
     let mut regs = registers(cards);
     for step in steps {
-        if !text.is_empty() {
-            text.push(' ')?;
-        }
-        match change(step) {
-            Some(change) => {
-                regs.apply(&change);
-                text.push('-')?;
-            }
-            None => match next_edge(&regs, number(step.trim_end_matches('?'))) {
-                Some(edge) => write!(text, "{edge:X}")?,
-                None => text.push_str("none")?,
-            },
-        }
+        space(text)?;
+        act(&mut regs, step, text)?;
     }
     Ok(())
 }
 
+/// Whether the map depends on a byte of a place.
+fn push_touches(text: &mut String, regs: &MapRegs, word: &str) -> Result<(), AllocError>
+    requires fitted { AreFitted regs.now.cards.items }
+{
+    match place(word) {
+        Some((reg, width)) => text.push_str(if touches(regs, reg, width) {
+            "yes "
+        } else {
+            "no "
+        }),
+        None => Ok(()),
+    }
+}
+
 /// Whether the map depends on a byte of each place.
 pub fn tell_touches(words: &[&str], text: &mut String) -> Result<(), NoMemory> {
-    let [cards, places @ ..] = words else {
+    let Some((cards, places)) = words.split_first() else {
         return Ok(text.push_str("no cards")?);
     };
     let regs = registers(cards);
     for word in places {
-        if let Some((reg, width)) = place(word) {
-            text.push_str(if touches(&regs, reg, width) {
-                "yes "
-            } else {
-                "no "
-            })?;
-        }
+        push_touches(text, &regs, word)?;
     }
     Ok(())
 }
@@ -162,67 +174,110 @@ fn counted<L: Ledger>(map: &mut FlatMap, change: &MapChange, blank: Blank) -> Ch
     map.apply_counted(change, &mut steps)
 }
 
+/// Appends an interval.
+fn push_interval(text: &mut String, interval: &Changed) -> Result<(), AllocError> {
+    write!(text, "{:08X}-{:08X}", interval.lo, interval.hi)
+}
+
+/// Makes a change by the call that counts its steps, and tells whether ranges or interval are others than a map's.
+fn is_other(map: &FlatMap, copy: &mut FlatMap, change: &MapChange, changed: Changed) -> bool {
+    let again = counted::<Brand>(copy, change, Blank::new(1));
+    again != changed || copy.ranges() != map.ranges()
+}
+
 /// Makes a change by both calls, and tells the first and last address of what it may have changed.
 fn tell_change(map: &mut FlatMap, change: &MapChange, text: &mut String) -> Result<(), AllocError> {
     let mut copy = map.copy();
     let changed = map.apply(change);
-    write!(text, "{:08X}-{:08X}", changed.lo, changed.hi)?;
-    let again = counted::<Brand>(&mut copy, change, Blank::new(1));
-    if again != changed || copy.ranges() != map.ranges() {
-        text.push_str(" counted as another change")?;
+    push_interval(text, &changed)?;
+    if is_other(map, &mut copy, change, changed) {
+        return text.push_str(" counted as another change");
     }
     Ok(())
+}
+
+/// A change of a map, on a line of its own.
+fn push_change(map: &mut FlatMap, step: &str, text: &mut String) -> Result<(), AllocError> {
+    match change(step) {
+        Some(change) => {
+            text.push_str("\n  ")?;
+            tell_change(map, &change, text)
+        }
+        None => Ok(()),
+    }
 }
 
 /// Changes of a map, one after another.
 pub fn tell_changes(words: &[&str], text: &mut String) -> Result<(), NoMemory> {
-    let [cards, steps @ ..] = words else {
+    let Some((cards, steps)) = words.split_first() else {
         return Ok(text.push_str("no cards")?);
     };
     let mut map = FlatMap::from_scratch(registers(cards));
     for step in steps {
-        if let Some(change) = change(step) {
-            text.push_str("\n  ")?;
-            tell_change(&mut map, &change, text)?;
-        }
+        push_change(&mut map, step, text)?;
     }
     Ok(())
 }
 
-/// Makes a change, a store by the call that tells nothing, and tells the windows that the last change changed.
-fn tell_windows_of(
-    map: &mut FlatMap,
-    change: &MapChange,
-    text: &mut String,
-) -> Result<(), AllocError> {
+/// Makes a change, a store by the call that tells nothing.
+fn make(map: &mut FlatMap, change: &MapChange) {
     match change {
         MapChange::Store { reg, width, value } => map.store(*reg, *width, *value),
         MapChange::Reset => {
             map.apply(change);
         }
     }
+}
+
+/// Tells the windows that the last change changed.
+fn push_windows(text: &mut String, map: &FlatMap) -> Result<(), AllocError> {
     for window in map.changed() {
-        write!(text, " {:08X}-{:08X}", window.lo, window.hi)?;
-    }
-    let copy = map.copy();
-    if copy.changed() != map.changed() {
-        text.push_str(" copied as other windows")?;
+        text.push(' ')?;
+        push_interval(text, window)?;
     }
     Ok(())
 }
 
+/// Whether a copy of a map has its windows.
+fn is_copied(map: &FlatMap) -> bool {
+    let copy = map.copy();
+    copy.changed() == map.changed()
+}
+
+/// Makes a change, and tells the windows that it changed.
+fn tell_windows_of(
+    map: &mut FlatMap,
+    change: &MapChange,
+    text: &mut String,
+) -> Result<(), AllocError> {
+    make(map, change);
+    push_windows(text, map)?;
+    if is_copied(map) {
+        return Ok(());
+    }
+    text.push_str(" copied as other windows")
+}
+
+/// The windows of a change, on a line of their own.
+fn push_step(map: &mut FlatMap, step: &str, text: &mut String) -> Result<(), AllocError> {
+    match change(step) {
+        Some(change) => {
+            write!(text, "\n  {step}:")?;
+            tell_windows_of(map, &change, text)
+        }
+        None => Ok(()),
+    }
+}
+
 /// Changes of a map, one after another, with the windows that stand after each.
 pub fn tell_windows(words: &[&str], text: &mut String) -> Result<(), NoMemory> {
-    let [cards, steps @ ..] = words else {
+    let Some((cards, steps)) = words.split_first() else {
         return Ok(text.push_str("no cards")?);
     };
     let mut map = FlatMap::from_scratch(registers(cards));
     write!(text, "{} windows", map.changed().len())?;
     for step in steps {
-        if let Some(change) = change(step) {
-            write!(text, "\n  {step}:")?;
-            tell_windows_of(&mut map, &change, text)?;
-        }
+        push_step(&mut map, step, text)?;
     }
     Ok(())
 }

@@ -2,6 +2,9 @@
 //! port give; `disk 2` has so many sectors of bytes 02h, of which `1.FF=ABCD` sets a word, `1.1FD:0103` sets bytes,
 //! `bad1` marks a sector, `1.FF?` tells a word, `ok1` whether a sector can be read, and `id54` a word of IDENTIFY DEVICE.
 
+ghost use Rattle.std.specs.Prelude.{◌<◌};
+
+use crate::told::{push_bytes, push_hex, push_register, space};
 use ata_pio::Ata;
 use board_base::{NoMemory, Width};
 use call_words::{byte, number, port};
@@ -15,23 +18,40 @@ const DATA: u16 = 0x71;
 /// An index that no address of a line has.
 const ELSEWHERE: u8 = 0x33;
 
+/// The byte at an address, of those that are kept.
+fn kept_at(clock: &Cmos, address: u8) -> u8 {
+    clock
+        .bytes()
+        .get(usize::from(address))
+        .copied()
+        .unwrap_or(0)
+}
+
+/// What the data port gives of an address, after which the index is elsewhere.
+fn read_at(clock: &mut Cmos, address: u8) -> u8 {
+    clock.port_write(INDEX, address);
+    let read = clock.port_read(DATA);
+    clock.port_write(INDEX, ELSEWHERE);
+    read
+}
+
+/// What `bytes` and the data port give of an address after a write of FFh.
+fn push_kept(text: &mut String, clock: &mut Cmos, address: u8) -> Result<(), AllocError>
+    requires address { address < 128 }
+{
+    clock.set_byte(address, 0xFF);
+    let kept = kept_at(clock, address);
+    let index = clock.index();
+    let read = read_at(clock, address);
+    push_register(text, address, kept, read, index)
+}
+
 /// What `bytes` and the data port give of these addresses after a write of FFh to each.
 pub fn tell_clock(addresses: &[&str], text: &mut String) -> Result<(), NoMemory> {
     let mut clock = Cmos::new();
     clock.port_write(INDEX, ELSEWHERE);
     for word in addresses {
-        let address = byte(word) & 0x7F;
-        clock.set_byte(address, 0xFF);
-        let kept = clock
-            .bytes()
-            .get(usize::from(address))
-            .copied()
-            .unwrap_or(0);
-        let index = clock.index();
-        clock.port_write(INDEX, address);
-        let read = clock.port_read(DATA);
-        clock.port_write(INDEX, ELSEWHERE);
-        write!(text, "{address:02X}={kept:02X},{read:02X},{index:02X} ")?;
+        push_kept(text, &mut clock, byte(word) & 0x7F)?;
     }
     Ok(write!(text, "of {}", clock.bytes().len())?)
 }
@@ -57,45 +77,51 @@ fn identify(disk: &mut Ata, index: &str) -> u32 {
     word
 }
 
-/// A step that tells a sector or the drive; false where it is none.
-fn ask(disk: &mut Ata, step: &str, text: &mut String) -> Result<bool, AllocError> {
-    if let Some(index) = step.strip_prefix("id") {
-        write!(text, "{:X}", identify(disk, index))?;
-        return Ok(true);
+/// Whether a sector can be read.
+fn push_readable(text: &mut String, disk: &Ata, sector: u32) -> Result<(), AllocError> {
+    text.push_str(if disk.readable(sector) {
+        "readable"
+    } else {
+        "not readable"
+    })
+}
+
+/// Marks a sector as bad, where it exists.
+fn mark_bad(disk: &mut Ata, sector: u32, text: &mut String) -> Result<(), AllocError> {
+    if sector < disk.sectors() {
+        disk.mark_bad(sector);
     }
-    if let Some(sector) = step.strip_prefix("ok") {
-        text.push_str(if disk.readable(number(sector)) {
-            "readable"
-        } else {
-            "not readable"
-        })?;
-        return Ok(true);
+    text.push('-')
+}
+
+/// Sets a word, where it exists.
+fn set_word(
+    disk: &mut Ata,
+    sector: u32,
+    i: u32,
+    value: u16,
+    text: &mut String,
+) -> Result<(), AllocError> {
+    if sector >= disk.sectors() || i >= SECTOR_WORDS {
+        return text.push_str("none");
     }
-    if let Some(sector) = step.strip_prefix("bad") {
-        if number(sector) < disk.sectors() {
-            disk.mark_bad(number(sector));
-        }
-        text.push('-')?;
-        return Ok(true);
+    disk.set_word(sector, i, value);
+    text.push('-')
+}
+
+/// Tells a word, where it exists.
+fn push_word(text: &mut String, disk: &Ata, sector: u32, i: u32) -> Result<(), AllocError> {
+    if sector >= disk.sectors() || i >= SECTOR_WORDS {
+        return text.push_str("none");
     }
-    Ok(false)
+    write!(text, "{:04X}", disk.word(sector, i))
 }
 
 /// Sets or tells a word.
 fn word(disk: &mut Ata, sector: u32, place: &str, text: &mut String) -> Result<(), AllocError> {
-    let (i, value) = match place.split_once('=') {
-        Some((i, value)) => (number(i), Some(port(value))),
-        None => (number(place.trim_end_matches('?')), None),
-    };
-    if sector >= disk.sectors() || i >= SECTOR_WORDS {
-        return text.push_str("none");
-    }
-    match value {
-        Some(value) => {
-            disk.set_word(sector, i, value);
-            text.push('-')
-        }
-        None => write!(text, "{:04X}", disk.word(sector, i)),
+    match place.split_once('=') {
+        Some((i, value)) => set_word(disk, sector, number(i), port(value), text),
+        None => push_word(text, disk, sector, number(place.trim_end_matches('?'))),
     }
 }
 
@@ -113,11 +139,8 @@ fn set_bytes(
     text.push('-')
 }
 
-/// One step.
-fn act(disk: &mut Ata, step: &str, text: &mut String) -> Result<(), AllocError> {
-    if ask(disk, step, text)? {
-        return Ok(());
-    }
+/// A step at a sector.
+fn act_at_sector(disk: &mut Ata, step: &str, text: &mut String) -> Result<(), AllocError> {
     let Some((sector, place)) = step.split_once('.') else {
         return text.push_str("no step");
     };
@@ -127,30 +150,49 @@ fn act(disk: &mut Ata, step: &str, text: &mut String) -> Result<(), AllocError> 
     }
 }
 
-/// Does all steps at a new disk of so many sectors.
-pub fn tell_disk(alloc: Global, words: &[&str], text: &mut String) -> Result<(), NoMemory> {
-    let [sectors, steps @ ..] = words else {
-        return Ok(text.push_str("no disk")?);
-    };
-    let bytes = vec![in alloc; 2u8; number(sectors) as usize * 512]?;
-    let Ok(mut disk) = Ata::open(alloc, &bytes) else {
-        return Ok(text.push_str("no disk")?);
-    };
-    for step in steps {
-        if !text.is_empty() {
-            text.push(' ')?;
-        }
-        act(&mut disk, step, text)?;
+/// One step.
+fn act(disk: &mut Ata, step: &str, text: &mut String) -> Result<(), AllocError> {
+    if let Some(index) = step.strip_prefix("id") {
+        return push_hex(text, identify(disk, index));
     }
-    tell_end(disk, text)
+    if let Some(sector) = step.strip_prefix("ok") {
+        return push_readable(text, disk, number(sector));
+    }
+    match step.strip_prefix("bad") {
+        Some(sector) => mark_bad(disk, number(sector), text),
+        None => act_at_sector(disk, step, text),
+    }
 }
 
-/// How many bytes the disk gives back, and the last four.
-fn tell_end(disk: Ata, text: &mut String) -> Result<(), NoMemory> {
-    let bytes = disk.into_bytes();
-    write!(text, " of {:X}:", bytes.len())?;
-    for byte in bytes.iter().skip(bytes.len().saturating_sub(4)) {
-        write!(text, "{byte:02X}")?;
+/// Does all steps.
+fn act_all(disk: &mut Ata, steps: &[&str], text: &mut String) -> Result<(), AllocError> {
+    for step in steps {
+        space(text)?;
+        act(disk, step, text)?;
     }
     Ok(())
+}
+
+/// A disk of so many sectors, if there is one.
+fn disk_of(alloc: Global, sectors: u32) -> Result<Option<Ata>, AllocError> {
+    let bytes = vec![in alloc; 2u8; sectors as usize * 512]?;
+    Ok(Ata::open(alloc, &bytes).ok())
+}
+
+/// Does all steps at a new disk of so many sectors.
+pub fn tell_disk(alloc: Global, words: &[&str], text: &mut String) -> Result<(), NoMemory> {
+    let Some((sectors, steps)) = words.split_first() else {
+        return Ok(text.push_str("no disk")?);
+    };
+    let Some(mut disk) = disk_of(alloc, number(sectors))? else {
+        return Ok(text.push_str("no disk")?);
+    };
+    act_all(&mut disk, steps, text)?;
+    Ok(push_end(text, &disk.into_bytes())?)
+}
+
+/// How many bytes a disk gives back, and the last four.
+fn push_end(text: &mut String, bytes: &[u8]) -> Result<(), AllocError> {
+    write!(text, " of {:X}:", bytes.len())?;
+    push_bytes(text, &bytes[bytes.len().saturating_sub(4)..])
 }

@@ -1,5 +1,6 @@
 //! The south bridge's parts by themselves, each line a new one.
 
+use crate::told::{push_byte, push_register, push_some};
 use board_base::NoMemory;
 use call_words::{byte, number, port};
 use device_spec::LINE_COUNT;
@@ -10,39 +11,67 @@ use xbus_select::{Ide, Piix, rom_offset, rom_selected, xbcs_after};
 /// The registers of function 0 have these offsets below the routes.
 const ISA_END: u8 = 0x60;
 
+/// A step at the edge and level control registers.
+fn act_elcr(elcr: &mut Elcr, step: &str, text: &mut String) -> Result<(), AllocError> {
+    match step.split_once('=') {
+        Some((which, value)) => {
+            elcr.write(which == "high", byte(value));
+            Ok(())
+        }
+        None => push_byte(text, elcr.read(step == "high?")),
+    }
+}
+
 /// The edge and level control registers: `low=FF` writes one, `high?` reads one, `reset` is one.
 pub fn tell_elcr(steps: &[&str], text: &mut String) -> Result<(), NoMemory> {
     let mut elcr = Elcr::new();
     for step in steps {
         if *step == "reset" {
             elcr.reset();
-        } else if let Some((which, value)) = step.split_once('=') {
-            elcr.write(which == "high", byte(value));
         } else {
-            write!(text, "{:02X} ", elcr.read(*step == "high?"))?;
+            act_elcr(&mut elcr, step, text)?;
         }
     }
     Ok(())
 }
 
-/// The lines that pins drive.
-fn push_route(text: &mut String, pirq: &Pirq, pins: &str) -> Result<(), AllocError> {
+/// The levels that digits say.
+fn levels_of(pins: &str) -> [bool; 4] {
     let mut levels = [false; 4];
     for (level, digit) in levels.iter_mut().zip(pins.as_bytes()) {
         *level = *digit == b'1';
     }
-    let mut driven = 0u32;
-    let lines = pirq.route(levels);
-    for line in 0..LINE_COUNT {
-        if lines.level(line as u8) {
+    levels
+}
+
+/// The lines that pins drive.
+fn push_route(text: &mut String, pirq: &Pirq, pins: &str) -> Result<(), AllocError> {
+    let lines = pirq.route(levels_of(pins));
+    let mut is_any = false;
+    for line in 0..LINE_COUNT as u8 {
+        if lines.level(line) {
+            is_any = true;
             write!(text, "line {line} ")?;
-            driven = driven.wrapping_add(1);
         }
     }
-    if driven == 0 {
+    if !is_any {
         text.push_str("no line ")?;
     }
     Ok(())
+}
+
+/// A step at the routes that is no reset.
+fn act_routes(pirq: &mut Pirq, step: &str, text: &mut String) -> Result<(), AllocError> {
+    if let Some(pins) = step.strip_prefix('@') {
+        return push_route(text, pirq, pins);
+    }
+    match step.split_once('=') {
+        Some((off, value)) => {
+            pirq.write(byte(off), byte(value));
+            Ok(())
+        }
+        None => push_byte(text, pirq.read(byte(step.trim_end_matches('?')))),
+    }
 }
 
 /// The routes: `60=0B` writes PIRQRCA, `60?` reads it, `@1101` tells the lines that these pins drive, `reset` is one.
@@ -51,12 +80,8 @@ pub fn tell_routes(steps: &[&str], text: &mut String) -> Result<(), NoMemory> {
     for step in steps {
         if *step == "reset" {
             pirq.reset();
-        } else if let Some(pins) = step.strip_prefix('@') {
-            push_route(text, &pirq, pins)?;
-        } else if let Some((off, value)) = step.split_once('=') {
-            pirq.write(byte(off), byte(value));
         } else {
-            write!(text, "{:02X} ", pirq.read(byte(step.trim_end_matches('?'))))?;
+            act_routes(&mut pirq, step, text)?;
         }
     }
     Ok(())
@@ -71,8 +96,7 @@ pub fn tell_ide(offsets: &[&str], text: &mut String) -> Result<(), NoMemory> {
         ide.write(off, 0xFF);
         let ones = ide.read(off);
         ide.reset();
-        let anew = ide.read(off);
-        write!(text, "{off:02X}={before:02X},{ones:02X},{anew:02X} ")?;
+        push_register(text, off, before, ones, ide.read(off))?;
     }
     Ok(())
 }
@@ -86,31 +110,31 @@ pub fn tell_isa(offsets: &[&str], text: &mut String) -> Result<(), NoMemory> {
         piix.write(0, off, 0xFF);
         let ones = piix.read(0, off);
         piix.reset();
-        let anew = piix.read(0, off);
-        write!(text, "{off:02X}={before:02X},{ones:02X},{anew:02X} ")?;
+        push_register(text, off, before, ones, piix.read(0, off))?;
     }
     Ok(())
 }
 
-/// Whether XBCS, the IDE command and IDETIM select each port, after what they read.
-pub fn tell_selects(words: &[&str], text: &mut String) -> Result<(), NoMemory> {
-    let [xbcs, command, timing, ports @ ..] = words else {
-        return Ok(text.push_str("no registers")?);
-    };
+/// A bridge with this XBCS, IDE command and IDETIM.
+fn programmed(xbcs: u8, command: u8, timing: u16) -> Piix {
     let mut piix = Piix::new();
-    let [low, high] = u16::to_le_bytes(port(timing));
-    piix.write(0, 0x4E, byte(xbcs));
-    piix.write(1, 0x04, byte(command));
+    let [low, high] = u16::to_le_bytes(timing);
+    piix.write(0, 0x4E, xbcs);
+    piix.write(1, 0x04, command);
     piix.write(1, 0x40, low);
     piix.write(1, 0x41, high);
-    write!(
-        text,
-        "{:02X} {:02X} {:02X}{:02X}",
-        piix.read(0, 0x4E),
-        piix.read(1, 0x04),
-        piix.read(1, 0x41),
-        piix.read(1, 0x40)
-    )?;
+    piix
+}
+
+/// What XBCS, the IDE command and IDETIM read.
+fn push_programmed(text: &mut String, piix: &Piix) -> Result<(), AllocError> {
+    let (xbcs, command) = (piix.read(0, 0x4E), piix.read(1, 0x04));
+    let (high, low) = (piix.read(1, 0x41), piix.read(1, 0x40));
+    write!(text, "{xbcs:02X} {command:02X} {high:02X}{low:02X}")
+}
+
+/// Whether each port is selected.
+fn push_selects(text: &mut String, piix: &Piix, ports: &[&str]) -> Result<(), AllocError> {
     for at in ports {
         text.push_str(if piix.selects(port(at)) {
             " yes"
@@ -121,21 +145,33 @@ pub fn tell_selects(words: &[&str], text: &mut String) -> Result<(), NoMemory> {
     Ok(())
 }
 
+/// Whether XBCS, the IDE command and IDETIM select each port, after what they read.
+pub fn tell_selects(words: &[&str], text: &mut String) -> Result<(), NoMemory> {
+    let [xbcs, command, timing, ports @ ..] = words else {
+        return Ok(text.push_str("no registers")?);
+    };
+    let piix = programmed(byte(xbcs), byte(command), port(timing));
+    push_programmed(text, &piix)?;
+    Ok(push_selects(text, &piix, ports)?)
+}
+
+/// Whether the ROM is selected at an address.
+fn push_selected(text: &mut String, xbcs: u8, addr: u32) -> Result<(), AllocError> {
+    text.push_str(if rom_selected(xbcs, addr) {
+        " selected"
+    } else {
+        " not selected"
+    })
+}
+
 /// The offset in a ROM of so many bytes that an address has under XBCS, and whether the ROM is selected at all.
 pub fn tell_bios(xbcs: &str, addr: &str, size: &str, text: &mut String) -> Result<(), NoMemory> {
     let (xbcs, addr, size) = (byte(xbcs), number(addr), number(size));
     if size == 0 {
         return Ok(text.push_str("no ROM")?);
     }
-    match rom_offset(xbcs, addr, size) {
-        Some(offset) => write!(text, "{offset:X}")?,
-        None => text.push_str("none")?,
-    }
-    Ok(text.push_str(if rom_selected(xbcs, addr) {
-        " selected"
-    } else {
-        " not selected"
-    })?)
+    push_some(text, rom_offset(xbcs, addr, size))?;
+    Ok(push_selected(text, xbcs, addr)?)
 }
 
 /// XBCS after a write over an old byte.

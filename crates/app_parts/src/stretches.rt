@@ -1,10 +1,12 @@
 //! Stretches of bytes in DRAM and in a card's base, and the cycles of accesses to ports.
 
-ghost use Rattle.std.specs.Prelude.{◌≡◌};
+ghost use Rattle.std.specs.Prelude.{◌≡◌, ◌%◌};
 ghost use Rattle.board_spec.specs.Setup.{IsCard};
+ghost use Rattle.board_base.specs.Access.{bytes_of};
 
+use crate::told::{push_bytes, push_hex, space};
 use arrayvec::ArrayVec;
-use board_base::NoMemory;
+use board_base::{NoMemory, PortAccess, Width};
 use board_stores::port_cycles;
 use call_words::{byte, bytes_of, number, port_access, width};
 use dram_store::Dram;
@@ -17,99 +19,162 @@ const READ_BYTES: usize = 8;
 /// How many ports there are.
 const PORTS: u32 = 0x1_0000;
 
-/// Tells the cycles of an access to ports, each its port, bytes and value.
-pub fn tell_cycles(words: &[&str], text: &mut String) -> Result<(), NoMemory> {
-    let (write, at, bytes, value) = match words {
-        ["write", at, bytes, value] => (true, *at, *bytes, *value),
-        ["read", at, bytes] => (false, *at, *bytes, "0"),
-        _ => return Ok(text.push_str("no access")?),
-    };
-    let access = port_access(write, bytes, at, value);
-    if u32::from(access.port) + access.width.bytes() > PORTS {
-        return Ok(text.push_str("past the last port")?);
+/// The access that words ask for.
+fn access_of(words: &[&str]) -> Option<PortAccess> {
+    match words {
+        ["write", at, bytes, value] => Some(port_access(true, bytes, at, value)),
+        ["read", at, bytes] => Some(port_access(false, bytes, at, "0")),
+        _ => None,
     }
-    for cycle in &port_cycles(&access) {
-        let part = &cycle.access;
-        write!(text, "{:X} {} ", part.port, part.width.bytes())?;
-        if part.write {
-            write!(text, "{:X} ", part.value)?;
-        }
+}
+
+/// Tells a cycle: its port, bytes and value.
+fn push_cycle(text: &mut String, part: &PortAccess) -> Result<(), AllocError> {
+    write!(text, "{:X} {} ", part.port, part.width.bytes())?;
+    if part.write {
+        return write!(text, "{:X} ", part.value);
     }
     Ok(())
 }
 
-fn push_bytes(text: &mut String, bytes: &[u8]) -> Result<(), AllocError> {
-    for byte in bytes {
-        write!(text, "{byte:02X}")?;
+/// Tells the cycles of an access that ends at the last port or before.
+fn push_cycles(text: &mut String, access: &PortAccess) -> Result<(), AllocError> {
+    if u32::from(access.port) + access.width.bytes() > PORTS {
+        return text.push_str("past the last port");
+    }
+    for cycle in &port_cycles(access) {
+        push_cycle(text, &cycle.access)?;
     }
     Ok(())
+}
+
+/// Tells the cycles of an access to ports.
+pub fn tell_cycles(words: &[&str], text: &mut String) -> Result<(), NoMemory> {
+    match access_of(words) {
+        Some(access) => Ok(push_cycles(text, &access)?),
+        None => Ok(text.push_str("no access")?),
+    }
+}
+
+/// Writes a value that an access of this width can have.
+fn write_aligned(
+    dram: &mut Dram,
+    width: Width,
+    addr: u32,
+    value: u32,
+    text: &mut String,
+) -> Result<(), AllocError>
+    requires aligned { addr % bytes_of width ≡ 0 }
+{
+    if !width.fits(value) {
+        return text.push_str("too large");
+    }
+    dram.write(addr, width, value);
+    text.push('-')
 }
 
 /// An access of a width, as `4.100=11223344` and `4.100?`; told where it is not aligned or the value is too large.
 fn act_aligned(
     dram: &mut Dram,
-    bytes: &str,
+    width: Width,
     step: &str,
     text: &mut String,
 ) -> Result<(), AllocError> {
-    let width = width(bytes);
-    let (addr, value) = match step.split_once('=') {
-        Some((addr, value)) => (number(addr), Some(number(value))),
-        None => (number(step.trim_end_matches('?')), None),
-    };
+    let (addr, value) = cut_at(step);
     if !width.is_aligned(addr) {
         return text.push_str("not aligned");
     }
     match value {
-        Some(value) if width.fits(value) => {
-            dram.write(addr, width, value);
-            text.push('-')
-        }
-        Some(_) => text.push_str("too large"),
-        None => write!(text, "{:X}", dram.read(addr, width)),
+        Some(value) => write_aligned(dram, width, addr, number(value), text),
+        None => push_hex(text, dram.read(addr, width)),
     }
+}
+
+/// The number before an equals sign with the digits after it, or the number before a question mark.
+fn cut_at(step: &str) -> (u32, Option<&str>) {
+    match step.split_once('=') {
+        Some((addr, digits)) => (number(addr), Some(digits)),
+        None => (number(step.trim_end_matches('?')), None),
+    }
+}
+
+/// How many bytes of a MiB are kept.
+fn push_kept(dram: &Dram, mib: &str, text: &mut String) -> Result<(), AllocError> {
+    match dram.kept(usize::from(byte(mib))) {
+        Some(bytes) => write!(text, "{:X}", bytes.len()),
+        None => text.push_str("none"),
+    }
+}
+
+/// Loads bytes, whole or not at all.
+fn load(
+    alloc: Global,
+    dram: &mut Dram,
+    addr: u32,
+    digits: &str,
+    text: &mut String,
+) -> Result<(), AllocError> {
+    let bytes = bytes_of(alloc, digits)?;
+    text.push_str(if dram.load(addr, &bytes).is_ok() {
+        "loaded"
+    } else {
+        "refused"
+    })
+}
+
+/// Writes bytes as the bus does, or reads eight.
+fn act_bytes(
+    alloc: Global,
+    dram: &mut Dram,
+    step: &str,
+    text: &mut String,
+) -> Result<(), AllocError> {
+    let (addr, digits) = cut_at(step);
+    if let Some(digits) = digits {
+        dram.write_bytes(addr, &bytes_of(alloc, digits)?);
+        return text.push('-');
+    }
+    let mut found = [0xEE; READ_BYTES];
+    dram.read_bytes(addr, &mut found);
+    push_bytes(text, &found)
 }
 
 /// A step at memory: `FFFFC=01020304` writes a stretch as the bus does, `FFFFC+0102` loads one whole or not at all, `FFFFC?`
 /// reads eight bytes, `kept1` tells how many bytes of a MiB are kept.
 fn act(alloc: Global, dram: &mut Dram, step: &str, text: &mut String) -> Result<(), AllocError> {
     if let Some(mib) = step.strip_prefix("kept") {
-        return match dram.kept(usize::from(byte(mib))) {
-            Some(bytes) => write!(text, "{:X}", bytes.len()),
-            None => text.push_str("none"),
-        };
+        return push_kept(dram, mib, text);
     }
     if let Some((bytes, step)) = step.split_once('.') {
-        return act_aligned(dram, bytes, step, text);
+        return act_aligned(dram, width(bytes), step, text);
     }
-    if let Some((addr, digits)) = step.split_once('=') {
-        let bytes = bytes_of(alloc, digits)?;
-        dram.write_bytes(number(addr), &bytes);
-        return text.push('-');
+    match step.split_once('+') {
+        Some((addr, digits)) => load(alloc, dram, number(addr), digits, text),
+        None => act_bytes(alloc, dram, step, text),
     }
-    if let Some((addr, digits)) = step.split_once('+') {
-        let bytes = bytes_of(alloc, digits)?;
-        let done = dram.load(number(addr), &bytes).is_ok();
-        return text.push_str(if done { "loaded" } else { "refused" });
+}
+
+/// Does all steps at a memory.
+fn act_all(
+    alloc: Global,
+    dram: &mut Dram,
+    steps: &[&str],
+    text: &mut String,
+) -> Result<(), AllocError> {
+    for step in steps {
+        space(text)?;
+        act(alloc, dram, step, text)?;
     }
-    let mut found = [0xEE; READ_BYTES];
-    dram.read_bytes(number(step.trim_end_matches('?')), &mut found);
-    push_bytes(text, &found)
+    Ok(())
 }
 
 /// Does all steps at a new memory of 1 to 3 MiB.
 pub fn tell_dram(alloc: Global, words: &[&str], text: &mut String) -> Result<(), NoMemory> {
-    let [mib, steps @ ..] = words else {
+    let Some((mib, steps)) = words.split_first() else {
         return Ok(text.push_str("no memory")?);
     };
     let mut dram = Dram::open(alloc, 1 + number(mib).wrapping_sub(1) % 3)?;
-    for step in steps {
-        if !text.is_empty() {
-            text.push(' ')?;
-        }
-        act(alloc, &mut dram, step, text)?;
-    }
-    Ok(())
+    Ok(act_all(alloc, &mut dram, steps, text)?)
 }
 
 /// The device of the card, whose base 0 has 1 MiB of memory and whose base 1 has 16 ports.
@@ -130,6 +195,23 @@ fn card() -> CardSpec
     }
 }
 
+/// Writes a stretch of a base, where it is within.
+fn write_card(contents: &mut Contents, base: u8, off: u32, bytes: &[u8]) {
+    if base < 8 && (off as usize).saturating_add(bytes.len()) <= contents.size(CARD, base) {
+        contents.write_bytes(CARD, base, off, bytes);
+    }
+}
+
+/// Reads eight bytes of a base, where they are within.
+fn read_card(contents: &Contents, base: u8, off: u32, text: &mut String) -> Result<(), AllocError> {
+    if base >= 8 || (off as usize).saturating_add(READ_BYTES) > contents.size(CARD, base) {
+        return text.push_str("past the end");
+    }
+    let mut found = [0xEE; READ_BYTES];
+    contents.read_bytes(CARD, base, off, &mut found);
+    push_bytes(text, &found)
+}
+
 /// A step at the card: `0.FFFF8=0102` writes a stretch of a base, and `0.FFFF8?` reads eight bytes.
 fn act_card(
     alloc: Global,
@@ -140,31 +222,31 @@ fn act_card(
     let Some((base, rest)) = step.split_once('.') else {
         return text.push_str("no step");
     };
-    let base = byte(base);
-    if let Some((off, digits)) = rest.split_once('=') {
-        let (off, bytes) = (number(off), bytes_of(alloc, digits)?);
-        if base < 8 && (off as usize).saturating_add(bytes.len()) <= contents.size(CARD, base) {
-            contents.write_bytes(CARD, base, off, &bytes);
+    let (off, digits) = cut_at(rest);
+    match digits {
+        Some(digits) => {
+            write_card(contents, byte(base), off, &bytes_of(alloc, digits)?);
+            text.push('-')
         }
-        return text.push('-');
+        None => read_card(contents, byte(base), off, text),
     }
-    let off = number(rest.trim_end_matches('?'));
-    let mut found = [0xEE; READ_BYTES];
-    if base >= 8 || (off as usize).saturating_add(READ_BYTES) > contents.size(CARD, base) {
-        return text.push_str("past the end");
+}
+
+fn act_on_card(
+    alloc: Global,
+    contents: &mut Contents,
+    steps: &[&str],
+    text: &mut String,
+) -> Result<(), AllocError> {
+    for step in steps {
+        space(text)?;
+        act_card(alloc, contents, step, text)?;
     }
-    contents.read_bytes(CARD, base, off, &mut found);
-    push_bytes(text, &found)
+    Ok(())
 }
 
 /// Does all steps at the bytes of a card.
 pub fn tell_card(alloc: Global, steps: &[&str], text: &mut String) -> Result<(), NoMemory> {
     let mut contents = Contents::open(alloc, &[card()])?;
-    for step in steps {
-        if !text.is_empty() {
-            text.push(' ')?;
-        }
-        act_card(alloc, &mut contents, step, text)?;
-    }
-    Ok(())
+    Ok(act_on_card(alloc, &mut contents, steps, text)?)
 }

@@ -2,6 +2,7 @@
 //! counter 2, `g1` and `g0` are levels of gate 2, `p5` gives five pulses at once, and `rose5` too and tells how often OUT of
 //! counter 0 rose, and its level. `?` asks after how many pulses it next rises.
 
+use crate::told::space;
 use board_base::NoMemory;
 use call_words::{byte, decimal};
 use pit_8254::{CONTROL_WORD, COUNTER_0, COUNTER_2, Pit, Rises};
@@ -52,9 +53,7 @@ fn act(pit: &mut Pit, step: &str, text: &mut String) -> Result<(), AllocError> {
 pub fn tell(steps: &[&str], text: &mut String) -> Result<(), NoMemory> {
     let mut pit = Pit::new();
     for step in steps {
-        if !text.is_empty() {
-            text.push(' ')?;
-        }
+        space(text)?;
         act(&mut pit, step, text)?;
     }
     Ok(())
