@@ -1,6 +1,6 @@
 -- Which event a record says: none where a number of it names nothing, or does not fit where it goes.
 use Rattle.std.specs.Prelude.{ℕ, ◌==◌, ◌%◌, ◌/◌, ◌^◌, nat_lt, nat_le, Bool, true, false, ◌&&◌, if◌then◌else◌, Option, Some, None, option_map, option_and_then}
-use Rattle.board_prelude.specs.Common.{Kind, Fetch, Read, Write, Width, One, WideAccess, bytes_of, days_in_month, moment_of, Event, Memory, Wide, Port, Ack, Pulses, Time, Wire, Line, BadSector}
+use Rattle.board_prelude.specs.Common.{Kind, Fetch, Read, Write, Width, One, WideAccess, bytes_of, is_moment, moment_of, Event, Memory, Wide, Port, Ack, Pulses, Time, Wire, Line, BadSector}
 use Rattle.board_base.specs.declared.access.Width.TheVariants.{Two, Four}
 use Rattle.board_spec.specs.declared.event.Event.TheVariants.{Look as LookAt}
 use Rattle.uart_16550.specs.declared.com1.Happening.{Happening}
@@ -55,13 +55,6 @@ port_said said width write =
     else None
 
 -- ---- what the world outside does
-
--- the calendar of 1980 to 2099 has this day, and the day this second
-abbrev pub is_moment : (year month day hour minute second : ℕ) → Bool
-is_moment year month day hour minute second =
-    nat_le 1980 year && nat_le year 2099 && nat_le 1 month && nat_le month 12
-    && nat_le 1 day && nat_le day (days_in_month year month)
-    && nat_le hour 23 && nat_le minute 59 && nat_le second 59
 
 -- a moment with its weekday, where there is such a moment
 unfoldable pub moment_said : (year month day hour minute second : ℕ) → Option Event
