@@ -2,3 +2,4 @@ pub mod DigitTable
 pub mod NumberLemmas
 pub mod FieldLemmas
 pub mod ItemReading
+pub mod StraightLemmas

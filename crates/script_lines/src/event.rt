@@ -12,7 +12,7 @@ use board_base::{Access, Kind, PortAccess, WideAccess, Width};
 use board_spec::Event;
 
 /// The width of an access to a port.
-fn width_of(field: &[u8]) -> Option<Width>
+pub(crate) fn width_of(field: &[u8]) -> Option<Width>
     ensures width { result ≡ width_of field.now }
 {
     match field {
@@ -31,7 +31,8 @@ fn quad_of(version: u8) -> Option<u8>
 }
 
 /// The number of bytes of an access to memory.
-fn size_of(version: u8, field: &[u8]) -> Option<u8>
+#[inline(always)]
+pub(crate) fn size_of(version: u8, field: &[u8]) -> Option<u8>
     ensures size { result ≡ size_of version field.now }
     ensures known { IfSome result (IsSize version) }
 {
@@ -44,7 +45,7 @@ fn size_of(version: u8, field: &[u8]) -> Option<u8>
     }
 }
 
-fn kind_of(field: &[u8]) -> Option<Kind>
+pub(crate) fn kind_of(field: &[u8]) -> Option<Kind>
     ensures kind { result ≡ kind_of field.now }
 {
     match field {
@@ -99,8 +100,16 @@ fn is_wide(version: u8, bytes: u8, addr: u32) -> bool
 }
 
 /// An access to memory of `bytes` bytes.
+#[inline(always)]
 #[tactic(auto, unfolding(script_spec::specs::Events::memory_event))]
-fn memory_event(version: u8, kind: Kind, bytes: u8, addr: u32, value: u64, smm: bool) -> Event
+pub(crate) fn memory_event(
+    version: u8,
+    kind: Kind,
+    bytes: u8,
+    addr: u32,
+    value: u64,
+    smm: bool,
+) -> Event
     requires size { IsSize version bytes }
     requires value { value < 16 ^ (2 * bytes) }
     ensures event { result ≡ memory_event version kind bytes addr value smm }
@@ -124,7 +133,7 @@ fn memory_event(version: u8, kind: Kind, bytes: u8, addr: u32, value: u64, smm: 
 }
 
 /// An address has eight digits.
-fn address_of(field: &[u8]) -> Option<u32>
+pub(crate) fn address_of(field: &[u8]) -> Option<u32>
     ensures address { result ≡ hex_of 8 field.now }
 {
     let addr = hex_of(8, field)?;
@@ -132,7 +141,7 @@ fn address_of(field: &[u8]) -> Option<u32>
 }
 
 /// A port has four digits.
-fn port_of(field: &[u8]) -> Option<u16>
+pub(crate) fn port_of(field: &[u8]) -> Option<u16>
     ensures port { result ≡ hex_of 4 field.now }
 {
     let port = hex_of(4, field)?;
@@ -186,7 +195,7 @@ fn in_of(words: Fields<'_>) -> Option<Event>
 }
 
 /// The value of an access to a port has two digits for each byte of its width.
-fn value_of(width: Width, field: &[u8]) -> Option<u32>
+pub(crate) fn value_of(width: Width, field: &[u8]) -> Option<u32>
     ensures value { result ≡ hex_of (2 * bytes_of width) field.now }
 {
     let value = hex_of(2 * width.bytes() as usize, field)?;

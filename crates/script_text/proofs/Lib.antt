@@ -6,3 +6,4 @@ pub mod Reasons
 pub mod TakenSetup
 pub mod TakenPhases
 pub mod Runs
+pub mod StraightLine

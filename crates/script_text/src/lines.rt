@@ -11,6 +11,7 @@ const LINE_FEED: u8 = b'\n';
 
 /// The first line of these bytes, without its line feed, and the bytes after it. Where there are no
 /// bytes there is no line.
+#[inline(always)]
 pub(crate) fn split_line(bytes: &[u8]) -> Option<(&[u8], &[u8])>
     ensures cases { MatchOption result (lines_of bytes.now ≡ []) (λ p. lines_of bytes.now ≡ p.0.now ∷ lines_of p.1.now) }
     ensures shorter { IfSome result (λ p. length p.1.now < length bytes.now) }

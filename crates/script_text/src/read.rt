@@ -1,7 +1,7 @@
 //! The run over the lines of a text.
 
-ghost use Rattle.std.specs.Prelude.{◌≡◌, ◌<◌, ◌+◌, ◌^◌, ◌-◌, [], ◌∷◌, ℕ, List, length, IfOk, IfErr, OnOk};
-ghost use Rattle.script_spec.specs.Common.{Item as Said, lines_of, IsVersion, first_line, AreRead, IsBadLine, IsBadLater, IsScriptText, IsScriptBad, IsInRangeScript};
+ghost use Rattle.std.specs.Prelude.{◌≡◌, ◌<◌, ◌+◌, ◌^◌, ◌-◌, [], ◌∷◌, ℕ, List, length, IfOk, IfErr, OnOk, Some, None};
+ghost use Rattle.script_spec.specs.Common.{Item as Said, lines_of, IsVersion, first_line, AreRead, IsBadLine, IsBadLater, IsScriptText, IsScriptBad, IsInRangeScript, ask, least_reason};
 ghost use Rattle.script_text.specs.Faults.{OnBad};
 ghost use Rattle.script_text.specs.Reading.{IsReadingOf};
 ghost use Rattle.script_text.specs.Script.{said_of};
@@ -10,7 +10,8 @@ use crate::fault::{Reason, ScriptFault};
 use crate::lines::{is_skipped, split_line, version_of};
 use crate::reading::Reading;
 use crate::script::Script;
-use script_lines::item_of;
+use board_spec::Event;
+use script_lines::{Asked, item_of, straight_of};
 use std::alloc::Global;
 
 /// The most bytes of a line after the first.
@@ -18,6 +19,28 @@ const MOST_BYTES: usize = 120;
 
 /// The line after the first.
 const SECOND: u32 = 2;
+
+/// Reads a statement on the line with this number.
+fn read_statement(
+    number: u32,
+    actor: u32,
+    event: Event,
+    reading: &mut Reading,
+) -> Result<(), ScriptFault>
+    requires before { (items : List Said) × IsReadingOf items reading.old }
+    ensures read { OnOk result ((items : List Said) → IsReadingOf items reading.old
+        → (least_reason items (ask actor event) ≡ None) × IsReadingOf (ask actor event ∷ items) reading.new) }
+    ensures bad { IfErr result (λ fault. OnBad fault (λ place why. (place ≡ number)
+        × ((items : List Said) → IsReadingOf items reading.old → least_reason items (ask actor event) ≡ Some why))) }
+{
+    match reading.judge_statement(actor, Asked::Event(event)) {
+        Ok(statement) => {
+            reading.take_statement(statement)?;
+            Ok(())
+        }
+        Err(reason) => Err(ScriptFault::at(number, reason)),
+    }
+}
 
 /// Reads one line after the first, which has this number.
 fn read_line(
@@ -39,6 +62,9 @@ fn read_line(
     }
     if is_skipped(line) {
         return Ok(());
+    }
+    if let Some((actor, event)) = straight_of(version, line) {
+        return read_statement(number, actor, event, reading);
     }
     let Some(item) = item_of(version, line) else {
         return Err(ScriptFault::at(number, Reason::NoForm));

@@ -192,7 +192,8 @@ impl Reading {
         self.statements == MOST_STATEMENTS as u32 || self.pulses + pulses_of(event) > MOST_PULSES
     }
 
-    fn judge_statement(&self, actor: u32, asked: Asked) -> Result<Statement, Reason>
+    #[inline(always)]
+    pub(crate) fn judge_statement(&self, actor: u32, asked: Asked) -> Result<Statement, Reason>
         requires limits { IsWithinLimits self.now }
         ensures judged { (items : List Said) → IsReadingOf items self.now
             → Judges Ask items (asked_said actor asked) result }

@@ -89,7 +89,8 @@ impl Reading {
         Ok(())
     }
 
-    fn take_statement(&mut self, statement: Statement) -> Result<(), AllocError>
+    #[inline(always)]
+    pub(crate) fn take_statement(&mut self, statement: Statement) -> Result<(), AllocError>
         requires few { pulses_of_event statement.event ≤ 1_000_000 }
         requires limits { IsWithinLimits self.old }
         ensures taken { OnOk result (Takes self.old (Ask statement) self.new) }

@@ -172,6 +172,7 @@ fn is_moment(moment: &Moment) -> bool
 }
 
 /// Whether the numbers of an event are in range.
+#[inline(always)]
 fn is_event_in_range(event: &Event) -> bool
     ensures in_range { result ≡ is_event_in_range event.now }
 {
@@ -186,6 +187,7 @@ fn is_event_in_range(event: &Event) -> bool
     }
 }
 
+#[inline(always)]
 fn event_in_range(event: Event) -> Option<Event>
     ensures event { result ≡ in_case (is_event_in_range event) event }
 {
@@ -238,6 +240,7 @@ fn line_of(irq: u32, level: u32) -> Option<Event>
 }
 
 /// The event of a statement, where its numbers are in range.
+#[inline(always)]
 pub(crate) fn event_of(asked: Asked) -> Option<Event>
     ensures event { (actor : ℕ) → option_map (ask actor) result
         ≡ in_case (is_in_range (asked_said actor asked)) (asked_said actor asked) }

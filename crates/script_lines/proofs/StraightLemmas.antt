@@ -1,0 +1,217 @@
+-- A statement that is read straight from the bytes of its line is the one that its fields say.
+use Rattle.std.proofs.Common.{◌≡◌, ℕ, ◌+◌, ◌*◌, Bool, true, false, eqb, Option, Some, None, List, [], ◌∷◌, ◌++◌, length, All, refl, sym, ap, subst, ◌∙◌, arith, codes, decimal, IfSome, MatchOption}
+use Rattle.board_prelude.proofs.Common.{option_map, ne_eqb, All-nil, All-cons, Event, Width, Kind, Read, Fetch, Write, Port, bytes_of}
+use Rattle.board_spec.specs.declared.event.Event.TheVariants.{Look as LookAt}
+use Rattle.std.proofs.lemmas.List.Splits.{slice_split_none, slice_split_at}
+use Rattle.script_spec.specs.Common.{Item, HasForm, IsDecimal, fields_of, size_of, width_of, kind_of, hex_of, decimal_of, digit_of, number_of, number_after, smm_of, memory_event, read_of, write_of, in_of, out_of, look_of, event_of, ask, event_asked, asked_with, asked_of, statement_of, item_with, item_of}
+use Rattle.script_spec.proofs.Chains.{guarded, then_said}
+use Rattle.script_spec.proofs.NumberTexts.{decimal_read}
+use Rattle.script_spec.proofs.FieldTexts.{no_word}
+use Rattle.script_spec.proofs.NumberBack.{decimal_back}
+use Rattle.script_spec.proofs.LineReading.{read_says}
+use Rattle.script_lines.specs.Straight.{Asks}
+
+abbrev is_space : ℕ → Bool
+is_space byte = eqb byte 32
+
+abbrev IsField : List ℕ → Type 0
+IsField field = All (λ byte. is_space byte ≡ false) field
+
+-- ---- what says something has no space
+
+none_some : {A : Type 0} (x : A) → ◌≡◌ {A = Option A} None (Some x) → ⊥
+none_some x e = cc
+
+digit_lacks : (base byte digit : ℕ) → digit_of base byte ≡ Some digit → is_space byte ≡ false
+digit_lacks base byte digit e =
+    ne_eqb byte 32 (λ is. none_some digit (subst (λ (b : ℕ). digit_of base b ≡ Some digit) is e))
+
+number_lacks : (base high n : ℕ) (field : List ℕ) → number_after base high field ≡ Some n → IsField field
+unfolding number_after
+number_lacks base high n [] e = All-nil (λ byte. is_space byte ≡ false)
+number_lacks base high n (byte ∷ rest) e =
+    let k = then_said (digit_of base byte) (λ digit. number_after base (high * base + digit) rest) n e in
+    All-cons (λ byte. is_space byte ≡ false) byte rest (digit_lacks base byte k.0 k.1)
+    (number_lacks base (high * base + k.0) n rest k.2)
+
+hex_lacks : (digits n : ℕ) (field : List ℕ) → hex_of digits field ≡ Some n → IsField field
+hex_lacks digits n field e = number_lacks 16 0 n field (guarded (eqb (length field) digits) (number_of 16 field) n e).1
+
+size_lacks : (version size bytes : ℕ) → size_of version (size ∷ []) ≡ Some bytes → is_space size ≡ false
+size_lacks version size bytes e =
+    ne_eqb size 32 (λ is. none_some bytes (subst (λ (b : ℕ). size_of version (b ∷ []) ≡ Some bytes) is e))
+
+width_lacks : (byte : ℕ) (width : Width) → width_of (byte ∷ []) ≡ Some width → is_space byte ≡ false
+width_lacks byte width e =
+    ne_eqb byte 32 (λ is. none_some width (subst (λ (b : ℕ). width_of (b ∷ []) ≡ Some width) is e))
+
+kind_lacks : (byte : ℕ) (kind : Kind) → kind_of (byte ∷ []) ≡ Some kind → is_space byte ≡ false
+kind_lacks byte kind e =
+    ne_eqb byte 32 (λ is. none_some kind (subst (λ (b : ℕ). kind_of (b ∷ []) ≡ Some kind) is e))
+
+decimal_lacks : (byte n : ℕ) → decimal_of (byte ∷ []) ≡ Some n → is_space byte ≡ false
+unfolding number_after
+decimal_lacks byte n e =
+    ne_eqb byte 32 (λ is. none_some n (subst (λ (b : ℕ). decimal_of (b ∷ []) ≡ Some n) is e))
+
+-- ---- fields
+
+one_byte : (byte : ℕ) (rest : List ℕ) → is_space byte ≡ false → fields_of (byte ∷ 32 ∷ rest) ≡ (byte ∷ []) ∷ fields_of rest
+one_byte byte rest lacks =
+    slice_split_at is_space (byte ∷ []) 32 rest
+    (All-cons (λ byte. is_space byte ≡ false) byte [] lacks (All-nil (λ byte. is_space byte ≡ false))) refl
+
+last_field : (byte : ℕ) (field : List ℕ) → is_space byte ≡ false → IsField field
+    → fields_of (byte ∷ 32 ∷ field) ≡ (byte ∷ []) ∷ field ∷ []
+last_field byte field lacks whole =
+    one_byte byte field lacks
+    ∙ ap (λ (fields : List (List ℕ)). (byte ∷ []) ∷ fields) (slice_split_none is_space field whole)
+
+last_fields : (byte : ℕ) (text first second : List ℕ) → text ≡ first ++ 32 ∷ second → is_space byte ≡ false → IsField first
+    → IsField second → fields_of (byte ∷ 32 ∷ text) ≡ (byte ∷ []) ∷ first ∷ second ∷ []
+last_fields byte text first second is lacks one two =
+    one_byte byte text lacks
+    ∙ ap (λ (fields : List (List ℕ)). (byte ∷ []) ∷ fields)
+    (ap fields_of is
+    ∙ slice_split_at is_space first 32 second one refl
+    ∙ ap (λ (fields : List (List ℕ)). first ∷ fields) (slice_split_none is_space second two))
+
+-- ---- events, as what was found says them
+
+pub access_straight : (version size bytes n : ℕ) (kind : Kind) (text addr : List ℕ) (event : Event) → text ≡ size ∷ 32 ∷ addr
+    → Some bytes ≡ size_of version (size ∷ []) → Some n ≡ hex_of 8 addr → event ≡ memory_event version kind bytes n 0 false
+    → read_of version kind (fields_of text) ≡ Some event
+unfolding read_of smm_of
+access_straight version size bytes n kind text addr event is sized at made =
+    ap (λ (t : List ℕ). read_of version kind (fields_of t)) is
+    ∙ ap (read_of version kind) (last_field size addr (size_lacks version size bytes (sym sized)) (hex_lacks 8 n addr (sym at)))
+    ∙ rw (sym sized, sym at, made) refl
+
+write_read : (version size bytes n m : ℕ) (text fields addr value : List ℕ) (event : Event) → text ≡ size ∷ 32 ∷ fields
+    → fields ≡ addr ++ 32 ∷ value → Some bytes ≡ size_of version (size ∷ []) → Some n ≡ hex_of 8 addr
+    → Some m ≡ hex_of (2 * bytes) value → event ≡ memory_event version Write bytes n m false
+    → write_of version (fields_of text) ≡ Some event
+unfolding write_of smm_of
+write_read version size bytes n m text fields addr value event is cut sized at said made =
+    ap (λ (t : List ℕ). write_of version (fields_of t)) is
+    ∙ ap (write_of version)
+    (last_fields size fields addr value cut (size_lacks version size bytes (sym sized)) (hex_lacks 8 n addr (sym at))
+    (hex_lacks (2 * bytes) m value (sym said)))
+    ∙ rw (sym sized, sym at, sym said, made) refl
+
+in_read : (byte n : ℕ) (width : Width) (text port : List ℕ) → text ≡ byte ∷ 32 ∷ port → Some width ≡ width_of (byte ∷ [])
+    → Some n ≡ hex_of 4 port
+    → in_of (fields_of text) ≡ Some (Port (record { write = false; port = n; width = width; value = 0 }))
+unfolding in_of
+in_read byte n width text port is wide at =
+    ap (λ (t : List ℕ). in_of (fields_of t)) is
+    ∙ ap in_of (last_field byte port (width_lacks byte width (sym wide)) (hex_lacks 4 n port (sym at)))
+    ∙ rw (sym wide, sym at) refl
+
+out_read : (byte n m : ℕ) (width : Width) (text fields port value : List ℕ) → text ≡ byte ∷ 32 ∷ fields
+    → fields ≡ port ++ 32 ∷ value → Some width ≡ width_of (byte ∷ []) → Some n ≡ hex_of 4 port
+    → Some m ≡ hex_of (2 * bytes_of width) value
+    → out_of (fields_of text) ≡ Some (Port (record { write = true; port = n; width = width; value = m }))
+unfolding out_of
+out_read byte n m width text fields port value is cut wide at said =
+    ap (λ (t : List ℕ). out_of (fields_of t)) is
+    ∙ ap out_of
+    (last_fields byte fields port value cut (width_lacks byte width (sym wide)) (hex_lacks 4 n port (sym at))
+    (hex_lacks (2 * bytes_of width) m value (sym said)))
+    ∙ rw (sym wide, sym at, sym said) refl
+
+look_read : (byte n : ℕ) (kind : Kind) (text addr : List ℕ) → text ≡ byte ∷ 32 ∷ addr → Some kind ≡ kind_of (byte ∷ [])
+    → Some n ≡ hex_of 8 addr → look_of (fields_of text) ≡ Some (LookAt kind n false)
+unfolding look_of smm_of
+look_read byte n kind text addr is kindly at =
+    ap (λ (t : List ℕ). look_of (fields_of t)) is
+    ∙ ap look_of (last_field byte addr (kind_lacks byte kind (sym kindly)) (hex_lacks 8 n addr (sym at)))
+    ∙ rw (sym kindly, sym at) refl
+
+-- ---- verbs
+
+pub matched : {A : Type 0} (N : Type 0) (P : A → Type 0) (found : Option A) → MatchOption found N P → IfSome found P
+matched N P None m = tt
+matched N P (Some x) m = m
+
+asks_read : (version : ℕ) (words text : List ℕ) (event : Event) → words ≡ 114 ∷ 32 ∷ text
+    → read_of version Read (fields_of text) ≡ Some event → Asks version words event
+unfolding asked_of asked_with event_asked event_of
+asks_read version words text event is said actor =
+    ap (λ (t : List ℕ). asked_of version actor (fields_of t)) is ∙ ap (option_map (ask actor)) said
+
+pub each_read : (version : ℕ) (words text : List ℕ) (found : Option Event) → words ≡ 114 ∷ 32 ∷ text
+    → IfSome found (λ event. read_of version Read (fields_of text) ≡ Some event) → IfSome found (Asks version words)
+each_read version words text None is said = tt
+each_read version words text (Some event) is said = asks_read version words text event is said
+
+asks_fetch : (version : ℕ) (words text : List ℕ) (event : Event) → words ≡ 102 ∷ 32 ∷ text
+    → read_of version Fetch (fields_of text) ≡ Some event → Asks version words event
+unfolding asked_of asked_with event_asked event_of
+asks_fetch version words text event is said actor =
+    ap (λ (t : List ℕ). asked_of version actor (fields_of t)) is ∙ ap (option_map (ask actor)) said
+
+pub each_fetch : (version : ℕ) (words text : List ℕ) (found : Option Event) → words ≡ 102 ∷ 32 ∷ text
+    → IfSome found (λ event. read_of version Fetch (fields_of text) ≡ Some event) → IfSome found (Asks version words)
+each_fetch version words text None is said = tt
+each_fetch version words text (Some event) is said = asks_fetch version words text event is said
+
+pub write_straight : (version size bytes n m : ℕ) (words text fields addr value : List ℕ) (event : Event)
+    → words ≡ 119 ∷ 32 ∷ text → text ≡ size ∷ 32 ∷ fields → fields ≡ addr ++ 32 ∷ value
+    → Some bytes ≡ size_of version (size ∷ []) → Some n ≡ hex_of 8 addr → Some m ≡ hex_of (2 * bytes) value
+    → event ≡ memory_event version Write bytes n m false → Asks version words event
+unfolding asked_of asked_with event_asked event_of
+write_straight version size bytes n m words text fields addr value event verb is cut sized at said made actor =
+    ap (λ (t : List ℕ). asked_of version actor (fields_of t)) verb
+    ∙ ap (option_map (ask actor)) (write_read version size bytes n m text fields addr value event is cut sized at said made)
+
+pub in_straight : (version byte n : ℕ) (width : Width) (words text port : List ℕ) → words ≡ 105 ∷ 110 ∷ 32 ∷ text
+    → text ≡ byte ∷ 32 ∷ port → Some width ≡ width_of (byte ∷ []) → Some n ≡ hex_of 4 port
+    → Asks version words (Port (record { write = false; port = n; width = width; value = 0 }))
+unfolding asked_of asked_with event_asked event_of
+in_straight version byte n width words text port verb is wide at actor =
+    ap (λ (t : List ℕ). asked_of version actor (fields_of t)) verb
+    ∙ ap (option_map (ask actor)) (in_read byte n width text port is wide at)
+
+pub out_straight : (version byte n m : ℕ) (width : Width) (words text fields port value : List ℕ)
+    → words ≡ 111 ∷ 117 ∷ 116 ∷ 32 ∷ text → text ≡ byte ∷ 32 ∷ fields → fields ≡ port ++ 32 ∷ value
+    → Some width ≡ width_of (byte ∷ []) → Some n ≡ hex_of 4 port → Some m ≡ hex_of (2 * bytes_of width) value
+    → Asks version words (Port (record { write = true; port = n; width = width; value = m }))
+unfolding asked_of asked_with event_asked event_of
+out_straight version byte n m width words text fields port value verb is cut wide at said actor =
+    ap (λ (t : List ℕ). asked_of version actor (fields_of t)) verb
+    ∙ ap (option_map (ask actor)) (out_read byte n m width text fields port value is cut wide at said)
+
+pub look_straight : (version byte n : ℕ) (kind : Kind) (words text addr : List ℕ)
+    → words ≡ 108 ∷ 111 ∷ 111 ∷ 107 ∷ 32 ∷ text → text ≡ byte ∷ 32 ∷ addr → Some kind ≡ kind_of (byte ∷ [])
+    → Some n ≡ hex_of 8 addr → Asks version words (LookAt kind n false)
+unfolding asked_of asked_with event_asked event_of
+look_straight version byte n kind words text addr verb is kindly at actor =
+    ap (λ (t : List ℕ). asked_of version actor (fields_of t)) verb
+    ∙ ap (option_map (ask actor)) (look_read byte n kind text addr is kindly at)
+
+-- ---- the line
+
+number_first : (version n : ℕ) (words : List (List ℕ)) (item : Item) → IsDecimal n → asked_of version n words ≡ Some item
+    → item_of version (decimal n ∷ words) ≡ Some item
+unfolding item_of item_with statement_of
+number_first version n words item small read =
+    rw (
+      no_word n (codes "phase") small (λ d. absurd (omega (arith, d.0))),
+      no_word n (codes "cpus") small (λ d. absurd (omega (arith, d.0))),
+      no_word n (codes "memory") small (λ d. absurd (omega (arith, d.0))),
+      no_word n (codes "rom") small (λ d. absurd (omega (arith, d.0))),
+      no_word n (codes "disk") small (λ d. absurd (omega (arith, d.0))),
+      no_word n (codes "card") small (λ d. absurd (omega (arith, d.0))),
+      decimal_back n small,
+    ) read
+
+pub line_straight : (version digit actor : ℕ) (line words : List ℕ) (event : Event) → line ≡ digit ∷ 32 ∷ words
+    → Some actor ≡ decimal_of (digit ∷ []) → Asks version words event → HasForm version line (ask actor event)
+line_straight version digit actor line words event cut said asks =
+    let is = decimal_read (digit ∷ []) actor (sym said) in
+    read_says version line (ask actor event)
+    (ap (λ (t : List ℕ). item_of version (fields_of t)) cut
+    ∙ ap (item_of version)
+    (one_byte digit words (decimal_lacks digit actor (sym said)) ∙ ap (λ (key : List ℕ). key ∷ fields_of words) is.0)
+    ∙ number_first version actor (fields_of words) (ask actor event) is.1 (asks actor))

@@ -1,0 +1,12 @@
+-- A statement that is read straight from the bytes of its line.
+use Rattle.std.specs.Prelude.{ℕ, ◌≡◌, List, Some}
+use Rattle.board_prelude.specs.Common.{Event}
+use Rattle.script_spec.specs.Common.{fields_of, ask, asked_of}
+
+-- between two fields one space stands
+abbrev pub space : ℕ
+space = 0x20
+
+-- these words, after the processor's number, ask for the event
+abbrev pub Asks : (version : ℕ) → (words : List ℕ) → Event → Type 0
+Asks version words event = (actor : ℕ) → asked_of version actor (fields_of words) ≡ Some (ask actor event)

@@ -1,0 +1,178 @@
+//! The statements that scripts are mostly made of, read straight from the bytes of their line: an access or a look of a
+//! processor with one digit, outside SMM. Any other line is cut into its fields.
+
+ghost use Rattle.std.specs.Prelude.{◌≡◌, ◌∷◌, ◌++◌, Some, IfSome};
+ghost use Rattle.script_spec.specs.Common.{fields_of, HasForm, read_of};
+ghost use Rattle.script_lines.specs.Items.{asked_said};
+ghost use Rattle.script_lines.specs.Straight.{space, Asks};
+ghost use Rattle.script_lines.specs.declared.item.Asked.{Asked};
+
+use crate::event::{address_of, kind_of, memory_event, port_of, size_of, value_of, width_of};
+use crate::numbers::{decimal_of, hex_of};
+use board_base::{Kind, PortAccess};
+use board_spec::Event;
+
+/// The digits of an address.
+const ADDRESS: usize = 8;
+
+/// The digits of a port.
+const PORT: usize = 4;
+
+/// The first bytes of a text, and what stands after the space that follows them.
+#[inline(always)]
+fn cut_at(place: usize, text: &[u8]) -> Option<(&[u8], &[u8])>
+    ensures cut { IfSome result (λ p. text.now ≡ p.0.now ++ space ∷ p.1.now) }
+{
+    if place < text.len() && text[place] == b' ' {
+        Some((&text[..place], &text[place + 1..]))
+    } else {
+        None
+    }
+}
+
+#[inline(always)]
+fn first_if(first: u8, second: u8, rest: &[u8]) -> Option<(u8, &[u8])>
+    ensures first { IfSome result (λ p. first ∷ second ∷ rest.now ≡ p.0 ∷ space ∷ p.1.now) }
+{
+    if second == b' ' {
+        Some((first, rest))
+    } else {
+        None
+    }
+}
+
+/// The one byte that a text begins with, and what stands after the space that follows it.
+#[inline(always)]
+fn first_of(text: &[u8]) -> Option<(u8, &[u8])>
+    ensures first { IfSome result (λ p. text.now ≡ p.0 ∷ space ∷ p.1.now) }
+{
+    match text {
+        [first, second, rest @ ..] => first_if(*first, *second, rest),
+        _ => None,
+    }
+}
+
+/// What stands after a verb and its space.
+#[inline(always)]
+fn after<'a>(verb: &[u8], words: &'a [u8]) -> Option<&'a [u8]>
+    ensures rest { IfSome result (λ rest. words.now ≡ verb.now ++ rest.now) }
+{
+    words.strip_prefix(verb)
+}
+
+/// A read or a fetch, by the size and the address that end its line.
+#[inline(always)]
+fn straight_access(version: u8, kind: Kind, text: &[u8]) -> Option<Event>
+    ensures event { IfSome result (λ event. read_of version kind (fields_of text.now) ≡ Some event) }
+{
+    let (size, field) = first_of(text)?;
+    let bytes = size_of(version, &[size])?;
+    let addr = address_of(field)?;
+    Some(memory_event(version, kind, bytes, addr, 0, false))
+}
+
+#[inline(always)]
+fn straight_read(version: u8, words: &[u8]) -> Option<Event>
+    ensures event { IfSome result (Asks version words.now) }
+{
+    let text = after(b"r ", words)?;
+    straight_access(version, Kind::Read, text)
+}
+
+#[inline(always)]
+fn straight_fetch(version: u8, words: &[u8]) -> Option<Event>
+    ensures event { IfSome result (Asks version words.now) }
+{
+    let text = after(b"f ", words)?;
+    straight_access(version, Kind::Fetch, text)
+}
+
+#[inline(always)]
+fn straight_write(version: u8, words: &[u8]) -> Option<Event>
+    ensures event { IfSome result (Asks version words.now) }
+{
+    let text = after(b"w ", words)?;
+    let (size, fields) = first_of(text)?;
+    let (place, digits) = cut_at(ADDRESS, fields)?;
+    let bytes = size_of(version, &[size])?;
+    let addr = address_of(place)?;
+    let value = hex_of(2 * bytes as usize, digits)?;
+    Some(memory_event(version, Kind::Write, bytes, addr, value, false))
+}
+
+#[inline(always)]
+fn straight_in(version: u8, words: &[u8]) -> Option<Event>
+    ensures event { IfSome result (Asks version words.now) }
+{
+    let text = after(b"in ", words)?;
+    let (letter, field) = first_of(text)?;
+    let width = width_of(&[letter])?;
+    let port = port_of(field)?;
+    Some(Event::Port(PortAccess {
+        write: false,
+        port,
+        width,
+        value: 0,
+    }))
+}
+
+#[inline(always)]
+fn straight_out(version: u8, words: &[u8]) -> Option<Event>
+    ensures event { IfSome result (Asks version words.now) }
+{
+    let text = after(b"out ", words)?;
+    let (letter, fields) = first_of(text)?;
+    let (place, digits) = cut_at(PORT, fields)?;
+    let width = width_of(&[letter])?;
+    let port = port_of(place)?;
+    let value = value_of(width, digits)?;
+    Some(Event::Port(PortAccess {
+        write: true,
+        port,
+        width,
+        value,
+    }))
+}
+
+#[inline(always)]
+fn straight_look(version: u8, words: &[u8]) -> Option<Event>
+    ensures event { IfSome result (Asks version words.now) }
+{
+    let text = after(b"look ", words)?;
+    let (letter, field) = first_of(text)?;
+    let kind = kind_of(&[letter])?;
+    let addr = address_of(field)?;
+    Some(Event::Look {
+        kind,
+        addr,
+        smm: false,
+    })
+}
+
+/// What a statement asks, by its words after the processor's number.
+#[inline(always)]
+fn straight_event(version: u8, words: &[u8]) -> Option<Event>
+    ensures event { IfSome result (Asks version words.now) }
+{
+    let verb = words.first()?;
+    match *verb {
+        b'r' => straight_read(version, words),
+        b'w' => straight_write(version, words),
+        b'f' => straight_fetch(version, words),
+        b'i' => straight_in(version, words),
+        b'o' => straight_out(version, words),
+        b'l' => straight_look(version, words),
+        _ => None,
+    }
+}
+
+/// The processor and the event of a statement that can be read straight. None says nothing of the line.
+#[inline(always)]
+pub fn straight_of(version: u8, line: &[u8]) -> Option<(u32, Event)>
+    ensures says { IfSome result (λ p. HasForm version line.now (asked_said p.0 (Asked.Event p.1))) }
+{
+    let (digit, words) = first_of(line)?;
+    let actor = decimal_of(&[digit])?;
+    let event = straight_event(version, words)?;
+    Some((actor, event))
+}
