@@ -5,10 +5,10 @@ use mathlib.Core.List.{IsPrefix}
 use Rattle.bus_turn.specs.Common.{number_of, opened_of as opened_by, part_of, seen_of as seen_in, mine_of as mine_in, joined_of, own_by}
 use Rattle.bus_turn.proofs.Rows.{drop_front}
 use Rattle.board_live.specs.declared.cpu.Cpu.{Cpu}
-use Rattle.board_live.specs.declared.shared.Shared.{Shared}
-use Rattle.board_live.specs.declared.shared.Origin.{Origin}
+use Rattle.shared_board.specs.declared.shared.Shared.{Shared}
+use Rattle.shared_board.specs.declared.shared.Origin.{Origin}
 use Rattle.board_live.specs.Common.{origin_in, opened_with, Extends, SharedPass, IsSameCaller, ClosesBoard, setup_of, seen_of, known_of, AddsNone, HasOwn, IsJoined}
-use Rattle.board_live.proofs.Histories.{extends_trans, extends_prefix, writes_extend, entries_reversed}
+use Rattle.shared_board.proofs.Histories.{extends_trans, extends_prefix, writes_extend, entries_reversed}
 use Rattle.board_live.proofs.Turns.{by_actor, own_in, own_same}
 
 -- ---- lists

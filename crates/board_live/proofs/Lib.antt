@@ -1,6 +1,3 @@
-pub mod Histories
-pub mod Limits
-pub mod Shares
 pub mod Standing
 pub mod Turns
 pub mod Joining

@@ -7,10 +7,10 @@ use Rattle.map_publish.specs.Lists.{opened_of, changes_of}
 use Rattle.map_publish.specs.declared.front.Front.{Front}
 use Rattle.board_live.specs.declared.cpu.Cpu.{Cpu}
 use Rattle.board_live.specs.declared.live.Live.{Live}
-use Rattle.board_live.specs.declared.shared.Origin.{Origin}
+use Rattle.shared_board.specs.declared.shared.Origin.{Origin}
 use Rattle.board_live.specs.Common.{IsMapOpened, oldest, origin, origin_in, SharedPass, IsViewerFor, setup_in, callers_in, opened_in, opened_with, IsCallerOf, IsSameCaller, AreAllOf, IsNewOf}
-use Rattle.board_live.specs.declared.shared.Shared.{Shared}
-use Rattle.board_live.proofs.Histories.{oldest_whole}
+use Rattle.shared_board.specs.declared.shared.Shared.{Shared}
+use Rattle.shared_board.proofs.Histories.{oldest_whole}
 
 -- a pass that was opened with the same has the same viewers and the same callers
 pub viewer_for : (one other : SharedPass) (viewer : Viewer) → opened_by other ≡ opened_by one →

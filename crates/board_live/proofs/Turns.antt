@@ -9,10 +9,10 @@ use Rattle.map_builder.specs.Map.{Mapped}
 use Rattle.map_publish.specs.declared.mark.Mark.{Mark}
 use Rattle.map_publish.specs.Lists.{opened_of}
 use Rattle.board_live.specs.declared.cpu.Cpu.{Cpu}
-use Rattle.board_live.specs.declared.shared.Shared.{Shared}
-use Rattle.board_live.specs.declared.shared.Origin.{Origin}
+use Rattle.shared_board.specs.declared.shared.Shared.{Shared}
+use Rattle.shared_board.specs.declared.shared.Origin.{Origin}
 use Rattle.board_live.specs.Common.{Extends, IsMapOpened, oldest, known_after, origin, origin_in, opened_with, SharedPass, IsPassOf, setup_in, callers_in, opened_in, setup_of, seen_of, mine_of, known_of}
-use Rattle.board_live.proofs.Histories.{extends_prefix, entries_reversed, known_extend}
+use Rattle.shared_board.proofs.Histories.{extends_prefix, entries_reversed, known_extend}
 
 abbrev pub by_actor : Entry → ℕ
 by_actor entry = entry.actor

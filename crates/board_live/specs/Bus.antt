@@ -2,9 +2,9 @@
 use Rattle.std.specs.Prelude.{◌≡◌, List, ◌∷◌, length}
 use Rattle.board_prelude.specs.Common.{Event, Entry, IsAnswer, entries_by, next_entry, map_writes_of}
 use Rattle.board_spec.specs.declared.event.Event.TheVariants.{Look as LookAt}
-use Rattle.board_live.specs.declared.shared.Answered.{Answered}
+use Rattle.shared_board.specs.declared.shared.Answered.{Answered}
 use Rattle.board_live.specs.declared.cpu.Cpu.{Cpu}
-use Rattle.board_live.specs.Known.{Extends}
+use Rattle.shared_board.specs.Known.{Extends}
 use Rattle.board_live.specs.Callers.{setup_of, seen_of, mine_of, known_of}
 
 -- a look is asked of the caller itself, not of the bus

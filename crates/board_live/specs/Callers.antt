@@ -4,10 +4,10 @@ use Rattle.board_prelude.specs.Common.{Any, range_with_len, Entry, MapChange, Se
 use Rattle.bus_turn.specs.Common.{opened_of as opened_by, part_of, seen_of as seen_in, IsOf}
 use Rattle.board_core.specs.Kept.{Standing}
 use Rattle.board_live.specs.declared.cpu.Cpu.{Cpu}
-use Rattle.board_live.specs.declared.shared.Origin.{Origin}
+use Rattle.shared_board.specs.declared.shared.Origin.{Origin}
 use Rattle.board_live.specs.declared.live.Live.{Live}
-use Rattle.board_live.specs.Known.{Extends, known_after}
-use Rattle.board_live.specs.Passes.{SharedPass, setup_in, opened_in}
+use Rattle.shared_board.specs.Known.{Extends, known_after}
+use Rattle.shared_board.specs.Passes.{SharedPass, setup_in, opened_in}
 
 -- the setup of the board
 abbrev pub setup_of : Cpu → Setup

@@ -3,8 +3,8 @@ use Rattle.std.specs.Prelude.{ℕ, ◌≡◌, List, ◌++◌, reverse}
 use Rattle.board_prelude.specs.Common.{Any, Entry, map_writes_of}
 use Rattle.bus_turn.specs.Common.{opened_of, seen_of as seen_in, joined_of, own_by}
 use Rattle.board_live.specs.declared.cpu.Cpu.{Cpu}
-use Rattle.board_live.specs.Known.{Extends}
-use Rattle.board_live.specs.Passes.{SharedPass}
+use Rattle.shared_board.specs.Known.{Extends}
+use Rattle.shared_board.specs.Passes.{SharedPass}
 use Rattle.board_live.specs.Callers.{setup_of, seen_of, known_of}
 
 -- the caller's own entries, the oldest first, are those that the opened board had and these

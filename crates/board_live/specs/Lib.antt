@@ -1,8 +1,3 @@
-pub mod Known
-pub mod Props
-pub mod Origins
-pub mod Steps
-pub mod Passes
 pub mod PassProps
 pub mod Callers
 pub mod Bus

@@ -5,8 +5,7 @@
 mod cpu;
 mod live;
 mod sends;
-mod shared;
 
 pub use cpu::Cpu;
 pub use live::{Live, LiveOpen};
-pub use shared::{Answered, Origin, Shared};
+pub use shared_board::{Answered, Origin, Shared};

@@ -4,15 +4,15 @@ ghost use Rattle.std.specs.List.{Any, range_with_len};
 ghost use Rattle.board_live.specs.declared.cpu.Cpu.{Cpu};
 ghost use mathlib.Core.List.{IsPrefix};
 ghost use Rattle.bus_turn.specs.Common.{IsIdle, IsSameCaller as IsSamePass, number_of, splits_of, seen_of as seen_in, mine_of as mine_in, joined_of, IsOf};
-ghost use Rattle.map_publish.specs.Lists.{opened_of, changes_of};
-ghost use Rattle.board_live.specs.Known.{AreFew, IsMapOpened};
-ghost use Rattle.board_live.specs.Passes.{IsFresh, IsViewerFor, callers_in};
+ghost use Rattle.shared_board.specs.Known.{AreFew};
+ghost use Rattle.shared_board.specs.Passes.{IsFresh, IsViewerFor, callers_in};
 
 use crate::cpu::Cpu;
-use crate::shared::Shared;
 use board_core::Board;
 use bus_turn::{Pass, Turn, TurnOpen};
-use map_publish::{Publisher, Viewer};
+use map_publish::Viewer;
+use shared_board::Shared;
+use shared_board::sharing::{shared, unshared};
 use std::alloc::{AllocFailed, Global};
 use std::sync::Wait;
 
@@ -36,39 +36,6 @@ impl LiveOpen {
             board: Box::into_inner(board),
         }
     }
-}
-
-/// What the callers of a board share.
-fn shared(board: Box<Board>, publisher: Box<Publisher>, callers: u8) -> Shared
-    requires few { AreFew callers board.value.entries }
-    requires opens { IsMapOpened board.value.setup board.value.entries (opened_of publisher.value.front.seen.log) }
-    requires none { changes_of publisher.value.front.seen.log ≡ [] }
-    ensures board { result.board ≡ board }
-    ensures publisher { result.publisher ≡ publisher }
-    ensures callers { result.callers ≡ callers }
-    ensures opened { result.opened ≡ length board.value.entries }
-{
-    let opened = board.history().len();
-    Shared {
-        board,
-        publisher,
-        opened,
-        callers,
-    }
-}
-
-/// Ends the published copies, and gives the board.
-fn unshared<R: Wait>(rt: &R, shared: Shared) -> Board
-    ensures board { result ≡ shared.board.value }
-{
-    let Shared {
-        board,
-        publisher,
-        opened: _opened,
-        callers: _callers,
-    } = shared;
-    Box::into_inner(publisher).close(rt);
-    Box::into_inner(board)
 }
 
 /// The place of the caller that has number 0.

@@ -4,7 +4,7 @@ use Rattle.std.specs.List.{AllZip}
 use Rattle.board_prelude.proofs.Common.{All-cons, All-head, All-tail, Entry, Event, Statement, MapChange, Setup, entries_by, events_by, map_writes_of}
 use Rattle.board_core.specs.Kept.{Standing}
 use Rattle.board_live.specs.declared.live.Live.{Live}
-use Rattle.board_live.specs.declared.shared.Origin.{Origin}
+use Rattle.shared_board.specs.declared.shared.Origin.{Origin}
 use Rattle.board_live.specs.Callers.{seen_of, known_of}
 use Rattle.run_order.specs.declared.done.Done.{Done}
 use Rattle.phase_run.specs.declared.jobs.Job.{Job}

@@ -6,7 +6,7 @@ use Rattle.bus_turn.specs.Passes.{part_of}
 use Rattle.board_core.specs.Kept.{Standing}
 use Rattle.board_live.specs.declared.cpu.Cpu.{Cpu}
 use Rattle.board_live.specs.declared.live.Live.{Live}
-use Rattle.board_live.specs.declared.shared.Origin.{Origin}
+use Rattle.shared_board.specs.declared.shared.Origin.{Origin}
 use Rattle.board_live.specs.Callers.{IsCallerOf, IsNew, AreAllOf, AreOpened, ClosesBoard, seen_of, known_of}
 use Rattle.run_order.specs.declared.done.Done.{Done}
 use Rattle.run_order.specs.declared.done.Done.TheVariants.{Went, Looked}

@@ -3,7 +3,7 @@ use Rattle.std.specs.Prelude.{ℕ, ◌≡◌, ◌+◌, ◌<◌, ◌≤◌, false
 use Rattle.bus_turn.specs.Passes.{part_of}
 use Rattle.board_prelude.specs.Common.{Entry, Statement, Setup, IsInRange, IsLegal, entries_by, events_by, range_with_len, statements_of, HasPhases, most_statements}
 use Rattle.board_core.specs.Kept.{Standing}
-use Rattle.board_live.specs.declared.shared.Origin.{Origin}
+use Rattle.shared_board.specs.declared.shared.Origin.{Origin}
 use Rattle.board_live.specs.declared.live.Live.{Live}
 use Rattle.board_live.specs.Callers.{IsCallerOf, IsNew, setup_of, seen_of, mine_of, known_of}
 use Rattle.run_order.specs.declared.done.Done.{Done}

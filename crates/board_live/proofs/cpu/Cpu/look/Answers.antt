@@ -2,7 +2,7 @@ use Rattle.std.proofs.Common.{sym, subst}
 use Rattle.map_builder.specs.Map.{Mapped}
 use Rattle.map_publish.specs.Lists.{opened_of}
 use Rattle.board_live.specs.Common.{IsMapOpened, setup_in, opened_in}
-use Rattle.board_live.proofs.Histories.{known_extend}
+use Rattle.shared_board.proofs.Histories.{known_extend}
 use Rattle.board_spec.specs.MapWrites.{map_writes_of}
 use Rattle.map_publish.proofs.Looks.{looks_go_on}
 use Rattle.board_live.proofs.cpu.Cpu.look.Goals as goal

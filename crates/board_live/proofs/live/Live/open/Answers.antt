@@ -8,7 +8,7 @@ use Rattle.map_builder.specs.Map.{Mapped}
 use Rattle.map_publish.specs.declared.viewer.Viewer.{Viewer}
 use Rattle.map_publish.specs.Lists.{opened_of, changes_of}
 use Rattle.board_live.specs.declared.cpu.Cpu.{Cpu}
-use Rattle.board_live.specs.declared.shared.Origin.{Origin}
+use Rattle.shared_board.specs.declared.shared.Origin.{Origin}
 use Rattle.board_live.specs.Common.{IsMapOpened, origin_in, opened_with, callers_in, opened_in, setup_in, IsViewerFor, IsNew, IsNewOf}
 use Rattle.board_live.proofs.Standing.{stands_after}
 use Rattle.board_live.proofs.Opening.{opened_viewer, any_numbered}

@@ -2,11 +2,11 @@
 use Rattle.std.specs.Prelude.{ℕ, ◌≡◌, ◌∷◌, length}
 use Rattle.board_prelude.specs.Common.{Event, IsAnswer, next_entry}
 use Rattle.board_core.specs.Kept.{Standing}
-use Rattle.board_live.specs.declared.shared.Answered.{Answered}
-use Rattle.board_live.specs.declared.shared.Shared.{Shared}
-use Rattle.board_live.specs.declared.shared.Origin.{Origin}
-use Rattle.board_live.specs.Known.{oldest}
-use Rattle.board_live.specs.Origins.{origin}
+use Rattle.shared_board.specs.declared.shared.Answered.{Answered}
+use Rattle.shared_board.specs.declared.shared.Shared.{Shared}
+use Rattle.shared_board.specs.declared.shared.Origin.{Origin}
+use Rattle.shared_board.specs.Known.{oldest}
+use Rattle.shared_board.specs.Origins.{origin}
 
 -- what a shared board was opened with
 abbrev pub opened_with : Shared → Origin

@@ -4,7 +4,7 @@ use Rattle.std.proofs.Props.{props}
 use Rattle.board_prelude.specs.Common.{Entry, Setup}
 use Rattle.map_builder.specs.Map.{Mapped}
 use Rattle.map_publish.specs.Props.{HoldsRom-prop}
-use Rattle.board_live.specs.Known.{IsMapOpened, AreFew}
+use Rattle.shared_board.specs.Known.{IsMapOpened, AreFew}
 
 pub Opens-prop : (setup : Setup) (opened : List Entry) (map : Mapped) → IsProp (IsMapOpened setup opened map)
 Opens-prop setup opened map = hlevel (props, HoldsRom-prop)

@@ -5,12 +5,12 @@ use Rattle.logbook.specs.Pages.{Book}
 use Rattle.bus_turn.specs.declared.view.View.{View}
 use Rattle.bus_turn.specs.Common.{number_of, splits_of, opened_of, part_of, seen_of, mine_of, joined_of, own_by}
 use Rattle.board_prelude.specs.Common.{Entry, Setup}
-use Rattle.board_live.specs.declared.shared.Shared.{Shared}
-use Rattle.board_live.specs.declared.shared.Origin.{Origin}
+use Rattle.shared_board.specs.declared.shared.Shared.{Shared}
+use Rattle.shared_board.specs.declared.shared.Origin.{Origin}
 use Rattle.map_publish.specs.declared.viewer.Viewer.{Viewer}
 use Rattle.map_publish.specs.Lists.{opened_of as opened_map, changes_of}
-use Rattle.board_live.specs.Known.{IsMapOpened}
-use Rattle.board_live.specs.Origins.{origin, origin_in}
+use Rattle.shared_board.specs.Known.{IsMapOpened}
+use Rattle.shared_board.specs.Origins.{origin, origin_in}
 
 abbrev pub SharedPass : Type 0
 SharedPass = Seat (Option Shared) (View Entry Origin)

@@ -3,8 +3,8 @@ ghost use Rattle.std.specs.Prelude.{◌≡◌, ◌<◌, ◌≤◌, ◌++◌, len
 ghost use mathlib.Core.List.{IsPrefix};
 ghost use Rattle.board_prelude.specs.Common.{IsInRange, entries_by, option_to_list, entry_limit};
 ghost use Rattle.map_publish.specs.Lists.{opened_of, changes_of, version_after};
-ghost use Rattle.board_live.specs.Known.{oldest, ArePublished, IsMapOpened, most_each, AreFew};
-ghost use Rattle.board_live.specs.Props.{Opens-prop, AreFew-prop};
+ghost use Rattle.shared_board.specs.Known.{oldest, ArePublished, IsMapOpened, most_each, AreFew};
+ghost use Rattle.shared_board.specs.Props.{Opens-prop, AreFew-prop};
 
 use board_base::NoMemory;
 use board_core::{Board, Setup};
@@ -53,7 +53,7 @@ impl Kept for Shared {
 
     type Fixed = Origin;
 
-    ghost use Rattle.board_live.specs.Steps.{opened_with};
+    ghost use Rattle.shared_board.specs.Steps.{opened_with};
 
     ghost entries = { λ shared. reverse shared.board.value.entries };
 
@@ -86,16 +86,11 @@ fn publish<R: Wait>(
 }
 
 impl Shared {
-    ghost use Rattle.board_live.specs.Steps.{AddsEntry, IsSameBoard};
+    ghost use Rattle.shared_board.specs.Steps.{AddsEntry, IsSameBoard};
 
     /// Makes room, publishes the map write where the event is one, and steps the board. Refused for want of memory;
     /// then the history and what is published are as before.
-    pub(crate) fn step<R: Wait>(
-        &mut self,
-        rt: &R,
-        number: u8,
-        event: &Event,
-    ) -> Result<Answered, NoMemory>
+    pub fn step<R: Wait>(&mut self, rt: &R, number: u8, event: &Event) -> Result<Answered, NoMemory>
         requires number { number < self.old.callers }
         requires few { length (entries_by number self.old.board.value.entries) < most_each }
         requires event { IsInRange self.old.board.value.setup event.now }

@@ -1,9 +1,9 @@
 use Rattle.std.proofs.Common.{rules, ◌≡◌, ℕ, ◌++◌, List, length, sym, ap, ◌∙◌, subst, arith}
 use Rattle.board_prelude.proofs.Common.{Entry, MapChange, map_writes_of}
 use Rattle.map_publish.specs.Lists.{opened_of}
-use Rattle.board_live.specs.Known.{oldest, IsMapOpened}
-use Rattle.board_live.proofs.Histories.{oldest_whole}
-use Rattle.board_live.proofs.live.shared.Goals as goal
+use Rattle.shared_board.specs.Known.{oldest, IsMapOpened}
+use Rattle.shared_board.proofs.Histories.{oldest_whole}
+use Rattle.shared_board.proofs.sharing.shared.Goals as goal
 
 pub invariant_of-result : goal.invariant_of-result
 invariant_of-result c =

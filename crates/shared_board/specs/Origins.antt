@@ -2,7 +2,7 @@
 use Rattle.std.specs.Prelude.{ℕ, List, [], Option, Some, None}
 use Rattle.logbook.specs.Pages.{Book}
 use Rattle.board_prelude.specs.Common.{Entry, Setup}
-use Rattle.board_live.specs.declared.shared.Origin.{Origin}
+use Rattle.shared_board.specs.declared.shared.Origin.{Origin}
 
 abbrev pub origin : Setup → ℕ → List Entry → Book → Origin
 origin setup callers entries book = record {

@@ -4,11 +4,11 @@ use Rattle.board_core.specs.Kept.{Standing}
 use Rattle.map_publish.specs.declared.publisher.Publisher.{Publisher}
 use Rattle.map_publish.specs.Lists.{opened_of, changes_of, version_after}
 use Rattle.map_publish.proofs.Changes.{opened_same}
-use Rattle.board_live.specs.Known.{oldest}
-use Rattle.board_live.proofs.Histories.{oldest_added, writes_few}
-use Rattle.board_live.proofs.Limits.{few_entries, few_added}
-use Rattle.board_live.proofs.Shares.{published_added, published_version, IsStepped, is_stepped}
-use Rattle.board_live.proofs.shared.Shared.step.Goals as goal
+use Rattle.shared_board.specs.Known.{oldest}
+use Rattle.shared_board.proofs.Histories.{oldest_added, writes_few}
+use Rattle.shared_board.proofs.Limits.{few_entries, few_added}
+use Rattle.shared_board.proofs.Shares.{published_added, published_version, IsStepped, is_stepped}
+use Rattle.shared_board.proofs.shared.Shared.step.Goals as goal
 
 pub reserve-requires : goal.reserve-requires
 reserve-requires g c =

@@ -1,7 +1,7 @@
 -- How many entries a board of few callers has.
 use Rattle.std.proofs.Common.{◌≡◌, ℕ, zero, suc, ◌+◌, ◌*◌, ◌<◌, ◌≤◌, ◌==◌, true, false, List, [], ◌∷◌, length, All, inl, inr, refl, subst, arith}
 use Rattle.board_prelude.proofs.Common.{cases_Bool, nat_tests, All-head, All-tail, All-cons, Entry, entries_by}
-use Rattle.board_live.specs.Known.{AreFew, most_each}
+use Rattle.shared_board.specs.Known.{AreFew, most_each}
 
 -- an entry is one more of its actor's, and leaves the others'
 own_count : (actor : ℕ) (entry : Entry) (history : List Entry) → (entry.actor == actor) ≡ true →

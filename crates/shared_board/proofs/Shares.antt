@@ -4,8 +4,8 @@ use Rattle.board_prelude.proofs.Common.{option_to_list, Event, Reply, Entry, Map
 use Rattle.board_core.specs.Kept.{Standing}
 use Rattle.map_publish.specs.declared.mark.Mark.{Mark}
 use Rattle.map_publish.specs.Lists.{opened_of, changes_of, version_after}
-use Rattle.board_live.specs.Known.{oldest, ArePublished}
-use Rattle.board_live.proofs.Histories.{oldest_added}
+use Rattle.shared_board.specs.Known.{oldest, ArePublished}
+use Rattle.shared_board.proofs.Histories.{oldest_added}
 
 pub published_added :
     (setup : Setup) (opened : ℕ) (history : List Entry) (entry : Entry) (log later : List Mark) →

@@ -6,7 +6,7 @@ use Rattle.map_publish.specs.declared.mark.Mark.{Mark}
 use Rattle.map_publish.specs.Lists.{changes_of}
 use Rattle.map_publish.proofs.Changes.{changes_extend}
 use Rattle.bus_turn.specs.Views.{own_by}
-use Rattle.board_live.specs.Known.{Extends, oldest, known_after}
+use Rattle.shared_board.specs.Known.{Extends, oldest, known_after}
 
 -- ---- lists that go on
 

@@ -1,0 +1,5 @@
+pub mod Known
+pub mod Props
+pub mod Origins
+pub mod Steps
+pub mod Passes
