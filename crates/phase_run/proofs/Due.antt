@@ -4,7 +4,7 @@ use Rattle.std.proofs.lemmas.List.Filters.{length-filter_more}
 use Rattle.std.proofs.lemmas.List.FromFn.{map-range_with_len_more}
 use Rattle.board_prelude.proofs.Common.{cases_Bool, cases_eq, nat_tests, get_or-map, get_or-set_at, get_or-set_other, length-append, length-map, map-append, range_with_len, Event, Statement, events_by}
 use Rattle.run_order.proofs.Common.{all_turned}
-use Rattle.phase_run.specs.declared.worker.Work.{Work}
+use Rattle.phase_work.specs.declared.worker.Work.{Work}
 use Rattle.phase_run.specs.declared.jobs.Job.{Job}
 use Rattle.phase_run.specs.Jobs.{AreDue}
 use Rattle.phase_run.proofs.Numbers.{map_twice}

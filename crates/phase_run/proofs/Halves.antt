@@ -9,7 +9,7 @@ use Rattle.board_live.specs.Callers.{seen_of, known_of}
 use Rattle.run_order.specs.declared.done.Done.{Done}
 use Rattle.phase_run.specs.declared.jobs.Job.{Job}
 use Rattle.phase_run.specs.Jobs.{IsReadyToWork, IsRun, Runs}
-use Rattle.phase_run.specs.Works.{HasDone}
+use Rattle.phase_work.specs.Works.{HasDone}
 
 zip_append : {X : Type 0} (R : X → X → Type 0) (xs ys us vs : List X) → AllZip R xs us → AllZip R ys vs → AllZip R (xs ++ ys) (us ++ vs)
 zip_append R [] ys [] vs front back = back

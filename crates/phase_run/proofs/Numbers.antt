@@ -6,7 +6,7 @@ use Rattle.std.proofs.lemmas.List.Elements.{All-map}
 use Rattle.run_order.specs.declared.done.Done.{Done}
 use Rattle.run_order.specs.Placing.{done_by}
 use Rattle.phase_run.specs.declared.jobs.Job.{Job}
-use Rattle.phase_run.specs.declared.worker.Work.{Work}
+use Rattle.phase_work.specs.declared.worker.Work.{Work}
 use Rattle.phase_run.specs.Jobs.{done_in}
 
 pub map_reverse : {X Y : Type 0} (f : X → Y) (xs : List X) → map f (reverse xs) ≡ reverse (map f xs)

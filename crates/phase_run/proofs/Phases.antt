@@ -4,7 +4,7 @@ use Rattle.board_prelude.proofs.Common.{reverse-append, reverse-reverse, length-
 use Rattle.board_core.specs.Kept.{Standing}
 use Rattle.run_order.specs.declared.done.Done.{Done}
 use Rattle.run_order.specs.Common.{done_by, placed, Order, bare, IsWork, IsPhaseRun, IsPlaced, PhaseRuns, AreInPlace, AreAllInPlace, Begins}
-use Rattle.phase_run.specs.declared.worker.Work.{Work}
+use Rattle.phase_work.specs.declared.worker.Work.{Work}
 use Rattle.phase_run.specs.Common.{IsStatement, HasRun, TakesIn, done_in, entries_of}
 use Rattle.run_order.proofs.Over.{all_reverse}
 

@@ -12,7 +12,7 @@ use Rattle.run_order.specs.declared.done.Done.{Done}
 use Rattle.run_order.specs.declared.done.Done.TheVariants.{Went, Looked}
 use Rattle.run_order.specs.Common.{done_by, IsWork, Begins, HasMoreWrites, IsDone}
 use Rattle.run_order.proofs.Common.{begins_trans, all_reverse, all_turned}
-use Rattle.phase_run.specs.declared.worker.Work.{Work}
+use Rattle.phase_work.specs.declared.worker.Work.{Work}
 use Rattle.phase_run.specs.declared.jobs.Job.{Job}
 use Rattle.phase_run.specs.Jobs.{IsReadyToWork, IsRun, AreAsked, AreDue, HasRun, done_in}
 use Rattle.phase_run.proofs.Due.{due_by_number}

@@ -8,10 +8,10 @@ use Rattle.board_live.specs.declared.live.Live.{Live}
 use Rattle.board_live.specs.Callers.{IsCallerOf, IsNew, setup_of, seen_of, mine_of, known_of}
 use Rattle.run_order.specs.declared.done.Done.{Done}
 use Rattle.run_order.specs.Common.{done_by, IsWork, bare, AreInPlace, Begins}
-use Rattle.phase_run.specs.declared.worker.Work.{Work}
+use Rattle.phase_work.specs.declared.worker.Work.{Work}
 use Rattle.phase_run.specs.declared.jobs.Job.{Job}
 use Rattle.phase_run.specs.declared.run.Run.{Run}
-use Rattle.phase_run.specs.Works.{HasDone}
+use Rattle.phase_work.specs.Works.{HasDone}
 
 -- a statement of a processor below `cpus`, with an event in range for this setup
 pub record IsStatement (setup : Setup) (cpus : ℕ) (statement : Statement) : Type 0 where

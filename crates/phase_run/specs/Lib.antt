@@ -1,5 +1,4 @@
 pub mod Ended
 pub mod Jobs
 pub mod Placed
-pub mod Works
 pub mod Common

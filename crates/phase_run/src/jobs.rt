@@ -6,12 +6,12 @@ ghost use Rattle.std.specs.Thread.{IsSync};
 ghost use Rattle.board_prelude.specs.Common.{events_by};
 ghost use Rattle.phase_run.specs.Jobs.{CanRun, Runs, AreDue, done_in};
 
-use crate::worker::Work;
 use board_base::NoMemory;
 use board_live::{Cpu, Live};
 use board_outside::Gate;
 use board_spec::Statement;
 use board_spec::limits::ACTORS;
+use phase_work::Work;
 use run_order::Works;
 use std::alloc::Global;
 use std::sync::Wait;

@@ -2,13 +2,10 @@
 //! order; a phase begins when all workers of the one before have ended.
 #![tactic(auto)]
 
-mod caller;
-mod cpu;
 mod ended;
 mod jobs;
 mod placing;
 mod run;
-mod worker;
 
 pub use ended::EndedRun;
 pub use run::run_phases;

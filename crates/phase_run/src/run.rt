@@ -9,12 +9,12 @@ ghost use Rattle.phase_run.specs.Jobs.{IsStatement, CanDoPhase, GrowsBy, HasRun,
 use crate::ended::EndedRun;
 use crate::jobs::{begin, end, first_works, is_refused, next_works, run_jobs, works_of};
 use crate::placing::Placing;
-use crate::worker::Work;
 use board_base::NoMemory;
 use board_core::Board;
 use board_live::Live;
 use board_outside::Gate;
 use board_spec::Statement;
+use phase_work::Work;
 use run_order::laws::law_phase_runs;
 use std::alloc::Global;
 use std::sync::Wait;

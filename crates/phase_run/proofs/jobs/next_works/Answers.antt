@@ -1,6 +1,6 @@
 use Rattle.std.proofs.Common.{rules, arith, slice_index_or}
 use Rattle.board_prelude.proofs.Common.{common_steps}
-use Rattle.phase_run.specs.declared.worker.Work.{Work}
+use Rattle.phase_work.specs.declared.worker.Work.{Work}
 use Rattle.phase_run.proofs.Due.{due_more}
 use Rattle.phase_run.proofs.jobs.next_works.Goals as goal
 

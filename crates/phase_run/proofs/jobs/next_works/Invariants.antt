@@ -1,5 +1,5 @@
 use Rattle.std.proofs.Common.{◌≡◌, [], length, map, take, All}
-use Rattle.phase_run.specs.declared.worker.Work.{Work}
+use Rattle.phase_work.specs.declared.worker.Work.{Work}
 use Rattle.phase_run.specs.Jobs.{AreDue}
 use Rattle.phase_run.proofs.jobs.next_works.Given as goal
 

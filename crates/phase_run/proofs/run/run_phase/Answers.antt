@@ -3,7 +3,7 @@ use Rattle.access_history.specs.Past.{Past}
 use Rattle.board_prelude.proofs.Common.{Entry, Statement, version_of, IsLegal, length-map}
 use Rattle.run_order.specs.declared.done.Done.{Done}
 use Rattle.run_order.specs.Common.{placed}
-use Rattle.phase_run.specs.declared.worker.Work.{Work}
+use Rattle.phase_work.specs.declared.worker.Work.{Work}
 use Rattle.phase_run.specs.Common.{IsStatement, GrowsBy, HasRun, done_in, IsUpTo, entries_of}
 use Rattle.phase_run.proofs.Phases.{gained, gained_all, gained_within, front_is, front_all, back_is, phase_is_run, takes_in}
 use Rattle.phase_run.proofs.run.run_phase.Goals as goal

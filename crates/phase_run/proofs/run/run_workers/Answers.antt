@@ -1,7 +1,7 @@
 use Rattle.std.proofs.Common.{rules, ◌≡◌, ℕ, ◌<◌, List, All, length, map, sym, ◌∙◌, ap, subst, arith, false, Some, reverse}
 use Rattle.board_spec.specs.declared.event.Entry.{Entry}
 use Rattle.board_live.specs.declared.cpu.Cpu.{Cpu}
-use Rattle.phase_run.specs.declared.worker.Work.{Work}
+use Rattle.phase_work.specs.declared.worker.Work.{Work}
 use Rattle.phase_run.specs.declared.jobs.Job.{Job}
 use Rattle.phase_run.specs.Jobs.{CanRun, IsReadyToWork}
 use Rattle.phase_run.proofs.Numbers.{same_lengths, numbered_length, jobs_count, asked_again, lent_back}

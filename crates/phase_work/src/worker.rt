@@ -4,7 +4,7 @@ ghost use Rattle.std.specs.Prelude.{◌≡◌, ◌+◌, ◌<◌, ◌≤◌, List
 ghost use Rattle.board_prelude.specs.Common.{Entry, IsInRange, entries_by, map_writes_of, most_statements};
 ghost use Rattle.run_order.specs.declared.done.Done.{Done};
 ghost use Rattle.run_order.specs.Common.{event_of, IsDone};
-ghost use Rattle.phase_run.specs.Works.{HasDone};
+ghost use Rattle.phase_work.specs.Works.{HasDone};
 
 use crate::caller::Caller;
 use board_base::NoMemory;
@@ -16,7 +16,7 @@ use std::sync::Wait;
 /// What a worker did in a phase, how many statements its processor was given in all phases so far, and how many it has
 /// in this one.
 #[derive(Drop)]
-pub(crate) struct Work {
+pub struct Work {
     pub done: Vec<Done>,
     pub asked: u32,
     pub due: usize,

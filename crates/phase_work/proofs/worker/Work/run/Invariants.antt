@@ -1,7 +1,7 @@
 use Rattle.std.proofs.Common.{◌≡◌, ◌+◌, ◌≤◌, length, map, reverse, take}
 use Rattle.board_prelude.proofs.Common.{entries_by, events_by}
 use Rattle.run_order.specs.Common.{event_of, IsDone}
-use Rattle.phase_run.proofs.worker.Work.run.Given as goal
+use Rattle.phase_work.proofs.worker.Work.run.Given as goal
 
 abbrev pub invariant-loop-statement : goal.invariant-loop-statement
 invariant-loop-statement g l = record {

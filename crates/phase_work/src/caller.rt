@@ -9,7 +9,7 @@ use board_spec::{Event, Look};
 use std::sync::Wait;
 
 /// A caller of a shared board, of one processor.
-pub(crate) trait Caller {
+pub trait Caller {
     /// The shared board.
     type Shared;
 
