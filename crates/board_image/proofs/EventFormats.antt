@@ -6,8 +6,8 @@ use Rattle.std.proofs.Math.Nat.{one-le-pow}
 use Rattle.board_base.specs.declared.access.Width.TheVariants.{Two, Four}
 use Rattle.board_base.specs.declared.access.Access.{Access}
 use Rattle.board_image.specs.Common.{flag_byte, kind_byte, tag_byte, memory_bytes, port_bytes, wide_bytes, Reading, number_where, within, flag_of, flag_field, kind_of, kind_field, width_of, width_field, tag_of, tag_field, most_value, is_wide_size, is_wide_place, memory_fields, port_fields, wide_fields}
-use Rattle.board_image.specs.declared.tag.Tag.{Tag}
-use Rattle.board_image.specs.declared.tag.Tag.TheVariants as tags
+use Rattle.image_writer.specs.declared.tag.Tag.{Tag}
+use Rattle.image_writer.specs.declared.tag.Tag.TheVariants as tags
 use Rattle.board_image.proofs.Formats.{IsFormat, format_as, then_format, last_format}
 use Rattle.board_image.proofs.Numbers.{wide16, wide32, wide64, byte_format, byte_where, Tells, no_row, row, where_format, within_format, Ranges}
 

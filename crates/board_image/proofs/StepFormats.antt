@@ -3,8 +3,8 @@ use Rattle.std.proofs.Common.{◌≡◌, ℕ, zero, suc, ◌+◌, ◌-◌, ◌*�
 use Rattle.board_prelude.proofs.Common.{w8, w16, w32, to_le_bytes, Kind, Fetch, PortAccess, WideAccess, Moment, IsMoment, days_in_month, is_leap, moment_of, Event, Memory, Wide, Port, Ack, Pulses, Time, Wire, Line, BadSector, Statement, Setup, card_at, IsWideAccess, is_free_line, IsInRange, IsScriptSector}
 use Rattle.board_base.specs.declared.access.Access.{Access}
 use Rattle.board_spec.specs.declared.event.Event.TheVariants.{Look as LookAt}
-use Rattle.board_image.specs.declared.tag.Tag.{Tag}
-use Rattle.board_image.specs.declared.tag.Tag.TheVariants as tags
+use Rattle.image_writer.specs.declared.tag.Tag.{Tag}
+use Rattle.image_writer.specs.declared.tag.Tag.TheVariants as tags
 use Rattle.board_image.specs.Common.{flag_byte, kind_byte, tag_byte, tag_of_event, look_bytes, moment_bytes, field_bytes, step_bytes, FitsField, IsImageStep, Reading, look_fields, moment_fields, wire_fields, line_fields, event_fields, step_fields}
 use Rattle.board_image.proofs.Formats.{IsFormat, format_as, then_format, last_format, made_format, done_format}
 use Rattle.board_image.proofs.Numbers.{wide16, wide32, byte_where, byte_within, within_format, Ranges}

@@ -4,8 +4,8 @@ use Rattle.board_prelude.specs.Common.{w8, w16, w32, w64, Kind, Fetch, Read, Wri
 use Rattle.board_base.specs.declared.access.Width.TheVariants.{Two, Four}
 use Rattle.board_base.specs.declared.access.Access.{Access}
 use Rattle.board_spec.specs.declared.event.Event.TheVariants.{Look as LookAt}
-use Rattle.board_image.specs.declared.tag.Tag.{Tag}
-use Rattle.board_image.specs.declared.tag.Tag.TheVariants as tags
+use Rattle.image_writer.specs.declared.tag.Tag.{Tag}
+use Rattle.image_writer.specs.declared.tag.Tag.TheVariants as tags
 use Rattle.board_image.specs.Fields.{Reading, gives, ◌>>=◌, number, number_where, within}
 
 abbrev pub flag_of : ℕ → Option Bool

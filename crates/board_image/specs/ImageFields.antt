@@ -2,7 +2,7 @@
 use Rattle.std.specs.Prelude.{ℕ, zero, suc, ◌≡◌, ◌+◌, ◌-◌, ◌%◌, ◌==◌, Bool, true, false, nat_le, nat_lt, ◌&&◌, ◌||◌, if◌then◌else◌, List, [], ◌∷◌, length, Option, Some, None, Result, Ok, Err}
 use Rattle.board_prelude.specs.Common.{w8, w16, w32, Statement, Base, MemoryBase, IoBase, FittedCard, Setup, memory_of_cards, memory_size, most_statements, most_card_memory}
 use Rattle.board_image.specs.declared.head.Head.{Head}
-use Rattle.board_image.specs.ImageBytes.{Saved, magic, image_version, io_base}
+use Rattle.image_writer.specs.ImageBytes.{Saved, magic, image_version, io_base}
 use Rattle.board_image.specs.Fields.{Reading, gives, ◌>>=◌, number, number_where, within, where_true, plain, exactly, ended}
 use Rattle.board_image.specs.EventFields.{flag_field, step_fields}
 

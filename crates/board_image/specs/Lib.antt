@@ -1,4 +1,3 @@
-pub mod ImageBytes
 pub mod Fields
 pub mod EventFields
 pub mod ImageFields

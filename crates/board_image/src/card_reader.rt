@@ -8,8 +8,8 @@ ghost use Rattle.board_image.specs.ImageFields.{base_in, rom_of, bases_fields, c
 
 use crate::fault::{Bad, Fault};
 use crate::fields::Fields;
-use crate::writer::IO_BASE;
 use arrayvec::ArrayVec;
+use image_writer::IO_BASE;
 use pci_bars::{BASE_COUNT, BaseSpec, CardSpec};
 use std::alloc::Global;
 

@@ -3,13 +3,13 @@
 ghost use Rattle.std.specs.Prelude.{◌≡◌, ◌≤◌, ◌-◌, ◌^◌, ◌%◌, ◌==◌, true, find, is_some, IfOk};
 ghost use Rattle.board_prelude.specs.Common.{w8, w16, w32, w64, bytes_of, Setup, is_free_line, days_in_month};
 ghost use Rattle.board_image.specs.Fields.{Took, number_where, within};
-ghost use Rattle.board_image.specs.EventFields.{kind_of, kind_field, width_of, width_field, tag_field, is_wide_size, is_wide_place, most_value, memory_fields, port_fields, wide_fields, look_fields, moment_fields, wire_fields, line_fields, event_fields, step_fields};
+ghost use Rattle.board_image.specs.EventFields.{kind_of, kind_field, width_of, width_field, tag_of, tag_field, is_wide_size, is_wide_place, most_value, memory_fields, port_fields, wide_fields, look_fields, moment_fields, wire_fields, line_fields, event_fields, step_fields};
 
 use crate::fault::Bad;
 use crate::fields::Fields;
-use crate::tag::Tag;
 use board_base::{Access, Kind, Moment, PortAccess, WideAccess, Width};
 use board_spec::{Event, Statement};
+use image_writer::Tag;
 use pci_bars::CardSpec;
 
 /// The highest number of a processor.
@@ -47,6 +47,25 @@ fn width_of(byte: u8) -> Option<Width>
     }
 }
 
+/// The tag that a byte stands for.
+fn tag_of(byte: u8) -> Option<Tag>
+    ensures said { result ≡ tag_of byte }
+{
+    match byte {
+        1 => Some(Tag::Memory),
+        2 => Some(Tag::Port),
+        3 => Some(Tag::Look),
+        4 => Some(Tag::Ack),
+        5 => Some(Tag::Pulses),
+        6 => Some(Tag::Time),
+        7 => Some(Tag::Wire),
+        8 => Some(Tag::Line),
+        9 => Some(Tag::BadSector),
+        10 => Some(Tag::Wide),
+        _ => None,
+    }
+}
+
 fn kind(fields: &mut Fields) -> Result<Kind, Bad>
     ensures took { Took (λ kind. kind) result fields.new (kind_field fields.old) }
 {
@@ -62,7 +81,7 @@ fn width(fields: &mut Fields) -> Result<Width, Bad>
 fn tag(fields: &mut Fields) -> Result<Tag, Bad>
     ensures took { Took (λ tag. tag) result fields.new (tag_field fields.old) }
 {
-    fields.byte_of(Tag::of)
+    fields.byte_of(tag_of)
 }
 
 /// Reads an address that is a multiple of a width.

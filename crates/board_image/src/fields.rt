@@ -2,15 +2,13 @@
 
 ghost use Rattle.std.specs.Prelude.{◌≡◌, ◌≤◌, ◌<◌, ℕ, Bool, true, false, Option, length, take, drop, MatchResult};
 ghost use Rattle.std.specs.Int.{w8, w16, w32, w64};
-ghost use Rattle.board_image.specs.ImageBytes.{magic};
+ghost use Rattle.image_writer.specs.ImageBytes.{magic};
 ghost use Rattle.board_image.specs.Fields.{Took, number, within, plain, exactly, ended};
 ghost use Rattle.board_image.specs.EventFields.{flag_of, flag_field};
 
 use crate::fault::Bad;
+use image_writer::MAGIC;
 use std::marker::Model;
-
-/// What an image begins with.
-pub(crate) const MAGIC: [u8; 8] = *b"BOARDIMG";
 
 /// The bytes that are still to be read. A call goes past one field. Where that is bad, it stays at the front.
 #[derive(Drop)]

@@ -1,8 +1,5 @@
 //! The head of an image.
 
-/// The version of the format.
-pub(crate) const VERSION: u16 = 1;
-
 /// What stands before the cards.
 #[derive(Clone, Copy)]
 pub(crate) struct Head {

@@ -1,6 +1,4 @@
-//! An image as a value, and its bytes.
-
-ghost use Rattle.std.specs.Prelude.{◌≡◌, ◌++◌, flat_map};
+//! An image as a value.
 
 use board_core::Setup;
 use board_spec::Statement;
@@ -14,50 +12,9 @@ pub struct Image {
 }
 
 impl Model for Image {
-    ghost use Rattle.board_image.specs.ImageBytes.{Saved};
+    ghost use Rattle.image_writer.specs.ImageBytes.{Saved};
 
     ghost Value = { Saved };
 
     ghost view = { λ image. record { setup = image.setup; steps = image.steps.items } };
-}
-
-/// The bytes of an image, in pieces. Contracts see them joined.
-#[derive(Drop, Debug)]
-pub struct ImageBytes {
-    /// The head, and the cards.
-    pub(crate) front: Vec<u8>,
-    pub(crate) rom: Vec<u8>,
-    /// Empty where there is no disk.
-    pub(crate) disk: Vec<u8>,
-    pub(crate) steps: Vec<u8>,
-}
-
-impl Model for ImageBytes {
-    ghost use Rattle.std.specs.Prelude.{◌++◌, ℕ, List};
-
-    ghost Value = { List ℕ };
-
-    ghost view = { λ bytes. bytes.front.items ++ (bytes.rom.items ++ (bytes.disk.items ++ bytes.steps.items)) };
-}
-
-impl ImageBytes {
-    /// The pieces, in their order.
-    pub fn pieces(&self) -> [&[u8]; 4]
-        ensures bytes { flat_map (λ piece. piece.now) result ≡ self.now }
-    {
-        [&self.front, &self.rom, &self.disk, &self.steps]
-    }
-
-    /// The pieces, in their order, to keep.
-    pub fn into_pieces(self) -> (Vec<u8>, Vec<u8>, Vec<u8>, Vec<u8>)
-        ensures bytes { result.0.items ++ (result.1.items ++ (result.2.items ++ result.3.items)) ≡ self }
-    {
-        let ImageBytes {
-            front,
-            rom,
-            disk,
-            steps,
-        } = self;
-        (front, rom, disk, steps)
-    }
 }

@@ -4,7 +4,6 @@
 
 mod card_reader;
 mod event_reader;
-mod event_writer;
 mod fault;
 mod fields;
 mod head;
@@ -12,12 +11,10 @@ mod image;
 pub mod laws;
 mod loader;
 mod reader;
-mod tag;
-mod writer;
 
 pub use board_spec::Statement;
 pub use fault::ImageFault;
-pub use image::{Image, ImageBytes};
+pub use image::Image;
+pub use image_writer::{ImageBytes, save};
 pub use loader::load;
 pub use reader::read_image;
-pub use writer::save;

@@ -3,7 +3,7 @@
 ghost use Rattle.std.specs.Prelude.{◌≡◌, ◌≤◌, ◌⊎◌, ℕ, List, Ok, Err, IfOk, length};
 ghost use Rattle.board_prelude.specs.Common.{w32, Statement, Setup as Fitting};
 ghost use Rattle.board_image.specs.declared.fault.ImageFault.{ImageFault};
-ghost use Rattle.board_image.specs.ImageBytes.{Saved, image_bytes, IsImage};
+ghost use Rattle.image_writer.specs.ImageBytes.{Saved, image_bytes, IsImage};
 ghost use Rattle.board_image.specs.Fields.{Took, Filled, number_where, plain};
 ghost use Rattle.board_image.specs.ImageFields.{is_rom_size, is_disk_size, head_fields, setup_fields, steps_fields, saved_fields, image_fields, IsBadAt};
 
@@ -11,11 +11,12 @@ use crate::card_reader::cards;
 use crate::event_reader::step;
 use crate::fault::{Bad, Fault, ImageFault};
 use crate::fields::Fields;
-use crate::head::{Head, VERSION};
+use crate::head::Head;
 use crate::image::Image;
 use board_core::{Setup, is_rom_size};
 use board_spec::Statement;
 use board_spec::limits::MOST_STATEMENTS;
+use image_writer::VERSION;
 use pci_bars::CardSpec;
 use std::alloc::Global;
 

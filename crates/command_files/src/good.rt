@@ -4,7 +4,7 @@ ghost use Rattle.std.specs.Prelude.{◌≡◌, ◌≤◌, length, IfOk, IfErr};
 ghost use Rattle.board_spec.specs.Setup.{IsRomSize, IsDiskSize};
 ghost use Rattle.script_spec.specs.Common.{IsScriptText, IsInRangeScript};
 ghost use Rattle.script_text.specs.Script.{said_of};
-ghost use Rattle.board_image.specs.ImageBytes.{IsImage, image_bytes};
+ghost use Rattle.board_image.specs.Common.{IsImage, image_bytes};
 ghost use Rattle.command_files.specs.declared.status.Which.{Which};
 ghost use Rattle.command_files.specs.Table.{limit_of};
 ghost use Rattle.command_files.specs.Steps.{IsBad};

@@ -1,6 +1,6 @@
 -- The examples are computed from the definitions.
 use Rattle.std.proofs.Common.{refl}
-use Rattle.board_image.specs.ImageBytes.{card_bytes}
+use Rattle.board_image.specs.Common.{card_bytes}
 use Rattle.board_image.specs.ImageFields.{bases_fields, card_fields}
 use Rattle.library_examples.specs.Images.{PortsKept}
 

@@ -2,7 +2,7 @@
 -- ports.
 use Rattle.std.specs.Prelude.{ℕ, ◌≡◌, false, List, [], ◌∷◌, None, Result, Ok, Err}
 use Rattle.board_prelude.specs.Common.{MemoryBase, IoBase, FittedCard}
-use Rattle.board_image.specs.ImageBytes.{card_bytes}
+use Rattle.board_image.specs.Common.{card_bytes}
 use Rattle.board_image.specs.ImageFields.{card_fields}
 
 -- a plain card at device 3 with 4 KiB of memory and 16 ports, and as an image has it

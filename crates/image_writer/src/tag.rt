@@ -1,14 +1,13 @@
 //! The tags of events.
 
 ghost use Rattle.std.specs.Prelude.{◌≡◌};
-ghost use Rattle.board_image.specs.ImageBytes.{tag_byte, tag_of_event};
-ghost use Rattle.board_image.specs.EventFields.{tag_of};
+ghost use Rattle.image_writer.specs.ImageBytes.{tag_byte, tag_of_event};
 
 use board_spec::Event;
 
 /// What kind of event a step has.
 #[derive(Clone, Copy)]
-pub(crate) enum Tag {
+pub enum Tag {
     Memory,
     Port,
     Look,
@@ -55,25 +54,6 @@ impl Tag {
             Event::Wire { .. } => Tag::Wire,
             Event::Line { .. } => Tag::Line,
             Event::BadSector(_) => Tag::BadSector,
-        }
-    }
-
-    /// The tag of a number.
-    pub fn of(byte: u8) -> Option<Tag>
-        ensures said { result ≡ tag_of byte }
-    {
-        match byte {
-            1 => Some(Tag::Memory),
-            2 => Some(Tag::Port),
-            3 => Some(Tag::Look),
-            4 => Some(Tag::Ack),
-            5 => Some(Tag::Pulses),
-            6 => Some(Tag::Time),
-            7 => Some(Tag::Wire),
-            8 => Some(Tag::Line),
-            9 => Some(Tag::BadSector),
-            10 => Some(Tag::Wide),
-            _ => None,
         }
     }
 }

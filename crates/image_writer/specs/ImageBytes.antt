@@ -4,8 +4,8 @@ use Rattle.std.specs.Prelude.{ℕ, ◌≤◌, ◌<◌, ◌+◌, ◌^◌, ◌++�
 use Rattle.board_prelude.specs.Common.{w16, w32, w64, to_le_bytes, Kind, Fetch, Read, Write, PortAccess, WideAccess, Moment, bytes_of, Event, Memory, Wide, Port, Ack, Pulses, Time, Wire, Line, BadSector, Statement, Base, MemoryBase, IoBase, FittedCard, Setup, IsSetup, IsInRange, IsScriptSector, most_statements}
 use Rattle.board_base.specs.declared.access.Access.{Access}
 use Rattle.board_spec.specs.declared.event.Event.TheVariants.{Look as LookAt}
-use Rattle.board_image.specs.declared.tag.Tag.{Tag}
-use Rattle.board_image.specs.declared.tag.Tag.TheVariants as tags
+use Rattle.image_writer.specs.declared.tag.Tag.{Tag}
+use Rattle.image_writer.specs.declared.tag.Tag.TheVariants as tags
 
 -- what an image says: a setup, and who asked what, the oldest first
 pub record Saved : Type 0 where

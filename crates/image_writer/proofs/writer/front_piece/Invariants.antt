@@ -1,7 +1,7 @@
 -- The cards so far are written.
 use Rattle.std.proofs.Common.{◌≡◌, ◌++◌, take, flat_map}
-use Rattle.board_image.specs.ImageBytes.{card_bytes, head_bytes}
-use Rattle.board_image.proofs.writer.front_piece.Given as goal
+use Rattle.image_writer.specs.ImageBytes.{card_bytes, head_bytes}
+use Rattle.image_writer.proofs.writer.front_piece.Given as goal
 
 abbrev pub invariant-loop-card : goal.invariant-loop-card
 invariant-loop-card l =

@@ -1,6 +1,6 @@
 use Rattle.std.proofs.Common.{◌≡◌, ℕ, List, ◌++◌, refl, ap, ◌∙◌, subst, append_assoc, OnOk}
-use Rattle.board_image.specs.ImageBytes.{head_bytes, magic}
-use Rattle.board_image.proofs.writer.push_head.Goals as goal
+use Rattle.image_writer.specs.ImageBytes.{head_bytes, magic}
+use Rattle.image_writer.proofs.writer.push_head.Goals as goal
 
 joined : (out a b c d x y z : List ℕ) → x ≡ out ++ a → y ≡ x ++ b → z ≡ y ++ c →
     z ++ d ≡ out ++ (a ++ (b ++ (c ++ d)))

@@ -1,7 +1,7 @@
 use Rattle.std.proofs.Common.{◌≡◌, ℕ, List, ◌++◌, length, sym, ◌∙◌, ap, append_assoc, rules, map, flat_map, reverse}
 use Rattle.board_prelude.proofs.Common.{length-map, length-reverse, Entry, Setup, statement_of, statements_of}
-use Rattle.board_image.specs.ImageBytes.{head_bytes, card_bytes, disk_bytes, step_bytes, image_bytes}
-use Rattle.board_image.proofs.writer.save.Goals as goal
+use Rattle.image_writer.specs.ImageBytes.{head_bytes, card_bytes, disk_bytes, step_bytes, image_bytes}
+use Rattle.image_writer.proofs.writer.save.Goals as goal
 
 saved :
     (setup : Setup) (entries : List Entry) (count : ℕ) (front rom disk steps : List ℕ) → count ≡ length entries →

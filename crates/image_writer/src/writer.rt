@@ -3,20 +3,16 @@
 ghost use Rattle.std.specs.Prelude.{◌≡◌, ◌≤◌, ◌++◌, ◌∷◌, [], length, is_some, flat_map, map, All, IfOk, OnOk};
 ghost use Rattle.board_prelude.specs.Common.{IsBase, IsCard, IsSetup, statements_of};
 ghost use Rattle.pci_bars.specs.Bases.{base_of};
-ghost use Rattle.board_image.specs.ImageBytes.{flag_byte, base_byte, card_bytes, disk_bytes, head_bytes, size_bytes, image_bytes};
+ghost use Rattle.image_writer.specs.ImageBytes.{flag_byte, base_byte, card_bytes, disk_bytes, head_bytes, size_bytes, image_bytes};
 
 use crate::event_writer::{push_word, steps_piece};
-use crate::fields::MAGIC;
-use crate::head::VERSION;
-use crate::image::ImageBytes;
+use crate::format::{IO_BASE, MAGIC, VERSION};
+use crate::pieces::ImageBytes;
 use access_history::History;
 use board_base::NoMemory;
-use board_core::Setup;
+use board_chipset::Setup;
 use pci_bars::{BaseSpec, CardSpec};
 use std::alloc::Global;
-
-/// The bit of a base's byte that says that it is for I/O ports.
-pub(crate) const IO_BASE: u8 = 0x80;
 
 /// The byte of a base.
 fn base_byte(base: BaseSpec) -> u8

@@ -2,7 +2,7 @@ use Rattle.std.proofs.Common.{ℕ, ◌<◌, List, length, map, All, slice_index_
 use Rattle.board_prelude.proofs.Common.{length-map, get_or-map, IsBase}
 use Rattle.pci_bars.specs.declared.spec.BaseSpec.{BaseSpec}
 use Rattle.pci_bars.specs.Bases.{base_of}
-use Rattle.board_image.proofs.writer.push_bases.Goals as goal
+use Rattle.image_writer.proofs.writer.push_bases.Goals as goal
 
 fits_at : (bases : List BaseSpec) (k : ℕ) (d : BaseSpec) → k < length bases → All IsBase (map base_of bases) →
     IsBase (base_of (slice_index_or bases k d))

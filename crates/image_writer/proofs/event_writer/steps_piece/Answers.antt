@@ -3,8 +3,8 @@ use Rattle.std.proofs.lemmas.List.{append-nil, map-append, take_more}
 use Rattle.std.proofs.lemmas.Grind.{flat_map-append}
 use Rattle.board_prelude.proofs.Common.{Entry}
 use Rattle.board_spec.specs.Orders.{statement_of}
-use Rattle.board_image.specs.ImageBytes.{step_bytes}
-use Rattle.board_image.proofs.event_writer.steps_piece.Goals as goal
+use Rattle.image_writer.specs.ImageBytes.{step_bytes}
+use Rattle.image_writer.proofs.event_writer.steps_piece.Goals as goal
 
 pub loop-i-preserved : goal.loop-i-preserved
 loop-i-preserved c =
