@@ -16,11 +16,13 @@ static board b;
 static board_reply r;
 static uint32_t at;
 
-/* What a BIOS writes before it boots: both 8259A with their vectors and masks, counter 0 of the 8254, and PAM. */
+/* What a BIOS writes before it boots: both 8259A with their vectors and masks, counter 0 of the 8254, command and timing of
+ * the IDE function, so that the disk answers, and PAM. */
 static const struct { uint16_t port; uint8_t bytes; uint32_t value; } bios[] = {
     {0x20, 1, 0x11}, {0x21, 1, 0x08}, {0x21, 1, 0x04}, {0x21, 1, 0x01}, {0xA0, 1, 0x11}, {0xA1, 1, 0x70},
     {0xA1, 1, 0x02}, {0xA1, 1, 0x01}, {0x21, 1, 0xB8}, {0xA1, 1, 0x8F}, {0x43, 1, 0x34}, {0x40, 1, 0x00},
-    {0x40, 1, 0x00}, {0xCF8, 4, 0x80000058},
+    {0x40, 1, 0x00}, {0xCF8, 4, 0x80000904}, {0xCFC, 1, 0x05}, {0xCF8, 4, 0x80000940}, {0xCFC, 2, 0x8000},
+    {0xCF8, 4, 0x80000058},
 };
 
 /* A board as a BIOS leaves it, with all pages of the first 512 KiB written. */
