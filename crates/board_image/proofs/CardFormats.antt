@@ -1,6 +1,6 @@
 -- The fields of cards.
 use Rattle.std.proofs.Common.{◌≡◌, ℕ, zero, suc, ◌+◌, ◌-◌, ◌*◌, ◌^◌, ◌<◌, ◌≤◌, inl, inr, Bool, true, false, List, [], ◌∷◌, ◌++◌, length, Option, Some, None, refl, sym, ap, subst, ◌∙◌, arith, nat_le, ◌==◌, ◌&&◌, map, flat_map, sum_by, All, unwrap_or}
-use Rattle.board_prelude.proofs.Common.{AllByRecursion, w8, and_from, and_parts, cases_Bool, cases_eq, eq-eqb, ne_eqb, leb-true, le-leb, lt-leb, append-nil, flat_map-cons, recursion_from_All, sum_by-cons, sum_by-append, Base, MemoryBase, IoBase, FittedCard, IsBase, IsCard, IsExpansionRom, Rises, memory_of_cards, memory_size}
+use Rattle.board_prelude.proofs.Common.{AllByRecursion, w8, and_from, and_parts, cases_Bool, cases_eq, eq-eqb, ne_eqb, leb-true, le-leb, lt-leb, append-nil, flat_map-cons, recursion_from_All, sum_by-cons, sum_by-append, Base, MemoryBase, IoBase, FittedCard, IsBase, is_base_in_range, IsCard, IsExpansionRom, Rises, memory_of_cards, memory_size}
 use Rattle.std.proofs.lemmas.Bool.{leb-false}
 use Rattle.std.proofs.lemmas.List.Elements.{All-from_recursion}
 use Rattle.board_image.specs.Common.{io_base, base_byte, flag_byte, card_bytes, number, where_true, flag_field, base_of_byte, has_room, base_in, rom_of, bases_fields, card_fields, cards_fields}
@@ -14,19 +14,25 @@ use Rattle.board_image.proofs.ImageLoops.{base_field, room_after, bases_in, base
 abbrev pub IsBaseIn : (room : ℕ) → Base → Type 0
 IsBaseIn room base = IsBase base × (memory_size base ≤ room)
 
+range_to : (base : Base) → IsBase base → is_base_in_range base ≡ true
+range_to (MemoryBase bits) is = and_from (nat_le 4 bits) (nat_le bits 24) (le-leb 4 bits is.0) (le-leb bits 24 is.1)
+range_to (IoBase bits) is = and_from (nat_le 2 bits) (nat_le bits 8) (le-leb 2 bits is.0) (le-leb bits 8 is.1)
+
+range_from : (base : Base) → is_base_in_range base ≡ true → IsBase base
+range_from (MemoryBase bits) is =
+    let both = and_parts (nat_le 4 bits) (nat_le bits 24) is in (leb-true 4 bits both.0, leb-true bits 24 both.1)
+range_from (IoBase bits) is =
+    let both = and_parts (nat_le 2 bits) (nat_le bits 8) is in (leb-true 2 bits both.0, leb-true bits 8 both.1)
+
 room_to : (room : ℕ) (base : Base) → IsBaseIn room base → has_room room base ≡ true
-room_to room (MemoryBase bits) is =
-    and_from _ _ (le-leb 4 bits is.0.0) (and_from _ _ (le-leb bits 24 is.0.1) (le-leb (2 ^ bits) room is.1))
-room_to room (IoBase bits) is = and_from _ _ (le-leb 2 bits is.0.0) (le-leb bits 8 is.0.1)
+room_to room base is =
+    and_from (is_base_in_range base) (nat_le (memory_size base) room) (range_to base is.0)
+    (le-leb (memory_size base) room is.1)
 
 room_from : (room : ℕ) (base : Base) → has_room room base ≡ true → IsBaseIn room base
-room_from room (MemoryBase bits) is =
-    let first = and_parts (nat_le 4 bits) (nat_le bits 24 && nat_le (2 ^ bits) room) is in
-    let other = and_parts (nat_le bits 24) (nat_le (2 ^ bits) room) first.1 in
-    ((leb-true 4 bits first.0, leb-true bits 24 other.0), leb-true (2 ^ bits) room other.1)
-room_from room (IoBase bits) is =
-    let both = and_parts (nat_le 2 bits) (nat_le bits 8) is in
-    ((leb-true 2 bits both.0, leb-true bits 8 both.1), omega arith)
+room_from room base is =
+    let both = and_parts (is_base_in_range base) (nat_le (memory_size base) room) is in
+    (range_from base both.0, leb-true (memory_size base) room both.1)
 
 byte_said : (base : Base) → IsBase base → (base_byte base < 2 ^ 8) × (base_of_byte (base_byte base) ≡ base)
 byte_said (MemoryBase bits) is = (omega (arith, is.1), rw (lt-leb io_base bits (omega (arith, is.1))) refl)

@@ -1,9 +1,9 @@
 -- The fields of a whole image.
-use Rattle.std.proofs.Common.{◌≡◌, ℕ, zero, suc, ◌+◌, ◌-◌, ◌*◌, ◌%◌, ◌/◌, ◌^◌, ◌<◌, ◌≤◌, ◌⊎◌, inl, inr, Bool, true, false, cond, List, [], ◌∷◌, ◌++◌, length, take, drop, Option, Some, None, Result, Ok, Err, refl, sym, ap, subst, ◌∙◌, append_assoc, arith, nat_le, ◌==◌, ◌&&◌, ◌||◌, flat_map, All, is_some, unwrap_or, bytes_eq}
-use Rattle.board_prelude.proofs.Common.{AllByRecursion, w8, w16, w32, to_le_bytes, and_from, and_parts, eq-eqb, eqb-true, leb-true, le-leb, take_at, drop_at, take-append-drop, length-append, nil_from_length, append-nil, recursion_from_All, bytes_eq-Decides, Statement, Setup, FittedCard, IsSetup, IsRomSize, IsDisk, IsDiskSize, most_statements, most_card_memory}
+use Rattle.std.proofs.Common.{◌≡◌, ℕ, zero, suc, ◌+◌, ◌-◌, ◌*◌, ◌%◌, ◌/◌, ◌^◌, ◌<◌, ◌≤◌, ◌⊎◌, ◌↔◌, IsTrue, inl, inr, Bool, true, false, cond, List, [], ◌∷◌, ◌++◌, length, take, drop, Option, Some, None, Result, Ok, Err, refl, sym, ap, subst, ◌∙◌, append_assoc, arith, nat_le, nat_lt, ◌==◌, ◌&&◌, ◌||◌, flat_map, All, is_some, unwrap_or, bytes_eq}
+use Rattle.board_prelude.proofs.Common.{AllByRecursion, w8, w16, w32, to_le_bytes, and_from, and_parts, eq-eqb, eqb-true, leb-true, le-leb, ltb-true, lt-ltb, cases_Bool, false≢true, take_at, drop_at, take-append-drop, length-append, nil_from_length, append-nil, recursion_from_All, bytes_eq-Decides, Statement, Setup, FittedCard, IsSetup, IsRomSize, is_rom_size, IsDisk, IsDiskSize, is_disk_length, most_statements, most_card_memory}
 use Rattle.std.proofs.lemmas.List.Elements.{All-from_recursion}
 use Rattle.board_image.specs.declared.head.Head.{Head}
-use Rattle.board_image.specs.Common.{Saved, magic, image_version, flag_byte, card_bytes, disk_bytes, size_bytes, head_bytes, step_bytes, image_bytes, IsImageStep, IsImage, Reading, then_read, gives, exactly, ended, is_rom_size, is_disk_size, disk_where, head_fields, setup_fields, steps_fields, saved_fields, image_fields}
+use Rattle.board_image.specs.Common.{Saved, magic, image_version, flag_byte, card_bytes, disk_bytes, size_bytes, head_bytes, step_bytes, image_bytes, IsImageStep, IsImage, Reading, then_read, gives, exactly, ended, has_disk_size, disk_where, head_fields, setup_fields, steps_fields, saved_fields, image_fields}
 use Rattle.board_image.proofs.Formats.{AreBytes, rest_of, ok_is, not_err, err_is, then_ok, then_err, IsFormat, format_as, then_format, last_format, many_format, plain_format, AreGood}
 use Rattle.board_image.proofs.Numbers.{wide16, wide32, byte_within, within_format, where_format, Ranges}
 use Rattle.board_image.proofs.EventFormats.{Any, either_true, flag_format}
@@ -79,24 +79,39 @@ abbrev HasDiskSize : (has_disk : Bool) → ℕ → Type 0
 HasDiskSize false size = size ≡ 0
 HasDiskSize true size = IsDiskSize size
 
-disk_size_to : (has_disk : Bool) (size : ℕ) → HasDiskSize has_disk size →
-    (size < 2 ^ 32) × (is_disk_size has_disk size ≡ true)
-disk_size_to false size is = (omega (arith, is), eq-eqb size 0 is)
-disk_size_to true size (sectors, some, few, is) = (
-  omega (arith, few, is),
-  and_from _ _ (eq-eqb (size % 512) 0 (omega (arith, is)))
-      (and_from _ _ (le-leb 512 size (omega (arith, some, is))) (le-leb size 0x200_0000 (omega (arith, few, is)))),
-)
+-- whole sectors, and not too many, are what is asked of a length
+pub length_to : (size : ℕ) → IsDiskSize size → is_disk_length size ≡ true
+length_to size (sectors, some, few, is) =
+    and_from (size % 512 == 0) (nat_lt 0 size && nat_le size 33_554_432) (eq-eqb (size % 512) 0 (omega (arith, is)))
+    (and_from (nat_lt 0 size) (nat_le size 33_554_432) (lt-ltb 0 size (omega (arith, some, is)))
+    (le-leb size 33_554_432 (omega (arith, few, is))))
 
-disk_size_from : (has_disk : Bool) (size : ℕ) → is_disk_size has_disk size ≡ true → HasDiskSize has_disk size
-disk_size_from false size is = eqb-true size 0 is
-disk_size_from true size is =
-    let first = and_parts (size % 512 == 0) (nat_le 512 size && nat_le size 0x200_0000) is in
-    let other = and_parts (nat_le 512 size) (nat_le size 0x200_0000) first.1 in
+pub length_from : (size : ℕ) → is_disk_length size ≡ true → IsDiskSize size
+length_from size is =
+    let first = and_parts (size % 512 == 0) (nat_lt 0 size && nat_le size 33_554_432) is in
+    let other = and_parts (nat_lt 0 size) (nat_le size 33_554_432) first.1 in
     let whole = eqb-true (size % 512) 0 first.0 in
-    let some = leb-true 512 size other.0 in
-    let few = leb-true size 0x200_0000 other.1 in
-    (size / 512, omega (arith, some), omega (arith, few), omega (arith, whole))
+    let some = ltb-true 0 size other.0 in
+    let few = leb-true size 33_554_432 other.1 in
+    (size / 512, omega (arith, some, whole), omega (arith, few), omega (arith, whole))
+
+pub length_same : (size : ℕ) (test : Bool) → (IsTrue test ↔ IsDiskSize size) → test ≡ is_disk_length size
+length_same size true is = sym (length_to size (is.0 refl))
+length_same size false is =
+    elim (cases_Bool (is_disk_length size)) [
+      | inl good ↦ absurd (false≢true (is.1 (length_from size good)))
+      | inr bad ↦ sym bad
+    ]
+
+disk_size_to : (has_disk : Bool) (size : ℕ) → HasDiskSize has_disk size →
+    (size < 2 ^ 32) × (has_disk_size has_disk size ≡ true)
+disk_size_to false size is = (omega (arith, is), eq-eqb size 0 is)
+disk_size_to true size (sectors, some, few, is) =
+    (omega (arith, few, is), length_to size (sectors, some, few, is))
+
+disk_size_from : (has_disk : Bool) (size : ℕ) → has_disk_size has_disk size ≡ true → HasDiskSize has_disk size
+disk_size_from false size is = eqb-true size 0 is
+disk_size_from true size is = length_from size is
 
 disk_most : (has_disk : Bool) (size : ℕ) → HasDiskSize has_disk size → size ≤ 0x200_0000
 disk_most false size is = omega (arith, is)
@@ -133,7 +148,7 @@ head_format =
     then_format (λ (head : Head). head.has_disk) flag_format (λ has_disk any.
     then_format (λ (head : Head). 0) (byte_within 0 0 (omega arith)) (λ reserved good.
     then_format (λ (head : Head). head.rom_size) (where_format wide32 is_rom_size) (λ rom_size good.
-    then_format (λ (head : Head). head.disk_size) (where_format wide32 (is_disk_size has_disk)) (λ disk_size good.
+    then_format (λ (head : Head). head.disk_size) (where_format wide32 (has_disk_size has_disk)) (λ disk_size good.
     last_format (λ (head : Head). head.steps)
     (λ steps. record {
       mib = mib;

@@ -4,6 +4,6 @@ unfoldable pub use Rattle.board_image.specs.EventFields.{event_fields, line_fiel
 pub use Rattle.board_image.specs.Fields.{Reading, ended, exactly, gives, number, number_where, then_read, where_true, within}
 pub use Rattle.image_writer.specs.ImageBytes.{FitsField, IsImage, IsImageStep, Saved, base_byte, disk_bytes, flag_byte, image_version, io_base, kind_byte, magic, step_bytes, tag_byte, tag_of_event}
 unfoldable pub use Rattle.image_writer.specs.ImageBytes.{card_bytes, field_bytes, head_bytes, image_bytes, look_bytes, memory_bytes, moment_bytes, port_bytes, size_bytes, wide_bytes}
-pub use Rattle.board_image.specs.ImageFields.{IsBadAt, base_in, base_of_byte, disk_where, has_room, is_disk_size, is_rom_size, rom_of}
+pub use Rattle.board_image.specs.ImageFields.{IsBadAt, base_in, base_of_byte, disk_where, has_disk_size, has_room, rom_of}
 unfoldable pub use Rattle.board_image.specs.ImageFields.{bases_fields, card_fields, cards_fields, head_fields, image_fields, saved_fields, setup_fields, steps_fields}
 pub use Rattle.board_image.specs.Laws.{AreBytes, IsImageOf, OneSpelling}

@@ -1,6 +1,6 @@
 -- The fields of an image, each with the values that it can have after those before it, and the first that is bad.
-use Rattle.std.specs.Prelude.{ℕ, zero, suc, ◌≡◌, ◌+◌, ◌-◌, ◌%◌, ◌==◌, Bool, true, false, nat_le, nat_lt, ◌&&◌, ◌||◌, if◌then◌else◌, List, [], ◌∷◌, length, Option, Some, None, Result, Ok, Err}
-use Rattle.board_prelude.specs.Common.{w8, w16, w32, Statement, Base, MemoryBase, IoBase, FittedCard, Setup, memory_of_cards, memory_size, most_statements, most_card_memory}
+use Rattle.std.specs.Prelude.{ℕ, zero, suc, ◌≡◌, ◌+◌, ◌-◌, ◌==◌, Bool, true, false, nat_le, nat_lt, ◌&&◌, if◌then◌else◌, List, [], ◌∷◌, length, Option, Some, None, Result, Ok, Err}
+use Rattle.board_prelude.specs.Common.{w8, w16, w32, Statement, Base, MemoryBase, IoBase, FittedCard, Setup, is_base_in_range, is_rom_in_range, is_rom_size, is_disk_length, memory_of_cards, memory_size, most_statements, most_card_memory}
 use Rattle.board_image.specs.declared.head.Head.{Head}
 use Rattle.image_writer.specs.ImageBytes.{Saved, magic, image_version, io_base}
 use Rattle.board_image.specs.Fields.{Reading, gives, ◌>>=◌, number, number_where, within, where_true, plain, exactly, ended}
@@ -8,13 +8,10 @@ use Rattle.board_image.specs.EventFields.{flag_field, step_fields}
 
 -- ---- the head
 
-abbrev pub is_rom_size : ℕ → Bool
-is_rom_size size = size == 0x1_0000 || size == 0x2_0000 || size == 0x4_0000 || size == 0x8_0000
-
--- 1 to 65,536 whole sectors, and 0 without a disk
-abbrev pub is_disk_size : (has_disk : Bool) → ℕ → Bool
-is_disk_size false size = size == 0
-is_disk_size true size = size % 512 == 0 && (nat_le 512 size && nat_le size 0x200_0000)
+-- the length of a disk, and 0 without one
+abbrev pub has_disk_size : (has_disk : Bool) → ℕ → Bool
+has_disk_size false size = size == 0
+has_disk_size true size = is_disk_length size
 
 unfoldable pub head_fields : Reading Head
 head_fields = do
@@ -25,7 +22,7 @@ head_fields = do
   has_disk ← flag_field
   reserved ← within w8 0 0
   rom_size ← number_where w32 is_rom_size
-  disk_size ← number_where w32 (is_disk_size has_disk)
+  disk_size ← number_where w32 (has_disk_size has_disk)
   steps ← within w32 0 most_statements
   gives (record {
     mib = mib;
@@ -41,10 +38,9 @@ head_fields = do
 abbrev pub base_of_byte : ℕ → Base
 base_of_byte byte = if nat_le io_base byte then IoBase (byte - io_base) else MemoryBase byte
 
--- a memory base has 16 bytes to 16 MiB and an I/O base 4 to 256 ports, and the memory bases of all cards fit
+-- a base that a card can have, whose memory is no more than is left for it
 abbrev pub has_room : (room : ℕ) → Base → Bool
-has_room room (MemoryBase bits) = nat_le 4 bits && (nat_le bits 24 && nat_le (memory_size (MemoryBase bits)) room)
-has_room room (IoBase bits) = nat_le 2 bits && nat_le bits 8
+has_room room base = is_base_in_range base && nat_le (memory_size base) room
 
 -- a base where so many bytes are left for memory
 abbrev pub base_in : (room : ℕ) → ℕ → Option Base
@@ -57,9 +53,9 @@ bases_fields (suc count) room = do
   later ← bases_fields count (room - memory_size base)
   gives (base ∷ later)
 
--- 0, or an expansion ROM of 2 KiB to 16 MiB
+-- 0, or an expansion ROM that a card can have
 abbrev pub rom_of : ℕ → Option (Option ℕ)
-rom_of bits = if bits == 0 then Some None else where_true (nat_le 11 bits && nat_le bits 24) (Some bits)
+rom_of bits = if bits == 0 then Some None else where_true (is_rom_in_range (Some bits)) (Some bits)
 
 -- a card whose device number lies above that of the card before
 unfoldable pub card_fields : (above room : ℕ) → Reading FittedCard

@@ -1,11 +1,11 @@
 //! Reads an image.
 
 ghost use Rattle.std.specs.Prelude.{◌≡◌, ◌≤◌, ◌⊎◌, ℕ, List, Ok, Err, IfOk, length};
-ghost use Rattle.board_prelude.specs.Common.{w32, Statement, Setup as Fitting};
+ghost use Rattle.board_prelude.specs.Common.{w32, is_rom_size, Statement, Setup as Fitting};
 ghost use Rattle.board_image.specs.declared.fault.ImageFault.{ImageFault};
 ghost use Rattle.image_writer.specs.ImageBytes.{Saved, image_bytes, IsImage};
 ghost use Rattle.board_image.specs.Fields.{Took, Filled, number_where, plain};
-ghost use Rattle.board_image.specs.ImageFields.{is_rom_size, is_disk_size, head_fields, setup_fields, steps_fields, saved_fields, image_fields, IsBadAt};
+ghost use Rattle.board_image.specs.ImageFields.{has_disk_size, head_fields, setup_fields, steps_fields, saved_fields, image_fields, IsBadAt};
 
 use crate::card_reader::cards;
 use crate::event_reader::step;
@@ -13,17 +13,13 @@ use crate::fault::{Bad, Fault, ImageFault};
 use crate::fields::Fields;
 use crate::head::Head;
 use crate::image::Image;
-use board_core::{Setup, is_rom_size};
+use board_core::{Setup, is_disk_size, is_rom_size};
 use board_spec::Statement;
 use board_spec::limits::MOST_STATEMENTS;
 use image_writer::VERSION;
 use pci_bars::CardSpec;
 use std::alloc::Global;
 
-/// The bytes of a sector.
-const SECTOR: u32 = 512;
-/// The most bytes of a disk: 65,536 sectors.
-const MOST_DISK: u32 = 0x1_0000 * SECTOR;
 /// The most memory in MiB, and the most cards.
 const MOST_MIB: u8 = 64;
 
@@ -39,11 +35,11 @@ fn rom_size(fields: &mut Fields) -> Result<u32, Bad>
 }
 
 /// Whether a disk can have this length, which is 0 where there is none.
-fn is_disk_size(has_disk: bool, size: u32) -> bool
-    ensures size { result ≡ is_disk_size has_disk size }
+fn has_disk_size(has_disk: bool, size: u32) -> bool
+    ensures size { result ≡ has_disk_size has_disk size }
 {
     if has_disk {
-        size % SECTOR == 0 && (SECTOR..=MOST_DISK).contains(&size)
+        is_disk_size(size as usize)
     } else {
         size == 0
     }
@@ -51,10 +47,10 @@ fn is_disk_size(has_disk: bool, size: u32) -> bool
 
 /// The length of a disk.
 fn disk_size(fields: &mut Fields, has_disk: bool) -> Result<u32, Bad>
-    ensures took { Took (λ n. n) result fields.new (number_where w32 (is_disk_size has_disk) fields.old) }
+    ensures took { Took (λ n. n) result fields.new (number_where w32 (has_disk_size has_disk) fields.old) }
 {
     let size = u32::from_le_bytes(fields.front()?);
-    fields.past(4, is_disk_size(has_disk, size))?;
+    fields.past(4, has_disk_size(has_disk, size))?;
     Ok(size)
 }
 
