@@ -10,7 +10,7 @@ pub use Rattle.board_chipset.specs.PortAccesses.{AreCyclesDone, IsCycleStep, byt
 unfoldable pub use Rattle.board_chipset.specs.PortAccesses.{AnswerInTurn, strongest, value_read}
 pub use Rattle.board_chipset.specs.Ports.{IsEntryOf, Writes, reached}
 pub use Rattle.board_chipset.specs.Resets.{reset_of}
-pub use Rattle.board_chipset.specs.Setups.{IsSetupFault}
+pub use Rattle.board_chipset.specs.Setups.{HasSizes, IsMemory, IsSetupFault}
 pub use Rattle.board_chipset.specs.Steps.{IsForDevices}
 pub use Rattle.board_chipset.specs.Versions.{IsAnswerModulo, version_count}
 unfoldable pub use Rattle.board_chipset.specs.Versions.{AreLastChanged}

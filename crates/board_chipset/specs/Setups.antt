@@ -1,5 +1,5 @@
 -- The first field of a setup that no board can have, in the order in which they stand here.
-use Rattle.std.specs.Prelude.{ℕ, ◌≤◌, ◌<◌, List, [], ◌∷◌, length}
+use Rattle.std.specs.Prelude.{ℕ, ◌≡◌, ◌≤◌, ◌<◌, List, [], ◌∷◌, length, Option, option_map}
 use Rattle.board_prelude.specs.Common.{most_mib, most_card_memory, FittedCard, Setup, IsCard, IsCardList, IsRomSize, IsDisk, memory_of_cards}
 use Rattle.board_chipset.specs.declared.check.SetupFault.{SetupFault}
 use Rattle.board_chipset.specs.declared.check.SetupFault.TheVariants.{Memory, Cards, Windows, Rom, Disk, NoMemory}
@@ -25,3 +25,10 @@ IsSetupFault setup Rom =
 IsSetupFault setup Disk =
     IsMemory setup.mib × IsCardList setup.cards × AreWindows setup × IsRomSize (length setup.rom) × ¬ IsDisk setup.disk
 IsSetupFault setup NoMemory = ⊥
+
+-- a setup with these cards, and a ROM and a disk of these lengths
+pub record HasSizes (setup : Setup) (mib : ℕ) (cards : List FittedCard) (rom : ℕ) (disk : Option ℕ) : Type 0 where
+  pub mib_is : setup.mib ≡ mib
+  pub cards_are : setup.cards ≡ cards
+  pub rom_is : length setup.rom ≡ rom
+  pub disk_is : disk ≡ option_map (λ bytes. length bytes) setup.disk

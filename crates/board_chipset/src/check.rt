@@ -1,13 +1,14 @@
 //! Tests a setup of which nothing is known, field after field.
 
-ghost use Rattle.std.specs.Prelude.{◌≡◌, ◌≤◌, ◌↔◌, ◌⊎◌, [], length, IsTrue, MatchResult, IfOk, IfErr, Err, option_map};
-ghost use Rattle.board_spec.specs.Setup.{IsDisk, IsSetup};
+ghost use Rattle.std.specs.Prelude.{◌≡◌, ◌≤◌, ◌↔◌, ◌⊎◌, ℕ, List, [], length, Option, IsTrue, MatchResult, IfOk, IfErr, Err, option_map};
+ghost use Rattle.board_spec.specs.Setup.{IsDisk, IsSetup, Setup as Fitting};
 ghost use Rattle.board_chipset.specs.Chipset.{IsLeftBy};
-ghost use Rattle.board_chipset.specs.Setups.{IsMemory, IsSetupFault};
+ghost use Rattle.board_chipset.specs.Setups.{HasSizes, IsMemory, IsSetupFault};
 
 use crate::card_check::{are_cards, fit_windows};
 use crate::chipset::Chipset;
 use crate::setup::{Setup, is_disk_size, is_rom_size};
+use pci_bars::CardSpec;
 use std::alloc::Global;
 use thiserror::Error;
 
@@ -43,23 +44,42 @@ impl Setup {
     pub fn check(&self) -> Result<(), SetupFault>
         ensures exact { MatchResult result (λ _. IsSetup self.now) (λ fault. IsSetupFault self.now fault) }
     {
-        if !is_memory(self.mib) {
-            return Err(SetupFault::Memory);
-        }
-        if !are_cards(&self.cards) {
-            return Err(SetupFault::Cards);
-        }
-        if !fit_windows(&self.cards) {
-            return Err(SetupFault::Windows);
-        }
-        if !is_rom_size(self.rom().len()) {
-            return Err(SetupFault::Rom);
-        }
-        if !is_disk(self.disk()) {
-            return Err(SetupFault::Disk);
-        }
-        Ok(())
+        check_sizes(
+            self.mib,
+            &self.cards,
+            self.rom().len(),
+            length_of(self.disk()),
+        )
     }
+}
+
+/// Tests what a board is to be opened with, as `Setup::check` does, by the lengths of its ROM and its disk: so that
+/// nothing is copied of what no board can have.
+pub fn check_sizes(
+    mib: u32,
+    cards: &[CardSpec],
+    rom: usize,
+    disk: Option<usize>,
+) -> Result<(), SetupFault>
+    ensures exact { (setup : Fitting) → HasSizes setup mib cards.now rom disk
+        → MatchResult result (λ _. IsSetup setup) (λ fault. IsSetupFault setup fault) }
+{
+    if !is_memory_size(mib) {
+        return Err(SetupFault::Memory);
+    }
+    if !are_cards(cards) {
+        return Err(SetupFault::Cards);
+    }
+    if !fit_windows(cards) {
+        return Err(SetupFault::Windows);
+    }
+    if !is_rom_size(rom) {
+        return Err(SetupFault::Rom);
+    }
+    if !is_disk(disk) {
+        return Err(SetupFault::Disk);
+    }
+    Ok(())
 }
 
 impl Chipset {
@@ -80,18 +100,29 @@ impl Chipset {
 }
 
 /// Whether so many MiB can be installed: 1 to 512.
-fn is_memory(mib: u32) -> bool
+pub fn is_memory_size(mib: u32) -> bool
     ensures memory { IsTrue result ↔ IsMemory mib }
 {
     1 <= mib && mib <= MOST_MIB
 }
 
-/// Whether a disk has 1 to 65,536 whole sectors, where one is fitted.
-fn is_disk(disk: Option<&[u8]>) -> bool
-    ensures disk { IsTrue result ↔ IsDisk (option_map (λ bytes. bytes.now) disk.entry) }
+/// How many bytes a disk has, where one is fitted.
+fn length_of(disk: Option<&[u8]>) -> Option<usize>
+    ensures length { result ≡ option_map (λ bytes. length bytes.now) disk.entry }
 {
     match disk {
-        Some(bytes) => is_disk_size(bytes.len()),
+        Some(bytes) => Some(bytes.len()),
+        None => None,
+    }
+}
+
+/// Whether a disk has 1 to 65,536 whole sectors, where one is fitted.
+fn is_disk(disk: Option<usize>) -> bool
+    ensures disk { (bytes : Option (List ℕ)) → disk ≡ option_map (λ bytes. length bytes) bytes
+        → IsTrue result ↔ IsDisk bytes }
+{
+    match disk {
+        Some(length) => is_disk_size(length),
         None => true,
     }
 }

@@ -21,9 +21,10 @@ mod setup;
 mod state;
 mod step;
 mod store;
+mod told;
 mod wide;
 
-pub use check::SetupFault;
+pub use check::{SetupFault, check_sizes, is_memory_size};
 pub use chipset::Chipset;
 pub use dram_store::PastTheEnd;
 pub use in_range::OutOfRange;

@@ -9,6 +9,7 @@ mod lines;
 mod monitor;
 mod outside;
 mod system;
+mod told;
 
 pub use devices::Devices;
 pub use lines::{law_left_alone, law_lines_stand};

@@ -8,4 +8,7 @@ pub mod Doors
 pub mod Maps
 pub mod Places
 pub mod Bytes
+pub mod Seconds
+pub mod Standing
+pub mod Many
 pub mod Common

@@ -1,6 +1,10 @@
--- What is written to the clock from outside the bus, as a monitor does that gives it its memory back.
+-- What a monitor asks of the clock, and what it writes to it, from outside the bus.
 use Rattle.std.specs.Prelude.{ℕ}
-use Rattle.device_spec.specs.Common.{Clock, after_write, clock_index_port, clock_data_port}
+use Rattle.device_spec.specs.Common.{Clock, after_write, read_value, clock_index_port, clock_data_port}
+
+-- The byte that a processor would read that writes the address to port 70h and then reads port 71h.
+abbrev pub peeked : Clock → (address : ℕ) → ℕ
+peeked clock address = read_value (after_write clock clock_index_port address) clock_data_port
 
 -- A byte was written at an address: as if a processor had written the address to port 70h, the byte to port 71h, and
 -- then the index as it was before to port 70h.

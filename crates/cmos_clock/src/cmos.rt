@@ -2,7 +2,7 @@
 ghost use Rattle.std.specs.Prelude.{◌≡◌, ◌<◌};
 ghost use Rattle.device_spec.specs.Common.{after_moment, after_read, after_reset, after_write, alarm_fits, alarm_rings, control_of, data_byte, flags_byte, interrupt_line, put, read_value, store, time_bytes, without_flags, IsMoment, civil_time};
 ghost use Rattle.device_spec.specs.Clock.{power_on};
-ghost use Rattle.cmos_clock.specs.Outside.{with_byte};
+ghost use Rattle.cmos_clock.specs.Outside.{peeked, with_byte};
 
 use crate::control::Control;
 use crate::register::{
@@ -153,6 +153,19 @@ impl Cmos {
         &self.bytes
     }
 
+    /// The byte that a read of port 71h would give with this index, below 128. Nothing changes: the flags of register
+    /// C stay.
+    pub fn peek(&self, address: u8) -> u8
+        requires address { address < 128 }
+        ensures byte { result ≡ peeked self.now address }
+    {
+        match usize::from(address) {
+            REGISTER_C => self.flags(),
+            REGISTER_D => VALID,
+            address => self.bytes[address],
+        }
+    }
+
     /// The index: the address that port 71h reads and writes, 0 to 127.
     pub fn index(&self) -> u8
         ensures index { result ≡ self.now.index }
@@ -182,7 +195,7 @@ impl Cmos {
     }
 
     /// The byte of register B.
-    fn control(&self) -> Control
+    pub(crate) fn control(&self) -> Control
         ensures byte { result.byte ≡ control_of self.now }
     {
         Control {

@@ -1,6 +1,6 @@
 //! Register B: what the clock does and how it writes its time.
 ghost use Rattle.std.specs.Prelude.{◌≡◌, ◌<◌};
-ghost use Rattle.device_spec.specs.Clock.{alarm_interrupts, bcd, control_reset, control_written, hour_byte, holds_time, number_byte, update_interrupts};
+ghost use Rattle.device_spec.specs.Clock.{alarm_interrupts, bcd, control_reset, control_written, hour_byte, holds_time, is_24_hour, is_binary, number_byte, update_interrupts};
 
 use board_base::bits::is_set;
 
@@ -72,12 +72,26 @@ impl Control {
         is_set(self.byte.into(), UPDATE_INTERRUPT)
     }
 
+    /// Whether numbers are binary, and not binary-coded decimal.
+    pub fn is_binary(self) -> bool
+        ensures value { result ≡ is_binary self.byte }
+    {
+        is_set(self.byte.into(), BINARY)
+    }
+
+    /// Whether hours are 0 to 23, and not 1 to 12 with a bit for the half of the day.
+    pub fn is_24_hour(self) -> bool
+        ensures value { result ≡ is_24_hour self.byte }
+    {
+        is_set(self.byte.into(), HOURS_24)
+    }
+
     /// A number of at most two digits as the clock writes it.
     pub fn number(self, number: u8) -> u8
         requires { number < 100 }
         ensures value { result ≡ number_byte self.byte number }
     {
-        if is_set(self.byte.into(), BINARY) {
+        if self.is_binary() {
             number
         } else {
             bcd(number)
@@ -89,7 +103,7 @@ impl Control {
         requires { hour < 24 }
         ensures value { result ≡ hour_byte self.byte hour }
     {
-        if is_set(self.byte.into(), HOURS_24) {
+        if self.is_24_hour() {
             return self.number(hour);
         }
         let face = match hour % 12 {

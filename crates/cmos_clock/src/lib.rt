@@ -4,5 +4,8 @@
 mod cmos;
 mod control;
 mod register;
+mod second;
+mod shown;
 
 pub use cmos::{CLOCK_BYTES, Cmos};
+pub use second::law_seconds_follow;

@@ -1,3 +1,4 @@
 mod SerialRuns
 mod ImageRuns
 mod RecordRuns
+mod SecondRuns

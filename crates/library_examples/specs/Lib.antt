@@ -1,3 +1,4 @@
 pub mod Serial
 pub mod Images
 pub mod Records
+pub mod Seconds

@@ -1,8 +1,9 @@
-//! Worked examples of the UART, of images and of records: each function does nothing, and its clauses are the examples,
-//! which are computed from the definitions. They stand above the crates that they speak of, so that no other crate has
-//! to be proved again for them.
+//! Worked examples of the UART, of images, of records and of the clock: each function does nothing, and its clauses are
+//! the examples, which are computed from the definitions. They stand above the crates that they speak of, so that no other
+//! crate has to be proved again for them.
 #![tactic(auto)]
 
 pub mod images;
 pub mod records;
+pub mod seconds;
 pub mod serial;

@@ -6,6 +6,7 @@ use Rattle.uart_16550.specs.declared.modem.ModemLines.{ModemLines}
 use Rattle.uart_16550.specs.declared.modem.ModemChanges.{ModemChanges}
 use Rattle.uart_16550.specs.declared.register.ReadRegister.{ReadRegister}
 use Rattle.uart_16550.specs.declared.register.ReadRegister.TheVariants.{Rbr, Dll, Ier, Dlm, Iir, Lcr, Mcr, Lsr, Msr, Scr}
+use Rattle.uart_16550.specs.declared.register.UartRegisters.{UartRegisters}
 use Rattle.uart_16550.specs.Names.{dr, oe, thre, temt, dcts, ddsr, teri, ddcd, cts, dsr, ri, dcd}
 use Rattle.uart_16550.specs.Uart.{Uart, no_changes, is_dlab, lines_of, pending, flag}
 
@@ -85,3 +86,17 @@ byte_read uart off = value_of uart (register_read (is_dlab uart) off)
 
 abbrev pub after_read : Uart → (off : ℕ) → Uart
 after_read uart off = after_value uart (register_read (is_dlab uart) off)
+
+-- what reads would give, each of this state: the registers by their names, of the divisor latch both bytes
+abbrev pub registers_of : Uart → UartRegisters
+registers_of uart = record {
+  ier = value_of uart Ier;
+  iir = value_of uart Iir;
+  lcr = value_of uart Lcr;
+  mcr = value_of uart Mcr;
+  lsr = value_of uart Lsr;
+  msr = value_of uart Msr;
+  scr = value_of uart Scr;
+  dll = value_of uart Dll;
+  dlm = value_of uart Dlm;
+}

@@ -16,6 +16,7 @@ mod stepped;
 mod uart;
 
 pub use com1::{Happening, SerialReply, is_for_uart};
+pub use register::UartRegisters;
 pub use serial::SerialBoard;
 pub use stepped::SteppedBoard;
 pub use uart::Uart;

@@ -33,6 +33,14 @@ impl Queue {
         }
     }
 
+    /// The bytes.
+    pub fn bytes(&self) -> &[u8]
+        ensures bytes { result.now ≡ self.now }
+        ensures most { length result.now ≤ 16 }
+    {
+        &self.bytes
+    }
+
     /// How many bytes there are.
     pub fn len(&self) -> usize
         ensures len { result ≡ length self.now }

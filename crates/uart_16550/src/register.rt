@@ -112,6 +112,20 @@ impl ReadRegister {
     }
 }
 
+/// What reads of the registers would give: of the divisor latch, whether it stands at offsets 0 and 1 or not.
+#[derive(Clone, Copy, PartialEq, Eq, Debug)]
+pub struct UartRegisters {
+    pub ier: u8,
+    pub iir: u8,
+    pub lcr: u8,
+    pub mcr: u8,
+    pub lsr: u8,
+    pub msr: u8,
+    pub scr: u8,
+    pub dll: u8,
+    pub dlm: u8,
+}
+
 /// A register as a write reaches it.
 #[derive(Clone, Copy, PartialEq, Eq, Debug)]
 pub enum WriteRegister {

@@ -176,6 +176,20 @@ impl<B: SteppedBoard> SerialBoard<B> {
         self.board.step(actor, &Event::Line { irq, on })
     }
 
+    /// The UART.
+    pub fn uart(&self) -> &Uart
+        ensures uart { result.now ≡ self.now.com1.uart }
+    {
+        &self.com1.uart
+    }
+
+    /// The level of line 4 that events gave it last, without the port's own.
+    pub fn given_level(&self) -> bool
+        ensures level { result ≡ self.now.com1.script_level }
+    {
+        self.com1.script_level
+    }
+
     /// The board.
     pub fn board(&self) -> &B
         ensures board { result.now ≡ self.now.board }

@@ -1,9 +1,9 @@
 //! The chip.
 
-ghost use Rattle.std.specs.Prelude.{◌≡◌, ◌<◌, true, false, [], ◌++◌, not, ◌==◌, length};
+ghost use Rattle.std.specs.Prelude.{◌≡◌, ◌<◌, ◌≤◌, true, false, [], ◌++◌, not, ◌==◌, length};
 ghost use Rattle.uart_16550.specs.Uart.{uart_at_reset, no_changes, is_dlab, is_loopback, is_full, has_room, received, has_condition, is_raised, pending, is_interrupting};
 ghost use Rattle.uart_16550.specs.Calls.{bytes_taken, keeps_queue};
-ghost use Rattle.uart_16550.specs.Reads.{iir_of, lsr_of, msr_of, after_identity, value_of, after_value, byte_read, after_read};
+ghost use Rattle.uart_16550.specs.Reads.{iir_of, lsr_of, msr_of, registers_of, after_identity, value_of, after_value, byte_read, after_read};
 ghost use Rattle.uart_16550.specs.Writes.{looped, thr_written, ier_written, is_emptying, fcr_written, mcr_written, with_value, after_write, byte_sent};
 
 use crate::interrupt::{Interrupt, identity};
@@ -11,7 +11,7 @@ use crate::modem::{ModemChanges, ModemLines, modem_status};
 use crate::queue::{FIFO_SIZE, Queue};
 use crate::register::{
     DLAB, DR, ETBEI, FIFO_ENABLE, FIFOS_ENABLED, IER_BITS, LOOP, MCR_BITS, OE, OUT2,
-    RECEIVER_RESET, ReadRegister, TEMT, THRE, WriteRegister, flag,
+    RECEIVER_RESET, ReadRegister, TEMT, THRE, UartRegisters, WriteRegister, flag,
 };
 use board_spec::bits::is_set;
 use std::marker::Model;
@@ -168,6 +168,39 @@ impl Uart {
         self.pending().is_some() && is_set(self.mcr.into(), OUT2)
     }
 
+    /// What reads of the registers would give, of which none was made: nothing is taken or cleared.
+    #[tactic(auto, unfolding(crate::specs::Reads::value_of))]
+    pub fn registers(&self) -> UartRegisters
+        ensures registers { result ≡ registers_of self.now }
+    {
+        UartRegisters {
+            ier: self.ier,
+            iir: self.iir(),
+            lcr: self.lcr,
+            mcr: self.mcr,
+            lsr: self.lsr(),
+            msr: modem_status(ModemLines::under(self.mcr), self.changes),
+            scr: self.scr,
+            dll: self.dll,
+            dlm: self.dlm,
+        }
+    }
+
+    /// The bytes that were received and not read, the next to be read first.
+    pub fn received(&self) -> &[u8]
+        ensures bytes { result.now ≡ self.now.queue }
+        ensures most { length result.now ≤ 16 }
+    {
+        self.queue.bytes()
+    }
+
+    /// Whether THR became empty, and IIR was not read with that cause since.
+    pub fn is_emptied(&self) -> bool
+        ensures emptied { result ≡ self.now.emptied }
+    {
+        self.emptied
+    }
+
     /// Reads the register at an offset, 0 to 7. RBR gives the front of the queue and takes it, and 0 where there is
     /// none; IIR clears the empty THR where it gives that cause, LSR the overrun, and MSR the changes of the lines.
     pub fn port_read(&mut self, off: u8) -> u8
@@ -204,21 +237,35 @@ impl Uart {
         ensures value { result ≡ iir_of self.old }
         ensures after { self.new ≡ after_identity (pending self.old) self.old }
     {
-        let pending = self.pending();
-        if pending == Some(Interrupt::TransmitterEmpty) {
+        let iir = self.iir();
+        if self.pending() == Some(Interrupt::TransmitterEmpty) {
             self.emptied = false;
         }
+        iir
+    }
+
+    /// IIR.
+    fn iir(&self) -> u8
+        ensures value { result ≡ iir_of self.now }
+    {
         let fifos = if self.fifos { FIFOS_ENABLED } else { 0 };
-        identity(pending) + fifos
+        identity(self.pending()) + fifos
     }
 
     fn read_lsr(&mut self) -> u8
         ensures value { result ≡ lsr_of self.old }
         ensures after { self.new ≡ record self.old { overrun = false } }
     {
-        let overrun = self.overrun;
+        let lsr = self.lsr();
         self.overrun = false;
-        flag(!self.is_empty(), DR) + flag(overrun, OE) + flag(true, THRE) + flag(true, TEMT)
+        lsr
+    }
+
+    /// LSR.
+    fn lsr(&self) -> u8
+        ensures value { result ≡ lsr_of self.now }
+    {
+        flag(!self.is_empty(), DR) + flag(self.overrun, OE) + flag(true, THRE) + flag(true, TEMT)
     }
 
     fn read_msr(&mut self) -> u8

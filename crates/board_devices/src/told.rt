@@ -1,0 +1,28 @@
+//! What the devices hold, told without a change: the clock, and the sixteen lines.
+
+ghost use Rattle.std.specs.Prelude.{◌≡◌, List};
+ghost use Rattle.board_prelude.specs.Common.{Entry, Setup, clock_of, levels_of};
+ghost use Rattle.board_devices.specs.Devices.{AreDevicesOf, AreRoutesOf};
+
+use crate::devices::Devices;
+use cmos_clock::Cmos;
+use device_spec::LINE_COUNT;
+use pirq_router::Pirq;
+
+impl Devices {
+    /// The clock.
+    pub fn clock(&self) -> &Cmos
+        ensures clock { (setup : Setup) (history : List Entry) → AreDevicesOf setup history self.now
+            → result.now ≡ clock_of history }
+    {
+        &self.clock
+    }
+
+    /// The levels of the sixteen lines, as the pair hears them, with the PCI interrupts routed so.
+    pub fn lines(&self, routes: &Pirq) -> [bool; LINE_COUNT]
+        ensures levels { (setup : Setup) (history : List Entry) → AreDevicesOf setup history self.now
+            → AreRoutesOf setup history routes.now → result ≡ levels_of setup history }
+    {
+        self.levels(routes)
+    }
+}
