@@ -40,7 +40,7 @@ static void mapped(void) {
     RECORD(board_window);
     FIELD(board_window, lo), FIELD(board_window, hi);
     RECORD(board_map);
-    FIELD(board_map, ranges), FIELD(board_map, windows), FIELD(board_map, version), FIELD(board_map, installed);
+    FIELD(board_map, ranges), FIELD(board_map, windows), FIELD(board_map, version), FIELD(board_map, mib);
 }
 
 static void serial(void) {

@@ -213,13 +213,14 @@ typedef struct board_window {
 } board_window;
 
 /* The memory map: how many ranges it has, how many windows its last change changed, also where
- * there was less room; and the first address past the installed memory. A row is decoded as far as
- * the guest's boundaries say, also past it, where reads give ones and writes are lost. */
+ * there was less room; and how many MiB of memory are installed, as board_range_clip takes them. A
+ * row is decoded as far as the guest's boundaries say, also past mib << 20, where reads give ones and
+ * writes are lost. */
 typedef struct board_map {
     uint64_t ranges;
     uint64_t windows;
     uint32_t version;
-    uint32_t installed;
+    uint32_t mib;
 } board_map;
 
 /* Room that is enough for every map. */
@@ -281,8 +282,8 @@ uint32_t board_step(board *handle, const board_event *event, board_reply *reply)
 uint32_t board_second(board *handle, board_event *event, board_reply *reply);
 /* Reads a port, or writes it, for each of the values in turn, as a string instruction does: a
  * BOARD_PORT event of 1, 2 or 4 bytes each. It ends early after one that asks for the processor: INT
- * is asserted that was not before the call, there was a reset, COM1 sent a byte, or the map is
- * another one. done is how many were made, and reply is the last one's; of no values it is as before.
+ * is asserted, there was a reset, or COM1 sent a byte. done is how many were made, and reply is the
+ * last one's; of no values it is as before.
  * CLOSED; of the first one NO_EVENT, ALIGNMENT, VALUE; a later one that would be refused ends it
  * before, so that a write of it is refused by the next call. */
 uint32_t board_in_many(board *handle, uint16_t port, uint8_t bytes, uint32_t *values, size_t count,
@@ -296,8 +297,7 @@ void board_close(board *handle);
 
 /* Tells the memory map: its version, its ranges in rising order, which cover all addresses, and the
  * windows that its last change changed; an address beside them has the areas that it had before. Of
- * each as many are told as there is room for, and map says how many there are. And where the memory
- * ends.
+ * each as many are told as there is room for, and map says how many there are.
  * CLOSED. */
 uint32_t board_ranges(board *handle, board_map *map, board_range *ranges, size_t room,
                       board_window *windows, size_t windows_room);

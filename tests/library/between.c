@@ -215,7 +215,7 @@ static void stops(void) {
     board_out(&b, 0xCF8, 4, 0x80000058, &r);
     uint32_t version = r.version;
     expect("PAM", board_out_many(&b, 0xCFF, 1, map, 2, &done, &r), BOARD_OK);
-    expect("the map is another one", done == 1 && r.version == version + 1, 1);
+    expect("two changes of the map", done == 2 && r.version == version + 2, 1);
     expect("CF9h", board_out_many(&b, 0xCF9, 1, reset, 3, &done, &r), BOARD_OK);
     expect("a hard reset", done == 2 && r.reset == BOARD_HARD_RESET, 1);
 }
@@ -235,7 +235,7 @@ static void interrupts(void) {
     expect("more words than a sector has", board_out_many(&b, 0x1F0, 2, words, 300, &done, &r), BOARD_OK);
     expect("INT after the last", done == 256 && r.interrupt == 1, 1);
     expect("while INT stands", board_in_many(&b, 0x80, 1, words, 300, &done, &r), BOARD_OK);
-    expect("it stops nothing", done == 300 && r.interrupt == 1, 1);
+    expect("one a call", done == 1 && r.interrupt == 1, 1);
 }
 
 int main(void) {
@@ -246,7 +246,7 @@ int main(void) {
     sizes();
     expect("open", board_open(&b, 8, &no_card, 0, rom, sizeof rom, disk, sizeof disk), BOARD_OK);
     board_ranges(&b, &map, &range, 1, &window, 0);
-    expect("the end of the memory", map.installed, 8 << 20);
+    expect("the memory", map.mib, 8);
     clock_runs();
     flags();
     lines_stand();

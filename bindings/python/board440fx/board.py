@@ -222,7 +222,7 @@ class Board:
         windows = (records.WindowRecord * records.MOST_WINDOWS)()
         self._ask("board_ranges", found, ranges, len(ranges), windows, len(windows))
         changed = [Window(window.lo, window.hi) for window in windows[: found.windows]]
-        return Map(found.version, found.installed, map(range_of, ranges[: found.ranges]), changed)
+        return Map(found.version, found.mib, map(range_of, ranges[: found.ranges]), changed)
 
     @property
     def pulses_to_rise(self) -> int | None:

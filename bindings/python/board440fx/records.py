@@ -116,7 +116,7 @@ class WindowRecord(c.Structure):
 
 
 class MapRecord(c.Structure):
-    _fields_ = [("ranges", U64), ("windows", U64), ("version", U32), ("installed", U32)]
+    _fields_ = [("ranges", U64), ("windows", U64), ("version", U32), ("mib", U32)]
 
 
 class Com1Record(c.Structure):

@@ -39,4 +39,4 @@ def test_strings_are_steps_in_turn(board):
     assert board.out_many(0x80, 1, [1, 256]) == 1
     with pytest.raises(errors.BadValue):
         board.out_many(0x80, 1, [256])
-    assert board.map.installed == 8 << 20
+    assert board.map.mib == 8

@@ -133,7 +133,7 @@ pub(crate) struct Map {
     pub(crate) ranges: u64,
     pub(crate) windows: u64,
     pub(crate) version: u32,
-    pub(crate) installed: u32,
+    pub(crate) mib: u32,
 }
 
 #[repr(C)]

@@ -50,5 +50,5 @@ fn strings_are_steps_in_turn() {
     assert_eq!(board.last().unwrap().sent, Some(0x68));
     assert_eq!(board.out_many(0x80, Width::Byte, &[1, 256]), Ok(1));
     assert_eq!(board.out_many(0x80, Width::Byte, &[256]), Err(Error::Value));
-    assert_eq!(board.map().unwrap().installed, 8 << 20);
+    assert_eq!(board.map().unwrap().mib, 8);
 }

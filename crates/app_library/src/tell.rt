@@ -82,7 +82,7 @@ pub fn map<W: Write>(
         ("ranges", map.ranges),
         ("windows", map.windows),
         ("version", u64::from(map.version)),
-        ("installed", u64::from(map.installed)),
+        ("mib", u64::from(map.mib)),
     ];
     fields(out, "", &counts);
     for range in ranges {

@@ -20,6 +20,6 @@ values_kept port bytes before values index value old first (suc k) new last smal
   steps.3,
   record {
     step = steps.4.step;
-    holds = get_or-set_other values index k value 0 (omega (arith, small)) ∙ steps.4.holds;
+    told = get_or-set_other values index k value 0 (omega (arith, small)) ∙ steps.4.told;
   },
 )

@@ -40,7 +40,7 @@ module _ (asked : ℕ → EventRecord) (holds : ℕ → ReplyRecord → Type 0) 
 
   pub record IsStepOf (k : ℕ) (old new : Serial Running) (reply : ReplyRecord) : Type 0 where
     pub step : IsSomeAnd (asked_said (asked k)) (IsAskedStep old new reply)
-    pub holds : holds k reply
+    pub told : holds k reply
 
   abbrev pub AreInTurn : (old : Serial Running) (first : ReplyRecord) → ℕ → (new : Serial Running) → (last : ReplyRecord) → Type 0
   AreInTurn old first zero new last = (new ≡ old) × (last ≡ first)
@@ -70,7 +70,7 @@ IsValue values k reply = slice_index values k ≡ reply.value % 2 ^ 32
 pub record AreRead (port bytes : ℕ) (old : Serial Running) (first : ReplyRecord) (values : List ℕ)
     (new : Serial Running) (last : ReplyRecord) (told : List ℕ) (done : ℕ) : Type 0 where
   pub before : Before
-  pub done : AreDone (reads port bytes) (IsValue told) before (length values) old first new done last
+  pub in_turn : AreDone (reads port bytes) (IsValue told) before (length values) old first new done last
   pub size : length told ≡ length values
   pub rest : drop done told ≡ drop done values
 
@@ -81,4 +81,4 @@ writes port bytes values k = port_record write_kind port bytes (slice_index valu
 pub record AreWritten (port bytes : ℕ) (values : List ℕ) (old : Serial Running) (first : ReplyRecord)
     (new : Serial Running) (last : ReplyRecord) (done : ℕ) : Type 0 where
   pub before : Before
-  pub done : AreDone (writes port bytes values) (λ k reply. Unit {0}) before (length values) old first new done last
+  pub in_turn : AreDone (writes port bytes values) (λ k reply. Unit {0}) before (length values) old first new done last

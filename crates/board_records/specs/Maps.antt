@@ -1,6 +1,6 @@
 -- The memory map as records of numbers.
 use Rattle.std.specs.Prelude.{ℕ, ◌≡◌, ◌%◌, ◌++◌, List, length, map, take, drop}
-use Rattle.board_prelude.specs.Common.{Area, Entry, byte_of, installed, version_of, MapRange, IsFlatMapOf}
+use Rattle.board_prelude.specs.Common.{Area, Entry, byte_of, version_of, MapRange, IsFlatMapOf}
 use Rattle.map_builder.specs.declared.range.Changed.{Changed}
 use Rattle.board_chipset.specs.Common.{Running, IsLeftBy, version_count, AreLastChanged}
 use Rattle.board_records.specs.declared.map.AreaRecord.{AreaRecord}
@@ -50,7 +50,3 @@ pub record AreWindowsTold (chipset : Running) (count : ℕ) (before after : List
 abbrev pub IsVersionSaid : Running → ℕ → Type 0
 IsVersionSaid chipset version =
     (history : List Entry) → IsLeftBy chipset history → version ≡ version_of chipset.setup history % version_count
-
--- the first address past the installed memory
-abbrev pub IsEndTold : Running → ℕ → Type 0
-IsEndTold chipset end = (history : List Entry) → IsLeftBy chipset history → end ≡ installed chipset.setup

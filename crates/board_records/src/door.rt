@@ -6,7 +6,7 @@ ghost use Rattle.board_records.specs.Bytes.{clock_bytes, IsDramTold, IsSectorTol
 ghost use Rattle.board_records.specs.Doors.{IsOpenedWith, IsOpenRefusal, OnBoth, setup_said};
 ghost use Rattle.board_records.specs.Events.{asked_said};
 ghost use Rattle.board_records.specs.Many.{AreRead, AreWritten, reads, writes};
-ghost use Rattle.board_records.specs.Maps.{AreRangesTold, AreWindowsTold, IsEndTold, IsVersionSaid};
+ghost use Rattle.board_records.specs.Maps.{AreRangesTold, AreWindowsTold, IsVersionSaid};
 ghost use Rattle.board_records.specs.Places.{IsAskedPlace, IsNotPlaced, IsRiseTold};
 ghost use Rattle.board_records.specs.Seconds.{IsSecondStep, HasNoSecond};
 ghost use Rattle.board_records.specs.Standing.{AreLinesTold, serial_state_said};
@@ -84,7 +84,7 @@ impl Door {
     }
 
     /// Tells the memory map, its ranges and the windows that its last change changed: as many of them as there is room
-    /// for, and how many there are; and where the memory ends.
+    /// for, and how many there are; and the memory.
     pub fn tell_map(
         &self,
         told: &mut MapRecord,
@@ -92,7 +92,7 @@ impl Door {
         windows: &mut [WindowRecord],
     )
         ensures version { IsSomeAnd self.now (λ serial. IsVersionSaid serial.board told.new.version) }
-        ensures installed { IsSomeAnd self.now (λ serial. IsEndTold serial.board told.new.installed) }
+        ensures mib { IsSomeAnd self.now (λ serial. told.new.mib ≡ serial.board.setup.mib) }
         ensures ranges { IsSomeAnd self.now
             (λ serial. AreRangesTold serial.board told.new.ranges ranges.old ranges.new) }
         ensures windows { IsSomeAnd self.now

@@ -2,15 +2,12 @@
 
 ghost use Rattle.std.specs.Prelude.{◌≡◌, map};
 ghost use Rattle.map_builder.specs.Map.{range_of};
-ghost use Rattle.board_records.specs.Maps.{short_area, range_said, window_said, filled, AreRangesTold, AreWindowsTold, IsVersionSaid, IsEndTold};
+ghost use Rattle.board_records.specs.Maps.{short_area, range_said, window_said, filled, AreRangesTold, AreWindowsTold, IsVersionSaid};
 
 use crate::reply::area_record;
 use board_base::Area;
 use board_chipset::Chipset;
 use map_builder::{Changed, Range};
-
-/// How many bytes a MiB has.
-const MIB: u32 = 0x10_0000;
 
 /// What one kind of access reaches in a range, by the same numbers as in a part of a reply.
 #[repr(C)]
@@ -40,18 +37,18 @@ pub struct WindowRecord {
     pub hi: u32,
 }
 
-/// The memory map: how many ranges it has, how many windows its last change has, its version, modulo 2^32, and the first
-/// address past the installed memory, up to which rows that are decoded have bytes.
+/// The memory map: how many ranges it has, how many windows its last change has, its version, modulo 2^32, and how
+/// many MiB of memory are installed: rows may be decoded further, without bytes.
 #[repr(C)]
 #[derive(Clone, Copy, PartialEq, Eq, Debug, Default)]
 pub struct MapRecord {
     pub ranges: u64,
     pub windows: u64,
     pub version: u32,
-    pub installed: u32,
+    pub mib: u32,
 }
 
-/// Sets `told` to the counts and the version of the memory map, and to where the memory ends. Fills `ranges` with its ranges and `windows` with the
+/// Sets `told` to the counts and the version of the memory map, and to the memory. Fills `ranges` with its ranges and `windows` with the
 /// windows of its last change, the first of them where there is no room for all.
 pub(crate) fn tell_map(
     chipset: &Chipset,
@@ -60,7 +57,7 @@ pub(crate) fn tell_map(
     windows: &mut [WindowRecord],
 )
     ensures version { IsVersionSaid chipset.now told.new.version }
-    ensures installed { IsEndTold chipset.now told.new.installed }
+    ensures mib { told.new.mib ≡ chipset.now.setup.mib }
     ensures ranges { AreRangesTold chipset.now told.new.ranges ranges.old ranges.new }
     ensures windows { AreWindowsTold chipset.now told.new.windows windows.old windows.new }
 {
@@ -71,7 +68,7 @@ pub(crate) fn tell_map(
         ranges: all.len() as u64,
         windows: changed.len() as u64,
         version: map.version(),
-        installed: chipset.setup().mib.wrapping_mul(MIB),
+        mib: chipset.setup().mib,
     };
     tell_ranges(all, ranges);
     tell_windows(changed, windows);

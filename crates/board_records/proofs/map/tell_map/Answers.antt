@@ -10,6 +10,7 @@ pub returns : goal.returns
 returns c =
     let same = c.ranges-all.ensures.ranges in
     record {
+      mib = ap (λ setup. setup.mib) c.setup.ensures.setup;
       version = λ history left. c.version.ensures.version ∙ c.map-map.ensures.version history left;
       ranges = record {
         ranges = c.map-map.result.now.ranges;
