@@ -8,7 +8,8 @@ use Rattle.board_records.specs.declared.reply.ReplyRecord.{ReplyRecord}
 use Rattle.port_strings.specs.Strings.{AreInTurn, GoesOn, IsNextStep, IsValue, asks_back, reads}
 
 -- the values that were told stay, where another behind them is set
-pub values_kept : (port bytes : ℕ) (values : List ℕ) (index value : ℕ) (old : Option (Serial Running)) (first : ReplyRecord)
+pub values_kept : (port bytes : ℕ) (values : List ℕ) (index value : ℕ) (old : Option (Serial Running))
+    (first : ReplyRecord)
     (done : ℕ) (new : Option (Serial Running)) (last : ReplyRecord) → done ≤ index →
     AreInTurn (reads port bytes) (IsValue values) old first done new last →
     AreInTurn (reads port bytes) (IsValue (set values index value)) old first done new last

@@ -24,8 +24,8 @@ IsStep event old new reply = IsSomeAnd (asked_said event) (λ asked. OnBoth old 
 abbrev pub IsRefused : EventRecord → Option (Serial Running) → (status : ℕ) → Type 0
 IsRefused event board status = IsSomeAnd board (λ serial. IsEventRefusal serial (asked_said event) status)
 
--- so many steps in turn, of which step k, from 0 on, is asked by record k, and reply k holds what is said of it; after none
--- but the last is the processor asked for; and the last one's reply is this
+-- so many steps in turn, of which step k, from 0 on, is asked by record k, and reply k holds what is said of it; after
+-- none but the last is the processor asked for; and the last one's reply is this
 module _ (asked : ℕ → EventRecord) (Holds : ℕ → ReplyRecord → Type 0) where
   abbrev pub GoesOn : ℕ → ReplyRecord → Type 0
   GoesOn zero reply = Unit {0}
@@ -73,6 +73,7 @@ writes port bytes values k = port_record write_kind port bytes (slice_index valu
 abbrev pub IsAny : ℕ → ReplyRecord → Type 0
 IsAny k reply = Unit {0}
 
-abbrev pub AreWritten : (port bytes : ℕ) → List ℕ → Option (Serial Running) → ReplyRecord → Option (Serial Running) → ReplyRecord → ℕ → Type 0
+abbrev pub AreWritten : (port bytes : ℕ) → List ℕ → Option (Serial Running) → ReplyRecord → Option (Serial Running) →
+    ReplyRecord → ℕ → Type 0
 AreWritten port bytes values old first new last done =
     AreDone (writes port bytes values) IsAny (length values) old first new done last

@@ -18,7 +18,8 @@ pub fn in_many(
     done: &mut usize,
     reply: &mut ReplyRecord,
 ) -> u32
-    ensures done { result ≡ ok → AreRead port bytes door.old reply.old values.old door.new reply.new values.new done.new }
+    ensures done { result ≡ ok
+        → AreRead port bytes door.old reply.old values.old door.new reply.new values.new done.new }
     ensures refused { result ≢ ok → IsRefused (reads port bytes 0) door.old result }
     ensures unchanged { result ≢ ok → door.new ≡ door.old }
     ensures no_values { result ≢ ok → values.new ≡ values.old }

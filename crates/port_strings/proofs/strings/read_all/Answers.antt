@@ -13,12 +13,15 @@ returns-then-asks_back-clause-done c =
     record {
       steps =
           one_more _ _ index c.loop-index.door c.loop-index.reply _ _
-          (values_kept c.args.port c.args.bytes c.loop-index.values index value _ _ index _ _ (omega arith) c.loop-index.invariant.steps)
+          (values_kept c.args.port c.args.bytes c.loop-index.values index value _ _ index _ _
+          (omega arith) c.loop-index.invariant.steps)
           c.loop-index.invariant.goes
           (record {
-            step = subst (λ (event : EventRecord). IsStep event c.loop-index.door c.step-status.new.self c.step-status.new.reply)
+            step = subst
+                (λ (event : EventRecord). IsStep event c.loop-index.door c.step-status.new.self c.step-status.new.reply)
                 c.port_record-event.ensures.said (c.step-status.ensures.done c.if-status-ne-OK.false);
-            told = get_or-set_same c.loop-index.values index value 0 (omega (arith, c.loop-index-test.true, c.loop-index.invariant.size));
+            told = get_or-set_same c.loop-index.values index value 0
+                (omega (arith, c.loop-index-test.true, c.loop-index.invariant.size));
           });
       ends = inr (inl (omega arith, sym c.asks_back.ensures.asks ∙ c.if-asks_back.true));
     }
@@ -30,14 +33,18 @@ loop-index-preserved c =
     record {
       steps =
           one_more _ _ index c.loop-index.door c.loop-index.reply _ _
-          (values_kept c.args.port c.args.bytes c.loop-index.values index value _ _ index _ _ (omega arith) c.loop-index.invariant.steps)
+          (values_kept c.args.port c.args.bytes c.loop-index.values index value _ _ index _ _
+          (omega arith) c.loop-index.invariant.steps)
           c.loop-index.invariant.goes
           (record {
-            step = subst (λ (event : EventRecord). IsStep event c.loop-index.door c.step-status.new.self c.step-status.new.reply)
+            step = subst
+                (λ (event : EventRecord). IsStep event c.loop-index.door c.step-status.new.self c.step-status.new.reply)
                 c.port_record-event.ensures.said (c.step-status.ensures.done c.if-status-ne-OK.false);
-            told = get_or-set_same c.loop-index.values index value 0 (omega (arith, c.loop-index-test.true, c.loop-index.invariant.size));
+            told = get_or-set_same c.loop-index.values index value 0
+                (omega (arith, c.loop-index-test.true, c.loop-index.invariant.size));
           });
-      goes = goes_on (reads c.args.port c.args.bytes) (IsValue c.loop-index.values) index c.step-status.new.reply (sym c.asks_back.ensures.asks ∙ c.if-asks_back.false);
+      goes = goes_on (reads c.args.port c.args.bytes) (IsValue c.loop-index.values) index c.step-status.new.reply
+          (sym c.asks_back.ensures.asks ∙ c.if-asks_back.false);
       size = length-set c.loop-index.values index value ∙ c.loop-index.invariant.size;
       rest = rest_more c.loop-index.values c.args.values.now index value c.loop-index.invariant.rest;
     }

@@ -10,7 +10,8 @@ returns-then-asks_back-clause-done c = record {
       one_more _ _ c.loop-index.index c.loop-index.door c.loop-index.reply _ _ c.loop-index.invariant.steps
       c.loop-index.invariant.goes
       (record {
-        step = subst (λ (event : EventRecord). IsStep event c.loop-index.door c.step-status.new.self c.step-status.new.reply)
+        step = subst
+            (λ (event : EventRecord). IsStep event c.loop-index.door c.step-status.new.self c.step-status.new.reply)
             c.port_record-event.ensures.said (c.step-status.ensures.done c.if-status-ne-OK.false);
         told = tt;
       });
@@ -23,9 +24,11 @@ loop-index-preserved c = record {
       one_more _ _ c.loop-index.index c.loop-index.door c.loop-index.reply _ _ c.loop-index.invariant.steps
       c.loop-index.invariant.goes
       (record {
-        step = subst (λ (event : EventRecord). IsStep event c.loop-index.door c.step-status.new.self c.step-status.new.reply)
+        step = subst
+            (λ (event : EventRecord). IsStep event c.loop-index.door c.step-status.new.self c.step-status.new.reply)
             c.port_record-event.ensures.said (c.step-status.ensures.done c.if-status-ne-OK.false);
         told = tt;
       });
-  goes = goes_on (writes c.args.port c.args.bytes c.args.values.now) IsAny c.loop-index.index c.step-status.new.reply (sym c.asks_back.ensures.asks ∙ c.if-asks_back.false);
+  goes = goes_on (writes c.args.port c.args.bytes c.args.values.now) IsAny c.loop-index.index c.step-status.new.reply
+      (sym c.asks_back.ensures.asks ∙ c.if-asks_back.false);
 }
