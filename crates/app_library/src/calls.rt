@@ -6,6 +6,7 @@ use board_records::status::OK;
 use board_records::{
     Door, EventRecord, MapRecord, PartRecord, RangeRecord, ReplyRecord, SerialRecord, WindowRecord,
 };
+use port_strings::{in_many, out_many};
 use std::alloc::{AllocError, Global};
 use std::io::Write;
 
@@ -130,7 +131,7 @@ pub fn serial<W: Write>(out: &mut W, door: &Door) {
 }
 
 /// Reads of a port in turn.
-pub fn in_many<W: Write>(
+pub fn reads<W: Write>(
     out: &mut W,
     alloc: Global,
     door: &mut Door,
@@ -140,7 +141,7 @@ pub fn in_many<W: Write>(
     let mut values = vec![in alloc; 0; usize::from(numbers.byte(2))]?;
     let mut done = 0;
     let port = (numbers.number(0) % 0x1_0000) as u16;
-    let status = door.in_many(port, numbers.byte(1), &mut values, &mut done, reply);
+    let status = in_many(door, port, numbers.byte(1), &mut values, &mut done, reply);
     tell::status(out, status);
     if status == OK {
         tell::values(out, done, &values);
@@ -150,7 +151,7 @@ pub fn in_many<W: Write>(
 }
 
 /// Writes of a port in turn.
-pub fn out_many<W: Write>(
+pub fn writes<W: Write>(
     out: &mut W,
     alloc: Global,
     door: &mut Door,
@@ -160,7 +161,7 @@ pub fn out_many<W: Write>(
     let values = numbers.numbers_from(alloc, 2)?;
     let mut done = 0;
     let port = (numbers.number(0) % 0x1_0000) as u16;
-    let status = door.out_many(port, numbers.byte(1), &values, &mut done, reply);
+    let status = out_many(door, port, numbers.byte(1), &values, &mut done, reply);
     tell::status(out, status);
     if status == OK {
         tell::values(out, done, &[]);

@@ -84,8 +84,8 @@ impl Desk {
             "second" => calls::second(out, door, &mut self.event, &mut self.reply),
             "lines" => calls::lines(out, door),
             "serial" => calls::serial(out, door),
-            "in" => calls::in_many(out, self.alloc, door, numbers, &mut self.reply)?,
-            "out" => calls::out_many(out, self.alloc, door, numbers, &mut self.reply)?,
+            "in" => calls::reads(out, self.alloc, door, numbers, &mut self.reply)?,
+            "out" => calls::writes(out, self.alloc, door, numbers, &mut self.reply)?,
             "set" => tell::status(out, door.write_clock_byte(numbers.byte(0), numbers.byte(1))),
             _ => {}
         }

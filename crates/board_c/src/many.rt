@@ -1,15 +1,17 @@
 //! Accesses to one port, one after another, as a string instruction makes them.
 
-ghost use Rattle.std.specs.Prelude.{◌≡◌, ◌≢◌, true, false, IsSomeAnd};
-ghost use Rattle.board_records.specs.Common.{AreRead, AreWritten, IsEventRefusal, OnBoth, asked_said, reads, writes, ok, closed};
+ghost use Rattle.std.specs.Prelude.{◌≡◌, ◌≢◌, true, false};
+ghost use Rattle.board_records.specs.Common.{ok, closed};
+ghost use Rattle.port_strings.specs.Strings.{AreRead, AreWritten, IsRefused, reads, writes};
 
 use crate::handle::Handle;
 use board_records::ReplyRecord;
 use board_records::status::CLOSED;
+use port_strings::{in_many, out_many};
 use std::alloc::Global;
 
-/// Reads a port for each of the values, one after another, until the processor is asked for: INT is asserted that was not,
-/// there was a reset, or the map is another one. Tells how many were read, and the last one's reply. `CLOSED` exactly where
+/// Reads a port for each of the values, one after another, until the processor is asked for: INT is asserted, or there was
+/// a reset. Tells how many were read, and the last one's reply. `CLOSED` exactly where
 /// the handle is closed; refused with why where the first is. Then nothing has changed.
 #[unsafe(no_mangle)]
 pub extern "C" fn board_in_many(
@@ -24,10 +26,10 @@ pub extern "C" fn board_in_many(
     ensures kept { handle.new.full ≡ handle.old.full }
     ensures closed { handle.old.full ≡ false → result ≡ closed }
     ensures open { handle.old.full ≡ true → result ≢ closed }
-    ensures done { result ≡ ok → OnBoth handle.old.held handle.new.held
-        (λ old new. AreRead port bytes old reply.old values.old new reply.new values.new done.new) }
-    ensures refused { handle.old.full ≡ true → result ≢ ok → IsSomeAnd handle.old.held
-        (λ serial. IsEventRefusal serial (asked_said (reads port bytes 0)) result) }
+    ensures done { result ≡ ok
+        → AreRead port bytes handle.old.held reply.old values.old handle.new.held reply.new values.new done.new }
+    ensures refused { handle.old.full ≡ true → result ≢ ok
+        → IsRefused (reads port bytes 0) handle.old.held result }
     ensures unchanged { handle.old.full ≡ true → result ≢ ok → handle.new.held ≡ handle.old.held }
     ensures no_values { result ≢ ok → values.new ≡ values.old }
     ensures uncounted { result ≢ ok → done.new ≡ done.old }
@@ -36,13 +38,13 @@ pub extern "C" fn board_in_many(
     let Some(mut board) = handle.take(alloc) else {
         return CLOSED;
     };
-    let status = board.in_many(port, bytes, values, done, reply);
+    let status = in_many(&mut board, port, bytes, values, done, reply);
     handle.put(board);
     status
 }
 
-/// Writes each of the values to a port, one after another, until the processor is asked for: INT is asserted that was not,
-/// there was a reset, COM1 sent a byte, or the map is another one. Tells how many were written, and the last one's reply.
+/// Writes each of the values to a port, one after another, until the processor is asked for: INT is asserted, there was a
+/// reset, or COM1 sent a byte. Tells how many were written, and the last one's reply.
 /// `CLOSED` exactly where the handle is closed; refused with why where the first is. Then nothing has changed.
 #[unsafe(no_mangle)]
 pub extern "C" fn board_out_many(
@@ -57,10 +59,10 @@ pub extern "C" fn board_out_many(
     ensures kept { handle.new.full ≡ handle.old.full }
     ensures closed { handle.old.full ≡ false → result ≡ closed }
     ensures open { handle.old.full ≡ true → result ≢ closed }
-    ensures done { result ≡ ok → OnBoth handle.old.held handle.new.held
-        (λ old new. AreWritten port bytes values.now old reply.old new reply.new done.new) }
-    ensures refused { handle.old.full ≡ true → result ≢ ok → IsSomeAnd handle.old.held
-        (λ serial. IsEventRefusal serial (asked_said (writes port bytes values.now 0)) result) }
+    ensures done { result ≡ ok
+        → AreWritten port bytes values.now handle.old.held reply.old handle.new.held reply.new done.new }
+    ensures refused { handle.old.full ≡ true → result ≢ ok
+        → IsRefused (writes port bytes values.now 0) handle.old.held result }
     ensures unchanged { handle.old.full ≡ true → result ≢ ok → handle.new.held ≡ handle.old.held }
     ensures uncounted { result ≢ ok → done.new ≡ done.old }
     ensures untold { result ≢ ok → reply.new ≡ reply.old }
@@ -68,7 +70,7 @@ pub extern "C" fn board_out_many(
     let Some(mut board) = handle.take(alloc) else {
         return CLOSED;
     };
-    let status = board.out_many(port, bytes, values, done, reply);
+    let status = out_many(&mut board, port, bytes, values, done, reply);
     handle.put(board);
     status
 }

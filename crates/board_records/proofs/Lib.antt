@@ -2,7 +2,6 @@ pub mod EventReplies
 pub mod Filled
 pub mod Said
 pub mod Cycles
-pub mod Turns
 pub mod Openings
 pub mod Lines
 pub mod Digits

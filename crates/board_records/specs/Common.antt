@@ -2,7 +2,6 @@
 pub use Rattle.board_records.specs.Bytes.{IsClockByte, IsClockWritten, IsDramTold, IsDramWritten, IsSectorRefusal, IsSectorTold, clock_bytes}
 pub use Rattle.board_records.specs.Doors.{IsOpenRefusal, IsOpenedWith, IsSetupRefusal, OnBoth, setup_said}
 unfoldable pub use Rattle.board_records.specs.Events.{asked_said, event_said}
-pub use Rattle.board_records.specs.Many.{AreRead, AreWritten, reads, writes}
 pub use Rattle.board_records.specs.Maps.{AreRangesTold, AreWindowsTold, IsVersionSaid}
 pub use Rattle.board_records.specs.Numbers.{device_number}
 pub use Rattle.board_records.specs.Places.{IsAskedPlace, IsNotPlaced, IsRiseTold}

@@ -10,5 +10,4 @@ pub mod Places
 pub mod Bytes
 pub mod Seconds
 pub mod Standing
-pub mod Many
 pub mod Common

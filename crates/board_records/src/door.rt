@@ -5,7 +5,6 @@ ghost use Rattle.board_spec.specs.Setup.{installed};
 ghost use Rattle.board_records.specs.Bytes.{clock_bytes, IsDramTold, IsSectorTold, IsSectorRefusal, IsClockByte, IsDramWritten, IsClockWritten};
 ghost use Rattle.board_records.specs.Doors.{IsOpenedWith, IsOpenRefusal, OnBoth, setup_said};
 ghost use Rattle.board_records.specs.Events.{asked_said};
-ghost use Rattle.board_records.specs.Many.{AreRead, AreWritten, reads, writes};
 ghost use Rattle.board_records.specs.Maps.{AreRangesTold, AreWindowsTold, IsVersionSaid};
 ghost use Rattle.board_records.specs.Places.{IsAskedPlace, IsNotPlaced, IsRiseTold};
 ghost use Rattle.board_records.specs.Seconds.{IsSecondStep, HasNoSecond};
@@ -17,7 +16,6 @@ use crate::bytes::{tell_clock_byte, tell_dram, tell_sector};
 use crate::calls::step;
 use crate::card::CardRecord;
 use crate::event::EventRecord;
-use crate::many::{in_many, out_many};
 use crate::map::{MapRecord, RangeRecord, WindowRecord, tell_map};
 use crate::opening::open;
 use crate::place::{tell_place, tell_rise};
@@ -114,53 +112,6 @@ impl Door {
         ensures open { result ≢ closed }
     {
         second(&mut self.serial, event, reply)
-    }
-
-    /// Reads a port for each of the values, one after another, until the processor is asked for: INT is asserted that was
-    /// not, there was a reset, or the map is another one. Tells how many were read, and the last one's reply. Refused with
-    /// why where the first is; then nothing has changed.
-    pub fn in_many(
-        &mut self,
-        port: u16,
-        bytes: u8,
-        values: &mut [u32],
-        done: &mut usize,
-        reply: &mut ReplyRecord,
-    ) -> u32
-        ensures done { result ≡ ok → OnBoth self.old self.new
-            (λ old new. AreRead port bytes old reply.old values.old new reply.new values.new done.new) }
-        ensures refused { result ≢ ok → IsSomeAnd self.old
-            (λ serial. IsEventRefusal serial (asked_said (reads port bytes 0)) result) }
-        ensures unchanged { result ≢ ok → self.new ≡ self.old }
-        ensures no_values { result ≢ ok → values.new ≡ values.old }
-        ensures uncounted { result ≢ ok → done.new ≡ done.old }
-        ensures untold { result ≢ ok → reply.new ≡ reply.old }
-        ensures open { result ≢ closed }
-    {
-        in_many(&mut self.serial, port, bytes, values, done, reply)
-    }
-
-    /// Writes each of the values to a port, one after another, until the processor is asked for: INT is asserted that was
-    /// not, there was a reset, COM1 sent a byte, or the map is another one. Tells how many were written, and the last one's
-    /// reply. Refused with why where the first is; then nothing has changed.
-    pub fn out_many(
-        &mut self,
-        port: u16,
-        bytes: u8,
-        values: &[u32],
-        done: &mut usize,
-        reply: &mut ReplyRecord,
-    ) -> u32
-        ensures done { result ≡ ok → OnBoth self.old self.new
-            (λ old new. AreWritten port bytes values.now old reply.old new reply.new done.new) }
-        ensures refused { result ≢ ok → IsSomeAnd self.old
-            (λ serial. IsEventRefusal serial (asked_said (writes port bytes values.now 0)) result) }
-        ensures unchanged { result ≢ ok → self.new ≡ self.old }
-        ensures uncounted { result ≢ ok → done.new ≡ done.old }
-        ensures untold { result ≢ ok → reply.new ≡ reply.old }
-        ensures open { result ≢ closed }
-    {
-        out_many(&mut self.serial, port, bytes, values, done, reply)
     }
 
     /// Tells the levels of the sixteen interrupt lines, as the pair of 8259A hears them: bit k is that of line k.

@@ -8,7 +8,6 @@ mod calls;
 mod card;
 mod door;
 mod event;
-mod many;
 mod map;
 pub mod numbers;
 mod opening;

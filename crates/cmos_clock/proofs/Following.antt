@@ -8,7 +8,8 @@ use Rattle.cmos_clock.specs.Seconds.{SecondsFollow, midnight_after, second_after
 
 -- ---- the day after lies one day later
 
-months_add : (year months : ℕ) → 1 ≤ months → days_of_months year months ≡ days_of_months year (months - 1) + days_in_month year months
+months_add : (year months : ℕ) → 1 ≤ months →
+    days_of_months year months ≡ days_of_months year (months - 1) + days_in_month year months
 unfolding days_of_months
 months_add year zero h = absurd (omega arith)
 months_add year (suc months) h = let back : suc months - 1 ≡ months = omega arith in rw back
@@ -35,7 +36,8 @@ next_day : (year month day : ℕ) → 1 ≤ day → days_since_1980 year month (
 unfolding days_since_1980
 next_day year month day h = omega arith
 
-next_month : (year month : ℕ) → 1 ≤ month → days_since_1980 year (month + 1) 1 ≡ days_since_1980 year month (days_in_month year month) + 1
+next_month : (year month : ℕ) → 1 ≤ month →
+    days_since_1980 year (month + 1) 1 ≡ days_since_1980 year month (days_in_month year month) + 1
 unfolding days_since_1980
 next_month year month h =
     let same : month + 1 - 1 ≡ month = omega arith in
@@ -49,7 +51,8 @@ next_year year h =
 abbrev days_of : Moment → ℕ
 days_of m = days_since_1980 m.year m.month m.day
 
-midnight_days : (year month day : ℕ) → IsDate year month day → days_of (midnight_after year month day) ≡ days_since_1980 year month day + 1
+midnight_days : (year month day : ℕ) → IsDate year month day →
+    days_of (midnight_after year month day) ≡ days_since_1980 year month day + 1
 midnight_days year month day is =
     elim (cases_lt day (days_in_month year month)) [
       | inl below ↦ rw (lt-ltb day (days_in_month year month) below) (next_day year month day is.day_low)
@@ -64,7 +67,8 @@ midnight_days year month day is =
           ])
     ]
 
-midnight_time : (year month day : ℕ) → seconds_since_1980 (midnight_after year month day) ≡ days_of (midnight_after year month day) * 86_400
+midnight_time : (year month day : ℕ) →
+    seconds_since_1980 (midnight_after year month day) ≡ days_of (midnight_after year month day) * 86_400
 midnight_time year month day = grind (arith, nat_tests)
 
 pub seconds_follow : SecondsFollow
