@@ -40,7 +40,15 @@ static void mapped(void) {
     RECORD(board_window);
     FIELD(board_window, lo), FIELD(board_window, hi);
     RECORD(board_map);
-    FIELD(board_map, ranges), FIELD(board_map, windows), FIELD(board_map, version), FIELD(board_map, reserved);
+    FIELD(board_map, ranges), FIELD(board_map, windows), FIELD(board_map, version), FIELD(board_map, mib);
+}
+
+static void serial(void) {
+    RECORD(board_com1);
+    FIELD(board_com1, received), FIELD(board_com1, count), FIELD(board_com1, ier), FIELD(board_com1, iir);
+    FIELD(board_com1, lcr), FIELD(board_com1, mcr), FIELD(board_com1, lsr), FIELD(board_com1, msr), FIELD(board_com1, scr);
+    FIELD(board_com1, dll), FIELD(board_com1, dlm), FIELD(board_com1, emptied), FIELD(board_com1, irq4);
+    FIELD(board_com1, reserved);
 }
 
 static void numbered(void) {
@@ -69,6 +77,7 @@ int main(void) {
     asked();
     replied();
     mapped();
+    serial();
     numbered();
     devices();
     return 0;

@@ -19,7 +19,7 @@ extern "C" {
 #endif
 
 /* The version of this interface: the records and numbers of this file, and the calls. */
-#define BOARD_INTERFACE 2u
+#define BOARD_INTERFACE 3u
 /* That of the library: BOARD_INTERFACE where this file is its own. No handle, no refusal. */
 uint32_t board_version(void);
 
@@ -52,7 +52,8 @@ enum board_status {
     BOARD_BAD_LENGTH = 21, /* a sector has 512 bytes */
     BOARD_NO_REPLY = 22,   /* the record is that of no reply */
     BOARD_NO_ROOM = 23,    /* the text does not fit */
-    BOARD_SERIAL_FULL = 24 /* COM1 can receive no byte: its queue is full, or loopback is on */
+    BOARD_SERIAL_FULL = 24, /* COM1 can receive no byte: its queue is full, or loopback is on */
+    BOARD_NO_TIME = 25     /* the clock stands: SET is 1, or its registers say no date or time */
 };
 
 /* What a status says, in a line without a line feed. */
@@ -80,6 +81,7 @@ static inline const char *board_status_text(uint32_t status) {
     case BOARD_NO_REPLY: return "the record is that of no reply";
     case BOARD_NO_ROOM: return "the text does not fit";
     case BOARD_SERIAL_FULL: return "COM1 has no room for a byte";
+    case BOARD_NO_TIME: return "the clock stands, or shows no date and time";
     default: return "no status of this library";
     }
 }
@@ -211,16 +213,37 @@ typedef struct board_window {
 } board_window;
 
 /* The memory map: how many ranges it has, how many windows its last change changed, also where
- * there was less room. */
+ * there was less room; and how many MiB of memory are installed, as board_range_clip takes them. A
+ * row is decoded as far as the guest's boundaries say, also past mib << 20, where reads give ones and
+ * writes are lost. */
 typedef struct board_map {
     uint64_t ranges;
     uint64_t windows;
     uint32_t version;
-    uint32_t reserved;
+    uint32_t mib;
 } board_map;
 
 /* Room that is enough for every map. */
 enum { BOARD_MOST_RANGES = 142, BOARD_MOST_WINDOWS = 64 };
+
+/* What COM1 holds. Of the registers what reads would give, none of which is made: nothing is taken
+ * or cleared. Of the divisor latch both bytes, whatever LCR says. */
+typedef struct board_com1 {
+    uint8_t received[16]; /* the bytes that came and were not read, the next first; 0 past them */
+    uint8_t count;        /* how many they are */
+    uint8_t ier;
+    uint8_t iir;
+    uint8_t lcr;
+    uint8_t mcr;
+    uint8_t lsr;
+    uint8_t msr;
+    uint8_t scr;
+    uint8_t dll;
+    uint8_t dlm;
+    uint8_t emptied;      /* 1 where THR became empty, and IIR was not read with that cause since */
+    uint8_t irq4;         /* the level that BOARD_IRQ gave line 4 last */
+    uint32_t reserved;
+} board_com1;
 
 /* The kind of a base of a card. */
 enum board_base_kind { BOARD_MEMORY_BASE = 1, BOARD_IO_BASE = 2 };
@@ -243,15 +266,30 @@ typedef struct board_card {
 } board_card;
 
 /* Opens a board with these cards, in rising order of device, over copies of the ROM's and the
- * disk's bytes. A disk of no bytes is none.
- * CLOSED, NO_MEMORY; BAD_CARDS where a record says no card, and else the first of BAD_SIZE,
- * BAD_CARDS, BAD_ROM, BAD_DISK that holds. */
+ * disk's bytes. A disk of no bytes is none. All is looked at before anything is copied.
+ * CLOSED; BAD_CARDS where a record says no card, and else the first of BAD_SIZE, BAD_CARDS, BAD_ROM,
+ * BAD_DISK that holds; and NO_MEMORY only where none does. */
 uint32_t board_open(board *handle, uint32_t mib, const board_card *cards, size_t card_count,
                     const uint8_t *rom, size_t rom_bytes, const uint8_t *disk, size_t disk_bytes);
 /* Does an event, and tells the reply.
  * CLOSED, NO_EVENT; of BOARD_MEMORY VALUE, END; of BOARD_PORT ALIGNMENT, VALUE; of BOARD_PULSE
  * PULSES; of BOARD_WIRE DEVICE; of BOARD_IRQ LINE; of BOARD_SERIAL SERIAL_FULL. */
 uint32_t board_step(board *handle, const board_event *event, board_reply *reply);
+/* Lets the clock go on one second: BOARD_TIME of the second after the one that its registers say, in
+ * whichever form register B has them. Two digits of the year are one of 1980 to 2079; the weekday's
+ * register is not read, and set to the date's. event is what was done, for board_text.
+ * CLOSED, NO_TIME. */
+uint32_t board_second(board *handle, board_event *event, board_reply *reply);
+/* Reads a port, or writes it, for each of the values in turn, as a string instruction does: a
+ * BOARD_PORT event of 1, 2 or 4 bytes each. It ends early after one that asks for the processor: INT
+ * is asserted, there was a reset, or COM1 sent a byte. done is how many were made, and reply is the
+ * last one's; of no values it is as before.
+ * CLOSED; of the first one NO_EVENT, ALIGNMENT, VALUE; a later one that would be refused ends it
+ * before, so that a write of it is refused by the next call. */
+uint32_t board_in_many(board *handle, uint16_t port, uint8_t bytes, uint32_t *values, size_t count,
+                       size_t *done, board_reply *reply);
+uint32_t board_out_many(board *handle, uint16_t port, uint8_t bytes, const uint32_t *values,
+                        size_t count, size_t *done, board_reply *reply);
 /* Frees the board. The handle is closed from then on. */
 void board_close(board *handle);
 
@@ -278,10 +316,18 @@ uint32_t board_dram_read(board *handle, uint32_t addr, uint8_t *into, size_t byt
 /* Tells the 512 bytes of a sector, also of one that is bad.
  * CLOSED, NO_SECTOR; of a sector that is there BAD_LENGTH. */
 uint32_t board_disk_read(board *handle, uint32_t sector, uint8_t *into, size_t bytes);
-/* Tells a byte of the clock as it is kept, address 0 to 127. Of registers C and D (12 and 13) that
- * is 0: a guest's read of port 71h gives the flags of C, and of D 80h.
+/* Tells what a read of port 71h would give of the clock, index 0 to 127, and clears nothing: of
+ * register C (12) its flags with IRQF, of D (13) 80h.
  * CLOSED, NO_BYTE. */
 uint32_t board_cmos_read(board *handle, uint8_t address, uint8_t *byte);
+
+/* Tells the levels of the sixteen interrupt lines, as the pair of 8259A hears them: bit k is that of
+ * line k. Line 0 is the 8254's, 4 the or of COM1's and of BOARD_IRQ's, 8 the clock's, 14 the disk's.
+ * CLOSED. */
+uint32_t board_lines(board *handle, uint16_t *lines);
+/* Tells what COM1 holds.
+ * CLOSED. */
+uint32_t board_serial_state(board *handle, board_com1 *state);
 
 /* ---- bytes that the guest did not write; no reply, and nothing else changes */
 

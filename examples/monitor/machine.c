@@ -139,15 +139,26 @@ static _Noreturn void refused(const board_event *e, uint32_t status) {
     exit(1);
 }
 
+/* What follows each step: counts, log, and what the processor is to see of it. */
+static void stepped(machine *m, const board_event *event, const board_reply *reply) {
+    m->counts.steps++;
+    record_step(&m->record, event, reply);
+    if (m->options.explain) explain_step(&m->explain, event, reply);
+    see(m, reply);
+}
+
 void machine_step(machine *m, const board_event *event, board_reply *reply) {
     uint64_t from = m->options.timing ? host_time() : 0;
     uint32_t status = board_step(&m->board, event, reply);
     if (m->options.timing) m->counts.step_time += host_time() - from;
     if (status != BOARD_OK) refused(event, status);
-    m->counts.steps++;
-    record_step(&m->record, event, reply);
-    if (m->options.explain) explain_step(&m->explain, event, reply);
-    see(m, reply);
+    stepped(m, event, reply);
+}
+
+void machine_second(machine *m) {
+    board_event event;
+    board_reply reply;
+    if (board_second(&m->board, &event, &reply) == BOARD_OK) stepped(m, &event, &reply);
 }
 
 uint32_t machine_take_reset(machine *m) {

@@ -107,8 +107,10 @@ typedef struct machine {
 void machine_open(machine *m, const options *wanted);
 /* Keeps the disk where that was asked, closes log and board, and tells the figures. */
 void machine_close(machine *m, const char *why);
-/* Does one event on the board: every step goes through here. */
+/* Does one event on the board: every step goes through here, but for seconds of the clock. */
 void machine_step(machine *m, const board_event *event, board_reply *reply);
+/* Lets the MC146818 go on one second, unless it stands still or shows no date. */
+void machine_second(machine *m);
 /* What the processor does after the instruction that made a reset: board_reset. After a hard one the board stands as at
  * power-on again. */
 uint32_t machine_take_reset(machine *m);

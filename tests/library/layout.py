@@ -11,7 +11,7 @@ SIZES = {"u8": 1, "bool": 1, "u16": 2, "u32": 4, "u64": 8, "usize": 8, "*mut u8"
 # what a record is called in board.h
 STRUCTS = {"Handle": "board", "EventRecord": "board_event", "PartRecord": "board_part", "ReplyRecord": "board_reply",
            "AreaRecord": "board_area", "RangeRecord": "board_range", "WindowRecord": "board_window", "MapRecord": "board_map",
-           "BaseRecord": "board_base", "CardRecord": "board_card"}
+           "BaseRecord": "board_base", "CardRecord": "board_card", "SerialRecord": "board_com1"}
 # fields that have another name there
 FIELDS = {("Handle", "full"): "open", ("RangeRecord", "areas"): "area", ("ReplyRecord", "part0"): "part[0]",
           ("ReplyRecord", "part1"): "part[1]", ("ReplyRecord", "part2"): "part[2]", ("ReplyRecord", "part3"): "part[3]"}

@@ -68,7 +68,7 @@ static void ranges(board *b, board *closed) {
     expect("ranges of a closed handle", board_ranges(closed, &map, range, 6, window, 1), BOARD_CLOSED);
     must("a closed handle told a map", is_untouched(&map, 0, sizeof map) && is_untouched(range, 0, sizeof range) && is_untouched(window, 0, sizeof window));
     expect("ranges without room", board_ranges(b, &map, range, 0, window, 0), BOARD_OK);
-    must("counts without room", map.ranges == 6 && map.windows == 0 && map.version == 0 && map.reserved == 0);
+    must("counts without room", map.ranges == 6 && map.windows == 0 && map.version == 0 && map.mib == 8);
     must("ranges were told without room", is_untouched(range, 0, sizeof range));
     expect("ranges, room for two", board_ranges(b, &map, range, 2, window, BOARD_MOST_WINDOWS), BOARD_OK);
     must("two ranges", map.ranges == 6 && range[1].hi == rows[1].hi && is_untouched(range, 2 * sizeof *range, sizeof range));
@@ -242,7 +242,7 @@ static void inline_calls(board *b, board *closed) {
 
 static void versions(void) {
     must("the version", board_version() == BOARD_INTERFACE);
-    for (uint32_t status = 0; status <= BOARD_SERIAL_FULL; status++) {
+    for (uint32_t status = 0; status <= BOARD_NO_TIME; status++) {
         int none = status == 10 || status == 11 || status == 14;
         must("the text of a status", (strcmp(board_status_text(status), board_status_text(UINT32_MAX)) == 0) == none);
     }

@@ -136,6 +136,28 @@ class Board:
             self.last = replace(answer, event=Event.out(port, bytes, value), reset=reset)
             return self.last
 
+    def in_many(self, port: int, bytes: int, count: int) -> list[int]:
+        """Reads a port of 1, 2 or 4 bytes so many times, until the processor is asked for."""
+        values = (records.U32 * max(count, 1))()
+        return list(values[: self._many("board_in_many", Event.in_(port, bytes), values, count)])
+
+    def out_many(self, port: int, bytes: int, values: list[int]) -> int:
+        """Writes each of the values to a port of 1, 2 or 4 bytes, until the processor is asked for: how many."""
+        words = (records.U32 * max(len(values), 1))(*values)
+        return self._many("board_out_many", Event.out(port, bytes, 0), words, len(values))
+
+    def _many(self, call: str, event: Event, values: Any, count: int) -> int:
+        """How many accesses were made; the last answer is the last one's."""
+        record, done = event.record(), records.c.c_size_t()
+        with self._lock:
+            check(getattr(self._library, call)(self._handle, record.addr, record.bytes, values, count, done, self._reply))
+            if done.value:
+                at = done.value - 1
+                is_out = call == "board_out_many"
+                event = Event.out(record.addr, record.bytes, values[at]) if is_out else event
+                self.last = answer_of(event, self._reply)
+        return int(done.value)
+
     def look(self, kind: Kind, addr: int, *, smm: bool = False) -> Look:
         """Looks where a fetch (`f`), a read (`r`) or a write (`w`) would land. Nothing happens."""
         look = self.step(Event.look(kind, addr, smm=smm)).look
@@ -154,6 +176,15 @@ class Board:
     def time(self, moment: datetime.datetime) -> Answer:
         """Gives the clock a moment to show."""
         return self.step(Event.time(moment))
+
+    def second(self) -> Answer:
+        """Lets the clock go on one second from the one that it shows: NoTime where SET holds it, or it shows none."""
+        record = records.EventRecord()
+        with self._lock:
+            check(self._library.board_second(self._handle, record, self._reply))
+            moment = datetime.datetime.strptime(f"{record.value:014}", "%Y%m%d%H%M%S")
+            self.last = answer_of(Event.time(moment), self._reply)
+            return self.last
 
     def wire(self, device: int, level: bool) -> Answer:
         """Sets INTA# of the card at a device."""
@@ -191,7 +222,7 @@ class Board:
         windows = (records.WindowRecord * records.MOST_WINDOWS)()
         self._ask("board_ranges", found, ranges, len(ranges), windows, len(windows))
         changed = [Window(window.lo, window.hi) for window in windows[: found.windows]]
-        return Map(found.version, map(range_of, ranges[: found.ranges]), changed)
+        return Map(found.version, found.mib, map(range_of, ranges[: found.ranges]), changed)
 
     @property
     def pulses_to_rise(self) -> int | None:
@@ -199,6 +230,21 @@ class Board:
         pulses = records.U32()
         self._ask("board_pulses_to_rise", pulses)
         return pulses.value or None
+
+    @property
+    def lines(self) -> int:
+        """The levels of the sixteen interrupt lines, as the pair of 8259A hears them: bit k is that of line k."""
+        lines = records.U16()
+        self._ask("board_lines", lines)
+        return lines.value
+
+    @property
+    def serial_state(self) -> dict[str, Any]:
+        """What COM1 holds: the bytes that came and were not read, and what reads of its registers would give."""
+        state = records.Com1Record()
+        self._ask("board_serial_state", state)
+        registers = {name: getattr(state, name) for name, *_ in state._fields_ if name not in ("received", "count", "reserved")}
+        return {"received": bytes(state.received[: state.count]), **registers}
 
     def dram_read(self, addr: int, count: int) -> bytes:
         """Bytes of the memory that the board keeps: FFh past the installed memory."""
@@ -220,7 +266,7 @@ class Board:
         return bytes(into)
 
     def cmos_read(self, address: int) -> int:
-        """A byte of the clock, 0 to 127."""
+        """What a read of port 71h would give of the clock, 0 to 127; nothing is cleared."""
         byte = records.U8()
         self._ask("board_cmos_read", _byte(address, NoByte), byte)
         return byte.value

@@ -101,6 +101,10 @@ class SerialFull(BoardError, status=24):
     """COM1 can receive no byte: its queue is full, or loopback is on"""
 
 
+class NoTime(BoardError, status=25):
+    """the clock stands, or shows no date and time"""
+
+
 class OtherStatus(BoardError, status=-1):
     """a status that this module has no name for"""
 

@@ -42,9 +42,10 @@ class Window:
 class Map(list[Range]):
     """The ranges in rising order, which cover all addresses. Beside the windows of the last change all is as before."""
 
-    def __init__(self, version: int, ranges: Iterable[Range], windows: Iterable[Window]) -> None:
+    def __init__(self, version: int, mib: int, ranges: Iterable[Range], windows: Iterable[Window]) -> None:
         super().__init__(ranges)
         self.version = version
+        self.mib = mib  # of memory: a row may be decoded further, without bytes
         self.windows = list(windows)
 
     def at(self, addr: int) -> Range:

@@ -2,7 +2,7 @@
 import ctypes as c
 from enum import IntEnum
 
-U8, U32, U64 = c.c_uint8, c.c_uint32, c.c_uint64
+U8, U16, U32, U64 = c.c_uint8, c.c_uint16, c.c_uint32, c.c_uint64
 
 MOST_RANGES = 142
 MOST_WINDOWS = 64
@@ -116,7 +116,12 @@ class WindowRecord(c.Structure):
 
 
 class MapRecord(c.Structure):
-    _fields_ = [("ranges", U64), ("windows", U64), ("version", U32), ("reserved", U32)]
+    _fields_ = [("ranges", U64), ("windows", U64), ("version", U32), ("mib", U32)]
+
+
+class Com1Record(c.Structure):
+    _fields_ = [("received", U8 * 16), ("count", U8), ("ier", U8), ("iir", U8), ("lcr", U8), ("mcr", U8), ("lsr", U8),
+                ("msr", U8), ("scr", U8), ("dll", U8), ("dlm", U8), ("emptied", U8), ("irq4", U8), ("reserved", U32)]
 
 
 class BaseRecord(c.Structure):
@@ -131,7 +136,7 @@ class CardRecord(c.Structure):
 RECORDS: dict[str, type[c.Structure]] = {
     "board": HandleRecord, "board_event": EventRecord, "board_part": PartRecord, "board_reply": ReplyRecord,
     "board_area": AreaRecord, "board_range": RangeRecord, "board_window": WindowRecord, "board_map": MapRecord,
-    "board_base": BaseRecord, "board_card": CardRecord,
+    "board_com1": Com1Record, "board_base": BaseRecord, "board_card": CardRecord,
 }
 
 NUMBERS: list[type[IntEnum]] = [
@@ -144,10 +149,15 @@ _HANDLE, _BYTES, _SIZE = c.POINTER(HandleRecord), c.POINTER(U8), c.c_size_t
 CALLS: dict[str, list[type]] = {
     "board_open": [_HANDLE, U32, c.POINTER(CardRecord), _SIZE, c.c_char_p, _SIZE, c.c_char_p, _SIZE],
     "board_step": [_HANDLE, c.POINTER(EventRecord), c.POINTER(ReplyRecord)],
+    "board_second": [_HANDLE, c.POINTER(EventRecord), c.POINTER(ReplyRecord)],
+    "board_in_many": [_HANDLE, U16, U8, c.POINTER(U32), _SIZE, c.POINTER(_SIZE), c.POINTER(ReplyRecord)],
+    "board_out_many": [_HANDLE, U16, U8, c.POINTER(U32), _SIZE, c.POINTER(_SIZE), c.POINTER(ReplyRecord)],
     "board_close": [_HANDLE],
     "board_ranges": [_HANDLE, c.POINTER(MapRecord), c.POINTER(RangeRecord), _SIZE, c.POINTER(WindowRecord), _SIZE],
     "board_decode": [_HANDLE, c.POINTER(EventRecord), c.POINTER(PartRecord)],
     "board_pulses_to_rise": [_HANDLE, c.POINTER(U32)],
+    "board_lines": [_HANDLE, c.POINTER(U16)],
+    "board_serial_state": [_HANDLE, c.POINTER(Com1Record)],
     "board_dram_read": [_HANDLE, U32, _BYTES, _SIZE],
     "board_disk_read": [_HANDLE, U32, _BYTES, _SIZE],
     "board_cmos_read": [_HANDLE, U8, c.POINTER(U8)],

@@ -70,8 +70,8 @@ def made(folder, source, header=None):
 
 
 @pytest.mark.parametrize("source, header, fault", [
-    ("unsigned board_version(void) { return 1; }", None, "has the interface 1, and this module is for 2"),
-    ("int nothing;", "#define BOARD_INTERFACE 3u\n", "has the interface 3, and this module is for 2"),
+    ("unsigned board_version(void) { return 1; }", None, "has the interface 1, and this module is for 3"),
+    ("int nothing;", "#define BOARD_INTERFACE 4u\n", "has the interface 4, and this module is for 3"),
     ("int nothing;", "int nothing;\n", "has no BOARD_INTERFACE"),
     ("int nothing;", None, "does not say its interface"),
 ])

@@ -191,6 +191,19 @@ impl Moment {
         }
         fields.iter().fold(u64::from(self.year), |digits, &field| digits * 100 + u64::from(field))
     }
+
+    /// Of such digits.
+    pub(crate) fn of_digits(digits: u64) -> Moment {
+        let two = |below: u64| (digits / below % 100) as u8;
+        Moment {
+            year: (digits / 10_000_000_000) as u16,
+            month: two(100_000_000),
+            day: two(1_000_000),
+            hour: two(10_000),
+            minute: two(100),
+            second: two(1),
+        }
+    }
 }
 
 /// As in a script: `2024-02-29T12:35:00`.

@@ -2,7 +2,7 @@
 
 use crate::error::check;
 use crate::raw;
-use crate::{Answer, Builder, Card, Error, Event, Kind, Look, Map, Moment, Part, Ranges, Reply, Value, Width};
+use crate::{Answer, Builder, Card, Com1, Error, Event, Kind, Look, Map, Moment, Part, Ranges, Reply, Value, Width};
 use std::cell::UnsafeCell;
 use std::fmt;
 use std::ptr;
@@ -88,6 +88,44 @@ impl Board {
         let answer = Answer::of(event, &reply)?;
         self.last = Some(answer);
         Ok(answer)
+    }
+
+    /// Lets the clock go on one second from the one that it shows: [`Error::NoTime`] where SET holds it, or it shows
+    /// none.
+    pub fn second(&mut self) -> Result<Answer, Error> {
+        let mut record = raw::Event::default();
+        let mut reply = raw::Reply::default();
+        // SAFETY: as of `step`.
+        check(unsafe { raw::board_second(self.handle.get(), &mut record, &mut reply) })?;
+        let answer = Answer::of(&Event::Time(Moment::of_digits(record.value)), &reply)?;
+        self.last = Some(answer);
+        Ok(answer)
+    }
+
+    /// Reads a port for each of the values, until the processor is asked for: how many were read.
+    pub fn in_many(&mut self, port: u16, width: Width, values: &mut [u32]) -> Result<usize, Error> {
+        let event = Event::In { port, width };
+        let (mut done, mut reply, bytes) = (0, raw::Reply::default(), event.record().bytes);
+        let (at, count) = (values.as_mut_ptr(), values.len());
+        // SAFETY: as of `step`; the pointer is good for as many values.
+        check(unsafe { raw::board_in_many(self.handle.get(), port, bytes, at, count, &mut done, &mut reply) })?;
+        if done > 0 {
+            self.last = Some(Answer::of(&event, &reply)?);
+        }
+        Ok(done)
+    }
+
+    /// Writes each of the values to a port, until the processor is asked for: how many were written.
+    pub fn out_many(&mut self, port: u16, width: Width, values: &[u32]) -> Result<usize, Error> {
+        let event = |value| Event::Out { port, width, value };
+        let (mut done, mut reply, bytes) = (0, raw::Reply::default(), event(0).record().bytes);
+        let (at, count) = (values.as_ptr(), values.len());
+        // SAFETY: as of `step`; the pointer is good for as many values.
+        check(unsafe { raw::board_out_many(self.handle.get(), port, bytes, at, count, &mut done, &mut reply) })?;
+        if let Some(value) = done.checked_sub(1).and_then(|last| values.get(last)) {
+            self.last = Some(Answer::of(&event(*value), &reply)?);
+        }
+        Ok(done)
     }
 
     /// The answer to the last event that was done; of a port that is not aligned, as [`Board::input`] and
@@ -332,7 +370,23 @@ impl Board {
         Ok(bytes)
     }
 
-    /// A byte of the clock, 0 to 127.
+    /// The levels of the sixteen interrupt lines, as the pair of 8259A hears them: bit k is that of line k.
+    pub fn lines(&self) -> Result<u16, Error> {
+        let mut lines = 0;
+        // SAFETY: as of `decode`.
+        check(unsafe { raw::board_lines(self.handle.get(), &mut lines) })?;
+        Ok(lines)
+    }
+
+    /// What COM1 holds; nothing is taken or cleared.
+    pub fn serial_state(&self) -> Result<Com1, Error> {
+        let mut state = raw::Com1::default();
+        // SAFETY: as of `decode`.
+        check(unsafe { raw::board_serial_state(self.handle.get(), &mut state) })?;
+        Ok(Com1::of(&state))
+    }
+
+    /// What a read of port 71h would give of the clock, 0 to 127; nothing is cleared.
     pub fn cmos_read(&self, address: u8) -> Result<u8, Error> {
         let mut byte = 0;
         // SAFETY: as of `decode`.

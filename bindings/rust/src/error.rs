@@ -78,6 +78,7 @@ statuses! {
     22 NoReply "that is no reply"
     23 NoRoom "the text does not fit"
     24 SerialFull "COM1 can receive no byte: its queue is full, or loopback is on"
+    25 NoTime "the clock stands, or shows no date and time"
 }
 
 impl std::error::Error for Error {}

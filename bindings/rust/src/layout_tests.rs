@@ -46,7 +46,8 @@ fn records() -> Vec<String> {
         record!("board_area" Area: target unit base reserved),
         record!("board_range" Range: lo hi area),
         record!("board_window" Window: lo hi),
-        record!("board_map" Map: ranges windows version reserved),
+        record!("board_map" Map: ranges windows version mib),
+        record!("board_com1" Com1: received count ier iir lcr mcr lsr msr scr dll dlm emptied irq4 reserved),
     ]
     .concat()
 }

@@ -25,6 +25,7 @@ mod access;
 mod board;
 mod builder;
 mod card;
+mod com1;
 mod error;
 mod event;
 #[cfg(test)]
@@ -39,6 +40,7 @@ pub use access::{Kind, Moment, Value, Width};
 pub use board::Board;
 pub use builder::Builder;
 pub use card::{Base, Card};
+pub use com1::Com1;
 pub use error::Error;
 pub use event::Event;
 pub use log::Line;
@@ -47,4 +49,4 @@ pub use reply::{Answer, Look, Parts, Reply, Reset};
 pub use target::{Denial, Device, Part, Register, Target};
 
 /// The version of `board.h` that this crate is for: `build.rs` refuses a library of another.
-pub const INTERFACE: u32 = 2;
+pub const INTERFACE: u32 = 3;

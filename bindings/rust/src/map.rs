@@ -180,6 +180,8 @@ pub struct Window {
 pub struct Map {
     /// How many map writes came before it.
     pub version: u32,
+    /// How many MiB of memory there are: a row may be decoded further, without bytes.
+    pub mib: u32,
     /// The ranges in rising order; they cover all addresses.
     pub ranges: Vec<Range>,
     /// What its last change changed: an address beside these has the areas that it had before.
@@ -193,6 +195,7 @@ impl Map {
         let windows = windows.get(..count(map.windows)?).ok_or(Error::NoRoom)?;
         Ok(Map {
             version: map.version,
+            mib: map.mib,
             ranges: ranges.iter().map(Range::of).collect::<Option<_>>().ok_or(Error::NoReply)?,
             windows: windows.iter().map(|window| Window { lo: window.lo, hi: window.hi }).collect(),
         })

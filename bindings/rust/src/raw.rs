@@ -46,6 +46,7 @@ pub(crate) const MOST_RANGES: usize = 142;
 pub(crate) const MOST_WINDOWS: usize = 64;
 pub(crate) const MOST_BASES: usize = 6;
 pub(crate) const MOST_PARTS: usize = 4;
+pub(crate) const MOST_RECEIVED: usize = 16;
 pub(crate) const SECTOR: usize = 512;
 
 /// A handle: two words, which may move between two calls.
@@ -132,6 +133,25 @@ pub(crate) struct Map {
     pub(crate) ranges: u64,
     pub(crate) windows: u64,
     pub(crate) version: u32,
+    pub(crate) mib: u32,
+}
+
+#[repr(C)]
+#[derive(Clone, Copy, Default)]
+pub(crate) struct Com1 {
+    pub(crate) received: [u8; MOST_RECEIVED],
+    pub(crate) count: u8,
+    pub(crate) ier: u8,
+    pub(crate) iir: u8,
+    pub(crate) lcr: u8,
+    pub(crate) mcr: u8,
+    pub(crate) lsr: u8,
+    pub(crate) msr: u8,
+    pub(crate) scr: u8,
+    pub(crate) dll: u8,
+    pub(crate) dlm: u8,
+    pub(crate) emptied: u8,
+    pub(crate) irq4: u8,
     pub(crate) reserved: u32,
 }
 
@@ -165,6 +185,25 @@ extern "C" {
         disk_bytes: usize,
     ) -> u32;
     pub(crate) fn board_step(handle: *mut Handle, event: *const Event, reply: *mut Reply) -> u32;
+    pub(crate) fn board_second(handle: *mut Handle, event: *mut Event, reply: *mut Reply) -> u32;
+    pub(crate) fn board_in_many(
+        handle: *mut Handle,
+        port: u16,
+        bytes: u8,
+        values: *mut u32,
+        count: usize,
+        done: *mut usize,
+        reply: *mut Reply,
+    ) -> u32;
+    pub(crate) fn board_out_many(
+        handle: *mut Handle,
+        port: u16,
+        bytes: u8,
+        values: *const u32,
+        count: usize,
+        done: *mut usize,
+        reply: *mut Reply,
+    ) -> u32;
     pub(crate) fn board_close(handle: *mut Handle);
     pub(crate) fn board_ranges(
         handle: *mut Handle,
@@ -176,6 +215,8 @@ extern "C" {
     ) -> u32;
     pub(crate) fn board_decode(handle: *mut Handle, event: *const Event, part: *mut Part) -> u32;
     pub(crate) fn board_pulses_to_rise(handle: *mut Handle, pulses: *mut u32) -> u32;
+    pub(crate) fn board_lines(handle: *mut Handle, lines: *mut u16) -> u32;
+    pub(crate) fn board_serial_state(handle: *mut Handle, state: *mut Com1) -> u32;
     pub(crate) fn board_dram_read(handle: *mut Handle, addr: u32, into: *mut u8, bytes: usize) -> u32;
     pub(crate) fn board_disk_read(handle: *mut Handle, sector: u32, into: *mut u8, bytes: usize) -> u32;
     pub(crate) fn board_cmos_read(handle: *mut Handle, address: u8, byte: *mut u8) -> u32;

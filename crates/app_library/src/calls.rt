@@ -4,8 +4,9 @@ use crate::tell;
 use crate::words::Numbers;
 use board_records::status::OK;
 use board_records::{
-    Door, EventRecord, MapRecord, PartRecord, RangeRecord, ReplyRecord, WindowRecord,
+    Door, EventRecord, MapRecord, PartRecord, RangeRecord, ReplyRecord, SerialRecord, WindowRecord,
 };
+use port_strings::{in_many, out_many};
 use std::alloc::{AllocError, Global};
 use std::io::Write;
 
@@ -79,7 +80,7 @@ pub fn sector<W: Write>(
     Ok(())
 }
 
-/// A byte of the clock.
+/// What a read of port 71h would give of the clock.
 pub fn clock<W: Write>(out: &mut W, door: &Door, numbers: &Numbers) {
     let mut byte = 0;
     let status = door.tell_clock_byte(numbers.byte(0), &mut byte);
@@ -98,5 +99,73 @@ pub fn put<W: Write>(
 ) -> Result<(), AllocError> {
     let bytes = numbers.bytes_from(alloc, 1)?;
     tell::status(out, door.write_dram(numbers.number(0), &bytes));
+    Ok(())
+}
+
+/// One second of the clock.
+pub fn second<W: Write>(
+    out: &mut W,
+    door: &mut Door,
+    event: &mut EventRecord,
+    reply: &mut ReplyRecord,
+) {
+    let status = door.second(event, reply);
+    tell::status(out, status);
+    if status == OK {
+        tell::reply(out, reply);
+    }
+}
+
+/// The levels of the interrupt lines.
+pub fn lines<W: Write>(out: &mut W, door: &Door) {
+    let mut lines = 0;
+    door.tell_lines(&mut lines);
+    tell::status(out, u32::from(lines));
+}
+
+/// What COM1 holds.
+pub fn serial<W: Write>(out: &mut W, door: &Door) {
+    let mut state = SerialRecord::default();
+    door.tell_serial(&mut state);
+    tell::serial(out, &state);
+}
+
+/// Reads of a port in turn.
+pub fn reads<W: Write>(
+    out: &mut W,
+    alloc: Global,
+    door: &mut Door,
+    numbers: &Numbers,
+    reply: &mut ReplyRecord,
+) -> Result<(), AllocError> {
+    let mut values = vec![in alloc; 0; usize::from(numbers.byte(2))]?;
+    let mut done = 0;
+    let port = (numbers.number(0) % 0x1_0000) as u16;
+    let status = in_many(door, port, numbers.byte(1), &mut values, &mut done, reply);
+    tell::status(out, status);
+    if status == OK {
+        tell::values(out, done, &values);
+        tell::reply(out, reply);
+    }
+    Ok(())
+}
+
+/// Writes of a port in turn.
+pub fn writes<W: Write>(
+    out: &mut W,
+    alloc: Global,
+    door: &mut Door,
+    numbers: &Numbers,
+    reply: &mut ReplyRecord,
+) -> Result<(), AllocError> {
+    let values = numbers.numbers_from(alloc, 2)?;
+    let mut done = 0;
+    let port = (numbers.number(0) % 0x1_0000) as u16;
+    let status = out_many(door, port, numbers.byte(1), &values, &mut done, reply);
+    tell::status(out, status);
+    if status == OK {
+        tell::values(out, done, &[]);
+        tell::reply(out, reply);
+    }
     Ok(())
 }

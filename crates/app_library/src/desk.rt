@@ -81,6 +81,11 @@ impl Desk {
             "sector" => calls::sector(out, self.alloc, door, numbers)?,
             "clock" => calls::clock(out, door, numbers),
             "put" => calls::put(out, self.alloc, door, numbers)?,
+            "second" => calls::second(out, door, &mut self.event, &mut self.reply),
+            "lines" => calls::lines(out, door),
+            "serial" => calls::serial(out, door),
+            "in" => calls::reads(out, self.alloc, door, numbers, &mut self.reply)?,
+            "out" => calls::writes(out, self.alloc, door, numbers, &mut self.reply)?,
             "set" => tell::status(out, door.write_clock_byte(numbers.byte(0), numbers.byte(1))),
             _ => {}
         }

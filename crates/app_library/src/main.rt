@@ -10,6 +10,9 @@
 //!     map RANGES WINDOWS                                     the memory map, with room for so many of each
 //!     rise                                                   pulses until line 0 rises
 //!     dram ADDR BYTES · sector NUMBER BYTES · clock ADDR     bytes out
+//!     lines · serial                                         the interrupt lines, a bit each; what COM1 holds
+//!     second                                                 one second of the clock
+//!     in PORT BYTES COUNT · out PORT BYTES VALUE..           accesses to a port in turn
 //!     put ADDR BYTE.. · set ADDR BYTE                        bytes into the DRAM and into the clock
 //!
 //! What is left out at the end of a line is 0. Byte K of a ROM is K modulo 256, and byte K of a disk K / 256 modulo 256. Of a

@@ -1,6 +1,8 @@
 //! What a call tells, in words.
 
-use board_records::{AreaRecord, MapRecord, PartRecord, RangeRecord, ReplyRecord, WindowRecord};
+use board_records::{
+    AreaRecord, MapRecord, PartRecord, RangeRecord, ReplyRecord, SerialRecord, WindowRecord,
+};
 use std::io::Write;
 
 /// Writes how a call ended.
@@ -80,7 +82,7 @@ pub fn map<W: Write>(
         ("ranges", map.ranges),
         ("windows", map.windows),
         ("version", u64::from(map.version)),
-        ("reserved", u64::from(map.reserved)),
+        ("mib", u64::from(map.mib)),
     ];
     fields(out, "", &counts);
     for range in ranges {
@@ -98,5 +100,34 @@ pub fn map<W: Write>(
 pub fn bytes<W: Write>(out: &mut W, bytes: &[u8]) {
     for byte in bytes {
         let _ = write!(out, " {byte:02X}");
+    }
+}
+
+/// Writes what COM1 holds: the bytes that it received, and its registers.
+pub fn serial<W: Write>(out: &mut W, state: &SerialRecord) {
+    bytes(out, &state.received);
+    let all = [
+        ("count", u64::from(state.count)),
+        ("ier", u64::from(state.ier)),
+        ("iir", u64::from(state.iir)),
+        ("lcr", u64::from(state.lcr)),
+        ("mcr", u64::from(state.mcr)),
+        ("lsr", u64::from(state.lsr)),
+        ("msr", u64::from(state.msr)),
+        ("scr", u64::from(state.scr)),
+        ("dll", u64::from(state.dll)),
+        ("dlm", u64::from(state.dlm)),
+        ("emptied", u64::from(state.emptied)),
+        ("irq4", u64::from(state.irq4)),
+        ("reserved", u64::from(state.reserved)),
+    ];
+    fields(out, "", &all);
+}
+
+/// Writes how many accesses were made, and values.
+pub fn values<W: Write>(out: &mut W, done: usize, values: &[u32]) {
+    let _ = write!(out, " done={done:X}");
+    for value in values {
+        let _ = write!(out, " {value:X}");
     }
 }

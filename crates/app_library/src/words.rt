@@ -41,6 +41,15 @@ impl Numbers {
         Ok(bytes)
     }
 
+    /// The low 32 bits of each from an index on.
+    pub fn numbers_from(&self, alloc: Global, first: usize) -> Result<Vec<u32>, AllocError> {
+        let mut numbers = Vec::new(alloc);
+        for index in first..self.all.len() {
+            numbers.push(self.number(index))?;
+        }
+        Ok(numbers)
+    }
+
     /// The number at an index, or 0 past the last.
     pub fn long(&self, index: usize) -> u64 {
         if index < self.all.len() {

@@ -9,7 +9,7 @@ use board_records::{EventRecord, MapRecord, PartRecord, RangeRecord, WindowRecor
 use std::alloc::Global;
 
 /// Tells the memory map, its ranges and the windows that its last change changed: as many of them as there is room for,
-/// and how many there are. `CLOSED` exactly where the handle is closed.
+/// and how many there are; and the memory. `CLOSED` exactly where the handle is closed.
 #[unsafe(no_mangle)]
 pub extern "C" fn board_ranges(
     alloc: Global,
@@ -23,6 +23,7 @@ pub extern "C" fn board_ranges(
     ensures closed { handle.old.full ≡ false → result ≡ closed }
     ensures open { handle.old.full ≡ true → result ≡ ok }
     ensures version { result ≡ ok → IsSomeAnd handle.old.held (λ serial. IsVersionSaid serial.board map.new.version) }
+    ensures mib { result ≡ ok → IsSomeAnd handle.old.held (λ serial. map.new.mib ≡ serial.board.setup.mib) }
     ensures ranges { result ≡ ok → IsSomeAnd handle.old.held
         (λ serial. AreRangesTold serial.board map.new.ranges ranges.old ranges.new) }
     ensures windows { result ≡ ok → IsSomeAnd handle.old.held

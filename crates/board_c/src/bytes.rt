@@ -58,8 +58,8 @@ pub extern "C" fn board_disk_read(
     status
 }
 
-/// Tells the byte of the clock at an address. `CLOSED` exactly where the handle is closed, and `NO_BYTE` exactly where it
-/// is open and the address is 128 or more.
+/// Tells what a read of port 71h would give of the clock with this index, and clears nothing. `CLOSED` exactly where the
+/// handle is closed, and `NO_BYTE` exactly where it is open and the address is 128 or more.
 #[unsafe(no_mangle)]
 pub extern "C" fn board_cmos_read(
     alloc: Global,

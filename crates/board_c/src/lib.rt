@@ -5,6 +5,8 @@ mod asks;
 mod bytes;
 mod exports;
 mod handle;
+mod many;
+mod standing;
 mod text;
 mod version;
 
@@ -14,5 +16,7 @@ pub use bytes::{
 };
 pub use exports::{board_close, board_open, board_step};
 pub use handle::Handle;
+pub use many::{board_in_many, board_out_many};
+pub use standing::{board_lines, board_second, board_serial_state};
 pub use text::board_text;
 pub use version::board_version;

@@ -3,3 +3,6 @@ pub mod AskedSteps
 pub mod Filled
 pub mod Said
 pub mod Cycles
+pub mod Openings
+pub mod Lines
+pub mod Digits

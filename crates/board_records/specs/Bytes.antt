@@ -1,6 +1,7 @@
 -- The bytes of a chipset, out and in.
 use Rattle.std.specs.Prelude.{ℕ, ◌≡◌, ◌≢◌, ◌+◌, ◌<◌, ◌≤◌, ◌⊎◌, List, ◌++◌, length, slice_index, IfSome, IsSomeAnd}
 use Rattle.board_prelude.specs.Common.{sectors_of, sector_bytes, Entry, clock_of, disk_of, installed, dram_byte}
+use Rattle.cmos_clock.specs.Outside.{peeked}
 use Rattle.board_chipset.specs.Common.{Running, IsLeftBy, WriteAll, WriteClockByte}
 use Rattle.uart_16550.specs.Serial.{Serial, AreOwn}
 use Rattle.board_records.specs.Statuses.{no_sector, bad_length}
@@ -40,9 +41,10 @@ pub record IsDramWritten (old new : Serial Running) (addr : ℕ) (bytes : List �
 abbrev pub clock_bytes : ℕ
 clock_bytes = 128
 
+-- what a read of port 71h would give with this index
 abbrev pub IsClockByte : Running → (address byte : ℕ) → Type 0
 IsClockByte chipset address byte =
-    (history : List Entry) → IsLeftBy chipset history → byte ≡ slice_index (clock_of history).bytes address
+    (history : List Entry) → IsLeftBy chipset history → byte ≡ peeked (clock_of history) address
 
 -- this byte stands in the clock, as if a processor had written it
 pub record IsClockWritten (old new : Serial Running) (address byte : ℕ) : Type 0 where

@@ -25,11 +25,16 @@ pub record IsOpenedWith (serial : Serial Running) (setup : Setup) : Type 0 where
   pub power_on : IsLeftBy serial.board []
   pub new_port : serial.com1 ≡ com1_at_reset
 
--- why none is opened: there was no memory, the records say no cards, or the first field that no board can have
+-- why no board can have a setup: the records say no cards, or the first field that none can have
+abbrev pub IsSetupRefusal : Option Setup → (status : ℕ) → Type 0
+IsSetupRefusal None status = status ≡ bad_cards
+IsSetupRefusal (Some setup) status = (fault : SetupFault) × IsSetupFault setup fault × (status ≡ setup_status fault)
+
+-- why none is opened: no board can have the setup; or one can, and there was no memory
 abbrev pub IsOpenRefusal : Option Setup → (status : ℕ) → Type 0
-IsOpenRefusal None status = (status ≡ no_memory) ⊎ (status ≡ bad_cards)
+IsOpenRefusal None status = status ≡ bad_cards
 IsOpenRefusal (Some setup) status =
-    (status ≡ no_memory) ⊎ ((fault : SetupFault) × IsSetupFault setup fault × (status ≡ setup_status fault))
+    IsSetupRefusal (Some setup) status ⊎ ((status ≡ no_memory) × IsSetup setup)
 
 -- both hold a chipset, and something holds of them
 abbrev pub OnBoth : Option (Serial Running) → Option (Serial Running) → (Serial Running → Serial Running → Type 0) → Type 0

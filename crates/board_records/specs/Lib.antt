@@ -8,4 +8,6 @@ pub mod Doors
 pub mod Maps
 pub mod Places
 pub mod Bytes
+pub mod Seconds
+pub mod Standing
 pub mod Common

@@ -67,6 +67,10 @@ no_room = 23
 abbrev pub serial_full : ℕ
 serial_full = 24
 
+-- the clock does not go on: SET holds its time, or its registers say no moment
+abbrev pub no_time : ℕ
+no_time = 25
+
 -- why a setup opens no board
 abbrev pub setup_status : SetupFault → ℕ
 setup_status Memory = bad_size

@@ -6,6 +6,7 @@ ghost use Rattle.board_records.specs.Statuses.{ok, closed, no_byte};
 
 use crate::status::{BAD_LENGTH, NO_BYTE, NO_SECTOR, OK};
 use board_chipset::Chipset;
+use cmos_clock::CLOCK_BYTES;
 
 /// Fills `into` with the bytes of the DRAM from an address on, as reads of one byte each give them: FFh past the
 /// installed memory.
@@ -37,7 +38,8 @@ pub(crate) fn tell_sector(chipset: &Chipset, sector: u32, into: &mut [u8]) -> u3
     OK
 }
 
-/// Sets `byte` to the clock's byte at an address. Refused with `NO_BYTE` from address 128 on.
+/// Sets `byte` to what a read of port 71h would give with this index, and clears nothing. Refused with `NO_BYTE` from
+/// address 128 on.
 pub(crate) fn tell_clock_byte(chipset: &Chipset, address: u8, byte: &mut u8) -> u32
     ensures done { result ≡ ok → IsClockByte chipset.now address byte.new }
     ensures within { result ≡ ok → address < clock_bytes }
@@ -45,11 +47,9 @@ pub(crate) fn tell_clock_byte(chipset: &Chipset, address: u8, byte: &mut u8) -> 
     ensures untold { result ≢ ok → byte.new ≡ byte.old }
     ensures open { result ≢ closed }
 {
-    let bytes = chipset.clock_bytes();
-    let index = usize::from(address);
-    if bytes.len() <= index {
+    if usize::from(address) >= CLOCK_BYTES {
         return NO_BYTE;
     }
-    *byte = bytes[index];
+    *byte = chipset.clock().peek(address);
     OK
 }

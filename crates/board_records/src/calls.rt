@@ -1,81 +1,24 @@
 //! The calls of a chipset with a serial port, in numbers.
 
-ghost use Rattle.std.specs.Prelude.{◌≡◌, ◌≢◌, ◌==◌, ℕ, Bool, true, false, List, IfOk, IfErr, IsSomeAnd, Some, option_map};
+ghost use Rattle.std.specs.Prelude.{◌≡◌, ◌≢◌, ◌==◌, ℕ, Bool, true, false, List, IfOk, IfErr, IsSomeAnd, Some};
 ghost use Rattle.board_prelude.specs.Common.{Entry, IsBusAccess, IsInRange, IsWideAccess, Line, Memory, Port, Wide, is_write};
 ghost use Rattle.board_spec.specs.declared.event.Event.TheVariants.{Look as LookAt};
 ghost use Rattle.board_chipset.specs.Common.{IsLeftBy as IsChipsetLeftBy, IsForDevices};
 ghost use Rattle.uart_16550.specs.Com1.{is_for_uart};
 ghost use Rattle.uart_16550.specs.declared.com1.Happening.TheVariants.{Comes, Happens};
-ghost use Rattle.board_records.specs.Doors.{IsOpenedWith, IsOpenRefusal, disk_of, setup_said};
 ghost use Rattle.board_records.specs.Events.{asked_said};
 ghost use Rattle.board_records.specs.Statuses.{ok, closed, IsEventRefusal};
 ghost use Rattle.board_records.specs.Steps.{IsAskedStep, after_step};
 
 use crate::asked::asked_of;
-use crate::card::{CardRecord, cards_of};
 use crate::event::{EventRecord, cycle_of, look_of, port_of};
 use crate::numbers::{LOOK_EVENT, MEMORY_EVENT, PORT_EVENT};
 use crate::reply::{AfterStep, ReplyRecord, tell, tell_bus, tell_look, tell_uart, tell_wide};
-use crate::status::{BAD_CARDS, NO_EVENT, NO_MEMORY, OK, SERIAL_FULL, fault_status, setup_status};
+use crate::status::{NO_EVENT, OK, SERIAL_FULL, fault_status};
 use board_base::{Access, Kind, PortAccess, WideAccess};
-use board_chipset::{Chipset, ResetKind, Setup, test_memory, test_port};
+use board_chipset::{Chipset, ResetKind, test_memory, test_port};
 use board_spec::Event;
-use std::alloc::{AllocError, Global};
 use uart_16550::{Happening, SerialBoard, is_for_uart};
-
-/// A chipset with a serial port and these cards, over copies of these bytes. A disk of no bytes is none. Refused with
-/// `BAD_CARDS` where a record says no card; with the first field that no board can have, which may be the cards too; and
-/// with `NO_MEMORY`.
-pub(crate) fn open(
-    alloc: Global,
-    mib: u32,
-    cards: &[CardRecord],
-    rom: &[u8],
-    disk: &[u8],
-) -> Result<SerialBoard<Chipset>, u32>
-    ensures fresh { IfOk result (λ serial. IsSomeAnd (setup_said mib cards.now rom.now disk.now) (IsOpenedWith serial)) }
-    ensures refused { IfErr result (IsOpenRefusal (setup_said mib cards.now rom.now disk.now)) }
-{
-    let cards = match cards_of(alloc, cards) {
-        Ok(Some(cards)) => cards,
-        Ok(None) => return Err(BAD_CARDS),
-        Err(_) => return Err(NO_MEMORY),
-    };
-    let Ok(rom) = Vec::from_slice(alloc, rom) else {
-        return Err(NO_MEMORY);
-    };
-    let Ok(disk) = copy_disk(alloc, disk) else {
-        return Err(NO_MEMORY);
-    };
-    let setup = Setup {
-        mib,
-        cards,
-        rom,
-        disk,
-    };
-    opened(alloc, setup)
-}
-
-/// The chipset of a setup, with a new serial port. Refused with why.
-fn opened(alloc: Global, setup: Setup) -> Result<SerialBoard<Chipset>, u32>
-    ensures fresh { IfOk result (λ serial. IsOpenedWith serial setup) }
-    ensures refused { IfErr result (IsOpenRefusal (Some setup)) }
-{
-    match Chipset::open_checked(alloc, setup) {
-        Ok(chipset) => Ok(SerialBoard::open(chipset)),
-        Err(fault) => Err(setup_status(fault)),
-    }
-}
-
-/// A copy of a disk's bytes. No bytes are no disk.
-fn copy_disk(alloc: Global, disk: &[u8]) -> Result<Option<Vec<u8>>, AllocError>
-    ensures copy { IfOk result (λ copy. option_map (λ bytes. bytes.items) copy ≡ disk_of disk.now) }
-{
-    if disk.is_empty() {
-        return Ok(None);
-    }
-    Ok(Some(Vec::from_slice(alloc, disk)?))
-}
 
 /// Does what a record asks, and tells the reply by another. Refused with why where the record asks nothing (`NO_EVENT`), an
 /// event that is out of range, or a byte for which COM1 has no room (`SERIAL_FULL`); then nothing has changed.
@@ -257,7 +200,7 @@ fn done(serial: &mut SerialBoard<Chipset>, event: &Event, reply: &mut ReplyRecor
 }
 
 /// Does an event, which is in range.
-fn happened(serial: &mut SerialBoard<Chipset>, event: &Event, reply: &mut ReplyRecord)
+pub(crate) fn happened(serial: &mut SerialBoard<Chipset>, event: &Event, reply: &mut ReplyRecord)
     requires in_range { IsInRange serial.old.board.setup event.now }
     ensures done { IsAskedStep serial.old serial.new reply.new (Happens event.now) }
 {

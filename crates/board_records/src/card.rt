@@ -1,6 +1,6 @@
 //! Cards as records of numbers.
 
-ghost use Rattle.std.specs.Prelude.{◌≡◌, ◌≤◌, length, map, IfOk, option_map};
+ghost use Rattle.std.specs.Prelude.{◌≡◌, ◌≤◌, length, map, IfOk, is_some, option_map};
 ghost use Rattle.pci_bars.specs.Bases.{base_of as fitted_base};
 ghost use Rattle.board_records.specs.Cards.{all_said, base_said, rom_said, card_said, cards_said};
 
@@ -28,6 +28,34 @@ pub struct CardRecord {
     pub bases: u8,
     pub base: [BaseRecord; 6],
     pub reserved: u64,
+}
+
+/// Whether each record says a card.
+#[tactic(auto, using(crate::proofs::Openings::said_next))]
+pub(crate) fn are_said(records: &[CardRecord]) -> bool
+    ensures said { result ≡ is_some (cards_said records.now) }
+{
+    for record in records {
+        if card_of(record).is_none() {
+            return false;
+        }
+    }
+    true
+}
+
+/// The cards that at most eight records say, without a copy on the heap.
+pub(crate) fn few_cards(records: &[CardRecord]) -> Option<ArrayVec<CardSpec, 8>>
+    requires few { length records.now ≤ 8 }
+    ensures said { option_map (λ cards. cards.items) result ≡ cards_said records.now }
+{
+    let mut cards = ArrayVec::new();
+    for record in records {
+        match card_of(record) {
+            Some(card) => cards.push(card),
+            None => return None,
+        }
+    }
+    Some(cards)
 }
 
 /// The cards that some records say. None exactly where a number of one names nothing. They may still be none that a

@@ -7,16 +7,21 @@ ghost use Rattle.board_records.specs.Doors.{IsOpenedWith, IsOpenRefusal, OnBoth,
 ghost use Rattle.board_records.specs.Events.{asked_said};
 ghost use Rattle.board_records.specs.Maps.{AreRangesTold, AreWindowsTold, IsVersionSaid};
 ghost use Rattle.board_records.specs.Places.{IsAskedPlace, IsNotPlaced, IsRiseTold};
-ghost use Rattle.board_records.specs.Statuses.{ok, closed, no_byte, past_end, IsEventRefusal};
+ghost use Rattle.board_records.specs.Seconds.{IsSecondStep, HasNoSecond};
+ghost use Rattle.board_records.specs.Standing.{AreLinesTold, serial_state_said};
+ghost use Rattle.board_records.specs.Statuses.{ok, closed, no_byte, no_time, past_end, IsEventRefusal};
 ghost use Rattle.board_records.specs.Steps.{IsAskedStep};
 
 use crate::bytes::{tell_clock_byte, tell_dram, tell_sector};
-use crate::calls::{open, step};
+use crate::calls::step;
 use crate::card::CardRecord;
 use crate::event::EventRecord;
 use crate::map::{MapRecord, RangeRecord, WindowRecord, tell_map};
+use crate::opening::open;
 use crate::place::{tell_place, tell_rise};
 use crate::reply::{PartRecord, ReplyRecord};
+use crate::second::second;
+use crate::standing::{SerialRecord, tell_lines, tell_serial};
 use crate::write::{write_clock_byte, write_dram};
 use board_chipset::Chipset;
 use std::alloc::Global;
@@ -43,7 +48,8 @@ impl Model for Door {
 impl Door {
     /// A chipset with these cards over copies of these bytes, as after power-on. A disk of no bytes is none. Refused with
     /// `BAD_CARDS` where a record says no card; with `BAD_SIZE`, `BAD_CARDS`, `BAD_ROM` or `BAD_DISK` by the first of them that
-    /// no board can have; and with `NO_MEMORY`.
+    /// no board can have; and with `NO_MEMORY` only where a board can have all of it. Of what none can have nothing is
+    /// copied.
     pub fn open(
         alloc: Global,
         mib: u32,
@@ -76,7 +82,7 @@ impl Door {
     }
 
     /// Tells the memory map, its ranges and the windows that its last change changed: as many of them as there is room
-    /// for, and how many there are.
+    /// for, and how many there are; and the memory.
     pub fn tell_map(
         &self,
         told: &mut MapRecord,
@@ -84,12 +90,42 @@ impl Door {
         windows: &mut [WindowRecord],
     )
         ensures version { IsSomeAnd self.now (λ serial. IsVersionSaid serial.board told.new.version) }
+        ensures mib { IsSomeAnd self.now (λ serial. told.new.mib ≡ serial.board.setup.mib) }
         ensures ranges { IsSomeAnd self.now
             (λ serial. AreRangesTold serial.board told.new.ranges ranges.old ranges.new) }
         ensures windows { IsSomeAnd self.now
             (λ serial. AreWindowsTold serial.board told.new.windows windows.old windows.new) }
     {
         tell_map(self.serial.board(), told, ranges, windows);
+    }
+
+    /// Lets the clock go on one second from what it shows, in whichever form, and tells the event by which it does and the
+    /// reply. Refused with `NO_TIME` where SET holds its time, or its registers say no moment; then nothing has changed.
+    pub fn second(&mut self, event: &mut EventRecord, reply: &mut ReplyRecord) -> u32
+        ensures done { result ≡ ok
+            → OnBoth self.old self.new (λ old new. IsSecondStep old new event.new reply.new) }
+        ensures refused { result ≢ ok
+            → IsSomeAnd self.old (λ serial. (result ≡ no_time) × HasNoSecond serial.board) }
+        ensures unchanged { result ≢ ok → self.new ≡ self.old }
+        ensures no_event { result ≢ ok → event.new ≡ event.old }
+        ensures untold { result ≢ ok → reply.new ≡ reply.old }
+        ensures open { result ≢ closed }
+    {
+        second(&mut self.serial, event, reply)
+    }
+
+    /// Tells the levels of the sixteen interrupt lines, as the pair of 8259A hears them: bit k is that of line k.
+    pub fn tell_lines(&self, lines: &mut u16)
+        ensures told { IsSomeAnd self.now (λ serial. AreLinesTold serial.board lines.new) }
+    {
+        tell_lines(self.serial.board(), lines);
+    }
+
+    /// Tells what COM1 holds. Nothing is taken or cleared.
+    pub fn tell_serial(&self, state: &mut SerialRecord)
+        ensures told { IsSomeAnd self.now (λ serial. state.new ≡ serial_state_said serial.com1) }
+    {
+        tell_serial(&self.serial, state);
     }
 
     /// Tells where the access that a record says would land, and what would deny it. Refused where the record asks
@@ -132,7 +168,8 @@ impl Door {
         tell_sector(self.serial.board(), sector, into)
     }
 
-    /// Tells the byte of the clock at an address. Refused with `NO_BYTE` from address 128 on.
+    /// Tells what a read of port 71h would give of the clock with this index, and clears nothing. Refused with `NO_BYTE`
+    /// from address 128 on.
     pub fn tell_clock_byte(&self, address: u8, byte: &mut u8) -> u32
         ensures done { result ≡ ok → IsSomeAnd self.now (λ serial. IsClockByte serial.board address byte.new) }
         ensures within { result ≡ ok → address < clock_bytes }

@@ -10,8 +10,11 @@ mod door;
 mod event;
 mod map;
 pub mod numbers;
+mod opening;
 mod place;
 mod reply;
+mod second;
+mod standing;
 pub mod status;
 mod write;
 
@@ -21,3 +24,4 @@ pub use door::Door;
 pub use event::{EventRecord, event_of};
 pub use map::{AreaRecord, MapRecord, RangeRecord, WindowRecord};
 pub use reply::{AfterStep, PartRecord, ReplyRecord, tell};
+pub use standing::SerialRecord;

@@ -37,18 +37,19 @@ pub struct WindowRecord {
     pub hi: u32,
 }
 
-/// The memory map: how many ranges it has, how many windows its last change has, and its version, modulo 2^32.
+/// The memory map: how many ranges it has, how many windows its last change has, its version, modulo 2^32, and how
+/// many MiB of memory are installed: rows may be decoded further, without bytes.
 #[repr(C)]
 #[derive(Clone, Copy, PartialEq, Eq, Debug, Default)]
 pub struct MapRecord {
     pub ranges: u64,
     pub windows: u64,
     pub version: u32,
-    pub reserved: u32,
+    pub mib: u32,
 }
 
-/// Sets `told` to the counts and the version of the memory map. Fills `ranges` with its ranges and `windows` with the
-/// windows of its last change, the first of them where there is no room for all.
+/// Sets `told` to the counts and the version of the memory map, and to the memory. Fills `ranges` with its ranges and
+/// `windows` with the windows of its last change, the first of them where there is no room for all.
 pub(crate) fn tell_map(
     chipset: &Chipset,
     told: &mut MapRecord,
@@ -56,6 +57,7 @@ pub(crate) fn tell_map(
     windows: &mut [WindowRecord],
 )
     ensures version { IsVersionSaid chipset.now told.new.version }
+    ensures mib { told.new.mib ≡ chipset.now.setup.mib }
     ensures ranges { AreRangesTold chipset.now told.new.ranges ranges.old ranges.new }
     ensures windows { AreWindowsTold chipset.now told.new.windows windows.old windows.new }
 {
@@ -66,7 +68,7 @@ pub(crate) fn tell_map(
         ranges: all.len() as u64,
         windows: changed.len() as u64,
         version: map.version(),
-        reserved: 0,
+        mib: chipset.setup().mib,
     };
     tell_ranges(all, ranges);
     tell_windows(changed, windows);

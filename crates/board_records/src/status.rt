@@ -55,6 +55,8 @@ pub const NO_REPLY: u32 = 22;
 pub const NO_ROOM: u32 = 23;
 /// COM1 can receive no byte: its queue is full, or loopback is on.
 pub const SERIAL_FULL: u32 = 24;
+/// The clock does not go on: SET holds its time, or its registers say no date or time.
+pub const NO_TIME: u32 = 25;
 
 /// The status of an event that is out of range.
 pub fn fault_status(fault: OutOfRange) -> u32

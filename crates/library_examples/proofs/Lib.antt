@@ -2,3 +2,4 @@ mod SerialRuns
 mod ImageRuns
 mod RecordRuns
 mod RefusalRuns
+mod SecondRuns

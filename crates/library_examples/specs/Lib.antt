@@ -2,3 +2,4 @@ pub mod Serial
 pub mod Images
 pub mod Records
 pub mod Refusals
+pub mod Seconds

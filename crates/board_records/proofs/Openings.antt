@@ -1,0 +1,66 @@
+-- What an open looks at before it copies: the cards that records say are as many as the records.
+use Rattle.std.proofs.Common.{◌≡◌, ℕ, suc, ◌+◌, ◌<◌, ◌&&◌, true, arith, IsSomeAnd, List, [], ◌∷◌, length, get_or, drop, is_some, Option, Some, None, option_map, option_and_then, refl, ap, sym}
+use Rattle.std.proofs.lemmas.List.{drop_more}
+use Rattle.board_spec.specs.Setup.{FittedCard, IsCardList, IsSetup, Setup}
+use Rattle.board_chipset.specs.declared.check.SetupFault.TheVariants.{Cards}
+use Rattle.board_chipset.specs.Setups.{IsMemory}
+use Rattle.board_records.specs.Doors.{IsSetupRefusal, disk_of, setup_said}
+use Rattle.board_records.specs.Statuses.{bad_cards}
+use Rattle.board_records.specs.declared.card.CardRecord.{CardRecord}
+use Rattle.board_records.specs.Cards.{all_said, card_said, cards_said}
+
+one_more : {A : Type 0} (n : ℕ) (one : Option A) (others : Option (List A)) (all : List A) →
+    ((later : List A) → others ≡ Some later → length later ≡ n) →
+    option_and_then (λ it. option_map (λ later. it ∷ later) others) one ≡ Some all → length all ≡ suc n
+one_more n None others all each is = absurd cc
+one_more n (Some it) None all each is = absurd cc
+one_more n (Some it) (Some later) all each is = let same : it ∷ later ≡ all = cc in rw (← same) (ap suc (each later refl))
+
+pub said_count : (records : List CardRecord) (cards : List FittedCard) → cards_said records ≡ Some cards → length cards ≡ length records
+said_count [] cards is = let same : [] ≡ cards = cc in rw (← same) refl
+said_count (first ∷ later) cards is = one_more (length later) (card_said first) (cards_said later) cards (said_count later) is
+
+both_said : {B : Type 0} (one : Option B) (others : Option (List B)) →
+    is_some (option_and_then (λ it. option_map (λ later. it ∷ later) others) one) ≡ (is_some one && is_some others)
+both_said None others = refl
+both_said (Some it) None = refl
+both_said (Some it) (Some later) = refl
+
+-- all say something where the first does, and all behind it do
+pub said_next : (records : List CardRecord) (index : ℕ) (last : CardRecord) → index < length records →
+    is_some (all_said card_said (drop index records))
+    ≡ (is_some (card_said (get_or records index last)) && is_some (all_said card_said (drop (index + 1) records)))
+said_next records index last within =
+    rw (drop_more records index last within)
+    (both_said (card_said (get_or records index last)) (all_said card_said (drop (index + 1) records)))
+
+abbrev setup_of : (mib : ℕ) → List FittedCard → (rom disk : List ℕ) → Setup
+setup_of mib cards rom disk = record { mib = mib; cards = cards; rom = rom; disk = disk_of disk }
+
+-- ---- more than eight
+
+some_there : (mib : ℕ) (rom disk : List ℕ) (status : ℕ) (said : Option (List FittedCard)) → is_some said ≡ true →
+    ((cards : List FittedCard) → said ≡ Some cards → IsSetupRefusal (Some (setup_of mib cards rom disk)) status) →
+    IsSetupRefusal (option_map (λ cards. setup_of mib cards rom disk) said) status
+some_there mib rom disk status None test each = absurd cc
+some_there mib rom disk status (Some cards) test each = each cards refl
+
+no_list : (records : List CardRecord) (cards : List FittedCard) → 8 < length records → cards_said records ≡ Some cards →
+    ¬ IsCardList cards
+no_list records cards many is list = omega (arith, many, said_count records cards is, list.count)
+
+pub many_cards : (mib : ℕ) (records : List CardRecord) (rom disk : List ℕ) → is_some (cards_said records) ≡ true →
+    8 < length records → IsMemory mib → IsSetupRefusal (setup_said mib records rom disk) bad_cards
+many_cards mib records rom disk test many memory =
+    some_there mib rom disk bad_cards (cards_said records) test
+    (λ cards is. (Cards, (memory, no_list records cards many is), refl))
+
+-- ---- at most eight
+
+said_is : (mib : ℕ) (records : List CardRecord) (rom disk : List ℕ) (cards : List FittedCard) → Some cards ≡ cards_said records →
+    setup_said mib records rom disk ≡ Some (setup_of mib cards rom disk)
+said_is mib records rom disk cards is = ap (λ said. option_map (λ cards. setup_of mib cards rom disk) said) (sym is)
+
+pub said_fits : (mib : ℕ) (records : List CardRecord) (rom disk : List ℕ) (cards : List FittedCard) →
+    Some cards ≡ cards_said records → IsSetup (setup_of mib cards rom disk) → IsSomeAnd (setup_said mib records rom disk) IsSetup
+said_fits mib records rom disk cards is fits = rw (said_is mib records rom disk cards is) fits

@@ -1,0 +1,38 @@
+-- Steps in turn: a value that is set behind those that were told.
+use Rattle.std.proofs.Common.{◌≡◌, ℕ, zero, suc, ◌+◌, ◌≤◌, false, List, set, Option, ◌∙◌, add-one, arith}
+use Rattle.std.proofs.lemmas.List.{get_or-set_other}
+use Rattle.board_chipset.specs.Common.{Running}
+use Rattle.uart_16550.specs.Common.{Serial}
+use Rattle.board_records.specs.declared.event.EventRecord.{EventRecord}
+use Rattle.board_records.specs.declared.reply.ReplyRecord.{ReplyRecord}
+use Rattle.port_strings.specs.Strings.{AreInTurn, GoesOn, IsNextStep, IsValue, asks_back, reads}
+
+-- the values that were told stay, where another behind them is set
+pub values_kept : (port bytes : ℕ) (values : List ℕ) (index value : ℕ) (old : Option (Serial Running))
+    (first : ReplyRecord)
+    (done : ℕ) (new : Option (Serial Running)) (last : ReplyRecord) → done ≤ index →
+    AreInTurn (reads port bytes) (IsValue values) old first done new last →
+    AreInTurn (reads port bytes) (IsValue (set values index value)) old first done new last
+values_kept port bytes values index value old first zero new last small steps = steps
+values_kept port bytes values index value old first (suc k) new last small steps = (
+  steps.0,
+  steps.1,
+  values_kept port bytes values index value old first k steps.0 steps.1 (omega (arith, small)) steps.2,
+  steps.3,
+  record {
+    step = steps.4.step;
+    told = get_or-set_other values index k value 0 (omega (arith, small)) ∙ steps.4.told;
+  },
+)
+
+module _ {asked : ℕ → EventRecord} {Holds : ℕ → ReplyRecord → Type 0} where
+  -- one step more
+  pub one_more : (old : Option (Serial Running)) (first : ReplyRecord) (k : ℕ) (middle : Option (Serial Running))
+      (reply : ReplyRecord) (new : Option (Serial Running)) (last : ReplyRecord) →
+      AreInTurn asked Holds old first k middle reply → GoesOn asked Holds k reply →
+      IsNextStep asked Holds k middle new last → AreInTurn asked Holds old first (k + 1) new last
+  one_more old first k middle reply new last turn goes step = rw add-one (middle, reply, turn, goes, step)
+
+pub goes_on : (asked : ℕ → EventRecord) (Holds : ℕ → ReplyRecord → Type 0) (k : ℕ) (last : ReplyRecord) →
+    asks_back last ≡ false → GoesOn asked Holds (k + 1) last
+goes_on asked Holds k last quiet = rw add-one quiet
