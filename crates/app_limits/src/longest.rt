@@ -96,7 +96,7 @@ fn log_of_rounds(alloc: Global, rounds: u32) -> Result<Vec<u8>, NoMemory> {
     for round in 0..rounds {
         for phase in 0..PHASES {
             for place in 1..=STATEMENTS {
-                number += 1;
+                number = number.wrapping_add(1);
                 let own = u64::from(round) * OWN + u64::from(phase / CPUS * STATEMENTS + place);
                 write!(
                     log,
