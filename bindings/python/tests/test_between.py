@@ -11,7 +11,8 @@ def test_a_second_goes_on_from_what_the_clock_shows(board):
     answer = board.second()
     assert answer is board.last
     assert str(answer.event) == "moment 2000-01-01T00:00:00"
-    assert [board.cmos_read(address) for address in (9, 12, 13)] == [0, 0x10, 0x80]
+    # of C an update, and the alarm of 00:00:00 that stands since power-on
+    assert [board.cmos_read(address) for address in (9, 12, 13)] == [0, 0x30, 0x80]
     board.cmos_write(11, 0x82)
     with pytest.raises(errors.NoTime):
         board.second()

@@ -15,7 +15,8 @@ fn a_second_goes_on_from_what_the_clock_shows() {
     let answer = board.second().unwrap();
     assert_eq!(answer.to_string(), board.last().unwrap().to_string());
     assert_eq!(board.cmos_read(9), Ok(0));
-    assert_eq!(board.cmos_read(12), Ok(0x10));
+    // an update, and the alarm of 00:00:00 that stands since power-on
+    assert_eq!(board.cmos_read(12), Ok(0x30));
     assert_eq!(board.cmos_read(13), Ok(0x80));
     board.cmos_write(11, 0x82).unwrap();
     assert_eq!(board.second(), Err(Error::NoTime));
