@@ -87,17 +87,17 @@ no_months : (year : ℕ) → days_of_months year 0 ≡ 0
 unfolding days_of_months
 no_months year = refl
 
-next_day : (year month day : ℕ) → 1 ≤ day → days_since_1980 year month (day + 1) ≡ days_since_1980 year month day + 1
+pub next_day : (year month day : ℕ) → 1 ≤ day → days_since_1980 year month (day + 1) ≡ days_since_1980 year month day + 1
 unfolding days_since_1980
 next_day year month day h = omega arith
 
-next_month : (year month : ℕ) → 1 ≤ month → days_since_1980 year (month + 1) 1 ≡ days_since_1980 year month (days_in_month year month) + 1
+pub next_month : (year month : ℕ) → 1 ≤ month → days_since_1980 year (month + 1) 1 ≡ days_since_1980 year month (days_in_month year month) + 1
 unfolding days_since_1980
 next_month year month h =
     let same : month + 1 - 1 ≡ month = omega arith in
     rw same (omega (arith, months_add year month h, days_in_month_low year month))
 
-next_year : (year : ℕ) → 1980 ≤ year → days_since_1980 (year + 1) 1 1 ≡ days_since_1980 year 12 31 + 1
+pub next_year : (year : ℕ) → 1980 ≤ year → days_since_1980 (year + 1) 1 1 ≡ days_since_1980 year 12 31 + 1
 unfolding days_since_1980
 next_year year h =
     omega (arith, years_add year h, no_months (year + 1), months_add year 12 (omega arith), twelve_months year)

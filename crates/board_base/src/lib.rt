@@ -13,6 +13,3 @@ pub use moment::Moment;
 pub use no_memory::NoMemory;
 pub use steps::Steps;
 pub use target::{Area, Denial, Dev, Reg, Target};
-
-#[cfg(test)]
-mod tests;

