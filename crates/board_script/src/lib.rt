@@ -8,10 +8,12 @@ mod hex;
 pub mod laws;
 mod line;
 mod log;
+mod long;
 mod map;
 mod read;
 mod reply;
 mod statement;
+mod tail;
 mod target;
 mod words;
 

@@ -1,57 +1,60 @@
 //! The log of a history: a heading, and a line for each entry.
 
-ghost use Rattle.std.specs.Prelude.{◌≡◌, ◌+◌, ◌^◌, ◌<◌, ◌≤◌, ◌∷◌, ◌++◌, [], length, drop, OnOk, OnErr, IfOk, reverse, decimal, codes};
+ghost use Rattle.std.specs.Prelude.{◌≡◌, ◌+◌, ◌^◌, ◌≤◌, ◌∷◌, ◌++◌, [], length, OnOk, OnErr, IfOk, reverse, decimal, codes};
 ghost use Rattle.board_prelude.specs.Common.{space, line_feed, line_text, log_text};
 ghost use Rattle.board_script.specs.Adds.{AddsWords, KeepsFront};
+ghost use Rattle.board_script.specs.Tails.{HasRoom, HasShortValue};
 ghost use Rattle.board_script.specs.LinesFrom.{lines_from};
 
 use crate::line::Line;
-use crate::reply::{push_reply, reply_bytes};
-use crate::statement::push_event;
-use crate::words::{push_ascii, push_numbered, push_words};
+use crate::long::{long_access, push_long};
+use crate::reply::{put_reply, reply_bytes};
+use crate::statement::put_event;
+use crate::tail::Tail;
+use crate::words::{push_numbered, put_small};
 use board_base::NoMemory;
 use board_spec::Entry;
-use itoa::write_digits;
 use std::alloc::Global;
 
-/// The length of the longest place: 20 digits, 3 digits and 10 digits, and a mark after each.
-const LONGEST_PLACE: usize = 36;
-
-/// Writes the digits of a number and a mark so that they end at `end`, and returns where they start.
-fn write_number(place: &mut [u8; LONGEST_PLACE], end: usize, number: u64, mark: u8) -> usize
-    requires room { length (decimal number) < end }
-    requires inside { end ≤ length place.old }
-    ensures start { result + length (decimal number) + 1 ≡ end }
-    ensures written { drop result place.new ≡ decimal number ++ mark ∷ drop end place.old }
+/// Puts the number of a line, the processor and the number of its entry, with a space after each.
+#[inline(always)]
+pub(crate) fn put_place(line: &mut Tail, n: u64, actor: u8, seq: u32)
+    requires room { HasRoom line.old 63 }
+    ensures words { line.new
+        ≡ decimal n ++ space ∷ decimal actor ++ codes "." ++ decimal seq ++ space ∷ line.old }
 {
-    place[end - 1] = mark;
-    write_digits(number, place, end - 1)
+    line.put(b" ");
+    line.put_decimal(u64::from(seq));
+    line.put(b".");
+    put_small(line, actor);
+    line.put(b" ");
+    line.put_decimal(n);
 }
 
-/// Appends the number of a line, the processor and the number of its entry, with a space after each.
-fn push_place(text: &mut String, n: u64, actor: u8, seq: u32) -> Result<(), NoMemory>
-    ensures appended { OnOk result (AddsWords text.old text.new
-        (decimal n ++ space ∷ decimal actor ++ codes "." ++ decimal seq ++ space ∷ [])) }
-    ensures front { OnErr result (KeepsFront text.old text.new) }
+/// Puts line `n`, without its line feed.
+#[tactic(auto, unfolding(board_spec::specs::LogText::line_text))]
+fn put_entry(line: &mut Tail, n: u64, entry: &Entry)
+    requires short { HasShortValue entry.now.event }
+    requires room { HasRoom line.old 239 }
+    ensures words { line.new ≡ line_text n entry.now ++ line.old }
 {
-    let mut place = [0; LONGEST_PLACE];
-    let seq_at = write_number(&mut place, LONGEST_PLACE, u64::from(seq), b' ');
-    let actor_at = write_number(&mut place, seq_at, u64::from(actor), b'.');
-    let at = write_number(&mut place, actor_at, n, b' ');
-    push_ascii(text, &place[at..])
+    put_reply(line, reply_bytes(&entry.event), &entry.reply);
+    line.put(b" = ");
+    put_event(line, &entry.event);
+    put_place(line, n, entry.actor, entry.seq);
 }
 
 /// Appends line `n`, without its line feed.
-#[tactic(auto, unfolding(board_spec::specs::LogText::line_text))]
 pub(crate) fn push_entry(text: &mut String, n: u64, entry: &Entry) -> Result<(), NoMemory>
     ensures appended { OnOk result (AddsWords text.old text.new (line_text n entry.now)) }
     ensures front { OnErr result (KeepsFront text.old text.new) }
 {
-    push_place(text, n, entry.actor, entry.seq)?;
-    push_event(text, &entry.event)?;
-    push_words(text, " = ")?;
-    push_reply(text, reply_bytes(&entry.event), &entry.reply)?;
-    Ok(())
+    if let Some(access) = long_access(&entry.event) {
+        return push_long(text, n, entry, access);
+    }
+    let mut line = Tail::new();
+    put_entry(&mut line, n, entry);
+    line.push_onto(text)
 }
 
 /// Appends line `n` with its line feed. Lines count from 1.
@@ -60,9 +63,15 @@ pub fn push_line(text: &mut String, n: u64, entry: &Entry) -> Result<(), NoMemor
         (line_text n entry.now ++ line_feed ∷ [])) }
     ensures front { OnErr result (KeepsFront text.old text.new) }
 {
-    push_entry(text, n, entry)?;
-    text.push('\n')?;
-    Ok(())
+    if let Some(access) = long_access(&entry.event) {
+        push_long(text, n, entry, access)?;
+        text.push('\n')?;
+        return Ok(());
+    }
+    let mut line = Tail::new();
+    line.put(b"\n");
+    put_entry(&mut line, n, entry);
+    line.push_onto(text)
 }
 
 /// Appends the heading of a log of this version.

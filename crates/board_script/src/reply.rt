@@ -1,12 +1,13 @@
 //! What the board replies, as text.
 
-ghost use Rattle.std.specs.Prelude.{◌≡◌, ◌∷◌, ◌++◌, flat_map, OnOk, OnErr, Option};
-ghost use Rattle.board_prelude.specs.Common.{space, hex_long, parts_list, value_text, value_bytes, answered_text, look_text, reply_text};
+ghost use Rattle.std.specs.Prelude.{◌≡◌, ◌+◌, ◌*◌, ◌≤◌, ◌∷◌, ◌++◌, length, flat_map, OnOk, OnErr, Option};
+ghost use Rattle.board_prelude.specs.Common.{space, hex_long, area_text, parts_list, value_text, value_bytes, answered_text, look_text, reply_text};
 ghost use Rattle.board_script.specs.Adds.{AddsWords, KeepsFront};
+ghost use Rattle.board_script.specs.Tails.{HasRoom, GrowsBy};
 
-use crate::hex::{push_hex, push_hex_long};
-use crate::target::{push_area, push_denial, push_target};
-use crate::words::{push_decimal, push_words};
+use crate::hex::{put_hex, put_hex_long};
+use crate::tail::Tail;
+use crate::target::{put_area, put_denial, put_target};
 use board_base::{Denial, NoMemory, Target};
 use board_spec::{Event, Look, Part, Parts, Reply};
 
@@ -22,84 +23,118 @@ pub(crate) fn reply_bytes(event: &Event) -> u32
     }
 }
 
-/// Appends the value of a reply, or `-` for none.
-fn push_value(text: &mut String, bytes: u32, value: Option<u64>) -> Result<(), NoMemory>
-    ensures appended { OnOk result (AddsWords text.old text.new (value_text bytes value)) }
-    ensures front { OnErr result (KeepsFront text.old text.new) }
+/// Puts the value of a reply, or `-` for none.
+fn put_value(line: &mut Tail, bytes: u32, value: Option<u64>)
+    requires few { bytes ≤ 8 }
+    requires room { HasRoom line.old 16 }
+    ensures words { line.new ≡ value_text bytes value ++ line.old }
+    ensures length { GrowsBy line.old line.new 16 }
 {
     match value {
-        None => push_words(text, "-"),
-        Some(value) => push_hex(text, bytes, value),
+        None => line.put(b"-"),
+        Some(value) => put_hex(line, bytes, value),
     }
 }
 
-/// Appends the ends of an interval of addresses, like `000F0000 000FFFFF`.
+/// Puts the ends of an interval of addresses, like `000F0000 000FFFFF`.
+fn put_interval(line: &mut Tail, lo: u32, hi: u32)
+    requires room { HasRoom line.old 17 }
+    ensures words { line.new ≡ hex_long lo ++ space ∷ hex_long hi ++ line.old }
+    ensures length { GrowsBy line.old line.new 17 }
+{
+    put_hex_long(line, hi);
+    line.put(b" ");
+    put_hex_long(line, lo);
+}
+
+/// Appends the ends of an interval of addresses, as `put_interval` does.
 pub(crate) fn push_interval(text: &mut String, lo: u32, hi: u32) -> Result<(), NoMemory>
     ensures appended { OnOk result (AddsWords text.old text.new (hex_long lo ++ space ∷ hex_long hi)) }
     ensures front { OnErr result (KeepsFront text.old text.new) }
 {
-    push_hex_long(text, lo)?;
-    text.push(' ')?;
-    push_hex_long(text, hi)
+    let mut line = Tail::new();
+    put_interval(&mut line, lo, hi);
+    line.push_onto(text)
 }
 
-/// Appends what a look saw: how many map writes came before, the ends of the interval, and its area.
-fn push_look(text: &mut String, look: Look) -> Result<(), NoMemory>
-    ensures appended { OnOk result (AddsWords text.old text.new (look_text look)) }
-    ensures front { OnErr result (KeepsFront text.old text.new) }
+/// Puts the interval that a look saw and its area, each after a space.
+fn put_seen(line: &mut Tail, look: Look)
+    requires room { HasRoom line.old 48 }
+    ensures words { line.new
+        ≡ space ∷ hex_long look.lo ++ space ∷ hex_long look.hi ++ space ∷ area_text look.area ++ line.old }
+    ensures length { GrowsBy line.old line.new 31 }
 {
-    push_decimal(text, u64::from(look.version))?;
-    text.push(' ')?;
-    push_interval(text, look.lo, look.hi)?;
-    text.push(' ')?;
-    push_area(text, look.area)
+    put_area(line, look.area);
+    line.put(b" ");
+    put_interval(line, look.lo, look.hi);
+    line.put(b" ");
 }
 
-/// Appends what answered and what denied it, each after a space.
-fn push_answered(
-    text: &mut String,
-    target: &Target,
-    denial: &Option<Denial>,
-) -> Result<(), NoMemory>
-    ensures appended { OnOk result (AddsWords text.old text.new (answered_text target.now denial.now)) }
-    ensures front { OnErr result (KeepsFront text.old text.new) }
+/// Puts what a look saw: how many map writes came before, the ends of the interval, and its area.
+pub(crate) fn put_look(line: &mut Tail, look: Look)
+    requires room { HasRoom line.old 70 }
+    ensures words { line.new ≡ look_text look ++ line.old }
+    ensures length { GrowsBy line.old line.new 51 }
 {
-    text.push(' ')?;
-    push_target(text, target)?;
-    text.push(' ')?;
-    push_denial(text, denial)
+    put_seen(line, look);
+    line.put_decimal(u64::from(look.version));
 }
 
-/// Appends what answered each part of a wide access.
-fn push_each(text: &mut String, parts: &[Part]) -> Result<(), NoMemory>
-    ensures appended { OnOk result (AddsWords text.old text.new
-        (flat_map (λ part. answered_text part.target part.denial) parts.now)) }
-    ensures front { OnErr result (KeepsFront text.old text.new) }
+/// Puts what answered and what denied it, each after a space.
+#[inline(always)]
+pub(crate) fn put_answered(line: &mut Tail, target: &Target, denial: &Option<Denial>)
+    requires room { HasRoom line.old 47 }
+    ensures words { line.new ≡ answered_text target.now denial.now ++ line.old }
+    ensures length { GrowsBy line.old line.new 30 }
 {
-    for part in parts {
-        push_answered(text, &part.target, &part.denial)?;
-    }
-    Ok(())
+    put_denial(line, denial);
+    line.put(b" ");
+    put_target(line, target);
+    line.put(b" ");
 }
 
-/// Appends what answered the two to four parts of a wide access, in rising order.
-fn push_parts(text: &mut String, parts: &Parts) -> Result<(), NoMemory>
-    ensures appended { OnOk result (AddsWords text.old text.new
-        (flat_map (λ part. answered_text part.target part.denial) (parts_list parts.now))) }
-    ensures front { OnErr result (KeepsFront text.old text.new) }
+/// Puts what answered a part of a wide access.
+fn put_part(line: &mut Tail, part: &Part)
+    requires room { HasRoom line.old 47 }
+    ensures words { line.new ≡ answered_text part.now.target part.now.denial ++ line.old }
+    ensures length { GrowsBy line.old line.new 30 }
+{
+    put_answered(line, &part.target, &part.denial);
+}
+
+/// Puts what answered the two to four parts of a wide access, in rising order.
+pub(crate) fn put_parts(line: &mut Tail, parts: &Parts)
+    requires room { HasRoom line.old 137 }
+    ensures words { line.new
+        ≡ flat_map (λ part. answered_text part.target part.denial) (parts_list parts.now) ++ line.old }
+    ensures length { GrowsBy line.old line.new 120 }
 {
     match parts {
-        Parts::Two(a, b) => push_each(text, &[*a, *b]),
-        Parts::Three(a, b, c) => push_each(text, &[*a, *b, *c]),
-        Parts::Four(a, b, c, d) => push_each(text, &[*a, *b, *c, *d]),
+        Parts::Two(a, b) => {
+            put_part(line, b);
+            put_part(line, a);
+        }
+        Parts::Three(a, b, c) => {
+            put_part(line, c);
+            put_part(line, b);
+            put_part(line, a);
+        }
+        Parts::Four(a, b, c, d) => {
+            put_part(line, d);
+            put_part(line, c);
+            put_part(line, b);
+            put_part(line, a);
+        }
     }
 }
 
-/// Appends a reply. A value has two digits for each of `bytes` bytes.
+/// Puts a reply. A value has two digits for each of `bytes` bytes.
 #[tactic(auto, unfolding(board_spec::specs::LogText::reply_text))]
-pub(crate) fn push_reply(text: &mut String, bytes: u32, reply: &Reply) -> Result<(), NoMemory>
-    ensures appended { OnOk result (AddsWords text.old text.new (reply_text bytes reply.now)) }
-    ensures front { OnErr result (KeepsFront text.old text.new) }
+pub(crate) fn put_reply(line: &mut Tail, bytes: u32, reply: &Reply)
+    requires few { bytes ≤ 8 }
+    requires room { HasRoom line.old 137 }
+    ensures words { line.new ≡ reply_text bytes reply.now ++ line.old }
+    ensures length { GrowsBy line.old line.new 136 }
 {
     match reply {
         Reply::Bus {
@@ -107,19 +142,19 @@ pub(crate) fn push_reply(text: &mut String, bytes: u32, reply: &Reply) -> Result
             target,
             denial,
         } => {
-            push_value(text, bytes, widened(*value))?;
-            push_answered(text, target, denial)
+            put_answered(line, target, denial);
+            put_value(line, bytes, widened(*value));
         }
         Reply::Parts { value, parts } => {
-            push_value(text, bytes, *value)?;
-            push_parts(text, parts)
+            put_parts(line, parts);
+            put_value(line, bytes, *value);
         }
-        Reply::Saw(look) => push_look(text, *look),
+        Reply::Saw(look) => put_look(line, *look),
     }
 }
 
 /// The same value in 64 bits.
-fn widened(value: Option<u32>) -> Option<u64>
+pub(crate) fn widened(value: Option<u32>) -> Option<u64>
     ensures same { result ≡ value }
 {
     value.map(u64::from)

@@ -1,9 +1,11 @@
 //! Fixed words, and numbers in decimal.
 
-ghost use Rattle.std.specs.Prelude.{◌++◌, OnOk, OnErr, decimal, IsAscii};
+ghost use Rattle.std.specs.Prelude.{◌≡◌, ◌+◌, ◌≤◌, ◌++◌, length, OnOk, OnErr, decimal, IsAscii};
 ghost use Rattle.board_spec.specs.LogText.{two_digits};
 ghost use Rattle.board_script.specs.Adds.{AddsWords, KeepsFront};
+ghost use Rattle.board_script.specs.Tails.{HasRoom, GrowsBy};
 
+use crate::tail::Tail;
 use board_base::NoMemory;
 use itoa::Buffer;
 use std::str;
@@ -60,12 +62,38 @@ pub(crate) fn push_numbered(text: &mut String, words: &str, number: u8) -> Resul
     push_decimal(text, u64::from(number))
 }
 
-/// Appends the last two digits of a number.
-pub(crate) fn push_two_digits(text: &mut String, number: u16) -> Result<(), NoMemory>
-    ensures appended { OnOk result (AddsWords text.old text.new (two_digits number)) }
-    ensures front { OnErr result (KeepsFront text.old text.new) }
+/// Puts a number below 256 in decimal.
+#[inline(always)]
+#[tactic(auto, using(std::proofs::lemmas::Fmt::decimal_digit))]
+pub(crate) fn put_small(line: &mut Tail, number: u8)
+    requires room { HasRoom line.old 20 }
+    ensures words { line.new ≡ decimal number ++ line.old }
+    ensures length { GrowsBy line.old line.new 3 }
 {
-    text.push((b'0' + (number / 10 % 10) as u8) as char)?;
-    text.push((b'0' + (number % 10) as u8) as char)?;
-    Ok(())
+    if number < 10 {
+        line.put(&[b'0' + number]);
+    } else {
+        line.put_decimal(u64::from(number));
+    }
+}
+
+/// Puts words and the number that follows them.
+#[inline(always)]
+pub(crate) fn put_numbered(line: &mut Tail, words: &[u8], number: u8)
+    requires ascii { IsAscii words.now }
+    requires room { HasRoom line.old (length words.now + 20) }
+    ensures words { line.new ≡ words.now ++ decimal number ++ line.old }
+    ensures length { GrowsBy line.old line.new (length words.now + 3) }
+{
+    put_small(line, number);
+    line.put(words);
+}
+
+/// Puts the last two digits of a number.
+pub(crate) fn put_two_digits(line: &mut Tail, number: u16)
+    requires room { HasRoom line.old 2 }
+    ensures words { line.new ≡ two_digits number ++ line.old }
+    ensures length { GrowsBy line.old line.new 2 }
+{
+    line.put(&[b'0' + (number / 10 % 10) as u8, b'0' + (number % 10) as u8]);
 }

@@ -82,9 +82,10 @@ fn whole_log<L: Listed>(alloc: Global, version: u8, list: &L) -> Result<Text, No
     requires whole { L.is_whole list.now }
     ensures text { IfOk result (λ text. text ≡ log_text version (reverse (L.entries list.now))) }
 {
-    let mut text = String::new(alloc);
+    let count = list.len();
+    let mut text = String::with_capacity(alloc, count.saturating_mul(LINE_ROOM))?;
     push_heading(&mut text, version)?;
-    push_lines(&mut text, list, 0, list.len())?;
+    push_lines(&mut text, list, 0, count)?;
     Text::whole(alloc, text)
 }
 

@@ -1,3 +1,4 @@
+pub mod OneActs
 pub mod Beginnings
 pub mod Due
 pub mod Halves

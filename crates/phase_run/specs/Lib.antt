@@ -1,3 +1,5 @@
+pub mod Others
+pub mod Acts
 pub mod Ended
 pub mod Jobs
 pub mod Placed

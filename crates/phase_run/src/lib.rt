@@ -2,6 +2,7 @@
 //! order; a phase begins when all workers of the one before have ended.
 #![tactic(auto)]
 
+mod alone;
 mod ended;
 mod jobs;
 mod placing;

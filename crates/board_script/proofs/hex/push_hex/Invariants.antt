@@ -1,7 +1,7 @@
 use Rattle.std.proofs.Common.{◌≡◌, ◌++◌}
 use Rattle.board_prelude.proofs.Common.{string_bytes, hex_number}
 use Rattle.board_script.specs.Adds.{KeepsFront}
-use Rattle.board_script.proofs.hex.push_each_byte.Given as goal
+use Rattle.board_script.proofs.hex.push_hex.Given as goal
 
 -- what is written and what is still to come
 abbrev pub invariant-loop-left : goal.invariant-loop-left
