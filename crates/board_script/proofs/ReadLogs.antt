@@ -1,13 +1,12 @@
 -- Where the bytes of a log stop being one.
-use Rattle.std.proofs.Common.{◌≡◌, ◌≢◌, ℕ, ◌+◌, ◌<◌, true, Option, Some, None, List, [], ◌∷◌, ◌++◌, length, reverse, get_or, drop, All, refl, sym, ap, subst, ◌∙◌, inl, inr, append_assoc, append-nil, arith, Result, Ok, Err, IfOk, IfErr, IsErrAnd, codes, decimal}
-use Rattle.board_prelude.proofs.Common.{cases_lt, get_or_append_left, append_cancel_left, length-append, reverse-reverse, All-nil, All-cons, All-head, All-tail, All-push, Entry, line_feed, line_text, lines_text, log_text}
+use Rattle.std.proofs.Common.{◌≡◌, ◌≢◌, ℕ, ◌+◌, ◌<◌, true, Option, Some, None, List, [], ◌∷◌, ◌++◌, length, reverse, get_or, drop, All, refl, sym, ap, subst, ◌∙◌, inl, inr, append_assoc, append-nil, arith, Result, Ok, Err, IfErr, IsErrAnd, codes, decimal}
+use Rattle.board_prelude.proofs.Common.{cases_lt, get_or_append_left, append_cancel_left, length-append, All-nil, All-cons, All-head, All-tail, All-push, Entry, line_feed, line_text, lines_text, log_text}
 use Rattle.script_spec.specs.Common.{text_of_lines, IsOneLine, IsVersion, IsWellFormed, IsLogText, IsSomeLog, IsBadLog, cut}
-use Rattle.script_spec.proofs.Common.{lacks, lacks-append, lacks-word, decimal_word, one_line, compared, log_lines, lines_joined, lines_whole, nothing_more, log_says_all, some_is, cut_field, cut_joined}
-use Rattle.board_script.specs.declared.read.Log.{Log}
+use Rattle.script_spec.proofs.Common.{lacks, lacks-append, lacks-word, decimal_word, one_line, compared, log_lines, lines_joined, lines_whole, nothing_more, some_is, cut_field, cut_joined}
 use Rattle.board_script.specs.declared.fault.LogFault.{LogFault}
 use Rattle.board_script.specs.declared.fault.LogFault.TheVariants.{Bad, NoMemory}
 use Rattle.board_script.specs.Reading.{NamesBad, heading, version_of, HasNoEntry, IsBadAfter}
-use Rattle.board_script.proofs.ReadLines.{version_said, version_known, all_reverse}
+use Rattle.board_script.proofs.ReadLines.{version_said, version_known}
 
 -- ---- the lines of a whole log
 

@@ -1,4 +1,4 @@
-use Rattle.std.proofs.Common.{ap, arith, ◌++◌, ◌∙◌, length, decimal}
+use Rattle.std.proofs.Common.{ap, arith, ◌∙◌, length, decimal}
 use Rattle.std.proofs.lemmas.Fmt.{IsAscii-decimal}
 use Rattle.std.proofs.lemmas.Str.{IsAscii-append}
 use Rattle.std.proofs.lemmas.List.{length-append, length-drop}
