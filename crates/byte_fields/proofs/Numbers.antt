@@ -1,11 +1,11 @@
 -- Numbers as fields.
-use Rattle.std.proofs.Common.{◌≡◌, ℕ, ◌^◌, ◌<◌, ◌≤◌, inl, inr, Bool, true, false, cond, List, [], ◌∷◌, ◌++◌, length, take, drop, Option, Some, None, Result, Ok, Err, refl, sym, ap, subst, ◌∙◌, arith, nat_lt, nat_le, ◌==◌, ◌&&◌, if◌then◌else◌}
+use Rattle.std.proofs.Common.{◌≡◌, ℕ, zero, suc, ◌+◌, ◌^◌, ◌<◌, ◌≤◌, inl, inr, Bool, true, false, cond, List, [], ◌∷◌, ◌++◌, length, take, drop, Option, Some, None, Result, Ok, Err, refl, sym, ap, subst, ◌∙◌, arith, nat_lt, nat_le, is_some, unwrap_or, ◌==◌, ◌&&◌, if◌then◌else◌}
 use Rattle.std.specs.Int.{Width as Size, byte_len}
 use Rattle.board_base.specs.Common.{w8, w16, w32, w64, to_le_bytes, from_le_bytes}
 use Rattle.board_base.proofs.Common.{cases_eq, eq-eqb, ne_eqb, ltb-false, le-ltb, leb-true, le-leb, and_from, and_parts, take_at, drop_at, take-append-drop, length-append, length-take, get_or-take, get_or_past, cases_lt}
 use Rattle.std.proofs.lemmas.Nat.{le_bytes_2, le_bytes_4, le_bytes_8, from_le_bytes-to_le_bytes_2, from_le_bytes-to_le_bytes_4, from_le_bytes-to_le_bytes_8}
-use Rattle.byte_fields.specs.Fields.{AreBytes, said, number, number_where, within, where_true, flag_byte, flag_of, flag_field}
-use Rattle.byte_fields.proofs.Formats.{IsFormat, format_as, ok_is, err_is}
+use Rattle.byte_fields.specs.Fields.{AreBytes, Reading, said, number, number_where, within, where_true, flag_byte, flag_of, flag_field, flag_where, optional, bound_where, some_where, IsWithin}
+use Rattle.byte_fields.proofs.Formats.{IsFormat, format_as, then_format, last_format, ok_is, err_is}
 
 -- ---- the sizes
 
@@ -221,3 +221,76 @@ pub byte_within : (low high : ℕ) → high < 2 ^ 8 → IsFormat 1 (within w8 lo
 byte_within low high fits =
     format_as 1 (λ n. n ∷ []) (Ranges low high) (byte_where (λ n. nat_le low n && nat_le n high)) (omega arith)
     (λ n is. range_to (2 ^ 8) low high n fits is) (λ n good. range_from (2 ^ 8) low high n good) (λ n good. refl)
+
+-- ---- flags that are 1 only where that is allowed
+
+flag_again : (allowed : Bool) (n : ℕ) → n ≤ flag_byte allowed → flag_byte (n == 1) ≡ n
+flag_again allowed zero few = refl
+flag_again allowed (suc zero) few = refl
+flag_again true (suc (suc n)) few = absurd (omega arith)
+flag_again false (suc (suc n)) few = absurd (omega arith)
+
+flag_small : (flag : Bool) → flag_byte flag < 2 ^ 8
+flag_small false = omega arith
+flag_small true = omega arith
+
+flag_is : (flag : Bool) → flag ≡ (flag_byte flag == 1)
+flag_is false = refl
+flag_is true = refl
+
+pub flag_where_format : (allowed : Bool) →
+    IsFormat 1 (flag_where allowed) (λ flag. flag_byte flag ∷ []) (λ flag. flag_byte flag ≤ flag_byte allowed)
+unfolding flag_where
+flag_where_format allowed =
+    format_as 1 (λ flag. flag_byte flag ∷ []) (λ flag. flag_byte flag ≤ flag_byte allowed)
+    (last_format flag_byte (λ n. n == 1) (byte_within 0 (flag_byte allowed) (flag_small allowed))
+    (λ n good. flag_again allowed n good.1))
+    (omega arith)
+    (λ flag few. ((omega arith, few), flag_is flag))
+    (λ flag good. good.0.1)
+    (λ flag good. refl)
+
+-- ---- numbers that may be absent
+
+some_of : (there : Bool) (n low high : ℕ) → Ranges (bound_where there low) (bound_where there high) n →
+    unwrap_or (some_where there n) 0 ≡ n
+some_of true n low high good = refl
+some_of false n low high good = omega (arith, good.1)
+
+there_of : (there : Bool) (n : ℕ) → is_some (some_where there n) ≡ there
+there_of true n = refl
+there_of false n = refl
+
+optional_to : (low high : ℕ) (o : Option ℕ) → IsWithin low high o →
+    Ranges (bound_where (is_some o) low) (bound_where (is_some o) high) (unwrap_or o 0)
+    × (o ≡ some_where (is_some o) (unwrap_or o 0))
+optional_to low high None is = ((omega arith, omega arith), refl)
+optional_to low high (Some n) is = (is, refl)
+
+optional_from : (low high : ℕ) (o : Option ℕ) →
+    Ranges (bound_where (is_some o) low) (bound_where (is_some o) high) (unwrap_or o 0) → IsWithin low high o
+optional_from low high None is = tt
+optional_from low high (Some n) is = is
+
+bound_small : (there : Bool) (high limit : ℕ) → high < limit → bound_where there high < limit
+bound_small true high limit few = few
+bound_small false high limit few = omega (arith, few)
+
+pub optional_format :
+    {n limit : ℕ} {number_from : (low high : ℕ) → Reading ℕ} {spelled : ℕ → List ℕ} →
+    ((low high : ℕ) → high < limit → IsFormat n (number_from low high) spelled (Ranges low high)) →
+    (low high : ℕ) → high < limit →
+    IsFormat (1 + n) (optional number_from low high) (λ o. flag_byte (is_some o) ∷ spelled (unwrap_or o 0))
+    (IsWithin low high)
+unfolding optional
+optional_format {n} {limit} {spelled = spelled} format low high few =
+    format_as (1 + n) (λ o. flag_byte (is_some o) ∷ spelled (unwrap_or o 0)) (IsWithin low high)
+    (then_format (λ (o : Option ℕ). is_some o) flag_format (λ there any.
+    last_format (λ (o : Option ℕ). unwrap_or o 0) (some_where there)
+    (format (bound_where there low) (bound_where there high) (bound_small there high limit few))
+    (λ value good. some_of there value low high good))
+    (λ there o any good. ap (λ (o : Option ℕ). is_some o) good.1 ∙ there_of there (unwrap_or o 0)))
+    (omega arith)
+    (λ o is. (tt, optional_to low high o is))
+    (λ o good. optional_from low high o good.1.0)
+    (λ o good. refl)

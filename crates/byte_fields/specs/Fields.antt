@@ -1,5 +1,5 @@
 -- Reading fields from the front of bytes, one after another. Numbers have their low byte first.
-use Rattle.std.specs.Prelude.{ℕ, ◌≡◌, ◌<◌, ◌==◌, Bool, true, false, nat_le, nat_lt, ◌&&◌, if◌then◌else◌, List, [], ◌∷◌, length, take, drop, get_or, Option, Some, None, Result, Ok, Err, bytes_eq}
+use Rattle.std.specs.Prelude.{ℕ, ◌≡◌, ◌<◌, ◌≤◌, ◌==◌, Bool, true, false, nat_le, nat_lt, ◌&&◌, if◌then◌else◌, List, [], ◌∷◌, length, take, drop, get_or, Option, Some, None, Result, Ok, Err, bytes_eq}
 use Rattle.board_base.specs.Common.{w8}
 use Rattle.std.specs.Int.{Width as Size, byte_len, from_le_bytes}
 use Rattle.byte_fields.specs.declared.fault.Bad.{Bad}
@@ -63,6 +63,30 @@ flag_of n = if n == 0 then Some false else if n == 1 then Some true else None
 
 abbrev pub flag_field : Reading Bool
 flag_field = number w8 flag_of
+
+-- a flag that is 1 only where that is allowed
+unfoldable pub flag_where : (allowed : Bool) → Reading Bool
+flag_where allowed = do
+  n ← within w8 0 (flag_byte allowed)
+  gives (n == 1)
+
+-- a number that may be absent: whether it is there, and then the number, which is 0 where it is absent
+abbrev pub bound_where : (there : Bool) → ℕ → ℕ
+bound_where there bound = if there then bound else 0
+
+abbrev pub some_where : (there : Bool) → ℕ → Option ℕ
+some_where there value = if there then Some value else None
+
+unfoldable pub optional : ((low high : ℕ) → Reading ℕ) → (low high : ℕ) → Reading (Option ℕ)
+optional number_from low high = do
+  there ← flag_field
+  value ← number_from (bound_where there low) (bound_where there high)
+  gives (some_where there value)
+
+-- such a number lies within its bounds where it is there
+abbrev pub IsWithin : (low high : ℕ) → Option ℕ → Type 0
+IsWithin low high None = Unit {0}
+IsWithin low high (Some n) = (low ≤ n) × (n ≤ high)
 
 -- so many bytes, whatever they are
 abbrev pub plain : (size : ℕ) → Reading (List ℕ)

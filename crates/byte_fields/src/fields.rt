@@ -1,8 +1,8 @@
 //! Fields at the front of bytes.
 
-ghost use Rattle.std.specs.Prelude.{◌≡◌, ◌≤◌, ◌<◌, ℕ, Bool, true, false, Option, length, take, drop, MatchResult};
+ghost use Rattle.std.specs.Prelude.{◌≡◌, ◌≤◌, ◌<◌, ℕ, Bool, true, false, Option, length, take, drop, MatchResult, IfOk};
 ghost use Rattle.std.specs.Int.{w8, w16, w32, w64};
-ghost use Rattle.byte_fields.specs.Fields.{AreBytes, Took, number, within, plain, exactly, ended, flag_of, flag_field};
+ghost use Rattle.byte_fields.specs.Fields.{AreBytes, Took, number, within, plain, exactly, ended, flag_of, flag_field, flag_byte, flag_where, IsWithin, optional, bound_where, some_where};
 
 use crate::fault::Bad;
 use std::marker::Model;
@@ -109,15 +109,51 @@ impl<'a> Fields<'a> {
     /// Reads a byte from `low` to `high`.
     pub fn byte(&mut self, low: u8, high: u8) -> Result<u8, Bad>
         ensures took { Took (λ n. n) result self.new (within w8 low high self.old) }
+        ensures range { IfOk result (λ n. (low ≤ n) × (n ≤ high)) }
     {
         let value = u8::from_le_bytes(self.front()?);
         self.past(1, (low..=high).contains(&value))?;
         Ok(value)
     }
 
+    /// Reads a flag, which is 1 only where that is allowed.
+    #[tactic(auto, unfolding(crate::specs::Fields::flag_where))]
+    pub fn flag_where(&mut self, is_allowed: bool) -> Result<bool, Bad>
+        ensures took { Took (λ flag. flag) result self.new (flag_where is_allowed self.old) }
+        ensures allowed { IfOk result (λ flag. flag_byte flag ≤ flag_byte is_allowed) }
+    {
+        let value = self.byte(0, u8::from(is_allowed))?;
+        Ok(value == 1)
+    }
+
+    /// Reads whether a byte is there, and then the byte, which is 0 where it is absent.
+    #[tactic(auto, unfolding(crate::specs::Fields::optional))]
+    pub fn optional_byte(&mut self) -> Result<Option<u8>, Bad>
+        ensures took { Took (λ byte. byte) result self.new (optional (within w8) 0 255 self.old) }
+    {
+        let there = self.flag()?;
+        let value = self.byte(0, if there { u8::MAX } else { 0 })?;
+        Ok(there.then_some(value))
+    }
+
+    /// Reads whether a number of 4 bytes from `low` to `high` is there, and then the number, which is 0 where it is
+    /// absent.
+    #[tactic(auto, unfolding(crate::specs::Fields::optional))]
+    pub fn optional_word(&mut self, low: u32, high: u32) -> Result<Option<u32>, Bad>
+        ensures took { Took (λ n. n) result self.new (optional (within w32) low high self.old) }
+        ensures range { IfOk result (λ n. IsWithin low high n) }
+    {
+        let there = self.flag()?;
+        let low = if there { low } else { 0 };
+        let high = if there { high } else { 0 };
+        let value = self.word(low, high)?;
+        Ok(there.then_some(value))
+    }
+
     /// Reads a number of 2 bytes from `low` to `high`.
     pub fn half(&mut self, low: u16, high: u16) -> Result<u16, Bad>
         ensures took { Took (λ n. n) result self.new (within w16 low high self.old) }
+        ensures range { IfOk result (λ n. (low ≤ n) × (n ≤ high)) }
     {
         let value = u16::from_le_bytes(self.front()?);
         self.past(2, (low..=high).contains(&value))?;
@@ -127,6 +163,7 @@ impl<'a> Fields<'a> {
     /// Reads a number of 4 bytes from `low` to `high`.
     pub fn word(&mut self, low: u32, high: u32) -> Result<u32, Bad>
         ensures took { Took (λ n. n) result self.new (within w32 low high self.old) }
+        ensures range { IfOk result (λ n. (low ≤ n) × (n ≤ high)) }
     {
         let value = u32::from_le_bytes(self.front()?);
         self.past(4, (low..=high).contains(&value))?;
@@ -136,6 +173,7 @@ impl<'a> Fields<'a> {
     /// Reads a number of 8 bytes that is at most `most`.
     pub fn long(&mut self, most: u64) -> Result<u64, Bad>
         ensures took { Took (λ n. n) result self.new (within w64 0 most self.old) }
+        ensures range { IfOk result (λ n. n ≤ most) }
     {
         let value = u64::from_le_bytes(self.front()?);
         self.past(8, value <= most)?;

@@ -8,4 +8,6 @@ mod push;
 
 pub use fault::{Bad, Fault};
 pub use fields::Fields;
-pub use push::{push_byte, push_bytes, push_flag, push_half, push_word};
+pub use push::{
+    push_byte, push_bytes, push_flag, push_half, push_optional_byte, push_optional_word, push_word,
+};

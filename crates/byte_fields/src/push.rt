@@ -1,6 +1,6 @@
 //! Adds fields to the end of bytes.
 
-ghost use Rattle.std.specs.Prelude.{◌≡◌, ◌++◌, ◌∷◌, [], OnOk};
+ghost use Rattle.std.specs.Prelude.{◌≡◌, ◌++◌, ◌∷◌, [], OnOk, is_some, unwrap_or};
 ghost use Rattle.board_base.specs.Common.{w16, w32, to_le_bytes};
 ghost use Rattle.byte_fields.specs.Fields.{flag_byte};
 
@@ -36,6 +36,23 @@ pub fn push_word(into: &mut Vec<u8>, value: u32) -> Result<(), NoMemory>
 {
     into.extend_from_slice(&value.to_le_bytes())?;
     Ok(())
+}
+
+/// Adds whether a byte is there, and then the byte, 0 where it is absent.
+pub fn push_optional_byte(into: &mut Vec<u8>, byte: Option<u8>) -> Result<(), NoMemory>
+    ensures added { OnOk result (into.new.items ≡ into.old.items ++ flag_byte (is_some byte) ∷ unwrap_or byte 0 ∷ []) }
+{
+    into.extend_from_slice(&[u8::from(byte.is_some()), byte.unwrap_or(0)])?;
+    Ok(())
+}
+
+/// Adds whether a number of 4 bytes is there, and then the number, 0 where it is absent.
+pub fn push_optional_word(into: &mut Vec<u8>, value: Option<u32>) -> Result<(), NoMemory>
+    ensures added { OnOk result
+        (into.new.items ≡ into.old.items ++ flag_byte (is_some value) ∷ to_le_bytes w32 (unwrap_or value 0)) }
+{
+    into.push(u8::from(value.is_some()))?;
+    push_word(into, value.unwrap_or(0))
 }
 
 /// Adds bytes.
