@@ -1,3 +1,4 @@
+pub mod StateFormat
 mod Arrivals
 mod Edges
 mod Periods
