@@ -11,7 +11,7 @@ ghost use Rattle.board_records.specs.Statuses.{ok, closed, IsEventRefusal};
 ghost use Rattle.board_records.specs.Steps.{IsAskedStep, after_step};
 
 use crate::asked::asked_of;
-use crate::event::{EventRecord, cycle_of, look_of, port_of};
+use crate::event::{EventRecord, cycle_of, look_of, port_of, wide_of};
 use crate::numbers::{LOOK_EVENT, MEMORY_EVENT, PORT_EVENT};
 use crate::reply::{AfterStep, ReplyRecord, tell, tell_cycle, tell_look, tell_parts_of, tell_uart};
 use crate::status::{NO_EVENT, OK, SERIAL_FULL, fault_status};
@@ -37,7 +37,10 @@ pub(crate) fn step(
         if let Some(access) = cycle_of(event) {
             return memory(serial, &access, reply);
         }
-        return other(serial, event, reply);
+        return match wide_of(event) {
+            Some(access) => done(serial, &Event::Wide(access), reply),
+            None => other(serial, event, reply),
+        };
     }
     if event.what == PORT_EVENT {
         return match port_of(event) {
