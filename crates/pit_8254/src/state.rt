@@ -1,7 +1,7 @@
 //! The state of the timer as bytes, out and in.
 
 ghost use Rattle.std.specs.Prelude.{◌≡◌, ◌++◌, ◌<◌, ◌≤◌, OnOk, IfOk};
-ghost use Rattle.byte_fields.specs.Fields.{Took};
+ghost use Rattle.byte_fields.specs.Fields.{Took, IsWithin};
 ghost use Rattle.byte_fields.specs.Loads.{Loads, OneSpelling};
 ghost use Rattle.pit_8254.specs.Quiet.{least_count};
 ghost use Rattle.pit_8254.specs.View.{mode_view, access_view, notation_view, latch_view};
@@ -71,6 +71,16 @@ fn access_of(number: u8) -> ByteAccess
         1 => ByteAccess::LowByte,
         2 => ByteAccess::HighByte,
         _ => ByteAccess::LowThenHigh,
+    }
+}
+
+/// Whether a byte is there, and the byte, 0 where it is absent.
+fn optional_bytes(byte: Option<u8>) -> [u8; 2]
+    ensures sound { IsWithin 0 255 byte }
+{
+    match byte {
+        Some(byte) => [1, byte],
+        None => [0, 0],
     }
 }
 
@@ -198,7 +208,8 @@ impl Counter {
         ensures sound { IsCounter self.now }
     {
         let _ = self.count_latch.bytes();
-        let _ = (self.status_latch, self.low_written);
+        let _ = optional_bytes(self.status_latch);
+        let _ = optional_bytes(self.low_written);
     }
 
     /// The bytes of the mode, RW and BCD.
