@@ -1,7 +1,5 @@
 -- The state of the timer is spelled and read back.
-use Rattle.std.proofs.Common.{◌≡◌, ℕ, zero, suc, ◌+◌, ◌^◌, ◌<◌, ◌≤◌, Bool, true, false, eqb, List, [], ◌∷◌, ◌++◌, length, take, get_or, Option, Some, None, is_some, unwrap_or, refl, sym, ap, subst, ◌∙◌, arith, nat_lt, if◌then◌else◌}
-use Rattle.board_base.proofs.Common.{agree_below_at, eqb-true}
-use Rattle.board_base.specs.Common.{w32, to_le_bytes}
+use Rattle.std.proofs.Common.{◌≡◌, ℕ, zero, suc, ◌^◌, ◌<◌, ◌≤◌, Bool, true, false, List, [], ◌∷◌, length, take, get_or, Option, Some, None, is_some, refl, ap, ◌∙◌, arith, nat_lt}
 use Rattle.device_spec.specs.Pit.{Mode, TerminalCount, OneShot, RateGenerator, SquareWave, SoftwareStrobe, HardwareStrobe, Access, LowByte, HighByte, LowThenHigh, Notation, Binary, Decimal, CounterState, PitState, mode_number, mode_numbered, access_number, notation_number, notation_of_bit, bcd_bit}
 use Rattle.byte_fields.specs.Fields.{bound_where, flag_byte, IsWithin}
 use Rattle.byte_fields.proofs.Formats.{IsFormat, format_as, then_format, last_format}
@@ -189,7 +187,8 @@ unfolding latches_fields
 latches_format =
     format_as 8 latches_bytes AreLatches
     (then_format (λ (l : Latches). l.count_latch) latch_format (λ count_latch good.
-    then_format (λ (l : Latches). l.status_latch) (optional_format byte_within 0 255 (omega arith)) (λ status_latch good.
+    then_format (λ (l : Latches). l.status_latch) (optional_format byte_within 0 255 (omega arith))
+    (λ status_latch good.
     then_format (λ (l : Latches). l.reads_high) flag_format (λ reads_high good.
     last_format (λ (l : Latches). l.low_written)
     (λ low_written. record {

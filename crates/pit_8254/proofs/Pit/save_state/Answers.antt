@@ -1,4 +1,4 @@
-use Rattle.std.proofs.Common.{◌≡◌, List, [], ◌∷◌, ℕ, ◌++◌, OnOk, ap, subst, ◌∙◌}
+use Rattle.std.proofs.Common.{◌≡◌, [], ◌∷◌, ◌++◌, OnOk, ap, subst, ◌∙◌}
 use Rattle.device_spec.specs.Pit.{PitState}
 use Rattle.byte_fields.specs.Fields.{flag_byte}
 use Rattle.pit_8254.specs.State.{counter_bytes}
@@ -24,7 +24,8 @@ returns-clause-saved c =
     let added2 : three ≡ two ++ counter2 =
     c.in_ok-save_state-3.ensures.saved ∙ ap (λ (p : PitState). two ++ counter_bytes p.counter2) c.self.view_is in
     let added : OnOk result (new ≡ three ++ gate2) =
-    subst (λ (p : PitState). OnOk result (new ≡ three ++ (flag_byte p.gate2 ∷ []))) c.self.view_is c.push_flag.ensures.added in
+    subst (λ (p : PitState). OnOk result (new ≡ three ++ (flag_byte p.gate2 ∷ []))) c.self.view_is
+    c.push_flag.ensures.added in
     joined result old one new counter0 (counter1 ++ (counter2 ++ gate2)) added0
     (joined result one two new counter1 (counter2 ++ gate2) added1
     (joined result two three new counter2 gate2 added2 added))
