@@ -6,7 +6,6 @@ mod bridge;
 mod map;
 mod media;
 mod south;
-mod states;
 mod stretches;
 mod timer;
 mod told;
@@ -103,10 +102,6 @@ fn answer(alloc: Global, call: &str, words: &[&str], text: &mut String) -> Resul
         "timer-runs" => timer::tell_runs(text),
         "clock" => media::tell_clock(words, text),
         "disk" => media::tell_disk(alloc, words, text),
-        "saves" => states::tell_saved(alloc, words, text),
-        "loads" => {
-            states::tell_loaded(alloc, word(words, 0), word(words, 1), word(words, 2), text)
-        }
         _ => answer_of_map(alloc, call, words, text),
     }
 }

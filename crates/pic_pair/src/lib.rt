@@ -5,8 +5,6 @@ mod chip;
 mod level_set;
 mod lines;
 mod pair;
-mod state;
 
 pub use lines::Lines;
 pub use pair::{Ack, PicPair};
-pub use state::law_one_pair;
