@@ -4,11 +4,9 @@
 
 mod bridge;
 mod map;
-mod media;
+mod setups;
 mod south;
 mod stretches;
-mod timer;
-mod told;
 
 use board_base::NoMemory;
 use std::alloc::Global;
@@ -98,10 +96,8 @@ fn answer_of_map(
 /// Does what a call asks of a part of the board, and appends the answer.
 fn answer(alloc: Global, call: &str, words: &[&str], text: &mut String) -> Result<(), NoMemory> {
     match call {
-        "timer" => timer::tell(words, text),
-        "timer-runs" => timer::tell_runs(text),
-        "clock" => media::tell_clock(words, text),
-        "disk" => media::tell_disk(alloc, words, text),
+        "setup" => setups::tell_setup(alloc, words, text),
+        "image" | "image-cards" | "image-step" => setups::tell_image(alloc, call, words, text),
         _ => answer_of_map(alloc, call, words, text),
     }
 }

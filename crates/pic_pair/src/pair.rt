@@ -232,6 +232,3 @@ fn spurious_answer(number: u8, chip: &Pic) -> Ack
         spurious: true,
     }
 }
-
-#[cfg(test)]
-mod tests;

@@ -4,10 +4,9 @@
 
 ghost use Rattle.std.specs.Prelude.{◌<◌};
 
-use crate::told::{push_bytes, push_hex, push_register, space};
 use ata_pio::Ata;
 use board_base::{NoMemory, Width};
-use call_words::{byte, number, port};
+use call_words::{byte, number, port, push_bytes, push_hex, push_register, space};
 use cmos_clock::Cmos;
 use std::alloc::{AllocError, Global};
 
