@@ -10,7 +10,6 @@ use crate::lines::{Bytes, NoRoom, Row};
 use crate::shaken::{Shaken, ShakenFolder};
 use board_files::{FileShelf, Folder, OutSink, SystemFolder};
 use board_main::{CommandLine, SystemLine, run_program};
-use std::alloc::Global;
 use std::fs::File;
 use std::io::Write;
 use std::process::ExitCode;
@@ -64,15 +63,6 @@ const NO_TEXT: [(&str, &[&[u8]]); 3] = [
     ("--help \\x80", &[b"board", b"--help", b"\x80"]),
 ];
 
-/// Command lines of which each word is one. The first word of each is the name of the program.
-const GIVEN: [&[&[u8]]; 5] = [
-    &[b"board", b"check", b"s", b"log"],
-    &[b"board", b"a", b"", b"b", b"c", b"d", b"e"],
-    &[b"board"],
-    &[],
-    &[b"board", b"\xc3\xa9"],
-];
-
 /// The greatest exit code.
 const MOST_CODE: u8 = 9;
 
@@ -124,27 +114,6 @@ fn show<R: AllocGlobal + Threads + Wait + Sync, L: CommandLine, F: Folder + Drop
     let _ = told.write_all(&inner);
 }
 
-/// Writes the words that a command line has behind the program's name, each in brackets.
-fn show_words<L: CommandLine>(told: &mut impl Write, line: &L) {
-    let _ = write!(told, "words: ");
-    let Ok(words) = line.words() else {
-        let _ = writeln!(told, "refused");
-        return;
-    };
-    for word in &words {
-        let _ = write!(told, "[{}]", word.as_str());
-    }
-    let _ = writeln!(told, "");
-}
-
-/// Writes the words of each command line that is given as the system has it.
-fn show_given(told: &mut impl Write, alloc: Global) {
-    for words in GIVEN {
-        let given = (Bytes(words), alloc);
-        show_words(told, &SystemLine { rt: &given });
-    }
-}
-
 fn main(rt: HostRuntime) -> ExitCode {
     let mut out = rt.stdout();
     let alloc = rt.alloc();
@@ -161,7 +130,6 @@ fn main(rt: HostRuntime) -> ExitCode {
         let given = (Bytes(words), alloc);
         tell(&rt, &mut out, &SystemLine { rt: &given }, "/dev/null");
     }
-    show_given(&mut out, alloc);
     let _ = write!(out, "no memory for words: ");
     tell(&rt, &mut out, &NoRoom, "/dev/null");
     for line in SHAKEN {

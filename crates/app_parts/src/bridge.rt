@@ -2,10 +2,11 @@
 
 ghost use Rattle.pmc_regs.specs.Pmc.{IsPmcOffset};
 
+use crate::told::push_byte;
 use board_base::{Kind, NoMemory};
 use board_spec::offset::{PAM0, PAM6, SMRAM};
 use board_spec::port::CONFIG_DATA;
-use call_words::{byte, bytes_of, number, port, push_byte};
+use call_words::{byte, bytes_of, number, port};
 use cfg_ports::{ConfAdd, Space};
 use pam_windows::{Pam, window_of};
 use pmc_regs::{Pmc, fdhc_after, hole_of, row_of};

@@ -4,9 +4,11 @@
 
 mod bridge;
 mod map;
-mod setups;
+mod media;
 mod south;
 mod stretches;
+mod timer;
+mod told;
 
 use board_base::NoMemory;
 use std::alloc::Global;
@@ -96,8 +98,10 @@ fn answer_of_map(
 /// Does what a call asks of a part of the board, and appends the answer.
 fn answer(alloc: Global, call: &str, words: &[&str], text: &mut String) -> Result<(), NoMemory> {
     match call {
-        "setup" => setups::tell_setup(alloc, words, text),
-        "image" | "image-cards" | "image-step" => setups::tell_image(alloc, call, words, text),
+        "timer" => timer::tell(words, text),
+        "timer-runs" => timer::tell_runs(text),
+        "clock" => media::tell_clock(words, text),
+        "disk" => media::tell_disk(alloc, words, text),
         _ => answer_of_map(alloc, call, words, text),
     }
 }

@@ -8,10 +8,11 @@ ghost use Rattle.board_spec.specs.Setup.{IsCard};
 ghost use Rattle.pci_bars.specs.Cards.{AreFitted};
 ghost use Rattle.map_builder.specs.Map.{next_version};
 
+use crate::told::{push_some, space};
 use addr_decode::{MapChange, MapRegs, next_edge, touches};
 use arrayvec::ArrayVec;
 use board_base::{NoMemory, Reg, Steps, Width};
-use call_words::{byte, number, push_some, space, width};
+use call_words::{byte, number, width};
 use map_builder::{Changed, FlatMap};
 use pci_bars::{BaseSpec, CardSpec};
 use std::alloc::{AllocError, Global};

@@ -1,7 +1,8 @@
 //! The south bridge's parts by themselves, each line a new one.
 
+use crate::told::{push_byte, push_register, push_some};
 use board_base::NoMemory;
-use call_words::{byte, number, port, push_byte, push_register, push_some};
+use call_words::{byte, number, port};
 use device_spec::LINE_COUNT;
 use pirq_router::{Elcr, Pirq};
 use std::alloc::AllocError;

@@ -4,10 +4,11 @@ ghost use Rattle.std.specs.Prelude.{◌≡◌, ◌%◌};
 ghost use Rattle.board_spec.specs.Setup.{IsCard};
 ghost use Rattle.board_base.specs.Access.{bytes_of};
 
+use crate::told::{push_bytes, push_hex, space};
 use arrayvec::ArrayVec;
 use board_base::{NoMemory, PortAccess, Width};
 use board_stores::port_cycles;
-use call_words::{byte, bytes_of, number, port_access, push_bytes, push_hex, space, width};
+use call_words::{byte, bytes_of, number, port_access, width};
 use dram_store::Dram;
 use pci_bars::{BaseSpec, CardSpec, Contents};
 use std::alloc::{AllocError, Global};

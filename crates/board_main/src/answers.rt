@@ -83,3 +83,25 @@ pub fn write_answer<W: Write>(out: &mut OutSink<W>, own: OwnAnswer) -> Result<()
         OwnAnswer::Version => put_text(out, VERSION),
     }
 }
+
+#[cfg(test)]
+mod tests {
+    use super::*;
+    use std::test::Fail;
+
+    #[test]
+    fn help_and_version_are_the_program_s_own(rt: HostRuntime) -> Result<(), Fail> {
+        let cases = [
+            ("--help", Some(OwnAnswer::Help)),
+            ("--version", Some(OwnAnswer::Version)),
+            ("-h", None),
+            ("replay", None),
+            ("", None),
+        ];
+        for (word, own) in cases {
+            let alone = vec![in rt.alloc(); word.to_string(rt.alloc())?]?;
+            assert_eq!(rt; own_answer(&alone), own, "{word}");
+        }
+        Ok(())
+    }
+}

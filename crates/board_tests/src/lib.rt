@@ -1,5 +1,4 @@
-//! Tests of the board: callers and viewers on threads, turns at a sheet and at a history, the places of looks in a run, logs in
-//! pieces, logs with a byte changed, and a counter of steps.
+//! Tests of the board: callers and viewers on threads, histories by turns, the places of looks in a run, logs in pieces, and logs with a byte changed.
 #![tactic(auto)]
 
 #[cfg(test)]
@@ -9,13 +8,9 @@ mod checked_logs;
 #[cfg(test)]
 mod look_places;
 #[cfg(test)]
-mod marks;
-#[cfg(test)]
 mod pieces;
 #[cfg(test)]
 mod plain;
-#[cfg(test)]
-mod steps;
 #[cfg(test)]
 mod turns;
 #[cfg(test)]

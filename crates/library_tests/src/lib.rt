@@ -1,12 +1,10 @@
-//! Tests of what stands over the board: bus master, serial port, images, what a chipset refuses, and the first fetch.
+//! Tests of what stands over the board: bus master, serial port, images, and what a chipset refuses.
 #![tactic(auto)]
 
 #[cfg(test)]
 mod chipset_door;
 #[cfg(test)]
 mod digits;
-#[cfg(test)]
-mod first_fetch;
 #[cfg(test)]
 mod images;
 #[cfg(test)]

@@ -1,17 +1,84 @@
-//! What a board with a 16550 on COM1 replies and is asked.
+//! What the registers of a 16550 read, and what a board with one on COM1 replies and is asked.
 
 ghost use Rattle.std.specs.Prelude.{◌≡◌, false, [], IfOk};
 ghost use Rattle.board_prelude.specs.Common.{Setup as Fitting, IsInRange};
 
 use crate::digits::{byte, number};
-use board_base::{PortAccess, Width};
+use board_base::{Dev, PortAccess, Target, Width};
+use board_chipset::Chipset;
 use board_core::{Board, BoardOpen, Setup};
 use board_script::{push_heading, push_line};
-use board_spec::Event;
+use board_spec::{Event, Reply};
 use std::alloc::{AllocError, Global};
 use std::process::Abort;
 use std::test::Fail;
-use uart_16550::{SerialBoard, SerialReply};
+use uart_16550::{SerialBoard, SerialReply, Uart};
+
+/// A new UART for each line of steps: `4=10` writes 10h to the register at offset 4, by which nothing is sent, `0!55`
+/// sends 55h, `2?04` reads 04h, and `0<41` is a byte that comes. There is `room` for one or the queue is `full`, and the
+/// interrupt line is `high` or `low`. Offset 0 is the data, 1 IER, 2 IIR and FCR, 3 LCR, 4 MCR, 5 LSR, 6 MSR, 7 SCR.
+const STEPS: &str = "\
+# After a reset.
+0?00 1?00 2?01 3?00 4?00 5?60 6?B0 7?00 room low
+# Without FIFOs the second looped byte is lost. LSR tells it once; with ELSI it interrupts first.
+4=10 1=05 0=41 full 2?04 0=42 2?06 5?63 5?61 2?04 0?41 5?60 0?00 2?01
+# With FIFOs the first sixteen bytes stay, in their order, and the seventeenth is lost.
+2=01 4=10 0=01 0=02 0=03 0=04 0=05 0=06 0=07 0=08 0=09 0=0A 0=0B 0=0C 0=0D 0=0E 0=0F 0=10 5?61 0=11 2?C1 5?63 \
+0?01 0?02 0?03 0?04 0?05 0?06 0?07 0?08 0?09 0?0A 0?0B 0?0C 0?0D 0?0E 0?0F 0?10 5?60 0?00
+# In loopback RTS is CTS, DTR is DSR, OUT1 is RI and OUT2 is DCD. A ring tells its end alone.
+1=08 4=10 2?00 6?0B 6?00 2?01 4=12 6?11 4=13 6?32 4=17 6?70 4=13 6?34 4=FB 4?1B 6?B8 4=00 6?B0
+# FCR empties the queue by its bit 1, with FIFOs or without, and where it turns them on or off.
+0<41 5?61 2=01 5?60 0<42 0<43 2=01 0?42 5?61 2=03 5?60 0<44 2=00 5?60 2?01 0<45 full 2=02 room 5?60 0?00
+# The empty transmitter is told once, by the read of IIR that gives it. A read that gives another cause leaves it, and so
+# does a read of LSR.
+1=03 0<41 2?04 2?04 0?41 2?02 2?01 0!55 5?60 2?02 2?01 4=10 0=56 2?04
+# It is told again where ETBEI rises, and not where it stays.
+1=02 2?02 2?01 1=02 2?01 1=F0 1?00 1=F2 2?02
+# With DLAB offsets 0 and 1 are the divisor latch, and nothing is sent.
+0<41 3=83 0=0C 1=01 0?0C 1?01 5?61 3=03 1?00 0?41 0!48 3?03 7=A5 5=FF 6=FF 5?60 6?B0 7?A5
+# OUT2 lets the interrupt out.
+1=01 0<41 low 4=08 high 2?04 0?41 low";
+
+/// Does a step to a register, and compares what comes of it.
+fn access_register(rt: &impl Abort, uart: &mut Uart, step: &str) {
+    let [off, kind, digits @ ..] = step.as_bytes() else {
+        panic!(rt; "no step: {step}");
+    };
+    let (off, byte) = (off.wrapping_sub(b'0'), byte(digits));
+    assert!(rt; off < 8);
+    match *kind {
+        b'?' => assert_eq!(rt; uart.port_read(off), byte, "{step}"),
+        b'=' => assert_eq!(rt; uart.port_write(off, byte), None, "{step}"),
+        b'!' => assert_eq!(rt; uart.port_write(off, byte), Some(byte), "{step}"),
+        _ => {
+            assert!(rt; uart.room(), "{step}");
+            uart.receive(byte);
+        }
+    }
+}
+
+/// Does a step, and compares what comes of it.
+fn act(rt: &impl Abort, uart: &mut Uart, step: &str) {
+    match step {
+        "room" => assert!(rt; uart.room()),
+        "full" => assert!(rt; !uart.room()),
+        "high" => assert!(rt; uart.irq()),
+        "low" => assert!(rt; !uart.irq()),
+        _ => access_register(rt, uart, step),
+    }
+}
+
+#[test]
+fn registers(rt: HostRuntime) {
+    for line in STEPS.lines() {
+        if !line.starts_with('#') {
+            let mut uart = Uart::new();
+            for step in line.split(' ') {
+                act(&rt, &mut uart, step);
+            }
+        }
+    }
+}
 
 /// What is asked of a board with a serial port, and the log of what the board itself was asked: there its processor 8 is
 /// the port. `03F8=48` writes a byte to the port, `03F8!48` sends one, and `03FA?04` reads one. `0020>11` writes a byte to
@@ -158,6 +225,12 @@ fn ask(rt: &impl Abort, serial: &mut SerialBoard<Board>, request: &str) {
     compare(rt, request, got);
 }
 
+/// Does a request over a chipset, and compares the reply.
+fn ask_chipset(rt: &impl Abort, serial: &mut SerialBoard<Chipset>, request: &str) {
+    let got = serial.step(0, &event(rt, request));
+    compare(rt, request, got);
+}
+
 /// A board of 8 MiB without cards and disk, and a ROM of 64 KiB.
 fn setup(alloc: Global) -> Result<Setup, AllocError>
     ensures mib { IfOk result (λ setup. setup.mib ≡ 8) }
@@ -195,4 +268,38 @@ fn board_with_a_serial_port(rt: HostRuntime) -> Result<(), Fail> {
         expect_log(&rt, rt.alloc(), requests, log)?;
     }
     Ok(())
+}
+
+/// A byte that came is read over a chipset too, which keeps no history.
+#[test]
+fn chipset_with_a_serial_port(rt: HostRuntime) -> Result<(), Fail> {
+    let alloc = rt.alloc();
+    let mut serial = SerialBoard::open(Chipset::open(alloc, setup(alloc)?)?);
+    assert!(rt; serial.room());
+    serial.receive(0x41);
+    for request in "03FC=08 03F9=01 03FA?04 03F8?41 + 03FD?60".split(' ') {
+        ask_chipset(&rt, &mut serial, request);
+    }
+    bytes_from_outside(&rt, &mut serial);
+    ask_chipset(&rt, &mut serial, "0070>10");
+    let clock = Reply::Bus {
+        value: Some(0x5A),
+        target: Target::Device(Dev::Clock),
+        denial: None,
+    };
+    let got = serial.step(0, &event(&rt, "0071<"));
+    assert_eq!(rt; got, SerialReply::Board(clock));
+    Ok(())
+}
+
+/// Bytes come into memory of 8 MiB and into the clock, and none where there is no room for them.
+fn bytes_from_outside(rt: &impl Abort, serial: &mut SerialBoard<Chipset>) {
+    assert!(rt; serial.write_dram(0x7F_FFFE, &[0x12, 0x34]).is_ok());
+    assert!(rt; serial.write_dram(0x7F_FFFF, &[0x56, 0x78]).is_err());
+    let mut bytes = [0; 3];
+    serial.board().dram().read_bytes(0x7F_FFFE, &mut bytes);
+    assert_eq!(rt; bytes, [0x12, 0x34, 0xFF]);
+    assert!(rt; serial.set_clock_byte(0x10, 0x5A).is_ok());
+    assert!(rt; serial.set_clock_byte(0x80, 0x5A).is_err());
+    assert!(rt; serial.level());
 }

@@ -11,3 +11,6 @@ pub use memory_shelf::MemShelf;
 pub use memory_sink::MemSink;
 pub use slow_shelf::SlowShelf;
 pub use slow_sink::SlowSink;
+
+#[cfg(test)]
+mod tests;

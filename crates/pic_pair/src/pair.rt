@@ -232,3 +232,6 @@ fn spurious_answer(number: u8, chip: &Pic) -> Ack
         spurious: true,
     }
 }
+
+#[cfg(test)]
+mod tests;

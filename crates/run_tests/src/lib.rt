@@ -1,13 +1,8 @@
-//! Tests of the commands: statuses, faults, the calls of the outside, the order of a run, and the map after each write; and of
-//! files, writers and the shelves and sinks of tests.
+//! Tests of the commands: statuses, faults, the calls of the outside, the order of a run, and the map after each write.
 #![tactic(auto)]
 
 #[cfg(test)]
 mod commands;
-#[cfg(test)]
-mod doubles;
-#[cfg(test)]
-mod files;
 #[cfg(test)]
 mod holding_gate;
 #[cfg(test)]

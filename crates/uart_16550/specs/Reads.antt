@@ -1,5 +1,5 @@
 -- What a read of a 16550 gives, and what it leaves.
-use Rattle.std.specs.Prelude.{ℕ, ◌+◌, ◌==◌, Bool, true, false, not, if◌then◌else◌, length, Option, Some, None}
+use Rattle.std.specs.Prelude.{ℕ, ◌+◌, ◌==◌, Bool, true, false, not, if◌then◌else◌, List, [], ◌∷◌, length, Option, Some, None}
 use Rattle.uart_16550.specs.declared.interrupt.Interrupt.{Interrupt}
 use Rattle.uart_16550.specs.declared.interrupt.Interrupt.TheVariants.{LineStatus, DataAvailable, TransmitterEmpty, ModemStatus}
 use Rattle.uart_16550.specs.declared.modem.ModemLines.{ModemLines}
@@ -8,7 +8,6 @@ use Rattle.uart_16550.specs.declared.register.ReadRegister.{ReadRegister}
 use Rattle.uart_16550.specs.declared.register.ReadRegister.TheVariants.{Rbr, Dll, Ier, Dlm, Iir, Lcr, Mcr, Lsr, Msr, Scr}
 use Rattle.uart_16550.specs.declared.register.UartRegisters.{UartRegisters}
 use Rattle.uart_16550.specs.Names.{dr, oe, thre, temt, dcts, ddsr, teri, ddcd, cts, dsr, ri, dcd}
-use Rattle.byte_queue.specs.Queue.{front_of, rest_of}
 use Rattle.uart_16550.specs.Uart.{Uart, no_changes, is_dlab, lines_of, pending, flag}
 
 -- the register that a read reaches. With DLAB at 1 the divisor latch stands at 0 and 1 (PC16550D, 8.0 and 8.1)
@@ -21,6 +20,15 @@ register_read dlab off =
     if off == 4 then Mcr else
     if off == 5 then Lsr else
     if off == 6 then Msr else Scr
+
+-- RBR gives the byte that came first, and 0 where there is none
+abbrev pub front_of : List ℕ → ℕ
+front_of [] = 0
+front_of (byte ∷ later) = byte
+
+abbrev pub rest_of : List ℕ → List ℕ
+rest_of [] = []
+rest_of (byte ∷ later) = later
 
 -- bits 3 to 0 of IIR: the interrupt that is pending, and 1 where none is (PC16550D, 8.6)
 abbrev pub identity_of : Option Interrupt → ℕ
@@ -47,7 +55,6 @@ msr_with lines changes =
 abbrev pub msr_of : Uart → ℕ
 msr_of uart = msr_with (lines_of uart.mcr) uart.changes
 
--- RBR gives the byte that came first, and 0 where there is none
 unfoldable pub value_of : Uart → ReadRegister → ℕ
 value_of uart Rbr = front_of uart.queue
 value_of uart Dll = uart.dll

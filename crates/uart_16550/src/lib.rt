@@ -9,6 +9,7 @@ pub mod laws;
 mod line;
 mod modem;
 mod over_chipset;
+mod queue;
 mod register;
 mod serial;
 mod stepped;

@@ -2,13 +2,13 @@
 
 ghost use Rattle.std.specs.Prelude.{◌≡◌, None, IfOk};
 
-use board_files::{FileShelf, Folder, OutSink, Patient};
+use crate::tries::{read_on, write_on};
+use crate::{FileShelf, Folder, OutSink, Patient};
 use board_outside::{Failed, PutFault, Shelf, Sink};
 use std::io;
 use std::io::{ErrorKind, Read, Write};
 use std::process::Abort;
 use std::sync::atomic::{AtomicU32, Ordering};
-use std::time::Clock;
 
 /// What is read and written.
 const BYTES: [u8; 5] = *b"bytes";
@@ -119,80 +119,77 @@ fn fetched(shelf: &mut FileShelf<Drips>, name: &str, at: usize) -> Result<Option
     }
 }
 
-/// The byte at a place, or none at the end.
-fn byte_at(at: usize) -> Result<Option<u8>, Failed> {
-    Ok(BYTES.get(at).copied())
-}
-
-/// Compares what a fetch gives.
-fn expect(
-    rt: &impl Abort,
-    shelf: &mut FileShelf<Drips>,
-    name: &str,
-    at: usize,
-    wanted: Result<Option<u8>, Failed>,
-) {
-    assert_eq!(rt; fetched(shelf, name, at), wanted, "{name} at {at}");
-}
-
 /// A file that is opened once comes byte by byte, however often a signal interrupts, and then ends.
 #[test]
 fn a_file_comes_byte_by_byte(rt: HostRuntime) {
     for interruptions in [0, 1, 63] {
-        let habit = Habit {
-            interruptions,
-            ..QUIET
-        };
-        let mut shelf = shelf_of(habit, 1);
+        let mut shelf = shelf_of(
+            Habit {
+                interruptions,
+                ..QUIET
+            },
+            1,
+        );
         for at in 0..=BYTES.len() {
-            expect(&rt, &mut shelf, "f", at, byte_at(at));
+            assert_eq!(rt;
+                fetched(&mut shelf, "f", at),
+                Ok(BYTES.get(at).copied()),
+                "byte {at}"
+            );
         }
-        // A file that is not there.
-        expect(&rt, &mut shelf, "g", 0, Err(Failed));
+        assert_eq!(rt;
+            fetched(&mut shelf, "g", 0),
+            Err(Failed),
+            "a file that is not there"
+        );
     }
-}
-
-/// What a file gives from its first byte on where its first read comes.
-fn first_byte(lasts: usize) -> Result<Option<u8>, Failed> {
-    if lasts == 0 {
-        return Err(Failed);
-    }
-    byte_at(0)
-}
-
-/// A file whose read fails after so many bytes, and which is then opened anew.
-fn fails_late(rt: &impl Abort, lasts: usize) {
-    let mut shelf = shelf_of(Habit { lasts, ..QUIET }, 2);
-    for at in 0..lasts {
-        expect(rt, &mut shelf, "f", at, byte_at(at));
-    }
-    expect(rt, &mut shelf, "f", lasts, Err(Failed));
-    expect(rt, &mut shelf, "f", 0, first_byte(lasts));
 }
 
 /// An error is a fault where it comes, never the end, and the file is opened anew after it.
 #[test]
 fn a_read_that_fails_is_no_end(rt: HostRuntime) {
     for lasts in 0..=BYTES.len() {
-        fails_late(&rt, lasts);
+        let mut shelf = shelf_of(Habit { lasts, ..QUIET }, 2);
+        for at in 0..lasts {
+            assert_eq!(rt;
+                fetched(&mut shelf, "f", at),
+                Ok(BYTES.get(at).copied()),
+                "byte {at}"
+            );
+        }
+        assert_eq!(rt;
+            fetched(&mut shelf, "f", lasts),
+            Err(Failed),
+            "after {lasts}"
+        );
+        let again = if lasts == 0 {
+            Err(Failed)
+        } else {
+            Ok(Some(b'b'))
+        };
+        assert_eq!(rt; fetched(&mut shelf, "f", 0), again, "again after {lasts}");
     }
-    let habit = Habit {
-        interruptions: 64,
-        ..QUIET
-    };
-    let mut shelf = shelf_of(habit, 1);
-    expect(&rt, &mut shelf, "f", 0, Err(Failed));
+    let mut shelf = shelf_of(
+        Habit {
+            interruptions: 64,
+            ..QUIET
+        },
+        1,
+    );
+    assert_eq!(rt; fetched(&mut shelf, "f", 0), Err(Failed));
 }
 
 /// A file is read from a place at which no handle stands, and not past an error on the way.
 #[test]
 fn a_file_is_read_from_a_place_within(rt: HostRuntime) {
     for at in 0..=BYTES.len() {
-        let mut shelf = shelf_of(QUIET, 1);
-        expect(&rt, &mut shelf, "f", at, byte_at(at));
+        assert_eq!(rt;
+            fetched(&mut shelf_of(QUIET, 1), "f", at),
+            Ok(BYTES.get(at).copied())
+        );
         for lasts in 0..=at {
             let mut shelf = shelf_of(Habit { lasts, ..QUIET }, 1);
-            expect(&rt, &mut shelf, "f", at, Err(Failed));
+            assert_eq!(rt; fetched(&mut shelf, "f", at), Err(Failed), "{at}, {lasts}");
         }
     }
 }
@@ -222,53 +219,36 @@ impl Write for Miser {
     }
 }
 
-/// The sink of such a writer.
-fn sink_of(habit: Habit) -> OutSink<Miser> {
-    OutSink::new(Miser {
-        course: Course::new(habit),
-        taken: [0; 5],
-    })
-}
-
-/// Whether a put of all bytes from a place on took one.
-fn takes_one(sink: &mut OutSink<Miser>, at: usize) -> bool {
-    match BYTES.get(at..) {
-        Some(bytes) if !bytes.is_empty() => sink.put(bytes) == Ok(1),
-        _ => false,
-    }
-}
-
-/// A writer takes so many bytes, one a put, and then none.
-fn takes_and_fails(rt: &impl Abort, habit: Habit) {
-    let mut sink = sink_of(habit);
-    let count = habit.lasts.min(BYTES.len());
-    for at in 0..count {
-        assert!(rt; takes_one(&mut sink, at), "byte {at}");
-    }
-    assert!(rt; sink.put(b"more") == Err(PutFault::Failed));
-    let Miser { taken, .. } = sink.into_inner();
-    assert!(rt; taken[..count] == BYTES[..count]);
-}
-
 /// A put tells a fault where the writer fails or takes nothing, and else that one byte was taken.
 #[test]
 fn a_writer_takes_little_and_fails_late(rt: HostRuntime) {
     for interruptions in [0, 1, 63] {
         for lasts in 0..=6 {
-            takes_and_fails(
-                &rt,
-                Habit {
-                    interruptions,
-                    lasts,
-                },
-            );
+            let course = Course::new(Habit {
+                interruptions,
+                lasts,
+            });
+            let mut sink = OutSink::new(Miser {
+                course,
+                taken: [0; 5],
+            });
+            let count = lasts.min(BYTES.len());
+            for at in 0..count {
+                assert!(rt; sink.put(&BYTES[at..]) == Ok(1), "byte {at} of {lasts}");
+            }
+            assert!(rt; sink.put(b"more") == Err(PutFault::Failed), "after {lasts}");
+            let Miser { taken, .. } = sink.into_inner();
+            assert!(rt; taken[..count] == BYTES[..count], "{count} bytes");
         }
     }
-    let habit = Habit {
+    let course = Course::new(Habit {
         interruptions: 64,
         ..QUIET
-    };
-    let mut sink = sink_of(habit);
+    });
+    let mut sink = OutSink::new(Miser {
+        course,
+        taken: [0; 5],
+    });
     assert!(rt; sink.put(&BYTES) == Err(PutFault::Failed));
 }
 
@@ -315,48 +295,23 @@ impl Write for Stumbler {
     }
 }
 
-/// A folder whose files stumble so.
-#[derive(Drop)]
-struct Stumblers {
-    kind: ErrorKind,
-}
-
-impl Folder for Stumblers {
-    type File = Stumbler;
-
-    ghost files = { λ _. None };
-
-    fn open(&self, _name: &str) -> io::Result<Stumbler> {
-        Ok(Stumbler::new(self.kind))
-    }
-}
-
-/// Whether a read, a write and the write of a patient writer succeed after an error.
-fn go_on<C: Clock>(clock: &C, kind: ErrorKind) -> (bool, bool, bool) {
-    let mut into = [0; 8];
-    let mut shelf = FileShelf::new(Stumblers { kind });
-    let mut sink = OutSink::new(Stumbler::new(kind));
-    let mut waits = Patient::new(clock, Stumbler::new(kind));
-    (
-        shelf.fetch("f", 0, &mut into).is_ok(),
-        sink.put(b"bytes").is_ok(),
-        waits.write(b"bytes").is_ok(),
-    )
-}
-
-/// Errors, and whether a read, a write and a patient writer go on after one.
-const STUMBLES: [(ErrorKind, (bool, bool, bool)); 5] = [
-    (ErrorKind::Interrupted, (true, true, false)),
-    (ErrorKind::WouldBlock, (false, false, true)),
-    (ErrorKind::StorageFull, (false, false, false)),
-    (ErrorKind::BrokenPipe, (false, false, false)),
-    (ErrorKind::Other, (false, false, false)),
+/// Errors, whether a read and a write are made again after one, and whether a patient writer goes on.
+const STUMBLES: [(ErrorKind, bool, bool); 5] = [
+    (ErrorKind::Interrupted, true, false),
+    (ErrorKind::WouldBlock, false, true),
+    (ErrorKind::StorageFull, false, false),
+    (ErrorKind::BrokenPipe, false, false),
+    (ErrorKind::Other, false, false),
 ];
 
 /// Only a call that a signal interrupted is made again, and a patient writer waits only where there is no room yet.
 #[test]
 fn an_error_is_not_tried_again(rt: HostRuntime) {
-    for (kind, wanted) in STUMBLES {
-        assert_eq!(rt; go_on(&rt, kind), wanted);
+    for (kind, again, patient) in STUMBLES {
+        let mut into = [0; 8];
+        assert_eq!(rt; read_on(&mut Stumbler::new(kind), &mut into).is_ok(), again);
+        assert_eq!(rt; write_on(&mut Stumbler::new(kind), b"bytes").is_ok(), again);
+        let mut waits = Patient::new(&rt, Stumbler::new(kind));
+        assert_eq!(rt; waits.write(b"bytes").is_ok(), patient);
     }
 }

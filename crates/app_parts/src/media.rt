@@ -4,9 +4,10 @@
 
 ghost use Rattle.std.specs.Prelude.{◌<◌};
 
+use crate::told::{push_bytes, push_hex, push_register, space};
 use ata_pio::Ata;
 use board_base::{NoMemory, Width};
-use call_words::{byte, number, port, push_bytes, push_hex, push_register, space};
+use call_words::{byte, number, port};
 use cmos_clock::Cmos;
 use std::alloc::{AllocError, Global};
 
