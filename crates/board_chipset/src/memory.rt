@@ -11,6 +11,7 @@ use board_base::Access;
 use board_stores::{decoded, read, write};
 
 /// Does an access to memory of one bus cycle, and returns the reply.
+#[inline(always)]
 pub fn access(state: &mut State, rom: &[u8], access: &Access) -> BusReply
     requires bus { IsBusAccess (is_write access.now.kind) access.now.addr access.now.width access.now.value }
     requires kept { IsState state.old rom.now }
