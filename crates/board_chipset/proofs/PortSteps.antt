@@ -1,6 +1,6 @@
 -- The state after an access at a port.
 use Rattle.std.proofs.Common.{◌≡◌, ◌≢◌, ℕ, true, false, List, ◌∷◌, Option, None, refl, ◌∙◌, ap}
-use Rattle.board_prelude.proofs.Common.{cond_both, Width, PortAccess, Reg, Dev, Keyboard, Target, Device, Config, Card, Abort, bytes_of, Entry, Reply, Setup, config_address, is_hard_reset, Cell, entry_put, byte_put, port_put, device_in, device_reached, device_value, Decoded, port_value, bus_reply, port_answer}
+use Rattle.board_prelude.proofs.Common.{cond_both, Width, PortAccess, Reg, Dev, Keyboard, Target, Device, Config, Card, Abort, bytes_of, Entry, Reply, Setup, config_address, is_hard_reset, Cell, entry_put, byte_put, port_put, device_in, device_reached, device_value, Decoded, port_value, bus_reply, port_answer, Bytes}
 use Rattle.board_base.specs.declared.target.Dev.TheVariants.{Confadd as AddressPort, Reset}
 use Rattle.board_devices.specs.Common.{DevicesValue, AreDevicesOf, AreRoutesOf, is_chip_port, is_chip, PassesBy, ReachesDevice, LeavesDevices}
 use Rattle.board_stores.specs.declared.stores.Stores.{Stores}
@@ -8,7 +8,7 @@ use Rattle.board_stores.specs.Puts.{ArePut}
 use Rattle.board_chipset.specs.declared.registers.Registers.{Registers}
 use Rattle.board_chipset.specs.declared.state.State.{State}
 use Rattle.board_chipset.specs.Common.{HasRegisters, IsStateOf, reached, IsEntryOf, Writes}
-use Rattle.board_chipset.proofs.Reach.{IsBeside}
+use Rattle.board_chipset.proofs.Reach.{IsBeside, IsReached}
 use Rattle.board_chipset.proofs.Effects.{Reached, reads_only, writes_beside, entry_reached}
 use Rattle.board_chipset.proofs.StoreSteps.{stores_stay}
 use Rattle.board_chipset.proofs.StateSteps.{soft, state_after, state_put, state_stays, devices_move}
@@ -46,6 +46,16 @@ chip_at setup history access AddressPort address control keyboard is = absurd (a
 chip_at setup history access Reset address control keyboard is = absurd (control refl)
 chip_at setup history access Keyboard address control keyboard is = absurd (keyboard refl)
 chip_at setup history access _ address control keyboard is = record { beside = is.0; port = is.1 }
+
+-- the same where no history is known
+pub chip_in : (setup : Setup) (bytes : Bytes) (address : ℕ) (access : PortAccess) (dev : Dev) → dev ≢ AddressPort →
+    dev ≢ Reset → dev ≢ Keyboard →
+    IsReached setup bytes address access.port access.width (Device dev) →
+    is_chip_port dev access.port (bytes_of access.width) ≡ true
+chip_in setup bytes address access AddressPort named control keyboard is = absurd (named refl)
+chip_in setup bytes address access Reset named control keyboard is = absurd (control refl)
+chip_in setup bytes address access Keyboard named control keyboard is = absurd (keyboard refl)
+chip_in setup bytes address access _ named control keyboard is = is.1
 
 pub chip_value : (setup : Setup) (history : List Entry) (dev : Dev) (port : ℕ) (width : Width) → dev ≢ AddressPort →
     dev ≢ Reset → dev ≢ Keyboard →

@@ -4,7 +4,7 @@ ghost use Rattle.std.specs.Prelude.{◌≡◌, ℕ, true, false, List, ◌∷◌
 ghost use Rattle.board_prelude.specs.Common.{Entry, Port, Device, Config, Setup, IsBusAccess, port_answer, port_value, value_at};
 ghost use Rattle.board_base.specs.declared.target.Dev.TheVariants.{Reset};
 ghost use Rattle.board_chipset.specs.BusReplies.{reply_of};
-ghost use Rattle.board_chipset.specs.Kept.{IsState, IsStateOf};
+ghost use Rattle.board_chipset.specs.Kept.{IsState, IsStateOf, StaysSound};
 ghost use Rattle.board_chipset.specs.Ports.{IsEntryOf, Reaching, reached};
 
 use crate::bus_reply::BusReply;
@@ -18,6 +18,7 @@ const EMPTY_SOCKET: u32 = 0xFF;
 pub fn access(state: &mut State, access: &PortAccess) -> BusReply
     requires bus { IsBusAccess access.now.write access.now.port access.now.width access.now.value }
     requires kept { (rom : List ℕ) × IsState state.old rom }
+    ensures sound { StaysSound state.old state.new }
     ensures answer { (setup : Setup) (history : List Entry) → IsStateOf setup history state.old
         → reply_of result ≡ port_answer setup history access.now }
     ensures board { (setup : Setup) (history : List Entry) (entry : Entry) → IsStateOf setup history state.old
@@ -45,6 +46,7 @@ pub fn access(state: &mut State, access: &PortAccess) -> BusReply
 fn read(state: &mut State, target: Target, access: &PortAccess) -> u32
     requires reaching { Reaching state.old access.now target }
     requires reads { access.now.write ≡ false }
+    ensures sound { StaysSound state.old state.new }
     ensures value { (setup : Setup) (history : List Entry) → IsStateOf setup history state.old
         → target ≡ (reached setup history access.now).target
         → result ≡ value_at setup history target access.now.port access.now.width }
@@ -64,6 +66,7 @@ fn read(state: &mut State, target: Target, access: &PortAccess) -> u32
 fn read_device(state: &mut State, dev: Dev, access: &PortAccess) -> u32
     requires reaching { Reaching state.old access.now (Device dev) }
     requires reads { access.now.write ≡ false }
+    ensures sound { StaysSound state.old state.new }
     ensures value { (setup : Setup) (history : List Entry) → IsStateOf setup history state.old
         → result ≡ port_value setup history dev access.now.port access.now.width }
     ensures board { (setup : Setup) (history : List Entry) (entry : Entry) → IsStateOf setup history state.old
@@ -83,6 +86,7 @@ fn read_device(state: &mut State, dev: Dev, access: &PortAccess) -> u32
 fn write(state: &mut State, target: Target, access: &PortAccess)
     requires reaching { Reaching state.old access.now target }
     requires writes { access.now.write ≡ true }
+    ensures sound { StaysSound state.old state.new }
     ensures board { (setup : Setup) (history : List Entry) (entry : Entry) → IsStateOf setup history state.old
         → IsEntryOf setup history access.now target entry → IsStateOf setup (entry ∷ history) state.new }
 {
@@ -100,6 +104,7 @@ fn write(state: &mut State, target: Target, access: &PortAccess)
 fn write_register(state: &mut State, reg: Reg, access: &PortAccess)
     requires reaching { Reaching state.old access.now (Config reg) }
     requires writes { access.now.write ≡ true }
+    ensures sound { StaysSound state.old state.new }
     ensures board { (setup : Setup) (history : List Entry) (entry : Entry) → IsStateOf setup history state.old
         → IsEntryOf setup history access.now (Config reg) entry → IsStateOf setup (entry ∷ history) state.new }
 {
@@ -112,6 +117,7 @@ fn write_register(state: &mut State, reg: Reg, access: &PortAccess)
 fn write_device(state: &mut State, dev: Dev, access: &PortAccess)
     requires reaching { Reaching state.old access.now (Device dev) }
     requires writes { access.now.write ≡ true }
+    ensures sound { StaysSound state.old state.new }
     ensures board { (setup : Setup) (history : List Entry) (entry : Entry) → IsStateOf setup history state.old
         → IsEntryOf setup history access.now (Device dev) entry → IsStateOf setup (entry ∷ history) state.new }
 {
@@ -129,6 +135,7 @@ fn write_device(state: &mut State, dev: Dev, access: &PortAccess)
 fn write_control(state: &mut State, access: &PortAccess)
     requires reaching { Reaching state.old access.now (Device Reset) }
     requires writes { access.now.write ≡ true }
+    ensures sound { StaysSound state.old state.new }
     ensures board { (setup : Setup) (history : List Entry) (entry : Entry) → IsStateOf setup history state.old
         → IsEntryOf setup history access.now (Device Reset) entry → IsStateOf setup (entry ∷ history) state.new }
 {

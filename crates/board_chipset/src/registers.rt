@@ -7,7 +7,7 @@ ghost use Rattle.pci_bars.specs.Cards.{AreFitted};
 ghost use Rattle.addr_decode.specs.Common.{StandsFor, map_bytes, as_decoded};
 ghost use Rattle.map_builder.specs.Common.{next_version, AreChanged};
 ghost use Rattle.config_regs.specs.Config.{AreKeptOf};
-ghost use Rattle.board_chipset.specs.Kept.{HasRegisters, IsFlat};
+ghost use Rattle.board_chipset.specs.Kept.{AreSound, HasRegisters, IsFlat};
 ghost use Rattle.board_chipset.specs.Ports.{Writes};
 
 use crate::reset_control::ResetControl;
@@ -44,6 +44,7 @@ impl Registers {
 
     /// The registers on which the memory map depends.
     pub fn regs(&self) -> &MapRegs
+        ensures same { map_bytes result.now ≡ self.now.map.regs }
         ensures stand { (setup : Setup) (history : List Entry) → HasRegisters setup history self.now
             → StandsFor setup (byte_of setup history) (map_bytes result.now) }
         ensures fitted { AreFitted result.now.cards.items }
@@ -53,6 +54,8 @@ impl Registers {
 
     /// What an access at a port reaches, and what denies it, with a disk fitted or without.
     pub fn decode_port(&self, port: u16, width: Width, disk: bool) -> (Target, Option<Denial>)
+        ensures stands { (setup : Setup) (bytes : Bytes) → AreKeptOf setup bytes self.now.map.regs self.now.south
+            → as_decoded result ≡ port_target_of setup bytes self.now.address disk port width }
         ensures decoded { (setup : Setup) (history : List Entry) → HasRegisters setup history self.now
             → as_decoded result
             ≡ port_target_of setup (byte_of setup history) (config_address history) disk port width }
@@ -78,6 +81,7 @@ impl Registers {
 
     /// Writes the configuration address.
     pub fn write_address(&mut self, value: u32)
+        ensures sound { (setup : Setup) → AreSound setup self.old → AreSound setup self.new }
         ensures registers { (setup : Setup) (history : List Entry) (entry : Entry) → HasRegisters setup history self.old
             → Writes setup history entry.event None (Some value) None → HasRegisters setup (entry ∷ history) self.new }
         ensures south { self.new.south ≡ self.old.south }
@@ -89,6 +93,7 @@ impl Registers {
     /// the 82371SB, which routes the PCI interrupts.
     pub fn store(&mut self, reg: Reg, width: Width, value: u32) -> bool
         requires within { reg.off + bytes_of width ≤ 0x100 }
+        ensures sound { (setup : Setup) → AreSound setup self.old → AreSound setup self.new }
         ensures registers { (setup : Setup) (history : List Entry) (entry : Entry) → HasRegisters setup history self.old
             → Writes setup history entry.event None None (Some (Store reg width value))
             → HasRegisters setup (entry ∷ history) self.new }
@@ -103,6 +108,7 @@ impl Registers {
     /// Writes reset control. Returns whether that makes a hard reset, which gives each register its value after a
     /// reset.
     pub fn write_control(&mut self, byte: u8) -> bool
+        ensures sound { (setup : Setup) → AreSound setup self.old → AreSound setup self.new }
         ensures hard { result ≡ is_hard_value self.old.control byte }
         ensures registers { (setup : Setup) (history : List Entry) (entry : Entry)
             → Writes setup history entry.event (Some byte) None None
@@ -118,6 +124,7 @@ impl Registers {
 
     /// Gives each register but reset control its value after a reset.
     fn reset(&mut self)
+        ensures sound { (setup : Setup) → AreSound setup self.old → AreSound setup self.new }
         ensures address { self.new.address ≡ 0 }
         ensures control { self.new.control ≡ self.old.control }
         ensures kept { (setup : Setup) (bytes : Bytes) → AreKeptOf setup bytes self.old.map.regs self.old.south

@@ -6,24 +6,24 @@ use Rattle.board_chipset.proofs.ports.access.Goals as goal
 pub write-requires-clause-reaching : goal.write-requires-clause-reaching
 write-requires-clause-reaching c =
     let kept = c.requires.kept.1 in
-    let decoded = rw (c.has_disk-disk.ensures.fitted kept.setup kept.history kept.of.devices)
-    at (c.decode_port-target.ensures.decoded kept.setup kept.history kept.of.registers) in
+    let decoded = c.decode_port-target.ensures.stands kept.setup kept.sound.registers.bytes kept.sound.registers.kept in
     record {
       rom = c.requires.kept.0;
       kept = kept;
       bus = c.requires.bus;
+      disk = c.has_disk-disk.result;
       target_is = ap (λ (d : Decoded). d.target) decoded;
     }
 
 pub read-requires-clause-reaching : goal.read-requires-clause-reaching
 read-requires-clause-reaching c =
     let kept = c.requires.kept.1 in
-    let decoded = rw (c.has_disk-disk.ensures.fitted kept.setup kept.history kept.of.devices)
-    at (c.decode_port-target.ensures.decoded kept.setup kept.history kept.of.registers) in
+    let decoded = c.decode_port-target.ensures.stands kept.setup kept.sound.registers.bytes kept.sound.registers.kept in
     record {
       rom = c.requires.kept.0;
       kept = kept;
       bus = c.requires.bus;
+      disk = c.has_disk-disk.result;
       target_is = ap (λ (d : Decoded). d.target) decoded;
     }
 

@@ -3,6 +3,7 @@ use Rattle.board_prelude.proofs.Common.{Target, config_address, value_at}
 use Rattle.board_chipset.specs.Ports.{IsEntryOf}
 use Rattle.board_devices.proofs.DeviceLemmas.{leaves_devices}
 use Rattle.board_chipset.proofs.Effects.{Reached, target_reached, reached_in, named, within_function}
+use Rattle.board_chipset.proofs.Reach.{IsReached}
 use Rattle.board_chipset.proofs.HeldTargets.{stored_target}
 use Rattle.board_chipset.proofs.PortSteps.{no_chip, read_stays}
 use Rattle.board_chipset.proofs.ports.read.Goals as goal
@@ -12,10 +13,12 @@ read-requires c =
     let reaching = c.requires.reaching in
     let kept = reaching.kept in
     let access = c.args.access.now in
-    let at = subst (Reached kept.setup kept.history access) c.in-Config.is (reached_in reaching) in
+    let state = c.args.state.now in
+    let at = subst (IsReached kept.setup kept.sound.registers.bytes state.registers.address access.port access.width)
+    c.in-Config.is (reached_in reaching) in
     record {
-      within = within_function kept.setup kept.history access.port access.width c.in-Config.reg
-          reaching.bus.aligned at.1;
+      within = within_function kept.setup state.registers.address access.port access.width c.in-Config.reg
+          kept.sound.registers.address reaching.bus.aligned at.1;
     }
 
 pub read-requires-in_default : goal.read-requires-in_default
@@ -24,7 +27,7 @@ read-requires-in_default c =
     let access = c.args.access.now in
     record {
       stored =
-          stored_target reaching.kept.of access.port access.width c.args.target reaching.bus.aligned
+          stored_target reaching.kept.sound access.port access.width c.args.target reaching.bus.aligned
           (reached_in reaching) c.in_default.not-Device c.in_default.not-Config;
       aligned = rw c.from.ensures reaching.bus.aligned;
     }
@@ -49,6 +52,7 @@ returns-in-Config-clause-board c = λ setup history entry kept is.
 
 pub returns-in_default : goal.returns-in_default
 returns-in_default c = record {
+  sound = λ setup sound. sound;
   value = λ setup history kept is.
       c.read-in_default.ensures.value setup history kept.stores
       ∙ ap (λ (place : ℕ). value_at setup history c.args.target place c.args.access.now.width) c.from.ensures;

@@ -1,4 +1,5 @@
 use Rattle.std.proofs.Common.{refl}
+use Rattle.board_prelude.proofs.Common.{Store, changed_byte}
 use Rattle.board_spec.specs.Registers.{byte_of}
 use Rattle.board_chipset.proofs.MapVersions.{store_follows}
 use Rattle.board_chipset.proofs.RegisterSteps.{follows}
@@ -17,3 +18,15 @@ returns-clause-registers c = λ setup history entry has writes.
     (store_follows setup history c.args.reg c.args.width c.args.value
     (c.store.ensures.windows setup bytes has.kept.map) (c.store.ensures.same_windows setup has.kept.cards.0))
     c.store.ensures.map
+
+pub returns-clause-sound : goal.returns-clause-sound
+returns-clause-sound c = λ setup sound. record {
+  bytes = λ r. changed_byte setup (Store c.args.reg c.args.width c.args.value) r (sound.bytes r);
+  kept = record {
+    map = c.store.ensures.stands setup sound.bytes sound.kept.map;
+    cards = c.store.ensures.cards setup sound.bytes sound.kept.cards;
+    south = c.store-2.ensures.stored setup sound.bytes sound.kept.south;
+  };
+  address = sound.address;
+  flat = c.store.ensures.map;
+}
