@@ -5,7 +5,7 @@ use Rattle.std.proofs.Math.Bool.{or-true}
 use Rattle.std.proofs.Math.Nat.{one-le-pow}
 use Rattle.board_base.specs.declared.access.Width.TheVariants.{Two, Four}
 use Rattle.board_base.specs.declared.access.Access.{Access}
-use Rattle.board_image.specs.Common.{flag_byte, kind_byte, tag_byte, memory_bytes, port_bytes, wide_bytes, Reading, number_where, within, flag_of, flag_field, kind_of, kind_field, width_of, width_field, tag_of, tag_field, most_value, is_wide_size, is_wide_place, memory_fields, port_fields, wide_fields}
+use Rattle.board_image.specs.Common.{kind_byte, tag_byte, memory_bytes, port_bytes, wide_bytes, Reading, number_where, within, kind_of, kind_field, width_of, width_field, tag_of, tag_field, most_value, is_wide_size, is_wide_place, memory_fields, port_fields, wide_fields}
 use Rattle.image_writer.specs.declared.tag.Tag.{Tag}
 use Rattle.image_writer.specs.declared.tag.Tag.TheVariants as tags
 use Rattle.byte_fields.proofs.Formats.{IsFormat, format_as, then_format, last_format}
