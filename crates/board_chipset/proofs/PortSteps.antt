@@ -2,6 +2,10 @@
 use Rattle.std.proofs.Common.{◌≡◌, ◌≢◌, ℕ, true, false, List, ◌∷◌, Option, None, refl, ◌∙◌, ap}
 use Rattle.board_prelude.proofs.Common.{cond_both, Width, PortAccess, Reg, Dev, Keyboard, Target, Device, Config, Card, Abort, bytes_of, Entry, Reply, Setup, config_address, is_hard_reset, Cell, entry_put, byte_put, port_put, device_in, device_reached, device_value, Decoded, port_value, bus_reply, port_answer, Bytes}
 use Rattle.board_base.specs.declared.target.Dev.TheVariants.{Confadd as AddressPort, Reset}
+use Rattle.addr_decode.specs.declared.found.ConfigRegister.{ConfigRegister}
+use Rattle.addr_decode.specs.declared.found.Found.{Found}
+use Rattle.addr_decode.specs.declared.found.Found.TheVariants.{Device as FoundDevice, Register as FoundRegister, Card as FoundCard, Nobody}
+use Rattle.addr_decode.specs.Found.{decoded_as}
 use Rattle.board_devices.specs.Common.{DevicesValue, AreDevicesOf, AreRoutesOf, is_chip_port, is_chip, PassesBy, ReachesDevice, LeavesDevices}
 use Rattle.board_stores.specs.declared.stores.Stores.{Stores}
 use Rattle.board_stores.specs.Puts.{ArePut}
@@ -33,6 +37,16 @@ beside_of setup history access (Config reg) device config is = absurd (config re
 beside_of setup history access (Card dev base off) device config is = is.0
 beside_of setup history access Abort device config is = is
 beside_of setup history access _ device config is = absurd is
+
+-- the same by what was found
+pub beside_found : (setup : Setup) (history : List Entry) (access : PortAccess) (found : Found) →
+    ((dev : Dev) → found ≡ FoundDevice dev → ⊥) → ((register : ConfigRegister) → found ≡ FoundRegister register → ⊥) →
+    Reached setup history access (decoded_as found).target →
+    IsBeside setup (config_address history) access.port access.width
+beside_found setup history access (FoundDevice dev) device register is = absurd (device dev refl)
+beside_found setup history access (FoundRegister at) device register is = absurd (register at refl)
+beside_found setup history access (FoundCard dev base off) device register is = is.0
+beside_found setup history access (Nobody denial) device register is = is
 
 -- a device with ports of its own
 pub record IsChipAt (setup : Setup) (history : List Entry) (access : PortAccess) (dev : Dev) : Type 0 where

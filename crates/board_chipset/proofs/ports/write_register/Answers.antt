@@ -7,14 +7,12 @@ use Rattle.board_chipset.proofs.StateSteps.{soft, sound_registers}
 use Rattle.board_chipset.proofs.PortSteps.{passes, puts_none, registers_move}
 use Rattle.board_chipset.proofs.ports.write_register.Goals as goal
 
-pub store-requires : goal.store-requires
-store-requires c =
+pub store-requires-clause-within : goal.store-requires-clause-within
+store-requires-clause-within c =
     let reaching = c.requires.reaching in
     let access = c.args.access.now in
-    record {
-      within = within_function reaching.kept.setup c.args.state.now.registers.address access.port access.width
-          c.args.reg reaching.kept.sound.registers.address reaching.bus.aligned (reached_in reaching).1;
-    }
+    within_function reaching.kept.setup c.args.state.now.registers.address access.port access.width
+    c.args.register.now.reg reaching.kept.sound.registers.address reaching.bus.aligned (reached_in reaching).1
 
 pub returns-then-store : goal.returns-then-store
 returns-then-store c = record {

@@ -1,10 +1,9 @@
-use Rattle.std.proofs.Common.{◌∙◌, sym, ap, subst, Option}
-use Rattle.board_prelude.proofs.Common.{Target, Denial, kept_address}
+use Rattle.std.proofs.Common.{◌∙◌, sym, subst}
+use Rattle.board_prelude.proofs.Common.{kept_address}
 use Rattle.pci_bars.specs.Cards.{AreDecoded}
 use Rattle.addr_decode.specs.declared.onboard.Onboard.TheVariants.{Answers, Denied, Absent}
-use Rattle.addr_decode.specs.Ports.{as_decoded}
 use Rattle.addr_decode.proofs.PortLemmas.{config_target, onboard_target}
-use Rattle.addr_decode.proofs.ports.decode_port.Goals as goal
+use Rattle.addr_decode.proofs.ports.find_port.Goals as goal
 
 pub returns-then-is_config_data-clause-decoded : goal.returns-then-is_config_data-clause-decoded
 returns-then-is_config_data-clause-decoded c = λ setup bytes stands ide.
@@ -14,8 +13,7 @@ returns-then-is_config_data-clause-decoded c = λ setup bytes stands ide.
 
 pub returns-in-Answers-clause-decoded : goal.returns-in-Answers-clause-decoded
 returns-in-Answers-clause-decoded c = λ setup bytes stands ide.
-    ap (λ (answer : Target × Option Denial). as_decoded answer) c.answered.ensures.answered
-    ∙ onboard_target setup bytes (kept_address c.args.ports.now.confadd) c.args.ports.now.disk c.args.port
+    onboard_target setup bytes (kept_address c.args.ports.now.confadd) c.args.ports.now.disk c.args.port
     c.args.width c.args.regs.now.xbcs
     c.args.ports.now.ide_command c.args.ports.now.idetim (Answers c.in-Answers.dev)
     c.if-is_config_data.ensures.data stands.xbcs ide c.in-Answers.ensures.response
