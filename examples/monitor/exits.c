@@ -9,6 +9,8 @@ enum {
     PIT_LAST = 0x43,
     SYSTEM_PORT = 0x61,   /* its bits 4 and 5 show the 8254 */
     DISK_DATA = 0x1F0,
+    DISK_WORD = 2,        /* bytes */
+    SECTOR_WORDS = 256,
     SYSTEM_CONTROL = 0x92,
     PORTS = 0x10000,
     MOST_BYTES = 8        /* of one event to memory */
@@ -64,7 +66,7 @@ static uint32_t cycle_at(machine *m, uint8_t kind, uint32_t port, uint8_t bytes,
     if (kind == BOARD_WRITE && shows_time(port)) clock_plan(m);
     if (is_keyboard(m, &reply, port, bytes)) return use_keyboard(m, kind, port, value);
     if (is_fw_cfg(m, &reply, kind, port, bytes)) return use_fw_cfg(m, kind, port, value);
-    if (port == DISK_DATA) m->counts.disk_words += bytes / 2;
+    if (port == DISK_DATA) m->counts.disk_words += bytes / DISK_WORD;
     if (is_disk(m, &reply)) return identify_see(m, kind, port, bytes, kind == BOARD_READ ? (uint32_t)reply.value : value);
     if (m->options.virtio) return use_virtio(m, &reply.part[0], kind, bytes, kind == BOARD_READ ? (uint32_t)reply.value : value);
     return (uint32_t)reply.value;
@@ -95,6 +97,36 @@ void machine_out(machine *m, uint16_t port, unsigned bytes, uint32_t value) {
         cycle_at(m, BOARD_WRITE, port + done, cycle, value >> 8 * done & all_ones(cycle));
         done += cycle;
     }
+}
+
+/* Whether the values of a string instruction go to the board in one call: the disk's words, where nobody looks at each. */
+static bool is_one_call(const machine *m, uint16_t port, unsigned bytes) {
+    const options *o = &m->options;
+    return port == DISK_DATA && bytes == DISK_WORD && !o->nothing && !o->log && !o->explain && !o->bochs_bios;
+}
+
+static size_t disk_words(machine *m, uint8_t kind, uint8_t *data, size_t count) {
+    uint32_t values[SECTOR_WORDS] = {0};
+    if (count > SECTOR_WORDS) count = SECTOR_WORDS;
+    for (size_t k = 0; k < count && kind == BOARD_WRITE; k++) memcpy(&values[k], data + DISK_WORD * k, DISK_WORD);
+    size_t done = machine_steps(m, kind, DISK_DATA, DISK_WORD, values, count);
+    for (size_t k = 0; k < done && kind == BOARD_READ; k++) memcpy(data + DISK_WORD * k, &values[k], DISK_WORD);
+    m->counts.ports++;
+    m->counts.disk_words += done;
+    return done;
+}
+
+size_t machine_string(machine *m, uint8_t kind, uint16_t port, unsigned bytes, uint8_t *data, size_t count) {
+    uint32_t value = 0;
+    if (is_one_call(m, port, bytes)) return disk_words(m, kind, data, count);
+    if (kind == BOARD_WRITE) {
+        memcpy(&value, data, bytes);
+        machine_out(m, port, bytes, value);
+    } else {
+        value = machine_in(m, port, bytes);
+        memcpy(data, &value, bytes);
+    }
+    return 1;
 }
 
 /* Main memory is the monitor's: where the board says that a part landed there, its bytes are moved there. */

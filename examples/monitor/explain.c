@@ -1,6 +1,5 @@
 /* What a firmware author looks for: an access that reached nobody, and the register that kept it out. */
 #include "explain.h"
-#include <stdbool.h>
 #include <stdio.h>
 #include <stdlib.h>
 
@@ -27,6 +26,9 @@ static void print_register(const board_part *p) {
     }
 }
 
+/* The socket of the keyboard controller: firmware that waits for an answer there waits for ever. */
+static bool is_socket(const board_part *p) { return p->target == BOARD_IS_DEVICE && p->unit == BOARD_KEYBOARD; }
+
 static void print_denial(const explained *e) {
     bool config = e->what == BOARD_PORT && e->addr >= 0xCFC && e->addr <= 0xCFF;
     switch (e->part.denial) {
@@ -38,7 +40,10 @@ static void print_denial(const explained *e) {
         fprintf(stderr, "denied by confadd, which is not enabled");
         break;
     default:
-        fprintf(stderr, "%s", config ? "reaches a function that is not there" : e->part.target == BOARD_ROM ? "is lost: the ROM takes no write" : "reaches nobody");
+        fprintf(stderr, "%s", config                          ? "reaches a function that is not there"
+                              : is_socket(&e->part)           ? "finds an empty socket, which reads FF"
+                              : e->part.target == BOARD_ROM   ? "is lost: the ROM takes no write"
+                                                              : "reaches nobody");
     }
 }
 
@@ -85,7 +90,8 @@ void explain_step(explain *x, const board_event *event, const board_reply *reply
     for (unsigned k = 0; k < reply->parts && left > 0; k++) {
         const board_part *p = &reply->part[k];
         uint8_t bytes = board_cycle(addr, left);
-        if (p->denial != BOARD_NOT_DENIED || p->target == BOARD_ABORT) note(x, event, p, addr);
+        bool is_empty = is_socket(p) && !x->has_keyboard;
+        if (p->denial != BOARD_NOT_DENIED || p->target == BOARD_ABORT || is_empty) note(x, event, p, addr);
         addr += bytes;
         left -= bytes;
     }
@@ -98,7 +104,7 @@ static int by_count(const void *a, const void *b) {
 
 void explain_close(explain *x) {
     qsort(x->told, EXPLAIN_ROOM, sizeof *x->told, by_count);
-    fprintf(stderr, "[explain] %u kinds of access were denied or reached nobody; how often:\n", x->count);
+    fprintf(stderr, "[explain] %u kinds of access were denied, or reached nobody or an empty socket; how often:\n", x->count);
     for (size_t k = 0; k < MOST_LISTED && x->told[k].count > 0; k++) {
         fprintf(stderr, "%12llu  ", (unsigned long long)x->told[k].count);
         print_access(&x->told[k]);

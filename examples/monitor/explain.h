@@ -1,7 +1,8 @@
-/* explain.h: the accesses that nobody answered or that a register denied, each told once, with the register. */
+/* explain.h: the accesses that nobody answered, that found an empty socket or that a register denied, each told once. */
 #ifndef EXPLAIN_H
 #define EXPLAIN_H
 #include "board.h"
+#include <stdbool.h>
 #ifdef __cplusplus
 extern "C" {
 #endif
@@ -21,7 +22,8 @@ typedef struct explained {
 typedef struct explain {
     explained told[EXPLAIN_ROOM]; /* by the hash of the key; a count of 0 is a free place */
     uint32_t count;
-    uint64_t untold; /* where there was no room */
+    uint64_t untold;   /* where there was no room */
+    bool has_keyboard; /* the monitor has put a controller into its socket */
 } explain;
 
 void explain_step(explain *x, const board_event *event, const board_reply *reply);

@@ -145,17 +145,9 @@ static void open_kvm(void) {
 /* ---- exits */
 
 static void serve_port(void) {
-    uint8_t *data = (uint8_t *)run + run->io.data_offset;
-    for (uint32_t k = 0; k < run->io.count; k++, data += run->io.size) {
-        uint32_t value = 0;
-        if (run->io.direction == KVM_EXIT_IO_OUT) {
-            memcpy(&value, data, run->io.size);
-            machine_out(&m, run->io.port, run->io.size, value);
-        } else {
-            value = machine_in(&m, run->io.port, run->io.size);
-            memcpy(data, &value, run->io.size);
-        }
-    }
+    uint8_t *data = (uint8_t *)run + run->io.data_offset, kind = run->io.direction == KVM_EXIT_IO_OUT ? BOARD_WRITE : BOARD_READ;
+    for (size_t left = run->io.count, done; left > 0; left -= done, data += done * run->io.size)
+        done = machine_string(&m, kind, run->io.port, run->io.size, data, left);
 }
 
 /* The instruction that asked for it ends first. A soft reset is the processor's alone. */

@@ -111,6 +111,7 @@ void machine_open(machine *m, const options *wanted) {
         fprintf(stderr, "monitor: board_open: status %u (5: the ROM's size, 6: the disk's)\n", status);
         exit(1);
     }
+    m->explain.has_keyboard = wanted->keyboard;
     record_open(&m->record, wanted, m->rom, m->rom_bytes, disk, disk_bytes);
     if (wanted->disk) munmap(disk, disk_bytes + 1);
     prepare_registers(m);
@@ -139,6 +140,15 @@ static _Noreturn void refused(const board_event *e, uint32_t status) {
     exit(1);
 }
 
+static uint64_t begin_call(machine *m) {
+    m->counts.calls++;
+    return m->options.timing ? host_time() : 0;
+}
+
+static void end_call(machine *m, uint64_t from) {
+    if (m->options.timing) m->counts.step_time += host_time() - from;
+}
+
 /* What follows each step: counts, log, and what the processor is to see of it. */
 static void stepped(machine *m, const board_event *event, const board_reply *reply) {
     m->counts.steps++;
@@ -148,17 +158,33 @@ static void stepped(machine *m, const board_event *event, const board_reply *rep
 }
 
 void machine_step(machine *m, const board_event *event, board_reply *reply) {
-    uint64_t from = m->options.timing ? host_time() : 0;
+    uint64_t from = begin_call(m);
     uint32_t status = board_step(&m->board, event, reply);
-    if (m->options.timing) m->counts.step_time += host_time() - from;
+    end_call(m, from);
     if (status != BOARD_OK) refused(event, status);
     stepped(m, event, reply);
+}
+
+size_t machine_steps(machine *m, uint8_t kind, uint16_t port, uint8_t bytes, uint32_t *values, size_t count) {
+    board_reply reply;
+    size_t done = 0;
+    uint64_t from = begin_call(m);
+    uint32_t status = kind == BOARD_READ ? board_in_many(&m->board, port, bytes, values, count, &done, &reply)
+                                         : board_out_many(&m->board, port, bytes, values, count, &done, &reply);
+    end_call(m, from);
+    if (status != BOARD_OK)
+        refused(&(board_event){.what = BOARD_PORT, .kind = kind, .addr = port, .bytes = bytes, .value = *values}, status);
+    m->counts.steps += done;
+    see(m, &reply);
+    return done;
 }
 
 void machine_second(machine *m) {
     board_event event;
     board_reply reply;
-    if (board_second(&m->board, &event, &reply) == BOARD_OK) stepped(m, &event, &reply);
+    if (board_second(&m->board, &event, &reply) != BOARD_OK) return;
+    m->counts.calls++;
+    stepped(m, &event, &reply);
 }
 
 uint32_t machine_take_reset(machine *m) {
@@ -201,7 +227,7 @@ void machine_close(machine *m, const char *why) {
     fprintf(stderr, "exits: %llu ports, %llu memory, %llu interrupts taken; %llu disk words, %llu maps, %llu soft and %llu hard resets\n",
             (unsigned long long)c->ports, (unsigned long long)c->memory, (unsigned long long)c->interrupts, (unsigned long long)c->disk_words,
             (unsigned long long)c->maps, (unsigned long long)c->resets[BOARD_SOFT_RESET], (unsigned long long)c->resets[BOARD_HARD_RESET]);
-    fprintf(stderr, "board: %llu steps", (unsigned long long)c->steps);
+    fprintf(stderr, "board: %llu steps in %llu calls", (unsigned long long)c->steps, (unsigned long long)c->calls);
     if (m->options.timing && c->steps) fprintf(stderr, ", %.0f ns each", (double)c->step_time / (double)c->steps);
     fprintf(stderr, "\n");
     board_close(&m->board);

@@ -31,6 +31,7 @@ typedef struct memory_slot {
 
 typedef struct machine_counts {
     uint64_t steps;         /* events that the board did */
+    uint64_t calls;         /* by which it did them: of a string instruction one does many */
     uint64_t step_time;     /* in these, nanoseconds; measured where options.timing is set */
     uint64_t ports, memory; /* exits for a port and for memory; each may take several steps */
     uint64_t disk_words;
@@ -107,8 +108,11 @@ typedef struct machine {
 void machine_open(machine *m, const options *wanted);
 /* Keeps the disk where that was asked, closes log and board, and tells the figures. */
 void machine_close(machine *m, const char *why);
-/* Does one event on the board: every step goes through here, but for seconds of the clock. */
+/* Does one event on the board: every step goes through here, but for seconds of the clock and strings. */
 void machine_step(machine *m, const board_event *event, board_reply *reply);
+/* Reads or writes a port for each of the values in one call, kind BOARD_READ or BOARD_WRITE, until one asks for the
+ * processor: how many were done, at least one. The log and the explanation do not have them. */
+size_t machine_steps(machine *m, uint8_t kind, uint16_t port, uint8_t bytes, uint32_t *values, size_t count);
 /* Lets the MC146818 go on one second, unless it stands still or shows no date. */
 void machine_second(machine *m);
 /* What the processor does after the instruction that made a reset: board_reset. After a hard one the board stands as at
@@ -125,6 +129,9 @@ uint64_t processor_time(void);
 
 uint32_t machine_in(machine *m, uint16_t port, unsigned bytes);
 void machine_out(machine *m, uint16_t port, unsigned bytes, uint32_t value);
+/* What a string instruction does at a port, kind BOARD_READ or BOARD_WRITE, with `count` values of `bytes` bytes each in
+ * data: how many were done, at least one. It ends early where something asks for the processor. */
+size_t machine_string(machine *m, uint8_t kind, uint16_t port, unsigned bytes, uint8_t *data, size_t count);
 /* An access outside the slots, kind BOARD_READ or BOARD_WRITE, of any number of bytes. At 4 GiB and above it reaches nobody. */
 void machine_memory(machine *m, uint8_t kind, uint64_t addr, size_t bytes, uint8_t *data);
 

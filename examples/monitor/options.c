@@ -15,7 +15,7 @@ static const char usage[] =
     "  --memory MIB      1 to 512 (8); 1 to 64 with --log\n"
     "  --seconds N       ends after N seconds\n"
     "  --log NAME        writes NAME.script and NAME.log, for `board check`, with NAME.rom and NAME.disk\n"
-    "  --explain         says of each access that nobody answered or that a register denied which register it was\n"
+    "  --explain         tells each access that nobody answered, an empty socket or a register denied, and which\n"
     "  --keyboard        a keyboard controller at ports 60h and 64h, and port 92h\n"
     "  --fw-cfg          QEMU's fw_cfg at ports 510h and 511h, and nothing of memory in the clock's bytes\n"
     "  --text            with --fw-cfg SeaBIOS takes COM1 for its screen and keyboard\n"

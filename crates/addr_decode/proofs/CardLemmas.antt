@@ -1,11 +1,10 @@
 -- The cards in a list by their device numbers, and the bytes of their registers.
-use Rattle.std.proofs.Common.{◌≡◌, ◌≢◌, ℕ, zero, suc, ◌+◌, ◌*◌, ◌<◌, ◌≤◌, ◌⊎◌, inl, inr, true, false, List, [], ◌∷◌, ◌++◌, take, length, get_or, set, Bor, Option, Some, None, refl, sym, ◌∙◌, ap, subst, arith, get_or-set_same, get_or-set_other, length-set, ◌==◌, All, is_some, option_map, find, slice_index}
+use Rattle.std.proofs.Common.{◌≡◌, ◌≢◌, ℕ, zero, suc, ◌+◌, ◌*◌, ◌<◌, ◌≤◌, ◌⊎◌, inl, inr, true, false, List, [], ◌∷◌, ◌++◌, take, length, get_or, set, Option, Some, None, refl, sym, ◌∙◌, ap, subst, arith, get_or-set_same, get_or-set_other, length-set, ◌==◌, All, is_some, find, slice_index}
 use Rattle.board_prelude.proofs.Common.{position, cases_Bool, cases_eq, cases_lt, cond-true, cond-false, eq-eqb, ne_eqb, eqb-true, true≢false, get_or-map, length-map, take_all, take_more, Setup, FittedCard, IsCard, IsCardList, Rises, card_at, Reg, reset_byte, Bytes, card_register, base_register, expansion_rom}
 use Rattle.std.specs.List.{position_from}
 use Rattle.std.proofs.Math.Seq.{map-set_same}
 use Rattle.std.proofs.lemmas.List.Quantifiers.{position-Some}
 use Rattle.std.proofs.lemmas.Iterator.Adapters.{position_from-zero}
-use Rattle.pci_bars.specs.declared.regs.CardRegs.{CardRegs}
 use Rattle.pci_bars.specs.Cards.{CardBytes, HoldsRom, DecodesAs, IsCardOf, AreCards, AreCardsOf, AreDecoded, cards_of, AreFitted, AreReset}
 use Rattle.addr_decode.specs.MapRegs.{stored}
 use Rattle.pci_bars.proofs.CardLemmas.{holds-same, card-apart}
@@ -85,10 +84,6 @@ fitted_is setup cards dev same =
     ap (λ (place : Option ℕ). is_some place) (position_from-zero (λ card. card.card.dev == dev) cards)
     ∙ sym (found_from cards dev 0)
     ∙ ap (λ (fitted : List FittedCard). is_some (find (λ card. card.dev == dev) fitted)) (sym same)
-
-pub some_card : (lent : Option (Bor CardRegs)) → is_some lent ≡ is_some (option_map (λ card. card.now.card) lent)
-some_card None = refl
-some_card (Some card) = refl
 
 -- ---- the devices rise
 

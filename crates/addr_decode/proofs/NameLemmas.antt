@@ -1,7 +1,10 @@
 -- The names of the registers: exactly the map bytes have one, and each stands for one register.
 use Rattle.std.proofs.Common.{◌≡◌, ◌≢◌, ℕ, zero, suc, ◌+◌, ◌-◌, ◌<◌, ◌≤◌, Bool, true, false, ◌&&◌, ◌||◌, Option, Some, None, List, [], ◌∷◌, ◌++◌, length, get_or, inl, inr, refl, sym, ◌∙◌, ap, subst, arith, take, lit<, ◌==◌, map, find, is_some, unwrap_or, option_map, option_and_then, if◌then◌else◌}
-use Rattle.board_prelude.proofs.Common.{AllByRecursion, list_any, and-true, and-false, cases_Bool, cases_eq, ne_eqb, eqb-true, nat_tests, get_or-map, Width, One, Reg, bytes_of, MapChange, Store, Reset, FittedCard, Setup, card_at, is_within, bridge, isa, card_register, has_rom, is_map_byte, reg_after, touches_map}
+use Rattle.board_prelude.proofs.Common.{position, AllByRecursion, list_any, and-true, and-false, cases_Bool, cases_eq, ne_eqb, eqb-true, nat_tests, get_or-map, Width, One, Reg, bytes_of, MapChange, Store, Reset, FittedCard, Setup, card_at, is_within, bridge, isa, card_register, has_rom, is_map_byte, reg_after, touches_map}
 use Rattle.std.proofs.lemmas.List.{map_more}
+use Rattle.std.proofs.lemmas.List.Quantifiers.{position-Some}
+use Rattle.std.proofs.lemmas.Option.{slice_get-get_or}
+use Rattle.pci_bars.proofs.CardListLemmas.{find-cards, at_position}
 use Rattle.board_base.specs.declared.access.Width.TheVariants.{Two, Four}
 use Rattle.addr_decode.specs.declared.register.MapRegister.{MapRegister}
 use Rattle.addr_decode.specs.declared.register.MapRegister.TheVariants.{Pam, RowBoundary, Hole, Smram, ChipSelects, Card}
@@ -371,3 +374,43 @@ names_numbered cards (Store reg width value) = record {
   few = omega (arith, count_names cards reg width, few_bytes width);
   each = all_numbered cards reg (take (bytes_of width) offsets);
 }
+
+-- ---- the name of a register by its function
+
+pub one_name : (cards : List FittedCard) (reg : Reg) → map_register cards reg ∷ [] ≡ names_from cards reg One
+one_name cards reg =
+    let same : reg.off ≡ reg.off + 0 = omega arith in
+    ap (λ (off : ℕ). map_register cards (record reg { off = off }) ∷ []) same
+
+pub bridge_name : (cards : List FittedCard) (reg : Reg) → reg.dev ≡ 0 → reg.fun ≡ 0 →
+    in_bridge reg.off ≡ map_register cards reg
+unfolding map_register
+bridge_name cards reg dev fun = rw (fun, dev) refl
+
+pub isa_name : (cards : List FittedCard) (reg : Reg) → reg.dev ≡ 1 → reg.fun ≡ 0 →
+    in_isa_bridge reg.off ≡ map_register cards reg
+unfolding map_register
+isa_name cards reg dev fun = rw (fun, dev) refl
+
+pub ide_name : (cards : List FittedCard) (reg : Reg) → reg.fun ≡ 1 → None ≡ map_register cards reg
+unfolding map_register
+ide_name cards reg fun = rw fun refl
+
+-- the card at a place has the device number that is found there
+card_found : (cards : List CardBytes) (dev place : ℕ) (d : CardBytes) →
+    position (λ card. card.card.dev == dev) cards ≡ Some place →
+    Some (get_or cards place d).card ≡ find (λ card. card.dev == dev) (cards_of cards)
+card_found cards dev place d at =
+    let within : place < length cards = (position-Some (λ card. card.card.dev == dev) cards place d at).0 in
+    ap (option_map (λ (card : CardBytes). card.card))
+    (sym (slice_get-get_or cards place d within) ∙ at_position cards dev place (sym at))
+    ∙ find-cards cards dev
+
+pub card_name : (cards : List CardBytes) (reg : Reg) (place : ℕ) (d : CardBytes) → 2 ≤ reg.dev → reg.fun ≡ 0 →
+    position (λ card. card.card.dev == reg.dev) cards ≡ Some place →
+    option_map (Card reg.dev) (in_card reg.off (get_or cards place d).card) ≡ map_register (cards_of cards) reg
+unfolding map_register
+card_name cards reg place d above fun at =
+    rw (fun, ne_eqb reg.dev 0 (omega arith), ne_eqb reg.dev 1 (omega arith))
+    (ap (λ (fitted : Option FittedCard). option_map (Card reg.dev) (option_and_then (in_card reg.off) fitted))
+    (card_found cards reg.dev place d at))

@@ -1,12 +1,12 @@
 -- The ports in the order of the code are those of the definitions.
 use Rattle.std.proofs.Common.{◌≡◌, ◌≢◌, ℕ, List, ◌/◌, Bool, true, false, Option, Some, None, refl, inl, inr, ◌∙◌, sym, ap, is_some, option_map, if◌then◌else◌}
-use Rattle.board_prelude.proofs.Common.{cases_Bool, cond-false, ne_eqb, Width, Dev, Reg, Target, Config, Abort, Denial, Register, NoRegister, bytes_of, Select, Always, XbcsBit0, XbcsBit1, IdeChannel, device_at, select_of, Setup, FittedCard, card_at, is_bit, is_enabled, is_config_port, config_register, Bytes, ide_command as command_register, idetim_high, xbcs as select_register, config_port, by_xbcs, by_channel, selected_by, device_port, port_target_of, card_function, function_at, function_exists}
+use Rattle.board_prelude.proofs.Common.{cases_Bool, cond-false, ne_eqb, Width, Dev, Reg, Decoded, nobody, Register, NoRegister, bytes_of, Select, Always, XbcsBit0, XbcsBit1, IdeChannel, device_at, select_of, Setup, FittedCard, card_at, is_bit, is_enabled, is_config_port, config_register, Bytes, ide_command as command_register, idetim_high, xbcs as select_register, config_port, by_xbcs, by_channel, selected_by, device_port, port_target_of, card_function, function_at, function_exists}
 use Rattle.std.proofs.lemmas.Bool.{true_from_ne_false}
 use Rattle.board_spec.specs.RegisterTable.{Line}
 use Rattle.cfg_ports.specs.declared.conf_add.Selected.{Selected}
 use Rattle.cfg_ports.specs.Selection.{existing}
 use Rattle.addr_decode.specs.declared.onboard.Onboard.{Onboard}
-use Rattle.addr_decode.specs.Common.{if_selected, if_decoded, by_select, response_of, IsChannelOf, as_decoded, after_onboard}
+use Rattle.addr_decode.specs.Common.{if_selected, if_decoded, by_select, response_of, IsChannelOf, register_answers, after_onboard}
 
 xbcs_in_order :
     (setup : Setup) (bytes : Bytes) (bit : ℕ) (dev : Dev) (port : ℕ) →
@@ -81,23 +81,23 @@ onboard_target setup bytes address disk port width xbcs ide_command idetim respo
     (device_port found disk setup bytes port) (sym not_config))
 
 by_existence : (address : ℕ) (exists' : Bool) (reg : Reg) → is_enabled address ≡ true →
-    as_decoded (if exists' then (Config reg, None) else (Abort, Some NoRegister))
+    (if exists' then register_answers reg else nobody NoRegister)
     ≡ config_port address (if exists' then Some reg else None)
 by_existence address true reg on = refl
 by_existence address false reg on = rw on refl
 
 -- a selected register is reached where its function exists
 pub selected_target :
-    (setup : Setup) (address : ℕ) (port : ℕ) (selected : Selected) (answer : Target × Option Denial) →
+    (setup : Setup) (address : ℕ) (port : ℕ) (selected : Selected) (answer : Decoded) →
     (is_enabled address ≡ false → ⊥) →
     config_register setup address port ≡ existing setup (Some selected) →
     answer
     ≡
-    (if function_exists setup selected.bus selected.reg.dev selected.reg.fun then (Config selected.reg, None) else
-    (Abort, Some NoRegister)) →
-    as_decoded answer ≡ config_port address (config_register setup address port)
+    (if function_exists setup selected.bus selected.reg.dev selected.reg.fun then register_answers selected.reg else
+    nobody NoRegister) →
+    answer ≡ config_port address (config_register setup address port)
 selected_target setup address port selected answer on register is =
-    ap (λ (a : Target × Option Denial). as_decoded a) is
+    is
     ∙ by_existence address (function_exists setup selected.bus selected.reg.dev selected.reg.fun) selected.reg
     (true_from_ne_false (is_enabled address) on)
     ∙ sym (ap (λ (reg : Option Reg). config_port address reg) register)

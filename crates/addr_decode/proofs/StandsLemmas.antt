@@ -1,5 +1,5 @@
 -- The registers of the address map among those of a board: after a reset, and where a byte is stored.
-use Rattle.std.proofs.Common.{◌≡◌, ◌≢◌, ℕ, ◌+◌, ◌-◌, ◌<◌, ◌≤◌, ◌⊎◌, inl, inr, Option, Some, None, true, false, List, [], ◌∷◌, length, get_or, set, refl, sym, ◌∙◌, ap, subst, arith, add-one, ◌==◌}
+use Rattle.std.proofs.Common.{◌≡◌, ◌≢◌, ℕ, ◌+◌, ◌-◌, ◌<◌, ◌≤◌, ◌⊎◌, inl, inr, Option, Some, None, true, false, List, length, get_or, set, refl, sym, ◌∙◌, ap, subst, arith, add-one, ◌==◌}
 use Rattle.board_prelude.proofs.Common.{cases_Bool, cases_eq, cases_lt, eq-eqb, eqb-false, nat_tests, Width, bytes_of, Reg, Store, FittedCard, Setup, merged, byte, is_within, reset_byte, writable_bits, changed_byte, smram_after, Bytes, bridge, isa, drb, fdhc, smram, xbcs, card_register, reg_after, after_stores, changed_byte-one_same, byte_by_byte}
 use Rattle.pmc_regs.specs.Pmc.{IsRowsOf}
 use Rattle.pmc_regs.proofs.Common.{row_bytes, rows_are, there, rows_after_store}

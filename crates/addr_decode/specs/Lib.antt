@@ -1,5 +1,6 @@
 pub mod Edges
 pub mod EdgeSearch
+pub mod Found
 pub mod MapRegister
 pub mod MapRegs
 pub mod Memory

@@ -1,19 +1,11 @@
 //! The cards by their device numbers.
-ghost use Rattle.std.specs.Prelude.{◌≡◌, is_some};
-ghost use Rattle.board_prelude.specs.Common.{Setup, card_at, Bytes, card_register};
+ghost use Rattle.std.specs.Prelude.{◌≡◌};
+ghost use Rattle.board_prelude.specs.Common.{Setup, Bytes, card_register};
 ghost use Rattle.pci_bars.specs.Cards.{AreCardsOf, AreDecoded, AreFitted, cards_of};
 ghost use Rattle.addr_decode.specs.MapRegs.{stored};
 
 use arrayvec::ArrayVec;
-use pci_bars::{CARD_COUNT, CardRegs, card_at, card_index};
-
-/// Whether there is a card at a device number.
-pub fn is_fitted(cards: &[CardRegs], dev: u8) -> bool
-    ensures fitted { (setup : Setup) (bytes : Bytes) → AreDecoded setup bytes cards.now
-        → result ≡ is_some (card_at setup dev) }
-{
-    card_at(cards, dev).is_some()
-}
+use pci_bars::{CARD_COUNT, CardRegs, card_index};
 
 /// Writes a byte of the card at a device number. Where there is none nothing happens.
 pub fn write_card(cards: &mut ArrayVec<CardRegs, CARD_COUNT>, dev: u8, off: u8, byte: u8)

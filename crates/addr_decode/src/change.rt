@@ -150,6 +150,7 @@ impl MapRegs {
     }
 
     /// The byte of a register.
+    #[inline(always)]
     pub fn byte(&self, register: MapRegister) -> u8
         requires cards { AreFitted self.now.cards.items }
         requires number { IsNumbered register }

@@ -1,11 +1,13 @@
 //! The registers that the address map depends on, each named once.
-ghost use Rattle.std.specs.Prelude.{◌≡◌, [], ◌∷◌, is_some, option_map};
-ghost use Rattle.board_prelude.specs.Common.{One, list_any, reg_after};
+ghost use Rattle.std.specs.Prelude.{◌≡◌, ◌≤◌, ◌==◌, [], ◌∷◌, Some, is_some, option_map};
+ghost use Rattle.board_prelude.specs.Common.{One, list_any, position, reg_after};
 ghost use Rattle.pci_bars.specs.Cards.{cards_of};
 ghost use Rattle.addr_decode.specs.declared.register.CardRegister.TheVariants.{ExpansionRom};
 ghost use Rattle.addr_decode.specs.declared.register.MapRegister.TheVariants.{Card};
+ghost use Rattle.addr_decode.specs.Found.{HasRegister};
 ghost use Rattle.addr_decode.specs.MapRegister.{IsCardNumber, offset_of, is_of_card, in_bridge, in_isa_bridge, in_card, in_device, map_register, names_from, names_of};
 
+use crate::found::{ConfigRegister, Function};
 use crate::regs::MapRegs;
 use arrayvec::ArrayVec;
 use board_base::{Reg, Width};
@@ -126,6 +128,20 @@ impl MapRegs {
         self.register_after(reg, 0)
     }
 
+    /// The name of a register that its function has: that of the one register to which a store of one byte goes. None
+    /// where the address map does not depend on it.
+    pub fn name_of(&self, register: &ConfigRegister) -> Option<MapRegister>
+        requires function { HasRegister self.now.cards.items register.now.function register.now.reg }
+        ensures named { result ∷ [] ≡ names_from (cards_of self.now.cards.items) register.now.reg One }
+    {
+        match register.function {
+            Function::HostBridge => in_bridge(register.reg.off),
+            Function::IsaBridge => in_isa_bridge(register.reg.off),
+            Function::Ide => None,
+            Function::Card(place) => named_at(&self.cards, place, register.reg),
+        }
+    }
+
     /// The name of the register `k` offsets after another. Past offset FFh there is none.
     fn register_after(&self, reg: Reg, k: u8) -> Option<MapRegister>
         ensures named { result ≡ map_register (cards_of self.now.cards.items) (reg_after reg k) }
@@ -168,6 +184,16 @@ fn in_device(cards: &[CardRegs], dev: u8, off: u8) -> Option<MapRegister>
         Some(card) => named_in_card(dev, card, off),
         None => None,
     }
+}
+
+/// The name of a register of the card at a place in the list.
+fn named_at(cards: &[CardRegs], place: usize, reg: Reg) -> Option<MapRegister>
+    requires dev { 2 ≤ reg.dev }
+    requires fun { reg.fun ≡ 0 }
+    requires place { position (λ card. card.card.dev == reg.dev) cards.now ≡ Some place }
+    ensures named { result ≡ map_register (cards_of cards.now) reg }
+{
+    named_in_card(reg.dev, &cards[place], reg.off)
 }
 
 /// The name of a register of a card, with the card's device number.

@@ -1,9 +1,9 @@
 -- What an access at a port writes, by what it reaches.
-use Rattle.std.proofs.Common.{◌≡◌, ℕ, ◌+◌, ◌%◌, ◌≤◌, true, false, ◌&&◌, List, [], ◌∷◌, Option, Some, None, refl, sym, subst, arith, inl, inr, ◌==◌, unwrap_or, option_map, is_some}
-use Rattle.board_prelude.proofs.Common.{cases_Bool, and_parts, cond_both, nat_tests, Width, One, PortAccess, Reg, Keyboard, Target, Card, Device, Config, Abort, bytes_of, largest_of, Port, Entry, MapChange, Store, Setup, config_address_port, reset_control_port, function_exists, kept_address, config_address, is_hard_reset, is_enabled, bus_of, device_of, function_of, register_of, is_config_port, config_register, byte_of}
+use Rattle.std.proofs.Common.{◌≡◌, ℕ, ◌+◌, ◌%◌, ◌≤◌, true, false, ◌&&◌, List, Option, Some, None, refl, sym, subst, arith, inl, inr, ◌==◌, is_some}
+use Rattle.board_prelude.proofs.Common.{cases_Bool, and_parts, cond_both, nat_tests, Width, One, PortAccess, Reg, Keyboard, Target, Card, Device, Config, Abort, bytes_of, largest_of, Port, Entry, MapChange, Store, Setup, config_address_port, reset_control_port, function_exists, kept_address, config_address, is_enabled, bus_of, device_of, function_of, register_of, is_config_port, config_register, byte_of}
 use Rattle.board_base.specs.declared.access.Width.TheVariants.{Two, Four}
 use Rattle.board_base.specs.declared.target.Dev.TheVariants.{Confadd as AddressPort, Reset}
-use Rattle.cfg_ports.proofs.AddressLemmas.{kept_address-again, kept_address-low_bits, within_space}
+use Rattle.cfg_ports.proofs.AddressLemmas.{kept_address-low_bits, within_space}
 use Rattle.board_chipset.specs.declared.state.State.{State}
 use Rattle.board_chipset.specs.Ports.{reached, Reaching, IsEntryOf, Writes}
 use Rattle.board_chipset.proofs.Reach.{IsBeside, IsReached, reaches}
@@ -78,16 +78,8 @@ fits_byte Four value byte fits = absurd (omega arith)
 
 -- ---- the configuration address, and the register that it names
 
-low_bits : (written : Option ℕ) (old : ℕ) → old % 4 ≡ 0 → unwrap_or (option_map kept_address written) old % 4 ≡ 0
-low_bits None old is = is
-low_bits (Some value) old is = kept_address-low_bits (kept_address value) (kept_address-again value)
-
-address_low : (history : List Entry) → config_address history % 4 ≡ 0
-unfolding config_address
-address_low [] = refl
-address_low (entry ∷ before) =
-    cond_both (is_hard_reset before entry.event) 0 _ (λ (address : ℕ). address % 4 ≡ 0) (λ _. refl)
-    (λ _. low_bits _ (config_address before) (address_low before))
+address_low : (address : ℕ) → kept_address address ≡ address → address % 4 ≡ 0
+address_low address kept = kept_address-low_bits address kept
 
 -- by the parts of the address
 pub record IsNamed (setup : Setup) (address port : ℕ) (reg : Reg) : Type 0 where
@@ -112,12 +104,13 @@ named setup address port reg is =
 
 -- an access to a register that an address names stays within its function
 pub within_function :
-    (setup : Setup) (history : List Entry) (port : ℕ) (width : Width) (reg : Reg) → port % bytes_of width ≡ 0 →
-    config_register setup (config_address history) port ≡ Some reg → reg.off + bytes_of width ≤ 0x100
-within_function setup history port width reg aligned is =
-    rw ((named setup (config_address history) port reg is).off)
-    (within_space (config_address history) port (register_of (config_address history)) (port % 4) width
-    (address_low history) refl refl aligned)
+    (setup : Setup) (address port : ℕ) (width : Width) (reg : Reg) → kept_address address ≡ address →
+    port % bytes_of width ≡ 0 →
+    config_register setup address port ≡ Some reg → reg.off + bytes_of width ≤ 0x100
+within_function setup address port width reg kept aligned is =
+    rw ((named setup address port reg is).off)
+    (within_space address port (register_of address) (port % 4) width
+    (address_low address kept) refl refl aligned)
 
 -- ---- what an entry tells
 
@@ -130,9 +123,14 @@ target_reached setup history access target is =
 
 pub reached_in :
     {state : State} {access : PortAccess} {target : Target} → (reaching : Reaching state access target) →
-    Reached reaching.kept.setup reaching.kept.history access target
+    IsReached reaching.kept.setup reaching.kept.sound.registers.bytes state.registers.address access.port access.width
+    target
 reached_in {state} {access} {target} reaching =
-    target_reached reaching.kept.setup reaching.kept.history access target reaching.target_is
+    let setup = reaching.kept.setup in
+    let bytes = reaching.kept.sound.registers.bytes in
+    let address = state.registers.address in
+    subst (IsReached setup bytes address access.port access.width) (sym reaching.target_is)
+    (reaches setup bytes address reaching.disk access.port access.width)
 
 pub entry_reached :
     {setup : Setup} {history : List Entry} {access : PortAccess} {target shown : Target} {entry : Entry} →

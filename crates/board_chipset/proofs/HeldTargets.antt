@@ -1,15 +1,16 @@
 -- What an access reaches has the bytes that it asks for.
-use Rattle.std.proofs.Common.{◌≡◌, ℕ, ◌+◌, ◌%◌, ◌^◌, ◌≤◌, Bool, true, false, ◌&&◌, not, List, [], ◌∷◌, length, Option, Some, None, inl, inr, refl, sym, arith, is_some, unwrap_or, option_map}
-use Rattle.board_prelude.proofs.Common.{Kind, Width, One, Dev, Reg, Area, Target, Device, Config, Card, Abort, bytes_of, Part, Entry, Setup, IsRomSize, IsBusAccess, is_write, fdhc, smram, xbcs, lies_in, upper_memory, byte_of, config_address, Bytes, Window, first_of, line_where, card_area, row_of, hole_of, is_in, is_smram_range, is_shadowed, smram_answers, is_rom_selected, memory_claim, area_of, window_bits, target_at, part_answer}
+use Rattle.std.proofs.Common.{◌≡◌, ℕ, ◌+◌, ◌%◌, ◌^◌, ◌≤◌, Bool, true, false, ◌&&◌, not, List, [], ◌∷◌, length, Option, Some, None, inl, inr, refl, sym, subst, arith, is_some, unwrap_or, option_map}
+use Rattle.board_prelude.proofs.Common.{Kind, Width, One, Dev, Reg, Area, Target, Device, Config, Card, Abort, bytes_of, Part, Setup, IsRomSize, IsBusAccess, is_write, fdhc, smram, xbcs, lies_in, upper_memory, Bytes, Window, first_of, line_where, card_area, row_of, hole_of, is_in, is_smram_range, is_shadowed, smram_answers, is_rom_selected, memory_claim, area_of, window_bits, target_at}
 use Rattle.board_base.specs.declared.access.Width.TheVariants.{Two, Four}
 use Rattle.board_base.specs.declared.access.Access.{Access}
 use Rattle.board_base.specs.declared.target.Area.TheVariants.{Dram as DramArea, Shadow as ShadowArea, Smram as SmramArea, Rom as RomArea, Card as CardArea, Abort as AbortArea}
 use Rattle.pci_bars.specs.Common.{AreFitted, LiesIn}
 use Rattle.pci_bars.proofs.WindowLemmas.{IsSized, memory_claim_sized, io_claim_sized, lies_in_window}
+use Rattle.addr_decode.specs.MapRegs.{MapBytes, StandsFor}
 use Rattle.addr_decode.proofs.CardLemmas.{fitted_list}
-use Rattle.board_stores.specs.Common.{IsStored, IsHeld, IsReady}
+use Rattle.board_stores.specs.Common.{IsStored, IsHeld, IsReady, part_in}
 use Rattle.board_chipset.specs.declared.state.State.{State}
-use Rattle.board_chipset.specs.Kept.{IsStateOf}
+use Rattle.board_chipset.specs.Kept.{IsSound}
 use Rattle.board_chipset.proofs.Reach.{IsReached}
 
 -- ---- memory
@@ -74,42 +75,45 @@ pub lies_in_base :
 lies_in_base setup contents window dev base place width sized device number lies =
     rw (← device, ← number, ← sized.bits) lies
 
-module _ {setup : Setup} {history : List Entry} {state : State} (kept : IsStateOf setup history state) where
+module _ {setup : Setup} {state : State} (kept : IsSound setup state) where
+  -- registers that are those of the map
+  pub stands : {regs : MapBytes} → regs ≡ state.registers.map.regs → StandsFor setup kept.registers.bytes regs
+  stands same = subst (λ (regs : MapBytes). StandsFor setup kept.registers.bytes regs) (sym same) kept.registers.kept.map
+
   cards_fitted : AreFitted state.registers.map.regs.cards
   cards_fitted =
       fitted_list state.registers.map.regs.cards setup.cards (sym kept.registers.kept.cards.0) kept.fits.cards
 
   held_in :
       (addr : ℕ) (width : Width) (area : Area) → addr % bytes_of width ≡ 0 →
-      ((dev base : ℕ) → area ≡ CardArea dev base → IsClaim (memory_claim setup (byte_of setup history) addr) dev base) →
+      ((dev base : ℕ) → area ≡ CardArea dev base → IsClaim (memory_claim setup kept.registers.bytes addr) dev base) →
       IsHeld setup.rom state.stores.contents (target_at setup area addr) width
   held_in addr width RomArea aligned claim = rom_within addr (length setup.rom) width kept.fits.rom aligned
   held_in addr width (CardArea dev base) aligned claim =
       let by = claim dev base refl in
       let sized : IsSized setup by.0 =
-      memory_claim_sized setup (byte_of setup history) state.registers.map.regs.cards addr by.0 cards_fitted.each
+      memory_claim_sized setup kept.registers.bytes state.registers.map.regs.cards addr by.0 cards_fitted.each
       kept.registers.kept.map.cards by.1 in
       lies_in_base setup state.stores.contents by.0 dev base addr width sized by.2 by.3
-      (lies_in_window setup state.stores.contents by.0 addr width sized kept.stores.contents.sizes aligned)
+      (lies_in_window setup state.stores.contents by.0 addr width sized kept.contents aligned)
   held_in addr width _ aligned claim = tt
 
   pub ready :
       {rom : List ℕ} {access : Access} {answer : Part} → setup.rom ≡ rom →
       IsBusAccess (is_write access.kind) access.addr access.width access.value →
-      answer ≡ part_answer setup history access →
+      answer ≡ part_in setup kept.registers.bytes access →
       IsReady rom state.stores.contents access answer
-  unfolding part_answer
   ready {rom} {access} image bus is = record {
     bus = bus;
     held = rw (is, ← image)
-        (held_in access.addr access.width (area_of setup (byte_of setup history) access.addr access.kind access.smm)
+        (held_in access.addr access.width (area_of setup kept.registers.bytes access.addr access.kind access.smm)
         bus.aligned
-        (λ dev base card. claimed setup (byte_of setup history) access.addr access.kind access.smm dev base card));
+        (λ dev base card. claimed setup kept.registers.bytes access.addr access.kind access.smm dev base card));
   }
 
   pub stored_target :
       (port : ℕ) (width : Width) (target : Target) → port % bytes_of width ≡ 0 →
-      IsReached setup (byte_of setup history) (config_address history) port width target →
+      IsReached setup kept.registers.bytes state.registers.address port width target →
       ((dev : Dev) → target ≡ Device dev → ⊥) → ((reg : Reg) → target ≡ Config reg → ⊥) →
       IsStored state.stores.contents target width
   stored_target port width (Device dev) aligned is device config = absurd (device dev refl)
@@ -117,9 +121,9 @@ module _ {setup : Setup} {history : List Entry} {state : State} (kept : IsStateO
   stored_target port width (Card dev base off) aligned is device config =
       let window : Window = is.1.0 in
       let sized : IsSized setup window =
-      io_claim_sized setup (byte_of setup history) state.registers.map.regs.cards port window cards_fitted.each
+      io_claim_sized setup kept.registers.bytes state.registers.map.regs.cards port window cards_fitted.each
       kept.registers.kept.map.cards is.1.1 in
       rw (← is.1.2, ← is.1.3, ← is.1.4)
-      (lies_in_window setup state.stores.contents window port width sized kept.stores.contents.sizes aligned)
+      (lies_in_window setup state.stores.contents window port width sized kept.contents aligned)
   stored_target port width Abort aligned is device config = tt
   stored_target port width _ aligned is device config = absurd is

@@ -2,7 +2,7 @@
 use Rattle.std.proofs.Common.{◌≡◌, ℕ, List, sym, subst}
 use Rattle.board_prelude.proofs.Common.{Event, Entry, Setup, IsInRange}
 use Rattle.board_chipset.specs.declared.state.State.{State}
-use Rattle.board_chipset.specs.Common.{CanDo, IsStateOf, Running, IsLeftBy, IsLeft}
+use Rattle.board_chipset.specs.Common.{CanDo, IsStateOf, IsSound, Running, IsLeftBy}
 
 pub left_by : {setup : Setup} {history : List Entry} {state : State} → IsStateOf setup history state →
     IsLeftBy (record { setup = setup; state = state }) history
@@ -22,8 +22,8 @@ left_as same is = rw (← same) is
 
 pub can_do : (chipset : Running) (setup : Setup) (state : State) (rom : List ℕ) (event : Event) →
     record { setup = setup; state = state } ≡ chipset → setup.rom ≡ rom →
-    IsLeft chipset → IsInRange chipset.setup event → CanDo state rom event
-can_do chipset setup state rom event same image (history, left) in_range = record {
-  kept = record { setup = setup; history = history; of = state_of same left; image = image };
+    IsSound setup state → IsInRange chipset.setup event → CanDo state rom event
+can_do chipset setup state rom event same image sound in_range = record {
+  kept = record { setup = setup; sound = sound; image = image };
   in_range = subst (λ (it : Running). IsInRange it.setup event) (sym same) in_range;
 }

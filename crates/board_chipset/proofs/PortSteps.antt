@@ -1,14 +1,18 @@
 -- The state after an access at a port.
 use Rattle.std.proofs.Common.{◌≡◌, ◌≢◌, ℕ, true, false, List, ◌∷◌, Option, None, refl, ◌∙◌, ap}
-use Rattle.board_prelude.proofs.Common.{cond_both, Width, PortAccess, Reg, Dev, Keyboard, Target, Device, Config, Card, Abort, bytes_of, Entry, Reply, Setup, config_address, is_hard_reset, Cell, entry_put, byte_put, port_put, device_in, device_reached, device_value, Decoded, port_value, bus_reply, port_answer}
+use Rattle.board_prelude.proofs.Common.{cond_both, Width, PortAccess, Reg, Dev, Keyboard, Target, Device, Config, Card, Abort, bytes_of, Entry, Reply, Setup, config_address, is_hard_reset, Cell, entry_put, byte_put, port_put, device_in, device_reached, device_value, Decoded, port_value, bus_reply, port_answer, Bytes}
 use Rattle.board_base.specs.declared.target.Dev.TheVariants.{Confadd as AddressPort, Reset}
+use Rattle.addr_decode.specs.declared.found.ConfigRegister.{ConfigRegister}
+use Rattle.addr_decode.specs.declared.found.Found.{Found}
+use Rattle.addr_decode.specs.declared.found.Found.TheVariants.{Device as FoundDevice, Register as FoundRegister, Card as FoundCard, Nobody}
+use Rattle.addr_decode.specs.Found.{decoded_as}
 use Rattle.board_devices.specs.Common.{DevicesValue, AreDevicesOf, AreRoutesOf, is_chip_port, is_chip, PassesBy, ReachesDevice, LeavesDevices}
 use Rattle.board_stores.specs.declared.stores.Stores.{Stores}
 use Rattle.board_stores.specs.Puts.{ArePut}
 use Rattle.board_chipset.specs.declared.registers.Registers.{Registers}
 use Rattle.board_chipset.specs.declared.state.State.{State}
 use Rattle.board_chipset.specs.Common.{HasRegisters, IsStateOf, reached, IsEntryOf, Writes}
-use Rattle.board_chipset.proofs.Reach.{IsBeside}
+use Rattle.board_chipset.proofs.Reach.{IsBeside, IsReached}
 use Rattle.board_chipset.proofs.Effects.{Reached, reads_only, writes_beside, entry_reached}
 use Rattle.board_chipset.proofs.StoreSteps.{stores_stay}
 use Rattle.board_chipset.proofs.StateSteps.{soft, state_after, state_put, state_stays, devices_move}
@@ -34,6 +38,16 @@ beside_of setup history access (Card dev base off) device config is = is.0
 beside_of setup history access Abort device config is = is
 beside_of setup history access _ device config is = absurd is
 
+-- the same by what was found
+pub beside_found : (setup : Setup) (history : List Entry) (access : PortAccess) (found : Found) →
+    ((dev : Dev) → found ≡ FoundDevice dev → ⊥) → ((register : ConfigRegister) → found ≡ FoundRegister register → ⊥) →
+    Reached setup history access (decoded_as found).target →
+    IsBeside setup (config_address history) access.port access.width
+beside_found setup history access (FoundDevice dev) device register is = absurd (device dev refl)
+beside_found setup history access (FoundRegister at) device register is = absurd (register at refl)
+beside_found setup history access (FoundCard dev base off) device register is = is.0
+beside_found setup history access (Nobody denial) device register is = is
+
 -- a device with ports of its own
 pub record IsChipAt (setup : Setup) (history : List Entry) (access : PortAccess) (dev : Dev) : Type 0 where
   pub beside : IsBeside setup (config_address history) access.port access.width
@@ -46,6 +60,16 @@ chip_at setup history access AddressPort address control keyboard is = absurd (a
 chip_at setup history access Reset address control keyboard is = absurd (control refl)
 chip_at setup history access Keyboard address control keyboard is = absurd (keyboard refl)
 chip_at setup history access _ address control keyboard is = record { beside = is.0; port = is.1 }
+
+-- the same where no history is known
+pub chip_in : (setup : Setup) (bytes : Bytes) (address : ℕ) (access : PortAccess) (dev : Dev) → dev ≢ AddressPort →
+    dev ≢ Reset → dev ≢ Keyboard →
+    IsReached setup bytes address access.port access.width (Device dev) →
+    is_chip_port dev access.port (bytes_of access.width) ≡ true
+chip_in setup bytes address access AddressPort named control keyboard is = absurd (named refl)
+chip_in setup bytes address access Reset named control keyboard is = absurd (control refl)
+chip_in setup bytes address access Keyboard named control keyboard is = absurd (keyboard refl)
+chip_in setup bytes address access _ named control keyboard is = is.1
 
 pub chip_value : (setup : Setup) (history : List Entry) (dev : Dev) (port : ℕ) (width : Width) → dev ≢ AddressPort →
     dev ≢ Reset → dev ≢ Keyboard →

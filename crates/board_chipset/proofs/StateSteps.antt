@@ -1,13 +1,13 @@
 -- The state after an entry that changes a part of it.
-use Rattle.std.proofs.Common.{◌≡◌, ℕ, false, List, ◌∷◌, Option, None, refl, sym, ◌∙◌, ap}
-use Rattle.board_prelude.proofs.Common.{Event, Entry, MapChange, Setup, is_hard_reset, Cell, entry_put, device_reached}
+use Rattle.std.proofs.Common.{◌≡◌, ℕ, false, List, [], ◌∷◌, Option, None, refl, sym, ◌∙◌, ap, subst}
+use Rattle.board_prelude.proofs.Common.{Event, Entry, MapChange, Setup, kept_address, config_address, byte_of, is_hard_reset, Cell, entry_put, device_reached}
 use Rattle.config_regs.specs.declared.south.South.{South}
 use Rattle.board_devices.specs.Common.{DevicesValue, AreDevicesOf, AreRoutesOf, PassesBy, LeavesDevices}
 use Rattle.board_stores.specs.declared.stores.Stores.{Stores}
 use Rattle.board_stores.specs.Puts.{HasStores, ArePut}
 use Rattle.board_chipset.specs.declared.registers.Registers.{Registers}
 use Rattle.board_chipset.specs.declared.state.State.{State}
-use Rattle.board_chipset.specs.Common.{HasRegisters, IsStateOf, Writes}
+use Rattle.board_chipset.specs.Common.{AreSound, HasRegisters, IsSound, IsStateOf, Writes}
 use Rattle.board_chipset.proofs.RegisterSteps.{quiet}
 use Rattle.board_chipset.proofs.StoreSteps.{stores_put, stores_stay}
 
@@ -66,3 +66,49 @@ devices_move kept none puts after =
       stores = stores_stay kept.stores puts;
       devices = after registers.kept.south.routes;
     }
+
+-- ---- what needs no history
+
+-- bytes that were put
+pub sound_put :
+    {setup : Setup} {old : State} {put : Cell → Option ℕ} {stores : Stores} →
+    IsSound setup old → ArePut put old.stores stores → IsSound setup (record old { stores = stores })
+sound_put sound is = record {
+  fits = sound.fits;
+  registers = sound.registers;
+  memory = is.size ∙ sound.memory;
+  contents = λ dev base number. is.sizes dev base ∙ sound.contents dev base number;
+}
+
+-- other registers, and maybe other devices
+pub sound_registers :
+    {setup : Setup} {old : State} {registers : Registers} {devices : DevicesValue} →
+    IsSound setup old → AreSound setup registers →
+    IsSound setup (record old { registers = registers; devices = devices })
+sound_registers sound is = record {
+  fits = sound.fits;
+  registers = is;
+  memory = sound.memory;
+  contents = sound.contents;
+}
+
+-- other devices
+pub sound_devices :
+    {setup : Setup} {old : State} {devices : DevicesValue} →
+    IsSound setup old → IsSound setup (record old { devices = devices })
+sound_devices sound = sound_registers sound sound.registers
+
+-- the state after power-on
+pub fresh_sound : {setup : Setup} {state : State} → IsStateOf setup [] state → IsSound setup state
+unfolding config_address
+fresh_sound {setup} is = record {
+  fits = is.fits;
+  registers = record {
+    bytes = byte_of setup [];
+    kept = is.registers.kept;
+    address = subst (λ (address : ℕ). kept_address address ≡ address) (sym is.registers.address) refl;
+    flat = is.registers.flat;
+  };
+  memory = is.stores.dram.size;
+  contents = is.stores.contents.sizes;
+}

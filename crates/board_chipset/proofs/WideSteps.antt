@@ -3,28 +3,30 @@ use Rattle.std.proofs.Common.{◌≡◌, ℕ, List, [], ◌∷◌, ◌∙◌, tr
 use Rattle.board_prelude.proofs.Common.{All-head, All-tail, All-cons, WideAccess, Part, Parts, parts_of, parts_list, joined, Cell, is_write, parts_put, Entry, Setup, IsPart, AreParts, part_answer, IsWideAnswer, wide_value, value_at, memory_target}
 use Rattle.board_base.specs.declared.access.Access.{Access}
 use Rattle.board_stores.specs.declared.cut.Cycle.{Cycle}
-use Rattle.board_stores.specs.Common.{IsReady, accesses, answers, AreReady}
+use Rattle.board_stores.specs.Common.{IsReady, accesses, answers, AreReady, part_in}
 use Rattle.board_chipset.specs.declared.state.State.{State}
-use Rattle.board_chipset.specs.Kept.{IsStateOf}
+use Rattle.board_chipset.specs.Kept.{IsSound}
 use Rattle.board_chipset.proofs.HeldTargets.{ready}
 
 -- the cycles of a wide access
 module _
-    {setup : Setup} {history : List Entry} {state : State} {rom : List ℕ} (kept : IsStateOf setup history state)
+    {setup : Setup} {state : State} {rom : List ℕ} (kept : IsSound setup state)
     (image : setup.rom ≡ rom) (access : WideAccess) where
   all_ready : (cycles : List Cycle) → All (IsPart access) (accesses cycles) →
-      answers cycles ≡ map (part_answer setup history) (accesses cycles) → AreReady rom state.stores.contents cycles
+      answers cycles ≡ map (part_in setup kept.registers.bytes) (accesses cycles) →
+      AreReady rom state.stores.contents cycles
   all_ready [] each is = λ k d within. absurd (omega arith)
   all_ready (cycle ∷ later) each is =
       let first = All-head (IsPart access) cycle.access (accesses later) each in
-      let here : cycle.answer ≡ part_answer setup history cycle.access = cc in
-      let rest : answers later ≡ map (part_answer setup history) (accesses later) = cc in
+      let here : cycle.answer ≡ part_in setup kept.registers.bytes cycle.access = cc in
+      let rest : answers later ≡ map (part_in setup kept.registers.bytes) (accesses later) = cc in
       All-cons (λ (it : Cycle). IsReady rom state.stores.contents it.access it.answer) cycle later
       (ready kept image first.legal here)
       (all_ready later (All-tail (IsPart access) cycle.access (accesses later) each) rest)
 
   pub cycles_ready : (cycles : List Cycle) → AreParts access (parts_of access) → accesses cycles ≡ parts_of access →
-      answers cycles ≡ map (part_answer setup history) (parts_of access) → AreReady rom state.stores.contents cycles
+      answers cycles ≡ map (part_in setup kept.registers.bytes) (parts_of access) →
+      AreReady rom state.stores.contents cycles
   cycles_ready cycles parts is decoded = all_ready cycles (rw is parts.each) (rw is decoded)
 
 pub all_write : (access : WideAccess) (cycles : List Cycle) → is_write access.kind ≡ true →

@@ -2,7 +2,7 @@
 use Rattle.std.specs.Prelude.{List}
 use Rattle.board_prelude.specs.Common.{Entry, Setup}
 use Rattle.board_chipset.specs.declared.state.State.{State}
-use Rattle.board_chipset.specs.Kept.{IsStateOf}
+use Rattle.board_chipset.specs.Kept.{IsStateOf, IsSound}
 
 pub record Running : Type 0 where
   pub setup : Setup
@@ -12,6 +12,6 @@ pub record Running : Type 0 where
 unfoldable pub IsLeftBy : Running → List Entry → Type 0
 IsLeftBy chipset history = IsStateOf chipset.setup history chipset.state
 
--- some history left it
-abbrev pub IsLeft : Running → Type 0
-IsLeft chipset = (history : List Entry) × IsLeftBy chipset history
+-- its state is one that steps can go on from
+abbrev pub IsRunning : Running → Type 0
+IsRunning chipset = IsSound chipset.setup chipset.state

@@ -1,8 +1,8 @@
 -- The definitions that files above cite, passed on from one place. Declares nothing.
 pub use Rattle.board_chipset.specs.BusReplies.{reply_of, wide_reply_of}
-pub use Rattle.board_chipset.specs.Chipset.{IsLeft, Running}
+pub use Rattle.board_chipset.specs.Chipset.{IsRunning, Running}
 unfoldable pub use Rattle.board_chipset.specs.Chipset.{IsLeftBy}
-pub use Rattle.board_chipset.specs.Kept.{CanDo, HasRegisters, IsFlat, IsStateOf}
+pub use Rattle.board_chipset.specs.Kept.{AreSound, CanDo, HasRegisters, IsFlat, IsSound, IsState, IsStateOf, StaysSound}
 pub use Rattle.board_chipset.specs.Loads.{IsClockWrite, IsDramWrite, WriteAll, WriteClockByte}
 unfoldable pub use Rattle.board_chipset.specs.Loads.{WriteInTurn}
 pub use Rattle.board_chipset.specs.OutOfRange.{IsFault}

@@ -1,8 +1,9 @@
 -- What a history leaves: the registers, the bytes behind the addresses, and the devices.
-use Rattle.std.specs.Prelude.{ℕ, ◌≡◌, ◌%◌, List}
-use Rattle.board_prelude.specs.Common.{Event, Entry, Setup, IsSetup, IsInRange, reset_control, config_address, byte_of, version_of, Bytes, IsFlatMapOf}
+use Rattle.std.specs.Prelude.{ℕ, ◌≡◌, ◌%◌, List, length}
+use Rattle.board_prelude.specs.Common.{Event, Entry, Setup, IsSetup, IsInRange, installed, kept_address, reset_control, config_address, byte_of, version_of, Bytes, IsFlatMapOf}
 use Rattle.addr_decode.specs.MapRegs.{StandsFor}
 use Rattle.map_builder.specs.Map.{Mapped}
+use Rattle.pci_bars.specs.Contents.{HaveSizes}
 use Rattle.config_regs.specs.Config.{AreKeptOf}
 use Rattle.board_stores.specs.Puts.{HasStores}
 use Rattle.board_devices.specs.Devices.{AreDevicesOf}
@@ -30,11 +31,30 @@ pub record IsStateOf (setup : Setup) (history : List Entry) (state : State) : Ty
   pub stores : HasStores setup history state.stores
   pub devices : AreDevicesOf setup history state.devices
 
--- a state of some board and some history
+-- registers that stand for register bytes of a board with this setup, a configuration address without the bits that are
+-- not kept, and the memory map of these registers
+pub record AreSound (setup : Setup) (registers : Registers) : Type 0 where
+  pub bytes : Bytes
+  pub kept : AreKeptOf setup bytes registers.map.regs registers.south
+  pub address : kept_address registers.address ≡ registers.address
+  pub flat : IsFlat registers.map
+
+-- what each step rests on and keeps, whether or not a history leaves a board so: sound registers, as many bytes of DRAM
+-- as are installed, and of each card as it has. The devices' types say the rest
+pub record IsSound (setup : Setup) (state : State) : Type 0 where
+  pub fits : IsSetup setup
+  pub registers : AreSound setup state.registers
+  pub memory : length state.stores.dram ≡ installed setup
+  pub contents : HaveSizes setup state.stores.contents
+
+-- a step keeps it
+abbrev pub StaysSound : State → State → Type 0
+StaysSound old new = (setup : Setup) → IsSound setup old → IsSound setup new
+
+-- a sound state of some board with this ROM
 pub record IsState (state : State) (rom : List ℕ) : Type 0 where
   pub setup : Setup
-  pub history : List Entry
-  pub of : IsStateOf setup history state
+  pub sound : IsSound setup state
   pub image : setup.rom ≡ rom
 
 -- an event is in range for such a board

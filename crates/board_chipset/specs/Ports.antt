@@ -1,5 +1,5 @@
 -- What an access at a port reaches after a history, and what its entry tells.
-use Rattle.std.specs.Prelude.{ℕ, ◌≡◌, List, Option, is_some}
+use Rattle.std.specs.Prelude.{ℕ, ◌≡◌, Bool, List, Option, is_some}
 use Rattle.board_prelude.specs.Common.{PortAccess, Target, Denial, Event, Port, Bus, Entry, MapChange, Setup, IsBusAccess, control_written, address_written, config_address, config_store, byte_of, Decoded, port_target_of}
 use Rattle.board_chipset.specs.declared.state.State.{State}
 use Rattle.board_chipset.specs.Kept.{IsState}
@@ -14,7 +14,11 @@ pub record Reaching (state : State) (access : PortAccess) (target : Target) : Ty
   pub rom : List ℕ
   pub kept : IsState state rom
   pub bus : IsBusAccess access.write access.port access.width access.value
-  pub target_is : target ≡ (reached kept.setup kept.history access).target
+  pub disk : Bool
+  pub target_is :
+      target
+      ≡ (port_target_of kept.setup kept.sound.registers.bytes state.registers.address disk access.port
+      access.width).target
 
 -- an entry is this access, which reached this target
 pub record IsEntryOf (setup : Setup) (history : List Entry) (access : PortAccess) (target : Target)

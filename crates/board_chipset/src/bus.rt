@@ -18,6 +18,7 @@ use board_spec::{Event, Look};
 impl Chipset {
     /// Does an access to memory of one bus cycle, which is in range, as `step` does it: its address is a multiple of the
     /// width, and the value fits.
+    #[inline(always)]
     pub fn memory(&mut self, access: &Access) -> BusReply
         requires bus { IsBusAccess (is_write access.now.kind) access.now.addr access.now.width access.now.value }
         ensures setup { self.new.setup ≡ self.old.setup }

@@ -59,8 +59,8 @@ fn are_bases(bases: &[BaseSpec]) -> bool
     true
 }
 
-/// Whether a base has 16 bytes to 16 MiB of memory, or 4 to 256 ports.
-fn is_base(base: BaseSpec) -> bool
+/// Whether a base has 16 bytes to 16 MiB of memory, or 4 to 256 ports (PCI Local Bus 2.1, section 6.2.5.1).
+pub fn is_base(base: BaseSpec) -> bool
     ensures base { IsTrue result ↔ IsBase (base_of base) }
 {
     match base {
@@ -69,8 +69,8 @@ fn is_base(base: BaseSpec) -> bool
     }
 }
 
-/// Whether an expansion ROM has 2 KiB to 16 MiB, where there is one.
-fn is_expansion_rom(rom: Option<u8>) -> bool
+/// Whether an expansion ROM has 2 KiB to 16 MiB, where there is one (PCI Local Bus 2.1, section 6.2.5.2).
+pub fn is_expansion_rom(rom: Option<u8>) -> bool
     ensures rom { IsTrue result ↔ IsExpansionRom rom }
 {
     match rom {

@@ -27,13 +27,13 @@ pub struct Chipset {
 }
 
 impl Model for Chipset {
-    ghost use Rattle.board_chipset.specs.Chipset.{Running, IsLeft};
+    ghost use Rattle.board_chipset.specs.Chipset.{Running, IsRunning};
 
     ghost Value = { Running };
 
     ghost view = { λ chipset. record { setup = chipset.setup; state = chipset.state } };
 
-    ghost invariant = { λ chipset. IsLeft (record { setup = chipset.setup; state = chipset.state }) };
+    ghost invariant = { λ chipset. IsRunning (record { setup = chipset.setup; state = chipset.state }) };
 }
 
 impl Chipset {

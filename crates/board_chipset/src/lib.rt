@@ -27,6 +27,7 @@ mod told;
 mod wide;
 
 pub use bus_reply::{BusReply, WideReply};
+pub use card_check::{is_base, is_expansion_rom};
 pub use check::{SetupFault, check_sizes, is_memory_size};
 pub use chipset::Chipset;
 pub use dram_store::PastTheEnd;

@@ -24,6 +24,8 @@ impl Chipset {
         ensures setup { self.new.setup ≡ self.old.setup }
         ensures left { OnOk result ((history entries : List Entry) → IsLeftBy self.old history
             → WriteAll addr bytes.now entries → IsLeftBy self.new (entries ++ history)) }
+        ensures goes_on { (history : List Entry) → IsLeftBy self.old history
+            → (later : List Entry) × IsLeftBy self.new later }
     {
         self.state.stores.dram.load(addr, bytes)
     }
@@ -37,6 +39,8 @@ impl Chipset {
         ensures setup { self.new.setup ≡ self.old.setup }
         ensures left { OnOk result ((history later : List Entry) → IsLeftBy self.old history
             → WriteClockByte history address byte later → IsLeftBy self.new later) }
+        ensures goes_on { (history : List Entry) → IsLeftBy self.old history
+            → (later : List Entry) × IsLeftBy self.new later }
     {
         if usize::from(address) >= CLOCK_BYTES {
             return Err(NoClockByte);

@@ -3,7 +3,7 @@
 ghost use Rattle.std.specs.Prelude.{◌≡◌, List, ◌∷◌};
 ghost use Rattle.board_prelude.specs.Common.{Entry, Memory, Setup, IsBusAccess, is_write, memory_answer};
 ghost use Rattle.board_chipset.specs.BusReplies.{reply_of};
-ghost use Rattle.board_chipset.specs.Kept.{IsState, IsStateOf};
+ghost use Rattle.board_chipset.specs.Kept.{IsState, IsStateOf, StaysSound};
 
 use crate::bus_reply::BusReply;
 use crate::state::State;
@@ -11,9 +11,11 @@ use board_base::Access;
 use board_stores::{decoded, read, write};
 
 /// Does an access to memory of one bus cycle, and returns the reply.
+#[inline(always)]
 pub fn access(state: &mut State, rom: &[u8], access: &Access) -> BusReply
     requires bus { IsBusAccess (is_write access.now.kind) access.now.addr access.now.width access.now.value }
     requires kept { IsState state.old rom.now }
+    ensures sound { StaysSound state.old state.new }
     ensures answer { (setup : Setup) (history : List Entry) → IsStateOf setup history state.old
         → setup.rom ≡ rom.now
         → reply_of result ≡ memory_answer setup history access.now }

@@ -3,7 +3,7 @@
 ghost use Rattle.std.specs.Prelude.{◌≡◌, ℕ, List, ◌∷◌, None};
 ghost use Rattle.board_prelude.specs.Common.{Device, Bus, Entry, Setup, IsAnswer};
 ghost use Rattle.board_chipset.specs.BusReplies.{reply_of};
-ghost use Rattle.board_chipset.specs.Kept.{CanDo, IsStateOf};
+ghost use Rattle.board_chipset.specs.Kept.{CanDo, IsStateOf, StaysSound};
 ghost use Rattle.board_chipset.specs.Steps.{IsForDevices};
 
 use crate::bus_reply::BusReply;
@@ -15,6 +15,7 @@ use board_spec::Event;
 pub fn answer(state: &mut State, event: &Event) -> BusReply
     requires devices { IsForDevices event.now }
     requires in_range { (rom : List ℕ) × CanDo state.old rom event.now }
+    ensures sound { StaysSound state.old state.new }
     ensures answer { (setup : Setup) (history : List Entry) → IsStateOf setup history state.old
         → IsAnswer setup history event.now (reply_of result) }
     ensures board { (setup : Setup) (history : List Entry) (entry : Entry) → IsStateOf setup history state.old

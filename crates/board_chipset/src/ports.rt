@@ -1,15 +1,17 @@
 //! Accesses at ports.
 
-ghost use Rattle.std.specs.Prelude.{◌≡◌, ℕ, true, false, List, ◌∷◌};
-ghost use Rattle.board_prelude.specs.Common.{Entry, Port, Device, Config, Setup, IsBusAccess, port_answer, port_value, value_at};
+ghost use Rattle.std.specs.Prelude.{◌≡◌, ℕ, true, false, List, ◌∷◌, Some, None, if◌then◌else◌};
+ghost use Rattle.board_prelude.specs.Common.{Entry, Port, Reg, Device, Config, Abort, Setup, IsBusAccess, port_answer, port_value, value_at};
 ghost use Rattle.board_base.specs.declared.target.Dev.TheVariants.{Reset};
+ghost use Rattle.addr_decode.specs.Common.{HasRegister, as_decoded};
 ghost use Rattle.board_chipset.specs.BusReplies.{reply_of};
-ghost use Rattle.board_chipset.specs.Kept.{IsState, IsStateOf};
+ghost use Rattle.board_chipset.specs.Kept.{IsState, IsStateOf, StaysSound};
 ghost use Rattle.board_chipset.specs.Ports.{IsEntryOf, Reaching, reached};
 
 use crate::bus_reply::BusReply;
 use crate::state::State;
-use board_base::{Dev, PortAccess, Reg, Target};
+use addr_decode::{ConfigRegister, Found};
+use board_base::{Denial, Dev, PortAccess, Target};
 
 /// The byte that a read of the keyboard controller's empty socket gives.
 const EMPTY_SOCKET: u32 = 0xFF;
@@ -18,52 +20,175 @@ const EMPTY_SOCKET: u32 = 0xFF;
 pub fn access(state: &mut State, access: &PortAccess) -> BusReply
     requires bus { IsBusAccess access.now.write access.now.port access.now.width access.now.value }
     requires kept { (rom : List ℕ) × IsState state.old rom }
+    ensures sound { StaysSound state.old state.new }
     ensures answer { (setup : Setup) (history : List Entry) → IsStateOf setup history state.old
         → reply_of result ≡ port_answer setup history access.now }
     ensures board { (setup : Setup) (history : List Entry) (entry : Entry) → IsStateOf setup history state.old
         → entry.event ≡ Port access.now → entry.reply ≡ reply_of result → IsStateOf setup (entry ∷ history) state.new }
 {
     let disk = state.devices.has_disk();
-    let (target, denial) = state.registers.decode_port(access.port, access.width, disk);
+    match state.registers.find_port(access.port, access.width, disk) {
+        Found::Device(dev) => at_device(state, dev, access),
+        Found::Register(register) => at_register(state, &register, access),
+        Found::Card(dev, base, offset) => {
+            at_card(state, Target::Card(dev, base, offset), access)
+        }
+        Found::Nobody(denial) => at_nobody(state, denial, access),
+    }
+}
+
+/// Does an access at a port that reaches a device.
+fn at_device(state: &mut State, dev: Dev, access: &PortAccess) -> BusReply
+    requires reaching { Reaching state.old access.now (Device dev) }
+    ensures sound { StaysSound state.old state.new }
+    ensures answer { (setup : Setup) (history : List Entry) → IsStateOf setup history state.old
+        → as_decoded (Device dev, None) ≡ reached setup history access.now
+        → reply_of result ≡ port_answer setup history access.now }
+    ensures board { (setup : Setup) (history : List Entry) (entry : Entry) → IsStateOf setup history state.old
+        → as_decoded (Device dev, None) ≡ reached setup history access.now
+        → entry.event ≡ Port access.now → entry.reply ≡ reply_of result → IsStateOf setup (entry ∷ history) state.new }
+{
+    BusReply {
+        value: device_value(state, dev, access),
+        target: Target::Device(dev),
+        denial: None,
+    }
+}
+
+/// The value of an access at a port that reaches a device. None where it writes.
+fn device_value(state: &mut State, dev: Dev, access: &PortAccess) -> Option<u32>
+    requires reaching { Reaching state.old access.now (Device dev) }
+    ensures sound { StaysSound state.old state.new }
+    ensures value { (setup : Setup) (history : List Entry) → IsStateOf setup history state.old
+        → Device dev ≡ (reached setup history access.now).target → result ≡ (if access.now.write then None
+        else Some (value_at setup history (Device dev) access.now.port access.now.width)) }
+    ensures board { (setup : Setup) (history : List Entry) (entry : Entry) → IsStateOf setup history state.old
+        → IsEntryOf setup history access.now (Device dev) entry → IsStateOf setup (entry ∷ history) state.new }
+{
+    if access.write {
+        write_device(state, dev, access);
+        return None;
+    }
+    Some(read_device(state, dev, access))
+}
+
+/// Does an access at a port that reaches a register in configuration space, which its function has.
+fn at_register(state: &mut State, register: &ConfigRegister, access: &PortAccess) -> BusReply
+    requires reaching { Reaching state.old access.now (Config register.now.reg) }
+    requires function { HasRegister state.old.registers.map.regs.cards register.now.function register.now.reg }
+    ensures sound { StaysSound state.old state.new }
+    ensures answer { (setup : Setup) (history : List Entry) → IsStateOf setup history state.old
+        → as_decoded (Config register.now.reg, None) ≡ reached setup history access.now
+        → reply_of result ≡ port_answer setup history access.now }
+    ensures board { (setup : Setup) (history : List Entry) (entry : Entry) → IsStateOf setup history state.old
+        → as_decoded (Config register.now.reg, None) ≡ reached setup history access.now
+        → entry.event ≡ Port access.now → entry.reply ≡ reply_of result → IsStateOf setup (entry ∷ history) state.new }
+{
+    BusReply {
+        value: register_value(state, register, access),
+        target: Target::Config(register.reg),
+        denial: None,
+    }
+}
+
+/// The value of an access at a port that reaches a register. None where it writes.
+fn register_value(state: &mut State, register: &ConfigRegister, access: &PortAccess) -> Option<u32>
+    requires reaching { Reaching state.old access.now (Config register.now.reg) }
+    requires function { HasRegister state.old.registers.map.regs.cards register.now.function register.now.reg }
+    ensures sound { StaysSound state.old state.new }
+    ensures value { (setup : Setup) (history : List Entry) → IsStateOf setup history state.old
+        → Config register.now.reg ≡ (reached setup history access.now).target → result ≡ (if access.now.write then None
+        else Some (value_at setup history (Config register.now.reg) access.now.port access.now.width)) }
+    ensures board { (setup : Setup) (history : List Entry) (entry : Entry) → IsStateOf setup history state.old
+        → IsEntryOf setup history access.now (Config register.now.reg) entry → IsStateOf setup (entry ∷ history) state.new }
+{
+    if access.write {
+        write_register(state, register, access);
+        return None;
+    }
+    Some(state.registers.read(register, access.width))
+}
+
+/// Does an access at a port that reaches a base of a card.
+fn at_card(state: &mut State, target: Target, access: &PortAccess) -> BusReply
+    requires reaching { Reaching state.old access.now (target) }
+    requires device { (dev : Dev) → target ≡ Device dev → ⊥ }
+    requires register { (reg : Reg) → target ≡ Config reg → ⊥ }
+    ensures sound { StaysSound state.old state.new }
+    ensures answer { (setup : Setup) (history : List Entry) → IsStateOf setup history state.old
+        → as_decoded (target, None) ≡ reached setup history access.now
+        → reply_of result ≡ port_answer setup history access.now }
+    ensures board { (setup : Setup) (history : List Entry) (entry : Entry) → IsStateOf setup history state.old
+        → as_decoded (target, None) ≡ reached setup history access.now
+        → entry.event ≡ Port access.now → entry.reply ≡ reply_of result → IsStateOf setup (entry ∷ history) state.new }
+{
+    BusReply {
+        value: stored_value(state, target, access),
+        target: target,
+        denial: None,
+    }
+}
+
+/// Does an access at a port that reaches nobody.
+fn at_nobody(state: &mut State, denial: Denial, access: &PortAccess) -> BusReply
+    requires reaching { Reaching state.old access.now (Abort) }
+    ensures sound { StaysSound state.old state.new }
+    ensures answer { (setup : Setup) (history : List Entry) → IsStateOf setup history state.old
+        → as_decoded (Abort, Some denial) ≡ reached setup history access.now
+        → reply_of result ≡ port_answer setup history access.now }
+    ensures board { (setup : Setup) (history : List Entry) (entry : Entry) → IsStateOf setup history state.old
+        → as_decoded (Abort, Some denial) ≡ reached setup history access.now
+        → entry.event ≡ Port access.now → entry.reply ≡ reply_of result → IsStateOf setup (entry ∷ history) state.new }
+{
+    BusReply {
+        value: stored_value(state, Target::Abort, access),
+        target: Target::Abort,
+        denial: Some(denial),
+    }
+}
+
+/// The value of an access at a port that reaches a base of a card or nobody. None where it writes.
+fn stored_value(state: &mut State, target: Target, access: &PortAccess) -> Option<u32>
+    requires reaching { Reaching state.old access.now (target) }
+    requires device { (dev : Dev) → target ≡ Device dev → ⊥ }
+    requires register { (reg : Reg) → target ≡ Config reg → ⊥ }
+    ensures sound { StaysSound state.old state.new }
+    ensures value { (setup : Setup) (history : List Entry) → IsStateOf setup history state.old
+        → target ≡ (reached setup history access.now).target → result ≡ (if access.now.write then None
+        else Some (value_at setup history (target) access.now.port access.now.width)) }
+    ensures board { (setup : Setup) (history : List Entry) (entry : Entry) → IsStateOf setup history state.old
+        → IsEntryOf setup history access.now (target) entry → IsStateOf setup (entry ∷ history) state.new }
+{
     if access.write {
         write(state, target, access);
-        return BusReply {
-            value: None,
-            target,
-            denial,
-        };
+        return None;
     }
-    let value = Some(read(state, target, access));
-    BusReply {
-        value,
-        target,
-        denial,
-    }
+    Some(read(state, target, access))
 }
 
 /// The value of a read at a port that `target` answers. The read can change a device.
 fn read(state: &mut State, target: Target, access: &PortAccess) -> u32
     requires reaching { Reaching state.old access.now target }
+    requires device { (dev : Dev) → target ≡ Device dev → ⊥ }
+    requires register { (reg : Reg) → target ≡ Config reg → ⊥ }
     requires reads { access.now.write ≡ false }
+    ensures sound { StaysSound state.old state.new }
     ensures value { (setup : Setup) (history : List Entry) → IsStateOf setup history state.old
         → target ≡ (reached setup history access.now).target
         → result ≡ value_at setup history target access.now.port access.now.width }
     ensures board { (setup : Setup) (history : List Entry) (entry : Entry) → IsStateOf setup history state.old
         → IsEntryOf setup history access.now target entry → IsStateOf setup (entry ∷ history) state.new }
 {
-    match target {
-        Target::Device(dev) => read_device(state, dev, access),
-        Target::Config(reg) => state.registers.read(reg, access.width),
-        _ => state
-            .stores
-            .read(target, u32::from(access.port), access.width),
-    }
+    state
+        .stores
+        .read(target, u32::from(access.port), access.width)
 }
 
 /// The value of a read of a device's port. In place of the keyboard controller there is an empty socket.
 fn read_device(state: &mut State, dev: Dev, access: &PortAccess) -> u32
     requires reaching { Reaching state.old access.now (Device dev) }
     requires reads { access.now.write ≡ false }
+    ensures sound { StaysSound state.old state.new }
     ensures value { (setup : Setup) (history : List Entry) → IsStateOf setup history state.old
         → result ≡ port_value setup history dev access.now.port access.now.width }
     ensures board { (setup : Setup) (history : List Entry) (entry : Entry) → IsStateOf setup history state.old
@@ -82,28 +207,29 @@ fn read_device(state: &mut State, dev: Dev, access: &PortAccess) -> u32
 /// Does a write at a port that `target` answers.
 fn write(state: &mut State, target: Target, access: &PortAccess)
     requires reaching { Reaching state.old access.now target }
+    requires device { (dev : Dev) → target ≡ Device dev → ⊥ }
+    requires register { (reg : Reg) → target ≡ Config reg → ⊥ }
     requires writes { access.now.write ≡ true }
+    ensures sound { StaysSound state.old state.new }
     ensures board { (setup : Setup) (history : List Entry) (entry : Entry) → IsStateOf setup history state.old
         → IsEntryOf setup history access.now target entry → IsStateOf setup (entry ∷ history) state.new }
 {
-    match target {
-        Target::Device(dev) => write_device(state, dev, access),
-        Target::Config(reg) => write_register(state, reg, access),
-        _ => state
-            .stores
-            .write(target, u32::from(access.port), access.width, access.value),
-    }
+    state
+        .stores
+        .write(target, u32::from(access.port), access.width, access.value);
 }
 
 /// Writes a register in configuration space. The PIRQRC registers of the 82371SB route the PCI interrupts, so after a
 /// write to the 82371SB the interrupt lines are set anew.
-fn write_register(state: &mut State, reg: Reg, access: &PortAccess)
-    requires reaching { Reaching state.old access.now (Config reg) }
+fn write_register(state: &mut State, register: &ConfigRegister, access: &PortAccess)
+    requires reaching { Reaching state.old access.now (Config register.now.reg) }
+    requires function { HasRegister state.old.registers.map.regs.cards register.now.function register.now.reg }
     requires writes { access.now.write ≡ true }
+    ensures sound { StaysSound state.old state.new }
     ensures board { (setup : Setup) (history : List Entry) (entry : Entry) → IsStateOf setup history state.old
-        → IsEntryOf setup history access.now (Config reg) entry → IsStateOf setup (entry ∷ history) state.new }
+        → IsEntryOf setup history access.now (Config register.now.reg) entry → IsStateOf setup (entry ∷ history) state.new }
 {
-    if state.registers.store(reg, access.width, access.value) {
+    if state.registers.store(register, access.width, access.value) {
         state.devices.reroute(&state.registers.south.routes);
     }
 }
@@ -112,6 +238,7 @@ fn write_register(state: &mut State, reg: Reg, access: &PortAccess)
 fn write_device(state: &mut State, dev: Dev, access: &PortAccess)
     requires reaching { Reaching state.old access.now (Device dev) }
     requires writes { access.now.write ≡ true }
+    ensures sound { StaysSound state.old state.new }
     ensures board { (setup : Setup) (history : List Entry) (entry : Entry) → IsStateOf setup history state.old
         → IsEntryOf setup history access.now (Device dev) entry → IsStateOf setup (entry ∷ history) state.new }
 {
@@ -129,6 +256,7 @@ fn write_device(state: &mut State, dev: Dev, access: &PortAccess)
 fn write_control(state: &mut State, access: &PortAccess)
     requires reaching { Reaching state.old access.now (Device Reset) }
     requires writes { access.now.write ≡ true }
+    ensures sound { StaysSound state.old state.new }
     ensures board { (setup : Setup) (history : List Entry) (entry : Entry) → IsStateOf setup history state.old
         → IsEntryOf setup history access.now (Device Reset) entry → IsStateOf setup (entry ∷ history) state.new }
 {

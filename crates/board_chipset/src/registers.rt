@@ -4,14 +4,14 @@ ghost use Rattle.std.specs.Prelude.{◌≡◌, ◌≢◌, ◌+◌, ◌≤◌, �
 ghost use Rattle.board_prelude.specs.Common.{bytes_of, Entry, Port, Store, Reset, Setup, IsCardList, wide, function_exists, reset_byte, byte_of, config_address, is_hard_value, map_change_of, touches_map, Bytes, port_target_of};
 ghost use Rattle.board_base.specs.declared.target.Dev.TheVariants.{Reset as ResetPort};
 ghost use Rattle.pci_bars.specs.Cards.{AreFitted};
-ghost use Rattle.addr_decode.specs.Common.{StandsFor, map_bytes, as_decoded};
+ghost use Rattle.addr_decode.specs.Common.{HasRegister, IsFoundIn, StandsFor, map_bytes, as_decoded, decoded_as};
 ghost use Rattle.map_builder.specs.Common.{next_version, AreChanged};
 ghost use Rattle.config_regs.specs.Config.{AreKeptOf};
-ghost use Rattle.board_chipset.specs.Kept.{HasRegisters, IsFlat};
+ghost use Rattle.board_chipset.specs.Kept.{AreSound, HasRegisters, IsFlat};
 ghost use Rattle.board_chipset.specs.Ports.{Writes};
 
 use crate::reset_control::ResetControl;
-use addr_decode::{MapChange, MapRegs, PortRegs, decode_port, touches};
+use addr_decode::{ConfigRegister, Found, MapChange, MapRegs, PortRegs, find_port, touches};
 use board_base::{Denial, Dev, PortAccess, Reg, Target, Width};
 use cfg_ports::ConfAdd;
 use config_regs::South;
@@ -44,6 +44,7 @@ impl Registers {
 
     /// The registers on which the memory map depends.
     pub fn regs(&self) -> &MapRegs
+        ensures same { map_bytes result.now ≡ self.now.map.regs }
         ensures stand { (setup : Setup) (history : List Entry) → HasRegisters setup history self.now
             → StandsFor setup (byte_of setup history) (map_bytes result.now) }
         ensures fitted { AreFitted result.now.cards.items }
@@ -53,9 +54,24 @@ impl Registers {
 
     /// What an access at a port reaches, and what denies it, with a disk fitted or without.
     pub fn decode_port(&self, port: u16, width: Width, disk: bool) -> (Target, Option<Denial>)
+        ensures stands { (setup : Setup) (bytes : Bytes) → AreKeptOf setup bytes self.now.map.regs self.now.south
+            → as_decoded result ≡ port_target_of setup bytes self.now.address disk port width }
         ensures decoded { (setup : Setup) (history : List Entry) → HasRegisters setup history self.now
             → as_decoded result
             ≡ port_target_of setup (byte_of setup history) (config_address history) disk port width }
+    {
+        let found = self.find_port(port, width, disk);
+        (found.target(), found.denial())
+    }
+
+    /// What an access at a port finds, with a disk fitted or without.
+    pub fn find_port(&self, port: u16, width: Width, disk: bool) -> Found
+        ensures stands { (setup : Setup) (bytes : Bytes) → AreKeptOf setup bytes self.now.map.regs self.now.south
+            → decoded_as result ≡ port_target_of setup bytes self.now.address disk port width }
+        ensures decoded { (setup : Setup) (history : List Entry) → HasRegisters setup history self.now
+            → decoded_as result
+            ≡ port_target_of setup (byte_of setup history) (config_address history) disk port width }
+        ensures found { IsFoundIn self.now.map.regs.cards result }
     {
         let ports = PortRegs {
             confadd: self.address.read(),
@@ -63,21 +79,23 @@ impl Registers {
             idetim: self.south.ide.timing(),
             disk,
         };
-        decode_port(self.regs(), &ports, port, width)
+        find_port(self.map.regs(), &ports, port, width)
     }
 
-    /// The bytes from a register on of a function that exists, the first in the low bits.
-    pub fn read(&self, reg: Reg, width: Width) -> u32
-        requires within { reg.off + bytes_of width ≤ 0x100 }
+    /// The bytes from a register on that its function has, the first in the low bits.
+    pub fn read(&self, register: &ConfigRegister, width: Width) -> u32
+        requires within { register.now.reg.off + bytes_of width ≤ 0x100 }
+        requires function { HasRegister self.now.map.regs.cards register.now.function register.now.reg }
         ensures value { (setup : Setup) (history : List Entry) → HasRegisters setup history self.now
-            → function_exists setup 0 reg.dev reg.fun ≡ true
-            → result ≡ wide (λ off. byte_of setup history (record reg { off = off })) reg.off width }
+            → result ≡ wide (λ off. byte_of setup history (record register.now.reg { off = off }))
+            register.now.reg.off width }
     {
-        config_regs::read(self.map.regs(), &self.south, reg, width)
+        config_regs::read_from(self.map.regs(), &self.south, register, width)
     }
 
     /// Writes the configuration address.
     pub fn write_address(&mut self, value: u32)
+        ensures sound { (setup : Setup) → AreSound setup self.old → AreSound setup self.new }
         ensures registers { (setup : Setup) (history : List Entry) (entry : Entry) → HasRegisters setup history self.old
             → Writes setup history entry.event None (Some value) None → HasRegisters setup (entry ∷ history) self.new }
         ensures south { self.new.south ≡ self.old.south }
@@ -87,22 +105,25 @@ impl Registers {
 
     /// Stores the bytes of a value in configuration space, the low one first, in rising offset. Returns whether they go to
     /// the 82371SB, which routes the PCI interrupts.
-    pub fn store(&mut self, reg: Reg, width: Width, value: u32) -> bool
-        requires within { reg.off + bytes_of width ≤ 0x100 }
+    pub fn store(&mut self, register: &ConfigRegister, width: Width, value: u32) -> bool
+        requires within { register.now.reg.off + bytes_of width ≤ 0x100 }
+        requires function { HasRegister self.old.map.regs.cards register.now.function register.now.reg }
+        ensures sound { (setup : Setup) → AreSound setup self.old → AreSound setup self.new }
         ensures registers { (setup : Setup) (history : List Entry) (entry : Entry) → HasRegisters setup history self.old
-            → Writes setup history entry.event None None (Some (Store reg width value))
+            → Writes setup history entry.event None None (Some (Store register.now.reg width value))
             → HasRegisters setup (entry ∷ history) self.new }
-        ensures south { reg.dev ≢ 1 → self.new.south ≡ self.old.south }
-        ensures routing { result ≡ true → reg.dev ≡ 1 }
-        ensures other { result ≡ false → reg.dev ≢ 1 }
+        ensures south { register.now.reg.dev ≢ 1 → self.new.south ≡ self.old.south }
+        ensures routing { result ≡ true → register.now.reg.dev ≡ 1 }
+        ensures other { result ≡ false → register.now.reg.dev ≢ 1 }
     {
-        self.map.store(reg, width, value);
-        self.south.store(reg, width, value)
+        self.map.store_from(register, width, value);
+        self.south.store(register.reg, width, value)
     }
 
     /// Writes reset control. Returns whether that makes a hard reset, which gives each register its value after a
     /// reset.
     pub fn write_control(&mut self, byte: u8) -> bool
+        ensures sound { (setup : Setup) → AreSound setup self.old → AreSound setup self.new }
         ensures hard { result ≡ is_hard_value self.old.control byte }
         ensures registers { (setup : Setup) (history : List Entry) (entry : Entry)
             → Writes setup history entry.event (Some byte) None None
@@ -118,6 +139,7 @@ impl Registers {
 
     /// Gives each register but reset control its value after a reset.
     fn reset(&mut self)
+        ensures sound { (setup : Setup) → AreSound setup self.old → AreSound setup self.new }
         ensures address { self.new.address ≡ 0 }
         ensures control { self.new.control ≡ self.old.control }
         ensures kept { (setup : Setup) (bytes : Bytes) → AreKeptOf setup bytes self.old.map.regs self.old.south
@@ -140,9 +162,13 @@ impl Registers {
         if !access.write {
             return None;
         }
-        match self.decode_port(access.port, access.width, disk).0 {
-            Target::Device(dev) => self.device_change(dev, access.value),
-            Target::Config(reg) => self.store_change(reg, access.width, access.value),
+        match self.find_port(access.port, access.width, disk) {
+            Found::Device(dev) => self.device_change(dev, access.value),
+            Found::Register(register) => self.store_change(
+                register.reg,
+                access.width,
+                access.value,
+            ),
             _ => None,
         }
     }

@@ -2,7 +2,7 @@
 
 ghost use Rattle.std.specs.Prelude.{◌≡◌, ◌≤◌, ◌↔◌, [], length, Err, IfOk};
 ghost use Rattle.board_prelude.specs.Common.{most_mib, most_card_memory, IsCardList, IsDisk, IsRomSize, memory_of_cards};
-ghost use Rattle.board_chipset.specs.Kept.{IsStateOf};
+ghost use Rattle.board_chipset.specs.Kept.{IsSound, IsStateOf};
 
 use crate::registers::Registers;
 use crate::setup::{BoardOpen, Setup, is_rom_size};
@@ -27,6 +27,7 @@ impl State {
         requires cards { IsCardList setup.now.cards }
         requires windows { memory_of_cards setup.now.cards ≤ most_card_memory }
         ensures fresh { IfOk result (λ state. IsStateOf setup.now [] state) }
+        ensures sound { IfOk result (λ state. IsSound setup.now state) }
         ensures bad_rom { (result ≡ Err BoardOpen.BadRom) ↔ ¬ IsRomSize (length setup.now.rom) }
         ensures bad_disk { (result ≡ Err BoardOpen.BadDisk)
             ↔ IsRomSize (length setup.now.rom) × ¬ IsDisk setup.now.disk }

@@ -2,7 +2,7 @@
 
 ghost use Rattle.std.specs.Prelude.{◌≡◌, List, ◌∷◌};
 ghost use Rattle.board_prelude.specs.Common.{Entry, Setup};
-ghost use Rattle.board_chipset.specs.Kept.{CanDo, IsStateOf};
+ghost use Rattle.board_chipset.specs.Kept.{CanDo, IsStateOf, StaysSound};
 ghost use Rattle.board_chipset.specs.Versions.{IsAnswerModulo};
 
 use crate::state::State;
@@ -12,6 +12,7 @@ use board_spec::{Event, Reply};
 /// Does an event, and returns the reply.
 pub fn step(state: &mut State, rom: &[u8], event: &Event) -> Reply
     requires can { CanDo state.old rom.now event.now }
+    ensures sound { StaysSound state.old state.new }
     ensures answer { (setup : Setup) (history : List Entry) → IsStateOf setup history state.old
         → setup.rom ≡ rom.now
         → IsAnswerModulo setup history event.now result }

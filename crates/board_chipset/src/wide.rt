@@ -4,7 +4,7 @@ ghost use Rattle.std.specs.Prelude.{◌≡◌, ◌≤◌, List, ◌∷◌, lengt
 ghost use Rattle.board_prelude.specs.Common.{Entry, Wide, Setup, IsWideAccess, parts_list, IsAnswer};
 ghost use Rattle.board_stores.specs.Cycles.{answers};
 ghost use Rattle.board_chipset.specs.BusReplies.{wide_reply_of};
-ghost use Rattle.board_chipset.specs.Kept.{IsState, IsStateOf};
+ghost use Rattle.board_chipset.specs.Kept.{IsState, IsStateOf, StaysSound};
 
 use crate::bus_reply::WideReply;
 use crate::state::State;
@@ -18,6 +18,7 @@ use board_stores::{Cycle, cycles_of, read_cycles, write_cycles};
 pub fn access(state: &mut State, rom: &[u8], access: &WideAccess) -> WideReply
     requires wide { IsWideAccess access.now }
     requires kept { IsState state.old rom.now }
+    ensures sound { StaysSound state.old state.new }
     ensures answer { (setup : Setup) (history : List Entry) → IsStateOf setup history state.old
         → setup.rom ≡ rom.now
         → IsAnswer setup history (Wide access.now) (wide_reply_of result) }

@@ -6,5 +6,7 @@ mod board;
 mod replay;
 
 pub use board::Board;
-pub use board_chipset::{BoardOpen, Setup, Store, is_disk_size, is_rom_size};
+pub use board_chipset::{
+    BoardOpen, Setup, Store, is_base, is_disk_size, is_expansion_rom, is_rom_size,
+};
 pub use replay::Replay;

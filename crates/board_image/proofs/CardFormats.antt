@@ -4,9 +4,8 @@ use Rattle.board_prelude.proofs.Common.{AllByRecursion, w8, and_from, and_parts,
 use Rattle.std.proofs.lemmas.Bool.{leb-false}
 use Rattle.std.proofs.lemmas.List.Elements.{All-from_recursion}
 use Rattle.board_image.specs.Common.{io_base, base_byte, flag_byte, card_bytes, number, where_true, flag_field, base_of_byte, has_room, base_in, rom_of, bases_fields, card_fields, cards_fields}
-use Rattle.board_image.proofs.Formats.{IsFormat, format_as, then_format, last_format, many_format, AreGood, AreMany}
-use Rattle.board_image.proofs.Numbers.{byte_format, byte_within, Ranges, where_ok, some_is}
-use Rattle.board_image.proofs.EventFormats.{flag_format}
+use Rattle.byte_fields.proofs.Formats.{IsFormat, format_as, then_format, last_format, many_format, AreGood, AreMany}
+use Rattle.byte_fields.proofs.Numbers.{flag_format, byte_format, byte_within, Ranges, where_ok, some_is}
 use Rattle.board_image.proofs.ImageLoops.{base_field, room_after, bases_in, bases_loop, card_after, past_card, cards_after, cards_loop}
 
 -- ---- bases

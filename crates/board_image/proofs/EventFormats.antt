@@ -5,25 +5,11 @@ use Rattle.std.proofs.Math.Bool.{or-true}
 use Rattle.std.proofs.Math.Nat.{one-le-pow}
 use Rattle.board_base.specs.declared.access.Width.TheVariants.{Two, Four}
 use Rattle.board_base.specs.declared.access.Access.{Access}
-use Rattle.board_image.specs.Common.{flag_byte, kind_byte, tag_byte, memory_bytes, port_bytes, wide_bytes, Reading, number_where, within, flag_of, flag_field, kind_of, kind_field, width_of, width_field, tag_of, tag_field, most_value, is_wide_size, is_wide_place, memory_fields, port_fields, wide_fields}
+use Rattle.board_image.specs.Common.{kind_byte, tag_byte, memory_bytes, port_bytes, wide_bytes, Reading, number_where, within, kind_of, kind_field, width_of, width_field, tag_of, tag_field, most_value, is_wide_size, is_wide_place, memory_fields, port_fields, wide_fields}
 use Rattle.image_writer.specs.declared.tag.Tag.{Tag}
 use Rattle.image_writer.specs.declared.tag.Tag.TheVariants as tags
-use Rattle.board_image.proofs.Formats.{IsFormat, format_as, then_format, last_format}
-use Rattle.board_image.proofs.Numbers.{wide16, wide32, wide64, byte_format, byte_where, Tells, no_row, row, where_format, within_format, Ranges}
-
--- any value
-abbrev pub Any : {A : Type 0} → A → Type 0
-Any a = Unit {0}
-
-flag_tells : Tells flag_of flag_byte
-flag_tells = row flag_byte 0 false refl (row flag_byte 1 true refl (no_row flag_byte))
-
-flag_said : (flag : Bool) → Any flag → (flag_byte flag < 2 ^ 8) × (flag_of (flag_byte flag) ≡ Some flag)
-flag_said false any = (omega arith, refl)
-flag_said true any = (omega arith, refl)
-
-pub flag_format : IsFormat 1 flag_field (λ flag. flag_byte flag ∷ []) Any
-flag_format = byte_format flag_byte Any flag_said (λ n flag below is. (flag_tells n flag is, tt))
+use Rattle.byte_fields.proofs.Formats.{IsFormat, format_as, then_format, last_format}
+use Rattle.byte_fields.proofs.Numbers.{Any, flag_format, wide16, wide32, wide64, byte_format, byte_where, Tells, no_row, row, where_format, within_format, Ranges}
 
 kind_tells : Tells kind_of kind_byte
 kind_tells = row kind_byte 0 Fetch refl (row kind_byte 1 Read refl (row kind_byte 2 Write refl (no_row kind_byte)))

@@ -4,9 +4,10 @@ use Rattle.board_prelude.proofs.Common.{AllByRecursion, w8, w16, w32, to_le_byte
 use Rattle.std.proofs.lemmas.List.Elements.{All-from_recursion}
 use Rattle.board_image.specs.declared.head.Head.{Head}
 use Rattle.board_image.specs.Common.{Saved, magic, image_version, flag_byte, card_bytes, disk_bytes, size_bytes, head_bytes, step_bytes, image_bytes, IsImageStep, IsImage, Reading, then_read, gives, exactly, ended, has_disk_size, disk_where, head_fields, setup_fields, steps_fields, saved_fields, image_fields}
-use Rattle.board_image.proofs.Formats.{AreBytes, rest_of, ok_is, not_err, err_is, then_ok, then_err, IsFormat, format_as, then_format, last_format, many_format, plain_format, AreGood}
-use Rattle.board_image.proofs.Numbers.{wide16, wide32, byte_within, within_format, where_format, Ranges}
-use Rattle.board_image.proofs.EventFormats.{Any, either_true, flag_format}
+use Rattle.byte_fields.specs.Fields.{AreBytes}
+use Rattle.byte_fields.proofs.Formats.{rest_of, ok_is, not_err, err_is, then_ok, then_err, IsFormat, format_as, then_format, last_format, many_format, plain_format, AreGood}
+use Rattle.byte_fields.proofs.Numbers.{Any, flag_format, wide16, wide32, byte_within, within_format, where_format, Ranges}
+use Rattle.board_image.proofs.EventFormats.{either_true}
 use Rattle.board_image.proofs.StepFormats.{step_format}
 use Rattle.board_image.proofs.CardFormats.{AreCardsOf, cards_format}
 use Rattle.board_image.proofs.ImageLoops.{same_setup, steps_loop}

@@ -6,9 +6,9 @@ use Rattle.board_spec.specs.declared.event.Event.TheVariants.{Look as LookAt}
 use Rattle.image_writer.specs.declared.tag.Tag.{Tag}
 use Rattle.image_writer.specs.declared.tag.Tag.TheVariants as tags
 use Rattle.board_image.specs.Common.{flag_byte, kind_byte, tag_byte, tag_of_event, look_bytes, moment_bytes, field_bytes, step_bytes, FitsField, IsImageStep, Reading, look_fields, moment_fields, wire_fields, line_fields, event_fields, step_fields}
-use Rattle.board_image.proofs.Formats.{IsFormat, format_as, then_format, last_format, made_format, done_format}
-use Rattle.board_image.proofs.Numbers.{wide16, wide32, byte_where, byte_within, within_format, Ranges}
-use Rattle.board_image.proofs.EventFormats.{Any, flag_format, kind_format, tag_format, CanSpellMemory, CanSpellPort, memory_format, port_format, wide_format}
+use Rattle.byte_fields.proofs.Formats.{IsFormat, format_as, then_format, last_format, made_format, done_format}
+use Rattle.byte_fields.proofs.Numbers.{Any, flag_format, wide16, wide32, byte_where, byte_within, within_format, Ranges}
+use Rattle.board_image.proofs.EventFormats.{kind_format, tag_format, CanSpellMemory, CanSpellPort, memory_format, port_format, wide_format}
 
 -- ---- moments
 

@@ -6,10 +6,7 @@ use Rattle.board_base.specs.declared.access.Access.{Access}
 use Rattle.board_spec.specs.declared.event.Event.TheVariants.{Look as LookAt}
 use Rattle.image_writer.specs.declared.tag.Tag.{Tag}
 use Rattle.image_writer.specs.declared.tag.Tag.TheVariants as tags
-use Rattle.board_image.specs.Fields.{Reading, gives, ◌>>=◌, number, number_where, within}
-
-abbrev pub flag_of : ℕ → Option Bool
-flag_of n = if n == 0 then Some false else if n == 1 then Some true else None
+use Rattle.byte_fields.specs.Fields.{Reading, gives, ◌>>=◌, number, number_where, within, flag_field}
 
 abbrev pub kind_of : ℕ → Option Kind
 kind_of n = if n == 0 then Some Fetch else if n == 1 then Some Read else if n == 2 then Some Write else None
@@ -23,9 +20,6 @@ tag_of n =
     else if n == 4 then Some tags.Ack else if n == 5 then Some tags.Pulses else if n == 6 then Some tags.Time
     else if n == 7 then Some tags.Wire else if n == 8 then Some tags.Line else if n == 9 then Some tags.BadSector
     else if n == 10 then Some tags.Wide else None
-
-abbrev pub flag_field : Reading Bool
-flag_field = number w8 flag_of
 
 abbrev pub kind_field : Reading Kind
 kind_field = number w8 kind_of

@@ -3,8 +3,8 @@ use Rattle.std.specs.Prelude.{ℕ, zero, suc, ◌≡◌, ◌+◌, ◌-◌, ◌==
 use Rattle.board_prelude.specs.Common.{w8, w16, w32, Statement, Base, MemoryBase, IoBase, FittedCard, Setup, is_base_in_range, is_rom_in_range, is_rom_size, is_disk_length, memory_of_cards, memory_size, most_statements, most_card_memory}
 use Rattle.board_image.specs.declared.head.Head.{Head}
 use Rattle.image_writer.specs.ImageBytes.{Saved, magic, image_version, io_base}
-use Rattle.board_image.specs.Fields.{Reading, gives, ◌>>=◌, number, number_where, within, where_true, plain, exactly, ended}
-use Rattle.board_image.specs.EventFields.{flag_field, step_fields}
+use Rattle.byte_fields.specs.Fields.{Reading, gives, ◌>>=◌, number, number_where, within, where_true, plain, exactly, ended, flag_field}
+use Rattle.board_image.specs.EventFields.{step_fields}
 
 -- ---- the head
 

@@ -1,7 +1,8 @@
 -- What the bytes of images and their fields say of one another.
-use Rattle.std.specs.Prelude.{ℕ, ◌≡◌, ◌<◌, ◌++◌, ◌⊎◌, List, get_or}
+use Rattle.std.specs.Prelude.{ℕ, ◌≡◌, ◌++◌, ◌⊎◌, List}
 use Rattle.board_prelude.specs.Common.{Entry, Statement, Setup, IsLegal, IsReplayOf, statements_of}
 use Rattle.image_writer.specs.ImageBytes.{image_bytes, IsImage}
+use Rattle.byte_fields.specs.Fields.{AreBytes}
 use Rattle.board_image.specs.ImageFields.{IsBadAt}
 
 -- one value has one spelling, and one spelling is of one value
@@ -16,10 +17,6 @@ pub record IsImageOf (bytes : List ℕ) : Type 0 where
   pub steps : List Statement
   pub image : IsImage setup steps
   pub spelled : bytes ≡ image_bytes setup steps
-
--- every number of a list is a byte
-abbrev pub AreBytes : List ℕ → Type 0
-AreBytes bytes = (k : ℕ) → get_or bytes k 0 < 256
 
 -- bytes are an image, or they are bad at one place, and not both
 pub record ImageOrBad : Type 0 where

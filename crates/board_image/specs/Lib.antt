@@ -1,4 +1,3 @@
-pub mod Fields
 pub mod EventFields
 pub mod ImageFields
 pub mod Laws

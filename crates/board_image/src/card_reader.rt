@@ -3,12 +3,12 @@
 ghost use Rattle.std.specs.Prelude.{◌≡◌, ◌≤◌, ◌-◌, ◌<◌, ◌∷◌, [], map, sum_by, option_map, IfSome, IfOk};
 ghost use Rattle.board_prelude.specs.Common.{w8, most_card_memory, IsBase, memory_of_cards, memory_size};
 ghost use Rattle.pci_bars.specs.Bases.{base_of};
-ghost use Rattle.board_image.specs.Fields.{Took, Filled, number};
-ghost use Rattle.board_image.specs.ImageFields.{base_in, rom_of, bases_fields, card_fields, cards_fields};
+ghost use Rattle.byte_fields.specs.Fields.{Took, Filled, number};
+ghost use Rattle.board_image.specs.ImageFields.{base_in, base_of_byte, rom_of, bases_fields, card_fields, cards_fields};
 
-use crate::fault::{Bad, Fault};
-use crate::fields::Fields;
 use arrayvec::ArrayVec;
+use board_core::{is_base, is_expansion_rom};
+use byte_fields::{Bad, Fault, Fields};
 use image_writer::IO_BASE;
 use pci_bars::{BASE_COUNT, BaseSpec, CardSpec};
 use std::alloc::Global;
@@ -25,11 +25,23 @@ fn base_in(room: u32, byte: u8) -> Option<BaseSpec>
     ensures said { option_map base_of result ≡ base_in room byte }
     ensures base { IfSome result (λ base. IsBase (base_of base)) }
 {
-    if byte >= IO_BASE {
-        let bits = byte - IO_BASE;
-        return (2..=8).contains(&bits).then_some(BaseSpec::Io(bits));
+    let base = base_of_byte(byte);
+    if is_base(base) && memory_size(base) <= room {
+        Some(base)
+    } else {
+        None
     }
-    ((4..=24).contains(&byte) && 1 << byte <= room).then_some(BaseSpec::Memory(byte))
+}
+
+/// The base that a byte stands for, which no card may be able to have.
+fn base_of_byte(byte: u8) -> BaseSpec
+    ensures said { base_of result ≡ base_of_byte byte }
+{
+    if byte >= IO_BASE {
+        BaseSpec::Io(byte - IO_BASE)
+    } else {
+        BaseSpec::Memory(byte)
+    }
 }
 
 /// The bytes of memory that a base decodes.
@@ -79,10 +91,13 @@ fn bases(
 fn rom_of(byte: u8) -> Option<Option<u8>>
     ensures said { result ≡ rom_of byte }
 {
-    match byte {
-        0 => Some(None),
-        11..=24 => Some(Some(byte)),
-        _ => None,
+    if byte == 0 {
+        return Some(None);
+    }
+    if is_expansion_rom(Some(byte)) {
+        Some(Some(byte))
+    } else {
+        None
     }
 }
 

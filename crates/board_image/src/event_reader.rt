@@ -2,13 +2,12 @@
 
 ghost use Rattle.std.specs.Prelude.{◌≡◌, ◌≤◌, ◌-◌, ◌^◌, ◌%◌, ◌==◌, true, find, is_some, IfOk};
 ghost use Rattle.board_prelude.specs.Common.{w8, w16, w32, w64, bytes_of, Setup, is_free_line, days_in_month};
-ghost use Rattle.board_image.specs.Fields.{Took, number_where, within};
+ghost use Rattle.byte_fields.specs.Fields.{Took, number_where, within};
 ghost use Rattle.board_image.specs.EventFields.{kind_of, kind_field, width_of, width_field, tag_of, tag_field, is_wide_size, is_wide_place, most_value, memory_fields, port_fields, wide_fields, look_fields, moment_fields, wire_fields, line_fields, event_fields, step_fields};
 
-use crate::fault::Bad;
-use crate::fields::Fields;
 use board_base::{Access, Kind, Moment, PortAccess, WideAccess, Width};
 use board_spec::{Event, Statement};
+use byte_fields::{Bad, Fields};
 use image_writer::Tag;
 use pci_bars::CardSpec;
 

@@ -1,8 +1,5 @@
 //! Why bytes were not read as an image.
 
-ghost use Rattle.std.specs.Prelude.{◌≡◌};
-
-use std::alloc::{AllocError, AllocFailed};
 use thiserror::Error;
 
 /// Why bytes were not read as an image.
@@ -14,47 +11,4 @@ pub enum ImageFault {
     /// There was no memory.
     #[error("out of memory")]
     NoMemory,
-}
-
-/// The field at the front of the bytes is bad.
-#[derive(Clone, Copy, PartialEq, Eq, Debug)]
-pub(crate) struct Bad;
-
-/// Why fields were not read.
-#[derive(Clone, Copy, PartialEq, Eq, Debug)]
-pub(crate) enum Fault {
-    /// The field at the front of the bytes is bad.
-    Bad,
-    /// There was no memory.
-    NoMemory,
-}
-
-impl From<Bad> for Fault {
-    ghost use Rattle.board_image.specs.declared.fault.Fault.{Fault};
-
-    ghost from_gives = { λ _ fault. fault ≡ Fault.Bad };
-
-    fn from(_: Bad) -> Fault {
-        Fault::Bad
-    }
-}
-
-impl From<AllocError> for Fault {
-    ghost use Rattle.board_image.specs.declared.fault.Fault.{Fault};
-
-    ghost from_gives = { λ _ fault. fault ≡ Fault.NoMemory };
-
-    fn from(_: AllocError) -> Fault {
-        Fault::NoMemory
-    }
-}
-
-impl<T: Drop> From<AllocFailed<T>> for Fault {
-    ghost use Rattle.board_image.specs.declared.fault.Fault.{Fault};
-
-    ghost from_gives = { λ _ fault. fault ≡ Fault.NoMemory };
-
-    fn from(_: AllocFailed<T>) -> Fault {
-        Fault::NoMemory
-    }
 }

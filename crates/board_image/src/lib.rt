@@ -5,7 +5,6 @@
 mod card_reader;
 mod event_reader;
 mod fault;
-mod fields;
 mod head;
 mod image;
 pub mod laws;

@@ -4,19 +4,19 @@ ghost use Rattle.std.specs.Prelude.{◌≡◌, ◌≤◌, ◌⊎◌, ℕ, List, 
 ghost use Rattle.board_prelude.specs.Common.{w32, is_rom_size, Statement, Setup as Fitting};
 ghost use Rattle.board_image.specs.declared.fault.ImageFault.{ImageFault};
 ghost use Rattle.image_writer.specs.ImageBytes.{Saved, image_bytes, IsImage};
-ghost use Rattle.board_image.specs.Fields.{Took, Filled, number_where, plain};
+ghost use Rattle.byte_fields.specs.Fields.{Took, Filled, number_where, plain};
 ghost use Rattle.board_image.specs.ImageFields.{has_disk_size, head_fields, setup_fields, steps_fields, saved_fields, image_fields, IsBadAt};
 
 use crate::card_reader::cards;
 use crate::event_reader::step;
-use crate::fault::{Bad, Fault, ImageFault};
-use crate::fields::Fields;
+use crate::fault::ImageFault;
 use crate::head::Head;
 use crate::image::Image;
 use board_core::{Setup, is_disk_size, is_rom_size};
 use board_spec::Statement;
 use board_spec::limits::MOST_STATEMENTS;
-use image_writer::VERSION;
+use byte_fields::{Bad, Fault, Fields};
+use image_writer::{MAGIC, VERSION};
 use pci_bars::CardSpec;
 use std::alloc::Global;
 
@@ -59,7 +59,7 @@ fn disk_size(fields: &mut Fields, has_disk: bool) -> Result<u32, Bad>
 fn head(fields: &mut Fields) -> Result<Head, Bad>
     ensures took { Took (λ head. head) result fields.new (head_fields fields.old) }
 {
-    fields.magic()?;
+    fields.exactly(&MAGIC)?;
     fields.half(VERSION, VERSION)?;
     let mib = fields.byte(1, MOST_MIB)?.into();
     let cards = fields.byte(0, MOST_CARDS)?;

@@ -100,6 +100,38 @@ with_parts said (parts.Three a b c) =
 with_parts said (parts.Four a b c d) =
     record said { parts = 4; part0 = of_part a; part1 = of_part b; part2 = of_part c; part3 = of_part d }
 
+-- the record of zeros
+abbrev pub no_reply : ReplyRecord
+no_reply = record {
+  value = 0;
+  version = 0;
+  seen = 0;
+  lo = 0;
+  hi = 0;
+  form = 0;
+  has_value = 0;
+  parts = 0;
+  interrupt = 0;
+  reset = 0;
+  part0 = no_part;
+  part1 = no_part;
+  part2 = no_part;
+  part3 = no_part;
+  sent = 0;
+  has_sent = 0;
+  irq4 = 0;
+  serial_room = 0;
+  reserved = 0;
+}
+
+-- with the reply to one bus cycle, and to a wide access
+abbrev pub with_cycle : ReplyRecord → Option ℕ → Target → Option Denial → ReplyRecord
+with_cycle said value target denial =
+    with_value (record said { form = bus_reply; parts = 1; part0 = part_said target denial }) value
+
+abbrev pub with_wide : ReplyRecord → Parts → Option ℕ → ReplyRecord
+with_wide said parts value = with_value (with_parts (record said { form = parts_reply }) parts) value
+
 unfoldable pub look_said : Look → AfterStep → ReplyRecord
 look_said look after =
     record (blank after) {

@@ -11,9 +11,9 @@ ghost use Rattle.board_records.specs.Statuses.{ok, closed, IsEventRefusal};
 ghost use Rattle.board_records.specs.Steps.{IsAskedStep, after_step};
 
 use crate::asked::asked_of;
-use crate::event::{EventRecord, cycle_of, look_of, port_of};
+use crate::event::{EventRecord, cycle_of, look_of, port_of, wide_of};
 use crate::numbers::{LOOK_EVENT, MEMORY_EVENT, PORT_EVENT};
-use crate::reply::{AfterStep, ReplyRecord, tell, tell_bus, tell_look, tell_uart, tell_wide};
+use crate::reply::{AfterStep, ReplyRecord, tell, tell_cycle, tell_look, tell_parts_of, tell_uart};
 use crate::status::{NO_EVENT, OK, SERIAL_FULL, fault_status};
 use board_base::{Access, Kind, PortAccess, WideAccess};
 use board_chipset::{Chipset, ResetKind, test_memory, test_port};
@@ -37,7 +37,10 @@ pub(crate) fn step(
         if let Some(access) = cycle_of(event) {
             return memory(serial, &access, reply);
         }
-        return other(serial, event, reply);
+        return match wide_of(event) {
+            Some(access) => done(serial, &Event::Wide(access), reply),
+            None => other(serial, event, reply),
+        };
     }
     if event.what == PORT_EVENT {
         return match port_of(event) {
@@ -90,8 +93,7 @@ fn memory_access(serial: &mut SerialBoard<Chipset>, access: &Access, reply: &mut
     ensures done { IsAskedStep serial.old serial.new reply.new (Happens (Memory access.now)) }
 {
     let said = serial.memory(access);
-    let after = after_step(serial, ResetKind::None);
-    tell_bus(reply, &said, after);
+    tell_cycle(reply, serial, ResetKind::None, &said);
 }
 
 /// Does an access at a port. Refused with why where it is out of range.
@@ -143,8 +145,7 @@ fn board_access(serial: &mut SerialBoard<Chipset>, access: &PortAccess, reply: &
 {
     let reset = serial.board().reset_by(access);
     let said = serial.port(access);
-    let after = after_step(serial, reset);
-    tell_bus(reply, &said, after);
+    tell_cycle(reply, serial, reset, &said);
 }
 
 /// Does what a record asks, whatever it is.
@@ -219,8 +220,7 @@ fn wide(serial: &mut SerialBoard<Chipset>, access: &WideAccess, reply: &mut Repl
     ensures done { IsAskedStep serial.old serial.new reply.new (Happens (Wide access.now)) }
 {
     let said = serial.wide(access);
-    let after = after_step(serial, ResetKind::None);
-    tell_wide(reply, &said, after);
+    tell_parts_of(reply, serial, &said);
 }
 
 /// Whether an event is for the devices of the chipset alone: no access, no look, and no level of a line.
@@ -247,8 +247,7 @@ fn outside(serial: &mut SerialBoard<Chipset>, event: &Event, reply: &mut ReplyRe
 {
     let reset = serial.board().reset_of(event);
     let said = serial.outside(event);
-    let after = after_step(serial, reset);
-    tell_bus(reply, &said, after);
+    tell_cycle(reply, serial, reset, &said);
 }
 
 /// Does any event.

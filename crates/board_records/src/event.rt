@@ -103,6 +103,44 @@ fn width_cycle(record: &EventRecord, kind: Kind, width: Width) -> Option<Access>
     })
 }
 
+/// The wide access to memory that a record of `MEMORY_EVENT` says. None where it says another access, or none.
+#[tactic(auto, unfolding(crate::specs::Events::asked_said, crate::specs::Events::event_said, crate::specs::Events::asked_by))]
+pub(crate) fn wide_of(record: &EventRecord) -> Option<WideAccess>
+    requires memory { record.now.what ≡ memory_event }
+    ensures said { IfSome result (λ access. asked_said record.now ≡ Some (Happens (Wide access))) }
+{
+    if !record.is_plain() {
+        return None;
+    }
+    match kind_of(record.kind) {
+        Some(kind) => kind_wide(record, kind),
+        None => None,
+    }
+}
+
+#[tactic(auto, unfolding(crate::specs::Events::access_said))]
+fn kind_wide(record: &EventRecord, kind: Kind) -> Option<WideAccess>
+    ensures said { IfSome result (λ access. access_said record.now kind ≡ Some (Wide access)) }
+{
+    if record.bytes == 8 {
+        return Some(wide_access(record, kind));
+    }
+    match width_of(record.bytes) {
+        Some(width) => width_wide(record, kind, width),
+        None => None,
+    }
+}
+
+#[tactic(auto, unfolding(crate::specs::Events::cycle_said))]
+fn width_wide(record: &EventRecord, kind: Kind, width: Width) -> Option<WideAccess>
+    ensures said { IfSome result (λ access. cycle_said record.now kind width ≡ Some (Wide access)) }
+{
+    if width.is_aligned(record.addr) {
+        return None;
+    }
+    Some(wide_access(record, kind))
+}
+
 /// The access at a port that a record of `PORT_EVENT` says. None exactly where it says none.
 #[tactic(auto, unfolding(crate::specs::Events::asked_said, crate::specs::Events::event_said, crate::specs::Events::asked_by))]
 pub(crate) fn port_of(record: &EventRecord) -> Option<PortAccess>
@@ -229,13 +267,19 @@ fn cycle_event(record: &EventRecord, kind: Kind, width: Width) -> Option<Event>
 fn wide_event(record: &EventRecord, kind: Kind) -> Event
     ensures wide { result ≡ Wide (wide_access kind record.now) }
 {
-    Event::Wide(WideAccess {
+    Event::Wide(wide_access(record, kind))
+}
+
+fn wide_access(record: &EventRecord, kind: Kind) -> WideAccess
+    ensures wide { result ≡ wide_access kind record.now }
+{
+    WideAccess {
         kind,
         bytes: record.bytes,
         smm: record.is_smm(),
         addr: record.addr,
         value: record.value,
-    })
+    }
 }
 
 fn look_event(record: &EventRecord) -> Option<Event>

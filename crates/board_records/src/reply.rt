@@ -1,9 +1,13 @@
 //! Replies as records of numbers.
 
-ghost use Rattle.std.specs.Prelude.{◌≡◌, Some};
+ghost use Rattle.std.specs.Prelude.{◌≡◌, List, Some};
 ghost use Rattle.board_base.specs.declared.target.Denial.TheVariants.{Register};
+ghost use Rattle.board_prelude.specs.Common.{Entry};
+ghost use Rattle.board_chipset.specs.Common.{IsLeftBy as IsChipsetLeftBy};
+ghost use Rattle.board_chipset.specs.declared.reset_control.ResetKind.TheVariants.{None as NoReset};
 ghost use Rattle.board_records.specs.Numbers.{device_number, reset_number};
-ghost use Rattle.board_records.specs.Replies.{placed, no_part, target_said, area_said, with_denial, part_said, blank, with_value, with_parts, look_said, bus_said, wide_said, record_said, of_part, uart_part, uart_said, serial_said};
+ghost use Rattle.board_records.specs.Replies.{placed, no_part, target_said, area_said, with_denial, part_said, blank, with_value, with_parts, look_said, bus_said, wide_said, record_said, of_part, uart_part, uart_said, serial_said, no_reply, with_cycle, with_wide};
+ghost use Rattle.board_records.specs.Steps.{after_step};
 
 use crate::numbers::{
     ABORT_TARGET, ATA_DEVICE, BUS_REPLY, CARD_TARGET, CLOCK_DEVICE, CONFADD_DENIAL, CONFADD_DEVICE,
@@ -14,9 +18,9 @@ use crate::numbers::{
     WIRES_DEVICE,
 };
 use board_base::{Area, Denial, Dev, Reg, Target};
-use board_chipset::{BusReply, ResetKind, WideReply};
+use board_chipset::{BusReply, Chipset, ResetKind, WideReply};
 use board_spec::{Look, Part, Parts, Reply};
-use uart_16550::SerialReply;
+use uart_16550::{SerialBoard, SerialReply};
 
 /// What answered an access, or one part of it, and what denied it: a target (`DRAM_TARGET` ..), the row of DRAM, the
 /// device (a PCI device of a card or register, `PIT_DEVICE` .. of the board), the base of a card or function of a
@@ -115,10 +119,35 @@ fn tell_board(told: &mut ReplyRecord, reply: &Reply, after: AfterStep)
 
 /// Tells a reply to one bus cycle.
 #[tactic(auto, unfolding(crate::specs::Replies::bus_said))]
-pub(crate) fn tell_bus(told: &mut ReplyRecord, reply: &BusReply, after: AfterStep)
+fn tell_bus(told: &mut ReplyRecord, reply: &BusReply, after: AfterStep)
     ensures said { told.new ≡ bus_said reply.now.value reply.now.target reply.now.denial after }
 {
     tell_after(told, after);
+    add_cycle(told, reply);
+}
+
+/// Tells a reply to one bus cycle, with what stands of a chipset with a serial port after a step that made this reset.
+#[inline(always)]
+#[tactic(auto, unfolding(crate::specs::Replies::bus_said))]
+pub(crate) fn tell_cycle(
+    told: &mut ReplyRecord,
+    serial: &SerialBoard<Chipset>,
+    reset: ResetKind,
+    reply: &BusReply,
+)
+    ensures said { (history : List Entry) → IsChipsetLeftBy serial.now.board history
+        → told.new ≡ bus_said reply.now.value reply.now.target reply.now.denial
+        (after_step serial.now.board.setup history reset serial.now.com1) }
+{
+    tell_standing(told, serial, reset);
+    add_cycle(told, reply);
+}
+
+/// Adds a reply to one bus cycle to what stands after the step.
+#[inline(always)]
+fn add_cycle(told: &mut ReplyRecord, reply: &BusReply)
+    ensures added { told.new ≡ with_cycle told.old reply.now.value reply.now.target reply.now.denial }
+{
     told.form = BUS_REPLY;
     told.parts = 1;
     told.part0 = part_record(reply.target, reply.denial);
@@ -129,10 +158,32 @@ pub(crate) fn tell_bus(told: &mut ReplyRecord, reply: &BusReply, after: AfterSte
 
 /// Tells a reply to a wide access.
 #[tactic(auto, unfolding(crate::specs::Replies::wide_said))]
-pub(crate) fn tell_wide(told: &mut ReplyRecord, reply: &WideReply, after: AfterStep)
+fn tell_wide(told: &mut ReplyRecord, reply: &WideReply, after: AfterStep)
     ensures said { told.new ≡ wide_said reply.now.parts reply.now.value after }
 {
     tell_after(told, after);
+    add_wide(told, reply);
+}
+
+/// Tells a reply to a wide access, with what stands of a chipset with a serial port after a step that made no reset.
+#[tactic(auto, unfolding(crate::specs::Replies::wide_said))]
+pub(crate) fn tell_parts_of(
+    told: &mut ReplyRecord,
+    serial: &SerialBoard<Chipset>,
+    reply: &WideReply,
+)
+    ensures said { (history : List Entry) → IsChipsetLeftBy serial.now.board history
+        → told.new ≡ wide_said reply.now.parts reply.now.value
+        (after_step serial.now.board.setup history NoReset serial.now.com1) }
+{
+    tell_standing(told, serial, ResetKind::None);
+    add_wide(told, reply);
+}
+
+/// Adds a reply to a wide access to what stands after the step.
+fn add_wide(told: &mut ReplyRecord, reply: &WideReply)
+    ensures added { told.new ≡ with_wide told.old reply.now.parts reply.now.value }
+{
     told.form = PARTS_REPLY;
     tell_parts(told, &reply.parts);
     if let Some(value) = reply.value {
@@ -182,24 +233,53 @@ pub(crate) fn tell_uart(
 fn tell_after(told: &mut ReplyRecord, after: AfterStep)
     ensures blank { told.new ≡ blank after }
 {
-    told.value = 0;
+    tell_nothing(told);
     told.version = after.version;
+    told.interrupt = u8::from(after.interrupt);
+    told.reset = reset_number(after.reset);
+    told.irq4 = u8::from(after.irq4);
+    told.serial_room = u8::from(after.serial_room);
+}
+
+/// Tells what stands of a chipset with a serial port after a step that made this reset, and nothing else.
+#[inline(always)]
+#[tactic(auto, unfolding(crate::specs::Replies::blank))]
+fn tell_standing(told: &mut ReplyRecord, serial: &SerialBoard<Chipset>, reset: ResetKind)
+    ensures blank { (history : List Entry) → IsChipsetLeftBy serial.now.board history
+        → told.new ≡ blank (after_step serial.now.board.setup history reset serial.now.com1) }
+{
+    let chipset = serial.board();
+    tell_nothing(told);
+    told.version = chipset.map().version();
+    told.interrupt = u8::from(chipset.interrupt());
+    told.reset = reset_number(reset);
+    told.irq4 = u8::from(serial.level());
+    told.serial_room = u8::from(serial.room());
+}
+
+/// The record of zeros.
+#[inline(always)]
+fn tell_nothing(told: &mut ReplyRecord)
+    ensures zeros { told.new ≡ no_reply }
+{
+    told.value = 0;
+    told.version = 0;
     told.seen = 0;
     told.lo = 0;
     told.hi = 0;
     told.form = 0;
     told.has_value = 0;
     told.parts = 0;
-    told.interrupt = u8::from(after.interrupt);
-    told.reset = reset_number(after.reset);
+    told.interrupt = 0;
+    told.reset = 0;
     told.part0 = no_part();
     told.part1 = no_part();
     told.part2 = no_part();
     told.part3 = no_part();
     told.sent = 0;
     told.has_sent = 0;
-    told.irq4 = u8::from(after.irq4);
-    told.serial_room = u8::from(after.serial_room);
+    told.irq4 = 0;
+    told.serial_room = 0;
     told.reserved = 0;
 }
 

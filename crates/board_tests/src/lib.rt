@@ -1,4 +1,5 @@
-//! Tests of the board: callers and viewers on threads, histories by turns, the places of looks in a run, logs in pieces, and logs with a byte changed.
+//! Tests of the board: callers and viewers on threads, histories by turns, the places of looks in a run, logs in pieces, logs with a byte changed,
+//! the plain words of the board, and its calendar.
 #![tactic(auto)]
 
 #[cfg(test)]
@@ -8,6 +9,8 @@ mod checked_logs;
 #[cfg(test)]
 mod look_places;
 #[cfg(test)]
+mod moments;
+#[cfg(test)]
 mod pieces;
 #[cfg(test)]
 mod plain;
@@ -15,3 +18,5 @@ mod plain;
 mod turns;
 #[cfg(test)]
 mod viewers;
+#[cfg(test)]
+mod words;

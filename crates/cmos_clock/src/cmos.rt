@@ -47,10 +47,10 @@ const ANY_TIME: u8 = 0xC0;
 /// The MC146818 real time clock with its 128 bytes. Time passes only by the moments that `moment` gives it.
 #[derive(Drop)]
 pub struct Cmos {
-    index: u8,
-    bytes: [u8; CLOCK_BYTES],
-    alarm_flag: bool,
-    update_flag: bool,
+    pub(crate) index: u8,
+    pub(crate) bytes: [u8; CLOCK_BYTES],
+    pub(crate) alarm_flag: bool,
+    pub(crate) update_flag: bool,
 }
 
 impl Model for Cmos {

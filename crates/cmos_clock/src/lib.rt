@@ -6,6 +6,8 @@ mod control;
 mod register;
 mod second;
 mod shown;
+mod state;
 
 pub use cmos::{CLOCK_BYTES, Cmos};
 pub use second::law_seconds_follow;
+pub use state::{CLOCK_STATE_BYTES, law_one_clock};

@@ -1,65 +1,21 @@
--- Which functions exist, and the card at a device number.
-use Rattle.std.proofs.Common.{◌≡◌, ◌≢◌, ℕ, ◌+◌, ◌<◌, ◌⊎◌, inl, inr, true, false, List, None, refl, sym, ◌∙◌, ap, arith, ◌==◌, find, is_some}
-use Rattle.board_prelude.proofs.Common.{cases_eq, ne_eqb, false≢true, Width, One, Reg, bytes_of, Setup, card_at, wide, function_at}
+-- A card by its place, several bytes, and the registers of a function.
+use Rattle.std.proofs.Common.{◌≡◌, ℕ, ◌+◌, ◌<◌, true, false, List, Some, refl, sym, ◌∙◌, ap, arith, ◌==◌, All, length, get_or}
+use Rattle.std.proofs.lemmas.List.Quantifiers.{position-Some}
+use Rattle.board_prelude.proofs.Common.{position, eqb-true, Width, One, Reg, bytes_of, wide}
 use Rattle.board_base.specs.declared.access.Width.TheVariants.{Two, Four}
-use Rattle.pci_bars.specs.Cards.{CardBytes, cards_of}
-use Rattle.pci_bars.proofs.CardListLemmas.{card_is}
-use Rattle.addr_decode.proofs.PortLemmas.{card_exists as function_of_card}
+use Rattle.pci_bars.specs.Cards.{CardBytes}
 
--- ---- the functions that exist
+-- ---- a card by its place
 
-abbrev pub Exists : Setup → (dev fun : ℕ) → Type 0
-Exists setup dev fun = is_some (function_at setup dev fun) ≡ true
-
-pub bridge_exists : (setup : Setup) (dev fun : ℕ) → dev ≡ 0 → Exists setup dev fun → fun ≡ 0
-bridge_exists setup dev fun at exists' =
-    elim (cases_eq fun 0) [
-      | inl zero' ↦ zero'
-      | inr apart ↦ let none : false ≡ true = rw (at, ne_eqb fun 0 apart) at exists' in absurd (cc)
-    ]
-
-pub south_function : (setup : Setup) (dev fun : ℕ) → dev ≡ 1 → Exists setup dev fun → (fun ≡ 0) ⊎ (fun ≡ 1)
-south_function setup dev fun at exists' =
-    elim (cases_eq fun 0) [
-      | inl zero' ↦ inl zero'
-      | inr not0 ↦ elim (cases_eq fun 1) [
-        | inl one ↦ inr one
-        | inr not1 ↦ let none : false ≡ true = rw (at, ne_eqb fun 0 not0, ne_eqb fun 1 not1) at exists' in absurd (cc)
-      ]
-    ]
-
-pub card_exists :
-    (setup : Setup) (dev fun : ℕ) → dev ≢ 0 → dev ≢ 1 → Exists setup dev fun →
-    (fun ≡ 0) × (is_some (card_at setup dev) ≡ true)
-card_exists setup dev fun not0 not1 exists' =
-    elim (cases_eq fun 0) [
-      | inl zero' ↦ (zero', function_of_card setup dev not0 not1 ∙ rw zero' at exists')
-      | inr apart ↦
-          let none : false
-          ≡ true = rw (ne_eqb dev 0 not0, ne_eqb dev 1 not1, ne_eqb fun 0 apart) at exists' in absurd (cc)
-    ]
-
--- the only function but 0 is the IDE function
-pub other_function : (setup : Setup) (dev fun : ℕ) → fun ≢ 0 → Exists setup dev fun → (dev ≡ 1) × (fun ≡ 1)
-other_function setup dev fun other exists' =
-    elim (cases_eq dev 0) [
-      | inl first ↦ absurd (other (bridge_exists setup dev fun first exists'))
-      | inr not0 ↦ elim (cases_eq dev 1) [
-        | inr not1 ↦ absurd (other (card_exists setup dev fun not0 not1 exists').0)
-        | inl second ↦ elim (south_function setup dev fun second exists') [
-          | inl isa ↦ absurd (other isa)
-          | inr ide ↦ (second, ide)
-        ]
-      ]
-    ]
-
--- ---- a card is found by its device
-
-pub no_card :
-    (setup : Setup) (cards : List CardBytes) (dev : ℕ) → setup.cards ≡ cards_of cards →
-    None ≡ find (λ card. card.card.dev == dev) cards → is_some (card_at setup dev) ≡ true → ⊥
-no_card setup cards dev same none exists' =
-    false≢true (ap is_some (card_is setup cards dev None same none) ∙ exists')
+-- what holds of each card holds of the one at the place of a device number, and it has the number
+pub at_place : (P : CardBytes → Type 0) (cards : List CardBytes) (dev place : ℕ) (d : CardBytes) → All P cards →
+    position (λ card. card.card.dev == dev) cards ≡ Some place →
+    (place < length cards) × P (get_or cards place d) × ((get_or cards place d).card.dev ≡ dev)
+at_place P cards dev place d each at =
+    let found : (place < length cards) × (((get_or cards place d).card.dev == dev) ≡ true) ×
+    ((j : ℕ) → j < place → ((get_or cards j d).card.dev == dev) ≡ false) =
+    position-Some (λ card. card.card.dev == dev) cards place d at in
+    (found.0, each place d found.0, eqb-true _ _ found.1)
 
 -- ---- several bytes
 

@@ -5,5 +5,5 @@
 mod reading;
 mod south;
 
-pub use reading::read;
+pub use reading::{read, read_from};
 pub use south::South;

@@ -3,6 +3,7 @@
 use Rattle.std.specs.Prelude.{ℕ, ◌≤◌, ◌<◌, ◌+◌, ◌^◌, ◌++◌, Bool, true, false, List, [], ◌∷◌, length, map, flat_map, All, Option, is_some, unwrap_or, codes}
 use Rattle.board_prelude.specs.Common.{w16, w32, w64, to_le_bytes, Kind, Fetch, Read, Write, PortAccess, WideAccess, Moment, bytes_of, Event, Memory, Wide, Port, Ack, Pulses, Time, Wire, Line, BadSector, Statement, Base, MemoryBase, IoBase, FittedCard, Setup, IsSetup, IsInRange, IsScriptSector, most_statements}
 use Rattle.board_base.specs.declared.access.Access.{Access}
+pub use Rattle.byte_fields.specs.Fields.{flag_byte}
 use Rattle.board_spec.specs.declared.event.Event.TheVariants.{Look as LookAt}
 use Rattle.image_writer.specs.declared.tag.Tag.{Tag}
 use Rattle.image_writer.specs.declared.tag.Tag.TheVariants as tags
@@ -19,10 +20,6 @@ magic = codes "BOARDIMG"
 
 abbrev pub image_version : ℕ
 image_version = 1
-
-abbrev pub flag_byte : Bool → ℕ
-flag_byte false = 0
-flag_byte true = 1
 
 -- the bit that says of a base that it is for I/O ports
 abbrev pub io_base : ℕ

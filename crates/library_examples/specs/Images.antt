@@ -1,9 +1,9 @@
 -- Worked examples of the bytes of an image: the number of a base is its power of two, and bit 7 is set where it is for
 -- ports.
-use Rattle.std.specs.Prelude.{ℕ, ◌≡◌, false, List, [], ◌∷◌, None, Result, Ok, Err}
+use Rattle.std.specs.Prelude.{ℕ, ◌≡◌, ◌++◌, Bool, true, false, List, [], ◌∷◌, map, Option, Some, None, Result, Ok, Err}
 use Rattle.board_prelude.specs.Common.{MemoryBase, IoBase, FittedCard}
 use Rattle.board_image.specs.Common.{card_bytes}
-use Rattle.board_image.specs.ImageFields.{card_fields}
+use Rattle.board_image.specs.ImageFields.{card_fields, head_fields}
 
 -- a plain card at device 3 with 4 KiB of memory and 16 ports, and as an image has it
 abbrev pub port_card : FittedCard
@@ -31,3 +31,69 @@ pub record PortsKept : Type 0 where
   pub too_few : read_card (with_base 0x81) ≡ Err 1
   pub too_many : read_card (with_base 0x89) ≡ Err 1
   pub other_bit : read_card (with_base 0x44) ≡ Err 1
+
+-- ---- the head: `BOARDIMG`, version 1, MiB, cards, whether there is a disk, a byte that is reserved, and four bytes each
+-- for the length of the ROM, that of the disk, and the number of steps, the low byte first
+
+abbrev pub head_with : (version mib cards disk reserved : ℕ) → (sizes : List ℕ) → List ℕ
+head_with version mib cards disk reserved sizes =
+    0x42 ∷ 0x4F ∷ 0x41 ∷ 0x52 ∷ 0x44 ∷ 0x49 ∷ 0x4D ∷ 0x47 ∷ version ∷ 0 ∷ mib ∷ cards ∷ disk ∷ reserved ∷ sizes
+
+-- a ROM of 64 KiB, no disk, and no step
+abbrev pub plain_sizes : List ℕ
+plain_sizes = 0 ∷ 0 ∷ 1 ∷ 0 ∷ 0 ∷ 0 ∷ 0 ∷ 0 ∷ 0 ∷ 0 ∷ 0 ∷ 0 ∷ []
+
+-- a ROM of 64 KiB and a disk of this many bytes, or this many steps on no disk
+abbrev pub disk_size : List ℕ → List ℕ
+disk_size bytes = 0 ∷ 0 ∷ 1 ∷ 0 ∷ (bytes ++ 0 ∷ 0 ∷ 0 ∷ 0 ∷ [])
+
+abbrev pub step_count : List ℕ → List ℕ
+step_count bytes = 0 ∷ 0 ∷ 1 ∷ 0 ∷ 0 ∷ 0 ∷ 0 ∷ 0 ∷ bytes
+
+-- how many bytes are left from the first bad field of a head on; None where all are good
+abbrev pub left_of : {A : Type 0} → Result A ℕ → Option ℕ
+left_of (Ok read) = None
+left_of (Err left) = Some left
+
+abbrev pub bad_from : List ℕ → Option ℕ
+bad_from bytes = left_of (head_fields bytes)
+
+pub record HeadBorders : Type 0 where
+  pub versions : map (λ version. bad_from (head_with version 8 0 0 0 plain_sizes)) (0 ∷ 1 ∷ 2 ∷ []) ≡ Some 18 ∷ None ∷ Some 18 ∷ []
+  pub memory :
+      map (λ mib. bad_from (head_with 1 mib 0 0 0 plain_sizes)) (0 ∷ 1 ∷ 64 ∷ 65 ∷ [])
+      ≡ Some 16 ∷ None ∷ None ∷ Some 16 ∷ []
+  pub cards : map (λ cards. bad_from (head_with 1 8 cards 0 0 plain_sizes)) (0 ∷ 8 ∷ 9 ∷ []) ≡ None ∷ None ∷ Some 15 ∷ []
+  pub flag : bad_from (head_with 1 8 0 2 0 plain_sizes) ≡ Some 14
+  pub reserved : bad_from (head_with 1 8 0 0 1 plain_sizes) ≡ Some 13
+  pub rom : bad_from (head_with 1 8 0 0 0 (1 ∷ 0 ∷ 1 ∷ 0 ∷ 0 ∷ 0 ∷ 0 ∷ 0 ∷ 0 ∷ 0 ∷ 0 ∷ 0 ∷ [])) ≡ Some 12
+  -- of 512 bytes, of 33,554,432, of a sector more, and of none
+  pub disks :
+      map (λ bytes. bad_from (head_with 1 8 0 1 0 (disk_size bytes)))
+      ((0 ∷ 2 ∷ 0 ∷ 0 ∷ []) ∷ (0 ∷ 0 ∷ 0 ∷ 2 ∷ []) ∷ (0 ∷ 2 ∷ 0 ∷ 2 ∷ []) ∷ (0 ∷ 0 ∷ 0 ∷ 0 ∷ []) ∷ [])
+      ≡ None ∷ None ∷ Some 8 ∷ Some 8 ∷ []
+  pub no_disk : bad_from (head_with 1 8 0 0 0 (disk_size (0 ∷ 2 ∷ 0 ∷ 0 ∷ []))) ≡ Some 8
+  -- 250,000 and 250,001
+  pub steps :
+      map (λ bytes. bad_from (head_with 1 8 0 0 0 (step_count bytes)))
+      ((0x90 ∷ 0xD0 ∷ 3 ∷ 0 ∷ []) ∷ (0x91 ∷ 0xD0 ∷ 3 ∷ 0 ∷ []) ∷ [])
+      ≡ None ∷ Some 4 ∷ []
+
+-- ---- cards: devices in rising order to 9, six bases, expansion ROMs of 2 KiB to 16 MiB, and the memory that is left
+
+abbrev pub card_from : (above room : ℕ) → List ℕ → Option ℕ
+card_from above room bytes = left_of (card_fields above room bytes)
+
+pub record CardFieldBorders : Type 0 where
+  pub devices :
+      map (λ dev. card_from 1 0x400_0000 (dev ∷ 0 ∷ 0 ∷ 0 ∷ [])) (1 ∷ 2 ∷ 9 ∷ 10 ∷ []) ≡ Some 4 ∷ None ∷ None ∷ Some 4 ∷ []
+  pub rising : map (λ above. card_from above 0x400_0000 (5 ∷ 0 ∷ 0 ∷ 0 ∷ [])) (4 ∷ 5 ∷ []) ≡ None ∷ Some 4 ∷ []
+  pub roms :
+      map (λ rom. card_from 1 0x400_0000 (5 ∷ 0 ∷ rom ∷ 0 ∷ [])) (0 ∷ 10 ∷ 11 ∷ 24 ∷ 25 ∷ [])
+      ≡ None ∷ Some 2 ∷ None ∷ None ∷ Some 2 ∷ []
+  pub six : card_from 1 0x400_0000 (5 ∷ 0 ∷ 0 ∷ 6 ∷ 0x82 ∷ 0x82 ∷ 0x82 ∷ 0x82 ∷ 0x82 ∷ 0x82 ∷ []) ≡ None
+  pub seven : card_from 1 0x400_0000 (5 ∷ 0 ∷ 0 ∷ 7 ∷ 0x82 ∷ 0x82 ∷ 0x82 ∷ 0x82 ∷ 0x82 ∷ 0x82 ∷ 0x82 ∷ []) ≡ Some 8
+  pub bases :
+      map (λ bits. card_from 1 0x400_0000 (5 ∷ 0 ∷ 0 ∷ 1 ∷ bits ∷ [])) (3 ∷ 4 ∷ 24 ∷ 25 ∷ [])
+      ≡ Some 1 ∷ None ∷ None ∷ Some 1 ∷ []
+  pub room : map (λ room. card_from 1 room (5 ∷ 0 ∷ 0 ∷ 1 ∷ 12 ∷ [])) (4_096 ∷ 4_095 ∷ []) ≡ None ∷ Some 1 ∷ []

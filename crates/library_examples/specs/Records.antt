@@ -63,3 +63,29 @@ pub record TimeSaid : Type 0 where
       (Time (record { year = 2026; month = 11; day = 28; weekday = 7; hour = 14; minute = 30; second = 59 }))
   pub last_hour : event_said (asks 6 0 0 0 20_261_128_240_000) ≡ None
   pub last_minute : event_said (asks 6 0 0 0 20_261_128_006_000) ≡ None
+
+-- The last number that goes where it is said, and the first that does not: 65,536 ports, values of 32 bits but for a wide
+-- access, devices and lines of one byte, levels 0 and 1
+pub record RecordBorders : Type 0 where
+  pub port :
+      event_said (asks 2 2 1 0xFFFF 0) ≡ Some (Port (record { write = false; port = 0xFFFF; width = One; value = 0 }))
+  pub no_port : event_said (asks 2 2 1 0x1_0000 0) ≡ None
+  pub to_port :
+      event_said (asks 2 3 4 0xCF8 0xFFFF_FFFF)
+      ≡ Some (Port (record { write = true; port = 0xCF8; width = Four; value = 0xFFFF_FFFF }))
+  pub no_value_to_port : event_said (asks 2 3 4 0xCF8 0x1_0000_0000) ≡ None
+  pub to_memory :
+      event_said (asks 1 3 4 0x1000 0xFFFF_FFFF)
+      ≡ Some (Memory (record { kind = Write; addr = 0x1000; width = Four; smm = false; value = 0xFFFF_FFFF }))
+  pub no_value_to_memory : event_said (asks 1 3 4 0x1000 0x1_0000_0000) ≡ None
+  pub pulses : event_said (asks 5 0 0 0 0xFFFF_FFFF) ≡ Some (Pulses 0xFFFF_FFFF)
+  pub no_pulses : event_said (asks 5 0 0 0 0x1_0000_0000) ≡ None
+  pub device : event_said (asks 7 0 0 255 1) ≡ Some (Wire 255 true)
+  pub no_device : event_said (asks 7 0 0 256 1) ≡ None
+  pub line : event_said (asks 8 0 0 255 0) ≡ Some (Line 255 false)
+  pub no_line : event_said (asks 8 0 0 256 0) ≡ None
+  pub no_level : event_said (asks 8 0 0 5 2) ≡ None
+  pub byte : asked_said (asks 10 0 0 0 0xFF) ≡ Some (Comes 0xFF)
+  pub no_byte : asked_said (asks 10 0 0 0 0x100) ≡ None
+  pub reserved : event_said (record (asks 4 0 0 0 0) { reserved = 1 }) ≡ None
+  pub serial_reserved : asked_said (record (asks 10 0 0 0 0x41) { reserved = 1 }) ≡ None

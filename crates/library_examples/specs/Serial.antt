@@ -1,5 +1,5 @@
 -- Worked examples of the UART, by the PC16550D data sheet: what is done to it, line by line, and what it gives.
-use Rattle.std.specs.Prelude.{ℕ, ◌≡◌, Bool, true, false, List, [], ◌∷◌, map, Some, None}
+use Rattle.std.specs.Prelude.{ℕ, ◌≡◌, Bool, true, false, List, [], ◌∷◌, ◌++◌, map, replicate, Some, None}
 use Rattle.board_prelude.specs.Common.{Width, One, PortAccess}
 use Rattle.board_base.specs.declared.access.Width.TheVariants.{Two, Four}
 use Rattle.uart_16550.specs.declared.com1.SerialReply.TheVariants.{Uart as FromUart}
@@ -52,6 +52,17 @@ sent_leaves_empty = Out 1 0x02 ∷ In 2 0x02 ∷ In 2 0x01 ∷ Out 0 0x41 ∷ In
 
 unfoldable pub SentLeavesEmpty : Type 0
 SentLeavesEmpty = Answers sent_leaves_empty
+
+-- with FIFOs sixteen bytes wait, and a seventeenth is lost; without, one waits (PC16550D, 8.5)
+abbrev pub sent_back : (count : ℕ) → List Line
+sent_back count = replicate count (Out 0 0x41)
+
+unfoldable pub QueueBorders : Type 0
+QueueBorders =
+    Answers (Out 2 0x01 ∷ Out 4 0x10 ∷ sent_back 16 ++ (In 5 0x61 ∷ []))
+    × Answers (Out 2 0x01 ∷ Out 4 0x10 ∷ sent_back 17 ++ (In 5 0x63 ∷ In 5 0x61 ∷ []))
+    × Answers (Out 4 0x10 ∷ sent_back 1 ++ (In 5 0x61 ∷ In 0 0x41 ∷ In 5 0x60 ∷ []))
+    × Answers (Out 4 0x10 ∷ sent_back 2 ++ (In 5 0x63 ∷ []))
 
 -- ---- the ports: eight, of a byte each, the last of which is the scratch register's
 

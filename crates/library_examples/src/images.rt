@@ -1,9 +1,16 @@
 //! Worked examples of the bytes of an image: each function does nothing, and its clause is the example.
 
-ghost use Rattle.library_examples.specs.Images.{PortsKept};
+ghost use Rattle.library_examples.specs.Images.{CardFieldBorders, HeadBorders, PortsKept};
 
 /// A base for ports has bit 7 of its number set, and is read back.
 #[tactic(auto, using(crate::proofs::ImageRuns::ports_kept))]
 pub fn ports_kept()
     ensures card { PortsKept }
+{}
+
+/// The last numbers of the head and of a card that are good, and the first that are bad.
+#[tactic(auto, using(crate::proofs::ImageRuns::head_borders, crate::proofs::ImageRuns::card_field_borders))]
+pub fn field_borders()
+    ensures head { HeadBorders }
+    ensures card { CardFieldBorders }
 {}

@@ -1,6 +1,6 @@
 //! Worked examples of records, by the numbers of `board.h`: each function does nothing, and its clause is the example.
 
-ghost use Rattle.library_examples.specs.Records.{MemorySaid, OthersSaid, TimeSaid};
+ghost use Rattle.library_examples.specs.Records.{MemorySaid, OthersSaid, RecordBorders, TimeSaid};
 
 /// What records of accesses to memory say.
 #[tactic(auto, using(crate::proofs::RecordRuns::memory_said))]
@@ -18,4 +18,10 @@ pub fn others_said()
 #[tactic(auto, using(crate::proofs::RecordRuns::time_said))]
 pub fn time_said()
     ensures events { TimeSaid }
+{}
+
+/// The last numbers that go where a record says them, and the first that do not.
+#[tactic(auto, using(crate::proofs::RecordRuns::record_borders))]
+pub fn record_borders()
+    ensures borders { RecordBorders }
 {}

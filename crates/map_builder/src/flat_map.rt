@@ -2,7 +2,7 @@
 ghost use Rattle.std.specs.Prelude.{◌≡◌, ◌≤◌, ◌<◌, ◌+◌, true, false, if◌then◌else◌, [], ◌∷◌, Some, length, map};
 ghost use Rattle.board_prelude.specs.Common.{One, Kind, Setup, Store, touches_map, changed_byte, Bytes, Tiles, IsFlatMapOf, IsSpan};
 ghost use Rattle.pci_bars.specs.Cards.{AreCardsOf, AreFitted, cards_of};
-ghost use Rattle.addr_decode.specs.Common.{AreNumbered, is_of_card, names_from, names_of, StandsFor, map_bytes};
+ghost use Rattle.addr_decode.specs.Common.{AreNumbered, HasRegister, is_of_card, names_from, names_of, StandsFor, map_bytes};
 ghost use Rattle.map_builder.specs.Map.{range_of, most_ranges, next_version, IsOfSomeBoard, IsMapOf};
 ghost use Rattle.map_builder.specs.Changed.{most_rows};
 ghost use Rattle.map_builder.specs.Applied.{AreChanged, IsApplied, IsChangedBy, IsStored};
@@ -17,7 +17,7 @@ use crate::rows::choose_windows;
 use crate::unchanged::{byte_alone, is_same_byte};
 use crate::widths::hold_widths;
 use crate::windows::{Windows, bounds_of};
-use addr_decode::{MapChange, MapRegister, MapRegs, touch_map};
+use addr_decode::{ConfigRegister, MapChange, MapRegister, MapRegs, touch_map};
 use board_base::{Kind, Reg, Steps, Width};
 use std::marker::{Brand, Model};
 use std::sync::ledger::{Blank, Ledger};
@@ -245,11 +245,36 @@ impl FlatMap {
     {
         match width {
             Width::One => self.store_byte(reg, value),
-            Width::Two | Width::Four => {
-                let names = self.regs.names_from(reg, width);
-                self.store_named(reg, width, value, names.as_slice());
-            }
+            Width::Two | Width::Four => self.store_bytes(reg, width, value),
         }
+    }
+
+    /// Stores as `store` does, from a register on that its function has.
+    pub fn store_from(&mut self, register: &ConfigRegister, width: Width, value: u32)
+        requires function { HasRegister self.old.regs.cards register.now.function register.now.reg }
+        ensures stored { IsStored self.old self.new (Store register.now.reg width value) }
+    {
+        match width {
+            Width::One => self.store_byte_of(register, value),
+            Width::Two | Width::Four => self.store_bytes(register.reg, width, value),
+        }
+    }
+
+    /// Stores one byte, the low one of a value, in a register that its function has.
+    fn store_byte_of(&mut self, register: &ConfigRegister, value: u32)
+        requires function { HasRegister self.old.regs.cards register.now.function register.now.reg }
+        ensures stored { IsStored self.old self.new (Store register.now.reg One value) }
+    {
+        let name = self.regs.name_of(register);
+        self.store_name(register.reg, value, name);
+    }
+
+    /// Stores the bytes of a value in rising offset.
+    fn store_bytes(&mut self, reg: Reg, width: Width, value: u32)
+        ensures stored { IsStored self.old self.new (Store reg width value) }
+    {
+        let names = self.regs.names_from(reg, width);
+        self.store_named(reg, width, value, names.as_slice());
     }
 
     /// Stores one byte, the low one of a value.
@@ -257,6 +282,16 @@ impl FlatMap {
         ensures stored { IsStored self.old self.new (Store reg One value) }
     {
         let name = self.regs.name_alone(reg);
+        self.store_name(reg, value, name);
+    }
+
+    /// Stores one byte, the low one of a value, in the register with a name.
+    #[inline(always)]
+    fn store_name(&mut self, reg: Reg, value: u32, name: Option<MapRegister>)
+        requires fitted { AreFitted self.old.regs.cards }
+        requires name { name ∷ [] ≡ names_from (cards_of self.old.regs.cards) reg One }
+        ensures stored { IsStored self.old self.new (Store reg One value) }
+    {
         match name {
             Some(register) => self.store_register(reg, value, register),
             None => self.store_named(reg, Width::One, value, &[name]),

@@ -1,2 +1,3 @@
 pub mod RegisterLemmas
 mod RouteLemmas
+pub mod StateFormats

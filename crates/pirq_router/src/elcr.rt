@@ -18,8 +18,8 @@ const WRITABLE_HIGH: u8 = 0xDE;
 /// The edge/level control registers: a bit at 1 makes its line level triggered.
 #[derive(Drop)]
 pub struct Elcr {
-    low: u8,
-    high: u8,
+    pub(crate) low: u8,
+    pub(crate) high: u8,
 }
 
 impl Model for Elcr {

@@ -3,6 +3,8 @@
 
 mod elcr;
 mod pirq;
+mod state;
 
 pub use elcr::Elcr;
 pub use pirq::Pirq;
+pub use state::law_one_routing;

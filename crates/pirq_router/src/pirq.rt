@@ -29,7 +29,7 @@ const WRITABLE: u8 = DISABLED | LINE_BITS;
 /// Contracts see the list of their four bytes.
 #[derive(Drop)]
 pub struct Pirq {
-    bytes: [u8; 4],
+    pub(crate) bytes: [u8; 4],
 }
 
 impl Model for Pirq {

@@ -1,3 +1,5 @@
+pub mod StateFormat
+mod Saved
 mod Arrivals
 mod Edges
 mod Periods

@@ -3,3 +3,4 @@ pub mod Quiet
 pub mod Runs
 pub mod NextRise
 pub mod Common
+pub mod State

@@ -19,12 +19,14 @@ ghost use Rattle.pit_8254.specs.NextRise.{IsNextRise};
 
 mod counting;
 mod latch;
+mod state;
 mod word;
 
 use board_base::Steps;
 use board_base::bits::is_set;
 pub use counting::Counter;
 pub use device_spec::port::{CONTROL_WORD, COUNTER_0, COUNTER_1, COUNTER_2};
+pub use state::law_one_pit;
 use std::marker::{Brand, Model};
 use std::sync::ledger::{Blank, Ledger};
 

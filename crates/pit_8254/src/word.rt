@@ -20,12 +20,19 @@ pub enum CountingMode {
 }
 
 impl CountingMode {
-    /// The mode of bits 3 to 1 of a control word, where 6 is mode 2 and 7 is mode 3.
-    #[tactic(auto, unfolding(device_spec::specs::Pit::mode_numbered))]
+    /// The mode of bits 3 to 1 of a control word.
     pub fn of_word(word: u8) -> CountingMode
         ensures mode { mode_view result ≡ mode_numbered (mode_field word) }
     {
-        match word / 2 % 8 {
+        CountingMode::of_number(word / 2 % 8)
+    }
+
+    /// The mode of this number below 8, where 6 is mode 2 and 7 is mode 3.
+    #[tactic(auto, unfolding(device_spec::specs::Pit::mode_numbered))]
+    pub fn of_number(number: u8) -> CountingMode
+        ensures mode { mode_view result ≡ mode_numbered number }
+    {
+        match number {
             0 => CountingMode::TerminalCount,
             1 => CountingMode::OneShot,
             2 | 6 => CountingMode::RateGenerator,

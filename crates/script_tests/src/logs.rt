@@ -1,4 +1,4 @@
-//! Logs that are read and written again, and texts that are none.
+//! Logs that are read and written again.
 
 use access_history::Entry;
 use board_script::{Log, LogFault, push_lines, push_log, read_log};
@@ -105,57 +105,5 @@ fn lines_are_numbered_on(rt: HostRuntime) -> Result<(), Fail> {
         text.as_str(),
         "99 0.7 ack = 25 vec0 -\n100 0.8 pulse 1 = - pit -\n"
     );
-    Ok(())
-}
-
-/// The first line that is none of a log, and a text, where `|` stands for a line feed.
-const BAD: &str = "\
-1: 
-1: access log 3|
-1: access log 1
-1: access log 1\r|
-2: access log 1||
-2: access log 1|1 0.1 ack = 07 spur0 -
-3: access log 1|1 0.1 ack = 07 spur0 -|3 0.2 ack = 07 spur0 -|
-2: access log 1|1 0.1 w b 000CBFFF 01 = - abort 00.0.5b|
-2: access log 1|1 0.1 r b 000cc000 = FF abort 00.0.5B|
-2: access log 1|1 0.1 look r 000F0000 = 1 00F0000 000FFFFF shadow:0|
-2: access log 1|1 0.1 w q 00001000 0807060504030201 = - dram:0 - dram:0 -|
-2: access log 1|1 0.1 r d 00001001 = 05040302 dram:0 -|
-2: access log 2|1 0.1 r d 00001001 = 05040302 dram:0 -|
-2: access log 2|1 0.1 r d 00001001 = 05040302 dram:0 - dram:0 -|
-2: access log 2|1 0.1 f w FFFFFFFF = 0000 rom:0FFFF -|
-2: access log 1|1 256.1 ack = 07 spur0 -|
-2: access log 1|1 0.01 ack = 07 spur0 -|
-2: access log 1|1 0.1 ack = 07 spur2 -|
-2: access log 1|1 0.1 ack = - spur0 -|
-2: access log 1|1 0.1 ack  = 07 spur0 -|
-2: access log 1|1 0.1 pulse 3 = - clock -|
-2: access log 1|1 0.1 wire 4 2 = - wires -|
-2: access log 1|1 0.1 moment 2023-02-29T00:00:00 = - clock -|
-2: access log 1|1 0.1 w b 000C0000 01 = 01 abort 00.0.5A|";
-
-/// The first line that is none of a log, or 0.
-fn bad_line(rt: &impl Abort, alloc: Global, text: &str) -> u32 {
-    match read_short(rt, alloc, text) {
-        Err(LogFault::Bad { line }) => line,
-        _ => 0,
-    }
-}
-
-/// The same of the text of a row, in digits.
-fn told(rt: &impl Abort, alloc: Global, row: &str) -> Result<String, Fail> {
-    let text = row.replace(alloc, '|', "\n")?;
-    let line = bad_line(rt, alloc, text.as_str());
-    Ok(format!(in alloc; "{line}")?)
-}
-
-#[test]
-fn other_texts_are_bad_at_a_line(rt: HostRuntime) -> Result<(), Fail> {
-    for row in BAD.split('\n') {
-        let (wanted, text) = row.split_once(": ").expect(&rt, "a colon in each row");
-        let line = told(&rt, rt.alloc(), text)?;
-        assert!(rt; line.as_str() == wanted, "{row}");
-    }
     Ok(())
 }

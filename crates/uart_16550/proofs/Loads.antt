@@ -77,12 +77,12 @@ module _ (old new : Serial Running) (addr : ℕ) (bytes : List ℕ) where
   dram_left (Err past) same left = tt
 
   pub dram_kept : (result : Result (Unit {0}) PastTheEnd) → old.com1 ≡ new.com1 → OnOk result LeavesChipset →
-      OnErr result (new.board ≡ old.board) → (history : List Entry) × IsPortLeftBy IsLeftBy old history →
-      (history : List Entry) × IsPortLeftBy IsLeftBy new history
-  dram_kept (Ok done) same left still was =
+      OnErr result (new.board ≡ old.board) → (history : List Entry) → IsPortLeftBy IsLeftBy old history →
+      (later : List Entry) × IsPortLeftBy IsLeftBy new later
+  dram_kept (Ok done) same left still history was =
       let some = own_entries addr bytes in
-      (some.0 ++ was.0, port_left same left was.0 some.0 was.1 some.1 some.2)
-  dram_kept (Err past) same left still was = (was.0, rw (still, ← same) was.1)
+      (some.0 ++ history, port_left same left history some.0 was some.1 some.2)
+  dram_kept (Err past) same left still history was = (history, rw (still, ← same) was)
 
 -- ---- a byte of the clock
 
@@ -133,9 +133,9 @@ module _ (old new : Serial Running) (address byte : ℕ) where
   clock_left (Err none) same left = tt
 
   pub clock_kept : (result : Result (Unit {0}) NoClockByte) → old.com1 ≡ new.com1 → OnOk result SetsChipset →
-      OnErr result (new.board ≡ old.board) → (history : List Entry) × IsPortLeftBy IsLeftBy old history →
-      (history : List Entry) × IsPortLeftBy IsLeftBy new history
-  clock_kept (Ok done) same left still was =
-      let some = own_clock_entries was.0 address byte was.1.own in
-      (some.0, clock_port_left same left was.0 some.0 was.1 some.1 some.2)
-  clock_kept (Err none) same left still was = (was.0, rw (still, ← same) was.1)
+      OnErr result (new.board ≡ old.board) → (history : List Entry) → IsPortLeftBy IsLeftBy old history →
+      (later : List Entry) × IsPortLeftBy IsLeftBy new later
+  clock_kept (Ok done) same left still history was =
+      let some = own_clock_entries history address byte was.own in
+      (some.0, clock_port_left same left history some.0 was some.1 some.2)
+  clock_kept (Err none) same left still history was = (history, rw (still, ← same) was)

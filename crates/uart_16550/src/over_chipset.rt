@@ -116,6 +116,8 @@ impl SerialBoard<Chipset> {
         ensures left { OnOk result ((history entries : List Entry) → IsLeftBy IsChipsetLeftBy self.old history
             → WriteAll addr bytes.now entries → AreOwn entries
             → IsLeftBy IsChipsetLeftBy self.new (entries ++ history)) }
+        ensures goes_on { (history : List Entry) → IsLeftBy IsChipsetLeftBy self.old history
+            → (later : List Entry) × IsLeftBy IsChipsetLeftBy self.new later }
     {
         self.board.write_dram(addr, bytes)
     }
@@ -129,6 +131,8 @@ impl SerialBoard<Chipset> {
         ensures com1 { self.new.com1 ≡ self.old.com1 }
         ensures left { OnOk result ((history later : List Entry) → IsLeftBy IsChipsetLeftBy self.old history
             → WriteClockByte history address byte later → AreOwn later → IsLeftBy IsChipsetLeftBy self.new later) }
+        ensures goes_on { (history : List Entry) → IsLeftBy IsChipsetLeftBy self.old history
+            → (later : List Entry) × IsLeftBy IsChipsetLeftBy self.new later }
     {
         self.board.set_clock_byte(address, byte)
     }

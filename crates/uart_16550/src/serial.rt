@@ -15,8 +15,8 @@ use board_base::PortAccess;
 use board_spec::{Event, Reply};
 use std::marker::Model;
 
-/// A board with a 16550 on COM1: ports 3F8h to 3FFh, interrupt line 4. Contracts see the board and the port. Some
-/// history left it, in which line 4 has the or of the UART's line and the script's level.
+/// A board with a 16550 on COM1: ports 3F8h to 3FFh, interrupt line 4. Contracts see the board and the port, and speak
+/// of every history that left them so: in it line 4 has the or of the UART's line and the script's level.
 #[derive(Drop)]
 pub struct SerialBoard<B: SteppedBoard> {
     pub(crate) board: B,
@@ -24,17 +24,11 @@ pub struct SerialBoard<B: SteppedBoard> {
 }
 
 impl<B: SteppedBoard> Model for SerialBoard<B> {
-    ghost use Rattle.std.specs.Prelude.{List};
-    ghost use Rattle.board_spec.specs.declared.event.Entry.{Entry};
-    ghost use Rattle.uart_16550.specs.Serial.{Serial, IsLeftBy};
+    ghost use Rattle.uart_16550.specs.Serial.{Serial};
 
     ghost Value = { Serial B };
 
     ghost view = { λ serial. record { board = serial.board; com1 = serial.com1 } };
-
-    ghost invariant = { λ serial.
-        (history : List Entry)
-        × IsLeftBy B.is_left_by (record { board = serial.board; com1 = serial.com1 }) history };
 }
 
 impl<B: SteppedBoard> SerialBoard<B> {
@@ -42,6 +36,7 @@ impl<B: SteppedBoard> SerialBoard<B> {
     pub fn open(board: B) -> SerialBoard<B>
         requires fresh { B.is_left_by board [] }
         ensures open { result ≡ record { board = board; com1 = com1_at_reset } }
+        ensures left { IsLeftBy B.is_left_by result [] }
     {
         SerialBoard {
             board,
@@ -206,7 +201,6 @@ impl<B: SteppedBoard> SerialBoard<B> {
     /// The board.
     pub fn board(&self) -> &B
         ensures board { result.now ≡ self.now.board }
-        ensures left { (history : List Entry) × IsLeftBy B.is_left_by self.now history }
     {
         &self.board
     }

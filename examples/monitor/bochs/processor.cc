@@ -127,14 +127,24 @@ static void after_exit() {
   plan();
 }
 
+// Of a string instruction Bochs says where its values are, and takes as many as were done.
+static void do_string(Bit8u kind, Bit16u port, unsigned bytes) {
+  size_t done = machine_string(&m, kind, port, bytes, bx_devices.bulkIOHostAddr, bx_devices.bulkIOQuantumsRequested);
+  bx_devices.bulkIOQuantumsTransferred = (unsigned)done;
+  bx_devices.bulkIOHostAddr += done * bytes;
+}
+
 Bit32u board_port_in(Bit16u port, unsigned bytes) {
-  Bit32u value = machine_in(&m, port, bytes);
+  Bit32u value = 0;
+  if (bx_devices.bulkIOQuantumsRequested) do_string(BOARD_READ, port, bytes);
+  else value = machine_in(&m, port, bytes);
   show_interrupt();
   return value;
 }
 
 void board_port_out(Bit16u port, Bit32u value, unsigned bytes) {
-  machine_out(&m, port, bytes, value);
+  if (bx_devices.bulkIOQuantumsRequested) do_string(BOARD_WRITE, port, bytes);
+  else machine_out(&m, port, bytes, value);
   after_exit();
 }
 

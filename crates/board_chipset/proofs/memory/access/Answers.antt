@@ -3,20 +3,22 @@ use Rattle.board_spec.specs.Registers.{byte_of}
 use Rattle.board_stores.proofs.MemoryLemmas.{part_answered}
 use Rattle.board_devices.proofs.DeviceLemmas.{leaves_devices}
 use Rattle.board_chipset.proofs.RegisterSteps.{writes_none}
-use Rattle.board_chipset.proofs.StateSteps.{state_put, state_stays}
-use Rattle.board_chipset.proofs.HeldTargets.{ready}
+use Rattle.board_chipset.proofs.StateSteps.{sound_put, state_put, state_stays}
+use Rattle.board_chipset.proofs.HeldTargets.{stands, ready}
 use Rattle.board_chipset.proofs.MemorySteps.{writes_when, write_answer, read_answer}
 use Rattle.board_chipset.proofs.memory.access.Goals as goal
 
 pub write-requires-clause-ready : goal.write-requires-clause-ready
 write-requires-clause-ready c =
     let kept = c.requires.kept in
-    let stand = c.regs.ensures.stand kept.setup kept.history kept.of.registers in (
+    let stand = stands kept.sound c.regs.ensures.same in (
       c.args.rom.now,
-      ready kept.of kept.image c.requires.bus
-          (part_answered kept.setup kept.history c.args.access.now c.decoded-answer.result
-          (c.decoded-answer.ensures.decoded kept.setup (byte_of kept.setup kept.history) stand kept.image)),
+      ready kept.sound kept.image c.requires.bus
+          (c.decoded-answer.ensures.decoded kept.setup kept.sound.registers.bytes stand kept.image),
     )
+
+pub returns-then-is_write-clause-sound : goal.returns-then-is_write-clause-sound
+returns-then-is_write-clause-sound c = λ setup sound. sound_put sound c.write.ensures.put
 
 pub returns-then-is_write-clause-answer : goal.returns-then-is_write-clause-answer
 returns-then-is_write-clause-answer c = λ setup history kept image.
@@ -35,11 +37,10 @@ returns-then-is_write-clause-board c = λ setup history entry kept image event r
 pub read-requires : goal.read-requires
 read-requires c =
     let kept = c.requires.kept in
-    let stand = c.regs.ensures.stand kept.setup kept.history kept.of.registers in
+    let stand = stands kept.sound c.regs.ensures.same in
     record {
-      ready = ready kept.of kept.image c.requires.bus
-          (part_answered kept.setup kept.history c.args.access.now c.decoded-answer.result
-          (c.decoded-answer.ensures.decoded kept.setup (byte_of kept.setup kept.history) stand kept.image));
+      ready = ready kept.sound kept.image c.requires.bus
+          (c.decoded-answer.ensures.decoded kept.setup kept.sound.registers.bytes stand kept.image);
     }
 
 pub returns-clause-answer : goal.returns-clause-answer

@@ -1,11 +1,13 @@
 use Rattle.std.proofs.Common.{◌∙◌}
 use Rattle.board_chipset.proofs.OutsideSteps.{outside_done, fitted_device}
+use Rattle.board_chipset.proofs.StateSteps.{sound_devices}
 use Rattle.board_chipset.proofs.outside.answer.Goals as goal
 
 pub set_wire-requires : goal.set_wire-requires
 set_wire-requires c =
     let kept = c.requires.in_range.1.kept in
-    let is = fitted_device kept.setup c.in-Wire.dev kept.of.fits (rw c.in-Wire.is at c.requires.in_range.1.in_range) in
+    let is = fitted_device kept.setup c.in-Wire.dev kept.sound.fits
+    (rw c.in-Wire.is at c.requires.in_range.1.in_range) in
     record { low = is.low; high = is.high }
 
 pub returns-in-Ack-clause-board : goal.returns-in-Ack-clause-board
@@ -32,3 +34,21 @@ returns-in-Line-clause-board c = λ setup history entry kept event.
 pub returns-in-BadSector-clause-board : goal.returns-in-BadSector-clause-board
 returns-in-BadSector-clause-board c = λ setup history entry kept event.
     outside_done (event ∙ c.in-BadSector.is) tt kept (c.mark_bad.ensures.devices setup history entry kept.devices)
+
+pub returns-in-Ack-clause-sound : goal.returns-in-Ack-clause-sound
+returns-in-Ack-clause-sound c = λ setup sound. sound_devices sound
+
+pub returns-in-Pulses-clause-sound : goal.returns-in-Pulses-clause-sound
+returns-in-Pulses-clause-sound c = λ setup sound. sound_devices sound
+
+pub returns-in-Time-clause-sound : goal.returns-in-Time-clause-sound
+returns-in-Time-clause-sound c = λ setup sound. sound_devices sound
+
+pub returns-in-Wire-clause-sound : goal.returns-in-Wire-clause-sound
+returns-in-Wire-clause-sound c = λ setup sound. sound_devices sound
+
+pub returns-in-Line-clause-sound : goal.returns-in-Line-clause-sound
+returns-in-Line-clause-sound c = λ setup sound. sound_devices sound
+
+pub returns-in-BadSector-clause-sound : goal.returns-in-BadSector-clause-sound
+returns-in-BadSector-clause-sound c = λ setup sound. sound_devices sound

@@ -1,16 +1,17 @@
 use Rattle.std.proofs.Common.{◌∙◌, refl}
 use Rattle.board_devices.proofs.DeviceLemmas.{leaves_devices}
 use Rattle.board_chipset.proofs.Effects.{reached_in, entry_reached}
-use Rattle.board_chipset.proofs.PortSteps.{chip_at, chip_value, read_stays, chip_changed}
+use Rattle.board_chipset.proofs.StateSteps.{sound_devices}
+use Rattle.board_chipset.proofs.PortSteps.{chip_at, chip_in, chip_value, read_stays, chip_changed}
 use Rattle.board_chipset.proofs.ports.read_device.Goals as goal
 
 pub read-requires-in_default : goal.read-requires-in_default
 read-requires-in_default c =
     let reaching = c.requires.reaching in
     record {
-      port = (chip_at reaching.kept.setup reaching.kept.history c.args.access.now c.args.dev
-          c.in_default.not-Confadd c.in_default.not-Reset c.in_default.not-Keyboard
-          (reached_in reaching)).port;
+      port = chip_in reaching.kept.setup reaching.kept.sound.registers.bytes c.args.state.now.registers.address
+          c.args.access.now c.args.dev c.in_default.not-Confadd c.in_default.not-Reset c.in_default.not-Keyboard
+          (reached_in reaching);
     }
 
 pub returns-in-Confadd-clause-board : goal.returns-in-Confadd-clause-board
@@ -30,6 +31,7 @@ returns-in_default c =
     let access = c.args.access.now in
     let dev = c.args.dev in
     record {
+      sound = λ setup sound. sound_devices sound;
       value = λ setup history kept.
           c.read-in_default.ensures.value setup history kept.devices
           ∙ chip_value setup history dev access.port access.width c.in_default.not-Confadd c.in_default.not-Reset

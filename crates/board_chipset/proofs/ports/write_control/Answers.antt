@@ -4,6 +4,7 @@ use Rattle.board_chipset.specs.Kept.{HasRegisters}
 use Rattle.board_devices.proofs.DeviceLemmas.{leaves_devices}
 use Rattle.board_chipset.proofs.Effects.{reached_in, entry_writes, fits_byte}
 use Rattle.board_chipset.proofs.StoreSteps.{stores_stay}
+use Rattle.board_chipset.proofs.StateSteps.{sound_registers}
 use Rattle.board_chipset.proofs.PortSteps.{puts_none, registers_move}
 use Rattle.board_chipset.proofs.ports.write_control.Goals as goal
 
@@ -18,6 +19,7 @@ overflow_cast-access c =
 
 pub returns-then-write_control : goal.returns-then-write_control
 returns-then-write_control c = record {
+  sound = λ setup sound. sound_registers sound (c.write_control.ensures.sound setup sound.registers);
   board = λ setup history entry kept is.
       let writes = entry_writes refl c.requires.writes is in
       let registers : HasRegisters setup (entry ∷ history) c.write_control.new.self =
@@ -34,6 +36,7 @@ returns-then-write_control c = record {
 
 pub returns-else-write_control : goal.returns-else-write_control
 returns-else-write_control c = record {
+  sound = λ setup sound. sound_registers sound (c.write_control.ensures.sound setup sound.registers);
   board = λ setup history entry kept is.
       let writes = entry_writes refl c.requires.writes is in
       let soft = sym c.write_control.ensures.hard ∙ c.if-write_control.false in

@@ -3,8 +3,8 @@ use Rattle.board_prelude.proofs.Common.{Dev, Device}
 use Rattle.board_chipset.specs.Ports.{IsEntryOf}
 use Rattle.board_devices.proofs.DeviceLemmas.{leaves_devices}
 use Rattle.board_chipset.proofs.Effects.{reached_in, entry_reached, entry_writes}
-use Rattle.board_chipset.proofs.StateSteps.{soft, state_stays}
-use Rattle.board_chipset.proofs.PortSteps.{chip_at, passes, puts_none, registers_move, chip_changed}
+use Rattle.board_chipset.proofs.StateSteps.{soft, sound_devices, sound_registers, state_stays}
+use Rattle.board_chipset.proofs.PortSteps.{chip_at, chip_in, passes, puts_none, registers_move, chip_changed}
 use Rattle.board_chipset.proofs.ports.write_device.Goals as goal
 
 pub write-requires : goal.write-requires
@@ -12,14 +12,14 @@ write-requires c =
     let reaching = c.requires.reaching in
     let access = c.args.access.now in
     record {
-      port = (chip_at reaching.kept.setup reaching.kept.history access c.args.dev
-          c.in_default.not-Confadd c.in_default.not-Reset c.in_default.not-Keyboard
-          (reached_in reaching)).port;
+      port = chip_in reaching.kept.setup reaching.kept.sound.registers.bytes c.args.state.now.registers.address access
+          c.args.dev c.in_default.not-Confadd c.in_default.not-Reset c.in_default.not-Keyboard (reached_in reaching);
       fits = rw c.requires.writes at reaching.bus.fits;
     }
 
 pub returns-in-Confadd : goal.returns-in-Confadd
 returns-in-Confadd c = record {
+  sound = λ setup sound. sound_registers sound (c.write_address.ensures.sound setup sound.registers);
   board = λ setup history entry kept is.
       let writes = entry_writes (ap (λ (dev : Dev). Device dev) c.in-Confadd.is) c.requires.writes is in
       registers_move leaves_devices kept is (rw c.in-Confadd.is refl) (λ cell. refl)
@@ -29,6 +29,7 @@ returns-in-Confadd c = record {
 
 pub returns-in-Reset : goal.returns-in-Reset
 returns-in-Reset c = record {
+  sound = c.write_control.ensures.sound;
   board = λ setup history entry kept is.
       c.write_control.ensures.board setup history entry kept
       (subst (λ (dev : Dev). IsEntryOf setup history c.args.access.now (Device dev) entry) c.in-Reset.is is);
@@ -36,6 +37,7 @@ returns-in-Reset c = record {
 
 pub returns-in-Keyboard : goal.returns-in-Keyboard
 returns-in-Keyboard c = record {
+  sound = λ setup sound. sound;
   board = λ setup history entry kept is.
       state_stays leaves_devices kept
       (entry_writes (ap (λ (dev : Dev). Device dev) c.in-Keyboard.is) c.requires.writes is)
@@ -44,6 +46,7 @@ returns-in-Keyboard c = record {
 
 pub returns-in_default : goal.returns-in_default
 returns-in_default c = record {
+  sound = λ setup sound. sound_devices sound;
   board = λ setup history entry kept is.
       chip_changed
       (chip_at setup history c.args.access.now c.args.dev c.in_default.not-Confadd c.in_default.not-Reset

@@ -1,23 +1,22 @@
-use Rattle.std.proofs.Common.{◌∷◌, refl, arith}
+use Rattle.std.proofs.Common.{◌∷◌, refl}
 use Rattle.board_chipset.specs.Kept.{HasRegisters}
 use Rattle.board_devices.proofs.DeviceLemmas.{leaves_devices}
 use Rattle.board_chipset.proofs.Effects.{reached_in, within_function, entry_writes}
 use Rattle.board_chipset.proofs.StoreSteps.{stores_stay}
-use Rattle.board_chipset.proofs.StateSteps.{soft}
+use Rattle.board_chipset.proofs.StateSteps.{soft, sound_registers}
 use Rattle.board_chipset.proofs.PortSteps.{passes, puts_none, registers_move}
 use Rattle.board_chipset.proofs.ports.write_register.Goals as goal
 
-pub store-requires : goal.store-requires
-store-requires c =
+pub store-requires-clause-within : goal.store-requires-clause-within
+store-requires-clause-within c =
     let reaching = c.requires.reaching in
     let access = c.args.access.now in
-    record {
-      within = within_function reaching.kept.setup reaching.kept.history access.port access.width c.args.reg
-          reaching.bus.aligned (reached_in reaching).1;
-    }
+    within_function reaching.kept.setup c.args.state.now.registers.address access.port access.width
+    c.args.register.now.reg reaching.kept.sound.registers.address reaching.bus.aligned (reached_in reaching).1
 
 pub returns-then-store : goal.returns-then-store
 returns-then-store c = record {
+  sound = λ setup sound. sound_registers sound (c.store.ensures.sound setup sound.registers);
   board = λ setup history entry kept is.
       let writes = entry_writes refl c.requires.writes is in
       let registers : HasRegisters setup (entry ∷ history) c.store.new.self =
@@ -34,6 +33,7 @@ returns-then-store c = record {
 
 pub returns-else-store : goal.returns-else-store
 returns-else-store c = record {
+  sound = λ setup sound. sound_registers sound (c.store.ensures.sound setup sound.registers);
   board = λ setup history entry kept is.
       let writes = entry_writes refl c.requires.writes is in
       registers_move leaves_devices kept is refl (λ cell. refl)

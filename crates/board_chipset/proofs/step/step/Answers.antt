@@ -20,6 +20,7 @@ returns-in-Look-clause-board c = λ setup history entry kept image event replied
 
 pub returns-in_default : goal.returns-in_default
 returns-in_default c = record {
+  sound = c.answer.ensures.sound;
   answer = λ setup history kept image. modulo setup history c.args.event.now c.reply-in_default.result c.in_default.not-Look
       (rw (c.reply-in_default.ensures.reply) (c.answer.ensures.answer setup history kept));
   board = λ setup history entry kept image event replied. c.answer.ensures.board setup history entry kept event;

@@ -3,7 +3,8 @@ use Rattle.board_prelude.proofs.Common.{is_write, parts_of, parts_list, byte_of}
 use Rattle.board_stores.proofs.MemoryLemmas.{parts_answered}
 use Rattle.board_devices.proofs.DeviceLemmas.{leaves_devices}
 use Rattle.board_chipset.proofs.RegisterSteps.{writes_none}
-use Rattle.board_chipset.proofs.StateSteps.{state_put, state_stays}
+use Rattle.board_chipset.proofs.StateSteps.{sound_put, state_put, state_stays}
+use Rattle.board_chipset.proofs.HeldTargets.{stands}
 use Rattle.board_chipset.proofs.MemorySteps.{writes_when}
 use Rattle.board_chipset.proofs.WideSteps.{cycles_ready, all_write, parts_none, write_answer, read_answer}
 use Rattle.board_chipset.proofs.wide.access.Goals as goal
@@ -11,14 +12,16 @@ use Rattle.board_chipset.proofs.wide.access.Goals as goal
 pub write_cycles-requires-clause-ready : goal.write_cycles-requires-clause-ready
 write_cycles-requires-clause-ready c =
     let kept = c.requires.kept in
-    let decoded = parts_answered kept.setup kept.history (parts_of c.args.access.now) _
-    (c.cycles_of-cut.ensures.decoded kept.setup (byte_of kept.setup kept.history)
-    (c.regs.ensures.stand kept.setup kept.history kept.of.registers) kept.image) in
+    let stand = stands kept.sound c.regs.ensures.same in
+    let decoded = c.cycles_of-cut.ensures.decoded kept.setup kept.sound.registers.bytes stand kept.image in
     let is = c.as_slice-cycles.ensures.value in (
       c.args.rom.now,
-      cycles_ready kept.of kept.image c.args.access.now _ (c.law_parts.ensures.cut c.args.access.now c.requires.wide)
+      cycles_ready kept.sound kept.image c.args.access.now _ (c.law_parts.ensures.cut c.args.access.now c.requires.wide)
           (rw (← is) at c.cycles_of-cut.ensures.parts) (rw (← is) at decoded),
     )
+
+pub returns-then-is_write-clause-sound : goal.returns-then-is_write-clause-sound
+returns-then-is_write-clause-sound c = λ setup sound. sound_put sound c.write_cycles.ensures.put
 
 pub write_cycles-requires-clause-writes : goal.write_cycles-requires-clause-writes
 write_cycles-requires-clause-writes c =
@@ -50,11 +53,10 @@ returns-then-is_write-clause-board c = λ setup history entry kept image event r
 pub read_cycles-requires-clause-ready : goal.read_cycles-requires-clause-ready
 read_cycles-requires-clause-ready c =
     let kept = c.requires.kept in
-    let decoded = parts_answered kept.setup kept.history (parts_of c.args.access.now) _
-    (c.cycles_of-cut.ensures.decoded kept.setup (byte_of kept.setup kept.history)
-    (c.regs.ensures.stand kept.setup kept.history kept.of.registers) kept.image) in
+    let stand = stands kept.sound c.regs.ensures.same in
+    let decoded = c.cycles_of-cut.ensures.decoded kept.setup kept.sound.registers.bytes stand kept.image in
     let is = c.as_slice-cycles.ensures.value in
-    cycles_ready kept.of kept.image c.args.access.now _ (c.law_parts.ensures.cut c.args.access.now c.requires.wide)
+    cycles_ready kept.sound kept.image c.args.access.now _ (c.law_parts.ensures.cut c.args.access.now c.requires.wide)
     (rw (← is) at c.cycles_of-cut.ensures.parts) (rw (← is) at decoded)
 
 pub returns-clause-answer : goal.returns-clause-answer

@@ -5,7 +5,7 @@ use Rattle.std.proofs.lemmas.List.Sums.{sum_by_push}
 use Rattle.pci_bars.specs.declared.spec.BaseSpec.{BaseSpec}
 use Rattle.pci_bars.specs.Bases.{base_of}
 use Rattle.board_image.specs.ImageFields.{bases_fields}
-use Rattle.board_image.proofs.Loops.{goes_on, stops, is_done}
+use Rattle.byte_fields.proofs.Loops.{goes_on, stops, is_done}
 use Rattle.board_image.proofs.ImageLoops.{base_field, room_after, bases_in, bases_loop}
 use Rattle.board_image.proofs.card_reader.bases.Goals as goal
 

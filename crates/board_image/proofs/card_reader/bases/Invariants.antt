@@ -3,7 +3,7 @@ use Rattle.std.proofs.Common.{◌≡◌, ◌-◌, length, map, sum_by}
 use Rattle.board_spec.specs.Setup.{memory_size}
 use Rattle.pci_bars.specs.Bases.{base_of}
 use Rattle.board_image.specs.ImageFields.{bases_fields}
-use Rattle.board_image.proofs.Loops.{with_front}
+use Rattle.byte_fields.proofs.Loops.{with_front}
 use Rattle.board_image.proofs.card_reader.bases.Given as goal
 
 abbrev pub invariant-loop : goal.invariant-loop

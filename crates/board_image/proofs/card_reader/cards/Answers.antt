@@ -1,7 +1,7 @@
 use Rattle.std.proofs.Common.{◌≡◌, ℕ, ◌++◌, List, [], ◌∷◌, length, ap, sym, rules}
 use Rattle.board_prelude.proofs.Common.{err_from_is_err_and, FittedCard, most_card_memory}
 use Rattle.board_image.specs.ImageFields.{cards_fields}
-use Rattle.board_image.proofs.Loops.{goes_on, stops, is_done}
+use Rattle.byte_fields.proofs.Loops.{goes_on, stops, is_done}
 use Rattle.board_image.proofs.ImageLoops.{card_after, past_card, cards_after, cards_loop}
 use Rattle.board_image.proofs.card_reader.cards.Goals as goal
 

@@ -2,7 +2,7 @@
 use Rattle.std.proofs.Common.{◌≡◌, ◌-◌, ◌≤◌}
 use Rattle.board_spec.specs.Limits.{most_card_memory}
 use Rattle.board_image.specs.ImageFields.{cards_fields}
-use Rattle.board_image.proofs.Loops.{with_front}
+use Rattle.byte_fields.proofs.Loops.{with_front}
 use Rattle.board_image.proofs.card_reader.cards.Given as goal
 
 abbrev pub invariant-loop : goal.invariant-loop

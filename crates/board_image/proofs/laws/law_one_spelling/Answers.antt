@@ -1,6 +1,6 @@
 use Rattle.std.proofs.Common.{◌≡◌, List, ℕ, [], sym, ap, ◌∙◌}
 use Rattle.board_image.specs.Common.{Saved, image_fields}
-use Rattle.board_image.proofs.Formats.{ok_is}
+use Rattle.byte_fields.proofs.Formats.{ok_is}
 use Rattle.board_image.proofs.ImageFormats.{image_back}
 use Rattle.board_image.proofs.laws.law_one_spelling.Goals as goal
 

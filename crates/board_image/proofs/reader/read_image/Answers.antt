@@ -3,7 +3,8 @@ use Rattle.board_prelude.proofs.Common.{Statement, Setup}
 use Rattle.board_image.specs.declared.fault.ImageFault.{ImageFault}
 use Rattle.board_image.specs.declared.fault.ImageFault.TheVariants.{Bad}
 use Rattle.board_image.specs.Common.{Saved, image_bytes, IsImage, image_fields}
-use Rattle.board_image.proofs.Formats.{AreBytes, ok_is, not_err}
+use Rattle.byte_fields.specs.Fields.{AreBytes}
+use Rattle.byte_fields.proofs.Formats.{ok_is, not_err}
 use Rattle.board_image.proofs.ImageFormats.{image_back, image_taken, image_bad}
 use Rattle.board_image.proofs.reader.read_image.Goals as goal
 

@@ -1,7 +1,7 @@
 use Rattle.std.proofs.Common.{◌≡◌, ◌-◌, ◌+◌, ℕ, ◌++◌, List, [], ◌∷◌, length, ap, sym}
 use Rattle.std.proofs.lemmas.Result.{err_from_is_err_and}
 use Rattle.board_image.specs.Common.{step_fields, steps_fields}
-use Rattle.board_image.proofs.Loops.{goes_on, stops, is_done}
+use Rattle.byte_fields.proofs.Loops.{goes_on, stops, is_done}
 use Rattle.board_image.proofs.ImageLoops.{same_setup, steps_loop}
 use Rattle.board_image.proofs.reader.steps.Goals as goal
 

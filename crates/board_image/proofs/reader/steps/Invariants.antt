@@ -2,7 +2,7 @@
 use Rattle.std.proofs.Common.{◌≡◌, ◌-◌}
 use Rattle.board_spec.specs.Setup.{Setup}
 use Rattle.board_image.specs.ImageFields.{steps_fields}
-use Rattle.board_image.proofs.Loops.{with_front}
+use Rattle.byte_fields.proofs.Loops.{with_front}
 use Rattle.board_image.proofs.reader.steps.Given as goal
 
 abbrev pub invariant-loop : goal.invariant-loop

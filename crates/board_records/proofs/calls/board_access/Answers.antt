@@ -28,11 +28,11 @@ returns c =
                   after_as new history _ _
                   (board_steps_are old new.com1 history c.args.access.now c.requires.board com1) gone;
               told =
-                  c.tell_bus.ensures.said
-                  ∙ bus_told said.value said.target said.denial c.after_step-after.result
+                  c.tell_cycle.ensures.said gone.after gone.left_at.left
+                  ∙ bus_told said.value said.target said.denial
+                  (after_step new.board.setup gone.after c.reset_by-reset.result new.com1)
                   ∙ ap (serial_said (OfBoard (reply_of said)))
-                  (c.after_step-after.ensures.after gone.after gone.left_at.left
-                  ∙ ap (λ setup. after_step setup gone.after c.reset_by-reset.result new.com1) step.setup
+                  (ap (λ setup. after_step setup gone.after c.reset_by-reset.result new.com1) step.setup
                   ∙ ap (λ reset. after_step old.board.setup gone.after reset new.com1)
                   (c.reset_by-reset.ensures.kind history
                   (subst (λ (chipset : Running). IsLeftBy chipset history) (sym c.board.ensures.board) left.left)));

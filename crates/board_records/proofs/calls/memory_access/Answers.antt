@@ -23,11 +23,10 @@ returns c =
               com1 = step.com1;
               goes_on = gone;
               told =
-                  c.tell_bus.ensures.said
-                  ∙ bus_told said.value said.target said.denial c.after_step-after.result
+                  c.tell_cycle.ensures.said gone.after gone.left_at.left
+                  ∙ bus_told said.value said.target said.denial (after_step new.board.setup gone.after NoReset new.com1)
                   ∙ ap (serial_said (OfBoard (reply_of said)))
-                  (c.after_step-after.ensures.after gone.after gone.left_at.left
-                  ∙ ap (λ setup. after_step setup gone.after NoReset new.com1) step.setup);
+                  (ap (λ setup. after_step setup gone.after NoReset new.com1) step.setup);
             };
       };
     }

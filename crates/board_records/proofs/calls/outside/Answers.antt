@@ -27,11 +27,11 @@ returns c =
               com1 = step.com1 resets;
               goes_on = gone;
               told =
-                  c.tell_bus.ensures.said
-                  ∙ bus_told said.value said.target said.denial c.after_step-after.result
+                  c.tell_cycle.ensures.said gone.after gone.left_at.left
+                  ∙ bus_told said.value said.target said.denial
+                  (after_step new.board.setup gone.after c.reset_of-reset.result new.com1)
                   ∙ ap (serial_said (OfBoard (reply_of said)))
-                  (c.after_step-after.ensures.after gone.after gone.left_at.left
-                  ∙ ap (λ setup. after_step setup gone.after c.reset_of-reset.result new.com1) step.setup
+                  (ap (λ setup. after_step setup gone.after c.reset_of-reset.result new.com1) step.setup
                   ∙ ap (λ reset. after_step old.board.setup gone.after reset new.com1)
                   (c.reset_of-reset.ensures.kind history
                   (subst (λ (chipset : Running). IsLeftBy chipset history) (sym c.board.ensures.board) left.left)));

@@ -1,37 +1,20 @@
-use Rattle.std.proofs.Common.{◌≡◌, ℕ, ◌≤◌, ◌∙◌, length, slice_index, set, inl, inr, length-set, get_or-set_same, get_or-set_other, sym, refl, subst, arith}
-use Rattle.board_prelude.proofs.Common.{cases_eq, bytes_of, reg_after}
-use Rattle.addr_decode.proofs.StoreLemmas.{few_bytes}
-use Rattle.config_regs.proofs.Functions.{wide_shifted}
+use Rattle.std.proofs.Common.{◌≡◌, List, sym, ◌∙◌, subst}
+use Rattle.board_prelude.proofs.Common.{false≢true}
+use Rattle.pci_bars.specs.Cards.{CardBytes, cards_of}
+use Rattle.addr_decode.specs.Found.{HasRegister}
 use Rattle.config_regs.proofs.reading.read.Goals as goal
 
-pub loop-index-init : goal.loop-index-init
-loop-index-init c = record { four = refl; read = λ setup bytes is has exists' k below. absurd (omega arith) }
+pub read_from-requires-clause-function : goal.read_from-requires-clause-function
+read_from-requires-clause-function c =
+    subst (λ (cards : List CardBytes). HasRegister cards c.in-Some.function c.args.reg) c.deref.ensures.0
+    c.in-Some.ensures.has
 
-pub loop-index-preserved : goal.loop-index-preserved
-loop-index-preserved c =
-    let read = c.loop-index.bytes in
-    let index = c.loop-index.index in
-    let few : bytes_of c.args.width ≤ 4 = few_bytes c.args.width in
-    let four : length read ≡ 4 = c.loop-index.invariant.four in
-    record {
-      four = length-set read c.from.result c.read_byte.result ∙ four;
-      read = λ setup bytes is has exists' k below. rw c.from.ensures elim (cases_eq k index) [
-        | inl here ↦
-            subst (λ (j : ℕ). slice_index (set read index c.read_byte.result) j
-            ≡ bytes (reg_after c.args.reg j)) (sym here)
-            (get_or-set_same read index c.read_byte.result 0 (omega arith)
-            ∙ c.read_byte.ensures.byte setup bytes is has exists')
-        | inr apart ↦
-            get_or-set_other read index k c.read_byte.result 0 apart
-            ∙ c.loop-index.invariant.read setup bytes is has exists' k (omega arith)
-      ];
-    }
+pub returns-in-Some : goal.returns-in-Some
+returns-in-Some c = record { value = λ setup bytes is has exists'. c.read_from.ensures.value setup bytes is has }
 
-pub returns : goal.returns
-returns c = record {
+pub returns-in-None : goal.returns-in-None
+returns-in-None c = record {
   value = λ setup bytes is has exists'.
-      c.read_at.ensures.value
-      ∙ wide_shifted (slice_index c.loop-index.bytes) (λ off. bytes (record c.args.reg { off = off }))
-      c.args.reg.off c.args.width
-      (λ k below. c.loop-index.invariant.read setup bytes is has exists' k (omega arith));
+      let same = subst (λ (cards : List CardBytes). setup.cards ≡ cards_of cards) (sym c.deref.ensures.0) is.cards.0 in
+      absurd (false≢true (c.in-None.ensures.exists setup same ∙ exists'));
 }

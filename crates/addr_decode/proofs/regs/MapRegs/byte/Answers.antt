@@ -1,4 +1,4 @@
-use Rattle.std.proofs.Common.{◌≡◌, ◌≤◌, List, sym, subst}
+use Rattle.std.proofs.Common.{List, sym, subst}
 use Rattle.pci_bars.specs.Cards.{CardBytes, AreDecoded}
 use Rattle.addr_decode.proofs.regs.MapRegs.byte.Goals as goal
 

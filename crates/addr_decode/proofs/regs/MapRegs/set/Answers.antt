@@ -1,6 +1,6 @@
-use Rattle.std.proofs.Common.{inl, subst, sym, arith}
-use Rattle.board_spec.specs.RegisterNames.{pam, drb, fdhc, smram, xbcs, card_register}
-use Rattle.addr_decode.specs.MapRegs.{StandsFor, map_bytes, stored}
+use Rattle.std.proofs.Common.{inl, arith}
+use Rattle.board_spec.specs.RegisterNames.{pam, drb, fdhc, smram, xbcs}
+use Rattle.addr_decode.specs.MapRegs.{map_bytes}
 use Rattle.addr_decode.proofs.CardLemmas.{cards_beside}
 use Rattle.addr_decode.proofs.StandsLemmas.{row_stored, hole_stored, smram_stored, xbcs_stored, card_stored}
 use Rattle.addr_decode.proofs.regs.MapRegs.set.Goals as goal

@@ -1,8 +1,8 @@
-use Rattle.std.proofs.Common.{◌≡◌, Some, sym, ◌∙◌, subst}
+use Rattle.std.proofs.Common.{sym, ◌∙◌, subst}
 use Rattle.board_prelude.proofs.Common.{Reg, reg_after}
 use Rattle.pci_bars.specs.Cards.{AreCardsOf, cards_of}
-use Rattle.addr_decode.specs.Common.{map_register, StandsFor, map_bytes, stored}
-use Rattle.addr_decode.proofs.NameLemmas.{is_name, IsNameAt}
+use Rattle.addr_decode.specs.Common.{StandsFor, map_bytes, stored}
+use Rattle.addr_decode.proofs.NameLemmas.{is_name}
 use Rattle.addr_decode.proofs.regs.MapRegs.store_after.Goals as goal
 
 pub set-requires-clause-number : goal.set-requires-clause-number

@@ -1,5 +1,5 @@
-use Rattle.std.proofs.Common.{◌≡◌, ℕ, ◌+◌, ◌≤◌, ◌<◌, ◌⊎◌, inl, inr, refl, subst, arith}
-use Rattle.board_prelude.proofs.Common.{Reg, reg_after, card_register}
+use Rattle.std.proofs.Common.{◌≡◌, ◌+◌, ◌≤◌, refl, subst, arith}
+use Rattle.board_prelude.proofs.Common.{Reg, reg_after}
 use Rattle.pci_bars.specs.Cards.{AreCardsOf, cards_of}
 use Rattle.addr_decode.specs.MapRegs.{StandsFor, map_bytes, stored}
 use Rattle.addr_decode.proofs.CardLemmas.{cards_beside, cards_beyond}

@@ -5,9 +5,7 @@ use Rattle.board_chipset.proofs.Lefts.{state_of}
 use Rattle.board_chipset.proofs.chipset.Chipset.decode_memory.Goals as goal
 
 pub decoded-requires-clause-rom : goal.decoded-requires-clause-rom
-decoded-requires-clause-rom c =
-    let (history, left) = rw c.self.view_is at c.self.invariant in
-    rw (c.rom.ensures.bytes) (state_of c.self.view_is left).fits.rom
+decoded-requires-clause-rom c = rw (c.rom.ensures.bytes) c.self.invariant.fits.rom
 
 pub returns : goal.returns
 returns c = record {

@@ -1,5 +1,6 @@
-use Rattle.std.proofs.Common.{ap, ◌∙◌, refl}
-use Rattle.board_prelude.proofs.Common.{Setup, byte_of}
+use Rattle.std.proofs.Common.{ap, ◌∙◌}
+use Rattle.board_prelude.proofs.Common.{Setup}
+use Rattle.board_chipset.proofs.HeldTargets.{stands}
 use Rattle.board_chipset.proofs.Lefts.{state_of}
 use Rattle.board_chipset.proofs.chipset.Chipset.into_store.Goals as goal
 
@@ -33,16 +34,15 @@ returns-clause-store c = λ history left.
 
 pub returns-clause-sound : goal.returns-clause-sound
 returns-clause-sound c =
-    let history = c.self.invariant.0 in
-    let is = state_of refl c.self.invariant.1 in (
+    let sound = c.self.invariant in (
       c.self.inside.setup,
-      byte_of c.self.inside.setup history,
+      sound.registers.bytes,
       record {
-        cards = is.fits.cards;
-        rom_size = is.fits.rom;
-        registers = rw c.copy-regs.ensures.equal (c.regs.ensures.stand c.self.inside.setup history is.registers);
-        memory = is.stores.dram.size;
-        contents = is.stores.contents.sizes;
+        cards = sound.fits.cards;
+        rom_size = sound.fits.rom;
+        registers = stands sound (c.copy-regs.ensures.equal ∙ c.regs.ensures.same);
+        memory = sound.memory;
+        contents = sound.contents;
         rom = ap (λ (setup : Setup). setup.rom) c.setup.view_is;
       },
     )

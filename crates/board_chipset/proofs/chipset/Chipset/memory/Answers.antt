@@ -1,27 +1,16 @@
-use Rattle.std.proofs.Common.{◌∷◌, sym, refl}
-use Rattle.board_spec.specs.declared.event.Entry.{Entry}
-use Rattle.board_spec.specs.declared.event.Event.TheVariants.{Memory}
-use Rattle.board_chipset.specs.BusReplies.{reply_of}
+use Rattle.std.proofs.Common.{sym}
 use Rattle.board_chipset.proofs.Lefts.{left_by, state_of}
 use Rattle.board_chipset.proofs.chipset.Chipset.memory.Goals as goal
 
 pub access-requires-clause-kept : goal.access-requires-clause-kept
-access-requires-clause-kept c =
-    let (history, left) = rw c.self.view_is at c.self.invariant in
-    record {
-      setup = c.self.inside.setup;
-      history = history;
-      of = state_of c.self.view_is left;
-      image = sym c.rom.ensures.bytes;
-    }
+access-requires-clause-kept c = record {
+  setup = c.self.inside.setup;
+  sound = c.self.invariant;
+  image = sym c.rom.ensures.bytes;
+}
 
 pub invariant_of-self : goal.invariant_of-self
-invariant_of-self c =
-    let (history, left) = rw c.self.view_is at c.self.invariant in
-    let entry : Entry = record { actor = 0; seq = 0; event = Memory c.args.access.now; reply = reply_of c.access.result } in (
-      entry ∷ history,
-      left_by (c.access.ensures.board c.self.inside.setup history entry (state_of c.self.view_is left) (sym c.rom.ensures.bytes) refl refl),
-    )
+invariant_of-self c = c.access.ensures.sound c.self.inside.setup c.self.invariant
 
 pub returns-clause-answer : goal.returns-clause-answer
 returns-clause-answer c = λ history left.

@@ -1,6 +1,4 @@
-use Rattle.std.proofs.Common.{◌∷◌, refl}
-use Rattle.board_spec.specs.declared.event.Entry.{Entry}
-use Rattle.board_chipset.specs.BusReplies.{reply_of}
+use Rattle.std.proofs.Common.{refl}
 use Rattle.board_chipset.proofs.Lefts.{can_do, left_by, state_of}
 use Rattle.board_chipset.proofs.chipset.Chipset.outside.Goals as goal
 
@@ -8,16 +6,11 @@ pub answer-requires-clause-in_range : goal.answer-requires-clause-in_range
 answer-requires-clause-in_range c = (
   c.self.inside.setup.rom,
   can_do c.args.self.now c.self.inside.setup c.self.inside.state _ c.args.event.now c.self.view_is refl
-      (rw c.self.view_is at c.self.invariant) c.requires.in_range,
+      c.self.invariant c.requires.in_range,
 )
 
 pub invariant_of-self : goal.invariant_of-self
-invariant_of-self c =
-    let (history, left) = rw c.self.view_is at c.self.invariant in
-    let entry : Entry = record { actor = 0; seq = 0; event = c.args.event.now; reply = reply_of c.answer.result } in (
-      entry ∷ history,
-      left_by (c.answer.ensures.board c.self.inside.setup history entry (state_of c.self.view_is left) refl),
-    )
+invariant_of-self c = c.answer.ensures.sound c.self.inside.setup c.self.invariant
 
 pub returns-clause-answer : goal.returns-clause-answer
 returns-clause-answer c = λ history left.

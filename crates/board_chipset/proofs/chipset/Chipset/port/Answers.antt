@@ -1,24 +1,15 @@
-use Rattle.std.proofs.Common.{◌∷◌, sym, refl}
-use Rattle.board_spec.specs.declared.event.Entry.{Entry}
-use Rattle.board_spec.specs.declared.event.Event.TheVariants.{Port}
-use Rattle.board_chipset.specs.BusReplies.{reply_of}
+use Rattle.std.proofs.Common.{refl}
 use Rattle.board_chipset.proofs.Lefts.{left_by, state_of}
 use Rattle.board_chipset.proofs.chipset.Chipset.port.Goals as goal
 
 pub access-requires-clause-kept : goal.access-requires-clause-kept
-access-requires-clause-kept c =
-    let (history, left) = rw c.self.view_is at c.self.invariant in (
-      c.self.inside.setup.rom,
-      record { setup = c.self.inside.setup; history = history; of = state_of c.self.view_is left; image = refl },
-    )
+access-requires-clause-kept c = (
+  c.self.inside.setup.rom,
+  record { setup = c.self.inside.setup; sound = c.self.invariant; image = refl },
+)
 
 pub invariant_of-self : goal.invariant_of-self
-invariant_of-self c =
-    let (history, left) = rw c.self.view_is at c.self.invariant in
-    let entry : Entry = record { actor = 0; seq = 0; event = Port c.args.access.now; reply = reply_of c.access.result } in (
-      entry ∷ history,
-      left_by (c.access.ensures.board c.self.inside.setup history entry (state_of c.self.view_is left) refl refl),
-    )
+invariant_of-self c = c.access.ensures.sound c.self.inside.setup c.self.invariant
 
 pub returns-clause-answer : goal.returns-clause-answer
 returns-clause-answer c = λ history left.

@@ -1,15 +1,17 @@
 use Rattle.board_chipset.proofs.Lefts.{left_by, state_of}
 use Rattle.board_chipset.proofs.LoadSteps.{clock_set, some_clock_entries}
+use Rattle.board_chipset.proofs.StateSteps.{sound_devices}
 use Rattle.board_chipset.proofs.chipset.Chipset.set_clock_byte.Goals as goal
 
 pub invariant_of-self : goal.invariant_of-self
-invariant_of-self c =
-    let (history, left) = rw c.self.view_is at c.self.invariant in
-    let kept = state_of c.self.view_is left in
-    let some = some_clock_entries history c.args.address c.args.byte in
-    (some.0, left_by (clock_set kept some.1 (c.set_clock_byte.ensures.devices c.self.inside.setup history some.0 kept.devices)))
+invariant_of-self c = sound_devices c.self.invariant
 
 pub returns-clause-left : goal.returns-clause-left
 returns-clause-left c = λ history later left puts.
     let kept = state_of c.self.view_is left in
     left_by (clock_set kept puts (c.set_clock_byte.ensures.devices c.self.inside.setup history later kept.devices))
+
+pub returns-clause-goes_on : goal.returns-clause-goes_on
+returns-clause-goes_on c = λ history left.
+    let some = some_clock_entries history c.args.address c.args.byte in
+    (some.0, returns-clause-left c history some.0 left some.1)

@@ -1,5 +1,4 @@
-use Rattle.std.proofs.Common.{◌∷◌, sym, refl}
-use Rattle.board_spec.specs.declared.event.Entry.{Entry}
+use Rattle.std.proofs.Common.{sym}
 use Rattle.board_chipset.proofs.Lefts.{can_do, left_by, state_of}
 use Rattle.board_chipset.proofs.Exact.{exactly}
 use Rattle.board_chipset.proofs.chipset.Chipset.step.Goals as goal
@@ -7,17 +6,11 @@ use Rattle.board_chipset.proofs.chipset.Chipset.step.Goals as goal
 pub step-requires : goal.step-requires
 step-requires c = record {
   can = can_do c.args.self.now c.self.inside.setup c.self.inside.state _ c.args.event.now c.self.view_is
-      (sym c.rom.ensures.bytes) (rw c.self.view_is at c.self.invariant) c.requires.in_range;
+      (sym c.rom.ensures.bytes) c.self.invariant c.requires.in_range;
 }
 
 pub invariant_of-self : goal.invariant_of-self
-invariant_of-self c =
-    let (history, left) = rw c.self.view_is at c.self.invariant in
-    let entry : Entry = record { actor = 0; seq = 0; event = c.args.event.now; reply = c.step.result } in (
-      entry ∷ history,
-      left_by (c.step.ensures.board c.self.inside.setup history entry (state_of c.self.view_is left)
-          (sym c.rom.ensures.bytes) refl refl),
-    )
+invariant_of-self c = c.step.ensures.sound c.self.inside.setup c.self.invariant
 
 pub returns-clause-answer : goal.returns-clause-answer
 returns-clause-answer c = λ history left.

@@ -1,27 +1,25 @@
-use Rattle.std.proofs.Common.{◌+◌, length, arith}
+use Rattle.std.proofs.Common.{◌+◌, ◌∙◌, length, arith}
 use Rattle.board_spec.specs.Setup.{installed}
 use Rattle.board_devices.proofs.DeviceLemmas.{leaves_devices}
-use Rattle.board_chipset.proofs.Lefts.{left_by, state_of}
 use Rattle.board_chipset.proofs.LoadSteps.{load_left, load_kept, load_refused}
 use Rattle.board_chipset.specs.Chipset.{IsLeftBy}
 use Rattle.board_chipset.proofs.chipset.Chipset.write_dram.Goals as goal
 
 pub invariant_of-self : goal.invariant_of-self
 invariant_of-self c =
-    let (history, left) = rw c.self.view_is at c.self.invariant in
-    let kept = load_kept c.self.inside.setup c.self.inside.state c.load.new.self c.args.addr c.args.bytes.now
-    c.load.result leaves_devices c.load.ensures.fits c.load.ensures.bytes
-    c.load.ensures.size (λ k. omega (arith, c.type_inv.bytes k)) c.load.ensures.same history
-    (state_of c.self.view_is left) in
-    (kept.0, left_by kept.1)
+    let sound = c.self.invariant in
+    record {
+      fits = sound.fits;
+      registers = sound.registers;
+      memory = c.load.ensures.size ∙ sound.memory;
+      contents = sound.contents;
+    }
 
 pub returns-clause-refused : goal.returns-clause-refused
 returns-clause-refused c =
-    let (history, left) = rw c.self.view_is at c.self.invariant in
-    let size = (state_of c.self.view_is left).stores.dram.size in
     load_refused c.load.result (length c.self.inside.state.stores.dram) (installed c.args.self.now.setup)
     (c.args.addr + length c.args.bytes.now)
-    (rw (← c.self.view_is) size) c.load.ensures.fits c.load.ensures.refused
+    (rw (← c.self.view_is) c.self.invariant.memory) c.load.ensures.fits c.load.ensures.refused
 
 pub returns-clause-left : goal.returns-clause-left
 unfolding IsLeftBy
@@ -30,3 +28,11 @@ returns-clause-left c =
     (load_left c.self.inside.setup c.self.inside.state c.load.new.self c.args.addr c.args.bytes.now c.load.result
     leaves_devices c.load.ensures.fits c.load.ensures.bytes
     c.load.ensures.size (λ k. omega (arith, c.type_inv.bytes k)))
+
+pub returns-clause-goes_on : goal.returns-clause-goes_on
+unfolding IsLeftBy
+returns-clause-goes_on c =
+    rw (← c.self.view_is)
+    (load_kept c.self.inside.setup c.self.inside.state c.load.new.self c.args.addr c.args.bytes.now c.load.result
+    leaves_devices c.load.ensures.fits c.load.ensures.bytes
+    c.load.ensures.size (λ k. omega (arith, c.type_inv.bytes k)) c.load.ensures.same)

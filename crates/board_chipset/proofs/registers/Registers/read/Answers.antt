@@ -7,8 +7,8 @@ use Rattle.board_chipset.proofs.registers.Registers.read.Goals as goal
 
 pub returns : goal.returns
 returns c = record {
-  value = λ setup history has there.
+  value = λ setup history has.
       let kept : AreKeptOf setup (byte_of setup history) (map_bytes c.regs.result.now) c.args.self.now.south =
       search (rules, has.kept) in
-      c.read.ensures.value setup (byte_of setup history) kept (has_fixed setup history) there;
+      c.read_from.ensures.value setup (byte_of setup history) kept (has_fixed setup history);
 }

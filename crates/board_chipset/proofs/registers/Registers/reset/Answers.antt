@@ -1,3 +1,5 @@
+use Rattle.std.proofs.Common.{◌≡◌, ℕ, refl, subst, sym}
+use Rattle.board_prelude.proofs.Common.{kept_address, reset_byte}
 use Rattle.board_chipset.proofs.registers.Registers.reset.Goals as goal
 
 pub returns-clause-kept : goal.returns-clause-kept
@@ -5,4 +7,16 @@ returns-clause-kept c = λ setup bytes kept. record {
   map = c.apply.ensures.applied.stands setup bytes kept.map;
   cards = c.apply.ensures.applied.cards setup bytes kept.cards;
   south = c.reset-2.ensures.reset setup;
+}
+
+pub returns-clause-sound : goal.returns-clause-sound
+returns-clause-sound c = λ setup sound. record {
+  bytes = reset_byte setup;
+  kept = record {
+    map = c.apply.ensures.applied.stands setup sound.bytes sound.kept.map;
+    cards = c.apply.ensures.applied.cards setup sound.bytes sound.kept.cards;
+    south = c.reset-2.ensures.reset setup;
+  };
+  address = subst (λ (address : ℕ). kept_address address ≡ address) (sym c.reset.ensures.zero) refl;
+  flat = c.apply.ensures.applied.map;
 }

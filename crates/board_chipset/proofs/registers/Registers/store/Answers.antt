@@ -1,4 +1,5 @@
 use Rattle.std.proofs.Common.{refl}
+use Rattle.board_prelude.proofs.Common.{Store, changed_byte}
 use Rattle.board_spec.specs.Registers.{byte_of}
 use Rattle.board_chipset.proofs.MapVersions.{store_follows}
 use Rattle.board_chipset.proofs.RegisterSteps.{follows}
@@ -9,11 +10,23 @@ returns-clause-registers c = λ setup history entry has writes.
     let bytes = byte_of setup history in
     follows writes has refl refl
     (record {
-      map = c.store.ensures.stands setup bytes has.kept.map;
-      cards = c.store.ensures.cards setup bytes has.kept.cards;
-      south = c.store-2.ensures.stored setup bytes has.kept.south;
+      map = c.store_from.ensures.stored.stands setup bytes has.kept.map;
+      cards = c.store_from.ensures.stored.cards setup bytes has.kept.cards;
+      south = c.store.ensures.stored setup bytes has.kept.south;
     })
-    (c.store.ensures.version setup has.kept.cards.0)
-    (store_follows setup history c.args.reg c.args.width c.args.value
-    (c.store.ensures.windows setup bytes has.kept.map) (c.store.ensures.same_windows setup has.kept.cards.0))
-    c.store.ensures.map
+    (c.store_from.ensures.stored.version setup has.kept.cards.0)
+    (store_follows setup history c.args.register.now.reg c.args.width c.args.value
+    (c.store_from.ensures.stored.windows setup bytes has.kept.map) (c.store_from.ensures.stored.same_windows setup has.kept.cards.0))
+    c.store_from.ensures.stored.map
+
+pub returns-clause-sound : goal.returns-clause-sound
+returns-clause-sound c = λ setup sound. record {
+  bytes = λ r. changed_byte setup (Store c.args.register.now.reg c.args.width c.args.value) r (sound.bytes r);
+  kept = record {
+    map = c.store_from.ensures.stored.stands setup sound.bytes sound.kept.map;
+    cards = c.store_from.ensures.stored.cards setup sound.bytes sound.kept.cards;
+    south = c.store.ensures.stored setup sound.bytes sound.kept.south;
+  };
+  address = sound.address;
+  flat = c.store_from.ensures.stored.map;
+}

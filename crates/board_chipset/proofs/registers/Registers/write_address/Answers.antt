@@ -1,7 +1,18 @@
-use Rattle.std.proofs.Common.{refl}
+use Rattle.std.proofs.Common.{refl, subst, sym, ℕ, ◌≡◌}
+use Rattle.board_prelude.proofs.Common.{kept_address}
+use Rattle.cfg_ports.proofs.AddressLemmas.{kept_address-again}
 use Rattle.board_chipset.proofs.RegisterSteps.{follows}
 use Rattle.board_chipset.proofs.registers.Registers.write_address.Goals as goal
 
 pub returns-clause-registers : goal.returns-clause-registers
 returns-clause-registers c = λ setup history entry has writes.
     follows writes has c.write.ensures.kept refl has.kept refl refl has.flat
+
+pub returns-clause-sound : goal.returns-clause-sound
+returns-clause-sound c = λ setup sound. record {
+  bytes = sound.bytes;
+  kept = sound.kept;
+  address = subst (λ (address : ℕ). kept_address address ≡ address) (sym c.write.ensures.kept)
+      (kept_address-again c.args.value);
+  flat = sound.flat;
+}

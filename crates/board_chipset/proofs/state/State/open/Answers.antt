@@ -1,6 +1,7 @@
 use Rattle.std.proofs.Common.{◌∙◌, ap, sym}
 use Rattle.board_spec.specs.Setup.{Setup}
 use Rattle.board_chipset.proofs.Openings.{disk_opened}
+use Rattle.board_chipset.proofs.StateSteps.{fresh_sound}
 use Rattle.board_chipset.proofs.state.State.open.Goals as goal
 
 pub returns-clause-fresh : goal.returns-clause-fresh
@@ -23,3 +24,6 @@ returns-clause-fresh c =
           (ap (λ (s : Setup). s.cards) (sym is) ∙ sym c.deref.ensures.value);
       devices = c.in_ok-devices.ensures.fresh setup (sym c.disk.ensures.bytes);
     }
+
+pub returns-clause-sound : goal.returns-clause-sound
+returns-clause-sound c = fresh_sound (returns-clause-fresh c)

@@ -1,4 +1,4 @@
-use Rattle.std.proofs.Common.{refl, lit<}
+use Rattle.std.proofs.Common.{refl}
 use Rattle.board_prelude.proofs.Common.{Memory, next_entry}
 use Rattle.board_chipset.specs.Common.{Running, reply_of}
 use Rattle.uart_16550.specs.Common.{Serial}
@@ -18,9 +18,3 @@ returns-clause-history c =
     (c.memory.ensures.answer history left_at.left)
     (c.memory.ensures.left history (next_entry history actor event reply) left_at.left refl refl)
     (is_plain event (λ access same. absurd (cc same)) (λ irq on same. absurd (cc same))))
-
-pub invariant_of-self : goal.invariant_of-self
-invariant_of-self c =
-    let is = c.self.invariant in
-    let next = returns-clause-history c is.0 0 (lit< tt) (rw (← c.self.view_is) is.1) in
-    (next.after, next.left_at)

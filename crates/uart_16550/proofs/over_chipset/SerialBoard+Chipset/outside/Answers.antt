@@ -1,4 +1,4 @@
-use Rattle.std.proofs.Common.{false, refl, sym, lit<}
+use Rattle.std.proofs.Common.{refl, sym}
 use Rattle.board_prelude.proofs.Common.{next_entry}
 use Rattle.board_chipset.specs.Common.{Running, reply_of}
 use Rattle.board_chipset.proofs.Exact.{modulo}
@@ -34,9 +34,3 @@ returns-clause-history c =
     (modulo old.board.setup history event reply (no_look event c.requires.devices) (c.outside.ensures.answer history left_at.left))
     (c.outside.ensures.left history (next_entry history actor event reply) left_at.left refl refl)
     (plain_outside event c.requires.devices c.requires.no_line) resets)
-
-pub invariant_of-self : goal.invariant_of-self
-invariant_of-self c =
-    let is = c.self.invariant in
-    let next = returns-clause-history c is.0 0 false (lit< tt) (rw (← c.self.view_is) is.1) in
-    (next.after, next.left_at)

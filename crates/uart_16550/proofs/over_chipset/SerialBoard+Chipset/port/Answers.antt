@@ -1,7 +1,7 @@
-use Rattle.std.proofs.Common.{refl, lit<}
+use Rattle.std.proofs.Common.{refl}
 use Rattle.board_prelude.proofs.Common.{Port, next_entry}
 use Rattle.board_chipset.specs.Common.{Running, IsAnswerModulo, IsLeftBy, reply_of}
-use Rattle.uart_16550.proofs.SerialSteps.{accessed, accessed_alone, accessed_and_moved}
+use Rattle.uart_16550.proofs.SerialSteps.{accessed_alone, accessed_and_moved}
 use Rattle.uart_16550.proofs.over_chipset.SerialBoard+Chipset.port.Goals as goal
 
 pub returns-then-not-resets-clause-history : goal.returns-then-not-resets-clause-history
@@ -14,12 +14,6 @@ returns-then-not-resets-clause-history c =
     (c.port-reply.ensures.answer history left_at.left)
     (c.port-reply.ensures.left history (next_entry history actor (Port c.args.access.now) reply) left_at.left refl refl) below)
 
-pub invariant_of-self : goal.invariant_of-self
-invariant_of-self c =
-    let is = c.self.invariant in
-    let next = returns-then-not-resets-clause-history c is.0 0 (lit< tt) (rw (← c.self.view_is) is.1) in
-    (next.after, next.left_at)
-
 pub returns-clause-history : goal.returns-clause-history
 returns-clause-history c =
     let reply = reply_of c.port-reply.result in
@@ -30,13 +24,3 @@ returns-clause-history c =
     (c.port-reply.ensures.answer history left_at.left)
     (c.port-reply.ensures.left history (next_entry history actor (Port c.args.access.now) reply) left_at.left refl refl) below
     c.renew.new.self.board c.renew.new.self.com1 c.renew.ensures.setup c.renew.ensures.history)
-
-pub invariant_of-self-2 : goal.invariant_of-self-2
-invariant_of-self-2 c =
-    let reply = reply_of c.port-reply.result in
-    let is = c.self.invariant in
-    let next = accessed IsAnswerModulo (λ (chipset : Running). chipset.setup) IsLeftBy c.self.inside.board c.port-reply.new.self
-    c.self.inside.com1 is.0 0 c.args.access.now reply is.1 c.port-reply.ensures.setup
-    (c.port-reply.ensures.answer is.0 is.1.left)
-    (c.port-reply.ensures.left is.0 (next_entry is.0 0 (Port c.args.access.now) reply) is.1.left refl refl) (lit< tt) in
-    (next.after, next.left_at)

@@ -1,4 +1,4 @@
-use Rattle.uart_16550.proofs.SerialSteps.{accessed, accessed_alone, accessed_and_moved}
+use Rattle.uart_16550.proofs.SerialSteps.{accessed_alone, accessed_and_moved}
 use Rattle.uart_16550.proofs.serial.SerialBoard.board_access.Goals as goal
 
 pub returns-then-not-resets-clause-history : goal.returns-then-not-resets-clause-history
@@ -9,12 +9,6 @@ returns-then-not-resets-clause-history g c =
     c.self.inside.com1 history c.args.actor c.args.access.now c.step-reply.result left_at c.step-reply.ensures.setup
     (c.step-reply.ensures.answer history left_at.left) (c.step-reply.ensures.left history left_at.left) c.requires.actor)
 
-pub invariant_of-self : goal.invariant_of-self
-invariant_of-self g c =
-    let is = c.self.invariant in
-    let next = returns-then-not-resets-clause-history g c is.0 (rw (← c.self.view_is) is.1) in
-    (next.after, next.left_at)
-
 pub returns-clause-history : goal.returns-clause-history
 returns-clause-history g c =
     rw (← c.self.view_is)
@@ -24,12 +18,3 @@ returns-clause-history g c =
     c.step-reply.ensures.setup (c.step-reply.ensures.answer history left_at.left)
     (c.step-reply.ensures.left history left_at.left) c.requires.actor c.renew.new.self.board c.renew.new.self.com1
     c.renew.ensures.setup c.renew.ensures.history)
-
-pub invariant_of-self-2 : goal.invariant_of-self-2
-invariant_of-self-2 g c =
-    let is = c.self.invariant in
-    let next = accessed g.B.SteppedBoard.is_answer g.B.SteppedBoard.setup g.B.SteppedBoard.is_left_by c.self.inside.board
-    c.step-reply.new.self c.self.inside.com1 is.0 c.args.actor c.args.access.now c.step-reply.result is.1
-    c.step-reply.ensures.setup (c.step-reply.ensures.answer is.0 is.1.left)
-    (c.step-reply.ensures.left is.0 is.1.left) c.requires.actor in
-    (next.after, next.left_at)

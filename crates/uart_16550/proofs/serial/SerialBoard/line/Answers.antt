@@ -10,12 +10,6 @@ returns-then-irq-eq-COM1_IRQ-clause-history g c =
     c.level-on.ensures.level left_at c.step.ensures.setup (c.step.ensures.answer history left_at.left)
     (c.step.ensures.left history left_at.left) c.requires.actor)
 
-pub invariant_of-self : goal.invariant_of-self
-invariant_of-self g c =
-    let is = c.self.invariant in
-    let next = returns-then-irq-eq-COM1_IRQ-clause-history g c is.0 (rw (← c.self.view_is) is.1) in
-    (next.after, next.left_at)
-
 pub returns-clause-history : goal.returns-clause-history
 returns-clause-history g c =
     rw (← c.self.view_is)
@@ -24,9 +18,3 @@ returns-clause-history g c =
     c.args.irq c.args.on history c.args.actor c.step-2.result c.if-irq-eq-COM1_IRQ.false
     left_at c.step-2.ensures.setup (c.step-2.ensures.answer history left_at.left)
     (c.step-2.ensures.left history left_at.left) c.requires.actor)
-
-pub invariant_of-self-2 : goal.invariant_of-self-2
-invariant_of-self-2 g c =
-    let is = c.self.invariant in
-    let next = returns-clause-history g c is.0 (rw (← c.self.view_is) is.1) in
-    (next.after, next.left_at)

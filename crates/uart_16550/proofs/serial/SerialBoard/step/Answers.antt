@@ -33,9 +33,3 @@ returns-in_default-clause-board g c =
       refl,
       λ history left_at. rw (plain.heard c.self.inside.com1) (c.step.ensures.answer history left_at.left),
     ))
-
-pub invariant_of-self : goal.invariant_of-self
-invariant_of-self g c =
-    let is = c.self.invariant in
-    let next = returns-in_default-clause-history g c is.0 (rw (← c.self.view_is) is.1) in
-    (next.after, next.left_at)

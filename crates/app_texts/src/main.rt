@@ -1,0 +1,138 @@
+//! Texts and lines, each a line of standard input behind a word. `script` and `log` take a whole text, in which `|` stands for
+//! a line feed, `~` for a carriage return and `^` for a tab; `long` takes a script's head, what is repeated, how often, and its
+//! end, with `;` between them. Of a text is told that it is good, or the line at which it is refused, and why. `item1`, `item2`,
+//! `entry1` and `entry2` take a line of a script or a log of that version: told is whether it says something. `#` begins a
+//! comment, which is told as it is.
+#![tactic(auto)]
+
+use board_base::NoMemory;
+use board_script::{LogFault, read_log};
+use call_words::decimal;
+use log_lines::entry_of;
+use script_lines::item_of;
+use script_text::{ScriptFault, read_script};
+use std::alloc::Global;
+use std::io::Write;
+use std::process::ExitCode;
+
+/// The exit code for want of memory or of input.
+const FAILED: u8 = 8;
+
+/// More bytes than a text here has.
+const MOST_BYTES: usize = 50_000_000;
+
+/// Tells where a script is refused, and why.
+fn tell_script(alloc: Global, script: &str, text: &mut String) -> Result<(), NoMemory> {
+    if script.len() > MOST_BYTES {
+        return Ok(text.push_str("too long")?);
+    }
+    match read_script(alloc, script.as_bytes()) {
+        Ok(_) => Ok(text.push_str("good")?),
+        Err(ScriptFault::Bad { line, why }) => Ok(write!(text, "{line} {why}")?),
+        Err(ScriptFault::NoMemory) => Err(NoMemory),
+    }
+}
+
+/// Tells the first line that is none of a log.
+fn tell_log(alloc: Global, log: &str, text: &mut String) -> Result<(), NoMemory> {
+    if log.len() > MOST_BYTES {
+        return Ok(text.push_str("too long")?);
+    }
+    match read_log(alloc, log.as_bytes()) {
+        Ok(_) => Ok(text.push_str("good")?),
+        Err(LogFault::Bad { line }) => Ok(write!(text, "{line}")?),
+        Err(_) => Err(NoMemory),
+    }
+}
+
+/// A text in which other characters stood for some.
+fn text_of(alloc: Global, row: &str) -> Result<String, NoMemory> {
+    let lines = row.replace(alloc, '|', "\n")?;
+    let returned = lines.as_str().replace(alloc, '~', "\r")?;
+    Ok(returned.as_str().replace(alloc, '^', "\t")?)
+}
+
+/// A text of a head, a part so many times, and an end.
+fn repeated(
+    alloc: Global,
+    head: &str,
+    part: &str,
+    count: u32,
+    end: &str,
+) -> Result<String, NoMemory> {
+    let mut text = String::from_str(alloc, head)?;
+    for _ in 0..count {
+        text.push_str(part)?;
+    }
+    text.push_str(end)?;
+    Ok(text)
+}
+
+/// The same of the four parts of a text.
+fn long_text(alloc: Global, row: &str) -> Result<String, NoMemory> {
+    let parts: Vec<&str> = row.split(';').collect(alloc)?;
+    match parts.as_slice() {
+        [head, part, count, end] => repeated(alloc, head, part, decimal(count), end),
+        _ => Ok(String::new(alloc)),
+    }
+}
+
+/// Appends whether a line says something.
+fn push_answer(text: &mut String, says: bool) -> Result<(), NoMemory> {
+    Ok(text.push_str(if says { "yes" } else { "no" })?)
+}
+
+/// Appends what a line answers.
+fn answer_of_line(call: &str, line: &[u8], text: &mut String) -> Result<(), NoMemory> {
+    match call {
+        "item1" => push_answer(text, item_of(1, line).is_some()),
+        "item2" => push_answer(text, item_of(2, line).is_some()),
+        "entry1" => push_answer(text, entry_of(1, line).is_some()),
+        "entry2" => push_answer(text, entry_of(2, line).is_some()),
+        _ => Ok(text.push_str("no such call")?),
+    }
+}
+
+/// Appends what a text or a line answers.
+fn answer(alloc: Global, call: &str, row: &str, text: &mut String) -> Result<(), NoMemory> {
+    match call {
+        "script" => tell_script(alloc, row, text),
+        "log" => tell_log(alloc, row, text),
+        "long" => tell_script(alloc, long_text(alloc, row)?.as_str(), text),
+        _ => answer_of_line(call, row.as_bytes(), text),
+    }
+}
+
+/// What a line of standard input answers.
+fn answered(alloc: Global, line: &str) -> Result<String, NoMemory> {
+    let mut text = String::new(alloc);
+    let Some((call, row)) = line.split_once(' ') else {
+        return Ok(text);
+    };
+    let row = text_of(alloc, row)?;
+    answer(alloc, call, row.as_str(), &mut text)?;
+    Ok(text)
+}
+
+/// Tells a line and its answer.
+fn tell<W: Write>(alloc: Global, out: &mut W, line: &str) -> Result<(), NoMemory> {
+    if line.starts_with('#') {
+        let _ = writeln!(out, "{line}");
+        return Ok(());
+    }
+    let text = answered(alloc, line)?;
+    let _ = writeln!(out, "{line}: {}", text.as_str());
+    Ok(())
+}
+
+fn main(rt: HostRuntime) -> ExitCode {
+    for line in rt.lines(rt.alloc()) {
+        let Ok(line) = line else {
+            return ExitCode::from(FAILED);
+        };
+        if tell(rt.alloc(), &mut rt.stdout(), line.as_str()).is_err() {
+            return ExitCode::from(FAILED);
+        }
+    }
+    ExitCode::from(0)
+}

@@ -1,0 +1,4 @@
+pub mod Loops
+pub mod Formats
+pub mod Numbers
+pub mod Loaded

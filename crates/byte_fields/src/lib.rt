@@ -1,0 +1,13 @@
+//! Bytes as fields: read from the front one after another, each checked as it is read, and added at the end. Numbers
+//! have their low byte first.
+#![tactic(auto)]
+
+mod fault;
+mod fields;
+mod push;
+
+pub use fault::{Bad, Fault};
+pub use fields::Fields;
+pub use push::{
+    push_byte, push_bytes, push_flag, push_half, push_optional_byte, push_optional_word, push_word,
+};

@@ -1,0 +1,37 @@
+use Rattle.std.proofs.Common.{◌≡◌, ℕ, ◌≤◌, ◌∙◌, length, slice_index, set, inl, inr, length-set, get_or-set_same, get_or-set_other, sym, refl, subst, arith}
+use Rattle.board_prelude.proofs.Common.{cases_eq, bytes_of, reg_after}
+use Rattle.addr_decode.proofs.StoreLemmas.{few_bytes}
+use Rattle.config_regs.proofs.Functions.{wide_shifted}
+use Rattle.config_regs.proofs.reading.read_from.Goals as goal
+
+pub loop-index-init : goal.loop-index-init
+loop-index-init c = record { four = refl; read = λ setup bytes is has k below. absurd (omega arith) }
+
+pub loop-index-preserved : goal.loop-index-preserved
+loop-index-preserved c =
+    let read = c.loop-index.bytes in
+    let index = c.loop-index.index in
+    let few : bytes_of c.args.width ≤ 4 = few_bytes c.args.width in
+    let four : length read ≡ 4 = c.loop-index.invariant.four in
+    record {
+      four = length-set read c.from.result c.read_byte.result ∙ four;
+      read = λ setup bytes is has k below. rw c.from.ensures elim (cases_eq k index) [
+        | inl here ↦
+            subst (λ (j : ℕ). slice_index (set read index c.read_byte.result) j
+            ≡ bytes (reg_after c.args.register.now.reg j)) (sym here)
+            (get_or-set_same read index c.read_byte.result 0 (omega arith)
+            ∙ c.read_byte.ensures.byte setup bytes is has)
+        | inr apart ↦
+            get_or-set_other read index k c.read_byte.result 0 apart
+            ∙ c.loop-index.invariant.read setup bytes is has k (omega arith)
+      ];
+    }
+
+pub returns : goal.returns
+returns c = record {
+  value = λ setup bytes is has.
+      c.read_at.ensures.value
+      ∙ wide_shifted (slice_index c.loop-index.bytes) (λ off. bytes (record c.args.register.now.reg { off = off }))
+      c.args.register.now.reg.off c.args.width
+      (λ k below. c.loop-index.invariant.read setup bytes is has k (omega arith));
+}
