@@ -1,4 +1,3 @@
-pub mod OneActs
 pub mod Beginnings
 pub mod Due
 pub mod Halves

@@ -1,5 +1,3 @@
-pub mod Others
-pub mod Acts
 pub mod Ended
 pub mod Jobs
 pub mod Placed

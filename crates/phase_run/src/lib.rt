@@ -2,7 +2,6 @@
 //! order; a phase begins when all workers of the one before have ended.
 #![tactic(auto)]
 
-mod alone;
 mod ended;
 mod jobs;
 mod placing;

@@ -6,7 +6,6 @@ ghost use Rattle.run_order.specs.Common.{bare, AreAllInPlace};
 ghost use Rattle.phase_run.specs.Placed.{entries_of, IsUpTo};
 ghost use Rattle.phase_run.specs.Jobs.{IsStatement, CanDoPhase, GrowsBy, HasRun, TakesIn};
 
-use crate::alone::{only_actor, run_alone};
 use crate::ended::EndedRun;
 use crate::jobs::{begin, end, first_works, is_refused, next_works, run_jobs, works_of};
 use crate::placing::Placing;
@@ -58,24 +57,6 @@ fn run_workers<R: Threads + Wait + Sync, G: Gate>(
     Ok(Run { board, works })
 }
 
-/// Runs a phase. Where all its statements are of one processor nothing is shared.
-fn run_any<R: Threads + Wait + Sync, G: Gate>(
-    rt: &R,
-    alloc: Global,
-    run: Run,
-    phase: &[Statement],
-    gate: &G,
-) -> Result<Run, NoMemory>
-    requires can { CanDoPhase run phase.now }
-    ensures goes_on { IfOk result (GrowsBy phase.now run) }
-    ensures run { IfOk result (λ next. HasRun run.board next.board phase.now next.works.items) }
-{
-    match only_actor(phase) {
-        Some(actor) => run_alone(rt, alloc, run, actor, phase, gate),
-        None => run_workers(rt, alloc, run, phase, gate),
-    }
-}
-
 /// Runs a phase, and adds what it did to the order of the run. The memory of its statements is given back before.
 fn run_phase<R: Threads + Wait + Sync, G: Gate>(
     rt: &R,
@@ -98,7 +79,7 @@ fn run_phase<R: Threads + Wait + Sync, G: Gate>(
 {
     let version = run.board.map().version();
     let opened = run.board.history().entries().len();
-    let run = run_any(rt, alloc, run, &phase, gate)?;
+    let run = run_workers(rt, alloc, run, &phase, gate)?;
     drop(phase);
     let entries = run.board.history().entries();
     placing.add(alloc, version, opened, &entries, works_of(&run.works))?;
