@@ -1,7 +1,7 @@
 //! The board: each event is one step, which adds one entry to a history that is legal at every moment.
 
-ghost use Rattle.std.specs.Prelude.{◌≡◌, ◌-◌, ◌+◌, ◌++◌, ◌<◌, ◌≤◌, ◌↔◌, List, [], ◌∷◌, length, max, Err, IsTrue, IfOk, OnOk, OnErr};
-ghost use Rattle.board_prelude.specs.Common.{Entry, most_mib, most_card_memory, entry_limit, IsCardList, IsDisk, IsRomSize, IsSetup, memory_of_cards, IsInRange, IsAnswer, IsLegal, next_entry, statements_of, byte_of, map_change_of, version_of, IsFlatMapOf, disk_of};
+ghost use Rattle.std.specs.Prelude.{◌≡◌, ◌-◌, ◌+◌, ◌++◌, ◌<◌, ◌≤◌, ◌↔◌, List, [], ◌∷◌, length, max, Err, IsTrue, IfOk, OnOk, OnErr, true};
+ghost use Rattle.board_prelude.specs.Common.{Entry, Port, is_hard_reset, most_mib, most_card_memory, entry_limit, IsCardList, IsDisk, IsRomSize, IsSetup, memory_of_cards, IsInRange, IsAnswer, IsLegal, next_entry, statements_of, byte_of, map_change_of, version_of, IsFlatMapOf, disk_of};
 ghost use Rattle.addr_decode.specs.MapRegs.{StandsFor, map_bytes};
 ghost use Rattle.dram_store.specs.Dram.{IsDramOf};
 ghost use Rattle.pci_bars.specs.Contents.{IsContentsOf};
@@ -13,8 +13,8 @@ ghost use Rattle.board_core.specs.Steps.{AreInRange};
 use crate::replay::Replay;
 use access_history::History;
 use addr_decode::MapChange;
-use board_base::NoMemory;
-use board_chipset::{BoardOpen, Setup, Store};
+use board_base::{NoMemory, PortAccess};
+use board_chipset::{BoardOpen, ResetKind, Setup, Store};
 use board_spec::{Entry, Event, Reply, Statement};
 use map_builder::FlatMap;
 use std::alloc::Global;
@@ -132,6 +132,13 @@ impl Board {
         ensures change { result ≡ map_change_of self.now.setup self.now.entries event.now }
     {
         self.replay.map_change(event)
+    }
+
+    /// The reset that an access at a port would make now.
+    pub fn reset_by(&self, access: &PortAccess) -> ResetKind
+        ensures hard { (result ≡ ResetKind.Hard) ↔ (is_hard_reset self.now.entries (Port access.now) ≡ true) }
+    {
+        self.replay.reset_by(access)
     }
 
     /// What the board is fitted with, which is a setup that a board can have.

@@ -1,7 +1,7 @@
 //! A board that keeps no history: each step returns its entry.
 
-ghost use Rattle.std.specs.Prelude.{◌≡◌, ◌+◌, ◌<◌, ◌≤◌, ◌↔◌, ℕ, List, [], ◌∷◌, length, slice_index, Err, IfOk};
-ghost use Rattle.board_prelude.specs.Common.{Entry, most_mib, most_card_memory, entry_limit, IsCardList, IsDisk, IsRomSize, IsSetup, memory_of_cards, IsInRange, byte_of, map_change_of, version_of, IsFlatMapOf, disk_of};
+ghost use Rattle.std.specs.Prelude.{◌≡◌, ◌+◌, ◌<◌, ◌≤◌, ◌↔◌, ℕ, true, List, [], ◌∷◌, length, slice_index, Err, IfOk};
+ghost use Rattle.board_prelude.specs.Common.{Entry, Port, is_hard_reset, most_mib, most_card_memory, entry_limit, IsCardList, IsDisk, IsRomSize, IsSetup, memory_of_cards, IsInRange, byte_of, map_change_of, version_of, IsFlatMapOf, disk_of};
 ghost use Rattle.addr_decode.specs.MapRegs.{StandsFor, map_bytes};
 ghost use Rattle.dram_store.specs.Dram.{IsDramOf};
 ghost use Rattle.pci_bars.specs.Contents.{IsContentsOf};
@@ -10,7 +10,8 @@ ghost use Rattle.board_chipset.specs.Stores.{IsOfBoard, IsStoreOf};
 ghost use Rattle.board_core.specs.Kept.{HasPlayed};
 
 use addr_decode::MapChange;
-use board_chipset::{BoardOpen, Chipset, Setup, Store};
+use board_base::PortAccess;
+use board_chipset::{BoardOpen, Chipset, ResetKind, Setup, Store};
 use board_spec::limits::ACTORS;
 use board_spec::{Entry, Event};
 use map_builder::FlatMap;
@@ -103,6 +104,14 @@ impl Replay {
             → result ≡ map_change_of self.now.chipset.setup history event.now }
     {
         self.chipset.map_change(event)
+    }
+
+    /// The reset that an access at a port would make now.
+    pub fn reset_by(&self, access: &PortAccess) -> ResetKind
+        ensures hard { (history : List Entry) → HasPlayed self.now history
+            → (result ≡ ResetKind.Hard) ↔ (is_hard_reset history (Port access.now) ≡ true) }
+    {
+        self.chipset.reset_by(access)
     }
 
     /// What the board is fitted with, which is a setup that a board can have.

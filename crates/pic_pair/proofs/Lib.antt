@@ -1,3 +1,4 @@
+pub mod StateFormat
 mod LevelLemmas
 mod LineLemmas
 mod ChipLemmas

@@ -20,7 +20,7 @@ pub const CASCADE: u8 = 2;
 /// The level of lowest priority after a reset or ICW1.
 const LAST_LEVEL: u8 = 7;
 /// How many levels there are, IR0 to IR7.
-const LEVEL_COUNT: u8 = 8;
+pub const LEVEL_COUNT: u8 = 8;
 
 /// ICW1: the bit that marks it among the words of the even port.
 const ICW1: u32 = 4;
@@ -86,22 +86,22 @@ pub enum Awaited {
 /// One 8259A: its registers, the levels of its inputs and its modes.
 #[derive(Drop)]
 pub struct Pic {
-    has_slave: bool,
-    base: u8,
-    masked: LevelSet,
-    in_service: LevelSet,
-    latches: LevelSet,
-    inputs: LevelSet,
-    triggers: LevelSet,
-    awaited: Awaited,
-    is_ready: bool,
-    auto_eoi: bool,
-    fully_nested: bool,
-    rotates: bool,
-    special_mask: bool,
-    lowest: u8,
-    polls: bool,
-    reads_in_service: bool,
+    pub(crate) has_slave: bool,
+    pub(crate) base: u8,
+    pub(crate) masked: LevelSet,
+    pub(crate) in_service: LevelSet,
+    pub(crate) latches: LevelSet,
+    pub(crate) inputs: LevelSet,
+    pub(crate) triggers: LevelSet,
+    pub(crate) awaited: Awaited,
+    pub(crate) is_ready: bool,
+    pub(crate) auto_eoi: bool,
+    pub(crate) fully_nested: bool,
+    pub(crate) rotates: bool,
+    pub(crate) special_mask: bool,
+    pub(crate) lowest: u8,
+    pub(crate) polls: bool,
+    pub(crate) reads_in_service: bool,
 }
 
 impl Model for Pic {
@@ -211,6 +211,7 @@ impl Pic {
     pub fn read(&mut self, is_odd: bool) -> u8
         ensures byte { result ≡ byte_read self.old is_odd }
         ensures after { self.new ≡ chip_after_read self.old }
+        ensures wired { self.new.has_slave ≡ self.old.has_slave }
     {
         if self.polls {
             return self.poll();
@@ -228,6 +229,7 @@ impl Pic {
     #[tactic(auto, unfolding(device_spec::specs::Pic::chip_after_write))]
     pub fn write(&mut self, is_odd: bool, byte: u8)
         ensures written { self.new ≡ chip_after_write self.old is_odd byte }
+        ensures wired { self.new.has_slave ≡ self.old.has_slave }
     {
         if is_odd {
             self.write_odd(byte);
@@ -244,6 +246,7 @@ impl Pic {
     fn poll(&mut self) -> u8
         ensures byte { result ≡ byte_polled (interrupt self.old) }
         ensures after { self.new ≡ record (acknowledged_if self.old (interrupt self.old)) { polls = false } }
+        ensures wired { self.new.has_slave ≡ self.old.has_slave }
     {
         match self.interrupt() {
             Some(level) => {
@@ -376,6 +379,7 @@ impl Pic {
     fn operate(&mut self, command: u8, level: u8)
         requires { level < 8 }
         ensures operated { self.new ≡ chip_after_ocw2 self.old command level }
+        ensures wired { self.new.has_slave ≡ self.old.has_slave }
     {
         match command {
             NON_SPECIFIC_EOI => self.end(false, self.first_blocking()),
@@ -393,6 +397,7 @@ impl Pic {
     fn end(&mut self, rotates: bool, level: Option<u8>)
         requires { IfSome level (λ level. level < 8) }
         ensures ended { self.new ≡ ended rotates self.old level }
+        ensures wired { self.new.has_slave ≡ self.old.has_slave }
     {
         if let Some(level) = level {
             self.in_service.remove(level);
@@ -418,6 +423,7 @@ impl Pic {
     /// The word that is awaited, or else the mask.
     fn write_odd(&mut self, byte: u8)
         ensures written { self.new ≡ chip_after_odd_write self.old self.old.awaited byte }
+        ensures wired { self.new.has_slave ≡ self.old.has_slave }
     {
         match self.awaited {
             Awaited::Nothing => self.masked = LevelSet::from_byte(byte),

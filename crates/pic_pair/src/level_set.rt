@@ -1,5 +1,5 @@
 //! Sets of the eight levels of an interrupt controller, as bit masks.
-ghost use Rattle.std.specs.Prelude.{◌≡◌, ◌↔◌, ◌<◌, ◌&&◌, ◌||◌, not, true};
+ghost use Rattle.std.specs.Prelude.{◌≡◌, ◌↔◌, ◌<◌, ◌&&◌, ◌||◌, not, true, length};
 ghost use Rattle.device_spec.specs.Levels.{has, levels_where, no_levels, with_level, without_level, levels_of_byte, byte_of_levels};
 
 use board_base::bits::is_set;
@@ -41,6 +41,14 @@ impl LevelSet {
         ensures byte { result ≡ byte_of_levels self.now }
     {
         self.bits
+    }
+
+    /// Does nothing: its clause says that there are eight levels.
+    #[tactic(auto, unfolding(device_spec::specs::Levels::levels_where))]
+    pub fn has_eight(&self)
+        ensures eight { length self.now ≡ 8 }
+    {
+        let _ = &self.bits;
     }
 
     /// Whether the set has no level.

@@ -5,6 +5,8 @@ mod chip;
 mod level_set;
 mod lines;
 mod pair;
+mod state;
 
 pub use lines::Lines;
 pub use pair::{Ack, PicPair};
+pub use state::law_one_pair;

@@ -35,16 +35,19 @@ pub struct Ack {
 /// The 8259A pair: the master at ports 20h and 21h, and the slave at A0h and A1h on its input 2.
 #[derive(Drop)]
 pub struct PicPair {
-    master: Pic,
-    slave: Pic,
+    pub(crate) master: Pic,
+    pub(crate) slave: Pic,
 }
 
 impl Model for PicPair {
+    ghost use Rattle.std.specs.Prelude.{◌≡◌, true, false};
     ghost use Rattle.device_spec.specs.Pair.{Pair};
 
     ghost Value = { Pair };
 
     ghost view = { λ pair. record { master = pair.master; slave = pair.slave } };
+
+    ghost invariant = { λ pair. (pair.master.has_slave ≡ true) × (pair.slave.has_slave ≡ false) };
 }
 
 impl PicPair {
@@ -200,6 +203,7 @@ fn master_inputs(mut lines: LevelSet) -> LevelSet
 fn acknowledge_slave(slave: &mut Pic) -> Ack
     ensures answer { answer_shown result ≡ chip_answer 1 slave.old (interrupt slave.old) }
     ensures after { slave.new ≡ acknowledged_if slave.old (interrupt slave.old) }
+    ensures wired { slave.new.has_slave ≡ slave.old.has_slave }
 {
     match slave.interrupt() {
         Some(level) => {

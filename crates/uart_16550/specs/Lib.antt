@@ -3,7 +3,6 @@ pub mod Uart
 pub mod Reads
 pub mod Writes
 pub mod Com1
-pub mod Resets
 pub mod Serial
 pub mod OverChipset
 pub mod Calls

@@ -2,12 +2,11 @@
 
 ghost use Rattle.std.specs.Prelude.{◌≡◌, ◌+◌, ◌-◌, ◌≤◌, ◌∷◌, ℕ, List};
 ghost use Rattle.board_prelude.specs.Common.{Entry, Port, Setup, IsInRange, Event, Reply, next_entry, is_hard_reset};
-ghost use Rattle.uart_16550.specs.Resets.{is_reset};
 
 use board_base::PortAccess;
 use board_chipset::Chipset;
 use board_core::Board;
-use board_spec::{Event, MapChange, Reply};
+use board_spec::{Event, Reply};
 
 /// A board that does events, each in one step.
 pub trait SteppedBoard {
@@ -43,17 +42,6 @@ pub trait SteppedBoard {
     ghost fewer: { (board : Self) (n : ℕ) → has_room board (n + 1) → has_room board n };
 }
 
-/// Whether a change of the memory map is a hard reset.
-fn is_reset(change: Option<MapChange>) -> bool
-    ensures reset { result ≡ is_reset change }
-{
-    match change {
-        Some(MapChange::Reset) => true,
-        Some(MapChange::Store { .. }) => false,
-        None => false,
-    }
-}
-
 impl SteppedBoard for Board {
     ghost use Rattle.std.specs.Prelude.{◌≡◌, ◌≤◌, ℕ, List};
     ghost use Rattle.board_spec.specs.Answer.{IsAnswer};
@@ -72,7 +60,7 @@ impl SteppedBoard for Board {
     }
 
     fn resets_hard(&self, access: &PortAccess) -> bool {
-        is_reset(self.map_change(&Event::Port(*access)))
+        self.reset_by(access).is_hard()
     }
 
     ghost fewer = { λ board n room. le_trans (le-add_right n 1) room };

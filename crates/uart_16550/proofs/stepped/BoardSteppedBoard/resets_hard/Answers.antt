@@ -1,12 +1,14 @@
-use Rattle.std.proofs.Common.{ap, ◌∙◌}
-use Rattle.uart_16550.specs.Resets.{is_reset}
-use Rattle.uart_16550.proofs.Resets.{change_is_reset}
+use Rattle.board_spec.specs.declared.event.Event.TheVariants.{Port}
+use Rattle.board_spec.specs.Registers.{is_hard_reset}
+use Rattle.uart_16550.proofs.Resets.{same_when_true}
 use Rattle.uart_16550.proofs.stepped.BoardSteppedBoard.resets_hard.Goals as goal
 
 pub returns : goal.returns
 returns c = record {
   resets = λ history is.
       rw (← is)
-      (c.is_reset.ensures.reset ∙ (ap is_reset c.map_change.ensures.change
-      ∙ change_is_reset c.args.self.now.setup c.args.self.now.entries c.args.access.now));
+      (let kind = c.is_hard.ensures.hard in
+      let hard = c.reset_by.ensures.hard in
+      same_when_true c.is_hard.result (is_hard_reset c.args.self.now.entries (Port c.args.access.now))
+      (λ same. hard.0 (kind.0 same), λ same. kind.1 (hard.1 same)));
 }
