@@ -126,8 +126,8 @@ fn push_reply(text: &mut String, bytes: u32, reply: &Reply) -> Result<(), NoMemo
     }
 }
 
-/// Appends the number of a line, the processor, the number of its entry, and the kind, the size and the address of a wide
-/// access.
+/// Appends the number of a line, the processor and the number of its entry, and of a wide access the kind, the size and
+/// the address.
 fn push_place(text: &mut String, n: u64, entry: &Entry, access: &WideAccess) -> Result<(), NoMemory>
     ensures appended { OnOk result (AddsWords text.old text.new
         (decimal n ++ space ∷ decimal entry.now.actor ++ codes "." ++ decimal entry.now.seq ++ space
