@@ -17,7 +17,9 @@ static void asked(void) {
     FIELD(board_base, kind), FIELD(board_base, bits);
     RECORD(board_card);
     FIELD(board_card, device), FIELD(board_card, vga), FIELD(board_card, rom), FIELD(board_card, bases);
-    FIELD(board_card, base), FIELD(board_card, reserved);
+    FIELD(board_card, base), FIELD(board_card, class_code), FIELD(board_card, vendor_id), FIELD(board_card, device_id);
+    FIELD(board_card, subsystem_vendor_id), FIELD(board_card, subsystem_id), FIELD(board_card, revision_id);
+    FIELD(board_card, interrupt_pin), FIELD(board_card, reserved);
 }
 
 static void replied(void) {

@@ -19,7 +19,7 @@ extern "C" {
 #endif
 
 /* The version of this interface: the records and numbers of this file, and the calls. */
-#define BOARD_INTERFACE 3u
+#define BOARD_INTERFACE 4u
 /* That of the library: BOARD_INTERFACE where this file is its own. No handle, no refusal. */
 uint32_t board_version(void);
 
@@ -255,14 +255,25 @@ typedef struct board_base {
 } board_base;
 
 /* A PCI card. Bases past the count of bases are not read; reserved is 0. The memory bases of all
- * cards have at most 64 MiB together. */
+ * cards have at most 64 MiB together.
+ *
+ * The last fields are what the card says that it is: reads of its configuration data give them, and
+ * where a field is 0 what every card of this board has. Nothing else depends on them: whatever the
+ * pin says, the card's line is INTA# of its device (BOARD_WIRE). */
 typedef struct board_card {
     uint8_t device; /* its device number, 2 to 9 */
     uint8_t vga;    /* 1 for a VGA adapter, else 0 */
     uint8_t rom;    /* log2 of the bytes of its expansion ROM, 11 to 24, or 0 for none */
     uint8_t bases;  /* 0 to 6 */
     board_base base[6];
-    uint64_t reserved;
+    uint32_t class_code;          /* 09h: class, subclass, interface; 0 is 030000h or FF0000h */
+    uint16_t vendor_id;           /* 00h: 0 is A55Ah */
+    uint16_t device_id;           /* 02h: 0 is 01DDh with DD the device number */
+    uint16_t subsystem_vendor_id; /* 2Ch */
+    uint16_t subsystem_id;        /* 2Eh */
+    uint8_t revision_id;          /* 08h */
+    uint8_t interrupt_pin;        /* 3Dh: 1 to 4 for INTA# to INTD#; 0 is INTA# */
+    uint16_t reserved;
 } board_card;
 
 /* Opens a board with these cards, in rising order of device, over copies of the ROM's and the

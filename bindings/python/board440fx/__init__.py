@@ -9,7 +9,7 @@
 """
 from . import errors
 from .board import Board
-from .cards import Card
+from .cards import Card, Identity
 from .errors import BoardError, LibraryError
 from .events import Event
 from .library import INTERFACE
@@ -18,6 +18,6 @@ from .replies import Answer, Denial, Look, Part, Register, Reset, Target, Value
 from .script import Line, Script, ScriptError, replay
 
 __all__ = [
-    "INTERFACE", "Answer", "Board", "BoardError", "Card", "Denial", "Event", "LibraryError", "Line", "Look", "Map",
+    "INTERFACE", "Answer", "Board", "BoardError", "Card", "Denial", "Event", "Identity", "LibraryError", "Line", "Look", "Map",
     "Part", "Range", "Register", "Reset", "Script", "ScriptError", "Target", "Value", "Window", "errors", "replay",
 ]

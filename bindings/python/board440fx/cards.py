@@ -10,14 +10,36 @@ _FORM = re.compile(r"([0-9]{1,3}) (vga|plain)((?: [mi][0-9]{1,2})*)(?: x([0-9]{1
 
 
 @dataclass(frozen=True)
+class Identity:
+    """What a card says that it is, by the names of PCI Local Bus 2.1. A field of 0 says nothing: there the card has what
+    every card of this board has."""
+
+    vendor_id: int = 0
+    device_id: int = 0
+    class_code: int = 0
+    revision_id: int = 0
+    subsystem_vendor_id: int = 0
+    subsystem_id: int = 0
+    interrupt_pin: int = 0
+
+    def are_in_range(self) -> bool:
+        """Whether each field fits its bytes."""
+        words = self.vendor_id, self.device_id, self.subsystem_vendor_id, self.subsystem_id
+        fit = all(0 <= word <= 0xFFFF for word in words) and 0 <= self.class_code <= 0xFFFFFFFF
+        return fit and 0 <= self.revision_id <= 0xFF and 0 <= self.interrupt_pin <= 0xFF
+
+
+@dataclass(frozen=True)
 class Card:
     """A card as a script has it: `m24` is a base of 2 to the power of 24 bytes of memory, `i6` one of 64 ports, and
-    rom is log2 of the bytes of its expansion ROM, or 0. Whether a board can be fitted with it Board says."""
+    rom is log2 of the bytes of its expansion ROM, or 0. Its identity, of which a script says nothing, is what it says that
+    it is. Whether a board can be fitted with it Board says."""
 
     device: int
     vga: bool = False
     bases: tuple[str, ...] = ()
     rom: int = 0
+    identity: Identity = Identity()
 
     @staticmethod
     def parse(text: str) -> "Card":
@@ -31,10 +53,14 @@ class Card:
         """As board.h has it."""
         if any(re.fullmatch("[mi][0-9]{1,2}", base) is None for base in self.bases) or len(self.bases) > MOST_BASES:
             raise BadCards(self)
-        if not (0 <= self.device <= 0xFF and 0 <= self.rom <= 0xFF):
+        if not (0 <= self.device <= 0xFF and 0 <= self.rom <= 0xFF and self.identity.are_in_range()):
             raise BadCards(self)
         bases = [BaseRecord(_BASES[base[0]], int(base[1:])) for base in self.bases]
-        return CardRecord(self.device, self.vga, self.rom, len(bases), (BaseRecord * MOST_BASES)(*bases), 0)
+        of = self.identity
+        return CardRecord(
+            self.device, self.vga, self.rom, len(bases), (BaseRecord * MOST_BASES)(*bases), of.class_code, of.vendor_id,
+            of.device_id, of.subsystem_vendor_id, of.subsystem_id, of.revision_id, of.interrupt_pin, 0,
+        )
 
     def __str__(self) -> str:
         rom = [f"x{self.rom}"] if self.rom else []

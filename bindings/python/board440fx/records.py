@@ -130,7 +130,8 @@ class BaseRecord(c.Structure):
 
 class CardRecord(c.Structure):
     _fields_ = [("device", U8), ("vga", U8), ("rom", U8), ("bases", U8), ("base", BaseRecord * MOST_BASES),
-                ("reserved", U64)]
+                ("class_code", U32), ("vendor_id", U16), ("device_id", U16), ("subsystem_vendor_id", U16),
+                ("subsystem_id", U16), ("revision_id", U8), ("interrupt_pin", U8), ("reserved", U16)]
 
 
 RECORDS: dict[str, type[c.Structure]] = {

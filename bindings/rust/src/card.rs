@@ -58,12 +58,26 @@ pub struct Card {
     vga: bool,
     bases: Vec<Base>,
     rom: u8,
+    identity: Identity,
+}
+
+/// What a card says that it is, by the names of PCI Local Bus 2.1. A field of 0 says nothing: there the card has what
+/// every card of this board has. The class code has three bytes, and the pin is 1 to 4 for INTA# to INTD#.
+#[derive(Clone, Copy, Debug, Default, PartialEq, Eq, Hash)]
+pub struct Identity {
+    pub vendor_id: u16,
+    pub device_id: u16,
+    pub class_code: u32,
+    pub revision_id: u8,
+    pub subsystem_vendor_id: u16,
+    pub subsystem_id: u16,
+    pub interrupt_pin: u8,
 }
 
 impl Card {
     /// A plain card without bases at a device number, 2 to 9.
     pub fn new(device: u8) -> Card {
-        Card { device, vga: false, bases: Vec::new(), rom: 0 }
+        Card { device, vga: false, bases: Vec::new(), rom: 0, identity: Identity::default() }
     }
 
     /// The device number.
@@ -104,6 +118,13 @@ impl Card {
         self
     }
 
+    /// Says what it is, of which a script's line says nothing.
+    #[must_use]
+    pub fn identity(mut self, identity: Identity) -> Card {
+        self.identity = identity;
+        self
+    }
+
     /// The record; more bases than it has room for are counted, so that the board refuses them.
     pub(crate) fn record(&self) -> raw::Card {
         let mut base = [raw::Base::default(); raw::MOST_BASES];
@@ -111,7 +132,21 @@ impl Card {
             *record = base.record();
         }
         let bases = u8::try_from(self.bases.len()).unwrap_or(u8::MAX);
-        raw::Card { device: self.device, vga: u8::from(self.vga), rom: self.rom, bases, base, reserved: 0 }
+        raw::Card {
+            device: self.device,
+            vga: u8::from(self.vga),
+            rom: self.rom,
+            bases,
+            base,
+            class_code: self.identity.class_code,
+            vendor_id: self.identity.vendor_id,
+            device_id: self.identity.device_id,
+            subsystem_vendor_id: self.identity.subsystem_vendor_id,
+            subsystem_id: self.identity.subsystem_id,
+            revision_id: self.identity.revision_id,
+            interrupt_pin: self.identity.interrupt_pin,
+            reserved: 0,
+        }
     }
 }
 

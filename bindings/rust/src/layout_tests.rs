@@ -39,7 +39,8 @@ fn records() -> Vec<String> {
         record!("board" Handle: at open),
         record!("board_event" Event: value addr what kind bytes smm reserved),
         record!("board_base" Base: kind bits),
-        record!("board_card" Card: device vga rom bases base reserved),
+        record!("board_card" Card: device vga rom bases base class_code vendor_id device_id subsystem_vendor_id
+            subsystem_id revision_id interrupt_pin reserved),
         record!("board_part" Part: offset target unit base denial denial_dev denial_fun denial_off reserved),
         record!("board_reply" Reply: value version seen lo hi form has_value parts interrupt reset part sent has_sent
             irq4 serial_room reserved),

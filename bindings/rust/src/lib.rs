@@ -39,7 +39,7 @@ mod target;
 pub use access::{Kind, Moment, Value, Width};
 pub use board::Board;
 pub use builder::Builder;
-pub use card::{Base, Card};
+pub use card::{Base, Card, Identity};
 pub use com1::Com1;
 pub use error::Error;
 pub use event::Event;
@@ -49,4 +49,4 @@ pub use reply::{Answer, Look, Parts, Reply, Reset};
 pub use target::{Denial, Device, Part, Register, Target};
 
 /// The version of `board.h` that this crate is for: `build.rs` refuses a library of another.
-pub const INTERFACE: u32 = 3;
+pub const INTERFACE: u32 = 4;

@@ -170,7 +170,14 @@ pub(crate) struct Card {
     pub(crate) rom: u8,
     pub(crate) bases: u8,
     pub(crate) base: [Base; MOST_BASES],
-    pub(crate) reserved: u64,
+    pub(crate) class_code: u32,
+    pub(crate) vendor_id: u16,
+    pub(crate) device_id: u16,
+    pub(crate) subsystem_vendor_id: u16,
+    pub(crate) subsystem_id: u16,
+    pub(crate) revision_id: u8,
+    pub(crate) interrupt_pin: u8,
+    pub(crate) reserved: u16,
 }
 
 extern "C" {

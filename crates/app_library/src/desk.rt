@@ -1,6 +1,6 @@
 //! The board that is open, the cards for the next one, and the last event with its reply.
 
-use crate::words::{Numbers, card_of, event_of};
+use crate::words::{Numbers, card_of, event_of, identify};
 use crate::{calls, tell};
 use board_base::NoMemory;
 use board_records::status::OK;
@@ -36,12 +36,20 @@ impl Desk {
         let numbers = Numbers::of(self.alloc, line)?;
         match line.split(' ').next().unwrap_or("") {
             "card" => self.cards.push(card_of(&numbers))?,
+            "is" => self.identify(&numbers),
             "open" => self.open(out, &numbers)?,
             "close" => self.door = None,
             "text" => self.text(out, &numbers)?,
             verb => self.ask(out, verb, &numbers)?,
         }
         Ok(())
+    }
+
+    /// Gives the last card what a line says that it is.
+    fn identify(&mut self, numbers: &Numbers) {
+        if let Some(card) = self.cards.last_mut() {
+            identify(card, numbers);
+        }
     }
 
     /// Opens a board with the cards so far, in the place of the one before.

@@ -2,6 +2,7 @@
 //! through `Door`, as those of `board_c` do, and the lines of a log through `record_text`. All numbers are hexadecimal.
 //!
 //!     card DEVICE VGA ROM BASES RESERVED [KIND BITS]..       one more card for the next open
+//!     is VENDOR DEVICE CLASS REVISION SUBVENDOR SUBSYSTEM PIN   what the last card says that it is
 //!     open MIB ROM DISK                                      a board, with a ROM and a disk of so many bytes
 //!     close                                                  ends it
 //!     step WHAT KIND ADDR BYTES SMM VALUE RESERVED           an event

@@ -64,6 +64,11 @@ impl Numbers {
         (self.long(index) % 0x1_0000_0000) as u32
     }
 
+    /// Its low 16 bits.
+    pub fn word(&self, index: usize) -> u16 {
+        (self.long(index) % 0x1_0000) as u16
+    }
+
     /// Its low 8 bits.
     pub fn byte(&self, index: usize) -> u8 {
         (self.long(index) % 0x100) as u8
@@ -98,6 +103,18 @@ pub fn card_of(numbers: &Numbers) -> CardRecord {
         rom: numbers.byte(2),
         bases: numbers.byte(3),
         base,
-        reserved: numbers.long(4),
+        reserved: numbers.word(4),
+        ..CardRecord::default()
     }
+}
+
+/// Gives a card what a line says that it is.
+pub fn identify(card: &mut CardRecord, numbers: &Numbers) {
+    card.vendor_id = numbers.word(0);
+    card.device_id = numbers.word(1);
+    card.class_code = numbers.number(2);
+    card.revision_id = numbers.byte(3);
+    card.subsystem_vendor_id = numbers.word(4);
+    card.subsystem_id = numbers.word(5);
+    card.interrupt_pin = numbers.byte(6);
 }

@@ -1,7 +1,7 @@
 //! What C asks of a board between two steps: the board stays as it is.
 
 ghost use Rattle.std.specs.Prelude.{◌≡◌, ◌≢◌, true, false, IsSomeAnd};
-ghost use Rattle.board_records.specs.Common.{asked_said, AreRangesTold, AreWindowsTold, IsVersionSaid, IsAskedPlace, IsNotPlaced, IsRiseTold, ok, closed};
+ghost use Rattle.board_records.specs.Common.{AreRangesTold, AreWindowsTold, IsAskedPlace, IsNotPlaced, IsRiseTold, IsVersionSaid, OnBoard, asked_said, closed, ok};
 
 use crate::handle::Handle;
 use board_records::status::{CLOSED, OK};
@@ -22,11 +22,11 @@ pub extern "C" fn board_ranges(
     ensures unchanged { handle.old.full ≡ true → handle.new.held ≡ handle.old.held }
     ensures closed { handle.old.full ≡ false → result ≡ closed }
     ensures open { handle.old.full ≡ true → result ≡ ok }
-    ensures version { result ≡ ok → IsSomeAnd handle.old.held (λ serial. IsVersionSaid serial.board map.new.version) }
-    ensures mib { result ≡ ok → IsSomeAnd handle.old.held (λ serial. map.new.mib ≡ serial.board.setup.mib) }
-    ensures ranges { result ≡ ok → IsSomeAnd handle.old.held
+    ensures version { result ≡ ok → OnBoard handle.old.held (λ serial. IsVersionSaid serial.board map.new.version) }
+    ensures mib { result ≡ ok → OnBoard handle.old.held (λ serial. map.new.mib ≡ serial.board.setup.mib) }
+    ensures ranges { result ≡ ok → OnBoard handle.old.held
         (λ serial. AreRangesTold serial.board map.new.ranges ranges.old ranges.new) }
-    ensures windows { result ≡ ok → IsSomeAnd handle.old.held
+    ensures windows { result ≡ ok → OnBoard handle.old.held
         (λ serial. AreWindowsTold serial.board map.new.windows windows.old windows.new) }
     ensures no_map { result ≢ ok → map.new ≡ map.old }
     ensures no_ranges { result ≢ ok → ranges.new ≡ ranges.old }
@@ -53,10 +53,10 @@ pub extern "C" fn board_decode(
     ensures unchanged { handle.old.full ≡ true → handle.new.held ≡ handle.old.held }
     ensures closed { handle.old.full ≡ false → result ≡ closed }
     ensures open { handle.old.full ≡ true → result ≢ closed }
-    ensures done { result ≡ ok → IsSomeAnd handle.old.held
+    ensures done { result ≡ ok → OnBoard handle.old.held
         (λ serial. IsSomeAnd (asked_said event.now) (IsAskedPlace serial.board part.new)) }
     ensures refused { handle.old.full ≡ true → result ≢ ok
-        → IsSomeAnd handle.old.held (λ serial. IsNotPlaced serial.board (asked_said event.now) result) }
+        → OnBoard handle.old.held (λ serial. IsNotPlaced serial.board (asked_said event.now) result) }
     ensures untold { result ≢ ok → part.new ≡ part.old }
 {
     let Some(board) = handle.take(alloc) else {
@@ -75,7 +75,7 @@ pub extern "C" fn board_pulses_to_rise(alloc: Global, handle: &mut Handle, pulse
     ensures unchanged { handle.old.full ≡ true → handle.new.held ≡ handle.old.held }
     ensures closed { handle.old.full ≡ false → result ≡ closed }
     ensures open { handle.old.full ≡ true → result ≡ ok }
-    ensures rise { result ≡ ok → IsSomeAnd handle.old.held (λ serial. IsRiseTold serial.board pulses.new) }
+    ensures rise { result ≡ ok → OnBoard handle.old.held (λ serial. IsRiseTold serial.board pulses.new) }
     ensures untold { result ≢ ok → pulses.new ≡ pulses.old }
 {
     let Some(board) = handle.take(alloc) else {

@@ -1,8 +1,8 @@
 //! The bytes of a board, out and in.
 
-ghost use Rattle.std.specs.Prelude.{◌≡◌, ◌≢◌, ◌+◌, ◌<◌, ◌≤◌, length, true, false, IsSomeAnd};
+ghost use Rattle.std.specs.Prelude.{◌≡◌, ◌≢◌, ◌+◌, ◌<◌, ◌≤◌, length, true, false};
 ghost use Rattle.board_spec.specs.Setup.{installed};
-ghost use Rattle.board_records.specs.Common.{clock_bytes, IsDramTold, IsSectorTold, IsSectorRefusal, IsClockByte, IsDramWritten, IsClockWritten, OnBoth, ok, closed, no_byte, past_end};
+ghost use Rattle.board_records.specs.Common.{IsClockByte, IsClockWritten, IsDramTold, IsDramWritten, IsSectorRefusal, IsSectorTold, OnBoard, OnBoth, clock_bytes, closed, no_byte, ok, past_end};
 
 use crate::handle::Handle;
 use board_records::status::{CLOSED, OK};
@@ -21,7 +21,7 @@ pub extern "C" fn board_dram_read(
     ensures unchanged { handle.old.full ≡ true → handle.new.held ≡ handle.old.held }
     ensures closed { handle.old.full ≡ false → result ≡ closed }
     ensures open { handle.old.full ≡ true → result ≡ ok }
-    ensures told { result ≡ ok → IsSomeAnd handle.old.held (λ serial. IsDramTold serial.board addr into.old into.new) }
+    ensures told { result ≡ ok → OnBoard handle.old.held (λ serial. IsDramTold serial.board addr into.old into.new) }
     ensures untold { result ≢ ok → into.new ≡ into.old }
 {
     let Some(board) = handle.take(alloc) else {
@@ -45,9 +45,9 @@ pub extern "C" fn board_disk_read(
     ensures unchanged { handle.old.full ≡ true → handle.new.held ≡ handle.old.held }
     ensures closed { handle.old.full ≡ false → result ≡ closed }
     ensures open { handle.old.full ≡ true → result ≢ closed }
-    ensures done { result ≡ ok → IsSomeAnd handle.old.held (λ serial. IsSectorTold serial.board sector into.new) }
+    ensures done { result ≡ ok → OnBoard handle.old.held (λ serial. IsSectorTold serial.board sector into.new) }
     ensures refused { handle.old.full ≡ true → result ≢ ok
-        → IsSomeAnd handle.old.held (λ serial. IsSectorRefusal serial.board sector (length into.old) result) }
+        → OnBoard handle.old.held (λ serial. IsSectorRefusal serial.board sector (length into.old) result) }
     ensures untold { result ≢ ok → into.new ≡ into.old }
 {
     let Some(board) = handle.take(alloc) else {
@@ -71,7 +71,7 @@ pub extern "C" fn board_cmos_read(
     ensures unchanged { handle.old.full ≡ true → handle.new.held ≡ handle.old.held }
     ensures closed { handle.old.full ≡ false → result ≡ closed }
     ensures open { handle.old.full ≡ true → result ≢ closed }
-    ensures done { result ≡ ok → IsSomeAnd handle.old.held (λ serial. IsClockByte serial.board address byte.new) }
+    ensures done { result ≡ ok → OnBoard handle.old.held (λ serial. IsClockByte serial.board address byte.new) }
     ensures within { result ≡ ok → address < clock_bytes }
     ensures refused { handle.old.full ≡ true → result ≢ ok → (result ≡ no_byte) × (clock_bytes ≤ address) }
     ensures untold { result ≢ ok → byte.new ≡ byte.old }
@@ -98,7 +98,7 @@ pub extern "C" fn board_dram_write(
     ensures open { handle.old.full ≡ true → result ≢ closed }
     ensures done { result ≡ ok
         → OnBoth handle.old.held handle.new.held (λ old new. IsDramWritten old new addr from.now) }
-    ensures refused { handle.old.full ≡ true → result ≢ ok → IsSomeAnd handle.old.held
+    ensures refused { handle.old.full ≡ true → result ≢ ok → OnBoard handle.old.held
         (λ serial. (result ≡ past_end) × (installed serial.board.setup < addr + length from.now)) }
     ensures unchanged { handle.old.full ≡ true → result ≢ ok → handle.new.held ≡ handle.old.held }
 {

@@ -1,7 +1,7 @@
 //! The functions that C calls. One call at a time is inside a handle, and its pointers are good: what the caller owes.
 
 ghost use Rattle.std.specs.Prelude.{◌≡◌, ◌≢◌, true, false, IsSomeAnd};
-ghost use Rattle.board_records.specs.Common.{IsOpenedWith, IsOpenRefusal, OnBoth, setup_said, asked_said, ok, closed, IsEventRefusal, IsAskedStep};
+ghost use Rattle.board_records.specs.Common.{IsDoorStep, IsEventRefusal, IsOpenRefusal, IsOpenedWith, OnBoard, asked_said, closed, identities_said, ok, setup_said};
 
 use crate::handle::Handle;
 use board_records::status::{CLOSED, NO_MEMORY, OK};
@@ -19,8 +19,10 @@ pub extern "C" fn board_open(
     rom: &[u8],
     disk: &[u8],
 ) -> u32
-    ensures done { result ≡ ok → (handle.new.full ≡ true) × IsSomeAnd handle.new.held
+    ensures done { result ≡ ok → (handle.new.full ≡ true) × OnBoard handle.new.held
         (λ serial. IsSomeAnd (setup_said mib cards.now rom.now disk.now) (IsOpenedWith serial)) }
+    ensures identities { result ≡ ok → IsSomeAnd handle.new.held
+        (λ behind. behind.identities ≡ identities_said cards.now) }
     ensures twice { handle.old.full ≡ true → result ≡ closed }
     ensures held { handle.old.full ≡ true → handle.new.held ≡ handle.old.held }
     ensures refused { handle.old.full ≡ false → result ≢ ok
@@ -55,9 +57,9 @@ pub extern "C" fn board_step(
     ensures closed { handle.old.full ≡ false → result ≡ closed }
     ensures open { handle.old.full ≡ true → result ≢ closed }
     ensures done { result ≡ ok → IsSomeAnd (asked_said event.now)
-        (λ asked. OnBoth handle.old.held handle.new.held (λ old new. IsAskedStep old new reply.new asked)) }
+        (IsDoorStep handle.old.held handle.new.held event.now reply.new) }
     ensures refused { handle.old.full ≡ true → result ≢ ok
-        → IsSomeAnd handle.old.held (λ serial. IsEventRefusal serial (asked_said event.now) result) }
+        → OnBoard handle.old.held (λ serial. IsEventRefusal serial (asked_said event.now) result) }
     ensures unchanged { handle.old.full ≡ true → result ≢ ok → handle.new.held ≡ handle.old.held }
     ensures untold { result ≢ ok → reply.new ≡ reply.old }
 {

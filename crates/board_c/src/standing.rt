@@ -1,7 +1,7 @@
 //! One second of the clock; and what stands of the interrupt lines and of the serial port.
 
-ghost use Rattle.std.specs.Prelude.{◌≡◌, ◌≢◌, true, false, IsSomeAnd};
-ghost use Rattle.board_records.specs.Common.{AreLinesTold, HasNoSecond, IsSecondStep, OnBoth, serial_state_said, ok, closed, no_time};
+ghost use Rattle.std.specs.Prelude.{◌≡◌, ◌≢◌, true, false};
+ghost use Rattle.board_records.specs.Common.{AreLinesTold, HasNoSecond, IsSecondStep, OnBoard, OnBoth, closed, no_time, ok, serial_state_said};
 
 use crate::handle::Handle;
 use board_records::status::{CLOSED, OK};
@@ -24,7 +24,7 @@ pub extern "C" fn board_second(
     ensures done { result ≡ ok
         → OnBoth handle.old.held handle.new.held (λ old new. IsSecondStep old new event.new reply.new) }
     ensures refused { handle.old.full ≡ true → result ≢ ok
-        → IsSomeAnd handle.old.held (λ serial. (result ≡ no_time) × HasNoSecond serial.board) }
+        → OnBoard handle.old.held (λ serial. (result ≡ no_time) × HasNoSecond serial.board) }
     ensures unchanged { handle.old.full ≡ true → result ≢ ok → handle.new.held ≡ handle.old.held }
     ensures no_event { result ≢ ok → event.new ≡ event.old }
     ensures untold { result ≢ ok → reply.new ≡ reply.old }
@@ -45,7 +45,7 @@ pub extern "C" fn board_lines(alloc: Global, handle: &mut Handle, lines: &mut u1
     ensures unchanged { handle.old.full ≡ true → handle.new.held ≡ handle.old.held }
     ensures closed { handle.old.full ≡ false → result ≡ closed }
     ensures open { handle.old.full ≡ true → result ≡ ok }
-    ensures told { result ≡ ok → IsSomeAnd handle.old.held (λ serial. AreLinesTold serial.board lines.new) }
+    ensures told { result ≡ ok → OnBoard handle.old.held (λ serial. AreLinesTold serial.board lines.new) }
     ensures untold { result ≢ ok → lines.new ≡ lines.old }
 {
     let Some(board) = handle.take(alloc) else {
@@ -68,7 +68,7 @@ pub extern "C" fn board_serial_state(
     ensures closed { handle.old.full ≡ false → result ≡ closed }
     ensures open { handle.old.full ≡ true → result ≡ ok }
     ensures told { result ≡ ok
-        → IsSomeAnd handle.old.held (λ serial. state.new ≡ serial_state_said serial.com1) }
+        → OnBoard handle.old.held (λ serial. state.new ≡ serial_state_said serial.com1) }
     ensures untold { result ≢ ok → state.new ≡ state.old }
 {
     let Some(board) = handle.take(alloc) else {

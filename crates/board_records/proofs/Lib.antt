@@ -6,3 +6,4 @@ pub mod Cycles
 pub mod Openings
 pub mod Lines
 pub mod Digits
+pub mod Identities

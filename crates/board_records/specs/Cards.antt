@@ -1,6 +1,9 @@
--- Which cards some records say: none where a number of one names nothing.
-use Rattle.std.specs.Prelude.{ℕ, ◌==◌, nat_le, ◌&&◌, if◌then◌else◌, List, [], ◌∷◌, take, Option, Some, None, option_map, option_and_then}
+-- Which cards some records say, none where a number of one names nothing; and what these say that they are.
+use Rattle.std.specs.Prelude.{ℕ, ◌==◌, nat_le, Bool, ◌&&◌, if◌then◌else◌, List, [], ◌∷◌, take, Option, Some, None, option_map, option_and_then}
 use Rattle.board_spec.specs.Setup.{Base, MemoryBase, IoBase, FittedCard}
+use Rattle.card_identity.specs.declared.identity.Identity.{Identity}
+use Rattle.card_identity.specs.declared.identity.FittedIdentity.{FittedIdentity}
+use Rattle.card_identity.specs.Header.{is_blank}
 use Rattle.board_records.specs.declared.card.BaseRecord.{BaseRecord}
 use Rattle.board_records.specs.declared.card.CardRecord.{CardRecord}
 use Rattle.board_records.specs.Numbers.{memory_base, io_base, most_bases}
@@ -23,11 +26,37 @@ rom_said bits = if bits == 0 then None else Some bits
 abbrev pub card_with : CardRecord → List Base → FittedCard
 card_with said bases = record { dev = said.device; vga = said.vga == 1; bases = bases; rom = rom_said said.rom }
 
--- what is kept for later versions is 0, the flag of a VGA adapter 0 or 1, and there are at most six bases
+-- what is kept for later versions is 0, the flag of a VGA adapter 0 or 1, there are at most six bases, a class code has
+-- three bytes, and a pin is INTA# to INTD#, or none is said
+abbrev pub is_plain : CardRecord → Bool
+is_plain said =
+    (said.reserved == 0) && nat_le said.vga 1 && nat_le said.bases most_bases && nat_le said.class_code 0xFF_FFFF &&
+    nat_le said.interrupt_pin 4
+
 unfoldable pub card_said : CardRecord → Option FittedCard
 card_said said =
-    if (said.reserved == 0) && nat_le said.vga 1 && nat_le said.bases most_bases
+    if is_plain said
     then option_map (card_with said) (all_said base_said (take said.bases said.base)) else None
 
 abbrev pub cards_said : List CardRecord → Option (List FittedCard)
 cards_said records = all_said card_said records
+
+-- ---- what the cards say that they are
+
+abbrev pub identity_said : CardRecord → Identity
+identity_said said = record {
+  vendor_id = said.vendor_id;
+  device_id = said.device_id;
+  revision_id = said.revision_id;
+  class_code = said.class_code;
+  subsystem_vendor_id = said.subsystem_vendor_id;
+  subsystem_id = said.subsystem_id;
+  interrupt_pin = said.interrupt_pin;
+}
+
+-- of the cards that say something
+abbrev pub identities_said : List CardRecord → List FittedIdentity
+identities_said [] = []
+identities_said (said ∷ later) =
+    if is_blank (identity_said said) then identities_said later
+    else record { dev = said.device; identity = identity_said said } ∷ identities_said later

@@ -1,6 +1,7 @@
 -- The definitions that files above cite, passed on from one place. Declares nothing.
 pub use Rattle.board_records.specs.Bytes.{IsClockByte, IsClockWritten, IsDramTold, IsDramWritten, IsSectorRefusal, IsSectorTold, clock_bytes}
-pub use Rattle.board_records.specs.Doors.{IsOpenRefusal, IsOpenedWith, IsSetupRefusal, OnBoth, setup_said}
+pub use Rattle.board_records.specs.Cards.{identities_said}
+pub use Rattle.board_records.specs.Doors.{Behind, IsDoorStep, IsOpenRefusal, IsOpenedWith, IsSetupRefusal, OnBoard, OnBoth, setup_said}
 unfoldable pub use Rattle.board_records.specs.Events.{asked_said, event_said}
 pub use Rattle.board_records.specs.Maps.{AreRangesTold, AreWindowsTold, IsVersionSaid}
 pub use Rattle.board_records.specs.Numbers.{device_number}

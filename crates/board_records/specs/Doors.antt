@@ -4,8 +4,13 @@ use Rattle.board_spec.specs.Setup.{Setup, IsSetup}
 use Rattle.board_chipset.specs.declared.check.SetupFault.{SetupFault}
 use Rattle.board_chipset.specs.Common.{Running, IsLeftBy, IsSetupFault}
 use Rattle.uart_16550.specs.Common.{com1_at_reset, Serial}
+use Rattle.uart_16550.specs.declared.com1.Happening.{Happening}
+use Rattle.card_identity.specs.declared.identity.FittedIdentity.{FittedIdentity}
 use Rattle.board_records.specs.declared.card.CardRecord.{CardRecord}
+use Rattle.board_records.specs.declared.event.EventRecord.{EventRecord}
+use Rattle.board_records.specs.declared.reply.ReplyRecord.{ReplyRecord}
 use Rattle.board_records.specs.Cards.{cards_said}
+use Rattle.board_records.specs.Identified.{IsIdentifiedStep}
 use Rattle.board_records.specs.Statuses.{no_memory, bad_cards, setup_status}
 
 -- the disk that these bytes are: none where there are none
@@ -36,7 +41,29 @@ IsOpenRefusal None status = status ≡ bad_cards
 IsOpenRefusal (Some setup) status =
     IsSetupRefusal (Some setup) status ⊎ ((status ≡ no_memory) × IsSetup setup)
 
--- both hold a chipset, and something holds of them
-abbrev pub OnBoth : Option (Serial Running) → Option (Serial Running) → (Serial Running → Serial Running → Type 0) → Type 0
-OnBoth (Some old) (Some new) P = P old new
+-- ---- what stands behind a door
+
+-- a chipset with a serial port, and what its cards say that they are
+pub record Behind : Type 0 where
+  pub serial : Serial Running
+  pub identities : List FittedIdentity
+
+-- there is a chipset, and something holds of it
+abbrev pub OnBoard : Option Behind → (Serial Running → Type 0) → Type 0
+OnBoard None P = ⊥
+OnBoard (Some behind) P = P behind.serial
+
+-- there is one before and after, of the same cards, and something holds of them
+pub record IsGoneOn (P : Serial Running → Serial Running → Type 0) (old new : Behind) : Type 0 where
+  pub same : new.identities ≡ old.identities
+  pub holds : P old.serial new.serial
+
+abbrev pub OnBoth : Option Behind → Option Behind → (Serial Running → Serial Running → Type 0) → Type 0
+OnBoth (Some old) (Some new) P = IsGoneOn P old new
 OnBoth _ _ P = ⊥
+
+-- a step, with the identities' bytes in its reply
+abbrev pub IsDoorStep : Option Behind → Option Behind → EventRecord → ReplyRecord → Happening → Type 0
+IsDoorStep (Some old) (Some new) event said asked =
+    IsGoneOn (λ o n. IsIdentifiedStep old.identities o n event said asked) old new
+IsDoorStep _ _ event said asked = ⊥

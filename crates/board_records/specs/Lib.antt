@@ -4,6 +4,7 @@ pub mod Replies
 pub mod Statuses
 pub mod Steps
 pub mod Cards
+pub mod Identified
 pub mod Doors
 pub mod Maps
 pub mod Places

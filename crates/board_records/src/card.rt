@@ -2,10 +2,11 @@
 
 ghost use Rattle.std.specs.Prelude.{◌≡◌, ◌≤◌, length, map, IfOk, is_some, option_map};
 ghost use Rattle.pci_bars.specs.Bases.{base_of as fitted_base};
-ghost use Rattle.board_records.specs.Cards.{all_said, base_said, rom_said, card_said, cards_said};
+ghost use Rattle.board_records.specs.Cards.{all_said, base_said, rom_said, is_plain, card_said, cards_said, identity_said, identities_said};
 
 use crate::numbers::{IO_BASE, MEMORY_BASE};
 use arrayvec::ArrayVec;
+use card_identity::{FittedIdentity, Identity};
 use pci_bars::{BASE_COUNT, BaseSpec, CardSpec};
 use std::alloc::{AllocError, Global};
 
@@ -17,8 +18,15 @@ pub struct BaseRecord {
     pub bits: u8,
 }
 
+/// The largest class code: class, subclass and programming interface, a byte each.
+const MOST_CLASS: u32 = 0xFF_FFFF;
+
+/// The pin of INTD#, the last one.
+const LAST_PIN: u8 = 4;
+
 /// A PCI card: its device number, 1 for a VGA adapter, log2 of the size of its expansion ROM or 0 for none, how many
-/// bases it has, and these. Bases past that count are not read. `reserved` is 0.
+/// bases it has, and these, of which those past that count are not read; and what it says that it is, as `Identity` has it,
+/// the class in 24 bits and the pin 0 to 4. `reserved` is 0.
 #[repr(C)]
 #[derive(Clone, Copy, PartialEq, Eq, Debug, Default)]
 pub struct CardRecord {
@@ -27,7 +35,14 @@ pub struct CardRecord {
     pub rom: u8,
     pub bases: u8,
     pub base: [BaseRecord; 6],
-    pub reserved: u64,
+    pub class_code: u32,
+    pub vendor_id: u16,
+    pub device_id: u16,
+    pub subsystem_vendor_id: u16,
+    pub subsystem_id: u16,
+    pub revision_id: u8,
+    pub interrupt_pin: u8,
+    pub reserved: u16,
 }
 
 /// Whether each record says a card.
@@ -73,11 +88,22 @@ pub fn cards_of(alloc: Global, records: &[CardRecord]) -> Result<Option<Vec<Card
     Ok(Some(cards))
 }
 
+/// Whether what is kept for later versions is 0, and each of the other numbers in its range.
+fn is_plain(record: &CardRecord) -> bool
+    ensures plain { result ≡ is_plain record.now }
+{
+    record.reserved == 0
+        && record.vga <= 1
+        && usize::from(record.bases) <= BASE_COUNT
+        && record.class_code <= MOST_CLASS
+        && record.interrupt_pin <= LAST_PIN
+}
+
 #[tactic(auto, unfolding(crate::specs::Cards::card_said))]
 fn card_of(record: &CardRecord) -> Option<CardSpec>
     ensures said { result ≡ card_said record.now }
 {
-    if record.reserved != 0 || record.vga > 1 || usize::from(record.bases) > BASE_COUNT {
+    if !is_plain(record) {
         return None;
     }
     match bases_of(&record.base[..usize::from(record.bases)]) {
@@ -122,4 +148,37 @@ fn rom_of(bits: u8) -> Option<u8>
     ensures said { result ≡ rom_said bits }
 {
     if bits == 0 { None } else { Some(bits) }
+}
+
+/// What the cards say that they are, of at most eight records: those of which a field is not 0.
+#[tactic(auto, using(crate::proofs::Identities::identities_next))]
+pub(crate) fn identities_of(records: &[CardRecord]) -> ArrayVec<FittedIdentity, 8>
+    requires few { length records.now ≤ 8 }
+    ensures said { result.items ≡ identities_said records.now }
+{
+    let mut identities = ArrayVec::new();
+    for record in records {
+        let identity = identity_of(record);
+        if !identity.is_blank() {
+            identities.push(FittedIdentity {
+                dev: record.device,
+                identity,
+            });
+        }
+    }
+    identities
+}
+
+fn identity_of(record: &CardRecord) -> Identity
+    ensures said { result ≡ identity_said record.now }
+{
+    Identity {
+        vendor_id: record.vendor_id,
+        device_id: record.device_id,
+        revision_id: record.revision_id,
+        class_code: record.class_code,
+        subsystem_vendor_id: record.subsystem_vendor_id,
+        subsystem_id: record.subsystem_id,
+        interrupt_pin: record.interrupt_pin,
+    }
 }

@@ -3,19 +3,20 @@
 ghost use Rattle.std.specs.Prelude.{◌≡◌, ◌≢◌, ◌+◌, ◌<◌, ◌≤◌, length, IfOk, IfErr, IsSomeAnd};
 ghost use Rattle.board_spec.specs.Setup.{installed};
 ghost use Rattle.board_records.specs.Bytes.{clock_bytes, IsDramTold, IsSectorTold, IsSectorRefusal, IsClockByte, IsDramWritten, IsClockWritten};
-ghost use Rattle.board_records.specs.Doors.{IsOpenedWith, IsOpenRefusal, OnBoth, setup_said};
+ghost use Rattle.board_records.specs.Doors.{IsDoorStep, IsOpenedWith, IsOpenRefusal, OnBoard, OnBoth, setup_said};
+ghost use Rattle.board_records.specs.Cards.{identities_said};
 ghost use Rattle.board_records.specs.Events.{asked_said};
 ghost use Rattle.board_records.specs.Maps.{AreRangesTold, AreWindowsTold, IsVersionSaid};
 ghost use Rattle.board_records.specs.Places.{IsAskedPlace, IsNotPlaced, IsRiseTold};
 ghost use Rattle.board_records.specs.Seconds.{IsSecondStep, HasNoSecond};
 ghost use Rattle.board_records.specs.Standing.{AreLinesTold, serial_state_said};
 ghost use Rattle.board_records.specs.Statuses.{ok, closed, no_byte, no_time, past_end, IsEventRefusal};
-ghost use Rattle.board_records.specs.Steps.{IsAskedStep};
 
 use crate::bytes::{tell_clock_byte, tell_dram, tell_sector};
 use crate::calls::step;
-use crate::card::CardRecord;
+use crate::card::{CardRecord, identities_of};
 use crate::event::EventRecord;
+use crate::identified::identified_step;
 use crate::map::{MapRecord, RangeRecord, WindowRecord, tell_map};
 use crate::opening::open;
 use crate::place::{tell_place, tell_rise};
@@ -23,26 +24,28 @@ use crate::reply::{PartRecord, ReplyRecord};
 use crate::second::second;
 use crate::standing::{SerialRecord, tell_lines, tell_serial};
 use crate::write::{write_clock_byte, write_dram};
+use arrayvec::ArrayVec;
 use board_chipset::Chipset;
+use card_identity::FittedIdentity;
 use std::alloc::Global;
 use std::marker::Model;
 use uart_16550::SerialBoard;
 
-/// A chipset with a serial port on COM1 whose calls are in numbers. Contracts see it as some: what holds none has the value
-/// None.
+/// A chipset with a serial port on COM1, and cards that say what they are, whose calls are in numbers. Contracts see it as
+/// some: what holds none has the value None.
 #[derive(Drop)]
 pub struct Door {
     serial: SerialBoard<Chipset>,
+    identities: ArrayVec<FittedIdentity, 8>,
 }
 
 impl Model for Door {
     ghost use Rattle.std.specs.Prelude.{Option, Some};
-    ghost use Rattle.board_chipset.specs.Chipset.{Running};
-    ghost use Rattle.uart_16550.specs.Serial.{Serial};
+    ghost use Rattle.board_records.specs.Doors.{Behind};
 
-    ghost Value = { Option (Serial Running) };
+    ghost Value = { Option Behind };
 
-    ghost view = { λ door. Some door.serial };
+    ghost view = { λ door. Some (record { serial = door.serial; identities = door.identities.items }) };
 }
 
 impl Door {
@@ -57,28 +60,37 @@ impl Door {
         rom: &[u8],
         disk: &[u8],
     ) -> Result<Door, u32>
-        ensures fresh { IfOk result (λ door. IsSomeAnd door
+        ensures fresh { IfOk result (λ door. OnBoard door
             (λ serial. IsSomeAnd (setup_said mib cards.now rom.now disk.now) (IsOpenedWith serial))) }
+        ensures identities { IfOk result (λ door. IsSomeAnd door
+            (λ behind. behind.identities ≡ identities_said cards.now)) }
         ensures refused { IfErr result (IsOpenRefusal (setup_said mib cards.now rom.now disk.now)) }
     {
-        Ok(Door {
-            serial: open(alloc, mib, cards, rom, disk)?,
-        })
+        match open(alloc, mib, cards, rom, disk) {
+            Ok(serial) => Ok(Door {
+                serial,
+                identities: identities_of(cards),
+            }),
+            Err(status) => Err(status),
+        }
     }
 
-    /// Does what a record asks, and tells the reply by another. Refused with why where the record asks nothing
-    /// (`NO_EVENT`), an event that is out of range, or a byte for which COM1 has no room (`SERIAL_FULL`); then nothing has
-    /// changed.
+    /// Does what a record asks, and tells the reply by another: the chipset's, in which a read of configuration data has
+    /// the bytes of the card's identity. Refused with why where the record asks nothing (`NO_EVENT`), an event that is out
+    /// of range, or a byte for which COM1 has no room (`SERIAL_FULL`); then nothing has changed.
     pub fn step(&mut self, event: &EventRecord, reply: &mut ReplyRecord) -> u32
         ensures done { result ≡ ok → IsSomeAnd (asked_said event.now)
-            (λ asked. OnBoth self.old self.new (λ old new. IsAskedStep old new reply.new asked)) }
+            (IsDoorStep self.old self.new event.now reply.new) }
         ensures refused { result ≢ ok
-            → IsSomeAnd self.old (λ serial. IsEventRefusal serial (asked_said event.now) result) }
+            → OnBoard self.old (λ serial. IsEventRefusal serial (asked_said event.now) result) }
         ensures unchanged { result ≢ ok → self.new ≡ self.old }
         ensures untold { result ≢ ok → reply.new ≡ reply.old }
         ensures open { result ≢ closed }
     {
-        step(&mut self.serial, event, reply)
+        if self.identities.is_empty() {
+            return step(&mut self.serial, event, reply);
+        }
+        identified_step(&mut self.serial, &self.identities, event, reply)
     }
 
     /// Tells the memory map, its ranges and the windows that its last change changed: as many of them as there is room
@@ -89,11 +101,11 @@ impl Door {
         ranges: &mut [RangeRecord],
         windows: &mut [WindowRecord],
     )
-        ensures version { IsSomeAnd self.now (λ serial. IsVersionSaid serial.board told.new.version) }
-        ensures mib { IsSomeAnd self.now (λ serial. told.new.mib ≡ serial.board.setup.mib) }
-        ensures ranges { IsSomeAnd self.now
+        ensures version { OnBoard self.now (λ serial. IsVersionSaid serial.board told.new.version) }
+        ensures mib { OnBoard self.now (λ serial. told.new.mib ≡ serial.board.setup.mib) }
+        ensures ranges { OnBoard self.now
             (λ serial. AreRangesTold serial.board told.new.ranges ranges.old ranges.new) }
-        ensures windows { IsSomeAnd self.now
+        ensures windows { OnBoard self.now
             (λ serial. AreWindowsTold serial.board told.new.windows windows.old windows.new) }
     {
         tell_map(self.serial.board(), told, ranges, windows);
@@ -105,7 +117,7 @@ impl Door {
         ensures done { result ≡ ok
             → OnBoth self.old self.new (λ old new. IsSecondStep old new event.new reply.new) }
         ensures refused { result ≢ ok
-            → IsSomeAnd self.old (λ serial. (result ≡ no_time) × HasNoSecond serial.board) }
+            → OnBoard self.old (λ serial. (result ≡ no_time) × HasNoSecond serial.board) }
         ensures unchanged { result ≢ ok → self.new ≡ self.old }
         ensures no_event { result ≢ ok → event.new ≡ event.old }
         ensures untold { result ≢ ok → reply.new ≡ reply.old }
@@ -116,14 +128,14 @@ impl Door {
 
     /// Tells the levels of the sixteen interrupt lines, as the pair of 8259A hears them: bit k is that of line k.
     pub fn tell_lines(&self, lines: &mut u16)
-        ensures told { IsSomeAnd self.now (λ serial. AreLinesTold serial.board lines.new) }
+        ensures told { OnBoard self.now (λ serial. AreLinesTold serial.board lines.new) }
     {
         tell_lines(self.serial.board(), lines);
     }
 
     /// Tells what COM1 holds. Nothing is taken or cleared.
     pub fn tell_serial(&self, state: &mut SerialRecord)
-        ensures told { IsSomeAnd self.now (λ serial. state.new ≡ serial_state_said serial.com1) }
+        ensures told { OnBoard self.now (λ serial. state.new ≡ serial_state_said serial.com1) }
     {
         tell_serial(&self.serial, state);
     }
@@ -131,10 +143,10 @@ impl Door {
     /// Tells where the access that a record says would land, and what would deny it. Refused where the record asks
     /// nothing (`NO_EVENT`), or no access of one bus cycle in range (`NO_CYCLE`).
     pub fn tell_place(&self, event: &EventRecord, part: &mut PartRecord) -> u32
-        ensures done { result ≡ ok → IsSomeAnd self.now
+        ensures done { result ≡ ok → OnBoard self.now
             (λ serial. IsSomeAnd (asked_said event.now) (IsAskedPlace serial.board part.new)) }
         ensures refused { result ≢ ok
-            → IsSomeAnd self.now (λ serial. IsNotPlaced serial.board (asked_said event.now) result) }
+            → OnBoard self.now (λ serial. IsNotPlaced serial.board (asked_said event.now) result) }
         ensures untold { result ≢ ok → part.new ≡ part.old }
         ensures open { result ≢ closed }
     {
@@ -144,14 +156,14 @@ impl Door {
     /// Tells after how many pulses of the timer's clock line 0 next rises. 0 where it does not, unless something is
     /// written.
     pub fn tell_rise(&self, pulses: &mut u32)
-        ensures rise { IsSomeAnd self.now (λ serial. IsRiseTold serial.board pulses.new) }
+        ensures rise { OnBoard self.now (λ serial. IsRiseTold serial.board pulses.new) }
     {
         tell_rise(self.serial.board(), pulses);
     }
 
     /// Tells the bytes of the DRAM from an address on, as reads of one byte each would: FFh past the installed memory.
     pub fn tell_dram(&self, addr: u32, into: &mut [u8])
-        ensures told { IsSomeAnd self.now (λ serial. IsDramTold serial.board addr into.old into.new) }
+        ensures told { OnBoard self.now (λ serial. IsDramTold serial.board addr into.old into.new) }
     {
         tell_dram(self.serial.board(), addr, into);
     }
@@ -159,9 +171,9 @@ impl Door {
     /// Tells the 512 bytes of a sector, bad or not. Refused with `NO_SECTOR` where there is no disk, or it has no such
     /// sector, and with `BAD_LENGTH` where the room is not that of a sector.
     pub fn tell_sector(&self, sector: u32, into: &mut [u8]) -> u32
-        ensures done { result ≡ ok → IsSomeAnd self.now (λ serial. IsSectorTold serial.board sector into.new) }
+        ensures done { result ≡ ok → OnBoard self.now (λ serial. IsSectorTold serial.board sector into.new) }
         ensures refused { result ≢ ok
-            → IsSomeAnd self.now (λ serial. IsSectorRefusal serial.board sector (length into.old) result) }
+            → OnBoard self.now (λ serial. IsSectorRefusal serial.board sector (length into.old) result) }
         ensures untold { result ≢ ok → into.new ≡ into.old }
         ensures open { result ≢ closed }
     {
@@ -171,7 +183,7 @@ impl Door {
     /// Tells what a read of port 71h would give of the clock with this index, and clears nothing. Refused with `NO_BYTE`
     /// from address 128 on.
     pub fn tell_clock_byte(&self, address: u8, byte: &mut u8) -> u32
-        ensures done { result ≡ ok → IsSomeAnd self.now (λ serial. IsClockByte serial.board address byte.new) }
+        ensures done { result ≡ ok → OnBoard self.now (λ serial. IsClockByte serial.board address byte.new) }
         ensures within { result ≡ ok → address < clock_bytes }
         ensures refused { result ≢ ok → (result ≡ no_byte) × (clock_bytes ≤ address) }
         ensures untold { result ≢ ok → byte.new ≡ byte.old }
@@ -184,7 +196,7 @@ impl Door {
     /// memory; then nothing has changed.
     pub fn write_dram(&mut self, addr: u32, bytes: &[u8]) -> u32
         ensures done { result ≡ ok → OnBoth self.old self.new (λ old new. IsDramWritten old new addr bytes.now) }
-        ensures refused { result ≢ ok → IsSomeAnd self.old
+        ensures refused { result ≢ ok → OnBoard self.old
             (λ serial. (result ≡ past_end) × (installed serial.board.setup < addr + length bytes.now)) }
         ensures unchanged { result ≢ ok → self.new ≡ self.old }
         ensures open { result ≢ closed }

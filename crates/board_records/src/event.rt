@@ -212,7 +212,7 @@ fn direction_of(number: u8) -> Option<bool>
 
 /// The width of this many bytes.
 #[tactic(auto, unfolding(crate::specs::Events::width_said))]
-fn width_of(bytes: u8) -> Option<Width>
+pub(crate) fn width_of(bytes: u8) -> Option<Width>
     ensures said { result ≡ width_said bytes }
 {
     match bytes {

@@ -8,6 +8,7 @@ mod calls;
 mod card;
 mod door;
 mod event;
+mod identified;
 mod map;
 pub mod numbers;
 mod opening;

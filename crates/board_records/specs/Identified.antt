@@ -1,0 +1,38 @@
+-- The record of a reply where cards have identities: that of the chipset's reply, with their bytes in the place of the
+-- fixed ones.
+use Rattle.std.specs.Prelude.{◌≡◌, ◌%◌, ◌^◌, ◌==◌, ◌&&◌, nat_lt, Bool, if◌then◌else◌, List, Option, Some, None}
+use Rattle.board_prelude.specs.Common.{Width}
+use Rattle.board_chipset.specs.Common.{Running}
+use Rattle.uart_16550.specs.declared.com1.Happening.{Happening}
+use Rattle.uart_16550.specs.Common.{Serial}
+use Rattle.card_identity.specs.declared.identity.Identity.{Identity}
+use Rattle.card_identity.specs.declared.identity.FittedIdentity.{FittedIdentity}
+use Rattle.card_identity.specs.Replies.{identity_at, with_identity}
+use Rattle.board_records.specs.declared.event.EventRecord.{EventRecord}
+use Rattle.board_records.specs.declared.reply.ReplyRecord.{ReplyRecord}
+use Rattle.board_records.specs.Numbers.{bus_reply, config_target}
+use Rattle.board_records.specs.Events.{width_said}
+use Rattle.board_records.specs.Steps.{IsAskedStep}
+
+-- a reply to a read of configuration data
+abbrev pub is_config_read : ReplyRecord → Bool
+is_config_read said =
+    (said.form == bus_reply) && (said.has_value == 1) && (said.part0.target == config_target) && nat_lt said.part0.offset 256
+
+-- which, of as many bytes as the width has, were read from a register of a card with this identity on
+abbrev pub identified_by : Option Identity → Option Width → ReplyRecord → ReplyRecord
+identified_by None width said = said
+identified_by (Some identity) None said = said
+identified_by (Some identity) (Some width) said =
+    record said { value = with_identity (Some identity) said.part0.offset width (said.value % 2 ^ 32) }
+
+abbrev pub identified_record : List FittedIdentity → EventRecord → ReplyRecord → ReplyRecord
+identified_record identities event said =
+    identified_by (if is_config_read said then identity_at identities said.part0.unit else None) (width_said event.bytes) said
+
+-- a step of the chipset with its serial port, and the record of its reply with the identities' bytes
+pub record IsIdentifiedStep (identities : List FittedIdentity) (old new : Serial Running) (event : EventRecord)
+    (said : ReplyRecord) (asked : Happening) : Type 0 where
+  pub plain : ReplyRecord
+  pub step : IsAskedStep old new plain asked
+  pub told : said ≡ identified_record identities event plain

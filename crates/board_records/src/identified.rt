@@ -1,0 +1,73 @@
+//! The bytes of the cards' identities over the record of a reply.
+
+ghost use Rattle.std.specs.Prelude.{◌≡◌, ◌≢◌, ◌<◌, Some, IsSomeAnd};
+ghost use Rattle.board_records.specs.Events.{asked_said};
+ghost use Rattle.board_records.specs.Identified.{IsIdentifiedStep, is_config_read, identified_by, identified_record};
+ghost use Rattle.board_records.specs.Statuses.{ok, closed, IsEventRefusal};
+
+use crate::calls::step;
+use crate::event::{EventRecord, width_of};
+use crate::numbers::{BUS_REPLY, CONFIG_TARGET};
+use crate::reply::ReplyRecord;
+use crate::status::OK;
+use board_base::Width;
+use board_chipset::Chipset;
+use card_identity::{FittedIdentity, Identity, identity_at};
+use uart_16550::SerialBoard;
+
+/// Does what a record asks, and tells the reply by another, in which a read of configuration data has the bytes of the
+/// card's identity. Refused as `step` refuses; then nothing has changed.
+pub(crate) fn identified_step(
+    serial: &mut SerialBoard<Chipset>,
+    identities: &[FittedIdentity],
+    event: &EventRecord,
+    reply: &mut ReplyRecord,
+) -> u32
+    ensures done { result ≡ ok → IsSomeAnd (asked_said event.now)
+        (IsIdentifiedStep identities.now serial.old serial.new event.now reply.new) }
+    ensures refused { result ≢ ok → IsEventRefusal serial.old (asked_said event.now) result }
+    ensures unchanged { result ≢ ok → serial.new ≡ serial.old }
+    ensures untold { result ≢ ok → reply.new ≡ reply.old }
+    ensures open { result ≢ closed }
+{
+    let status = step(serial, event, reply);
+    if status != OK {
+        return status;
+    }
+    identify(identities, event, reply);
+    OK
+}
+
+/// Puts the bytes of the cards' identities in the place of the fixed ones where the reply to an event is to a read of
+/// configuration data. Every other reply stays as it is.
+fn identify(identities: &[FittedIdentity], event: &EventRecord, reply: &mut ReplyRecord)
+    ensures identified { reply.new ≡ identified_record identities.now event.now reply.old }
+{
+    if !is_config_read(reply) {
+        return;
+    }
+    if let Some(identity) = identity_at(identities, reply.part0.unit) {
+        identify_read(identity, width_of(event.bytes), reply);
+    }
+}
+
+/// The same of a read of as many bytes as the width has, of a card with this identity.
+fn identify_read(identity: &Identity, width: Option<Width>, reply: &mut ReplyRecord)
+    requires within { reply.old.part0.offset < 256 }
+    ensures identified { reply.new ≡ identified_by (Some identity.now) width reply.old }
+{
+    if let Some(width) = width {
+        let value = (reply.value % 0x1_0000_0000) as u32;
+        reply.value = u64::from(identity.over(reply.part0.offset as u8, width, value));
+    }
+}
+
+/// Whether a reply is to a read of configuration data.
+fn is_config_read(reply: &ReplyRecord) -> bool
+    ensures read { result ≡ is_config_read reply.now }
+{
+    reply.form == BUS_REPLY
+        && reply.has_value == 1
+        && reply.part0.target == CONFIG_TARGET
+        && reply.part0.offset < 0x100
+}

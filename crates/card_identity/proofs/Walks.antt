@@ -1,0 +1,26 @@
+-- One step along a list, and bytes past a number.
+use Rattle.std.proofs.Common.{◌≡◌, ℕ, ◌+◌, ◌-◌, ◌/◌, ◌^◌, ◌<◌, ◌≤◌, Bool, arith, lit<, if◌then◌else◌, List, length, drop, get_or, find, Some, refl, ap}
+use Rattle.std.proofs.lemmas.List.{drop_more}
+use Rattle.std.proofs.Math.Nat.{div-eq_of_lt, pow-le-pow_right}
+use Rattle.board_prelude.proofs.Common.{byte}
+use Rattle.card_identity.specs.declared.field.Field.{Field}
+use Rattle.card_identity.specs.Header.{byte_said, says}
+
+pub byte_next : (fields : List Field) (index off old : ℕ) (last : Field) → index < length fields →
+    byte_said (drop index fields) off old
+    ≡ (if says (get_or fields index last) off then byte (get_or fields index last).value (off - (get_or fields index last).first)
+    else byte_said (drop (index + 1) fields) off old)
+byte_next fields index off old last within = ap (λ rest. byte_said rest off old) (drop_more fields index last within)
+
+pub find_next : {X : Type 0} (test : X → Bool) (items : List X) (index : ℕ) (last : X) → index < length items →
+    find test (drop index items)
+    ≡ (if test (get_or items index last) then Some (get_or items index last) else find test (drop (index + 1) items))
+find_next test items index last within = ap (λ rest. find test rest) (drop_more items index last within)
+
+-- a number of four bytes has no other
+pub no_byte_past : (value place : ℕ) → value < 4_294_967_296 → 4 ≤ place → 0 ≡ byte value place
+no_byte_past value place small past =
+    let power : 256 ^ 4 ≤ 256 ^ place = pow-le-pow_right (lit< tt) past in
+    let below : value < 256 ^ place = omega (arith, small, power) in
+    let none : value / 256 ^ place ≡ 0 = div-eq_of_lt below in
+    rw none refl
