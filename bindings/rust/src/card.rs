@@ -65,12 +65,19 @@ pub struct Card {
 /// every card of this board has. The class code has three bytes, and the pin is 1 to 4 for INTA# to INTD#.
 #[derive(Clone, Copy, Debug, Default, PartialEq, Eq, Hash)]
 pub struct Identity {
+    /// Offset 00h.
     pub vendor_id: u16,
+    /// Offset 02h.
     pub device_id: u16,
+    /// Offset 09h: interface, subclass and class.
     pub class_code: u32,
+    /// Offset 08h.
     pub revision_id: u8,
+    /// Offset 2Ch.
     pub subsystem_vendor_id: u16,
+    /// Offset 2Eh.
     pub subsystem_id: u16,
+    /// Offset 3Dh.
     pub interrupt_pin: u8,
 }
 
