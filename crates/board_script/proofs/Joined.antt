@@ -47,8 +47,8 @@ parts_joined h k z a w s e r =
     append_assoc (h ++ (k ++ z ++ a ++ w ++ s)) e r
     ∙ ap (λ t. t ++ (e ++ r))
     (ap (λ t. h ++ t) (append_assoc (k ++ z ++ a) w s)
-      ∙ sym (append_assoc h (k ++ z ++ a) (w ++ s))
-      ∙ ap (λ t. t ++ (w ++ s)) (joined_left h k z a))
+    ∙ sym (append_assoc h (k ++ z ++ a) (w ++ s))
+    ∙ ap (λ t. t ++ (w ++ s)) (joined_left h k z a))
 
 -- the line of a wide access: up to its address, its value and its mark, and its reply
 pub line_text-wide :

@@ -146,7 +146,12 @@ fn push_rest(text: &mut String, access: &WideAccess) -> Result<(), NoMemory>
         (written_text (is_write access.now.kind) access.now.bytes access.now.value ++ smm_text access.now.smm)) }
     ensures front { OnErr result (KeepsFront text.old text.new) }
 {
-    push_written(text, access.kind.is_write(), u32::from(access.bytes), access.value)?;
+    push_written(
+        text,
+        access.kind.is_write(),
+        u32::from(access.bytes),
+        access.value,
+    )?;
     push_smm(text, access.smm)
 }
 

@@ -7,11 +7,17 @@ use crate::field::{Field, field_at};
 
 /// Where the fields lie in a configuration header (PCI Local Bus 2.1, section 6.2).
 const VENDOR_ID: u8 = 0x00;
+
 const DEVICE_ID: u8 = 0x02;
+
 const REVISION_ID: u8 = 0x08;
+
 const CLASS_CODE: u8 = 0x09;
+
 const SUBSYSTEM_VENDOR_ID: u8 = 0x2C;
+
 const SUBSYSTEM_ID: u8 = 0x2E;
+
 const INTERRUPT_PIN: u8 = 0x3D;
 
 /// What a card says that it is, in its configuration header: the vendor (00h) and its device (02h), the revision (08h), the
