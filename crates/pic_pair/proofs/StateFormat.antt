@@ -1,5 +1,5 @@
 -- The state of the pair is spelled and read back.
-use Rattle.std.proofs.Common.{◌≡◌, ℕ, zero, suc, ◌+◌, ◌*◌, ◌/◌, ◌%◌, ◌^◌, ◌<◌, ◌≤◌, Bool, true, false, eqb, List, [], ◌∷◌, ◌++◌, length, refl, sym, ap, subst, ◌∙◌, arith, if◌then◌else◌}
+use Rattle.std.proofs.Common.{◌≡◌, ℕ, zero, suc, ◌+◌, ◌*◌, ◌/◌, ◌%◌, ◌^◌, ◌<◌, ◌≤◌, Bool, true, false, eqb, List, [], ◌∷◌, length, refl, sym, ap, subst, ◌∙◌, arith, if◌then◌else◌}
 use Rattle.std.proofs.Math.Nat.{pow-succ'}
 use Rattle.device_spec.proofs.Common.{agree_below_at, eqb-true, get_or_past, is_bit, has, levels_where, levels_where-same, levels_where-has, levels_of_byte, byte_of_levels, Levels}
 use Rattle.device_spec.specs.Pic.{Chip, Word}
@@ -11,7 +11,7 @@ use Rattle.pic_pair.specs.declared.state.Modes.{Modes}
 use Rattle.pic_pair.specs.State.{awaited_byte, words_of, AreAwaited, sets_of, modes_of, AreSets, sets_bytes, modes_bytes, sets_fields, modes_fields, IsChip, chip_bytes, chip_fields, IsPair, pair_bytes, pair_fields}
 use Rattle.std.specs.Int.{bit_at}
 use Rattle.std.proofs.lemmas.Nat.Bits.{bit_at_lowest, bit_at-suc, bit_at-zero}
-use Rattle.pic_pair.proofs.LevelLemmas.{byte-levels}
+use Rattle.pic_levels.proofs.LevelLemmas.{byte-levels}
 
 -- ---- sets and their bytes
 

@@ -1,8 +1,8 @@
 //! The levels of the sixteen interrupt lines, as a bit mask.
 ghost use Rattle.std.specs.Prelude.{◌≡◌, ℕ, ◌<◌, ◌||◌, length, replicate, take, drop, slice_index_or, slice_set, true, false};
 
-use crate::level_set::LevelSet;
 use board_base::bits::is_set;
+use pic_levels::LevelSet;
 use std::marker::Model;
 
 /// How many of the lines are the master's.
