@@ -6,6 +6,8 @@ mod bridge;
 mod disk_state;
 mod map;
 mod media;
+mod pair;
+mod plain;
 mod south;
 mod stretches;
 mod timer;
@@ -96,6 +98,21 @@ fn answer_of_map(
     }
 }
 
+/// Appends what the pair of 8259As answers, and the plain words.
+fn answer_of_words(
+    alloc: Global,
+    call: &str,
+    words: &[&str],
+    text: &mut String,
+) -> Result<(), NoMemory> {
+    match call {
+        "pair" => pair::tell(words, text),
+        "width" => plain::tell_width(words, text),
+        "moment" => plain::tell_moment(words, text),
+        _ => answer_of_map(alloc, call, words, text),
+    }
+}
+
 /// Does what a call asks of a part of the board, and appends the answer.
 fn answer(alloc: Global, call: &str, words: &[&str], text: &mut String) -> Result<(), NoMemory> {
     match call {
@@ -105,7 +122,7 @@ fn answer(alloc: Global, call: &str, words: &[&str], text: &mut String) -> Resul
         "disk" => media::tell_disk(alloc, words, text),
         "disk-state" => disk_state::tell_state(alloc, words, text),
         "disk-load" => disk_state::tell_load(alloc, word(words, 0), word(words, 1), text),
-        _ => answer_of_map(alloc, call, words, text),
+        _ => answer_of_words(alloc, call, words, text),
     }
 }
 

@@ -2,4 +2,5 @@ pub mod DeviceLemmas
 mod ChipSteps
 mod PulseLemmas
 mod StandingLines
+pub mod DiskSizes
 pub mod OutsideLemmas
