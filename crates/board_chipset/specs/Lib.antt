@@ -1,8 +1,10 @@
 pub mod BusReplies
+pub mod CardLoads
 pub mod Chipset
 pub mod Faults
 pub mod Kept
 pub mod Loads
+pub mod Masters
 pub mod OutOfRange
 pub mod PortAccesses
 pub mod Places

@@ -2,11 +2,10 @@
 #![tactic(auto)]
 
 mod chip;
-mod level_set;
 mod lines;
 mod pair;
 mod state;
 
 pub use lines::Lines;
 pub use pair::{Ack, PicPair};
-pub use state::law_one_pair;
+pub use state::{law_one_lines, law_one_pair};
