@@ -7,3 +7,4 @@ pub mod Openings
 pub mod Lines
 pub mod Digits
 pub mod Identities
+pub mod Masters

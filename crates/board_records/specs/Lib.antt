@@ -11,4 +11,6 @@ pub mod Places
 pub mod Bytes
 pub mod Seconds
 pub mod Standing
+pub mod Masters
+pub mod CardBytes
 pub mod Common
