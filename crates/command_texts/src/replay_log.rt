@@ -14,9 +14,13 @@ use board_core::{Board, Replay};
 use board_script::{push_heading, push_line};
 use board_spec::Statement;
 use board_spec::laws::law_lock;
+use log_check::statement_count;
 use log_pieces::Text;
 use script_text::Script;
 use std::alloc::Global;
+
+/// The room for a line, in bytes. Most have fewer.
+const LINE_ROOM: usize = 64;
 
 /// Does the statements of a phase in their order, and appends the line of each entry.
 fn push_phase(text: &mut String, replay: &mut Replay, phase: &[Statement]) -> Result<(), NoMemory>
@@ -51,13 +55,23 @@ fn push_replay(text: &mut String, replay: &mut Replay, script: &Script) -> Resul
     Ok(())
 }
 
+/// An empty text with room for the log of a script, so that it need not grow where no line is longer than most.
+fn text_for(alloc: Global, script: &Script) -> Result<String, NoMemory>
+    requires in_range { IsInRangeScript (said_of script.now) }
+    ensures empty { IfOk result (λ text. string_bytes text ≡ []) }
+{
+    let lines = statement_count(&script.phases) as usize;
+    let text = String::with_capacity(alloc, lines.saturating_add(1).saturating_mul(LINE_ROOM))?;
+    Ok(text)
+}
+
 /// The log of a script's replay on its board, which keeps no history meanwhile.
 pub fn log_of_replay(alloc: Global, board: Board, script: &Script) -> Result<Text, NoMemory>
     requires fresh { IsFreshFor (said_of script.now) board }
     ensures text { IfOk result (λ text. IsReplayText board.setup (said_of script.now) text) }
 {
     let mut replay = board.into_replay();
-    let mut text = String::new(alloc);
+    let mut text = text_for(alloc, script)?;
     push_replay(&mut text, &mut replay, script)?;
     law_lock();
     Text::whole(alloc, text)
