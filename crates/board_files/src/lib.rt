@@ -8,8 +8,6 @@ mod file_shelf;
 mod folder;
 mod out_sink;
 mod patient;
-#[cfg(test)]
-mod tests;
 mod tries;
 
 pub use file_shelf::FileShelf;

@@ -11,6 +11,3 @@ pub use memory_shelf::MemShelf;
 pub use memory_sink::MemSink;
 pub use slow_shelf::SlowShelf;
 pub use slow_sink::SlowSink;
-
-#[cfg(test)]
-mod tests;

@@ -1,8 +1,10 @@
-use super::*;
+//! The shelves and sinks of these tests: when they fail, and what they move.
+
 use arrayvec::ArrayVec;
 use board_outside::{
     Failed, Gate, PutFault, QuietGate, SafeShelf, SafeSink, Shelf, Sink, keep_name,
 };
+use outside_doubles::{MemShelf, MemSink, SlowShelf, SlowSink};
 use std::alloc::Global;
 use std::test::Fail;
 

@@ -2,8 +2,7 @@
 
 ghost use Rattle.std.specs.Prelude.{◌≡◌, None, IfOk};
 
-use crate::tries::{read_on, write_on};
-use crate::{FileShelf, Folder, OutSink, Patient};
+use board_files::{FileShelf, Folder, OutSink, Patient};
 use board_outside::{Failed, PutFault, Shelf, Sink};
 use std::io;
 use std::io::{ErrorKind, Read, Write};
@@ -295,6 +294,22 @@ impl Write for Stumbler {
     }
 }
 
+/// A folder in which each file stumbles.
+#[derive(Drop)]
+struct Stumblers {
+    kind: ErrorKind,
+}
+
+impl Folder for Stumblers {
+    type File = Stumbler;
+
+    ghost files = { λ _. None };
+
+    fn open(&self, _name: &str) -> io::Result<Stumbler> {
+        Ok(Stumbler::new(self.kind))
+    }
+}
+
 /// Errors, whether a read and a write are made again after one, and whether a patient writer goes on.
 const STUMBLES: [(ErrorKind, bool, bool); 5] = [
     (ErrorKind::Interrupted, true, false),
@@ -309,8 +324,10 @@ const STUMBLES: [(ErrorKind, bool, bool); 5] = [
 fn an_error_is_not_tried_again(rt: HostRuntime) {
     for (kind, again, patient) in STUMBLES {
         let mut into = [0; 8];
-        assert_eq!(rt; read_on(&mut Stumbler::new(kind), &mut into).is_ok(), again);
-        assert_eq!(rt; write_on(&mut Stumbler::new(kind), b"bytes").is_ok(), again);
+        let mut shelf = FileShelf::new(Stumblers { kind });
+        assert_eq!(rt; shelf.fetch("f", 0, &mut into).is_ok(), again);
+        let mut sink = OutSink::new(Stumbler::new(kind));
+        assert_eq!(rt; sink.put(b"bytes").is_ok(), again);
         let mut waits = Patient::new(&rt, Stumbler::new(kind));
         assert_eq!(rt; waits.write(b"bytes").is_ok(), patient);
     }
