@@ -395,6 +395,7 @@ module _ {setup : Setup} {old : State} {contents : List (List ℕ)} {dev base of
     registers = sound.registers;
     memory = sound.memory;
     contents = λ d b number. sizes_stay is d b number ∙ sound.contents d b number;
+    disk = sound.disk;
   }
 
 -- ---- bytes that are copied out

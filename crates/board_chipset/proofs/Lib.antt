@@ -20,4 +20,9 @@ pub mod CardChecks
 pub mod CardLoadSteps
 pub mod PortAccessSteps
 pub mod Placed
+pub mod KeptBytes
+pub mod Marks
+pub mod ChipsetFormats
+pub mod ChipsetLoads
+pub mod ChipsetAlone
 pub mod Common
