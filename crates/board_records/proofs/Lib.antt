@@ -5,5 +5,6 @@ pub mod Said
 pub mod Cycles
 pub mod Openings
 pub mod Lines
+pub mod Images
 pub mod Digits
 pub mod Identities

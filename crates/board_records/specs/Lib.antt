@@ -11,4 +11,5 @@ pub mod Places
 pub mod Bytes
 pub mod Seconds
 pub mod Standing
+pub mod Images
 pub mod Common

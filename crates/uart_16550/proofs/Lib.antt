@@ -5,4 +5,5 @@ pub mod ControlProofs
 pub mod Loads
 pub mod OverChipset
 pub mod StateFormat
+pub mod SerialStates
 pub mod Common
