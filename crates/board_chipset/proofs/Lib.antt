@@ -18,4 +18,7 @@ pub mod LoadSteps
 pub mod CardChecks
 pub mod PortAccessSteps
 pub mod Placed
+pub mod KeptBytes
+pub mod ChipsetFormats
+pub mod ChipsetLoads
 pub mod Common

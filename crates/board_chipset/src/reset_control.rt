@@ -56,6 +56,13 @@ impl ResetControl {
         ResetControl { byte: 0 }
     }
 
+    /// The register that holds this byte.
+    pub(crate) fn holding(byte: u8) -> ResetControl
+        ensures byte { result ≡ byte }
+    {
+        ResetControl { byte }
+    }
+
     /// The byte of the register.
     pub fn read(&self) -> u8
         ensures byte { result ≡ self.now }

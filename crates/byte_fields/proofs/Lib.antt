@@ -2,3 +2,5 @@ pub mod Loops
 pub mod Formats
 pub mod Numbers
 pub mod Loaded
+pub mod Saved
+pub mod Marks

@@ -1,5 +1,4 @@
 pub mod StateFormat
-mod Saved
 mod Arrivals
 mod Edges
 mod Periods
