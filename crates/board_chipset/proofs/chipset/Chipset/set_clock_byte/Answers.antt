@@ -1,4 +1,4 @@
-use Rattle.std.proofs.Common.{◌≡◌, ap}
+use Rattle.std.proofs.Common.{ap}
 use Rattle.board_devices.specs.Common.{DevicesValue, sectors_fitted}
 use Rattle.board_chipset.proofs.Lefts.{left_by, state_of}
 use Rattle.board_chipset.proofs.LoadSteps.{clock_set, some_clock_entries}

@@ -1,4 +1,4 @@
-use Rattle.std.proofs.Common.{◌≡◌, ◌∙◌, ◌∷◌, refl, ap, option_map}
+use Rattle.std.proofs.Common.{◌∙◌, ◌∷◌, refl, ap, option_map}
 use Rattle.board_prelude.proofs.Common.{BadSector, after_bad}
 use Rattle.board_devices.specs.Devices.{DevicesValue, sectors_fitted}
 use Rattle.board_devices.proofs.DeviceLemmas.{all_asked, lined_as, pair_asked, irqs_stay}

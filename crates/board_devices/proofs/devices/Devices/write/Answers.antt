@@ -1,4 +1,4 @@
-use Rattle.std.proofs.Common.{◌≡◌, ◌∙◌, ◌∷◌, Some, ap}
+use Rattle.std.proofs.Common.{◌∙◌, ◌∷◌, Some, ap}
 use Rattle.board_spec.specs.Interrupts.{pair_accessed}
 use Rattle.board_devices.specs.Devices.{DevicesValue, sectors_fitted}
 use Rattle.board_devices.specs.Steps.{after_write}
