@@ -4,3 +4,4 @@ pub mod Numbers
 pub mod Loaded
 pub mod Saved
 pub mod Marks
+pub mod PageFormats

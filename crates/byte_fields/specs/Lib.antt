@@ -1,3 +1,4 @@
 pub mod Fields
 pub mod Loads
 pub mod Alone
+pub mod Pages
