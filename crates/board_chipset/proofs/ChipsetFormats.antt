@@ -4,7 +4,7 @@ use Rattle.board_prelude.proofs.Common.{Setup, FittedCard, IsSetup, IsCardList, 
 use Rattle.byte_fields.specs.Fields.{flag_byte}
 use Rattle.byte_fields.proofs.Formats.{IsFormat, format_as, then_format, last_format}
 use Rattle.byte_fields.proofs.Numbers.{Any, Ranges, byte_within, within_format, wide16, wide32}
-use Rattle.byte_fields.proofs.Marks.{exactly_format}
+use Rattle.board_chipset.proofs.Marks.{exactly_format}
 use Rattle.cfg_ports.proofs.StateFormat.{address_format}
 use Rattle.dram_store.proofs.StateFormats.{dram_format}
 use Rattle.pci_bars.proofs.StateFormats.{contents_format}

@@ -6,7 +6,7 @@ use Rattle.byte_fields.specs.declared.fault.Fault.TheVariants as faults
 use Rattle.byte_fields.specs.Fields.{AreBytes, Filled}
 use Rattle.byte_fields.proofs.Formats.{ok_is, not_err}
 use Rattle.byte_fields.proofs.Numbers.{wide16, within_format}
-use Rattle.byte_fields.proofs.Marks.{exactly_format}
+use Rattle.board_chipset.proofs.Marks.{exactly_format}
 use Rattle.device_spec.specs.Common.{Disk}
 use Rattle.ata_pio.proofs.StateFormats.{sectors_of_length}
 use Rattle.pci_bars.specs.Cards.{CardBytes}

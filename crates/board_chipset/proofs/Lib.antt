@@ -19,6 +19,7 @@ pub mod CardChecks
 pub mod PortAccessSteps
 pub mod Placed
 pub mod KeptBytes
+pub mod Marks
 pub mod ChipsetFormats
 pub mod ChipsetLoads
 pub mod Common

@@ -1,3 +1,4 @@
+pub mod Alone
 pub mod BusReplies
 pub mod Chipset
 pub mod ChipsetState

@@ -4,7 +4,7 @@ ghost use Rattle.std.specs.Prelude.{◌≡◌, ◌≤◌, ◌++◌, ◌↔◌, �
 ghost use Rattle.board_prelude.specs.Common.{Entry, IsSetup};
 ghost use Rattle.byte_fields.specs.declared.fault.Fault.TheVariants as faults;
 ghost use Rattle.byte_fields.specs.Fields.{Filled};
-ghost use Rattle.byte_fields.specs.Alone.{alone};
+ghost use Rattle.board_chipset.specs.Alone.{alone};
 ghost use Rattle.map_builder.specs.State.{IsMapped};
 ghost use Rattle.board_chipset.specs.Chipset.{Running, IsLeftBy};
 ghost use Rattle.board_chipset.specs.ChipsetState.{is_other_version, bare_state, bare_chipset, chipset_bytes, chipset_fields, IsChipset, LoadsChipset, IsBadStateAt};
@@ -87,7 +87,7 @@ fn read_whole(alloc: Global, setup: &Setup, fields: &mut Fields) -> Result<State
 }
 
 /// The chipset of this setup whose state is all that is left of the bytes.
-#[tactic(auto, unfolding(byte_fields::specs::Alone::alone))]
+#[tactic(auto, unfolding(crate::specs::Alone::alone))]
 fn read_alone(alloc: Global, setup: Setup, fields: &mut Fields) -> Result<Chipset, Fault>
     requires fits { IsSetup setup }
     ensures loaded { IfOk result (λ chipset. (chipset.setup ≡ setup) × IsChipset chipset

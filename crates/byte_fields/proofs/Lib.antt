@@ -2,6 +2,4 @@ pub mod Loops
 pub mod Formats
 pub mod Numbers
 pub mod Loaded
-pub mod Saved
-pub mod Marks
 pub mod PageFormats

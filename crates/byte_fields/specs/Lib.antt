@@ -1,4 +1,3 @@
 pub mod Fields
 pub mod Loads
-pub mod Alone
 pub mod Pages

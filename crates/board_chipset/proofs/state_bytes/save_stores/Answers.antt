@@ -1,5 +1,5 @@
 use Rattle.std.proofs.Common.{◌∙◌, ap, sym, subst}
-use Rattle.byte_fields.proofs.Saved.{on_ok}
+use Rattle.pit_8254.proofs.Saved.{on_ok}
 use Rattle.board_stores.specs.declared.stores.Stores.{Stores}
 use Rattle.pci_bars.specs.Contents.{HaveSizes}
 use Rattle.board_chipset.proofs.state_bytes.save_stores.Goals as goal

@@ -2,7 +2,7 @@ use Rattle.std.proofs.Common.{◌≡◌, [], ◌∷◌, ◌++◌, OnOk, ap, subs
 use Rattle.device_spec.specs.Pit.{PitState}
 use Rattle.byte_fields.specs.Fields.{flag_byte}
 use Rattle.pit_8254.specs.State.{counter_bytes}
-use Rattle.byte_fields.proofs.Saved.{joined}
+use Rattle.pit_8254.proofs.Saved.{joined}
 use Rattle.pit_8254.proofs.Pit.save_state.Goals as goal
 
 pub returns-clause-saved : goal.returns-clause-saved

@@ -1,5 +1,5 @@
 use Rattle.std.proofs.Common.{◌≡◌, ℕ, [], ◌∷◌, ◌++◌, ap, ◌∙◌}
-use Rattle.byte_fields.proofs.Saved.{joined, on_ok}
+use Rattle.pit_8254.proofs.Saved.{joined, on_ok}
 use Rattle.cfg_ports.specs.State.{address_bytes}
 use Rattle.config_regs.specs.State.{south_bytes}
 use Rattle.map_builder.specs.State.{mapped_bytes}

@@ -1,5 +1,5 @@
 use Rattle.std.proofs.Common.{refl, ◌∙◌, sym}
-use Rattle.byte_fields.proofs.Saved.{joined, on_ok}
+use Rattle.pit_8254.proofs.Saved.{joined, on_ok}
 use Rattle.board_chipset.specs.ChipsetState.{state_bytes}
 use Rattle.board_chipset.proofs.state.State.save_state.Goals as goal
 

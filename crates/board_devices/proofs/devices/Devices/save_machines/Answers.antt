@@ -1,5 +1,5 @@
 use Rattle.std.proofs.Common.{◌≡◌, ◌++◌, OnOk, ap, subst, ◌∙◌}
-use Rattle.byte_fields.proofs.Saved.{joined, on_ok}
+use Rattle.pit_8254.proofs.Saved.{joined, on_ok}
 use Rattle.pic_pair.specs.State.{pair_bytes, lines_bytes}
 use Rattle.pit_8254.specs.State.{pit_bytes}
 use Rattle.cmos_clock.specs.State.{clock_bytes}

@@ -1,4 +1,4 @@
-use Rattle.byte_fields.proofs.Saved.{joined, on_ok}
+use Rattle.pit_8254.proofs.Saved.{joined, on_ok}
 use Rattle.board_devices.specs.State.{devices_bytes}
 use Rattle.board_devices.proofs.devices.Devices.save_state.Goals as goal
 

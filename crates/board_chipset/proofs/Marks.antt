@@ -1,8 +1,8 @@
 -- Fixed bytes, and that nothing follows.
 use Rattle.std.proofs.Common.{◌≡◌, ℕ, ◌≤◌, inl, inr, Bool, true, false, cond, List, [], ◌∷◌, ◌++◌, length, take, drop, Ok, Err, refl, sym, ap, subst, ◌∙◌, arith, bytes_eq}
-use Rattle.board_base.proofs.Common.{take_at, drop_at, take-append-drop, append-nil, bytes_eq-Decides, length-append}
+use Rattle.board_prelude.proofs.Common.{take_at, drop_at, take-append-drop, append-nil, bytes_eq-Decides, length-append}
 use Rattle.byte_fields.specs.Fields.{AreBytes, Reading, then_read, gives, exactly, ended}
-use Rattle.byte_fields.specs.Alone.{alone}
+use Rattle.board_chipset.specs.Alone.{alone}
 use Rattle.byte_fields.proofs.Formats.{IsFormat, ok_is, not_err, err_is, then_ok, then_err}
 use Rattle.byte_fields.proofs.Numbers.{Any}
 
