@@ -1,6 +1,6 @@
 -- The state of a chipset is spelled and read back. What is read has no ranges of the map yet.
 use Rattle.std.proofs.Common.{◌≡◌, ℕ, ◌+◌, ◌*◌, ◌^◌, ◌<◌, ◌≤◌, Bool, true, false, List, [], ◌∷◌, ◌++◌, length, Option, Some, None, is_some, refl, sym, ap, ◌∙◌, arith, unwrap_or, inl, inr}
-use Rattle.board_prelude.proofs.Common.{Setup, FittedCard, IsSetup, IsCardList, IsRomSize, IsDisk}
+use Rattle.board_prelude.proofs.Common.{Setup, FittedCard, IsSetup, IsRomSize, IsDisk}
 use Rattle.byte_fields.specs.Fields.{flag_byte}
 use Rattle.byte_fields.proofs.Formats.{IsFormat, format_as, then_format, last_format}
 use Rattle.byte_fields.proofs.Numbers.{Any, Ranges, byte_within, within_format, wide16, wide32}
@@ -11,7 +11,7 @@ use Rattle.pci_bars.proofs.StateFormats.{contents_format}
 use Rattle.config_regs.specs.State.{IsSouth}
 use Rattle.config_regs.proofs.StateFormat.{south_format}
 use Rattle.map_builder.specs.State.{IsBare}
-use Rattle.map_builder.proofs.StateFormat.{mapped_format, most_mapped}
+use Rattle.map_builder.proofs.StateFormat.{mapped_format}
 use Rattle.board_stores.specs.declared.stores.Stores.{Stores}
 use Rattle.board_devices.proofs.StateFormat.{most_of, devices_format}
 use Rattle.cfg_ports.specs.State.{IsAddress}
@@ -97,16 +97,16 @@ pub record AreBareRegisters (cards : List FittedCard) (registers : Registers) : 
   pub south : IsSouth registers.south
 
 abbrev most_registers : List FittedCard → ℕ
-most_registers cards = 12 + most_mapped cards
+most_registers cards = 547 + 30 * length cards
 
-registers_format : (cards : List FittedCard) → IsCardList cards →
+registers_format : (cards : List FittedCard) →
     IsFormat (most_registers cards) (registers_fields cards) registers_bytes (AreBareRegisters cards)
 unfolding registers_fields registers_bytes
-registers_format cards are =
+registers_format cards =
     format_as (most_registers cards) registers_bytes (AreBareRegisters cards)
     (then_format (λ (r : Registers). r.address) address_format (λ address good.
     then_format (λ (r : Registers). r.control) (byte_within 0 255 (omega arith)) (λ control good.
-    then_format (λ (r : Registers). r.map) (mapped_format cards are) (λ map good.
+    then_format (λ (r : Registers). r.map) (mapped_format cards) (λ map good.
     last_format (λ (r : Registers). r.south)
     (λ south. record { address = address; control = control; map = map; south = south }) south_format
     (λ south good. refl))
@@ -157,7 +157,7 @@ state_format : (setup : Setup) → IsSetup setup →
 unfolding state_fields state_bytes
 state_format setup fits =
     format_as (most_state setup) (state_bytes setup.disk) (IsBareState setup)
-    (then_format (λ (s : State). s.registers) (registers_format setup.cards fits.cards) (λ registers good.
+    (then_format (λ (s : State). s.registers) (registers_format setup.cards) (λ registers good.
     then_format (λ (s : State). s.stores) (stores_format setup fits) (λ stores good.
     last_format (λ (s : State). s.devices)
     (λ devices. record { registers = registers; stores = stores; devices = devices })

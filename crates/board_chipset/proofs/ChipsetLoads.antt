@@ -1,6 +1,7 @@
 -- What was read is a chipset, and the one that was saved.
 use Rattle.std.proofs.Common.{◌≡◌, ℕ, ◌*◌, ◌/◌, ◌^◌, ◌<◌, ◌≤◌, ◌⊎◌, ◌↔◌, inl, inr, List, [], ◌∷◌, ◌++◌, length, get_or, Option, Some, None, Result, Ok, Err, IfOk, refl, sym, ap, subst, ◌∙◌, append_assoc, arith}
 use Rattle.board_prelude.proofs.Common.{w16, to_le_bytes, Entry, Setup, FittedCard, IsSetup}
+use Rattle.byte_fields.specs.declared.fault.Bad.{Bad}
 use Rattle.byte_fields.specs.declared.fault.Fault.{Fault}
 use Rattle.byte_fields.specs.declared.fault.Fault.TheVariants as faults
 use Rattle.byte_fields.specs.Fields.{AreBytes, Filled}
@@ -12,8 +13,7 @@ use Rattle.ata_pio.proofs.StateFormats.{sectors_of_length}
 use Rattle.pci_bars.specs.Cards.{CardBytes}
 use Rattle.addr_decode.specs.State.{IsCardRegs}
 use Rattle.map_builder.specs.Map.{Mapped, HoldsDoublewords}
-use Rattle.map_builder.specs.State.{IsMapped, bare, mapped_bytes}
-use Rattle.map_builder.proofs.StateFormat.{same_map}
+use Rattle.map_builder.specs.State.{IsMapped, SameMap, LoadsMap, bare, mapped_bytes}
 use Rattle.board_devices.specs.Common.{HasDisk}
 use Rattle.board_devices.specs.State.{IsFittedDisk}
 use Rattle.board_chipset.specs.declared.registers.Registers.{Registers}
@@ -30,7 +30,7 @@ card_doublewords card is = record { bases = is.widths.bases.each; rom = is.width
 
 registers_sound : (setup : Setup) (registers : Registers) → AreRegisters setup.cards registers → AreSound setup registers
 registers_sound setup registers are =
-    let cards = are.map.regs.cards in
+    let cards = are.map.saved.regs.cards in
     let has = has_bytes setup registers.map.regs registers.south (record {
       same = cards.same;
       fitted = are.map.whole.fitted;
@@ -69,7 +69,14 @@ bare_registers_are : (cards : List FittedCard) (registers : Registers) → AreRe
 bare_registers_are cards registers are = record {
   address = are.address;
   control = are.control;
-  map = record { regs = are.map.regs; version = are.map.version; changed = are.map.changed; none = refl };
+  map = record {
+    saved = record {
+      regs = are.map.saved.regs;
+      version = are.map.saved.version;
+      changed = are.map.saved.changed;
+    };
+    ranges = refl;
+  };
   south = are.south;
 }
 
@@ -113,16 +120,21 @@ whole_is : (chipset : Running) → with_map (bare_chipset chipset) chipset.state
 unfolding with_map
 whole_is chipset = refl
 
-pub same_chipset : (one other : Running) → IsChipset one → IsChipset other → one.setup ≡ other.setup →
+same_chipset : SameMap → (one other : Running) → IsChipset one → IsChipset other →
     bare_chipset one ≡ bare_chipset other → one ≡ other
-same_chipset one other is of same told =
+same_chipset law one other is of told =
     let maps : one.state.registers.map ≡ other.state.registers.map =
-    same_map one.setup.cards one.state.registers.map other.state.registers.map is.whole.registers.map
-    (subst (λ (setup : Setup). IsMapped setup.cards other.state.registers.map) (sym same) of.whole.registers.map)
+    law one.state.registers.map other.state.registers.map is.whole.registers.map.whole of.whole.registers.map.whole
     (ap (λ (c : Running). c.state.registers.map) told) in
     sym (whole_is one)
     ∙ (ap (λ (c : Running). with_map c one.state.registers.map) told
     ∙ (ap (λ (m : Mapped). with_map (bare_chipset other) m) maps ∙ whole_is other))
+
+-- a map that was read is whole
+pub mapped_of : (fitted : List FittedCard) (before after : List ℕ) (result : Result Mapped Bad) →
+    LoadsMap fitted before after result → IfOk result (λ map. IsMapped fitted map)
+mapped_of fitted before after (Ok map) is = is.loaded.0
+mapped_of fitted before after (Err bad) is = tt
 
 -- ---- a call that reads a chipset
 
@@ -146,23 +158,23 @@ read_is setup chipset before after fits are read mapped =
     (subst (λ (setup : Setup). IsMapped setup.cards chipset.state.registers.map) (sym same) mapped) in
     (same, is, told.0 ∙ ap (λ (front : List ℕ). front ++ after) (bare_spelled chipset))
 
-pub loads_chipset : (setup : Setup) (before after : List ℕ) (result : Result Running Fault) → IsSetup setup →
+pub loads_chipset : SameMap → (setup : Setup) (before after : List ℕ) (result : Result Running Fault) → IsSetup setup →
     AreBytes before → Filled bare_chipset result after (chipset_fields setup before) →
     IfOk result (λ (chipset : Running). IsMapped setup.cards chipset.state.registers.map) →
     LoadsChipset setup before after result
-loads_chipset setup before after (Ok chipset) fits are filled mapped = record {
+loads_chipset law setup before after (Ok chipset) fits are filled mapped = record {
   loaded = read_is setup chipset before after fits are filled mapped;
   exact = λ other rest same is begins.
       let mine = read_is setup chipset before after fits are filled mapped in
       let one : Running × List ℕ = (bare_chipset chipset, after) in
       let two : Running × List ℕ = (bare_chipset other, rest) in
       let told = ok_is one two (sym filled ∙ (ap (chipset_fields setup) begins ∙ back setup other rest same is)) in
-      let equal = same_chipset chipset other mine.1 is (mine.0 ∙ sym same)
+      let equal = same_chipset law chipset other mine.1 is
       (ap (λ (pair : Running × List ℕ). pair.0) told) in
       inr (ap (λ (c : Running). Ok c) equal, ap (λ (pair : Running × List ℕ). pair.1) told);
   bad = filled;
 }
-loads_chipset setup before after (Err faults.Bad) fits are filled mapped = record {
+loads_chipset law setup before after (Err faults.Bad) fits are filled mapped = record {
   loaded = tt;
   exact = λ other rest same is begins.
       let pair : Running × List ℕ = (bare_chipset other, rest) in
@@ -170,7 +182,7 @@ loads_chipset setup before after (Err faults.Bad) fits are filled mapped = recor
       (sym (ap (chipset_fields setup) begins ∙ back setup other rest same is) ∙ filled));
   bad = filled;
 }
-loads_chipset setup before after (Err faults.NoMemory) fits are filled mapped = record {
+loads_chipset law setup before after (Err faults.NoMemory) fits are filled mapped = record {
   loaded = tt;
   exact = λ other rest same is begins. inl refl;
   bad = tt;
@@ -178,16 +190,16 @@ loads_chipset setup before after (Err faults.NoMemory) fits are filled mapped = 
 
 -- ---- one state, one spelling
 
-pub one_state : (saved loaded : Running) → IsChipset saved → IsChipset loaded → saved.setup ≡ loaded.setup →
+pub one_state : SameMap → (saved loaded : Running) → IsChipset saved → IsChipset loaded → saved.setup ≡ loaded.setup →
     chipset_bytes saved ≡ chipset_bytes loaded → saved ≡ loaded
-one_state saved loaded is of same bytes =
+one_state law saved loaded is of same bytes =
     let one : Running × List ℕ = (bare_chipset saved, []) in
     let two : Running × List ℕ = (bare_chipset loaded, []) in
     let told = ok_is one two
     (sym (back saved.setup saved [] refl is)
     ∙ (ap (λ (bytes : List ℕ). chipset_fields saved.setup (bytes ++ [])) bytes
     ∙ back saved.setup loaded [] (sym same) of)) in
-    same_chipset saved loaded is of same (ap (λ (pair : Running × List ℕ). pair.0) told)
+    same_chipset law saved loaded is of (ap (λ (pair : Running × List ℕ). pair.0) told)
 
 pub left_alike : (saved loaded : Running) (history : List Entry) → saved ≡ loaded →
     IsLeftBy loaded history ↔ IsLeftBy saved history

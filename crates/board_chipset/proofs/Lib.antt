@@ -22,4 +22,5 @@ pub mod KeptBytes
 pub mod Marks
 pub mod ChipsetFormats
 pub mod ChipsetLoads
+pub mod ChipsetAlone
 pub mod Common

@@ -1,5 +1,5 @@
 -- Fixed bytes, and that nothing follows.
-use Rattle.std.proofs.Common.{◌≡◌, ℕ, ◌≤◌, inl, inr, Bool, true, false, cond, List, [], ◌∷◌, ◌++◌, length, take, drop, Ok, Err, refl, sym, ap, subst, ◌∙◌, arith, bytes_eq}
+use Rattle.std.proofs.Common.{◌≡◌, ℕ, ◌≤◌, inl, inr, Bool, true, false, cond, List, [], ◌∷◌, ◌++◌, length, take, drop, Result, Ok, Err, OnOk, refl, sym, ap, subst, ◌∙◌, arith, bytes_eq}
 use Rattle.board_prelude.proofs.Common.{take_at, drop_at, take-append-drop, append-nil, bytes_eq-Decides, length-append}
 use Rattle.byte_fields.specs.Fields.{AreBytes, Reading, then_read, gives, exactly, ended}
 use Rattle.board_chipset.specs.Alone.{alone}
@@ -92,3 +92,9 @@ alone_bad {A} {reads = reads} {spelled = spelled} format bytes left are is =
           let whole = ap length told.0 ∙ length-append (spelled late.0.0) late.0.1 in
           omega (arith, same, whole)
     ]
+
+-- ---- what a call says where it ends well
+
+pub on_ok_then : {T E P Q : Type 0} (result : Result T E) → OnOk result P → (P → Q) → OnOk result Q
+on_ok_then (Ok value) is next = next is
+on_ok_then (Err bad) is next = tt

@@ -1,6 +1,6 @@
 //! The reset control register, port 0CF9h of the 82371SB.
 
-ghost use Rattle.std.specs.Prelude.{◌≡◌, ◌↔◌, true, Some};
+ghost use Rattle.std.specs.Prelude.{◌≡◌, ◌<◌, ◌↔◌, true, Some};
 ghost use Rattle.board_prelude.specs.Common.{Port, control_written, is_hard_value, control_after};
 ghost use Rattle.board_chipset.specs.Resets.{reset_by, reset_by_written};
 
@@ -66,6 +66,7 @@ impl ResetControl {
     /// The byte of the register.
     pub fn read(&self) -> u8
         ensures byte { result ≡ self.now }
+        ensures small { self.now < 256 }
     {
         self.byte
     }

@@ -19,6 +19,7 @@ use crate::state_bytes::{head, is_other_version, push_head};
 use crate::state_fault::StateFault;
 use board_base::NoMemory;
 use byte_fields::{Fault, Fields};
+use map_builder::law_same_map;
 use std::alloc::Global;
 
 impl Chipset {
@@ -67,6 +68,7 @@ impl Chipset {
         requires fits { IsSetup setup }
         ensures loaded { LoadsChipset setup fields.old fields.new result }
     {
+        law_same_map();
         fields.are_bytes();
         let state = read_whole(alloc, &setup, fields)?;
         Ok(Chipset { setup, state })
@@ -128,7 +130,9 @@ fn load_version(alloc: Global, setup: Setup, bytes: &[u8]) -> Result<Chipset, St
 pub fn law_one_state()
     ensures one { (saved loaded : Running) → IsChipset saved → IsChipset loaded → saved.setup ≡ loaded.setup
         → chipset_bytes saved ≡ chipset_bytes loaded → saved ≡ loaded }
-{}
+{
+    law_same_map();
+}
 
 /// Does nothing: a chipset that was loaded from the bytes of one that was saved, over its setup, is as each history leaves
 /// it that left the saved one so, and as no other. So all that the calls of a chipset promise holds of it word for word.
@@ -136,4 +140,6 @@ pub fn law_loaded_is_saved()
     ensures same { (saved loaded : Running) (history : List Entry) → IsChipset saved → IsChipset loaded
         → saved.setup ≡ loaded.setup → chipset_bytes saved ≡ chipset_bytes loaded
         → IsLeftBy loaded history ↔ IsLeftBy saved history }
-{}
+{
+    law_same_map();
+}

@@ -181,7 +181,7 @@ impl Registers {
     /// Adds the registers.
     fn save_state(&self, into: &mut Vec<u8>) -> Result<(), NoMemory>
         ensures saved { OnOk result (into.new.items ≡ into.old.items ++ registers_bytes self.now) }
-        ensures sound { (setup : Fitting) → AreSound setup self.now → OnOk result (AreRegisters setup.cards self.now) }
+        ensures sound { OnOk result ((setup : Fitting) → AreSound setup self.now → AreRegisters setup.cards self.now) }
     {
         self.address.save_state(into)?;
         push_byte(into, self.control.read())?;
@@ -215,8 +215,8 @@ impl Registers {
 #[tactic(auto, unfolding(crate::specs::ChipsetState::stores_bytes))]
 fn save_stores(stores: &Stores, into: &mut Vec<u8>) -> Result<(), NoMemory>
     ensures saved { OnOk result (into.new.items ≡ into.old.items ++ stores_bytes stores.now) }
-    ensures sound { (setup : Fitting) (state : StateValue) → IsSound setup state → state.stores ≡ stores.now
-        → OnOk result (AreStores setup stores.now) }
+    ensures sound { OnOk result ((setup : Fitting) (state : StateValue) → IsSound setup state
+        → state.stores ≡ stores.now → AreStores setup stores.now) }
 {
     stores.dram.save_state(into)?;
     stores.contents.save_state(into)

@@ -1,5 +1,6 @@
 use Rattle.std.proofs.Common.{◌≡◌, ℕ, [], ◌∷◌, ◌++◌, ap, ◌∙◌}
-use Rattle.pit_8254.proofs.Saved.{joined, on_ok}
+use Rattle.pit_8254.proofs.Saved.{joined}
+use Rattle.board_chipset.proofs.Marks.{on_ok_then}
 use Rattle.cfg_ports.specs.State.{address_bytes}
 use Rattle.config_regs.specs.State.{south_bytes}
 use Rattle.map_builder.specs.State.{mapped_bytes}
@@ -27,10 +28,10 @@ returns-clause-saved c =
     (joined result two three new map south c.in_ok-save_state-2.ensures.saved c.save_state-3.ensures.saved))
 
 pub returns-clause-sound : goal.returns-clause-sound
-returns-clause-sound c = λ setup sound.
-    on_ok c.save_state-3.result (record {
+returns-clause-sound c =
+    on_ok_then c.save_state-3.result c.save_state-3.ensures.sound (λ south. λ setup sound. record {
       address = c.save_state.ensures.sound;
       control = c.read.ensures.small;
-      map = c.save_state-2.ensures.sound setup sound.bytes sound.kept.cards;
-      south = c.save_state-3.ensures.sound;
+      map = c.in_ok-save_state-2.ensures.sound setup sound.bytes sound.kept.cards;
+      south = south;
     })
