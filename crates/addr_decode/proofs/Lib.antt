@@ -10,4 +10,5 @@ pub mod EdgeCounts
 pub mod FixedEdgeLemmas
 pub mod EdgeLaws
 pub mod EdgeSearchLemmas
+pub mod StateFormat
 pub mod Common

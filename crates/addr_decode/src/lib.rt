@@ -16,6 +16,7 @@ mod onboard;
 mod ports;
 mod register;
 mod regs;
+mod state;
 
 pub use areas::{SixAreas, row};
 pub use board_spec::MapChange;
@@ -27,3 +28,4 @@ pub use memory::decode;
 pub use ports::{PortRegs, decode_port, find_port};
 pub use register::{CardRegister, MapRegister, Names, touch_map};
 pub use regs::MapRegs;
+pub use state::law_one_map_regs;

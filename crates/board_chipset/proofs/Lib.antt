@@ -18,4 +18,9 @@ pub mod LoadSteps
 pub mod CardChecks
 pub mod PortAccessSteps
 pub mod Placed
+pub mod KeptBytes
+pub mod Marks
+pub mod ChipsetFormats
+pub mod ChipsetLoads
+pub mod ChipsetAlone
 pub mod Common

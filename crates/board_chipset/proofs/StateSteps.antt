@@ -1,8 +1,9 @@
 -- The state after an entry that changes a part of it.
-use Rattle.std.proofs.Common.{◌≡◌, ℕ, false, List, [], ◌∷◌, Option, None, refl, sym, ◌∙◌, ap, subst}
+use Rattle.std.proofs.Common.{◌≡◌, ℕ, ◌*◌, option_map, false, List, [], ◌∷◌, Option, None, refl, sym, ◌∙◌, ap, subst}
 use Rattle.board_prelude.proofs.Common.{Event, Entry, MapChange, Setup, kept_address, config_address, byte_of, is_hard_reset, Cell, entry_put, device_reached}
 use Rattle.config_regs.specs.declared.south.South.{South}
-use Rattle.board_devices.specs.Common.{DevicesValue, AreDevicesOf, AreRoutesOf, PassesBy, LeavesDevices}
+use Rattle.board_devices.specs.Common.{DevicesValue, AreDevicesOf, AreRoutesOf, PassesBy, LeavesDevices, sectors_fitted}
+use Rattle.board_devices.proofs.DiskSizes.{opened_has}
 use Rattle.board_stores.specs.declared.stores.Stores.{Stores}
 use Rattle.board_stores.specs.Puts.{HasStores, ArePut}
 use Rattle.board_chipset.specs.declared.registers.Registers.{Registers}
@@ -78,30 +79,39 @@ sound_put sound is = record {
   registers = sound.registers;
   memory = is.size ∙ sound.memory;
   contents = λ dev base number. is.sizes dev base ∙ sound.contents dev base number;
+  disk = sound.disk;
 }
 
--- other registers, and maybe other devices
-pub sound_registers :
+-- other registers, and other devices with as many sectors of a disk
+pub sound_changed :
     {setup : Setup} {old : State} {registers : Registers} {devices : DevicesValue} →
-    IsSound setup old → AreSound setup registers →
+    IsSound setup old → AreSound setup registers → sectors_fitted devices.disk ≡ sectors_fitted old.devices.disk →
     IsSound setup (record old { registers = registers; devices = devices })
-sound_registers sound is = record {
+sound_changed sound is fitted = record {
   fits = sound.fits;
   registers = is;
   memory = sound.memory;
   contents = sound.contents;
+  disk = sound.disk ∙ ap (λ (count : Option ℕ). option_map (λ sectors. 512 * sectors) count) (sym fitted);
 }
+
+-- other registers
+pub sound_registers :
+    {setup : Setup} {old : State} {registers : Registers} →
+    IsSound setup old → AreSound setup registers → IsSound setup (record old { registers = registers })
+sound_registers sound is = sound_changed sound is refl
 
 -- other devices
 pub sound_devices :
     {setup : Setup} {old : State} {devices : DevicesValue} →
-    IsSound setup old → IsSound setup (record old { devices = devices })
-sound_devices sound = sound_registers sound sound.registers
+    IsSound setup old → sectors_fitted devices.disk ≡ sectors_fitted old.devices.disk →
+    IsSound setup (record old { devices = devices })
+sound_devices sound fitted = sound_changed sound sound.registers fitted
 
 -- the state after power-on
 pub fresh_sound : {setup : Setup} {state : State} → IsStateOf setup [] state → IsSound setup state
 unfolding config_address
-fresh_sound {setup} is = record {
+fresh_sound {setup} {state} is = record {
   fits = is.fits;
   registers = record {
     bytes = byte_of setup [];
@@ -111,4 +121,5 @@ fresh_sound {setup} is = record {
   };
   memory = is.stores.dram.size;
   contents = is.stores.contents.sizes;
+  disk = opened_has setup state.devices is.fits.disk is.devices.others.disk;
 }

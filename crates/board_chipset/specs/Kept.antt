@@ -6,7 +6,7 @@ use Rattle.map_builder.specs.Map.{Mapped}
 use Rattle.pci_bars.specs.Contents.{HaveSizes}
 use Rattle.config_regs.specs.Config.{AreKeptOf}
 use Rattle.board_stores.specs.Puts.{HasStores}
-use Rattle.board_devices.specs.Devices.{AreDevicesOf}
+use Rattle.board_devices.specs.Devices.{AreDevicesOf, HasDisk}
 use Rattle.board_chipset.specs.declared.registers.Registers.{Registers}
 use Rattle.board_chipset.specs.declared.state.State.{State}
 use Rattle.board_chipset.specs.Versions.{version_count, AreLastChanged}
@@ -40,12 +40,14 @@ pub record AreSound (setup : Setup) (registers : Registers) : Type 0 where
   pub flat : IsFlat registers.map
 
 -- what each step rests on and keeps, whether or not a history leaves a board so: sound registers, as many bytes of DRAM
--- as are installed, and of each card as it has. The devices' types say the rest
+-- as are installed, and of each card as it has, and a disk exactly where one is fitted, with as many sectors. The devices'
+-- types say the rest
 pub record IsSound (setup : Setup) (state : State) : Type 0 where
   pub fits : IsSetup setup
   pub registers : AreSound setup state.registers
   pub memory : length state.stores.dram ≡ installed setup
   pub contents : HaveSizes setup state.stores.contents
+  pub disk : HasDisk setup.disk state.devices.disk
 
 -- a step keeps it
 abbrev pub StaysSound : State → State → Type 0

@@ -1,5 +1,7 @@
+pub mod Alone
 pub mod BusReplies
 pub mod Chipset
+pub mod ChipsetState
 pub mod Faults
 pub mod Kept
 pub mod Loads
@@ -9,6 +11,7 @@ pub mod Places
 pub mod Ports
 pub mod Resets
 pub mod Setups
+pub mod StateFaults
 pub mod Steps
 pub mod Stores
 pub mod Versions

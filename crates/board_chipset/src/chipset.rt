@@ -1,7 +1,7 @@
 //! The chipset: each event is one step, and its reply the answer to the history so far, which is not kept.
 
 ghost use Rattle.std.specs.Prelude.{◌≡◌, ◌<◌, ◌≤◌, ◌%◌, ◌↔◌, List, [], ◌∷◌, length, Err, IfOk};
-ghost use Rattle.board_prelude.specs.Common.{Entry, most_mib, most_card_memory, IsCardList, IsDisk, IsRomSize, memory_of_cards, IsInRange, IsAnswer, byte_of, map_change_of, version_of, IsFlatMapOf, disk_of};
+ghost use Rattle.board_prelude.specs.Common.{Entry, most_mib, most_card_memory, IsCardList, IsDisk, IsRomSize, IsSetup, memory_of_cards, IsInRange, IsAnswer, byte_of, map_change_of, version_of, IsFlatMapOf, disk_of};
 ghost use Rattle.addr_decode.specs.MapRegs.{StandsFor, map_bytes};
 ghost use Rattle.dram_store.specs.Dram.{IsDramOf};
 ghost use Rattle.pci_bars.specs.Contents.{IsContentsOf};
@@ -86,6 +86,7 @@ impl Chipset {
     /// What the chipset is fitted with.
     pub fn setup(&self) -> &Setup
         ensures setup { result.now ≡ self.now.setup }
+        ensures fits { IsSetup self.now.setup }
     {
         &self.setup
     }

@@ -1,6 +1,6 @@
 //! The reset control register, port 0CF9h of the 82371SB.
 
-ghost use Rattle.std.specs.Prelude.{◌≡◌, ◌↔◌, true, Some};
+ghost use Rattle.std.specs.Prelude.{◌≡◌, ◌<◌, ◌↔◌, true, Some};
 ghost use Rattle.board_prelude.specs.Common.{Port, control_written, is_hard_value, control_after};
 ghost use Rattle.board_chipset.specs.Resets.{reset_by, reset_by_written};
 
@@ -56,9 +56,17 @@ impl ResetControl {
         ResetControl { byte: 0 }
     }
 
+    /// The register that holds this byte.
+    pub(crate) fn holding(byte: u8) -> ResetControl
+        ensures byte { result ≡ byte }
+    {
+        ResetControl { byte }
+    }
+
     /// The byte of the register.
     pub fn read(&self) -> u8
         ensures byte { result ≡ self.now }
+        ensures small { self.now < 256 }
     {
         self.byte
     }

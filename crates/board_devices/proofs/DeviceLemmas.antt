@@ -1,6 +1,6 @@
 -- What an entry leaves of each device.
 use Rattle.std.proofs.Common.{◌≡◌, ℕ, ◌+◌, ◌<◌, ◌≤◌, Bool, true, false, ◌||◌, ◌&&◌, List, [], ◌∷◌, Option, Some, None, length, get_or, refl, sym, ◌∙◌, ap, subst, arith, inl, inr, ◌*◌, ◌/◌, ◌%◌, replicate, eq-eqb, ne_eqb, get_or-set_same, get_or-set_other, length-set, ◌↔◌, is_some, Result, Err, ◌==◌, unwrap_or, map, option_map, slice_index_or, slice_set, if◌then◌else◌}
-use Rattle.board_prelude.proofs.Common.{or-false, and-false, nat_tests, cases_eq, cases_Bool, lt-ltb, le-leb, get_or-replicate, ext_get_or, length-map, get_or-map, each_below, same-levels, pair_has_seen, levels-same, pair-pulsed, PairHasSeen, PortAccess, Dev, Pic0, Pic1, Pit, System, Keyboard, Elcr, Ata, Wires, Vector, Spurious, bytes_of, PitState, out_of, pulses, reset as timer_at_reset, Clock as ClockState, after_reset as clock_after_reset, Triggers, triggers_at_reset, reserved-rest, Pair, levels_at_power_on, port_byte, pair_after_lines, pair_at_reset, port_read, read_value, trigger_byte, Disk, option_map_or, is_disk_length, power_on as disk_at_power_on, Event, Memory, Wide, Port, Ack, Pulses, Time, Wire, Line, BadSector, Reply, Entry, Setup, IsDiskSize, is_free_line, reset_control, control_written, resets_hard, is_hard_reset, SystemPort, system_at_reset, device_reached, wire_set, wire_of, line_set, irq_of, triggers_accessed, triggers_after, triggers_of, system_accessed, system_after, system_of, timer_accessed, timer_after, timer_of, clock_accessed, clock_after, clock_of, disk_accessed, disk_after, disk_with, disk_of, routes_of, pirq_levels, pair_pulsed, own_level, level_with, all_lines, levels_with, levels_of, elcr_of, device_value, pair_accessed, pair_after, pair_reset_or_after, pair_stepped, pair_of}
+use Rattle.board_prelude.proofs.Common.{or-false, and-false, nat_tests, cases_eq, cases_Bool, lt-ltb, le-leb, get_or-replicate, ext_get_or, length-map, get_or-map, each_below, same-levels, pair_has_seen, levels-same, pair-pulsed, PairHasSeen, PortAccess, Dev, Pic0, Pic1, Pit, System, Keyboard, Elcr, Ata, Wires, Vector, Spurious, bytes_of, PitState, out_of, pulses, reset as timer_at_reset, Clock as ClockState, after_reset as clock_after_reset, Triggers, triggers_at_reset, reserved-rest, Pair, levels_at_power_on, port_byte, pair_after_lines, pair_at_reset, port_read, read_value, trigger_byte, Disk, option_map_or, is_disk_length, power_on as disk_at_power_on, Event, Memory, Wide, Port, Ack, Pulses, Time, Wire, Line, BadSector, Reply, Entry, Setup, IsDisk, IsDiskSize, is_free_line, reset_control, control_written, resets_hard, is_hard_reset, SystemPort, system_at_reset, device_reached, wire_set, wire_of, line_set, irq_of, triggers_accessed, triggers_after, triggers_of, system_accessed, system_after, system_of, timer_accessed, timer_after, timer_of, clock_accessed, clock_after, clock_of, disk_accessed, disk_after, disk_with, disk_of, routes_of, pirq_levels, pair_pulsed, own_level, level_with, all_lines, levels_with, levels_of, elcr_of, device_value, pair_accessed, pair_after, pair_reset_or_after, pair_stepped, pair_of}
 use Rattle.board_prelude.specs.Common.{is_interrupt}
 use Rattle.board_devices.specs.Common.{LeavesDevices, DevicesValue, AreWiresOf, AreIrqsOf, AreAfter, AreDevicesOf, is_chip_port, ReachesDevice, Asks, is_chip, PassesBy, Leaves, value_read, after_read, after_write}
 use Rattle.ata_pio.specs.declared.ata.AtaOpen.{AtaOpen}
@@ -646,6 +646,10 @@ counted_sectors size sectors some few is =
     let more : 0 < size = omega (arith, is, some) in
     let fits : size ≤ 512 * 65536 = omega (arith, is, few) in
     rw (eq-eqb (size % 512) 0 whole, lt-ltb 0 size more) (le-leb size (512 * 65536) fits)
+
+-- bytes that a disk can have
+pub disk_length : (bytes : List ℕ) → IsDisk (Some bytes) → is_disk_length (length bytes) ≡ true
+disk_length bytes is = counted_sectors (length bytes) is.0 is.1 is.2 is.3
 
 -- a length is refused where it is not that of a disk
 pub refused_length : (size : ℕ) → is_disk_length size ≡ false → ¬ IsDiskSize size

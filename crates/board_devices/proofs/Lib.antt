@@ -2,4 +2,6 @@ pub mod DeviceLemmas
 mod ChipSteps
 mod PulseLemmas
 mod StandingLines
+pub mod StateFormat
+pub mod DiskSizes
 pub mod OutsideLemmas

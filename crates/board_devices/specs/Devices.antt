@@ -1,5 +1,6 @@
 -- The devices as they stand are those that a history left.
-use Rattle.std.specs.Prelude.{ℕ, ◌≡◌, ◌<◌, ◌≤◌, ◌&&◌, Bool, false, List, slice_index_or, Option}
+use Rattle.std.specs.Prelude.{ℕ, ◌≡◌, ◌*◌, ◌<◌, ◌≤◌, ◌&&◌, Bool, false, List, length, slice_index_or, Option, option_map}
+use Rattle.device_spec.specs.Common.{sectors_of}
 use Rattle.board_prelude.specs.Common.{PitState, Pair, Clock, Triggers, Disk, Entry, Setup, is_free_line, SystemPort, triggers_of, system_of, timer_of, clock_of, disk_of, wire_of, irq_of, routes_of, pair_of}
 
 -- what the devices hold: the machines, port 61h, INTA# of the cards by device, and the lines that `irq` set
@@ -41,3 +42,12 @@ pub record AreDevicesOf (setup : Setup) (history : List Entry) (devices : Device
 -- these are the bytes of PIRQRCA to PIRQRCD after a history
 abbrev pub AreRoutesOf : Setup → List Entry → List ℕ → Type 0
 AreRoutesOf setup history routes = routes ≡ routes_of setup history
+
+-- how many sectors the disk has, where one is fitted. Nothing changes it
+abbrev pub sectors_fitted : Option Disk → Option ℕ
+sectors_fitted disk = option_map (λ disk. sectors_of disk.medium) disk
+
+-- a disk is there exactly where these bytes are, with a sector for each 512 of them
+abbrev pub HasDisk : (fitted : Option (List ℕ)) → Option Disk → Type 0
+HasDisk fitted disk =
+    option_map (λ bytes. length bytes) fitted ≡ option_map (λ sectors. 512 * sectors) (sectors_fitted disk)

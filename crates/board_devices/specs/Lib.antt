@@ -4,4 +4,5 @@ pub mod Steps
 pub mod Laws
 pub mod PulsedPair
 pub mod Outside
+pub mod State
 pub mod Common

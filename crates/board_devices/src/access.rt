@@ -5,7 +5,7 @@ ghost use Rattle.board_prelude.specs.Common.{bytes_of, largest_of, Entry, Setup,
 ghost use Rattle.device_spec.specs.Ata.Steps.{after_read as disk_after_read, after_write as disk_after_write};
 ghost use Rattle.pic_pair.specs.View.{answer_shown};
 ghost use Rattle.board_devices.specs.Steps.{value_read, after_read, after_write, driven};
-ghost use Rattle.board_devices.specs.Devices.{AreDevicesOf, AreRoutesOf};
+ghost use Rattle.board_devices.specs.Devices.{AreDevicesOf, AreRoutesOf, sectors_fitted};
 ghost use Rattle.board_devices.specs.Events.{is_chip_port, sets_triggers, ReachesDevice, Asks};
 
 use crate::devices::Devices;
@@ -28,6 +28,7 @@ impl Devices {
         ensures devices { (setup : Setup) (history : List Entry) (entry : Entry) → AreDevicesOf setup history self.old
             → ReachesDevice history entry dev access.now → access.now.write ≡ false
             → AreRoutesOf setup (entry ∷ history) routes.now → AreDevicesOf setup (entry ∷ history) self.new }
+        ensures fitted { sectors_fitted self.new.disk ≡ sectors_fitted self.old.disk }
     {
         let before = self.driven(dev);
         let value = self.read_port(dev, access);
@@ -44,6 +45,7 @@ impl Devices {
         ensures devices { (setup : Setup) (history : List Entry) (entry : Entry) → AreDevicesOf setup history self.old
             → ReachesDevice history entry dev access.now → access.now.write ≡ true
             → AreRoutesOf setup (entry ∷ history) routes.now → AreDevicesOf setup (entry ∷ history) self.new }
+        ensures fitted { sectors_fitted self.new.disk ≡ sectors_fitted self.old.disk }
     {
         let before = self.driven(dev);
         self.write_port(dev, access);
@@ -70,6 +72,7 @@ impl Devices {
         ensures devices { (setup : Setup) (history : List Entry) (entry : Entry) → AreDevicesOf setup history self.old
             → Asks history entry AckEvent → AreRoutesOf setup (entry ∷ history) routes.now
             → AreDevicesOf setup (entry ∷ history) self.new }
+        ensures fitted { sectors_fitted self.new.disk ≡ sectors_fitted self.old.disk }
     {
         let ack = self.answer();
         (ack.vector, who_answered(&ack))

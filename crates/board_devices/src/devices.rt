@@ -3,7 +3,7 @@
 ghost use Rattle.std.specs.Prelude.{◌≡◌, ◌↔◌, ◌∷◌, List, [], Err, IfOk, is_some, option_map, true};
 ghost use Rattle.board_prelude.specs.Common.{Entry, Setup, IsDisk, is_hard_reset, reset as timer_at_reset, pair_at_reset, after_reset as clock_after_reset, triggers_at_reset, system_at_reset, disk_of};
 ghost use Rattle.device_spec.specs.Ata.Steps.{after_reset as disk_after_reset};
-ghost use Rattle.board_devices.specs.Devices.{AreDevicesOf, AreRoutesOf};
+ghost use Rattle.board_devices.specs.Devices.{AreDevicesOf, AreRoutesOf, sectors_fitted};
 
 use crate::system::SystemPort;
 use ata_pio::{Ata, AtaOpen};
@@ -96,6 +96,7 @@ impl Devices {
         ensures reset { (setup : Setup) (history : List Entry) (entry : Entry) → AreDevicesOf setup history self.old
             → is_hard_reset history entry.event ≡ true → AreRoutesOf setup (entry ∷ history) routes.now
             → AreDevicesOf setup (entry ∷ history) self.new }
+        ensures fitted { sectors_fitted self.new.disk ≡ sectors_fitted self.old.disk }
     {
         self.reset_machines();
         let levels = self.levels(routes);

@@ -8,8 +8,10 @@ mod devices;
 mod lines;
 mod monitor;
 mod outside;
+mod state;
 mod system;
 mod told;
 
 pub use devices::Devices;
 pub use lines::{law_left_alone, law_lines_stand};
+pub use state::law_one_devices;

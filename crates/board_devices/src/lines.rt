@@ -2,7 +2,7 @@
 
 ghost use Rattle.std.specs.Prelude.{◌≡◌, ℕ, ◌+◌, ◌*◌, ◌<◌, ◌∷◌, ◌||◌, List, slice_index_or, false};
 ghost use Rattle.board_prelude.specs.Common.{option_map_or, is_interrupt, pair_after_lines, timer_of, Entry, Setup, pirq_levels, own_level, levels_of, elcr_of};
-ghost use Rattle.board_devices.specs.Devices.{AreWiresOf, AreAfter, AreDevicesOf, AreRoutesOf};
+ghost use Rattle.board_devices.specs.Devices.{AreWiresOf, AreAfter, AreDevicesOf, AreRoutesOf, sectors_fitted};
 ghost use Rattle.board_devices.specs.Events.{Leaves};
 ghost use Rattle.board_devices.specs.Steps.{driven};
 ghost use Rattle.board_devices.specs.Laws.{AccessLeavesLines, StillLeavesLines, AcknowledgeLeavesLines, LeavesDevices};
@@ -119,6 +119,7 @@ impl Devices {
         ensures devices { (setup : Setup) (history : List Entry) (entry : Entry) → AreDevicesOf setup history self.old
             → Leaves history entry → AreRoutesOf setup (entry ∷ history) routes.now
             → AreDevicesOf setup (entry ∷ history) self.new }
+        ensures fitted { sectors_fitted self.new.disk ≡ sectors_fitted self.old.disk }
     {
         self.settle(routes);
     }

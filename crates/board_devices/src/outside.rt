@@ -3,7 +3,7 @@
 
 ghost use Rattle.std.specs.Prelude.{◌≡◌, ◌<◌, ◌≤◌, ◌∷◌, List, length, nat_lt, slice_set, option_map, true, false};
 ghost use Rattle.board_prelude.specs.Common.{out_of, pulses, rises, after_moment, civil_time, after_bad, IsMoment, Entry, Pulses, Time, Wire, Line, BadSector, Setup, is_free_line, levels_of, elcr_of};
-ghost use Rattle.board_devices.specs.Devices.{AreAfter, AreDevicesOf, AreRoutesOf};
+ghost use Rattle.board_devices.specs.Devices.{AreAfter, AreDevicesOf, AreRoutesOf, sectors_fitted};
 ghost use Rattle.board_devices.specs.Events.{Asks};
 ghost use Rattle.board_devices.specs.PulsedPair.{pair_after_run};
 
@@ -21,6 +21,7 @@ impl Devices {
         ensures devices { (setup : Setup) (history : List Entry) (entry : Entry) → AreDevicesOf setup history self.old
             → Asks history entry (Pulses count) → AreRoutesOf setup history routes.now
             → AreDevicesOf setup (entry ∷ history) self.new }
+        ensures fitted { sectors_fitted self.new.disk ≡ sectors_fitted self.old.disk }
     {
         let before = self.timer.out(0);
         let rises = self.run(count);
@@ -35,6 +36,7 @@ impl Devices {
         ensures devices { (setup : Setup) (history : List Entry) (entry : Entry) → AreDevicesOf setup history self.old
             → Asks history entry (Time moment) → AreRoutesOf setup (entry ∷ history) routes.now
             → AreDevicesOf setup (entry ∷ history) self.new }
+        ensures fitted { sectors_fitted self.new.disk ≡ sectors_fitted self.old.disk }
     {
         self.tell(moment);
         self.settle(routes);
@@ -47,6 +49,7 @@ impl Devices {
         ensures devices { (setup : Setup) (history : List Entry) (entry : Entry) → AreDevicesOf setup history self.old
             → Asks history entry (Wire dev on) → AreRoutesOf setup (entry ∷ history) routes.now
             → AreDevicesOf setup (entry ∷ history) self.new }
+        ensures fitted { sectors_fitted self.new.disk ≡ sectors_fitted self.old.disk }
     {
         self.put_wire(dev, on);
         self.settle(routes);
@@ -58,6 +61,7 @@ impl Devices {
         ensures devices { (setup : Setup) (history : List Entry) (entry : Entry) → AreDevicesOf setup history self.old
             → Asks history entry (Line irq on) → AreRoutesOf setup (entry ∷ history) routes.now
             → AreDevicesOf setup (entry ∷ history) self.new }
+        ensures fitted { sectors_fitted self.new.disk ≡ sectors_fitted self.old.disk }
     {
         self.put_line(irq, on);
         self.settle(routes);
@@ -68,6 +72,7 @@ impl Devices {
         ensures devices { (setup : Setup) (history : List Entry) (entry : Entry) → AreDevicesOf setup history self.old
             → Asks history entry (BadSector sector) → AreRoutesOf setup (entry ∷ history) routes.now
             → AreDevicesOf setup (entry ∷ history) self.new }
+        ensures fitted { sectors_fitted self.new.disk ≡ sectors_fitted self.old.disk }
     {
         self.spoil(sector);
         self.settle(routes);

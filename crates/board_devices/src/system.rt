@@ -13,7 +13,7 @@ ghost use Rattle.board_spec.specs.Devices.{system_at_reset};
 use std::marker::Model;
 
 /// The bits that are kept as written: the gate of counter 2, and the speaker.
-const KEPT: u8 = 0x03;
+pub(crate) const KEPT: u8 = 0x03;
 /// The bit that flips after each read.
 const REFRESH: u8 = 1 << 4;
 /// The bit that shows OUT of counter 2.
@@ -22,8 +22,8 @@ const OUT_2: u8 = 1 << 5;
 /// Port 61h.
 #[derive(Drop)]
 pub struct SystemPort {
-    kept: u8,
-    flip: bool,
+    pub(crate) kept: u8,
+    pub(crate) flip: bool,
 }
 
 impl Model for SystemPort {

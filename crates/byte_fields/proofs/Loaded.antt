@@ -1,8 +1,10 @@
 -- What a format says of a call that reads by it.
-use Rattle.std.proofs.Common.{◌≡◌, ℕ, List, [], ◌++◌, Result, Ok, Err, sym, ap, ◌∙◌}
+use Rattle.std.proofs.Common.{◌≡◌, ℕ, List, [], ◌++◌, Result, Ok, Err, inl, inr, refl, sym, ap, ◌∙◌}
 use Rattle.byte_fields.specs.declared.fault.Bad.{Bad}
-use Rattle.byte_fields.specs.Fields.{AreBytes, Reading, Took}
-use Rattle.byte_fields.specs.Loads.{Loads, OneSpelling}
+use Rattle.byte_fields.specs.declared.fault.Fault.{Fault}
+use Rattle.byte_fields.specs.declared.fault.Fault.TheVariants as faults
+use Rattle.byte_fields.specs.Fields.{AreBytes, Reading, Took, Filled}
+use Rattle.byte_fields.specs.Loads.{Loads, LoadsWith, OneSpelling}
 use Rattle.byte_fields.proofs.Formats.{IsFormat, ok_is, not_err}
 
 pub loads :
@@ -26,6 +28,34 @@ loads {A} {reads = reads} is before after (Err bad) are took = record {
       let pair : A × List ℕ = (value, rest) in
       absurd (not_err pair _ (sym (ap reads begins ∙ is.back value rest sound) ∙ took));
   bad = took;
+}
+
+pub loads_with :
+    {A : Type 0} {n : ℕ} {reads : Reading A} {spelled : A → List ℕ} {IsSound : A → Type 0} →
+    IsFormat n reads spelled IsSound → (before after : List ℕ) (result : Result A Fault) → AreBytes before →
+    Filled (λ value. value) result after (reads before) → LoadsWith reads spelled IsSound before after result
+loads_with {A} {reads = reads} is before after (Ok got) are filled = record {
+  loaded =
+      let told = is.taken before got after are filled in
+      (told.1, told.0);
+  exact = λ value rest sound begins.
+      let one : A × List ℕ = (got, after) in
+      let two : A × List ℕ = (value, rest) in
+      let same = ok_is one two (sym filled ∙ (ap reads begins ∙ is.back value rest sound)) in
+      inr (ap (λ (pair : A × List ℕ). Ok pair.0) same, ap (λ (pair : A × List ℕ). pair.1) same);
+  bad = filled;
+}
+loads_with {A} {reads = reads} is before after (Err faults.Bad) are filled = record {
+  loaded = tt;
+  exact = λ value rest sound begins.
+      let pair : A × List ℕ = (value, rest) in
+      absurd (not_err pair _ (sym (ap reads begins ∙ is.back value rest sound) ∙ filled));
+  bad = filled;
+}
+loads_with is before after (Err faults.NoMemory) are filled = record {
+  loaded = tt;
+  exact = λ value rest sound begins. inl refl;
+  bad = tt;
 }
 
 pub one_spelling :

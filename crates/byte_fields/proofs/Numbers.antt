@@ -62,7 +62,7 @@ front_bytes n bytes are k =
       | inr past ↦ rw (get_or_past (take n bytes) k 0 (omega (arith, length-take n bytes, past))) (omega arith)
     ]
 
-whole_ok : {X : Type 0} (short : Bool) (left : ℕ) (read : Result X ℕ) (y : X) →
+pub whole_ok : {X : Type 0} (short : Bool) (left : ℕ) (read : Result X ℕ) (y : X) →
     cond short (Err left) read ≡ Ok y → (short ≡ false) × (read ≡ Ok y)
 whole_ok true left read y is = absurd cc
 whole_ok false left read y is = (refl, is)

@@ -98,6 +98,13 @@ abbrev pub exactly : List ℕ → Reading (Unit {0})
 exactly text bytes =
     if bytes_eq (take (length text) bytes) text then Ok (tt, drop (length text) bytes) else Err (length bytes)
 
+-- as many bytes as these, which differ from them
+abbrev pub other_than : List ℕ → Reading (List ℕ)
+other_than text bytes =
+    if nat_lt (length bytes) (length text) then Err (length bytes)
+    else if bytes_eq (take (length text) bytes) text then Err (length bytes)
+    else Ok (take (length text) bytes, drop (length text) bytes)
+
 -- nothing more
 abbrev pub ended : Reading (Unit {0})
 ended [] = Ok (tt, [])

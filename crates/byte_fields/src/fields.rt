@@ -2,7 +2,7 @@
 
 ghost use Rattle.std.specs.Prelude.{◌≡◌, ◌≤◌, ◌<◌, ℕ, Bool, true, false, Option, length, take, drop, MatchResult, IfOk};
 ghost use Rattle.std.specs.Int.{w8, w16, w32, w64};
-ghost use Rattle.byte_fields.specs.Fields.{AreBytes, Took, number, within, plain, exactly, ended, flag_of, flag_field, flag_byte, flag_where, IsWithin, optional, bound_where, some_where};
+ghost use Rattle.byte_fields.specs.Fields.{AreBytes, Took, number, within, plain, exactly, other_than, ended, flag_of, flag_field, flag_byte, flag_where, IsWithin, optional, bound_where, some_where};
 
 use crate::fault::Bad;
 use std::marker::Model;
@@ -209,6 +209,21 @@ impl<'a> Fields<'a> {
         };
         self.rest = after;
         Ok(())
+    }
+
+    /// Reads as many bytes as these, which differ from them.
+    pub fn other_than(&mut self, text: &[u8]) -> Result<&'a [u8], Bad>
+        ensures took { Took (λ bytes. bytes.now) result self.new (other_than text.now self.old) }
+        ensures whole { IfOk result (λ bytes. length bytes.now ≡ length text.now) }
+    {
+        let Some((bytes, after)) = self.rest.split_at_checked(text.len()) else {
+            return Err(Bad);
+        };
+        if bytes == text {
+            return Err(Bad);
+        }
+        self.rest = after;
+        Ok(bytes)
     }
 
     /// Checks that nothing follows.

@@ -4,10 +4,12 @@
 
 mod fault;
 mod fields;
+mod pages;
 mod push;
 
 pub use fault::{Bad, Fault};
 pub use fields::Fields;
+pub use pages::{MEMORY_PAGE, push_memory, push_page, push_pages};
 pub use push::{
     push_byte, push_bytes, push_flag, push_half, push_optional_byte, push_optional_word, push_word,
 };

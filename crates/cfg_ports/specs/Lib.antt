@@ -1,2 +1,3 @@
 pub mod Selection
 pub mod Space
+pub mod State

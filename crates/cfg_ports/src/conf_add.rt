@@ -23,7 +23,7 @@ pub struct Selected {
 /// device, 3 of function and 8 of register, whose low two are 0. Contracts see the number that it holds.
 #[derive(Drop)]
 pub struct ConfAdd {
-    value: u32,
+    pub(crate) value: u32,
 }
 
 impl Model for ConfAdd {

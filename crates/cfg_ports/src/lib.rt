@@ -4,6 +4,8 @@
 
 mod conf_add;
 mod space;
+mod state;
 
 pub use conf_add::{ConfAdd, Selected, kept, select};
 pub use space::Space;
+pub use state::law_one_address;

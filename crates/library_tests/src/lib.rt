@@ -8,6 +8,8 @@ mod digits;
 #[cfg(test)]
 mod images;
 #[cfg(test)]
+mod saved_states;
+#[cfg(test)]
 mod serial_port;
 #[cfg(test)]
 mod transfers;

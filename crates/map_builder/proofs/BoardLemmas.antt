@@ -20,7 +20,7 @@ card_byte off card =
     if is_within 0x10 0x27 off then byte (slice_index card.bases ((off - 0x10) / 4)) ((off - 0x10) % 4)
     else byte card.rom (off - 0x30)
 
-card_with : ℕ → List CardBytes → Option CardBytes
+pub card_with : ℕ → List CardBytes → Option CardBytes
 card_with dev cards = find (λ card. card.card.dev == dev) cards
 
 board_byte : MapBytes → Reg → ℕ
@@ -47,7 +47,7 @@ windows_stand regs off within = sym (cond-true (nat_lt off 0x60) _ _ (grind (ari
 
 -- ---- the cards
 
-found : (cards : List CardBytes) → Rises (cards_of cards) → (k : ℕ) (d : CardBytes) → k < length cards →
+pub found : (cards : List CardBytes) → Rises (cards_of cards) → (k : ℕ) (d : CardBytes) → k < length cards →
     card_with (get_or cards k d).card.dev cards ≡ Some (get_or cards k d)
 unfolding card_with
 found [] rises k d within = absurd (omega arith)
@@ -60,7 +60,7 @@ found (card ∷ later) rises (suc k) d within =
     cond-false (card.card.dev == (get_or later k d).card.dev) (Some card) (find (λ other. other.card.dev == (get_or later k d).card.dev) later) (ne_eqb _ _ (omega arith))
     ∙ found later rises.1 k d (omega arith)
 
-find-map : (dev : ℕ) (cards : List CardBytes) → find (λ card. card.dev == dev) (cards_of cards) ≡ option_map (λ (card : CardBytes). card.card) (card_with dev cards)
+pub find-map : (dev : ℕ) (cards : List CardBytes) → find (λ card. card.dev == dev) (cards_of cards) ≡ option_map (λ (card : CardBytes). card.card) (card_with dev cards)
 unfolding card_with
 find-map dev [] = refl
 find-map dev (card ∷ later) = elim (cases_Bool (card.card.dev == dev)) [

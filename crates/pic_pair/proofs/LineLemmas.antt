@@ -1,7 +1,7 @@
 -- The levels of the sixteen lines, and the bits of their mask.
-use Rattle.std.proofs.Common.{◌≡◌, ℕ, ◌-◌, ◌*◌, ◌/◌, ◌%◌, ◌^◌, ◌<◌, Bool, true, false, cond, not, eqb, ◌||◌, ◌&&◌, List, length, take, drop, replicate, get_or, set, refl, sym, ap, subst, ◌∙◌, inl, inr, arith, length-set, get_or-set_same, get_or-set_other, bit_or, bit_and}
+use Rattle.std.proofs.Common.{◌≡◌, ℕ, ◌+◌, ◌-◌, ◌*◌, ◌/◌, ◌%◌, ◌^◌, ◌<◌, Bool, true, false, cond, not, eqb, ◌||◌, ◌&&◌, List, ◌++◌, length, take, drop, replicate, get_or, set, refl, sym, ap, subst, ◌∙◌, inl, inr, arith, length-set, get_or-set_same, get_or-set_other, bit_or, bit_and}
 use mir.Syntax.{w16}
-use Rattle.device_spec.proofs.Common.{cases_eq, eq-eqb, ne_eqb, eqb-true, agree_below_at, get_or-map, ext_get_or, is_bit, levels_where, levels_of_byte}
+use Rattle.device_spec.proofs.Common.{take-append-drop, cases_eq, eq-eqb, ne_eqb, eqb-true, agree_below_at, get_or-map, ext_get_or, is_bit, levels_where, levels_of_byte}
 use Rattle.pic_pair.specs.Lines.{sixteen, lines_where, lines_of}
 use Rattle.pic_pair.proofs.LevelLemmas.{is_bit-or, is_bit-set, is_bit-clear}
 
@@ -102,3 +102,17 @@ high-lines n =
     let e6 : is_bit (n / 256) 6 ≡ is_bit n 14 = ap (λ x. eqb x 1) (omega arith) in
     let e7 : is_bit (n / 256) 7 ≡ is_bit n 15 = ap (λ x. eqb x 1) (omega arith) in
     cc
+
+-- the mask of two bytes
+pub lines_of_bytes : (low high : ℕ) → low < 256 → lines_of (low + 256 * high) ≡ levels_of_byte low ++ levels_of_byte high
+lines_of_bytes low high below =
+    let n = low + 256 * high in
+    let first : n % 256 ≡ low = omega (arith, below) in
+    let second : n / 256 ≡ high = omega (arith, below) in
+    let one : take 8 (lines_of n) ≡ levels_of_byte low =
+    sym (low-lines n) ∙ ap (λ (byte : ℕ). levels_of_byte byte) first in
+    let two : drop 8 (lines_of n) ≡ levels_of_byte high =
+    sym (high-lines n) ∙ ap (λ (byte : ℕ). levels_of_byte byte) second in
+    sym (take-append-drop 8 (lines_of n))
+    ∙ (ap (λ (front : List Bool). front ++ drop 8 (lines_of n)) one
+    ∙ ap (λ (back : List Bool). levels_of_byte low ++ back) two)

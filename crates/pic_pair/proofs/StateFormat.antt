@@ -1,14 +1,14 @@
 -- The state of the pair is spelled and read back.
-use Rattle.std.proofs.Common.{◌≡◌, ℕ, zero, suc, ◌+◌, ◌*◌, ◌/◌, ◌%◌, ◌^◌, ◌<◌, ◌≤◌, Bool, true, false, eqb, List, [], ◌∷◌, ◌++◌, length, refl, sym, ap, subst, ◌∙◌, arith, if◌then◌else◌}
+use Rattle.std.proofs.Common.{◌≡◌, ℕ, zero, suc, ◌+◌, ◌*◌, ◌/◌, ◌%◌, ◌^◌, ◌<◌, ◌≤◌, Bool, true, false, eqb, List, [], ◌∷◌, ◌++◌, length, take, drop, refl, sym, ap, subst, ◌∙◌, arith, if◌then◌else◌}
 use Rattle.std.proofs.Math.Nat.{pow-succ'}
-use Rattle.device_spec.proofs.Common.{agree_below_at, eqb-true, get_or_past, is_bit, has, levels_where, levels_where-same, levels_where-has, levels_of_byte, byte_of_levels, Levels}
+use Rattle.device_spec.proofs.Common.{take_at, drop_at, take-append-drop, length-take, length-drop, length-append, agree_below_at, eqb-true, get_or_past, is_bit, has, levels_where, levels_where-same, levels_where-has, levels_of_byte, byte_of_levels, Levels}
 use Rattle.device_spec.specs.Pic.{Chip, Word}
 use Rattle.device_spec.specs.Pair.{Pair}
 use Rattle.byte_fields.proofs.Formats.{IsFormat, format_as, then_format, last_format}
 use Rattle.byte_fields.proofs.Numbers.{Any, byte_within, flag_format}
 use Rattle.pic_pair.specs.declared.state.Sets.{Sets}
 use Rattle.pic_pair.specs.declared.state.Modes.{Modes}
-use Rattle.pic_pair.specs.State.{awaited_byte, words_of, AreAwaited, sets_of, modes_of, AreSets, sets_bytes, modes_bytes, sets_fields, modes_fields, IsChip, chip_bytes, chip_fields, IsPair, pair_bytes, pair_fields}
+use Rattle.pic_pair.specs.State.{awaited_byte, words_of, AreAwaited, sets_of, modes_of, AreSets, sets_bytes, modes_bytes, sets_fields, modes_fields, IsChip, chip_bytes, chip_fields, IsPair, pair_bytes, pair_fields, AreLines, lines_bytes, lines_fields}
 use Rattle.std.specs.Int.{bit_at}
 use Rattle.std.proofs.lemmas.Nat.Bits.{bit_at_lowest, bit_at-suc, bit_at-zero}
 use Rattle.pic_pair.proofs.LevelLemmas.{byte-levels}
@@ -222,3 +222,52 @@ pair_format =
     (λ p is. (is.master, (is.slave, refl)))
     (λ p good. record { master = good.0; slave = good.1.0 })
     (λ p good. refl)
+
+-- ---- the sixteen lines
+
+eight : (n : ℕ) → length (levels_of_byte n) ≡ 8
+eight n = set_eight (levels_of_byte n) n refl
+
+front_again : (low high : ℕ) → low ≤ 255 → byte_of_levels (take 8 (levels_of_byte low ++ levels_of_byte high)) ≡ low
+front_again low high few =
+    ap byte_of_levels (take_at (levels_of_byte low) (levels_of_byte high) 8 (eight low)) ∙ byte_again low few
+
+back_again : (low high : ℕ) → high ≤ 255 → byte_of_levels (drop 8 (levels_of_byte low ++ levels_of_byte high)) ≡ high
+back_again low high few =
+    ap byte_of_levels (drop_at (levels_of_byte low) (levels_of_byte high) 8 (eight low)) ∙ byte_again high few
+
+front_eight : (lines : List Bool) → length lines ≡ 16 → length (take 8 lines) ≡ 8
+front_eight lines is = omega (arith, length-take 8 lines, is)
+
+back_eight : (lines : List Bool) → length lines ≡ 16 → length (drop 8 lines) ≡ 8
+back_eight lines is = omega (arith, length-drop 8 lines, is)
+
+lines_again : (lines : List Bool) → length lines ≡ 16 →
+    lines ≡ levels_of_byte (byte_of_levels (take 8 lines)) ++ levels_of_byte (byte_of_levels (drop 8 lines))
+lines_again lines is =
+    sym (take-append-drop 8 lines)
+    ∙ (ap (λ (front : List Bool). front ++ drop 8 lines) (set_again (take 8 lines) (front_eight lines is))
+    ∙ ap (λ (back : List Bool). levels_of_byte (byte_of_levels (take 8 lines)) ++ back)
+    (set_again (drop 8 lines) (back_eight lines is)))
+
+sixteen_of : (lines : List Bool) (low high : ℕ) → lines ≡ levels_of_byte low ++ levels_of_byte high → length lines ≡ 16
+sixteen_of lines low high is =
+    omega (arith, ap length is, length-append (levels_of_byte low) (levels_of_byte high), eight low, eight high)
+
+pub lines_format : IsFormat 2 lines_fields lines_bytes AreLines
+unfolding lines_fields
+lines_format =
+    format_as 2 lines_bytes AreLines
+    (then_format (λ (l : List Bool). byte_of_levels (take 8 l)) (byte_within 0 255 (omega arith)) (λ low good.
+    last_format (λ (l : List Bool). byte_of_levels (drop 8 l)) (λ high. levels_of_byte low ++ levels_of_byte high)
+    (byte_within 0 255 (omega arith)) (λ high good. back_again low high good.1))
+    (λ low l any good.
+    ap (λ (l : List Bool). byte_of_levels (take 8 l)) good.1
+    ∙ front_again low (byte_of_levels (drop 8 l)) any.1))
+    (omega arith)
+    (λ l is. (
+      (omega arith, set_few (take 8 l) (front_eight l is)),
+      ((omega arith, set_few (drop 8 l) (back_eight l is)), lines_again l is),
+    ))
+    (λ l good. sixteen_of l (byte_of_levels (take 8 l)) (byte_of_levels (drop 8 l)) good.1.1)
+    (λ l good. refl)

@@ -1,5 +1,5 @@
--- The state of the pair as bytes: the master's, and then the slave's.
-use Rattle.std.specs.Prelude.{ℕ, ◌≡◌, ◌<◌, ◌≤◌, ◌+◌, ◌++◌, Bool, true, false, if◌then◌else◌, List, [], ◌∷◌, length}
+-- The state of the pair as bytes: the master's, and then the slave's. And that of the sixteen lines.
+use Rattle.std.specs.Prelude.{ℕ, ◌≡◌, ◌<◌, ◌≤◌, ◌+◌, ◌++◌, Bool, true, false, if◌then◌else◌, List, [], ◌∷◌, length, take, drop}
 use Rattle.board_base.specs.Common.{w8, is_bit}
 use Rattle.byte_fields.specs.Fields.{Reading, gives, ◌>>=◌, within, flag_byte, flag_field}
 use Rattle.device_spec.specs.Levels.{Levels, levels_of_byte, byte_of_levels}
@@ -155,3 +155,17 @@ pair_fields = do
   master ← chip_fields true
   slave ← chip_fields false
   gives (record { master = master; slave = slave })
+
+-- ---- the sixteen lines: a byte of lines 0 to 7, and one of lines 8 to 15
+
+abbrev pub AreLines : List Bool → Type 0
+AreLines lines = length lines ≡ 16
+
+abbrev pub lines_bytes : List Bool → List ℕ
+lines_bytes lines = byte_of_levels (take 8 lines) ∷ byte_of_levels (drop 8 lines) ∷ []
+
+unfoldable pub lines_fields : Reading (List Bool)
+lines_fields = do
+  low ← within w8 0 255
+  high ← within w8 0 255
+  gives (levels_of_byte low ++ levels_of_byte high)

@@ -9,4 +9,4 @@ mod state;
 
 pub use lines::Lines;
 pub use pair::{Ack, PicPair};
-pub use state::law_one_pair;
+pub use state::{law_one_lines, law_one_pair};

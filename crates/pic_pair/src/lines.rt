@@ -1,5 +1,6 @@
 //! The levels of the sixteen interrupt lines, as a bit mask.
-ghost use Rattle.std.specs.Prelude.{◌≡◌, ℕ, ◌<◌, ◌||◌, length, replicate, take, drop, slice_index_or, slice_set, true, false};
+ghost use Rattle.std.specs.Prelude.{◌≡◌, ℕ, ◌+◌, ◌*◌, ◌<◌, ◌||◌, ◌++◌, length, replicate, take, drop, slice_index_or, slice_set, true, false};
+ghost use Rattle.device_spec.specs.Levels.{levels_of_byte};
 
 use crate::level_set::LevelSet;
 use board_base::bits::is_set;
@@ -65,6 +66,22 @@ impl Lines {
         }
     }
 
+    /// The levels that are the bits of two bytes: those of lines 0 to 7, and those of lines 8 to 15.
+    pub(crate) fn of_bytes(low: u8, high: u8) -> Lines
+        ensures levels { result ≡ levels_of_byte low ++ levels_of_byte high }
+    {
+        Lines {
+            bits: mask(low, high),
+        }
+    }
+
+    /// Does nothing: its clause says that there are sixteen lines.
+    pub(crate) fn are_sixteen(&self)
+        ensures size { length self.now ≡ 16 }
+    {
+        let _ = &self.bits;
+    }
+
     /// The master's lines, 0 to 7.
     pub(crate) fn masters(&self) -> LevelSet
         ensures levels { result ≡ take 8 self.now }
@@ -100,4 +117,12 @@ impl Lines {
             bits: self.bits & !(1 << line),
         }
     }
+}
+
+/// The mask of two bytes, the low one first.
+fn mask(low: u8, high: u8) -> u16
+    ensures bits { result ≡ low + 256 * high }
+    ensures small { low < 256 }
+{
+    u16::from_le_bytes([low, high])
 }

@@ -1,13 +1,14 @@
-//! The state of the pair as bytes, out and in.
+//! The states of the pair and of the interrupt lines as bytes, out and in.
 
 ghost use Rattle.std.specs.Prelude.{◌≡◌, ◌++◌, ◌<◌, OnOk, IfOk};
 ghost use Rattle.byte_fields.specs.Fields.{Took};
 ghost use Rattle.byte_fields.specs.Loads.{Loads, OneSpelling};
 ghost use Rattle.pic_pair.specs.View.{awaited_words};
-ghost use Rattle.pic_pair.specs.State.{awaited_byte, words_of, sets_of, modes_of, sets_bytes, modes_bytes, sets_fields, modes_fields, IsChip, chip_bytes, chip_fields, IsPair, pair_bytes, pair_fields};
+ghost use Rattle.pic_pair.specs.State.{awaited_byte, words_of, sets_of, modes_of, sets_bytes, modes_bytes, sets_fields, modes_fields, IsChip, chip_bytes, chip_fields, IsPair, pair_bytes, pair_fields, AreLines, lines_bytes, lines_fields};
 
 use crate::chip::{Awaited, LEVEL_COUNT, Pic};
 use crate::level_set::LevelSet;
+use crate::lines::Lines;
 use crate::pair::PicPair;
 use board_base::NoMemory;
 use board_base::bits::is_set;
@@ -265,7 +266,43 @@ impl PicPair {
     }
 }
 
+impl Lines {
+    /// Adds the 2 bytes of the levels: a bit for each of lines 0 to 7, and for each of lines 8 to 15.
+    pub fn save_state(&self, into: &mut Vec<u8>) -> Result<(), NoMemory>
+        ensures saved { OnOk result (into.new.items ≡ into.old.items ++ lines_bytes self.now) }
+        ensures sound { AreLines self.now }
+    {
+        self.are_sixteen();
+        let low = self.masters().byte();
+        let high = self.slaves().byte();
+        push_bytes(into, &[low, high])
+    }
+
+    /// The levels whose bytes are at the front. Refused where a byte is not there: the bytes left then begin with it.
+    pub fn load_state(fields: &mut Fields) -> Result<Lines, Bad>
+        ensures loaded { Loads lines_fields lines_bytes AreLines fields.old fields.new result }
+    {
+        fields.are_bytes();
+        Lines::read_state(fields)
+    }
+
+    /// Reads the fields one after another.
+    #[tactic(auto, unfolding(crate::specs::State::lines_fields))]
+    fn read_state(fields: &mut Fields) -> Result<Lines, Bad>
+        ensures took { Took (λ lines. lines) result fields.new (lines_fields fields.old) }
+    {
+        let low = fields.byte(0, u8::MAX)?;
+        let high = fields.byte(0, u8::MAX)?;
+        Ok(Lines::of_bytes(low, high))
+    }
+}
+
 /// One state has one spelling, and one spelling is of one state.
 pub fn law_one_pair()
     ensures one { OneSpelling pair_bytes IsPair }
+{}
+
+/// One state of the lines has one spelling, and one spelling is of one state.
+pub fn law_one_lines()
+    ensures one { OneSpelling lines_bytes AreLines }
 {}

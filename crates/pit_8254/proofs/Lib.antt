@@ -1,5 +1,5 @@
 pub mod StateFormat
-mod Saved
+pub mod Saved
 mod Arrivals
 mod Edges
 mod Periods

@@ -2,4 +2,5 @@ pub mod FixedLemmas
 pub mod IdeLemmas
 pub mod PiixLemmas
 pub mod PortLemmas
+pub mod StateFormat
 pub mod Common

@@ -1,4 +1,5 @@
 pub mod Ide
 pub mod Piix
 pub mod PortSelects
+pub mod State
 pub mod Common

@@ -26,9 +26,9 @@ const HEADER: [u8; 16] = [
 /// The registers of the IDE function. Contracts see the bytes that can be written; the others are fixed.
 #[derive(Drop)]
 pub struct Ide {
-    command: u8,
-    timing_low: u8,
-    timing_high: u8,
+    pub(crate) command: u8,
+    pub(crate) timing_low: u8,
+    pub(crate) timing_high: u8,
 }
 
 impl Model for Ide {

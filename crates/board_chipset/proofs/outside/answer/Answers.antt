@@ -36,19 +36,19 @@ returns-in-BadSector-clause-board c = λ setup history entry kept event.
     outside_done (event ∙ c.in-BadSector.is) tt kept (c.mark_bad.ensures.devices setup history entry kept.devices)
 
 pub returns-in-Ack-clause-sound : goal.returns-in-Ack-clause-sound
-returns-in-Ack-clause-sound c = λ setup sound. sound_devices sound
+returns-in-Ack-clause-sound c = λ setup sound. sound_devices sound c.acknowledge-vector.ensures.fitted
 
 pub returns-in-Pulses-clause-sound : goal.returns-in-Pulses-clause-sound
-returns-in-Pulses-clause-sound c = λ setup sound. sound_devices sound
+returns-in-Pulses-clause-sound c = λ setup sound. sound_devices sound c.pulses.ensures.fitted
 
 pub returns-in-Time-clause-sound : goal.returns-in-Time-clause-sound
-returns-in-Time-clause-sound c = λ setup sound. sound_devices sound
+returns-in-Time-clause-sound c = λ setup sound. sound_devices sound c.moment.ensures.fitted
 
 pub returns-in-Wire-clause-sound : goal.returns-in-Wire-clause-sound
-returns-in-Wire-clause-sound c = λ setup sound. sound_devices sound
+returns-in-Wire-clause-sound c = λ setup sound. sound_devices sound c.set_wire.ensures.fitted
 
 pub returns-in-Line-clause-sound : goal.returns-in-Line-clause-sound
-returns-in-Line-clause-sound c = λ setup sound. sound_devices sound
+returns-in-Line-clause-sound c = λ setup sound. sound_devices sound c.set_line.ensures.fitted
 
 pub returns-in-BadSector-clause-sound : goal.returns-in-BadSector-clause-sound
-returns-in-BadSector-clause-sound c = λ setup sound. sound_devices sound
+returns-in-BadSector-clause-sound c = λ setup sound. sound_devices sound c.mark_bad.ensures.fitted

@@ -31,7 +31,7 @@ returns-in_default c =
     let access = c.args.access.now in
     let dev = c.args.dev in
     record {
-      sound = λ setup sound. sound_devices sound;
+      sound = λ setup sound. sound_devices sound c.read-in_default.ensures.fitted;
       value = λ setup history kept.
           c.read-in_default.ensures.value setup history kept.devices
           ∙ chip_value setup history dev access.port access.width c.in_default.not-Confadd c.in_default.not-Reset

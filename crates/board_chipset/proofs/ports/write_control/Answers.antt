@@ -4,7 +4,7 @@ use Rattle.board_chipset.specs.Kept.{HasRegisters}
 use Rattle.board_devices.proofs.DeviceLemmas.{leaves_devices}
 use Rattle.board_chipset.proofs.Effects.{reached_in, entry_writes, fits_byte}
 use Rattle.board_chipset.proofs.StoreSteps.{stores_stay}
-use Rattle.board_chipset.proofs.StateSteps.{sound_registers}
+use Rattle.board_chipset.proofs.StateSteps.{sound_changed, sound_registers}
 use Rattle.board_chipset.proofs.PortSteps.{puts_none, registers_move}
 use Rattle.board_chipset.proofs.ports.write_control.Goals as goal
 
@@ -19,7 +19,7 @@ overflow_cast-access c =
 
 pub returns-then-write_control : goal.returns-then-write_control
 returns-then-write_control c = record {
-  sound = λ setup sound. sound_registers sound (c.write_control.ensures.sound setup sound.registers);
+  sound = λ setup sound. sound_changed sound (c.write_control.ensures.sound setup sound.registers) c.reset.ensures.fitted;
   board = λ setup history entry kept is.
       let writes = entry_writes refl c.requires.writes is in
       let registers : HasRegisters setup (entry ∷ history) c.write_control.new.self =

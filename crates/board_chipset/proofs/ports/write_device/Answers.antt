@@ -46,7 +46,7 @@ returns-in-Keyboard c = record {
 
 pub returns-in_default : goal.returns-in_default
 returns-in_default c = record {
-  sound = λ setup sound. sound_devices sound;
+  sound = λ setup sound. sound_devices sound c.write.ensures.fitted;
   board = λ setup history entry kept is.
       chip_changed
       (chip_at setup history c.args.access.now c.args.dev c.in_default.not-Confadd c.in_default.not-Reset

@@ -3,7 +3,7 @@ use Rattle.board_chipset.specs.Kept.{HasRegisters}
 use Rattle.board_devices.proofs.DeviceLemmas.{leaves_devices}
 use Rattle.board_chipset.proofs.Effects.{reached_in, within_function, entry_writes}
 use Rattle.board_chipset.proofs.StoreSteps.{stores_stay}
-use Rattle.board_chipset.proofs.StateSteps.{soft, sound_registers}
+use Rattle.board_chipset.proofs.StateSteps.{soft, sound_changed, sound_registers}
 use Rattle.board_chipset.proofs.PortSteps.{passes, puts_none, registers_move}
 use Rattle.board_chipset.proofs.ports.write_register.Goals as goal
 
@@ -16,7 +16,7 @@ store-requires-clause-within c =
 
 pub returns-then-store : goal.returns-then-store
 returns-then-store c = record {
-  sound = λ setup sound. sound_registers sound (c.store.ensures.sound setup sound.registers);
+  sound = λ setup sound. sound_changed sound (c.store.ensures.sound setup sound.registers) c.reroute.ensures.fitted;
   board = λ setup history entry kept is.
       let writes = entry_writes refl c.requires.writes is in
       let registers : HasRegisters setup (entry ∷ history) c.store.new.self =

@@ -13,6 +13,7 @@ invariant_of-self c =
       registers = sound.registers;
       memory = c.load.ensures.size ∙ sound.memory;
       contents = sound.contents;
+      disk = sound.disk;
     }
 
 pub returns-clause-refused : goal.returns-clause-refused

@@ -4,23 +4,19 @@ use Rattle.board_devices.specs.Devices.{DevicesValue}
 use Rattle.board_devices.proofs.PulseLemmas.{routes_pulsed, after_run, gave, rested}
 use Rattle.board_devices.proofs.devices.Devices.pulses.Goals as goal
 
-pub returns-then-moved : goal.returns-then-moved
-returns-then-moved c = record {
-  devices = λ setup history entry is asks routes.
-      let old = c.args.self.now in
-      let run = c.run-rises.new.self in
-      let count = c.args.count in
-      let after = after_run setup history entry old run count is asks c.run-rises.ensures.after in
-      let routed = routes ∙ sym (routes_pulsed setup history entry count asks) in
-      gave setup history entry old run count is asks c.run-rises.ensures.after c.give.new.self _ _
-      c.run-rises.ensures.rose c.run-rises.ensures.out0 c.give.ensures.others (c.give.ensures.pair setup (entry ∷ history) after routed);
-}
+pub returns-then-moved-clause-devices : goal.returns-then-moved-clause-devices
+returns-then-moved-clause-devices c = λ setup history entry is asks routes.
+    let old = c.args.self.now in
+    let run = c.run-rises.new.self in
+    let count = c.args.count in
+    let after = after_run setup history entry old run count is asks c.run-rises.ensures.after in
+    let routed = routes ∙ sym (routes_pulsed setup history entry count asks) in
+    gave setup history entry old run count is asks c.run-rises.ensures.after c.give.new.self _ _
+    c.run-rises.ensures.rose c.run-rises.ensures.out0 c.give.ensures.others (c.give.ensures.pair setup (entry ∷ history) after routed)
 
 -- line 0 did not move
-pub returns-else-moved : goal.returns-else-moved
-returns-else-moved c = record {
-  devices = λ setup history entry is asks routes.
-      rested setup history entry c.args.self.now c.run-rises.new.self c.args.count is asks c.run-rises.ensures.after
-      (sym c.run-rises.ensures.rose ∙ c.moved.ensures.rose c.if-moved.false)
-      (sym c.run-rises.ensures.out0 ∙ (c.moved.ensures.level c.if-moved.false ∙ (c.out-before.ensures.level ∙ ap (λ (d : DevicesValue). out_of 0 d.timer) c.self.view_is)));
-}
+pub returns-else-moved-clause-devices : goal.returns-else-moved-clause-devices
+returns-else-moved-clause-devices c = λ setup history entry is asks routes.
+    rested setup history entry c.args.self.now c.run-rises.new.self c.args.count is asks c.run-rises.ensures.after
+    (sym c.run-rises.ensures.rose ∙ c.moved.ensures.rose c.if-moved.false)
+    (sym c.run-rises.ensures.out0 ∙ (c.moved.ensures.level c.if-moved.false ∙ (c.out-before.ensures.level ∙ ap (λ (d : DevicesValue). out_of 0 d.timer) c.self.view_is)))

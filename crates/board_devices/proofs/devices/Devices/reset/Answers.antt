@@ -1,23 +1,29 @@
 use Rattle.std.proofs.Common.{◌≡◌, ◌∙◌, ◌∷◌, List, ap, sym, subst, Bool}
 use Rattle.board_prelude.proofs.Common.{Pair, pair_after_lines, pair_at_reset, levels_of, elcr_of}
-use Rattle.board_devices.specs.Devices.{DevicesValue, AreAfter}
+use Rattle.board_devices.specs.Devices.{DevicesValue, AreAfter, sectors_fitted}
 use Rattle.board_devices.proofs.DeviceLemmas.{reset_after, reset_pair, with_pair, settled_as}
+use Rattle.board_devices.proofs.DiskSizes.{fitted_reset}
 use Rattle.board_devices.proofs.devices.Devices.reset.Goals as goal
 
-pub returns : goal.returns
-returns c = record {
-  reset = λ setup history entry is hard routes.
-      let old = c.args.self.now in
-      let now = entry ∷ history in
-      let machines : AreAfter setup now c.reset_machines.new.self =
-      reset_after setup history entry hard old c.reset_machines.new.self is.others c.reset_machines.ensures.after in
-      let levels : c.levels-levels.result ≡ levels_of setup now = c.levels-levels.ensures.levels setup now machines routes in
-      let others : AreAfter setup now c.reset_pair.new.self =
-      subst (λ (d : DevicesValue). AreAfter setup now d) (sym c.reset_pair.ensures.after)
-      (with_pair setup now c.reset_machines.new.self (pair_at_reset c.levels-levels.result) machines) in
-      settled_as setup now c.reset_pair.new.self c.settle.new.self others c.settle.ensures.others
-      (c.settle.ensures.pair setup now others routes)
-      (reset_pair setup history entry hard
-      ∙ sym (ap (λ (p : Pair). pair_after_lines p (levels_of setup now) (elcr_of now))
-      (ap (λ (d : DevicesValue). d.pair) c.reset_pair.ensures.after ∙ ap (λ (l : List Bool). pair_at_reset l) levels)));
-}
+pub returns-clause-reset : goal.returns-clause-reset
+returns-clause-reset c = λ setup history entry is hard routes.
+    let old = c.args.self.now in
+    let now = entry ∷ history in
+    let machines : AreAfter setup now c.reset_machines.new.self =
+    reset_after setup history entry hard old c.reset_machines.new.self is.others c.reset_machines.ensures.after in
+    let levels : c.levels-levels.result ≡ levels_of setup now = c.levels-levels.ensures.levels setup now machines routes in
+    let others : AreAfter setup now c.reset_pair.new.self =
+    subst (λ (d : DevicesValue). AreAfter setup now d) (sym c.reset_pair.ensures.after)
+    (with_pair setup now c.reset_machines.new.self (pair_at_reset c.levels-levels.result) machines) in
+    settled_as setup now c.reset_pair.new.self c.settle.new.self others c.settle.ensures.others
+    (c.settle.ensures.pair setup now others routes)
+    (reset_pair setup history entry hard
+    ∙ sym (ap (λ (p : Pair). pair_after_lines p (levels_of setup now) (elcr_of now))
+    (ap (λ (d : DevicesValue). d.pair) c.reset_pair.ensures.after ∙ ap (λ (l : List Bool). pair_at_reset l) levels)))
+
+pub returns-clause-fitted : goal.returns-clause-fitted
+returns-clause-fitted c =
+    ap (λ (d : DevicesValue). sectors_fitted d.disk) c.settle.ensures.others
+    ∙ (ap (λ (d : DevicesValue). sectors_fitted d.disk) c.reset_pair.ensures.after
+    ∙ (ap (λ (d : DevicesValue). sectors_fitted d.disk) c.reset_machines.ensures.after
+    ∙ fitted_reset c.args.self.now.disk))

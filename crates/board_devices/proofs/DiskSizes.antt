@@ -1,0 +1,133 @@
+-- No access, reset or bad sector changes how many sectors a disk has.
+use Rattle.std.proofs.Common.{◌≡◌, ℕ, ◌*◌, ◌/◌, ◌%◌, Bool, true, false, cond, eqb, List, [], ◌∷◌, ◌++◌, length, Option, Some, None, refl, sym, ◌∙◌, ap, arith, option_map, length-set}
+use Rattle.board_prelude.proofs.Common.{PortAccess, Dev, Pic0, Pic1, Pit, System, Keyboard, Elcr, Ata, Wires, Vector, Spurious, Width, One, Setup, Disk, IsDisk, IsDiskSize, disk_with, disk_of}
+use Rattle.board_base.specs.declared.access.Width.TheVariants.{Two, Four}
+use Rattle.board_base.specs.declared.target.Dev.TheVariants.{Confadd, Reset, Clock}
+use Rattle.device_spec.proofs.Common.{length-replicate, Activity, Ready, Failed, Reading, Writing, Identifying, sectors_of, is_drq, bytes_written, activity_written, word_written, byte_written, disk_status_port, disk_control_port}
+use Rattle.device_spec.specs.Ata.Steps.{after_read as disk_after_read, after_write as disk_after_write, after_reset as disk_after_reset, after_bad}
+use Rattle.board_devices.specs.Devices.{DevicesValue, HasDisk, sectors_fitted}
+use Rattle.board_devices.specs.Steps.{after_read, after_write}
+
+-- ---- the disk
+
+abbrev HasSectors : ℕ → Disk → Type 0
+HasSectors count disk = sectors_of disk.medium ≡ count
+
+either_has : (count : ℕ) (b : Bool) (x y : Disk) → HasSectors count x → HasSectors count y → HasSectors count (cond b x y)
+either_has count true x y p q = p
+either_has count false x y p q = q
+
+bytes_written-has : (sector : ℕ) (bytes : List ℕ) (disk : Disk) →
+    HasSectors (sectors_of disk.medium) (bytes_written sector bytes disk)
+bytes_written-has sector bytes disk =
+    either_has (sectors_of disk.medium) (eqb (length bytes) 512) _ _ (length-set disk.medium.bad sector false) refl
+
+activity_written-has : (activity : Activity) (word : ℕ) (disk : Disk) →
+    HasSectors (sectors_of disk.medium) (activity_written activity word disk)
+activity_written-has Ready word disk = refl
+activity_written-has Failed word disk = refl
+activity_written-has (Reading sector next) word disk = refl
+activity_written-has (Writing sector bytes) word disk =
+    bytes_written-has sector (bytes ++ word % 256 ∷ word / 256 ∷ []) disk
+activity_written-has (Identifying next) word disk = refl
+
+word_written-has : (word : ℕ) (disk : Disk) → HasSectors (sectors_of disk.medium) (word_written word disk)
+unfolding word_written
+word_written-has word disk =
+    either_has (sectors_of disk.medium) (is_drq disk.drive) _ _ (activity_written-has disk.drive.activity word disk) refl
+
+byte_written-has : (port byte : ℕ) (disk : Disk) → HasSectors (sectors_of disk.medium) (byte_written port byte disk)
+byte_written-has port byte disk =
+    either_has (sectors_of disk.medium) (eqb port disk_status_port) _ _ refl
+    (either_has (sectors_of disk.medium) (eqb port disk_control_port) _ _ refl refl)
+
+written_has : (port : ℕ) (width : Width) (value : ℕ) (disk : Disk) →
+    HasSectors (sectors_of disk.medium) (disk_after_write port width value disk)
+written_has port One value disk = byte_written-has port (value % 256) disk
+written_has port Two value disk = word_written-has (value % 65536) disk
+written_has port Four value disk =
+    word_written-has (value / 65536) (word_written (value % 65536) disk) ∙ word_written-has (value % 65536) disk
+
+read_has : (port : ℕ) (width : Width) (disk : Disk) → HasSectors (sectors_of disk.medium) (disk_after_read port width disk)
+read_has port One disk = either_has (sectors_of disk.medium) (eqb port disk_status_port) _ _ refl refl
+read_has port Two disk = refl
+read_has port Four disk = refl
+
+-- ---- where one is fitted
+
+pub fitted_read : (port : ℕ) (width : Width) (disk : Option Disk) →
+    sectors_fitted (option_map (λ disk. disk_after_read port width disk) disk) ≡ sectors_fitted disk
+fitted_read port width None = refl
+fitted_read port width (Some disk) = ap (λ (count : ℕ). Some count) (read_has port width disk)
+
+pub fitted_written : (port : ℕ) (width : Width) (value : ℕ) (disk : Option Disk) →
+    sectors_fitted (option_map (λ disk. disk_after_write port width value disk) disk) ≡ sectors_fitted disk
+fitted_written port width value None = refl
+fitted_written port width value (Some disk) = ap (λ (count : ℕ). Some count) (written_has port width value disk)
+
+pub fitted_reset : (disk : Option Disk) →
+    sectors_fitted (option_map (λ disk. disk_after_reset disk) disk) ≡ sectors_fitted disk
+fitted_reset None = refl
+fitted_reset (Some disk) = refl
+
+pub fitted_spoiled : (sector : ℕ) (disk : Option Disk) →
+    sectors_fitted (option_map (λ disk. after_bad sector disk) disk) ≡ sectors_fitted disk
+fitted_spoiled sector None = refl
+fitted_spoiled sector (Some disk) = ap (λ (count : ℕ). Some count) (length-set disk.medium.bad sector true)
+
+-- ---- an access
+
+pub read_fitted : (dev : Dev) (access : PortAccess) (devices : DevicesValue) →
+    sectors_fitted (after_read dev access devices).disk ≡ sectors_fitted devices.disk
+unfolding after_read
+read_fitted Confadd access devices = refl
+read_fitted Reset access devices = refl
+read_fitted Pic0 access devices = refl
+read_fitted Pic1 access devices = refl
+read_fitted Pit access devices = refl
+read_fitted System access devices = refl
+read_fitted Keyboard access devices = refl
+read_fitted Clock access devices = refl
+read_fitted Elcr access devices = refl
+read_fitted Ata access devices = fitted_read access.port access.width devices.disk
+read_fitted Wires access devices = refl
+read_fitted (Vector chip) access devices = refl
+read_fitted (Spurious chip) access devices = refl
+
+pub write_fitted : (dev : Dev) (access : PortAccess) (devices : DevicesValue) →
+    sectors_fitted (after_write dev access devices).disk ≡ sectors_fitted devices.disk
+unfolding after_write
+write_fitted Confadd access devices = refl
+write_fitted Reset access devices = refl
+write_fitted Pic0 access devices = refl
+write_fitted Pic1 access devices = refl
+write_fitted Pit access devices = refl
+write_fitted System access devices = refl
+write_fitted Keyboard access devices = refl
+write_fitted Clock access devices = refl
+write_fitted Elcr access devices = refl
+write_fitted Ata access devices = fitted_written access.port access.width access.value devices.disk
+write_fitted Wires access devices = refl
+write_fitted (Vector chip) access devices = refl
+write_fitted (Spurious chip) access devices = refl
+
+-- devices of which some have changed, and the disk not
+pub fitted_as : (old new : DevicesValue) → new.disk ≡ old.disk → sectors_fitted new.disk ≡ sectors_fitted old.disk
+fitted_as old new same = ap (λ (disk : Option Disk). sectors_fitted disk) same
+
+-- ---- at power-on
+
+has_opened : (bytes : List ℕ) → IsDiskSize (length bytes) → 512 * (sectors_of (disk_with bytes []).medium) ≡ length bytes
+unfolding disk_with
+has_opened bytes is =
+    let count : sectors_of (disk_with bytes []).medium ≡ length bytes / 512 = length-replicate (length bytes / 512) false in
+    omega (arith, count, is.3)
+
+fitted_opened : (disk : Option (List ℕ)) → IsDisk disk →
+    HasDisk disk (option_map (λ bytes. disk_with bytes []) disk)
+fitted_opened None is = refl
+fitted_opened (Some bytes) is = ap (λ (count : ℕ). Some count) (sym (has_opened bytes is))
+
+pub opened_has : (setup : Setup) (devices : DevicesValue) → IsDisk setup.disk → devices.disk ≡ disk_of setup [] →
+    HasDisk setup.disk devices.disk
+opened_has setup devices is opened = rw opened (fitted_opened setup.disk is)

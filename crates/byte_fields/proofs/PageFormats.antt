@@ -1,0 +1,584 @@
+-- Bytes beside plain ones are spelled page by page, and read back.
+use Rattle.std.proofs.Common.{◌≡◌, ℕ, zero, suc, ◌+◌, ◌-◌, ◌*◌, ◌≤◌, ◌<◌, inl, inr, min, Bool, true, false, not, cond, List, [], ◌∷◌, ◌++◌, length, take, drop, replicate, Result, Ok, Err, refl, sym, ap, subst, ◌∙◌, append_assoc, arith, nat_lt, bytes_eq}
+use Rattle.std.specs.List.{concat}
+use Rattle.board_base.proofs.Common.{ltb-false, le-ltb, take_at, drop_at, length-append, length-take, length-drop, take-append-drop, nil_from_length, bytes_eq-Decides, cases_lt, drop-drop, drop_all, take_all, append-nil, take-append-le, drop-append-le}
+use Rattle.std.proofs.lemmas.List.{take_min, take-replicate, drop-replicate, length-replicate, replicate-append-replicate}
+use Rattle.std.proofs.Math.Nat.{suc-mul, zero-mul}
+use Rattle.byte_fields.specs.Fields.{Reading, then_read, gives, ◌>>=◌, flag_byte, other_than}
+use Rattle.byte_fields.specs.Pages.{page_bytes, page_where, page_field, each_page_bytes, each_page_field, cut, pages_of, pages_bytes, pages_fields, memory_page, memory_bytes, memory_fields}
+use Rattle.byte_fields.proofs.Formats.{IsFormat, format_as, then_format, last_format, done_format, cut_ok, cut_bad, err_is}
+use Rattle.byte_fields.proofs.Loops.{with_front}
+use Rattle.byte_fields.proofs.Numbers.{flag_format, whole_ok}
+
+-- ---- one page
+
+abbrev IsOther : (plain page : List ℕ) → Type 0
+IsOther plain page = (length page ≡ length plain) × (bytes_eq page plain ≡ false)
+
+other_bad : {X : Type 0} (short same : Bool) (size : ℕ) (value : X) (left : ℕ) →
+    cond short (Err size) (cond same (Err size) (Ok value)) ≡ Err left → size ≡ left
+other_bad {X} true same size value left is = err_is {X = X} size left is
+other_bad false same size value left is = cut_bad same size value left is
+
+other_format : (plain : List ℕ) → IsFormat (length plain) (other_than plain) (λ page. page) (IsOther plain)
+other_format plain = record {
+  back = λ page rest good.
+      let enough : nat_lt (length (page ++ rest)) (length plain) ≡ false =
+      le-ltb _ _ (omega (arith, length-append page rest, good.0)) in
+      rw (enough, take_at page rest (length plain) good.0, drop_at page rest (length plain) good.0, good.1) refl;
+  taken = λ bytes page rest are is.
+      let n = length plain in
+      let got : List ℕ × List ℕ = (take n bytes, drop n bytes) in
+      let whole = whole_ok (nat_lt (length bytes) n) (length bytes)
+      (cond (bytes_eq (take n bytes) plain) (Err (length bytes)) (Ok got)) (page, rest) is in
+      let told = cut_ok (bytes_eq (take n bytes) plain) (length bytes) got (page, rest) whole.1 in
+      let front : take n bytes ≡ page = ap (λ (pair : List ℕ × List ℕ). pair.0) told.1 in
+      let after : drop n bytes ≡ rest = ap (λ (pair : List ℕ × List ℕ). pair.1) told.1 in
+      let long : n ≤ length bytes = ltb-false _ _ whole.0 in (
+        rw (← front, ← after) (sym (take-append-drop n bytes)),
+        (rw (← front) (omega (arith, length-take n bytes, long)), rw (← front) told.0),
+      );
+  bad = λ bytes left are is.
+      let same = other_bad (nat_lt (length bytes) (length plain)) (bytes_eq (take (length plain) bytes) plain)
+      (length bytes) (take (length plain) bytes, drop (length plain) bytes) left is in
+      (omega (arith, same), omega (arith, same));
+  size = λ page good. omega (arith, good.0);
+}
+
+abbrev where_bytes : (differs : Bool) → (page : List ℕ) → List ℕ
+where_bytes true page = page
+where_bytes false page = []
+
+abbrev IsWhere : (plain : List ℕ) → (differs : Bool) → (page : List ℕ) → Type 0
+IsWhere plain true page = IsOther plain page
+IsWhere plain false page = page ≡ plain
+
+where_format : (plain : List ℕ) (differs : Bool) →
+    IsFormat (length plain) (page_where differs plain) (where_bytes differs) (IsWhere plain differs)
+where_format plain true = other_format plain
+where_format plain false =
+    format_as (length plain) (where_bytes false) (IsWhere plain false) (done_format plain) (omega arith)
+    (λ page good. good) (λ page good. good) (λ page good. refl)
+
+where_to : (same : Bool) (plain page : List ℕ) → bytes_eq page plain ≡ same → length page ≡ length plain →
+    IsWhere plain (not same) page
+where_to true plain page is long = (bytes_eq-Decides page plain).0 is
+where_to false plain page is long = (long, is)
+
+where_from : (differs : Bool) (plain page : List ℕ) → IsWhere plain differs page → length page ≡ length plain
+where_from true plain page good = good.0
+where_from false plain page good = ap length good
+
+differs_is : (differs : Bool) (plain page : List ℕ) → IsWhere plain differs page → not (bytes_eq page plain) ≡ differs
+differs_is true plain page good = rw good.1 refl
+differs_is false plain page good =
+    let same : bytes_eq page plain ≡ true = (bytes_eq-Decides page plain).1 good in
+    rw same refl
+
+spelled_where : (same : Bool) (page : List ℕ) →
+    (flag_byte (not same) ∷ []) ++ where_bytes (not same) page ≡ cond same (0 ∷ []) (1 ∷ page)
+spelled_where true page = refl
+spelled_where false page = refl
+
+pub page_format : (plain : List ℕ) →
+    IsFormat (1 + length plain) (page_field plain) (page_bytes plain) (λ page. length page ≡ length plain)
+unfolding page_field
+page_format plain =
+    format_as (1 + length plain) (page_bytes plain) (λ page. length page ≡ length plain)
+    (then_format (λ (page : List ℕ). not (bytes_eq page plain)) flag_format
+    (λ differs any. where_format plain differs)
+    (λ differs page any good. differs_is differs plain page good))
+    (omega arith)
+    (λ page long. (tt, where_to (bytes_eq page plain) plain page refl long))
+    (λ page good. where_from (not (bytes_eq page plain)) plain page good.1)
+    (λ page good. spelled_where (bytes_eq page plain) page)
+
+-- ---- page after page
+
+-- how many bytes spell these pages at most
+most_of : List (List ℕ) → ℕ
+most_of [] = 0
+most_of (plain ∷ later) = (1 + length plain) + most_of later
+
+each_format : (plain : List (List ℕ)) →
+    IsFormat (most_of plain) (each_page_field plain) (each_page_bytes plain)
+    (λ bytes. length bytes ≡ length (concat plain))
+unfolding each_page_field each_page_bytes most_of
+each_format [] =
+    let none : List (List ℕ) = [] in
+    format_as 0 (each_page_bytes none) (λ bytes. length bytes ≡ length (concat none)) (done_format []) (omega arith)
+    (λ bytes long. nil_from_length bytes long) (λ bytes good. ap length good) (λ bytes good. refl)
+each_format (plain ∷ later) =
+    let n = length plain in
+    let both : length (concat (plain ∷ later)) ≡ n + length (concat later) = length-append plain (concat later) in
+    format_as (most_of (plain ∷ later)) (each_page_bytes (plain ∷ later))
+    (λ bytes. length bytes ≡ length (concat (plain ∷ later)))
+    (then_format (λ (bytes : List ℕ). take n bytes) (page_format plain) (λ page long.
+    last_format (λ (bytes : List ℕ). drop n bytes) (λ rest. page ++ rest) (each_format later)
+    (λ rest good. drop_at page rest n long))
+    (λ page bytes long good. ap (take n) good.1 ∙ take_at page (drop n bytes) n long))
+    (omega arith)
+    (λ bytes long. (
+      omega (arith, length-take n bytes, long, both),
+      (omega (arith, length-drop n bytes, long, both), sym (take-append-drop n bytes)),
+    ))
+    (λ bytes good.
+    let whole = ap length (take-append-drop n bytes) in
+    omega (arith, whole, length-append (take n bytes) (drop n bytes), good.0, good.1.0, both))
+    (λ bytes good. refl)
+
+-- ---- bytes cut into pages
+
+concat_cut : (size most : ℕ) (bytes : List ℕ) → 0 < size → length bytes ≤ most → concat (cut size most bytes) ≡ bytes
+unfolding cut
+concat_cut size zero [] some few = refl
+concat_cut size zero (byte ∷ later) some few = absurd (omega (arith, few))
+concat_cut size (suc most) [] some few = refl
+concat_cut size (suc most) (byte ∷ later) some few =
+    let bytes = byte ∷ later in
+    ap (λ (rest : List ℕ). take size bytes ++ rest)
+    (concat_cut size most (drop size bytes) some (omega (arith, some, few, length-drop size bytes)))
+    ∙ take-append-drop size bytes
+
+most_cut : (size most : ℕ) (bytes : List ℕ) → 0 < size → most_of (cut size most bytes) ≤ 2 * length bytes
+unfolding cut most_of
+most_cut size zero bytes some =
+    let none : most_of (cut size zero bytes) ≡ 0 = refl in
+    omega (arith, none)
+most_cut size (suc most) [] some =
+    let none : most_of (cut size (suc most) []) ≡ 0 = refl in
+    omega (arith, none)
+most_cut size (suc most) (byte ∷ later) some =
+    let bytes = byte ∷ later in
+    let rest = most_cut size most (drop size bytes) some in
+    omega (arith, some, rest, length-take size bytes, length-drop size bytes)
+
+same_cut : (size m n : ℕ) (bytes : List ℕ) → 0 < size → length bytes ≤ m → length bytes ≤ n →
+    cut size m bytes ≡ cut size n bytes
+unfolding cut
+same_cut size zero zero [] some to_m to_n = refl
+same_cut size zero (suc n) [] some to_m to_n = refl
+same_cut size (suc m) zero [] some to_m to_n = refl
+same_cut size (suc m) (suc n) [] some to_m to_n = refl
+same_cut size zero n (byte ∷ later) some to_m to_n = absurd (omega (arith, to_m))
+same_cut size (suc m) zero (byte ∷ later) some to_m to_n = absurd (omega (arith, to_n))
+same_cut size (suc m) (suc n) (byte ∷ later) some to_m to_n =
+    let bytes = byte ∷ later in
+    ap (λ (rest : List (List ℕ)). take size bytes ∷ rest)
+    (same_cut size m n (drop size bytes) some (omega (arith, some, to_m, length-drop size bytes))
+    (omega (arith, some, to_n, length-drop size bytes)))
+
+first_page : (size : ℕ) (bytes : List ℕ) → 0 < size → 0 < length bytes →
+    pages_of size bytes ≡ take size bytes ∷ pages_of size (drop size bytes)
+unfolding cut
+first_page size [] some there = absurd (omega (arith, there))
+first_page size (byte ∷ later) some there =
+    let bytes = byte ∷ later in
+    ap (λ (rest : List (List ℕ)). take size bytes ∷ rest)
+    (same_cut size (length later) (length (drop size bytes)) (drop size bytes) some
+    (omega (arith, some, length-drop size bytes)) (omega arith))
+
+pub pages_format : (size : ℕ) (plain : List ℕ) → 0 < size →
+    IsFormat (2 * length plain) (pages_fields size plain) (pages_bytes size plain)
+    (λ bytes. length bytes ≡ length plain)
+unfolding pages_fields pages_bytes
+pages_format size plain some =
+    let whole : length (concat (pages_of size plain)) ≡ length plain =
+    ap length (concat_cut size (length plain) plain some (omega arith)) in
+    format_as (2 * length plain) (pages_bytes size plain) (λ bytes. length bytes ≡ length plain)
+    (each_format (pages_of size plain)) (most_cut size (length plain) plain some)
+    (λ bytes long. long ∙ sym whole) (λ bytes good. good ∙ whole) (λ bytes good. refl)
+
+pub memory_format : (count : ℕ) →
+    IsFormat (2 * count) (memory_fields count) memory_bytes (λ bytes. length bytes ≡ count)
+memory_format count =
+    let zeros = length-replicate {A = ℕ} count 0 in
+    format_as (2 * count) memory_bytes (λ bytes. length bytes ≡ count)
+    (pages_format memory_page (replicate count 0) (omega arith)) (omega (arith, zeros))
+    (λ bytes long. long ∙ sym zeros) (λ bytes good. good ∙ zeros)
+    (λ bytes good. ap (λ (n : ℕ). pages_bytes memory_page (replicate n 0) bytes) (sym (good ∙ zeros)))
+
+-- ---- the first page, and the rest
+
+pub no_pages : (size : ℕ) (bytes : List ℕ) → pages_bytes size [] bytes ≡ []
+unfolding pages_bytes each_page_bytes cut
+no_pages size bytes = refl
+
+pub no_fields : (size : ℕ) (bytes : List ℕ) → pages_fields size [] bytes ≡ Ok ([], bytes)
+unfolding pages_fields each_page_field cut
+no_fields size bytes = refl
+
+pub bytes_first : (size : ℕ) (plain bytes : List ℕ) → 0 < size → 0 < length plain →
+    pages_bytes size plain bytes
+    ≡ page_bytes (take size plain) (take (length (take size plain)) bytes)
+    ++ pages_bytes size (drop size plain) (drop (length (take size plain)) bytes)
+unfolding pages_bytes each_page_bytes
+bytes_first size plain bytes some there =
+    ap (λ (pages : List (List ℕ)). each_page_bytes pages bytes) (first_page size plain some there)
+
+pub fields_first : (size : ℕ) (plain bytes : List ℕ) → 0 < size → 0 < length plain →
+    pages_fields size plain bytes
+    ≡ then_read (page_field (take size plain) bytes)
+    (λ page. pages_fields size (drop size plain) >>= λ rest. gives (page ++ rest))
+unfolding pages_fields each_page_field
+fields_first size plain bytes some there =
+    ap (λ (pages : List (List ℕ)). each_page_field pages bytes) (first_page size plain some there)
+
+-- ---- loops over pages: the page from a place on has so many bytes
+
+page_at : (size done count : ℕ) (bytes : List ℕ) → count ≡ min size (length bytes - done) →
+    take size (drop done bytes) ≡ take count (drop done bytes)
+page_at size done count bytes is =
+    sym (take_min size (drop done bytes))
+    ∙ ap (λ (n : ℕ). take n (drop done bytes)) (omega (arith, is, length-drop done bytes))
+
+after_page : (size done count : ℕ) (bytes : List ℕ) → count ≡ min size (length bytes - done) →
+    drop size (drop done bytes) ≡ drop (done + count) bytes
+after_page size done count bytes is =
+    elim (cases_lt (length bytes - done) size) [
+      | inl last ↦
+          drop_all size (drop done bytes) (omega (arith, length-drop done bytes, last))
+          ∙ sym (drop_all (done + count) bytes (omega (arith, is, last)))
+      | inr whole ↦
+          drop-drop size done bytes ∙ ap (λ (n : ℕ). drop (done + n) bytes) (omega (arith, is, whole))
+    ]
+
+pub push_begins : (size : ℕ) (into plain bytes : List ℕ) →
+    into ++ pages_bytes size (drop 0 plain) (drop 0 bytes) ≡ into ++ pages_bytes size plain bytes
+push_begins size into plain bytes = refl
+
+pub push_goes_on :
+    (size done count : ℕ) (into now plain bytes total : List ℕ) → 0 < size → length plain ≡ length bytes →
+    done < length bytes → count ≡ min size (length bytes - done) →
+    into ++ pages_bytes size (drop done plain) (drop done bytes) ≡ total →
+    now ≡ into ++ page_bytes (take count (drop done plain)) (take count (drop done bytes)) →
+    now ++ pages_bytes size (drop (done + count) plain) (drop (done + count) bytes) ≡ total
+push_goes_on size done count into now plain bytes total some same below is so_far added =
+    let of_plain : count ≡ min size (length plain - done) = omega (arith, is, same) in
+    let long : length (take size (drop done plain)) ≡ count =
+    omega (arith, is, same, length-take size (drop done plain), length-drop done plain) in
+    let first : pages_bytes size (drop done plain) (drop done bytes)
+    ≡ page_bytes (take count (drop done plain)) (take count (drop done bytes))
+    ++ pages_bytes size (drop (done + count) plain) (drop (done + count) bytes) =
+    bytes_first size (drop done plain) (drop done bytes) some (omega (arith, below, same, length-drop done plain))
+    ∙ rw (
+      long,
+      page_at size done count plain of_plain,
+      after_page size done count plain of_plain,
+      drop-drop count done bytes,
+    ) refl in
+    rw added
+    (append_assoc into (page_bytes (take count (drop done plain)) (take count (drop done bytes)))
+    (pages_bytes size (drop (done + count) plain) (drop (done + count) bytes))
+    ∙ ap (λ (rest : List ℕ). into ++ rest) (sym first) ∙ so_far)
+
+-- the same of parts of slices
+pub push_page_on :
+    (size done count : ℕ) (into now plain bytes total : List ℕ) → 0 < size → length plain ≡ length bytes →
+    done < length bytes → count ≡ min size (length bytes - done) →
+    into ++ pages_bytes size (drop done plain) (drop done bytes) ≡ total →
+    now
+    ≡ into ++ page_bytes (take (done + count - done) (drop done plain)) (take (done + count - done) (drop done bytes)) →
+    now ++ pages_bytes size (drop (done + count) plain) (drop (done + count) bytes) ≡ total
+push_page_on size done count into now plain bytes total some same below is so_far added =
+    let long : done + count - done ≡ count = omega arith in
+    push_goes_on size done count into now plain bytes total some same below is so_far (rw long at added)
+
+-- the same beside zeros
+pub push_zeros_on :
+    (size done count : ℕ) (into now zeros bytes total : List ℕ) → 0 < size → done < length bytes →
+    count ≡ min size (length bytes - done) →
+    into ++ pages_bytes size (drop done (replicate (length bytes) 0)) (drop done bytes) ≡ total →
+    zeros ≡ replicate count 0 →
+    now ≡ into ++ page_bytes zeros (take (done + count - done) (drop done bytes)) →
+    now ++ pages_bytes size (drop (done + count) (replicate (length bytes) 0)) (drop (done + count) bytes) ≡ total
+push_zeros_on size done count into now zeros bytes total some below is so_far zeros_is added =
+    let plain : List ℕ = replicate {A = ℕ} (length bytes) 0 in
+    let long : done + count - done ≡ count = omega arith in
+    let same : take count (drop done plain) ≡ zeros =
+    ap (take count) (drop-replicate {X = ℕ} done (length bytes) 0)
+    ∙ take-replicate {X = ℕ} count (length bytes - done) 0 (omega (arith, is)) ∙ sym zeros_is in
+    push_goes_on size done count into now plain bytes total some (length-replicate {A = ℕ} (length bytes) 0) below is
+    so_far (rw same (rw long at added))
+
+pub push_ends :
+    (size done : ℕ) (into plain bytes total : List ℕ) → length plain ≡ length bytes → length bytes ≤ done →
+    into ++ pages_bytes size (drop done plain) (drop done bytes) ≡ total → into ≡ total
+push_ends size done into plain bytes total same over so_far =
+    let none : drop done plain ≡ [] = drop_all done plain (omega (arith, over, same)) in
+    sym (ap (λ (rest : List ℕ). into ++ rest) (ap (λ (p : List ℕ). pages_bytes size p (drop done bytes)) none
+    ∙ no_pages size (drop done bytes)) ∙ append-nil into) ∙ so_far
+
+-- what is still read, after these bytes
+
+pub joined : (front page : List ℕ) (read : Result (List ℕ × List ℕ) ℕ) →
+    with_front front (then_read read (λ rest. gives (page ++ rest))) ≡ with_front (front ++ page) read
+joined front page (Ok got) = ap (λ (bytes : List ℕ). Ok (bytes, got.1)) (sym (append_assoc front page got.0))
+joined front page (Err left) = refl
+
+fields_at : (size done count : ℕ) (plain bytes : List ℕ) → 0 < size → done < length plain →
+    count ≡ min size (length plain - done) →
+    pages_fields size (drop done plain) bytes
+    ≡ then_read (page_field (take count (drop done plain)) bytes)
+    (λ page. pages_fields size (drop (done + count) plain) >>= λ rest. gives (page ++ rest))
+fields_at size done count plain bytes some below is =
+    fields_first size (drop done plain) bytes some (omega (arith, below, length-drop done plain))
+    ∙ rw (page_at size done count plain is, after_page size done count plain is) refl
+
+pub pages_go_on :
+    (size done count : ℕ) (plain front page bytes after : List ℕ) (total : Result (List ℕ × List ℕ) ℕ) → 0 < size →
+    done < length plain → count ≡ min size (length plain - done) →
+    with_front front (pages_fields size (drop done plain) bytes) ≡ total →
+    page_field (take count (drop done plain)) bytes ≡ Ok (page, after) →
+    with_front (front ++ page) (pages_fields size (drop (done + count) plain) after) ≡ total
+pages_go_on size done count plain front page bytes after total some below is so_far read =
+    let step : pages_fields size (drop done plain) bytes
+    ≡ then_read (pages_fields size (drop (done + count) plain) after) (λ rest. gives (page ++ rest)) =
+    fields_at size done count plain bytes some below is
+    ∙ ap (λ (first : Result (List ℕ × List ℕ) ℕ). then_read first
+    (λ page. pages_fields size (drop (done + count) plain) >>= λ rest. gives (page ++ rest))) read in
+    sym (joined front page (pages_fields size (drop (done + count) plain) after))
+    ∙ (sym (ap (with_front front) step) ∙ so_far)
+
+pub pages_stop :
+    (size done count : ℕ) (plain front bytes : List ℕ) (left : ℕ) (total : Result (List ℕ × List ℕ) ℕ) → 0 < size →
+    done < length plain → count ≡ min size (length plain - done) →
+    with_front front (pages_fields size (drop done plain) bytes) ≡ total →
+    page_field (take count (drop done plain)) bytes ≡ Err left → total ≡ Err left
+pages_stop size done count plain front bytes left total some below is so_far read =
+    let step : pages_fields size (drop done plain) bytes ≡ Err left =
+    fields_at size done count plain bytes some below is
+    ∙ ap (λ (first : Result (List ℕ × List ℕ) ℕ). then_read first
+    (λ page. pages_fields size (drop (done + count) plain) >>= λ rest. gives (page ++ rest))) read in
+    sym so_far ∙ ap (with_front front) step
+
+pub pages_end :
+    (size done : ℕ) (plain front bytes : List ℕ) (total : Result (List ℕ × List ℕ) ℕ) → length plain ≤ done →
+    with_front front (pages_fields size (drop done plain) bytes) ≡ total → total ≡ Ok (front, bytes)
+pages_end size done plain front bytes total over so_far =
+    sym so_far
+    ∙ (ap (with_front front) (ap (λ (p : List ℕ). pages_fields size p bytes) (drop_all done plain over)
+    ∙ no_fields size bytes)
+    ∙ ap (λ (all : List ℕ). Ok (all, bytes)) (append-nil front))
+
+-- a page that replaces its place
+
+pub page_is : (done count : ℕ) (now old : List ℕ) → drop done now ≡ drop done old →
+    take (done + count - done) (drop done now) ≡ take count (drop done old)
+page_is done count now old same =
+    let long : done + count - done ≡ count = omega arith in
+    rw (long, same) refl
+
+pub front_put : (done count : ℕ) (now page rest : List ℕ) → done ≤ length now → length page ≡ count →
+    take (done + count) (take done now ++ (page ++ rest)) ≡ take done now ++ page
+front_put done count now page rest within same =
+    ap (take (done + count)) (sym (append_assoc (take done now) page rest))
+    ∙ take_at (take done now ++ page) rest (done + count)
+    (omega (arith, length-append (take done now) page, length-take done now, within, same))
+
+pub rest_put : (done count : ℕ) (now old page : List ℕ) → done ≤ length now → length page ≡ count →
+    drop done now ≡ drop done old →
+    drop (done + count) (take done now ++ (page ++ drop (done + count - done) (drop done now)))
+    ≡ drop (done + count) old
+rest_put done count now old page within same is =
+    let rest : List ℕ = drop (done + count - done) (drop done now) in
+    let long : done + count - done ≡ count = omega arith in
+    ap (drop (done + count)) (sym (append_assoc (take done now) page rest))
+    ∙ drop_at (take done now ++ page) rest (done + count)
+    (omega (arith, length-append (take done now) page, length-take done now, within, same))
+    ∙ rw (long, is) (drop-drop count done old)
+
+pub length_put : (done count : ℕ) (now page : List ℕ) → done + count ≤ length now → length page ≡ count →
+    length (take done now ++ (page ++ drop (done + count - done) (drop done now))) ≡ length now
+length_put done count now page within same =
+    let rest : List ℕ = drop (done + count - done) (drop done now) in
+    omega (
+      arith,
+      within,
+      same,
+      length-append (take done now) (page ++ rest),
+      length-append page rest,
+      length-take done now,
+      length-drop (done + count - done) (drop done now),
+      length-drop done now,
+    )
+
+-- the same over zeros
+
+pub zeros_go_on :
+    (size n : ℕ) (front page bytes after : List ℕ) (total : Result (List ℕ × List ℕ) ℕ) → 0 < size → size ≤ n →
+    with_front front (pages_fields size (replicate n 0) bytes) ≡ total →
+    page_field (replicate size 0) bytes ≡ Ok (page, after) →
+    with_front (front ++ page) (pages_fields size (replicate (n - size) 0) after) ≡ total
+zeros_go_on size n front page bytes after total some fits so_far read =
+    let zeros = length-replicate {A = ℕ} n 0 in
+    let rest : drop (0 + size) (replicate {A = ℕ} n 0) ≡ replicate (n - size) 0 =
+    drop-replicate {X = ℕ} (0 + size) n 0 ∙ ap (λ (m : ℕ). replicate {A = ℕ} m 0) (omega arith) in
+    let first : page_field (take size (drop 0 (replicate n 0))) bytes ≡ Ok (page, after) =
+    rw (take-replicate {X = ℕ} size n 0 fits) read in
+    subst (λ (plain : List ℕ). with_front (front ++ page) (pages_fields size plain after) ≡ total) rest
+    (pages_go_on size 0 size (replicate n 0) front page bytes after total some (omega (arith, some, fits, zeros))
+    (omega (arith, fits, zeros)) so_far first)
+
+pub zeros_stop :
+    (size n : ℕ) (front bytes : List ℕ) (left : ℕ) (total : Result (List ℕ × List ℕ) ℕ) → 0 < size → size ≤ n →
+    with_front front (pages_fields size (replicate n 0) bytes) ≡ total →
+    page_field (replicate size 0) bytes ≡ Err left → total ≡ Err left
+zeros_stop size n front bytes left total some fits so_far read =
+    let zeros = length-replicate {A = ℕ} n 0 in
+    let first : page_field (take size (drop 0 (replicate n 0))) bytes ≡ Err left =
+    rw (take-replicate {X = ℕ} size n 0 fits) read in
+    pages_stop size 0 size (replicate n 0) front bytes left total some (omega (arith, some, fits, zeros))
+    (omega (arith, fits, zeros)) so_far first
+
+pub zeros_end :
+    (size n : ℕ) (front bytes : List ℕ) (total : Result (List ℕ × List ℕ) ℕ) → n ≡ 0 →
+    with_front front (pages_fields size (replicate n 0) bytes) ≡ total → total ≡ Ok (front, bytes)
+zeros_end size n front bytes total none so_far =
+    pages_end size 0 (replicate n 0) front bytes total (omega (arith, none, length-replicate {A = ℕ} n 0)) so_far
+
+-- ---- whole pages, and what follows them
+
+pub bytes_append :
+    (size count : ℕ) (plain more bytes later : List ℕ) → 0 < size → length plain ≡ count * size →
+    length bytes ≡ length plain →
+    pages_bytes size (plain ++ more) (bytes ++ later) ≡ pages_bytes size plain bytes ++ pages_bytes size more later
+bytes_append size zero plain more bytes later some whole same =
+    let no_plain : plain ≡ [] = nil_from_length plain (omega (arith, whole)) in
+    let no_bytes : bytes ≡ [] = nil_from_length bytes (omega (arith, whole, same)) in
+    rw (no_plain, no_bytes, no_pages size []) refl
+bytes_append size (suc count) plain more bytes later some whole same =
+    let fits : size ≤ length plain = omega (arith, whole, suc-mul count size) in
+    let one : length (take size plain) ≡ size = omega (arith, fits, length-take size plain) in
+    let front : List ℕ = page_bytes (take size plain) (take size bytes) in
+    let rest : pages_bytes size (drop size plain ++ more) (drop size bytes ++ later)
+    ≡ pages_bytes size (drop size plain) (drop size bytes) ++ pages_bytes size more later =
+    bytes_append size count (drop size plain) more (drop size bytes) later some
+    (omega (arith, whole, suc-mul count size, length-drop size plain))
+    (omega (arith, same, length-drop size plain, length-drop size bytes)) in
+    let all : pages_bytes size (plain ++ more) (bytes ++ later)
+    ≡ front ++ pages_bytes size (drop size plain ++ more) (drop size bytes ++ later) =
+    bytes_first size (plain ++ more) (bytes ++ later) some (omega (arith, some, fits, length-append plain more))
+    ∙ rw (
+      take-append-le size plain more fits,
+      drop-append-le size plain more fits,
+      one,
+      take-append-le size bytes later (omega (arith, same, fits)),
+      drop-append-le size bytes later (omega (arith, same, fits)),
+    ) refl in
+    let first : pages_bytes size plain bytes ≡ front ++ pages_bytes size (drop size plain) (drop size bytes) =
+    bytes_first size plain bytes some (omega (arith, some, fits)) ∙ rw one refl in
+    all ∙ (ap (λ (end : List ℕ). front ++ end) rest
+    ∙ (sym (append_assoc front (pages_bytes size (drop size plain) (drop size bytes)) (pages_bytes size more later))
+    ∙ ap (λ (begin : List ℕ). begin ++ pages_bytes size more later) (sym first)))
+
+-- one reading after another, whose bytes are joined
+abbrev pub then_more : Result (List ℕ × List ℕ) ℕ → Reading (List ℕ) → Result (List ℕ × List ℕ) ℕ
+then_more first more = then_read first (λ bytes. more >>= λ rest. gives (bytes ++ rest))
+
+regroup_last : (front bytes : List ℕ) (last : Result (List ℕ × List ℕ) ℕ) →
+    then_read (then_read last (λ rest. gives (bytes ++ rest))) (λ rest. gives (front ++ rest))
+    ≡ then_read last (λ rest. gives ((front ++ bytes) ++ rest))
+regroup_last front bytes (Ok got) = ap (λ (all : List ℕ). Ok (all, got.1)) (sym (append_assoc front bytes got.0))
+regroup_last front bytes (Err left) = refl
+
+regroup : (front : List ℕ) (first : Result (List ℕ × List ℕ) ℕ) (more : Reading (List ℕ)) →
+    then_read (then_more first more) (λ rest. gives (front ++ rest))
+    ≡ then_more (then_read first (λ rest. gives (front ++ rest))) more
+regroup front (Ok got) more = regroup_last front got.0 (more got.1)
+regroup front (Err left) more = refl
+
+regroup_first : (first : Result (List ℕ × List ℕ) ℕ) (whole part more : Reading (List ℕ)) →
+    ((bytes : List ℕ) → whole bytes ≡ then_more (part bytes) more) →
+    then_read first (λ page. whole >>= λ rest. gives (page ++ rest))
+    ≡ then_more (then_read first (λ page. part >>= λ rest. gives (page ++ rest))) more
+regroup_first (Ok got) whole part more is =
+    ap (λ (read : Result (List ℕ × List ℕ) ℕ). then_read read (λ rest. gives (got.0 ++ rest))) (is got.1)
+    ∙ regroup got.0 (part got.1) more
+regroup_first (Err left) whole part more is = refl
+
+pub fields_append :
+    (size count : ℕ) (plain more bytes : List ℕ) → 0 < size → length plain ≡ count * size →
+    pages_fields size (plain ++ more) bytes ≡ then_more (pages_fields size plain bytes) (pages_fields size more)
+fields_append size zero plain more bytes some whole =
+    let none : plain ≡ [] = nil_from_length plain (omega (arith, whole)) in
+    rw (none, no_fields size bytes) (sym (no_front (pages_fields size more bytes)))
+  where
+    no_front : (read : Result (List ℕ × List ℕ) ℕ) → then_read read (λ rest. gives ([] ++ rest)) ≡ read
+    no_front (Ok got) = refl
+    no_front (Err left) = refl
+fields_append size (suc count) plain more bytes some whole =
+    let fits : size ≤ length plain = omega (arith, whole, suc-mul count size) in
+    let all : pages_fields size (plain ++ more) bytes
+    ≡ then_read (page_field (take size plain) bytes)
+    (λ page. pages_fields size (drop size plain ++ more) >>= λ rest. gives (page ++ rest)) =
+    fields_first size (plain ++ more) bytes some (omega (arith, some, fits, length-append plain more))
+    ∙ rw (take-append-le size plain more fits, drop-append-le size plain more fits) refl in
+    let first : pages_fields size plain bytes
+    ≡ then_read (page_field (take size plain) bytes)
+    (λ page. pages_fields size (drop size plain) >>= λ rest. gives (page ++ rest)) =
+    fields_first size plain bytes some (omega (arith, some, fits)) in
+    all ∙ (regroup_first (page_field (take size plain) bytes) (pages_fields size (drop size plain ++ more))
+    (pages_fields size (drop size plain)) (pages_fields size more)
+    (λ bytes. fields_append size count (drop size plain) more bytes some
+    (omega (arith, whole, suc-mul count size, length-drop size plain)))
+    ∙ ap (λ (read : Result (List ℕ × List ℕ) ℕ). then_more read (pages_fields size more)) (sym first))
+
+-- pages of zeros
+
+zero_pages : (size count : ℕ) → 0 < size →
+    pages_bytes size (replicate (count * size) 0) (replicate (count * size) 0) ≡ replicate count 0
+zero_pages size zero some = rw (zero-mul size) (no_pages size [])
+zero_pages size (suc count) some =
+    let split : replicate {A = ℕ} (suc count * size) 0 ≡ replicate size 0 ++ replicate (count * size) 0 =
+    ap (λ (n : ℕ). replicate {A = ℕ} n 0) (omega (arith, suc-mul count size))
+    ∙ sym (replicate-append-replicate {A = ℕ} size (count * size) 0) in
+    let zeros : List ℕ = replicate size 0 in
+    let long : length zeros ≡ 1 * size = omega (arith, length-replicate {A = ℕ} size 0) in
+    let one : pages_bytes size zeros zeros ≡ 0 ∷ [] = one_page size zeros some (length-replicate {A = ℕ} size 0) in
+    rw split
+    (bytes_append size 1 zeros (replicate (count * size) 0) zeros (replicate (count * size) 0) some long refl
+    ∙ rw (one, zero_pages size count some) refl)
+  where
+    one_page : (size : ℕ) (zeros : List ℕ) → 0 < size → length zeros ≡ size → pages_bytes size zeros zeros ≡ 0 ∷ []
+    one_page size zeros some long =
+        let all : take size zeros ≡ zeros = take_all size zeros (omega (arith, long)) in
+        let same : bytes_eq zeros zeros ≡ true = (bytes_eq-Decides zeros zeros).1 refl in
+        bytes_first size zeros zeros some (omega (arith, some, long))
+        ∙ rw (
+          all,
+          take_all (length zeros) zeros (omega arith),
+          same,
+          drop_all size zeros (omega (arith, long)),
+          no_pages size (drop (length zeros) zeros),
+        ) refl
+
+-- ---- memory
+
+split_zeros : (a b : List ℕ) → replicate {A = ℕ} (length (a ++ b)) 0 ≡ replicate (length a) 0 ++ replicate (length b) 0
+split_zeros a b =
+    ap (λ (n : ℕ). replicate {A = ℕ} n 0) (length-append a b)
+    ∙ sym (replicate-append-replicate {A = ℕ} (length a) (length b) 0)
+
+pub memory_append : (count : ℕ) (bytes later : List ℕ) → length bytes ≡ count * memory_page →
+    memory_bytes (bytes ++ later) ≡ memory_bytes bytes ++ memory_bytes later
+memory_append count bytes later whole =
+    let zeros = length-replicate {A = ℕ} (length bytes) 0 in
+    ap (λ (plain : List ℕ). pages_bytes memory_page plain (bytes ++ later)) (split_zeros bytes later)
+    ∙ bytes_append memory_page count (replicate (length bytes) 0) (replicate (length later) 0) bytes later
+    (omega arith) (zeros ∙ whole) (sym zeros)
+
+pub memory_zeros : (count : ℕ) → memory_bytes (replicate (count * memory_page) 0) ≡ replicate count 0
+memory_zeros count =
+    ap (λ (n : ℕ). pages_bytes memory_page (replicate n 0) (replicate (count * memory_page) 0))
+    (length-replicate {A = ℕ} (count * memory_page) 0)
+    ∙ zero_pages memory_page count (omega arith)
+
+pub memory_then : (count more : ℕ) (bytes : List ℕ) →
+    memory_fields (count * memory_page + more) bytes
+    ≡ then_more (memory_fields (count * memory_page) bytes) (memory_fields more)
+memory_then count more bytes =
+    ap (λ (plain : List ℕ). pages_fields memory_page plain bytes)
+    (sym (replicate-append-replicate {A = ℕ} (count * memory_page) more 0))
+    ∙ fields_append memory_page count (replicate (count * memory_page) 0) (replicate more 0) bytes (omega arith)
+    (length-replicate {A = ℕ} (count * memory_page) 0)
