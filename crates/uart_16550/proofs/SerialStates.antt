@@ -25,9 +25,6 @@ com1_is x y is = cc
 never_err : {A E : Type 0} (x : A) (y : E) → ◌≡◌ {A = Result A E} (Ok x) (Err y) → ⊥
 never_err x y is = absurd cc
 
-bad_is_not : {A : Type 0} → ◌≡◌ {A = Result A Fault} (Err faults.Bad) (Err faults.NoMemory) → ⊥
-bad_is_not is = absurd cc
-
 module _ (setup : Setup) (before mid after : List ℕ) where
   -- both were read
   pub loads_both : (board : Running) (com1 : Com1) → LoadsChipset setup before mid (Ok board) →
@@ -68,24 +65,4 @@ module _ (setup : Setup) (before mid after : List ℕ) where
               absurd (never_err serial.com1 bad (sym port.0))
         ];
     bad = rw (one.bad, two.bad) refl;
-  }
-
-  -- the chipset's was not read
-  pub no_chipset : (fault : Fault) → LoadsChipset setup before after (Err fault) →
-      LoadsSerial setup before after (Err fault)
-  unfolding serial_fields
-  no_chipset faults.Bad one = record {
-    loaded = tt;
-    exact = λ serial rest same sound begins.
-        elim (one.exact serial.board (com1_bytes serial.com1 ++ rest) same sound.chipset
-        (begins ∙ append_assoc (chipset_bytes serial.board) (com1_bytes serial.com1) rest)) [
-          | inl never ↦ absurd (bad_is_not never)
-          | inr is ↦ absurd (never_err serial.board faults.Bad (sym is.0))
-        ];
-    bad = rw (one.bad) refl;
-  }
-  no_chipset faults.NoMemory one = record {
-    loaded = tt;
-    exact = λ serial rest same sound begins. inl refl;
-    bad = tt;
   }
