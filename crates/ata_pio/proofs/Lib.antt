@@ -1,8 +1,10 @@
 pub mod AddressLaws
 pub mod Bits
 pub mod CountLaws
+pub mod DriveFormats
 pub mod DriveLaws
 pub mod SoundLaws
+pub mod StateFormats
 pub mod StoreLaws
 pub mod Stores
 pub mod Verifies

@@ -1,6 +1,6 @@
 //! The disk as its ports show it.
 
-ghost use Rattle.std.specs.Prelude.{◌≡◌, ◌+◌, ◌<◌, ◌≤◌, ◌↔◌, length, false, IsTrue, IfOk};
+ghost use Rattle.std.specs.Prelude.{◌≡◌, ◌+◌, ◌*◌, ◌<◌, ◌≤◌, ◌↔◌, length, false, IsTrue, IfOk};
 ghost use Rattle.device_spec.specs.Common.{is_disk_length, power_on, is_interrupt, sectors_of, word_at, sector_bytes, is_ata_port, read_of, after_bad, word_of, word_read, word_written, register_of, register_read, byte_written};
 ghost use Rattle.ata_pio.specs.Words.{is_readable, with_word, with_bytes};
 ghost use Rattle.device_spec.specs.Ata.Steps.{after_read, after_write, after_reset};
@@ -30,8 +30,8 @@ pub enum AtaOpen {
 /// An ATA disk, drive 0 of a channel with no other drive.
 #[derive(Drop)]
 pub struct Ata {
-    sectors: Sectors,
-    controller: Controller,
+    pub(crate) sectors: Sectors,
+    pub(crate) controller: Controller,
 }
 
 impl Model for Ata {
@@ -124,6 +124,7 @@ impl Ata {
     /// How many sectors the disk has, 1 to 65,536.
     pub fn sectors(&self) -> u32
         ensures sectors { result ≡ sectors_of self.now.medium }
+        ensures whole { length self.now.medium.bytes ≡ 512 * sectors_of self.now.medium }
     {
         self.sectors.count()
     }

@@ -5,11 +5,14 @@
 mod ata;
 mod command;
 mod controller;
+mod drive_state;
 mod fault;
 mod feature;
 mod identify;
 pub mod laws;
 mod sectors;
+mod state;
 mod task_file;
 
 pub use ata::{Ata, AtaOpen};
+pub use state::law_one_disk;

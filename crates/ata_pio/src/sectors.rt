@@ -14,9 +14,10 @@ pub const SECTOR_BYTES: usize = 512;
 /// The bytes of all sectors, one after another, and a mark for each sector that is bad.
 #[derive(Drop)]
 pub struct Sectors {
-    bytes: Vec<u8>,
-    bad: Vec<bool>,
+    pub(crate) bytes: Vec<u8>,
+    pub(crate) bad: Vec<bool>,
     ghost whole: { vec_len bytes ≡ 512 * vec_len bad },
+    ghost some: { 1 ≤ vec_len bad },
     ghost few: { vec_len bad ≤ 65536 },
 }
 
@@ -37,6 +38,7 @@ impl Sectors {
     /// How many sectors there are, 1 to 65,536.
     pub fn count(&self) -> u32
         ensures count { result ≡ sectors_of (medium_of self.now) }
+        ensures whole { length (medium_of self.now).bytes ≡ 512 * sectors_of (medium_of self.now) }
     {
         self.bad.len() as u32
     }

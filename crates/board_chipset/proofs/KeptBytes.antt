@@ -1,9 +1,8 @@
 -- Registers of the right number and widths are those of a board of their setup: each stands for a byte of its own.
-use Rattle.std.proofs.Common.{◌≡◌, ℕ, ◌+◌, ◌-◌, ◌*◌, ◌/◌, ◌%◌, ◌^◌, ◌<◌, ◌≤◌, false, ◌&&◌, List, [], ◌∷◌, length, get_or, Option, Some, None, refl, sym, ◌∙◌, ap, arith, ◌==◌, nat_lt, if◌then◌else◌, All, find, is_some, map, slice_index, option_map}
+use Rattle.std.proofs.Common.{◌≡◌, ◌≢◌, ℕ, ◌+◌, ◌-◌, ◌*◌, ◌/◌, ◌%◌, ◌^◌, ◌<◌, ◌≤◌, false, ◌&&◌, List, [], ◌∷◌, length, get_or, Option, Some, None, refl, sym, ◌∙◌, ap, arith, ◌==◌, nat_lt, if◌then◌else◌, All, find, is_some, map, slice_index, option_map}
 use Rattle.board_prelude.proofs.Common.{and-false, or_parts, option_map_or, cond-false, cond-true, ne_eqb, nat_tests, Reg, Setup, FittedCard, IsCard, Bytes, byte, is_within, reset_byte, card_register, bridge, isa, ide, pirq, pirqs}
 use Rattle.pci_bars.specs.Cards.{CardBytes, HoldsLong, HoldsRom, DecodesAs, IsCardOf, AreFitted, is_kept_offset, cards_of}
 use Rattle.pci_bars.proofs.CardLemmas.{wide_of_bytes}
-use Rattle.xbus_select.specs.Ide.{IsIdeFixed}
 use Rattle.addr_decode.specs.MapRegs.{MapBytes}
 use Rattle.map_builder.specs.Map.{HoldsDoublewords}
 use Rattle.map_builder.proofs.BoardLemmas.{card_with, found, find-map}
@@ -113,13 +112,13 @@ unfolding kept_byte ide_kept
 timing_high_stands setup regs south = refl
 
 -- the function of the IDE controller resets to the same bytes on each board
-ide_fixed : (setup other : Setup) (regs : MapBytes) (south : South) (off : ℕ) → IsIdeFixed off →
+ide_fixed : (setup other : Setup) (regs : MapBytes) (south : South) (off : ℕ) → off ≢ 0x04 → off ≢ 0x40 → off ≢ 0x41 →
     kept_byte setup regs south (ide off) ≡ reset_byte other (ide off)
 unfolding kept_byte ide_kept reset_byte
-ide_fixed setup other regs south off fixed =
-    cond-false (off == 0x04) _ _ (ne_eqb _ _ fixed.command)
-    ∙ cond-false (off == 0x40) _ _ (ne_eqb _ _ fixed.timing_low)
-    ∙ cond-false (off == 0x41) _ _ (ne_eqb _ _ fixed.timing_high)
+ide_fixed setup other regs south off not_command not_low not_high =
+    cond-false (off == 0x04) _ _ (ne_eqb _ _ not_command)
+    ∙ cond-false (off == 0x40) _ _ (ne_eqb _ _ not_low)
+    ∙ cond-false (off == 0x41) _ _ (ne_eqb _ _ not_high)
 
 -- ---- a card
 
@@ -239,7 +238,8 @@ has_bytes setup regs south is = (kept_byte setup regs south, record {
       command = command_stands setup regs south;
       timing_low = timing_stands setup regs south;
       timing_high = timing_high_stands setup regs south;
-      fixed = λ other off fixed. ide_fixed setup other regs south off fixed;
+      fixed = λ other off fixed.
+          ide_fixed setup other regs south off fixed.command fixed.timing_low fixed.timing_high;
     };
   };
 })

@@ -1,3 +1,4 @@
 pub mod FixedBytes
 pub mod Functions
 pub mod SouthStores
+pub mod StateFormat

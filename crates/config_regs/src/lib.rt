@@ -4,6 +4,8 @@
 
 mod reading;
 mod south;
+mod state;
 
 pub use reading::{read, read_from};
 pub use south::South;
+pub use state::law_one_south;

@@ -12,6 +12,7 @@ pub mod KeptCards
 pub mod KeptLemmas
 pub mod KeptStores
 pub mod BoundsLemmas
+pub mod StateFormat
 pub mod SortedLemmas
 pub mod SameBoards
 pub mod ChangeLemmas

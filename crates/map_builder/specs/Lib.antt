@@ -2,6 +2,7 @@ pub mod Map
 pub mod Find
 pub mod Changed
 pub mod Sorted
+pub mod State
 pub mod Rows
 pub mod Unchanged
 pub mod Build

@@ -29,15 +29,15 @@ const NOTHING: Changed = Changed { lo: 0, hi: 0 };
 /// to the last in each of which every address has the same areas.
 #[derive(Drop)]
 pub struct FlatMap {
-    regs: MapRegs,
+    pub(crate) regs: MapRegs,
     ranges: Ranges,
     /// Room for the ranges as they were, while those that changed are built anew.
     before: [Range; CAPACITY],
     /// Room for the windows of a change.
     windows: Covered,
     /// The windows in which the last change built the ranges anew.
-    chosen: Windows,
-    version: u32,
+    pub(crate) chosen: Windows,
+    pub(crate) version: u32,
 }
 
 impl Model for FlatMap {
@@ -62,15 +62,29 @@ impl FlatMap {
         ensures map { (setup : Setup) (bytes : Bytes) → StandsFor setup bytes result.regs → IsFlatMapOf setup bytes result.ranges }
         ensures few { length result.ranges ≤ most_ranges }
     {
+        FlatMap::restored(regs, 0, &[])
+    }
+
+    /// The map of these registers, built from scratch, at this version, with these windows of the last change.
+    pub fn restored(regs: MapRegs, version: u32, changed: &[Changed]) -> FlatMap
+        requires cards { AreFitted regs.cards.items }
+        requires windows { length changed.now ≤ 64 }
+        ensures regs { result.regs ≡ map_bytes regs }
+        ensures version { result.version ≡ version }
+        ensures changed { result.changed ≡ changed.now }
+        ensures whole { IsMapOf result.regs result.ranges }
+    {
         hold_widths(&regs);
         let ranges = uncounted_ranges::<Brand>(&regs, Blank::new(1));
+        let mut chosen = FixedList::new();
+        chosen.extend(changed);
         FlatMap {
             regs,
             ranges,
             before: [Range::default(); CAPACITY],
             windows: FixedList::new(),
-            chosen: FixedList::new(),
-            version: 0,
+            chosen,
+            version,
         }
     }
 

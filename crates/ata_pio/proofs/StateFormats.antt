@@ -1,0 +1,103 @@
+-- The state of a disk is spelled and read back.
+use Rattle.std.proofs.Common.{◌≡◌, ℕ, ◌+◌, ◌*◌, ◌%◌, ◌<◌, ◌≤◌, Bool, true, eqb, ltb, leb, ◌&&◌, List, [], ◌∷◌, length, map, flat_map, refl, ap, ◌∙◌, arith}
+use Rattle.device_spec.proofs.Common.{and_parts, ltb-true, leb-true, eqb-true, flat_map-cons}
+use Rattle.device_spec.specs.Common.{Medium, Disk, is_disk_length}
+use Rattle.byte_fields.specs.Fields.{Reading as Reader, flag_byte, flag_field}
+use Rattle.byte_fields.specs.Loads.{OneSpelling}
+use Rattle.byte_fields.proofs.Loops.{IsLoop}
+use Rattle.byte_fields.proofs.Formats.{IsFormat, format_as, then_format, last_format, many_format, AreGood}
+use Rattle.byte_fields.proofs.Numbers.{Any, flag_format}
+use Rattle.byte_fields.proofs.PageFormats.{pages_format}
+use Rattle.byte_fields.proofs.Loaded.{one_spelling}
+use Rattle.ata_pio.specs.State.{sector_size, count_of, IsMedium, medium_bytes, flags_fields, medium_fields, IsDisk, disk_bytes, disk_fields}
+use Rattle.ata_pio.proofs.DriveFormats.{drive_format}
+
+-- ---- flags
+
+abbrev pub a_flag : Unit {0} → Reader Bool
+a_flag state = flag_field
+
+abbrev pub past_flag : Unit {0} → Bool → Unit {0}
+past_flag state flag = state
+
+abbrev pub flags_after : Unit {0} → (count : ℕ) → Reader (List Bool)
+flags_after state count = flags_fields count
+
+pub flags_loop : IsLoop a_flag past_flag flags_after
+unfolding flags_fields
+flags_loop = record { none = λ state bytes. refl; more = λ state n bytes. refl }
+
+abbrev one_byte : Bool → List ℕ
+one_byte flag = flag_byte flag ∷ []
+
+one_each : (flags : List Bool) → flat_map one_byte flags ≡ map flag_byte flags
+one_each [] = refl
+one_each (flag ∷ later) = flat_map-cons one_byte flag later ∙ ap (λ bytes. flag_byte flag ∷ bytes) (one_each later)
+
+all_good : (state : Unit {0}) (flags : List Bool) → AreGood past_flag (λ (s : Unit {0}) (flag : Bool). Any flag) state flags
+all_good state [] = tt
+all_good state (flag ∷ later) = (tt, all_good state later)
+
+flags_format : (count : ℕ) →
+    IsFormat count (flags_fields count) (map flag_byte) (λ flags. length flags ≡ count)
+flags_format count =
+    format_as count (map flag_byte) (λ flags. length flags ≡ count)
+    (many_format flags_loop (λ state. flag_format) tt count) (omega arith)
+    (λ flags long. (long, all_good tt flags))
+    (λ flags good. good.0)
+    (λ flags good. one_each flags)
+
+-- ---- the sectors
+
+medium_format : (fitted : List ℕ) →
+    IsFormat (2 * length fitted + count_of fitted) (medium_fields fitted) (medium_bytes fitted) (IsMedium fitted)
+unfolding medium_fields
+medium_format fitted =
+    format_as (2 * length fitted + count_of fitted) (medium_bytes fitted) (IsMedium fitted)
+    (then_format (λ (m : Medium). m.bytes) (pages_format sector_size fitted (omega arith)) (λ bytes good.
+    last_format (λ (m : Medium). m.bad) (λ bad. record { bytes = bytes; bad = bad }) (flags_format (count_of fitted))
+    (λ bad good. refl))
+    (λ bytes m any good. ap (λ (m : Medium). m.bytes) good.1))
+    (omega arith)
+    (λ m is. (is.bytes, (is.bad, refl)))
+    (λ m good. record { bytes = good.0; bad = good.1.0 })
+    (λ m good. refl)
+
+-- ---- the disk
+
+pub record HasSectors (fitted : List ℕ) : Type 0 where
+  pub some : 0 < count_of fitted
+  pub few : count_of fitted ≤ 65536
+  pub whole : length fitted ≡ 512 * count_of fitted
+
+pub sectors_of_length : (fitted : List ℕ) → is_disk_length (length fitted) ≡ true → HasSectors fitted
+sectors_of_length fitted is =
+    let n = length fitted in
+    let parts = and_parts (eqb (n % 512) 0) (ltb 0 n && leb n (512 * 65536)) is in
+    let range = and_parts (ltb 0 n) (leb n (512 * 65536)) parts.1 in
+    let whole : n % 512 ≡ 0 = eqb-true (n % 512) 0 parts.0 in
+    let low : 0 < n = ltb-true 0 n range.0 in
+    let high : n ≤ 512 * 65536 = leb-true n (512 * 65536) range.1 in
+    record { some = omega arith; few = omega arith; whole = omega arith }
+
+abbrev pub most_bytes : (fitted : List ℕ) → ℕ
+most_bytes fitted = 528 + (2 * length fitted + count_of fitted)
+
+pub disk_format : (fitted : List ℕ) → is_disk_length (length fitted) ≡ true →
+    IsFormat (most_bytes fitted) (disk_fields fitted) (disk_bytes fitted) (IsDisk fitted)
+unfolding disk_fields
+disk_format fitted size =
+    let has = sectors_of_length fitted size in
+    format_as (most_bytes fitted) (disk_bytes fitted) (IsDisk fitted)
+    (then_format (λ (d : Disk). d.drive) (drive_format (count_of fitted) has.some has.few) (λ drive good.
+    last_format (λ (d : Disk). d.medium) (λ medium. record { medium = medium; drive = drive }) (medium_format fitted)
+    (λ medium good. refl))
+    (λ drive d any good. ap (λ (d : Disk). d.drive) good.1))
+    (omega arith)
+    (λ d is. (is.drive, (is.medium, refl)))
+    (λ d good. record { size = size; drive = good.0; medium = good.1.0 })
+    (λ d good. refl)
+
+pub one_disk : (fitted : List ℕ) → OneSpelling (disk_bytes fitted) (IsDisk fitted)
+one_disk fitted left right of_left of_right same =
+    one_spelling (disk_format fitted of_left.size) left right of_left of_right same
