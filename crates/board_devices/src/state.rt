@@ -93,7 +93,7 @@ fn fitted_disk(
     fitted: Option<&[u8]>,
     fields: &mut Fields,
 ) -> Result<Option<Ata>, Fault>
-    requires fits { IsDisk (option_map (λ bytes. bytes.now) fitted.entry) }
+    requires fits { IsDisk (option_map (λ bytes. bytes.now) fitted) }
     ensures filled { Filled (λ disk. disk) result fields.new
         (fitted_fields (option_map (λ bytes. bytes.now) fitted.entry) fields.old) }
 {
@@ -120,7 +120,7 @@ impl Devices {
     /// Adds the state. `fitted` are the bytes of the disk as it was fitted, where there is one: of its sectors those that
     /// differ are in the state.
     pub fn save_state(&self, fitted: Option<&[u8]>, into: &mut Vec<u8>) -> Result<(), NoMemory>
-        requires disk { HasDisk (option_map (λ bytes. bytes.now) fitted.entry) self.now.disk }
+        requires disk { HasDisk (option_map (λ bytes. bytes.now) fitted) self.now.disk }
         ensures saved { OnOk result (into.new.items
             ≡ into.old.items ++ devices_bytes (option_map (λ bytes. bytes.now) fitted.entry) self.now) }
         ensures sound { OnOk result (AreDevices (option_map (λ bytes. bytes.now) fitted.entry) self.now) }
@@ -136,7 +136,7 @@ impl Devices {
         fitted: Option<&[u8]>,
         fields: &mut Fields,
     ) -> Result<Devices, Fault>
-        requires fits { IsDisk (option_map (λ bytes. bytes.now) fitted.entry) }
+        requires fits { IsDisk (option_map (λ bytes. bytes.now) fitted) }
         ensures loaded { LoadsWith (devices_fields (option_map (λ bytes. bytes.now) fitted.entry))
             (devices_bytes (option_map (λ bytes. bytes.now) fitted.entry))
             (AreDevices (option_map (λ bytes. bytes.now) fitted.entry)) fields.old fields.new result }
@@ -162,7 +162,7 @@ impl Devices {
     /// Adds the disk, where one is fitted.
     #[tactic(auto, unfolding(crate::specs::State::fitted_bytes))]
     fn save_disk(&self, fitted: Option<&[u8]>, into: &mut Vec<u8>) -> Result<(), NoMemory>
-        requires disk { HasDisk (option_map (λ bytes. bytes.now) fitted.entry) self.now.disk }
+        requires disk { HasDisk (option_map (λ bytes. bytes.now) fitted) self.now.disk }
         ensures saved { OnOk result (into.new.items
             ≡ into.old.items ++ fitted_bytes (option_map (λ bytes. bytes.now) fitted.entry) self.now.disk) }
         ensures sound { IsFittedDisk (option_map (λ bytes. bytes.now) fitted.entry) self.now.disk }
@@ -204,7 +204,7 @@ impl Devices {
         fitted: Option<&[u8]>,
         fields: &mut Fields,
     ) -> Result<Devices, Fault>
-        requires fits { IsDisk (option_map (λ bytes. bytes.now) fitted.entry) }
+        requires fits { IsDisk (option_map (λ bytes. bytes.now) fitted) }
         ensures filled { Filled (λ devices. devices) result fields.new
             (devices_fields (option_map (λ bytes. bytes.now) fitted.entry) fields.old) }
     {
