@@ -19,7 +19,7 @@ def test_a_loaded_board_goes_on():
             assert other.read(0x1234, 4) == 0x89ABCDEF
             assert other.pulses_to_rise == board.pulses_to_rise
             assert other.serial_state == board.serial_state
-            assert other.map().mib == 16
+            assert other.map.mib == 16
 
 
 def test_pages_of_zeros_take_a_byte():
