@@ -5,6 +5,8 @@
 mod bridge;
 mod map;
 mod media;
+mod pair;
+mod plain;
 mod south;
 mod stretches;
 mod timer;
@@ -95,6 +97,21 @@ fn answer_of_map(
     }
 }
 
+/// Appends what the pair of 8259As answers, and the plain words.
+fn answer_of_words(
+    alloc: Global,
+    call: &str,
+    words: &[&str],
+    text: &mut String,
+) -> Result<(), NoMemory> {
+    match call {
+        "pair" => pair::tell(words, text),
+        "width" => plain::tell_width(words, text),
+        "moment" => plain::tell_moment(words, text),
+        _ => answer_of_map(alloc, call, words, text),
+    }
+}
+
 /// Does what a call asks of a part of the board, and appends the answer.
 fn answer(alloc: Global, call: &str, words: &[&str], text: &mut String) -> Result<(), NoMemory> {
     match call {
@@ -102,7 +119,7 @@ fn answer(alloc: Global, call: &str, words: &[&str], text: &mut String) -> Resul
         "timer-runs" => timer::tell_runs(text),
         "clock" => media::tell_clock(words, text),
         "disk" => media::tell_disk(alloc, words, text),
-        _ => answer_of_map(alloc, call, words, text),
+        _ => answer_of_words(alloc, call, words, text),
     }
 }
 

@@ -15,7 +15,9 @@ pub mod Openings
 pub mod Exact
 pub mod ResetLemmas
 pub mod LoadSteps
+pub mod MasterSteps
 pub mod CardChecks
+pub mod CardLoadSteps
 pub mod PortAccessSteps
 pub mod Placed
 pub mod KeptBytes

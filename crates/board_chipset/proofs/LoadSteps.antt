@@ -64,7 +64,7 @@ others {setup} {history} addr bytes law kept (entry ∷ earlier) each =
     }
 
 -- a byte more
-next_byte : (addr at n : ℕ) (put : ℕ → ℕ) (was : ℕ) →
+pub next_byte : (addr at n : ℕ) (put : ℕ → ℕ) (was : ℕ) →
     unwrap_or (if at == addr + n then Some (put n) else None)
     (if nat_le addr at && nat_lt at (addr + n) then put (at - addr) else was)
     ≡ (if nat_le addr at && nat_lt at (addr + suc n) then put (at - addr) else was)

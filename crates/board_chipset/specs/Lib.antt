@@ -1,10 +1,12 @@
 pub mod Alone
 pub mod BusReplies
+pub mod CardLoads
 pub mod Chipset
 pub mod ChipsetState
 pub mod Faults
 pub mod Kept
 pub mod Loads
+pub mod Masters
 pub mod OutOfRange
 pub mod PortAccesses
 pub mod Places

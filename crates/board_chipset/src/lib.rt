@@ -5,6 +5,7 @@
 mod bus;
 mod bus_reply;
 mod bytes;
+mod card_bytes;
 mod card_check;
 mod check;
 mod chipset;
@@ -12,6 +13,7 @@ mod decode;
 mod in_range;
 mod load;
 mod looks;
+mod masters;
 mod memory;
 mod monitor;
 mod outside;
@@ -30,6 +32,7 @@ mod told;
 mod wide;
 
 pub use bus_reply::{BusReply, WideReply};
+pub use card_bytes::PastTheBase;
 pub use card_check::{is_base, is_expansion_rom};
 pub use check::{SetupFault, check_sizes, is_memory_size};
 pub use chipset::Chipset;

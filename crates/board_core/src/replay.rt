@@ -6,6 +6,7 @@ ghost use Rattle.addr_decode.specs.MapRegs.{StandsFor, map_bytes};
 ghost use Rattle.dram_store.specs.Dram.{IsDramOf};
 ghost use Rattle.pci_bars.specs.Contents.{IsContentsOf};
 ghost use Rattle.board_chipset.specs.declared.setup.BoardOpen.{BoardOpen};
+ghost use Rattle.board_chipset.specs.Resets.{reset_of};
 ghost use Rattle.board_chipset.specs.Stores.{IsOfBoard, IsStoreOf};
 ghost use Rattle.board_core.specs.Kept.{HasPlayed};
 
@@ -108,6 +109,8 @@ impl Replay {
 
     /// The reset that an access at a port would make now.
     pub fn reset_by(&self, access: &PortAccess) -> ResetKind
+        ensures kind { (history : List Entry) → HasPlayed self.now history
+            → result ≡ reset_of history (Port access.now) }
         ensures hard { (history : List Entry) → HasPlayed self.now history
             → (result ≡ ResetKind.Hard) ↔ (is_hard_reset history (Port access.now) ≡ true) }
     {

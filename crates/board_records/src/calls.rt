@@ -7,6 +7,7 @@ ghost use Rattle.board_chipset.specs.Common.{IsLeftBy as IsChipsetLeftBy, IsForD
 ghost use Rattle.uart_16550.specs.Com1.{is_for_uart};
 ghost use Rattle.uart_16550.specs.declared.com1.Happening.TheVariants.{Comes, Happens};
 ghost use Rattle.board_records.specs.Events.{asked_said};
+ghost use Rattle.board_records.specs.Numbers.{look_event, memory_event, port_event};
 ghost use Rattle.board_records.specs.Statuses.{ok, closed, IsEventRefusal};
 ghost use Rattle.board_records.specs.Steps.{IsAskedStep, after_step};
 
@@ -22,6 +23,7 @@ use uart_16550::{Happening, SerialBoard, is_for_uart};
 
 /// Does what a record asks, and tells the reply by another. Refused with why where the record asks nothing (`NO_EVENT`), an
 /// event that is out of range, or a byte for which COM1 has no room (`SERIAL_FULL`); then nothing has changed.
+#[inline(always)]
 pub(crate) fn step(
     serial: &mut SerialBoard<Chipset>,
     event: &EventRecord,
@@ -33,31 +35,78 @@ pub(crate) fn step(
     ensures untold { result ≢ ok → reply.new ≡ reply.old }
     ensures open { result ≢ closed }
 {
-    if event.what == MEMORY_EVENT {
-        if let Some(access) = cycle_of(event) {
-            return memory(serial, &access, reply);
+    match event.what {
+        MEMORY_EVENT => memory_asked(serial, event, reply),
+        PORT_EVENT => port_asked(serial, event, reply),
+        LOOK_EVENT => look_asked(serial, event, reply),
+        _ => other(serial, event, reply),
+    }
+}
+
+/// The same of a record of `MEMORY_EVENT`.
+#[inline(never)]
+fn memory_asked(
+    serial: &mut SerialBoard<Chipset>,
+    event: &EventRecord,
+    reply: &mut ReplyRecord,
+) -> u32
+    requires memory { event.now.what ≡ memory_event }
+    ensures done { result ≡ ok → IsSomeAnd (asked_said event.now) (IsAskedStep serial.old serial.new reply.new) }
+    ensures refused { result ≢ ok → IsEventRefusal serial.old (asked_said event.now) result }
+    ensures unchanged { result ≢ ok → serial.new ≡ serial.old }
+    ensures untold { result ≢ ok → reply.new ≡ reply.old }
+    ensures open { result ≢ closed }
+{
+    if let Some(access) = cycle_of(event) {
+        return memory(serial, &access, reply);
+    }
+    match wide_of(event) {
+        Some(access) => done(serial, &Event::Wide(access), reply),
+        None => other(serial, event, reply),
+    }
+}
+
+/// The same of a record of `PORT_EVENT`.
+#[inline(never)]
+fn port_asked(
+    serial: &mut SerialBoard<Chipset>,
+    event: &EventRecord,
+    reply: &mut ReplyRecord,
+) -> u32
+    requires port { event.now.what ≡ port_event }
+    ensures done { result ≡ ok → IsSomeAnd (asked_said event.now) (IsAskedStep serial.old serial.new reply.new) }
+    ensures refused { result ≢ ok → IsEventRefusal serial.old (asked_said event.now) result }
+    ensures unchanged { result ≢ ok → serial.new ≡ serial.old }
+    ensures untold { result ≢ ok → reply.new ≡ reply.old }
+    ensures open { result ≢ closed }
+{
+    match port_of(event) {
+        Some(access) => port(serial, &access, reply),
+        None => NO_EVENT,
+    }
+}
+
+/// The same of a record of `LOOK_EVENT`.
+#[inline(never)]
+fn look_asked(
+    serial: &mut SerialBoard<Chipset>,
+    event: &EventRecord,
+    reply: &mut ReplyRecord,
+) -> u32
+    requires look { event.now.what ≡ look_event }
+    ensures done { result ≡ ok → IsSomeAnd (asked_said event.now) (IsAskedStep serial.old serial.new reply.new) }
+    ensures refused { result ≢ ok → IsEventRefusal serial.old (asked_said event.now) result }
+    ensures unchanged { result ≢ ok → serial.new ≡ serial.old }
+    ensures untold { result ≢ ok → reply.new ≡ reply.old }
+    ensures open { result ≢ closed }
+{
+    match look_of(event) {
+        Some(kind) => {
+            look(serial, kind, event, reply);
+            OK
         }
-        return match wide_of(event) {
-            Some(access) => done(serial, &Event::Wide(access), reply),
-            None => other(serial, event, reply),
-        };
+        None => NO_EVENT,
     }
-    if event.what == PORT_EVENT {
-        return match port_of(event) {
-            Some(access) => port(serial, &access, reply),
-            None => NO_EVENT,
-        };
-    }
-    if event.what == LOOK_EVENT {
-        return match look_of(event) {
-            Some(kind) => {
-                look(serial, kind, event, reply);
-                OK
-            }
-            None => NO_EVENT,
-        };
-    }
-    other(serial, event, reply)
 }
 
 /// Looks at the memory map.

@@ -16,7 +16,7 @@ use crate::bytes::{tell_clock_byte, tell_dram, tell_sector};
 use crate::calls::step;
 use crate::card::{CardRecord, identities_of};
 use crate::event::EventRecord;
-use crate::identified::identified_step;
+use crate::identified::identify_told;
 use crate::map::{MapRecord, RangeRecord, WindowRecord, tell_map};
 use crate::opening::open;
 use crate::place::{tell_place, tell_rise};
@@ -78,6 +78,7 @@ impl Door {
     /// Does what a record asks, and tells the reply by another: the chipset's, in which a read of configuration data has
     /// the bytes of the card's identity. Refused with why where the record asks nothing (`NO_EVENT`), an event that is out
     /// of range, or a byte for which COM1 has no room (`SERIAL_FULL`); then nothing has changed.
+    #[inline(always)]
     pub fn step(&mut self, event: &EventRecord, reply: &mut ReplyRecord) -> u32
         ensures done { result ≡ ok → IsSomeAnd (asked_said event.now)
             (IsDoorStep self.old self.new event.now reply.new) }
@@ -87,10 +88,11 @@ impl Door {
         ensures untold { result ≢ ok → reply.new ≡ reply.old }
         ensures open { result ≢ closed }
     {
-        if self.identities.is_empty() {
-            return step(&mut self.serial, event, reply);
+        let status = step(&mut self.serial, event, reply);
+        if !self.identities.is_empty() {
+            identify_told(&self.identities, event, status, reply);
         }
-        identified_step(&mut self.serial, &self.identities, event, reply)
+        status
     }
 
     /// Tells the memory map, its ranges and the windows that its last change changed: as many of them as there is room

@@ -1,41 +1,31 @@
 //! The bytes of the cards' identities over the record of a reply.
 
-ghost use Rattle.std.specs.Prelude.{◌≡◌, ◌≢◌, ◌<◌, Some, IsSomeAnd};
-ghost use Rattle.board_records.specs.Events.{asked_said};
-ghost use Rattle.board_records.specs.Identified.{IsIdentifiedStep, is_config_read, identified_by, identified_record};
-ghost use Rattle.board_records.specs.Statuses.{ok, closed, IsEventRefusal};
+ghost use Rattle.std.specs.Prelude.{◌≡◌, ◌≢◌, ◌<◌, Some};
+ghost use Rattle.board_records.specs.Identified.{is_config_read, identified_by, identified_record};
+ghost use Rattle.board_records.specs.Statuses.{ok};
 
-use crate::calls::step;
 use crate::event::{EventRecord, width_of};
 use crate::numbers::{BUS_REPLY, CONFIG_TARGET};
 use crate::reply::ReplyRecord;
 use crate::status::OK;
 use board_base::Width;
-use board_chipset::Chipset;
 use card_identity::{FittedIdentity, Identity, identity_at};
-use uart_16550::SerialBoard;
 
-/// Does what a record asks, and tells the reply by another, in which a read of configuration data has the bytes of the
-/// card's identity. Refused as `step` refuses; then nothing has changed.
-pub(crate) fn identified_step(
-    serial: &mut SerialBoard<Chipset>,
+/// Puts the bytes of the cards' identities into the record of a reply that was told. It is not inlined: few boards have
+/// a card with an identity.
+#[inline(never)]
+pub(crate) fn identify_told(
     identities: &[FittedIdentity],
     event: &EventRecord,
+    status: u32,
     reply: &mut ReplyRecord,
-) -> u32
-    ensures done { result ≡ ok → IsSomeAnd (asked_said event.now)
-        (IsIdentifiedStep identities.now serial.old serial.new event.now reply.new) }
-    ensures refused { result ≢ ok → IsEventRefusal serial.old (asked_said event.now) result }
-    ensures unchanged { result ≢ ok → serial.new ≡ serial.old }
-    ensures untold { result ≢ ok → reply.new ≡ reply.old }
-    ensures open { result ≢ closed }
+)
+    ensures identified { status ≡ ok → reply.new ≡ identified_record identities.now event.now reply.old }
+    ensures untold { status ≢ ok → reply.new ≡ reply.old }
 {
-    let status = step(serial, event, reply);
-    if status != OK {
-        return status;
+    if status == OK {
+        identify(identities, event, reply);
     }
-    identify(identities, event, reply);
-    OK
 }
 
 /// Puts the bytes of the cards' identities in the place of the fixed ones where the reply to an event is to a read of

@@ -1,6 +1,6 @@
 -- A bus master never reaches SMRAM: it changes no byte of it, and does the same whatever stands there.
-use Rattle.std.proofs.Common.{◌≡◌, ℕ, zero, suc, ◌+◌, ◌-◌, ◌*◌, ◌%◌, ◌<◌, ◌≤◌, ◌⊎◌, inl, inr, Bool, true, false, not, ◌&&◌, [], ◌∷◌, Option, Some, None, is_some, refl, sym, ap, subst, ◌∙◌, arith, ◌==◌, unwrap_or, option_map, if◌then◌else◌}
-use Rattle.board_prelude.proofs.Common.{cases_Bool, cases_lt, and_left, and_right, le-ltb, lt-leb, le-leb, nat_tests, Width, One, Kind, Read, Write, Area, Target, Smram, Card, bytes_of, Medium, word_at, Setup, rom_base, wide, lies_in, smram_range, shadow_range, upper_memory, fdhc, xbcs, Bytes, Window, first_of, line_where, card_area, row_of, hole_of, is_in, is_shadowed, is_rom_selected, memory_claim, is_smram_range, target_at, Cell, DramCell, CardCell, byte_put}
+use Rattle.std.proofs.Common.{◌≡◌, ℕ, zero, suc, ◌+◌, ◌-◌, ◌*◌, ◌%◌, ◌<◌, ◌≤◌, ◌⊎◌, inl, inr, Bool, true, false, not, ◌&&◌, Option, Some, None, is_some, refl, sym, subst, ◌∙◌, arith, ◌==◌, unwrap_or, if◌then◌else◌}
+use Rattle.board_prelude.proofs.Common.{cases_Bool, cases_lt, le-ltb, lt-leb, le-leb, nat_tests, Width, One, Kind, Read, Write, Area, Target, Smram, Card, bytes_of, Medium, word_at, Setup, rom_base, wide, Bytes, is_smram_range, target_at, Cell, DramCell, CardCell, byte_put}
 use Rattle.board_base.specs.declared.access.Width.TheVariants.{Two, Four}
 use Rattle.board_base.specs.declared.target.Area.TheVariants.{Dram as DramArea, Shadow as ShadowArea, Smram as SmramArea, Rom as RomArea, Card as CardArea, Abort as AbortArea}
 use Rattle.ata_pio.specs.Words.{is_readable}
@@ -10,48 +10,8 @@ use Rattle.bus_master.specs.declared.done.End.TheVariants.{Shorter, Sector}
 use Rattle.bus_master.specs.declared.direction.Direction.{Direction}
 use Rattle.bus_master.specs.declared.direction.Direction.TheVariants.{ToMemory, ToDisk}
 use Rattle.bus_master.specs.Common.{Cells, is_kept, put_in, value_in, Master, Moving, TransferPlace, ◌and_then◌, address_after, answered, begun, descriptor_read, direction_of, ended, even, is_used_up, kind_of, master_target, master_value, next_moved, next_sector, next_word, ready_for, region_found, region_taken, sector_tested, table_tested, transferred, word_moved, words_moved, is_in_smram}
+use Rattle.board_chipset.proofs.MasterSteps.{IsOffDram, off_dram}
 use Rattle.bus_master.proofs.HeldTargets.{wide_same}
-
--- ---- what answers there is no DRAM
-
-abbrev IsOffDram : Area → Type 0
-IsOffDram (DramArea row) = ⊥
-IsOffDram (ShadowArea row) = ⊥
-IsOffDram SmramArea = ⊥
-IsOffDram RomArea = Unit {0}
-IsOffDram (CardArea dev base) = Unit {0}
-IsOffDram AbortArea = Unit {0}
-
-off_lines : (rom : Bool) (claim : Option Window) →
-    IsOffDram (first_of (line_where rom RomArea ∷ option_map card_area claim ∷ []) AbortArea)
-off_lines true claim = tt
-off_lines false None = tt
-off_lines false (Some window) = tt
-
-off_table : (a b c rom : Bool) (row : ℕ) (claim : Option Window) → a ≡ false → b ≡ false → c ≡ false →
-    IsOffDram
-    (first_of
-    (line_where a SmramArea ∷ line_where b (ShadowArea row) ∷ line_where c (DramArea row) ∷ line_where rom RomArea
-    ∷ option_map card_area claim ∷ [])
-    AbortArea)
-off_table a b c rom row claim ea eb ec = rw (ea, eb, ec) (off_lines rom claim)
-
-no_shadow : (addr : ℕ) → lies_in smram_range addr ≡ true → lies_in shadow_range addr ≡ false
-no_shadow addr inside = grind (arith, nat_tests)
-
-in_upper : (addr : ℕ) → lies_in smram_range addr ≡ true → lies_in upper_memory addr ≡ true
-in_upper addr inside = grind (arith, nat_tests)
-
-off_dram : (setup : Setup) (bytes : Bytes) (addr : ℕ) (kind : Kind) → is_smram_range addr ≡ true →
-    IsOffDram (master_area setup bytes addr kind)
-unfolding master_area
-off_dram setup bytes addr kind inside =
-    off_table (is_smram_range addr && is_some (row_of bytes addr) && false)
-    (is_some (row_of bytes addr) && is_shadowed bytes addr kind)
-    (not (lies_in upper_memory addr) && is_some (row_of bytes addr) && not (is_in (hole_of (bytes fdhc)) addr))
-    (is_rom_selected (bytes xbcs) addr) (unwrap_or (row_of bytes addr) 0) (memory_claim setup bytes addr)
-    (and_right _ _ refl) (and_right _ _ (and_left _ _ (no_shadow addr inside)))
-    (and_left _ _ (and_left _ _ (ap not (in_upper addr inside))))
 
 -- ---- a write leaves SMRAM
 

@@ -1,11 +1,12 @@
 -- A transfer of the bus master: words between the sectors of the disk, from one on, and the regions of memory that a
 -- table of descriptors names (82371SB, 2.7).
 use Rattle.std.specs.Prelude.{ℕ, zero, suc, ◌+◌, ◌-◌, ◌*◌, ◌/◌, ◌%◌, ◌==◌, Bool, true, false, not, ◌&&◌, if◌then◌else◌, [], Option, Some, None, is_some, unwrap_or}
-use Rattle.board_prelude.specs.Common.{Width, Kind, Read, Write, Area, Target, Denial, NoRegister, Medium, Disk, word_at, Setup, is_bit, Bytes, target_at}
+use Rattle.board_prelude.specs.Common.{Width, Kind, Read, Write, Area, Denial, NoRegister, Medium, Disk, word_at, Setup, is_bit, Bytes}
 use Rattle.board_base.specs.declared.access.Width.TheVariants.{Two, Four}
 use Rattle.board_base.specs.declared.target.Area.TheVariants.{Abort as NobodysArea}
 use Rattle.ata_pio.specs.Words.{is_readable, with_word}
 use Rattle.addr_decode.specs.Master.{master_area, master_denial}
+use Rattle.board_chipset.specs.Masters.{master_target}
 use Rattle.bus_master.specs.declared.done.End.{End}
 use Rattle.bus_master.specs.declared.done.End.TheVariants.{Exact, Longer, Shorter, Abort, Sector}
 use Rattle.bus_master.specs.declared.done.Done.{Done}
@@ -41,9 +42,6 @@ abbrev pub ◌and_then◌ : Moving → (Moving → Moving) → Moving
 moving and_then step = if is_some moving.end then moving else step moving
 
 -- ---- one access to memory
-
-abbrev pub master_target : Setup → Bytes → Kind → (addr : ℕ) → Target
-master_target setup bytes kind addr = target_at setup (master_area setup bytes addr kind) addr
 
 abbrev pub master_value : Setup → Bytes → Cells → (addr : ℕ) → Width → ℕ
 master_value setup bytes cells addr width = value_in setup cells (master_target setup bytes Read addr) addr width

@@ -6,7 +6,8 @@ ghost use Rattle.ata_pio.specs.Words.{is_readable, with_word};
 ghost use Rattle.addr_decode.specs.Master.{master_area};
 ghost use Rattle.board_stores.specs.Targets.{IsHeld};
 ghost use Rattle.bus_master.specs.Cells.{value_in, put_in};
-ghost use Rattle.bus_master.specs.Transfer.{master_target, master_value, medium_of, with_medium};
+ghost use Rattle.bus_master.specs.Transfer.{master_value, medium_of, with_medium};
+ghost use Rattle.board_chipset.specs.Masters.{master_target};
 ghost use Rattle.board_chipset.specs.Stores.{IsStoreOf};
 ghost use Rattle.bus_master.specs.Stores.{cells_of, HasSameShape, IsCell, IsReached};
 

@@ -1,7 +1,7 @@
 //! A worker of a phase: it does the statements of one processor.
 
 ghost use Rattle.std.specs.Prelude.{◌≡◌, ◌+◌, ◌<◌, ◌≤◌, List, [], ◌∷◌, All, length, reverse, OnOk, IfOk};
-ghost use Rattle.board_prelude.specs.Common.{Entry, IsInRange, entries_by, map_writes_of, most_statements};
+ghost use Rattle.board_prelude.specs.Common.{Entry, IsInRange, entries_by, events_by, map_writes_of, most_statements};
 ghost use Rattle.run_order.specs.declared.done.Done.{Done};
 ghost use Rattle.run_order.specs.Common.{event_of, IsDone};
 ghost use Rattle.phase_work.specs.Works.{HasDone};
@@ -88,6 +88,8 @@ impl Work {
         ensures mine { OnOk result (length (entries_by (C.number cpu.old) (C.seen cpu.new))
             ≤ length (entries_by (C.number cpu.old) (C.seen cpu.old)) + length phase.now) }
         ensures asked { self.new.asked ≤ self.old.asked + length phase.now }
+        ensures counted { OnOk result
+            (self.new.asked ≡ self.old.asked + length (events_by (C.number cpu.old) phase.now)) }
     {
         let number = cpu.number();
         for statement in phase {

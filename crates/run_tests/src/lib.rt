@@ -4,6 +4,10 @@
 #[cfg(test)]
 mod commands;
 #[cfg(test)]
+mod counting_gate;
+#[cfg(test)]
+mod eight;
+#[cfg(test)]
 mod holding_gate;
 #[cfg(test)]
 mod images;

@@ -33,6 +33,16 @@ impl Queue {
         }
     }
 
+    /// The queue of these bytes, of which there are at most 16.
+    pub fn of(bytes: &[u8]) -> Queue
+        requires few { length bytes.now ≤ 16 }
+        ensures bytes { result ≡ bytes.now }
+    {
+        let mut queue = ArrayVec::new();
+        queue.try_extend_from_slice(bytes).unwrap();
+        Queue { bytes: queue }
+    }
+
     /// The bytes.
     pub fn bytes(&self) -> &[u8]
         ensures bytes { result.now ≡ self.now }

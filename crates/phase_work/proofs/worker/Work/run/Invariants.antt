@@ -14,4 +14,5 @@ invariant-loop-statement g l = record {
   done : IsDone (g.C.Caller.setup l.fn.cpu) (g.C.Caller.number l.fn.cpu) (g.C.Caller.seen l.fn.cpu) (reverse l.self.done.items) (g.C.Caller.seen l.cpu) (g.C.Caller.known l.cpu);
   mine : length (entries_by (g.C.Caller.number l.fn.cpu) (g.C.Caller.seen l.cpu)) ≤ length (entries_by (g.C.Caller.number l.fn.cpu) (g.C.Caller.seen l.fn.cpu)) + l.statement-index;
   asked : l.self.asked ≤ l.fn.self.asked + l.statement-index;
+  counted : l.self.asked ≡ l.fn.self.asked + length l.self.done.items;
 }

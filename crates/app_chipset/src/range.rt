@@ -1,0 +1,116 @@
+//! Events of which nothing was proved, at a chipset of 1 MiB with a card at device 4: whether each is in range, and the field
+//! that is not. An event is a word, a count of bytes, a place and a value.
+
+use crate::setup::chipset;
+use board_base::{Access, Kind, Moment, NoMemory, WideAccess};
+use board_chipset::Chipset;
+use board_spec::Event;
+use call_words::{byte, decimal, long, number, port_access, width};
+use std::alloc::{AllocError, Global};
+
+/// An access to memory outside SMM.
+fn memory(kind: Kind, bytes: &str, place: &str, value: &str) -> Event {
+    Event::Memory(Access {
+        kind,
+        addr: number(place),
+        width: width(bytes),
+        smm: false,
+        value: number(value),
+    })
+}
+
+/// A wide access outside SMM.
+fn wide(kind: Kind, bytes: &str, place: &str, value: &str) -> Event {
+    Event::Wide(WideAccess {
+        kind,
+        bytes: byte(bytes),
+        smm: false,
+        addr: number(place),
+        value: long(value),
+    })
+}
+
+/// An event that comes from outside.
+fn event_from_outside(word: &str, place: &str, value: &str) -> Event {
+    match word {
+        "wire" => Event::Wire {
+            dev: byte(place),
+            on: true,
+        },
+        "irq" => Event::Line {
+            irq: byte(place),
+            on: true,
+        },
+        _ => Event::Pulses(number(value)),
+    }
+}
+
+/// An event that is no access to memory in one cycle.
+fn other_event(word: &str, bytes: &str, place: &str, value: &str) -> Event {
+    match word {
+        "in" => Event::Port(port_access(false, bytes, place, value)),
+        "out" => Event::Port(port_access(true, bytes, place, value)),
+        "wide-read" => wide(Kind::Read, bytes, place, value),
+        "wide-write" => wide(Kind::Write, bytes, place, value),
+        _ => event_from_outside(word, place, value),
+    }
+}
+
+/// The event of words.
+fn event_of(word: &str, bytes: &str, place: &str, value: &str) -> Event {
+    match word {
+        "read" => memory(Kind::Read, bytes, place, value),
+        "fetch" => memory(Kind::Fetch, bytes, place, value),
+        "write" => memory(Kind::Write, bytes, place, value),
+        _ => other_event(word, bytes, place, value),
+    }
+}
+
+/// Tells whether an event is in range, and what comes of it.
+fn push_asked(text: &mut String, chipset: &mut Chipset, event: &Event) -> Result<(), AllocError> {
+    text.push_str(if chipset.is_in_range(event) {
+        "in range, "
+    } else {
+        "not in range, "
+    })?;
+    match chipset.ask(event) {
+        Ok(_) => text.push_str("good"),
+        Err(fault) => write!(text, "{fault:?}"),
+    }
+}
+
+/// The same of words, at a new chipset.
+pub fn tell_event(alloc: Global, words: &[&str], text: &mut String) -> Result<(), NoMemory> {
+    let [word, bytes, place, value] = words else {
+        return Ok(text.push_str("no event")?);
+    };
+    let event = event_of(word, bytes, place, value);
+    Ok(push_asked(text, &mut chipset(alloc)?, &event)?)
+}
+
+/// The low byte of a number in decimal digits.
+fn small(digits: &str) -> u8 {
+    (decimal(digits) % 0x100) as u8
+}
+
+/// A date, and an hour; the weekday is from 1 for Sunday.
+fn moment(year: &str, month: &str, day: &str, weekday: &str, hour: &str) -> Event {
+    Event::Time(Moment {
+        year: (decimal(year) % 0x1_0000) as u16,
+        month: small(month),
+        day: small(day),
+        weekday: small(weekday),
+        hour: small(hour),
+        minute: 0,
+        second: 0,
+    })
+}
+
+/// The same of a moment, in decimal numbers.
+pub fn tell_time(alloc: Global, words: &[&str], text: &mut String) -> Result<(), NoMemory> {
+    let [year, month, day, weekday, hour] = words else {
+        return Ok(text.push_str("no moment")?);
+    };
+    let event = moment(year, month, day, weekday, hour);
+    Ok(push_asked(text, &mut chipset(alloc)?, &event)?)
+}

@@ -1,0 +1,68 @@
+//! Runs of eight processors, each with more than eight statements in a phase.
+
+use crate::commands::{answer, files_of, status_of};
+use crate::counting_gate::CountingGate;
+use board_outside::{SafeShelf, SafeSink};
+use board_run::Status;
+use std::alloc::Global;
+use std::test::Fail;
+
+/// The setup of eight processors.
+const SETUP: &str = "board 1\ncpus 8\nmemory 8\nrom r64\n";
+
+/// What each processor does in turn.
+const STATEMENTS: [&str; 3] = [
+    " w b 00000010 05\n",
+    " look r 000F0000\n",
+    " r b 00000010\n",
+];
+
+/// How often each processor does so in each of two phases.
+const ROUNDS: [usize; 2] = [3, 1];
+
+/// The script.
+fn script(alloc: Global) -> Result<String, Fail> {
+    let mut text = String::from_str(alloc, SETUP)?;
+    for rounds in ROUNDS {
+        text.push_str("phase\n")?;
+        for _ in 0..rounds {
+            push_round(&mut text)?;
+        }
+    }
+    Ok(text)
+}
+
+/// Adds each statement once for each processor.
+fn push_round(text: &mut String) -> Result<(), Fail> {
+    for statement in STATEMENTS {
+        for actor in ["0", "1", "2", "3", "4", "5", "6", "7"] {
+            text.push_str(actor)?;
+            text.push_str(statement)?;
+        }
+    }
+    Ok(())
+}
+
+#[test]
+fn eight_processors_with_nine_statements_in_a_phase(rt: HostRuntime) -> Result<(), Fail> {
+    let alloc = rt.alloc();
+    let script = script(alloc)?;
+    let gate = CountingGate::new();
+    let mut shelf = SafeShelf {
+        files: files_of(alloc, script.as_bytes(), &[])?,
+    };
+    let mut out = SafeSink::new(alloc);
+    let status = status_of(&rt, alloc, &["run", "s"], &mut shelf, &mut out, &gate)?;
+    assert_eq!(rt; status, Status::Done);
+    assert!(rt; gate.has_counted(12));
+    let (status, text) = answer(
+        &rt,
+        alloc,
+        &["check", "s", "i"],
+        script.as_bytes(),
+        out.bytes.as_slice(),
+    )?;
+    assert_eq!(rt; status, Status::Done);
+    assert_eq!(rt; text.as_slice(), b"legal 96\n");
+    Ok(())
+}
