@@ -1,5 +1,5 @@
 -- The state of the devices is spelled and read back.
-use Rattle.std.proofs.Common.{◌≡◌, ℕ, ◌+◌, ◌<◌, ◌≤◌, List, [], ◌∷◌, ◌++◌, Option, Some, None, refl, sym, ap, ◌∙◌, arith}
+use Rattle.std.proofs.Common.{◌≡◌, ℕ, ◌+◌, List, [], Option, Some, None, refl, sym, ap, ◌∙◌, arith}
 use Rattle.board_prelude.specs.Common.{Disk, SystemPort, IsDisk}
 use Rattle.byte_fields.proofs.Formats.{IsFormat, format_as, then_format, last_format, made_format, done_format}
 use Rattle.byte_fields.proofs.Numbers.{byte_within, flag_format}

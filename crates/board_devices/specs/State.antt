@@ -1,5 +1,5 @@
 -- The state of the devices as bytes, over the disk as it was fitted.
-use Rattle.std.specs.Prelude.{ℕ, ◌≡◌, ◌<◌, ◌++◌, List, [], ◌∷◌, Option, Some, None}
+use Rattle.std.specs.Prelude.{ℕ, ◌<◌, ◌++◌, List, [], ◌∷◌, Option, Some, None}
 use Rattle.board_base.specs.Common.{w8}
 use Rattle.byte_fields.specs.Fields.{Reading, gives, ◌>>=◌, within, flag_byte, flag_field}
 use Rattle.board_prelude.specs.Common.{Disk, SystemPort}
