@@ -1,9 +1,9 @@
 -- Stretches of bytes that are copied out of the DRAM and into it.
-use Rattle.std.proofs.Common.{◌≡◌, ℕ, ◌+◌, ◌-◌, ◌*◌, ◌/◌, ◌%◌, ◌^◌, ◌<◌, ◌≤◌, Bool, true, false, ◌&&◌, List, [], ◌++◌, length, take, drop, replicate, inl, inr, ◌∙◌, refl, sym, ap, arith, length-append, length-take-le, length-drop, slice_index, nat_le, nat_lt, if◌then◌else◌, min, All}
+use Rattle.std.proofs.Common.{◌≡◌, ℕ, ◌+◌, ◌-◌, ◌*◌, ◌/◌, ◌%◌, ◌^◌, ◌<◌, ◌≤◌, Bool, true, false, ◌&&◌, List, ◌++◌, length, take, drop, replicate, inl, inr, ◌∙◌, refl, sym, ap, arith, length-append, length-take-le, length-drop, slice_index, nat_le, nat_lt, min, All}
 use Rattle.board_prelude.proofs.Common.{concat, length-replicate, get_or_append_left, get_or-append_right, get_or_past, get_or-take, get_or-drop, get_or-replicate, cases_lt, lt-ltb, le-ltb, nat_tests}
 use Rattle.dram_store.specs.Common.{bank_size, bank_of, page_end, IsBank, IsPut, dram_at, IsWritten}
 use Rattle.dram_store.proofs.BankLemmas.{same_byte, zero_at}
-use Rattle.dram_store.proofs.ConcatLemmas.{bank_at, bank_byte, banks_length, byte_at}
+use Rattle.dram_store.proofs.ConcatLemmas.{bank_at, bank_byte, byte_at}
 
 -- ---- in a bank
 

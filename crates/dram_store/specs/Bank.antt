@@ -1,5 +1,6 @@
 -- A bank is the list of its bytes, which are a mebibyte in pages of 64 KiB.
 use Rattle.std.specs.Prelude.{ℕ, ◌≡◌, ◌≤◌, ◌+◌, ◌-◌, ◌*◌, ◌/◌, ◌%◌, ◌&&◌, nat_le, nat_lt, if◌then◌else◌, List, ◌++◌, length, replicate, slice_index}
+use Rattle.byte_fields.specs.Pages.{memory_page}
 
 abbrev pub bank_size : ℕ
 bank_size = 0x10_0000
@@ -18,9 +19,9 @@ IsZero bank = (at : ℕ) → slice_index bank at ≡ 0
 abbrev pub bank_of : List ℕ → List ℕ
 bank_of kept = kept ++ replicate (bank_size - length kept) 0
 
--- so many bytes of a bank are kept, in whole pages, where there is room for all
+-- so many bytes of a bank are kept, in whole pages of memory, where there is room for all
 pub record IsKept (kept capacity : ℕ) : Type 0 where
-  pub pages : kept % page_size ≡ 0
+  pub pages : kept % memory_page ≡ 0
   pub within : kept ≤ bank_size
   pub room : bank_size ≤ capacity
 

@@ -1,3 +1,4 @@
 pub mod Bank
 pub mod Dram
+pub mod State
 pub mod Common

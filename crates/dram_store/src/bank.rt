@@ -1,10 +1,13 @@
 //! A mebibyte of the DRAM, of which only the bytes up to the highest page written are kept.
-ghost use Rattle.std.specs.Prelude.{◌≡◌, ◌≤◌, ◌<◌, ◌+◌, ◌-◌, ◌%◌, ℕ, ◌++◌, length, replicate, slice_index, vec_capacity, IfOk};
+ghost use Rattle.std.specs.Prelude.{◌≡◌, ◌≤◌, ◌<◌, ◌+◌, ◌-◌, ◌%◌, ℕ, [], ◌++◌, length, replicate, slice_index, vec_capacity, IfOk, OnOk};
 ghost use Rattle.board_prelude.specs.Common.{bytes_of, largest_of, byte, wide};
-ghost use Rattle.dram_store.specs.Bank.{IsBank, IsZero, IsPut, bank_of, bank_size, page_end};
+ghost use Rattle.byte_fields.specs.Fields.{Took, Filled};
+ghost use Rattle.byte_fields.specs.Pages.{memory_bytes, memory_fields};
+ghost use Rattle.dram_store.specs.Bank.{IsBank, IsKept, IsZero, IsPut, bank_of, bank_size, page_end};
 
 use board_base::{NoMemory, Width};
 use board_spec::wide::{read_at, write_at};
+use byte_fields::{Bad, Fault, Fields, MEMORY_PAGE, push_bytes, push_memory};
 use std::alloc::Global;
 use std::marker::Model;
 
@@ -14,13 +17,16 @@ pub(crate) const BANK: usize = 0x10_0000;
 /// How many bytes a page has.
 const PAGE: usize = 0x1_0000;
 
+/// How many pages of memory a bank has.
+const MEMORY_PAGES: usize = BANK / MEMORY_PAGE;
+
 /// A mebibyte of memory. Contracts see the list of its bytes.
 ///
 /// Its front is kept, up to the highest page that was written. The bytes above are 0 and cost no time, so one
 /// write fills at most a mebibyte with zeros, and no byte is filled twice.
 #[derive(Drop)]
 pub(crate) struct Bank {
-    /// The bytes that are kept, in whole pages, with room for all.
+    /// The bytes that are kept, in whole pages of memory, with room for all.
     kept: Vec<u8>,
 }
 
@@ -105,6 +111,56 @@ impl Bank {
         keep_page(&mut self.kept, at + (bytes.len() - 1));
         self.kept[at..at + bytes.len()].copy_from_slice(bytes);
     }
+}
+
+impl Bank {
+    /// Adds the bytes, by pages of memory. Those that are not kept are zeros and need no look.
+    pub(crate) fn save_state(&self, into: &mut Vec<u8>) -> Result<(), NoMemory>
+        ensures saved { OnOk result (into.new.items ≡ into.old.items ++ memory_bytes self.now) }
+    {
+        push_memory(into, &self.kept)?;
+        let zero_pages = [0; MEMORY_PAGES];
+        let count = (BANK - self.kept.len()) / MEMORY_PAGE;
+        push_bytes(into, &zero_pages[..count])?;
+        Ok(())
+    }
+
+    /// The bank whose bytes are at the front, by pages of memory. Zeros after the last page of others are not kept.
+    pub(crate) fn load_state(alloc: Global, fields: &mut Fields) -> Result<Bank, Fault>
+        ensures filled { Filled (λ bank. bank) result fields.new (memory_fields bank_size fields.old) }
+        ensures size { IfOk result IsBank }
+    {
+        let mut kept = Vec::with_capacity(alloc, BANK)?;
+        read_kept(&mut kept, fields)?;
+        Ok(Bank { kept })
+    }
+}
+
+/// Reads the bytes of a bank, and keeps those up to the last page that is not all zeros.
+fn read_kept(kept: &mut Vec<u8>, fields: &mut Fields) -> Result<(), Bad>
+    requires none { kept.old.items ≡ [] }
+    requires room { bank_size ≤ vec_capacity kept.old }
+    ensures took { Took (λ _. bank_of kept.new.items) result fields.new (memory_fields bank_size fields.old) }
+    ensures kept { IsKept (length kept.new.items) (vec_capacity kept.new) }
+{
+    let zeros = [0; MEMORY_PAGE];
+    for page in 0..MEMORY_PAGES {
+        if let Some(bytes) = fields.page(&zeros)? {
+            put_page(kept, page * MEMORY_PAGE, bytes);
+        }
+    }
+    Ok(())
+}
+
+/// Keeps zeros up to a place, and then a page.
+fn put_page(kept: &mut Vec<u8>, at: usize, page: &[u8])
+    requires after { length kept.old.items ≤ at }
+    requires room { at + length page.now ≤ vec_capacity kept.old }
+    ensures bytes { kept.new.items ≡ (kept.old.items ++ replicate (at - length kept.old.items) 0) ++ page.now }
+    ensures room { vec_capacity kept.old ≤ vec_capacity kept.new }
+{
+    kept.resize(at, 0).unwrap();
+    kept.extend_from_slice(page).unwrap();
 }
 
 /// Keeps all bytes up to the end of the page of a place. New bytes are 0.

@@ -17,7 +17,7 @@ pub struct PastTheEnd;
 #[derive(Drop)]
 pub struct Dram {
     /// A bank for each MiB.
-    banks: Vec<Bank>,
+    pub(crate) banks: Vec<Bank>,
 }
 
 impl Model for Dram {

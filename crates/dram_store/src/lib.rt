@@ -3,5 +3,7 @@
 
 mod bank;
 mod dram;
+mod state;
 
 pub use dram::{Dram, PastTheEnd};
+pub use state::law_one_dram;

@@ -1,6 +1,5 @@
-use Rattle.std.proofs.Common.{◌≡◌, ◌≤◌, ◌<◌, ◌/◌, [], length, ap, ◌∙◌, sym, arith}
+use Rattle.std.proofs.Common.{◌≤◌, [], length, ap, ◌∙◌, sym, arith}
 use Rattle.std.proofs.Math.ListN.{get_or}
-use Rattle.dram_store.specs.Bank.{bank_size}
 use Rattle.dram_store.proofs.ConcatLemmas.{banks_length}
 use Rattle.dram_store.proofs.StretchLemmas.{kept_bytes}
 use Rattle.dram_store.proofs.dram.Dram.kept.Goals as goal

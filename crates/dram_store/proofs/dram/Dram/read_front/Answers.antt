@@ -1,4 +1,4 @@
-use Rattle.std.proofs.Common.{◌≡◌, ◌≤◌, ◌<◌, ◌/◌, ◌∙◌, ℕ, [], length, take, replicate, ap, arith, length-take-le}
+use Rattle.std.proofs.Common.{◌≡◌, ◌≤◌, ◌/◌, ◌∙◌, ℕ, [], length, take, replicate, ap, arith, length-take-le}
 use Rattle.std.specs.List.{concat}
 use Rattle.dram_store.specs.Bank.{bank_size}
 use Rattle.dram_store.proofs.ConcatLemmas.{bank_at, banks_length}

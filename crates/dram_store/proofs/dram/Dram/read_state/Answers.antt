@@ -1,0 +1,40 @@
+use Rattle.std.proofs.Common.{arith}
+use Rattle.board_prelude.proofs.Common.{err_from_is_err_and, All-push, length_push}
+use Rattle.dram_store.specs.Bank.{IsBank}
+use Rattle.dram_store.specs.State.{dram_fields}
+use Rattle.dram_store.proofs.StateFormats.{bank_failed, bank_read, banks_done}
+use Rattle.dram_store.proofs.dram.Dram.read_state.Goals as goal
+
+pub returns-in_err-load_state : goal.returns-in_err-load_state
+returns-in_err-load_state c =
+    let p = err_from_is_err_and c.from_residual-in_err-load_state.result c.from_residual-in_err-load_state.ensures.1 in
+    record {
+      filled =
+          rw (p.1, p.2)
+          (bank_failed _ c.args.mib c.loop.counter c.loop.banks.items c.loop.fields c.load_state.new.fields
+          (dram_fields c.args.mib c.args.fields.now) c.loop-test.true c.loop.invariant.read
+          c.in_err-load_state.ensures.filled);
+    }
+
+pub loop-preserved : goal.loop-preserved
+loop-preserved c =
+    let banks = c.loop.banks.items in
+    let bank = c.in_ok-load_state.field-0 in
+    record {
+      read =
+          rw c.in_ok-push.ensures.items
+          (bank_read c.args.mib c.loop.counter banks bank c.loop.fields
+          c.load_state.new.fields (dram_fields c.args.mib c.args.fields.now) c.loop-test.true c.loop.invariant.read
+          c.in_ok-load_state.ensures.filled);
+      count =
+          rw c.in_ok-push.ensures.items (omega (arith, length_push banks bank, c.loop.invariant.count));
+      each =
+          rw c.in_ok-push.ensures.items
+          (All-push IsBank banks bank c.loop.invariant.each c.in_ok-load_state.ensures.size);
+    }
+
+pub returns : goal.returns
+returns c = record {
+  filled = banks_done c.args.mib c.loop.counter c.loop.banks.items c.loop.fields
+      (dram_fields c.args.mib c.args.fields.now) c.loop-test.false c.loop.invariant.read;
+}
