@@ -3,6 +3,7 @@
 #![tactic(auto)]
 
 mod bridge;
+mod disk_state;
 mod map;
 mod media;
 mod pair;
@@ -119,6 +120,8 @@ fn answer(alloc: Global, call: &str, words: &[&str], text: &mut String) -> Resul
         "timer-runs" => timer::tell_runs(text),
         "clock" => media::tell_clock(words, text),
         "disk" => media::tell_disk(alloc, words, text),
+        "disk-state" => disk_state::tell_state(alloc, words, text),
+        "disk-load" => disk_state::tell_load(alloc, word(words, 0), word(words, 1), text),
         _ => answer_of_words(alloc, call, words, text),
     }
 }

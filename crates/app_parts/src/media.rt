@@ -1,6 +1,7 @@
 //! The clock and a disk beside their ports. `clock` writes FFh to each address and tells what `bytes` and a read of the data
 //! port give; `disk 2` has so many sectors of bytes 02h, of which `1.FF=ABCD` sets a word, `1.1FD:0103` sets bytes,
-//! `bad1` marks a sector, `1.FF?` tells a word, `ok1` whether a sector can be read, and `id54` a word of IDENTIFY DEVICE.
+//! `bad1` marks a sector, `1.FF?` tells a word, `ok1` whether a sector can be read, and `id54` a word of IDENTIFY DEVICE;
+//! `c30` writes the command register, and `dABCD` a word to the data port.
 
 ghost use Rattle.std.specs.Prelude.{◌<◌};
 
@@ -150,8 +151,24 @@ fn act_at_sector(disk: &mut Ata, step: &str, text: &mut String) -> Result<(), Al
     }
 }
 
+/// Writes the command register or the data port; false where the step does not.
+fn write_port(disk: &mut Ata, step: &str) -> bool {
+    if let Some(code) = step.strip_prefix('c') {
+        disk.port_write(ATA_COMMAND, Width::One, number(code));
+        return true;
+    }
+    if let Some(word) = step.strip_prefix('d') {
+        disk.port_write(ATA_DATA, Width::Two, number(word));
+        return true;
+    }
+    false
+}
+
 /// One step.
 fn act(disk: &mut Ata, step: &str, text: &mut String) -> Result<(), AllocError> {
+    if write_port(disk, step) {
+        return text.push('-');
+    }
     if let Some(index) = step.strip_prefix("id") {
         return push_hex(text, identify(disk, index));
     }
@@ -165,7 +182,7 @@ fn act(disk: &mut Ata, step: &str, text: &mut String) -> Result<(), AllocError> 
 }
 
 /// Does all steps.
-fn act_all(disk: &mut Ata, steps: &[&str], text: &mut String) -> Result<(), AllocError> {
+pub(crate) fn act_all(disk: &mut Ata, steps: &[&str], text: &mut String) -> Result<(), AllocError> {
     for step in steps {
         space(text)?;
         act(disk, step, text)?;
@@ -173,10 +190,14 @@ fn act_all(disk: &mut Ata, steps: &[&str], text: &mut String) -> Result<(), Allo
     Ok(())
 }
 
+/// So many sectors of bytes 02h.
+pub(crate) fn fitted(alloc: Global, sectors: u32) -> Result<Vec<u8>, AllocError> {
+    vec![in alloc; 2u8; sectors as usize * SECTOR_BYTES as usize]
+}
+
 /// A disk of so many sectors, if there is one.
 fn disk_of(alloc: Global, sectors: u32) -> Result<Option<Ata>, AllocError> {
-    let bytes = vec![in alloc; 2u8; sectors as usize * 512]?;
-    Ok(Ata::open(alloc, &bytes).ok())
+    Ok(Ata::open(alloc, &fitted(alloc, sectors)?).ok())
 }
 
 /// Does all steps at a new disk of so many sectors.

@@ -8,3 +8,4 @@ pub mod Lines
 pub mod Images
 pub mod Digits
 pub mod Identities
+pub mod Masters

@@ -11,5 +11,7 @@ pub mod Places
 pub mod Bytes
 pub mod Seconds
 pub mod Standing
+pub mod Masters
+pub mod CardBytes
 pub mod Images
 pub mod Common

@@ -43,7 +43,7 @@ no_cycle = 17
 abbrev pub no_sector : ℕ
 no_sector = 18
 
--- the bytes do not all lie in the installed memory
+-- the bytes do not all lie in the installed memory, or in the base of the card
 abbrev pub past_end : ℕ
 past_end = 19
 

@@ -38,7 +38,7 @@ use uart_16550::SerialBoard;
 /// some: what holds none has the value None.
 #[derive(Drop)]
 pub struct Door {
-    serial: SerialBoard<Chipset>,
+    pub(crate) serial: SerialBoard<Chipset>,
     identities: ArrayVec<FittedIdentity, 8>,
 }
 

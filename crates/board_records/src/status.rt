@@ -43,7 +43,7 @@ pub const LINE: u32 = 16;
 pub const NO_CYCLE: u32 = 17;
 /// There is no disk, or it has no such sector.
 pub const NO_SECTOR: u32 = 18;
-/// The bytes do not all lie in the installed memory.
+/// The bytes do not all lie in the installed memory, or in the base of the card.
 pub const PAST_END: u32 = 19;
 /// The clock has no byte at this address.
 pub const NO_BYTE: u32 = 20;

@@ -1,4 +1,5 @@
 pub mod TextCuts
+pub mod Fronted
 pub mod PhaseCuts
 pub mod NextStatements
 pub mod Histories

@@ -1,9 +1,9 @@
 -- A text is cut at a byte, and a line of a log names its processor.
-use Rattle.std.proofs.Common.{ℕ, ◌≡◌, ◌≢◌, ◌+◌, ◌-◌, ◌<◌, true, cond, ltb, List, [], ◌∷◌, ◌++◌, length, take, drop, All, Option, Some, None, Result, Ok, Err, refl, sym, ap, ◌∙◌, inl, append_assoc, subst, MatchOption, length-append, length-drop, arith, decimal, codes, MatchResult, ◌==◌}
+use Rattle.std.proofs.Common.{ℕ, ◌≡◌, ◌≢◌, ◌+◌, ◌-◌, ◌<◌, ◌≤◌, IfSome, slice_index_or, true, cond, ltb, List, [], ◌∷◌, ◌++◌, length, take, drop, All, Option, Some, None, Result, Ok, Err, refl, sym, ap, ◌∙◌, inl, append_assoc, subst, MatchOption, length-append, length-drop, arith, decimal, codes, MatchResult, ◌==◌}
 use Rattle.board_prelude.proofs.Common.{position, position_or_len, result_ok, IsUtf8-from_ascii, take-append_seam, eq-eqb, ne_eqb, eqb-false, lt-ltb, cond-true, take_all, All-nil, All-cons, All-head, All-tail, Entry, space, line_feed, event_text, value_bytes, reply_text, line_text}
 use Rattle.std.specs.Option.{ok_or}
 use Rattle.std.specs.Str.{IsUtf8}
-use Rattle.std.proofs.lemmas.Fmt.{IsAscii-decimal}
+use Rattle.std.proofs.lemmas.Fmt.{IsAscii-decimal, decimal_injective}
 use Rattle.std.proofs.Math.Seq.{drop-append-add}
 use Rattle.script_spec.specs.Lines.{IsOneLine}
 use Rattle.script_spec.proofs.Common.{lacks, front, back, front-field, back-field, lacks-first, lacks-later, lacks-decimal, lacks-word, decimal_word, lacks-line}
@@ -134,3 +134,35 @@ number_apart n = apart_from space (decimal n) (lacks-word space (decimal n) refl
 pub decimal_apart : (n : ℕ) → n < 256 → All (λ byte. byte ≢ 0x2E) (decimal n)
 decimal_apart n small =
     apart_from 0x2E (decimal n) (lacks-decimal 0x2E n (inl (omega arith)) (omega (arith, small)))
+
+-- a digit before a full stop is the number that stands before the first one
+pub single_is :
+    (byte digit : ℕ) (bytes after later : List ℕ) (number : ℕ) → digit < 256 → number < 256
+    → decimal digit ≡ byte ∷ [] →
+    bytes ≡ byte ∷ 0x2E ∷ later → bytes ≡ decimal number ++ 0x2E ∷ after → number ≡ digit
+single_is byte digit bytes after later number small less is one other =
+    let digits : (n : ℕ) → n < 256 → lacks 0x2E (decimal n) ≡ true =
+    λ n few. lacks-decimal 0x2E n (inl (omega arith)) (omega (arith, few)) in
+    let first : front 0x2E bytes ≡ decimal digit =
+    ap (front 0x2E) (one ∙ ap (λ (front : List ℕ). front ++ 0x2E ∷ later) (sym is))
+    ∙ front-field 0x2E (decimal digit) later (digits digit small) in
+    let second : front 0x2E bytes ≡ decimal number =
+    ap (front 0x2E) other ∙ front-field 0x2E (decimal number) after (digits number less) in
+    decimal_injective number digit (omega (arith, less)) (omega (arith, small)) (sym second ∙ first)
+
+two_first : (bytes : List ℕ) → 2 ≤ length bytes
+    → bytes ≡ slice_index_or bytes 0 0 ∷ slice_index_or bytes 1 0 ∷ drop 2 bytes
+two_first [] some = absurd (omega (arith, some))
+two_first (a ∷ []) some = absurd (omega (arith, some))
+two_first (a ∷ b ∷ rest) some = refl
+
+-- what one digit before a full stop says, where there is such a digit
+pub single_if :
+    (digit : Option ℕ) (bytes : List ℕ) → 2 ≤ length bytes → slice_index_or bytes 1 0 ≡ 0x2E →
+    IfSome digit (λ d. decimal d ≡ slice_index_or bytes 0 0 ∷ []) → IfSome digit (λ d. d < 10) →
+    IfSome digit (λ d. (number : ℕ) (after : List ℕ) → number < 256 → bytes ≡ decimal number ++ 0x2E ∷ after →
+    number ≡ d)
+single_if None bytes some stop is small = tt
+single_if (Some d) bytes some stop is small = λ number after less other.
+    single_is (slice_index_or bytes 0 0) d bytes after (drop 2 bytes) number (omega (arith, small)) less is
+    (two_first bytes some ∙ ap (λ (byte : ℕ). slice_index_or bytes 0 0 ∷ byte ∷ drop 2 bytes) stop) other

@@ -1,3 +1,5 @@
+pub mod OneActs
+pub mod Unkept
 pub mod Beginnings
 pub mod Due
 pub mod Halves

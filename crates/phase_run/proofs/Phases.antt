@@ -1,11 +1,12 @@
 -- A phase, as the history of the run takes it in.
 use Rattle.std.proofs.Common.{◌≡◌, ℕ, ◌+◌, ◌<◌, ◌≤◌, List, [], ◌∷◌, ◌++◌, map, length, take, drop, get_or, flat_map, All, Option, Vec, Global, sym, ◌∙◌, ap, subst, arith, reverse}
-use Rattle.board_prelude.proofs.Common.{reverse-append, reverse-reverse, length-append, length-map, length-reverse, map-append, append-nil, take-append-drop, drop_more, flat_map-append, drop-append_seam, take-append_seam, All-drop, Entry, Statement, Setup, IsCardList, version_of, IsLegal}
+use Rattle.board_prelude.proofs.Common.{reverse-append, reverse-reverse, length-append, length-reverse, map-append, append-nil, take-append-drop, drop_more, flat_map-append, drop-append_seam, take-append_seam, All-drop, Entry, Statement, Setup, IsCardList, version_of, IsLegal}
 use Rattle.board_core.specs.Kept.{Standing}
 use Rattle.run_order.specs.declared.done.Done.{Done}
 use Rattle.run_order.specs.Common.{done_by, placed, Order, bare, IsWork, IsPhaseRun, IsPlaced, PhaseRuns, AreInPlace, AreAllInPlace, Begins}
 use Rattle.phase_work.specs.declared.worker.Work.{Work}
-use Rattle.phase_run.specs.Common.{IsStatement, HasRun, TakesIn, done_in, entries_of}
+use Rattle.phase_run.specs.Common.{IsStatement, TakesIn, entries_of}
+use Rattle.phase_run.specs.Unseen.{HasRunSo}
 use Rattle.run_order.proofs.Over.{all_reverse}
 
 -- what a history gained, the oldest first
@@ -33,23 +34,21 @@ gained_within before now opened entries b old is =
     let all : length now ≡ length b.0 + length before = ap length b.1 ∙ length-append b.0 before in
     omega (arith, all, ap length old, ap length is, length-reverse before, length-reverse now)
 
-pub phase_is_run : (before now : Standing) (opened entries : List Entry) (phase : List Statement) (works : List Work) (lists : List (List Done))
-    → HasRun before now phase works → opened ≡ reverse before.entries → entries ≡ reverse now.entries → lists ≡ done_in works → IsCardList before.setup.cards
+pub phase_is_run : (before now : Standing) (opened entries : List Entry) (phase : List Statement) (works : List Work)
+    → (run : HasRunSo before now phase works) → opened ≡ reverse before.entries → entries ≡ reverse now.entries → IsCardList before.setup.cards
     → IsLegal now.setup now.entries → All (λ entry. entry.actor < length works) now.entries → All (IsStatement before.setup (length works)) phase
-    → IsPhaseRun before.setup before.entries (gained opened entries) phase lists
-phase_is_run before now opened entries phase works lists run old is are cards legal callers speakers =
+    → IsPhaseRun before.setup before.entries (gained opened entries) phase run.lists
+phase_is_run before now opened entries phase works run old is cards legal callers speakers =
     let whole = whole_is before.entries now.entries opened entries run.begins old is in
-    let count : length lists ≡ length works = ap length are ∙ length-map works (λ (work : Work). work.done.items) in
     record {
       cards = cards;
       legal = subst (λ (setup : Setup). IsLegal setup (reverse (gained opened entries) ++ before.entries)) run.setup (subst (IsLegal now.setup) (sym whole) legal);
-      callers = subst (λ (n : ℕ). All (λ (entry : Entry). entry.actor < n) (gained opened entries)) (sym count)
+      callers = subst (λ (n : ℕ). All (λ (entry : Entry). entry.actor < n) (gained opened entries)) (sym run.count)
           (gained_all (λ (entry : Entry). entry.actor < length works) now.entries opened entries is callers);
-      speakers = subst (λ (n : ℕ). All (λ (statement : Statement). statement.actor < n) phase) (sym count) (λ k d less. (speakers k d less).actor);
+      speakers = subst (λ (n : ℕ). All (λ (statement : Statement). statement.actor < n) phase) (sym run.count) (λ k d less. (speakers k d less).actor);
       each = λ actor less.
-          let few : actor < length works = subst (λ (n : ℕ). actor < n) count less in
-          subst (λ (ls : List (List Done)). IsWork before.setup before.entries (reverse (gained opened entries) ++ before.entries) phase actor (done_by 0 actor ls)) (sym are)
-          (subst (λ (h : List Entry). IsWork before.setup before.entries h phase actor (done_by 0 actor (done_in works))) (sym whole) (run.each actor few));
+          let few : actor < length works = subst (λ (n : ℕ). actor < n) run.count less in
+          subst (λ (h : List Entry). IsWork before.setup before.entries h phase actor (done_by 0 actor run.lists)) (sym whole) (run.each actor few);
     }
 
 -- ---- the history of the run

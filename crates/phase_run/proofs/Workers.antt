@@ -88,7 +88,7 @@ all_again live board n cpus cpus1 jobs jobs1 phase before o are_cpus are_cpus1 s
       each = λ number less. same_numbers number_by cpus cpus1 number numbers (o.all.each number (subst (λ (m : ℕ). number < m) size less));
     }
 
-begins_opened : (setup : Setup) (actor : ℕ) (opened : List Entry) (done : List Done) (seen : List Entry) (known : List MapChange)
+pub begins_opened : (setup : Setup) (actor : ℕ) (opened : List Entry) (done : List Done) (seen : List Entry) (known : List MapChange)
     → IsDone setup actor opened done seen known → Begins opened seen
 begins_opened setup actor opened [] seen known d = ([], d.0)
 begins_opened setup actor opened (Looked kind addr smm look ∷ before) seen known d = begins_opened setup actor opened before seen d.0 d.2

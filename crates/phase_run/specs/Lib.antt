@@ -1,4 +1,7 @@
+pub mod Others
+pub mod Acts
 pub mod Ended
 pub mod Jobs
+pub mod Unseen
 pub mod Placed
 pub mod Common

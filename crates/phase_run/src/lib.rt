@@ -2,9 +2,11 @@
 //! order; a phase begins when all workers of the one before have ended.
 #![tactic(auto)]
 
+mod alone;
 mod ended;
 mod jobs;
 mod placing;
+mod plain;
 mod run;
 
 pub use ended::EndedRun;

@@ -1,14 +1,17 @@
 //! A script's phases, one after another.
 
-ghost use Rattle.std.specs.Prelude.{◌≡◌, ◌≤◌, [], All, length, map, reverse, flat_map, IfOk};
+ghost use Rattle.std.specs.Prelude.{◌≡◌, ◌<◌, ◌≤◌, [], All, length, map, reverse, flat_map, IfOk};
 ghost use Rattle.board_prelude.specs.Common.{IsCardList, IsLegal, IsCompleteFor, most_statements};
 ghost use Rattle.run_order.specs.Common.{bare, AreAllInPlace};
 ghost use Rattle.phase_run.specs.Placed.{entries_of, IsUpTo};
-ghost use Rattle.phase_run.specs.Jobs.{IsStatement, CanDoPhase, GrowsBy, HasRun, TakesIn};
+ghost use Rattle.phase_run.specs.Jobs.{IsStatement, CanDoPhase, GrowsBy, TakesIn};
+ghost use Rattle.phase_run.specs.Unseen.{HasRunSo};
 
+use crate::alone::{only_actor, run_alone};
 use crate::ended::EndedRun;
 use crate::jobs::{begin, end, first_works, is_refused, next_works, run_jobs, works_of};
 use crate::placing::Placing;
+use crate::plain::{has_looks, run_plain};
 use board_base::NoMemory;
 use board_core::Board;
 use board_live::Live;
@@ -37,7 +40,7 @@ fn run_workers<R: Threads + Wait + Sync, G: Gate>(
 ) -> Result<Run, NoMemory>
     requires can { CanDoPhase run phase.now }
     ensures goes_on { IfOk result (GrowsBy phase.now run) }
-    ensures run { IfOk result (λ next. HasRun run.board next.board phase.now next.works.items) }
+    ensures run { IfOk result (λ next. HasRunSo run.board next.board phase.now next.works.items) }
 {
     let Run { board, works } = run;
     let mut works = next_works(alloc, phase, &works)?;
@@ -55,6 +58,46 @@ fn run_workers<R: Threads + Wait + Sync, G: Gate>(
         return Err(NoMemory);
     }
     Ok(Run { board, works })
+}
+
+/// Runs a phase in which this is the only processor that acts: nothing is shared.
+fn run_by_one<R: Wait, G: Gate>(
+    rt: &R,
+    alloc: Global,
+    run: Run,
+    actor: u8,
+    phase: &[Statement],
+    gate: &G,
+) -> Result<Run, NoMemory>
+    requires can { CanDoPhase run phase.now }
+    requires only { All (λ statement. statement.actor ≡ actor) phase.now }
+    requires below { actor < length run.works.items }
+    ensures goes_on { IfOk result (GrowsBy phase.now run) }
+    ensures run { IfOk result (λ next. HasRunSo run.board next.board phase.now next.works.items) }
+{
+    if has_looks(phase) {
+        run_alone(rt, alloc, run, actor, phase, gate)
+    } else {
+        run_plain(alloc, run, actor, phase, gate)
+    }
+}
+
+/// Runs a phase: by one processor, where all its statements are of one, else by all.
+fn run_any<R: Threads + Wait + Sync, G: Gate>(
+    rt: &R,
+    alloc: Global,
+    run: Run,
+    phase: &[Statement],
+    gate: &G,
+) -> Result<Run, NoMemory>
+    requires can { CanDoPhase run phase.now }
+    ensures goes_on { IfOk result (GrowsBy phase.now run) }
+    ensures run { IfOk result (λ next. HasRunSo run.board next.board phase.now next.works.items) }
+{
+    match only_actor(phase) {
+        Some(actor) => run_by_one(rt, alloc, run, actor, phase, gate),
+        None => run_workers(rt, alloc, run, phase, gate),
+    }
 }
 
 /// Runs a phase, and adds what it did to the order of the run. The memory of its statements is given back before.
@@ -79,7 +122,7 @@ fn run_phase<R: Threads + Wait + Sync, G: Gate>(
 {
     let version = run.board.map().version();
     let opened = run.board.history().entries().len();
-    let run = run_workers(rt, alloc, run, &phase, gate)?;
+    let run = run_any(rt, alloc, run, &phase, gate)?;
     drop(phase);
     let entries = run.board.history().entries();
     placing.add(alloc, version, opened, &entries, works_of(&run.works))?;

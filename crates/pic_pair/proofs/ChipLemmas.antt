@@ -1,11 +1,11 @@
 -- One chip: its inputs, and that it has no request where no level is requested.
-use Rattle.std.proofs.Common.{◌≡◌, ℕ, ◌+◌, ◌%◌, ◌≤◌, ◌<◌, Bool, true, false, not, cond, ◌||◌, ◌&&◌, List, [], ◌∷◌, ◌++◌, eqb, length, get_or, drop, take, Some, None, refl, length-append, length-drop, length-take, arith, sym, ap, ◌∙◌, inl, inr}
-use Rattle.std.proofs.lemmas.Bool.{cases_lt, agree_below}
+use Rattle.std.proofs.Common.{◌≡◌, ℕ, suc, ◌+◌, ◌≤◌, ◌<◌, Bool, true, false, not, cond, ◌||◌, ◌&&◌, List, [], ◌∷◌, ◌++◌, length, get_or, drop, Some, None, refl, arith, sym, ap, ◌∙◌, inl, inr}
+use Rattle.std.proofs.lemmas.Bool.{cases_lt}
 use Rattle.std.proofs.lemmas.List.{get_or_past}
-use Rattle.device_spec.specs.Common.{Levels, has, levels_where, no_levels, Chip, pending, latches_after, is_requested, first_selectable, blocks_itself, is_blocking, request, priority_order}
-use Rattle.device_spec.specs.Levels.{all_levels}
+use Rattle.device_spec.specs.Common.{find, Levels, has, levels_where, no_levels, Chip, pending, latches_after, is_requested, first_selectable, first_blocking, blocks_itself, is_blocking, request, priority_order}
 use Rattle.device_spec.proofs.Priorities.{scan, scan-found, scan-blocked, scan-past, scan-end}
-use Rattle.device_spec.proofs.Common.{agree_below_at, eqb-true, levels_where-same, has-levels_where}
+use Rattle.device_spec.proofs.Common.{levels_where-same, has-levels_where, priority_order-small}
+use Rattle.pic_levels.proofs.Orders.{order-length}
 
 -- ---- the pending levels
 
@@ -61,25 +61,33 @@ none_requested chip none = none_selectable chip [] (priority_order chip.lowest) 
 pub requested-has : (chip : Chip) (set : Levels) (l : ℕ) → l < 8 → set ≡ levels_where (is_requested chip) → has set l ≡ is_requested chip l
 requested-has chip set l small is = ap (λ (s : Levels). has s l) is ∙ has-levels_where (is_requested chip) l small
 
--- ---- the order of priority
+-- ---- the levels that block
 
--- the places of an order stand for the levels behind the lowest, and round to it
-stands_at : ℕ → ℕ → Bool
-stands_at lowest place = eqb ((lowest + 1 + place) % 8) (get_or (priority_order lowest) place 0)
+-- in special mask mode those in service that are not masked
+pub blocking-masked : (chip : Chip) → chip.special_mask ≡ true → levels_where (λ l. has chip.in_service l && not (has chip.masked l)) ≡ levels_where (is_blocking chip)
+blocking-masked chip is = levels_where-same _ (is_blocking chip) (λ l h. rw is refl)
 
-stand_so : ℕ → Bool
-stand_so lowest = agree_below (stands_at lowest) (λ _. true) 8
+-- else all in service
+pub blocking-all : (chip : Chip) → chip.special_mask ≡ false → levels_where (λ l. has chip.in_service l && not (has no_levels l)) ≡ levels_where (is_blocking chip)
+blocking-all chip is = levels_where-same _ (is_blocking chip) (λ l h. rw (is, has-levels_where (λ _. false) l h) refl)
 
-pub level-at : (lowest place : ℕ) → lowest < 8 → place < 8 → (lowest + 1 + place) % 8 ≡ get_or (priority_order lowest) place 0
-unfolding stands_at stand_so
-level-at lowest place small within =
-    let here = agree_below_at stand_so (λ _. true) 8 lowest refl small in
-    eqb-true ((lowest + 1 + place) % 8) (get_or (priority_order lowest) place 0) (agree_below_at (stands_at lowest) (λ _. true) 8 place here within)
+-- tests that agree find the same element
+find-same : (p q : ℕ → Bool) (xs : List ℕ) → ((i : ℕ) → i < length xs → p (get_or xs i 0) ≡ q (get_or xs i 0)) → find p xs ≡ find q xs
+find-same p q [] same = refl
+find-same p q (x ∷ xs) same =
+    let here : p x ≡ q x = same 0 (omega arith) in
+    let rest : find p xs ≡ find q xs = find-same p q xs (λ i h. same (suc i) (omega (arith, h))) in
+    rw (here, rest) refl
 
-pub order-length : (lowest : ℕ) → length (priority_order lowest) ≡ 8
-order-length lowest =
-    length-append (drop (lowest + 1) all_levels) (take (lowest + 1) all_levels)
-    ∙ omega (arith, length-drop (lowest + 1) all_levels, length-take (lowest + 1) all_levels)
+-- the first level of those that block is the first that blocks
+pub first-is : (chip : Chip) (set : Levels) → chip.lowest < 8 → set ≡ levels_where (is_blocking chip) → find (has set) (priority_order chip.lowest) ≡ first_blocking chip
+unfolding first_blocking
+first-is chip set small is =
+    ap (λ (s : Levels). find (has s) (priority_order chip.lowest)) is
+    ∙ find-same (has (levels_where (is_blocking chip))) (is_blocking chip) (priority_order chip.lowest)
+    (λ i h.
+    let below : i < 8 = omega (arith, h, order-length chip.lowest) in
+    has-levels_where (is_blocking chip) (get_or (priority_order chip.lowest) i 0) (priority_order-small chip.lowest i small below))
 
 -- ---- the search for a level, which a chip finds at a place of its order
 

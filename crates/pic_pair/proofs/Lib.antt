@@ -1,4 +1,3 @@
 pub mod StateFormat
-mod LevelLemmas
 mod LineLemmas
 mod ChipLemmas

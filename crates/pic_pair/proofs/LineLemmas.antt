@@ -3,7 +3,7 @@ use Rattle.std.proofs.Common.{◌≡◌, ℕ, ◌+◌, ◌-◌, ◌*◌, ◌/◌
 use mir.Syntax.{w16}
 use Rattle.device_spec.proofs.Common.{take-append-drop, cases_eq, eq-eqb, ne_eqb, eqb-true, agree_below_at, get_or-map, ext_get_or, is_bit, levels_where, levels_of_byte}
 use Rattle.pic_pair.specs.Lines.{sixteen, lines_where, lines_of}
-use Rattle.pic_pair.proofs.LevelLemmas.{is_bit-or, is_bit-set, is_bit-clear}
+use Rattle.pic_levels.proofs.LevelLemmas.{is_bit-or, is_bit-set, is_bit-clear}
 
 -- ---- line by line
 

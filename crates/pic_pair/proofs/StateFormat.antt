@@ -11,7 +11,7 @@ use Rattle.pic_pair.specs.declared.state.Modes.{Modes}
 use Rattle.pic_pair.specs.State.{awaited_byte, words_of, AreAwaited, sets_of, modes_of, AreSets, sets_bytes, modes_bytes, sets_fields, modes_fields, IsChip, chip_bytes, chip_fields, IsPair, pair_bytes, pair_fields, AreLines, lines_bytes, lines_fields}
 use Rattle.std.specs.Int.{bit_at}
 use Rattle.std.proofs.lemmas.Nat.Bits.{bit_at_lowest, bit_at-suc, bit_at-zero}
-use Rattle.pic_pair.proofs.LevelLemmas.{byte-levels}
+use Rattle.pic_levels.proofs.LevelLemmas.{byte-levels}
 
 -- ---- sets and their bytes
 

@@ -2,7 +2,7 @@
 use Rattle.std.specs.Prelude.{ℕ, ◌≡◌, ◌<◌, ◌≤◌, ◌+◌, ◌++◌, Bool, true, false, if◌then◌else◌, List, [], ◌∷◌, length, take, drop}
 use Rattle.board_base.specs.Common.{w8, is_bit}
 use Rattle.byte_fields.specs.Fields.{Reading, gives, ◌>>=◌, within, flag_byte, flag_field}
-use Rattle.device_spec.specs.Levels.{Levels, levels_of_byte, byte_of_levels}
+use Rattle.device_spec.specs.Levels.{levels_of_byte, byte_of_levels}
 use Rattle.device_spec.specs.Pic.{Chip, Word, Icw2, Icw3, Icw4}
 use Rattle.device_spec.specs.Pair.{Pair}
 use Rattle.pic_pair.specs.declared.state.Sets.{Sets}

@@ -11,16 +11,14 @@ ghost use Rattle.device_spec.specs.Levels.{levels_where};
 ghost use Rattle.pic_pair.specs.View.{awaited_words, cascade_words, mode_words};
 ghost use Rattle.device_spec.specs.Pic.{ended};
 
-use crate::level_set::LevelSet;
 use board_base::bits::is_set;
+use pic_levels::{LEVEL_COUNT, LevelSet, first_of, level_at};
 use std::marker::Model;
 
 /// The input of the master to which the slave is wired.
 pub const CASCADE: u8 = 2;
 /// The level of lowest priority after a reset or ICW1.
 const LAST_LEVEL: u8 = 7;
-/// How many levels there are, IR0 to IR7.
-pub const LEVEL_COUNT: u8 = 8;
 
 /// ICW1: the bit that marks it among the words of the even port.
 const ICW1: u32 = 4;
@@ -276,7 +274,7 @@ impl Pic {
         ensures level { result ≡ slice_index (priority_order self.now.lowest) place }
         ensures small { result < 8 }
     {
-        (self.lowest + 1 + place) % LEVEL_COUNT
+        level_at(self.lowest, place)
     }
 
     /// Whether a level in service blocks those after it.
@@ -341,18 +339,23 @@ impl Pic {
         None
     }
 
+    /// The levels in service that block those after them: in special mask mode not those that are masked.
+    fn blocking(&self) -> LevelSet
+        ensures blocking { result ≡ levels_where (is_blocking self.now) }
+    {
+        if self.special_mask {
+            self.in_service.difference(&self.masked)
+        } else {
+            self.in_service.difference(&LevelSet::empty())
+        }
+    }
+
     /// The first level that blocks others, which is the one that a non-specific end of interrupt ends.
     fn first_blocking(&self) -> Option<u8>
         ensures first { result ≡ first_blocking self.now }
         ensures level { IfSome result (λ level. level < 8) }
     {
-        for place in 0..LEVEL_COUNT {
-            let served = self.level_at(place);
-            if self.is_blocking(served) {
-                return Some(served);
-            }
-        }
-        None
+        first_of(&self.blocking(), self.lowest)
     }
 
     /// ICW1: clears the masks, the levels in service, the latches and the modes, and awaits ICW2.

@@ -2,7 +2,6 @@
 #![tactic(auto)]
 
 mod chip;
-mod level_set;
 mod lines;
 mod pair;
 mod state;

@@ -2,8 +2,8 @@
 ghost use Rattle.std.specs.Prelude.{◌≡◌, ℕ, ◌+◌, ◌*◌, ◌<◌, ◌||◌, ◌++◌, length, replicate, take, drop, slice_index_or, slice_set, true, false};
 ghost use Rattle.device_spec.specs.Levels.{levels_of_byte};
 
-use crate::level_set::LevelSet;
 use board_base::bits::is_set;
+use pic_levels::LevelSet;
 use std::marker::Model;
 
 /// How many of the lines are the master's.

@@ -4,9 +4,9 @@ ghost use Rattle.device_spec.specs.Common.{interrupt, acknowledged_if, chip_answ
 ghost use Rattle.pic_pair.specs.View.{answer_shown};
 
 use crate::chip::{CASCADE, Pic};
-use crate::level_set::LevelSet;
 use crate::lines::Lines;
 use board_base::bits::is_set;
+use pic_levels::LevelSet;
 use std::marker::Model;
 
 /// The line of the timer, which is 1 at power-on.
@@ -236,6 +236,3 @@ fn spurious_answer(number: u8, chip: &Pic) -> Ack
         spurious: true,
     }
 }
-
-#[cfg(test)]
-mod tests;

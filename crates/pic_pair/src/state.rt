@@ -6,13 +6,13 @@ ghost use Rattle.byte_fields.specs.Loads.{Loads, OneSpelling};
 ghost use Rattle.pic_pair.specs.View.{awaited_words};
 ghost use Rattle.pic_pair.specs.State.{awaited_byte, words_of, sets_of, modes_of, sets_bytes, modes_bytes, sets_fields, modes_fields, IsChip, chip_bytes, chip_fields, IsPair, pair_bytes, pair_fields, AreLines, lines_bytes, lines_fields};
 
-use crate::chip::{Awaited, LEVEL_COUNT, Pic};
-use crate::level_set::LevelSet;
+use crate::chip::{Awaited, Pic};
 use crate::lines::Lines;
 use crate::pair::PicPair;
 use board_base::NoMemory;
 use board_base::bits::is_set;
 use byte_fields::{Bad, Fields, push_byte, push_bytes};
+use pic_levels::{LEVEL_COUNT, LevelSet};
 
 /// The bits of the words that are awaited.
 const ICW2: u32 = 2;

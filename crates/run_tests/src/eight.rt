@@ -63,6 +63,6 @@ fn eight_processors_with_nine_statements_in_a_phase(rt: HostRuntime) -> Result<(
         out.bytes.as_slice(),
     )?;
     assert_eq!(rt; status, Status::Done);
-    assert_eq!(rt; text.as_slice(), b"legal 96\n");
+    assert_eq!(rt; text.as_slice(), "legal 96\n".as_bytes());
     Ok(())
 }

@@ -3,6 +3,7 @@ pub mod Resets
 pub mod CallProofs
 pub mod ControlProofs
 pub mod Loads
+pub mod CardLoads
 pub mod OverChipset
 pub mod StateFormat
 pub mod SerialStates

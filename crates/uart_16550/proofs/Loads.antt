@@ -9,7 +9,7 @@ use Rattle.uart_16550.specs.Common.{com1_irq, Serial, AreOwn, IsLeftBy as IsPort
 
 -- ---- bytes of the DRAM
 
-own_with : (entries history : List Entry) → AreOwn entries → AreOwn history → AreOwn (entries ++ history)
+pub own_with : (entries history : List Entry) → AreOwn entries → AreOwn history → AreOwn (entries ++ history)
 own_with [] history own before = before
 own_with (entry ∷ entries) history own before = (own.0, own_with entries history own.1 before)
 
@@ -21,7 +21,7 @@ line_stays addr bytes (entry ∷ entries) history each =
     rw (each.0.event) (line_stays addr bytes entries history each.1)
 
 -- an entry as one of processor 0
-abbrev by_processor : Entry → Entry
+abbrev pub by_processor : Entry → Entry
 by_processor entry = record entry { actor = 0 }
 
 in_turn_by : (addr : ℕ) (bytes : List ℕ) (entries : List Entry) → WriteInTurn addr bytes entries →
@@ -41,7 +41,7 @@ in_turn_by addr bytes (entry ∷ entries) each = (
   in_turn_by addr bytes entries each.1,
 )
 
-own_by : (entries : List Entry) → AreOwn (map by_processor entries)
+pub own_by : (entries : List Entry) → AreOwn (map by_processor entries)
 own_by [] = tt
 own_by (entry ∷ entries) = (λ is. absurd (cc is), own_by entries)
 

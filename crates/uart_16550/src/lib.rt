@@ -8,6 +8,7 @@ mod interrupt;
 pub mod laws;
 mod line;
 mod modem;
+mod over_cards;
 mod over_chipset;
 mod queue;
 mod register;

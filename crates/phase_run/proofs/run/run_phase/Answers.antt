@@ -4,7 +4,8 @@ use Rattle.board_prelude.proofs.Common.{Entry, Statement, version_of, IsLegal, l
 use Rattle.run_order.specs.declared.done.Done.{Done}
 use Rattle.run_order.specs.Common.{placed}
 use Rattle.phase_work.specs.declared.worker.Work.{Work}
-use Rattle.phase_run.specs.Common.{IsStatement, GrowsBy, HasRun, done_in, IsUpTo, entries_of}
+use Rattle.phase_run.specs.Common.{IsStatement, GrowsBy, done_in, IsUpTo, entries_of}
+use Rattle.phase_run.specs.Unseen.{HasRunSo}
 use Rattle.phase_run.proofs.Phases.{gained, gained_all, gained_within, front_is, front_all, back_is, phase_is_run, takes_in}
 use Rattle.phase_run.proofs.run.run_phase.Goals as goal
 
@@ -53,14 +54,17 @@ returns-clause-takes_in g c =
     let goes_on = subst (λ (phase : List Statement). GrowsBy phase c.args.run c.in_ok-run.run') c.deref.ensures.value c.in_ok-run.ensures.goes_on in
     let asked = goes_on.asked c.requires.can.most c.requires.can.asked c.requires.can.room in
     let count : length c.args.run.works.items ≡ length works = sym goes_on.count in
-    let ran = subst (λ (phase : List Statement). HasRun before now phase works) c.deref.ensures.value c.in_ok-run.ensures.run in
+    let ran = subst (λ (phase : List Statement). HasRunSo before now phase works) c.deref.ensures.value c.in_ok-run.ensures.run in
     let speakers = subst (λ (n : ℕ). All (IsStatement before.setup n) c.args.phase.items) count c.requires.can.in_range in
-    let run = phase_is_run before now opened entries c.args.phase.items works lists ran old is are c.requires.cards c.history-2.ensures.legal asked.actors speakers in
+    let run = phase_is_run before now opened entries c.args.phase.items works ran old is c.requires.cards c.history-2.ensures.legal asked.actors speakers in
     let version : c.version-version.result ≡ version_of before.setup before.entries = c.version-version.ensures.version ∙ c.map.ensures.version in
     let added = subst (λ (n : ℕ). entries_of c.add.new.self.order (reverse entries) ≡ placed c.version-version.result (drop n entries) lists
     (entries_of c.args.placing.now.order (reverse (take n entries)))) c.len-opened.ensures.length c.in_ok-add.ensures.placed in
-    takes_in before now opened entries c.args.phase.items lists c.args.placing.now.order c.add.new.self.order c.version-version.result
-    c.law_phase_runs.ensures.runs run c.in_ok-run.ensures.run.begins old is version c.requires.legal c.requires.same added
+    let history : List Entry = entries_of c.args.placing.now.order (reverse (take (length opened) entries)) in
+    let same = ap (λ (ls : List (List Done)). placed c.version-version.result (gained opened entries) ls history) are
+    ∙ ran.same c.version-version.result (gained opened entries) history in
+    takes_in before now opened entries c.args.phase.items ran.lists c.args.placing.now.order c.add.new.self.order c.version-version.result
+    c.law_phase_runs.ensures.runs run c.in_ok-run.ensures.run.begins old is version c.requires.legal c.requires.same (added ∙ same)
 
 pub returns-clause-up_to : goal.returns-clause-up_to
 returns-clause-up_to g c =

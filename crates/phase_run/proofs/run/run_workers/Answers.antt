@@ -7,6 +7,7 @@ use Rattle.phase_run.specs.Jobs.{CanRun, IsReadyToWork}
 use Rattle.phase_run.proofs.Numbers.{same_lengths, numbered_length, jobs_count, asked_again, lent_back}
 use Rattle.phase_run.proofs.Halves.{numbers_stay, all_run}
 use Rattle.phase_run.proofs.Workers.{ready, all_again, has_run, are_asked}
+use Rattle.phase_run.proofs.Unkept.{so}
 use Rattle.phase_run.proofs.run.run_workers.Goals as goal
 
 pub overflow_cast-len : goal.overflow_cast-len
@@ -149,5 +150,6 @@ returns-clause-run g c =
     let works1 : map (λ (job : Job). job.work) (reverse lent) ≡ c.end.new.works.items = ap (λ (jobs : List Job). map (λ (job : Job). job.work) (reverse jobs)) (sym back) ∙ c.end.ensures.works in
     let fine : All (λ (job : Job). job.refused ≡ false) lent =
     subst (All (λ (job : Job). job.refused ≡ false)) (c.deref-2.ensures.value ∙ back) (c.is_refused-refused.ensures.none c.if-refused.false) in
-    has_run c.in-Ok.live c.args.run.board c.close-board.result c.len-2.result c.in-Ok.cpus.items c.end.new.cpus.items c.end.new.works.items c.begin.new.jobs.items lent c.args.phase.now most
-    opened c.begin.ensures.cpus cpus works1 numbers run fine c.close-board.ensures.cpus (omega (arith, count, c.requires.can.some))
+    so c.args.run.board c.close-board.result c.args.phase.now c.end.new.works.items
+    (has_run c.in-Ok.live c.args.run.board c.close-board.result c.len-2.result c.in-Ok.cpus.items c.end.new.cpus.items c.end.new.works.items c.begin.new.jobs.items lent c.args.phase.now most
+    opened c.begin.ensures.cpus cpus works1 numbers run fine c.close-board.ensures.cpus (omega (arith, count, c.requires.can.some)))

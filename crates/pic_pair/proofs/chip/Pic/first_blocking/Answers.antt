@@ -1,7 +1,12 @@
--- At first the whole order is left.
-use Rattle.std.proofs.Common.{refl}
-use Rattle.device_spec.proofs.Common.{priority_order, first_blocking-is}
+-- The first level of those that block is the first that blocks.
+use Rattle.std.proofs.Common.{ap, sym, ◌∙◌}
+use Rattle.device_spec.specs.Common.{Chip, is_blocking, levels_where}
+use Rattle.pic_pair.specs.contracts.chip.Pic.{the_view}
+use Rattle.pic_pair.proofs.ChipLemmas.{first-is}
 use Rattle.pic_pair.proofs.chip.Pic.first_blocking.Goals as goal
 
-pub loop-place-init : goal.loop-place-init
-loop-place-init c = first_blocking-is c.args.self.now (priority_order c.args.self.now.lowest) refl
+pub returns-clause-first : goal.returns-clause-first
+returns-clause-first c =
+    let is = c.blocking.ensures.blocking ∙ ap (λ (chip : Chip). levels_where (is_blocking chip)) (sym c.self.view_is) in
+    rw (← c.self.view_is) (c.first_of.ensures.first
+    ∙ first-is (the_view c.self.inside) c.blocking.result c.self.invariant.1 is)

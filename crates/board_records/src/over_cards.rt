@@ -1,0 +1,60 @@
+//! A door: where a bus master's accesses land, and the bytes of cards.
+
+ghost use Rattle.std.specs.Prelude.{◌≡◌, ◌≢◌, ◌+◌, ◌<◌, length};
+ghost use Rattle.board_chipset.specs.Common.{card_size};
+ghost use Rattle.board_records.specs.CardBytes.{IsCardTold, IsCardWritten};
+ghost use Rattle.board_records.specs.Doors.{OnBoard, OnBoth};
+ghost use Rattle.board_records.specs.Masters.{IsMasterCycle, IsMasterPlaced};
+ghost use Rattle.board_records.specs.Statuses.{ok, closed, no_cycle, past_end};
+
+use crate::card_bytes::{tell_card, write_card};
+use crate::door::Door;
+use crate::master::tell_master_place;
+use crate::reply::PartRecord;
+
+impl Door {
+    /// Tells where an access of a bus master would land, and what would deny it: never SMRAM, nor memory at A0000h to
+    /// BFFFFh. Refused with `NO_CYCLE` where it is not of 1, 2 or 4 bytes at a multiple of them.
+    pub fn tell_master_place(
+        &self,
+        addr: u32,
+        bytes: u8,
+        is_write: bool,
+        part: &mut PartRecord,
+    ) -> u32
+        ensures done { result ≡ ok
+            → OnBoard self.now (λ serial. IsMasterPlaced serial.board addr bytes is_write part.new) }
+        ensures refused { result ≢ ok → (result ≡ no_cycle) × ¬ IsMasterCycle addr bytes }
+        ensures untold { result ≢ ok → part.new ≡ part.old }
+        ensures open { result ≢ closed }
+    {
+        tell_master_place(self.serial.board(), addr, bytes, is_write, part)
+    }
+
+    /// Tells the bytes of a base of a card, 0 to 5, or 7 for the VGA window, from an offset on, as reads give them.
+    /// Refused with `PAST_END` where they do not all lie in it: a card or base that is not there has none, nor has an
+    /// expansion ROM, whose bytes are fixed.
+    pub fn tell_card(&self, dev: u8, base: u8, off: u32, into: &mut [u8]) -> u32
+        ensures done { result ≡ ok
+            → OnBoard self.now (λ serial. IsCardTold serial.board dev base off into.old into.new) }
+        ensures refused { result ≢ ok → OnBoard self.now
+            (λ serial. (result ≡ past_end) × (card_size serial.board.setup dev base < off + length into.old)) }
+        ensures untold { result ≢ ok → into.new ≡ into.old }
+        ensures open { result ≢ closed }
+    {
+        tell_card(self.serial.board(), dev, base, off, into)
+    }
+
+    /// Puts bytes into a base of a card from an offset on. Refused with `PAST_END` as `tell_card` is; then nothing has
+    /// changed.
+    pub fn write_card(&mut self, dev: u8, base: u8, off: u32, bytes: &[u8]) -> u32
+        ensures done { result ≡ ok
+            → OnBoth self.old self.new (λ old new. IsCardWritten old new dev base off bytes.now) }
+        ensures refused { result ≢ ok → OnBoard self.old
+            (λ serial. (result ≡ past_end) × (card_size serial.board.setup dev base < off + length bytes.now)) }
+        ensures unchanged { result ≢ ok → self.new ≡ self.old }
+        ensures open { result ≢ closed }
+    {
+        write_card(&mut self.serial, dev, base, off, bytes)
+    }
+}

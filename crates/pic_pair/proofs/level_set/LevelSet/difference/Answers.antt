@@ -1,7 +1,0 @@
--- The bits of `& !`.
-use Rattle.std.proofs.Common.{arith}
-use Rattle.pic_pair.proofs.LevelLemmas.{levels-rest}
-use Rattle.pic_pair.proofs.level_set.LevelSet.difference.Goals as goal
-
-pub returns : goal.returns
-returns c = record { rest = rw (← c.self.view_is, ← c.other.view_is) (levels-rest c.self.inside.bits c.other.inside.bits (omega arith)) }
