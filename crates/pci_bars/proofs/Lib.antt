@@ -6,3 +6,4 @@ pub mod ContentsLemmas
 mod ReadLemmas
 pub mod TableLemmas
 pub mod WindowLemmas
+pub mod StateFormats

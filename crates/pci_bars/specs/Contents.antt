@@ -1,5 +1,5 @@
 -- The contents of the cards' bases: a list of bytes each, found by device and base.
-use Rattle.std.specs.Prelude.{◌≡◌, ◌≢◌, ℕ, ◌+◌, ◌-◌, ◌*◌, ◌^◌, ◌<◌, ◌≤◌, ◌==◌, if◌then◌else◌, List, [], Option, Some, None, get_or, length, slice_index}
+use Rattle.std.specs.Prelude.{◌≡◌, ◌≢◌, ℕ, ◌+◌, ◌-◌, ◌*◌, ◌/◌, ◌%◌, ◌^◌, ◌<◌, ◌≤◌, ◌==◌, if◌then◌else◌, List, [], Option, Some, None, find, get_or, length, slice_index}
 use Rattle.board_prelude.specs.Common.{Width, bytes_of, Entry, FittedCard, Setup, card_at, rom_base, vga_base, vga_bits, card_byte, expansion_byte}
 use Rattle.pci_bars.specs.Bases.{base_size, of_base}
 
@@ -27,6 +27,10 @@ abbrev pub kept_size : Option FittedCard → ℕ → ℕ
 kept_size None base = 0
 kept_size (Some card) base =
     if base == vga_base then (if card.vga then 2 ^ vga_bits else 0) else of_base base_size card.bases base
+
+-- the same of a base by its number among those of all devices
+abbrev pub slot_size : List FittedCard → (slot : ℕ) → ℕ
+slot_size cards slot = kept_size (find (λ card. card.dev == 2 + slot / 8) cards) (slot % 8)
 
 -- an access lies in the bytes that are kept of a base, or in an expansion ROM
 pub record LiesIn (contents : List (List ℕ)) (dev base off : ℕ) (width : Width) : Type 0 where

@@ -3,3 +3,4 @@ pub mod Bases
 pub mod Claims
 pub mod Contents
 pub mod Common
+pub mod State

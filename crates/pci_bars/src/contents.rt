@@ -1,7 +1,7 @@
 //! The bytes behind the bases of the cards.
 ghost use Rattle.std.specs.Prelude.{◌≡◌, ◌≢◌, ◌≤◌, ◌<◌, ◌+◌, ◌++◌, ◌==◌, ℕ, List, [], ◌∷◌, All, find, length, take, drop, IfOk, unwrap_or};
 ghost use Rattle.board_prelude.specs.Common.{Width, Card, largest_of, Entry, Setup, IsCard, rom_base, wide, CardCell, byte_put, card_byte, entry_put, expansion_byte};
-ghost use Rattle.pci_bars.specs.Contents.{IsBaseNumber, slot_number, held, held_byte, kept_size, LiesIn, IsContentsOf};
+ghost use Rattle.pci_bars.specs.Contents.{IsBaseNumber, slot_number, held, held_byte, kept_size, slot_size, LiesIn, IsContentsOf};
 
 use crate::cards::CARD_COUNT;
 use crate::spec::{CardSpec, ROM_BASE};
@@ -16,6 +16,8 @@ const FIRST_DEVICE: u8 = 2;
 const DEVICES: u8 = CARD_COUNT as u8;
 /// How many base numbers a card has: 0 to 5 for its bases, 6 for its expansion ROM, and 7 for the VGA window.
 const BASE_NUMBERS: u8 = 8;
+/// How many bases the devices have together.
+pub(crate) const SLOTS: u8 = DEVICES * BASE_NUMBERS;
 
 /// The byte of a device's expansion ROM at an offset: the sum of the two modulo 256.
 pub fn expansion_byte(dev: u8, off: u32) -> u8
@@ -28,7 +30,7 @@ pub fn expansion_byte(dev: u8, off: u32) -> u8
 /// since `expansion_byte` computes them.
 #[derive(Drop)]
 pub struct Contents {
-    buffers: Vec<Vec<u8>>,
+    pub(crate) buffers: Vec<Vec<u8>>,
 }
 
 impl Model for Contents {
@@ -52,12 +54,8 @@ impl Contents {
             → IsContentsOf setup [] contents) }
     {
         let mut buffers = Vec::new(alloc);
-        for slot in 0..DEVICES * BASE_NUMBERS {
-            let size = size_of(
-                specs,
-                FIRST_DEVICE + slot / BASE_NUMBERS,
-                slot % BASE_NUMBERS,
-            );
+        for slot in 0..SLOTS {
+            let size = slot_size(specs, slot);
             buffers.push(vec![in alloc; 0; size]?)?;
         }
         Ok(Contents { buffers })
@@ -140,6 +138,19 @@ fn slot_of(dev: u8, base: u8) -> usize
     ensures below { result < 64 }
 {
     usize::from((dev - FIRST_DEVICE) * BASE_NUMBERS + base)
+}
+
+/// How many bytes are kept of a base, by its number among those of all devices.
+pub(crate) fn slot_size(specs: &[CardSpec], slot: u8) -> usize
+    requires cards { All IsCard specs.now }
+    requires below { slot < 64 }
+    ensures size { result ≡ slot_size specs.now slot }
+{
+    size_of(
+        specs,
+        FIRST_DEVICE + slot / BASE_NUMBERS,
+        slot % BASE_NUMBERS,
+    )
 }
 
 /// How many bytes are kept of a base of a device. 0 where it does not exist, and of an expansion ROM.

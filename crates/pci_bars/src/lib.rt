@@ -7,6 +7,7 @@ mod claims;
 mod contents;
 mod regs;
 mod spec;
+mod state;
 
 pub use cards::{CARD_COUNT, card_at, card_index, push_card};
 pub use claims::{claim_io, claim_mem, offset_in, shut_io, shut_mem, unselected_rom};
