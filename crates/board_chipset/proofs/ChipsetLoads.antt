@@ -1,5 +1,5 @@
 -- What was read is a chipset, and the one that was saved.
-use Rattle.std.proofs.Common.{◌≡◌, ℕ, ◌*◌, ◌/◌, ◌^◌, ◌<◌, ◌≤◌, ◌⊎◌, ◌↔◌, inl, inr, List, [], ◌∷◌, ◌++◌, length, get_or, Option, Some, None, Result, Ok, Err, IfOk, refl, sym, ap, subst, ◌∙◌, append_assoc, arith}
+use Rattle.std.proofs.Common.{◌≡◌, ℕ, ◌*◌, ◌/◌, ◌^◌, ◌<◌, ◌≤◌, ◌⊎◌, ◌↔◌, inl, inr, false, List, [], ◌∷◌, ◌++◌, length, get_or, Option, Some, None, Result, Ok, Err, IfOk, refl, sym, ap, subst, ◌∙◌, append_assoc, arith}
 use Rattle.board_prelude.proofs.Common.{w16, to_le_bytes, Entry, Setup, FittedCard, IsSetup}
 use Rattle.byte_fields.specs.declared.fault.Bad.{Bad}
 use Rattle.byte_fields.specs.declared.fault.Fault.{Fault}
@@ -13,7 +13,7 @@ use Rattle.ata_pio.proofs.StateFormats.{sectors_of_length}
 use Rattle.pci_bars.specs.Cards.{CardBytes}
 use Rattle.addr_decode.specs.State.{IsCardRegs}
 use Rattle.map_builder.specs.Map.{Mapped, HoldsDoublewords}
-use Rattle.map_builder.specs.State.{IsMapped, SameMap, LoadsMap, bare, mapped_bytes}
+use Rattle.map_builder.specs.State.{IsMapped, SameMap, LoadsMap, bare}
 use Rattle.board_devices.specs.Common.{HasDisk}
 use Rattle.board_devices.specs.State.{IsFittedDisk}
 use Rattle.board_chipset.specs.declared.registers.Registers.{Registers}
@@ -109,7 +109,7 @@ from_bare chipset fits is mapped = record {
 }
 
 pub bare_spelled : (chipset : Running) → chipset_bytes (bare_chipset chipset) ≡ chipset_bytes chipset
-unfolding chipset_bytes state_bytes registers_bytes mapped_bytes
+unfolding chipset_bytes state_bytes registers_bytes
 bare_spelled chipset = refl
 
 with_map : Running → Mapped → Running

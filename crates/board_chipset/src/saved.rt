@@ -70,8 +70,10 @@ impl Chipset {
     {
         law_same_map();
         fields.are_bytes();
-        let state = read_whole(alloc, &setup, fields)?;
-        Ok(Chipset { setup, state })
+        match read_whole(alloc, &setup, fields) {
+            Ok(state) => Ok(Chipset { setup, state }),
+            Err(fault) => Err(fault),
+        }
     }
 }
 
@@ -97,7 +99,6 @@ fn read_alone(alloc: Global, setup: Setup, fields: &mut Fields) -> Result<Chipse
     ensures exact { (chipset : Running) → chipset.setup ≡ setup → IsChipset chipset
         → fields.old ≡ chipset_bytes chipset → (result ≡ Ok chipset) ⊎ (result ≡ Err faults.NoMemory) }
     ensures filled { Filled bare_chipset result fields.new (alone (chipset_fields setup) fields.old) }
-    ensures within { result ≡ Err faults.Bad → length fields.new ≤ length fields.old }
 {
     let chipset = Chipset::load_fields(alloc, setup, fields)?;
     fields.end()?;
