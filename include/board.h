@@ -19,7 +19,7 @@ extern "C" {
 #endif
 
 /* The version of this interface: the records and numbers of this file, and the calls. */
-#define BOARD_INTERFACE 4u
+#define BOARD_INTERFACE 5u
 /* That of the library: BOARD_INTERFACE where this file is its own. No handle, no refusal. */
 uint32_t board_version(void);
 
@@ -51,9 +51,11 @@ enum board_status {
     BOARD_NO_BYTE = 20,    /* the clock has 128 bytes */
     BOARD_BAD_LENGTH = 21, /* a sector has 512 bytes */
     BOARD_NO_REPLY = 22,   /* the record is that of no reply */
-    BOARD_NO_ROOM = 23,    /* the text does not fit */
+    BOARD_NO_ROOM = 23,    /* the text, or the saved board, does not fit */
     BOARD_SERIAL_FULL = 24, /* COM1 can receive no byte: its queue is full, or loopback is on */
-    BOARD_NO_TIME = 25     /* the clock stands: SET is 1, or its registers say no date or time */
+    BOARD_NO_TIME = 25,    /* the clock stands: SET is 1, or its registers say no date or time */
+    BOARD_BAD_IMAGE = 26,  /* the bytes are no saved board */
+    BOARD_OTHER_VERSION = 27 /* they are those of a board as another version saved it */
 };
 
 /* What a status says, in a line without a line feed. */
@@ -79,9 +81,11 @@ static inline const char *board_status_text(uint32_t status) {
     case BOARD_NO_BYTE: return "the clock has no byte at this address";
     case BOARD_BAD_LENGTH: return "the room is not the 512 bytes of a sector";
     case BOARD_NO_REPLY: return "the record is that of no reply";
-    case BOARD_NO_ROOM: return "the text does not fit";
+    case BOARD_NO_ROOM: return "what is told does not fit";
     case BOARD_SERIAL_FULL: return "COM1 has no room for a byte";
     case BOARD_NO_TIME: return "the clock stands, or shows no date and time";
+    case BOARD_BAD_IMAGE: return "the bytes are no saved board";
+    case BOARD_OTHER_VERSION: return "another version saved these bytes";
     default: return "no status of this library";
     }
 }
@@ -303,6 +307,19 @@ uint32_t board_out_many(board *handle, uint16_t port, uint8_t bytes, const uint3
                         size_t count, size_t *done, board_reply *reply);
 /* Frees the board. The handle is closed from then on. */
 void board_close(board *handle);
+
+/* ---- a running board, saved and loaded */
+
+/* Writes the board as bytes: what it was opened with, and all that it holds. They are whole in
+ * themselves, and the same board always has the same bytes. bytes is how many they are, also where
+ * they do not fit: a call with room 0 tells it. The board stays as it is. It takes memory for a copy.
+ * CLOSED, NO_ROOM, NO_MEMORY. */
+uint32_t board_save(board *handle, uint8_t *into, size_t room, size_t *bytes);
+/* Opens the board that was saved as these bytes: it is equal to that one, and goes on as that one
+ * would. Nothing past them is read, and they may be freed. Bytes that no board wrote are refused, or
+ * are those of another state that is in range: then that board is opened, and is as safe as any.
+ * CLOSED where the handle is open already, OTHER_VERSION, BAD_IMAGE, NO_MEMORY. */
+uint32_t board_load(board *handle, const uint8_t *from, size_t bytes);
 
 /* ---- what is asked between two steps: the board stays as it is */
 

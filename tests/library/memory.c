@@ -120,7 +120,7 @@ static void counts(void) {
     board_close(&b);
 }
 
-/* Of the calls on an open board the text alone takes memory, and gives it back. */
+/* Of the calls on an open board the text and the image alone take memory, and give it back. */
 static void each_call(void) {
     static board_range ranges[BOARD_MOST_RANGES];
     static board_window windows[BOARD_MOST_WINDOWS];
@@ -161,6 +161,41 @@ static void each_call(void) {
     board_close(&b);
 }
 
+/* Each allocation of a save and of a load is refused in turn. */
+static void images(void) {
+    board b = {0}, other = {0};
+    board_reply r;
+    size_t size = 0, told = 0, n = 0;
+    uint8_t none;
+    uint32_t status;
+    must("a board to save", !board_open(&b, 8, cards, 2, rom, 65536, disk, 512 * 64) && !board_write(&b, 0x5000, 4, false, 1, &r));
+    must("the size of its image", board_save(&b, &none, 0, &size) == BOARD_NO_ROOM);
+    uint8_t *image = __real_malloc(size);
+    size_t before = held;
+    do {
+        allocations = 0, refused = ++n;
+        status = board_save(&b, image, size, &told);
+        must("a refused save, and another status", (status == BOARD_NO_MEMORY) == (allocations >= n));
+        must("a save holds memory", held == before);
+    } while (status == BOARD_NO_MEMORY);
+    must("a save", n > 1 && status == BOARD_OK && told == size);
+    n = 0;
+    do {
+        allocations = 0, refused = ++n;
+        status = board_load(&other, image, size);
+        must("a refused load, and another status", (status == BOARD_NO_MEMORY) == (allocations >= n) && other.open == (status == BOARD_OK));
+        must("a load without memory holds some", status == BOARD_OK || held == before);
+    } while (status == BOARD_NO_MEMORY);
+    refused = 0;
+    must("a load", n > 1 && status == BOARD_OK);
+    board_close(&other);
+    image[size - 1] ^= 0xFF;
+    must("an image that is changed", board_load(&other, image, size - 1) == BOARD_BAD_IMAGE && held == before);
+    printf("memory: %zu allocations of a load, each refused once\n", n - 1);
+    board_close(&b);
+    __real_free(image);
+}
+
 int main(void) {
     rom = calloc(ROM, 1), disk = calloc(DISK, 1);
     fit_cards();
@@ -168,5 +203,6 @@ int main(void) {
     refusals();
     counts();
     each_call();
+    images();
     return failed;
 }

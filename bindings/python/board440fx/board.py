@@ -7,7 +7,7 @@ from typing import Any, Callable, Iterable, Iterator, NoReturn
 
 from . import records
 from .cards import Card
-from .errors import BadSize, BadValue, NoByte, NoEvent, NoMemory, NoReply, NoSector, PastEnd, check
+from .errors import BadSize, BadValue, NoByte, NoEvent, NoMemory, NoReply, NoRoom, NoSector, PastEnd, check
 from .events import Event, Kind
 from .library import library
 from .maps import Map, Window, range_of
@@ -41,12 +41,7 @@ class Board:
         self, memory: int = 8, cards: Iterable[Card | str] = (), rom: bytes = DEFAULT_ROM, disk: bytes = b""
     ) -> None:
         """A board of so many MiB of memory, 1 to 512, with copies of a ROM and a disk; no bytes are no disk."""
-        self.last: Answer | None = None
-        self.watch: Callable[[Answer], object] | None = None  # is told each answer
-        self._handle = records.HandleRecord()
-        self._reply = records.ReplyRecord()
-        self._lock = threading.RLock()
-        self._library = library()
+        self._begin()
         if not 0 <= memory < U32:
             raise BadSize(memory)
         fitted = [Card.parse(card) if isinstance(card, str) else card for card in cards]
@@ -54,6 +49,24 @@ class Board:
         array = (records.CardRecord * (len(cards_said) + 1))(*cards_said)  # good for one also where there is none
         rom, disk = bytes(rom), bytes(disk)
         check(self._library.board_open(self._handle, memory, array, len(cards_said), rom, len(rom), disk, len(disk)))
+
+    def _begin(self) -> None:
+        """A closed handle."""
+        self.last: Answer | None = None
+        self.watch: Callable[[Answer], object] | None = None  # is told each answer
+        self._handle = records.HandleRecord()
+        self._reply = records.ReplyRecord()
+        self._lock = threading.RLock()
+        self._library = library()
+
+    @classmethod
+    def load(cls, image: bytes) -> "Board":
+        """The board that save gave these bytes of: it goes on as that one would. `last` is not in them."""
+        board = cls.__new__(cls)
+        board._begin()
+        image = bytes(image)
+        check(board._library.board_load(board._handle, image, len(image)))
+        return board
 
     # ---- its end
 
@@ -270,6 +283,17 @@ class Board:
         byte = records.U8()
         self._ask("board_cmos_read", _byte(address, NoByte), byte)
         return byte.value
+
+    def save(self) -> bytes:
+        """The running board as bytes: what it was opened with, and all that it holds."""
+        count = records.c.c_size_t()
+        with self._lock:
+            status = self._library.board_save(self._handle, (records.U8 * 1)(), 0, count)
+            if status != NoRoom.status:
+                check(status)
+            into = (records.U8 * count.value)()
+            check(self._library.board_save(self._handle, into, len(into), count))
+        return bytes(into)
 
     # ---- bytes that the guest did not write; no reply, and nothing else changes
 

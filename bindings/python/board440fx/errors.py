@@ -94,7 +94,7 @@ class NoReply(BoardError, status=22):
 
 
 class NoRoom(BoardError, status=23):
-    """the text does not fit"""
+    """what is told does not fit"""
 
 
 class SerialFull(BoardError, status=24):
@@ -103,6 +103,14 @@ class SerialFull(BoardError, status=24):
 
 class NoTime(BoardError, status=25):
     """the clock stands, or shows no date and time"""
+
+
+class BadImage(BoardError, status=26):
+    """the bytes are no saved board"""
+
+
+class OtherVersion(BoardError, status=27):
+    """another version saved these bytes"""
 
 
 class OtherStatus(BoardError, status=-1):

@@ -154,6 +154,8 @@ CALLS: dict[str, list[type]] = {
     "board_in_many": [_HANDLE, U16, U8, c.POINTER(U32), _SIZE, c.POINTER(_SIZE), c.POINTER(ReplyRecord)],
     "board_out_many": [_HANDLE, U16, U8, c.POINTER(U32), _SIZE, c.POINTER(_SIZE), c.POINTER(ReplyRecord)],
     "board_close": [_HANDLE],
+    "board_save": [_HANDLE, _BYTES, _SIZE, c.POINTER(_SIZE)],
+    "board_load": [_HANDLE, c.c_char_p, _SIZE],
     "board_ranges": [_HANDLE, c.POINTER(MapRecord), c.POINTER(RangeRecord), _SIZE, c.POINTER(WindowRecord), _SIZE],
     "board_decode": [_HANDLE, c.POINTER(EventRecord), c.POINTER(PartRecord)],
     "board_pulses_to_rise": [_HANDLE, c.POINTER(U32)],

@@ -58,8 +58,7 @@ impl Board {
     }
 
     pub(crate) fn open(mib: u32, cards: &[Card], rom: &[u8], disk: &[u8]) -> Result<Board, Error> {
-        let closed = raw::Handle { at: ptr::null_mut(), open: false };
-        let board = Board { handle: UnsafeCell::new(closed), last: None };
+        let board = Board::closed();
         let mut records: Vec<raw::Card> = cards.iter().map(Card::record).collect();
         // one more, so that the pointer is to a card also where there is none
         records.push(raw::Card::default());
@@ -77,6 +76,32 @@ impl Board {
             )
         })?;
         Ok(board)
+    }
+
+    /// The board that [`Board::save`] gave these bytes of: it goes on as that one would. [`Board::last`] is not in them.
+    ///
+    /// ```
+    /// use board_440fx::{Board, Error};
+    ///
+    /// let mut board = Board::builder().memory_mib(8).rom(&[0; 65536]).open()?;
+    /// board.write_u32(0x1000, 7)?;
+    /// let image = board.save()?;
+    /// let mut other = Board::load(&image)?;
+    /// assert_eq!(other.read_u32(0x1000)?, 7);
+    /// assert_eq!(Board::load(&image[1..]).err(), Some(Error::BadImage));
+    /// # Ok::<(), Error>(())
+    /// ```
+    pub fn load(image: &[u8]) -> Result<Board, Error> {
+        let board = Board::closed();
+        // SAFETY: the handle is zeros, and the pointer is good for as many bytes.
+        check(unsafe { raw::board_load(board.handle.get(), image.as_ptr(), image.len()) })?;
+        Ok(board)
+    }
+
+    /// A board that is to be opened.
+    fn closed() -> Board {
+        let closed = raw::Handle { at: ptr::null_mut(), open: false };
+        Board { handle: UnsafeCell::new(closed), last: None }
     }
 
     /// Does an event, and tells the reply.
@@ -340,6 +365,20 @@ impl Board {
             )
         })?;
         Map::of(&map, &ranges, &windows)
+    }
+
+    /// The running board as bytes: what it was opened with, and all that it holds.
+    pub fn save(&self) -> Result<Vec<u8>, Error> {
+        let (mut bytes, mut none) = (0, [0; 1]);
+        // SAFETY: as of `decode`; of no room nothing is written.
+        let status = unsafe { raw::board_save(self.handle.get(), none.as_mut_ptr(), 0, &mut bytes) };
+        if status != Error::NoRoom.status() {
+            check(status)?;
+        }
+        let mut image = vec![0; bytes];
+        // SAFETY: as of `decode`; the pointer is good for as many bytes.
+        check(unsafe { raw::board_save(self.handle.get(), image.as_mut_ptr(), image.len(), &mut bytes) })?;
+        Ok(image)
     }
 
     /// The ranges of the memory map in rising order.

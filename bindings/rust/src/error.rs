@@ -76,9 +76,11 @@ statuses! {
     20 NoByte "the clock has 128 bytes"
     21 BadLength "a sector has 512 bytes"
     22 NoReply "that is no reply"
-    23 NoRoom "the text does not fit"
+    23 NoRoom "what is told does not fit"
     24 SerialFull "COM1 can receive no byte: its queue is full, or loopback is on"
     25 NoTime "the clock stands, or shows no date and time"
+    26 BadImage "the bytes are no saved board"
+    27 OtherVersion "another version saved these bytes"
 }
 
 impl std::error::Error for Error {}

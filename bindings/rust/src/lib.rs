@@ -49,4 +49,4 @@ pub use reply::{Answer, Look, Parts, Reply, Reset};
 pub use target::{Denial, Device, Part, Register, Target};
 
 /// The version of `board.h` that this crate is for: `build.rs` refuses a library of another.
-pub const INTERFACE: u32 = 4;
+pub const INTERFACE: u32 = 5;

@@ -212,6 +212,8 @@ extern "C" {
         reply: *mut Reply,
     ) -> u32;
     pub(crate) fn board_close(handle: *mut Handle);
+    pub(crate) fn board_save(handle: *mut Handle, into: *mut u8, room: usize, bytes: *mut usize) -> u32;
+    pub(crate) fn board_load(handle: *mut Handle, from: *const u8, bytes: usize) -> u32;
     pub(crate) fn board_ranges(
         handle: *mut Handle,
         map: *mut Map,

@@ -53,3 +53,20 @@ fn strings_are_steps_in_turn() {
     assert_eq!(board.out_many(0x80, Width::Byte, &[256]), Err(Error::Value));
     assert_eq!(board.map().unwrap().mib, 8);
 }
+
+#[test]
+fn a_loaded_board_goes_on() {
+    let mut board = Board::builder().memory_mib(16).rom(ROM).disk(&[0; 1024]).open().unwrap();
+    board.write_u32(0x1234, 0x89AB_CDEF).unwrap();
+    board.pulse(99).unwrap();
+    board.receive(b'a').unwrap();
+    let image = board.save().unwrap();
+    let mut other = Board::load(&image).unwrap();
+    assert_eq!(other.save(), Ok(image.clone()));
+    assert_eq!(other.last(), None);
+    assert_eq!(other.read_u32(0x1234), Ok(0x89AB_CDEF));
+    assert_eq!(other.pulses_to_rise(), board.pulses_to_rise());
+    assert_eq!(other.serial_state().unwrap().received(), b"a");
+    assert_eq!(Board::load(&image[..image.len() - 1]).err(), Some(Error::BadImage));
+    assert_eq!(Board::load(b"BOARDRUN\xFF\xFF").err(), Some(Error::OtherVersion));
+}

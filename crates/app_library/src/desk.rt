@@ -17,6 +17,7 @@ pub struct Desk {
     cards: Vec<CardRecord>,
     event: EventRecord,
     reply: ReplyRecord,
+    image: Vec<u8>,
 }
 
 impl Desk {
@@ -28,6 +29,7 @@ impl Desk {
             cards: Vec::new(alloc),
             event: EventRecord::default(),
             reply: ReplyRecord::default(),
+            image: Vec::new(alloc),
         }
     }
 
@@ -40,6 +42,10 @@ impl Desk {
             "open" => self.open(out, &numbers)?,
             "close" => self.door = None,
             "text" => self.text(out, &numbers)?,
+            "save" => self.save(out, &numbers)?,
+            "load" => self.load(out),
+            "turn" => self.turn(&numbers),
+            "cut" => self.image.truncate(numbers.long(0) as usize),
             verb => self.ask(out, verb, &numbers)?,
         }
         Ok(())
@@ -65,6 +71,42 @@ impl Desk {
         }
         self.cards.clear();
         Ok(())
+    }
+
+    /// Saves the board into so much room.
+    fn save<W: Write>(&mut self, out: &mut W, numbers: &Numbers) -> Result<(), AllocError> {
+        let Some(door) = &self.door else {
+            return Ok(());
+        };
+        let mut image = vec![in self.alloc; 0; numbers.number(0) as usize]?;
+        let mut bytes = 0;
+        let status = door.save(self.alloc, &mut image, &mut bytes);
+        tell::status(out, status);
+        let _ = write!(out, " bytes={bytes:X}");
+        if status == OK {
+            image.truncate(bytes);
+            self.image = image;
+        }
+        Ok(())
+    }
+
+    /// Opens the board of the bytes that were saved last, in the place of the one before.
+    fn load<W: Write>(&mut self, out: &mut W) {
+        match Door::load(self.alloc, &self.image) {
+            Ok(door) => {
+                self.door = Some(door);
+                tell::status(out, OK);
+            }
+            Err(status) => tell::status(out, status),
+        }
+    }
+
+    /// Turns bits of a byte that was saved.
+    fn turn(&mut self, numbers: &Numbers) {
+        let at = numbers.long(0) as usize;
+        if at < self.image.len() {
+            self.image[at] ^= numbers.byte(1);
+        }
     }
 
     /// Asks the board.

@@ -15,6 +15,8 @@
 //!     second                                                 one second of the clock
 //!     in PORT BYTES COUNT · out PORT BYTES VALUE..           accesses to a port in turn
 //!     put ADDR BYTE.. · set ADDR BYTE                        bytes into the DRAM and into the clock
+//!     save ROOM · load                                       the board as bytes, and the board of these bytes
+//!     turn AT BITS · cut COUNT                               turns bits of a byte that was saved; keeps so many
 //!
 //! What is left out at the end of a line is 0. Byte K of a ROM is K modulo 256, and byte K of a disk K / 256 modulo 256. Of a
 //! record the fields are told that are not 0.

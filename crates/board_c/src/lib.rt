@@ -5,6 +5,7 @@ mod asks;
 mod bytes;
 mod exports;
 mod handle;
+mod image;
 mod many;
 mod standing;
 mod text;
@@ -16,6 +17,7 @@ pub use bytes::{
 };
 pub use exports::{board_close, board_open, board_step};
 pub use handle::Handle;
+pub use image::{board_load, board_save};
 pub use many::{board_in_many, board_out_many};
 pub use standing::{board_lines, board_second, board_serial_state};
 pub use text::board_text;

@@ -1,8 +1,9 @@
 //! The log's line of an event and its reply.
 
 ghost use Rattle.std.specs.Prelude.{◌≡◌, ◌≢◌, ◌⊎◌, length, IsSomeAnd};
+ghost use Rattle.board_records.specs.Images.{IsWritten};
 ghost use Rattle.board_records.specs.Statuses.{ok, no_room};
-ghost use Rattle.record_text.specs.Lines.{entry_said, whole_line, IsWritten, IsLineRefusal};
+ghost use Rattle.record_text.specs.Lines.{entry_said, whole_line, IsLineRefusal};
 
 use board_records::{EventRecord, ReplyRecord};
 use record_text::tell_line;

@@ -48,13 +48,13 @@ exactly_format text = record {
 
 -- ---- the head
 
-rom_size_to : (size : ℕ) → IsRomSize size → (size < 2 ^ 32) × (is_rom_size size ≡ true)
+pub rom_size_to : (size : ℕ) → IsRomSize size → (size < 2 ^ 32) × (is_rom_size size ≡ true)
 rom_size_to size (inl is) = rw is (omega arith, refl)
 rom_size_to size (inr (inl is)) = rw is (omega arith, refl)
 rom_size_to size (inr (inr (inl is))) = rw is (omega arith, refl)
 rom_size_to size (inr (inr (inr is))) = rw is (omega arith, refl)
 
-rom_size_from : (size : ℕ) → is_rom_size size ≡ true → IsRomSize size
+pub rom_size_from : (size : ℕ) → is_rom_size size ≡ true → IsRomSize size
 rom_size_from size is =
     elim (either_true (size == 0x1_0000 || size == 0x2_0000 || size == 0x4_0000) (size == 0x8_0000) is) [
       | inl three ↦
@@ -69,7 +69,7 @@ rom_size_from size is =
       | inr d ↦ inr (inr (inr (eqb-true size 0x8_0000 d)))
     ]
 
-rom_most : (size : ℕ) → IsRomSize size → size ≤ 0x8_0000
+pub rom_most : (size : ℕ) → IsRomSize size → size ≤ 0x8_0000
 rom_most size (inl is) = omega (arith, is)
 rom_most size (inr (inl is)) = omega (arith, is)
 rom_most size (inr (inr (inl is))) = omega (arith, is)

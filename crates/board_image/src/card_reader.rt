@@ -129,8 +129,9 @@ fn card(fields: &mut Fields, above: u8, room: &mut u32) -> Result<CardSpec, Bad>
     })
 }
 
-/// Reads some cards.
-pub(crate) fn cards(alloc: Global, fields: &mut Fields, count: u8) -> Result<Vec<CardSpec>, Fault>
+/// Reads some cards, in rising order of device, of which all memory bases together have at most 64 MiB. Refused where a
+/// field is not whole, or none that a card can have after those before it: the bytes left then begin with it.
+pub fn cards(alloc: Global, fields: &mut Fields, count: u8) -> Result<Vec<CardSpec>, Fault>
     ensures filled { Filled (λ cards. cards.items) result fields.new
         (cards_fields count 1 most_card_memory fields.old) }
 {

@@ -12,6 +12,7 @@ mod loader;
 mod reader;
 
 pub use board_spec::Statement;
+pub use card_reader::cards;
 pub use fault::ImageFault;
 pub use image::Image;
 pub use image_writer::{ImageBytes, save};

@@ -5,6 +5,7 @@ pub mod Said
 pub mod Cycles
 pub mod Openings
 pub mod Lines
+pub mod Images
 pub mod Digits
 pub mod Identities
 pub mod Masters

@@ -4,6 +4,7 @@ pub use Rattle.board_records.specs.CardBytes.{IsCardTold, IsCardWritten}
 pub use Rattle.board_records.specs.Cards.{identities_said}
 pub use Rattle.board_records.specs.Doors.{Behind, IsDoorStep, IsOpenRefusal, IsOpenedWith, IsSetupRefusal, OnBoard, OnBoth, setup_said}
 unfoldable pub use Rattle.board_records.specs.Events.{asked_said, event_said}
+pub use Rattle.board_records.specs.Images.{IsBehind, IsLoadRefusal, IsSaveRefusal, IsWritten, image_bytes}
 pub use Rattle.board_records.specs.Maps.{AreRangesTold, AreWindowsTold, IsVersionSaid}
 pub use Rattle.board_records.specs.Masters.{IsMasterCycle, IsMasterPlaced}
 pub use Rattle.board_records.specs.Numbers.{device_number}

@@ -13,4 +13,5 @@ pub mod Seconds
 pub mod Standing
 pub mod Masters
 pub mod CardBytes
+pub mod Images
 pub mod Common

@@ -71,6 +71,14 @@ serial_full = 24
 abbrev pub no_time : ℕ
 no_time = 25
 
+-- the bytes are no saved board
+abbrev pub bad_image : ℕ
+bad_image = 26
+
+-- they are those of a board as another version saved it
+abbrev pub other_version : ℕ
+other_version = 27
+
 -- why a setup opens no board
 abbrev pub setup_status : SetupFault → ℕ
 setup_status Memory = bad_size

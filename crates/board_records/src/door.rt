@@ -1,28 +1,31 @@
 //! A chipset with a serial port whose calls are in numbers.
 
-ghost use Rattle.std.specs.Prelude.{◌≡◌, ◌≢◌, ◌+◌, ◌<◌, ◌≤◌, length, IfOk, IfErr, IsSomeAnd};
+ghost use Rattle.std.specs.Prelude.{◌≡◌, ◌≢◌, ◌+◌, ◌<◌, ◌≤◌, ◌⊎◌, length, Ok, Err, Some, IfOk, IfErr, IsSomeAnd};
 ghost use Rattle.board_spec.specs.Setup.{installed};
 ghost use Rattle.board_records.specs.Bytes.{clock_bytes, IsDramTold, IsSectorTold, IsSectorRefusal, IsClockByte, IsDramWritten, IsClockWritten};
-ghost use Rattle.board_records.specs.Doors.{IsDoorStep, IsOpenedWith, IsOpenRefusal, OnBoard, OnBoth, setup_said};
+ghost use Rattle.board_records.specs.Doors.{Behind, IsDoorStep, IsOpenedWith, IsOpenRefusal, OnBoard, OnBoth, setup_said};
 ghost use Rattle.board_records.specs.Cards.{identities_said};
 ghost use Rattle.board_records.specs.Events.{asked_said};
+ghost use Rattle.board_records.specs.Images.{IsBehind, IsLoadRefusal, IsSaveRefusal, IsWritten, image_bytes};
 ghost use Rattle.board_records.specs.Maps.{AreRangesTold, AreWindowsTold, IsVersionSaid};
 ghost use Rattle.board_records.specs.Places.{IsAskedPlace, IsNotPlaced, IsRiseTold};
 ghost use Rattle.board_records.specs.Seconds.{IsSecondStep, HasNoSecond};
 ghost use Rattle.board_records.specs.Standing.{AreLinesTold, serial_state_said};
-ghost use Rattle.board_records.specs.Statuses.{ok, closed, no_byte, no_time, past_end, IsEventRefusal};
+ghost use Rattle.board_records.specs.Statuses.{ok, closed, no_byte, no_memory, no_room, no_time, past_end, IsEventRefusal};
 
 use crate::bytes::{tell_clock_byte, tell_dram, tell_sector};
 use crate::calls::step;
 use crate::card::{CardRecord, identities_of};
 use crate::event::EventRecord;
 use crate::identified::identify_told;
+use crate::image::{Loaded, image_of, load, write_front};
 use crate::map::{MapRecord, RangeRecord, WindowRecord, tell_map};
 use crate::opening::open;
 use crate::place::{tell_place, tell_rise};
 use crate::reply::{PartRecord, ReplyRecord};
 use crate::second::second;
 use crate::standing::{SerialRecord, tell_lines, tell_serial};
+use crate::status::NO_MEMORY;
 use crate::write::{write_clock_byte, write_dram};
 use arrayvec::ArrayVec;
 use board_chipset::Chipset;
@@ -71,6 +74,45 @@ impl Door {
                 serial,
                 identities: identities_of(cards),
             }),
+            Err(status) => Err(status),
+        }
+    }
+
+    /// Writes the board to the front of the room, as bytes that are whole in themselves, and tells how many they are. Refused
+    /// with `NO_ROOM` where they do not fit, and then too their count is told; and with `NO_MEMORY` where there is none for a
+    /// copy of them. The board stays as it is.
+    pub fn save(&self, alloc: Global, into: &mut [u8], bytes: &mut usize) -> u32
+        ensures done { result ≡ ok → IsSomeAnd self.now
+            (λ behind. IsBehind behind × IsWritten (image_bytes behind) into.old into.new) }
+        ensures refused { result ≢ ok → IsSomeAnd self.now (IsSaveRefusal (length into.old) result) }
+        ensures unwritten { result ≢ ok → into.new ≡ into.old }
+        ensures counted { ((result ≡ ok) ⊎ (result ≡ no_room))
+            → IsSomeAnd self.now (λ behind. bytes.new ≡ length (image_bytes behind)) }
+        ensures uncounted { result ≢ ok → result ≢ no_room → bytes.new ≡ bytes.old }
+        ensures open { result ≢ closed }
+    {
+        match image_of(alloc, &self.serial, &self.identities) {
+            Ok(image) => {
+                *bytes = image.len();
+                write_front(&image, into)
+            }
+            Err(_) => NO_MEMORY,
+        }
+    }
+
+    /// The board whose bytes these are: equal to the one that was saved, so that all which holds of that one holds of it.
+    /// Bytes that no board wrote, but that are those of a state which one could go on from, give that one. Refused with
+    /// `OTHER_VERSION` where they begin as those of another version; with `BAD_IMAGE` where they are those of no board; and
+    /// with `NO_MEMORY` where there is none.
+    pub fn load(alloc: Global, from: &[u8]) -> Result<Door, u32>
+        ensures loaded { IfOk result (λ door. IsSomeAnd door
+            (λ behind. IsBehind behind × (from.now ≡ image_bytes behind))) }
+        ensures exact { (behind : Behind) → IsBehind behind → from.now ≡ image_bytes behind
+            → (result ≡ Err no_memory) ⊎ (result ≡ Ok (Some behind)) }
+        ensures refused { IfErr result (IsLoadRefusal from.now) }
+    {
+        match load(alloc, from) {
+            Ok(Loaded { serial, identities }) => Ok(Door { serial, identities }),
             Err(status) => Err(status),
         }
     }

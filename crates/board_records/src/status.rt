@@ -57,6 +57,10 @@ pub const NO_ROOM: u32 = 23;
 pub const SERIAL_FULL: u32 = 24;
 /// The clock does not go on: SET holds its time, or its registers say no date or time.
 pub const NO_TIME: u32 = 25;
+/// The bytes are no saved board.
+pub const BAD_IMAGE: u32 = 26;
+/// The bytes are those of a board as another version saved it.
+pub const OTHER_VERSION: u32 = 27;
 
 /// The status of an event that is out of range.
 pub fn fault_status(fault: OutOfRange) -> u32

@@ -10,4 +10,4 @@ mod writer;
 pub use format::{IO_BASE, MAGIC, VERSION};
 pub use pieces::ImageBytes;
 pub use tag::Tag;
-pub use writer::save;
+pub use writer::{push_card, save};

@@ -38,7 +38,7 @@ fn push_bases(out: &mut Vec<u8>, bases: &[BaseSpec]) -> Result<(), NoMemory>
 
 /// Adds a card.
 #[tactic(auto, unfolding(crate::specs::ImageBytes::card_bytes))]
-fn push_card(out: &mut Vec<u8>, card: &CardSpec) -> Result<(), NoMemory>
+pub fn push_card(out: &mut Vec<u8>, card: &CardSpec) -> Result<(), NoMemory>
     requires card { IsCard card.now }
     ensures added { OnOk result (out.new.items ≡ out.old.items ++ card_bytes card.now) }
 {

@@ -18,11 +18,6 @@ entry_said processor statement event reply = do
 abbrev pub whole_line : (number : ℕ) → Entry → List ℕ
 whole_line number entry = line_text number entry ++ line_feed ∷ []
 
--- the line stands in front, and what lies past it is as before
-pub record IsWritten (line before after : List ℕ) : Type 0 where
-  pub fits : length line ≤ length before
-  pub written : after ≡ line ++ drop (length line) before
-
 -- why no line is written: one of the records says nothing, the event's first; or there is no room; or no memory
 abbrev pub IsLineRefusal : Option Entry → EventRecord → (number room status : ℕ) → Type 0
 IsLineRefusal None event number room status =

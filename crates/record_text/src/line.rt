@@ -2,13 +2,14 @@
 
 ghost use Rattle.std.specs.Prelude.{◌≡◌, ◌≢◌, ◌<◌, ◌⊎◌, length, IfOk, IsSomeAnd};
 ghost use Rattle.std.specs.String.{string_bytes};
+ghost use Rattle.board_records.specs.Images.{IsWritten};
 ghost use Rattle.board_records.specs.Statuses.{ok, no_room};
-ghost use Rattle.record_text.specs.Lines.{entry_said, whole_line, IsWritten, IsLineRefusal};
+ghost use Rattle.record_text.specs.Lines.{entry_said, whole_line, IsLineRefusal};
 
 use crate::reply::reply_of;
 use board_base::NoMemory;
-use board_records::status::{NO_EVENT, NO_MEMORY, NO_REPLY, NO_ROOM, OK};
-use board_records::{EventRecord, ReplyRecord, event_of};
+use board_records::status::{NO_EVENT, NO_MEMORY, NO_REPLY};
+use board_records::{EventRecord, ReplyRecord, event_of, write_front};
 use board_script::push_line;
 use board_spec::Entry;
 use std::alloc::Global;
@@ -20,19 +21,6 @@ fn line_of(alloc: Global, number: u64, entry: &Entry) -> Result<String, NoMemory
     let mut line = String::new(alloc);
     push_line(&mut line, number, entry)?;
     Ok(line)
-}
-
-/// Writes a line to the front of the room, where it fits. Else nothing is written.
-fn write(line: &[u8], into: &mut [u8]) -> u32
-    ensures done { result ≡ ok → IsWritten line.now into.old into.new }
-    ensures refused { result ≢ ok → (result ≡ no_room) × (length into.old < length line.now) }
-    ensures unwritten { result ≢ ok → into.new ≡ into.old }
-{
-    if into.len() < line.len() {
-        return NO_ROOM;
-    }
-    into[..line.len()].copy_from_slice(line);
-    OK
 }
 
 /// Writes line `number` of a log, with its line feed, of the entry of a processor, the number of its statement, an event and
@@ -74,5 +62,5 @@ pub fn tell_line(
         return NO_MEMORY;
     };
     *bytes = line.len();
-    write(line.as_bytes(), into)
+    write_front(line.as_bytes(), into)
 }

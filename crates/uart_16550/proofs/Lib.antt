@@ -6,4 +6,5 @@ pub mod Loads
 pub mod CardLoads
 pub mod OverChipset
 pub mod StateFormat
+pub mod SerialStates
 pub mod Common

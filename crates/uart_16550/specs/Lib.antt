@@ -6,6 +6,7 @@ pub mod Com1
 pub mod Serial
 pub mod OverChipset
 pub mod State
+pub mod SerialState
 pub mod Calls
 pub mod Sent
 pub mod SerialOrder

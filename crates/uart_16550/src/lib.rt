@@ -13,6 +13,7 @@ mod over_chipset;
 mod queue;
 mod register;
 mod serial;
+mod serial_state;
 mod state;
 mod stepped;
 mod uart;

@@ -1,0 +1,53 @@
+"""Boards that are saved and loaded."""
+import pytest
+
+from board440fx import Board, Card, errors
+
+
+def test_a_loaded_board_goes_on():
+    with Board(memory=16, cards=[Card.parse("2 vga m24")], disk=bytes(1024)) as board:
+        board.write(0x1234, 4, 0x89ABCDEF)
+        board.out(0x43, 1, 0x34)
+        board.out(0x40, 1, 0x10)
+        board.out(0x40, 1, 0x27)
+        board.pulse(99)
+        board.receive(0x41)
+        image = board.save()
+        with Board.load(image) as other:
+            assert other.save() == image
+            assert other.last is None
+            assert other.read(0x1234, 4) == 0x89ABCDEF
+            assert other.pulses_to_rise == board.pulses_to_rise
+            assert other.serial_state == board.serial_state
+            assert other.map.mib == 16
+
+
+def test_pages_of_zeros_take_a_byte():
+    with Board(memory=64) as board:
+        board.write(0, 1, 1)
+        assert len(board.save()) < 64 * 256 + 2 * 4096
+
+
+@pytest.mark.parametrize("image, refusal", [
+    (b"", errors.BadImage),
+    (b"BOARDRUN", errors.BadImage),
+    (b"BOARDRUN\xFF\xFF", errors.OtherVersion),
+])
+def test_other_bytes_are_refused(image, refusal):
+    with pytest.raises(refusal):
+        Board.load(image)
+
+
+def test_each_byte_too_few_or_too_many_is_refused():
+    with Board(memory=1) as board:
+        image = board.save()
+    for bad in (image[:-1], image + b"\0", image[1:]):
+        with pytest.raises(errors.BadImage):
+            Board.load(bad)
+
+
+def test_a_closed_board_is_not_saved():
+    board = Board()
+    board.close()
+    with pytest.raises(errors.Closed):
+        board.save()

@@ -1,0 +1,101 @@
+-- A board is read from its bytes: what it is fitted with, and then its state.
+use Rattle.std.proofs.Common.{◌≡◌, ◌⊎◌, ℕ, inl, inr, List, [], ◌∷◌, ◌++◌, Result, Ok, Err, IfOk, sym, ap, ◌∙◌}
+use Rattle.board_prelude.proofs.Common.{append-nil}
+use Rattle.byte_fields.specs.declared.fault.Fault.{Fault}
+use Rattle.byte_fields.specs.declared.fault.Fault.TheVariants.{NoMemory}
+use Rattle.byte_fields.specs.Fields.{ended}
+use Rattle.byte_fields.specs.Loads.{LoadsWith}
+use Rattle.uart_16550.specs.SerialState.{serial_bytes}
+use Rattle.fitted_bytes.specs.Fitted.{Fitting, IsFitting, fitting_bytes, fitting_fields}
+use Rattle.board_records.specs.Doors.{Behind}
+use Rattle.board_records.specs.Images.{IsBehind, fitting_of, image_bytes}
+
+-- ---- results
+
+never_err : {A E : Type 0} (x : A) (y : E) → ◌≡◌ {A = Result A E} (Ok x) (Err y) → ⊥
+never_err x y is = absurd cc
+
+ok_same : {A E : Type 0} (x y : A) → ◌≡◌ {A = Result A E} (Ok x) (Ok y) → x ≡ y
+ok_same x y is = cc
+
+err_same : {A E : Type 0} (x y : E) → ◌≡◌ {A = Result A E} (Err x) (Err y) → x ≡ y
+err_same x y is = cc
+
+-- a value is given, or there was no memory
+abbrev pub Gives : Result Behind Fault → Behind → Type 0
+Gives result behind = (result ≡ Err NoMemory) ⊎ (result ≡ Ok behind)
+
+pub not_ended : (bytes : List ℕ) (left : ℕ) → ended bytes ≡ Err left → bytes ≡ [] → ⊥
+not_ended bytes left is none = let read : ended [] ≡ Err left = rw none at is in absurd cc
+
+-- ---- the state, after which nothing follows
+
+pub last_loaded :
+    (result : Result Behind Fault) (behind : Behind) (fitted : Fitting) (before mid : List ℕ) →
+    IfOk result (λ given. (given ≡ behind) × (mid ≡ [])) →
+    IsBehind behind × (fitting_of behind ≡ fitted) × (before ≡ serial_bytes behind.serial ++ mid) →
+    IfOk result (λ given. IsBehind given × (fitting_of given ≡ fitted) × (before ≡ serial_bytes given.serial))
+last_loaded (Ok given) behind fitted before mid told is =
+    rw (told.0) (
+      is.0,
+      is.1,
+      is.2 ∙ (ap (λ (rest : List ℕ). serial_bytes behind.serial ++ rest) told.1 ∙ append-nil (serial_bytes behind.serial)),
+    )
+last_loaded (Err fault) behind fitted before mid told is = tt
+
+-- what a call says of a state and of what follows it, where nothing does
+abbrev GivesThen : Result Behind Fault → (after : List ℕ) → Behind → Type 0
+GivesThen result after behind = (result ≡ Err NoMemory) ⊎ ((result ≡ Ok behind) × (after ≡ []))
+
+pub last_exact :
+    (result : Result Behind Fault) (read behind : Behind) (after : List ℕ) → (after ≡ [] → result ≡ Ok read) →
+    GivesThen (Ok read) after behind → Gives result behind
+last_exact result read behind after last given =
+    elim given [
+      | inl never ↦ absurd (never_err read NoMemory never)
+      | inr is ↦ inr (last is.1 ∙ is.0)
+    ]
+
+pub last_refused : (fault : Fault) (behind : Behind) (after : List ℕ) → GivesThen (Err fault) after behind →
+    Gives (Err fault) behind
+last_refused fault behind after given =
+    elim given [
+      | inl wanted ↦ inl wanted
+      | inr never ↦ absurd (never_err behind fault (sym never.0))
+    ]
+
+-- ---- the whole
+
+fitting_is : (behind : Behind) → IsBehind behind → IsFitting (fitting_of behind)
+fitting_is behind is = record { fits = is.state.chipset.fits; say = is.say }
+
+pub whole_loaded :
+    (result : Result Behind Fault) (fitted : Fitting) (before mid : List ℕ) → before ≡ fitting_bytes fitted ++ mid →
+    IfOk result (λ given. IsBehind given × (fitting_of given ≡ fitted) × (mid ≡ serial_bytes given.serial)) →
+    IfOk result (λ given. IsBehind given × (before ≡ image_bytes given))
+whole_loaded (Ok given) fitted before mid begins told = (
+  told.0,
+  begins ∙ (ap (λ (rest : List ℕ). fitting_bytes fitted ++ rest) told.2
+      ∙ ap (λ (f : Fitting). fitting_bytes f ++ serial_bytes given.serial) (sym told.1)),
+)
+whole_loaded (Err fault) fitted before mid begins told = tt
+
+-- what the bytes of a board say of what was read first
+pub fitted_so :
+    (before mid : List ℕ) (fitted : Fitting) → LoadsWith fitting_fields fitting_bytes IsFitting before mid (Ok fitted) →
+    (behind : Behind) → IsBehind behind → before ≡ image_bytes behind →
+    (fitting_of behind ≡ fitted) × (mid ≡ serial_bytes behind.serial)
+fitted_so before mid fitted one behind is begins =
+    elim (one.exact (fitting_of behind) (serial_bytes behind.serial) (fitting_is behind is) begins) [
+      | inl never ↦ absurd (never_err fitted NoMemory never)
+      | inr read ↦ (sym (ok_same fitted (fitting_of behind) read.0), read.1)
+    ]
+
+pub fitting_refused :
+    (before mid : List ℕ) (fault : Fault) → LoadsWith fitting_fields fitting_bytes IsFitting before mid (Err fault) →
+    (behind : Behind) → IsBehind behind → before ≡ image_bytes behind → Gives (Err fault) behind
+fitting_refused before mid fault one behind is begins =
+    elim (one.exact (fitting_of behind) (serial_bytes behind.serial) (fitting_is behind is) begins) [
+      | inl wanted ↦ inl (ap (λ (f : Fault). Err f) (err_same {A = Fitting} fault NoMemory wanted))
+      | inr never ↦ absurd (never_err (fitting_of behind) fault (sym never.0))
+    ]

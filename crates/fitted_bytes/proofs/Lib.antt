@@ -1,0 +1,3 @@
+pub mod IdentityFormats
+pub mod SetupFormats
+pub mod FittedFormat

@@ -1,0 +1,3 @@
+pub mod Identities
+pub mod Setups
+pub mod Fitted

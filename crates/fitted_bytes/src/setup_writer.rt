@@ -1,0 +1,63 @@
+//! Adds a setup to bytes.
+
+ghost use Rattle.std.specs.Prelude.{◌≡◌, ◌<◌, ◌≤◌, ◌^◌, ◌++◌, length, flat_map, All, OnOk};
+ghost use Rattle.board_prelude.specs.Common.{IsCard, IsSetup};
+ghost use Rattle.image_writer.specs.ImageBytes.{card_bytes};
+ghost use Rattle.fitted_bytes.specs.Setups.{bytes_on, counted_bytes, setup_bytes};
+
+use board_base::NoMemory;
+use board_chipset::Setup;
+use byte_fields::{push_byte, push_memory, push_word};
+use image_writer::push_card;
+use pci_bars::CardSpec;
+
+/// Adds bytes, with their count before them.
+fn push_counted(into: &mut Vec<u8>, bytes: &[u8]) -> Result<(), NoMemory>
+    requires few { length bytes.now < 2 ^ 32 }
+    ensures added { OnOk result (into.new.items ≡ into.old.items ++ counted_bytes bytes.now) }
+{
+    push_word(into, bytes.len() as u32)?;
+    push_memory(into, bytes)
+}
+
+/// Adds cards.
+fn push_cards(into: &mut Vec<u8>, cards: &[CardSpec]) -> Result<(), NoMemory>
+    requires each { All IsCard cards.now }
+    ensures added { OnOk result (into.new.items ≡ into.old.items ++ flat_map card_bytes cards.now) }
+{
+    for card in cards {
+        push_card(into, card)?;
+    }
+    Ok(())
+}
+
+/// The bytes of the disk as it was fitted. None where there is no disk.
+fn disk_bytes(setup: &Setup) -> &[u8]
+    ensures bytes { result.now ≡ bytes_on setup.now.disk }
+{
+    match &setup.disk {
+        Some(disk) => disk,
+        None => &[],
+    }
+}
+
+/// Adds the ROM and the disk.
+fn push_media(into: &mut Vec<u8>, setup: &Setup) -> Result<(), NoMemory>
+    requires fits { IsSetup setup.now }
+    ensures added { OnOk result
+        (into.new.items ≡ into.old.items ++ (counted_bytes setup.now.rom ++ counted_bytes (bytes_on setup.now.disk))) }
+{
+    push_counted(into, &setup.rom)?;
+    push_counted(into, disk_bytes(setup))
+}
+
+/// Adds the setup.
+pub(crate) fn push_setup(into: &mut Vec<u8>, setup: &Setup) -> Result<(), NoMemory>
+    requires fits { IsSetup setup.now }
+    ensures added { OnOk result (into.new.items ≡ into.old.items ++ setup_bytes setup.now) }
+{
+    push_word(into, setup.mib)?;
+    push_byte(into, setup.cards.len() as u8)?;
+    push_cards(into, &setup.cards)?;
+    push_media(into, setup)
+}
