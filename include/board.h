@@ -47,7 +47,7 @@ enum board_status {
     BOARD_LINE = 16,       /* the line cannot be set from outside */
     BOARD_NO_CYCLE = 17,   /* the event is no access that one bus cycle makes */
     BOARD_NO_SECTOR = 18,  /* there is no disk, or it has no such sector */
-    BOARD_PAST_END = 19,   /* the bytes do not all lie in the installed memory */
+    BOARD_PAST_END = 19,   /* the bytes do not all lie in the installed memory, or in the card's base */
     BOARD_NO_BYTE = 20,    /* the clock has 128 bytes */
     BOARD_BAD_LENGTH = 21, /* a sector has 512 bytes */
     BOARD_NO_REPLY = 22,   /* the record is that of no reply */
@@ -77,7 +77,7 @@ static inline const char *board_status_text(uint32_t status) {
     case BOARD_LINE: return "the line cannot be set from outside";
     case BOARD_NO_CYCLE: return "the event is no access of one bus cycle in range";
     case BOARD_NO_SECTOR: return "there is no disk, or it has no such sector";
-    case BOARD_PAST_END: return "the bytes do not all lie in the installed memory";
+    case BOARD_PAST_END: return "the bytes do not all lie in the memory or the base";
     case BOARD_NO_BYTE: return "the clock has no byte at this address";
     case BOARD_BAD_LENGTH: return "the room is not the 512 bytes of a sector";
     case BOARD_NO_REPLY: return "the record is that of no reply";
@@ -356,6 +356,17 @@ uint32_t board_lines(board *handle, uint16_t *lines);
 /* Tells what COM1 holds.
  * CLOSED. */
 uint32_t board_serial_state(board *handle, board_com1 *state);
+/* Tells where an access of a bus master of 1, 2 or 4 bytes at a multiple of them would land, and what
+ * would deny it: SMRAM answers no bus master, and at A0000h to BFFFFh it never is memory of the board.
+ * CLOSED; NO_CYCLE of another count of bytes and another address. */
+uint32_t board_decode_master(board *handle, uint32_t addr, uint8_t bytes, bool is_write,
+                             board_part *part);
+/* Tells bytes of a card from an offset in one of its bases on, as the guest's reads would: of base 0
+ * to 5, or 7 for the window of a VGA adapter, A0000h to BFFFFh. A base that is not there has none, nor
+ * has an expansion ROM (6), whose bytes are fixed.
+ * CLOSED, PAST_END. */
+uint32_t board_card_read(board *handle, uint8_t device, uint8_t base, uint32_t offset, uint8_t *into,
+                         size_t bytes);
 
 /* ---- bytes that the guest did not write; no reply, and nothing else changes */
 
@@ -367,6 +378,11 @@ uint32_t board_dram_write(board *handle, uint32_t addr, const uint8_t *from, siz
  * registers A and B take what a write changes of them, C and D nothing.
  * CLOSED, NO_BYTE. */
 uint32_t board_cmos_write(board *handle, uint8_t address, uint8_t byte);
+/* Puts bytes into a card from an offset in one of its bases on, as the guest's writes would, wherever
+ * the base lies and whether or not the card decodes it; the bases are those of board_card_read.
+ * CLOSED, PAST_END. */
+uint32_t board_card_write(board *handle, uint8_t device, uint8_t base, uint32_t offset,
+                          const uint8_t *from, size_t bytes);
 
 /* ---- over board_step, with its statuses */
 

@@ -153,6 +153,8 @@ static void each_call(void) {
     board_decode(&b, &event, &part), board_pulses_to_rise(&b, &pulses);
     board_dram_write(&b, 0, bytes, sizeof bytes), board_dram_read(&b, 0, bytes, sizeof bytes);
     board_cmos_write(&b, 0x30, 1), board_cmos_read(&b, 0x30, &byte);
+    must("bytes of a card", !board_card_write(&b, 2, 0, 0, bytes, 16) && !board_card_read(&b, 2, 0, 0, bytes, 16));
+    must("a bus master's place", !board_decode_master(&b, 0xA0000, 4, true, &part));
     board_out(&b, 0xCF9, 1, 2, &r), board_out(&b, 0xCF9, 1, 6, &r);
     must("a call took memory", allocations == 0);
     must("a hard reset", r.reset == BOARD_HARD_RESET && !board_read(&b, 0x1000, 4, false, &r));

@@ -7,7 +7,7 @@ from typing import Any, Callable, Iterable, Iterator, NoReturn
 
 from . import records
 from .cards import Card
-from .errors import BadSize, BadValue, NoByte, NoEvent, NoMemory, NoReply, NoRoom, NoSector, PastEnd, check
+from .errors import BadSize, BadValue, NoByte, NoCycle, NoEvent, NoMemory, NoReply, NoRoom, NoSector, PastEnd, check
 from .events import Event, Kind
 from .library import library
 from .maps import Map, Window, range_of
@@ -295,6 +295,22 @@ class Board:
             check(self._library.board_save(self._handle, into, len(into), count))
         return bytes(into)
 
+    def decode_master(self, addr: int, width: int, is_write: bool) -> Part:
+        """Where an access of a bus master of 1, 2 or 4 bytes would land, and what would deny it: never SMRAM."""
+        if not 0 <= addr < U32 or width not in (1, 2, 4):
+            raise NoCycle(f"{addr:#x}")
+        part = records.PartRecord()
+        self._ask("board_decode_master", addr, width, is_write, part)
+        return part_of(part)
+
+    def card_read(self, device: int, base: int, offset: int, count: int) -> bytes:
+        """Bytes of a card from an offset in one of its bases on: base 0 to 5, or 7 for the window of a VGA adapter."""
+        if not 0 <= offset < U32 or not 0 <= count <= U32 - offset:
+            raise PastEnd(f"{offset:#x}")
+        into = (records.U8 * max(count, 1))()
+        self._ask("board_card_read", _byte(device, PastEnd), _byte(base, PastEnd), offset, into, count)
+        return bytes(into[:count])
+
     # ---- bytes that the guest did not write; no reply, and nothing else changes
 
     def dram_write(self, addr: int, data: bytes) -> None:
@@ -306,6 +322,12 @@ class Board:
     def cmos_write(self, address: int, byte: int) -> None:
         """Writes a byte of the clock, 0 to 127, as writes of ports 70h and 71h would."""
         self._ask("board_cmos_write", _byte(address, NoByte), _byte(byte, BadValue))
+
+    def card_write(self, device: int, base: int, offset: int, data: bytes) -> None:
+        """Puts bytes into a card from an offset in one of its bases on, wherever the base lies."""
+        if not 0 <= offset < U32:
+            raise PastEnd(f"{offset:#x}")
+        self._ask("board_card_write", _byte(device, PastEnd), _byte(base, PastEnd), offset, bytes(data), len(data))
 
 
 def _byte(number: int, refusal: type[Exception]) -> int:

@@ -164,6 +164,9 @@ CALLS: dict[str, list[type]] = {
     "board_dram_read": [_HANDLE, U32, _BYTES, _SIZE],
     "board_disk_read": [_HANDLE, U32, _BYTES, _SIZE],
     "board_cmos_read": [_HANDLE, U8, c.POINTER(U8)],
+    "board_decode_master": [_HANDLE, U32, U8, c.c_bool, c.POINTER(PartRecord)],
+    "board_card_read": [_HANDLE, U8, U8, U32, _BYTES, _SIZE],
     "board_dram_write": [_HANDLE, U32, c.c_char_p, _SIZE],
     "board_cmos_write": [_HANDLE, U8, U8],
+    "board_card_write": [_HANDLE, U8, U8, U32, c.c_char_p, _SIZE],
 }

@@ -73,6 +73,23 @@ def test_smram_answers_in_its_mode_alone(board):
     assert board.decode(Event.read(0xA8000)).denied_by == "00.0.72"
 
 
+def test_smram_answers_no_bus_master(board):
+    configure(board, 0x72, 0x48)
+    assert board.read(0xA8000).target == "smram"
+    assert board.decode_master(0xA8000, 4, False).denied_by == "00.0.72"
+    assert board.decode_master(0x9FFFC, 4, True).target == "dram:0"
+
+
+def test_bytes_of_a_card_go_in_and_out():
+    with Board(cards=[Card(3, bases=("m12",))]) as board:
+        board.card_write(3, 0, 0xFFC, b"\x11\x22\x33\x44")
+        configure(board, 0x1813, 0xF0)
+        configure(board, 0x1804, 2)
+        assert board.read(0xF0000FFC, 4) == 0x44332211
+        board.write(0xF0000FFD, 1, 0x5A)
+        assert board.card_read(3, 0, 0xFFC, 4) == b"\x11\x5A\x33\x44"
+
+
 def test_what_is_read_is_a_number_and_a_line(board):
     value = board.read(0xCC000)
     assert repr(value) == "<r b 000CC000 = FF abort 00.0.5B>"

@@ -433,6 +433,23 @@ impl Board {
         Ok(byte)
     }
 
+    /// Where an access of a bus master would land, a multiple of its width, and what would deny it: never SMRAM, nor
+    /// memory at A0000h to BFFFFh.
+    pub fn decode_master(&self, addr: u32, width: Width, is_write: bool) -> Result<Part, Error> {
+        let mut part = raw::Part::default();
+        // SAFETY: as of `decode`.
+        check(unsafe { raw::board_decode_master(self.handle.get(), addr, width.bytes(), is_write, &mut part) })?;
+        Part::of(&part).ok_or(Error::NoReply)
+    }
+
+    /// Bytes of a card from an offset in one of its bases on: base 0 to 5, or 7 for the window of a VGA adapter.
+    pub fn card_read(&self, device: u8, base: u8, offset: u32, into: &mut [u8]) -> Result<(), Error> {
+        // SAFETY: as of `decode`; the pointer is good for as many bytes.
+        check(unsafe {
+            raw::board_card_read(self.handle.get(), device, base, offset, into.as_mut_ptr(), into.len())
+        })
+    }
+
     /// Puts bytes into the memory that the board keeps, whatever the map says.
     pub fn dram_write(&mut self, addr: u32, from: &[u8]) -> Result<(), Error> {
         // SAFETY: as of `step`; the pointer is good for as many bytes.
@@ -443,5 +460,14 @@ impl Board {
     pub fn cmos_write(&mut self, address: u8, byte: u8) -> Result<(), Error> {
         // SAFETY: as of `step`.
         check(unsafe { raw::board_cmos_write(self.handle.get(), address, byte) })
+    }
+
+    /// Puts bytes into a card from an offset in one of its bases on, wherever the base lies; the bases are those of
+    /// [`Board::card_read`].
+    pub fn card_write(&mut self, device: u8, base: u8, offset: u32, from: &[u8]) -> Result<(), Error> {
+        // SAFETY: as of `step`; the pointer is good for as many bytes.
+        check(unsafe {
+            raw::board_card_write(self.handle.get(), device, base, offset, from.as_ptr(), from.len())
+        })
     }
 }

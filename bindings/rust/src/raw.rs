@@ -229,6 +229,23 @@ extern "C" {
     pub(crate) fn board_dram_read(handle: *mut Handle, addr: u32, into: *mut u8, bytes: usize) -> u32;
     pub(crate) fn board_disk_read(handle: *mut Handle, sector: u32, into: *mut u8, bytes: usize) -> u32;
     pub(crate) fn board_cmos_read(handle: *mut Handle, address: u8, byte: *mut u8) -> u32;
+    pub(crate) fn board_decode_master(handle: *mut Handle, addr: u32, bytes: u8, is_write: bool, part: *mut Part) -> u32;
+    pub(crate) fn board_card_read(
+        handle: *mut Handle,
+        device: u8,
+        base: u8,
+        offset: u32,
+        into: *mut u8,
+        bytes: usize,
+    ) -> u32;
     pub(crate) fn board_dram_write(handle: *mut Handle, addr: u32, from: *const u8, bytes: usize) -> u32;
     pub(crate) fn board_cmos_write(handle: *mut Handle, address: u8, byte: u8) -> u32;
+    pub(crate) fn board_card_write(
+        handle: *mut Handle,
+        device: u8,
+        base: u8,
+        offset: u32,
+        from: *const u8,
+        bytes: usize,
+    ) -> u32;
 }

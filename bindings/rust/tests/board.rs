@@ -76,6 +76,30 @@ fn smram_answers_in_its_mode_alone() {
 }
 
 #[test]
+fn smram_answers_no_bus_master() {
+    let mut board = opened();
+    configure(&mut board, 0x72, 0x48); // SMRAME and DOPEN
+    assert_eq!(board.read_u8(0xA8000), Ok(0));
+    assert_eq!(board.last().unwrap().target(), Some(Target::Smram));
+    let part = board.decode_master(0xA8000, Width::Dword, false).unwrap();
+    assert_eq!((part.target, part.denial), (Target::Abort, denied_by(0, 0, 0x72)));
+    assert_eq!(board.decode_master(0x9FFFC, Width::Dword, true).unwrap().target, Target::Dram { row: 0 });
+}
+
+#[test]
+fn bytes_of_a_card_go_in_and_out() {
+    let mut board = Board::builder().card(Card::new(3).memory(12)).rom(ROM).open().unwrap();
+    board.card_write(3, 0, 0xFFC, &[0x11, 0x22, 0x33, 0x44]).unwrap();
+    configure(&mut board, 0x1813, 0xF0);
+    configure(&mut board, 0x1804, 2);
+    assert_eq!(board.read_u32(0xF000_0FFC), Ok(0x4433_2211));
+    board.write_u8(0xF000_0FFD, 0x5A).unwrap();
+    let mut bytes = [0; 4];
+    board.card_read(3, 0, 0xFFC, &mut bytes).unwrap();
+    assert_eq!(bytes, [0x11, 0x5A, 0x33, 0x44]);
+}
+
+#[test]
 fn the_timer_interrupts() {
     let mut board = opened();
     set_up_interrupts(&mut board);

@@ -87,6 +87,10 @@ fn questions_that_cannot_be() {
     let mut board = Board::builder().rom(ROM).open().unwrap();
     assert_eq!(board.decode(&Event::read(0x1001, Width::Word)).err(), Some(Error::NoCycle));
     assert_eq!(board.decode(&Event::Acknowledge).err(), Some(Error::NoCycle));
+    assert_eq!(board.decode_master(0x1002, Width::Dword, false).err(), Some(Error::NoCycle));
+    assert_eq!(board.decode_master(0x1000, Width::Qword, false).err(), Some(Error::NoCycle));
+    assert_eq!(board.card_read(2, 0, 0, &mut [0]), Err(Error::PastEnd));
+    assert_eq!(board.card_write(2, 0, 0, &[0]), Err(Error::PastEnd));
     assert_eq!(board.disk_read(0), Err(Error::NoSector));
     assert_eq!(board.cmos_read(128), Err(Error::NoByte));
     assert_eq!(board.cmos_write(128, 0), Err(Error::NoByte));

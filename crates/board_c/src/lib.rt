@@ -3,6 +3,7 @@
 
 mod asks;
 mod bytes;
+mod cards;
 mod exports;
 mod handle;
 mod image;
@@ -15,6 +16,7 @@ pub use asks::{board_decode, board_pulses_to_rise, board_ranges};
 pub use bytes::{
     board_cmos_read, board_cmos_write, board_disk_read, board_dram_read, board_dram_write,
 };
+pub use cards::{board_card_read, board_card_write, board_decode_master};
 pub use exports::{board_close, board_open, board_step};
 pub use handle::Handle;
 pub use image::{board_load, board_save};
