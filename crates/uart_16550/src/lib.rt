@@ -9,7 +9,6 @@ pub mod laws;
 mod line;
 mod modem;
 mod over_chipset;
-mod queue;
 mod register;
 mod serial;
 mod state;
