@@ -4,4 +4,5 @@ pub mod CallProofs
 pub mod ControlProofs
 pub mod Loads
 pub mod OverChipset
+pub mod StateFormat
 pub mod Common

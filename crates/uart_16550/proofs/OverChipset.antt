@@ -1,11 +1,11 @@
 -- What a step of a chipset with a serial port says, where the chipset does it without an event.
-use Rattle.std.proofs.Common.{◌≡◌, ◌<◌, ◌∙◌, ℕ, Bool, List, [], ◌∷◌, refl, sym}
-use Rattle.board_prelude.proofs.Common.{Kind, PortAccess, Event, Port, Line, Reply, Entry, Setup, IsAnswer, line_set, next_entry}
+use Rattle.std.proofs.Common.{◌≡◌, ◌<◌, ℕ, Bool, List, [], ◌∷◌, refl}
+use Rattle.board_prelude.proofs.Common.{Kind, Event, Line, Reply, Entry, IsAnswer, next_entry}
 use Rattle.board_spec.specs.declared.event.Event.TheVariants.{Look as LookAt}
 use Rattle.board_chipset.specs.Common.{Running, IsAnswerModulo, IsForDevices, IsLeftBy}
 use Rattle.board_chipset.proofs.Exact.{modulo}
 use Rattle.uart_16550.specs.Common.{com1_actor, board_event, board_steps, level_of, IsChipsetAfter, IsLeftBy as IsPortLeftBy, Serial}
-use Rattle.uart_16550.proofs.SerialSteps.{IsPlain, is_plain, one_step, plain_step, other_actor}
+use Rattle.uart_16550.proofs.SerialSteps.{IsPlain, is_plain, one_step, other_actor}
 
 pub plain_outside : (event : Event) → IsForDevices event → ((irq : ℕ) (on : Bool) → event ≡ Line irq on → ⊥) → IsPlain event
 plain_outside event is no_line = is_plain event (λ access same. rw same at is) no_line

@@ -5,6 +5,7 @@ pub mod Writes
 pub mod Com1
 pub mod Serial
 pub mod OverChipset
+pub mod State
 pub mod Calls
 pub mod Sent
 pub mod SerialOrder

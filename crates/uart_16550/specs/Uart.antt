@@ -1,7 +1,7 @@
 -- A 16550 as a machine: its state, the interrupt that it asks for, and the register at each offset.
 -- The line rate is not modelled: a byte is sent as soon as it is written. Sections are those of National's PC16550D
 -- data sheet.
-use Rattle.std.specs.Prelude.{ℕ, ◌^◌, ◌==◌, Bool, true, false, not, ◌&&◌, ◌||◌, nat_le, if◌then◌else◌, List, [], ◌∷◌, ◌++◌, length, Option, is_some, find}
+use Rattle.std.specs.Prelude.{ℕ, ◌^◌, ◌<◌, ◌≤◌, ◌==◌, Bool, true, false, not, ◌&&◌, ◌||◌, nat_le, if◌then◌else◌, List, [], ◌∷◌, ◌++◌, length, Option, is_some, find}
 use Rattle.board_spec.specs.Bits.{is_bit}
 use Rattle.uart_16550.specs.declared.interrupt.Interrupt.{Interrupt}
 use Rattle.uart_16550.specs.declared.interrupt.Interrupt.TheVariants.{LineStatus, DataAvailable, TransmitterEmpty, ModemStatus}
@@ -51,8 +51,11 @@ is_loopback uart = is_bit uart.mcr loop_enable
 
 -- ---- the queue: 16 bytes with FIFOs, and one without (PC16550D, 8.5)
 
+abbrev pub size_with : (fifos : Bool) → ℕ
+size_with fifos = if fifos then 16 else 1
+
 abbrev pub queue_size : Uart → ℕ
-queue_size uart = if uart.fifos then 16 else 1
+queue_size uart = size_with uart.fifos
 
 abbrev pub is_full : Uart → Bool
 is_full uart = nat_le (queue_size uart) (length uart.queue)
@@ -63,6 +66,13 @@ has_room uart = not (is_full uart) && not (is_loopback uart)
 
 abbrev pub received : Uart → ℕ → Uart
 received uart byte = record uart { queue = uart.queue ++ byte ∷ [] }
+
+-- what holds of every UART: IER keeps bits 3 to 0 (PC16550D, 8.7), MCR bits 4 to 0 (8.8), and the queue no more than it
+-- has room for
+pub record AreKept (ier mcr : ℕ) (fifos : Bool) (queue : List ℕ) : Type 0 where
+  pub enabled : ier < 16
+  pub control : mcr < 32
+  pub few : length queue ≤ size_with fifos
 
 -- ---- the lines of the modem: in loopback the port's own outputs (PC16550D, 8.8), else a modem that is there and does
 -- not ring (this board's choice)

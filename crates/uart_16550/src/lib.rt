@@ -9,14 +9,15 @@ pub mod laws;
 mod line;
 mod modem;
 mod over_chipset;
-mod queue;
 mod register;
 mod serial;
+mod state;
 mod stepped;
 mod uart;
 
 pub use com1::{Happening, SerialReply, UartReply, is_for_uart};
 pub use register::UartRegisters;
 pub use serial::SerialBoard;
+pub use state::law_one_uart;
 pub use stepped::SteppedBoard;
 pub use uart::Uart;

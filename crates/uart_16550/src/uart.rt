@@ -8,32 +8,32 @@ ghost use Rattle.uart_16550.specs.Writes.{looped, thr_written, ier_written, is_e
 
 use crate::interrupt::{Interrupt, identity};
 use crate::modem::{ModemChanges, ModemLines, modem_status};
-use crate::queue::{FIFO_SIZE, Queue};
 use crate::register::{
     DLAB, DR, ETBEI, FIFO_ENABLE, FIFOS_ENABLED, IER_BITS, LOOP, MCR_BITS, OE, OUT2,
     RECEIVER_RESET, ReadRegister, TEMT, THRE, UartRegisters, WriteRegister, flag,
 };
 use board_spec::bits::is_set;
+use byte_queue::{FIFO_SIZE, Queue};
 use std::marker::Model;
 
 /// A 16550. Contracts see the machine of the definitions. No time passes in it: a byte is sent as it is written.
 #[derive(Drop)]
 pub struct Uart {
-    ier: u8,
-    lcr: u8,
-    mcr: u8,
-    scr: u8,
-    dll: u8,
-    dlm: u8,
-    fifos: bool,
-    queue: Queue,
-    overrun: bool,
-    emptied: bool,
-    changes: ModemChanges,
+    pub(crate) ier: u8,
+    pub(crate) lcr: u8,
+    pub(crate) mcr: u8,
+    pub(crate) scr: u8,
+    pub(crate) dll: u8,
+    pub(crate) dlm: u8,
+    pub(crate) fifos: bool,
+    pub(crate) queue: Queue,
+    pub(crate) overrun: bool,
+    pub(crate) emptied: bool,
+    pub(crate) changes: ModemChanges,
 }
 
 impl Model for Uart {
-    ghost use Rattle.uart_16550.specs.Uart.{Uart as Machine};
+    ghost use Rattle.uart_16550.specs.Uart.{Uart as Machine, AreKept};
 
     ghost Value = { Machine };
 
@@ -50,6 +50,8 @@ impl Model for Uart {
       emptied = uart.emptied;
       changes = uart.changes;
     } };
+
+    ghost invariant = { λ uart. AreKept uart.ier uart.mcr uart.fifos uart.queue };
 }
 
 impl Uart {

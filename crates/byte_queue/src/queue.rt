@@ -1,7 +1,7 @@
-//! The queue of the bytes that were received.
+//! The queue itself.
 
 ghost use Rattle.std.specs.Prelude.{◌≡◌, ◌≤◌, ◌<◌, ◌++◌, ◌∷◌, [], length};
-ghost use Rattle.uart_16550.specs.Reads.{front_of, rest_of};
+ghost use Rattle.byte_queue.specs.Queue.{front_of, rest_of};
 
 use arrayvec::ArrayVec;
 use std::marker::Model;
@@ -31,6 +31,16 @@ impl Queue {
         Queue {
             bytes: ArrayVec::new(),
         }
+    }
+
+    /// The queue of these bytes, of which there are at most 16.
+    pub fn of(bytes: &[u8]) -> Queue
+        requires few { length bytes.now ≤ 16 }
+        ensures bytes { result ≡ bytes.now }
+    {
+        let mut queue = ArrayVec::new();
+        queue.try_extend_from_slice(bytes).unwrap();
+        Queue { bytes: queue }
     }
 
     /// The bytes.
