@@ -7,6 +7,7 @@ use Rattle.uart_16550.specs.declared.modem.ModemChanges.{ModemChanges}
 use Rattle.uart_16550.specs.declared.register.ReadRegister.{ReadRegister}
 use Rattle.uart_16550.specs.declared.register.ReadRegister.TheVariants.{Rbr, Dll, Ier, Dlm, Iir, Lcr, Mcr, Lsr, Msr, Scr}
 use Rattle.uart_16550.specs.declared.register.UartRegisters.{UartRegisters}
+use Rattle.byte_queue.specs.Queue.{front_of, rest_of}
 use Rattle.uart_16550.specs.Names.{dr, oe, thre, temt, dcts, ddsr, teri, ddcd, cts, dsr, ri, dcd}
 use Rattle.uart_16550.specs.Uart.{Uart, no_changes, is_dlab, lines_of, pending, flag}
 
@@ -20,15 +21,6 @@ register_read dlab off =
     if off == 4 then Mcr else
     if off == 5 then Lsr else
     if off == 6 then Msr else Scr
-
--- RBR gives the byte that came first, and 0 where there is none
-abbrev pub front_of : List ℕ → ℕ
-front_of [] = 0
-front_of (byte ∷ later) = byte
-
-abbrev pub rest_of : List ℕ → List ℕ
-rest_of [] = []
-rest_of (byte ∷ later) = later
 
 -- bits 3 to 0 of IIR: the interrupt that is pending, and 1 where none is (PC16550D, 8.6)
 abbrev pub identity_of : Option Interrupt → ℕ

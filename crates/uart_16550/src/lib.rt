@@ -10,7 +10,6 @@ mod line;
 mod modem;
 mod over_cards;
 mod over_chipset;
-mod queue;
 mod register;
 mod serial;
 mod serial_state;

@@ -1,7 +1,7 @@
-//! The queue of the bytes that were received.
+//! The queue itself.
 
 ghost use Rattle.std.specs.Prelude.{◌≡◌, ◌≤◌, ◌<◌, ◌++◌, ◌∷◌, [], length};
-ghost use Rattle.uart_16550.specs.Reads.{front_of, rest_of};
+ghost use Rattle.byte_queue.specs.Queue.{front_of, rest_of};
 
 use arrayvec::ArrayVec;
 use std::marker::Model;
