@@ -43,10 +43,7 @@ fn push_identity(into: &mut Vec<u8>, card: &FittedIdentity) -> Result<(), NoMemo
 }
 
 /// Adds how many cards say something, and what each says.
-pub(crate) fn push_identities(
-    into: &mut Vec<u8>,
-    cards: &[FittedIdentity],
-) -> Result<(), NoMemory>
+pub(crate) fn push_identities(into: &mut Vec<u8>, cards: &[FittedIdentity]) -> Result<(), NoMemory>
     requires few { length cards.now ≤ 8 }
     ensures added { OnOk result (into.new.items ≡ into.old.items ++ identities_bytes cards.now) }
 {
@@ -123,10 +120,7 @@ fn read_identity(fields: &mut Fields) -> Result<FittedIdentity, Bad>
 }
 
 /// Reads what so many cards say.
-fn read_some(
-    fields: &mut Fields,
-    count: u8,
-) -> Result<ArrayVec<FittedIdentity, MOST_CARDS>, Bad>
+fn read_some(fields: &mut Fields, count: u8) -> Result<ArrayVec<FittedIdentity, MOST_CARDS>, Bad>
     requires few { count ≤ 8 }
     ensures took { Took (λ cards. cards.items) result fields.new (some_identities tt count fields.old) }
 {

@@ -6,12 +6,11 @@ ghost use Rattle.byte_fields.specs.Fields.{Filled, Took, number_where};
 ghost use Rattle.byte_fields.specs.Pages.{memory_fields};
 ghost use Rattle.fitted_bytes.specs.Setups.{disk_fields, is_fitted_size, rom_fields, setup_fields};
 
+use crate::identities::MOST_CARDS;
 use board_chipset::{Setup, is_disk_size, is_rom_size};
 use board_image::cards;
 use byte_fields::{Bad, Fault, Fields, MEMORY_PAGE};
 use std::alloc::Global;
-
-use crate::identities::MOST_CARDS;
 
 /// The most memory in MiB.
 const MOST_MIB: u32 = 512;
