@@ -15,12 +15,15 @@
 //!     second                                                 one second of the clock
 //!     in PORT BYTES COUNT · out PORT BYTES VALUE..           accesses to a port in turn
 //!     put ADDR BYTE.. · set ADDR BYTE                        bytes into the DRAM and into the clock
+//!     master ADDR BYTES WRITE                                where an access of a bus master would land
+//!     told DEVICE BASE OFFSET BYTES · give DEVICE BASE OFFSET BYTE..   bytes of a card, out and in
 //!
 //! What is left out at the end of a line is 0. Byte K of a ROM is K modulo 256, and byte K of a disk K / 256 modulo 256. Of a
 //! record the fields are told that are not 0.
 #![tactic(auto)]
 
 mod calls;
+mod cards;
 mod desk;
 mod tell;
 mod words;
