@@ -78,7 +78,7 @@ class NoSector(BoardError, status=18):
 
 
 class PastEnd(BoardError, status=19):
-    """the bytes do not all lie in the installed memory"""
+    """the bytes do not all lie in the memory or the base"""
 
 
 class NoByte(BoardError, status=20):

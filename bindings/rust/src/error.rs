@@ -72,7 +72,7 @@ statuses! {
     16 Line "the line cannot be set from outside"
     17 NoCycle "the event is no access that one bus cycle makes"
     18 NoSector "there is no disk, or it has no such sector"
-    19 PastEnd "the bytes do not all lie in the installed memory"
+    19 PastEnd "the bytes do not all lie in the memory or the base"
     20 NoByte "the clock has 128 bytes"
     21 BadLength "a sector has 512 bytes"
     22 NoReply "that is no reply"

@@ -1,7 +1,7 @@
 //! The board that is open, the cards for the next one, and the last event with its reply.
 
 use crate::words::{Numbers, card_of, event_of, identify};
-use crate::{calls, tell};
+use crate::{calls, cards, tell};
 use board_base::NoMemory;
 use board_records::status::OK;
 use board_records::{CardRecord, Door, EventRecord, ReplyRecord};
@@ -137,7 +137,7 @@ impl Desk {
             "in" => calls::reads(out, self.alloc, door, numbers, &mut self.reply)?,
             "out" => calls::writes(out, self.alloc, door, numbers, &mut self.reply)?,
             "set" => tell::status(out, door.write_clock_byte(numbers.byte(0), numbers.byte(1))),
-            _ => {}
+            verb => cards::ask(out, self.alloc, door, verb, numbers)?,
         }
         Ok(())
     }

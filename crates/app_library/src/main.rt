@@ -17,12 +17,15 @@
 //!     put ADDR BYTE.. · set ADDR BYTE                        bytes into the DRAM and into the clock
 //!     save ROOM · load                                       the board as bytes, and the board of these bytes
 //!     turn AT BITS · cut COUNT                               turns bits of a byte that was saved; keeps so many
+//!     master ADDR BYTES WRITE                                where an access of a bus master would land
+//!     told DEVICE BASE OFFSET BYTES · give DEVICE BASE OFFSET BYTE..   bytes of a card, out and in
 //!
 //! What is left out at the end of a line is 0. Byte K of a ROM is K modulo 256, and byte K of a disk K / 256 modulo 256. Of a
 //! record the fields are told that are not 0.
 #![tactic(auto)]
 
 mod calls;
+mod cards;
 mod desk;
 mod tell;
 mod words;
