@@ -1,11 +1,15 @@
 -- A board is read from its bytes: what it is fitted with, and then its state.
-use Rattle.std.proofs.Common.{◌≡◌, ◌⊎◌, ℕ, inl, inr, List, [], ◌∷◌, ◌++◌, Result, Ok, Err, IfOk, sym, ap, ◌∙◌}
+use Rattle.std.proofs.Common.{◌≡◌, ◌⊎◌, ℕ, inl, inr, List, [], ◌∷◌, ◌++◌, Result, Ok, Err, IfOk, refl, sym, ap, ◌∙◌}
 use Rattle.board_prelude.proofs.Common.{append-nil}
 use Rattle.byte_fields.specs.declared.fault.Fault.{Fault}
 use Rattle.byte_fields.specs.declared.fault.Fault.TheVariants.{NoMemory}
 use Rattle.byte_fields.specs.Fields.{ended}
 use Rattle.byte_fields.specs.Loads.{LoadsWith}
-use Rattle.uart_16550.specs.SerialState.{serial_bytes}
+use Rattle.board_prelude.specs.Common.{Setup}
+use Rattle.board_chipset.specs.Common.{Running}
+use Rattle.uart_16550.specs.Common.{Serial}
+use Rattle.uart_16550.specs.SerialState.{LoadsSerial, serial_bytes}
+use Rattle.card_identity.specs.declared.identity.FittedIdentity.{FittedIdentity}
 use Rattle.fitted_bytes.specs.Fitted.{Fitting, IsFitting, fitting_bytes, fitting_fields}
 use Rattle.board_records.specs.Doors.{Behind}
 use Rattle.board_records.specs.Images.{IsBehind, fitting_of, image_bytes}
@@ -27,6 +31,37 @@ Gives result behind = (result ≡ Err NoMemory) ⊎ (result ≡ Ok behind)
 
 pub not_ended : (bytes : List ℕ) (left : ℕ) → ended bytes ≡ Err left → bytes ≡ [] → ⊥
 not_ended bytes left is none = let read : ended [] ≡ Err left = rw none at is in absurd cc
+
+-- ---- the state, and what follows it
+
+pub state_exact :
+    {setup : Setup} (before after : List ℕ) (serial : Serial Running) (identities : List FittedIdentity) →
+    LoadsSerial setup before after (Ok serial) → (behind : Behind) (rest : List ℕ) → IsBehind behind →
+    fitting_of behind ≡ record { setup = setup; identities = identities } →
+    before ≡ serial_bytes behind.serial ++ rest →
+    let read : Behind = record { serial = serial; identities = identities } in
+    (◌≡◌ {A = Result Behind Fault} (Ok read) (Err NoMemory)) ⊎
+    ((◌≡◌ {A = Result Behind Fault} (Ok read) (Ok behind)) × (after ≡ rest))
+state_exact before after serial identities loads behind rest is same begins =
+    elim (loads.exact behind.serial rest (ap (λ (fitting : Fitting). fitting.setup) same) is.state begins) [
+      | inl never ↦ absurd (never_err serial NoMemory never)
+      | inr given ↦
+          let state : serial ≡ behind.serial = ok_same serial behind.serial given.0 in
+          let say : identities ≡ behind.identities = sym (ap (λ (fitting : Fitting). fitting.identities) same) in
+          inr (rw state (rw say refl), given.1)
+    ]
+
+pub state_refused :
+    {setup : Setup} (before after : List ℕ) (fault : Fault) → LoadsSerial setup before after (Err fault) →
+    (behind : Behind) (rest : List ℕ) → IsBehind behind → behind.serial.board.setup ≡ setup →
+    before ≡ serial_bytes behind.serial ++ rest →
+    (◌≡◌ {A = Result Behind Fault} (Err fault) (Err NoMemory)) ⊎
+    ((◌≡◌ {A = Result Behind Fault} (Err fault) (Ok behind)) × (after ≡ rest))
+state_refused before after fault loads behind rest is same begins =
+    elim (loads.exact behind.serial rest same is.state begins) [
+      | inl wanted ↦ inl (ap (λ (f : Fault). Err f) (err_same {A = Serial Running} fault NoMemory wanted))
+      | inr never ↦ absurd (never_err behind.serial fault (sym never.0))
+    ]
 
 -- ---- the state, after which nothing follows
 
