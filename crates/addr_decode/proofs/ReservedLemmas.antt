@@ -1,16 +1,17 @@
 -- Bits that cannot be written stay as after a reset, and so a board's registers have them.
-use Rattle.std.proofs.Common.{◌≡◌, ℕ, zero, suc, ◌+◌, ◌-◌, ◌*◌, ◌/◌, ◌%◌, ◌^◌, ◌<◌, ◌≤◌, max, Bool, true, false, ◌==◌, ◌&&◌, if◌then◌else◌, List, length, Option, Some, None, inl, inr, refl, sym, ap, subst, ◌∙◌, arith, slice_index, get_or, All}
+use Rattle.std.proofs.Common.{◌≡◌, ℕ, zero, suc, ◌+◌, ◌-◌, ◌*◌, ◌^◌, ◌<◌, ◌≤◌, max, Bool, true, false, ◌==◌, if◌then◌else◌, Option, Some, None, inl, inr, refl, sym, ap, subst, ◌∙◌, arith, slice_index}
 use Rattle.std.proofs.lemmas.Nat.{and_assoc, and_comm, and_mask, and_or_apart, or_comm}
+use Rattle.std.proofs.lemmas.Nat.Bits.{bit_at-lt}
 use Rattle.std.proofs.lemmas.Grind.{and-not_self}
 use Rattle.std.specs.Int.Bits.{and_self, and_zero_r}
 use Rattle.std.specs.Int.RustNames.{bit_and, bit_or}
-use Rattle.board_prelude.proofs.Common.{cases_Bool, cases_eq, cases_lt, eq-eqb, eqb-true, ne_eqb, and_from, and_parts, and_left, Reg, Store, Reset, MapChange, Width, FittedCard, Setup, IsCard, card_at, card_function, listed, base_reset, base_writable, rom_writable, reset_byte, writable_bits, byte_after, covers, changed_byte, smram_after, bit, byte, merged, Bytes, is_same, bridge, isa, pam, fdhc, smram, xbcs, card_register}
+use Rattle.board_prelude.proofs.Common.{cases_lt, eq-eqb, eqb-true, ne_eqb, and_from, and_parts, and_left, Reg, Store, Width, FittedCard, Setup, IsCard, card_at, card_function, base_reset, base_writable, rom_writable, reset_byte, writable_bits, byte_after, covers, changed_byte, smram_after, bit, byte, merged, Bytes, is_same, pam, fdhc, smram, xbcs, card_register}
 use Rattle.board_spec.specs.RegisterTable.{host_bridge, isa_bridge}
 use Rattle.pci_bars.specs.Bases.{of_base}
-use Rattle.pci_bars.specs.Cards.{CardBytes, HoldsLong, HoldsRom, IsCardOf}
-use Rattle.pci_bars.proofs.TableLemmas.{byte_of_zero, command_writable, reset-command, reset-base, writable-base, reset-rom, writable-rom, reset_byte-card, writable_bits-card}
+use Rattle.pci_bars.specs.Cards.{CardBytes, HoldsRom, IsCardOf}
+use Rattle.pci_bars.proofs.TableLemmas.{byte_of_zero, reset-command, reset-base, writable-base, reset-rom, writable-rom, reset_byte-card, writable_bits-card}
 use Rattle.addr_decode.specs.Reserved.{reserved_of, keeps_reserved, keeps_reserved_long, AreWritten}
-use Rattle.addr_decode.specs.State.{IsByteOf, pam_writable, IsLongOf, IsBaseOf, IsWideCard, IsCardRegs}
+use Rattle.addr_decode.specs.State.{pam_writable, IsWideCard, IsCardRegs}
 
 -- ---- a byte that is merged
 
@@ -37,46 +38,50 @@ reserved-merged mask old written =
 
 -- ---- SMRAM control
 
-bit_below : (n k : ℕ) → bit n k < 2
-bit_below n k = omega arith
+-- a bit is 0 or 1
+by_bit : (P : ℕ → Type 0) (n : ℕ) → n < 2 → P 0 → P 1 → P n
+by_bit P zero below none one = none
+by_bit P (suc zero) below none one = one
+by_bit P (suc (suc n)) below none one = absurd (omega (arith, below))
 
 lock_below : (a b : ℕ) → a < 2 → b < 2 → max a b < 2
-lock_below zero b below other = other
-lock_below (suc a) zero below other = below
-lock_below (suc a) (suc b) below other = omega (arith, below, other)
+lock_below a b below other =
+    by_bit (λ a. max a b < 2) a below
+    (by_bit (λ b. max 0 b < 2) b other (omega arith) (omega arith))
+    (by_bit (λ b. max 1 b < 2) b other (omega arith) (omega arith))
 
--- the lock, DOPEN, DCLS and SMRAME of a byte
+-- a byte by the lock, DOPEN, DCLS and SMRAME that were written
 abbrev of_bits : (lock open closed enabled : ℕ) → ℕ
 of_bits lock open closed enabled = (1 - lock) * open * 0x40 + closed * 0x20 + lock * 0x10 + enabled * 0x08 + 0x02
 
-locked_again : (lock open closed enabled : ℕ) → lock < 2 → open < 2 → closed < 2 → enabled < 2 →
+abbrev IsAgain : (lock open closed enabled : ℕ) → Type 0
+IsAgain lock open closed enabled =
     smram_after 0x02 (of_bits lock open closed enabled) ≡ of_bits lock open closed enabled
-locked_again zero zero zero zero l o c e = refl
-locked_again zero zero zero (suc zero) l o c e = refl
-locked_again zero zero (suc zero) zero l o c e = refl
-locked_again zero zero (suc zero) (suc zero) l o c e = refl
-locked_again zero (suc zero) zero zero l o c e = refl
-locked_again zero (suc zero) zero (suc zero) l o c e = refl
-locked_again zero (suc zero) (suc zero) zero l o c e = refl
-locked_again zero (suc zero) (suc zero) (suc zero) l o c e = refl
-locked_again (suc zero) zero zero zero l o c e = refl
-locked_again (suc zero) zero zero (suc zero) l o c e = refl
-locked_again (suc zero) zero (suc zero) zero l o c e = refl
-locked_again (suc zero) zero (suc zero) (suc zero) l o c e = refl
-locked_again (suc zero) (suc zero) zero zero l o c e = refl
-locked_again (suc zero) (suc zero) zero (suc zero) l o c e = refl
-locked_again (suc zero) (suc zero) (suc zero) zero l o c e = refl
-locked_again (suc zero) (suc zero) (suc zero) (suc zero) l o c e = refl
-locked_again (suc (suc lock)) open closed enabled l o c e = absurd (omega (arith, l))
-locked_again lock (suc (suc open)) closed enabled l o c e = absurd (omega (arith, o))
-locked_again lock open (suc (suc closed)) enabled l o c e = absurd (omega (arith, c))
-locked_again lock open closed (suc (suc enabled)) l o c e = absurd (omega (arith, e))
+
+locked_again : (lock open closed enabled : ℕ) → lock < 2 → open < 2 → closed < 2 → enabled < 2 →
+    IsAgain lock open closed enabled
+locked_again lock open closed enabled l o c e =
+    by_bit (λ lock. IsAgain lock open closed enabled) lock l
+    (by_bit (λ open. IsAgain 0 open closed enabled) open o
+    (by_bit (λ closed. IsAgain 0 0 closed enabled) closed c
+    (by_bit (λ enabled. IsAgain 0 0 0 enabled) enabled e refl refl)
+    (by_bit (λ enabled. IsAgain 0 0 1 enabled) enabled e refl refl))
+    (by_bit (λ closed. IsAgain 0 1 closed enabled) closed c
+    (by_bit (λ enabled. IsAgain 0 1 0 enabled) enabled e refl refl)
+    (by_bit (λ enabled. IsAgain 0 1 1 enabled) enabled e refl refl)))
+    (by_bit (λ open. IsAgain 1 open closed enabled) open o
+    (by_bit (λ closed. IsAgain 1 0 closed enabled) closed c
+    (by_bit (λ enabled. IsAgain 1 0 0 enabled) enabled e refl refl)
+    (by_bit (λ enabled. IsAgain 1 0 1 enabled) enabled e refl refl))
+    (by_bit (λ closed. IsAgain 1 1 closed enabled) closed c
+    (by_bit (λ enabled. IsAgain 1 1 0 enabled) enabled e refl refl)
+    (by_bit (λ enabled. IsAgain 1 1 1 enabled) enabled e refl refl)))
 
 smram-again : (old written : ℕ) → smram_after 0x02 (smram_after old written) ≡ smram_after old written
 smram-again old written =
     locked_again (max (bit old 4) (bit written 4)) (bit written 6) (bit written 5) (bit written 3)
-    (lock_below (bit old 4) (bit written 4) (bit_below old 4) (bit_below written 4))
-    (bit_below written 6) (bit_below written 5) (bit_below written 3)
+    (lock_below (bit old 4) (bit written 4) (bit_at-lt old 4) (bit_at-lt written 4))
+    (bit_at-lt written 6) (bit_at-lt written 5) (bit_at-lt written 3)
 
 pub smram_reset : (setup : Setup) → reset_byte setup smram ≡ 0x02
 unfolding reset_byte host_bridge
