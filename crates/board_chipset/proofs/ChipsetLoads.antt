@@ -26,9 +26,9 @@ use Rattle.board_chipset.proofs.ChipsetFormats.{AreBareRegisters, IsBareChipset,
 registers_sound : (setup : Setup) (registers : Registers) → AreRegisters setup.cards registers → AreSound setup registers
 registers_sound setup registers are =
     let has = has_bytes setup registers.map.regs registers.south (record {
-      regs = are.map.saved.regs;
+      saved = are.map.saved.regs;
       fitted = are.map.whole.fitted;
-      south = are.south;
+      others = are.south;
     }) in
     record {
       bytes = has.0;

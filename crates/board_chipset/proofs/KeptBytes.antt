@@ -24,9 +24,9 @@ use Rattle.board_chipset.proofs.WrittenBytes.{is_written, written_of, stays, whe
 
 -- the registers are such, of the cards of the setup
 pub record AreKeepable (setup : Setup) (regs : MapBytes) (south : South) : Type 0 where
-  pub regs : AreMapRegs setup.cards (regs_of regs)
+  pub saved : AreMapRegs setup.cards (regs_of regs)
   pub fitted : AreFitted regs.cards
-  pub south : IsSouth south
+  pub others : IsSouth south
 
 -- ---- the bytes
 
@@ -268,10 +268,14 @@ unfolding kept_byte isa_kept
 routes_written setup regs south are =
     four south.routes are.count
     ∙ four_same
-    (of_byte setup regs south (pirq 0) 0x8F 0x80 _ (route_tabled setup 0 (omega arith)) (are.each 0 (omega arith)).1 refl)
-    (of_byte setup regs south (pirq 1) 0x8F 0x80 _ (route_tabled setup 1 (omega arith)) (are.each 1 (omega arith)).1 refl)
-    (of_byte setup regs south (pirq 2) 0x8F 0x80 _ (route_tabled setup 2 (omega arith)) (are.each 2 (omega arith)).1 refl)
-    (of_byte setup regs south (pirq 3) 0x8F 0x80 _ (route_tabled setup 3 (omega arith)) (are.each 3 (omega arith)).1 refl)
+    (of_byte setup regs south (pirq 0) 0x8F 0x80 (slice_index south.routes 0)
+    (route_tabled setup 0 (omega arith)) (are.each 0 (omega arith)).1 refl)
+    (of_byte setup regs south (pirq 1) 0x8F 0x80 (slice_index south.routes 1)
+    (route_tabled setup 1 (omega arith)) (are.each 1 (omega arith)).1 refl)
+    (of_byte setup regs south (pirq 2) 0x8F 0x80 (slice_index south.routes 2)
+    (route_tabled setup 2 (omega arith)) (are.each 2 (omega arith)).1 refl)
+    (of_byte setup regs south (pirq 3) 0x8F 0x80 (slice_index south.routes 3)
+    (route_tabled setup 3 (omega arith)) (are.each 3 (omega arith)).1 refl)
 
 -- the IDE function
 
@@ -356,7 +360,7 @@ card_written : (setup : Setup) (regs : MapBytes) (south : South) (card : CardByt
     IsCardRegs card → card_with card.card.dev regs.cards ≡ Some card → setup.cards ≡ cards_of regs.cards →
     IsCardOf setup (written_byte setup regs south) card
 card_written setup regs south card fit regs_are at fitted =
-    let wide = record { bases = regs_are.widths.bases.each; rom = regs_are.widths.rom } in
+    let wide : HoldsDoublewords card = record { bases = regs_are.widths.bases.each; rom = regs_are.widths.rom } in
     let is = card_is setup regs south card fit wide at fitted (no_rom card regs_are) in
     card_agrees setup (kept_byte setup regs south) (written_byte setup regs south) card
     (λ off.
@@ -402,23 +406,24 @@ has_bytes setup regs south is = (
     map = record {
       rows = rows_written setup regs south;
       hole =
-          of_byte setup regs south fdhc 0xC0 0x00 regs.fdhc (fdhc_tabled setup) is.regs.fdhc.1
+          of_byte setup regs south fdhc 0xC0 0x00 regs.fdhc (fdhc_tabled setup) is.saved.fdhc.1
           (hole_stands setup regs south);
       windows = λ off within.
-          window_written setup regs south is.regs.pam (off - 0x59) off (omega (arith, within.0, within.1))
-          (omega (arith, within.0));
+          let low : 0x59 ≤ off = within.0 in
+          let high : off ≤ 0x5F = within.1 in
+          window_written setup regs south is.saved.pam (off - 0x59) off (omega (arith, low, high)) (omega (arith, low));
       smram = smram_written setup regs south;
       xbcs =
-          of_byte setup regs south xbcs 0xC7 0x03 regs.xbcs (xbcs_tabled setup) is.regs.xbcs.1
+          of_byte setup regs south xbcs 0xC7 0x03 regs.xbcs (xbcs_tabled setup) is.saved.xbcs.1
           (xbcs_stands setup regs south);
-      cards = (is.regs.cards.same, λ k d within. (each k d within).decodes);
+      cards = (is.saved.cards.same, λ k d within. (each k d within).decodes);
     };
-    cards = (is.regs.cards.same, each);
+    cards = (is.saved.cards.same, each);
     south = record {
-      routes = routes_written setup regs south is.south.routes;
+      routes = routes_written setup regs south is.others.routes;
       ide = record {
         command =
-            of_byte setup regs south (ide 0x04) 0x05 0x00 south.ide.command (ide_tabled setup) is.south.ide.command.1
+            of_byte setup regs south (ide 0x04) 0x05 0x00 south.ide.command (ide_tabled setup) is.others.ide.command.1
             (command_stands setup regs south);
         timing_low =
             free_byte setup regs south (ide 0x40) south.ide.timing_low (timing_free setup).0
@@ -431,10 +436,10 @@ has_bytes setup regs south is = (
       };
     };
   },
-  all_are_written setup regs south is.regs.smram,
+  all_are_written setup regs south is.saved.smram,
 )
   where
     each : All (IsCardOf setup (written_byte setup regs south)) regs.cards
     each k d within =
         card_written setup regs south (get_or regs.cards k d) (is.fitted.each k d within)
-        (is.regs.cards.each k d within) (found regs.cards is.fitted.rises k d within) is.regs.cards.same
+        (is.saved.cards.each k d within) (found regs.cards is.fitted.rises k d within) is.saved.cards.same
