@@ -4,7 +4,7 @@ use Rattle.board_prelude.proofs.Common.{append-nil, Setup, IsSetup}
 use Rattle.byte_fields.specs.declared.fault.Fault.{Fault}
 use Rattle.byte_fields.specs.declared.fault.Fault.TheVariants as faults
 use Rattle.byte_fields.specs.Fields.{AreBytes, ended}
-use Rattle.byte_fields.proofs.Formats.{IsFormat, then_format, last_format}
+use Rattle.byte_fields.proofs.Formats.{IsFormat, format_as, then_format, last_format}
 use Rattle.board_chipset.specs.Alone.{alone}
 use Rattle.board_chipset.specs.Chipset.{Running}
 use Rattle.board_chipset.specs.ChipsetState.{chipset_bytes, is_other_version}
@@ -54,9 +54,11 @@ serial_format : (setup : Setup) → IsSetup setup →
     IsFormat (most_chipset setup + 31) (serial_fields setup) serial_bytes (IsBareSerial setup)
 unfolding serial_fields
 serial_format setup fits =
-    then_format (λ (s : Serial Running). s.board) (chipset_format setup fits) (λ board good.
+    format_as (most_chipset setup + 31) serial_bytes (IsBareSerial setup)
+    (then_format (λ (s : Serial Running). s.board) (chipset_format setup fits) (λ board good.
     last_format (λ (s : Serial Running). s.com1) (λ com1. both board com1) com1_format (λ com1 good. refl))
-    (λ board s any good. ap (λ (s : Serial Running). s.board) good.1)
+    (λ board s any good. ap (λ (s : Serial Running). s.board) good.1))
+    (omega arith) (λ s is. is) (λ s good. good) (λ s good. refl)
 
 pub alone_within : (setup : Setup) (before after : List ℕ) → IsSetup setup → AreBytes before →
     alone (serial_fields setup) before ≡ Err (length after) → length after ≤ length before
