@@ -70,11 +70,9 @@ impl Elcr {
         ensures saved { OnOk result (into.new.items ≡ into.old.items ++ triggers_bytes self.now) }
         ensures sound { AreTriggers self.now }
     {
-        let low = self.read(false);
-        let high = self.read(true);
-        is_byte(low);
-        is_byte(high);
-        push_bytes(into, &[low, high])
+        is_byte(self.low);
+        is_byte(self.high);
+        push_bytes(into, &[self.low, self.high])
     }
 
     /// The registers whose state is at the front of the bytes. Refused where a byte is missing, or has a reserved bit: the
