@@ -51,25 +51,25 @@ lock_below a b below other =
     (by_bit (λ b. max 1 b < 2) b other (omega arith) (omega arith))
 
 -- a byte by the lock, DOPEN, DCLS and SMRAME that were written
-abbrev of_bits : (lock open closed enabled : ℕ) → ℕ
-of_bits lock open closed enabled = (1 - lock) * open * 0x40 + closed * 0x20 + lock * 0x10 + enabled * 0x08 + 0x02
+abbrev of_bits : (lock opened closed enabled : ℕ) → ℕ
+of_bits lock opened closed enabled = (1 - lock) * opened * 0x40 + closed * 0x20 + lock * 0x10 + enabled * 0x08 + 0x02
 
-abbrev IsAgain : (lock open closed enabled : ℕ) → Type 0
-IsAgain lock open closed enabled =
-    smram_after 0x02 (of_bits lock open closed enabled) ≡ of_bits lock open closed enabled
+abbrev IsAgain : (lock opened closed enabled : ℕ) → Type 0
+IsAgain lock opened closed enabled =
+    smram_after 0x02 (of_bits lock opened closed enabled) ≡ of_bits lock opened closed enabled
 
-locked_again : (lock open closed enabled : ℕ) → lock < 2 → open < 2 → closed < 2 → enabled < 2 →
-    IsAgain lock open closed enabled
-locked_again lock open closed enabled l o c e =
-    by_bit (λ lock. IsAgain lock open closed enabled) lock l
-    (by_bit (λ open. IsAgain 0 open closed enabled) open o
+locked_again : (lock opened closed enabled : ℕ) → lock < 2 → opened < 2 → closed < 2 → enabled < 2 →
+    IsAgain lock opened closed enabled
+locked_again lock opened closed enabled l o c e =
+    by_bit (λ lock. IsAgain lock opened closed enabled) lock l
+    (by_bit (λ opened. IsAgain 0 opened closed enabled) opened o
     (by_bit (λ closed. IsAgain 0 0 closed enabled) closed c
     (by_bit (λ enabled. IsAgain 0 0 0 enabled) enabled e refl refl)
     (by_bit (λ enabled. IsAgain 0 0 1 enabled) enabled e refl refl))
     (by_bit (λ closed. IsAgain 0 1 closed enabled) closed c
     (by_bit (λ enabled. IsAgain 0 1 0 enabled) enabled e refl refl)
     (by_bit (λ enabled. IsAgain 0 1 1 enabled) enabled e refl refl)))
-    (by_bit (λ open. IsAgain 1 open closed enabled) open o
+    (by_bit (λ opened. IsAgain 1 opened closed enabled) opened o
     (by_bit (λ closed. IsAgain 1 0 closed enabled) closed c
     (by_bit (λ enabled. IsAgain 1 0 0 enabled) enabled e refl refl)
     (by_bit (λ enabled. IsAgain 1 0 1 enabled) enabled e refl refl))

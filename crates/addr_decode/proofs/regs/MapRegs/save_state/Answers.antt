@@ -1,7 +1,7 @@
-use Rattle.std.proofs.Common.{rules, ◌≡◌, ℕ, ◌+◌, ◌-◌, List, All, get_or, slice_index, sym, subst, ap, ◌∙◌, arith}
-use Rattle.board_prelude.proofs.Common.{pam, fdhc, xbcs, smram, smram_after, eq-eqb}
+use Rattle.std.proofs.Common.{rules, ◌≡◌, ℕ, ◌+◌, List, All, get_or, slice_index, sym, subst, ap, ◌∙◌, arith}
+use Rattle.board_prelude.proofs.Common.{pam, fdhc, xbcs, smram, reset_byte, smram_after, eq-eqb}
 use Rattle.pci_bars.specs.Cards.{CardBytes}
-use Rattle.addr_decode.specs.State.{IsWideCard, ArePam}
+use Rattle.addr_decode.specs.State.{IsWideCard}
 use Rattle.addr_decode.proofs.ReservedLemmas.{fdhc_tabled, xbcs_tabled, pam_tabled, smram_reset, keeps, card_regs}
 use Rattle.addr_decode.proofs.regs.MapRegs.save_state.Goals as goal
 
@@ -29,7 +29,7 @@ returns-clause-sound c = λ setup bytes stands are fitted written.
         c.is_byte-2.ensures.byte,
         eq-eqb _ _
             (ap (λ (reset : ℕ). smram_after reset regs.smram) (sym (smram_reset setup))
-            ∙ subst (λ (byte : ℕ). smram_after _ byte ≡ byte) (sym stands.smram) written.smram),
+            ∙ subst (λ (byte : ℕ). smram_after (reset_byte setup smram) byte ≡ byte) (sym stands.smram) written.smram),
       );
       xbcs = (
         c.is_byte-3.ensures.byte,
