@@ -4,18 +4,15 @@ use Rattle.std.proofs.lemmas.List.{drop_more}
 use Rattle.board_prelude.proofs.Common.{Width}
 use Rattle.board_spec.specs.Setup.{FittedCard, Setup}
 use Rattle.board_chipset.specs.Common.{Running}
-use Rattle.uart_16550.specs.declared.com1.Happening.{Happening}
 use Rattle.uart_16550.specs.Common.{Serial}
-use Rattle.card_identity.specs.declared.identity.FittedIdentity.{FittedIdentity}
 use Rattle.card_identity.specs.Header.{is_blank}
 use Rattle.board_records.specs.declared.card.CardRecord.{CardRecord}
 use Rattle.board_records.specs.declared.event.EventRecord.{EventRecord}
 use Rattle.board_records.specs.declared.reply.ReplyRecord.{ReplyRecord}
 use Rattle.board_records.specs.Cards.{cards_said, identities_said, identity_said}
 use Rattle.board_records.specs.Events.{width_said}
-use Rattle.board_records.specs.Doors.{Behind, IsDoorStep, IsOpenedWith, disk_of, setup_said}
-use Rattle.board_records.specs.Identified.{IsIdentifiedStep, identified_by, identified_record, is_config_read}
-use Rattle.board_records.specs.Steps.{IsAskedStep}
+use Rattle.board_records.specs.Doors.{IsOpenedWith, disk_of, setup_said}
+use Rattle.board_records.specs.Identified.{identified_by, identified_record, is_config_read}
 use Rattle.board_records.proofs.Openings.{said_count}
 
 pub identities_next : (records : List CardRecord) (index : ℕ) (last : CardRecord) → index < length records →
@@ -48,29 +45,3 @@ none_by false width said = refl
 
 pub none_identified : (event : EventRecord) (said : ReplyRecord) → said ≡ identified_record [] event said
 none_identified event said = none_by (is_config_read said) (width_said event.bytes) said
-
--- ---- steps
-
-pub with_identities : (asked : Option Happening) (old new : Serial Running) (plain : ReplyRecord)
-    (identities : List FittedIdentity) (event : EventRecord) (said : ReplyRecord) →
-    said ≡ identified_record identities event plain → IsSomeAnd asked (IsAskedStep old new plain) →
-    IsSomeAnd asked (IsIdentifiedStep identities old new event said)
-with_identities None old new plain identities event said is done = done
-with_identities (Some it) old new plain identities event said is done =
-    record { plain = plain; step = done; told = is }
-
-abbrev behind : Serial Running → List FittedIdentity → Option Behind
-behind serial identities = Some (record { serial = serial; identities = identities })
-
-pub door_step : (asked : Option Happening) (old new : Serial Running) (identities : List FittedIdentity)
-    (event : EventRecord) (said : ReplyRecord) → IsSomeAnd asked (IsIdentifiedStep identities old new event said) →
-    IsSomeAnd asked (IsDoorStep (behind old identities) (behind new identities) event said)
-door_step None old new identities event said done = done
-door_step (Some it) old new identities event said done = record { same = refl; holds = done }
-
-pub plain_step : (asked : Option Happening) (old new : Serial Running) (identities : List FittedIdentity)
-    (event : EventRecord) (said : ReplyRecord) → identities ≡ [] → IsSomeAnd asked (IsAskedStep old new said) →
-    IsSomeAnd asked (IsDoorStep (behind old identities) (behind new identities) event said)
-plain_step asked old new identities event said none done =
-    door_step asked old new identities event said
-    (with_identities asked old new said identities event said (rw none (none_identified event said)) done)

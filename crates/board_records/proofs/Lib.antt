@@ -8,4 +8,5 @@ pub mod Lines
 pub mod Images
 pub mod Digits
 pub mod Identities
+pub mod RomParts
 pub mod Masters
