@@ -1,5 +1,5 @@
 -- The pieces of a transfer, and that they come to what the definition of a whole one says.
-use Rattle.std.specs.Prelude.{ℕ, ◌≡◌, ◌≢◌, ◌≤◌, ◌<◌, ◌+◌, ◌*◌, ◌⊎◌, true, false, Option, Some, None}
+use Rattle.std.specs.Prelude.{ℕ, ◌≡◌, ◌≢◌, ◌≤◌, ◌<◌, ◌+◌, ◌*◌, ◌%◌, ◌⊎◌, true, false, Option, Some, None}
 use Rattle.board_prelude.specs.Common.{Width, Kind, Read, Area, Setup, Bytes, is_smram_range}
 use Rattle.board_base.specs.declared.access.Width.TheVariants.{Four}
 use Rattle.addr_decode.specs.Master.{master_area, master_denial}
@@ -31,9 +31,15 @@ pub record LieOutside (addr words : ℕ) : Type 0 where
   pub one : is_smram_range addr ≡ true → words ≡ 1
   pub outside : is_smram_range addr ≡ false → (i : ℕ) → i < words → is_smram_range (address_after addr (2 * i)) ≡ false
 
-abbrev pub AreOutsideSmram : Piece → Type 0
-AreOutsideSmram (Words stretch) = LieOutside stretch.addr stretch.words
-AreOutsideSmram _ = Unit {0}
+-- words of one sector from an even address on
+pub record IsSafeStretch (stretch : Stretch) : Type 0 where
+  pub aligned : stretch.addr % 2 ≡ 0
+  pub fits : stretch.word + stretch.words ≤ 256
+  pub lie : LieOutside stretch.addr stretch.words
+
+abbrev pub IsSafe : Piece → Type 0
+IsSafe (Words stretch) = IsSafeStretch stretch
+IsSafe _ = Unit {0}
 
 -- the next words
 pub record AreTaken (setup : Setup) (bytes : Bytes) (old new : Transfer) (stretch : Stretch) : Type 0 where

@@ -6,7 +6,7 @@ ghost use Rattle.pci_bars.specs.Cards.{AreFitted};
 ghost use Rattle.addr_decode.specs.Common.{StandsFor, map_bytes, master_area, master_denial};
 ghost use Rattle.bus_master.specs.Transfer.{Moving, abort_in, next_word};
 ghost use Rattle.bus_master.specs.UnderWay.{end_in};
-ghost use Rattle.transfer_pieces.specs.Pieces.{AreOutsideSmram, AreTaken, IsPiece, IsRegionPiece, IsWordsPiece, LieInOneArea, LieOutside};
+ghost use Rattle.transfer_pieces.specs.Pieces.{AreTaken, IsPiece, IsRegionPiece, IsSafe, IsSafeStretch, IsWordsPiece, LieInOneArea, LieOutside};
 ghost use Rattle.transfer_pieces.specs.Transfers.{IsAt, IsTransfer, kind_in, misses, place_of, with_moved};
 
 use crate::stretch::{words_in_area, words_outside};
@@ -66,7 +66,7 @@ impl Transfer {
             → IsAt self.old moving → IsPiece setup bytes self.old self.new moving result }
         ensures sound { IsTransfer self.new }
         // Of any registers: words at A0000h to BFFFFh are told one by one, and others lie wholly outside.
-        ensures smram { AreOutsideSmram result }
+        ensures safe { IsSafe result }
     {
         if self.moved == self.bytes {
             return Piece::Ended(self.done(self.last_end()));
@@ -117,7 +117,7 @@ impl Transfer {
         ensures piece { (setup : Setup) (bytes : Bytes) → StandsFor setup bytes (map_bytes regs.now)
             → IsWordsPiece setup bytes self.old self.new result }
         ensures sound { IsTransfer self.new }
-        ensures smram { AreOutsideSmram result }
+        ensures safe { IsSafe result }
     {
         match answering(regs, self.addr, self.kind()) {
             Ok(area) => Piece::Words(self.take_words(regs, area)),
@@ -137,7 +137,7 @@ impl Transfer {
             → AreTaken setup bytes self.old self.new result }
         ensures area { result.area ≡ area }
         ensures sound { IsTransfer self.new }
-        ensures smram { LieOutside result.addr result.words }
+        ensures safe { IsSafeStretch result }
     {
         let words = self.stretch(regs);
         let stretch = Stretch {

@@ -4,6 +4,6 @@ use Rattle.expansion_roms.proofs.roms.Roms.read.Given as goal
 
 abbrev pub invariant-loop-k : goal.invariant-loop-k
 invariant-loop-k l = record {
-  size : length l.into ≡ length l.initial.into;
+  size : length l.into ≡ length l.fn.into;
   bytes : (at : ℕ) → at < l.k → slice_index l.into at ≡ rom_byte l.self l.dev (l.off + at);
 }
