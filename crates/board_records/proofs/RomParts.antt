@@ -1,5 +1,5 @@
 -- Which part moved a byte, and the cards one after another; and replies where no ROM was given bytes.
-use Rattle.std.proofs.Common.{◌≡◌, ℕ, ◌+◌, ◌-◌, ◌<◌, ◌&&◌, ◌||◌, ◌==◌, nat_lt, Bool, true, false, not, is_empty, if◌then◌else◌, List, [], length, drop, get_or, find, Option, Some, None, refl, ap, rw}
+use Rattle.std.proofs.Common.{◌≡◌, ℕ, ◌+◌, ◌-◌, ◌<◌, ◌&&◌, ◌||◌, ◌==◌, nat_lt, Bool, true, false, not, if◌then◌else◌, List, [], length, drop, get_or, find, Option, Some, None, refl, ap}
 use Rattle.std.proofs.lemmas.List.{drop_more}
 use Rattle.board_prelude.proofs.Common.{and_right, bytes_of, longest_at}
 use Rattle.board_spec.specs.Setup.{FittedCard}

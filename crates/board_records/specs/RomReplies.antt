@@ -1,6 +1,6 @@
 -- The record of a reply where expansion ROMs were given bytes: that of the chipset's reply, with these in the place of
 -- those that it gives them.
-use Rattle.std.specs.Prelude.{ℕ, ◌+◌, ◌-◌, ◌==◌, ◌&&◌, ◌||◌, not, nat_lt, Bool, if◌then◌else◌, is_empty, List, [], ◌∷◌, Option, Some, None, unwrap_or}
+use Rattle.std.specs.Prelude.{ℕ, ◌+◌, ◌-◌, ◌==◌, ◌&&◌, ◌||◌, not, nat_lt, Bool, if◌then◌else◌, length, List, [], ◌∷◌, Option, Some, None, unwrap_or}
 use Rattle.board_prelude.specs.Common.{w64, from_le_bytes, byte, bytes_of, longest_at, rom_base}
 use Rattle.expansion_roms.specs.Roms.{byte_over, given}
 use Rattle.board_records.specs.declared.event.EventRecord.{EventRecord}
@@ -15,7 +15,7 @@ roms_in roms = unwrap_or roms []
 -- an expansion ROM answered that was given bytes
 abbrev pub is_given : List (List ℕ) → PartRecord → Bool
 is_given roms part =
-    (part.target == card_target) && (part.base == rom_base) && not (is_empty (given roms part.unit))
+    (part.target == card_target) && (part.base == rom_base) && not (length (given roms part.unit) == 0)
 
 abbrev pub reads_given : List (List ℕ) → ReplyRecord → Bool
 reads_given roms said =

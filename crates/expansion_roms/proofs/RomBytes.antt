@@ -1,6 +1,6 @@
 -- The bytes of a ROM after some were written, and those of the others beside it.
 use Rattle.std.proofs.Common.{◌≡◌, ◌≢◌, ℕ, ◌+◌, ◌-◌, ◌<◌, ◌≤◌, true, false, ◌&&◌, List, [], ◌∷◌, ◌++◌, replicate, length, get_or, set, inl, inr, refl, sym, ap, ◌∙◌, arith, ◌==◌, nat_le, nat_lt, if◌then◌else◌, slice_index}
-use Rattle.std.proofs.lemmas.List.{get_or-set_same, get_or-set_other}
+use Rattle.std.proofs.lemmas.List.{get_or-set_same, get_or-set_other, get_or_read}
 use Rattle.board_prelude.proofs.Common.{and_right, cases_eq, cases_lt, eq-eqb, ne_eqb, lt-ltb, le-ltb, get_or-replicate, get_or_past, length-replicate}
 use Rattle.board_prelude.specs.Common.{expansion_byte}
 use Rattle.expansion_roms.specs.Roms.{byte_after, byte_in, given, put_byte, rom_byte}
@@ -65,3 +65,12 @@ module _ (roms : List (List ℕ)) (dev : ℕ) (new : List ℕ) (there : dev < le
         rw (is, given_here) (grown_in (given roms dev) new at (expansion_byte dev at) size longer long (same at))
     | inr apart ↦ rw (given_beside d apart) refl
   ]
+
+-- ---- a place in the list
+
+pub rom_at : (roms : List (List ℕ)) (dev : ℕ) (rom : List ℕ) → dev < length roms → rom ≡ get_or roms dev rom →
+    given roms dev ≡ rom
+rom_at roms dev rom within is = sym (get_or_read roms dev rom within is [])
+
+pub none_past : (roms : List (List ℕ)) (dev : ℕ) → length roms ≤ dev → given roms dev ≡ []
+none_past roms dev past = get_or_past roms dev [] past

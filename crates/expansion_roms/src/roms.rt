@@ -1,6 +1,6 @@
 //! The bytes of expansion ROMs, by the device numbers of their cards.
 
-ghost use Rattle.std.specs.Prelude.{◌≡◌, ◌<◌, ◌≤◌, ◌+◌, ℕ, [], length, slice_index, is_empty, not, IfOk, OnOk, OnErr};
+ghost use Rattle.std.specs.Prelude.{◌≡◌, ◌<◌, ◌≤◌, ◌+◌, ◌==◌, ℕ, [], length, slice_index, not, IfOk, OnOk, OnErr};
 ghost use Rattle.expansion_roms.specs.Roms.{byte_over, given, put_byte, rom_byte};
 
 use crate::rom::{Rom, fixed_byte};
@@ -41,7 +41,7 @@ impl Roms {
 
     /// Whether the ROM of the card at a device was given bytes.
     pub fn is_given(&self, dev: u8) -> bool
-        ensures given { result ≡ not (is_empty (given self.now dev)) }
+        ensures given { result ≡ not (length (given self.now dev) == 0) }
     {
         let at = usize::from(dev);
         if at >= DEVICES {
