@@ -36,6 +36,21 @@ pub fn part<W: Write>(out: &mut W, of: &str, part: &PartRecord) {
     fields(out, of, &all);
 }
 
+/// Writes a piece of a transfer.
+pub fn piece<W: Write>(out: &mut W, piece: &PieceRecord) {
+    let all = [
+        ("what", u64::from(piece.what)),
+        ("addr", u64::from(piece.addr)),
+        ("bytes", u64::from(piece.bytes)),
+        ("sector", u64::from(piece.sector)),
+        ("offset", u64::from(piece.offset)),
+        ("end", u64::from(piece.end)),
+        ("status", u64::from(piece.status)),
+        ("reserved", u64::from(piece.reserved)),
+    ];
+    fields(out, "", &all);
+}
+
 /// Writes a reply.
 pub fn reply<W: Write>(out: &mut W, reply: &ReplyRecord) {
     let front = [
