@@ -3,6 +3,7 @@
 use board_records::{
     AreaRecord, MapRecord, PartRecord, RangeRecord, ReplyRecord, SerialRecord, WindowRecord,
 };
+use piece_records::PieceRecord;
 use std::io::Write;
 
 /// Writes how a call ended.

@@ -22,14 +22,20 @@ const ROM_BASE: u8 = 6;
 
 // ---- the reply
 
-/// Puts the bytes that expansion ROMs were given into the record of a reply that was told. It is not inlined: few boards
-/// have such ROMs.
-#[inline(never)]
-pub(crate) fn roms_told(roms: &Roms, event: &EventRecord, status: u32, reply: &mut ReplyRecord)
-    ensures told { status ≡ ok → reply.new ≡ with_roms roms.now event.now reply.old }
+/// Puts the bytes that expansion ROMs were given into the record of a reply that was told.
+pub(crate) fn roms_told(
+    roms: &Option<Roms>,
+    event: &EventRecord,
+    status: u32,
+    reply: &mut ReplyRecord,
+)
+    ensures told { status ≡ ok → reply.new ≡ with_roms (roms_in roms.now) event.now reply.old }
     ensures untold { status ≢ ok → reply.new ≡ reply.old }
 {
-    if status == OK {
+    if status != OK {
+        return;
+    }
+    if let Some(roms) = roms {
         tell_roms(roms, event, reply);
     }
 }

@@ -145,13 +145,27 @@ impl Door {
         ensures untold { result ≢ ok → reply.new ≡ reply.old }
         ensures open { result ≢ closed }
     {
+        if self.identities.is_empty() && self.roms.is_none() {
+            return step(&mut self.serial, event, reply);
+        }
+        self.fitted_step(event, reply)
+    }
+
+    /// The same with the cards' identities and the bytes of their ROMs. It is not inlined: few boards have a card with
+    /// either.
+    #[inline(never)]
+    fn fitted_step(&mut self, event: &EventRecord, reply: &mut ReplyRecord) -> u32
+        ensures done { result ≡ ok → IsSomeAnd (asked_said event.now)
+            (IsDoorStep self.old self.new event.now reply.new) }
+        ensures refused { result ≢ ok
+            → OnBoard self.old (λ serial. IsEventRefusal serial (asked_said event.now) result) }
+        ensures unchanged { result ≢ ok → self.new ≡ self.old }
+        ensures untold { result ≢ ok → reply.new ≡ reply.old }
+        ensures open { result ≢ closed }
+    {
         let status = step(&mut self.serial, event, reply);
-        if !self.identities.is_empty() {
-            identify_told(&self.identities, event, status, reply);
-        }
-        if let Some(roms) = &self.roms {
-            roms_told(roms, event, status, reply);
-        }
+        identify_told(&self.identities, event, status, reply);
+        roms_told(&self.roms, event, status, reply);
         status
     }
 

@@ -6,13 +6,13 @@ use Rattle.addr_decode.specs.Master.{master_area, master_denial}
 use Rattle.bus_master.specs.declared.done.Done.{Done}
 use Rattle.bus_master.specs.declared.done.End.{End}
 use Rattle.bus_master.specs.Transfer.{Moving, abort_in, address_after, done_of, master_value, next_sector, next_word}
-unfoldable use Rattle.bus_master.specs.Transfer.{region_taken}
+use Rattle.bus_master.specs.Transfer.{region_taken}
 use Rattle.transfer_pieces.specs.declared.transfer.Transfer.{Transfer}
 use Rattle.transfer_pieces.specs.declared.piece.Piece.{Piece}
 use Rattle.transfer_pieces.specs.declared.piece.Piece.TheVariants.{Region, Words, Ended}
 use Rattle.transfer_pieces.specs.declared.piece.Stretch.{Stretch}
 use Rattle.transfer_pieces.specs.Transfers.{IsAt, direction_in, kind_in, place_of, rest_of, with_moved, with_taken}
-unfoldable use Rattle.transfer_pieces.specs.Transfers.{copied}
+use Rattle.transfer_pieces.specs.Transfers.{copied}
 
 -- how an access ends a transfer, where nobody answers it
 abbrev pub abort_at : Setup → Bytes → (addr : ℕ) → Kind → Option End

@@ -5,7 +5,7 @@ use Rattle.ata_pio.specs.Words.{is_readable}
 use Rattle.bus_master.specs.declared.direction.Direction.{Direction}
 use Rattle.bus_master.specs.declared.direction.Direction.TheVariants.{ToMemory, ToDisk}
 use Rattle.bus_master.specs.Transfer.{Moving, TransferPlace, address_after, even, kind_of, size_of}
-unfoldable use Rattle.bus_master.specs.Transfer.{word_moved, words_moved}
+use Rattle.bus_master.specs.Transfer.{word_moved, words_moved}
 use Rattle.transfer_pieces.specs.declared.transfer.Transfer.{Transfer}
 
 abbrev pub flag : Bool → ℕ
