@@ -28,7 +28,7 @@ not_less k most = elim (cases_lt k most) [
 ]
 
 missing_at : (at : ℕ) (readable other : Bool) → at % 2 ≡ 0 → not readable ≡ other →
-    (at / 2 == 0) && not readable ≡ (at == 0) && other
+    ((at / 2 == 0) && not readable) ≡ ((at == 0) && other)
 missing_at at readable other whole is = elim (cases_eq at 0) [
   | inl first ↦ rw (first, is) refl
   | inr later ↦ rw (ne_eqb (at / 2) 0 (λ e. later (omega (arith, e, whole))), ne_eqb at 0 later) refl
@@ -221,7 +221,7 @@ module _ (setup : Setup) (bytes : Bytes) (t : Transfer) (is : IsTransfer t) (cel
             first_there moved same = rw same there_is
 
             none_missing : (i : ℕ) → i < s.words →
-                ((t.moved + 2 * i) % 512 / 2 == 0) && not (is_readable medium (t.lba + (t.moved + 2 * i) / 512)) ≡ false
+                (((t.moved + 2 * i) % 512 / 2 == 0) && not (is_readable medium (t.lba + (t.moved + 2 * i) / 512))) ≡ false
             none_missing zero below = first_there (t.moved + 2 * 0) (omega arith)
             none_missing (suc i) below =
                 and_left _ _
