@@ -1,8 +1,9 @@
 -- Which part moved a byte, and the cards one after another; and replies where no ROM was given bytes.
-use Rattle.std.proofs.Common.{◌≡◌, ℕ, ◌+◌, ◌-◌, ◌<◌, ◌&&◌, ◌||◌, ◌==◌, nat_lt, Bool, true, false, not, if◌then◌else◌, List, [], length, drop, get_or, find, Option, Some, None, refl, ap}
+use Rattle.std.proofs.Common.{◌≡◌, ℕ, ◌+◌, ◌-◌, ◌<◌, ◌&&◌, ◌||◌, ◌==◌, nat_lt, Bool, true, false, not, if◌then◌else◌, List, [], length, drop, get_or, find, Option, Some, None, refl, ap, ◌∙◌}
 use Rattle.std.proofs.lemmas.List.{drop_more}
 use Rattle.board_prelude.proofs.Common.{and_right, bytes_of, longest_at}
 use Rattle.board_spec.specs.Setup.{FittedCard}
+use Rattle.expansion_roms.specs.Roms.{given, put_byte, rom_byte}
 use Rattle.board_records.specs.declared.event.EventRecord.{EventRecord}
 use Rattle.board_records.specs.declared.reply.PartRecord.{PartRecord}
 use Rattle.board_records.specs.declared.reply.ReplyRecord.{ReplyRecord}
@@ -24,6 +25,11 @@ pub card_next : (cards : List FittedCard) (index dev : ℕ) (last : FittedCard) 
 card_next cards index dev last within = ap (λ rest. find (λ card. card.dev == dev) rest) (drop_more cards index last within)
 
 -- ---- no ROM was given any
+
+pub first_put : (first new : List (List ℕ)) (dev off : ℕ) (bytes : List ℕ) → ((d : ℕ) → given first d ≡ []) →
+    ((d at : ℕ) → rom_byte new d at ≡ put_byte dev off bytes d at (rom_byte first d at)) →
+    (d at : ℕ) → rom_byte new d at ≡ put_byte dev off bytes d at (rom_byte [] d at)
+first_put first new dev off bytes none put d at = put d at ∙ rw (none d) refl
 
 pub none_is_given : (part : PartRecord) → is_given [] part ≡ false
 none_is_given part = and_right _ false refl

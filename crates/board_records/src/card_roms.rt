@@ -1,6 +1,6 @@
 //! The bytes that expansion ROMs of cards were given: over the record of a reply, out and in.
 
-ghost use Rattle.std.specs.Prelude.{◌≡◌, ◌≢◌, ◌==◌, ◌+◌, ◌<◌, ◌≤◌, ◌^◌, ℕ, All, find, option_and_then, Some, IfSome, length, slice_index, OnOk, OnErr};
+ghost use Rattle.std.specs.Prelude.{◌≡◌, ◌≢◌, ◌==◌, ◌+◌, ◌<◌, ◌≤◌, ◌^◌, ℕ, All, find, option_and_then, [], None, Some, IfOk, IfSome, length, slice_index, OnOk, OnErr};
 ghost use Rattle.board_prelude.specs.Common.{IsCard, IsExpansionRom, bytes_of, expansion_byte, from_le_bytes, longest_at, w64};
 ghost use Rattle.expansion_roms.specs.Roms.{put_byte, rom_byte};
 ghost use Rattle.board_records.specs.CardRoms.{rom_size, size_of_rom};
@@ -23,6 +23,7 @@ const ROM_BASE: u8 = 6;
 // ---- the reply
 
 /// Puts the bytes that expansion ROMs were given into the record of a reply that was told.
+#[tactic(auto, using(crate::proofs::RomParts::none_with))]
 pub(crate) fn roms_told(
     roms: &Option<Roms>,
     event: &EventRecord,
@@ -228,11 +229,51 @@ pub(crate) fn put_rom(
         ≡ put_byte dev off bytes.now d at (rom_byte (roms_in roms.old) d at)) }
     ensures unchanged { OnErr result (roms.new ≡ roms.old) }
 {
-    if let Some(roms) = roms {
-        return roms.put(alloc, dev, size, off, bytes);
+    match roms {
+        Some(roms) => roms.put(alloc, dev, size, off, bytes),
+        None => put_first(alloc, roms, dev, size, off, bytes),
     }
-    let mut first = Roms::open(alloc)?;
-    first.put(alloc, dev, size, off, bytes)?;
-    *roms = Some(first);
-    Ok(())
+}
+
+/// The same where no ROM was given any.
+fn put_first(
+    alloc: Global,
+    roms: &mut Option<Roms>,
+    dev: u8,
+    size: usize,
+    off: u32,
+    bytes: &[u8],
+) -> Result<(), NoMemory>
+    requires none { roms.old ≡ None }
+    requires device { dev < 10 }
+    requires within { off + length bytes.now ≤ size }
+    ensures put { OnOk result ((d at : ℕ) → rom_byte (roms_in roms.new) d at
+        ≡ put_byte dev off bytes.now d at (rom_byte (roms_in roms.old) d at)) }
+    ensures unchanged { OnErr result (roms.new ≡ roms.old) }
+{
+    match first_roms(alloc, dev, size, off, bytes) {
+        Ok(first) => {
+            *roms = Some(first);
+            Ok(())
+        }
+        Err(refused) => Err(refused),
+    }
+}
+
+/// The ROMs of which one was given bytes.
+fn first_roms(
+    alloc: Global,
+    dev: u8,
+    size: usize,
+    off: u32,
+    bytes: &[u8],
+) -> Result<Roms, NoMemory>
+    requires device { dev < 10 }
+    requires within { off + length bytes.now ≤ size }
+    ensures put { IfOk result (λ roms. (d at : ℕ)
+        → rom_byte roms d at ≡ put_byte dev off bytes.now d at (rom_byte [] d at)) }
+{
+    let mut roms = Roms::open(alloc)?;
+    roms.put(alloc, dev, size, off, bytes)?;
+    Ok(roms)
 }
