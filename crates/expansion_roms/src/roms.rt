@@ -44,7 +44,8 @@ impl Roms {
         ensures given { result ≡ not (length (given self.now dev) == 0) }
     {
         let at = usize::from(dev);
-        if at >= DEVICES {
+        let count = self.all.len();
+        if at >= count {
             return false;
         }
         self.all[at].len() != 0
@@ -55,7 +56,8 @@ impl Roms {
         ensures byte { result ≡ byte_over self.now dev off old }
     {
         let at = usize::from(dev);
-        if at >= DEVICES {
+        let count = self.all.len();
+        if at >= count {
             return old;
         }
         self.all[at].byte(off, old)
