@@ -190,6 +190,7 @@ fn size_of_rom(bits: Option<u8>) -> usize
 }
 
 /// Fills `into` with the bytes of the expansion ROM of the card at a device from an offset on, as reads give them.
+#[tactic(auto, using(expansion_roms::proofs::RomBytes::none_in))]
 pub(crate) fn read_rom(roms: &Option<Roms>, dev: u8, off: u32, into: &mut [u8])
     requires within { off + length into.old ≤ 2 ^ 24 }
     ensures size { length into.new ≡ length into.old }

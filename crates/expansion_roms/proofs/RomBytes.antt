@@ -74,3 +74,8 @@ rom_at roms dev rom within is = sym (get_or_read roms dev rom within is [])
 
 pub none_past : (roms : List (List ℕ)) (dev : ℕ) → length roms ≤ dev → given roms dev ≡ []
 none_past roms dev past = get_or_past roms dev [] past
+
+-- ---- of none
+
+pub none_in : (off old : ℕ) → byte_in [] off old ≡ old
+none_in off old = rw (le-ltb off 0 (omega arith)) refl
