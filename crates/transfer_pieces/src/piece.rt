@@ -68,7 +68,7 @@ impl Transfer {
         // Of any registers: words at A0000h to BFFFFh are told one by one, and others lie wholly outside.
         ensures safe { IsSafe result }
     {
-        if self.moved == self.bytes {
+        if self.is_moved() {
             return Piece::Ended(self.done(self.last_end()));
         }
         if self.is_over() {

@@ -1,6 +1,6 @@
 //! A transfer whose pieces its caller moves.
 
-ghost use Rattle.std.specs.Prelude.{◌≡◌, ◌&&◌, true, false, None, IfSome, if◌then◌else◌};
+ghost use Rattle.std.specs.Prelude.{◌≡◌, ◌≢◌, ◌&&◌, true, false, None, IfSome, if◌then◌else◌};
 ghost use Rattle.bus_master.specs.declared.done.End.{End};
 ghost use Rattle.bus_master.specs.Transfer.{is_used_up, next_sector, size_of};
 ghost use Rattle.transfer_pieces.specs.Transfers.{IsBeginning, IsTransfer, begun_at, is_whole, is_within, kind_in, place_of, with_taken};
@@ -132,6 +132,14 @@ impl Transfer {
         ensures sector { result ≡ next_sector self.now.lba (place_of self.now) }
     {
         self.lba + self.moved / SECTOR_BYTES
+    }
+
+    /// Whether all its words are moved.
+    pub(crate) fn is_moved(&self) -> bool
+        ensures all { result ≡ true → self.now.moved ≡ self.now.bytes }
+        ensures more { result ≡ false → self.now.moved ≢ self.now.bytes }
+    {
+        self.moved == self.bytes
     }
 
     /// Whether the last region is used up.
