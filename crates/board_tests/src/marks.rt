@@ -1,7 +1,7 @@
 //! What callers did at one sheet is there, whatever the schedule.
 
-use crate::Turn;
-use crate::example::{Sheet, mark_by_two, mark_once};
+use bus_turn::Turn;
+use bus_turn::example::{Sheet, mark_by_two, mark_once};
 use std::test::Fail;
 
 #[test]
