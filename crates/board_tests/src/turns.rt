@@ -83,6 +83,6 @@ fn entries_of_two_threads_stand_in_their_order(rt: HostRuntime) -> Result<(), Fa
     for actor in 0..2u8 {
         assert!(rt; are_numbered(&history.entries(), actor, 100));
     }
-    assert_eq!(rt; history.len(), 200);
+    assert!(rt; history.len() == 200);
     Ok(())
 }
