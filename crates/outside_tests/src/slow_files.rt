@@ -130,17 +130,9 @@ fn a_file_comes_byte_by_byte(rt: HostRuntime) {
             1,
         );
         for at in 0..=BYTES.len() {
-            assert_eq!(rt;
-                fetched(&mut shelf, "f", at),
-                Ok(BYTES.get(at).copied()),
-                "byte {at}"
-            );
+            assert!(rt; fetched(&mut shelf, "f", at) == Ok(BYTES.get(at).copied()));
         }
-        assert_eq!(rt;
-            fetched(&mut shelf, "g", 0),
-            Err(Failed),
-            "a file that is not there"
-        );
+        assert!(rt; fetched(&mut shelf, "g", 0) == Err(Failed));
     }
 }
 
@@ -150,23 +142,15 @@ fn a_read_that_fails_is_no_end(rt: HostRuntime) {
     for lasts in 0..=BYTES.len() {
         let mut shelf = shelf_of(Habit { lasts, ..QUIET }, 2);
         for at in 0..lasts {
-            assert_eq!(rt;
-                fetched(&mut shelf, "f", at),
-                Ok(BYTES.get(at).copied()),
-                "byte {at}"
-            );
+            assert!(rt; fetched(&mut shelf, "f", at) == Ok(BYTES.get(at).copied()));
         }
-        assert_eq!(rt;
-            fetched(&mut shelf, "f", lasts),
-            Err(Failed),
-            "after {lasts}"
-        );
+        assert!(rt; fetched(&mut shelf, "f", lasts) == Err(Failed));
         let again = if lasts == 0 {
             Err(Failed)
         } else {
             Ok(Some(b'b'))
         };
-        assert_eq!(rt; fetched(&mut shelf, "f", 0), again, "again after {lasts}");
+        assert!(rt; fetched(&mut shelf, "f", 0) == again);
     }
     let mut shelf = shelf_of(
         Habit {
@@ -175,20 +159,17 @@ fn a_read_that_fails_is_no_end(rt: HostRuntime) {
         },
         1,
     );
-    assert_eq!(rt; fetched(&mut shelf, "f", 0), Err(Failed));
+    assert!(rt; fetched(&mut shelf, "f", 0) == Err(Failed));
 }
 
 /// A file is read from a place at which no handle stands, and not past an error on the way.
 #[test]
 fn a_file_is_read_from_a_place_within(rt: HostRuntime) {
     for at in 0..=BYTES.len() {
-        assert_eq!(rt;
-            fetched(&mut shelf_of(QUIET, 1), "f", at),
-            Ok(BYTES.get(at).copied())
-        );
+        assert!(rt; fetched(&mut shelf_of(QUIET, 1), "f", at) == Ok(BYTES.get(at).copied()));
         for lasts in 0..=at {
             let mut shelf = shelf_of(Habit { lasts, ..QUIET }, 1);
-            assert_eq!(rt; fetched(&mut shelf, "f", at), Err(Failed), "{at}, {lasts}");
+            assert!(rt; fetched(&mut shelf, "f", at) == Err(Failed));
         }
     }
 }
@@ -233,11 +214,11 @@ fn a_writer_takes_little_and_fails_late(rt: HostRuntime) {
             });
             let count = lasts.min(BYTES.len());
             for at in 0..count {
-                assert!(rt; sink.put(&BYTES[at..]) == Ok(1), "byte {at} of {lasts}");
+                assert!(rt; sink.put(&BYTES[at..]) == Ok(1));
             }
-            assert!(rt; sink.put(b"more") == Err(PutFault::Failed), "after {lasts}");
+            assert!(rt; sink.put(b"more") == Err(PutFault::Failed));
             let Miser { taken, .. } = sink.into_inner();
-            assert!(rt; taken[..count] == BYTES[..count], "{count} bytes");
+            assert!(rt; taken[..count] == BYTES[..count]);
         }
     }
     let course = Course::new(Habit {
@@ -325,10 +306,10 @@ fn an_error_is_not_tried_again(rt: HostRuntime) {
     for (kind, again, patient) in STUMBLES {
         let mut into = [0; 8];
         let mut shelf = FileShelf::new(Stumblers { kind });
-        assert_eq!(rt; shelf.fetch("f", 0, &mut into).is_ok(), again);
+        assert!(rt; shelf.fetch("f", 0, &mut into).is_ok() == again);
         let mut sink = OutSink::new(Stumbler::new(kind));
-        assert_eq!(rt; sink.put(b"bytes").is_ok(), again);
+        assert!(rt; sink.put(b"bytes").is_ok() == again);
         let mut waits = Patient::new(&rt, Stumbler::new(kind));
-        assert_eq!(rt; waits.write(b"bytes").is_ok(), patient);
+        assert!(rt; waits.write(b"bytes").is_ok() == patient);
     }
 }

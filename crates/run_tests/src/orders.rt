@@ -76,8 +76,15 @@ fn is_forced<R: Threads + Wait + Sync>(
     };
     let mut out = SafeSink::new(alloc);
     let status = status_of(rt, alloc, &["run", "s"], &mut shelf, &mut out, &gate)?;
-    let is_due = log.is_none_or(|log| out.bytes.as_slice() == log.as_bytes());
-    Ok(status == Status::Done && gate.is_passed() && is_due)
+    Ok(status == Status::Done && gate.is_passed() && is_log(&out.bytes, log))
+}
+
+/// Whether a text is this log, where one is due.
+fn is_log(text: &[u8], log: Option<&str>) -> bool {
+    match log {
+        Some(log) => text == log.as_bytes(),
+        None => true,
+    }
 }
 
 /// The statement of one processor ends before that of the other begins.
