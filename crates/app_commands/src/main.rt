@@ -72,7 +72,8 @@ fn run<R, T: Write, L: CommandLine, F: Folder + Drop, W: Write>(
     line: &L,
     folder: F,
     output: &mut OutSink<W>,
-) where
+)
+where
     R: AllocGlobal + Threads + Wait + Sync,
 {
     let mut errors = OutSink::new(Vec::new(rt.alloc()));

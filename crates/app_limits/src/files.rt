@@ -90,12 +90,7 @@ pub fn join(
 }
 
 /// Makes the log of the longest script.
-pub fn log(
-    alloc: Global,
-    shelf: &mut SafeShelf,
-    name: &str,
-    rounds: &str,
-) -> Result<(), NoMemory> {
+pub fn log(alloc: Global, shelf: &mut SafeShelf, name: &str, rounds: &str) -> Result<(), NoMemory> {
     let log = log_of_rounds(alloc, decimal(rounds))?;
     append(alloc, &mut shelf.files, name, "1", &log)
 }

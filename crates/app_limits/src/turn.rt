@@ -64,6 +64,10 @@ pub fn tell<R: AllocGlobal + Threads + Wait + Sync, W: Write>(
             line = line.wrapping_add(1);
         }
     }
-    let _ = writeln!(told, "{name} of {} bytes in each way: {wrong} wrong", log.len());
+    let _ = writeln!(
+        told,
+        "{name} of {} bytes in each way: {wrong} wrong",
+        log.len()
+    );
     Ok(())
 }

@@ -203,7 +203,11 @@ fn tell_change(map: &mut FlatMap, change: &MapChange, text: &mut String) -> Resu
     if is_other(map, &mut copy, change, changed) {
         return text.push_str(" counted as another change");
     }
-    text.push_str(if is_anew(map) { "" } else { " built as another map" })
+    text.push_str(if is_anew(map) {
+        ""
+    } else {
+        " built as another map"
+    })
 }
 
 /// A change of a map, on a line of its own.

@@ -31,11 +31,7 @@ pub fn tell_again(alloc: Global, log: &str, text: &mut String) -> Result<(), NoM
     push_log(&mut again, read.version, &read.entries)?;
     let is_same = again.as_str() == log;
     let count = read.entries.len();
-    Ok(write!(
-        text,
-        "version {}, {count} entries, {is_same}",
-        read.version
-    )?)
+    Ok(write!(text, "version {}, {count} entries, {is_same}", read.version)?)
 }
 
 /// Tells the lines of a log, numbered from a number on.

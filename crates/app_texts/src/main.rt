@@ -104,12 +104,7 @@ fn answer_of_line(call: &str, line: &[u8], text: &mut String) -> Result<(), NoMe
 }
 
 /// Appends what a log answers, or what is made.
-fn answer_of_made(
-    alloc: Global,
-    call: &str,
-    row: &str,
-    text: &mut String,
-) -> Result<(), NoMemory> {
+fn answer_of_made(alloc: Global, call: &str, row: &str, text: &mut String) -> Result<(), NoMemory> {
     match call {
         "again" => logs::tell_again(alloc, row, text),
         "numbered" => logs::tell_numbered(alloc, row, text),

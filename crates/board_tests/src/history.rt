@@ -1,7 +1,7 @@
 //! Entries go into a history at one end, and come out whole.
 
-use Step::{Push, Reserve};
 use crate::plain::acknowledged;
+use Step::{Push, Reserve};
 use access_history::{Entries, Entry, Event, History, Reply};
 use board_base::{Denial, Kind, NoMemory, Reg, Target, WideAccess};
 use board_spec::{Part, Parts};

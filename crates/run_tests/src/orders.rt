@@ -95,13 +95,23 @@ const LOOK_FIRST: [(Moment, Moment); 1] = [(After(1, 1), Before(0, 2))];
 const OTHER_FIRST: [(Moment, Moment); 1] = [(After(1, 1), Before(0, 1))];
 
 /// Both begin before either goes on.
-const TOGETHER: [(Moment, Moment); 2] =
-    [(Before(0, 1), Before(1, 1)), (Before(1, 1), Before(0, 1))];
+const TOGETHER: [(Moment, Moment); 2] = [
+    (Before(0, 1), Before(1, 1)),
+    (Before(1, 1), Before(0, 1)),
+];
 
 #[test]
 fn a_gate_forces_each_order(rt: HostRuntime) -> Result<(), Fail> {
     let alloc = rt.alloc();
-    assert!(rt; is_forced(&rt, alloc, TWO_PROCESSORS, &WRITE_FIRST, Some(IN_FILE_ORDER))?);
+    assert!(rt;
+        is_forced(
+            &rt,
+            alloc,
+            TWO_PROCESSORS,
+            &WRITE_FIRST,
+            Some(IN_FILE_ORDER)
+        )?
+    );
     assert!(rt; is_forced(&rt, alloc, TWO_PROCESSORS, &LOOK_FIRST, Some(LOOKED_FIRST))?);
     assert!(rt; is_forced(&rt, alloc, SIDE_BY_SIDE, &TOGETHER, None)?);
     assert!(rt; is_forced(&rt, alloc, SIDE_BY_SIDE, &OTHER_FIRST, None)?);

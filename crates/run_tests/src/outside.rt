@@ -38,10 +38,7 @@ fn shelf_of(alloc: Global, case: &FaultCase<'_>) -> Result<SlowShelf, Fail> {
 
 /// The sink of a case, which takes a byte a call.
 fn sink_of(alloc: Global, case: &FaultCase<'_>) -> Result<SlowSink, Fail> {
-    Ok(SlowSink::new(
-        MemSink::new(alloc, [case.put].to_vec(alloc)?),
-        1,
-    ))
+    Ok(SlowSink::new(MemSink::new(alloc, [case.put].to_vec(alloc)?), 1))
 }
 
 /// Whether the shelf kept the name of a case, and the sink took so many bytes of the log.
@@ -153,7 +150,13 @@ fn is_bad<R: Threads + Wait + Sync>(
 fn scripts_of_other_lengths(rt: HostRuntime) -> Result<(), Fail> {
     let alloc = rt.alloc();
     let too_long = vec![in alloc; 0; 0x100_0001]?;
-    assert!(rt; ends_so(&rt, alloc, &cut_case(&too_long, Status::TooLong(Which::Script)))?);
+    assert!(rt;
+        ends_so(
+            &rt,
+            alloc,
+            &cut_case(&too_long, Status::TooLong(Which::Script))
+        )?
+    );
     let without_line_feed = FaultCase {
         script: "board 1\ncpus 1\nmemory 8\nrom r64".as_bytes(),
         ..done()
