@@ -12,7 +12,7 @@ ghost use Rattle.map_builder.specs.Map.{next_version};
 use crate::told::{push_some, space};
 use addr_decode::{MapChange, MapRegs, next_edge, touches};
 use arrayvec::ArrayVec;
-use board_base::{NoMemory, Reg, Steps, Width};
+use board_base::{Reg, Steps, Width};
 use call_words::{byte, number, width};
 use map_builder::{Changed, FlatMap};
 use pci_bars::{BaseSpec, CardSpec};
@@ -130,9 +130,9 @@ fn act(regs: &mut MapRegs, step: &str, text: &mut String) -> Result<(), AllocErr
 }
 
 /// Stores, and the next edges above addresses.
-pub fn tell_edges(words: &[&str], text: &mut String) -> Result<(), NoMemory> {
+pub fn tell_edges(words: &[&str], text: &mut String) -> Result<(), AllocError> {
     let Some((cards, steps)) = words.split_first() else {
-        return Ok(text.push_str("no cards")?);
+        return text.push_str("no cards");
     };
     let mut regs = registers(cards);
     for step in steps {
@@ -157,9 +157,9 @@ fn push_touches(text: &mut String, regs: &MapRegs, word: &str) -> Result<(), All
 }
 
 /// Whether the map depends on a byte of each place.
-pub fn tell_touches(words: &[&str], text: &mut String) -> Result<(), NoMemory> {
+pub fn tell_touches(words: &[&str], text: &mut String) -> Result<(), AllocError> {
     let Some((cards, places)) = words.split_first() else {
-        return Ok(text.push_str("no cards")?);
+        return text.push_str("no cards");
     };
     let regs = registers(cards);
     for word in places {
@@ -222,16 +222,16 @@ fn push_change(map: &mut FlatMap, step: &str, text: &mut String) -> Result<(), A
 }
 
 /// Changes of a map, one after another.
-pub fn tell_changes(words: &[&str], text: &mut String) -> Result<(), NoMemory> {
+pub fn tell_changes(words: &[&str], text: &mut String) -> Result<(), AllocError> {
     let Some((cards, steps)) = words.split_first() else {
-        return Ok(text.push_str("no cards")?);
+        return text.push_str("no cards");
     };
     let mut map = FlatMap::from_scratch(registers(cards));
     for step in steps {
         push_change(&mut map, step, text)?;
     }
     let (changes, ranges) = (map.version(), map.ranges().len());
-    Ok(write!(text, "\n  {changes} changes, {ranges} ranges")?)
+    write!(text, "\n  {changes} changes, {ranges} ranges")
 }
 
 /// Makes a change, a store by the call that tells nothing.
@@ -285,9 +285,9 @@ fn push_step(map: &mut FlatMap, step: &str, text: &mut String) -> Result<(), All
 }
 
 /// Changes of a map, one after another, with the windows that stand after each.
-pub fn tell_windows(words: &[&str], text: &mut String) -> Result<(), NoMemory> {
+pub fn tell_windows(words: &[&str], text: &mut String) -> Result<(), AllocError> {
     let Some((cards, steps)) = words.split_first() else {
-        return Ok(text.push_str("no cards")?);
+        return text.push_str("no cards");
     };
     let mut map = FlatMap::from_scratch(registers(cards));
     write!(text, "{} windows", map.changed().len())?;
