@@ -15,3 +15,6 @@ mod view;
 pub use kept::Kept;
 pub use turn::{Held, Turn, TurnOpen};
 pub use view::{Order, Pass, Stage, View};
+
+#[cfg(test)]
+mod tests;
