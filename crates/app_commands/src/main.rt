@@ -7,19 +7,24 @@
 //!     given WORDS            a command line with the program's name, of which the other words are told
 //!     unread WORDS           what becomes of such a command line
 //!     no-room                a command line for whose words there is no memory
+//!     text WORDS             a text or a line by itself (`texts`)
 //!
-//! There the characters `~`, `^`, `!` and `?` stand for the bytes FFh, C3h, A9h and 80h. At last comes the command of this
-//! program's own words, as `board` does it.
+//! Of a command line the characters `~`, `^`, `!` and `?` stand for the bytes FFh, C3h, A9h and 80h. `#` begins a comment, which
+//! is told as it is. At last comes the command of this program's own words, as `board` does it.
 #![tactic(auto)]
 
 mod lines;
+mod logs;
+mod made;
 mod shaken;
+mod texts;
 
 use crate::lines::{Bytes, NoRoom, Row, given_by};
 use crate::shaken::{Shaken, ShakenFolder};
 use board_base::NoMemory;
 use board_files::{FileShelf, Folder, OutSink, SystemFolder};
 use board_main::{CommandLine, SystemLine, run_program};
+use std::alloc::Global;
 use std::fs::File;
 use std::io::Write;
 use std::process::ExitCode;
@@ -154,21 +159,61 @@ where
     show(rt, told, &Row { line, alloc });
 }
 
-/// Does what a line asks, and writes the line and what comes of it.
+/// Writes what a text answers.
+fn write_text<T: Write>(told: &mut T, alloc: Global, row: &str) -> Result<(), NoMemory> {
+    let text = texts::answered(alloc, row)?;
+    let _ = writeln!(told, "{}", text.as_str());
+    Ok(())
+}
+
+/// Tells the words of a command line, or what becomes of it.
+fn tell_given<R, T: Write>(rt: &R, told: &mut T, line: &str, is_done: bool) -> Result<(), NoMemory>
+where
+    R: Files + AllocGlobal + Threads + Wait + Sync,
+{
+    let bytes = given_by(rt.alloc(), line)?;
+    let given = (Bytes(&bytes), rt.alloc());
+    let line = SystemLine { rt: &given };
+    if is_done {
+        show(rt, told, &line);
+    } else {
+        write_words(told, &line);
+    }
+    Ok(())
+}
+
+/// Does what a line asks, and writes what comes of it.
+fn answer<R, T: Write>(rt: &R, told: &mut T, line: &str) -> Result<(), NoMemory>
+where
+    R: Files + AllocGlobal + Threads + Wait + Sync,
+{
+    let (verb, rest) = line.split_once(' ').unwrap_or((line, ""));
+    match verb {
+        "text" => write_text(told, rt.alloc(), rest),
+        "given" => tell_given(rt, told, line, false),
+        "unread" => tell_given(rt, told, line, true),
+        "no-room" => {
+            show(rt, told, &NoRoom);
+            Ok(())
+        }
+        _ => {
+            tell_command(rt, told, line);
+            Ok(())
+        }
+    }
+}
+
+/// Writes a line, and does what it asks.
 fn tell<R, T: Write>(rt: &R, told: &mut T, line: &str) -> Result<(), NoMemory>
 where
     R: Files + AllocGlobal + Threads + Wait + Sync,
 {
-    let _ = write!(told, "{line}: ");
-    let bytes = given_by(rt.alloc(), line)?;
-    let given = (Bytes(&bytes), rt.alloc());
-    match line.split(' ').next().unwrap_or("") {
-        "given" => write_words(told, &SystemLine { rt: &given }),
-        "unread" => show(rt, told, &SystemLine { rt: &given }),
-        "no-room" => show(rt, told, &NoRoom),
-        _ => tell_command(rt, told, line),
+    if line.starts_with('#') {
+        let _ = writeln!(told, "{line}");
+        return Ok(());
     }
-    Ok(())
+    let _ = write!(told, "{line}: ");
+    answer(rt, told, line)
 }
 
 fn main(rt: HostRuntime) -> ExitCode {

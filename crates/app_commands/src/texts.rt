@@ -1,5 +1,5 @@
-//! Texts and lines, each a line of standard input behind a word. In a text `|` stands for a line feed, `~` for a carriage
-//! return and `^` for a tab. `#` begins a comment, which is told as it is.
+//! Texts and lines, each a row behind `text` and a word. In a text `|` stands for a line feed, `~` for a carriage return and `^`
+//! for a tab.
 //!
 //!     script TEXT · log TEXT        that it is good, or the line at which it is refused, and why
 //!     long HEAD;PART;COUNT;END      the same of a script of a head, a part so many times, and an end
@@ -10,11 +10,8 @@
 //!     summary WRITES RANGES TEXT    its summary, with so many map writes and ranges, after a line before
 //!     made ROUNDS FROM COUNT        how many lines the script of `make` has, whether it ends, and some of them
 //!     rom PLACE.. · disk PLACE..    how many bytes its images have, and some of them
-#![tactic(auto)]
 
-mod logs;
-mod made;
-
+use crate::{logs, made};
 use board_base::NoMemory;
 use board_script::{LogFault, read_log};
 use call_words::decimal;
@@ -22,11 +19,6 @@ use log_lines::entry_of;
 use script_lines::item_of;
 use script_text::{ScriptFault, read_script};
 use std::alloc::Global;
-use std::io::Write;
-use std::process::ExitCode;
-
-/// The exit code for want of memory or of input.
-const FAILED: u8 = 8;
 
 /// More bytes than a text here has.
 const MOST_BYTES: usize = 50_000_000;
@@ -132,36 +124,11 @@ fn answer(alloc: Global, call: &str, row: &str, text: &mut String) -> Result<(),
     }
 }
 
-/// What a line of standard input answers.
-fn answered(alloc: Global, line: &str) -> Result<String, NoMemory> {
+/// What a row answers.
+pub fn answered(alloc: Global, row: &str) -> Result<String, NoMemory> {
     let mut text = String::new(alloc);
-    let Some((call, row)) = line.split_once(' ') else {
-        return Ok(text);
-    };
+    let (call, row) = row.split_once(' ').unwrap_or((row, ""));
     let row = text_of(alloc, row)?;
     answer(alloc, call, row.as_str(), &mut text)?;
     Ok(text)
-}
-
-/// Tells a line and its answer.
-fn tell<W: Write>(alloc: Global, out: &mut W, line: &str) -> Result<(), NoMemory> {
-    if line.starts_with('#') {
-        let _ = writeln!(out, "{line}");
-        return Ok(());
-    }
-    let text = answered(alloc, line)?;
-    let _ = writeln!(out, "{line}: {}", text.as_str());
-    Ok(())
-}
-
-fn main(rt: HostRuntime) -> ExitCode {
-    for line in rt.lines(rt.alloc()) {
-        let Ok(line) = line else {
-            return ExitCode::from(FAILED);
-        };
-        if tell(rt.alloc(), &mut rt.stdout(), line.as_str()).is_err() {
-            return ExitCode::from(FAILED);
-        }
-    }
-    ExitCode::from(0)
 }
