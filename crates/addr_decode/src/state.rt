@@ -217,6 +217,13 @@ impl MapRegs {
         are_bytes(&self.pam);
         is_byte(self.smram);
         is_byte(self.xbcs);
+        self.push_state(into)
+    }
+
+    /// Adds these bytes, one register after another.
+    fn push_state(&self, into: &mut Vec<u8>) -> Result<(), NoMemory>
+        ensures saved { OnOk result (into.new.items ≡ into.old.items ++ regs_bytes self.now) }
+    {
         push_bytes(into, &self.drb)?;
         push_byte(into, self.fdhc)?;
         push_bytes(into, &self.pam)?;
