@@ -130,10 +130,25 @@ impl Door {
         ensures untold { result ≢ ok → reply.new ≡ reply.old }
         ensures open { result ≢ closed }
     {
-        let status = step(&mut self.serial, event, reply);
-        if !self.identities.is_empty() {
-            identify_told(&self.identities, event, status, reply);
+        if self.identities.is_empty() {
+            return step(&mut self.serial, event, reply);
         }
+        self.identified_step(event, reply)
+    }
+
+    /// The same with the cards' identities. It is not inlined: few boards have a card with an identity.
+    #[inline(never)]
+    fn identified_step(&mut self, event: &EventRecord, reply: &mut ReplyRecord) -> u32
+        ensures done { result ≡ ok → IsSomeAnd (asked_said event.now)
+            (IsDoorStep self.old self.new event.now reply.new) }
+        ensures refused { result ≢ ok
+            → OnBoard self.old (λ serial. IsEventRefusal serial (asked_said event.now) result) }
+        ensures unchanged { result ≢ ok → self.new ≡ self.old }
+        ensures untold { result ≢ ok → reply.new ≡ reply.old }
+        ensures open { result ≢ closed }
+    {
+        let status = step(&mut self.serial, event, reply);
+        identify_told(&self.identities, event, status, reply);
         status
     }
 
