@@ -204,8 +204,10 @@ fn read_cards(
 }
 
 impl MapRegs {
-    /// Does nothing: its clause says that registers which stand among bytes that writes can leave are such as are saved.
-    fn are_sound(&self)
+    /// Adds the bytes of the state: 18 of the bridges, and 30 for each card. Bits that cannot be written have to be those
+    /// after a reset, as they are on each board.
+    pub fn save_state(&self, into: &mut Vec<u8>) -> Result<(), NoMemory>
+        ensures saved { OnOk result (into.new.items ≡ into.old.items ++ regs_bytes self.now) }
         ensures sound { (setup : Setup) (bytes : Bytes) → StandsFor setup bytes (map_bytes self.now)
             → AreCardsOf setup bytes self.now.cards.items → AreFitted self.now.cards.items → AreWritten setup bytes
             → AreMapRegs setup.cards self.now }

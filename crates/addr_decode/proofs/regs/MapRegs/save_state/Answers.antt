@@ -3,10 +3,10 @@ use Rattle.board_prelude.proofs.Common.{pam, fdhc, xbcs, smram, reset_byte, smra
 use Rattle.pci_bars.specs.Cards.{CardBytes}
 use Rattle.addr_decode.specs.State.{IsWideCard}
 use Rattle.addr_decode.proofs.ReservedLemmas.{fdhc_tabled, xbcs_tabled, pam_tabled, smram_reset, keeps, card_regs}
-use Rattle.addr_decode.proofs.regs.MapRegs.are_sound.Goals as goal
+use Rattle.addr_decode.proofs.regs.MapRegs.save_state.Goals as goal
 
-pub returns : goal.returns
-returns c = record { sound = λ setup bytes stands are fitted written.
+pub returns-clause-sound : goal.returns-clause-sound
+returns-clause-sound c = λ setup bytes stands are fitted written.
     let regs = c.args.self.now in
     let wide : All IsWideCard regs.cards.items =
     subst (λ (cards : List CardBytes). All IsWideCard cards) c.as_slice.ensures.value c.are_wide.ensures.widths in
@@ -41,5 +41,4 @@ returns c = record { sound = λ setup bytes stands are fitted written.
             card_regs setup bytes (get_or regs.cards.items k d) (fitted.each k d within) written (are.1 k d within)
             (wide k d within);
       };
-    };
-}
+    }
