@@ -9,7 +9,6 @@ use Rattle.board_chipset.specs.Alone.{alone}
 use Rattle.board_chipset.specs.Chipset.{Running}
 use Rattle.board_chipset.specs.ChipsetState.{chipset_bytes, is_other_version}
 use Rattle.board_chipset.proofs.Marks.{alone_bad}
-use Rattle.board_chipset.proofs.ChipsetAlone.{ended_bad}
 use Rattle.board_chipset.proofs.ChipsetFormats.{IsBareChipset, most_chipset, chipset_format}
 use Rattle.board_chipset.proofs.ChipsetLoads.{of_version}
 use Rattle.uart_16550.specs.declared.com1.Com1.{Com1}
@@ -18,6 +17,9 @@ use Rattle.uart_16550.specs.State.{IsCom1, com1_bytes}
 use Rattle.uart_16550.specs.SerialState.{IsSerial, LoadsSerial, IsBadSerialAt, serial_bytes, serial_fields}
 use Rattle.uart_16550.proofs.SerialStates.{both, never_err}
 use Rattle.uart_16550.proofs.StateFormat.{com1_format}
+
+not_ended : (bytes : List ℕ) (left : ℕ) → ended bytes ≡ Err left → bytes ≡ [] → ⊥
+not_ended bytes left is none = let read : ended [] ≡ Err left = rw none at is in absurd cc
 
 -- what is read is that a call says that wants nothing behind it
 abbrev pub IsOnly : Setup → (bytes : List ℕ) → Result (Serial Running) Fault → Type 0
@@ -41,7 +43,7 @@ module _ (setup : Setup) (before mid : List ℕ) where
   more_only bad serial result loads end other same is begins =
       elim (loads.exact other [] same is (begins ∙ sym (append-nil (serial_bytes other)))) [
         | inl none ↦ absurd (never_err serial faults.NoMemory none)
-        | inr one ↦ absurd (ended_bad mid bad end one.1)
+        | inr one ↦ absurd (not_ended mid bad end one.1)
       ]
 
 -- ---- the place of what is bad
