@@ -36,5 +36,10 @@ none_is_given part = and_right _ false refl
 
 pub none_with : (event : EventRecord) (said : ReplyRecord) → with_roms [] event said ≡ said
 none_with event said =
-    rw (none_is_given said.part0, none_is_given said.part1, none_is_given said.part2, none_is_given said.part3,
-    and_right (said.has_value == 1) false refl) refl
+    rw (
+      none_is_given said.part0,
+      none_is_given said.part1,
+      none_is_given said.part2,
+      none_is_given said.part3,
+      and_right (said.has_value == 1) false refl,
+    ) refl

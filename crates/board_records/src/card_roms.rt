@@ -113,12 +113,7 @@ fn byte_by(roms: &Roms, part: &PartRecord, at: usize, old: u8) -> u8
 
 /// Which part moved byte `place` of so many from an address on, and which of its bytes it is.
 #[tactic(auto, using(crate::proofs::RomParts::part_next))]
-fn part_of(
-    parts: &[PartRecord],
-    addr: u32,
-    bytes: u8,
-    place: usize,
-) -> Option<(PartRecord, usize)>
+fn part_of(parts: &[PartRecord], addr: u32, bytes: u8, place: usize) -> Option<(PartRecord, usize)>
     requires few { length parts.now ≤ 4 }
     requires place { place < 8 }
     ensures part { result ≡ part_of parts.now addr bytes 0 place }
@@ -262,13 +257,7 @@ fn put_first(
 }
 
 /// The ROMs of which one was given bytes.
-fn first_roms(
-    alloc: Global,
-    dev: u8,
-    size: usize,
-    off: u32,
-    bytes: &[u8],
-) -> Result<Roms, NoMemory>
+fn first_roms(alloc: Global, dev: u8, size: usize, off: u32, bytes: &[u8]) -> Result<Roms, NoMemory>
     requires device { dev < 10 }
     requires within { off + length bytes.now ≤ size }
     ensures put { IfOk result (λ roms. (d at : ℕ)
