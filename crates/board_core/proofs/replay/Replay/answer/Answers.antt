@@ -1,8 +1,8 @@
-use Rattle.std.proofs.Common.{◌+◌, ◌<◌, ◌^◌, ◌∷◌, sym, refl, subst, arith, slice_index}
+use Rattle.std.proofs.Common.{ℕ, ◌≡◌, ◌+◌, ◌<◌, ◌^◌, ◌∷◌, sym, refl, subst, arith, get_or-set_same, slice_index, slice_set}
 use Rattle.board_prelude.proofs.Common.{Entry, entry_limit}
 use Rattle.board_core.specs.Kept.{Playing, HasPlayed}
 use Rattle.board_core.proofs.Boards.{few_versions, count_fits, stepped}
-use Rattle.board_core.proofs.replay.Replay.step.Goals as goal
+use Rattle.board_core.proofs.replay.Replay.answer.Goals as goal
 
 pub overflow_add-seq : goal.overflow_add-seq
 overflow_add-seq c =
@@ -45,8 +45,16 @@ returns-clause-played c =
       event = c.args.event.now;
       reply = c.step-reply.result;
     } in
+    let new : Playing = record {
+      chipset = c.step-reply.new.self;
+      count = old.count + 1;
+      counts = slice_set old.counts entry.actor entry.seq;
+    } in
+    let last : slice_index new.counts entry.actor ≡ entry.seq =
+    get_or-set_same old.counts entry.actor entry.seq 0 (omega arith) in
     rw (← c.self.view_is)
     (λ history played. rw (c.from-2.ensures)
+    (subst (λ (seq : ℕ). HasPlayed new (record entry { seq = seq } ∷ history)) (sym last)
     (stepped replay history entry c.step-reply.new.self c.self.told (omega arith) few (rw (c.from.ensures) refl) played
     c.step-reply.ensures.setup (c.step-reply.ensures.exact history played.left (few_versions played))
-    (c.step-reply.ensures.left history entry played.left refl refl)))
+    (c.step-reply.ensures.left history entry played.left refl refl))))
