@@ -14,5 +14,5 @@ returns-clause-done c = λ ok.
     c.identify_told.new.reply c.roms_told.new.reply
     (c.identify_told.ensures.identified ok
     ∙ ap (λ (identities : List FittedIdentity). identified_record identities c.args.event.now c.step-status.new.reply)
-    c.deref.ensures)
+    c.deref.ensures.0)
     (c.roms_told.ensures.told ok) (c.step-status.ensures.done ok))
