@@ -1,7 +1,7 @@
 //! The bytes that expansion ROMs of cards were given: over the record of a reply, out and in.
 
-ghost use Rattle.std.specs.Prelude.{◌≡◌, ◌≢◌, ◌==◌, ◌+◌, ◌<◌, ◌≤◌, ◌^◌, ℕ, All, find, option_and_then, [], None, Some, IfOk, IfSome, length, slice_index, OnOk, OnErr};
-ghost use Rattle.board_prelude.specs.Common.{IsCard, IsExpansionRom, bytes_of, expansion_byte, from_le_bytes, longest_at, w64};
+ghost use Rattle.std.specs.Prelude.{◌≡◌, ◌≢◌, ◌==◌, ◌+◌, ◌<◌, ◌≤◌, ◌^◌, ℕ, All, find, option_and_then, [], true, None, Some, IfOk, IfSome, length, slice_index, OnOk, OnErr};
+ghost use Rattle.board_prelude.specs.Common.{IsCard, IsExpansionRom, byte, bytes_of, expansion_byte, from_le_bytes, longest_at, w64};
 ghost use Rattle.expansion_roms.specs.Roms.{put_byte, rom_byte};
 ghost use Rattle.board_records.specs.CardRoms.{rom_size, size_of_rom};
 ghost use Rattle.board_records.specs.RomReplies.{byte_by, byte_told, bytes_told, is_given, part_of, reads_given, roms_in, with_roms};
@@ -13,6 +13,7 @@ use crate::reply::{PartRecord, ReplyRecord};
 use crate::status::OK;
 use board_base::NoMemory;
 use board_chipset::Chipset;
+use card_identity::FittedIdentity;
 use expansion_roms::{Roms, fixed_byte};
 use pci_bars::CardSpec;
 use std::alloc::Global;
@@ -21,6 +22,15 @@ use std::alloc::Global;
 const ROM_BASE: u8 = 6;
 
 // ---- the reply
+
+/// Whether no card says what it is, and no ROM was given bytes.
+#[inline(always)]
+pub(crate) fn is_plain(identities: &[FittedIdentity], roms: &Option<Roms>) -> bool
+    ensures said { result ≡ true → identities.now ≡ [] }
+    ensures given { result ≡ true → roms_in roms.now ≡ [] }
+{
+    identities.is_empty() && roms.is_none()
+}
 
 /// Puts the bytes that expansion ROMs were given into the record of a reply that was told.
 #[tactic(auto, using(crate::proofs::RomParts::none_with))]
@@ -92,17 +102,25 @@ fn byte_told(roms: &Roms, event: &EventRecord, reply: &ReplyRecord, place: usize
     ensures byte { result ≡ byte_told roms.now event.now reply.now place }
 {
     let parts = [reply.part0, reply.part1, reply.part2, reply.part3];
-    let old = reply.value.to_le_bytes()[place];
+    let old = old_byte(reply, place);
     match part_of(&parts, event.addr, event.bytes, place) {
         Some((part, at)) => byte_by(roms, &part, at, old),
         None => old,
     }
 }
 
+/// The same as the board told it.
+fn old_byte(reply: &ReplyRecord, place: usize) -> u8
+    requires place { place < 8 }
+    ensures byte { result ≡ byte reply.now.value place }
+{
+    reply.value.to_le_bytes()[place]
+}
+
 /// Byte `at` of a part, where it was `old`.
 fn byte_by(roms: &Roms, part: &PartRecord, at: usize, old: u8) -> u8
     requires few { at < 8 }
-    ensures byte { (place : ℕ) → place ≡ at → result ≡ byte_by roms.now (Some (part.now, place)) old }
+    ensures byte { result ≡ byte_by roms.now (Some (part.now, at)) old }
 {
     if is_given(roms, part) {
         roms.byte(part.unit, part.offset as usize + at, old)

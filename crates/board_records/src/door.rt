@@ -16,7 +16,7 @@ ghost use Rattle.board_records.specs.Statuses.{ok, closed, no_byte, no_memory, n
 use crate::bytes::{tell_clock_byte, tell_dram, tell_sector};
 use crate::calls::step;
 use crate::card::{CardRecord, identities_of};
-use crate::card_roms::roms_told;
+use crate::card_roms::{is_plain, roms_told};
 use crate::event::EventRecord;
 use crate::identified::identify_told;
 use crate::image::{Loaded, image_of, load, write_front};
@@ -145,7 +145,7 @@ impl Door {
         ensures untold { result ≢ ok → reply.new ≡ reply.old }
         ensures open { result ≢ closed }
     {
-        if self.identities.is_empty() && self.roms.is_none() {
+        if is_plain(&self.identities, &self.roms) {
             return step(&mut self.serial, event, reply);
         }
         self.fitted_step(event, reply)
