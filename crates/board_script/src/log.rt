@@ -54,7 +54,14 @@ pub(crate) fn push_entry(text: &mut String, n: u64, entry: &Entry) -> Result<(),
         return push_long(text, n, entry, access);
     }
     let mut line = Tail::new();
-    put_entry(&mut line, n, entry.actor, entry.seq, &entry.event, &entry.reply);
+    put_entry(
+        &mut line,
+        n,
+        entry.actor,
+        entry.seq,
+        &entry.event,
+        &entry.reply,
+    );
     line.push_onto(text)
 }
 
