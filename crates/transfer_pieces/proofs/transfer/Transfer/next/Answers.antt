@@ -7,7 +7,7 @@ use Rattle.transfer_pieces.specs.declared.piece.Piece.TheVariants.{Ended}
 use Rattle.transfer_pieces.specs.Transfers.{place_of}
 use Rattle.transfer_pieces.specs.Pieces.{IsPiece}
 use Rattle.transfer_pieces.proofs.Pieces.{all_moved, ends_missing, ends_over, now_is, region_piece, words_piece}
-use Rattle.transfer_pieces.proofs.piece.Transfer.next.Goals as goal
+use Rattle.transfer_pieces.proofs.transfer.Transfer.next.Goals as goal
 
 pub returns-then-is_moved-clause-piece : goal.returns-then-is_moved-clause-piece
 returns-then-is_moved-clause-piece c = λ setup bytes moving stands at.
