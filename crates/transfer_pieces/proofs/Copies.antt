@@ -1,11 +1,10 @@
 -- Words that are copied one after another, and that they are the next words of the definition.
 use Rattle.std.proofs.Common.{◌≡◌, ◌≢◌, ℕ, zero, suc, ◌+◌, ◌-◌, ◌*◌, ◌/◌, ◌%◌, ◌<◌, ◌≤◌, Bool, true, false, List, Option, None, inl, inr, refl, sym, ap, ◌∙◌, arith}
-use Rattle.board_prelude.proofs.Common.{Medium, Setup, Bytes}
+use Rattle.board_prelude.proofs.Common.{cases_Bool, Medium, Setup, Bytes}
 use Rattle.ata_pio.specs.Words.{is_readable}
 use Rattle.bus_master.specs.declared.done.End.{End}
-use Rattle.bus_master.specs.declared.direction.Direction.{Direction}
-use Rattle.bus_master.specs.declared.direction.Direction.TheVariants.{ToMemory, ToDisk}
-use Rattle.bus_master.specs.Common.{Moving, TransferPlace, address_after, moved_on, next_moved, word_moved, words_moved}
+use Rattle.bus_master.specs.Registers.{Master, is_to_memory}
+use Rattle.bus_master.specs.Common.{Moving, TransferPlace, address_after, direction_of, moved_on, next_moved, word_moved, words_moved}
 use Rattle.transfer_pieces.specs.Transfers.{copied}
 use Rattle.transfer_pieces.proofs.Steps.{words_front}
 
@@ -36,47 +35,45 @@ place_on_more words place =
     (place.moved + 2 * words + 2) (place.moved + 2 * suc words) (omega arith) (omega arith) (omega arith)
 
 module _ (setup : Setup) (bytes : Bytes) (lba : ℕ) where
-  word_end : (direction : Direction) (moving : Moving) → (word_moved setup bytes direction lba moving).end ≡ moving.end
+  word_end : (master : Master) (moving : Moving) → (word_moved setup bytes (direction_of master) lba moving).end ≡ moving.end
   unfolding word_moved
-  word_end ToMemory moving = refl
-  word_end ToDisk moving = refl
+  word_end master moving = elim (cases_Bool (is_to_memory master)) [ inl way ↦ rw way refl | inr way ↦ rw way refl ]
 
-  word_marks : (direction : Direction) (moving : Moving) →
-      (word_moved setup bytes direction lba moving).medium.bad ≡ moving.medium.bad
+  word_marks : (master : Master) (moving : Moving) →
+      (word_moved setup bytes (direction_of master) lba moving).medium.bad ≡ moving.medium.bad
   unfolding word_moved
-  word_marks ToMemory moving = refl
-  word_marks ToDisk moving = refl
+  word_marks master moving = elim (cases_Bool (is_to_memory master)) [ inl way ↦ rw way refl | inr way ↦ rw way refl ]
 
-  word_place : (direction : Direction) (moving : Moving) →
-      (word_moved setup bytes direction lba moving).place ≡ moved_on moving.place
+  word_place : (master : Master) (moving : Moving) →
+      (word_moved setup bytes (direction_of master) lba moving).place ≡ moved_on moving.place
   unfolding word_moved
-  word_place direction moving = refl
+  word_place master moving = refl
 
-  module _ (direction : Direction) where
-    pub copied_end : (words : ℕ) (moving : Moving) → (copied setup bytes direction lba words moving).end ≡ moving.end
+  module _ (master : Master) where
+    pub copied_end : (words : ℕ) (moving : Moving) → (copied setup bytes master lba words moving).end ≡ moving.end
     unfolding copied
     copied_end zero moving = refl
     copied_end (suc words) moving =
-        word_end direction (copied setup bytes direction lba words moving) ∙ copied_end words moving
+        word_end master (copied setup bytes master lba words moving) ∙ copied_end words moving
 
     copied_marks : (words : ℕ) (moving : Moving) →
-        (copied setup bytes direction lba words moving).medium.bad ≡ moving.medium.bad
+        (copied setup bytes master lba words moving).medium.bad ≡ moving.medium.bad
     unfolding copied
     copied_marks zero moving = refl
     copied_marks (suc words) moving =
-        word_marks direction (copied setup bytes direction lba words moving) ∙ copied_marks words moving
+        word_marks master (copied setup bytes master lba words moving) ∙ copied_marks words moving
 
     -- no mark of a sector changes
     pub copied_readable : (words : ℕ) (moving : Moving) (sector : ℕ) →
-        is_readable (copied setup bytes direction lba words moving).medium sector ≡ is_readable moving.medium sector
+        is_readable (copied setup bytes master lba words moving).medium sector ≡ is_readable moving.medium sector
     copied_readable words moving sector = rw (copied_marks words moving) refl
 
     pub copied_place : (words : ℕ) (moving : Moving) → moving.place.addr < 0x1_0000_0000 →
-        (copied setup bytes direction lba words moving).place ≡ place_on words moving.place
+        (copied setup bytes master lba words moving).place ≡ place_on words moving.place
     unfolding copied
     copied_place zero moving fits = place_on_none moving.place fits
     copied_place (suc words) moving fits =
-        word_place direction (copied setup bytes direction lba words moving)
+        word_place master (copied setup bytes master lba words moving)
         ∙ ap moved_on (copied_place words moving fits)
         ∙ place_on_more words moving.place
 
@@ -90,14 +87,14 @@ module _ (setup : Setup) (bytes : Bytes) (lba : ℕ) where
 
     pub copied_words : (words more : ℕ) (moving : Moving) →
         ((i : ℕ) → i < words →
-        next_moved setup bytes direction lba (copied setup bytes direction lba i moving)
-        ≡ word_moved setup bytes direction lba (copied setup bytes direction lba i moving)) →
-        words_moved setup bytes direction lba (words + more) moving
-        ≡ words_moved setup bytes direction lba more (copied setup bytes direction lba words moving)
+        next_moved setup bytes (direction_of master) lba (copied setup bytes master lba i moving)
+        ≡ word_moved setup bytes (direction_of master) lba (copied setup bytes master lba i moving)) →
+        words_moved setup bytes (direction_of master) lba (words + more) moving
+        ≡ words_moved setup bytes (direction_of master) lba more (copied setup bytes master lba words moving)
     unfolding copied
-    copied_words zero more moving each = ap (λ n. words_moved setup bytes direction lba n moving) (none_first more)
+    copied_words zero more moving each = ap (λ n. words_moved setup bytes (direction_of master) lba n moving) (none_first more)
     copied_words (suc words) more moving each =
-        ap (λ n. words_moved setup bytes direction lba n moving) (one_later words more)
+        ap (λ n. words_moved setup bytes (direction_of master) lba n moving) (one_later words more)
         ∙ copied_words words (suc more) moving (λ i below. each i (omega (arith, below)))
-        ∙ words_front setup bytes direction lba more (copied setup bytes direction lba words moving)
-        ∙ ap (words_moved setup bytes direction lba more) (each words (omega arith))
+        ∙ words_front setup bytes master lba more (copied setup bytes master lba words moving)
+        ∙ ap (words_moved setup bytes (direction_of master) lba more) (each words (omega arith))

@@ -7,14 +7,14 @@ use Rattle.addr_decode.specs.Master.{master_area, master_denial}
 use Rattle.bus_master.specs.declared.done.Done.{Done}
 use Rattle.bus_master.specs.declared.done.End.{End}
 use Rattle.bus_master.specs.declared.done.End.TheVariants.{Exact, Longer, Shorter, Sector}
-use Rattle.bus_master.specs.Common.{Cells, Moving, TransferPlace, abort_in, address_after, done_of, ended, even, is_used_up, kind_of, master_value, next_moved, next_sector, next_word, ready_for, region_taken, with_region, word_moved, words_moved}
+use Rattle.bus_master.specs.Common.{Cells, Moving, TransferPlace, abort_in, address_after, direction_of, done_of, ended, even, is_used_up, kind_of, master_value, next_moved, next_sector, next_word, ready_for, region_taken, with_region, word_moved, words_moved}
 use Rattle.bus_master.specs.Transfer.{size_of}
 use Rattle.bus_master.proofs.WordLemmas.{same_answers, inside_sector}
 use Rattle.transfer_pieces.specs.declared.transfer.Transfer.{Transfer}
 use Rattle.transfer_pieces.specs.declared.piece.Piece.{Piece}
 use Rattle.transfer_pieces.specs.declared.piece.Piece.TheVariants.{Region, Words, Ended}
 use Rattle.transfer_pieces.specs.declared.piece.Stretch.{Stretch}
-use Rattle.transfer_pieces.specs.Transfers.{AreReadable, IsAt, IsTransfer, copied, direction_in, flag, kind_in, misses, place_of, rest_of, with_moved, with_taken, words_left}
+use Rattle.transfer_pieces.specs.Transfers.{AreReadable, IsAt, IsTransfer, copied, flag, kind_in, master_in, misses, place_of, rest_of, with_moved, with_taken, words_left}
 use Rattle.transfer_pieces.specs.Pieces.{AreNextWords, AreTaken, IsEnded, IsNextRegion, IsPiece, IsRegionPiece, IsWordsPiece, abort_at}
 use Rattle.transfer_pieces.proofs.Steps.{ends_at, goes_as, here, is_missing, next_is_word, next_misses, next_no_base, next_no_count, next_over, next_unanswered, ready_at_region, ready_here, same_ready}
 use Rattle.transfer_pieces.proofs.Copies.{copied_end, copied_place, copied_readable, copied_words, place_on}
@@ -69,7 +69,7 @@ one_more t is more = omega (arith, is.moved, is.bytes, is.come, more)
 
 module _ (setup : Setup) (bytes : Bytes) (t : Transfer) (is : IsTransfer t) (cells : Cells) (medium : Medium) where
   abbrev pub now : Moving
-  now = here setup bytes (direction_in t) t.lba cells medium (place_of t)
+  now = here setup bytes (master_in t) t.lba cells medium (place_of t)
 
   abbrev over : Bool
   over = is_used_up (place_of t) && (place_of t).is_last
@@ -83,7 +83,7 @@ module _ (setup : Setup) (bytes : Bytes) (t : Transfer) (is : IsTransfer t) (cel
       let none : words_left t ≡ 0 = omega (arith, all) in
       record {
         end = None;
-        rest = ap (λ n. words_moved setup bytes (direction_in t) t.lba n now) none;
+        rest = ap (λ n. words_moved setup bytes (direction_of (master_in t)) t.lba n now) none;
         told = rw is_end refl;
       }
 
@@ -91,22 +91,22 @@ module _ (setup : Setup) (bytes : Bytes) (t : Transfer) (is : IsTransfer t) (cel
 
   module _ (more : t.moved ≢ t.bytes) where
     abbrev Next : Moving → Moving
-    Next = next_moved setup bytes (direction_in t) t.lba
+    Next = next_moved setup bytes (direction_of (master_in t)) t.lba
 
     early : (end : End) → Next now ≡ ended end now → IsEnded setup bytes t now (record { end = end; moved = t.moved })
     early end ends = record {
       end = Some end;
       rest =
-          ap (λ n. words_moved setup bytes (direction_in t) t.lba n now) (one_more t is more)
-          ∙ ends_at setup bytes (direction_in t) t.lba (words_left t - 1) now end ends;
+          ap (λ n. words_moved setup bytes (direction_of (master_in t)) t.lba n now) (one_more t is more)
+          ∙ ends_at setup bytes (master_in t) t.lba (words_left t - 1) now end ends;
       told = refl;
     }
 
     pub ends_over : over ≡ true → IsEnded setup bytes t now (record { end = Shorter; moved = t.moved })
-    ends_over is_over = early Shorter (next_over setup bytes (direction_in t) t.lba cells medium (place_of t) is_over)
+    ends_over is_over = early Shorter (next_over setup bytes (master_in t) t.lba cells medium (place_of t) is_over)
 
     module _ (on : over ≡ false) (readable : AreReadable t medium) where
-      missing_is : is_missing setup bytes (direction_in t) t.lba cells medium (place_of t) ≡ misses t
+      missing_is : is_missing setup bytes (master_in t) t.lba cells medium (place_of t) ≡ misses t
       missing_is =
           let k : ℕ = t.moved / 512 in
           let within : k ≤ t.readable = omega (arith, is.read) in
@@ -118,10 +118,10 @@ module _ (setup : Setup) (bytes : Bytes) (t : Transfer) (is : IsTransfer t) (cel
           IsEnded setup bytes t now (record { end = Sector (next_sector t.lba (place_of t)); moved = t.moved })
       ends_missing missing =
           early (Sector (next_sector t.lba (place_of t)))
-          (next_misses setup bytes (direction_in t) t.lba cells medium (place_of t) on (missing_is ∙ missing))
+          (next_misses setup bytes (master_in t) t.lba cells medium (place_of t) on (missing_is ∙ missing))
 
       module _ (there : misses t ≡ false) where
-        there_is : is_missing setup bytes (direction_in t) t.lba cells medium (place_of t) ≡ false
+        there_is : is_missing setup bytes (master_in t) t.lba cells medium (place_of t) ≡ false
         there_is = missing_is ∙ there
 
         -- ---- a region is wanted
@@ -136,7 +136,7 @@ module _ (setup : Setup) (bytes : Bytes) (t : Transfer) (is : IsTransfer t) (cel
               with_region (master_value setup bytes cells t.table Four)
               (master_value setup bytes cells (address_after t.table 4) Four) (place_of t)
 
-          region_is : region_taken setup bytes now ≡ here setup bytes (direction_in t) t.lba cells medium in_region
+          region_is : region_taken setup bytes now ≡ here setup bytes (master_in t) t.lba cells medium in_region
           unfolding region_taken
           region_is = refl
 
@@ -147,10 +147,10 @@ module _ (setup : Setup) (bytes : Bytes) (t : Transfer) (is : IsTransfer t) (cel
               (count : abort_at setup bytes (address_after t.table 4) Read ≡ None) where
             goes_alike : Next now ≡ Next (region_taken setup bytes now)
             goes_alike =
-                same_ready setup bytes (direction_in t) t.lba now (region_taken setup bytes now)
-                (ready_at_region setup bytes (direction_in t) t.lba cells medium (place_of t) on there_is used_is base count
+                same_ready setup bytes (master_in t) t.lba now (region_taken setup bytes now)
+                (ready_at_region setup bytes (master_in t) t.lba cells medium (place_of t) on there_is used_is base count
                 ∙ region_is
-                ∙ sym (ready_here setup bytes (direction_in t) t.lba cells medium in_region
+                ∙ sym (ready_here setup bytes (master_in t) t.lba cells medium in_region
                 (and_left _ in_region.is_last in_use) there_is in_use)
                 ∙ ap (ready_for setup bytes t.lba) (sym region_is))
 
@@ -170,9 +170,9 @@ module _ (setup : Setup) (bytes : Bytes) (t : Transfer) (is : IsTransfer t) (cel
               base = base;
               count = count;
               rest =
-                  ap (λ n. words_moved setup bytes (direction_in t) t.lba n now) (one_more t is more)
-                  ∙ goes_as setup bytes (direction_in t) t.lba (words_left t - 1) now (region_taken setup bytes now) goes_alike
-                  ∙ sym (ap (λ n. words_moved setup bytes (direction_in t) t.lba n (region_taken setup bytes now))
+                  ap (λ n. words_moved setup bytes (direction_of (master_in t)) t.lba n now) (one_more t is more)
+                  ∙ goes_as setup bytes (master_in t) t.lba (words_left t - 1) now (region_taken setup bytes now) goes_alike
+                  ∙ sym (ap (λ n. words_moved setup bytes (direction_of (master_in t)) t.lba n (region_taken setup bytes now))
                   (one_more t is more));
               at = region_at;
             }
@@ -184,15 +184,15 @@ module _ (setup : Setup) (bytes : Bytes) (t : Transfer) (is : IsTransfer t) (cel
           region_piece (Ended done) told = (
             refl,
             rw (ended_is done t.moved told.0)
-                (elim (told.1) [
-                  | inl nobody ↦
-                      early done.end
-                      (next_no_base setup bytes (direction_in t) t.lba cells medium (place_of t) on there_is used_is done.end nobody)
-                  | inr nobody ↦
-                      early done.end
-                      (next_no_count setup bytes (direction_in t) t.lba cells medium (place_of t) on there_is used_is done.end
-                      nobody.0 nobody.1)
-                ]),
+            (elim (told.1) [
+              | inl nobody ↦
+                  early done.end
+                  (next_no_base setup bytes (master_in t) t.lba cells medium (place_of t) on there_is used_is done.end nobody)
+              | inr nobody ↦
+                  early done.end
+                  (next_no_count setup bytes (master_in t) t.lba cells medium (place_of t) on there_is used_is done.end
+                  nobody.0 nobody.1)
+            ]),
           )
 
         -- ---- a region is in use
@@ -205,7 +205,7 @@ module _ (setup : Setup) (bytes : Bytes) (t : Transfer) (is : IsTransfer t) (cel
               (taken : AreTaken setup bytes t new s)
               (somebody : abort_at setup bytes t.addr (kind_in t) ≡ None) where
             abbrev At : ℕ → Moving
-            At i = copied setup bytes (direction_in t) t.lba i now
+            At i = copied setup bytes (master_in t) t.lba i now
 
             abbrev place_at : ℕ → TransferPlace
             place_at i = place_on i (place_of t)
@@ -230,9 +230,9 @@ module _ (setup : Setup) (bytes : Bytes) (t : Transfer) (is : IsTransfer t) (cel
                 (omega (arith, e, is.moved))))
 
             is_there : (i : ℕ) → i < s.words →
-                is_missing setup bytes (direction_in t) t.lba (At i).cells (At i).medium (place_at i) ≡ false
+                is_missing setup bytes (master_in t) t.lba (At i).cells (At i).medium (place_at i) ≡ false
             is_there i below =
-                rw (copied_readable setup bytes t.lba (direction_in t) i now (t.lba + (t.moved + 2 * i) / 512))
+                rw (copied_readable setup bytes t.lba (master_in t) i now (t.lba + (t.moved + 2 * i) / 512))
                 (none_missing i below)
 
             answered_at : (i : ℕ) → i < s.words → abort_at setup bytes (address_after t.addr (2 * i)) (kind_in t) ≡ None
@@ -244,15 +244,15 @@ module _ (setup : Setup) (bytes : Bytes) (t : Transfer) (is : IsTransfer t) (cel
                 (sym taken.here) (sym (taken.area i below)) (sym somebody))
 
             at_is : (i : ℕ) →
-                here setup bytes (direction_in t) t.lba (At i).cells (At i).medium (place_at i) ≡ At i
+                here setup bytes (master_in t) t.lba (At i).cells (At i).medium (place_at i) ≡ At i
             at_is i =
-                moving_from (At i) (place_at i) None (copied_place setup bytes t.lba (direction_in t) i now fits)
-                (copied_end setup bytes t.lba (direction_in t) i now)
+                moving_from (At i) (place_at i) None (copied_place setup bytes t.lba (master_in t) i now fits)
+                (copied_end setup bytes t.lba (master_in t) i now)
 
-            each_word : (i : ℕ) → i < s.words → Next (At i) ≡ word_moved setup bytes (direction_in t) t.lba (At i)
+            each_word : (i : ℕ) → i < s.words → Next (At i) ≡ word_moved setup bytes (direction_of (master_in t)) t.lba (At i)
             each_word i below =
-                subst (λ (m : Moving). Next m ≡ word_moved setup bytes (direction_in t) t.lba m) (at_is i)
-                (next_is_word setup bytes (direction_in t) t.lba (At i).cells (At i).medium (place_at i)
+                subst (λ (m : Moving). Next m ≡ word_moved setup bytes (direction_of (master_in t)) t.lba m) (at_is i)
+                (next_is_word setup bytes (master_in t) t.lba (At i).cells (At i).medium (place_at i)
                 (and_left _ (place_of t).is_last (in_stretch i below)) (is_there i below) (in_stretch i below)
                 (answered_at i below))
 
@@ -261,10 +261,10 @@ module _ (setup : Setup) (bytes : Bytes) (t : Transfer) (is : IsTransfer t) (cel
 
             words_at : IsAt (with_moved s.words t) (At s.words)
             words_at = record {
-              come = copied_place setup bytes t.lba (direction_in t) s.words now fits;
-              goes_on = copied_end setup bytes t.lba (direction_in t) s.words now;
+              come = copied_place setup bytes t.lba (master_in t) s.words now fits;
+              goes_on = copied_end setup bytes t.lba (master_in t) s.words now;
               readable = λ k most inside.
-                  copied_readable setup bytes t.lba (direction_in t) s.words now (t.lba + k) ∙ readable k most inside;
+                  copied_readable setup bytes t.lba (master_in t) s.words now (t.lba + k) ∙ readable k most inside;
             }
 
             pub next_words : AreNextWords setup bytes t new now s
@@ -277,8 +277,8 @@ module _ (setup : Setup) (bytes : Bytes) (t : Transfer) (is : IsTransfer t) (cel
               answered = rw (taken.addr) somebody;
               area = λ i below. rw (taken.addr) (taken.area i below);
               rest =
-                  ap (λ n. words_moved setup bytes (direction_in t) t.lba n now) count_is
-                  ∙ copied_words setup bytes t.lba (direction_in t) s.words (words_left (with_moved s.words t)) now each_word;
+                  ap (λ n. words_moved setup bytes (direction_of (master_in t)) t.lba n now) count_is
+                  ∙ copied_words setup bytes t.lba (master_in t) s.words (words_left (with_moved s.words t)) now each_word;
               at = words_at;
               moved = refl;
             })
@@ -290,8 +290,8 @@ module _ (setup : Setup) (bytes : Bytes) (t : Transfer) (is : IsTransfer t) (cel
           words_piece fits new (Ended done) told = (
             told.0,
             rw (ended_is done t.moved told.1)
-                (early done.end
-                (next_unanswered setup bytes (direction_in t) t.lba cells medium (place_of t) on there_is left_is done.end told.2)),
+            (early done.end
+            (next_unanswered setup bytes (master_in t) t.lba cells medium (place_of t) on there_is left_is done.end told.2)),
           )
 
 -- ---- of a transfer that has come as far as the definition's

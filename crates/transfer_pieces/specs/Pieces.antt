@@ -11,7 +11,7 @@ use Rattle.transfer_pieces.specs.declared.transfer.Transfer.{Transfer}
 use Rattle.transfer_pieces.specs.declared.piece.Piece.{Piece}
 use Rattle.transfer_pieces.specs.declared.piece.Piece.TheVariants.{Region, Words, Ended}
 use Rattle.transfer_pieces.specs.declared.piece.Stretch.{Stretch}
-use Rattle.transfer_pieces.specs.Transfers.{IsAt, direction_in, kind_in, place_of, rest_of, with_moved, with_taken}
+use Rattle.transfer_pieces.specs.Transfers.{IsAt, kind_in, master_in, place_of, rest_of, with_moved, with_taken}
 use Rattle.transfer_pieces.specs.Transfers.{copied}
 
 -- how an access ends a transfer, where nobody answers it
@@ -104,8 +104,8 @@ pub record AreNextWords (setup : Setup) (bytes : Bytes) (old new : Transfer) (mo
   pub area : (i : ℕ) → i < stretch.words →
       master_area setup bytes (address_after stretch.addr (2 * i)) (kind_in old) ≡ stretch.area
   pub rest : rest_of setup bytes old moving
-      ≡ rest_of setup bytes new (copied setup bytes (direction_in old) old.lba stretch.words moving)
-  pub at : IsAt new (copied setup bytes (direction_in old) old.lba stretch.words moving)
+      ≡ rest_of setup bytes new (copied setup bytes (master_in old) old.lba stretch.words moving)
+  pub at : IsAt new (copied setup bytes (master_in old) old.lba stretch.words moving)
   pub moved : new ≡ with_moved stretch.words old
 
 abbrev pub IsPiece : Setup → Bytes → (old new : Transfer) → Moving → Piece → Type 0

@@ -2,9 +2,8 @@
 use Rattle.std.specs.Prelude.{ℕ, zero, suc, ◌≡◌, ◌≤◌, ◌<◌, ◌+◌, ◌-◌, ◌*◌, ◌/◌, ◌%◌, ◌^◌, ◌==◌, ◌&&◌, nat_le, nat_lt, Bool, if◌then◌else◌, None}
 use Rattle.board_prelude.specs.Common.{Kind, Medium, Setup, Bytes, is_bit}
 use Rattle.ata_pio.specs.Words.{is_readable}
-use Rattle.bus_master.specs.declared.direction.Direction.{Direction}
-use Rattle.bus_master.specs.declared.direction.Direction.TheVariants.{ToMemory, ToDisk}
-use Rattle.bus_master.specs.Transfer.{Moving, TransferPlace, address_after, even, kind_of, size_of}
+use Rattle.bus_master.specs.Registers.{Master}
+use Rattle.bus_master.specs.Transfer.{Moving, TransferPlace, address_after, direction_of, even, kind_of, size_of}
 use Rattle.bus_master.specs.Transfer.{word_moved, words_moved}
 use Rattle.transfer_pieces.specs.declared.transfer.Transfer.{Transfer}
 
@@ -22,11 +21,13 @@ place_of transfer = record {
   moved = transfer.moved;
 }
 
-abbrev pub direction_in : Transfer → Direction
-direction_in transfer = if transfer.to_memory == 1 then ToMemory else ToDisk
+-- the bus master whose transfer it is: bit 3 of its command is the direction
+abbrev pub master_in : Transfer → Master
+master_in transfer =
+    record { command = if transfer.to_memory == 1 then 8 else 0; status = 0; table = transfer.table }
 
 abbrev pub kind_in : Transfer → Kind
-kind_in transfer = kind_of (direction_in transfer)
+kind_in transfer = kind_of (direction_of (master_in transfer))
 
 -- one that can begin
 pub record IsBeginning (table lba sectors : ℕ) : Type 0 where
@@ -112,10 +113,10 @@ pub record IsAt (transfer : Transfer) (moving : Moving) : Type 0 where
 -- what the definition comes to from there on
 abbrev pub rest_of : Setup → Bytes → Transfer → Moving → Moving
 rest_of setup bytes transfer moving =
-    words_moved setup bytes (direction_in transfer) transfer.lba (words_left transfer) moving
+    words_moved setup bytes (direction_of (master_in transfer)) transfer.lba (words_left transfer) moving
 
 -- so many words copied one after another, each by what the bus master reaches at its address (`word_moved`)
-unfoldable pub copied : Setup → Bytes → Direction → (lba words : ℕ) → Moving → Moving
-copied setup bytes direction lba zero moving = moving
-copied setup bytes direction lba (suc words) moving =
-    word_moved setup bytes direction lba (copied setup bytes direction lba words moving)
+unfoldable pub copied : Setup → Bytes → Master → (lba words : ℕ) → Moving → Moving
+copied setup bytes master lba zero moving = moving
+copied setup bytes master lba (suc words) moving =
+    word_moved setup bytes (direction_of master) lba (copied setup bytes master lba words moving)

@@ -1,6 +1,6 @@
 //! How many words from an address on go by one decode.
 
-ghost use Rattle.std.specs.Prelude.{ℕ, ◌≡◌, ◌≤◌, ◌<◌, ◌*◌, true, false};
+ghost use Rattle.std.specs.Prelude.{ℕ, ◌≡◌, ◌≤◌, ◌<◌, ◌*◌, ◌%◌, true, false};
 ghost use Rattle.board_prelude.specs.Common.{Kind, Setup, Bytes, is_smram_range};
 ghost use Rattle.pci_bars.specs.Cards.{AreFitted};
 ghost use Rattle.addr_decode.specs.Common.{StandsFor, map_bytes, master_area};

@@ -1,7 +1,7 @@
 use Rattle.std.proofs.Common.{arith}
 use Rattle.transfer_pieces.specs.Transfers.{kind_in}
 use Rattle.transfer_pieces.proofs.Outside.{fewer_outside}
-use Rattle.transfer_pieces.proofs.piece.Transfer.stretch.Goals as goal
+use Rattle.transfer_pieces.proofs.transfer.Transfer.stretch.Goals as goal
 
 pub returns-clause-stretch : goal.returns-clause-stretch
 returns-clause-stretch c = λ setup bytes stands i below.
