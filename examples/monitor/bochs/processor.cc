@@ -292,5 +292,6 @@ extern "C" int __wrap_main(int count, char **words) {
   output = dup(STDOUT_FILENO);
   errors = dup(STDERR_FILENO);
   if (!freopen("/dev/null", "w", stdout) || !freopen("/dev/null", "w", stderr)) return 1;
+  setvbuf(stderr, NULL, _IONBF, 0); // as it was: what the monitor says is read while it runs
   return __real_main(count, copies);
 }
