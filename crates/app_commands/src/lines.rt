@@ -7,14 +7,15 @@ use board_main::{CommandLine, WordFault};
 use std::alloc::Global;
 use std::env::{Env, FillError};
 
-/// The words of a line, cut at each space.
+/// A command line whose words are cut at each space.
 #[derive(Drop)]
 pub struct Row<'a> {
     pub line: &'a str,
     pub alloc: Global,
 }
 
-fn words_of(alloc: Global, line: &str) -> Result<Vec<String>, NoMemory> {
+/// The words of a line, cut at each space.
+pub fn words_of(alloc: Global, line: &str) -> Result<Vec<String>, NoMemory> {
     let mut words = Vec::new(alloc);
     for word in line.split(' ') {
         words.push(word.to_string(alloc)?)?;

@@ -8,22 +8,28 @@
 //!     unread WORDS           what becomes of such a command line
 //!     no-room                a command line for whose words there is no memory
 //!     text WORDS             a text or a line by itself (`texts`)
+//!     memory STEP            a command over files in memory, or what makes these (`in_memory`)
 //!
 //! Of a command line the characters `~`, `^`, `!` and `?` stand for the bytes FFh, C3h, A9h and 80h. `#` begins a comment, which
 //! is told as it is. At last comes the command of this program's own words, as `board` does it.
 #![tactic(auto)]
 
+mod files;
+mod in_memory;
 mod lines;
 mod logs;
+mod longest_log;
 mod made;
 mod shaken;
 mod texts;
+mod turn;
 
 use crate::lines::{Bytes, NoRoom, Row, given_by};
 use crate::shaken::{Shaken, ShakenFolder};
 use board_base::NoMemory;
 use board_files::{FileShelf, Folder, OutSink, SystemFolder};
 use board_main::{CommandLine, SystemLine, run_program};
+use board_outside::SafeShelf;
 use std::alloc::Global;
 use std::fs::File;
 use std::io::Write;
@@ -204,7 +210,12 @@ where
 }
 
 /// Writes a line, and does what it asks.
-fn tell<R, T: Write>(rt: &R, told: &mut T, line: &str) -> Result<(), NoMemory>
+fn tell<R, T: Write>(
+    rt: &R,
+    told: &mut T,
+    shelf: &mut SafeShelf,
+    line: &str,
+) -> Result<(), NoMemory>
 where
     R: Files + AllocGlobal + Threads + Wait + Sync,
 {
@@ -212,16 +223,22 @@ where
         let _ = writeln!(told, "{line}");
         return Ok(());
     }
+    if let Some(step) = line.strip_prefix("memory ") {
+        return in_memory::step(rt, told, shelf, step);
+    }
     let _ = write!(told, "{line}: ");
     answer(rt, told, line)
 }
 
 fn main(rt: HostRuntime) -> ExitCode {
+    let mut shelf = SafeShelf {
+        files: Vec::new(rt.alloc()),
+    };
     for line in rt.lines(rt.alloc()) {
         let Ok(line) = line else {
             return ExitCode::from(FAILED);
         };
-        if tell(&rt, &mut rt.stdout(), line.as_str()).is_err() {
+        if tell(&rt, &mut rt.stdout(), &mut shelf, line.as_str()).is_err() {
             return ExitCode::from(FAILED);
         }
     }

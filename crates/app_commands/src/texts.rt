@@ -47,11 +47,23 @@ fn tell_log(alloc: Global, log: &str, text: &mut String) -> Result<(), NoMemory>
     }
 }
 
+/// The character for which one stands in a row.
+fn character_of(character: char) -> char {
+    match character {
+        '|' => '\n',
+        '~' => '\r',
+        '^' => '\t',
+        _ => character,
+    }
+}
+
 /// A text in which other characters stood for some.
-fn text_of(alloc: Global, row: &str) -> Result<String, NoMemory> {
-    let lines = row.replace(alloc, '|', "\n")?;
-    let returned = lines.as_str().replace(alloc, '~', "\r")?;
-    Ok(returned.as_str().replace(alloc, '^', "\t")?)
+pub fn text_of(alloc: Global, row: &str) -> Result<String, NoMemory> {
+    let mut text = String::new(alloc);
+    for character in row.chars() {
+        text.push(character_of(character))?;
+    }
+    Ok(text)
 }
 
 /// A text of a head, a part so many times, and an end.

@@ -3,7 +3,7 @@
 ghost use Rattle.pmc_regs.specs.Pmc.{IsPmcOffset};
 
 use crate::told::push_byte;
-use board_base::Kind;
+use board_base::{Kind, NoMemory};
 use board_spec::offset::{PAM0, PAM6, SMRAM};
 use board_spec::port::CONFIG_DATA;
 use call_words::{byte, bytes_of, number, port};
@@ -23,13 +23,13 @@ const KINDS: [Kind; 3] = [Kind::Fetch, Kind::Read, Kind::Write];
 
 /// `59=FF` writes a byte of 256 that all have this value after a reset and this mask; told are that byte before, after and
 /// after a reset, and the one beside it.
-pub fn tell_space(words: &[&str], text: &mut String) -> Result<(), AllocError> {
+pub fn tell_space(words: &[&str], text: &mut String) -> Result<(), NoMemory> {
     match words {
         [off, reset, mask, written] => {
             let mut space = Space::new([byte(reset); 256], [byte(mask); 256]);
-            push_space(text, &mut space, byte(off), byte(written))
+            Ok(push_space(text, &mut space, byte(off), byte(written))?)
         }
-        _ => text.push_str("no space"),
+        _ => Ok(text.push_str("no space")?),
     }
 }
 
@@ -76,7 +76,7 @@ fn act_address(conf_add: &mut ConfAdd, step: &str, text: &mut String) -> Result<
 
 /// The configuration address: `=80000058` writes it, `?` reads it, `reset` is a hard reset, `3` selects by byte 3 of the data
 /// port.
-pub fn tell_address(steps: &[&str], text: &mut String) -> Result<(), AllocError> {
+pub fn tell_address(steps: &[&str], text: &mut String) -> Result<(), NoMemory> {
     let mut conf_add = ConfAdd::new();
     for step in steps {
         match *step {
@@ -89,7 +89,7 @@ pub fn tell_address(steps: &[&str], text: &mut String) -> Result<(), AllocError>
 }
 
 /// The shadow window of an address: its number, its first and last address, the offset of its register.
-pub fn tell_window(addr: &str, text: &mut String) -> Result<(), AllocError> {
+pub fn tell_window(addr: &str, text: &mut String) -> Result<(), NoMemory> {
     match window_of(number(addr)) {
         Some(w) => write!(text, "{} {:X}-{:X} by {:02X}", w.index, w.lo, w.hi, w.off)?,
         None => text.push_str("none")?,
@@ -135,7 +135,7 @@ fn act_pam(pam: &mut Pam, step: &str, text: &mut String) -> Result<(), AllocErro
 }
 
 /// The PAM registers: `2=20` writes PAM2, `2?` reads it, `@CC000` asks of the window of an address, `reset` is one.
-pub fn tell_pam(steps: &[&str], text: &mut String) -> Result<(), AllocError> {
+pub fn tell_pam(steps: &[&str], text: &mut String) -> Result<(), NoMemory> {
     let mut pam = Pam::new();
     for step in steps {
         if *step == "reset" {
@@ -199,7 +199,7 @@ fn act_pmc(pmc: &mut Pmc, step: &str, text: &mut String) -> Result<(), AllocErro
 }
 
 /// The registers beside these: `60=02` writes one, `60?` reads it, `top?`, `hole?` and `row7FFFFF?` ask what they say.
-pub fn tell_pmc(steps: &[&str], text: &mut String) -> Result<(), AllocError> {
+pub fn tell_pmc(steps: &[&str], text: &mut String) -> Result<(), NoMemory> {
     let mut pmc = Pmc::new();
     for step in steps {
         match *step {
@@ -223,9 +223,9 @@ fn boundaries_of(alloc: Global, digits: &str) -> Result<[u8; ROW_COUNT], AllocEr
 }
 
 /// The rows of addresses by eight boundaries.
-pub fn tell_rows(alloc: Global, words: &[&str], text: &mut String) -> Result<(), AllocError> {
+pub fn tell_rows(alloc: Global, words: &[&str], text: &mut String) -> Result<(), NoMemory> {
     let Some((boundaries, addresses)) = words.split_first() else {
-        return text.push_str("no rows");
+        return Ok(text.push_str("no rows")?);
     };
     let drb = boundaries_of(alloc, boundaries)?;
     for addr in addresses {
@@ -235,10 +235,10 @@ pub fn tell_rows(alloc: Global, words: &[&str], text: &mut String) -> Result<(),
 }
 
 /// FDHC after a write over an old byte, and its hole.
-pub fn tell_hole(old: &str, written: &str, text: &mut String) -> Result<(), AllocError> {
+pub fn tell_hole(old: &str, written: &str, text: &mut String) -> Result<(), NoMemory> {
     let fdhc = fdhc_after(byte(old), byte(written));
     write!(text, "{fdhc:02X} ")?;
-    push_hole(text, hole_of(fdhc))
+    Ok(push_hole(text, hole_of(fdhc))?)
 }
 
 /// Whether a fetch, a read and a write reach SMRAM.
@@ -263,7 +263,7 @@ fn ask_smram(smram: &Smram, step: &str, text: &mut String) -> Result<(), AllocEr
 
 /// The SMRAM register: `=58` writes it, `?` reads it, `locked?` and `reaches?` ask what it says: of a fetch, a read and a
 /// write in SMM and then outside it.
-pub fn tell_smram(steps: &[&str], text: &mut String) -> Result<(), AllocError> {
+pub fn tell_smram(steps: &[&str], text: &mut String) -> Result<(), NoMemory> {
     let mut smram = Smram::new();
     for step in steps {
         if *step == "reset" {

@@ -8,6 +8,7 @@ ghost use Rattle.device_spec.specs.Common.{is_disk_length};
 use crate::media::{act_all, fitted};
 use crate::told::space;
 use ata_pio::Ata;
+use board_base::NoMemory;
 use byte_fields::{Fault, Fields};
 use call_words::{bytes_of, number};
 use std::alloc::{AllocError, Global};
@@ -51,30 +52,23 @@ fn push_runs(text: &mut String, bytes: &[u8]) -> Result<(), AllocError> {
 }
 
 /// Appends the state of a disk.
-fn push_state(
-    alloc: Global,
-    text: &mut String,
-    disk: &Ata,
-    fitted: &[u8],
-) -> Result<(), AllocError> {
+fn push_state(alloc: Global, text: &mut String, disk: &Ata, fitted: &[u8]) -> Result<(), NoMemory> {
     if disk.bytes().len() != fitted.len() {
-        return text.push_str("no state");
+        return Ok(text.push_str("no state")?);
     }
     let mut bytes = Vec::new(alloc);
-    if disk.save_state(fitted, &mut bytes).is_err() {
-        return Err(AllocError);
-    }
-    push_runs(text, &bytes)
+    disk.save_state(fitted, &mut bytes)?;
+    Ok(push_runs(text, &bytes)?)
 }
 
 /// Tells the state of a new disk of so many sectors after all steps.
-pub fn tell_state(alloc: Global, words: &[&str], text: &mut String) -> Result<(), AllocError> {
+pub fn tell_state(alloc: Global, words: &[&str], text: &mut String) -> Result<(), NoMemory> {
     let Some((sectors, steps)) = words.split_first() else {
-        return text.push_str("no disk");
+        return Ok(text.push_str("no disk")?);
     };
     let fitted = fitted(alloc, number(sectors))?;
     let Ok(mut disk) = Ata::open(alloc, &fitted) else {
-        return text.push_str("no disk");
+        return Ok(text.push_str("no disk")?);
     };
     act_all(&mut disk, steps, text)?;
     push_state(alloc, text, &disk, &fitted)
@@ -86,20 +80,20 @@ pub fn tell_load(
     sectors: &str,
     digits: &str,
     text: &mut String,
-) -> Result<(), AllocError> {
+) -> Result<(), NoMemory> {
     let fitted = fitted(alloc, number(sectors))?;
     let bytes = bytes_of(alloc, digits)?;
     if !is_disk(&fitted) {
-        return text.push_str("no disk");
+        return Ok(text.push_str("no disk")?);
     }
     let mut fields = Fields::of(&bytes);
     match Ata::load_state(alloc, &fitted, &mut fields) {
         Ok(disk) => push_state(alloc, text, &disk, &fitted),
-        Err(Fault::Bad) => write!(
+        Err(Fault::Bad) => Ok(write!(
             text,
             "bad at {:X}",
             bytes.len().saturating_sub(fields.len())
-        ),
-        Err(Fault::NoMemory) => Err(AllocError),
+        )?),
+        Err(Fault::NoMemory) => Err(NoMemory),
     }
 }

@@ -13,7 +13,8 @@ mod stretches;
 mod timer;
 mod told;
 
-use std::alloc::{AllocError, Global};
+use board_base::NoMemory;
+use std::alloc::Global;
 use std::io::Write;
 use std::process::ExitCode;
 
@@ -26,17 +27,17 @@ fn word<'a>(words: &[&'a str], at: usize) -> &'a str {
 }
 
 /// Appends what the BIOS ranges and ports of the south bridge answer.
-fn answer_of_select(call: &str, words: &[&str], text: &mut String) -> Result<(), AllocError> {
+fn answer_of_select(call: &str, words: &[&str], text: &mut String) -> Result<(), NoMemory> {
     match call {
         "selects" => south::tell_selects(words, text),
         "bios" => south::tell_bios(word(words, 0), word(words, 1), word(words, 2), text),
         "xbcs" => south::tell_xbcs(word(words, 0), word(words, 1), text),
-        _ => text.push_str("no such call"),
+        _ => Ok(text.push_str("no such call")?),
     }
 }
 
 /// Appends what the registers of the south bridge answer.
-fn answer_of_south(call: &str, words: &[&str], text: &mut String) -> Result<(), AllocError> {
+fn answer_of_south(call: &str, words: &[&str], text: &mut String) -> Result<(), NoMemory> {
     match call {
         "elcr" => south::tell_elcr(words, text),
         "routes" => south::tell_routes(words, text),
@@ -52,7 +53,7 @@ fn answer_of_rows(
     call: &str,
     words: &[&str],
     text: &mut String,
-) -> Result<(), AllocError> {
+) -> Result<(), NoMemory> {
     match call {
         "window" => bridge::tell_window(word(words, 0), text),
         "pam" => bridge::tell_pam(words, text),
@@ -70,7 +71,7 @@ fn answer_of_bytes(
     call: &str,
     words: &[&str],
     text: &mut String,
-) -> Result<(), AllocError> {
+) -> Result<(), NoMemory> {
     match call {
         "dram" => stretches::tell_dram(alloc, words, text),
         "card-bytes" => stretches::tell_card(alloc, words, text),
@@ -86,7 +87,7 @@ fn answer_of_map(
     call: &str,
     words: &[&str],
     text: &mut String,
-) -> Result<(), AllocError> {
+) -> Result<(), NoMemory> {
     match call {
         "edges" => map::tell_edges(words, text),
         "touches" => map::tell_touches(words, text),
@@ -103,7 +104,7 @@ fn answer_of_words(
     call: &str,
     words: &[&str],
     text: &mut String,
-) -> Result<(), AllocError> {
+) -> Result<(), NoMemory> {
     match call {
         "pair" => pair::tell(words, text),
         "width" => plain::tell_width(words, text),
@@ -113,7 +114,7 @@ fn answer_of_words(
 }
 
 /// Does what a call asks of a part of the board, and appends the answer.
-fn answer(alloc: Global, call: &str, words: &[&str], text: &mut String) -> Result<(), AllocError> {
+fn answer(alloc: Global, call: &str, words: &[&str], text: &mut String) -> Result<(), NoMemory> {
     match call {
         "timer" => timer::tell(words, text),
         "timer-runs" => timer::tell_runs(text),
@@ -126,7 +127,7 @@ fn answer(alloc: Global, call: &str, words: &[&str], text: &mut String) -> Resul
 }
 
 /// What a line answers.
-fn answered(alloc: Global, line: &str) -> Result<String, AllocError> {
+fn answered(alloc: Global, line: &str) -> Result<String, NoMemory> {
     let words: Vec<&str> = line.split(' ').collect(alloc)?;
     let mut text = String::new(alloc);
     if let Some((call, words)) = words.split_first() {
@@ -136,7 +137,7 @@ fn answered(alloc: Global, line: &str) -> Result<String, AllocError> {
 }
 
 /// Tells a line and its answer.
-fn tell<W: Write>(alloc: Global, out: &mut W, line: &str) -> Result<(), AllocError> {
+fn tell<W: Write>(alloc: Global, out: &mut W, line: &str) -> Result<(), NoMemory> {
     if line.starts_with('#') {
         let _ = writeln!(out, "{line}");
         return Ok(());

@@ -1,8 +1,7 @@
 //! The address map without a board. `edges` and cards, then `dev.off.bytes=value` stores and `addr?` asks for the next edge
 //! above an address; `touches` and cards, then `dev.off.bytes` asks whether the map depends on a byte of such a store;
-//! `changes` and cards, then stores, each told with the first and last address of what it may have changed, and at last how many
-//! they were and how many ranges there are; `windows` the same, each told with the windows that the last map write changed;
-//! `reset` is a hard reset.
+//! `changes` and cards, then stores, each told with the first and last address of what it may have changed; `windows` the
+//! same, each told with the windows that the last map write changed; `reset` is a hard reset.
 
 ghost use Rattle.std.specs.Prelude.{◌≡◌, ◌<◌, ◌≤◌, IfSome};
 ghost use Rattle.board_spec.specs.Setup.{IsCard};
@@ -12,7 +11,7 @@ ghost use Rattle.map_builder.specs.Map.{next_version};
 use crate::told::{push_some, space};
 use addr_decode::{MapChange, MapRegs, next_edge, touches};
 use arrayvec::ArrayVec;
-use board_base::{Reg, Steps, Width};
+use board_base::{NoMemory, Reg, Steps, Width};
 use call_words::{byte, number, width};
 use map_builder::{Changed, FlatMap};
 use pci_bars::{BaseSpec, CardSpec};
@@ -21,7 +20,7 @@ use std::marker::Brand;
 use std::sync::ledger::{Blank, Ledger};
 
 /// A card with one base, of 2^K bytes of memory.
-fn memory_card(dev: u8, vga: bool, k: u8) -> CardSpec
+fn memory_card(dev: u8, k: u8) -> CardSpec
     requires from { 2 ≤ dev }
     requires to { dev ≤ 9 }
     requires least { 4 ≤ k }
@@ -33,27 +32,25 @@ fn memory_card(dev: u8, vga: bool, k: u8) -> CardSpec
     bases.push(BaseSpec::Memory(k));
     CardSpec {
         dev,
-        vga,
+        vga: false,
         bases,
         rom: None,
     }
 }
 
-/// A card with a base of 2^K bytes of memory and one of 16 ports.
-fn port_card(dev: u8, vga: bool, k: u8) -> CardSpec
+/// A VGA card with a base of 1 MiB of memory and one of 16 ports.
+fn vga_card(dev: u8) -> CardSpec
     requires from { 2 ≤ dev }
     requires to { dev ≤ 9 }
-    requires least { 4 ≤ k }
-    requires most { k ≤ 24 }
     ensures card { IsCard result }
     ensures dev { result.dev ≡ dev }
 {
     let mut bases = ArrayVec::new();
-    bases.push(BaseSpec::Memory(k));
+    bases.push(BaseSpec::Memory(20));
     bases.push(BaseSpec::Io(4));
     CardSpec {
         dev,
-        vga,
+        vga: true,
         bases,
         rom: None,
     }
@@ -75,16 +72,14 @@ fn rom_card(dev: u8) -> CardSpec
 }
 
 /// The registers after a reset: with no card; with bases of 1 MiB and 4 KiB at devices 2 and 3; with an expansion ROM at
-/// device 2 and a base of 4 KiB at device 3; with a VGA card at device 2 and an expansion ROM at device 3; or with the cards
-/// of the script that `make` does.
+/// device 2 and a base of 4 KiB at device 3; or with a VGA card at device 2 and an expansion ROM at device 3.
 fn registers(cards: &str) -> MapRegs
     ensures fitted { AreFitted result.cards.items }
 {
     match cards {
-        "bases" => MapRegs::reset_of(&[memory_card(2, false, 20), memory_card(3, false, 12)]),
-        "rom" => MapRegs::reset_of(&[rom_card(2), memory_card(3, false, 12)]),
-        "vga" => MapRegs::reset_of(&[port_card(2, true, 20), rom_card(3)]),
-        "made" => MapRegs::reset_of(&[memory_card(2, true, 20), port_card(3, false, 12)]),
+        "bases" => MapRegs::reset_of(&[memory_card(2, 20), memory_card(3, 12)]),
+        "rom" => MapRegs::reset_of(&[rom_card(2), memory_card(3, 12)]),
+        "vga" => MapRegs::reset_of(&[vga_card(2), rom_card(3)]),
         _ => MapRegs::reset_of(&[]),
     }
 }
@@ -130,9 +125,9 @@ fn act(regs: &mut MapRegs, step: &str, text: &mut String) -> Result<(), AllocErr
 }
 
 /// Stores, and the next edges above addresses.
-pub fn tell_edges(words: &[&str], text: &mut String) -> Result<(), AllocError> {
+pub fn tell_edges(words: &[&str], text: &mut String) -> Result<(), NoMemory> {
     let Some((cards, steps)) = words.split_first() else {
-        return text.push_str("no cards");
+        return Ok(text.push_str("no cards")?);
     };
     let mut regs = registers(cards);
     for step in steps {
@@ -157,9 +152,9 @@ fn push_touches(text: &mut String, regs: &MapRegs, word: &str) -> Result<(), All
 }
 
 /// Whether the map depends on a byte of each place.
-pub fn tell_touches(words: &[&str], text: &mut String) -> Result<(), AllocError> {
+pub fn tell_touches(words: &[&str], text: &mut String) -> Result<(), NoMemory> {
     let Some((cards, places)) = words.split_first() else {
-        return text.push_str("no cards");
+        return Ok(text.push_str("no cards")?);
     };
     let regs = registers(cards);
     for word in places {
@@ -190,11 +185,6 @@ fn is_other(map: &FlatMap, copy: &mut FlatMap, change: &MapChange, changed: Chan
     again != changed || copy.ranges() != map.ranges()
 }
 
-/// Whether a map has the ranges of one that is built from its registers.
-fn is_anew(map: &FlatMap) -> bool {
-    FlatMap::from_scratch(map.regs().copy()).ranges() == map.ranges()
-}
-
 /// Makes a change by both calls, and tells the first and last address of what it may have changed.
 fn tell_change(map: &mut FlatMap, change: &MapChange, text: &mut String) -> Result<(), AllocError> {
     let mut copy = map.copy();
@@ -203,11 +193,7 @@ fn tell_change(map: &mut FlatMap, change: &MapChange, text: &mut String) -> Resu
     if is_other(map, &mut copy, change, changed) {
         return text.push_str(" counted as another change");
     }
-    text.push_str(if is_anew(map) {
-        ""
-    } else {
-        " built as another map"
-    })
+    Ok(())
 }
 
 /// A change of a map, on a line of its own.
@@ -222,16 +208,15 @@ fn push_change(map: &mut FlatMap, step: &str, text: &mut String) -> Result<(), A
 }
 
 /// Changes of a map, one after another.
-pub fn tell_changes(words: &[&str], text: &mut String) -> Result<(), AllocError> {
+pub fn tell_changes(words: &[&str], text: &mut String) -> Result<(), NoMemory> {
     let Some((cards, steps)) = words.split_first() else {
-        return text.push_str("no cards");
+        return Ok(text.push_str("no cards")?);
     };
     let mut map = FlatMap::from_scratch(registers(cards));
     for step in steps {
         push_change(&mut map, step, text)?;
     }
-    let (changes, ranges) = (map.version(), map.ranges().len());
-    write!(text, "\n  {changes} changes, {ranges} ranges")
+    Ok(())
 }
 
 /// Makes a change, a store by the call that tells nothing.
@@ -285,9 +270,9 @@ fn push_step(map: &mut FlatMap, step: &str, text: &mut String) -> Result<(), All
 }
 
 /// Changes of a map, one after another, with the windows that stand after each.
-pub fn tell_windows(words: &[&str], text: &mut String) -> Result<(), AllocError> {
+pub fn tell_windows(words: &[&str], text: &mut String) -> Result<(), NoMemory> {
     let Some((cards, steps)) = words.split_first() else {
-        return text.push_str("no cards");
+        return Ok(text.push_str("no cards")?);
     };
     let mut map = FlatMap::from_scratch(registers(cards));
     write!(text, "{} windows", map.changed().len())?;

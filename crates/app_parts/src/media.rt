@@ -7,7 +7,7 @@ ghost use Rattle.std.specs.Prelude.{◌<◌};
 
 use crate::told::{push_bytes, push_hex, push_register, space};
 use ata_pio::Ata;
-use board_base::Width;
+use board_base::{NoMemory, Width};
 use call_words::{byte, number, port};
 use cmos_clock::Cmos;
 use std::alloc::{AllocError, Global};
@@ -48,13 +48,13 @@ fn push_kept(text: &mut String, clock: &mut Cmos, address: u8) -> Result<(), All
 }
 
 /// What `bytes` and the data port give of these addresses after a write of FFh to each.
-pub fn tell_clock(addresses: &[&str], text: &mut String) -> Result<(), AllocError> {
+pub fn tell_clock(addresses: &[&str], text: &mut String) -> Result<(), NoMemory> {
     let mut clock = Cmos::new();
     clock.port_write(INDEX, ELSEWHERE);
     for word in addresses {
         push_kept(text, &mut clock, byte(word) & 0x7F)?;
     }
-    write!(text, "of {}", clock.bytes().len())
+    Ok(write!(text, "of {}", clock.bytes().len())?)
 }
 
 const SECTOR_BYTES: u32 = 512;
@@ -201,15 +201,15 @@ fn disk_of(alloc: Global, sectors: u32) -> Result<Option<Ata>, AllocError> {
 }
 
 /// Does all steps at a new disk of so many sectors.
-pub fn tell_disk(alloc: Global, words: &[&str], text: &mut String) -> Result<(), AllocError> {
+pub fn tell_disk(alloc: Global, words: &[&str], text: &mut String) -> Result<(), NoMemory> {
     let Some((sectors, steps)) = words.split_first() else {
-        return text.push_str("no disk");
+        return Ok(text.push_str("no disk")?);
     };
     let Some(mut disk) = disk_of(alloc, number(sectors))? else {
-        return text.push_str("no disk");
+        return Ok(text.push_str("no disk")?);
     };
     act_all(&mut disk, steps, text)?;
-    push_end(text, &disk.into_bytes())
+    Ok(push_end(text, &disk.into_bytes())?)
 }
 
 /// How many bytes a disk gives back, and the last four.

@@ -3,6 +3,7 @@
 //! level of INT; `ack` tells the vector and the chip of an acknowledge, and whether it is spurious.
 
 use crate::told::push_byte;
+use board_base::NoMemory;
 use board_base::bits::is_set;
 use call_words::{byte, port};
 use pic_pair::{Lines, PicPair};
@@ -59,7 +60,7 @@ fn act(pair: &mut PicPair, step: &str, text: &mut String) -> Result<(), AllocErr
 }
 
 /// Does all steps at a new pair.
-pub fn tell(steps: &[&str], text: &mut String) -> Result<(), AllocError> {
+pub fn tell(steps: &[&str], text: &mut String) -> Result<(), NoMemory> {
     let mut pair = PicPair::new();
     for step in steps {
         if let Some(lines) = step.strip_prefix('@') {

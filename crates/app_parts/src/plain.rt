@@ -2,7 +2,7 @@
 //! whether it fits and whether an address is aligned. `moment 2024 2 29 23 59 59` tells the weekday, from 1 for Sunday, or that
 //! there is no such moment.
 
-use board_base::{Moment, Width};
+use board_base::{Moment, NoMemory, Width};
 use call_words::{decimal, number, width};
 use std::alloc::AllocError;
 
@@ -21,9 +21,9 @@ fn push_fits(text: &mut String, width: Width, number: u32) -> Result<(), AllocEr
 }
 
 /// A width, and numbers.
-pub fn tell_width(words: &[&str], text: &mut String) -> Result<(), AllocError> {
+pub fn tell_width(words: &[&str], text: &mut String) -> Result<(), NoMemory> {
     let Some((bytes, numbers)) = words.split_first() else {
-        return text.push_str("no width");
+        return Ok(text.push_str("no width")?);
     };
     let width = width(bytes);
     write!(text, "{} {:X}", width.bytes(), width.largest())?;
@@ -53,12 +53,12 @@ fn moment(date: [&str; 3], time: [&str; 3]) -> Option<Moment> {
 }
 
 /// A moment.
-pub fn tell_moment(words: &[&str], text: &mut String) -> Result<(), AllocError> {
+pub fn tell_moment(words: &[&str], text: &mut String) -> Result<(), NoMemory> {
     let [year, month, day, hour, minute, second] = words else {
-        return text.push_str("no moment");
+        return Ok(text.push_str("no moment")?);
     };
     match moment([*year, *month, *day], [*hour, *minute, *second]) {
-        Some(moment) => write!(text, "{}", moment.weekday),
-        None => text.push_str("none"),
+        Some(moment) => Ok(write!(text, "{}", moment.weekday)?),
+        None => Ok(text.push_str("none")?),
     }
 }

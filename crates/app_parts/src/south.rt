@@ -1,6 +1,7 @@
 //! The south bridge's parts by themselves, each line a new one.
 
 use crate::told::{push_byte, push_register, push_some};
+use board_base::NoMemory;
 use call_words::{byte, number, port};
 use device_spec::LINE_COUNT;
 use pirq_router::{Elcr, Pirq};
@@ -22,7 +23,7 @@ fn act_elcr(elcr: &mut Elcr, step: &str, text: &mut String) -> Result<(), AllocE
 }
 
 /// The edge and level control registers: `low=FF` writes one, `high?` reads one, `reset` is one.
-pub fn tell_elcr(steps: &[&str], text: &mut String) -> Result<(), AllocError> {
+pub fn tell_elcr(steps: &[&str], text: &mut String) -> Result<(), NoMemory> {
     let mut elcr = Elcr::new();
     for step in steps {
         if *step == "reset" {
@@ -74,7 +75,7 @@ fn act_routes(pirq: &mut Pirq, step: &str, text: &mut String) -> Result<(), Allo
 }
 
 /// The routes: `60=0B` writes PIRQRCA, `60?` reads it, `@1101` tells the lines that these pins drive, `reset` is one.
-pub fn tell_routes(steps: &[&str], text: &mut String) -> Result<(), AllocError> {
+pub fn tell_routes(steps: &[&str], text: &mut String) -> Result<(), NoMemory> {
     let mut pirq = Pirq::new();
     for step in steps {
         if *step == "reset" {
@@ -87,7 +88,7 @@ pub fn tell_routes(steps: &[&str], text: &mut String) -> Result<(), AllocError> 
 }
 
 /// A register of the IDE function after a reset, after ones, and after a reset again.
-pub fn tell_ide(offsets: &[&str], text: &mut String) -> Result<(), AllocError> {
+pub fn tell_ide(offsets: &[&str], text: &mut String) -> Result<(), NoMemory> {
     let mut ide = Ide::new();
     for off in offsets {
         let off = byte(off);
@@ -101,7 +102,7 @@ pub fn tell_ide(offsets: &[&str], text: &mut String) -> Result<(), AllocError> {
 }
 
 /// The same of the ISA bridge.
-pub fn tell_isa(offsets: &[&str], text: &mut String) -> Result<(), AllocError> {
+pub fn tell_isa(offsets: &[&str], text: &mut String) -> Result<(), NoMemory> {
     let mut piix = Piix::new();
     for off in offsets {
         let off = byte(off) % ISA_END;
@@ -145,13 +146,13 @@ fn push_selects(text: &mut String, piix: &Piix, ports: &[&str]) -> Result<(), Al
 }
 
 /// Whether XBCS, the IDE command and IDETIM select each port, after what they read.
-pub fn tell_selects(words: &[&str], text: &mut String) -> Result<(), AllocError> {
+pub fn tell_selects(words: &[&str], text: &mut String) -> Result<(), NoMemory> {
     let [xbcs, command, timing, ports @ ..] = words else {
-        return text.push_str("no registers");
+        return Ok(text.push_str("no registers")?);
     };
     let piix = programmed(byte(xbcs), byte(command), port(timing));
     push_programmed(text, &piix)?;
-    push_selects(text, &piix, ports)
+    Ok(push_selects(text, &piix, ports)?)
 }
 
 /// Whether the ROM is selected at an address.
@@ -164,16 +165,16 @@ fn push_selected(text: &mut String, xbcs: u8, addr: u32) -> Result<(), AllocErro
 }
 
 /// The offset in a ROM of so many bytes that an address has under XBCS, and whether the ROM is selected at all.
-pub fn tell_bios(xbcs: &str, addr: &str, size: &str, text: &mut String) -> Result<(), AllocError> {
+pub fn tell_bios(xbcs: &str, addr: &str, size: &str, text: &mut String) -> Result<(), NoMemory> {
     let (xbcs, addr, size) = (byte(xbcs), number(addr), number(size));
     if size == 0 {
-        return text.push_str("no ROM");
+        return Ok(text.push_str("no ROM")?);
     }
     push_some(text, rom_offset(xbcs, addr, size))?;
-    push_selected(text, xbcs, addr)
+    Ok(push_selected(text, xbcs, addr)?)
 }
 
 /// XBCS after a write over an old byte.
-pub fn tell_xbcs(old: &str, written: &str, text: &mut String) -> Result<(), AllocError> {
-    write!(text, "{:02X}", xbcs_after(byte(old), byte(written)))
+pub fn tell_xbcs(old: &str, written: &str, text: &mut String) -> Result<(), NoMemory> {
+    Ok(write!(text, "{:02X}", xbcs_after(byte(old), byte(written)))?)
 }

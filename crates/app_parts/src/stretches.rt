@@ -6,7 +6,7 @@ ghost use Rattle.board_base.specs.Access.{bytes_of};
 
 use crate::told::{push_bytes, push_hex, space};
 use arrayvec::ArrayVec;
-use board_base::{PortAccess, Width};
+use board_base::{NoMemory, PortAccess, Width};
 use board_stores::port_cycles;
 use call_words::{byte, bytes_of, number, port_access, width};
 use dram_store::Dram;
@@ -49,10 +49,10 @@ fn push_cycles(text: &mut String, access: &PortAccess) -> Result<(), AllocError>
 }
 
 /// Tells the cycles of an access to ports.
-pub fn tell_cycles(words: &[&str], text: &mut String) -> Result<(), AllocError> {
+pub fn tell_cycles(words: &[&str], text: &mut String) -> Result<(), NoMemory> {
     match access_of(words) {
-        Some(access) => push_cycles(text, &access),
-        None => text.push_str("no access"),
+        Some(access) => Ok(push_cycles(text, &access)?),
+        None => Ok(text.push_str("no access")?),
     }
 }
 
@@ -169,14 +169,12 @@ fn act_all(
 }
 
 /// Does all steps at a new memory of 1 to 3 MiB.
-pub fn tell_dram(alloc: Global, words: &[&str], text: &mut String) -> Result<(), AllocError> {
+pub fn tell_dram(alloc: Global, words: &[&str], text: &mut String) -> Result<(), NoMemory> {
     let Some((mib, steps)) = words.split_first() else {
-        return text.push_str("no memory");
+        return Ok(text.push_str("no memory")?);
     };
-    let Ok(mut dram) = Dram::open(alloc, 1 + number(mib).wrapping_sub(1) % 3) else {
-        return Err(AllocError);
-    };
-    act_all(alloc, &mut dram, steps, text)
+    let mut dram = Dram::open(alloc, 1 + number(mib).wrapping_sub(1) % 3)?;
+    Ok(act_all(alloc, &mut dram, steps, text)?)
 }
 
 /// The device of the card, whose base 0 has 1 MiB of memory and whose base 1 has 16 ports.
@@ -248,9 +246,7 @@ fn act_on_card(
 }
 
 /// Does all steps at the bytes of a card.
-pub fn tell_card(alloc: Global, steps: &[&str], text: &mut String) -> Result<(), AllocError> {
-    let Ok(mut contents) = Contents::open(alloc, &[card()]) else {
-        return Err(AllocError);
-    };
-    act_on_card(alloc, &mut contents, steps, text)
+pub fn tell_card(alloc: Global, steps: &[&str], text: &mut String) -> Result<(), NoMemory> {
+    let mut contents = Contents::open(alloc, &[card()])?;
+    Ok(act_on_card(alloc, &mut contents, steps, text)?)
 }

@@ -3,6 +3,7 @@
 //! counter 0 rose, and its level. `?` asks after how many pulses it next rises.
 
 use crate::told::space;
+use board_base::NoMemory;
 use call_words::{byte, decimal};
 use pit_8254::{CONTROL_WORD, COUNTER_0, COUNTER_2, Pit, Rises};
 use std::alloc::{AllocError, Global};
@@ -49,7 +50,7 @@ fn act(pit: &mut Pit, step: &str, text: &mut String) -> Result<(), AllocError> {
 }
 
 /// Does all steps at a new timer.
-pub fn tell(steps: &[&str], text: &mut String) -> Result<(), AllocError> {
+pub fn tell(steps: &[&str], text: &mut String) -> Result<(), NoMemory> {
     let mut pit = Pit::new();
     for step in steps {
         space(text)?;
@@ -112,12 +113,12 @@ fn differences(mode: u8, decimal: bool, count: u8, gate: bool) -> u32 {
 }
 
 /// The same over all modes, binary and decimal counts from 0 to 63, and both levels of gate 2.
-pub fn tell_runs(text: &mut String) -> Result<(), AllocError> {
+pub fn tell_runs(text: &mut String) -> Result<(), NoMemory> {
     let mut found = 0u32;
     for case in 0..1536u32 {
         let (mode, count) = ((case % 6) as u8, (case / 24) as u8);
         let (decimal, gate) = (case / 6 % 2 == 0, case / 12 % 2 == 0);
         found = found.wrapping_add(differences(mode, decimal, count, gate));
     }
-    write!(text, "{found} differences")
+    Ok(write!(text, "{found} differences")?)
 }

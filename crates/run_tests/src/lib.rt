@@ -1,4 +1,4 @@
-//! Tests of the commands: faults, the calls of the outside, and the order of a run.
+//! Tests of the commands: faults, the calls of the outside, the order of a run, and the map after each write.
 #![tactic(auto)]
 
 #[cfg(test)]
@@ -9,6 +9,8 @@ mod counting_gate;
 mod eight;
 #[cfg(test)]
 mod holding_gate;
+#[cfg(test)]
+mod made_maps;
 #[cfg(test)]
 mod orders;
 #[cfg(test)]

@@ -1,6 +1,7 @@
 //! The files of the commands, which are made longer step by step.
 
-use crate::log::log_of_rounds;
+use crate::longest_log::log_of_rounds;
+use crate::texts::text_of;
 use board_base::NoMemory;
 use board_outside::SafeShelf;
 use call_words::decimal;
@@ -54,37 +55,22 @@ fn append(
 }
 
 /// Appends a text to a file so many times.
-pub fn add(
-    alloc: Global,
-    shelf: &mut SafeShelf,
-    name: &str,
-    count: &str,
-    text: &str,
-) -> Result<(), NoMemory> {
-    let text = text.replace(alloc, '|', "\n")?;
+pub fn add(alloc: Global, shelf: &mut SafeShelf, name: &str, rest: &str) -> Result<(), NoMemory> {
+    let (count, text) = rest.split_once(' ').unwrap_or(("", ""));
+    let text = text_of(alloc, text)?;
     append(alloc, &mut shelf.files, name, count, text.as_bytes())
 }
 
 /// Appends the bytes of digits to a file so many times.
-pub fn put(
-    alloc: Global,
-    shelf: &mut SafeShelf,
-    name: &str,
-    count: &str,
-    digits: &str,
-) -> Result<(), NoMemory> {
+pub fn put(alloc: Global, shelf: &mut SafeShelf, name: &str, rest: &str) -> Result<(), NoMemory> {
+    let (count, digits) = rest.split_once(' ').unwrap_or(("", ""));
     let bytes = call_words::bytes_of(alloc, digits)?;
     append(alloc, &mut shelf.files, name, count, &bytes)
 }
 
 /// Appends the bytes of another file to a file so many times.
-pub fn join(
-    alloc: Global,
-    shelf: &mut SafeShelf,
-    name: &str,
-    count: &str,
-    other: &str,
-) -> Result<(), NoMemory> {
+pub fn join(alloc: Global, shelf: &mut SafeShelf, name: &str, rest: &str) -> Result<(), NoMemory> {
+    let (count, other) = rest.split_once(' ').unwrap_or(("", ""));
     let bytes = bytes_of(&shelf.files, other).to_vec(alloc)?;
     append(alloc, &mut shelf.files, name, count, &bytes)
 }

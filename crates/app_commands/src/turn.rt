@@ -1,9 +1,10 @@
 //! A log each byte of which is set to each value.
 
-use crate::command::{done, words_of};
 use crate::files::{Files, bytes_of};
+use crate::in_memory::end_of;
+use crate::lines::words_of;
 use board_base::NoMemory;
-use board_outside::SafeShelf;
+use board_outside::{SafeShelf, SafeSink};
 use board_run::Status;
 use std::io::Write;
 use std::sync::Wait;
@@ -33,7 +34,7 @@ fn wrong_at<R: AllocGlobal + Threads + Wait + Sync>(
     let mut wrong = 0u32;
     for other in 0..=255 {
         set(&mut shelf.files, name, at, other);
-        let (status, _) = done(rt, shelf, words);
+        let status = end_of(rt, shelf, words, &mut SafeSink::new(rt.alloc()));
         let due = if other == byte {
             Status::Done
         } else {
