@@ -184,15 +184,15 @@ module _ (setup : Setup) (bytes : Bytes) (t : Transfer) (is : IsTransfer t) (cel
           region_piece (Ended done) told = (
             refl,
             rw (ended_is done t.moved told.0)
-            (elim (told.1) [
-              | inl nobody ↦
-                  early done.end
-                  (next_no_base setup bytes (master_in t) t.lba cells medium (place_of t) on there_is used_is done.end nobody)
-              | inr nobody ↦
-                  early done.end
-                  (next_no_count setup bytes (master_in t) t.lba cells medium (place_of t) on there_is used_is done.end
-                  nobody.0 nobody.1)
-            ]),
+                (elim (told.1) [
+                  | inl nobody ↦
+                      early done.end
+                      (next_no_base setup bytes (master_in t) t.lba cells medium (place_of t) on there_is used_is done.end nobody)
+                  | inr nobody ↦
+                      early done.end
+                      (next_no_count setup bytes (master_in t) t.lba cells medium (place_of t) on there_is used_is done.end
+                      nobody.0 nobody.1)
+                ]),
           )
 
         -- ---- a region is in use
@@ -290,8 +290,8 @@ module _ (setup : Setup) (bytes : Bytes) (t : Transfer) (is : IsTransfer t) (cel
           words_piece fits new (Ended done) told = (
             told.0,
             rw (ended_is done t.moved told.1)
-            (early done.end
-            (next_unanswered setup bytes (master_in t) t.lba cells medium (place_of t) on there_is left_is done.end told.2)),
+                (early done.end
+                (next_unanswered setup bytes (master_in t) t.lba cells medium (place_of t) on there_is left_is done.end told.2)),
           )
 
 -- ---- of a transfer that has come as far as the definition's

@@ -13,12 +13,11 @@ pub returns-then-is_moved-clause-piece : goal.returns-then-is_moved-clause-piece
 returns-then-is_moved-clause-piece c = λ setup bytes moving stands at.
     let t = c.args.self.now in
     subst (λ (m : Moving). IsPiece setup bytes t t m (Ended c.done.result))
-    (now_is setup bytes t c.requires.sound moving at)
-    (
+    (now_is setup bytes t c.requires.sound moving at) (
       refl,
       rw c.done.ensures.done
-      (all_moved setup bytes t c.requires.sound moving.cells moving.medium (c.is_moved.ensures.all c.if-is_moved.true)
-      c.last_end.result c.last_end.ensures.end),
+          (all_moved setup bytes t c.requires.sound moving.cells moving.medium (c.is_moved.ensures.all c.if-is_moved.true)
+          c.last_end.result c.last_end.ensures.end),
     )
 
 pub returns-then-is_over-clause-piece : goal.returns-then-is_over-clause-piece
@@ -26,12 +25,11 @@ returns-then-is_over-clause-piece c = λ setup bytes moving stands at.
     let t = c.args.self.now in
     let more = c.is_moved.ensures.more c.if-is_moved.false in
     subst (λ (m : Moving). IsPiece setup bytes t t m (Ended c.done.result))
-    (now_is setup bytes t c.requires.sound moving at)
-    (
+    (now_is setup bytes t c.requires.sound moving at) (
       refl,
       rw c.done.ensures.done
-      (ends_over setup bytes t c.requires.sound moving.cells moving.medium more
-      (sym c.is_over.ensures.over ∙ c.if-is_over.true)),
+          (ends_over setup bytes t c.requires.sound moving.cells moving.medium more
+          (sym c.is_over.ensures.over ∙ c.if-is_over.true)),
     )
 
 pub returns-then-misses-clause-piece : goal.returns-then-misses-clause-piece
@@ -40,12 +38,11 @@ returns-then-misses-clause-piece c = λ setup bytes moving stands at.
     let more = c.is_moved.ensures.more c.if-is_moved.false in
     let on = sym c.is_over.ensures.over ∙ c.if-is_over.false in
     subst (λ (m : Moving). IsPiece setup bytes t t m (Ended c.done.result))
-    (now_is setup bytes t c.requires.sound moving at)
-    (
+    (now_is setup bytes t c.requires.sound moving at) (
       refl,
       rw (c.done.ensures.done, c.sector-lba.ensures.sector)
-      (ends_missing setup bytes t c.requires.sound moving.cells moving.medium more on at.readable
-      (sym c.misses.ensures.misses ∙ c.if-misses.true)),
+          (ends_missing setup bytes t c.requires.sound moving.cells moving.medium more on at.readable
+          (sym c.misses.ensures.misses ∙ c.if-misses.true)),
     )
 
 pub returns-then-self-eq0-clause-piece : goal.returns-then-self-eq0-clause-piece
