@@ -1,4 +1,5 @@
-/* The terminal on COM1: what the guest sends is printed, what is typed it receives. Ctrl-A and x end the monitor. */
+/* The terminal on COM1: what the guest sends is printed, what is typed it receives. Ctrl-A takes a key for the monitor: x ends
+ * it, s saves the guest, f tells the figures. */
 #define _POSIX_C_SOURCE 200809L
 #include "machine.h"
 #include <poll.h>
@@ -8,24 +9,31 @@
 #include <termios.h>
 #include <unistd.h>
 
-enum { CTRL_A = 1, ENDING = 'x' };
+enum { CTRL_A = 1, ENDING = 'x', SAVING = 's', FIGURES = 'f' };
 
 static struct termios before;
-static volatile sig_atomic_t ended;
+static volatile sig_atomic_t ended, save_asked;
 
 static void give_back(void) { tcsetattr(STDIN_FILENO, TCSANOW, &before); }
 
 static void on_signal(int number) {
-    (void)number;
-    ended = 1;
+    if (number == SIGUSR1) save_asked = 1;
+    else ended = 1;
 }
 
 bool console_ended(void) { return ended; }
+
+bool console_save_asked(void) {
+    bool asked = save_asked;
+    save_asked = 0;
+    return asked;
+}
 
 void console_open(void) {
     struct sigaction act = {.sa_handler = on_signal};
     sigaction(SIGTERM, &act, NULL);
     sigaction(SIGINT, &act, NULL);
+    sigaction(SIGUSR1, &act, NULL);
     if (!isatty(STDIN_FILENO) || tcgetattr(STDIN_FILENO, &before)) return;
     atexit(give_back);
     struct termios raw = before;
@@ -40,26 +48,30 @@ void console_put(uint8_t byte) {
     putchar(byte);
 }
 
-/* A byte that was typed for the guest, or -1. Ctrl-A takes the next one for the monitor: x ends it, another is sent. */
+/* A key for the monitor. Any other than these is sent to the guest. */
+static bool is_taken(machine *m, uint8_t key) {
+    switch (key) {
+    case ENDING: ended = 1; return true;
+    case SAVING: save_asked = 1; return true;
+    case FIGURES: machine_tell(m, "running"); return true;
+    default: return false;
+    }
+}
+
+/* A byte that was typed for the guest, or -1. */
 static int typed(machine *m) {
     static bool for_monitor;
     struct pollfd in = {.fd = STDIN_FILENO, .events = POLLIN};
     uint8_t byte;
-    if (m->console_closed || poll(&in, 1, 0) <= 0) return -1;
-    if (read(STDIN_FILENO, &byte, 1) != 1) {
-        m->console_closed = true;
-        return -1;
+    while (!m->console_closed && poll(&in, 1, 0) > 0) {
+        if (read(STDIN_FILENO, &byte, 1) != 1) m->console_closed = true;
+        else if (for_monitor) {
+            for_monitor = false;
+            if (!is_taken(m, byte)) return byte;
+        } else if (byte == CTRL_A) for_monitor = true;
+        else return byte;
     }
-    if (!for_monitor && byte == CTRL_A) {
-        for_monitor = true;
-        return typed(m);
-    }
-    if (for_monitor && byte == ENDING) {
-        ended = 1;
-        return -1;
-    }
-    for_monitor = false;
-    return byte;
+    return -1;
 }
 
 void console_listen(machine *m) {

@@ -44,13 +44,15 @@ static uint32_t use_fw_cfg(machine *m, uint8_t kind, uint32_t port, uint32_t val
     return 0;
 }
 
-/* What the virtio card gives in the place of the board's value: at its ports, and of its configuration bytes. */
+static bool is_virtio(const machine *m, const board_part *p) {
+    return m->options.virtio && p->target == BOARD_CARD && p->unit == VIRTIO_DEVICE;
+}
+
+/* What the virtio card gives at its ports, in the place of the bytes that the board keeps there. */
 static uint32_t use_virtio(machine *m, const board_part *p, uint8_t kind, uint8_t bytes, uint32_t value) {
-    if (p->unit != VIRTIO_DEVICE) return value;
-    if (p->target == BOARD_CONFIG && kind == BOARD_READ) return virtio_identity(p->offset, bytes, value);
-    if (p->target == BOARD_CARD && kind == BOARD_READ) return virtio_read(m, p->offset, bytes);
-    if (p->target == BOARD_CARD) virtio_write(m, p->offset, value);
-    return value;
+    if (kind == BOARD_READ) return virtio_read(m, p->offset, bytes);
+    virtio_write(m, p->offset, value);
+    return 0;
 }
 
 static bool is_disk(const machine *m, const board_reply *reply) {
@@ -68,7 +70,7 @@ static uint32_t cycle_at(machine *m, uint8_t kind, uint32_t port, uint8_t bytes,
     if (is_fw_cfg(m, &reply, kind, port, bytes)) return use_fw_cfg(m, kind, port, value);
     if (port == DISK_DATA) m->counts.disk_words += bytes / DISK_WORD;
     if (is_disk(m, &reply)) return identify_see(m, kind, port, bytes, kind == BOARD_READ ? (uint32_t)reply.value : value);
-    if (m->options.virtio) return use_virtio(m, &reply.part[0], kind, bytes, kind == BOARD_READ ? (uint32_t)reply.value : value);
+    if (is_virtio(m, &reply.part[0])) return use_virtio(m, &reply.part[0], kind, bytes, value);
     return (uint32_t)reply.value;
 }
 

@@ -1,5 +1,6 @@
 /* The guest's processor is the host's, by KVM. The interrupt controllers, the timer and the map are the board's. */
 #define _GNU_SOURCE
+#include "kvm_state.h"
 #include "machine.h"
 #include <errno.h>
 #include <fcntl.h>
@@ -31,7 +32,7 @@ enum {
 #define TASK_PAGES 0xFEFFD000ul
 
 static machine m;
-static int vm, cpu;
+static int kvm, vm, cpu;
 static struct kvm_run *run;
 static struct kvm_sregs first_sregs;
 static memory_slot slots[MOST_SLOTS]; /* as KVM has them; host NULL is none */
@@ -50,6 +51,8 @@ static uint64_t host_time(void) {
 }
 
 uint64_t processor_time(void) { return host_time() - began; }
+
+void processor_wrote(uint64_t addr, uint64_t bytes) { (void)addr, (void)bytes; }
 
 static void on_alarm(int number) {
     (void)number;
@@ -96,7 +99,7 @@ static void move_slots(void) {
 /* ---- the processor */
 
 /* The host's processor without an APIC, since the board has none, and without KVM's own devices. */
-static void set_cpuid(int kvm) {
+static void set_cpuid(void) {
     struct kvm_cpuid2 *id = calloc(1, sizeof *id + MOST_CPUID * sizeof *id->entries);
     uint32_t kept = 0;
     if (!id) fail("memory");
@@ -127,9 +130,28 @@ static void reset_processor(void) {
     if (ioctl(cpu, KVM_SET_SREGS, &s) || ioctl(cpu, KVM_SET_REGS, &r) || ioctl(cpu, KVM_SET_VCPU_EVENTS, &none)) fail("KVM_SET_REGS");
 }
 
+const uint32_t processor_kind = PROCESSOR_KVM;
+static bool halted; /* it waits for an interrupt, and runs no more in KVM until then */
+
+size_t processor_bytes(void) { return kvm_state_bytes(); }
+
+void processor_save(uint8_t *into) { kvm_state_save(kvm, cpu, halted, into); }
+
+/* The processor at reset, or that of a guest that was loaded. */
+static void start_processor(void) {
+    reset_processor();
+    if (!m.processor) return;
+    if (m.processor_bytes != kvm_state_bytes()) {
+        fprintf(stderr, "monitor: %s: a processor that another monitor saved\n", m.options.load);
+        exit(1);
+    }
+    halted = kvm_state_load(cpu, m.processor);
+    m.processor = NULL;
+}
+
 static void open_kvm(void) {
     uint64_t identity = IDENTITY_PAGE;
-    int kvm = open("/dev/kvm", O_RDWR | O_CLOEXEC);
+    kvm = open("/dev/kvm", O_RDWR | O_CLOEXEC);
     if (kvm < 0) fail("/dev/kvm");
     if ((vm = ioctl(kvm, KVM_CREATE_VM, 0)) < 0) fail("KVM_CREATE_VM");
     ioctl(vm, KVM_SET_IDENTITY_MAP_ADDR, &identity);
@@ -138,7 +160,7 @@ static void open_kvm(void) {
     int bytes = ioctl(kvm, KVM_GET_VCPU_MMAP_SIZE, 0);
     run = mmap(NULL, (size_t)bytes, PROT_READ | PROT_WRITE, MAP_SHARED, cpu, 0);
     if (run == MAP_FAILED) fail("KVM_GET_VCPU_MMAP_SIZE");
-    set_cpuid(kvm);
+    set_cpuid();
     if (ioctl(cpu, KVM_GET_SREGS, &first_sregs)) fail("KVM_GET_SREGS");
 }
 
@@ -150,10 +172,21 @@ static void serve_port(void) {
         done = machine_string(&m, kind, run->io.port, run->io.size, data, left);
 }
 
-/* The instruction that asked for it ends first. A soft reset is the processor's alone. */
-static void serve_reset(void) {
+/* The instruction that made the last exit ends, and no other begins. */
+static void end_instruction(void) {
     run->immediate_exit = 1;
     ioctl(cpu, KVM_RUN, 0);
+}
+
+static void save_where_asked(void) {
+    if (!console_save_asked()) return;
+    end_instruction();
+    machine_save(&m);
+}
+
+/* A soft reset is the processor's alone. */
+static void serve_reset(void) {
+    end_instruction();
     machine_take_reset(&m);
     reset_processor();
 }
@@ -179,16 +212,19 @@ static void offer_interrupt(void) {
     run->request_interrupt_window = m.interrupt;
 }
 
-static bool is_over(void) { return console_ended() || (m.options.seconds && processor_time() > m.options.seconds * NANOSECONDS); }
+static bool is_over(void) { return console_ended() || (m.options.seconds && processor_time() - m.loaded_at > m.options.seconds * NANOSECONDS); }
 
 static void wait_halted(void) {
+    halted = true;
     while (!m.interrupt && !is_over()) {
         keep_time();
-        if (m.interrupt) return;
+        save_where_asked();
+        if (m.interrupt) break;
         uint64_t now = processor_time(), next = m.wake < now + LISTEN ? m.wake : now + LISTEN;
         struct timespec rest = {0, (long)(next > now ? next - now : 0)};
         nanosleep(&rest, NULL);
     }
+    halted = false;
 }
 
 /* Serves an exit: NULL, or why the guest cannot go on. */
@@ -216,7 +252,9 @@ static const char *serve(void) {
 }
 
 static const char *run_guest(void) {
+    if (halted) wait_halted();
     while (!is_over()) {
+        save_where_asked();
         if (run->immediate_exit || m.wake != planned || processor_time() >= m.wake) keep_time();
         offer_interrupt();
         runs++;
@@ -238,10 +276,10 @@ int main(int count, char **words) {
     machine_open(&m, &wanted);
     open_kvm();
     move_slots();
-    reset_processor();
+    start_processor();
     sigaction(SIGALRM, &act, NULL);
     if (timer_create(CLOCK_MONOTONIC, &event, &timer)) fail("timer_create");
-    began = host_time();
+    began = host_time() - m.loaded_at;
     run->immediate_exit = 1; /* so that the first round sets the timer */
     const char *why = run_guest();
     struct kvm_regs r;

@@ -40,23 +40,24 @@ static _Noreturn void fail(const char *what) {
     exit(1);
 }
 
-static uint8_t *pages(size_t bytes) {
+uint8_t *machine_pages(size_t bytes) {
     void *at = mmap(NULL, bytes, PROT_READ | PROT_WRITE, MAP_PRIVATE | MAP_ANONYMOUS, -1, 0);
     if (at == MAP_FAILED) fail("memory");
     return at;
 }
 
-/* A whole file, in pages of its own: a slot can begin there. */
-static uint8_t *read_file(const char *name, size_t *bytes) {
+uint8_t *machine_file(const char *name, size_t *bytes) {
     struct stat about;
     FILE *file = fopen(name, "rb");
     if (!file || fstat(fileno(file), &about)) fail(name);
     *bytes = (size_t)about.st_size;
-    uint8_t *at = pages(*bytes + 1);
+    uint8_t *at = machine_pages(*bytes + 1);
     if (fread(at, 1, *bytes, file) != *bytes) fail(name);
     fclose(file);
     return at;
 }
+
+void machine_file_free(uint8_t *file, size_t bytes) { munmap(file, bytes + 1); }
 
 static void out(machine *m, uint32_t port, uint8_t bytes, uint32_t value) {
     board_reply reply;
@@ -97,29 +98,37 @@ static void prepare_cmos(machine *m) {
     }
 }
 
-void machine_open(machine *m, const options *wanted) {
+/* A board as it is when its processor starts. */
+static void power_on(machine *m) {
+    const options *o = &m->options;
     size_t disk_bytes = 0;
-    board_card card = {.device = VIRTIO_DEVICE, .bases = 1, .base = {{BOARD_IO_BASE, VIRTIO_BASE_BITS}}};
-    uint8_t no_disk = 0, *disk = &no_disk;
-    memset(m, 0, sizeof *m);
-    m->options = *wanted;
-    m->rom = read_file(wanted->rom, &m->rom_bytes);
-    if (wanted->disk) disk = read_file(wanted->disk, &disk_bytes);
-    m->memory = pages((size_t)wanted->mib << 20);
-    uint32_t status = board_open(&m->board, wanted->mib, &card, wanted->virtio ? 1 : 0, m->rom, m->rom_bytes, disk, disk_bytes);
+    board_card cards[MOST_CARDS] = {0};
+    size_t card_count = cards_list(o, cards);
+    uint8_t no_disk = 0, *disk = o->disk ? machine_file(o->disk, &disk_bytes) : &no_disk;
+    m->memory = machine_pages((size_t)o->mib << 20);
+    uint32_t status = board_open(&m->board, o->mib, cards, card_count, m->rom, m->rom_bytes, disk, disk_bytes);
     if (status != BOARD_OK) {
-        fprintf(stderr, "monitor: board_open: status %u (5: the ROM's size, 6: the disk's)\n", status);
+        fprintf(stderr, "monitor: board_open: %s\n", board_status_text(status));
         exit(1);
     }
-    m->explain.has_keyboard = wanted->keyboard;
-    record_open(&m->record, wanted, m->rom, m->rom_bytes, disk, disk_bytes);
-    if (wanted->disk) munmap(disk, disk_bytes + 1);
+    record_open(&m->record, o, m->rom, m->rom_bytes, disk, disk_bytes);
+    if (o->disk) machine_file_free(disk, disk_bytes);
+    cards_fill(m);
     prepare_registers(m);
-    if (wanted->fw_cfg) fw_cfg_reset(m);
+    if (o->fw_cfg) fw_cfg_reset(m);
     else prepare_cmos(m);
-    if (wanted->keyboard) keyboard_reset(m);
-    if (wanted->virtio) virtio_open(&m->virtio, wanted->virtio);
+    if (o->keyboard) keyboard_reset(m);
     clock_start(m);
+}
+
+void machine_open(machine *m, const options *wanted) {
+    memset(m, 0, sizeof *m);
+    m->options = *wanted;
+    m->rom = machine_file(wanted->rom, &m->rom_bytes);
+    if (wanted->load) machine_load(m);
+    else power_on(m);
+    m->explain.has_keyboard = m->options.keyboard;
+    if (m->options.virtio) virtio_open(&m->virtio, m->options.virtio);
     slots_follow_map(m);
     console_open();
 }
@@ -217,12 +226,8 @@ static void keep_disk(machine *m) {
     if (fclose(file)) fail(m->options.keep_disk);
 }
 
-void machine_close(machine *m, const char *why) {
+void machine_tell(const machine *m, const char *why) {
     const machine_counts *c = &m->counts;
-    fflush(stdout);
-    if (m->options.keep_disk) keep_disk(m);
-    record_close(&m->record);
-    if (m->options.explain) explain_close(&m->explain);
     fprintf(stderr, "\nmonitor: %s after %.3f s of the guest's time\n", why, (double)processor_time() / NANOSECONDS);
     fprintf(stderr, "exits: %llu ports, %llu memory, %llu interrupts taken; %llu disk words, %llu maps, %llu soft and %llu hard resets\n",
             (unsigned long long)c->ports, (unsigned long long)c->memory, (unsigned long long)c->interrupts, (unsigned long long)c->disk_words,
@@ -230,5 +235,13 @@ void machine_close(machine *m, const char *why) {
     fprintf(stderr, "board: %llu steps in %llu calls", (unsigned long long)c->steps, (unsigned long long)c->calls);
     if (m->options.timing && c->steps) fprintf(stderr, ", %.0f ns each", (double)c->step_time / (double)c->steps);
     fprintf(stderr, "\n");
+}
+
+void machine_close(machine *m, const char *why) {
+    fflush(stdout);
+    if (m->options.keep_disk) keep_disk(m);
+    record_close(&m->record);
+    if (m->options.explain) explain_close(&m->explain);
+    machine_tell(m, why);
     board_close(&m->board);
 }

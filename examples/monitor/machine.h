@@ -99,6 +99,10 @@ typedef struct machine {
     machine_counts counts;
     record record;
     explain explain;
+    /* of a guest that was loaded */
+    uint64_t loaded_at; /* nanoseconds of its time until it was saved; 0 from power-on */
+    const uint8_t *processor; /* its processor's state, until that has taken it, or NULL */
+    size_t processor_bytes;
 } machine;
 
 /* ---- machine.c */
@@ -106,6 +110,13 @@ typedef struct machine {
 /* Fits the board with the ROM and the disk of the options, and brings it up to the reset vector. Ends the process where a
  * file cannot be read or the board is refused. */
 void machine_open(machine *m, const options *wanted);
+/* Pages of zeros. Ends the process where there are none. */
+uint8_t *machine_pages(size_t bytes);
+/* A whole file, in pages of its own: a slot can begin there. Ends the process where it cannot be read. */
+uint8_t *machine_file(const char *name, size_t *bytes);
+void machine_file_free(uint8_t *file, size_t bytes);
+/* Tells the figures: exits, steps. */
+void machine_tell(const machine *m, const char *why);
 /* Keeps the disk where that was asked, closes log and board, and tells the figures. */
 void machine_close(machine *m, const char *why);
 /* Does one event on the board: every step goes through here, but for seconds of the clock and strings. */
@@ -121,9 +132,25 @@ uint32_t machine_take_reset(machine *m);
 /* The vector of the interrupt that the processor takes now. */
 uint8_t machine_acknowledge(machine *m);
 
-/* ---- the processor's: nanoseconds of the guest's time since the power came */
+/* ---- the processor's */
 
+/* Nanoseconds of the guest's time since the power came. */
 uint64_t processor_time(void);
+/* Bytes of memory were written that the processor did not write. */
+void processor_wrote(uint64_t addr, uint64_t bytes);
+/* Which processor it is: another one cannot go on from its state. */
+extern const uint32_t processor_kind;
+enum { PROCESSOR_KVM = 1, PROCESSOR_UNICORN, PROCESSOR_BOCHS };
+/* Its state between two instructions: how many bytes it has, and these. */
+size_t processor_bytes(void);
+void processor_save(uint8_t *into);
+
+/* ---- saved.c: --save and --load */
+
+/* Writes the guest into the file of --save. It goes on then. */
+void machine_save(machine *m);
+/* Takes the board, the memory and what stands beside them from the file of --load. Ends the process where it is none. */
+void machine_load(machine *m);
 
 /* ---- exits.c */
 
@@ -165,15 +192,23 @@ bool fw_cfg_hears(uint8_t kind, uint32_t port, uint8_t bytes);
 uint8_t fw_cfg_read(machine *m);
 void fw_cfg_write(machine *m, uint32_t port, uint16_t value);
 
+/* ---- cards.c */
+
+enum { MOST_CARDS = 1 + MOST_ROM_CARDS };
+/* The cards that the options ask for, in rising order of device: how many. */
+size_t cards_list(const options *o, board_card *into);
+/* Puts the bytes of their expansion ROMs into the board. */
+void cards_fill(machine *m);
+
 /* ---- virtio_blk.c: a card at VIRTIO_DEVICE with options.virtio */
+
+board_card virtio_card(void);
 
 void virtio_open(virtio_blk *v, const char *name);
 void virtio_reset(machine *m);
 /* A read and a write at an offset in the card's base. */
 uint32_t virtio_read(machine *m, uint32_t offset, unsigned bytes);
 void virtio_write(machine *m, uint32_t offset, uint32_t value);
-/* What a read of configuration bytes gives, where the board gives this value. */
-uint32_t virtio_identity(uint32_t offset, unsigned bytes, uint32_t value);
 
 /* ---- identify.c: with options.bochs_bios */
 
@@ -190,6 +225,8 @@ void console_listen(machine *m);
 void console_open(void);
 /* Whether Ctrl-A and x were typed, or the process was asked to end. */
 bool console_ended(void);
+/* Whether Ctrl-A and s were typed, or the signal USR1 came, since this was asked last. */
+bool console_save_asked(void);
 
 #ifdef __cplusplus
 }

@@ -4,7 +4,7 @@
 #include <stdlib.h>
 #include <string.h>
 
-enum { MOST_MIB = 512, MOST_SCRIPT_MIB = 64, MOST_SECONDS = 1000000, MOST_SPEED = 1000 };
+enum { MOST_SCRIPT_MIB = 64, MOST_SECONDS = 1000000, MOST_SPEED = 1000 };
 
 static const char usage[] =
     "usage: monitor-PROCESSOR [OPTION VALUE | FLAG]..\n"
@@ -12,6 +12,9 @@ static const char usage[] =
     "  --disk FILE       the disk as it begins; none without this\n"
     "  --keep-disk FILE  writes the disk as it ends\n"
     "  --virtio FILE     a virtio block card over a file of any size, written through\n"
+    "  --card rom=FILE   a card with this expansion ROM, which it is by the ROM's PCI data; up to four\n"
+    "  --save FILE       where Ctrl-A s, or the signal USR1, writes the guest as it runs\n"
+    "  --load FILE       goes on with a guest that was saved: memory, disk and devices are those of the file\n"
     "  --memory MIB      1 to 512 (8); 1 to 64 with --log\n"
     "  --seconds N       ends after N seconds\n"
     "  --log NAME        writes NAME.script and NAME.log, for `board check`, with NAME.rom and NAME.disk\n"
@@ -24,7 +27,7 @@ static const char usage[] =
     "  --timing          measures the board's steps\n"
     "  --speed N         Bochs: instructions a microsecond (50)\n"
     "  --nothing         answers every exit with nothing, to see what the board's answers cost\n"
-    "Ctrl-A x ends it.\n";
+    "Ctrl-A x ends it, Ctrl-A f tells its figures.\n";
 
 static _Noreturn void refuse(const char *word) {
     fprintf(stderr, "monitor: %s\n%s", word, usage);
@@ -53,11 +56,21 @@ static bool take_flag(options *o, const char *word) {
     return true;
 }
 
+/* A card, by what it has: its expansion ROM. */
+static void take_card(options *o, const char *value) {
+    static const char rom[] = "rom=";
+    if (strncmp(value, rom, sizeof rom - 1) || o->rom_cards == MOST_ROM_CARDS) refuse(value);
+    o->card_rom[o->rom_cards++] = value + sizeof rom - 1;
+}
+
 static bool take_option(options *o, const char *word, const char *value) {
     if (!strcmp(word, "--rom")) o->rom = value;
     else if (!strcmp(word, "--disk")) o->disk = value;
     else if (!strcmp(word, "--keep-disk")) o->keep_disk = value;
     else if (!strcmp(word, "--virtio")) o->virtio = value;
+    else if (!strcmp(word, "--card")) take_card(o, value);
+    else if (!strcmp(word, "--save")) o->save = value;
+    else if (!strcmp(word, "--load")) o->load = value;
     else if (!strcmp(word, "--log")) o->log = value;
     else if (!strcmp(word, "--memory")) o->mib = number(value, MOST_MIB);
     else if (!strcmp(word, "--seconds")) o->seconds = number(value, MOST_SECONDS);
@@ -74,5 +87,7 @@ void options_read(options *o, int count, char **words) {
         k++;
     }
     if (o->text && !o->fw_cfg) refuse("--text: only with --fw-cfg");
+    if (o->log && (o->virtio || o->rom_cards)) refuse("--log: not with a card: a script knows none that says what it is");
+    if (o->log && o->load) refuse("--log: not with --load: a log begins at power-on");
     if (o->log && o->mib > MOST_SCRIPT_MIB) refuse("--log: a script has at most 64 MiB");
 }

@@ -7,13 +7,17 @@
 extern "C" {
 #endif
 
-/* The card of --virtio: its device, and log2 of its ports. */
-enum { VIRTIO_DEVICE = 3, VIRTIO_BASE_BITS = 6 };
+/* The card of --virtio: its device, and log2 of its ports. Those of --card have the devices from ROM_DEVICE on. */
+enum { MOST_MIB = 512, VIRTIO_DEVICE = 3, VIRTIO_BASE_BITS = 6, ROM_DEVICE = 4, MOST_ROM_CARDS = 4 };
 
 typedef struct options {
     const char *rom;
     const char *disk;      /* NULL: none */
     const char *virtio;    /* the file of a virtio block card, or NULL */
+    const char *card_rom[MOST_ROM_CARDS]; /* files of expansion ROMs, a card for each */
+    uint32_t rom_cards;
+    const char *save;      /* where a guest that runs is written on Ctrl-A s, or NULL */
+    const char *load;      /* the file of such a guest, which goes on, or NULL */
     const char *keep_disk; /* where the disk is written at the end, or NULL */
     const char *log;       /* the front of the names of script and log, or NULL */
     uint32_t mib;

@@ -35,7 +35,6 @@ void record_open(record *r, const options *o, const uint8_t *rom, size_t rom_byt
         copy(o->log, "disk", disk, disk_bytes);
         fprintf(r->script, "disk %s.disk\n", name);
     }
-    if (o->virtio) fprintf(r->script, "card %d plain i%d\n", VIRTIO_DEVICE, VIRTIO_BASE_BITS);
     fprintf(r->script, "phase\n");
     fprintf(r->log, "access log 2\n");
 }

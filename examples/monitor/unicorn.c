@@ -128,6 +128,32 @@ static void move_slots(void) {
     }
 }
 
+void processor_wrote(uint64_t addr, uint64_t bytes) { check(uc_ctl_remove_cache(uc, addr, addr + bytes), "written memory"); }
+
+/* ---- the state, as it is kept: registers of real mode, at a HLT */
+
+const uint32_t processor_kind = PROCESSOR_UNICORN;
+
+static const int kept[] = {UC_X86_REG_EAX, UC_X86_REG_EBX, UC_X86_REG_ECX, UC_X86_REG_EDX, UC_X86_REG_ESI, UC_X86_REG_EDI, UC_X86_REG_EBP, UC_X86_REG_ESP,
+                           UC_X86_REG_EFLAGS, UC_X86_REG_CS, UC_X86_REG_DS, UC_X86_REG_ES, UC_X86_REG_FS, UC_X86_REG_GS, UC_X86_REG_SS, UC_X86_REG_EIP};
+enum { KEPT = sizeof kept / sizeof *kept };
+
+size_t processor_bytes(void) { return KEPT * sizeof(uint32_t); }
+
+void processor_save(uint8_t *into) {
+    for (size_t k = 0; k < KEPT; k++) {
+        uint32_t value = get(kept[k]);
+        memcpy(into + k * sizeof value, &value, sizeof value);
+    }
+}
+
+static void take_processor(void) {
+    uint32_t values[KEPT] = {0};
+    if (m.processor_bytes == sizeof values) memcpy(values, m.processor, sizeof values);
+    for (size_t k = 0; k < KEPT; k++) set(kept[k], values[k]);
+    m.processor = NULL;
+}
+
 /* ---- interrupts */
 
 /* Enters an interrupt of real mode, which returns to an instruction at ip. */
@@ -188,7 +214,7 @@ static void keep_time(void) {
     console_listen(&m);
 }
 
-static bool is_over(void) { return console_ended() || (m.options.seconds && processor_time() > m.options.seconds * NANOSECONDS); }
+static bool is_over(void) { return console_ended() || (m.options.seconds && processor_time() - m.loaded_at > m.options.seconds * NANOSECONDS); }
 
 /* The engine does not come back by itself while the guest does not halt. */
 static void on_alarm(int number) {
@@ -212,6 +238,13 @@ static void open_unicorn(void) {
     check(uc_hook_add(uc, &hooks[3], UC_HOOK_INTR, (void *)(uintptr_t)on_int, NULL, 1, 0), "hook");
 }
 
+/* Only here: in protected mode the state would not be whole. */
+static void save_where_asked(void) {
+    if (!console_save_asked()) return;
+    if (get(UC_X86_REG_CR0) & PROTECTED) fprintf(stderr, "\nmonitor: this processor is not saved in protected mode\n");
+    else machine_save(&m);
+}
+
 /* Where the engine stopped: at a halt until an interrupt comes, which a board's INT makes. NULL, or why it is over. */
 static const char *wait_halted(void) {
     uint8_t instruction = 0;
@@ -222,6 +255,7 @@ static const char *wait_halted(void) {
     while (!m.interrupt && !is_over()) {
         usleep(REST);
         keep_time();
+        save_where_asked();
     }
     if (m.interrupt) enter(machine_acknowledge(&m), (uint16_t)get(UC_X86_REG_EIP));
     return NULL;
@@ -230,7 +264,9 @@ static const char *wait_halted(void) {
 /* The engine runs until the guest halts: stopped in protected mode this one, of 16 bits, would cut EIP. */
 static const char *run_guest(void) {
     const char *why = NULL;
-    reset_processor();
+    if (m.processor) take_processor();
+    else reset_processor();
+    if (m.options.load && (why = wait_halted())) return why;
     while (!is_over()) {
         uint64_t at = ((uint64_t)get(UC_X86_REG_CS) << 4) + (uint16_t)get(UC_X86_REG_EIP);
         uc_err error = uc_emu_start(uc, at, UINT64_MAX, 0, 0);
@@ -250,7 +286,7 @@ int main(int count, char **words) {
     machine_open(&m, &wanted);
     open_unicorn();
     move_slots();
-    began = host_time();
+    began = host_time() - m.loaded_at;
     watch_time();
     const char *why = run_guest();
     uint32_t cs = get(UC_X86_REG_CS), ip = get(UC_X86_REG_EIP);

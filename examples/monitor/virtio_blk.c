@@ -1,6 +1,6 @@
 /* A legacy virtio block card (virtio 0.9.5, "Appendix D: Block Device") with --virtio FILE, which may have any size and is
- * written through: one base of ports, INTA#. The board decodes the card, its bases and its interrupt; here is what answers
- * at its ports, and what it is by its configuration bytes. */
+ * written through: one base of ports, INTA#. The board says what the card is, decodes its base and has its interrupt, and
+ * says where the card may move memory; here is what answers at its ports. */
 #define _GNU_SOURCE
 #include "machine.h"
 #include <errno.h>
@@ -32,6 +32,20 @@ typedef struct header {
     uint64_t sector;
 } header;
 
+board_card virtio_card(void) {
+    return (board_card){
+        .device = VIRTIO_DEVICE,
+        .bases = 1,
+        .base = {{BOARD_IO_BASE, VIRTIO_BASE_BITS}},
+        .class_code = 0x018000, /* mass storage of another kind */
+        .vendor_id = 0x1AF4,
+        .device_id = 0x1001,
+        .subsystem_vendor_id = 0x1AF4,
+        .subsystem_id = 2, /* a block device */
+        .interrupt_pin = 1,
+    };
+}
+
 void virtio_open(virtio_blk *v, const char *name) {
     struct stat about;
     v->file = open(name, O_RDWR | O_CLOEXEC);
@@ -56,12 +70,22 @@ void virtio_reset(machine *m) {
     set_line(m, false);
 }
 
-/* Guest memory that the card may move: it lies in the memory that is fitted, and below A0000h or from 1 MiB on, so that no
- * byte of SMRAM moves. */
-static uint8_t *memory_at(machine *m, uint64_t addr, uint64_t bytes) {
-    uint64_t end = (uint64_t)m->options.mib << 20;
-    if (bytes > end || addr > end - bytes || (addr < 0x100000 && addr + bytes > 0xA0000)) return NULL;
+/* The guest's memory that the card may read or write as a bus master, by each of its pages, or NULL. */
+static uint8_t *memory_at(machine *m, uint64_t addr, uint64_t bytes, bool is_write) {
+    board_part part;
+    if (!board_is_installed(m->options.mib, addr, bytes)) return NULL;
+    for (uint64_t page = addr & ~(uint64_t)(GUEST_PAGE - 1); page < addr + bytes; page += GUEST_PAGE) {
+        uint32_t status = board_decode_master(&m->board, (uint32_t)page, 4, is_write, &part);
+        if (status != BOARD_OK || (part.target != BOARD_DRAM && part.target != BOARD_SHADOW)) return NULL;
+    }
     return m->memory + addr;
+}
+
+/* The same, where the card writes: the processor is told, since it may have decoded code there. */
+static uint8_t *written_at(machine *m, uint64_t addr, uint64_t bytes) {
+    uint8_t *at = memory_at(m, addr, bytes, true);
+    if (at) processor_wrote(addr, bytes);
+    return at;
 }
 
 /* Moves a stretch of a request between file and memory. */
@@ -81,8 +105,8 @@ static bool move(virtio_blk *v, uint32_t what, uint8_t *at, uint32_t bytes, uint
 /* One stretch of data of a request, `place` bytes from the file's beginning: its status, and how many bytes it wrote. */
 static uint8_t do_stretch(machine *m, uint32_t what, const descriptor *d, uint64_t place, uint32_t *written) {
     virtio_blk *v = &m->virtio;
-    uint8_t *at = memory_at(m, d->addr, d->bytes);
     bool is_in = what == DO_READ || what == DO_ID;
+    uint8_t *at = is_in ? written_at(m, d->addr, d->bytes) : memory_at(m, d->addr, d->bytes, false);
     if (!at || is_in != !!(d->flags & WRITTEN_BY_CARD)) return FAILED;
     if (what == DO_ID) {
         char id[ID_BYTES] = "board virtio";
@@ -104,7 +128,7 @@ static uint32_t do_chain(machine *m, const uint8_t *ring, uint16_t first) {
     uint16_t at = first;
     for (unsigned k = 0; k < MOST_CHAIN; k++) {
         memcpy(&d, ring + sizeof d * (at % RING), sizeof d);
-        const uint8_t *here = memory_at(m, d.addr, k == 0 ? sizeof asked : 1);
+        const uint8_t *here = memory_at(m, d.addr, k == 0 ? sizeof asked : 1, false);
         if (!here || (k == 0 && d.bytes < sizeof asked)) return written;
         if (k == 0) {
             memcpy(&asked, here, sizeof asked);
@@ -116,7 +140,7 @@ static uint32_t do_chain(machine *m, const uint8_t *ring, uint16_t first) {
             if (status == DONE && asked.what != DO_FLUSH) status = do_stretch(m, asked.what, &d, place, &written);
             place += d.bytes;
         } else {
-            uint8_t *last = memory_at(m, d.addr, 1);
+            uint8_t *last = written_at(m, d.addr, 1);
             if (last && d.flags & WRITTEN_BY_CARD) *last = status;
             return written + 1;
         }
@@ -130,7 +154,7 @@ static uint32_t do_chain(machine *m, const uint8_t *ring, uint16_t first) {
 static void do_queue(machine *m) {
     virtio_blk *v = &m->virtio;
     size_t used_at = ((sizeof(descriptor) * RING + 6 + 2 * RING) + (1 << PAGE_BITS) - 1) >> PAGE_BITS << PAGE_BITS;
-    uint8_t *ring = memory_at(m, (uint64_t)v->page << PAGE_BITS, used_at + 6 + 8 * RING);
+    uint8_t *ring = written_at(m, (uint64_t)v->page << PAGE_BITS, used_at + 6 + 8 * RING);
     if (!ring || !v->page) return;
     uint8_t *available = ring + sizeof(descriptor) * RING, *used = ring + used_at;
     uint16_t flags, newest, done;
@@ -186,22 +210,4 @@ void virtio_write(machine *m, uint32_t offset, uint32_t value) {
         if (!value) virtio_reset(m);
         break;
     }
-}
-
-/* What the card is: its bytes stand in the place of those that the board gives every card. */
-static const struct {
-    uint8_t offset, value;
-} identity[] = {
-    {0x00, 0xF4}, {0x01, 0x1A}, {0x02, 0x01}, {0x03, 0x10}, /* 1AF4:1001 */
-    {0x08, 0}, {0x09, 0}, {0x0A, 0x80}, {0x0B, 0x01},       /* revision 0, mass storage of another kind */
-    {0x2C, 0xF4}, {0x2D, 0x1A}, {0x2E, 0x02}, {0x2F, 0},    /* subsystem: a block device */
-};
-
-uint32_t virtio_identity(uint32_t offset, unsigned bytes, uint32_t value) {
-    for (size_t k = 0; k < sizeof identity / sizeof *identity; k++) {
-        unsigned place = identity[k].offset - offset;
-        if (identity[k].offset < offset || place >= bytes) continue;
-        value = (value & ~(0xFFu << 8 * place)) | (uint32_t)identity[k].value << 8 * place;
-    }
-    return value;
 }

@@ -161,7 +161,8 @@ static void beside_processors(void) {
 
 static void refused(board *b) {
     static const struct { uint8_t device, base; uint32_t offset; size_t bytes; } past[] = {
-        {DISK, 0, 0xFFE, 3}, {DISK, 0, 0x1000, 1}, {DISK, 0, 0xFFFFFFFF, 2}, {DISK, 1, 15, 2}, {DISK, 2, 0, 1}, {DISK, 7, 0, 1}, {VGA, 6, 0, 1},
+        {DISK, 0, 0xFFE, 3}, {DISK, 0, 0x1000, 1}, {DISK, 0, 0xFFFFFFFF, 2}, {DISK, 1, 15, 2}, {DISK, 2, 0, 1}, {DISK, 7, 0, 1}, {DISK, 6, 0, 1},
+        {VGA, 6, 0x7FFF, 2}, {VGA, 6, 0x8000, 1}, {NONE, 6, 0, 1}, {255, 6, 0, 1},
         {VGA, 7, 0x1FFFF, 2}, {VGA, 8, 0, 1}, {NONE, 0, 0, 1}, {0, 0, 0, 1}, {255, 255, 0, 1}, {NONE, 0, 1, 0}};
     uint8_t bytes[3] = {0xA5, 0xA5, 0xA5};
     for (size_t k = 0; k < sizeof past / sizeof *past; k++) {
@@ -258,11 +259,169 @@ static void beside_guest(void) {
     for (size_t k = 0; k < 2; k++) board_close(both[k]);
 }
 
+/* ---- expansion ROMs */
+
+enum { ROM_SIZE = 0x8000, ROM_BASE = 0x30, GIVEN = 300 };
+
+static uint8_t fixed(uint32_t at) { return (uint8_t)(at + VGA); }
+
+/* The ROM's base at an address that the card decodes, below 1 MiB where PAM shuts the memory out. */
+static void show_rom(board *b, uint32_t at) {
+    set(b, VGA, ROM_BASE, 4, at | 1);
+    set(b, VGA, COMMAND, 1, MEMORY_AND_PORTS);
+}
+
+static uint64_t read_rom(board *b, uint32_t at, uint8_t bytes) {
+    expect("a read of the ROM", at, board_read(b, at, bytes, false, &r), BOARD_OK);
+    return r.value;
+}
+
+/* Each width at each offset round both ends of what was given: bytes of it, and the board's beside them. */
+static void at_each_offset(board *b, const uint8_t *rom_bytes, uint32_t from, uint32_t to) {
+    for (uint32_t at = from; at < to; at++)
+        for (uint8_t bytes = 1; bytes <= 8; bytes *= 2) {
+            uint64_t wanted = 0;
+            for (uint8_t k = 0; k < bytes; k++) wanted |= (uint64_t)rom_bytes[at + k] << 8 * k;
+            expect("bytes of a ROM", at, read_rom(b, 0xD0000000 + at, bytes), wanted);
+            expect("its target", at, r.part[0].target << 16 | r.part[0].unit << 8 | r.part[0].base, BOARD_CARD << 16 | VGA << 8 | 6);
+        }
+}
+
+static void roms(void) {
+    static uint8_t bytes[ROM_SIZE], given[GIVEN], told[ROM_SIZE];
+    board b = {0}, other = {0};
+    open_board(&b);
+    for (uint32_t at = 0; at < ROM_SIZE; at++) bytes[at] = fixed(at);
+    expect("the board's own bytes", 0, board_card_read(&b, VGA, 6, 0, told, ROM_SIZE), BOARD_OK);
+    expect("which they are", 0, (uint64_t)memcmp(told, bytes, ROM_SIZE), 0);
+    show_rom(&b, 0xD0000000);
+    at_each_offset(&b, bytes, 0, 16);
+    for (uint32_t k = 0; k < GIVEN; k++) given[k] = bytes[256 + k] = (uint8_t)(k * 7 + 1);
+    expect("bytes of a ROM given", 256, board_card_write(&b, VGA, 6, 256, given, GIVEN), BOARD_OK);
+    at_each_offset(&b, bytes, 240, 272);
+    at_each_offset(&b, bytes, 256 + GIVEN - 16, 256 + GIVEN + 16);
+    expect("a write of the guest", 0, board_write(&b, 0xD0000100, 4, false, 0xFFFFFFFF, &r), BOARD_OK);
+    expect("a hard reset", 0, board_out(&b, 0xCF9, 1, 6, &r), BOARD_OK);
+    expect("all of it", 0, board_card_read(&b, VGA, 6, 0, told, ROM_SIZE), BOARD_OK);
+    expect("which it is", 0, (uint64_t)memcmp(told, bytes, ROM_SIZE), 0);
+    expect("bytes of another card", 0, board_card_write(&b, DISK, 6, 0, given, 1), BOARD_PAST_END);
+    /* a saved board has none of them, and they are put again */
+    static uint8_t image[1 << 20];
+    size_t size = 0;
+    expect("save", 0, board_save(&b, image, sizeof image, &size), BOARD_OK);
+    expect("load", 0, board_load(&other, image, size), BOARD_OK);
+    show_rom(&other, 0xD0000000);
+    expect("not given", 0, read_rom(&other, 0xD0000100, 4), 0x05040302);
+    expect("given again", 256, board_card_write(&other, VGA, 6, 256, given, GIVEN), BOARD_OK);
+    at_each_offset(&other, bytes, 248, 264);
+    board_close(&b), board_close(&other);
+}
+
+/* Parts of one access before, in and behind a ROM that was given bytes: those alone are its. */
+static void beside_roms(void) {
+    static const board_card both[] = {{.device = VGA, .rom = 11, .bases = 1, .base = {{BOARD_MEMORY_BASE, 11}}}};
+    board b = {0};
+    uint8_t given[2048];
+    memset(given, 0xEE, sizeof given);
+    expect("open", 0, board_open(&b, 16, both, 1, rom, sizeof rom, rom, 0), BOARD_OK);
+    set(&b, VGA, BASE0, 4, 0xD0000000);
+    show_rom(&b, 0xD0000800);
+    expect("a base's bytes", 0, board_card_write(&b, VGA, 0, 0, rom, 2048), BOARD_OK);
+    expect("a ROM's bytes", 0, board_card_write(&b, VGA, 6, 0, given, 2048), BOARD_OK);
+    expect("into the ROM", 0, read_rom(&b, 0xD0000800 - 3, 8), 0xEEEEEEEEEE000000u | rom[2047] << 16 | rom[2046] << 8 | rom[2045]);
+    expect("out of it", 0, read_rom(&b, 0xD0001000 - 3, 8), 0xFFFFFFFFFFEEEEEEu);
+    expect("its parts", 0, r.parts, 4);
+    board_close(&b);
+}
+
+/* ---- a transfer in pieces, over memory and a disk of the caller's */
+
+enum { MEMORY = 0x100000, TABLE = 0x3000, SECTORS = 512, SECTOR = 512 };
+static uint8_t memory[MEMORY], drive[SECTORS * SECTOR];
+
+static uint32_t word32(uint32_t at) {
+    return memory[at] | memory[at + 1] << 8 | memory[at + 2] << 16 | (uint32_t)memory[at + 3] << 24;
+}
+
+static void put32(uint32_t at, uint32_t value) {
+    for (int k = 0; k < 4; k++) memory[at + k] = (uint8_t)(value >> 8 * k);
+}
+
+/* Moves all of it, and tells how it ended. */
+static board_piece moved(board *b, uint32_t table, uint32_t lba, uint32_t sectors, uint32_t readable, bool to_memory, uint32_t *pointer) {
+    board_transfer t;
+    board_piece p = {0};
+    expect("a transfer begins", lba, board_transfer_begin(&t, table, lba, sectors, readable, to_memory), BOARD_OK);
+    for (;;) {
+        expect("its next piece", t.moved, board_transfer_next(b, &t, &p), BOARD_OK);
+        if (p.what == BOARD_ENDED || failed) break;
+        if (p.what == BOARD_REGION) {
+            expect("its region", p.addr, board_transfer_region(&t, word32(p.addr), word32(p.addr + 4)), BOARD_OK);
+            continue;
+        }
+        board_part part;
+        expect("its place", p.addr, board_decode_master(b, p.addr, 2, to_memory, &part), BOARD_OK);
+        if (part.target != BOARD_DRAM && part.target != BOARD_SHADOW) continue; /* a ROM or a card: not the caller's memory */
+        expect("it fits", p.addr, p.addr + p.bytes <= MEMORY && p.offset + p.bytes <= SECTOR && (p.addr + p.bytes <= 0xA0000 || p.addr >= 0xC0000), 1);
+        uint8_t *at = drive + p.sector * SECTOR + p.offset;
+        if (to_memory) memcpy(memory + p.addr, at, p.bytes);
+        else memcpy(at, memory + p.addr, p.bytes);
+    }
+    *pointer = t.table;
+    return p;
+}
+
+static void ended(const char *what, board_piece p, uint8_t end, uint8_t status, uint32_t bytes, uint32_t pointer, uint32_t wanted) {
+    expect(what, 0, (uint64_t)p.end << 8 | p.status, (uint64_t)end << 8 | status);
+    expect("bytes moved", 0, p.bytes, bytes);
+    expect("the table's pointer", 0, pointer, wanted);
+}
+
+static void transfers(void) {
+    static const struct { uint32_t table, lba, sectors; } none[] = {{2, 0, 1}, {TABLE, 1u << 28, 1}, {TABLE, 0, 0}, {TABLE, 0, 257}};
+    board b = {0};
+    board_transfer t = {0};
+    board_piece p;
+    uint32_t pointer = 0;
+    open_board(&b);
+    for (size_t k = 0; k < sizeof none / sizeof *none; k++)
+        expect("no transfer", k, board_transfer_begin(&t, none[k].table, none[k].lba, none[k].sectors, 1, true), BOARD_NO_TRANSFER);
+    expect("one of a closed handle", 0, board_transfer_next(&closed, &t, &p), BOARD_CLOSED);
+    t.addr = 1;
+    expect("an odd address", 0, board_transfer_next(&b, &t, &p), BOARD_NO_TRANSFER);
+    expect("its region", 0, board_transfer_region(&t, 0, 0), BOARD_NO_TRANSFER);
+    for (size_t k = 0; k < sizeof drive; k++) drive[k] = (uint8_t)(k / SECTOR + k * 3);
+    put32(TABLE, 0x5000), put32(TABLE + 4, 0x200), put32(TABLE + 8, 0x9FF00), put32(TABLE + 12, 0x80000000 | 0x100);
+    p = moved(&b, TABLE, 7, 1, 1, true, &pointer);
+    ended("longer", p, BOARD_LONGER, 5, SECTOR, pointer, TABLE + 8);
+    expect("a sector in memory", 7, (uint64_t)memcmp(memory + 0x5000, drive + 7 * SECTOR, SECTOR), 0);
+    p = moved(&b, TABLE, 7, 2, 2, true, &pointer);
+    ended("shorter", p, BOARD_SHORTER, 0, SECTOR + 256, pointer, TABLE + 16);
+    p = moved(&b, TABLE, 7, 2, 1, true, &pointer);
+    ended("a missing sector", p, BOARD_MISSING, 2, SECTOR, pointer, TABLE + 8);
+    expect("which", 0, p.sector, 8);
+    put32(TABLE + 12, 0x80000000 | 0x200);
+    p = moved(&b, TABLE, 7, 2, 2, true, &pointer);
+    ended("memory at A0000h", p, BOARD_ABORTED, 2, SECTOR + 256, pointer, TABLE + 16);
+    expect("where", 0, p.addr, 0xA0000);
+    p = moved(&b, 0xA0000, 7, 1, 1, true, &pointer);
+    ended("a table at A0000h", p, BOARD_ABORTED, 2, 0, pointer, 0xA0000);
+    put32(TABLE, 0x6001), put32(TABLE + 4, 0x80000000 | 0x401);
+    for (uint32_t k = 0; k < 0x400; k++) memory[0x6000 + k] = (uint8_t)(k * 5 + 1);
+    p = moved(&b, TABLE, 100, 2, 2, false, &pointer);
+    ended("exact", p, BOARD_EXACT, 4, 2 * SECTOR, pointer, TABLE + 8);
+    expect("memory on the disk", 100, (uint64_t)memcmp(drive + 100 * SECTOR, memory + 0x6000, 2 * SECTOR), 0);
+    board_close(&b);
+}
+
 int main(void) {
     for (size_t k = 0; k < sizeof rom; k++) rom[k] = (uint8_t)(k * 7 + k / 256);
     masters();
     beside_processors();
     bytes_of_cards();
+    roms();
+    beside_roms();
+    transfers();
     before_the_guest();
     beside_guest();
     return failed;

@@ -12,6 +12,7 @@ from .events import Event, Kind
 from .library import library
 from .maps import Map, Window, range_of
 from .replies import Answer, Denial, Look, Part, Reset, Value, answer_of, part_of
+from .transfers import Transfer
 
 PORTS = 0x10000
 U32 = 1 << 32
@@ -304,12 +305,18 @@ class Board:
         return part_of(part)
 
     def card_read(self, device: int, base: int, offset: int, count: int) -> bytes:
-        """Bytes of a card from an offset in one of its bases on: base 0 to 5, or 7 for the window of a VGA adapter."""
+        """Bytes of a card from an offset in one of its bases on: base 0 to 5, 6 for its expansion ROM, or 7 for the window
+        of a VGA adapter."""
         if not 0 <= offset < U32 or not 0 <= count <= U32 - offset:
             raise PastEnd(f"{offset:#x}")
         into = (records.U8 * max(count, 1))()
         self._ask("board_card_read", _byte(device, PastEnd), _byte(base, PastEnd), offset, into, count)
         return bytes(into[:count])
+
+    def transfer(self, table: int, lba: int, sectors: int, *, readable: int | None = None, to_memory: bool) -> Transfer:
+        """A transfer of the bus master in pieces, by the table of descriptors at an address, over memory and a disk that the
+        caller keeps; the first `readable` of the sectors are there and can be read, all where nothing is said."""
+        return Transfer(self._ask, self._library, (table, lba, sectors, sectors if readable is None else readable), to_memory)
 
     # ---- bytes that the guest did not write; no reply, and nothing else changes
 
@@ -324,7 +331,8 @@ class Board:
         self._ask("board_cmos_write", _byte(address, NoByte), _byte(byte, BadValue))
 
     def card_write(self, device: int, base: int, offset: int, data: bytes) -> None:
-        """Puts bytes into a card from an offset in one of its bases on, wherever the base lies."""
+        """Puts bytes into a card from an offset in one of its bases on, wherever the base lies, or into its expansion ROM, base
+        6: those are not in what save gives."""
         if not 0 <= offset < U32:
             raise PastEnd(f"{offset:#x}")
         self._ask("board_card_write", _byte(device, PastEnd), _byte(base, PastEnd), offset, bytes(data), len(data))

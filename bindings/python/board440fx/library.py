@@ -15,7 +15,7 @@ import tempfile
 from .errors import LibraryError
 from .records import CALLS
 
-INTERFACE = 5
+INTERFACE = 6
 LIBRARY = "libboard.so"
 HEADER = "board.h"
 RELEASE = pathlib.Path(__file__).resolve().parents[3] / "release"

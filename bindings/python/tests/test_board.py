@@ -6,7 +6,7 @@ import threading
 
 import pytest
 
-from board440fx import Board, Card, Event, Reset, errors
+from board440fx import Board, Card, Ended, Event, Region, Reset, Words, errors
 
 CONFIG_ADDRESS, CONFIG_DATA, RESET_CONTROL = 0xCF8, 0xCFC, 0xCF9
 AFTER_RESET = """\
@@ -88,6 +88,31 @@ def test_bytes_of_a_card_go_in_and_out():
         assert board.read(0xF0000FFC, 4) == 0x44332211
         board.write(0xF0000FFD, 1, 0x5A)
         assert board.card_read(3, 0, 0xFFC, 4) == b"\x11\x5A\x33\x44"
+
+
+def test_an_expansion_rom_has_bytes():
+    with Board(cards=[Card(3, rom=15)]) as board:
+        configure(board, 0x1832, 0xF0)
+        configure(board, 0x1830, 1)
+        configure(board, 0x1804, 2)
+        assert board.read(0x00F00010, 4) == 0x16151413
+        board.card_write(3, 6, 0, b"\x55\xAA\x40")
+        assert board.read(0x00F00000, 4) == 0x0640AA55
+        board.write(0x00F00001, 1, 0)
+        assert board.read(0x00F00001) == 0xAA
+        assert board.card_read(3, 6, 1, 3) == b"\xAA\x40\x06"
+
+
+def test_a_transfer_in_pieces(board):
+    memory = {0x1000: (0x2000, 0x80000200)}
+    transfer = board.transfer(0x1000, 5, 1, to_memory=True)
+    pieces = []
+    for piece in transfer:
+        pieces.append(piece)
+        if isinstance(piece, Region):
+            transfer.region(*memory[piece.addr])
+    assert pieces == [Region(0x1000), Words(0x2000, 5, 0, 512), Ended("exact", 4, 512, 0, 0)]
+    assert transfer.table == 0x1008
 
 
 def test_what_is_read_is_a_number_and_a_line(board):

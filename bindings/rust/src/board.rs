@@ -2,7 +2,9 @@
 
 use crate::error::check;
 use crate::raw;
-use crate::{Answer, Builder, Card, Com1, Error, Event, Kind, Look, Map, Moment, Part, Ranges, Reply, Value, Width};
+use crate::{
+    Answer, Builder, Card, Com1, Error, Event, Kind, Look, Map, Moment, Part, Piece, Ranges, Reply, Transfer, Value, Width,
+};
 use std::cell::UnsafeCell;
 use std::fmt;
 use std::ptr;
@@ -442,7 +444,16 @@ impl Board {
         Part::of(&part).ok_or(Error::NoReply)
     }
 
-    /// Bytes of a card from an offset in one of its bases on: base 0 to 5, or 7 for the window of a VGA adapter.
+    /// The next piece of a transfer of the bus master. Words are taken as moved.
+    pub fn next_piece(&self, transfer: &mut Transfer) -> Result<Piece, Error> {
+        let mut piece = raw::Piece::default();
+        // SAFETY: as of `decode`.
+        check(unsafe { raw::board_transfer_next(self.handle.get(), &mut transfer.record, &mut piece) })?;
+        Piece::of(&piece).ok_or(Error::NoReply)
+    }
+
+    /// Bytes of a card from an offset in one of its bases on: base 0 to 5, 6 for its expansion ROM, or 7 for the window
+    /// of a VGA adapter.
     pub fn card_read(&self, device: u8, base: u8, offset: u32, into: &mut [u8]) -> Result<(), Error> {
         // SAFETY: as of `decode`; the pointer is good for as many bytes.
         check(unsafe {
@@ -463,7 +474,7 @@ impl Board {
     }
 
     /// Puts bytes into a card from an offset in one of its bases on, wherever the base lies; the bases are those of
-    /// [`Board::card_read`].
+    /// [`Board::card_read`]. What an expansion ROM was given is not in the bytes of a saved board.
     pub fn card_write(&mut self, device: u8, base: u8, offset: u32, from: &[u8]) -> Result<(), Error> {
         // SAFETY: as of `step`; the pointer is good for as many bytes.
         check(unsafe {

@@ -100,6 +100,21 @@ fn bytes_of_a_card_go_in_and_out() {
 }
 
 #[test]
+fn an_expansion_rom_has_bytes() {
+    let mut board = Board::builder().card(Card::new(3).rom(15)).rom(ROM).open().unwrap();
+    configure(&mut board, 0x1832, 0xF0);
+    configure(&mut board, 0x1830, 1);
+    configure(&mut board, 0x1804, 2);
+    assert_eq!(board.read_u32(0x00F0_0010), Ok(0x1615_1413));
+    board.card_write(3, 6, 0, &[0x55, 0xAA, 0x40]).unwrap();
+    assert_eq!(board.read_u32(0x00F0_0000), Ok(0x0640_AA55));
+    board.write_u8(0x00F0_0001, 0).unwrap();
+    let mut bytes = [0; 3];
+    board.card_read(3, 6, 1, &mut bytes).unwrap();
+    assert_eq!(bytes, [0xAA, 0x40, 0x06]);
+}
+
+#[test]
 fn the_timer_interrupts() {
     let mut board = opened();
     set_up_interrupts(&mut board);

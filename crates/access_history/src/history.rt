@@ -5,7 +5,7 @@ ghost use Rattle.std.specs.Prelude.{◌≡◌, ◌+◌, ◌-◌, ◌<◌, ◌≤
 use crate::entries::Entries;
 use crate::packed::PackedEntry;
 use board_base::NoMemory;
-use board_spec::{Entry, Part};
+use board_spec::{Entry, Event, Part, Reply};
 use std::alloc::Global;
 use std::marker::Model;
 
@@ -72,7 +72,19 @@ impl History {
         requires { 1 ≤ self.old.spare }
         ensures pushed { self.new ≡ record { entries = entry.now ∷ self.old.entries; spare = self.old.spare - 1 } }
     {
-        let packed = PackedEntry::keep(&mut self.parts, entry);
+        self.add(entry.actor, entry.seq, &entry.event, &entry.reply);
+    }
+
+    /// Adds the entry of these parts, as `push` does.
+    #[inline]
+    pub fn add(&mut self, actor: u8, seq: u32, event: &Event, reply: &Reply)
+        requires { 1 ≤ self.old.spare }
+        ensures pushed { self.new ≡ record {
+          entries = record { actor = actor; seq = seq; event = event.now; reply = reply.now } ∷ self.old.entries;
+          spare = self.old.spare - 1;
+        } }
+    {
+        let packed = PackedEntry::keep(&mut self.parts, actor, seq, event, reply);
         self.entries.push(packed).unwrap();
         self.spare -= 1;
     }

@@ -206,18 +206,26 @@ impl PackedReply {
 
 impl PackedEntry {
     /// An entry in few bytes. The parts of its reply are added to the list, in the room that it has.
-    pub(crate) fn keep(list: &mut Vec<Part>, entry: &Entry) -> PackedEntry
+    #[inline(always)]
+    pub(crate) fn keep(
+        list: &mut Vec<Part>,
+        actor: u8,
+        seq: u32,
+        event: &Event,
+        reply: &Reply,
+    ) -> PackedEntry
         requires room { length list.old.items + 4 ≤ vec_capacity list.old }
         requires few { length list.old.items < 2 ^ 32 }
-        ensures entry { entry_in list.new.items result ≡ entry.now }
+        ensures entry { entry_in list.new.items result
+            ≡ record { actor = actor; seq = seq; event = event.now; reply = reply.now } }
         ensures kept { KeepsParts list.old.items list.new.items result.reply }
         ensures capacity { vec_capacity list.old ≤ vec_capacity list.new }
     {
         PackedEntry {
-            event: entry.event,
-            reply: PackedReply::keep(list, &entry.reply),
-            seq: entry.seq,
-            actor: entry.actor,
+            event: *event,
+            reply: PackedReply::keep(list, reply),
+            seq,
+            actor,
         }
     }
 

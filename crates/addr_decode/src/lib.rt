@@ -16,6 +16,7 @@ mod onboard;
 mod ports;
 mod register;
 mod regs;
+mod reserved;
 mod state;
 
 pub use areas::{SixAreas, row};

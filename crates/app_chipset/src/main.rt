@@ -9,6 +9,8 @@
 //!     time YEAR MONTH DAY WEEKDAY HOUR   the same of a moment
 //!     setup MIB ROM DISK CARD..       whether a setup opens a chipset, and why not
 //!     ports STEP..                    accesses to ports that need not be aligned
+//!     chipset-state DISK BYTES CARD.. the state of a chipset as bytes: where it is bad, or that it is saved so
+//!     serial-state DISK BYTES CARD..  the same with a serial port
 #![tactic(auto)]
 
 mod image;
@@ -17,6 +19,7 @@ mod ports;
 mod range;
 mod serial;
 mod setup;
+mod state;
 mod told;
 mod uart;
 
@@ -40,6 +43,8 @@ fn answer_of_chipset(
         "time" => range::tell_time(alloc, words, text),
         "setup" => setup::tell(alloc, words, text),
         "ports" => ports::tell(alloc, words, text),
+        "chipset-state" => state::tell_chipset(alloc, words, text),
+        "serial-state" => state::tell_serial(alloc, words, text),
         _ => Ok(text.push_str("no such call")?),
     }
 }

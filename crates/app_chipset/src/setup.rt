@@ -42,7 +42,7 @@ fn card_of(alloc: Global, word: &str) -> Result<Option<CardSpec>, AllocError> {
 }
 
 /// The cards of words.
-fn cards_of(alloc: Global, words: &[&str]) -> Result<Vec<CardSpec>, AllocError> {
+pub fn cards_of(alloc: Global, words: &[&str]) -> Result<Vec<CardSpec>, AllocError> {
     let mut cards = Vec::new(alloc);
     for word in words {
         if let Some(card) = card_of(alloc, word)? {

@@ -7,6 +7,9 @@ use board_records::{Door, PartRecord};
 use std::alloc::{AllocError, Global};
 use std::io::Write;
 
+/// The base number of an expansion ROM.
+const ROM_BASE: u8 = 6;
+
 /// Asks the board.
 pub fn ask<W: Write>(
     out: &mut W,
@@ -20,8 +23,7 @@ pub fn ask<W: Write>(
         "told" => told(out, alloc, door, numbers)?,
         "give" => {
             let bytes = numbers.bytes_from(alloc, 3)?;
-            let (dev, base) = (numbers.byte(0), numbers.byte(1));
-            tell::status(out, door.write_card(dev, base, numbers.number(2), &bytes));
+            tell::status(out, give(alloc, door, numbers, &bytes));
         }
         _ => {}
     }
@@ -37,6 +39,16 @@ fn master<W: Write>(out: &mut W, door: &Door, numbers: &Numbers) {
     tell::part(out, "", &part);
 }
 
+/// Bytes into a card.
+fn give(alloc: Global, door: &mut Door, numbers: &Numbers, bytes: &[u8]) -> u32 {
+    let (dev, base, off) = (numbers.byte(0), numbers.byte(1), numbers.number(2));
+    if base == ROM_BASE {
+        door.write_rom(alloc, dev, off, bytes)
+    } else {
+        door.write_card(dev, base, off, bytes)
+    }
+}
+
 /// Bytes of a card.
 fn told<W: Write>(
     out: &mut W,
@@ -45,8 +57,12 @@ fn told<W: Write>(
     numbers: &Numbers,
 ) -> Result<(), AllocError> {
     let mut bytes = vec![in alloc; 0; usize::from(numbers.byte(3))]?;
-    let (dev, base) = (numbers.byte(0), numbers.byte(1));
-    let status = door.tell_card(dev, base, numbers.number(2), &mut bytes);
+    let (dev, base, off) = (numbers.byte(0), numbers.byte(1), numbers.number(2));
+    let status = if base == ROM_BASE {
+        door.tell_rom(dev, off, &mut bytes)
+    } else {
+        door.tell_card(dev, base, off, &mut bytes)
+    };
     tell::status(out, status);
     if status == OK {
         tell::bytes(out, &bytes);

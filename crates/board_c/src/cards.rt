@@ -1,13 +1,17 @@
 //! Where a bus master's accesses land, and the bytes of cards.
 
-ghost use Rattle.std.specs.Prelude.{◌≡◌, ◌≢◌, ◌+◌, ◌<◌, length, true, false};
+ghost use Rattle.std.specs.Prelude.{◌≡◌, ◌≢◌, ◌+◌, ◌<◌, IsSomeAnd, length, true, false};
 ghost use Rattle.board_chipset.specs.Common.{card_size};
-ghost use Rattle.board_records.specs.Common.{IsCardTold, IsCardWritten, IsMasterCycle, IsMasterPlaced, OnBoard, OnBoth, closed, no_cycle, ok, past_end};
+ghost use Rattle.board_prelude.specs.Common.{rom_base};
+ghost use Rattle.board_records.specs.Common.{AreRomsWritten, IsCardTold, IsCardWritten, IsPastRom, IsRomRefusal, IsRomTold, IsMasterCycle, IsMasterPlaced, OnBoard, OnBoth, closed, no_cycle, ok, past_end};
 
 use crate::handle::Handle;
 use board_records::PartRecord;
 use board_records::status::CLOSED;
 use std::alloc::Global;
+
+/// The base number of an expansion ROM.
+const ROM_BASE: u8 = 6;
 
 /// Tells where an access of a bus master would land, and what would deny it: never SMRAM, nor memory at A0000h to BFFFFh;
 /// nothing happens. `CLOSED` exactly where the handle is closed, and `NO_CYCLE` exactly where it is open and the access is
@@ -38,9 +42,9 @@ pub extern "C" fn board_decode_master(
     status
 }
 
-/// Tells the bytes of a base of a card, 0 to 5, or 7 for the VGA window, from an offset on, as the guest would read them.
-/// `CLOSED` exactly where the handle is closed, and `PAST_END` exactly where they do not all lie in the base: a card or base
-/// that is not there has none, nor has an expansion ROM.
+/// Tells the bytes of a base of a card, 0 to 5, or 6 for its expansion ROM, or 7 for the VGA window, from an offset on, as
+/// the guest would read them. `CLOSED` exactly where the handle is closed, and `PAST_END` exactly where they do not all lie
+/// in the base: a card or base that is not there has none.
 #[unsafe(no_mangle)]
 pub extern "C" fn board_card_read(
     alloc: Global,
@@ -54,22 +58,31 @@ pub extern "C" fn board_card_read(
     ensures unchanged { handle.old.full ≡ true → handle.new.held ≡ handle.old.held }
     ensures closed { handle.old.full ≡ false → result ≡ closed }
     ensures open { handle.old.full ≡ true → result ≢ closed }
-    ensures done { result ≡ ok → OnBoard handle.old.held
+    ensures done { base ≢ rom_base → result ≡ ok → OnBoard handle.old.held
         (λ serial. IsCardTold serial.board device base offset into.old into.new) }
-    ensures refused { handle.old.full ≡ true → result ≢ ok → OnBoard handle.old.held
+    ensures rom { base ≡ rom_base → result ≡ ok
+        → IsSomeAnd handle.old.held (IsRomTold device offset into.old into.new) }
+    ensures refused { base ≢ rom_base → handle.old.full ≡ true → result ≢ ok → OnBoard handle.old.held
         (λ serial. (result ≡ past_end) × (card_size serial.board.setup device base < offset + length into.old)) }
+    ensures refused_rom { base ≡ rom_base → handle.old.full ≡ true → result ≢ ok
+        → IsSomeAnd handle.old.held (IsPastRom device offset (length into.old) result) }
     ensures untold { result ≢ ok → into.new ≡ into.old }
 {
     let Some(board) = handle.take(alloc) else {
         return CLOSED;
     };
-    let status = board.tell_card(device, base, offset, into);
+    let status = if base == ROM_BASE {
+        board.tell_rom(device, offset, into)
+    } else {
+        board.tell_card(device, base, offset, into)
+    };
     handle.put(board);
     status
 }
 
-/// Puts bytes into a base of a card from an offset on, as if processors had written them. `CLOSED` exactly where the handle
-/// is closed, and `PAST_END` exactly where they do not all lie in the base; then nothing has changed.
+/// Puts bytes into a base of a card from an offset on, as if processors had written them, or into its expansion ROM, base
+/// 6, where reads find them and no processor writes. `CLOSED` exactly where the handle is closed, and `PAST_END` exactly
+/// where they do not all lie in the base; `NO_MEMORY` of a ROM alone; then nothing has changed.
 #[unsafe(no_mangle)]
 pub extern "C" fn board_card_write(
     alloc: Global,
@@ -82,16 +95,24 @@ pub extern "C" fn board_card_write(
     ensures kept { handle.new.full ≡ handle.old.full }
     ensures closed { handle.old.full ≡ false → result ≡ closed }
     ensures open { handle.old.full ≡ true → result ≢ closed }
-    ensures done { result ≡ ok → OnBoth handle.old.held handle.new.held
+    ensures done { base ≢ rom_base → result ≡ ok → OnBoth handle.old.held handle.new.held
         (λ old new. IsCardWritten old new device base offset from.now) }
-    ensures refused { handle.old.full ≡ true → result ≢ ok → OnBoard handle.old.held
+    ensures rom { base ≡ rom_base → result ≡ ok
+        → AreRomsWritten device offset from.now handle.old.held handle.new.held }
+    ensures refused { base ≢ rom_base → handle.old.full ≡ true → result ≢ ok → OnBoard handle.old.held
         (λ serial. (result ≡ past_end) × (card_size serial.board.setup device base < offset + length from.now)) }
+    ensures refused_rom { base ≡ rom_base → handle.old.full ≡ true → result ≢ ok
+        → IsSomeAnd handle.old.held (IsRomRefusal device offset (length from.now) result) }
     ensures unchanged { handle.old.full ≡ true → result ≢ ok → handle.new.held ≡ handle.old.held }
 {
     let Some(mut board) = handle.take(alloc) else {
         return CLOSED;
     };
-    let status = board.write_card(device, base, offset, from);
+    let status = if base == ROM_BASE {
+        board.write_rom(alloc, device, offset, from)
+    } else {
+        board.write_card(device, base, offset, from)
+    };
     handle.put(board);
     status
 }

@@ -1,6 +1,6 @@
 //! The functions that C calls. One call at a time is inside a handle, and its pointers are good: what the caller owes.
 
-ghost use Rattle.std.specs.Prelude.{◌≡◌, ◌≢◌, true, false, IsSomeAnd};
+ghost use Rattle.std.specs.Prelude.{◌≡◌, ◌≢◌, [], true, false, IsSomeAnd};
 ghost use Rattle.board_records.specs.Common.{IsDoorStep, IsEventRefusal, IsOpenRefusal, IsOpenedWith, OnBoard, asked_said, closed, identities_said, ok, setup_said};
 
 use crate::handle::Handle;
@@ -22,7 +22,8 @@ pub extern "C" fn board_open(
     ensures done { result ≡ ok → (handle.new.full ≡ true) × OnBoard handle.new.held
         (λ serial. IsSomeAnd (setup_said mib cards.now rom.now disk.now) (IsOpenedWith serial)) }
     ensures identities { result ≡ ok → IsSomeAnd handle.new.held
-        (λ behind. behind.identities ≡ identities_said cards.now) }
+        (λ held. held.behind.identities ≡ identities_said cards.now) }
+    ensures roms { result ≡ ok → IsSomeAnd handle.new.held (λ held. held.roms ≡ []) }
     ensures twice { handle.old.full ≡ true → result ≡ closed }
     ensures held { handle.old.full ≡ true → handle.new.held ≡ handle.old.held }
     ensures refused { handle.old.full ≡ false → result ≢ ok

@@ -3,7 +3,7 @@
 ghost use Rattle.std.specs.Prelude.{◌≡◌, true, false, None, IsSomeAnd, Option};
 ghost use Rattle.std_alloc.specs.Box.Ownership.{box_owns};
 ghost use Rattle.board_records.specs.contracts.door.Door.{the_row as door_row};
-ghost use Rattle.board_records.specs.Doors.{Behind};
+ghost use Rattle.board_records.specs.Doors.{Held};
 ghost use Rattle.board_c.specs.Owned.{owned_if};
 
 use board_records::Door;
@@ -17,7 +17,7 @@ pub struct Handle {
     at: *mut u8,
     full: bool,
     alloc: Global,
-    ghost held: { Option Behind },
+    ghost held: { Option Held },
 }
 
 impl Model for Handle {

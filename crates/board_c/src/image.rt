@@ -1,7 +1,7 @@
 //! A running board as bytes, out and in.
 
-ghost use Rattle.std.specs.Prelude.{◌≡◌, ◌≢◌, ◌⊎◌, length, true, false, Some, IsSomeAnd};
-ghost use Rattle.board_records.specs.Common.{Behind, IsBehind, IsLoadRefusal, IsSaveRefusal, IsWritten, closed, image_bytes, no_memory, no_room, ok};
+ghost use Rattle.std.specs.Prelude.{◌≡◌, ◌≢◌, ◌⊎◌, [], length, true, false, Some, IsSomeAnd};
+ghost use Rattle.board_records.specs.Common.{Behind, IsBehind, IsLoadRefusal, IsSaveRefusal, IsWritten, closed, image_bytes, no_memory, no_room, ok, without_roms};
 
 use crate::handle::Handle;
 use board_records::Door;
@@ -23,12 +23,12 @@ pub extern "C" fn board_save(
     ensures closed { handle.old.full ≡ false → result ≡ closed }
     ensures open { handle.old.full ≡ true → result ≢ closed }
     ensures done { result ≡ ok → IsSomeAnd handle.old.held
-        (λ behind. IsBehind behind × IsWritten (image_bytes behind) into.old into.new) }
+        (λ held. IsBehind held.behind × IsWritten (image_bytes held.behind) into.old into.new) }
     ensures refused { handle.old.full ≡ true → result ≢ ok
-        → IsSomeAnd handle.old.held (IsSaveRefusal (length into.old) result) }
+        → IsSomeAnd handle.old.held (λ held. IsSaveRefusal (length into.old) result held.behind) }
     ensures unwritten { result ≢ ok → into.new ≡ into.old }
     ensures counted { ((result ≡ ok) ⊎ (result ≡ no_room))
-        → IsSomeAnd handle.old.held (λ behind. bytes.new ≡ length (image_bytes behind)) }
+        → IsSomeAnd handle.old.held (λ held. bytes.new ≡ length (image_bytes held.behind)) }
     ensures uncounted { result ≢ ok → result ≢ no_room → bytes.new ≡ bytes.old }
 {
     let Some(board) = handle.take(alloc) else {
@@ -39,15 +39,15 @@ pub extern "C" fn board_save(
     status
 }
 
-/// Opens the board that was saved as these bytes: it is equal to that one. `CLOSED` where the handle is open already;
+/// Opens the board that was saved as these bytes: it is equal to that one, but that no expansion ROM was given bytes. `CLOSED` where the handle is open already;
 /// `OTHER_VERSION` where another version saved them; `BAD_IMAGE` where they are those of no board. A handle that is refused is
 /// as before.
 #[unsafe(no_mangle)]
 pub extern "C" fn board_load(alloc: Global, handle: &mut Handle, from: &[u8]) -> u32
     ensures done { result ≡ ok → (handle.new.full ≡ true) × IsSomeAnd handle.new.held
-        (λ behind. IsBehind behind × (from.now ≡ image_bytes behind)) }
+        (λ held. IsBehind held.behind × (from.now ≡ image_bytes held.behind) × (held.roms ≡ [])) }
     ensures exact { (behind : Behind) → handle.old.full ≡ false → IsBehind behind → from.now ≡ image_bytes behind
-        → (result ≡ no_memory) ⊎ ((result ≡ ok) × (handle.new.held ≡ Some behind)) }
+        → (result ≡ no_memory) ⊎ ((result ≡ ok) × (handle.new.held ≡ Some (without_roms behind))) }
     ensures twice { handle.old.full ≡ true → result ≡ closed }
     ensures held { handle.old.full ≡ true → handle.new.held ≡ handle.old.held }
     ensures refused { handle.old.full ≡ false → result ≢ ok → IsLoadRefusal from.now result }

@@ -20,6 +20,7 @@ pub mod CardChecks
 pub mod CardLoadSteps
 pub mod PortAccessSteps
 pub mod Placed
+pub mod WrittenBytes
 pub mod KeptBytes
 pub mod Marks
 pub mod ChipsetFormats

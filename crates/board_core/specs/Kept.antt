@@ -1,6 +1,6 @@
 -- What a board keeps: its history, the chipset that the history left, and the numbers of entries.
 use Rattle.std.specs.Prelude.{ℕ, ◌≡◌, ◌+◌, ◌<◌, List, length, slice_index}
-use Rattle.board_prelude.specs.Common.{Entry, Setup, entries_by, IsLegal, entry_limit}
+use Rattle.board_prelude.specs.Common.{Entry, Event, Reply, Setup, entries_by, IsLegal, entry_limit}
 use Rattle.board_chipset.specs.Chipset.{Running, IsLeftBy}
 
 -- what a replay is seen as: its chipset, the number of entries so far, and those of each processor. Its history is not
@@ -17,6 +17,11 @@ pub record HasPlayed (replay : Playing) (history : List Entry) : Type 0 where
   pub left : IsLeftBy replay.chipset history
   pub count : replay.count ≡ length history
   pub counted : (actor : ℕ) → actor < 256 → slice_index replay.counts actor ≡ length (entries_by actor history)
+
+-- the entry of an event that a replay has just done
+abbrev pub entry_of : (replay : Playing) → (actor : ℕ) → Event → Reply → Entry
+entry_of replay actor event reply =
+    record { actor = actor; seq = slice_index replay.counts actor; event = event; reply = reply }
 
 -- it has played some history
 abbrev pub HasPlayedSome : Playing → Type 0

@@ -1,7 +1,7 @@
 //! The board: each event is one step, which adds one entry to a history that is legal at every moment.
 
 ghost use Rattle.std.specs.Prelude.{◌≡◌, ◌-◌, ◌+◌, ◌++◌, ◌<◌, ◌≤◌, ◌↔◌, List, [], ◌∷◌, length, max, Err, IsTrue, IfOk, OnOk, OnErr, true};
-ghost use Rattle.board_prelude.specs.Common.{Entry, Port, is_hard_reset, most_mib, most_card_memory, entry_limit, IsCardList, IsDisk, IsRomSize, IsSetup, memory_of_cards, IsInRange, IsAnswer, IsLegal, next_entry, statements_of, byte_of, map_change_of, version_of, IsFlatMapOf, disk_of};
+ghost use Rattle.board_prelude.specs.Common.{Entry, Port, is_hard_reset, most_mib, most_card_memory, entry_limit, IsCardList, IsDisk, IsRomSize, IsSetup, memory_of_cards, IsInRange, IsAnswer, IsLegal, entries_by, next_entry, statements_of, byte_of, map_change_of, version_of, IsFlatMapOf, disk_of};
 ghost use Rattle.addr_decode.specs.MapRegs.{StandsFor, map_bytes};
 ghost use Rattle.dram_store.specs.Dram.{IsDramOf};
 ghost use Rattle.pci_bars.specs.Contents.{IsContentsOf};
@@ -98,7 +98,18 @@ impl Board {
           spare = self.old.spare - 1;
         } }
     {
-        self.play(actor, event).reply
+        let reply = self.replay.answer(actor, event);
+        let seq = self.replay.last_of(actor);
+        self.history.add(actor, seq, event, &reply);
+        reply
+    }
+
+    /// The number of a processor's last entry, and 0 before its first.
+    #[inline]
+    pub fn last_of(&self, actor: u8) -> u32
+        ensures last { result ≡ length (entries_by actor self.now.entries) }
+    {
+        self.replay.last_of(actor)
     }
 
     /// Does statements in their order.

@@ -8,13 +8,13 @@ ghost use Rattle.pci_bars.specs.Contents.{IsContentsOf};
 ghost use Rattle.board_chipset.specs.declared.setup.BoardOpen.{BoardOpen};
 ghost use Rattle.board_chipset.specs.Resets.{reset_of};
 ghost use Rattle.board_chipset.specs.Stores.{IsOfBoard, IsStoreOf};
-ghost use Rattle.board_core.specs.Kept.{HasPlayed};
+ghost use Rattle.board_core.specs.Kept.{HasPlayed, entry_of};
 
 use addr_decode::MapChange;
 use board_base::PortAccess;
 use board_chipset::{BoardOpen, Chipset, ResetKind, Setup, Store};
 use board_spec::limits::ACTORS;
-use board_spec::{Entry, Event};
+use board_spec::{Entry, Event, Reply};
 use map_builder::FlatMap;
 use std::alloc::Global;
 use std::marker::Model;
@@ -69,6 +69,32 @@ impl Replay {
         })
     }
 
+    /// Does an event of a processor, and returns the reply of the entry that it adds to the history, which stays legal.
+    /// The entry's number among its processor's is `last_of` then. There were fewer than 3,999,999 entries. It takes no
+    /// memory.
+    pub fn answer(&mut self, actor: u8, event: &Event) -> Reply
+        requires in_range { IsInRange self.old.chipset.setup event.now }
+        requires few { self.old.count + 1 < entry_limit }
+        ensures played { (history : List Entry) → HasPlayed self.old history
+            → HasPlayed self.new (entry_of self.new actor event.now result ∷ history) }
+        ensures setup { self.new.chipset.setup ≡ self.old.chipset.setup }
+        ensures count { self.new.count ≡ self.old.count + 1 }
+    {
+        let reply = self.chipset.step(event);
+        let seq = self.counts[usize::from(actor)] + 1;
+        self.counts[usize::from(actor)] = seq;
+        self.count += 1;
+        reply
+    }
+
+    /// The number of a processor's last entry, and 0 before its first.
+    #[inline]
+    pub fn last_of(&self, actor: u8) -> u32
+        ensures last { result ≡ slice_index self.now.counts actor }
+    {
+        self.counts[usize::from(actor)]
+    }
+
     /// Does an event of a processor, and returns the entry that it adds to the history, which stays legal. There were
     /// fewer than 3,999,999 entries. It takes no memory.
     pub fn step(&mut self, actor: u8, event: &Event) -> Entry
@@ -79,13 +105,10 @@ impl Replay {
         ensures setup { self.new.chipset.setup ≡ self.old.chipset.setup }
         ensures count { self.new.count ≡ self.old.count + 1 }
     {
-        let reply = self.chipset.step(event);
-        let seq = self.counts[usize::from(actor)] + 1;
-        self.counts[usize::from(actor)] = seq;
-        self.count += 1;
+        let reply = self.answer(actor, event);
         Entry {
             actor,
-            seq,
+            seq: self.last_of(actor),
             event: *event,
             reply,
         }

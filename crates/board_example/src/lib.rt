@@ -39,29 +39,3 @@ pub fn reset_vector(alloc: Global, rom: Vec<u8>) -> Result<Reply, BoardOpen>
     };
     Ok(board.step(0, &Event::Memory(fetch)))
 }
-
-#[cfg(test)]
-mod tests {
-    use super::*;
-    use board_base::Target;
-    use std::test::Fail;
-
-    /// The ROM's byte at offset o is o mod 256; FFFFFFF0h is its offset FFF0h.
-    #[test]
-    fn the_first_fetch_is_from_the_rom(rt: HostRuntime) -> Result<(), Fail> {
-        let mut rom = Vec::new(rt.alloc());
-        for offset in 0..0x1_0000_u32 {
-            rom.push((offset % 0x100) as u8)?;
-        }
-        let reply = reset_vector(rt.alloc(), rom)?;
-        assert_eq!(rt;
-            reply,
-            Reply::Bus {
-                value: Some(0xF3F2_F1F0),
-                target: Target::Rom(0xFFF0),
-                denial: None,
-            }
-        );
-        Ok(())
-    }
-}

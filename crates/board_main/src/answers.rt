@@ -48,7 +48,7 @@ Exit status: 0 done, 1 usage, 2 read fault, 3 write fault, 4 too long, 5 bad scr
 const VERSION: &str = "board 0.1\n";
 
 /// An answer of the program's own, for which no board is opened.
-#[derive(Clone, Copy, PartialEq, Eq, Debug)]
+#[derive(Clone, Copy)]
 pub enum OwnAnswer {
     Help,
     Version,
@@ -81,27 +81,5 @@ pub fn write_answer<W: Write>(out: &mut OutSink<W>, own: OwnAnswer) -> Result<()
     match own {
         OwnAnswer::Help => put_three(out, TITLE, USAGE, COMMANDS),
         OwnAnswer::Version => put_text(out, VERSION),
-    }
-}
-
-#[cfg(test)]
-mod tests {
-    use super::*;
-    use std::test::Fail;
-
-    #[test]
-    fn help_and_version_are_the_program_s_own(rt: HostRuntime) -> Result<(), Fail> {
-        let cases = [
-            ("--help", Some(OwnAnswer::Help)),
-            ("--version", Some(OwnAnswer::Version)),
-            ("-h", None),
-            ("replay", None),
-            ("", None),
-        ];
-        for (word, own) in cases {
-            let alone = vec![in rt.alloc(); word.to_string(rt.alloc())?]?;
-            assert_eq!(rt; own_answer(&alone), own, "{word}");
-        }
-        Ok(())
     }
 }

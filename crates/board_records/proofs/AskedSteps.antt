@@ -1,6 +1,6 @@
 -- What an access at a port makes of a chipset with a serial port, in the words of a step that was asked; and the record of
 -- each kind of reply as that of a reply of both.
-use Rattle.std.proofs.Common.{◌≡◌, ℕ, true, false, List, ◌∷◌, Option, refl}
+use Rattle.std.proofs.Common.{◌≡◌, ℕ, true, false, List, ◌∷◌, Option, Some, None, refl}
 use Rattle.board_prelude.proofs.Common.{Target, Denial, PortAccess, Parts, Port, Bus, Look, Saw, Entry, is_hard_reset}
 use Rattle.board_spec.specs.declared.event.Reply.TheVariants as replies
 use Rattle.board_chipset.specs.Common.{Running}
@@ -9,13 +9,22 @@ use Rattle.uart_16550.specs.declared.com1.Happening.TheVariants.{Happens}
 use Rattle.uart_16550.specs.declared.com1.SerialReply.TheVariants.{Board as OfBoard, Uart as OfUart}
 use Rattle.uart_16550.specs.Common.{change_steps, com1_after, is_for_uart, Serial, sending_after, steps_for}
 use Rattle.board_records.specs.declared.reply.AfterStep.{AfterStep}
-use Rattle.board_records.specs.Replies.{bus_said, look_said, uart_said, wide_said, record_said, serial_said}
+use Rattle.board_records.specs.declared.reply.ReplyRecord.{ReplyRecord}
+use Rattle.board_records.specs.Replies.{bus_said, look_said, uart_said, wide_said, record_said, serial_said, blank, with_cycle, without_value, beside_cycle}
 use Rattle.board_records.specs.Steps.{port_of}
 
 pub bus_told : (value : Option ℕ) (target : Target) (denial : Option Denial) (after : AfterStep) →
     bus_said value target denial after ≡ serial_said (OfBoard (Bus value target denial)) after
 unfolding serial_said record_said
 bus_told value target denial after = refl
+
+-- the reply to one bus cycle, and then what is beside it
+pub cycle_beside : (said : ReplyRecord) (value : Option ℕ) (target : Target) (denial : Option Denial)
+    (after : AfterStep) →
+    beside_cycle (with_cycle (without_value said) value target denial) after ≡ bus_said value target denial after
+unfolding bus_said blank
+cycle_beside said None target denial after = refl
+cycle_beside said (Some value) target denial after = refl
 
 pub wide_told : (parts : Parts) (value : Option ℕ) (after : AfterStep) →
     wide_said parts value after ≡ serial_said (OfBoard (replies.Parts parts value)) after

@@ -1,5 +1,5 @@
--- What cards say that they are, one after another; and replies of boards of which none says anything.
-use Rattle.std.proofs.Common.{◌≡◌, ℕ, ◌+◌, ◌<◌, ◌≤◌, Bool, true, false, if◌then◌else◌, List, [], ◌∷◌, length, get_or, drop, IsSomeAnd, Option, Some, None, option_map, refl, ap, arith}
+-- What cards say that they are, one after another; and steps of a door over those of its chipset.
+use Rattle.std.proofs.Common.{◌≡◌, ℕ, ◌+◌, ◌<◌, ◌≤◌, Bool, true, false, if◌then◌else◌, List, [], ◌∷◌, length, get_or, drop, IsSomeAnd, Option, Some, None, option_map, refl, sym, ap, ◌∙◌, arith}
 use Rattle.std.proofs.lemmas.List.{drop_more}
 use Rattle.board_prelude.proofs.Common.{Width}
 use Rattle.board_spec.specs.Setup.{FittedCard, Setup}
@@ -13,10 +13,12 @@ use Rattle.board_records.specs.declared.event.EventRecord.{EventRecord}
 use Rattle.board_records.specs.declared.reply.ReplyRecord.{ReplyRecord}
 use Rattle.board_records.specs.Cards.{cards_said, identities_said, identity_said}
 use Rattle.board_records.specs.Events.{width_said}
-use Rattle.board_records.specs.Doors.{Behind, IsDoorStep, IsOpenedWith, disk_of, setup_said}
-use Rattle.board_records.specs.Identified.{IsIdentifiedStep, identified_by, identified_record, is_config_read}
+use Rattle.board_records.specs.Doors.{Held, IsDoorStep, IsOpenedWith, disk_of, setup_said}
+use Rattle.board_records.specs.Identified.{identified_by, identified_record, is_config_read}
+use Rattle.board_records.specs.RomReplies.{with_roms}
 use Rattle.board_records.specs.Steps.{IsAskedStep}
 use Rattle.board_records.proofs.Openings.{said_count}
+use Rattle.board_records.proofs.RomParts.{none_with}
 
 pub identities_next : (records : List CardRecord) (index : ℕ) (last : CardRecord) → index < length records →
     identities_said (drop index records)
@@ -51,26 +53,27 @@ none_identified event said = none_by (is_config_read said) (width_said event.byt
 
 -- ---- steps
 
-pub with_identities : (asked : Option Happening) (old new : Serial Running) (plain : ReplyRecord)
-    (identities : List FittedIdentity) (event : EventRecord) (said : ReplyRecord) →
-    said ≡ identified_record identities event plain → IsSomeAnd asked (IsAskedStep old new plain) →
-    IsSomeAnd asked (IsIdentifiedStep identities old new event said)
-with_identities None old new plain identities event said is done = done
-with_identities (Some it) old new plain identities event said is done =
-    record { plain = plain; step = done; told = is }
+abbrev held : Serial Running → List FittedIdentity → List (List ℕ) → Option Held
+held serial identities roms =
+    Some (record { behind = record { serial = serial; identities = identities }; roms = roms })
 
-abbrev behind : Serial Running → List FittedIdentity → Option Behind
-behind serial identities = Some (record { serial = serial; identities = identities })
+pub fitted_step : (asked : Option Happening) (old new : Serial Running) (identities : List FittedIdentity)
+    (roms : List (List ℕ)) (event : EventRecord) (plain identified said : ReplyRecord) →
+    identified ≡ identified_record identities event plain → said ≡ with_roms roms event identified →
+    IsSomeAnd asked (IsAskedStep old new plain) →
+    IsSomeAnd asked (IsDoorStep (held old identities roms) (held new identities roms) event said)
+fitted_step None old new identities roms event plain identified said is given done = done
+fitted_step (Some it) old new identities roms event plain identified said is given done = record {
+  same = refl;
+  same_roms = refl;
+  holds = record { plain = plain; step = done; told = given ∙ ap (with_roms roms event) is };
+}
 
-pub door_step : (asked : Option Happening) (old new : Serial Running) (identities : List FittedIdentity)
-    (event : EventRecord) (said : ReplyRecord) → IsSomeAnd asked (IsIdentifiedStep identities old new event said) →
-    IsSomeAnd asked (IsDoorStep (behind old identities) (behind new identities) event said)
-door_step None old new identities event said done = done
-door_step (Some it) old new identities event said done = record { same = refl; holds = done }
-
+-- of a board whose cards say nothing, and whose ROMs were given no bytes
 pub plain_step : (asked : Option Happening) (old new : Serial Running) (identities : List FittedIdentity)
-    (event : EventRecord) (said : ReplyRecord) → identities ≡ [] → IsSomeAnd asked (IsAskedStep old new said) →
-    IsSomeAnd asked (IsDoorStep (behind old identities) (behind new identities) event said)
-plain_step asked old new identities event said none done =
-    door_step asked old new identities event said
-    (with_identities asked old new said identities event said (rw none (none_identified event said)) done)
+    (roms : List (List ℕ)) (event : EventRecord) (said : ReplyRecord) → identities ≡ [] → roms ≡ [] →
+    IsSomeAnd asked (IsAskedStep old new said) →
+    IsSomeAnd asked (IsDoorStep (held old identities roms) (held new identities roms) event said)
+plain_step asked old new identities roms event said none no_roms done =
+    fitted_step asked old new identities roms event said said said (rw none (none_identified event said))
+    (rw no_roms (sym (none_with event said))) done

@@ -7,5 +7,6 @@ pub mod Openings
 pub mod Lines
 pub mod Images
 pub mod Digits
+pub mod RomParts
 pub mod Identities
 pub mod Masters

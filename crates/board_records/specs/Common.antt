@@ -1,8 +1,9 @@
 -- The definitions that files above cite, passed on from one place. Declares nothing.
 pub use Rattle.board_records.specs.Bytes.{IsClockByte, IsClockWritten, IsDramTold, IsDramWritten, IsSectorRefusal, IsSectorTold, clock_bytes}
 pub use Rattle.board_records.specs.CardBytes.{IsCardTold, IsCardWritten}
+pub use Rattle.board_records.specs.CardRoms.{AreRomsWritten, IsRomRefusal, IsRomTold, IsPastRom}
 pub use Rattle.board_records.specs.Cards.{identities_said}
-pub use Rattle.board_records.specs.Doors.{Behind, IsDoorStep, IsOpenRefusal, IsOpenedWith, IsSetupRefusal, OnBoard, OnBoth, setup_said}
+pub use Rattle.board_records.specs.Doors.{Behind, Held, IsDoorStep, IsOpenRefusal, IsOpenedWith, IsSetupRefusal, OnBoard, OnBoth, setup_said, without_roms}
 unfoldable pub use Rattle.board_records.specs.Events.{asked_said, event_said}
 pub use Rattle.board_records.specs.Images.{IsBehind, IsLoadRefusal, IsSaveRefusal, IsWritten, image_bytes}
 pub use Rattle.board_records.specs.Maps.{AreRangesTold, AreWindowsTold, IsVersionSaid}
@@ -13,5 +14,5 @@ pub use Rattle.board_records.specs.Replies.{area_said, of_part, target_said, wit
 unfoldable pub use Rattle.board_records.specs.Replies.{part_said, serial_said}
 pub use Rattle.board_records.specs.Seconds.{HasNoSecond, IsSecondStep}
 pub use Rattle.board_records.specs.Standing.{AreLinesTold, serial_state_said}
-pub use Rattle.board_records.specs.Statuses.{IsEventRefusal, closed, no_byte, no_cycle, no_event, no_memory, no_reply, no_room, no_time, ok, past_end}
+pub use Rattle.board_records.specs.Statuses.{IsEventRefusal, closed, no_byte, no_cycle, no_event, no_memory, no_reply, no_room, no_time, no_transfer, ok, past_end}
 pub use Rattle.board_records.specs.Steps.{IsAskedStep, IsHistoryOf, after_step}

@@ -10,7 +10,7 @@ use Rattle.board_records.specs.declared.card.CardRecord.{CardRecord}
 use Rattle.board_records.specs.declared.event.EventRecord.{EventRecord}
 use Rattle.board_records.specs.declared.reply.ReplyRecord.{ReplyRecord}
 use Rattle.board_records.specs.Cards.{cards_said}
-use Rattle.board_records.specs.Identified.{IsIdentifiedStep}
+use Rattle.board_records.specs.Identified.{IsFittedStep}
 use Rattle.board_records.specs.Statuses.{no_memory, bad_cards, setup_status}
 
 -- the disk that these bytes are: none where there are none
@@ -48,22 +48,32 @@ pub record Behind : Type 0 where
   pub serial : Serial Running
   pub identities : List FittedIdentity
 
+-- with the bytes that the cards' expansion ROMs were given
+pub record Held : Type 0 where
+  pub behind : Behind
+  pub roms : List (List ℕ)
+
+-- of no ROM any
+abbrev pub without_roms : Behind → Held
+without_roms behind = record { behind = behind; roms = [] }
+
 -- there is a chipset, and something holds of it
-abbrev pub OnBoard : Option Behind → (Serial Running → Type 0) → Type 0
+abbrev pub OnBoard : Option Held → (Serial Running → Type 0) → Type 0
 OnBoard None P = ⊥
-OnBoard (Some behind) P = P behind.serial
+OnBoard (Some held) P = P held.behind.serial
 
 -- there is one before and after, of the same cards, and something holds of them
-pub record IsGoneOn (P : Serial Running → Serial Running → Type 0) (old new : Behind) : Type 0 where
-  pub same : new.identities ≡ old.identities
-  pub holds : P old.serial new.serial
+pub record IsGoneOn (P : Serial Running → Serial Running → Type 0) (old new : Held) : Type 0 where
+  pub same : new.behind.identities ≡ old.behind.identities
+  pub same_roms : new.roms ≡ old.roms
+  pub holds : P old.behind.serial new.behind.serial
 
-abbrev pub OnBoth : Option Behind → Option Behind → (Serial Running → Serial Running → Type 0) → Type 0
+abbrev pub OnBoth : Option Held → Option Held → (Serial Running → Serial Running → Type 0) → Type 0
 OnBoth (Some old) (Some new) P = IsGoneOn P old new
 OnBoth _ _ P = ⊥
 
--- a step, with the identities' bytes in its reply
-abbrev pub IsDoorStep : Option Behind → Option Behind → EventRecord → ReplyRecord → Happening → Type 0
+-- a step, with the identities' bytes and those of the ROMs in its reply
+abbrev pub IsDoorStep : Option Held → Option Held → EventRecord → ReplyRecord → Happening → Type 0
 IsDoorStep (Some old) (Some new) event said asked =
-    IsGoneOn (λ o n. IsIdentifiedStep old.identities o n event said asked) old new
+    IsGoneOn (λ o n. IsFittedStep old.behind.identities old.roms o n event said asked) old new
 IsDoorStep _ _ event said asked = ⊥

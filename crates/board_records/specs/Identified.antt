@@ -1,6 +1,6 @@
 -- The record of a reply where cards have identities: that of the chipset's reply, with their bytes in the place of the
 -- fixed ones.
-use Rattle.std.specs.Prelude.{◌≡◌, ◌%◌, ◌^◌, ◌==◌, ◌&&◌, nat_lt, Bool, if◌then◌else◌, List, Option, Some, None}
+use Rattle.std.specs.Prelude.{ℕ, ◌≡◌, ◌%◌, ◌^◌, ◌==◌, ◌&&◌, nat_lt, Bool, if◌then◌else◌, List, Option, Some, None}
 use Rattle.board_prelude.specs.Common.{Width}
 use Rattle.board_chipset.specs.Common.{Running}
 use Rattle.uart_16550.specs.declared.com1.Happening.{Happening}
@@ -12,6 +12,7 @@ use Rattle.board_records.specs.declared.event.EventRecord.{EventRecord}
 use Rattle.board_records.specs.declared.reply.ReplyRecord.{ReplyRecord}
 use Rattle.board_records.specs.Numbers.{bus_reply, config_target}
 use Rattle.board_records.specs.Events.{width_said}
+use Rattle.board_records.specs.RomReplies.{with_roms}
 use Rattle.board_records.specs.Steps.{IsAskedStep}
 
 -- a reply to a read of configuration data
@@ -30,9 +31,10 @@ abbrev pub identified_record : List FittedIdentity → EventRecord → ReplyReco
 identified_record identities event said =
     identified_by (if is_config_read said then identity_at identities said.part0.unit else None) (width_said event.bytes) said
 
--- a step of the chipset with its serial port, and the record of its reply with the identities' bytes
-pub record IsIdentifiedStep (identities : List FittedIdentity) (old new : Serial Running) (event : EventRecord)
-    (said : ReplyRecord) (asked : Happening) : Type 0 where
+-- a step of the chipset with its serial port, and the record of its reply with the identities' bytes, and with those
+-- that expansion ROMs were given
+pub record IsFittedStep (identities : List FittedIdentity) (roms : List (List ℕ)) (old new : Serial Running)
+    (event : EventRecord) (said : ReplyRecord) (asked : Happening) : Type 0 where
   pub plain : ReplyRecord
   pub step : IsAskedStep old new plain asked
-  pub told : said ≡ identified_record identities event plain
+  pub told : said ≡ with_roms roms event (identified_record identities event plain)

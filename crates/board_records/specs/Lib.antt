@@ -4,8 +4,10 @@ pub mod Replies
 pub mod Statuses
 pub mod Steps
 pub mod Cards
+pub mod RomReplies
 pub mod Identified
 pub mod Doors
+pub mod CardRoms
 pub mod Maps
 pub mod Places
 pub mod Bytes

@@ -129,6 +129,28 @@ abbrev pub with_cycle : ReplyRecord → Option ℕ → Target → Option Denial 
 with_cycle said value target denial =
     with_value (record said { form = bus_reply; parts = 1; part0 = part_said target denial }) value
 
+-- with no value, and with all that is beside the reply to one bus cycle
+abbrev pub without_value : ReplyRecord → ReplyRecord
+without_value said = record said { value = 0; has_value = 0 }
+
+abbrev pub beside_cycle : ReplyRecord → AfterStep → ReplyRecord
+beside_cycle said after = record said {
+  version = after.version;
+  seen = 0;
+  lo = 0;
+  hi = 0;
+  interrupt = flag after.interrupt;
+  reset = reset_number after.reset;
+  part1 = no_part;
+  part2 = no_part;
+  part3 = no_part;
+  sent = 0;
+  has_sent = 0;
+  irq4 = flag after.irq4;
+  serial_room = flag after.serial_room;
+  reserved = 0;
+}
+
 abbrev pub with_wide : ReplyRecord → Parts → Option ℕ → ReplyRecord
 with_wide said parts value = with_value (with_parts (record said { form = parts_reply }) parts) value
 

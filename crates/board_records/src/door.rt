@@ -1,9 +1,9 @@
 //! A chipset with a serial port whose calls are in numbers.
 
-ghost use Rattle.std.specs.Prelude.{◌≡◌, ◌≢◌, ◌+◌, ◌<◌, ◌≤◌, ◌⊎◌, length, Ok, Err, Some, IfOk, IfErr, IsSomeAnd};
+ghost use Rattle.std.specs.Prelude.{◌≡◌, ◌≢◌, ◌+◌, ◌<◌, ◌≤◌, ◌⊎◌, [], length, Ok, Err, Some, IfOk, IfErr, IsSomeAnd};
 ghost use Rattle.board_spec.specs.Setup.{installed};
 ghost use Rattle.board_records.specs.Bytes.{clock_bytes, IsDramTold, IsSectorTold, IsSectorRefusal, IsClockByte, IsDramWritten, IsClockWritten};
-ghost use Rattle.board_records.specs.Doors.{Behind, IsDoorStep, IsOpenedWith, IsOpenRefusal, OnBoard, OnBoth, setup_said};
+ghost use Rattle.board_records.specs.Doors.{Behind, IsDoorStep, IsOpenedWith, IsOpenRefusal, OnBoard, OnBoth, setup_said, without_roms};
 ghost use Rattle.board_records.specs.Cards.{identities_said};
 ghost use Rattle.board_records.specs.Events.{asked_said};
 ghost use Rattle.board_records.specs.Images.{IsBehind, IsLoadRefusal, IsSaveRefusal, IsWritten, image_bytes};
@@ -16,6 +16,7 @@ ghost use Rattle.board_records.specs.Statuses.{ok, closed, no_byte, no_memory, n
 use crate::bytes::{tell_clock_byte, tell_dram, tell_sector};
 use crate::calls::step;
 use crate::card::{CardRecord, identities_of};
+use crate::card_roms::{is_plain, roms_told};
 use crate::event::EventRecord;
 use crate::identified::identify_told;
 use crate::image::{Loaded, image_of, load, write_front};
@@ -30,25 +31,31 @@ use crate::write::{write_clock_byte, write_dram};
 use arrayvec::ArrayVec;
 use board_chipset::Chipset;
 use card_identity::FittedIdentity;
+use expansion_roms::Roms;
 use std::alloc::Global;
 use std::marker::Model;
 use uart_16550::SerialBoard;
 
-/// A chipset with a serial port on COM1, and cards that say what they are, whose calls are in numbers. Contracts see it as
+/// A chipset with a serial port on COM1, and cards that say what they are and have bytes in their ROMs, whose calls are in numbers. Contracts see it as
 /// some: what holds none has the value None.
 #[derive(Drop)]
 pub struct Door {
     pub(crate) serial: SerialBoard<Chipset>,
     identities: ArrayVec<FittedIdentity, 8>,
+    pub(crate) roms: Option<Roms>,
 }
 
 impl Model for Door {
     ghost use Rattle.std.specs.Prelude.{Option, Some};
-    ghost use Rattle.board_records.specs.Doors.{Behind};
+    ghost use Rattle.board_records.specs.Doors.{Held};
+    ghost use Rattle.board_records.specs.RomReplies.{roms_in};
 
-    ghost Value = { Option Behind };
+    ghost Value = { Option Held };
 
-    ghost view = { λ door. Some (record { serial = door.serial; identities = door.identities.items }) };
+    ghost view = { λ door. Some (record {
+      behind = record { serial = door.serial; identities = door.identities.items };
+      roms = roms_in door.roms;
+    }) };
 }
 
 impl Door {
@@ -66,13 +73,15 @@ impl Door {
         ensures fresh { IfOk result (λ door. OnBoard door
             (λ serial. IsSomeAnd (setup_said mib cards.now rom.now disk.now) (IsOpenedWith serial))) }
         ensures identities { IfOk result (λ door. IsSomeAnd door
-            (λ behind. behind.identities ≡ identities_said cards.now)) }
+            (λ held. held.behind.identities ≡ identities_said cards.now)) }
+        ensures roms { IfOk result (λ door. IsSomeAnd door (λ held. held.roms ≡ [])) }
         ensures refused { IfErr result (IsOpenRefusal (setup_said mib cards.now rom.now disk.now)) }
     {
         match open(alloc, mib, cards, rom, disk) {
             Ok(serial) => Ok(Door {
                 serial,
                 identities: identities_of(cards),
+                roms: None,
             }),
             Err(status) => Err(status),
         }
@@ -83,11 +92,12 @@ impl Door {
     /// copy of them. The board stays as it is.
     pub fn save(&self, alloc: Global, into: &mut [u8], bytes: &mut usize) -> u32
         ensures done { result ≡ ok → IsSomeAnd self.now
-            (λ behind. IsBehind behind × IsWritten (image_bytes behind) into.old into.new) }
-        ensures refused { result ≢ ok → IsSomeAnd self.now (IsSaveRefusal (length into.old) result) }
+            (λ held. IsBehind held.behind × IsWritten (image_bytes held.behind) into.old into.new) }
+        ensures refused { result ≢ ok
+            → IsSomeAnd self.now (λ held. IsSaveRefusal (length into.old) result held.behind) }
         ensures unwritten { result ≢ ok → into.new ≡ into.old }
         ensures counted { ((result ≡ ok) ⊎ (result ≡ no_room))
-            → IsSomeAnd self.now (λ behind. bytes.new ≡ length (image_bytes behind)) }
+            → IsSomeAnd self.now (λ held. bytes.new ≡ length (image_bytes held.behind)) }
         ensures uncounted { result ≢ ok → result ≢ no_room → bytes.new ≡ bytes.old }
         ensures open { result ≢ closed }
     {
@@ -100,25 +110,30 @@ impl Door {
         }
     }
 
-    /// The board whose bytes these are: equal to the one that was saved, so that all which holds of that one holds of it.
+    /// The board whose bytes these are: equal to the one that was saved, so that all which holds of that one holds of it;
+    /// but what expansion ROMs were given is not in the bytes, and is given again.
     /// Bytes that no board wrote, but that are those of a state which one could go on from, give that one. Refused with
     /// `OTHER_VERSION` where they begin as those of another version; with `BAD_IMAGE` where they are those of no board; and
     /// with `NO_MEMORY` where there is none.
     pub fn load(alloc: Global, from: &[u8]) -> Result<Door, u32>
         ensures loaded { IfOk result (λ door. IsSomeAnd door
-            (λ behind. IsBehind behind × (from.now ≡ image_bytes behind))) }
+            (λ held. IsBehind held.behind × (from.now ≡ image_bytes held.behind) × (held.roms ≡ []))) }
         ensures exact { (behind : Behind) → IsBehind behind → from.now ≡ image_bytes behind
-            → (result ≡ Err no_memory) ⊎ (result ≡ Ok (Some behind)) }
+            → (result ≡ Err no_memory) ⊎ (result ≡ Ok (Some (without_roms behind))) }
         ensures refused { IfErr result (IsLoadRefusal from.now) }
     {
         match load(alloc, from) {
-            Ok(Loaded { serial, identities }) => Ok(Door { serial, identities }),
+            Ok(Loaded { serial, identities }) => Ok(Door {
+                serial,
+                identities,
+                roms: None,
+            }),
             Err(status) => Err(status),
         }
     }
 
     /// Does what a record asks, and tells the reply by another: the chipset's, in which a read of configuration data has
-    /// the bytes of the card's identity. Refused with why where the record asks nothing (`NO_EVENT`), an event that is out
+    /// the bytes of the card's identity, and one of an expansion ROM those that it was given. Refused with why where the record asks nothing (`NO_EVENT`), an event that is out
     /// of range, or a byte for which COM1 has no room (`SERIAL_FULL`); then nothing has changed.
     #[inline(always)]
     pub fn step(&mut self, event: &EventRecord, reply: &mut ReplyRecord) -> u32
@@ -130,10 +145,27 @@ impl Door {
         ensures untold { result ≢ ok → reply.new ≡ reply.old }
         ensures open { result ≢ closed }
     {
-        let status = step(&mut self.serial, event, reply);
-        if !self.identities.is_empty() {
-            identify_told(&self.identities, event, status, reply);
+        if is_plain(&self.identities, &self.roms) {
+            return step(&mut self.serial, event, reply);
         }
+        self.fitted_step(event, reply)
+    }
+
+    /// The same with the cards' identities and the bytes of their ROMs. It is not inlined: few boards have a card with
+    /// either.
+    #[inline(never)]
+    fn fitted_step(&mut self, event: &EventRecord, reply: &mut ReplyRecord) -> u32
+        ensures done { result ≡ ok → IsSomeAnd (asked_said event.now)
+            (IsDoorStep self.old self.new event.now reply.new) }
+        ensures refused { result ≢ ok
+            → OnBoard self.old (λ serial. IsEventRefusal serial (asked_said event.now) result) }
+        ensures unchanged { result ≢ ok → self.new ≡ self.old }
+        ensures untold { result ≢ ok → reply.new ≡ reply.old }
+        ensures open { result ≢ closed }
+    {
+        let status = step(&mut self.serial, event, reply);
+        identify_told(&self.identities, event, status, reply);
+        roms_told(&self.roms, event, status, reply);
         status
     }
 

@@ -11,9 +11,7 @@ use crate::status::OK;
 use board_base::Width;
 use card_identity::{FittedIdentity, Identity, identity_at};
 
-/// Puts the bytes of the cards' identities into the record of a reply that was told. It is not inlined: few boards have
-/// a card with an identity.
-#[inline(never)]
+/// Puts the bytes of the cards' identities into the record of a reply that was told.
 pub(crate) fn identify_told(
     identities: &[FittedIdentity],
     event: &EventRecord,

@@ -7,6 +7,7 @@ mod bytes;
 mod calls;
 mod card;
 mod card_bytes;
+mod card_roms;
 mod door;
 mod event;
 mod identified;

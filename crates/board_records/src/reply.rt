@@ -6,7 +6,7 @@ ghost use Rattle.board_prelude.specs.Common.{Entry};
 ghost use Rattle.board_chipset.specs.Common.{IsLeftBy as IsChipsetLeftBy};
 ghost use Rattle.board_chipset.specs.declared.reset_control.ResetKind.TheVariants.{None as NoReset};
 ghost use Rattle.board_records.specs.Numbers.{device_number, reset_number};
-ghost use Rattle.board_records.specs.Replies.{placed, no_part, target_said, area_said, with_denial, part_said, blank, with_value, with_parts, look_said, bus_said, wide_said, record_said, of_part, uart_part, uart_said, serial_said, no_reply, with_cycle, with_wide};
+ghost use Rattle.board_records.specs.Replies.{placed, no_part, target_said, area_said, with_denial, part_said, blank, with_value, with_parts, look_said, bus_said, wide_said, record_said, of_part, uart_part, uart_said, serial_said, no_reply, with_cycle, with_wide, without_value, beside_cycle};
 ghost use Rattle.board_records.specs.Steps.{after_step};
 
 use crate::numbers::{
@@ -128,7 +128,6 @@ fn tell_bus(told: &mut ReplyRecord, reply: &BusReply, after: AfterStep)
 
 /// Tells a reply to one bus cycle, with what stands of a chipset with a serial port after a step that made this reset.
 #[inline(always)]
-#[tactic(auto, unfolding(crate::specs::Replies::bus_said))]
 pub(crate) fn tell_cycle(
     told: &mut ReplyRecord,
     serial: &SerialBoard<Chipset>,
@@ -139,8 +138,49 @@ pub(crate) fn tell_cycle(
         → told.new ≡ bus_said reply.now.value reply.now.target reply.now.denial
         (after_step serial.now.board.setup history reset serial.now.com1) }
 {
-    tell_standing(told, serial, reset);
-    add_cycle(told, reply);
+    tell_answer(told, reply);
+    tell_beside(told, serial, reset);
+}
+
+/// Tells a reply to one bus cycle, and leaves what else the record has.
+#[inline(always)]
+fn tell_answer(told: &mut ReplyRecord, reply: &BusReply)
+    ensures told { told.new ≡ with_cycle (without_value told.old) reply.now.value reply.now.target reply.now.denial }
+{
+    told.part0 = part_record(reply.target, reply.denial);
+    told.form = BUS_REPLY;
+    told.parts = 1;
+    match reply.value {
+        Some(value) => tell_value(told, value.into()),
+        None => {
+            told.value = 0;
+            told.has_value = 0;
+        }
+    }
+}
+
+/// Tells all of a reply to one bus cycle but what answered it: what stands of a chipset with a serial port after a step
+/// that made this reset.
+#[inline(always)]
+fn tell_beside(told: &mut ReplyRecord, serial: &SerialBoard<Chipset>, reset: ResetKind)
+    ensures beside { (history : List Entry) → IsChipsetLeftBy serial.now.board history
+        → told.new ≡ beside_cycle told.old (after_step serial.now.board.setup history reset serial.now.com1) }
+{
+    let chipset = serial.board();
+    told.version = chipset.map().version();
+    told.seen = 0;
+    told.lo = 0;
+    told.hi = 0;
+    told.reset = reset_number(reset);
+    told.part1 = no_part();
+    told.part2 = no_part();
+    told.part3 = no_part();
+    told.sent = 0;
+    told.has_sent = 0;
+    told.irq4 = u8::from(serial.level());
+    told.serial_room = u8::from(serial.room());
+    told.reserved = 0;
+    told.interrupt = u8::from(chipset.interrupt());
 }
 
 /// Adds a reply to one bus cycle to what stands after the step.
@@ -326,13 +366,28 @@ pub(crate) fn uart_part() -> PartRecord
 fn no_part() -> PartRecord
     ensures none { result ≡ no_part }
 {
-    placed(0, 0, 0, 0)
+    PartRecord {
+        offset: 0,
+        target: 0,
+        unit: 0,
+        base: 0,
+        denial: 0,
+        denial_dev: 0,
+        denial_fun: 0,
+        denial_off: 0,
+        reserved: 0,
+    }
 }
 
+/// A part, in few steps where a row of DRAM answers it.
+#[tactic(auto, unfolding(crate::specs::Replies::part_said))]
 pub(crate) fn of_part(part: Part) -> PartRecord
     ensures part { result ≡ of_part part }
 {
-    part_record(part.target, part.denial)
+    match (part.target, part.denial) {
+        (Target::Dram(row), None) => placed(DRAM_TARGET, row, 0, 0),
+        (target, denial) => part_record(target, denial),
+    }
 }
 
 #[tactic(auto, unfolding(crate::specs::Replies::part_said))]
@@ -402,7 +457,7 @@ fn placed(target: u8, unit: u8, base: u8, offset: u32) -> PartRecord
         target,
         unit,
         base,
-        ..PartRecord::default()
+        ..no_part()
     }
 }
 

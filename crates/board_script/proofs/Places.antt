@@ -1,5 +1,6 @@
 -- The place of a line: three numbers with a mark after each.
-use Rattle.std.proofs.Common.{ℕ, zero, suc, ◌<◌, ◌≤◌, ◌^◌, List, [], ◌∷◌, ◌++◌, length, decimal, arith}
+use Rattle.std.proofs.Common.{ℕ, zero, suc, ◌≡◌, ◌+◌, ◌<◌, ◌≤◌, ◌^◌, List, [], ◌∷◌, ◌++◌, drop, get_or, length, decimal, sym, ap, ◌∙◌, arith}
+use Rattle.board_prelude.proofs.Common.{drop_more}
 use Rattle.std.specs.Str.{IsAscii}
 use Rattle.std.proofs.lemmas.Fmt.{length-decimal-le, IsAscii-decimal}
 use Rattle.std.proofs.lemmas.Str.{IsAscii-append}
@@ -13,7 +14,7 @@ long_seq n fits = length-decimal-le 10 n (omega arith) (omega (arith, fits)) (om
 pub long_actor : (n : ℕ) → n < 2 ^ 8 → length (decimal n) ≤ 3
 long_actor n fits = length-decimal-le 3 n (omega arith) (omega (arith, fits)) (omega (arith, fits))
 
-ascii_one : (x : ℕ) → x < 128 → IsAscii (x ∷ [])
+pub ascii_one : (x : ℕ) → x < 128 → IsAscii (x ∷ [])
 ascii_one x small zero = small
 ascii_one x small (suc i) = omega arith
 
@@ -23,3 +24,11 @@ pub ascii_marked :
 ascii_marked n mark rest fits small after =
     IsAscii-append (decimal n) (mark ∷ rest) (IsAscii-decimal n fits)
     (IsAscii-append (mark ∷ []) rest (ascii_one mark small) after)
+
+-- the words that were put last, one character further to the front
+pub one_more :
+    (xs old : List ℕ) (i left : ℕ) → i + 1 ≡ left → i < length xs
+    → get_or xs i 0 ∷ (drop left xs ++ old) ≡ drop i xs ++ old
+one_more xs old i left same within =
+    ap (λ (n : ℕ). get_or xs i 0 ∷ (drop n xs ++ old)) (sym same)
+    ∙ ap (λ (t : List ℕ). t ++ old) (sym (drop_more xs i 0 within))

@@ -1,6 +1,6 @@
 //! Numbers in hexadecimal, in upper-case digits, two for each byte.
 
-ghost use Rattle.std.specs.Prelude.{◌≡◌, ◌+◌, ◌<◌, ◌≤◌, ◌++◌, OnOk, OnErr, IsAscii};
+ghost use Rattle.std.specs.Prelude.{◌≡◌, ◌+◌, ◌/◌, ◌<◌, ◌≤◌, ◌++◌, OnOk, OnErr, IsAscii};
 ghost use Rattle.board_prelude.specs.Common.{byte, hex_digit, hex_byte, hex_number, hex_offset};
 ghost use Rattle.board_script.specs.Adds.{AddsWords, KeepsFront};
 ghost use Rattle.board_script.specs.Tails.{HasRoom, GrowsBy};
@@ -12,12 +12,33 @@ use board_base::NoMemory;
 /// The digits, each at the place of its value.
 const DIGITS: [u8; 16] = *b"0123456789ABCDEF";
 
+/// The two digits of each byte, one byte after another.
+static PAIRS: [u8; 512] = *b"\
+    000102030405060708090A0B0C0D0E0F101112131415161718191A1B1C1D1E1F\
+    202122232425262728292A2B2C2D2E2F303132333435363738393A3B3C3D3E3F\
+    404142434445464748494A4B4C4D4E4F505152535455565758595A5B5C5D5E5F\
+    606162636465666768696A6B6C6D6E6F707172737475767778797A7B7C7D7E7F\
+    808182838485868788898A8B8C8D8E8F909192939495969798999A9B9C9D9E9F\
+    A0A1A2A3A4A5A6A7A8A9AAABACADAEAFB0B1B2B3B4B5B6B7B8B9BABBBCBDBEBF\
+    C0C1C2C3C4C5C6C7C8C9CACBCCCDCECFD0D1D2D3D4D5D6D7D8D9DADBDCDDDEDF\
+    E0E1E2E3E4E5E6E7E8E9EAEBECEDEEEFF0F1F2F3F4F5F6F7F8F9FAFBFCFDFEFF";
+
 /// The digit of the low four bits of a byte.
 #[inline(always)]
 pub(crate) fn digit_of(byte: u8) -> u8
     ensures digit { result ≡ hex_digit byte }
 {
     DIGITS[usize::from(byte % 16)]
+}
+
+/// The two digits of a byte.
+#[inline(always)]
+fn pair_of(byte: u8) -> (u8, u8)
+    ensures high { result.0 ≡ hex_digit (byte / 16) }
+    ensures low { result.1 ≡ hex_digit byte }
+{
+    let place = byte as usize * 2;
+    (PAIRS[place], PAIRS[place + 1])
 }
 
 /// A byte of a value; byte 0 is the lowest, and those past the seventh are 0.
@@ -69,7 +90,8 @@ pub(crate) fn put_hex_byte(line: &mut Tail, byte: u8)
     ensures words { line.new ≡ hex_byte byte ++ line.old }
     ensures length { GrowsBy line.old line.new 2 }
 {
-    line.put(&[digit_of(byte / 16), digit_of(byte)]);
+    let (high, low) = pair_of(byte);
+    line.put(&[high, low]);
 }
 
 /// Puts a word in four digits.
@@ -79,8 +101,9 @@ pub(crate) fn put_hex_word(line: &mut Tail, word: u16)
     ensures words { line.new ≡ hex_number 2 word ++ line.old }
     ensures length { GrowsBy line.old line.new 4 }
 {
-    let [a, b] = word.to_be_bytes();
-    line.put(&[digit_of(a / 16), digit_of(a), digit_of(b / 16), digit_of(b)]);
+    let [high, low] = word.to_be_bytes();
+    put_hex_byte(line, low);
+    put_hex_byte(line, high);
 }
 
 /// Puts an address or an offset, in eight digits.
@@ -91,17 +114,10 @@ pub(crate) fn put_hex_long(line: &mut Tail, long: u32)
     ensures length { GrowsBy line.old line.new 8 }
 {
     let [a, b, c, d] = long.to_be_bytes();
-    let digits = [
-        digit_of(a / 16),
-        digit_of(a),
-        digit_of(b / 16),
-        digit_of(b),
-        digit_of(c / 16),
-        digit_of(c),
-        digit_of(d / 16),
-        digit_of(d),
-    ];
-    line.put(&digits);
+    put_hex_byte(line, d);
+    put_hex_byte(line, c);
+    put_hex_byte(line, b);
+    put_hex_byte(line, a);
 }
 
 /// Puts the low bytes of a value, `bytes` of them, the highest first.

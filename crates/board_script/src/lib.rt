@@ -21,7 +21,7 @@ pub use board_spec::{Entry, Event, Look, Reply, Statement};
 pub use fault::LogFault;
 pub use hex::{push_hex_byte, push_hex_long};
 pub use line::Line;
-pub use log::{log_line, push_heading, push_line, push_lines, push_log};
+pub use log::{log_line, push_heading, push_line, push_lines, push_log, push_parts_line};
 pub use map::push_range;
 pub use read::{Log, read_log};
 pub use target::push_denial;

@@ -1,14 +1,15 @@
 //! What the board replies, as text.
 
-ghost use Rattle.std.specs.Prelude.{◌≡◌, ◌+◌, ◌*◌, ◌≤◌, ◌∷◌, ◌++◌, length, flat_map, OnOk, OnErr, Option};
+ghost use Rattle.std.specs.Prelude.{◌≡◌, ◌+◌, ◌*◌, ◌≤◌, ◌∷◌, ◌++◌, length, flat_map, OnOk, OnErr, Option, None};
 ghost use Rattle.board_prelude.specs.Common.{space, hex_long, area_text, parts_list, value_text, value_bytes, answered_text, look_text, reply_text};
 ghost use Rattle.board_script.specs.Adds.{AddsWords, KeepsFront};
 ghost use Rattle.board_script.specs.Tails.{HasRoom, GrowsBy};
 
 use crate::hex::{put_hex, put_hex_long};
 use crate::tail::Tail;
-use crate::target::{put_area, put_denial, put_target};
-use board_base::{Denial, NoMemory, Target};
+use crate::target::{put_area, put_denial, put_register, put_target};
+use crate::words::put_numbered;
+use board_base::{Denial, NoMemory, Reg, Target};
 use board_spec::{Event, Look, Part, Parts, Reply};
 
 /// How many bytes the value of a reply has: those of the access, and one for a vector.
@@ -80,9 +81,36 @@ pub(crate) fn put_look(line: &mut Tail, look: Look)
     line.put_decimal(u64::from(look.version));
 }
 
-/// Puts what answered and what denied it, each after a space.
+/// Puts a row of DRAM that answered and was not denied.
 #[inline(always)]
-pub(crate) fn put_answered(line: &mut Tail, target: &Target, denial: &Option<Denial>)
+#[tactic(auto, using(std::proofs::lemmas::Fmt::decimal_digit))]
+fn put_open_dram(line: &mut Tail, row: u8)
+    requires room { HasRoom line.old 47 }
+    ensures words { line.new ≡ answered_text (Target.Dram row) None ++ line.old }
+    ensures length { GrowsBy line.old line.new 30 }
+{
+    if row < 10 {
+        line.put(&[b' ', b'd', b'r', b'a', b'm', b':', b'0' + row, b' ', b'-']);
+    } else {
+        line.put(b" -");
+        put_numbered(line, b" dram:", row);
+    }
+}
+
+/// Puts a configuration register that answered and was not denied.
+#[inline(always)]
+fn put_open_register(line: &mut Tail, reg: Reg)
+    requires room { HasRoom line.old 47 }
+    ensures words { line.new ≡ answered_text (Target.Config reg) None ++ line.old }
+    ensures length { GrowsBy line.old line.new 30 }
+{
+    line.put(b" -");
+    put_register(line, reg);
+    line.put(b" config:");
+}
+
+/// Puts what answered, after a space, and what denied it, after another.
+fn put_each_answered(line: &mut Tail, target: &Target, denial: &Option<Denial>)
     requires room { HasRoom line.old 47 }
     ensures words { line.new ≡ answered_text target.now denial.now ++ line.old }
     ensures length { GrowsBy line.old line.new 30 }
@@ -91,6 +119,33 @@ pub(crate) fn put_answered(line: &mut Tail, target: &Target, denial: &Option<Den
     line.put(b" ");
     put_target(line, target);
     line.put(b" ");
+}
+
+/// Puts what answered and was not denied.
+#[inline(always)]
+fn put_open(line: &mut Tail, target: &Target)
+    requires room { HasRoom line.old 47 }
+    ensures words { line.new ≡ answered_text target.now None ++ line.old }
+    ensures length { GrowsBy line.old line.new 30 }
+{
+    match target {
+        Target::Dram(row) => put_open_dram(line, *row),
+        Target::Config(reg) => put_open_register(line, *reg),
+        _ => put_each_answered(line, target, &None),
+    }
+}
+
+/// Puts what answered and what denied it, each after a space.
+#[inline(always)]
+pub(crate) fn put_answered(line: &mut Tail, target: &Target, denial: &Option<Denial>)
+    requires room { HasRoom line.old 47 }
+    ensures words { line.new ≡ answered_text target.now denial.now ++ line.old }
+    ensures length { GrowsBy line.old line.new 30 }
+{
+    match denial {
+        None => put_open(line, target),
+        Some(_) => put_each_answered(line, target, denial),
+    }
 }
 
 /// Puts what answered a part of a wide access.

@@ -41,7 +41,19 @@ impl Tail {
         }
     }
 
-    /// Puts characters to the front.
+    /// Puts one character to the front.
+    #[inline(always)]
+    fn put_one(&mut self, character: u8)
+        requires ascii { IsAscii (character ∷ []) }
+        requires room { HasRoom self.old 1 }
+        ensures words { self.new ≡ character ∷ self.old }
+    {
+        let start = self.start - 1;
+        self.bytes[start..self.start].copy_from_slice(&[character]);
+        self.start = start;
+    }
+
+    /// Puts characters to the front, one at a time: those that the compiler knows it joins.
     #[inline(always)]
     pub(crate) fn put(&mut self, characters: &[u8])
         requires ascii { IsAscii characters.now }
@@ -49,9 +61,11 @@ impl Tail {
         ensures words { self.new ≡ characters.now ++ self.old }
         ensures length { length self.new ≡ length characters.now + length self.old }
     {
-        let start = self.start - characters.len();
-        self.bytes[start..self.start].copy_from_slice(characters);
-        self.start = start;
+        let mut left = characters.len();
+        while left > 0 {
+            left -= 1;
+            self.put_one(characters[left]);
+        }
     }
 
     /// Puts a number in decimal to the front.

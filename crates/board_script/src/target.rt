@@ -5,7 +5,7 @@ ghost use Rattle.board_spec.specs.Text.{register_text, base_text, area_text, dev
 ghost use Rattle.board_script.specs.Adds.{AddsWords, KeepsFront};
 ghost use Rattle.board_script.specs.Tails.{HasRoom, GrowsBy};
 
-use crate::hex::{digit_of, put_hex_long, put_hex_offset};
+use crate::hex::{digit_of, put_hex_byte, put_hex_long, put_hex_offset};
 use crate::tail::Tail;
 use crate::words::put_numbered;
 use board_base::{Area, Denial, Dev, NoMemory, Reg, Target};
@@ -16,15 +16,9 @@ pub(crate) fn put_register(line: &mut Tail, reg: Reg)
     ensures words { line.new ≡ register_text reg ++ line.old }
     ensures length { GrowsBy line.old line.new 7 }
 {
-    line.put(&[
-        digit_of(reg.dev / 16),
-        digit_of(reg.dev),
-        b'.',
-        digit_of(reg.fun),
-        b'.',
-        digit_of(reg.off / 16),
-        digit_of(reg.off),
-    ]);
+    put_hex_byte(line, reg.off);
+    line.put(&[b'.', digit_of(reg.fun), b'.']);
+    put_hex_byte(line, reg.dev);
 }
 
 /// Puts a card's device number and the number of one of its bases, like `card:2.7`.

@@ -167,7 +167,7 @@ fn shared_by<R: Threads + Wait + Sync>(
 fn two_callers(rt: HostRuntime) -> Result<(), Fail> {
     let board = shared_by(&rt, rt.alloc(), 2, 100)?;
     assert!(rt; are_right(&board.history().entries(), 2, 200));
-    assert_eq!(rt; board.map().version(), 200);
+    assert!(rt; board.map().version() == 200);
     Ok(())
 }
 
@@ -175,6 +175,6 @@ fn two_callers(rt: HostRuntime) -> Result<(), Fail> {
 fn eight_callers(rt: HostRuntime) -> Result<(), Fail> {
     let board = shared_by(&rt, rt.alloc(), 8, 50)?;
     assert!(rt; are_right(&board.history().entries(), 8, 100));
-    assert_eq!(rt; board.map().version(), 400);
+    assert!(rt; board.map().version() == 400);
     Ok(())
 }

@@ -1,15 +1,17 @@
-//! Tests of the board: callers and viewers on threads, histories by turns, the places of looks in a run, logs in pieces, logs with a byte changed,
-//! the plain words of the board, and its calendar.
+//! Tests of the board: callers and viewers on threads, histories by themselves and by turns, the places of looks in a run, and logs
+//! in pieces.
 #![tactic(auto)]
 
 #[cfg(test)]
 mod callers;
 #[cfg(test)]
-mod checked_logs;
+mod first_fetch;
+#[cfg(test)]
+mod history;
 #[cfg(test)]
 mod look_places;
 #[cfg(test)]
-mod moments;
+mod marks;
 #[cfg(test)]
 mod pieces;
 #[cfg(test)]
@@ -18,5 +20,3 @@ mod plain;
 mod turns;
 #[cfg(test)]
 mod viewers;
-#[cfg(test)]
-mod words;

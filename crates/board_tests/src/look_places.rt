@@ -9,36 +9,34 @@ use arrayvec::ArrayVec;
 use board_base::{Area, Dev, Kind, PortAccess, Target, Width};
 use board_spec::{Entry, Event, Look, Reply};
 use run_order::{Done, RunEntry, RunOrder, Works};
-use std::alloc::Global;
+use std::alloc::{AllocError, Global};
 use std::process::Abort;
 use std::test::Fail;
 
-/// A look at F0000h before any map write, where the ROM answers.
-const LOOKED_0: Done = Done::Looked {
-    kind: Kind::Read,
-    addr: 0xF_0000,
-    smm: false,
-    look: Look {
-        version: 0,
-        lo: 0xF_0000,
-        hi: 0xF_FFFF,
-        area: Area::Rom,
-    },
-};
+/// A run a line, of phases with `;` between them. A phase has four words: the version of the map before it; the calls that the
+/// bus's history gained; what each processor did, with `/` between the processors; and the entries that come of it. A call is
+/// a processor and `P`, a pulse, or `O`, the first map write. What was done is `L`, a look at F0000h, `P` or `O`, with the
+/// version of the map after it. An entry is its processor, its number, and the version of a look. `none` is no call.
+///
+/// A look before its processor's first statement, in the first phase and in the second. Processor 1 looks while processor 0
+/// opens the window: it saw the map before, or the map after. The look's processor made its call after the map write, so the
+/// look stands after that call. It made its call before the map write, so the look stands after the write. In the same place:
+/// in order of processor, and each processor's in its own order. Eight processors, of which the last makes the one call, and
+/// a phase of looks alone.
+const RUNS: &str = "\
+0 0P L0,P0 010,02-;0 0O L0,O1 030,04-
+0 0P,0O P0,O1/L0 110,01-,02-
+0 0P,0O P0,O1/L1 01-,02-,111
+0 0O,1P,0P O1,P1/P1,L1 01-,11-,121,02-
+0 1P,0P,0O,0P P0,O1,P1/P0,L1 11-,01-,02-,121,03-
+0 1O L1,L1/L0,O1,L1/L0,L1 110,210,12-,011,021,131,221
+0 7O //////L1/L0,O1 710,72-,611;1 none //////L1/L1 621,731
+";
 
-/// The same after the first map write, which opened the window there.
-const LOOKED_1: Done = Done::Looked {
-    kind: Kind::Read,
-    addr: 0xF_0000,
-    smm: false,
-    look: Look {
-        version: 1,
-        lo: 0xF_0000,
-        hi: 0xF_FFFF,
-        area: Area::Shadow(0),
-    },
-};
+/// How many calls there are at most.
+const MOST_CALLS: u32 = 100;
 
+/// Opens the window at F0000h for reads.
 const OPEN_WINDOW: Event = Event::Port(PortAccess {
     write: true,
     port: 0xCFD,
@@ -46,80 +44,117 @@ const OPEN_WINDOW: Event = Event::Port(PortAccess {
     value: 0x10,
 });
 
-/// A pulse, which is no map write, after as many map writes; and the first map write.
-const PULSED_0: Done = Done::Went {
-    event: Event::Pulses(1),
-    version: 0,
-};
-
-const PULSED_1: Done = Done::Went {
-    event: Event::Pulses(1),
-    version: 1,
-};
-
-const OPENED: Done = Done::Went {
-    event: OPEN_WINDOW,
-    version: 1,
-};
-
-/// What goes through the turn.
-#[derive(Clone, Copy)]
-enum Call {
-    Pulse,
-    Open,
+/// The number that a digit says.
+fn digit(byte: u8) -> u8 {
+    byte.wrapping_sub(b'0')
 }
 
-use Call::{Open, Pulse};
-
-/// The calls that the bus's history gained, each with its processor; what each processor did; and the entries that come
-/// of it: their processor and number, and the version of each look.
-struct Phase {
-    version: u32,
-    calls: &'static [(u8, Call)],
-    works: &'static [&'static [Done]],
-    placed: &'static [(u8, u32, Option<u32>)],
+/// A look at F0000h, where the ROM answers before the first map write, and shadow memory after it.
+fn looked(version: u32) -> Done {
+    Done::Looked {
+        kind: Kind::Read,
+        addr: 0xF_0000,
+        smm: false,
+        look: Look {
+            version,
+            lo: 0xF_0000,
+            hi: 0xF_FFFF,
+            area: if version == 0 {
+                Area::Rom
+            } else {
+                Area::Shadow(0)
+            },
+        },
+    }
 }
 
-/// How many calls there are at most.
-const MOST_CALLS: u32 = 100;
+/// The event of a call.
+fn event_of(call: u8) -> Event {
+    if call == b'O' {
+        OPEN_WINDOW
+    } else {
+        Event::Pulses(1)
+    }
+}
+
+/// What a processor did.
+fn done_of(call: u8, version: u8) -> Done {
+    let version = u32::from(digit(version));
+    if call == b'L' {
+        return looked(version);
+    }
+    Done::Went {
+        event: event_of(call),
+        version,
+    }
+}
 
 /// The bus's entry of a call. Its number there does not count looks.
-fn entry_of(actor: u8, seq: u32, call: Call) -> Entry {
-    let (event, target) = match call {
-        Pulse => (Event::Pulses(1), Target::Device(Dev::Pit)),
-        Open => (OPEN_WINDOW, Target::Config(PAM0)),
-    };
-    let reply = Reply::Bus {
-        value: None,
-        target,
-        denial: None,
-    };
+fn entry_of(actor: u8, call: u8) -> Entry {
     Entry {
         actor,
-        seq,
-        event,
-        reply,
+        seq: 1,
+        event: event_of(call),
+        reply: Reply::Bus {
+            value: None,
+            target: if call == b'O' {
+                Target::Config(PAM0)
+            } else {
+                Target::Device(Dev::Pit)
+            },
+            denial: None,
+        },
+    }
+}
+
+/// Adds a call to the bus's history, where it has room.
+fn add_call(bus: &mut History, call: &str)
+    ensures longer { length bus.old.entries ≤ length bus.new.entries }
+{
+    if bus.spare() == 0 {
+        return;
+    }
+    if let [actor, call] = call.as_bytes() {
+        bus.push(&entry_of(digit(*actor), *call));
     }
 }
 
 /// Adds calls to the bus's history, as far as it has room.
-fn add_calls(bus: &mut History, calls: &[(u8, Call)])
+fn add_calls(bus: &mut History, calls: &str)
     ensures longer { length bus.old.entries ≤ length bus.new.entries }
 {
-    for (actor, call) in calls {
-        if bus.spare() > 0 {
-            bus.push(&entry_of(*actor, 1, *call));
-        }
+    for call in calls.split(',') {
+        add_call(bus, call);
     }
 }
 
-fn works_of(rt: &impl Abort, lists: &[&'static [Done]]) -> Works<'static> {
+/// What a processor did, one after another.
+fn list_of(alloc: Global, list: &str) -> Result<Vec<Done>, AllocError> {
+    let mut dones = Vec::new(alloc);
+    for word in list.split(',') {
+        if let [call, version] = word.as_bytes() {
+            dones.push(done_of(*call, *version))?;
+        }
+    }
+    Ok(dones)
+}
+
+/// What each processor did.
+fn lists_of(alloc: Global, lists: &str) -> Result<Vec<Vec<Done>>, AllocError> {
+    let mut all = Vec::new(alloc);
+    for list in lists.split('/') {
+        all.push(list_of(alloc, list)?)?;
+    }
+    Ok(all)
+}
+
+fn works_of<'a>(rt: &impl Abort, lists: &'a [Vec<Done>]) -> Works<'a> {
     let mut works = ArrayVec::new();
     for done in lists {
         if works.is_full() {
             panic!(rt; "more than eight processors");
         }
-        works.push(*done);
+        works.push(done.as_slice());
     }
     works
 }
@@ -136,151 +171,62 @@ fn have_callers(bus: &Entries<'_>, works: &Works) -> bool
     true
 }
 
-fn told(entry: &Entry) -> (u8, u32, Option<u32>) {
-    let version = match entry.reply {
-        Reply::Saw(look) => Some(look.version),
-        _ => None,
-    };
-    (entry.actor, entry.seq, version)
+/// Appends an entry's processor and number, and the version of a look.
+fn push_entry(text: &mut String, entry: &Entry) -> Result<(), AllocError> {
+    if !text.is_empty() {
+        text.push(',')?;
+    }
+    write!(text, "{}{}", entry.actor, entry.seq)?;
+    match entry.reply {
+        Reply::Saw(look) => write!(text, "{}", look.version),
+        _ => text.push('-'),
+    }
 }
 
-/// Whether the entries of an order from a place on are these.
-fn are_placed(
+/// The entries of an order from a place on, in words.
+fn placed(
+    alloc: Global,
     bus: &Entries<'_>,
     entries: &[RunEntry],
     from: usize,
-    placed: &[(u8, u32, Option<u32>)],
-) -> bool
+) -> Result<String, AllocError>
     requires within { All (IsPlacedBelow (length bus.now)) entries.now }
 {
-    if entries.len() != from.saturating_add(placed.len()) {
-        return false;
+    let mut text = String::new(alloc);
+    for i in from..entries.len() {
+        push_entry(&mut text, &entries[i].over(bus))?;
     }
-    for (i, expected) in placed.iter().enumerate() {
-        if told(&entries[from + i].over(bus)) != *expected {
-            return false;
-        }
-    }
-    true
+    Ok(text)
 }
 
 /// Runs phases one after another, and compares what each added.
-fn run(rt: &impl Abort, alloc: Global, phases: &[Phase]) -> Result<(), Fail> {
+fn run(rt: &impl Abort, alloc: Global, phases: &str) -> Result<(), Fail> {
     let mut order = RunOrder::new(alloc);
     let mut history = History::new(alloc);
     history.reserve(MOST_CALLS)?;
-    for phase in phases {
+    for phase in phases.split(';') {
+        let (version, rest) = phase.split_once(' ').unwrap_or(("", ""));
+        let (calls, rest) = rest.split_once(' ').unwrap_or(("", ""));
+        let (works, due) = rest.split_once(' ').unwrap_or(("", ""));
         let before = order.entries().len();
-        add_calls(&mut history, phase.calls);
+        add_calls(&mut history, calls);
         let bus = history.entries();
-        let works = works_of(rt, phase.works);
+        let lists = lists_of(alloc, works)?;
+        let works = works_of(rt, &lists);
         if !have_callers(&bus, &works) {
             panic!(rt; "a call of no processor");
         }
-        order.place(phase.version, &bus, works)?;
-        assert!(rt; are_placed(&bus, order.entries(), before, phase.placed));
+        order.place(u32::from(version == "1"), &bus, works)?;
+        let added = placed(alloc, &bus, order.entries(), before)?;
+        assert!(rt; added.as_str() == due, "{due}");
     }
     Ok(())
 }
 
 #[test]
 fn looks_stand_at_their_places(rt: HostRuntime) -> Result<(), Fail> {
-    for phases in CASES {
+    for phases in RUNS.lines() {
         run(&rt, rt.alloc(), phases)?;
     }
     Ok(())
 }
-
-const CASES: [&[Phase]; 7] = [
-    // A look before its processor's first statement, in the first phase and in the second.
-    &[
-        Phase {
-            version: 0,
-            calls: &[(0, Pulse)],
-            works: &[&[LOOKED_0, PULSED_0]],
-            placed: &[(0, 1, Some(0)), (0, 2, None)],
-        },
-        Phase {
-            version: 0,
-            calls: &[(0, Open)],
-            works: &[&[LOOKED_0, OPENED]],
-            placed: &[(0, 3, Some(0)), (0, 4, None)],
-        },
-    ],
-    // Processor 1 looks while processor 0 opens the window: it saw the map before, or the map after.
-    &[Phase {
-        version: 0,
-        calls: &[(0, Pulse), (0, Open)],
-        works: &[&[PULSED_0, OPENED], &[LOOKED_0]],
-        placed: &[(1, 1, Some(0)), (0, 1, None), (0, 2, None)],
-    }],
-    &[Phase {
-        version: 0,
-        calls: &[(0, Pulse), (0, Open)],
-        works: &[&[PULSED_0, OPENED], &[LOOKED_1]],
-        placed: &[(0, 1, None), (0, 2, None), (1, 1, Some(1))],
-    }],
-    // The look's processor made its call after the map write, so the look stands after that call.
-    &[Phase {
-        version: 0,
-        calls: &[(0, Open), (1, Pulse), (0, Pulse)],
-        works: &[&[OPENED, PULSED_1], &[PULSED_1, LOOKED_1]],
-        placed: &[(0, 1, None), (1, 1, None), (1, 2, Some(1)), (0, 2, None)],
-    }],
-    // It made its call before the map write, so the look stands after the write.
-    &[Phase {
-        version: 0,
-        calls: &[(1, Pulse), (0, Pulse), (0, Open), (0, Pulse)],
-        works: &[&[PULSED_0, OPENED, PULSED_1], &[PULSED_0, LOOKED_1]],
-        placed: &[
-            (1, 1, None),
-            (0, 1, None),
-            (0, 2, None),
-            (1, 2, Some(1)),
-            (0, 3, None),
-        ],
-    }],
-    // In the same place: in order of processor, and each processor's in its own order.
-    &[Phase {
-        version: 0,
-        calls: &[(1, Open)],
-        works: &[
-            &[LOOKED_1, LOOKED_1],
-            &[LOOKED_0, OPENED, LOOKED_1],
-            &[LOOKED_0, LOOKED_1],
-        ],
-        placed: &[
-            (1, 1, Some(0)),
-            (2, 1, Some(0)),
-            (1, 2, None),
-            (0, 1, Some(1)),
-            (0, 2, Some(1)),
-            (1, 3, Some(1)),
-            (2, 2, Some(1)),
-        ],
-    }],
-    // Eight processors, of which the last makes the one call, and a phase of looks alone.
-    &[
-        Phase {
-            version: 0,
-            calls: &[(7, Open)],
-            works: &[
-                &[],
-                &[],
-                &[],
-                &[],
-                &[],
-                &[],
-                &[LOOKED_1],
-                &[LOOKED_0, OPENED],
-            ],
-            placed: &[(7, 1, Some(0)), (7, 2, None), (6, 1, Some(1))],
-        },
-        Phase {
-            version: 1,
-            calls: &[],
-            works: &[&[], &[], &[], &[], &[], &[], &[LOOKED_1], &[LOOKED_1]],
-            placed: &[(6, 2, Some(1)), (7, 3, Some(1))],
-        },
-    ],
-];

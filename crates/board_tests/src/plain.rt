@@ -1,9 +1,10 @@
-//! A board without cards and a register that the tests write.
+//! A board without cards, a register that the tests write, and an entry.
 
 ghost use Rattle.std.specs.Prelude.{◌≡◌, ◌≤◌, [], IfOk};
 
-use board_base::Reg;
+use board_base::{Dev, Reg, Target};
 use board_core::{Board, Setup};
+use board_spec::{Entry, Event, Reply};
 use std::alloc::Global;
 use std::test::Fail;
 
@@ -27,4 +28,18 @@ pub fn plain_board(alloc: Global, mib: u32) -> Result<Board, Fail>
         disk: None,
     };
     Ok(Board::open(alloc, setup)?)
+}
+
+/// The interrupt acknowledge of a processor, which is its first entry.
+pub const fn acknowledged(actor: u8, vector: u32) -> Entry {
+    Entry {
+        actor,
+        seq: 1,
+        event: Event::Ack,
+        reply: Reply::Bus {
+            value: Some(vector),
+            target: Target::Device(Dev::Vector(0)),
+            denial: None,
+        },
+    }
 }

@@ -3,26 +3,12 @@
 ghost use Rattle.std.specs.Prelude.{◌≡◌};
 ghost use Rattle.bus_turn.specs.Common.{IsIdle, IsSameCaller, HasSameJoined, number_of, IsOf};
 
-use access_history::{Entries, Entry, Event, History, Reply};
-use board_base::{Dev, Target};
+use crate::plain::acknowledged;
+use access_history::{Entries, Entry, History};
 use bus_turn::{Pass, Turn};
 use std::sync::Wait;
 use std::test::Fail;
 use std::thread;
-
-/// The interrupt acknowledge of a processor, which is its first entry.
-const fn acknowledged(actor: u8, vector: u32) -> Entry {
-    Entry {
-        actor,
-        seq: 1,
-        event: Event::Ack,
-        reply: Reply::Bus {
-            value: Some(vector),
-            target: Target::Device(Dev::Vector(0)),
-            denial: None,
-        },
-    }
-}
 
 /// One turn, in which the caller adds its entry of this number where there is room.
 fn add<R: Wait>(rt: &R, turn: &Turn<History>, pass: &mut Pass<History>, actor: u8, seq: u32)
@@ -97,6 +83,6 @@ fn entries_of_two_threads_stand_in_their_order(rt: HostRuntime) -> Result<(), Fa
     for actor in 0..2u8 {
         assert!(rt; are_numbered(&history.entries(), actor, 100));
     }
-    assert_eq!(rt; history.len(), 200);
+    assert!(rt; history.len() == 200);
     Ok(())
 }

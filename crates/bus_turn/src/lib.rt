@@ -15,6 +15,3 @@ mod view;
 pub use kept::Kept;
 pub use turn::{Held, Turn, TurnOpen};
 pub use view::{Order, Pass, Stage, View};
-
-#[cfg(test)]
-mod tests;

@@ -17,24 +17,31 @@ abcdefghijklmnopqrstuvwxyz";
 // 32 bytes, no two alike.
 const DIGITS: &str = "0123456789abcdefghijklmnopqrstuv";
 
+// Whether one fetch answers so, and the shelf then has so many faults and this name.
+fn reads_so(
+    shelf: &mut MemShelf,
+    name: &str,
+    at: u64,
+    want: Option<&str>,
+    faults: u64,
+    kept: &str,
+) -> bool {
+    reads(shelf, name, at, want)
+        && shelf.faults == faults
+        && shelf.last.as_slice() == kept.as_bytes()
+}
+
 #[test]
 fn a_shelf_fails_by_its_list_and_at_missing_names(rt: HostRuntime) -> Result<(), Fail> {
     let mut shelf = MemShelf::new(files(rt.alloc())?, [1].to_vec(rt.alloc())?);
-    // name, from which byte, what is read or None for Failed, faults, kept name
-    let steps = [
-        ("script", 0, None, 1, "script"),
-        ("script", 0, Some("0 r "), 1, "script"),
-        ("script", 4, Some("b 0"), 1, "script"),
-        ("script", 7, Some(""), 1, "script"),
-        ("script", u64::MAX, Some(""), 1, "script"),
-        ("rom", 0, None, 2, "rom"),
-        ("script", 6, Some("0"), 2, "rom"),
-    ];
-    for (name, at, want, faults, kept) in steps {
-        assert_eq!(rt; reads(&mut shelf, name, at, want), true, "{name} at {at}");
-        assert_eq!(rt; shelf.faults, faults, "{name} at {at}");
-        assert_eq!(rt; shelf.last.as_slice(), kept.as_bytes());
-    }
+    let shelf = &mut shelf;
+    assert!(rt; reads_so(shelf, "script", 0, None, 1, "script"));
+    assert!(rt; reads_so(shelf, "script", 0, Some("0 r "), 1, "script"));
+    assert!(rt; reads_so(shelf, "script", 4, Some("b 0"), 1, "script"));
+    assert!(rt; reads_so(shelf, "script", 7, Some(""), 1, "script"));
+    assert!(rt; reads_so(shelf, "script", u64::MAX, Some(""), 1, "script"));
+    assert!(rt; reads_so(shelf, "rom", 0, None, 2, "rom"));
+    assert!(rt; reads_so(shelf, "script", 6, Some("0"), 2, "rom"));
     Ok(())
 }
 
@@ -48,52 +55,71 @@ fn a_safe_shelf_reads_a_missing_name_as_empty(rt: HostRuntime) -> Result<(), Fai
     Ok(())
 }
 
+// Whether one put answers so, and the sink then has these bytes and so many faults.
+fn puts_so(sink: &mut MemSink, want: Result<usize, PutFault>, bytes: &str, faults: u64) -> bool {
+    puts(sink, b"log") == want && sink.bytes.as_slice() == bytes.as_bytes() && sink.faults == faults
+}
+
 #[test]
 fn a_sink_fails_by_its_list(rt: HostRuntime) -> Result<(), Fail> {
     let mut sink = MemSink::new(rt.alloc(), [2].to_vec(rt.alloc())?);
-    // what the call answers, and the bytes and faults after it
-    let steps = [
-        (Ok(3), "log", 0),
-        (Err(PutFault::Failed), "log", 1),
-        (Ok(3), "loglog", 1),
-    ];
-    for (answer, bytes, faults) in steps {
-        assert_eq!(rt; puts(&mut sink, b"log"), answer);
-        assert_eq!(rt; sink.bytes.as_slice(), bytes.as_bytes());
-        assert_eq!(rt; sink.faults, faults);
-    }
+    assert!(rt; puts_so(&mut sink, Ok(3), "log", 0));
+    assert!(rt; puts_so(&mut sink, Err(PutFault::Failed), "log", 1));
+    assert!(rt; puts_so(&mut sink, Ok(3), "loglog", 1));
     let mut safe = SafeSink::new(rt.alloc());
-    assert_eq!(rt; puts(&mut safe, b"log"), Ok(3));
-    assert_eq!(rt; safe.bytes.as_slice(), b"log".as_slice());
+    assert!(rt; puts(&mut safe, b"log") == Ok(3));
+    assert!(rt; safe.bytes.as_slice() == b"log".as_slice());
     Ok(())
+}
+
+// The shelf and the sink of a copy: of each this call fails, or none where it is 0.
+fn shelf_of(alloc: Global, fetch: u32) -> Result<SlowShelf, Fail> {
+    let digits = file(alloc, "digits", DIGITS)?;
+    let inner = MemShelf::new(digits, [fetch].to_vec(alloc)?);
+    Ok(SlowShelf::new(inner, 1))
+}
+
+fn sink_of(alloc: Global, put: u32) -> Result<SlowSink, Fail> {
+    Ok(SlowSink::new(MemSink::new(alloc, [put].to_vec(alloc)?), 1))
+}
+
+// Whether so many bytes came over, and shelf and sink have so many faults.
+fn have_moved(shelf: &SlowShelf, sink: &SlowSink, count: usize, faults: (u64, u64)) -> bool {
+    let moved = sink.inner.bytes.as_slice();
+    moved.len() == count
+        && DIGITS.as_bytes().starts_with(moved)
+        && shelf.inner.faults == faults.0
+        && sink.inner.faults == faults.1
+        && shelf.inner.last.is_empty() == (faults.0 == 0)
+}
+
+// Whether a slow copy ends so, where this fetch or this put fails.
+fn copies_so(
+    alloc: Global,
+    fetch: u32,
+    put: u32,
+    count: usize,
+    faults: (u64, u64),
+) -> Result<bool, Fail> {
+    let mut shelf = shelf_of(alloc, fetch)?;
+    let mut sink = sink_of(alloc, put)?;
+    copy(&mut shelf, &mut sink, "digits");
+    Ok(have_moved(&shelf, &sink, count, faults))
 }
 
 #[test]
 fn a_slow_copy_ends_at_its_fault(rt: HostRuntime) -> Result<(), Fail> {
-    // the fetch and the put that fail, the bytes that came over, the faults of the shelf and of the sink
-    let cases = [
-        (0, 0, 32, 0, 0),
-        (1, 0, 0, 1, 0),
-        (2, 0, 1, 1, 0),
-        (32, 0, 31, 1, 0),
-        (33, 0, 32, 1, 0),
-        (34, 0, 32, 0, 0),
-        (0, 1, 0, 0, 1),
-        (0, 17, 16, 0, 1),
-        (0, 32, 31, 0, 1),
-        (0, 33, 32, 0, 0),
-    ];
-    for (fetch, put, count, shelf_faults, sink_faults) in cases {
-        let digits = file(rt.alloc(), "digits", DIGITS)?;
-        let mut shelf = SlowShelf::new(MemShelf::new(digits, [fetch].to_vec(rt.alloc())?), 1);
-        let mut sink = SlowSink::new(MemSink::new(rt.alloc(), [put].to_vec(rt.alloc())?), 1);
-        copy(&mut shelf, &mut sink, "digits");
-        assert_eq!(rt; sink.inner.bytes.len(), count, "{fetch} {put}");
-        assert!(rt; DIGITS.as_bytes().starts_with(sink.inner.bytes.as_slice()));
-        assert_eq!(rt; shelf.inner.faults, shelf_faults, "{fetch} {put}");
-        assert_eq!(rt; sink.inner.faults, sink_faults, "{fetch} {put}");
-        assert_eq!(rt; shelf.inner.last.is_empty(), shelf_faults == 0);
-    }
+    let alloc = rt.alloc();
+    assert!(rt; copies_so(alloc, 0, 0, 32, (0, 0))?);
+    assert!(rt; copies_so(alloc, 1, 0, 0, (1, 0))?);
+    assert!(rt; copies_so(alloc, 2, 0, 1, (1, 0))?);
+    assert!(rt; copies_so(alloc, 32, 0, 31, (1, 0))?);
+    assert!(rt; copies_so(alloc, 33, 0, 32, (1, 0))?);
+    assert!(rt; copies_so(alloc, 34, 0, 32, (0, 0))?);
+    assert!(rt; copies_so(alloc, 0, 1, 0, (0, 1))?);
+    assert!(rt; copies_so(alloc, 0, 17, 16, (0, 1))?);
+    assert!(rt; copies_so(alloc, 0, 32, 31, (0, 1))?);
+    assert!(rt; copies_so(alloc, 0, 33, 32, (0, 0))?);
     Ok(())
 }
 
@@ -107,22 +133,33 @@ fn counts_stand_still_at_their_last_values(rt: HostRuntime) -> Result<(), Fail> 
     sink.faults = u64::MAX - 1;
     for _ in 0..3 {
         assert!(rt; reads(&mut shelf, "script", 0, None));
-        assert_eq!(rt; puts(&mut sink, b"log"), Err(PutFault::Failed));
-        assert_eq!(rt; (shelf.calls, shelf.faults), (u32::MAX, u64::MAX));
-        assert_eq!(rt; (sink.calls, sink.faults), (u32::MAX, u64::MAX));
+        assert!(rt; puts(&mut sink, b"log") == Err(PutFault::Failed));
+        assert!(rt; shelf.calls == u32::MAX && shelf.faults == u64::MAX);
+        assert!(rt; sink.calls == u32::MAX && sink.faults == u64::MAX);
     }
     Ok(())
 }
 
+// Whether so many bytes of a name are kept, the first ones.
+fn keeps(name: &str, length: usize) -> bool {
+    let mut kept = ArrayVec::new();
+    keep_name(&mut kept, name);
+    kept.len() == length && name.as_bytes().starts_with(kept.as_slice())
+}
+
+// The same where another name was kept before.
+fn keeps_after(first: &str, name: &str, length: usize) -> bool {
+    let mut kept = ArrayVec::new();
+    keep_name(&mut kept, first);
+    keep_name(&mut kept, name);
+    kept.len() == length && name.as_bytes().starts_with(kept.as_slice())
+}
+
 #[test]
 fn a_kept_name_has_at_most_255_bytes(rt: HostRuntime) {
-    let mut kept = ArrayVec::new();
-    // the name, and how long what is kept of it is
-    for (name, length) in [(LONG, 255), ("rom", 3), ("", 0)] {
-        keep_name(&mut kept, name);
-        assert_eq!(rt; kept.len(), length);
-        assert!(rt; name.as_bytes().starts_with(kept.as_slice()));
-    }
+    assert!(rt; keeps(LONG, 255));
+    assert!(rt; keeps_after(LONG, "rom", 3));
+    assert!(rt; keeps_after("rom", "", 0));
 }
 
 #[test]

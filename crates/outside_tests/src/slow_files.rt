@@ -6,8 +6,8 @@ use board_files::{FileShelf, Folder, OutSink, Patient};
 use board_outside::{Failed, PutFault, Shelf, Sink};
 use std::io;
 use std::io::{ErrorKind, Read, Write};
-use std::process::Abort;
 use std::sync::atomic::{AtomicU32, Ordering};
+use std::time::Clock;
 
 /// What is read and written.
 const BYTES: [u8; 5] = *b"bytes";
@@ -118,78 +118,80 @@ fn fetched(shelf: &mut FileShelf<Drips>, name: &str, at: usize) -> Result<Option
     }
 }
 
+/// Whether a fetch from a place gives the byte there, or the end.
+fn gives(shelf: &mut FileShelf<Drips>, at: usize) -> bool {
+    fetched(shelf, "f", at) == Ok(BYTES.get(at).copied())
+}
+
+/// Whether a file that is opened once comes byte by byte, and no other is there.
+fn comes_whole(interruptions: u32) -> bool {
+    let mut shelf = shelf_of(
+        Habit {
+            interruptions,
+            ..QUIET
+        },
+        1,
+    );
+    for at in 0..=BYTES.len() {
+        if !gives(&mut shelf, at) {
+            return false;
+        }
+    }
+    fetched(&mut shelf, "g", 0) == Err(Failed)
+}
+
 /// A file that is opened once comes byte by byte, however often a signal interrupts, and then ends.
 #[test]
 fn a_file_comes_byte_by_byte(rt: HostRuntime) {
-    for interruptions in [0, 1, 63] {
-        let mut shelf = shelf_of(
-            Habit {
-                interruptions,
-                ..QUIET
-            },
-            1,
-        );
-        for at in 0..=BYTES.len() {
-            assert_eq!(rt;
-                fetched(&mut shelf, "f", at),
-                Ok(BYTES.get(at).copied()),
-                "byte {at}"
-            );
+    assert!(rt; comes_whole(0));
+    assert!(rt; comes_whole(1));
+    assert!(rt; comes_whole(63));
+}
+
+/// Whether a read after so many bytes fails, and the file is opened anew after it.
+fn fails_after(lasts: usize) -> bool {
+    let mut shelf = shelf_of(Habit { lasts, ..QUIET }, 2);
+    for at in 0..lasts {
+        if !gives(&mut shelf, at) {
+            return false;
         }
-        assert_eq!(rt;
-            fetched(&mut shelf, "g", 0),
-            Err(Failed),
-            "a file that is not there"
-        );
     }
+    let again = if lasts == 0 {
+        Err(Failed)
+    } else {
+        Ok(Some(b'b'))
+    };
+    fetched(&mut shelf, "f", lasts) == Err(Failed) && fetched(&mut shelf, "f", 0) == again
 }
 
 /// An error is a fault where it comes, never the end, and the file is opened anew after it.
 #[test]
 fn a_read_that_fails_is_no_end(rt: HostRuntime) {
     for lasts in 0..=BYTES.len() {
-        let mut shelf = shelf_of(Habit { lasts, ..QUIET }, 2);
-        for at in 0..lasts {
-            assert_eq!(rt;
-                fetched(&mut shelf, "f", at),
-                Ok(BYTES.get(at).copied()),
-                "byte {at}"
-            );
-        }
-        assert_eq!(rt;
-            fetched(&mut shelf, "f", lasts),
-            Err(Failed),
-            "after {lasts}"
-        );
-        let again = if lasts == 0 {
-            Err(Failed)
-        } else {
-            Ok(Some(b'b'))
-        };
-        assert_eq!(rt; fetched(&mut shelf, "f", 0), again, "again after {lasts}");
+        assert!(rt; fails_after(lasts));
     }
-    let mut shelf = shelf_of(
-        Habit {
-            interruptions: 64,
-            ..QUIET
-        },
-        1,
-    );
-    assert_eq!(rt; fetched(&mut shelf, "f", 0), Err(Failed));
+    let habit = Habit {
+        interruptions: 64,
+        ..QUIET
+    };
+    assert!(rt; fetched(&mut shelf_of(habit, 1), "f", 0) == Err(Failed));
 }
 
-/// A file is read from a place at which no handle stands, and not past an error on the way.
+/// Whether a file is read from a place at which no handle stands, and not past an error on the way.
+fn is_read_within(at: usize) -> bool {
+    for lasts in 0..=at {
+        let mut shelf = shelf_of(Habit { lasts, ..QUIET }, 1);
+        if fetched(&mut shelf, "f", at) != Err(Failed) {
+            return false;
+        }
+    }
+    gives(&mut shelf_of(QUIET, 1), at)
+}
+
 #[test]
 fn a_file_is_read_from_a_place_within(rt: HostRuntime) {
     for at in 0..=BYTES.len() {
-        assert_eq!(rt;
-            fetched(&mut shelf_of(QUIET, 1), "f", at),
-            Ok(BYTES.get(at).copied())
-        );
-        for lasts in 0..=at {
-            let mut shelf = shelf_of(Habit { lasts, ..QUIET }, 1);
-            assert_eq!(rt; fetched(&mut shelf, "f", at), Err(Failed), "{at}, {lasts}");
-        }
+        assert!(rt; is_read_within(at));
     }
 }
 
@@ -218,37 +220,46 @@ impl Write for Miser {
     }
 }
 
-/// A put tells a fault where the writer fails or takes nothing, and else that one byte was taken.
-#[test]
-fn a_writer_takes_little_and_fails_late(rt: HostRuntime) {
-    for interruptions in [0, 1, 63] {
-        for lasts in 0..=6 {
-            let course = Course::new(Habit {
-                interruptions,
-                lasts,
-            });
-            let mut sink = OutSink::new(Miser {
-                course,
-                taken: [0; 5],
-            });
-            let count = lasts.min(BYTES.len());
-            for at in 0..count {
-                assert!(rt; sink.put(&BYTES[at..]) == Ok(1), "byte {at} of {lasts}");
-            }
-            assert!(rt; sink.put(b"more") == Err(PutFault::Failed), "after {lasts}");
-            let Miser { taken, .. } = sink.into_inner();
-            assert!(rt; taken[..count] == BYTES[..count], "{count} bytes");
+/// The sink of a writer with habits.
+fn sink_of(interruptions: u32, lasts: usize) -> OutSink<Miser> {
+    OutSink::new(Miser {
+        course: Course::new(Habit {
+            interruptions,
+            lasts,
+        }),
+        taken: [0; 5],
+    })
+}
+
+/// Whether so many bytes are taken, one a put.
+fn takes(sink: &mut OutSink<Miser>, count: usize) -> bool {
+    for at in 0..count.min(BYTES.len()) {
+        if sink.put(&BYTES[at..]) != Ok(1) {
+            return false;
         }
     }
-    let course = Course::new(Habit {
-        interruptions: 64,
-        ..QUIET
-    });
-    let mut sink = OutSink::new(Miser {
-        course,
-        taken: [0; 5],
-    });
-    assert!(rt; sink.put(&BYTES) == Err(PutFault::Failed));
+    true
+}
+
+/// Whether a put tells a fault where the writer fails or takes nothing, and else that one byte was taken.
+fn takes_little(interruptions: u32, lasts: usize) -> bool {
+    let count = lasts.min(BYTES.len());
+    let mut sink = sink_of(interruptions, lasts);
+    if !takes(&mut sink, count) || sink.put(b"more") != Err(PutFault::Failed) {
+        return false;
+    }
+    let Miser { taken, .. } = sink.into_inner();
+    taken[..count] == BYTES[..count]
+}
+
+#[test]
+fn a_writer_takes_little_and_fails_late(rt: HostRuntime) {
+    for lasts in 0..=6 {
+        assert!(rt; takes_little(0, lasts));
+        assert!(rt; takes_little(1, lasts));
+        assert!(rt; takes_little(63, lasts));
+    }
+    assert!(rt; sink_of(64, 6).put(&BYTES) == Err(PutFault::Failed));
 }
 
 /// A file and a writer whose first call fails, and which then moves a byte a call.
@@ -310,25 +321,23 @@ impl Folder for Stumblers {
     }
 }
 
-/// Errors, whether a read and a write are made again after one, and whether a patient writer goes on.
-const STUMBLES: [(ErrorKind, bool, bool); 5] = [
-    (ErrorKind::Interrupted, true, false),
-    (ErrorKind::WouldBlock, false, true),
-    (ErrorKind::StorageFull, false, false),
-    (ErrorKind::BrokenPipe, false, false),
-    (ErrorKind::Other, false, false),
-];
+/// Whether a read and a write are made again after an error, and whether a patient writer goes on.
+fn ends_so<C: Clock>(clock: &C, kind: ErrorKind, again: bool, patient: bool) -> bool {
+    let mut into = [0; 8];
+    let mut shelf = FileShelf::new(Stumblers { kind });
+    let mut sink = OutSink::new(Stumbler::new(kind));
+    let mut waits = Patient::new(clock, Stumbler::new(kind));
+    shelf.fetch("f", 0, &mut into).is_ok() == again
+        && sink.put(b"bytes").is_ok() == again
+        && waits.write(b"bytes").is_ok() == patient
+}
 
 /// Only a call that a signal interrupted is made again, and a patient writer waits only where there is no room yet.
 #[test]
 fn an_error_is_not_tried_again(rt: HostRuntime) {
-    for (kind, again, patient) in STUMBLES {
-        let mut into = [0; 8];
-        let mut shelf = FileShelf::new(Stumblers { kind });
-        assert_eq!(rt; shelf.fetch("f", 0, &mut into).is_ok(), again);
-        let mut sink = OutSink::new(Stumbler::new(kind));
-        assert_eq!(rt; sink.put(b"bytes").is_ok(), again);
-        let mut waits = Patient::new(&rt, Stumbler::new(kind));
-        assert_eq!(rt; waits.write(b"bytes").is_ok(), patient);
-    }
+    assert!(rt; ends_so(&rt, ErrorKind::Interrupted, true, false));
+    assert!(rt; ends_so(&rt, ErrorKind::WouldBlock, false, true));
+    assert!(rt; ends_so(&rt, ErrorKind::StorageFull, false, false));
+    assert!(rt; ends_so(&rt, ErrorKind::BrokenPipe, false, false));
+    assert!(rt; ends_so(&rt, ErrorKind::Other, false, false));
 }

@@ -1,3 +1,4 @@
 pub mod RegisterLemmas
+mod ReservedLemmas
 mod RouteLemmas
 pub mod StateFormats

@@ -1,15 +1,15 @@
 -- Steps in turn: a value that is set behind those that were told.
 use Rattle.std.proofs.Common.{◌≡◌, ℕ, zero, suc, ◌+◌, ◌≤◌, false, List, set, Option, ◌∙◌, add-one, arith}
 use Rattle.std.proofs.lemmas.List.{get_or-set_other}
-use Rattle.board_records.specs.Common.{Behind}
+use Rattle.board_records.specs.Common.{Held}
 use Rattle.board_records.specs.declared.event.EventRecord.{EventRecord}
 use Rattle.board_records.specs.declared.reply.ReplyRecord.{ReplyRecord}
 use Rattle.port_strings.specs.Strings.{AreInTurn, GoesOn, IsNextStep, IsValue, asks_back, reads}
 
 -- the values that were told stay, where another behind them is set
-pub values_kept : (port bytes : ℕ) (values : List ℕ) (index value : ℕ) (old : Option Behind)
+pub values_kept : (port bytes : ℕ) (values : List ℕ) (index value : ℕ) (old : Option Held)
     (first : ReplyRecord)
-    (done : ℕ) (new : Option Behind) (last : ReplyRecord) → done ≤ index →
+    (done : ℕ) (new : Option Held) (last : ReplyRecord) → done ≤ index →
     AreInTurn (reads port bytes) (IsValue values) old first done new last →
     AreInTurn (reads port bytes) (IsValue (set values index value)) old first done new last
 values_kept port bytes values index value old first zero new last small steps = steps
@@ -26,8 +26,8 @@ values_kept port bytes values index value old first (suc k) new last small steps
 
 module _ {asked : ℕ → EventRecord} {Holds : ℕ → ReplyRecord → Type 0} where
   -- one step more
-  pub one_more : (old : Option Behind) (first : ReplyRecord) (k : ℕ) (middle : Option Behind)
-      (reply : ReplyRecord) (new : Option Behind) (last : ReplyRecord) →
+  pub one_more : (old : Option Held) (first : ReplyRecord) (k : ℕ) (middle : Option Held)
+      (reply : ReplyRecord) (new : Option Held) (last : ReplyRecord) →
       AreInTurn asked Holds old first k middle reply → GoesOn asked Holds k reply →
       IsNextStep asked Holds k middle new last → AreInTurn asked Holds old first (k + 1) new last
   one_more old first k middle reply new last turn goes step = rw add-one (middle, reply, turn, goes, step)

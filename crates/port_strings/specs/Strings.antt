@@ -2,7 +2,7 @@
 use Rattle.std.specs.Prelude.{ℕ, zero, suc, ◌≡◌, ◌≢◌, ◌<◌, ◌%◌, ◌^◌, ◌==◌, ◌⊎◌, Bool, true, false, not, ◌||◌, List, length, drop, slice_index, Option, IsSomeAnd}
 use Rattle.board_records.specs.declared.event.EventRecord.{EventRecord}
 use Rattle.board_records.specs.declared.reply.ReplyRecord.{ReplyRecord}
-use Rattle.board_records.specs.Common.{Behind, asked_said, IsDoorStep, IsEventRefusal, OnBoard, ok}
+use Rattle.board_records.specs.Common.{Held, asked_said, IsDoorStep, IsEventRefusal, OnBoard, ok}
 use Rattle.board_records.specs.Numbers.{port_event, read_kind, write_kind}
 
 -- the record of one access
@@ -15,11 +15,11 @@ abbrev pub asks_back : ReplyRecord → Bool
 asks_back reply = (reply.interrupt == 1) || not (reply.reset == 0) || (reply.has_sent == 1)
 
 -- a board does what a record asks, and this is its reply
-abbrev pub IsStep : EventRecord → (old new : Option Behind) → ReplyRecord → Type 0
+abbrev pub IsStep : EventRecord → (old new : Option Held) → ReplyRecord → Type 0
 IsStep event old new reply = IsSomeAnd (asked_said event) (IsDoorStep old new event reply)
 
 -- a board refuses what a record asks, with this status
-abbrev pub IsRefused : EventRecord → Option Behind → (status : ℕ) → Type 0
+abbrev pub IsRefused : EventRecord → Option Held → (status : ℕ) → Type 0
 IsRefused event board status = OnBoard board (λ serial. IsEventRefusal serial (asked_said event) status)
 
 -- so many steps in turn, of which step k, from 0 on, is asked by record k, and reply k holds what is said of it; after
@@ -29,23 +29,23 @@ module _ (asked : ℕ → EventRecord) (Holds : ℕ → ReplyRecord → Type 0) 
   GoesOn zero reply = Unit {0}
   GoesOn (suc k) reply = asks_back reply ≡ false
 
-  pub record IsNextStep (k : ℕ) (old new : Option Behind) (reply : ReplyRecord) : Type 0 where
+  pub record IsNextStep (k : ℕ) (old new : Option Held) (reply : ReplyRecord) : Type 0 where
     pub step : IsStep (asked k) old new reply
     pub told : Holds k reply
 
-  abbrev pub AreInTurn : Option Behind → ReplyRecord → ℕ → Option Behind → ReplyRecord → Type 0
+  abbrev pub AreInTurn : Option Held → ReplyRecord → ℕ → Option Held → ReplyRecord → Type 0
   AreInTurn old first zero new last = (new ≡ old) × (last ≡ first)
   AreInTurn old first (suc k) new last =
-      (middle : Option Behind) × (reply : ReplyRecord) × AreInTurn old first k middle reply ×
+      (middle : Option Held) × (reply : ReplyRecord) × AreInTurn old first k middle reply ×
       GoesOn k reply × IsNextStep k middle new last
 
   -- all are done; or the last one asks for the processor; or the next one would be refused
-  abbrev pub EndsAt : (count : ℕ) → Option Behind → (done : ℕ) → ReplyRecord → Type 0
+  abbrev pub EndsAt : (count : ℕ) → Option Held → (done : ℕ) → ReplyRecord → Type 0
   EndsAt count new done last =
       (done ≡ count) ⊎ (0 < done) × (asks_back last ≡ true) ⊎
       (0 < done) × ((status : ℕ) × (status ≢ ok) × IsRefused (asked done) new status)
 
-  pub record AreDone (count : ℕ) (old : Option Behind) (first : ReplyRecord) (new : Option Behind)
+  pub record AreDone (count : ℕ) (old : Option Held) (first : ReplyRecord) (new : Option Held)
       (done : ℕ) (last : ReplyRecord) : Type 0 where
     pub steps : AreInTurn old first done new last
     pub ends : EndsAt count new done last
@@ -58,8 +58,8 @@ abbrev pub IsValue : List ℕ → ℕ → ReplyRecord → Type 0
 IsValue values k reply = slice_index values k ≡ reply.value % 2 ^ 32
 
 -- and values that were not read are as before
-pub record AreRead (port bytes : ℕ) (old : Option Behind) (first : ReplyRecord) (values : List ℕ)
-    (new : Option Behind) (last : ReplyRecord) (told : List ℕ) (done : ℕ) : Type 0 where
+pub record AreRead (port bytes : ℕ) (old : Option Held) (first : ReplyRecord) (values : List ℕ)
+    (new : Option Held) (last : ReplyRecord) (told : List ℕ) (done : ℕ) : Type 0 where
   pub in_turn : AreDone (reads port bytes) (IsValue told) (length values) old first new done last
   pub size : length told ≡ length values
   pub rest : drop done told ≡ drop done values
@@ -71,7 +71,7 @@ writes port bytes values k = port_record write_kind port bytes (slice_index valu
 abbrev pub IsAny : ℕ → ReplyRecord → Type 0
 IsAny k reply = Unit {0}
 
-abbrev pub AreWritten : (port bytes : ℕ) → List ℕ → Option Behind → ReplyRecord → Option Behind →
+abbrev pub AreWritten : (port bytes : ℕ) → List ℕ → Option Held → ReplyRecord → Option Held →
     ReplyRecord → ℕ → Type 0
 AreWritten port bytes values old first new last done =
     AreDone (writes port bytes values) IsAny (length values) old first new done last

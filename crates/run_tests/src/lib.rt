@@ -1,4 +1,4 @@
-//! Tests of the commands: statuses, faults, the calls of the outside, the order of a run, and the map after each write.
+//! Tests of the commands: faults, the calls of the outside, the order of a run, and the map after each write.
 #![tactic(auto)]
 
 #[cfg(test)]
@@ -10,14 +10,10 @@ mod eight;
 #[cfg(test)]
 mod holding_gate;
 #[cfg(test)]
-mod images;
-#[cfg(test)]
 mod made_maps;
 #[cfg(test)]
 mod orders;
 #[cfg(test)]
 mod outside;
-#[cfg(test)]
-mod statuses;
 #[cfg(test)]
 mod told;

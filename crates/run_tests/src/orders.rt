@@ -6,7 +6,10 @@ use crate::holding_gate::Moment::{self, After, Before};
 use board_outside::{QuietGate, SafeShelf, SafeSink};
 use board_run::Status;
 use outside_doubles::{MemShelf, SlowShelf};
+use std::alloc::Global;
+use std::sync::Wait;
 use std::test::Fail;
+use std::thread::Threads;
 
 /// Two processors, of which one looks while the other opens a window.
 const TWO_PROCESSORS: &str = "\
@@ -58,48 +61,60 @@ phase
 1 r b 000F0002
 ";
 
-/// A script, the moments of a gate, of which none must be held in vain, and the log, where only one may come.
-type Forced = (
-    &'static str,
-    &'static [(Moment, Moment)],
-    Option<&'static str>,
-);
+/// Runs a script with a gate that holds moments, of which none must be held in vain, and tells whether the log is this one, where
+/// only one may come.
+fn is_forced<R: Threads + Wait + Sync>(
+    rt: &R,
+    alloc: Global,
+    script: &str,
+    holds: &'static [(Moment, Moment)],
+    log: Option<&str>,
+) -> Result<bool, Fail> {
+    let gate = HoldingGate::new(holds);
+    let mut shelf = SafeShelf {
+        files: files_of(alloc, script.as_bytes(), &[])?,
+    };
+    let mut out = SafeSink::new(alloc);
+    let status = status_of(rt, alloc, &["run", "s"], &mut shelf, &mut out, &gate)?;
+    Ok(status == Status::Done && gate.is_passed() && is_log(&out.bytes, log))
+}
 
-const FORCED: [Forced; 4] = [
-    (
-        TWO_PROCESSORS,
-        &[(After(0, 2), Before(1, 1))],
-        Some(IN_FILE_ORDER),
-    ),
-    (
-        TWO_PROCESSORS,
-        &[(After(1, 1), Before(0, 2))],
-        Some(LOOKED_FIRST),
-    ),
-    (
-        SIDE_BY_SIDE,
-        &[(Before(0, 1), Before(1, 1)), (Before(1, 1), Before(0, 1))],
-        None,
-    ),
-    (SIDE_BY_SIDE, &[(After(1, 1), Before(0, 1))], None),
+/// Whether a text is this log, where one is due.
+fn is_log(text: &[u8], log: Option<&str>) -> bool {
+    match log {
+        Some(log) => text == log.as_bytes(),
+        None => true,
+    }
+}
+
+/// The statement of one processor ends before that of the other begins.
+const WRITE_FIRST: [(Moment, Moment); 1] = [(After(0, 2), Before(1, 1))];
+
+const LOOK_FIRST: [(Moment, Moment); 1] = [(After(1, 1), Before(0, 2))];
+
+const OTHER_FIRST: [(Moment, Moment); 1] = [(After(1, 1), Before(0, 1))];
+
+/// Both begin before either goes on.
+const TOGETHER: [(Moment, Moment); 2] = [
+    (Before(0, 1), Before(1, 1)),
+    (Before(1, 1), Before(0, 1)),
 ];
 
 #[test]
 fn a_gate_forces_each_order(rt: HostRuntime) -> Result<(), Fail> {
     let alloc = rt.alloc();
-    for (script, holds, log) in FORCED {
-        let gate = HoldingGate::new(holds);
-        let mut shelf = SafeShelf {
-            files: files_of(alloc, script.as_bytes(), &[])?,
-        };
-        let mut out = SafeSink::new(alloc);
-        let status = status_of(&rt, alloc, &["run", "s"], &mut shelf, &mut out, &gate)?;
-        assert_eq!(rt; status, Status::Done);
-        assert!(rt; gate.is_passed());
-        if let Some(log) = log {
-            assert_eq!(rt; out.bytes.as_slice(), log.as_bytes());
-        }
-    }
+    assert!(rt;
+        is_forced(
+            &rt,
+            alloc,
+            TWO_PROCESSORS,
+            &WRITE_FIRST,
+            Some(IN_FILE_ORDER)
+        )?
+    );
+    assert!(rt; is_forced(&rt, alloc, TWO_PROCESSORS, &LOOK_FIRST, Some(LOOKED_FIRST))?);
+    assert!(rt; is_forced(&rt, alloc, SIDE_BY_SIDE, &TOGETHER, None)?);
+    assert!(rt; is_forced(&rt, alloc, SIDE_BY_SIDE, &OTHER_FIRST, None)?);
     Ok(())
 }
 
@@ -107,41 +122,35 @@ fn a_gate_forces_each_order(rt: HostRuntime) -> Result<(), Fail> {
 fn a_run_has_one_of_the_two_logs(rt: HostRuntime) -> Result<(), Fail> {
     let script = TWO_PROCESSORS.as_bytes();
     let (status, log) = answer(&rt, rt.alloc(), &["run", "s"], script, &[])?;
-    assert_eq!(rt; status, Status::Done);
-    assert!(rt;
-        log.as_slice() == IN_FILE_ORDER.as_bytes() || log.as_slice() == LOOKED_FIRST.as_bytes()
-    );
+    let log = log.as_slice();
+    assert!(rt; status == Status::Done);
+    assert!(rt; log == IN_FILE_ORDER.as_bytes() || log == LOOKED_FIRST.as_bytes());
     Ok(())
 }
 
-/// Logs, how their check ends, and what it puts.
-const CHECKED: [(&str, Status, &str); 4] = [
-    (IN_FILE_ORDER, Status::Done, "legal 3\n"),
-    (LOOKED_FIRST, Status::Done, "legal 3\n"),
-    (LOOKED_AHEAD, Status::Differs { line: 3 }, ""),
-    ("", Status::Differs { line: 1 }, ""),
-];
+/// Whether the check of a log that comes byte by byte ends so, and puts this.
+fn checks_so<R: Threads + Wait + Sync>(
+    rt: &R,
+    alloc: Global,
+    log: &str,
+    due: Status,
+    text: &str,
+) -> Result<bool, Fail> {
+    let files = files_of(alloc, TWO_PROCESSORS.as_bytes(), log.as_bytes())?;
+    let mut shelf = SlowShelf::new(MemShelf::new(files, Vec::new(alloc)), 1);
+    let mut out = SafeSink::new(alloc);
+    let words = ["check", "s", "i"];
+    let status = status_of(rt, alloc, &words, &mut shelf, &mut out, &QuietGate)?;
+    Ok(status == due && out.bytes.as_slice() == text.as_bytes())
+}
 
 #[test]
 fn logs_that_come_byte_by_byte(rt: HostRuntime) -> Result<(), Fail> {
     let alloc = rt.alloc();
-    for (log, status, text) in CHECKED {
-        let files = files_of(alloc, TWO_PROCESSORS.as_bytes(), log.as_bytes())?;
-        let mut shelf = SlowShelf::new(MemShelf::new(files, Vec::new(alloc)), 1);
-        let mut out = SafeSink::new(alloc);
-        assert_eq!(rt;
-            status_of(
-                &rt,
-                alloc,
-                &["check", "s", "i"],
-                &mut shelf,
-                &mut out,
-                &QuietGate
-            )?,
-            status,
-            "of {log}"
-        );
-        assert_eq!(rt; out.bytes.as_slice(), text.as_bytes(), "of {log}");
-    }
+    let (third, first) = (Status::Differs { line: 3 }, Status::Differs { line: 1 });
+    assert!(rt; checks_so(&rt, alloc, IN_FILE_ORDER, Status::Done, "legal 3\n")?);
+    assert!(rt; checks_so(&rt, alloc, LOOKED_FIRST, Status::Done, "legal 3\n")?);
+    assert!(rt; checks_so(&rt, alloc, LOOKED_AHEAD, third, "")?);
+    assert!(rt; checks_so(&rt, alloc, "", first, "")?);
     Ok(())
 }

@@ -1,12 +1,11 @@
 //! The outside: each call of it fails in turn, files come in pieces, and the calls are those that are due.
 
 use crate::commands::{ROM_SIZE, SETUP, files_of, status_of};
-use crate::told::{ToldShelf, ToldSink};
+use crate::told::{MadeFetch, ToldShelf, ToldSink};
 use board_outside::QuietGate;
 use board_run::{Status, Which};
 use outside_doubles::{MemShelf, MemSink, SlowShelf, SlowSink};
-use std::alloc::Global;
-use std::process::Abort;
+use std::alloc::{AllocError, Global};
 use std::sync::Wait;
 use std::test::Fail;
 use std::thread::Threads;
@@ -30,29 +29,41 @@ struct FaultCase<'a> {
     count: usize,
 }
 
-/// Replays the script of a case, with a sink that takes a byte a call.
-fn expect_fault<R: Threads + Wait + Sync + Abort>(
+/// The shelf of a case.
+fn shelf_of(alloc: Global, case: &FaultCase<'_>) -> Result<SlowShelf, Fail> {
+    let files = files_of(alloc, case.script, &[])?;
+    let inner = MemShelf::new(files, [case.fetch].to_vec(alloc)?);
+    Ok(SlowShelf::new(inner, case.piece.max(1)))
+}
+
+/// The sink of a case, which takes a byte a call.
+fn sink_of(alloc: Global, case: &FaultCase<'_>) -> Result<SlowSink, Fail> {
+    Ok(SlowSink::new(MemSink::new(alloc, [case.put].to_vec(alloc)?), 1))
+}
+
+/// Whether the shelf kept the name of a case, and the sink took so many bytes of the log.
+fn have_kept(shelf: &SlowShelf, out: &SlowSink, case: &FaultCase<'_>) -> bool {
+    let put = out.inner.bytes.as_slice();
+    shelf.inner.last.as_slice() == case.name.as_bytes()
+        && put.len() == case.count
+        && EMPTY_LOG.as_bytes().starts_with(put)
+}
+
+/// Replays the script of a case, and tells whether it ends as it must.
+fn ends_so<R: Threads + Wait + Sync>(
     rt: &R,
     alloc: Global,
     case: &FaultCase<'_>,
-) -> Result<(), Fail> {
-    let files = files_of(alloc, case.script, &[])?;
-    let inner = MemShelf::new(files, [case.fetch].to_vec(alloc)?);
-    let mut shelf = SlowShelf::new(inner, case.piece.max(1));
-    let mut out = SlowSink::new(MemSink::new(alloc, [case.put].to_vec(alloc)?), 1);
-    assert_eq!(rt;
-        status_of(rt, alloc, &REPLAY, &mut shelf, &mut out, &QuietGate)?,
-        case.status
-    );
-    assert_eq!(rt; shelf.inner.last.as_slice(), case.name.as_bytes());
-    assert_eq!(rt; out.inner.bytes.len(), case.count);
-    assert!(rt; EMPTY_LOG.as_bytes().starts_with(out.inner.bytes.as_slice()));
-    Ok(())
+) -> Result<bool, Fail> {
+    let mut shelf = shelf_of(alloc, case)?;
+    let mut out = sink_of(alloc, case)?;
+    let status = status_of(rt, alloc, &REPLAY, &mut shelf, &mut out, &QuietGate)?;
+    Ok(status == case.status && have_kept(&shelf, &out, case))
 }
 
-#[test]
-fn each_call_of_the_outside_fails(rt: HostRuntime) -> Result<(), Fail> {
-    let done = FaultCase {
+/// A replay in which nothing fails.
+fn done() -> FaultCase<'static> {
+    FaultCase {
         script: SETUP.as_bytes(),
         piece: ROM_SIZE,
         fetch: 0,
@@ -60,98 +71,138 @@ fn each_call_of_the_outside_fails(rt: HostRuntime) -> Result<(), Fail> {
         status: Status::Done,
         name: "",
         count: 13,
-    };
-    // the 33rd fetch of a byte finds the end of the script
-    for fetch in 1..=34 {
-        let (which, name) = if fetch == 34 {
-            (Which::Rom, "r64")
-        } else {
-            (Which::Script, "s")
-        };
-        let case = FaultCase {
-            piece: 1,
-            fetch,
-            status: Status::ReadFault(which),
-            name,
-            count: 0,
-            ..done
-        };
-        expect_fault(&rt, rt.alloc(), &case)?;
     }
-    for put in 1..=13 {
-        let case = FaultCase {
-            put,
-            status: Status::WriteFault,
-            count: put as usize - 1,
-            ..done
-        };
-        expect_fault(&rt, rt.alloc(), &case)?;
-    }
-    expect_fault(&rt, rt.alloc(), &FaultCase { put: 14, ..done })
 }
 
-/// Scripts that are cut short, and what becomes of them.
-const CUT_SHORT: [(&str, Status); 5] = [
-    ("board 1\ncpus 1\nmemory 8\nrom r64", Status::Done),
-    (
-        "board 1\ncpus 1\nmemory 8\nrom r6",
-        Status::ReadFault(Which::Rom),
-    ),
-    (
-        "board 1\ncpus 1\nmemory 8\nrom ",
-        Status::BadScript { line: 4, why: 3 },
-    ),
-    (
-        "board 1\ncpus 1\nmemory 8",
-        Status::BadScript { line: 4, why: 6 },
-    ),
-    ("boar", Status::BadScript { line: 1, why: 1 }),
-];
+/// One in which this fetch of a byte fails. The 33rd finds the end of the script.
+fn fetch_case(fetch: u32) -> FaultCase<'static> {
+    let (which, name) = if fetch == 34 {
+        (Which::Rom, "r64")
+    } else {
+        (Which::Script, "s")
+    };
+    FaultCase {
+        piece: 1,
+        fetch,
+        status: Status::ReadFault(which),
+        name,
+        count: 0,
+        ..done()
+    }
+}
+
+/// One in which this put of a byte fails, of thirteen.
+fn put_case(put: u32) -> FaultCase<'static> {
+    FaultCase {
+        put,
+        status: Status::WriteFault,
+        count: put.saturating_sub(1) as usize,
+        ..done()
+    }
+}
+
+#[test]
+fn each_call_of_the_outside_fails(rt: HostRuntime) -> Result<(), Fail> {
+    for fetch in 1..=34 {
+        assert!(rt; ends_so(&rt, rt.alloc(), &fetch_case(fetch))?);
+    }
+    for put in 1..=13 {
+        assert!(rt; ends_so(&rt, rt.alloc(), &put_case(put))?);
+    }
+    assert!(rt; ends_so(&rt, rt.alloc(), &FaultCase { put: 14, ..done() })?);
+    Ok(())
+}
+
+/// A replay of a script that is cut short, and is refused.
+fn cut_case(script: &[u8], status: Status) -> FaultCase<'_> {
+    FaultCase {
+        script,
+        status,
+        count: 0,
+        ..done()
+    }
+}
+
+/// A script without its last byte, which names a ROM that is not there.
+fn other_rom() -> FaultCase<'static> {
+    FaultCase {
+        name: "r6",
+        ..cut_case(
+            "board 1\ncpus 1\nmemory 8\nrom r6".as_bytes(),
+            Status::ReadFault(Which::Rom),
+        )
+    }
+}
+
+/// Whether a script is bad at this line, for this reason.
+fn is_bad<R: Threads + Wait + Sync>(
+    rt: &R,
+    alloc: Global,
+    script: &str,
+    line: u32,
+    why: u8,
+) -> Result<bool, Fail> {
+    let status = Status::BadScript { line, why };
+    ends_so(rt, alloc, &cut_case(script.as_bytes(), status))
+}
 
 #[test]
 fn scripts_of_other_lengths(rt: HostRuntime) -> Result<(), Fail> {
-    let too_long = vec![in rt.alloc(); 0; 0x100_0001]?;
-    let mut case = FaultCase {
-        script: &too_long,
-        piece: ROM_SIZE,
-        fetch: 0,
-        put: 0,
-        status: Status::TooLong(Which::Script),
-        name: "",
-        count: 0,
+    let alloc = rt.alloc();
+    let too_long = vec![in alloc; 0; 0x100_0001]?;
+    assert!(rt;
+        ends_so(
+            &rt,
+            alloc,
+            &cut_case(&too_long, Status::TooLong(Which::Script))
+        )?
+    );
+    let without_line_feed = FaultCase {
+        script: "board 1\ncpus 1\nmemory 8\nrom r64".as_bytes(),
+        ..done()
     };
-    expect_fault(&rt, rt.alloc(), &case)?;
-    for (script, status) in CUT_SHORT {
-        case.script = script.as_bytes();
-        case.status = status;
-        case.name = if status == Status::ReadFault(Which::Rom) {
-            "r6"
-        } else {
-            ""
-        };
-        case.count = if status == Status::Done { 13 } else { 0 };
-        expect_fault(&rt, rt.alloc(), &case)?;
-    }
+    assert!(rt; ends_so(&rt, alloc, &without_line_feed)?);
+    assert!(rt; ends_so(&rt, alloc, &other_rom())?);
+    assert!(rt; is_bad(&rt, alloc, "board 1\ncpus 1\nmemory 8\nrom ", 4, 3)?);
+    assert!(rt; is_bad(&rt, alloc, "board 1\ncpus 1\nmemory 8", 4, 6)?);
+    assert!(rt; is_bad(&rt, alloc, "boar", 1, 1)?);
     Ok(())
 }
 
 /// The fetches of a replay in pieces of 24 KiB: the file, the place, and how many bytes came. The latest comes first.
-const FETCHES: [(&str, u64, usize); 6] = [
-    ("r64", 0x1_0000, 0),
-    ("r64", 0xC000, 0x4000),
-    ("r64", 0x6000, 0x6000),
-    ("r64", 0, 0x6000),
-    ("s", 32, 0),
-    ("s", 0, 32),
-];
+const FETCHES: &str = "\
+r64 65536 Some(0)
+r64 49152 Some(16384)
+r64 24576 Some(24576)
+r64 0 Some(24576)
+s 32 Some(0)
+s 0 Some(32)
+";
+
+/// Fetches in words.
+fn in_words(alloc: Global, made: &[MadeFetch]) -> Result<String, AllocError> {
+    let mut text = String::new(alloc);
+    for fetch in made {
+        write!(
+            text,
+            "{} {} {:?}\n",
+            fetch.name.as_str(),
+            fetch.at,
+            fetch.came
+        )?;
+    }
+    Ok(text)
+}
 
 #[test]
 fn the_calls_of_a_replay(rt: HostRuntime) -> Result<(), Fail> {
     let alloc = rt.alloc();
-    let files = files_of(alloc, SETUP.as_bytes(), &[])?;
-    let inner = MemShelf::new(files, Vec::new(alloc));
+    let case = FaultCase {
+        piece: 0x6000,
+        ..done()
+    };
     let mut shelf = ToldShelf {
-        inner: SlowShelf::new(inner, 0x6000),
+        inner: shelf_of(alloc, &case)?,
         made: Vec::new(alloc),
         rt: &rt,
         alloc,
@@ -161,17 +212,9 @@ fn the_calls_of_a_replay(rt: HostRuntime) -> Result<(), Fail> {
         made: Vec::new(alloc),
         rt: &rt,
     };
-    assert_eq!(rt;
-        status_of(&rt, alloc, &REPLAY, &mut shelf, &mut out, &QuietGate)?,
-        Status::Done
-    );
-    assert_eq!(rt; shelf.made.len(), FETCHES.len());
-    for (made, (name, at, came)) in shelf.made.iter().zip(FETCHES) {
-        assert_eq!(rt;
-            (made.name.as_str(), made.at, made.came),
-            (name, at, Some(came))
-        );
-    }
-    assert_eq!(rt; out.made.as_slice(), [Some(3), Some(5), Some(5)].as_slice());
+    let status = status_of(&rt, alloc, &REPLAY, &mut shelf, &mut out, &QuietGate)?;
+    assert!(rt; status == Status::Done);
+    assert!(rt; in_words(alloc, &shelf.made)?.as_str() == FETCHES);
+    assert!(rt; out.made.as_slice() == [Some(3), Some(5), Some(5)].as_slice());
     Ok(())
 }

@@ -1,3 +1,4 @@
+pub mod Sums
 pub mod DigitTable
 pub mod NumberLemmas
 pub mod FieldLemmas

@@ -3,7 +3,7 @@ use Rattle.std.proofs.Common.{◌≡◌, ℕ, ◌+◌, ◌*◌, Bool, true, fals
 use Rattle.board_prelude.proofs.Common.{option_map, ne_eqb, All-nil, All-cons, Event, Width, Kind, Read, Fetch, Write, Port, bytes_of}
 use Rattle.board_spec.specs.declared.event.Event.TheVariants.{Look as LookAt}
 use Rattle.std.proofs.lemmas.List.Splits.{slice_split_none, slice_split_at}
-use Rattle.script_spec.specs.Common.{Item, HasForm, IsDecimal, fields_of, size_of, width_of, kind_of, hex_of, decimal_of, digit_of, number_of, number_after, smm_of, memory_event, read_of, write_of, in_of, out_of, look_of, event_of, ask, event_asked, asked_with, asked_of, statement_of, item_with, item_of}
+use Rattle.script_spec.specs.Common.{Item, HasForm, IsDecimal, fields_of, size_of, width_of, kind_of, hex_of, decimal_of, digit_of, number_of, number_after, smm_of, memory_event, read_of, write_of, in_of, out_of, look_of, event_of, ask, is_skipped, event_asked, asked_with, asked_of, statement_of, item_with, item_of}
 use Rattle.script_spec.proofs.Chains.{guarded, then_said}
 use Rattle.script_spec.proofs.NumberTexts.{decimal_read}
 use Rattle.script_spec.proofs.FieldTexts.{no_word}
@@ -215,3 +215,13 @@ line_straight version digit actor line words event cut said asks =
     ∙ ap (item_of version)
     (one_byte digit words (decimal_lacks digit actor (sym said)) ∙ ap (λ (key : List ℕ). key ∷ fields_of words) is.0)
     ∙ number_first version actor (fields_of words) (ask actor event) is.1 (asks actor))
+
+decimal_said : (byte n : ℕ) → decimal_of (byte ∷ []) ≡ Some n → eqb byte 0x23 ≡ false
+unfolding number_after
+decimal_said byte n e =
+    ne_eqb byte 0x23 (λ is. none_some n (subst (λ (b : ℕ). decimal_of (b ∷ []) ≡ Some n) is e))
+
+-- it is neither empty nor a comment
+pub line_said : (digit actor : ℕ) (line words : List ℕ) → line ≡ digit ∷ 32 ∷ words → Some actor ≡ decimal_of (digit ∷ [])
+    → is_skipped line ≡ false
+line_said digit actor line words cut said = ap is_skipped cut ∙ decimal_said digit actor (sym said)

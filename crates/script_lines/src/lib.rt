@@ -14,4 +14,4 @@ pub use fields::Fields;
 pub use item::{Asked, Item, is_word, item_of};
 pub use moment::MomentFields;
 pub use numbers::{decimal_of, digit_of, hex_of};
-pub use straight::straight_of;
+pub use straight::{straight_end, straight_of};

@@ -1,7 +1,8 @@
 //! Numbers as a script writes them.
 
-ghost use Rattle.std.specs.Prelude.{◌≡◌, ◌<◌, ◌≤◌, ◌^◌, length, IfSome, option_map, Some, None, if◌then◌else◌};
+ghost use Rattle.std.specs.Prelude.{ℕ, ◌≡◌, ◌<◌, ◌≤◌, ◌^◌, [], ◌∷◌, length, IfSome, option_map, Option, Some, None, if◌then◌else◌};
 ghost use Rattle.script_spec.specs.Numbers.{digit_value, digit_of, number_of, hex_of, decimal_of, has_leading_zero, two_digits_of, after_mark};
+ghost use Rattle.script_lines.specs.Sums.{IsSum, sum_after, summand_of};
 
 /// The base of hexadecimal numbers.
 const HEX: u64 = 16;
@@ -28,6 +29,29 @@ const DIGITS: [u8; 256] = [
     255, 255, 255, 255, 255, 255, 255, 255, 255, 255, 255, 255, 255, 255, 255, 255, 255, 255, 255,
     255, 255, 255, 255, 255, 255, 255, 255, 255, 255, 255, 255, 255, 255, 255, 255, 255, 255, 255,
     255, 255, 255,
+];
+
+/// What a byte that is no digit adds: more than eight digits make.
+const MORE: u64 = 0x1_0000_0000;
+
+/// What each byte adds to a hexadecimal number, with letters in either case.
+static SUMMANDS: [u64; 256] = [
+    MORE, MORE, MORE, MORE, MORE, MORE, MORE, MORE, MORE, MORE, MORE, MORE, MORE, MORE, MORE, MORE,
+    MORE, MORE, MORE, MORE, MORE, MORE, MORE, MORE, MORE, MORE, MORE, MORE, MORE, MORE, MORE, MORE,
+    MORE, MORE, MORE, MORE, MORE, MORE, MORE, MORE, MORE, MORE, MORE, MORE, MORE, MORE, MORE, MORE,
+    0, 1, 2, 3, 4, 5, 6, 7, 8, 9, MORE, MORE, MORE, MORE, MORE, MORE, MORE, 10, 11, 12, 13, 14, 15,
+    MORE, MORE, MORE, MORE, MORE, MORE, MORE, MORE, MORE, MORE, MORE, MORE, MORE, MORE, MORE, MORE,
+    MORE, MORE, MORE, MORE, MORE, MORE, MORE, MORE, MORE, MORE, 10, 11, 12, 13, 14, 15, MORE, MORE,
+    MORE, MORE, MORE, MORE, MORE, MORE, MORE, MORE, MORE, MORE, MORE, MORE, MORE, MORE, MORE, MORE,
+    MORE, MORE, MORE, MORE, MORE, MORE, MORE, MORE, MORE, MORE, MORE, MORE, MORE, MORE, MORE, MORE,
+    MORE, MORE, MORE, MORE, MORE, MORE, MORE, MORE, MORE, MORE, MORE, MORE, MORE, MORE, MORE, MORE,
+    MORE, MORE, MORE, MORE, MORE, MORE, MORE, MORE, MORE, MORE, MORE, MORE, MORE, MORE, MORE, MORE,
+    MORE, MORE, MORE, MORE, MORE, MORE, MORE, MORE, MORE, MORE, MORE, MORE, MORE, MORE, MORE, MORE,
+    MORE, MORE, MORE, MORE, MORE, MORE, MORE, MORE, MORE, MORE, MORE, MORE, MORE, MORE, MORE, MORE,
+    MORE, MORE, MORE, MORE, MORE, MORE, MORE, MORE, MORE, MORE, MORE, MORE, MORE, MORE, MORE, MORE,
+    MORE, MORE, MORE, MORE, MORE, MORE, MORE, MORE, MORE, MORE, MORE, MORE, MORE, MORE, MORE, MORE,
+    MORE, MORE, MORE, MORE, MORE, MORE, MORE, MORE, MORE, MORE, MORE, MORE, MORE, MORE, MORE, MORE,
+    MORE, MORE, MORE, MORE, MORE, MORE, MORE,
 ];
 
 /// What a digit stands for, with letters in either case.
@@ -65,14 +89,88 @@ fn number_of(base: u64, field: &[u8]) -> Option<u64>
     Some(number)
 }
 
+/// What a byte adds to a hexadecimal number.
+#[inline(always)]
+fn summand_of(byte: u8) -> u64
+    ensures summand { result ≡ summand_of byte }
+    ensures most { result ≤ 2 ^ 32 }
+{
+    SUMMANDS[byte as usize]
+}
+
+/// What four bytes add up to as hexadecimal digits.
+#[inline(always)]
+fn sum_of(a: u8, b: u8, c: u8, d: u8) -> u64
+    ensures sum { result ≡ sum_after 0 (a ∷ b ∷ c ∷ d ∷ []) }
+    ensures most { result < 2 ^ 45 }
+{
+    let high = summand_of(a) * HEX + summand_of(b);
+    let low = summand_of(c) * HEX + summand_of(d);
+    high * 0x100 + low
+}
+
+/// The number that a sum is if it is below a limit, which no sum is with a byte that is no digit.
+#[inline(always)]
+fn if_below(limit: u64, sum: u64) -> Option<u64>
+    ensures number { (number : Option ℕ) → IsSum limit number sum → result ≡ number }
+    ensures below { IfSome result (λ number. number < limit) }
+{
+    if sum < limit { Some(sum) } else { None }
+}
+
+/// The number that two hexadecimal digits make.
+#[inline(always)]
+fn of_two(a: u8, b: u8) -> Option<u64>
+    ensures number { result ≡ number_of 16 (a ∷ b ∷ []) }
+    ensures below { IfSome result (λ number. number < 16 ^ 2) }
+{
+    if_below(0x100, summand_of(a) * HEX + summand_of(b))
+}
+
+/// The number that four hexadecimal digits make.
+#[inline(always)]
+fn of_four(a: u8, b: u8, c: u8, d: u8) -> Option<u64>
+    ensures number { result ≡ number_of 16 (a ∷ b ∷ c ∷ d ∷ []) }
+    ensures below { IfSome result (λ number. number < 16 ^ 4) }
+{
+    if_below(0x1_0000, sum_of(a, b, c, d))
+}
+
+/// The number that eight hexadecimal digits make.
+#[inline(always)]
+fn of_eight(a: u8, b: u8, c: u8, d: u8, e: u8, f: u8, g: u8, h: u8) -> Option<u64>
+    ensures number { result ≡ number_of 16 (a ∷ b ∷ c ∷ d ∷ e ∷ f ∷ g ∷ h ∷ []) }
+    ensures below { IfSome result (λ number. number < 16 ^ 8) }
+{
+    let high = sum_of(a, b, c, d);
+    let low = sum_of(e, f, g, h);
+    if_below(0x1_0000_0000, high * 0x1_0000 + low)
+}
+
+/// The number that hexadecimal digits make, at most sixteen. Two, four and eight are read at once.
+#[inline(always)]
+fn hex_in(field: &[u8]) -> Option<u64>
+    requires few { length field.now ≤ 16 }
+    ensures number { result ≡ number_of 16 field.now }
+    ensures below { IfSome result (λ number. number < 16 ^ length field.now) }
+{
+    match field {
+        [a, b] => of_two(*a, *b),
+        [a, b, c, d] => of_four(*a, *b, *c, *d),
+        [a, b, c, d, e, f, g, h] => of_eight(*a, *b, *c, *d, *e, *f, *g, *h),
+        _ => number_of(HEX, field),
+    }
+}
+
 /// The number of exactly `digits` hexadecimal digits, at most sixteen.
+#[inline(always)]
 pub fn hex_of(digits: usize, field: &[u8]) -> Option<u64>
     requires { digits ≤ 16 }
     ensures number { result ≡ hex_of digits field.now }
     ensures below { IfSome result (λ number. number < 16 ^ digits) }
 {
     if field.len() == digits {
-        number_of(HEX, field)
+        hex_in(field)
     } else {
         None
     }

@@ -1,8 +1,8 @@
 //! The statements that scripts are mostly made of, read straight from the bytes of their line: an access or a look of a
 //! processor with one digit, outside SMM. Any other line is cut into its fields.
 
-ghost use Rattle.std.specs.Prelude.{◌≡◌, ◌∷◌, ◌++◌, Some, IfSome};
-ghost use Rattle.script_spec.specs.Common.{fields_of, HasForm, read_of};
+ghost use Rattle.std.specs.Prelude.{◌≡◌, ◌≤◌, ◌∷◌, ◌++◌, false, Some, IfSome};
+ghost use Rattle.script_spec.specs.Common.{fields_of, HasForm, is_skipped, read_of};
 ghost use Rattle.script_lines.specs.Items.{asked_said};
 ghost use Rattle.script_lines.specs.Straight.{space, Asks};
 ghost use Rattle.script_lines.specs.declared.item.Asked.{Asked};
@@ -17,6 +17,15 @@ const ADDRESS: usize = 8;
 
 /// The digits of a port.
 const PORT: usize = 4;
+
+/// The place of a verb in its line.
+const VERB: usize = 2;
+
+/// The place of the size after `w`.
+const FIRST_SIZE: usize = 4;
+
+/// The place of the size after `out`.
+const SECOND_SIZE: usize = 6;
 
 /// The first bytes of a text, and what stands after the space that follows them.
 #[inline(always)]
@@ -166,10 +175,44 @@ fn straight_event(version: u8, words: &[u8]) -> Option<Event>
     }
 }
 
+/// How many digits the value of a write has, by the letter of its size.
+#[inline(always)]
+fn digits_of(letter: u8) -> usize
+    ensures most { result ≤ 16 }
+{
+    match letter {
+        b'b' => 2,
+        b'w' => 4,
+        b'd' => 8,
+        _ => 16,
+    }
+}
+
+/// Where the first line of a text ends if it is one that is read straight, by its verb and its size. It says nothing of
+/// any other line.
+#[inline(always)]
+pub fn straight_end(text: &[u8]) -> usize
+    ensures most { result ≤ 31 }
+{
+    if text.len() <= SECOND_SIZE {
+        return 0;
+    }
+    match text[VERB] {
+        b'r' => 14,
+        b'f' => 14,
+        b'w' => 15 + digits_of(text[FIRST_SIZE]),
+        b'i' => 11,
+        b'o' => 13 + digits_of(text[SECOND_SIZE]),
+        b'l' => 17,
+        _ => 0,
+    }
+}
+
 /// The processor and the event of a statement that can be read straight. None says nothing of the line.
 #[inline(always)]
 pub fn straight_of(version: u8, line: &[u8]) -> Option<(u32, Event)>
     ensures says { IfSome result (λ p. HasForm version line.now (asked_said p.0 (Asked.Event p.1))) }
+    ensures read { IfSome result (λ p. is_skipped line.now ≡ false) }
 {
     let (digit, words) = first_of(line)?;
     let actor = decimal_of(&[digit])?;

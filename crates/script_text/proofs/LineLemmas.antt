@@ -18,7 +18,7 @@ longer : (x : ℕ) (xs : List ℕ) → is_feed x ≡ false → lines_of (x ∷ x
 unfolding lines_of
 longer x xs e = ap (λ b. cond b ([] ∷ lines_of xs) (onto_first x (lines_of xs))) e
 
-ended : (line rest : List ℕ) → IsLine line → lines_of (line ++ 10 ∷ rest) ≡ line ∷ lines_of rest
+pub ended : (line rest : List ℕ) → IsLine line → lines_of (line ++ 10 ∷ rest) ≡ line ∷ lines_of rest
 unfolding lines_of
 ended [] rest h = refl
 ended (x ∷ line) rest h =

@@ -1,16 +1,84 @@
 -- A line that is read straight.
-use Rattle.std.proofs.Common.{◌≡◌, ℕ, ◌≤◌, false, None, List, [], ◌∷◌, length, Result, Ok, Err, OnOk, refl, inr}
-use Rattle.script_spec.specs.Common.{Item, HasForm, AreRead, IsGoodLine, is_skipped, least_reason}
+use Rattle.std.proofs.Common.{◌≡◌, ℕ, ◌≤◌, true, false, Option, Some, None, List, [], ◌∷◌, ◌++◌, length, Result, Ok, Err, OnOk, IfErr, refl, ap, ◌∙◌, inl, inr, leb, All, arith, decimal}
+use Rattle.board_prelude.proofs.Common.{AllZip, All-nil, All-cons, and_parts, leb-true, ne_eqb, Event, space, event_text}
+use Rattle.script_spec.specs.Common.{lines_of, Item, StandsFor, HasForm, item_text, ask, AreRead, IsGoodLine, IsBadLine, is_skipped, least_reason}
+use Rattle.script_spec.proofs.Common.{lacks, lacks-first, lacks-later, lacks-append, lacks-word, lacks-plain, decimal_word, event_plain}
+use Rattle.script_text.specs.declared.fault.ScriptFault.{ScriptFault}
+use Rattle.script_text.specs.declared.fault.ScriptFault.TheVariants.{Bad, NoMemory}
 use Rattle.script_text.specs.declared.reading.Reading.{Reading}
-use Rattle.script_text.specs.Reading.{IsReadingOf}
+use Rattle.script_text.specs.Common.{OnBad, IsReadingOf}
+use Rattle.script_text.specs.Straight.{IsStraight}
+use Rattle.script_text.proofs.LineLemmas.{is_feed, ended}
+
+-- ---- no byte of it is a line feed
+
+stands_lacks : (c t : ℕ) → StandsFor c t → is_feed t ≡ false → is_feed c ≡ false
+stands_lacks c t (inl is) lack = ap is_feed is ∙ lack
+stands_lacks c t (inr small) lack =
+    let parts = and_parts (leb 0x41 t) (leb t 0x46) small.0 in
+    ne_eqb c 10 (λ same. absurd (omega (arith, same, small.1, leb-true 0x41 t parts.0)))
+
+spelled_line :
+    (line text : List ℕ) → AllZip StandsFor line text → lacks 10 text ≡ true → All (λ byte. is_feed byte ≡ false) line
+spelled_line [] [] spells lack = All-nil (λ byte. is_feed byte ≡ false)
+spelled_line [] (t ∷ ts) spells lack = absurd spells
+spelled_line (c ∷ cs) [] spells lack = absurd spells
+spelled_line (c ∷ cs) (t ∷ ts) spells lack =
+    All-cons (λ byte. is_feed byte ≡ false) c cs (stands_lacks c t spells.0 (lacks-first 10 t ts lack))
+    (spelled_line cs ts spells.1 (lacks-later 10 t ts lack))
+
+asked_line :
+    (version actor : ℕ) (line : List ℕ) (event : Event) → HasForm version line (ask actor event)
+    → All (λ byte. is_feed byte ≡ false) line
+unfolding item_text
+asked_line version actor line event has =
+    spelled_line line (item_text (ask actor event)) has.says
+    (lacks-append 10 (decimal actor) (space ∷ event_text event)
+    (lacks-word 10 (decimal actor) refl (decimal_word actor))
+    (lacks-plain 10 (event_text event) refl (event_plain event)))
+
+-- so a text that goes on with a line feed has it as its first line
+pub line_cut :
+    (version actor : ℕ) (text line rest : List ℕ) (event : Event) → text ≡ line ++ 10 ∷ rest
+    → HasForm version line (ask actor event) → lines_of text ≡ line ∷ lines_of rest
+line_cut version actor text line rest event cut has =
+    ap lines_of cut ∙ ended line rest (asked_line version actor line event has)
+
+-- ---- it is read
 
 -- where its item is taken, the line is read
-pub line_taken : {T E : Type 0} (r : Result T E) (version : ℕ) (line : List ℕ) (item : Item) (old new : Reading)
-    → length line ≤ 120 → is_skipped line ≡ false → HasForm version line item
-    → OnOk r ((items : List Item) → IsReadingOf items old → (least_reason items item ≡ None) × IsReadingOf (item ∷ items) new)
+pub line_taken : {T E : Type 0} (r : Result T E) (version : ℕ) (line : List ℕ) (actor : ℕ) (event : Event) (old new : Reading)
+    → IsStraight version line actor event
+    → OnOk r ((items : List Item) → IsReadingOf items old
+    → (least_reason items (ask actor event) ≡ None) × IsReadingOf (ask actor event ∷ items) new)
     → OnOk r ((items : List Item) → IsReadingOf items old
     → (more : List Item) × IsReadingOf more new × AreRead version items (line ∷ []) more)
-line_taken (Ok x) version line item old new short read has taken = λ items is.
-    let k = taken items is in
-    (item ∷ items, k.1, inr (item, record { short = short; read = read; has = has; none = k.0 }, refl))
-line_taken (Err e) version line item old new short read has taken = tt
+line_taken (Ok x) version line actor event old new is taken = λ items known.
+    let k = taken items known in (
+      ask actor event ∷ items,
+      k.1,
+      inr (ask actor event, record { short = is.short; read = is.read; has = is.has; none = k.0 }, refl),
+    )
+line_taken (Err e) version line actor event old new is taken = tt
+
+-- and where it is refused, the line is bad
+pub line_refused :
+    {T : Type 0} (r : Result T ScriptFault) (version number : ℕ) (line : List ℕ) (actor : ℕ) (event : Event) (old : Reading)
+    → IsStraight version line actor event
+    → IfErr r (λ fault. OnBad fault (λ place why. (place ≡ number)
+    × ((items : List Item) → IsReadingOf items old → least_reason items (ask actor event) ≡ Some why)))
+    → IfErr r (λ fault. OnBad fault (λ place why. (place ≡ number)
+    × ((items : List Item) → IsReadingOf items old → IsBadLine version items line why)))
+line_refused (Ok x) version number line actor event old is bad = tt
+line_refused (Err (Bad place why)) version number line actor event old is bad = (
+  bad.0,
+  λ items known.
+      inr (inr (record {
+        short = is.short;
+        read = is.read;
+        item = ask actor event;
+        has = is.has;
+        least = bad.1 items known;
+      })),
+)
+line_refused (Err NoMemory) version number line actor event old is bad = tt

@@ -1,10 +1,12 @@
 //! The lines of a text.
 
-ghost use Rattle.std.specs.Prelude.{◌≡◌, ◌<◌, [], ◌∷◌, length, IfSome, MatchOption};
+ghost use Rattle.std.specs.Prelude.{◌≡◌, ◌<◌, ◌≤◌, [], ◌∷◌, ◌++◌, length, IfSome, MatchOption};
 ghost use Rattle.script_spec.specs.Common.{lines_of, IsVersion, first_line, BeginsBadly, is_skipped};
+ghost use Rattle.script_text.specs.Straight.{IsStraight};
 
+use board_spec::Event;
 use memchr::memchr;
-use script_lines::is_word;
+use script_lines::{is_word, straight_end, straight_of};
 
 /// What ends a line.
 const LINE_FEED: u8 = b'\n';
@@ -27,6 +29,51 @@ pub(crate) fn split_line(bytes: &[u8]) -> Option<(&[u8], &[u8])>
         Some(end) => Some((&bytes[..end], &bytes[end + 1..])),
         None => Some((bytes, &[])),
     }
+}
+
+/// What stands before a line feed at this place, and what stands after it.
+#[inline(always)]
+fn cut_at(place: usize, bytes: &[u8]) -> Option<(&[u8], &[u8])>
+    ensures cut { IfSome result (λ p. bytes.now ≡ p.0.now ++ 0x0A ∷ p.1.now) }
+    ensures short { IfSome result (λ p. length p.0.now ≤ place) }
+{
+    if place < bytes.len() && bytes[place] == b'\n' {
+        Some((&bytes[..place], &bytes[place + 1..]))
+    } else {
+        None
+    }
+}
+
+/// A line that was read straight: its bytes, those after its line feed, the processor and the event.
+type Straight<'a> = (&'a [u8], &'a [u8], u32, Event);
+
+/// The first line where it can be read straight. None says nothing of the line.
+#[inline(always)]
+fn straight_line<'a>(version: u8, bytes: &'a [u8]) -> Option<Straight<'a>>
+    ensures cases { IfSome result (λ p. lines_of bytes.now ≡ p.0.now ∷ lines_of p.1.now) }
+    ensures shorter { IfSome result (λ p. length p.1.now < length bytes.now) }
+    ensures straight { IfSome result (λ p. IsStraight version p.0.now p.2 p.3) }
+{
+    let (line, rest) = cut_at(straight_end(bytes), bytes)?;
+    let (actor, event) = straight_of(version, line)?;
+    Some((line, rest, actor, event))
+}
+
+/// A line, the bytes after it, and what it asks where it could be read straight.
+type Next<'a> = (&'a [u8], &'a [u8], Option<(u32, Event)>);
+
+/// The first line of these bytes, as `split_line` has it, without a search where it can be read straight.
+#[inline(always)]
+pub(crate) fn next_line<'a>(version: u8, bytes: &'a [u8]) -> Option<Next<'a>>
+    ensures cases { MatchOption result (lines_of bytes.now ≡ []) (λ p. lines_of bytes.now ≡ p.0.now ∷ lines_of p.1.now) }
+    ensures shorter { IfSome result (λ p. length p.1.now < length bytes.now) }
+    ensures straight { IfSome result (λ p. IfSome p.2 (λ asked. IsStraight version p.0.now asked.0 asked.1)) }
+{
+    if let Some((line, rest, actor, event)) = straight_line(version, bytes) {
+        return Some((line, rest, Some((actor, event))));
+    }
+    let (line, rest) = split_line(bytes)?;
+    Some((line, rest, None))
 }
 
 /// The version that line 1 names, and the bytes after that line. None where it names none, or there is no line.

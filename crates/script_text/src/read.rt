@@ -1,17 +1,18 @@
 //! The run over the lines of a text.
 
-ghost use Rattle.std.specs.Prelude.{◌≡◌, ◌<◌, ◌+◌, ◌^◌, ◌-◌, [], ◌∷◌, ℕ, List, length, IfOk, IfErr, OnOk, Some, None};
+ghost use Rattle.std.specs.Prelude.{◌≡◌, ◌<◌, ◌+◌, ◌^◌, ◌-◌, [], ◌∷◌, ℕ, List, length, IfOk, IfErr, IfSome, OnOk, Some, None};
 ghost use Rattle.script_spec.specs.Common.{Item as Said, lines_of, IsVersion, first_line, AreRead, IsBadLine, IsBadLater, IsScriptText, IsScriptBad, IsInRangeScript, ask, least_reason};
 ghost use Rattle.script_text.specs.Faults.{OnBad};
 ghost use Rattle.script_text.specs.Reading.{IsReadingOf};
 ghost use Rattle.script_text.specs.Script.{said_of};
+ghost use Rattle.script_text.specs.Straight.{IsStraight};
 
 use crate::fault::{Reason, ScriptFault};
-use crate::lines::{is_skipped, split_line, version_of};
+use crate::lines::{is_skipped, next_line, version_of};
 use crate::reading::Reading;
 use crate::script::Script;
 use board_spec::Event;
-use script_lines::{Asked, item_of, straight_of};
+use script_lines::{Asked, item_of};
 use std::alloc::Global;
 
 /// The most bytes of a line after the first.
@@ -63,9 +64,6 @@ fn read_line(
     if is_skipped(line) {
         return Ok(());
     }
-    if let Some((actor, event)) = straight_of(version, line) {
-        return read_statement(number, actor, event, reading);
-    }
     let Some(item) = item_of(version, line) else {
         return Err(ScriptFault::at(number, Reason::NoForm));
     };
@@ -75,6 +73,30 @@ fn read_line(
             Ok(())
         }
         Err(reason) => Err(ScriptFault::at(number, reason)),
+    }
+}
+
+/// Reads one line after the first as `read_line` does, where what it asks may be known already.
+#[inline(always)]
+fn read_next(
+    alloc: Global,
+    version: u8,
+    number: u32,
+    line: &[u8],
+    asked: Option<(u32, Event)>,
+    reading: &mut Reading,
+) -> Result<(), ScriptFault>
+    requires version { IsVersion version }
+    requires before { (items : List Said) × IsReadingOf items reading.old }
+    requires straight { IfSome asked (λ known. IsStraight version line.now known.0 known.1) }
+    ensures read { OnOk result ((items : List Said) → IsReadingOf items reading.old
+        → (more : List Said) × IsReadingOf more reading.new × AreRead version items (line.now ∷ []) more) }
+    ensures bad { IfErr result (λ fault. OnBad fault (λ place why. (place ≡ number)
+        × ((items : List Said) → IsReadingOf items reading.old → IsBadLine version items line.now why))) }
+{
+    match asked {
+        Some((actor, event)) => read_statement(number, actor, event, reading),
+        None => read_line(alloc, version, number, line, reading),
     }
 }
 
@@ -89,8 +111,8 @@ fn read_later(alloc: Global, version: u8, bytes: &[u8]) -> Result<Script, Script
     let mut reading = Reading::new(alloc);
     let mut number = SECOND;
     let mut rest = bytes;
-    while let Some((line, after)) = split_line(rest) {
-        read_line(alloc, version, number, line, &mut reading)?;
+    while let Some((line, after, asked)) = next_line(version, rest) {
+        read_next(alloc, version, number, line, asked, &mut reading)?;
         number += 1;
         rest = after;
     }

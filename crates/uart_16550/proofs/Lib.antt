@@ -7,4 +7,5 @@ pub mod CardLoads
 pub mod OverChipset
 pub mod StateFormat
 pub mod SerialStates
+mod SerialAlone
 pub mod Common

@@ -13,7 +13,7 @@ use Rattle.uart_16550.specs.Serial.{Serial}
 use Rattle.uart_16550.specs.State.{IsCom1, com1_bytes, com1_fields}
 use Rattle.uart_16550.specs.SerialState.{IsSerial, LoadsSerial, bare_serial, serial_bytes, serial_fields}
 
-abbrev both : Running → Com1 → Serial Running
+abbrev pub both : Running → Com1 → Serial Running
 both board com1 = record { board = board; com1 = com1 }
 
 chipset_is : (x y : Running) → ◌≡◌ {A = Result Running Fault} (Ok x) (Ok y) → x ≡ y
@@ -22,7 +22,7 @@ chipset_is x y is = cc
 com1_is : (x y : Com1) → ◌≡◌ {A = Result Com1 Bad} (Ok x) (Ok y) → x ≡ y
 com1_is x y is = cc
 
-never_err : {A E : Type 0} (x : A) (y : E) → ◌≡◌ {A = Result A E} (Ok x) (Err y) → ⊥
+pub never_err : {A E : Type 0} (x : A) (y : E) → ◌≡◌ {A = Result A E} (Ok x) (Err y) → ⊥
 never_err x y is = absurd cc
 
 module _ (setup : Setup) (before mid after : List ℕ) where

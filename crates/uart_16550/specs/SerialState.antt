@@ -1,9 +1,10 @@
 -- The state of a chipset with a serial port as bytes, over the setup of the chipset: the chipset's, and then the port's.
-use Rattle.std.specs.Prelude.{ℕ, ◌≡◌, ◌⊎◌, ◌++◌, List, Result, Ok, Err, IfOk}
+use Rattle.std.specs.Prelude.{ℕ, ◌≡◌, ◌+◌, ◌⊎◌, ◌++◌, List, length, Result, Ok, Err, IfOk}
 use Rattle.board_prelude.specs.Common.{Setup}
 use Rattle.byte_fields.specs.declared.fault.Fault.{Fault}
 use Rattle.byte_fields.specs.declared.fault.Fault.TheVariants.{NoMemory}
 use Rattle.byte_fields.specs.Fields.{Reading, gives, ◌>>=◌, Filled}
+use Rattle.board_chipset.specs.Alone.{alone}
 use Rattle.board_chipset.specs.Common.{Running}
 use Rattle.board_chipset.specs.ChipsetState.{IsChipset, bare_chipset, chipset_bytes, chipset_fields}
 use Rattle.uart_16550.specs.Serial.{Serial}
@@ -34,6 +35,12 @@ pub record LoadsSerial (setup : Setup) (before after : List ℕ) (result : Resul
   pub exact : (serial : Serial Running) (rest : List ℕ) → serial.board.setup ≡ setup → IsSerial serial →
       before ≡ serial_bytes serial ++ rest → (result ≡ Err NoMemory) ⊎ ((result ≡ Ok serial) × (after ≡ rest))
   pub bad : Filled bare_serial result after (serial_fields setup before)
+
+-- the field at this offset is the first that is not whole or out of range, or the first byte too many
+pub record IsBadSerialAt (setup : Setup) (bytes : List ℕ) (at : ℕ) : Type 0 where
+  pub left : ℕ
+  pub place : at + left ≡ length bytes
+  pub bad : alone (serial_fields setup) bytes ≡ Err left
 
 -- over one setup one state has one spelling, and one spelling is of one state
 abbrev pub OneSerial : Type 0

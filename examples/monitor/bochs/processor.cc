@@ -7,6 +7,7 @@
 #include "machine.h"
 #include <time.h>
 #include <unistd.h>
+#include <vector>
 
 static machine m;
 static options wanted;
@@ -21,10 +22,10 @@ static Bit64u host_time() {
   return (Bit64u)t.tv_sec * NANOSECONDS + (Bit64u)t.tv_nsec;
 }
 
-// Bochs counts its processor's instructions as ticks: these are the guest's time.
+// Bochs counts its processor's instructions as ticks: these are the guest's time, after that which a saved guest had had.
 uint64_t processor_time(void) {
-  Bit64u ticks = bx_pc_system.time_ticks();
-  return ticks / wanted.speed * 1000 + ticks % wanted.speed * 1000 / wanted.speed;
+  Bit64u ticks = bx_pc_system.time_ticks(), speed = m.options.speed;
+  return m.loaded_at + ticks / speed * 1000 + ticks % speed * 1000 / speed;
 }
 
 static void end(const char *reason) {
@@ -56,6 +57,10 @@ static Bit8u *direct_memory(bx_phy_address addr, unsigned access, void *) {
   return slots_find(&m, addr, access == BX_WRITE || access == BX_RW);
 }
 
+void processor_wrote(uint64_t addr, uint64_t bytes) {
+  for (Bit64u page = addr & ~(Bit64u)(GUEST_PAGE - 1); page < addr + bytes; page += GUEST_PAGE) pageWriteStampTable.decWriteStamp(page);
+}
+
 static void move_slots() {
   m.slots_moved = false;
   BX_CPU(0)->TLB_flush();
@@ -83,17 +88,111 @@ class board_pic : public bx_pic_stub_c {
 
 static board_pic pic;
 
+// ---- the processor's state: Bochs's own list of it, whose numbers stand in the order of the list
+
+const uint32_t processor_kind = PROCESSOR_BOCHS;
+
+// What is done with each of the numbers.
+class visitor {
+ public:
+  virtual void visit(bx_param_num_c *number) = 0;
+};
+
+static void walk(bx_list_c *list, visitor &v) {
+  for (int k = 0; k < list->get_size(); k++) {
+    bx_param_c *it = list->get(k);
+    if (it->get_type() == BXT_LIST) walk((bx_list_c *)it, v);
+    else if (it->get_type() == BXT_PARAM_NUM || it->get_type() == BXT_PARAM_BOOL) v.visit((bx_param_num_c *)it);
+  }
+}
+
+static void walk_processor(visitor &v) { walk((bx_list_c *)SIM->get_bochs_root()->get_by_name("cpu0"), v); }
+
+// How many numbers there are, and the sum of their names: those of another Bochs are others.
+class counter : public visitor {
+ public:
+  Bit64u count = 0, sum = 0;
+  void visit(bx_param_num_c *number) {
+    count++;
+    for (const char *c = number->get_name(); *c; c++) sum = (sum ^ (Bit8u)*c) * 0x100000001B3ull;
+  }
+};
+
+class writer : public visitor {
+ public:
+  Bit64u *next;
+  void visit(bx_param_num_c *number) { *next++ = (Bit64u)number->get64(); }
+};
+
+class reader : public visitor {
+ public:
+  const Bit64u *next;
+  void visit(bx_param_num_c *number) { number->set((Bit64s)*next++); }
+};
+
+// Before the numbers stand the names' sum, and the count of RDTSC, which Bochs has by its ticks.
+enum { HEAD_NUMBERS = 2 };
+
+size_t processor_bytes(void) {
+  counter c;
+  walk_processor(c);
+  return (HEAD_NUMBERS + c.count) * sizeof(Bit64u);
+}
+
+void processor_save(uint8_t *into) {
+  counter c;
+  writer w;
+  std::vector<Bit64u> numbers(processor_bytes() / sizeof(Bit64u));
+  walk_processor(c);
+  numbers[0] = c.sum;
+  numbers[1] = BX_CPU(0)->get_TSC();
+  w.next = numbers.data() + HEAD_NUMBERS;
+  walk_processor(w);
+  memcpy(into, numbers.data(), numbers.size() * sizeof(Bit64u));
+}
+
+// The processor goes on from the state that was loaded.
+static void take_processor() {
+  counter c;
+  reader r;
+  std::vector<Bit64u> numbers(processor_bytes() / sizeof(Bit64u));
+  walk_processor(c);
+  if (m.processor_bytes == numbers.size() * sizeof(Bit64u)) memcpy(numbers.data(), m.processor, m.processor_bytes);
+  if (numbers[0] != c.sum) {
+    fprintf(stderr, "monitor: %s: a processor of another Bochs\n", wanted.load);
+    exit(1);
+  }
+  r.next = numbers.data() + HEAD_NUMBERS;
+  walk_processor(r);
+  BX_CPU(0)->set_TSC(numbers[1]);
+  BX_CPU(0)->after_restore_state();
+  m.processor = NULL;
+}
+
+// A bus master's request, which the processor grants between two instructions and while it is halted: there the guest is saved.
+class board_dma : public bx_dma_stub_c {
+ public:
+  void set_DRQ(unsigned, bool) {}
+  bool get_TC(void) { return false; }
+  void raise_HLDA(void) {
+    bx_pc_system.set_HRQ(false);
+    machine_save(&m);
+  }
+};
+
+static board_dma dma;
+
 // ---- time: a timer of Bochs rings when the machine's clock must run
 
 static void plan() {
   Bit64u now = processor_time(), next = m.wake < now + LISTEN ? m.wake : now + LISTEN;
-  Bit64u ticks = (next - now) * wanted.speed / 1000 + 1;
+  Bit64u ticks = next > now ? (next - now) * m.options.speed / 1000 + 1 : 1;
   bx_pc_system.activate_timer_ticks(timer, ticks, false);
 }
 
 // Where someone types the guest's time does not run before the host's.
 static void pace() {
-  Bit64u guest = processor_time(), host = host_time() - host_start;
+  Bit64u guest = processor_time() - m.loaded_at, host = host_time() - host_start;
   if (guest <= host || !isatty(STDIN_FILENO)) return;
   struct timespec rest = {0, (long)((guest - host) % NANOSECONDS)};
   fflush(stdout);
@@ -108,6 +207,7 @@ static void on_timer(void *) {
     pace();
     console_listen(&m);
     if (console_ended()) end("ended");
+    if (console_save_asked()) bx_pc_system.set_HRQ(true);
     if (wanted.seconds && host_time() - host_start > wanted.seconds * NANOSECONDS) end("the time is up");
   }
   show_interrupt();
@@ -162,11 +262,14 @@ void board_processor_start(void) {
   timer = bx_pc_system.register_timer_ticks(NULL, on_timer, 1000, false, true, "board");
 }
 
-// The processor has been reset: at the start, by CF9h, or by a triple fault. It has no APIC, as the board has none.
+// The processor has been reset: at the start, by CF9h, or by a triple fault. It has no APIC, as the board has none. At the
+// start of a saved guest it goes on from there.
 void board_processor_reset(unsigned) {
   bx_devices.pluginPicDevice = &pic;
+  bx_devices.pluginDmaDevice = &dma;
   BX_CPU(0)->msr.apicbase = 0;
   BX_CPU(0)->lapic->set_base(0);
+  if (m.processor) take_processor();
 }
 
 void board_processor_halted(void) {
@@ -189,5 +292,6 @@ extern "C" int __wrap_main(int count, char **words) {
   output = dup(STDOUT_FILENO);
   errors = dup(STDERR_FILENO);
   if (!freopen("/dev/null", "w", stdout) || !freopen("/dev/null", "w", stderr)) return 1;
+  setvbuf(stderr, NULL, _IONBF, 0); // as it was: what the monitor says is read while it runs
   return __real_main(count, copies);
 }

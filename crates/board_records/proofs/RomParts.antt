@@ -1,0 +1,67 @@
+-- Which part moved a byte, and the cards one after another; and replies where no ROM was given bytes.
+use Rattle.std.proofs.Common.{◌≡◌, ℕ, ◌+◌, ◌-◌, ◌<◌, ◌≤◌, ◌&&◌, ◌||◌, ◌==◌, nat_lt, Bool, true, false, not, if◌then◌else◌, List, [], length, drop, get_or, find, Option, Some, None, refl, sym, ap, ◌∙◌}
+use Rattle.std.proofs.lemmas.List.{drop_more}
+use Rattle.board_prelude.proofs.Common.{and_right, drop_all, le-ltb, lt-ltb, bytes_of, longest_at}
+use Rattle.board_spec.specs.Setup.{FittedCard}
+use Rattle.expansion_roms.specs.Roms.{given, put_byte, rom_byte}
+use Rattle.board_records.specs.declared.event.EventRecord.{EventRecord}
+use Rattle.board_records.specs.declared.reply.PartRecord.{PartRecord}
+use Rattle.board_records.specs.declared.reply.ReplyRecord.{ReplyRecord}
+use Rattle.board_records.specs.Replies.{no_part}
+use Rattle.board_records.specs.RomReplies.{is_given, part_of, with_roms}
+
+pub part_next : (parts : List PartRecord) (index addr bytes before place : ℕ) (last : PartRecord) → index < length parts →
+    part_of (drop index parts) addr bytes before place
+    ≡ (let after = before + bytes_of (longest_at (addr + before) (bytes - before)) in
+    if nat_lt place after then Some (get_or parts index last, place - before)
+    else part_of (drop (index + 1) parts) addr bytes after place)
+unfolding part_of
+part_next parts index addr bytes before place last within =
+    ap (λ rest. part_of rest addr bytes before place) (drop_more parts index last within)
+
+pub part_here : (parts : List PartRecord) (index addr bytes before place : ℕ) (last : PartRecord) (count left : ℕ) →
+    index < length parts → left ≡ bytes - before → count ≡ bytes_of (longest_at (addr + before) left) →
+    place < before + count →
+    part_of (drop index parts) addr bytes before place ≡ Some (get_or parts index last, place - before)
+part_here parts index addr bytes before place last count left within is_left is_count below =
+    let is : bytes_of (longest_at (addr + before) (bytes - before)) ≡ count = sym (rw is_left at is_count) in
+    part_next parts index addr bytes before place last within ∙ rw (is, lt-ltb place (before + count) below) refl
+
+pub part_later : (parts : List PartRecord) (index addr bytes before place : ℕ) (count left : ℕ) →
+    index < length parts → left ≡ bytes - before → count ≡ bytes_of (longest_at (addr + before) left) →
+    before + count ≤ place →
+    part_of (drop index parts) addr bytes before place ≡ part_of (drop (index + 1) parts) addr bytes (before + count) place
+part_later parts index addr bytes before place count left within is_left is_count past =
+    let is : bytes_of (longest_at (addr + before) (bytes - before)) ≡ count = sym (rw is_left at is_count) in
+    part_next parts index addr bytes before place no_part within ∙ rw (is, le-ltb place (before + count) past) refl
+
+pub no_part_left : (parts : List PartRecord) (index addr bytes before place : ℕ) → length parts ≤ index →
+    part_of (drop index parts) addr bytes before place ≡ None
+unfolding part_of
+no_part_left parts index addr bytes before place past = rw (drop_all index parts past) refl
+
+pub card_next : (cards : List FittedCard) (index dev : ℕ) (last : FittedCard) → index < length cards →
+    find (λ card. card.dev == dev) (drop index cards)
+    ≡ (if (get_or cards index last).dev == dev then Some (get_or cards index last)
+    else find (λ card. card.dev == dev) (drop (index + 1) cards))
+card_next cards index dev last within = ap (λ rest. find (λ card. card.dev == dev) rest) (drop_more cards index last within)
+
+-- ---- no ROM was given any
+
+pub first_put : (first new : List (List ℕ)) (dev off : ℕ) (bytes : List ℕ) → ((d : ℕ) → given first d ≡ []) →
+    ((d at : ℕ) → rom_byte new d at ≡ put_byte dev off bytes d at (rom_byte first d at)) →
+    (d at : ℕ) → rom_byte new d at ≡ put_byte dev off bytes d at (rom_byte [] d at)
+first_put first new dev off bytes none put d at = put d at ∙ rw (none d) refl
+
+pub none_is_given : (part : PartRecord) → is_given [] part ≡ false
+none_is_given part = and_right _ false refl
+
+pub none_with : (event : EventRecord) (said : ReplyRecord) → with_roms [] event said ≡ said
+none_with event said =
+    rw (
+      none_is_given said.part0,
+      none_is_given said.part1,
+      none_is_given said.part2,
+      none_is_given said.part3,
+      and_right (said.has_value == 1) false refl,
+    ) refl

@@ -1,0 +1,81 @@
+-- The bytes of a ROM after some were written, and those of the others beside it.
+use Rattle.std.proofs.Common.{◌≡◌, ◌≢◌, ℕ, ◌+◌, ◌-◌, ◌<◌, ◌≤◌, true, false, ◌&&◌, List, [], ◌∷◌, ◌++◌, replicate, length, get_or, set, inl, inr, refl, sym, ap, ◌∙◌, arith, ◌==◌, nat_le, nat_lt, if◌then◌else◌, slice_index}
+use Rattle.std.proofs.lemmas.List.{get_or-set_same, get_or-set_other, get_or_read}
+use Rattle.board_prelude.proofs.Common.{and_right, cases_eq, cases_lt, eq-eqb, ne_eqb, lt-ltb, le-ltb, get_or-replicate, get_or_past, length-replicate}
+use Rattle.board_prelude.specs.Common.{expansion_byte}
+use Rattle.expansion_roms.specs.Roms.{byte_after, byte_in, given, put_byte, rom_byte}
+
+-- ---- none were given
+
+pub none_given : (count dev : ℕ) → given (replicate count []) dev ≡ []
+none_given count dev = elim (cases_lt dev count) [
+  | inl within ↦ get_or-replicate count dev [] [] within
+  | inr past ↦ get_or_past (replicate count []) dev [] (omega (arith, past, length-replicate {A = List ℕ} count []))
+]
+
+-- ---- one ROM
+
+module _ (rom new : List ℕ) (at fixed : ℕ) where
+  -- bytes written within it
+  pub written_in : (bytes : List ℕ) (off : ℕ) → off + length bytes ≤ length rom → length new ≡ length rom →
+      ((k : ℕ) → slice_index new k ≡ byte_after off bytes k (slice_index rom k)) →
+      byte_in new at fixed ≡ byte_after off bytes at (byte_in rom at fixed)
+  written_in bytes off within size put = elim (cases_lt at (length rom)) [
+    | inl below ↦ rw (lt-ltb at (length new) (omega (arith, below, size)), lt-ltb at (length rom) below) (put at)
+    | inr past ↦
+        let beyond : nat_lt at (off + length bytes) ≡ false = le-ltb at (off + length bytes) (omega (arith, past, within)) in
+        rw (le-ltb at (length new) (omega (arith, past, size)), le-ltb at (length rom) past, beyond, and_right (nat_le off at) false refl)
+        refl
+  ]
+
+  -- more bytes, which are those that were read
+  pub grown_in : (size : ℕ) → length rom ≤ size → length new ≡ size →
+      (at < size → slice_index new at ≡ byte_in rom at fixed) → byte_in new at fixed ≡ byte_in rom at fixed
+  grown_in size longer long same = elim (cases_lt at size) [
+    | inl below ↦ rw (lt-ltb at (length new) (omega (arith, below, long))) (same below)
+    | inr past ↦
+        rw (le-ltb at (length new) (omega (arith, past, long)), le-ltb at (length rom) (omega (arith, past, longer))) refl
+  ]
+
+-- ---- all of them
+
+module _ (roms : List (List ℕ)) (dev : ℕ) (new : List ℕ) (there : dev < length roms) where
+  pub given_here : given (set roms dev new) dev ≡ new
+  given_here = get_or-set_same roms dev new [] there
+
+  pub given_beside : (d : ℕ) → d ≢ dev → given (set roms dev new) d ≡ given roms d
+  given_beside d apart = get_or-set_other roms dev d new [] apart
+
+  pub put_here : (bytes : List ℕ) (off : ℕ) → off + length bytes ≤ length (given roms dev) →
+      length new ≡ length (given roms dev) →
+      ((k : ℕ) → slice_index new k ≡ byte_after off bytes k (slice_index (given roms dev) k)) →
+      (d at : ℕ) → rom_byte (set roms dev new) d at ≡ put_byte dev off bytes d at (rom_byte roms d at)
+  put_here bytes off within size put d at = elim (cases_eq d dev) [
+    | inl same ↦
+        rw (same, eq-eqb dev dev refl, given_here)
+        (written_in (given roms dev) new at (expansion_byte dev at) bytes off within size put)
+    | inr apart ↦ rw (ne_eqb d dev apart, given_beside d apart) refl
+  ]
+
+  pub grown_here : (size : ℕ) → length (given roms dev) ≤ size → length new ≡ size →
+      ((off : ℕ) → off < size → slice_index new off ≡ byte_in (given roms dev) off (expansion_byte dev off)) →
+      (d at : ℕ) → rom_byte (set roms dev new) d at ≡ rom_byte roms d at
+  grown_here size longer long same d at = elim (cases_eq d dev) [
+    | inl is ↦
+        rw (is, given_here) (grown_in (given roms dev) new at (expansion_byte dev at) size longer long (same at))
+    | inr apart ↦ rw (given_beside d apart) refl
+  ]
+
+-- ---- a place in the list
+
+pub rom_at : (roms : List (List ℕ)) (dev : ℕ) (rom : List ℕ) → dev < length roms → rom ≡ get_or roms dev rom →
+    given roms dev ≡ rom
+rom_at roms dev rom within is = sym (get_or_read roms dev rom within is [])
+
+pub none_past : (roms : List (List ℕ)) (dev : ℕ) → length roms ≤ dev → given roms dev ≡ []
+none_past roms dev past = get_or_past roms dev [] past
+
+-- ---- of none
+
+pub none_in : (off old : ℕ) → byte_in [] off old ≡ old
+none_in off old = rw (le-ltb off 0 (omega arith)) refl

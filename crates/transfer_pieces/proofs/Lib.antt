@@ -1,0 +1,4 @@
+pub mod Steps
+pub mod Copies
+pub mod Pieces
+pub mod Outside

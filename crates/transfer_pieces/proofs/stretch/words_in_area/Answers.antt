@@ -1,0 +1,16 @@
+use Rattle.std.proofs.Common.{sym, ◌∙◌, arith}
+use Rattle.bus_master.proofs.AreaLemmas.{in_area, first_in_area}
+use Rattle.transfer_pieces.proofs.stretch.words_in_area.Goals as goal
+
+pub returns-then-contains-clause-area : goal.returns-then-contains-clause-area
+returns-then-contains-clause-area c = λ setup bytes kind i stands below.
+    first_in_area setup bytes c.args.addr kind (omega (arith, c.ranges.addr.fits)) i below
+
+pub returns-clause-area : goal.returns-clause-area
+returns-clause-area c = λ setup bytes kind i stands below.
+    let edge = c.next_edge.ensures in
+    in_area setup bytes c.args.addr kind c.next_edge.result (edge.next setup bytes stands)
+    (edge.last setup bytes stands).0
+    (edge.equal setup bytes stands) (sym c.contains.ensures.inside ∙ c.if-contains.false)
+    (omega (arith, c.ranges.addr.fits)) i
+    (rw (c.max.ensures, c.unwrap_or-end.ensures) at below)

@@ -1,0 +1,12 @@
+use Rattle.std.proofs.Common.{◌∙◌, sym}
+use Rattle.board_prelude.proofs.Common.{true≢false}
+use Rattle.uart_16550.proofs.SerialAlone.{own_version}
+use Rattle.uart_16550.proofs.serial_state.SerialBoard+Chipset.load_state.Goals as goal
+
+pub returns-then-is_other_version-clause-exact : goal.returns-then-is_other_version-clause-exact
+returns-then-is_other_version-clause-exact c = λ serial same is begins.
+    absurd (true≢false (sym c.if-is_other_version.true
+    ∙ (c.is_other_version.ensures.other ∙ own_version serial c.args.bytes.now begins)))
+
+pub returns-clause-only_bad : goal.returns-clause-only_bad
+returns-clause-only_bad c = λ at fits not_other bad. c.load_version.ensures.only_bad at bad
