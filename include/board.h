@@ -55,8 +55,7 @@ enum board_status {
     BOARD_SERIAL_FULL = 24, /* COM1 can receive no byte: its queue is full, or loopback is on */
     BOARD_NO_TIME = 25,    /* the clock stands: SET is 1, or its registers say no date or time */
     BOARD_BAD_IMAGE = 26,  /* the bytes are no saved board */
-    BOARD_OTHER_VERSION = 27, /* they are those of a board as another version saved it */
-    BOARD_NO_TRANSFER = 28 /* a number of a transfer is out of range */
+    BOARD_OTHER_VERSION = 27 /* they are those of a board as another version saved it */
 };
 
 /* What a status says, in a line without a line feed. */
@@ -87,7 +86,6 @@ static inline const char *board_status_text(uint32_t status) {
     case BOARD_NO_TIME: return "the clock stands, or shows no date and time";
     case BOARD_BAD_IMAGE: return "the bytes are no saved board";
     case BOARD_OTHER_VERSION: return "another version saved these bytes";
-    case BOARD_NO_TRANSFER: return "a number of the transfer is out of range";
     default: return "no status of this library";
     }
 }
@@ -387,60 +385,6 @@ uint32_t board_cmos_write(board *handle, uint8_t address, uint8_t byte);
  * CLOSED, PAST_END; of a ROM NO_MEMORY. */
 uint32_t board_card_write(board *handle, uint8_t device, uint8_t base, uint32_t offset,
                           const uint8_t *from, size_t bytes);
-
-/* ---- a transfer of the bus master, over memory and a disk that the caller keeps (82371SB, 2.7) */
-
-/* A transfer, as far as it has come. board_transfer_begin fills it, and the caller changes nothing. */
-typedef struct board_transfer {
-    uint32_t table;    /* the address of the next descriptor, also at the end */
-    uint32_t addr;     /* where the region in use goes on, and how many bytes it has left */
-    uint32_t left;
-    uint32_t moved;    /* how many bytes were moved, and are to be */
-    uint32_t bytes;
-    uint32_t lba;      /* the first sector, and how many from it on can be read */
-    uint32_t readable;
-    uint8_t is_last;   /* 1 where the region is the last of the table */
-    uint8_t to_memory; /* 1 from the disk to memory */
-    uint16_t reserved;
-} board_transfer;
-
-enum board_piece_what { BOARD_REGION = 1, BOARD_WORDS = 2, BOARD_ENDED = 3 };
-
-enum board_end {
-    BOARD_EXACT = 1,   /* the last word was also the end of the last region */
-    BOARD_LONGER = 2,  /* the table goes on after the last word */
-    BOARD_SHORTER = 3, /* the last region ended, and words remain */
-    BOARD_ABORTED = 4, /* nobody answers at addr: board_decode_master says what denies it */
-    BOARD_MISSING = 5  /* sector is not there, or bad */
-};
-
-/* What comes next. */
-typedef struct board_piece {
-    uint32_t addr;   /* of the descriptor; of the first word in memory; at BOARD_ABORTED */
-    uint32_t bytes;  /* of the descriptor 8; of the words; BOARD_ENDED: how many were moved */
-    uint32_t sector; /* of the words, which lie in one; at BOARD_MISSING */
-    uint32_t offset; /* of the first word in its sector */
-    uint8_t what;    /* board_piece_what */
-    uint8_t end;     /* board_end where it has ended */
-    uint8_t status;  /* bits 2 to 0 of the status register where it has ended: interrupt, error, active */
-    uint8_t reserved;
-} board_piece;
-
-/* Begins a transfer of 1 to 256 sectors from lba on, below 2^28, by the table of descriptors at an
- * address that is a multiple of 4. readable is how many of the sectors, from the first on, are there
- * and can be read. No handle.
- * NO_TRANSFER of other numbers. */
-uint32_t board_transfer_begin(board_transfer *transfer, uint32_t table, uint32_t lba,
-                              uint32_t sectors, uint32_t readable, bool to_memory);
-/* Tells the next piece: a descriptor, whose two doublewords the caller reads and gives to
- * board_transfer_region; words, which it moves, and which lie in one sector and in one area of the map:
- * board_decode_master of addr says in which, never SMRAM nor memory at A0000h to BFFFFh; or the end. The
- * next call takes the words as moved. The board stays as it is.
- * CLOSED, NO_TRANSFER. */
-uint32_t board_transfer_next(board *handle, board_transfer *transfer, board_piece *piece);
-/* Goes on with the region of the descriptor that was wanted last: its base and its count. No handle.
- * NO_TRANSFER. */
-uint32_t board_transfer_region(board_transfer *transfer, uint32_t base, uint32_t count);
 
 /* ---- over board_step, with its statuses */
 

@@ -334,86 +334,6 @@ static void beside_roms(void) {
     board_close(&b);
 }
 
-/* ---- a transfer in pieces, over memory and a disk of the caller's */
-
-enum { MEMORY = 0x100000, TABLE = 0x3000, SECTORS = 512, SECTOR = 512 };
-static uint8_t memory[MEMORY], drive[SECTORS * SECTOR];
-
-static uint32_t word32(uint32_t at) {
-    return memory[at] | memory[at + 1] << 8 | memory[at + 2] << 16 | (uint32_t)memory[at + 3] << 24;
-}
-
-static void put32(uint32_t at, uint32_t value) {
-    for (int k = 0; k < 4; k++) memory[at + k] = (uint8_t)(value >> 8 * k);
-}
-
-/* Moves all of it, and tells how it ended. */
-static board_piece moved(board *b, uint32_t table, uint32_t lba, uint32_t sectors, uint32_t readable, bool to_memory, uint32_t *pointer) {
-    board_transfer t;
-    board_piece p = {0};
-    expect("a transfer begins", lba, board_transfer_begin(&t, table, lba, sectors, readable, to_memory), BOARD_OK);
-    for (;;) {
-        expect("its next piece", t.moved, board_transfer_next(b, &t, &p), BOARD_OK);
-        if (p.what == BOARD_ENDED || failed) break;
-        if (p.what == BOARD_REGION) {
-            expect("its region", p.addr, board_transfer_region(&t, word32(p.addr), word32(p.addr + 4)), BOARD_OK);
-            continue;
-        }
-        board_part part;
-        expect("its place", p.addr, board_decode_master(b, p.addr, 2, to_memory, &part), BOARD_OK);
-        if (part.target != BOARD_DRAM && part.target != BOARD_SHADOW) continue; /* a ROM or a card: not the caller's memory */
-        expect("it fits", p.addr, p.addr + p.bytes <= MEMORY && p.offset + p.bytes <= SECTOR && (p.addr + p.bytes <= 0xA0000 || p.addr >= 0xC0000), 1);
-        uint8_t *at = drive + p.sector * SECTOR + p.offset;
-        if (to_memory) memcpy(memory + p.addr, at, p.bytes);
-        else memcpy(at, memory + p.addr, p.bytes);
-    }
-    *pointer = t.table;
-    return p;
-}
-
-static void ended(const char *what, board_piece p, uint8_t end, uint8_t status, uint32_t bytes, uint32_t pointer, uint32_t wanted) {
-    expect(what, 0, (uint64_t)p.end << 8 | p.status, (uint64_t)end << 8 | status);
-    expect("bytes moved", 0, p.bytes, bytes);
-    expect("the table's pointer", 0, pointer, wanted);
-}
-
-static void transfers(void) {
-    static const struct { uint32_t table, lba, sectors; } none[] = {{2, 0, 1}, {TABLE, 1u << 28, 1}, {TABLE, 0, 0}, {TABLE, 0, 257}};
-    board b = {0};
-    board_transfer t = {0};
-    board_piece p;
-    uint32_t pointer = 0;
-    open_board(&b);
-    for (size_t k = 0; k < sizeof none / sizeof *none; k++)
-        expect("no transfer", k, board_transfer_begin(&t, none[k].table, none[k].lba, none[k].sectors, 1, true), BOARD_NO_TRANSFER);
-    expect("one of a closed handle", 0, board_transfer_next(&closed, &t, &p), BOARD_CLOSED);
-    t.addr = 1;
-    expect("an odd address", 0, board_transfer_next(&b, &t, &p), BOARD_NO_TRANSFER);
-    expect("its region", 0, board_transfer_region(&t, 0, 0), BOARD_NO_TRANSFER);
-    for (size_t k = 0; k < sizeof drive; k++) drive[k] = (uint8_t)(k / SECTOR + k * 3);
-    put32(TABLE, 0x5000), put32(TABLE + 4, 0x200), put32(TABLE + 8, 0x9FF00), put32(TABLE + 12, 0x80000000 | 0x100);
-    p = moved(&b, TABLE, 7, 1, 1, true, &pointer);
-    ended("longer", p, BOARD_LONGER, 5, SECTOR, pointer, TABLE + 8);
-    expect("a sector in memory", 7, (uint64_t)memcmp(memory + 0x5000, drive + 7 * SECTOR, SECTOR), 0);
-    p = moved(&b, TABLE, 7, 2, 2, true, &pointer);
-    ended("shorter", p, BOARD_SHORTER, 0, SECTOR + 256, pointer, TABLE + 16);
-    p = moved(&b, TABLE, 7, 2, 1, true, &pointer);
-    ended("a missing sector", p, BOARD_MISSING, 2, SECTOR, pointer, TABLE + 8);
-    expect("which", 0, p.sector, 8);
-    put32(TABLE + 12, 0x80000000 | 0x200);
-    p = moved(&b, TABLE, 7, 2, 2, true, &pointer);
-    ended("memory at A0000h", p, BOARD_ABORTED, 2, SECTOR + 256, pointer, TABLE + 16);
-    expect("where", 0, p.addr, 0xA0000);
-    p = moved(&b, 0xA0000, 7, 1, 1, true, &pointer);
-    ended("a table at A0000h", p, BOARD_ABORTED, 2, 0, pointer, 0xA0000);
-    put32(TABLE, 0x6001), put32(TABLE + 4, 0x80000000 | 0x401);
-    for (uint32_t k = 0; k < 0x400; k++) memory[0x6000 + k] = (uint8_t)(k * 5 + 1);
-    p = moved(&b, TABLE, 100, 2, 2, false, &pointer);
-    ended("exact", p, BOARD_EXACT, 4, 2 * SECTOR, pointer, TABLE + 8);
-    expect("memory on the disk", 100, (uint64_t)memcmp(drive + 100 * SECTOR, memory + 0x6000, 2 * SECTOR), 0);
-    board_close(&b);
-}
-
 int main(void) {
     for (size_t k = 0; k < sizeof rom; k++) rom[k] = (uint8_t)(k * 7 + k / 256);
     masters();
@@ -421,7 +341,6 @@ int main(void) {
     bytes_of_cards();
     roms();
     beside_roms();
-    transfers();
     before_the_guest();
     beside_guest();
     return failed;

@@ -113,10 +113,6 @@ class OtherVersion(BoardError, status=27):
     """another version saved these bytes"""
 
 
-class NoTransfer(BoardError, status=28):
-    """a number of the transfer is out of range"""
-
-
 class OtherStatus(BoardError, status=-1):
     """a status that this module has no name for"""
 

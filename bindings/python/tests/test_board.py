@@ -6,7 +6,7 @@ import threading
 
 import pytest
 
-from board440fx import Board, Card, Ended, Event, Region, Reset, Words, errors
+from board440fx import Board, Card, Event, Reset, errors
 
 CONFIG_ADDRESS, CONFIG_DATA, RESET_CONTROL = 0xCF8, 0xCFC, 0xCF9
 AFTER_RESET = """\
@@ -101,18 +101,6 @@ def test_an_expansion_rom_has_bytes():
         board.write(0x00F00001, 1, 0)
         assert board.read(0x00F00001) == 0xAA
         assert board.card_read(3, 6, 1, 3) == b"\xAA\x40\x06"
-
-
-def test_a_transfer_in_pieces(board):
-    memory = {0x1000: (0x2000, 0x80000200)}
-    transfer = board.transfer(0x1000, 5, 1, to_memory=True)
-    pieces = []
-    for piece in transfer:
-        pieces.append(piece)
-        if isinstance(piece, Region):
-            transfer.region(*memory[piece.addr])
-    assert pieces == [Region(0x1000), Words(0x2000, 5, 0, 512), Ended("exact", 4, 512, 0, 0)]
-    assert transfer.table == 0x1008
 
 
 def test_what_is_read_is_a_number_and_a_line(board):

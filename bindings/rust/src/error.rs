@@ -81,7 +81,6 @@ statuses! {
     25 NoTime "the clock stands, or shows no date and time"
     26 BadImage "the bytes are no saved board"
     27 OtherVersion "another version saved these bytes"
-    28 NoTransfer "a number of the transfer is out of range"
 }
 
 impl std::error::Error for Error {}

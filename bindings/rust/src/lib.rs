@@ -35,7 +35,6 @@ mod map;
 mod raw;
 mod reply;
 mod target;
-mod transfer;
 
 pub use access::{Kind, Moment, Value, Width};
 pub use board::Board;
@@ -48,7 +47,6 @@ pub use log::Line;
 pub use map::{Area, Map, Range, Ranges, Window};
 pub use reply::{Answer, Look, Parts, Reply, Reset};
 pub use target::{Denial, Device, Part, Register, Target};
-pub use transfer::{End, Piece, Transfer};
 
 /// The version of `board.h` that this crate is for: `build.rs` refuses a library of another.
 pub const INTERFACE: u32 = 6;

@@ -1,5 +1,4 @@
 -- The lemmas and definitions that proofs above cite, passed on from one place. Declares nothing.
-pub use Rattle.pmc_regs.proofs.Common.{writable_bits-row}
 pub use Rattle.addr_decode.proofs.CardLemmas.{no_low_card}
 pub use Rattle.addr_decode.proofs.EdgeCounts.{few_edges_after, no_more}
 pub use Rattle.addr_decode.proofs.EdgeLaws.{areas_change_at_edges}

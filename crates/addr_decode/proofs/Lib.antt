@@ -6,7 +6,6 @@ pub mod NameLemmas
 pub mod DenialLemmas
 pub mod CardLemmas
 pub mod StandsLemmas
-pub mod ReservedLemmas
 pub mod EdgeCounts
 pub mod FixedEdgeLemmas
 pub mod EdgeLaws

@@ -1,102 +1,22 @@
 -- The state of the registers is spelled and read back.
-use Rattle.std.proofs.Common.{◌≡◌, ℕ, zero, suc, ◌+◌, ◌*◌, ◌^◌, ◌<◌, ◌≤◌, List, [], ◌∷◌, ◌++◌, length, Option, Some, None, Result, Ok, refl, sym, ap, subst, ◌∙◌, append_assoc, arith, slice_index, flat_map, get_or, drop, Err, false, true}
+use Rattle.std.proofs.Common.{◌≡◌, ℕ, zero, suc, ◌+◌, ◌*◌, ◌^◌, ◌<◌, ◌≤◌, List, [], ◌∷◌, ◌++◌, length, Option, Some, None, Result, Ok, refl, sym, ap, subst, ◌∙◌, append_assoc, arith, slice_index, flat_map, get_or, drop, Err, false}
 use Rattle.std.proofs.lemmas.List.{drop_more}
 use Rattle.std.proofs.lemmas.List.Concat.{flat_map-cons}
 use Rattle.std.proofs.lemmas.List.Elements.{All-from_recursion}
-use Rattle.board_prelude.proofs.Common.{AllByRecursion, append-nil, get_or_past, recursion_from_All, drop_all, w32, to_le_bytes, FittedCard, Base, base_reset, base_writable, rom_writable}
+use Rattle.board_prelude.proofs.Common.{AllByRecursion, append-nil, get_or_past, recursion_from_All, drop_all, w32, to_le_bytes, FittedCard}
 use Rattle.byte_fields.specs.Fields.{then_read, gives}
 use Rattle.byte_fields.proofs.Formats.{IsFormat, format_as, then_format, last_format, done_format, plain_format}
 use Rattle.byte_fields.proofs.Loops.{with_later, with_front}
-use Rattle.byte_fields.proofs.Numbers.{Ranges, byte_within, byte_where, where_format, within_format, wide32}
-use Rattle.pci_bars.specs.Bases.{of_base}
+use Rattle.byte_fields.proofs.Numbers.{Ranges, byte_within, within_format, wide32}
 use Rattle.pci_bars.specs.Cards.{CardBytes, cards_of}
-use Rattle.addr_decode.specs.Reserved.{keeps_reserved, keeps_reserved_long}
 use Rattle.addr_decode.specs.declared.regs.MapRegs.{MapRegs}
-use Rattle.addr_decode.specs.State.{any_byte, IsByteOf, byte_field, IsLongOf, long_field, pam_writable, ArePam, pam_fields, is_smram_byte, AreBases, IsBaseOf, base_field, bases_bytes, bases_fields, IsCardRegs, card_bytes, card_fields, AreCardRegs, cards_fields, AreMapRegs, regs_bytes, regs_fields}
+use Rattle.addr_decode.specs.State.{any_byte, any_long, AreBases, bases_bytes, bases_fields, IsCardRegs, most_rom, card_bytes, card_fields, AreCardRegs, cards_fields, AreMapRegs, regs_bytes, regs_fields}
 
 byte_format : IsFormat 1 any_byte (λ n. n ∷ []) (Ranges 0 255)
 byte_format = byte_within 0 255 (omega arith)
 
-field_format : (writable reset : ℕ) → IsFormat 1 (byte_field writable reset) (λ n. n ∷ []) (IsByteOf writable reset)
-field_format writable reset = byte_where (λ byte. keeps_reserved writable reset byte)
-
-long_format : (writable reset : ℕ) →
-    IsFormat 4 (long_field writable reset) (to_le_bytes w32) (IsLongOf writable reset)
-long_format writable reset = where_format wide32 (λ long. keeps_reserved_long writable reset long)
-
--- ---- the PAM registers
-
-abbrev pam_at : ℕ → List ℕ → ℕ
-pam_at k pam = slice_index pam k
-
-seven : (pam : List ℕ) → length pam ≡ 7 →
-    pam ≡ pam_at 0 pam ∷ pam_at 1 pam ∷ pam_at 2 pam ∷ pam_at 3 pam ∷ pam_at 4 pam ∷ pam_at 5 pam ∷ pam_at 6 pam ∷ []
-seven [] long = absurd (omega (arith, long))
-seven (a ∷ []) long = absurd (omega (arith, long))
-seven (a ∷ b ∷ []) long = absurd (omega (arith, long))
-seven (a ∷ b ∷ c ∷ []) long = absurd (omega (arith, long))
-seven (a ∷ b ∷ c ∷ d ∷ []) long = absurd (omega (arith, long))
-seven (a ∷ b ∷ c ∷ d ∷ e ∷ []) long = absurd (omega (arith, long))
-seven (a ∷ b ∷ c ∷ d ∷ e ∷ f ∷ []) long = absurd (omega (arith, long))
-seven (a ∷ b ∷ c ∷ d ∷ e ∷ f ∷ g ∷ []) long = refl
-seven (a ∷ b ∷ c ∷ d ∷ e ∷ f ∷ g ∷ h ∷ later) long = absurd (omega (arith, long))
-
--- number k of them, where the later ones are these
-abbrev IsPamByte : List ℕ → ℕ → Type 0
-IsPamByte pam k = IsByteOf (pam_writable k) 0x00 (pam_at k pam)
-
-each_pam : (pam : List ℕ) → IsPamByte pam 0 → IsPamByte pam 1 → IsPamByte pam 2 → IsPamByte pam 3 → IsPamByte pam 4 →
-    IsPamByte pam 5 → IsPamByte pam 6 → (k : ℕ) → k < 7 → IsPamByte pam k
-each_pam pam a b c d e f g zero below = a
-each_pam pam a b c d e f g (suc zero) below = b
-each_pam pam a b c d e f g (suc (suc zero)) below = c
-each_pam pam a b c d e f g (suc (suc (suc zero))) below = d
-each_pam pam a b c d e f g (suc (suc (suc (suc zero)))) below = e
-each_pam pam a b c d e f g (suc (suc (suc (suc (suc zero))))) below = f
-each_pam pam a b c d e f g (suc (suc (suc (suc (suc (suc zero)))))) below = g
-each_pam pam a b c d e f g (suc (suc (suc (suc (suc (suc (suc k))))))) below = absurd (omega (arith, below))
-
-pam_format : IsFormat 7 pam_fields (λ pam. pam) ArePam
-unfolding pam_fields
-pam_format =
-    format_as 7 (λ pam. pam) ArePam
-    (then_format (pam_at 0) (field_format 0x30 0x00) (λ pam0 good0.
-    (then_format (pam_at 1) (field_format 0x33 0x00) (λ pam1 good1.
-    (then_format (pam_at 2) (field_format 0x33 0x00) (λ pam2 good2.
-    (then_format (pam_at 3) (field_format 0x33 0x00) (λ pam3 good3.
-    (then_format (pam_at 4) (field_format 0x33 0x00) (λ pam4 good4.
-    (then_format (pam_at 5) (field_format 0x33 0x00) (λ pam5 good5.
-    (last_format (pam_at 6) (λ pam6. pam0 ∷ pam1 ∷ pam2 ∷ pam3 ∷ pam4 ∷ pam5 ∷ pam6 ∷ []) (field_format 0x33 0x00)
-    (λ pam6 good. refl)))
-    (λ pam5 pam any good. ap (pam_at 5) good.1)))
-    (λ pam4 pam any good. ap (pam_at 4) good.1.1)))
-    (λ pam3 pam any good. ap (pam_at 3) good.1.1.1)))
-    (λ pam2 pam any good. ap (pam_at 2) good.1.1.1.1)))
-    (λ pam1 pam any good. ap (pam_at 1) good.1.1.1.1.1)))
-    (λ pam0 pam any good. ap (pam_at 0) good.1.1.1.1.1.1))
-    (omega arith)
-    (λ pam are. (
-      are.each 0 (omega arith),
-      (
-        are.each 1 (omega arith),
-        (
-          are.each 2 (omega arith),
-          (
-            are.each 3 (omega arith),
-            (
-              are.each 4 (omega arith),
-              (are.each 5 (omega arith), (are.each 6 (omega arith), seven pam are.count)),
-            ),
-          ),
-        ),
-      ),
-    ))
-    (λ pam good. record {
-      count = ap (λ (list : List ℕ). length list) good.1.1.1.1.1.1.1;
-      each =
-          each_pam pam good.0 good.1.0 good.1.1.0 good.1.1.1.0 good.1.1.1.1.0 good.1.1.1.1.1.0 good.1.1.1.1.1.1.0;
-    })
-    (λ pam good. sym good.1.1.1.1.1.1.1)
+long_format : IsFormat 4 any_long (to_le_bytes w32) (Ranges 0 0xFFFF_FFFF)
+long_format = within_format wide32 0 0xFFFF_FFFF (omega arith)
 
 -- ---- the bases
 
@@ -134,45 +54,20 @@ long_of [] all k = subst (λ (n : ℕ). n < 2 ^ 32) (sym (get_or_past {X = ℕ} 
 long_of (base ∷ later) all zero = all.0
 long_of (base ∷ later) all (suc k) = long_of later all.1 k
 
-long_from : (writable reset n : ℕ) → IsLongOf writable reset n → IsLong n
+long_from : (n : ℕ) → n ≤ 0xFFFF_FFFF → IsLong n
 unfolding IsLong
-long_from writable reset n is = is.0
+long_from n few = omega (arith, few)
 
--- base number k of these, in its register
-abbrev IsOwnBase : List Base → List ℕ → ℕ → Type 0
-IsOwnBase fitted bases k = IsBaseOf fitted k (base_at k bases)
-
-each_base : (fitted : List Base) (bases : List ℕ) → IsOwnBase fitted bases 0 → IsOwnBase fitted bases 1 →
-    IsOwnBase fitted bases 2 → IsOwnBase fitted bases 3 → IsOwnBase fitted bases 4 → IsOwnBase fitted bases 5 →
-    (k : ℕ) → k < 6 → IsOwnBase fitted bases k
-each_base fitted bases a b c d e f zero below = a
-each_base fitted bases a b c d e f (suc zero) below = b
-each_base fitted bases a b c d e f (suc (suc zero)) below = c
-each_base fitted bases a b c d e f (suc (suc (suc zero))) below = d
-each_base fitted bases a b c d e f (suc (suc (suc (suc zero)))) below = e
-each_base fitted bases a b c d e f (suc (suc (suc (suc (suc zero))))) below = f
-each_base fitted bases a b c d e f (suc (suc (suc (suc (suc (suc k)))))) below = absurd (omega (arith, below))
-
-record AreBasesOf (fitted : List Base) (bases : List ℕ) : Type 0 where
-  widths : AreBases bases
-  each : (k : ℕ) → k < 6 → IsOwnBase fitted bases k
-
-base_format : (fitted : List Base) (k : ℕ) → IsFormat 4 (base_field fitted k) (to_le_bytes w32) (IsBaseOf fitted k)
-base_format fitted k = long_format (of_base base_writable fitted k) (of_base base_reset fitted k)
-
-long_base : (fitted : List Base) (k n : ℕ) → IsBaseOf fitted k n → IsLong n
-long_base fitted k n is = long_from (of_base base_writable fitted k) (of_base base_reset fitted k) n is
-
-bases_format : (fitted : List Base) → IsFormat 24 (bases_fields fitted) bases_bytes (AreBasesOf fitted)
+bases_format : IsFormat 24 bases_fields bases_bytes AreBases
 unfolding bases_fields
-bases_format fitted =
-    format_as 24 bases_bytes (AreBasesOf fitted)
-    (then_format (base_at 0) (base_format fitted 0) (λ first good_first.
-    (then_format (base_at 1) (base_format fitted 1) (λ second good_second.
-    (then_format (base_at 2) (base_format fitted 2) (λ third good_third.
-    (then_format (base_at 3) (base_format fitted 3) (λ fourth good_fourth.
-    (then_format (base_at 4) (base_format fitted 4) (λ fifth good_fifth.
-    (last_format (base_at 5) (λ sixth. first ∷ second ∷ third ∷ fourth ∷ fifth ∷ sixth ∷ []) (base_format fitted 5)
+bases_format =
+    format_as 24 bases_bytes AreBases
+    (then_format (base_at 0) long_format (λ first good_first.
+    (then_format (base_at 1) long_format (λ second good_second.
+    (then_format (base_at 2) long_format (λ third good_third.
+    (then_format (base_at 3) long_format (λ fourth good_fourth.
+    (then_format (base_at 4) long_format (λ fifth good_fifth.
+    (last_format (base_at 5) (λ sixth. first ∷ second ∷ third ∷ fourth ∷ fifth ∷ sixth ∷ []) long_format
     (λ sixth good. refl)))
     (λ fifth bases any good. ap (base_at 4) good.1)))
     (λ fourth bases any good. ap (base_at 3) good.1.1)))
@@ -181,56 +76,66 @@ bases_format fitted =
     (λ first bases any good. ap (base_at 0) good.1.1.1.1.1))
     (omega arith)
     (λ bases are. (
-      are.each 0 (omega arith),
+      (omega arith, omega (arith, are.each 0)),
       (
-        are.each 1 (omega arith),
+        (omega arith, omega (arith, are.each 1)),
         (
-          are.each 2 (omega arith),
+          (omega arith, omega (arith, are.each 2)),
           (
-            are.each 3 (omega arith),
-            (are.each 4 (omega arith), (are.each 5 (omega arith), six bases are.widths.count)),
+            (omega arith, omega (arith, are.each 3)),
+            (
+              (omega arith, omega (arith, are.each 4)),
+              ((omega arith, omega (arith, are.each 5)), six bases are.count),
+            ),
           ),
         ),
       ),
     ))
     (λ bases good. record {
-      widths = record {
-        count = ap (λ (list : List ℕ). length list) good.1.1.1.1.1.1;
-        each =
-            long_of bases (subst (AllByRecursion IsLong) (sym good.1.1.1.1.1.1) (
-              long_base fitted 0 _ good.0,
-              (
-                long_base fitted 1 _ good.1.0,
-                (
-                  long_base fitted 2 _ good.1.1.0,
-                  (
-                    long_base fitted 3 _ good.1.1.1.0,
-                    (long_base fitted 4 _ good.1.1.1.1.0, (long_base fitted 5 _ good.1.1.1.1.1.0, tt)),
-                  ),
-                ),
-              ),
-            ));
-      };
+      count = ap (λ (list : List ℕ). length list) good.1.1.1.1.1.1;
       each =
-          each_base fitted bases good.0 good.1.0 good.1.1.0 good.1.1.1.0 good.1.1.1.1.0 good.1.1.1.1.1.0;
+          long_of bases (subst (AllByRecursion IsLong) (sym good.1.1.1.1.1.1) (
+            long_from _ good.0.1,
+            (
+              long_from _ good.1.0.1,
+              (
+                long_from _ good.1.1.0.1,
+                (long_from _ good.1.1.1.0.1, (long_from _ good.1.1.1.1.0.1, (long_from _ good.1.1.1.1.1.0.1, tt))),
+              ),
+            ),
+          ));
     })
     (λ bases good. spelled_six _ _ _ _ _ _ ∙ ap bases_bytes (sym good.1.1.1.1.1.1))
 
 -- ---- a card
 
+most_small : (rom : Option ℕ) → most_rom rom < 2 ^ 32
+most_small None = omega arith
+most_small (Some bits) = omega arith
+
+rom_to : (rom : Option ℕ) (n : ℕ) → n < 2 ^ 32 → (rom ≡ None → n ≡ 0) → n ≤ most_rom rom
+rom_to None n few none = omega (arith, none refl)
+rom_to (Some bits) n few none = omega (arith, few)
+
+not_none : (bits : ℕ) → Some bits ≡ None → ⊥
+not_none bits is = absurd cc
+
+rom_from : (rom : Option ℕ) (n : ℕ) → n ≤ most_rom rom → (n < 2 ^ 32) × (rom ≡ None → n ≡ 0)
+rom_from None n few = (omega (arith, few), λ none. omega (arith, few))
+rom_from (Some bits) n few = (omega (arith, few), λ none. absurd (not_none bits none))
+
 abbrev IsOwn : FittedCard → CardBytes → Type 0
 IsOwn card regs = (regs.card ≡ card) × IsCardRegs regs
 
--- what is said of the registers of a card, of the card that it is
-own_bases : (card : FittedCard) (regs : CardBytes) → IsOwn card regs → AreBasesOf card.bases regs.bases
-own_bases card regs is = record {
-  widths = is.1.widths.bases;
-  each = subst (λ (own : FittedCard). (k : ℕ) → k < 6 → IsOwnBase own.bases regs.bases k) is.0 is.1.bases;
-}
-
-own_rom : (card : FittedCard) (regs : CardBytes) → IsOwn card regs → IsLongOf (rom_writable card.rom) 0 regs.rom
+own_rom : (card : FittedCard) (regs : CardBytes) → IsOwn card regs → regs.rom ≤ most_rom card.rom
 own_rom card regs is =
-    subst (λ (own : FittedCard). IsLongOf (rom_writable own.rom) 0 regs.rom) is.0 is.1.rom
+    subst (λ (own : FittedCard). regs.rom ≤ most_rom own.rom) is.0
+    (rom_to regs.card.rom regs.rom is.1.widths.rom is.1.no_rom)
+
+rom_own : (card : FittedCard) (regs : CardBytes) → regs.card ≡ card → regs.rom ≤ most_rom card.rom →
+    (regs.rom < 2 ^ 32) × (regs.card.rom ≡ None → regs.rom ≡ 0)
+rom_own card regs same few =
+    rom_from regs.card.rom regs.rom (subst (λ (own : FittedCard). regs.rom ≤ most_rom own.rom) (sym same) few)
 
 same_card : (card : FittedCard) (regs : CardBytes) → regs.card ≡ card → regs ≡ record regs { card = card }
 same_card card regs same = ap (λ (own : FittedCard). record regs { card = own }) same
@@ -239,39 +144,35 @@ card_format : (card : FittedCard) → IsFormat 30 (card_fields card) card_bytes 
 unfolding card_fields
 card_format card =
     format_as 30 card_bytes (IsOwn card)
-    (then_format (λ (c : CardBytes). c.command) (field_format 0x07 0x00) (λ command good_command.
+    (then_format (λ (c : CardBytes). c.command) byte_format (λ command good_command.
     (then_format (λ (c : CardBytes). c.line) byte_format (λ line good_line.
-    (then_format (λ (c : CardBytes). c.bases) (bases_format card.bases) (λ bases good_bases.
+    (then_format (λ (c : CardBytes). c.bases) bases_format (λ bases good_bases.
     (last_format (λ (c : CardBytes). c.rom)
     (λ rom. record { card = card; command = command; line = line; bases = bases; rom = rom })
-    (long_format (rom_writable card.rom) 0) (λ rom good. refl)))
+    (within_format wide32 0 (most_rom card.rom) (most_small card.rom)) (λ rom good. refl)))
     (λ bases c any good. ap (λ (c : CardBytes). c.bases) good.1)))
     (λ line c any good. ap (λ (c : CardBytes). c.line) good.1.1)))
     (λ command c any good. ap (λ (c : CardBytes). c.command) good.1.1.1))
     (omega arith)
     (λ c is. (
-      is.1.command,
+      (omega arith, omega (arith, is.1.widths.command)),
       (
         (omega arith, omega (arith, is.1.widths.line)),
-        (own_bases card c is, (own_rom card c is, same_card card c is.0)),
+        (is.1.widths.bases, ((omega arith, own_rom card c is), same_card card c is.0)),
       ),
     ))
     (λ c good.
     let same : c.card ≡ card = ap (λ (c : CardBytes). c.card) good.1.1.1.1 in
-    let bases = good.1.1.0 in
-    let rom = good.1.1.1.0 in (
+    let rom = rom_own card c same good.1.1.1.0.1 in (
       same,
       record {
         widths = record {
-          command = good.0.0;
+          command = omega (arith, good.0.1);
           line = omega (arith, good.1.0.1);
-          bases = bases.widths;
+          bases = good.1.1.0;
           rom = rom.0;
         };
-        command = good.0;
-        bases =
-            subst (λ (own : FittedCard). (k : ℕ) → k < 6 → IsOwnBase own.bases c.bases k) (sym same) bases.each;
-        rom = subst (λ (own : FittedCard). IsLongOf (rom_writable own.rom) 0 c.rom) (sym same) rom;
+        no_rom = rom.1;
       },
     ))
     (λ c good. refl)
@@ -368,10 +269,10 @@ unfolding regs_fields
 regs_format fitted =
     format_as (18 + 30 * length fitted) regs_bytes (AreMapRegs fitted)
     (then_format (λ (r : MapRegs). r.drb) (plain_format 8) (λ drb good_drb.
-    (then_format (λ (r : MapRegs). r.fdhc) (field_format 0xC0 0x00) (λ fdhc good_fdhc.
-    (then_format (λ (r : MapRegs). r.pam) pam_format (λ pam good_pam.
-    (then_format (λ (r : MapRegs). r.smram) (byte_where is_smram_byte) (λ smram good_smram.
-    (then_format (λ (r : MapRegs). r.xbcs) (field_format 0xC7 0x03) (λ xbcs good_xbcs.
+    (then_format (λ (r : MapRegs). r.fdhc) byte_format (λ fdhc good_fdhc.
+    (then_format (λ (r : MapRegs). r.pam) (plain_format 7) (λ pam good_pam.
+    (then_format (λ (r : MapRegs). r.smram) byte_format (λ smram good_smram.
+    (then_format (λ (r : MapRegs). r.xbcs) byte_format (λ xbcs good_xbcs.
     (last_format (λ (r : MapRegs). r.cards.items) (λ cards. record {
       drb = drb;
       fdhc = fdhc;
@@ -386,13 +287,25 @@ regs_format fitted =
     (λ fdhc r any good. ap (λ (r : MapRegs). r.fdhc) good.1.1.1.1)))
     (λ drb r any good. ap (λ (r : MapRegs). r.drb) good.1.1.1.1.1))
     (omega arith)
-    (λ r are. (are.drb, (are.fdhc, (are.pam, (are.smram, (are.xbcs, (are.cards, refl)))))))
+    (λ r are. (
+      are.drb,
+      (
+        (omega arith, omega (arith, are.fdhc)),
+        (
+          are.pam,
+          (
+            (omega arith, omega (arith, are.smram)),
+            ((omega arith, omega (arith, are.xbcs)), (are.cards, refl)),
+          ),
+        ),
+      ),
+    ))
     (λ r good. record {
       drb = good.0;
-      fdhc = good.1.0;
+      fdhc = omega (arith, good.1.0.1);
       pam = good.1.1.0;
-      smram = good.1.1.1.0;
-      xbcs = good.1.1.1.1.0;
+      smram = omega (arith, good.1.1.1.0.1);
+      xbcs = omega (arith, good.1.1.1.1.0.1);
       cards = good.1.1.1.1.1.0;
     })
     (λ r good. refl)

@@ -6,7 +6,6 @@ pub mod MapRegs
 pub mod Memory
 pub mod Onboard
 pub mod Ports
-pub mod Reserved
 pub mod State
 pub mod Master
 pub mod Common

@@ -16,7 +16,6 @@ mod onboard;
 mod ports;
 mod register;
 mod regs;
-mod reserved;
 mod state;
 
 pub use areas::{SixAreas, row};

@@ -2,30 +2,17 @@
 //! them: a board that is loaded has those of its setup.
 
 ghost use Rattle.std.specs.Prelude.{◌≡◌, ◌≤◌, ◌<◌, ◌^◌, ◌++◌, ℕ, List, length, slice_index, flat_map, All, OnOk, IfOk};
-ghost use Rattle.board_base.specs.Common.{w8};
-ghost use Rattle.board_prelude.specs.Common.{FittedCard, Setup, IsCard, IsCardList, Bytes};
-ghost use Rattle.byte_fields.specs.Fields.{Took, number_where};
+ghost use Rattle.board_prelude.specs.Common.{FittedCard, Setup, IsCardList, Bytes};
+ghost use Rattle.byte_fields.specs.Fields.{Took};
 ghost use Rattle.byte_fields.specs.Loads.{Loads, OneSpelling};
 ghost use Rattle.pci_bars.specs.Cards.{AreCardsOf, AreFitted};
-ghost use Rattle.addr_decode.specs.MapRegs.{StandsFor, map_bytes};
-ghost use Rattle.addr_decode.specs.Reserved.{AreWritten};
-ghost use Rattle.addr_decode.specs.State.{byte_field, long_field, pam_fields, is_smram_byte, AreBases, base_field, bases_bytes, bases_fields, IsWideCard, card_bytes, card_fields, cards_fields, AreMapRegs, regs_bytes, regs_fields};
+ghost use Rattle.addr_decode.specs.State.{AreBases, bases_bytes, bases_fields, IsWideCard, most_rom, card_bytes, card_fields, cards_fields, AreMapRegs, regs_bytes, regs_fields};
 
 use crate::regs::MapRegs;
-use crate::reserved::{keeps_reserved, keeps_reserved_long};
 use arrayvec::ArrayVec;
 use board_base::NoMemory;
 use byte_fields::{Bad, Fields, push_byte, push_bytes, push_word};
-use pam_windows::{PAM_RESET, PAM_WRITABLE};
-use pci_bars::{BASE_COUNT, CARD_COUNT, COMMAND_WRITABLE, CardRegs, CardSpec};
-use pmc_regs::{FDHC_RESET, FDHC_WRITABLE};
-use smram_ctl::{SMRAM_RESET, smram_after};
-use xbus_select::{XBCS_RESET, XBCS_WRITABLE};
-
-/// What a card's command register holds after a reset.
-const COMMAND_RESET: u8 = 0x00;
-/// What the register of an expansion ROM holds after a reset.
-const ROM_RESET: u32 = 0;
+use pci_bars::{BASE_COUNT, CARD_COUNT, CardRegs, CardSpec};
 
 /// Does nothing: its clause says that the registers of each card are as wide as their types.
 fn are_wide(cards: &[CardRegs])
@@ -51,11 +38,6 @@ fn is_byte(value: u8)
     ensures byte { value < 2 ^ 8 }
 {}
 
-/// Does nothing: its clause says that each of the values is below 2^8.
-fn are_bytes(values: &[u8])
-    ensures bytes { (k : ℕ) → slice_index values.now k < 2 ^ 8 }
-{}
-
 /// Does nothing: its clause says that the value is below 2^32.
 fn is_doubleword(value: u32)
     ensures doubleword { value < 2 ^ 32 }
@@ -72,6 +54,16 @@ fn are_bases(values: &[u32; BASE_COUNT])
 fn are_doublewords(values: &[u32])
     ensures doublewords { (k : ℕ) → slice_index values.now k < 2 ^ 32 }
 {}
+
+/// The most that the register of an expansion ROM holds: 0 where there is no ROM.
+fn most_rom(rom: Option<u8>) -> u32
+    ensures most { result ≡ most_rom rom }
+{
+    match rom {
+        Some(_) => u32::MAX,
+        None => 0,
+    }
+}
 
 /// Adds base address registers.
 fn push_bases(into: &mut Vec<u8>, bases: &[u32]) -> Result<(), NoMemory>
@@ -102,83 +94,29 @@ fn push_cards(into: &mut Vec<u8>, cards: &[CardRegs]) -> Result<(), NoMemory>
     Ok(())
 }
 
-/// Reads the byte of a register of which these bits can be written.
-fn read_byte(writable: u8, reset: u8, fields: &mut Fields) -> Result<u8, Bad>
-    ensures took { Took (λ byte. byte) result fields.new (byte_field writable reset fields.old) }
-{
-    let byte = u8::from_le_bytes(fields.front()?);
-    fields.past(1, keeps_reserved(writable, reset, byte))?;
-    Ok(byte)
-}
-
-/// Reads the doubleword of a register of which these bits can be written.
-fn read_long(writable: u32, reset: u32, fields: &mut Fields) -> Result<u32, Bad>
-    ensures took { Took (λ long. long) result fields.new (long_field writable reset fields.old) }
-{
-    let long = u32::from_le_bytes(fields.front()?);
-    fields.past(4, keeps_reserved_long(writable, reset, long))?;
-    Ok(long)
-}
-
-/// Reads SMRAM control.
-fn read_smram(fields: &mut Fields) -> Result<u8, Bad>
-    ensures took { Took (λ byte. byte) result fields.new (number_where w8 is_smram_byte fields.old) }
-{
-    let byte = u8::from_le_bytes(fields.front()?);
-    fields.past(1, smram_after(SMRAM_RESET, byte) == byte)?;
-    Ok(byte)
-}
-
-/// Reads PAM0 to PAM6.
-#[tactic(auto, unfolding(crate::specs::State::pam_fields))]
-fn read_pam(fields: &mut Fields) -> Result<[u8; 7], Bad>
-    ensures took { Took (λ pam. pam) result fields.new (pam_fields fields.old) }
-{
-    let pam0 = read_byte(PAM_WRITABLE[0], PAM_RESET, fields)?;
-    let pam1 = read_byte(PAM_WRITABLE[1], PAM_RESET, fields)?;
-    let pam2 = read_byte(PAM_WRITABLE[2], PAM_RESET, fields)?;
-    let pam3 = read_byte(PAM_WRITABLE[3], PAM_RESET, fields)?;
-    let pam4 = read_byte(PAM_WRITABLE[4], PAM_RESET, fields)?;
-    let pam5 = read_byte(PAM_WRITABLE[5], PAM_RESET, fields)?;
-    let pam6 = read_byte(PAM_WRITABLE[6], PAM_RESET, fields)?;
-    Ok([pam0, pam1, pam2, pam3, pam4, pam5, pam6])
-}
-
-/// Reads a base address register by its number, 0 to 5.
-fn read_base(spec: &CardSpec, index: usize, fields: &mut Fields) -> Result<u32, Bad>
-    requires card { IsCard spec.now }
-    requires number { index < 6 }
-    ensures took { Took (λ base. base) result fields.new (base_field spec.now.bases index fields.old) }
-{
-    let reset = spec.reset_bases();
-    read_long(spec.writable(index), reset[index], fields)
-}
-
-/// Reads six base address registers.
+/// Reads six base address registers, each any doubleword.
 #[tactic(auto, unfolding(crate::specs::State::bases_fields))]
-fn read_bases(spec: &CardSpec, fields: &mut Fields) -> Result<[u32; BASE_COUNT], Bad>
-    requires card { IsCard spec.now }
-    ensures took { Took (λ bases. bases) result fields.new (bases_fields spec.now.bases fields.old) }
+fn read_bases(fields: &mut Fields) -> Result<[u32; BASE_COUNT], Bad>
+    ensures took { Took (λ bases. bases) result fields.new (bases_fields fields.old) }
 {
-    let first = read_base(spec, 0, fields)?;
-    let second = read_base(spec, 1, fields)?;
-    let third = read_base(spec, 2, fields)?;
-    let fourth = read_base(spec, 3, fields)?;
-    let fifth = read_base(spec, 4, fields)?;
-    let sixth = read_base(spec, 5, fields)?;
+    let first = fields.word(0, u32::MAX)?;
+    let second = fields.word(0, u32::MAX)?;
+    let third = fields.word(0, u32::MAX)?;
+    let fourth = fields.word(0, u32::MAX)?;
+    let fifth = fields.word(0, u32::MAX)?;
+    let sixth = fields.word(0, u32::MAX)?;
     Ok([first, second, third, fourth, fifth, sixth])
 }
 
 /// Reads the registers of a card.
 #[tactic(auto, unfolding(crate::specs::State::card_fields))]
 fn read_card(spec: &CardSpec, fields: &mut Fields) -> Result<CardRegs, Bad>
-    requires card { IsCard spec.now }
     ensures took { Took (λ card. card) result fields.new (card_fields spec.now fields.old) }
 {
-    let command = read_byte(COMMAND_WRITABLE, COMMAND_RESET, fields)?;
+    let command = fields.byte(0, u8::MAX)?;
     let line = fields.byte(0, u8::MAX)?;
-    let bases = read_bases(spec, fields)?;
-    let rom = read_long(spec.rom_writable(), ROM_RESET, fields)?;
+    let bases = read_bases(fields)?;
+    let rom = fields.word(0, most_rom(spec.rom))?;
     Ok(CardRegs {
         spec: spec.copy(),
         command,
@@ -193,7 +131,7 @@ fn read_cards(
     specs: &[CardSpec],
     fields: &mut Fields,
 ) -> Result<ArrayVec<CardRegs, CARD_COUNT>, Bad>
-    requires cards { IsCardList specs.now }
+    requires few { length specs.now ≤ 8 }
     ensures took { Took (λ cards. cards.items) result fields.new (cards_fields specs.now fields.old) }
 {
     let mut cards = ArrayVec::new();
@@ -204,26 +142,17 @@ fn read_cards(
 }
 
 impl MapRegs {
-    /// Adds the bytes of the state: 18 of the bridges, and 30 for each card. Bits that cannot be written have to be those
-    /// after a reset, as they are on each board.
+    /// Adds the bytes of the state: 18 of the bridges, and 30 for each card. Of a card without an expansion ROM the
+    /// register of that has to be 0, as it is on each board.
     pub fn save_state(&self, into: &mut Vec<u8>) -> Result<(), NoMemory>
         ensures saved { OnOk result (into.new.items ≡ into.old.items ++ regs_bytes self.now) }
-        ensures sound { (setup : Setup) (bytes : Bytes) → StandsFor setup bytes (map_bytes self.now)
-            → AreCardsOf setup bytes self.now.cards.items → AreFitted self.now.cards.items → AreWritten setup bytes
+        ensures sound { (setup : Setup) (bytes : Bytes) → AreCardsOf setup bytes self.now.cards.items
             → AreMapRegs setup.cards self.now }
     {
         are_wide(self.cards.as_slice());
         is_byte(self.fdhc);
-        are_bytes(&self.pam);
         is_byte(self.smram);
         is_byte(self.xbcs);
-        self.push_state(into)
-    }
-
-    /// Adds these bytes, one register after another.
-    fn push_state(&self, into: &mut Vec<u8>) -> Result<(), NoMemory>
-        ensures saved { OnOk result (into.new.items ≡ into.old.items ++ regs_bytes self.now) }
-    {
         push_bytes(into, &self.drb)?;
         push_byte(into, self.fdhc)?;
         push_bytes(into, &self.pam)?;
@@ -231,9 +160,9 @@ impl MapRegs {
         push_cards(into, self.cards.as_slice())
     }
 
-    /// The registers of a board with these cards, whose state is at the front of the bytes. Refused where a register is not
-    /// whole, or has bits that cannot be written and are not as after a reset: the bytes left then begin with the first
-    /// such register.
+    /// The registers of a board with these cards, whose state is at the front of the bytes. Refused where a field is not
+    /// whole, or a card without an expansion ROM has a register of that which is not 0: the bytes left then begin with
+    /// the first such field.
     pub fn load_state(specs: &[CardSpec], fields: &mut Fields) -> Result<MapRegs, Bad>
         requires cards { IsCardList specs.now }
         ensures loaded { Loads (regs_fields specs.now) regs_bytes (AreMapRegs specs.now) fields.old fields.new result }
@@ -246,14 +175,14 @@ impl MapRegs {
     /// Reads the fields one after another.
     #[tactic(auto, unfolding(crate::specs::State::regs_fields))]
     fn read_state(specs: &[CardSpec], fields: &mut Fields) -> Result<MapRegs, Bad>
-        requires cards { IsCardList specs.now }
+        requires few { length specs.now ≤ 8 }
         ensures took { Took (λ regs. regs) result fields.new (regs_fields specs.now fields.old) }
     {
         let drb = fields.array()?;
-        let fdhc = read_byte(FDHC_WRITABLE, FDHC_RESET, fields)?;
-        let pam = read_pam(fields)?;
-        let smram = read_smram(fields)?;
-        let xbcs = read_byte(XBCS_WRITABLE, XBCS_RESET, fields)?;
+        let fdhc = fields.byte(0, u8::MAX)?;
+        let pam = fields.array()?;
+        let smram = fields.byte(0, u8::MAX)?;
+        let xbcs = fields.byte(0, u8::MAX)?;
         let cards = read_cards(specs, fields)?;
         Ok(MapRegs {
             drb,

@@ -1,14 +1,13 @@
 //! The board that is open, the cards for the next one, and the last event with its reply.
 
 use crate::words::{Numbers, card_of, event_of, identify};
-use crate::{calls, cards, pieces, tell};
+use crate::{calls, cards, tell};
 use board_base::NoMemory;
 use board_records::status::OK;
 use board_records::{CardRecord, Door, EventRecord, ReplyRecord};
 use record_text::tell_line;
 use std::alloc::{AllocError, Global};
 use std::io::Write;
-use transfer_pieces::Transfer;
 
 /// What the calls are about.
 #[derive(Drop)]
@@ -19,7 +18,6 @@ pub struct Desk {
     event: EventRecord,
     reply: ReplyRecord,
     image: Vec<u8>,
-    transfer: Transfer,
 }
 
 impl Desk {
@@ -32,7 +30,6 @@ impl Desk {
             event: EventRecord::default(),
             reply: ReplyRecord::default(),
             image: Vec::new(alloc),
-            transfer: Transfer::default(),
         }
     }
 
@@ -140,9 +137,6 @@ impl Desk {
             "in" => calls::reads(out, self.alloc, door, numbers, &mut self.reply)?,
             "out" => calls::writes(out, self.alloc, door, numbers, &mut self.reply)?,
             "set" => tell::status(out, door.write_clock_byte(numbers.byte(0), numbers.byte(1))),
-            "begin" | "next" | "region" => {
-                pieces::ask(out, door, &mut self.transfer, verb, numbers);
-            }
             verb => cards::ask(out, self.alloc, door, verb, numbers)?,
         }
         Ok(())

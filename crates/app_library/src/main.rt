@@ -19,7 +19,6 @@
 //!     turn AT BITS · cut COUNT                               turns bits of a byte that was saved; keeps so many
 //!     master ADDR BYTES WRITE                                where an access of a bus master would land
 //!     told DEVICE BASE OFFSET BYTES · give DEVICE BASE OFFSET BYTE..   bytes of a card, out and in
-//!     begin TABLE LBA SECTORS READABLE TO_MEMORY · next · region BASE COUNT   a bus master's transfer in pieces
 //!
 //! What is left out at the end of a line is 0. Byte K of a ROM is K modulo 256, and byte K of a disk K / 256 modulo 256. Of a
 //! record the fields are told that are not 0.
@@ -28,7 +27,6 @@
 mod calls;
 mod cards;
 mod desk;
-mod pieces;
 mod tell;
 mod words;
 

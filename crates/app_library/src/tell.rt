@@ -3,7 +3,6 @@
 use board_records::{
     AreaRecord, MapRecord, PartRecord, RangeRecord, ReplyRecord, SerialRecord, WindowRecord,
 };
-use piece_records::PieceRecord;
 use std::io::Write;
 
 /// Writes how a call ended.
@@ -35,21 +34,6 @@ pub fn part<W: Write>(out: &mut W, of: &str, part: &PartRecord) {
         ("reserved", u64::from(part.reserved)),
     ];
     fields(out, of, &all);
-}
-
-/// Writes a piece of a transfer.
-pub fn piece<W: Write>(out: &mut W, piece: &PieceRecord) {
-    let all = [
-        ("what", u64::from(piece.what)),
-        ("addr", u64::from(piece.addr)),
-        ("bytes", u64::from(piece.bytes)),
-        ("sector", u64::from(piece.sector)),
-        ("offset", u64::from(piece.offset)),
-        ("end", u64::from(piece.end)),
-        ("status", u64::from(piece.status)),
-        ("reserved", u64::from(piece.reserved)),
-    ];
-    fields(out, "", &all);
 }
 
 /// Writes a reply.

@@ -6,8 +6,8 @@ ghost use Rattle.board_prelude.specs.Common.{rom_base};
 ghost use Rattle.board_records.specs.Common.{AreRomsWritten, IsCardTold, IsCardWritten, IsPastRom, IsRomRefusal, IsRomTold, IsMasterCycle, IsMasterPlaced, OnBoard, OnBoth, closed, no_cycle, ok, past_end};
 
 use crate::handle::Handle;
-use board_records::PartRecord;
 use board_records::status::CLOSED;
+use board_records::{Door, PartRecord};
 use std::alloc::Global;
 
 /// The base number of an expansion ROM.
@@ -71,13 +71,27 @@ pub extern "C" fn board_card_read(
     let Some(board) = handle.take(alloc) else {
         return CLOSED;
     };
-    let status = if base == ROM_BASE {
-        board.tell_rom(device, offset, into)
-    } else {
-        board.tell_card(device, base, offset, into)
-    };
+    let status = tell(&board, device, base, offset, into);
     handle.put(board);
     status
+}
+
+/// Tells the bytes of a base of a card or of its expansion ROM.
+fn tell(board: &Door, device: u8, base: u8, offset: u32, into: &mut [u8]) -> u32
+    ensures done { base ≢ rom_base → result ≡ ok → OnBoard board.now
+        (λ serial. IsCardTold serial.board device base offset into.old into.new) }
+    ensures rom { base ≡ rom_base → result ≡ ok → IsSomeAnd board.now (IsRomTold device offset into.old into.new) }
+    ensures refused { base ≢ rom_base → result ≢ ok → OnBoard board.now
+        (λ serial. (result ≡ past_end) × (card_size serial.board.setup device base < offset + length into.old)) }
+    ensures refused_rom { base ≡ rom_base → result ≢ ok
+        → IsSomeAnd board.now (IsPastRom device offset (length into.old) result) }
+    ensures untold { result ≢ ok → into.new ≡ into.old }
+    ensures open { result ≢ closed }
+{
+    if base == ROM_BASE {
+        return board.tell_rom(device, offset, into);
+    }
+    board.tell_card(device, base, offset, into)
 }
 
 /// Puts bytes into a base of a card from an offset on, as if processors had written them, or into its expansion ROM, base
@@ -108,11 +122,25 @@ pub extern "C" fn board_card_write(
     let Some(mut board) = handle.take(alloc) else {
         return CLOSED;
     };
-    let status = if base == ROM_BASE {
-        board.write_rom(alloc, device, offset, from)
-    } else {
-        board.write_card(device, base, offset, from)
-    };
+    let status = write(alloc, &mut board, device, base, offset, from);
     handle.put(board);
     status
+}
+
+/// Puts bytes into a base of a card or into its expansion ROM.
+fn write(alloc: Global, board: &mut Door, device: u8, base: u8, offset: u32, from: &[u8]) -> u32
+    ensures done { base ≢ rom_base → result ≡ ok → OnBoth board.old board.new
+        (λ old new. IsCardWritten old new device base offset from.now) }
+    ensures rom { base ≡ rom_base → result ≡ ok → AreRomsWritten device offset from.now board.old board.new }
+    ensures refused { base ≢ rom_base → result ≢ ok → OnBoard board.old
+        (λ serial. (result ≡ past_end) × (card_size serial.board.setup device base < offset + length from.now)) }
+    ensures refused_rom { base ≡ rom_base → result ≢ ok
+        → IsSomeAnd board.old (IsRomRefusal device offset (length from.now) result) }
+    ensures unchanged { result ≢ ok → board.new ≡ board.old }
+    ensures open { result ≢ closed }
+{
+    if base == ROM_BASE {
+        return board.write_rom(alloc, device, offset, from);
+    }
+    board.write_card(device, base, offset, from)
 }

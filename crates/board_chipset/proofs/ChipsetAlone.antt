@@ -17,7 +17,7 @@ ended_ok : (left after : List ℕ) → ended left ≡ Ok (tt, after) → left �
 ended_ok [] after is = refl
 ended_ok (byte ∷ later) after is = absurd cc
 
-pub ended_bad : (left : List ℕ) (bad : ℕ) → ended left ≡ Err bad → left ≡ [] → ⊥
+ended_bad : (left : List ℕ) (bad : ℕ) → ended left ≡ Err bad → left ≡ [] → ⊥
 ended_bad [] bad is none = absurd cc
 ended_bad (byte ∷ later) bad is none = absurd cc
 

@@ -3,7 +3,7 @@ use Rattle.std.proofs.Common.{◌≡◌, ℕ, ◌+◌, ◌*◌, ◌^◌, ◌<◌
 use Rattle.board_prelude.proofs.Common.{Setup, FittedCard, IsSetup, IsRomSize, IsDisk}
 use Rattle.byte_fields.specs.Fields.{flag_byte}
 use Rattle.byte_fields.proofs.Formats.{IsFormat, format_as, then_format, last_format}
-use Rattle.byte_fields.proofs.Numbers.{Any, Ranges, byte_within, byte_where, within_format, wide16, wide32}
+use Rattle.byte_fields.proofs.Numbers.{Any, Ranges, byte_within, within_format, wide16, wide32}
 use Rattle.board_chipset.proofs.Marks.{exactly_format}
 use Rattle.cfg_ports.proofs.StateFormat.{address_format}
 use Rattle.dram_store.proofs.StateFormats.{dram_format}
@@ -19,7 +19,7 @@ use Rattle.board_chipset.specs.declared.registers.Registers.{Registers}
 use Rattle.board_chipset.specs.declared.state.State.{State}
 use Rattle.board_chipset.specs.Chipset.{Running}
 use Rattle.board_devices.specs.State.{AreDevices}
-use Rattle.board_chipset.specs.ChipsetState.{state_mark, state_version, is_control, IsControl, disk_size, size_bytes, head_bytes, size_fields, head_fields, registers_bytes, registers_fields, AreStores, stores_bytes, stores_fields, state_bytes, state_fields, chipset_bytes, chipset_fields}
+use Rattle.board_chipset.specs.ChipsetState.{state_mark, state_version, disk_size, size_bytes, head_bytes, size_fields, head_fields, registers_bytes, registers_fields, AreStores, stores_bytes, stores_fields, state_bytes, state_fields, chipset_bytes, chipset_fields}
 
 -- ---- the head
 
@@ -92,7 +92,7 @@ head_format setup fits =
 
 pub record AreBareRegisters (cards : List FittedCard) (registers : Registers) : Type 0 where
   pub address : IsAddress registers.address
-  pub control : IsControl registers.control
+  pub control : registers.control < 256
   pub map : IsBare cards registers.map
   pub south : IsSouth registers.south
 
@@ -105,7 +105,7 @@ unfolding registers_fields registers_bytes
 registers_format cards =
     format_as (most_registers cards) registers_bytes (AreBareRegisters cards)
     (then_format (λ (r : Registers). r.address) address_format (λ address good.
-    then_format (λ (r : Registers). r.control) (byte_where is_control) (λ control good.
+    then_format (λ (r : Registers). r.control) (byte_within 0 255 (omega arith)) (λ control good.
     then_format (λ (r : Registers). r.map) (mapped_format cards) (λ map good.
     last_format (λ (r : Registers). r.south)
     (λ south. record { address = address; control = control; map = map; south = south }) south_format
@@ -114,10 +114,10 @@ registers_format cards =
     (λ control r any good. ap (λ (r : Registers). r.control) good.1.1))
     (λ address r any good. ap (λ (r : Registers). r.address) good.1.1.1))
     (omega arith)
-    (λ r is. (is.address, (is.control, (is.map, (is.south, refl)))))
+    (λ r is. (is.address, ((omega arith, omega (arith, is.control)), (is.map, (is.south, refl)))))
     (λ r good. record {
       address = good.0;
-      control = good.1.0;
+      control = omega (arith, good.1.0.1);
       map = good.1.1.0;
       south = good.1.1.1.0;
     })

@@ -1,5 +1,5 @@
 -- What was read is a chipset, and the one that was saved.
-use Rattle.std.proofs.Common.{◌≡◌, ℕ, ◌*◌, ◌/◌, ◌^◌, ◌<◌, ◌≤◌, ◌⊎◌, ◌↔◌, inl, inr, Bool, false, not, ◌==◌, List, [], ◌∷◌, ◌++◌, length, Option, Some, None, Result, Ok, Err, IfOk, refl, sym, ap, subst, ◌∙◌, append_assoc, arith}
+use Rattle.std.proofs.Common.{◌≡◌, ℕ, ◌*◌, ◌/◌, ◌^◌, ◌<◌, ◌≤◌, ◌⊎◌, ◌↔◌, inl, inr, Bool, false, not, ◌==◌, List, [], ◌∷◌, ◌++◌, length, get_or, Option, Some, None, Result, Ok, Err, IfOk, refl, sym, ap, subst, ◌∙◌, append_assoc, arith}
 use Rattle.board_prelude.proofs.Common.{w16, to_le_bytes, Entry, Setup, FittedCard, IsSetup}
 use Rattle.byte_fields.specs.declared.fault.Bad.{Bad}
 use Rattle.byte_fields.specs.declared.fault.Fault.{Fault}
@@ -10,7 +10,9 @@ use Rattle.byte_fields.proofs.Numbers.{wide16, within_format}
 use Rattle.board_chipset.proofs.Marks.{exactly_format}
 use Rattle.device_spec.specs.Common.{Disk}
 use Rattle.ata_pio.proofs.StateFormats.{sectors_of_length}
-use Rattle.map_builder.specs.Map.{Mapped}
+use Rattle.pci_bars.specs.Cards.{CardBytes}
+use Rattle.addr_decode.specs.State.{IsCardRegs}
+use Rattle.map_builder.specs.Map.{Mapped, HoldsDoublewords}
 use Rattle.map_builder.specs.State.{IsMapped, SameMap, LoadsMap, bare}
 use Rattle.board_devices.specs.Common.{HasDisk}
 use Rattle.board_devices.specs.State.{IsFittedDisk}
@@ -23,16 +25,21 @@ use Rattle.board_chipset.proofs.ChipsetFormats.{AreBareRegisters, IsBareChipset,
 
 -- ---- a chipset that can be saved is one that steps can go on from
 
+card_doublewords : (card : CardBytes) → IsCardRegs card → HoldsDoublewords card
+card_doublewords card is = record { bases = is.widths.bases.each; rom = is.widths.rom }
+
 registers_sound : (setup : Setup) (registers : Registers) → AreRegisters setup.cards registers → AreSound setup registers
 registers_sound setup registers are =
+    let cards = are.map.saved.regs.cards in
     let has = has_bytes setup registers.map.regs registers.south (record {
-      saved = are.map.saved.regs;
+      same = cards.same;
       fitted = are.map.whole.fitted;
-      others = are.south;
+      doublewords = λ k d within. card_doublewords (get_or registers.map.regs.cards k d) (cards.each k d within);
+      no_rom = λ k d within. (cards.each k d within).no_rom;
+      routes = are.south.routes;
     }) in
     record {
       bytes = has.0;
-      written = has.2;
       kept = has.1;
       address = are.address.kept;
       flat = are.map.whole.map;

@@ -20,7 +20,6 @@ pub mod CardChecks
 pub mod CardLoadSteps
 pub mod PortAccessSteps
 pub mod Placed
-pub mod WrittenBytes
 pub mod KeptBytes
 pub mod Marks
 pub mod ChipsetFormats

@@ -1,7 +1,6 @@
 -- The state after an entry that changes a part of it.
 use Rattle.std.proofs.Common.{◌≡◌, ℕ, ◌*◌, option_map, false, List, [], ◌∷◌, Option, None, refl, sym, ◌∙◌, ap, subst}
 use Rattle.board_prelude.proofs.Common.{Event, Entry, MapChange, Setup, kept_address, config_address, byte_of, is_hard_reset, Cell, entry_put, device_reached}
-use Rattle.addr_decode.proofs.ReservedLemmas.{written_at_reset}
 use Rattle.config_regs.specs.declared.south.South.{South}
 use Rattle.board_devices.specs.Common.{DevicesValue, AreDevicesOf, AreRoutesOf, PassesBy, LeavesDevices, sectors_fitted}
 use Rattle.board_devices.proofs.DiskSizes.{opened_has}
@@ -111,12 +110,11 @@ sound_devices sound fitted = sound_changed sound sound.registers fitted
 
 -- the state after power-on
 pub fresh_sound : {setup : Setup} {state : State} → IsStateOf setup [] state → IsSound setup state
-unfolding config_address byte_of
+unfolding config_address
 fresh_sound {setup} {state} is = record {
   fits = is.fits;
   registers = record {
     bytes = byte_of setup [];
-    written = written_at_reset setup;
     kept = is.registers.kept;
     address = subst (λ (address : ℕ). kept_address address ≡ address) (sym is.registers.address) refl;
     flat = is.registers.flat;

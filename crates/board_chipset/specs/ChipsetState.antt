@@ -1,11 +1,11 @@
 -- The state of a chipset as bytes, over the setup that it was opened with, of which the bytes have the sizes alone. The
 -- ranges of the map are not in them: they are built anew of its registers.
-use Rattle.std.specs.Prelude.{ℕ, ◌≡◌, ◌+◌, ◌^◌, ◌<◌, ◌≤◌, ◌⊎◌, ◌==◌, Bool, true, false, not, bit_and, List, [], ◌∷◌, ◌++◌, length, Option, is_some, unwrap_or, Result, Ok, Err, IfOk, codes}
+use Rattle.std.specs.Prelude.{ℕ, ◌≡◌, ◌+◌, ◌<◌, ◌≤◌, ◌⊎◌, ◌==◌, Bool, false, not, List, [], ◌∷◌, ◌++◌, length, Option, is_some, unwrap_or, Result, Ok, Err, IfOk, codes}
 use Rattle.board_base.specs.Common.{w8, w16, w32, to_le_bytes}
 use Rattle.board_prelude.specs.Common.{FittedCard, Setup, IsSetup}
 use Rattle.byte_fields.specs.declared.fault.Fault.{Fault}
 use Rattle.byte_fields.specs.declared.fault.Fault.TheVariants.{NoMemory}
-use Rattle.byte_fields.specs.Fields.{Reading, gives, ◌>>=◌, within, number_where, exactly, flag_byte, Filled}
+use Rattle.byte_fields.specs.Fields.{Reading, gives, ◌>>=◌, within, exactly, flag_byte, Filled}
 use Rattle.board_chipset.specs.Alone.{alone}
 use Rattle.cfg_ports.specs.State.{IsAddress, address_bytes, address_fields}
 use Rattle.dram_store.specs.State.{HasMib, dram_bytes, dram_fields}
@@ -73,19 +73,9 @@ is_other_version bytes = said_true (other_version_field bytes)
 
 -- ---- the registers: the configuration address, reset control, the map with its registers, and the 82371SB's others
 
--- of reset control bits 2 and 1 are kept
-abbrev pub is_control : ℕ → Bool
-is_control control = bit_and control 0x06 == control
-
-abbrev pub IsControl : ℕ → Type 0
-IsControl control = (control < 2 ^ 8) × (is_control control ≡ true)
-
-abbrev pub control_field : Reading ℕ
-control_field = number_where w8 is_control
-
 pub record AreRegisters (cards : List FittedCard) (registers : Registers) : Type 0 where
   pub address : IsAddress registers.address
-  pub control : IsControl registers.control
+  pub control : registers.control < 256
   pub map : IsMapped cards registers.map
   pub south : IsSouth registers.south
 
@@ -100,7 +90,7 @@ bare_registers registers = record registers { map = bare registers.map }
 unfoldable pub registers_fields : List FittedCard → Reading Registers
 registers_fields cards = do
   address ← address_fields
-  control ← control_field
+  control ← within w8 0 255
   map ← mapped_fields cards
   south ← south_fields
   gives (record { address = address; control = control; map = map; south = south })

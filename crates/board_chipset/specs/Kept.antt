@@ -2,7 +2,6 @@
 use Rattle.std.specs.Prelude.{ℕ, ◌≡◌, ◌%◌, List, length}
 use Rattle.board_prelude.specs.Common.{Event, Entry, Setup, IsSetup, IsInRange, installed, kept_address, reset_control, config_address, byte_of, version_of, Bytes, IsFlatMapOf}
 use Rattle.addr_decode.specs.MapRegs.{StandsFor}
-use Rattle.addr_decode.specs.Reserved.{AreWritten}
 use Rattle.map_builder.specs.Map.{Mapped}
 use Rattle.pci_bars.specs.Contents.{HaveSizes}
 use Rattle.config_regs.specs.Config.{AreKeptOf}
@@ -32,11 +31,10 @@ pub record IsStateOf (setup : Setup) (history : List Entry) (state : State) : Ty
   pub stores : HasStores setup history state.stores
   pub devices : AreDevicesOf setup history state.devices
 
--- registers that stand for register bytes of a board with this setup, whose bits that cannot be written are as after a
--- reset, a configuration address without the bits that are not kept, and the memory map of these registers
+-- registers that stand for register bytes of a board with this setup, a configuration address without the bits that are
+-- not kept, and the memory map of these registers
 pub record AreSound (setup : Setup) (registers : Registers) : Type 0 where
   pub bytes : Bytes
-  pub written : AreWritten setup bytes
   pub kept : AreKeptOf setup bytes registers.map.regs registers.south
   pub address : kept_address registers.address ≡ registers.address
   pub flat : IsFlat registers.map

@@ -1,16 +1,13 @@
 //! The reset control register, port 0CF9h of the 82371SB.
 
-ghost use Rattle.std.specs.Prelude.{◌≡◌, ◌<◌, ◌↔◌, true, Some, bit_and};
+ghost use Rattle.std.specs.Prelude.{◌≡◌, ◌<◌, ◌↔◌, true, Some};
 ghost use Rattle.board_prelude.specs.Common.{Port, control_written, is_hard_value, control_after};
-ghost use Rattle.byte_fields.specs.Fields.{Took};
 ghost use Rattle.board_chipset.specs.Resets.{reset_by, reset_by_written};
-ghost use Rattle.board_chipset.specs.ChipsetState.{control_field};
 
 use board_base::{PortAccess, Width};
 use board_spec::Event;
 use board_spec::bits::is_set;
 use board_spec::port::RESET_CONTROL;
-use byte_fields::{Bad, Fields};
 use std::marker::Model;
 
 /// The number of the bit whose rise resets.
@@ -44,13 +41,11 @@ pub struct ResetControl {
 }
 
 impl Model for ResetControl {
-    ghost use Rattle.std.specs.Prelude.{◌≡◌, ℕ, bit_and};
+    ghost use Rattle.std.specs.Prelude.{ℕ};
 
     ghost Value = { ℕ };
 
     ghost view = { λ control. control.byte };
-
-    ghost invariant = { λ control. bit_and control.byte 0x06 ≡ control.byte };
 }
 
 impl ResetControl {
@@ -61,20 +56,17 @@ impl ResetControl {
         ResetControl { byte: 0 }
     }
 
-    /// Reads the register. Refused where there is no byte, or it has a bit that the register does not keep.
-    pub(crate) fn read_state(fields: &mut Fields) -> Result<ResetControl, Bad>
-        ensures took { Took (λ control. control) result fields.new (control_field fields.old) }
+    /// The register that holds this byte.
+    pub(crate) fn holding(byte: u8) -> ResetControl
+        ensures byte { result ≡ byte }
     {
-        let byte = u8::from_le_bytes(fields.front()?);
-        fields.past(1, byte & KEPT == byte)?;
-        Ok(ResetControl { byte })
+        ResetControl { byte }
     }
 
     /// The byte of the register.
     pub fn read(&self) -> u8
         ensures byte { result ≡ self.now }
         ensures small { self.now < 256 }
-        ensures kept { bit_and self.now 0x06 ≡ self.now }
     {
         self.byte
     }

@@ -195,7 +195,7 @@ impl Registers {
         ensures mapped { IfOk result (λ registers. IsMapped specs.now registers.map) }
     {
         let address = address(fields)?;
-        let control = ResetControl::read_state(fields)?;
+        let control = ResetControl::holding(fields.byte(0, u8::MAX)?);
         let map = map(specs, fields)?;
         let south = south(fields)?;
         Ok(Registers {

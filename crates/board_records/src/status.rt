@@ -61,8 +61,6 @@ pub const NO_TIME: u32 = 25;
 pub const BAD_IMAGE: u32 = 26;
 /// The bytes are those of a board as another version saved it.
 pub const OTHER_VERSION: u32 = 27;
-/// A number of a transfer is out of range.
-pub const NO_TRANSFER: u32 = 28;
 
 /// The status of an event that is out of range.
 pub fn fault_status(fault: OutOfRange) -> u32

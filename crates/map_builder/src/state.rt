@@ -6,8 +6,6 @@ ghost use Rattle.board_prelude.specs.Common.{FittedCard, Setup, IsCardList, Byte
 ghost use Rattle.byte_fields.specs.Fields.{Took};
 ghost use Rattle.byte_fields.specs.Loads.{OneSpelling};
 ghost use Rattle.pci_bars.specs.Cards.{AreCardsOf};
-ghost use Rattle.addr_decode.specs.MapRegs.{StandsFor};
-ghost use Rattle.addr_decode.specs.Reserved.{AreWritten};
 ghost use Rattle.map_builder.specs.Map.{IsMapOf};
 ghost use Rattle.map_builder.specs.State.{IsWindow, window_bytes, window_fields, windows_bytes, so_many_windows, windows_fields, bare, IsMapped, mapped_bytes, mapped_fields, LoadsMap, SameMap};
 
@@ -110,8 +108,7 @@ impl FlatMap {
     /// changed (1 byte), and the first and last address of each (4 bytes each).
     pub fn save_state(&self, into: &mut Vec<u8>) -> Result<(), NoMemory>
         ensures saved { OnOk result (into.new.items ≡ into.old.items ++ mapped_bytes self.now) }
-        ensures sound { (setup : Setup) (bytes : Bytes) → StandsFor setup bytes self.now.regs
-            → AreCardsOf setup bytes self.now.regs.cards → AreWritten setup bytes
+        ensures sound { (setup : Setup) (bytes : Bytes) → AreCardsOf setup bytes self.now.regs.cards
             → OnOk result (IsMapped setup.cards self.now) }
     {
         let windows = self.chosen.as_slice();

@@ -5,5 +5,5 @@
 mod pam;
 mod window;
 
-pub use pam::{PAM_RESET, PAM_WRITABLE, Pam, store_pam};
+pub use pam::{PAM_RESET, Pam, store_pam};
 pub use window::{WINDOW_SIZE, Window, window_of};

@@ -12,7 +12,7 @@ use std::marker::Model;
 /// What each register holds after a reset: every window is closed.
 pub const PAM_RESET: u8 = 0x00;
 /// The bits of each register that can be written. PAM0 governs one window, by its high nibble.
-pub const PAM_WRITABLE: [u8; 7] = [0x30, 0x33, 0x33, 0x33, 0x33, 0x33, 0x33];
+const WRITABLE: [u8; 7] = [0x30, 0x33, 0x33, 0x33, 0x33, 0x33, 0x33];
 
 /// The seven PAM registers. Contracts see the list of their bytes.
 #[derive(Drop)]
@@ -79,5 +79,5 @@ pub fn store_pam(pam: &mut [u8; 7], off: u8, byte: u8)
         → IsPamOf (λ reg. changed_byte setup (Store (bridge off) One byte) reg (bytes reg)) pam.new }
 {
     let at = usize::from(off - PAM0);
-    pam[at] = merged(PAM_WRITABLE[at], pam[at], byte);
+    pam[at] = merged(WRITABLE[at], pam[at], byte);
 }

@@ -12,5 +12,5 @@ mod state;
 pub use cards::{CARD_COUNT, card_at, card_index, push_card};
 pub use claims::{claim_io, claim_mem, offset_in, shut_io, shut_mem, unselected_rom};
 pub use contents::{Contents, expansion_byte};
-pub use regs::{COMMAND_WRITABLE, CardRegs};
+pub use regs::CardRegs;
 pub use spec::{BASE_COUNT, BaseSpec, CardSpec};

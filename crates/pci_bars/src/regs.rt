@@ -11,8 +11,8 @@ use board_spec::offset::{
 };
 use std::marker::Model;
 
-/// The bits of a card's command register that can be written. The others read 0.
-pub const COMMAND_WRITABLE: u8 = 1 << IO_SPACE_ENABLE
+/// The bits of the command register that can be written. The others read 0.
+const COMMAND_WRITABLE: u8 = 1 << IO_SPACE_ENABLE
     | 1 << MEMORY_SPACE_ENABLE
     | 1 << BUS_MASTER_ENABLE;
 /// The value of the interrupt pin register for INTA#.

@@ -133,7 +133,7 @@ impl CardSpec {
     }
 
     /// The base address registers after a reset. Where the card has no base, 0.
-    pub fn reset_bases(&self) -> [u32; BASE_COUNT]
+    pub(crate) fn reset_bases(&self) -> [u32; BASE_COUNT]
         ensures reset { (k : ℕ) → slice_index result k ≡ of_base base_reset self.now.bases k }
     {
         let mut values = [0; BASE_COUNT];
@@ -144,7 +144,7 @@ impl CardSpec {
     }
 
     /// The bits of a base address register that can be written. None of them where the card has no base.
-    pub fn writable(&self, index: usize) -> u32
+    pub(crate) fn writable(&self, index: usize) -> u32
         requires card { IsCard self.now }
         ensures writable { result ≡ of_base base_writable self.now.bases index }
     {
@@ -156,7 +156,7 @@ impl CardSpec {
 
     /// The bits of the register of the expansion ROM that can be written: those that place it, and bit 0. None
     /// of them where the card has no ROM.
-    pub fn rom_writable(&self) -> u32
+    pub(crate) fn rom_writable(&self) -> u32
         requires card { IsCard self.now }
         ensures writable { result ≡ rom_writable self.now.rom }
     {

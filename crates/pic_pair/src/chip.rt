@@ -321,8 +321,7 @@ impl Pic {
         self.first_selectable(&requested)
     }
 
-    /// The first level that can be selected, of those requested. It is not inlined: mostly none is requested.
-    #[inline(never)]
+    /// The first level that can be selected, of those requested.
     fn first_selectable(&self, requested: &LevelSet) -> Option<u8>
         requires requested { requested.now ≡ levels_where (is_requested self.now) }
         ensures request { result ≡ request self.now }

@@ -1,4 +1,3 @@
 pub mod RegisterLemmas
-mod ReservedLemmas
 mod RouteLemmas
 pub mod StateFormats

@@ -11,9 +11,9 @@ use board_base::bits::merged;
 use std::marker::Model;
 
 /// The bits of 4D0h that can be written: lines 0, 1 and 2 stay edge triggered.
-pub(crate) const WRITABLE_LOW: u8 = 0xF8;
+const WRITABLE_LOW: u8 = 0xF8;
 /// The bits of 4D1h that can be written: lines 8 and 13 stay edge triggered.
-pub(crate) const WRITABLE_HIGH: u8 = 0xDE;
+const WRITABLE_HIGH: u8 = 0xDE;
 
 /// The edge/level control registers: a bit at 1 makes its line level triggered.
 #[derive(Drop)]
@@ -23,14 +23,11 @@ pub struct Elcr {
 }
 
 impl Model for Elcr {
-    ghost use Rattle.std.specs.Prelude.{◌≡◌, bit_and};
     ghost use Rattle.device_spec.specs.Elcr.{Triggers};
 
     ghost Value = { Triggers };
 
     ghost view = { λ elcr. record { low = elcr.low; high = elcr.high } };
-
-    ghost invariant = { λ elcr. (bit_and elcr.low 0x07 ≡ 0) × (bit_and elcr.high 0x21 ≡ 0) };
 }
 
 impl Elcr {

@@ -22,7 +22,7 @@ const LINE_BITS: u8 = 0x0F;
 /// A register after a reset: its pin is not routed.
 const DISABLED: u8 = 1 << DISABLE;
 /// The bits that can be written.
-pub(crate) const WRITABLE: u8 = DISABLED | LINE_BITS;
+const WRITABLE: u8 = DISABLED | LINE_BITS;
 
 /// The four PIRQ route control registers of the PIIX3, in its function 0.
 ///
@@ -35,13 +35,10 @@ pub struct Pirq {
 impl Model for Pirq {
     ghost use Rattle.board_spec.specs.RegisterNames.{pirq};
     ghost use Rattle.device_spec.specs.Routing.{Routes};
-    ghost use Rattle.pirq_router.specs.Routes.{HaveNoReserved};
 
     ghost Value = { Routes };
 
     ghost view = { λ pirq. pirq.bytes };
-
-    ghost invariant = { λ pirq. HaveNoReserved pirq.bytes };
 }
 
 impl Pirq {

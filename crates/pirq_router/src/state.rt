@@ -1,34 +1,14 @@
 //! The states of the route control registers and of the edge/level control registers as bytes, out and in.
 
-ghost use Rattle.std.specs.Prelude.{◌≡◌, ◌<◌, ◌^◌, ◌-◌, ◌++◌, ℕ, slice_index, bit_and, OnOk, IfOk};
+ghost use Rattle.std.specs.Prelude.{◌≡◌, ◌++◌, OnOk};
 ghost use Rattle.byte_fields.specs.Fields.{Took};
 ghost use Rattle.byte_fields.specs.Loads.{Loads, OneSpelling};
-ghost use Rattle.pirq_router.specs.State.{byte_under, IsRoutes, routes_bytes, routes_fields, AreTriggers, triggers_bytes, triggers_fields};
+ghost use Rattle.pirq_router.specs.State.{IsRoutes, routes_bytes, routes_fields, AreTriggers, triggers_bytes, triggers_fields};
 
-use crate::elcr::{Elcr, WRITABLE_HIGH, WRITABLE_LOW};
-use crate::pirq::{Pirq, WRITABLE};
+use crate::elcr::Elcr;
+use crate::pirq::Pirq;
 use board_base::NoMemory;
 use byte_fields::{Bad, Fields, push_bytes};
-
-/// Does nothing: its clause says that the value is below 2^8.
-fn is_byte(value: u8)
-    ensures byte { value < 2 ^ 8 }
-{}
-
-/// Does nothing: its clause says that each of the values is below 2^8.
-fn are_bytes(values: &[u8])
-    ensures bytes { (k : ℕ) → slice_index values.now k < 2 ^ 8 }
-{}
-
-/// Reads a byte that has no bit outside a mask.
-fn byte_under(mask: u8, fields: &mut Fields) -> Result<u8, Bad>
-    ensures took { Took (λ byte. byte) result fields.new (byte_under mask fields.old) }
-    ensures under { IfOk result (λ byte. bit_and byte (0xFF - mask) ≡ 0) }
-{
-    let byte = u8::from_le_bytes(fields.front()?);
-    fields.past(1, byte & !mask == 0)?;
-    Ok(byte)
-}
 
 impl Pirq {
     /// Adds the 4 bytes of the state: PIRQRCA to PIRQRCD.
@@ -36,12 +16,10 @@ impl Pirq {
         ensures saved { OnOk result (into.new.items ≡ into.old.items ++ routes_bytes self.now) }
         ensures sound { IsRoutes self.now }
     {
-        are_bytes(&self.bytes);
         push_bytes(into, &self.bytes)
     }
 
-    /// The registers whose state is at the front of the bytes. Refused where a byte is missing, or has a reserved bit: the
-    /// bytes left then begin with it.
+    /// The registers whose state is at the front of the bytes. Refused where there are not 4 bytes, which stay.
     pub fn load_state(fields: &mut Fields) -> Result<Pirq, Bad>
         ensures loaded { Loads routes_fields routes_bytes IsRoutes fields.old fields.new result }
     {
@@ -50,17 +28,11 @@ impl Pirq {
     }
 
     /// Reads the bytes.
-    #[tactic(auto, unfolding(crate::specs::State::routes_fields))]
     fn read_state(fields: &mut Fields) -> Result<Pirq, Bad>
         ensures took { Took (λ routes. routes) result fields.new (routes_fields fields.old) }
     {
-        let a = byte_under(WRITABLE, fields)?;
-        let b = byte_under(WRITABLE, fields)?;
-        let c = byte_under(WRITABLE, fields)?;
-        let d = byte_under(WRITABLE, fields)?;
-        Ok(Pirq {
-            bytes: [a, b, c, d],
-        })
+        let bytes = fields.array()?;
+        Ok(Pirq { bytes })
     }
 }
 
@@ -70,13 +42,13 @@ impl Elcr {
         ensures saved { OnOk result (into.new.items ≡ into.old.items ++ triggers_bytes self.now) }
         ensures sound { AreTriggers self.now }
     {
-        is_byte(self.low);
-        is_byte(self.high);
-        push_bytes(into, &[self.low, self.high])
+        let low = self.read(false);
+        let high = self.read(true);
+        push_bytes(into, &[low, high])
     }
 
-    /// The registers whose state is at the front of the bytes. Refused where a byte is missing, or has a reserved bit: the
-    /// bytes left then begin with it.
+    /// The registers whose state is at the front of the bytes. Refused where a field is not whole: the bytes left then
+    /// begin with it.
     pub fn load_state(fields: &mut Fields) -> Result<Elcr, Bad>
         ensures loaded { Loads triggers_fields triggers_bytes AreTriggers fields.old fields.new result }
     {
@@ -89,8 +61,8 @@ impl Elcr {
     fn read_state(fields: &mut Fields) -> Result<Elcr, Bad>
         ensures took { Took (λ triggers. triggers) result fields.new (triggers_fields fields.old) }
     {
-        let low = byte_under(WRITABLE_LOW, fields)?;
-        let high = byte_under(WRITABLE_HIGH, fields)?;
+        let low = fields.byte(0, u8::MAX)?;
+        let high = fields.byte(0, u8::MAX)?;
         Ok(Elcr { low, high })
     }
 }

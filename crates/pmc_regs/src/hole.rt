@@ -7,8 +7,8 @@ use board_spec::range::{HOLE_AT_15_MIB, HOLE_AT_512_KIB};
 
 /// The lower of the two bits that enable a hole. The bits below it are reserved and read 0.
 const HOLE_ENABLE: u8 = 6;
-/// The bits of FDHC that can be written.
-pub const FDHC_WRITABLE: u8 = 0b11 << HOLE_ENABLE;
+/// The bits that can be written.
+const WRITABLE: u8 = 0b11 << HOLE_ENABLE;
 
 /// The first and the last address of the hole in DRAM that FDHC makes: that at 512 KiB by 01 in bits 7 and 6,
 /// that at 15 MiB by 10. None by 00 and 11.
@@ -27,5 +27,5 @@ pub fn hole_of(fdhc: u8) -> Option<(u32, u32)>
 pub fn fdhc_after(old: u8, written: u8) -> u8
     ensures merged { (setup : Setup) → result ≡ merged (writable_bits setup hole_register) old written }
 {
-    merged(FDHC_WRITABLE, old, written)
+    merged(WRITABLE, old, written)
 }

@@ -6,6 +6,6 @@ mod hole;
 mod pmc;
 mod rows;
 
-pub use hole::{FDHC_WRITABLE, fdhc_after, hole_of};
+pub use hole::{fdhc_after, hole_of};
 pub use pmc::{DRB_RESET, FDHC_RESET, Pmc, fixed_byte};
 pub use rows::{end_of, row_of, top_of};

@@ -13,7 +13,7 @@ use std::marker::Model;
 const IDE_DECODE_ENABLE: u32 = 7;
 
 /// The bits of the command that can be written. The others read 0.
-pub(crate) const COMMAND_WRITABLE: u8 = 1 << IO_SPACE_ENABLE | 1 << BUS_MASTER_ENABLE;
+const COMMAND_WRITABLE: u8 = 1 << IO_SPACE_ENABLE | 1 << BUS_MASTER_ENABLE;
 
 /// The header after a reset, offsets 00h to 0Fh. Of it the command can be written.
 const HEADER: [u8; 16] = [
@@ -32,7 +32,6 @@ pub struct Ide {
 }
 
 impl Model for Ide {
-    ghost use Rattle.std.specs.Prelude.{◌≡◌, bit_and};
     ghost use Rattle.xbus_select.specs.Ide.{IdeBytes};
 
     ghost Value = { IdeBytes };
@@ -42,8 +41,6 @@ impl Model for Ide {
       timing_low = ide.timing_low;
       timing_high = ide.timing_high;
     } };
-
-    ghost invariant = { λ ide. bit_and ide.command 0xFA ≡ 0 };
 }
 
 impl Ide {

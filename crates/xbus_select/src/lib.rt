@@ -13,6 +13,6 @@ pub use ide::{Ide, decodes_ide_channel, enables_ide_ports};
 pub use piix::{Piix, isa_fixed_byte};
 pub use state::law_one_ide;
 pub use xbcs::{
-    XBCS_RESET, XBCS_WRITABLE, rom_offset, rom_selected, selects_clock, selects_keyboard,
-    sends_bios_writes, xbcs_after,
+    XBCS_RESET, rom_offset, rom_selected, selects_clock, selects_keyboard, sends_bios_writes,
+    xbcs_after,
 };

@@ -1,12 +1,11 @@
 //! The state of the IDE function as bytes, out and in.
 
-ghost use Rattle.std.specs.Prelude.{◌≡◌, ◌<◌, ◌++◌, bit_and, OnOk, IfOk};
-ghost use Rattle.board_base.specs.Common.{w8};
-ghost use Rattle.byte_fields.specs.Fields.{Took, number_where};
+ghost use Rattle.std.specs.Prelude.{◌≡◌, ◌<◌, ◌++◌, OnOk};
+ghost use Rattle.byte_fields.specs.Fields.{Took};
 ghost use Rattle.byte_fields.specs.Loads.{Loads, OneSpelling};
-ghost use Rattle.xbus_select.specs.State.{is_ide_command, IsIde, ide_bytes, ide_fields};
+ghost use Rattle.xbus_select.specs.State.{IsIde, ide_bytes, ide_fields};
 
-use crate::ide::{COMMAND_WRITABLE, Ide};
+use crate::ide::Ide;
 use board_base::NoMemory;
 use byte_fields::{Bad, Fields, push_bytes};
 
@@ -14,16 +13,6 @@ use byte_fields::{Bad, Fields, push_bytes};
 fn is_byte(value: u8)
     ensures byte { value < 256 }
 {}
-
-/// Reads the low byte of the command.
-fn read_command(fields: &mut Fields) -> Result<u8, Bad>
-    ensures took { Took (λ command. command) result fields.new (number_where w8 is_ide_command fields.old) }
-    ensures unreserved { IfOk result (λ command. bit_and command 0xFA ≡ 0) }
-{
-    let command = u8::from_le_bytes(fields.front()?);
-    fields.past(1, command & !COMMAND_WRITABLE == 0)?;
-    Ok(command)
-}
 
 impl Ide {
     /// Adds the 3 bytes of the state: the low byte of the command, and both of IDETIM.
@@ -37,8 +26,8 @@ impl Ide {
         push_bytes(into, &[self.command, self.timing_low, self.timing_high])
     }
 
-    /// The registers whose state is at the front of the bytes. Refused where a byte is missing, or that of the command has
-    /// a bit that cannot be written: the bytes left then begin with it.
+    /// The registers whose state is at the front of the bytes. Refused where a field is not whole: the bytes left then
+    /// begin with it.
     pub fn load_state(fields: &mut Fields) -> Result<Ide, Bad>
         ensures loaded { Loads ide_fields ide_bytes IsIde fields.old fields.new result }
     {
@@ -51,7 +40,7 @@ impl Ide {
     fn read_state(fields: &mut Fields) -> Result<Ide, Bad>
         ensures took { Took (λ ide. ide) result fields.new (ide_fields fields.old) }
     {
-        let command = read_command(fields)?;
+        let command = fields.byte(0, u8::MAX)?;
         let timing_low = fields.byte(0, u8::MAX)?;
         let timing_high = fields.byte(0, u8::MAX)?;
         Ok(Ide {

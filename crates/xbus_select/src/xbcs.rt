@@ -18,8 +18,8 @@ const EXTENDED_BIOS_ENABLE: u32 = 7;
 
 /// The register after a reset: the keyboard controller and the clock are selected.
 pub const XBCS_RESET: u8 = 1 << KEYBOARD_SELECT | 1 << CLOCK_SELECT;
-/// The bits of the register that can be written. The others read 0.
-pub const XBCS_WRITABLE: u8 = 1 << CLOCK_SELECT
+/// The bits that can be written. The others read 0.
+const WRITABLE: u8 = 1 << CLOCK_SELECT
     | 1 << KEYBOARD_SELECT
     | 1 << BIOS_WRITE_ENABLE
     | 1 << LOWER_BIOS_ENABLE
@@ -29,7 +29,7 @@ pub const XBCS_WRITABLE: u8 = 1 << CLOCK_SELECT
 pub fn xbcs_after(old: u8, written: u8) -> u8
     ensures merged { (setup : Setup) → result ≡ merged (writable_bits setup select_register) old written }
 {
-    merged(XBCS_WRITABLE, old, written)
+    merged(WRITABLE, old, written)
 }
 
 /// Whether XBCS selects the real-time clock.

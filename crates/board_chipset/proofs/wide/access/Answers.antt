@@ -1,4 +1,4 @@
-use Rattle.std.proofs.Common.{◌≡◌, ℕ, ◌+◌, ◌≤◌, ◌∙◌, ◌⊎◌, inl, inr, true, refl, arith}
+use Rattle.std.proofs.Common.{◌≡◌, ◌∙◌, true, refl}
 use Rattle.board_prelude.proofs.Common.{is_write, parts_of, parts_list, byte_of}
 use Rattle.board_stores.proofs.MemoryLemmas.{parts_answered}
 use Rattle.board_devices.proofs.DeviceLemmas.{leaves_devices}
@@ -83,18 +83,3 @@ returns-clause-board c = λ setup history entry kept image event replied.
     (parts_none access (parts_of access) (parts_list c.parts_of-parts.result) cell
     (writes_when access.kind c.is_write.result c.is_write.ensures.write ∙ c.if-is_write.false)
     (c.law_parts.ensures.cut access c.requires.wide).each))
-
-few : (addr bytes : ℕ) → (bytes ≡ 2) ⊎ (bytes ≡ 4) ⊎ (bytes ≡ 8) → addr + bytes ≤ addr + 8
-few addr bytes (inl two) = omega (arith, two)
-few addr bytes (inr (inl four)) = omega (arith, four)
-few addr bytes (inr (inr eight)) = omega (arith, eight)
-
-pub read_cycles-requires-clause-covers : goal.read_cycles-requires-clause-covers
-read_cycles-requires-clause-covers c =
-    let access = c.args.access.now in
-    let parts = rw (← c.as_slice-cycles.ensures.value) at c.cycles_of-cut.ensures.parts in (
-      access.addr,
-      access.addr + access.bytes,
-      rw parts (c.law_parts.ensures.cut access c.requires.wide).covers,
-      few access.addr access.bytes c.requires.wide.bytes,
-    )

@@ -1,6 +1,5 @@
 use Rattle.std.proofs.Common.{◌≡◌, ℕ, refl, subst, sym}
 use Rattle.board_prelude.proofs.Common.{kept_address, reset_byte}
-use Rattle.addr_decode.proofs.ReservedLemmas.{written_at_reset}
 use Rattle.board_chipset.proofs.registers.Registers.reset.Goals as goal
 
 pub returns-clause-kept : goal.returns-clause-kept
@@ -13,7 +12,6 @@ returns-clause-kept c = λ setup bytes kept. record {
 pub returns-clause-sound : goal.returns-clause-sound
 returns-clause-sound c = λ setup sound. record {
   bytes = reset_byte setup;
-  written = written_at_reset setup;
   kept = record {
     map = c.apply.ensures.applied.stands setup sound.bytes sound.kept.map;
     cards = c.apply.ensures.applied.cards setup sound.bytes sound.kept.cards;

@@ -1,5 +1,4 @@
 use Rattle.std.proofs.Common.{◌≡◌, ℕ, [], ◌∷◌, ◌++◌, ap, ◌∙◌}
-use Rattle.board_prelude.proofs.Common.{eq-eqb}
 use Rattle.pit_8254.proofs.Saved.{joined}
 use Rattle.board_chipset.proofs.Marks.{on_ok_then}
 use Rattle.cfg_ports.specs.State.{address_bytes}
@@ -32,7 +31,7 @@ pub returns-clause-sound : goal.returns-clause-sound
 returns-clause-sound c =
     on_ok_then c.save_state-3.result c.save_state-3.ensures.sound (λ south. λ setup sound. record {
       address = c.save_state.ensures.sound;
-      control = (c.read.ensures.small, eq-eqb _ _ c.read.ensures.kept);
-      map = c.in_ok-save_state-2.ensures.sound setup sound.bytes sound.kept.map sound.kept.cards sound.written;
+      control = c.read.ensures.small;
+      map = c.in_ok-save_state-2.ensures.sound setup sound.bytes sound.kept.cards;
       south = south;
     })

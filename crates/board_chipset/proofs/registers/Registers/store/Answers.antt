@@ -1,7 +1,6 @@
 use Rattle.std.proofs.Common.{refl}
 use Rattle.board_prelude.proofs.Common.{Store, changed_byte}
 use Rattle.board_spec.specs.Registers.{byte_of}
-use Rattle.addr_decode.proofs.ReservedLemmas.{written_after_store}
 use Rattle.board_chipset.proofs.MapVersions.{store_follows}
 use Rattle.board_chipset.proofs.RegisterSteps.{follows}
 use Rattle.board_chipset.proofs.registers.Registers.store.Goals as goal
@@ -23,8 +22,6 @@ returns-clause-registers c = λ setup history entry has writes.
 pub returns-clause-sound : goal.returns-clause-sound
 returns-clause-sound c = λ setup sound. record {
   bytes = λ r. changed_byte setup (Store c.args.register.now.reg c.args.width c.args.value) r (sound.bytes r);
-  written =
-      written_after_store setup sound.bytes c.args.register.now.reg c.args.width c.args.value sound.written;
   kept = record {
     map = c.store_from.ensures.stored.stands setup sound.bytes sound.kept.map;
     cards = c.store_from.ensures.stored.cards setup sound.bytes sound.kept.cards;

@@ -11,7 +11,6 @@ returns-clause-registers c = λ setup history entry has writes.
 pub returns-clause-sound : goal.returns-clause-sound
 returns-clause-sound c = λ setup sound. record {
   bytes = sound.bytes;
-  written = sound.written;
   kept = sound.kept;
   address = subst (λ (address : ℕ). kept_address address ≡ address) (sym c.write.ensures.kept)
       (kept_address-again c.args.value);

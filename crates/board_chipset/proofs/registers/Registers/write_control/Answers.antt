@@ -22,20 +22,8 @@ returns-else-hard-clause-registers c = λ setup history entry put has.
 pub returns-then-hard-clause-sound : goal.returns-then-hard-clause-sound
 returns-then-hard-clause-sound c = λ setup sound.
     c.reset.ensures.sound setup
-    (record {
-      bytes = sound.bytes;
-      written = sound.written;
-      kept = sound.kept;
-      address = sound.address;
-      flat = sound.flat;
-    })
+    (record { bytes = sound.bytes; kept = sound.kept; address = sound.address; flat = sound.flat })
 
 pub returns-else-hard-clause-sound : goal.returns-else-hard-clause-sound
 returns-else-hard-clause-sound c = λ setup sound.
-    record {
-      bytes = sound.bytes;
-      written = sound.written;
-      kept = sound.kept;
-      address = sound.address;
-      flat = sound.flat;
-    }
+    record { bytes = sound.bytes; kept = sound.kept; address = sound.address; flat = sound.flat }

@@ -1,4 +1,0 @@
-pub mod Steps
-pub mod Copies
-pub mod Pieces
-pub mod Outside
