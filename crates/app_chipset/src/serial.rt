@@ -8,9 +8,9 @@ ghost use Rattle.board_prelude.specs.Common.{Setup as Fitting, IsInRange};
 use crate::told::{push_byte, push_sent};
 use board_base::{NoMemory, PortAccess, Width};
 use board_core::{Board, Setup};
-use board_script::{push_heading, push_line};
 use board_spec::Event;
 use call_words::{byte, port};
+use logs_and_maps::{push_heading, push_line};
 use std::alloc::{AllocError, Global};
 use uart_16550::{SerialBoard, SerialReply};
 

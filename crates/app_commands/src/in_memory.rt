@@ -18,7 +18,7 @@ use crate::lines::words_of;
 use crate::{files, turn};
 use board_base::NoMemory;
 use board_outside::{QuietGate, SafeShelf, SafeSink};
-use board_run::{Status, board_in_memory, exit_code, fault_text};
+use board_commands::{Status, board_in_memory, exit_code, fault_text};
 use std::io::Write;
 use std::sync::Wait;
 use std::thread::Threads;

@@ -2,7 +2,7 @@
 
 use access_history::History;
 use board_base::NoMemory;
-use board_script::{Log, push_lines, push_log, read_log};
+use logs_and_maps::{Log, push_lines, push_log, read_log};
 use board_spec::Entry;
 use call_words::decimal;
 use make_script::push_summary;

@@ -13,7 +13,7 @@
 
 use crate::{logs, made};
 use board_base::NoMemory;
-use board_script::{LogFault, read_log};
+use logs_and_maps::{LogFault, read_log};
 use call_words::decimal;
 use log_lines::entry_of;
 use script_lines::item_of;

@@ -5,7 +5,7 @@ use crate::in_memory::end_of;
 use crate::lines::words_of;
 use board_base::NoMemory;
 use board_outside::{SafeShelf, SafeSink};
-use board_run::Status;
+use board_commands::Status;
 use std::io::Write;
 use std::sync::Wait;
 use std::thread::Threads;

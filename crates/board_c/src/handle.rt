@@ -7,7 +7,7 @@ ghost use Rattle.board_records.specs.Doors.{Held};
 ghost use Rattle.board_c.specs.Owned.{owned_if};
 
 use board_records::Door;
-use loose::Loose;
+use box_pointer::Loose;
 use std::alloc::{Allocator, Global};
 use std::marker::Model;
 

@@ -3,9 +3,9 @@ use Rattle.std.proofs.Common.{◌≡◌, ◌≢◌, ◌⊎◌, ℕ, List, [], �
 use Rattle.board_prelude.proofs.Common.{Appends, Keeps}
 use Rattle.board_outside.specs.Counts.{next_fault}
 use Rattle.board_files.specs.declared.out_sink.OutSink.{OutSink}
-use Rattle.board_run.specs.Output.{Sent, AppendsFront}
-use Rattle.board_run.specs.Outcomes.{SinkCall}
-use Rattle.board_run.proofs.SentLemmas.{more_taken}
+use Rattle.board_commands.specs.Output.{Sent, AppendsFront}
+use Rattle.board_commands.specs.Outcomes.{SinkCall}
+use Rattle.board_commands.proofs.SentLemmas.{more_taken}
 use Rattle.board_main.specs.Common.{IsIdle, TookAll, TookFront, IsPut, out_call}
 
 -- a text was taken, and a front of another one

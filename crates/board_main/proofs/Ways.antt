@@ -7,7 +7,7 @@ use Rattle.command_files.specs.declared.status.Status.{Status}
 use Rattle.command_files.specs.declared.status.Status.TheVariants.{Done, Usage, ReadFault, WriteFault, TooLong, BadScript, BadImage, Differs, NoMemory, OtherBoard}
 use Rattle.command_files.specs.Common.{Files, ShelfCall}
 use Rattle.command_files.specs.FaultText.{text_of}
-use Rattle.board_run.specs.Outcomes.{SinkCall}
+use Rattle.board_commands.specs.Outcomes.{SinkCall}
 use Rattle.board_main.specs.declared.answers.OwnAnswer.{OwnAnswer}
 use Rattle.board_main.specs.Common.{Ends, EndsCommand, EndsOwn, IsWritten, IsIdle, IsPut, IsTold, TookAll, TookFront, own_of, own_text}
 use Rattle.board_main.specs.Ends.{AreFetchesFor}

@@ -5,7 +5,7 @@ use Rattle.command_words.specs.Words.{Command, command_of}
 use Rattle.command_files.specs.declared.status.Status.{Status}
 use Rattle.command_files.specs.declared.status.Status.TheVariants.{Done, Usage, WriteFault}
 use Rattle.command_files.specs.Common.{code_of, Files, ShelfCall, AreFetchesOf}
-use Rattle.board_run.specs.Outcomes.{SinkCall, IsCaused, IsExact}
+use Rattle.board_commands.specs.Outcomes.{SinkCall, IsCaused, IsExact}
 use Rattle.board_main.specs.declared.answers.OwnAnswer.{OwnAnswer}
 use Rattle.board_main.specs.declared.line.WordFault.{WordFault}
 use Rattle.board_main.specs.Given.{AreRead, status_of_words}

@@ -6,8 +6,8 @@ use Rattle.board_files.specs.declared.out_sink.OutSink.{OutSink}
 use Rattle.command_files.specs.declared.status.Status.{Status}
 use Rattle.command_files.specs.declared.status.Status.TheVariants.{Done}
 use Rattle.command_files.specs.FaultText.{text_of}
-use Rattle.board_run.specs.Outcomes.{SinkCall}
-use Rattle.board_run.specs.Output.{AppendsFront}
+use Rattle.board_commands.specs.Outcomes.{SinkCall}
+use Rattle.board_commands.specs.Output.{AppendsFront}
 
 -- a call of an output over a writer whose bytes are told so
 abbrev pub out_call : {W : Type 0} → (contents : W → Option (List ℕ)) → (before now : OutSink W) → SinkCall

@@ -8,7 +8,7 @@ ghost use Rattle.board_main.specs.Outputs.{IsPut, out_call};
 use crate::put::{put_text, put_three};
 use board_files::OutSink;
 use board_outside::Failed;
-use board_run::USAGE;
+use board_commands::USAGE;
 use std::io::Write;
 
 const TITLE: &str = "\

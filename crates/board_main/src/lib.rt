@@ -1,4 +1,4 @@
-//! The program `board` as a library: the commands of `board_run` over real files and an output.
+//! The program `board` as a library: the commands of `board_commands` over real files and an output.
 #![tactic(auto)]
 
 mod answers;

@@ -15,7 +15,7 @@ use crate::line::{CommandLine, WordFault};
 use crate::put::put_two;
 use board_files::OutSink;
 use board_outside::{QuietGate, Shelf};
-use board_run::{Status, board, exit_code, fault_text};
+use board_commands::{Status, board, exit_code, fault_text};
 use std::alloc::Global;
 use std::io::Write;
 use std::process::ExitCode;

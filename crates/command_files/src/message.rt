@@ -5,7 +5,7 @@ ghost use Rattle.command_files.specs.FaultText.{kind_text, text_of};
 
 use crate::status::{Status, Which};
 use board_base::NoMemory;
-use board_script::Line;
+use logs_and_maps::Line;
 use command_words::USAGE;
 use std::alloc::{AllocError, Global};
 

@@ -2,7 +2,7 @@
 
 ghost use Rattle.std.specs.Prelude.{◌≡◌, ◌++◌, ◌≤◌, ℕ, List, All, length, flat_map, IfOk, OnOk};
 ghost use Rattle.board_prelude.specs.Common.{Entry, Setup, range_text};
-ghost use Rattle.board_script.specs.Adds.{AddsWords};
+ghost use Rattle.logs_and_maps.specs.Adds.{AddsWords};
 ghost use Rattle.map_builder.specs.Map.{range_of};
 ghost use Rattle.script_text.specs.Script.{said_of};
 ghost use Rattle.command_texts.specs.Blame.{version_text, blamed_text, keep_text, IsBlameText};
@@ -12,7 +12,7 @@ ghost use Rattle.command_texts.specs.Writes.{AreWritesOf};
 use crate::writes::{MapWrites, replay_noting};
 use board_base::NoMemory;
 use board_core::Board;
-use board_script::{push_decimal, push_range, push_words};
+use logs_and_maps::{push_decimal, push_range, push_words};
 use log_pieces::Text;
 use map_blame::{BlameReport, Blamed, blame};
 use map_builder::Range;

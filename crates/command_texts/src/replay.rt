@@ -13,7 +13,7 @@ ghost use Rattle.command_texts.specs.Replays.{IsMapText, IsLegalText};
 
 use board_base::NoMemory;
 use board_core::Board;
-use board_script::{push_decimal, push_range, push_words};
+use logs_and_maps::{push_decimal, push_range, push_words};
 use log_check::{CheckFault, statement_count};
 use log_pieces::{Text, log_alone};
 use map_builder::Range;

@@ -11,7 +11,7 @@ ghost use Rattle.command_texts.specs.ReplayLog.{HasLog};
 
 use board_base::NoMemory;
 use board_core::{Board, Replay};
-use board_script::{push_heading, push_line};
+use logs_and_maps::{push_heading, push_line};
 use board_spec::Statement;
 use board_spec::laws::law_lock;
 use log_check::statement_count;

@@ -3,7 +3,7 @@
 ghost use Rattle.std.specs.Prelude.{◌≡◌, ◌++◌, ◌*◌, ◌≤◌, Some, length, slice_index, IfOk, OnOk};
 ghost use Rattle.script_text.specs.Script.{said_of};
 ghost use Rattle.dram_store.specs.Bank.{bank_size};
-ghost use Rattle.board_script.specs.Adds.{AddsWords};
+ghost use Rattle.logs_and_maps.specs.Adds.{AddsWords};
 ghost use Rattle.command_words.specs.Words.{IsTransfer};
 ghost use Rattle.command_texts.specs.Fresh.{IsFreshFor};
 ghost use Rattle.command_texts.specs.Transfers.{HasTransferText, IsTransferText, started, sum_below, disk_sum, end_text, ended_line, sums_line};
@@ -12,7 +12,7 @@ use crate::replay::replay_script;
 use ata_pio::Ata;
 use board_base::{Denial, NoMemory};
 use board_core::Board;
-use board_script::{push_decimal, push_denial, push_hex_byte, push_hex_long, push_words};
+use logs_and_maps::{push_decimal, push_denial, push_hex_byte, push_hex_long, push_words};
 use bus_master::{BusMaster, COMMAND, DIRECTION, Done, End, START, STATUS, TABLE};
 use command_words::Transfer;
 use dram_store::Dram;

@@ -6,7 +6,7 @@ ghost use Rattle.log_check.specs.declared.fault.CheckFault.{CheckFault};
 
 use crate::fault::CheckFault;
 use board_base::NoMemory;
-use board_script::{push_heading, push_line};
+use logs_and_maps::{push_heading, push_line};
 use board_spec::Entry;
 
 /// How many bytes are compared at once.

@@ -2,8 +2,8 @@
 use Rattle.std.proofs.Common.{◌≡◌, ℕ, ◌+◌, ◌*◌, ◌-◌, ◌<◌, ◌≤◌, ◌++◌, List, [], ◌∷◌, length, get_or, take, drop, refl, sym, ap, ◌∙◌, subst, append_assoc, append-nil, arith, inl, inr, Result, Ok, Err, IfOk, string_bytes, String, reverse}
 use Rattle.board_prelude.proofs.Common.{Global, cases_lt, drop_all, take_all, length-take-le, length-append, length-drop, get_or-drop, get_or-append_seam, Entry, line_feed, line_text, log_text}
 use Rattle.std.proofs.Math.Seq.{take-add}
-use Rattle.board_script.specs.LinesFrom.{lines_from}
-use Rattle.board_script.proofs.Parts.{lines_of_parts, log_text-lines, appended_line}
+use Rattle.logs_and_maps.specs.LinesFrom.{lines_from}
+use Rattle.logs_and_maps.proofs.Parts.{lines_of_parts, log_text-lines, appended_line}
 use Rattle.log_pieces.specs.Pieces.{Piece, IsPiece, ArePieces}
 
 -- the lines that follow `n` entries are numbered on, and where there are no more entries there are no lines

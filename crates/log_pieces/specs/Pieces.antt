@@ -1,7 +1,7 @@
 -- The lines of a history in pieces. Here the oldest entry stands first.
 use Rattle.std.specs.Prelude.{ℕ, ◌≡◌, ◌+◌, ◌*◌, ◌<◌, List, length, take, drop, slice_index_or, Result, IfOk, String, string_bytes}
 use Rattle.board_prelude.specs.Common.{Global, NoMemory, Entry}
-use Rattle.board_script.specs.LinesFrom.{lines_from}
+use Rattle.logs_and_maps.specs.LinesFrom.{lines_from}
 
 abbrev pub Piece : Type 0
 Piece = Result (String Global) NoMemory

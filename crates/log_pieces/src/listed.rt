@@ -2,11 +2,11 @@
 
 ghost use Rattle.std.specs.Prelude.{◌≡◌, ◌+◌, ◌-◌, ◌<◌, ◌≤◌, List, drop, length, slice_index_or, take, OnOk};
 ghost use Rattle.board_prelude.specs.Common.{Entry as AnEntry};
-ghost use Rattle.board_script.specs.Common.{AddsWords, lines_from};
+ghost use Rattle.logs_and_maps.specs.Common.{AddsWords, lines_from};
 
 use access_history::Entries;
 use board_base::NoMemory;
-use board_script::push_line;
+use logs_and_maps::push_line;
 use board_spec::Entry;
 use run_order::RunEntry;
 

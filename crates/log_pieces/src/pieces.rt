@@ -2,7 +2,7 @@
 
 ghost use Rattle.std.specs.Prelude.{◌≡◌, ◌++◌, ℕ, List, All, ◌*◌, ◌<◌, ◌≤◌, length, take, reverse, OnOk, IfOk};
 ghost use Rattle.board_prelude.specs.Common.{Entry, log_text};
-ghost use Rattle.board_script.specs.LinesFrom.{lines_from};
+ghost use Rattle.logs_and_maps.specs.LinesFrom.{lines_from};
 ghost use Rattle.run_order.specs.Over.{over, IsPlacedBelow};
 ghost use Rattle.log_pieces.specs.Pieces.{ArePieces, IsPiece};
 
@@ -10,7 +10,7 @@ use crate::listed::{BoardHistory, Listed, RunHistory, push_lines};
 use crate::text::Text;
 use access_history::Entries;
 use board_base::NoMemory;
-use board_script::push_heading;
+use logs_and_maps::push_heading;
 use run_order::RunEntry;
 use std::alloc::Global;
 use std::thread::{Threads, map_indices};

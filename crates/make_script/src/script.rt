@@ -3,11 +3,11 @@
 ghost use Rattle.std.specs.Prelude.{◌≡◌, ◌+◌, ◌*◌, ◌%◌, [], ◌∷◌, ◌++◌, OnOk, OnErr, IfOk};
 ghost use Rattle.board_spec.specs.Text.{space, line_feed, hex_long};
 ghost use Rattle.script_spec.specs.Lines.{text_of_lines};
-ghost use Rattle.board_script.specs.Adds.{AddsWords, KeepsFront};
+ghost use Rattle.logs_and_maps.specs.Adds.{AddsWords, KeepsFront};
 ghost use Rattle.make_script.specs.MakeText.{setup_lines, opening_lines, round_lines, make_text};
 
 use board_base::NoMemory;
-use board_script::{Line, push_hex_long, push_words};
+use logs_and_maps::{Line, push_hex_long, push_words};
 use std::alloc::Global;
 
 /// The setup, and the line of the phase.

@@ -3,14 +3,14 @@
 ghost use Rattle.std.specs.Prelude.{◌≡◌, ◌++◌, ◌∷◌, [], List, length, OnOk, OnErr, reverse, flat_map, decimal};
 ghost use Rattle.board_prelude.specs.Common.{Setup, version_of, line_feed, Entry as AnEntry};
 ghost use Rattle.script_spec.specs.Lines.{text_of_lines};
-ghost use Rattle.board_script.specs.Adds.{AddsWords, KeepsFront};
+ghost use Rattle.logs_and_maps.specs.Adds.{AddsWords, KeepsFront};
 ghost use Rattle.make_script.specs.Summary.{entry_lines, map_lines, summary_of};
 ghost use Rattle.make_script.specs.Counts.{AreCounts};
 
 use crate::counts::Counts;
 use access_history::Entries;
 use board_base::NoMemory;
-use board_script::{push_decimal, push_words};
+use logs_and_maps::{push_decimal, push_words};
 
 /// Appends the line of words and a number.
 fn push_row(text: &mut String, words: &str, number: u64) -> Result<(), NoMemory>

@@ -10,7 +10,7 @@ use crate::reply::reply_of;
 use board_base::NoMemory;
 use board_records::status::{NO_EVENT, NO_MEMORY, NO_REPLY};
 use board_records::{EventRecord, ReplyRecord, event_of, write_front};
-use board_script::push_line;
+use logs_and_maps::push_line;
 use board_spec::Entry;
 use std::alloc::Global;
 

@@ -3,7 +3,7 @@
 use crate::commands::{answer, files_of, status_of};
 use crate::counting_gate::CountingGate;
 use board_outside::{SafeShelf, SafeSink};
-use board_run::Status;
+use board_commands::Status;
 use std::alloc::Global;
 use std::sync::Wait;
 use std::test::Fail;

@@ -3,7 +3,7 @@
 use crate::commands::{ROM_SIZE, SETUP, files_of, status_of};
 use crate::told::{MadeFetch, ToldShelf, ToldSink};
 use board_outside::QuietGate;
-use board_run::{Status, Which};
+use board_commands::{Status, Which};
 use outside_doubles::{MemShelf, MemSink, SlowShelf, SlowSink};
 use std::alloc::{AllocError, Global};
 use std::sync::Wait;

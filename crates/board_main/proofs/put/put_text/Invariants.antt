@@ -1,6 +1,6 @@
 -- The text so far was sent.
 use Rattle.std.proofs.Common.{◌≡◌, length}
-use Rattle.board_run.specs.Output.{Sent}
+use Rattle.board_commands.specs.Output.{Sent}
 use Rattle.board_main.proofs.put.put_text.Given as goal
 
 abbrev pub invariant-loop-rest : goal.invariant-loop-rest

@@ -1,5 +1,5 @@
 use Rattle.std.proofs.Common.{◌≡◌, ◌+◌, ◌-◌, ℕ, take, drop, subst, arith}
-use Rattle.board_script.specs.Common.{AddsWords, lines_from}
+use Rattle.logs_and_maps.specs.Common.{AddsWords, lines_from}
 use Rattle.log_pieces.proofs.Join.{no_lines_between, line_added}
 use Rattle.log_pieces.proofs.listed.push_lines.Goals as goal
 

@@ -1,5 +1,5 @@
 use Rattle.std.proofs.Common.{◌≤◌, ◌+◌, ◌-◌, take, drop}
-use Rattle.board_script.specs.Common.{AddsWords, lines_from}
+use Rattle.logs_and_maps.specs.Common.{AddsWords, lines_from}
 use Rattle.log_pieces.proofs.listed.push_lines.Given as goal
 
 -- a line for each entry so far

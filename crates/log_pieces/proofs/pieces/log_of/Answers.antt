@@ -1,6 +1,6 @@
 use Rattle.std.proofs.Common.{ℕ, ◌++◌, ◌*◌, ◌≤◌, List, length, ap, ◌∙◌}
 use Rattle.board_prelude.proofs.Common.{take_all, Entry}
-use Rattle.board_script.specs.LinesFrom.{lines_from}
+use Rattle.logs_and_maps.specs.LinesFrom.{lines_from}
 use Rattle.log_pieces.proofs.Join.{log_of_lines}
 use Rattle.log_pieces.proofs.pieces.log_of.Goals as goal
 

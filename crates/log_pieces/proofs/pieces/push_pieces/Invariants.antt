@@ -1,7 +1,7 @@
 use Rattle.std.proofs.Common.{◌≡◌, ℕ, ◌*◌, ◌++◌, List, length, take}
 use Rattle.board_prelude.proofs.Common.{into_iter_items, Entry}
 use Rattle.std.specs.Vec.Iter.{into_iter_len}
-use Rattle.board_script.specs.LinesFrom.{lines_from}
+use Rattle.logs_and_maps.specs.LinesFrom.{lines_from}
 use Rattle.log_pieces.specs.Pieces.{ArePieces}
 use Rattle.log_pieces.proofs.pieces.push_pieces.Given as goal
 

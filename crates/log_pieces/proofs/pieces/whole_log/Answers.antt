@@ -1,6 +1,6 @@
 use Rattle.std.proofs.Common.{◌++◌, ◌-◌, List, string_bytes, ap, ◌∙◌, arith}
 use Rattle.board_prelude.proofs.Common.{take_all, Entry}
-use Rattle.board_script.specs.LinesFrom.{lines_from}
+use Rattle.logs_and_maps.specs.LinesFrom.{lines_from}
 use Rattle.log_pieces.proofs.Join.{whole_of_lines}
 use Rattle.log_pieces.proofs.pieces.whole_log.Goals as goal
 

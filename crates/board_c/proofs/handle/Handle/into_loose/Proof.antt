@@ -32,7 +32,7 @@ use Rattle.std_alloc.specs.Box.Ownership.{box_owns}
 use Rattle.std_alloc.proofs.ResultValues.{and_tt}
 use Rattle.std_heap.proofs.Global.TheLaws as heap_laws
 use Rattle.std_heap.specs.contracts.GlobalAllocator.TheImpl.{ghosts}
-use Rattle.loose.proofs.Values.{both, Loose, loose_good, loose_in}
+use Rattle.box_pointer.proofs.Values.{both, Loose, loose_good, loose_in}
 use Rattle.board_c.proofs.Handles.{R, Z, H as Kept, three, handle_good, handle_cases}
 use Rattle.board_c.specs.contracts.handle.Handle.into_loose.{ended, clauses}
 use Rattle.board_c.specs.contracts.handle.Handle.into_loose.Key.{name as #self}

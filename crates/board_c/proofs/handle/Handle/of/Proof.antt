@@ -20,7 +20,7 @@ use Rattle.std.proofs.raw_atomic.Walks.{proved_at}
 use Rattle.std_heap.proofs.Global.TheLaws as heap_laws
 use Rattle.std_heap.specs.contracts.GlobalAllocator.TheImpl.{ghosts}
 use Rattle.core.proofs.mem.Facts.{says_two}
-use Rattle.loose.proofs.Values.{both, Loose, loose_good, loose_out}
+use Rattle.box_pointer.proofs.Values.{both, Loose, loose_good, loose_out}
 use Rattle.board_c.proofs.Handles.{R, Z, three, handle_good, handle_in}
 use Rattle.board_c.specs.contracts.handle.Handle.of.{ended, clauses}
 use Rattle.board_c.specs.contracts.handle.Handle.of.Key.{name as #self}

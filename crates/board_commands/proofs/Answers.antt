@@ -1,0 +1,114 @@
+-- What a command answers, from the files that it read and the text that came of them.
+use Rattle.std.proofs.Common.{◌≡◌, ◌≢◌, ℕ, [], ◌∷◌, List, Option, Some, None, refl, sym, subst, Result, Ok, Err, IfOk, IfErr}
+use Rattle.board_spec.specs.Setup.{Setup}
+use Rattle.script_spec.specs.Common.{Script as Said, DiffersAt}
+use Rattle.log_check.specs.declared.fault.CheckFault.{CheckFault}
+use Rattle.log_check.specs.declared.fault.CheckFault.TheVariants.{Differs as DiffersAtLine, NoMemory as NoMemoryForCheck}
+use Rattle.command_words.specs.Words.{Command, Replay, Run, Map, Check, Make, Dma, Save, Resume, Serial, Blame}
+use Rattle.command_files.specs.declared.status.Which.{Which}
+use Rattle.command_files.specs.declared.status.Which.TheVariants.{Script, Rom, Disk, Log}
+use Rattle.command_files.specs.declared.status.Status.{Status}
+use Rattle.command_files.specs.declared.status.Status.TheVariants.{Done, Usage, ReadFault, WriteFault, TooLong, BadScript, BadImage, Differs, OtherBoard, NoMemory}
+use Rattle.command_files.specs.Common.{status_of_check_fault, Files, Known, AllRead, board_of, CanBeDone, OfCheck, OfResume, LogDiffers, BoardsDiffer, AsksFor, ShelfCall, OfFiles, CanEnd, CompareBoards, IsRefused}
+use Rattle.command_files.proofs.Refusals.{of_files, at_files}
+use Rattle.board_commands.specs.Common.{IsTextFor, IsCommandText, HasNoText, IsAnswered}
+
+pub refused_answer :
+    (command : Command) (shelf : ShelfCall) (result : Result (List ℕ) Status) (status : Status) → result ≡ Err status →
+    IsRefused command shelf status → (((which : Which) → status ≢ ReadFault which) → shelf.faults_now ≡ shelf.faults_before) →
+    IsAnswered command shelf result
+refused_answer command shelf result status is refused quiet =
+    subst (IsAnswered command shelf) (sym is)
+    (record { text = tt; refused = refused; quiet = tt; no_fault_hidden = quiet })
+
+pub text_answer :
+    (command : Command) (shelf : ShelfCall) (text : List ℕ) →
+    OfFiles shelf.files (λ files. IsCommandText command files text) → shelf.faults_now ≡ shelf.faults_before →
+    IsAnswered command shelf (Ok text)
+text_answer command shelf text says quiet = record { text = says; refused = tt; quiet = quiet; no_fault_hidden = tt }
+
+-- ---- after the files were read
+
+-- a command that can differ reads a log
+log_is_read : (command : Command) (P : Type 0) → OfCheck command P → CanEnd command (Differs 0)
+log_is_read (Replay script) P is = absurd is
+log_is_read (Run script) P is = absurd is
+log_is_read (Map script) P is = absurd is
+log_is_read (Check script log) P is = (Script ∷ Rom ∷ Disk ∷ [], [], refl)
+log_is_read (Make rounds) P is = absurd is
+log_is_read (Dma script transfer) P is = absurd is
+log_is_read (Save script) P is = absurd is
+log_is_read (Resume image script) P is = absurd is
+log_is_read (Serial script input) P is = absurd is
+log_is_read (Blame script) P is = absurd is
+
+boards_compared : (command : Command) (P : Type 0) → OfResume command P → CompareBoards command
+boards_compared (Replay script) P is = absurd is
+boards_compared (Run script) P is = absurd is
+boards_compared (Map script) P is = absurd is
+boards_compared (Check script log) P is = absurd is
+boards_compared (Make rounds) P is = absurd is
+boards_compared (Dma script transfer) P is = absurd is
+boards_compared (Save script) P is = absurd is
+boards_compared (Resume image script) P is = tt
+boards_compared (Serial script input) P is = absurd is
+boards_compared (Blame script) P is = absurd is
+
+module _ (command : Command) (shelf : ShelfCall) (known : Known) (read : OfFiles shelf.files (λ files. AllRead command files known)) where
+  asked_at_end :
+      (status : Status) (P : Files → Type 0) → ((files : Files) → AllRead command files known → P files) →
+      OfFiles shelf.files P
+  asked_at_end status P each =
+      of_files shelf.files P (λ files is. each files (at_files shelf.files files (λ files'. AllRead command files' known) is read))
+
+  -- the text stopped
+  pub stopped : (status : Status) → HasNoText command known status → IsRefused command shelf status
+  stopped Done is = absurd is
+  stopped Usage is = absurd is
+  stopped (ReadFault which) is = absurd is
+  stopped WriteFault is = absurd is
+  stopped (TooLong which) is = absurd is
+  stopped (BadScript line why) is = absurd is
+  stopped (BadImage which) is = absurd is
+  stopped (Differs line) is = (
+    log_is_read command (LogDiffers known line) is,
+    asked_at_end (Differs line) (λ files. AsksFor command files (Differs line)) (λ files all. (known, all, is)),
+  )
+  stopped OtherBoard is = (
+    boards_compared command (BoardsDiffer known) is,
+    asked_at_end OtherBoard (λ files. AsksFor command files OtherBoard) (λ files all. (known, all, is)),
+  )
+  stopped NoMemory is = tt
+
+  -- there is a text
+  pub text_there :
+      (text : List ℕ) → IsTextFor command known text → CanBeDone command known →
+      OfFiles shelf.files (λ files. IsCommandText command files text)
+  text_there text says done =
+      asked_at_end Done (λ files. IsCommandText command files text)
+      (λ files all. record { known = known; read = all; done = done; says = says })
+
+-- what a command answers whose files were read
+pub read_answer :
+    (command : Command) (shelf : ShelfCall) (known : Known) (result : Result (List ℕ) Status) →
+    OfFiles shelf.files (λ files. AllRead command files known) → shelf.faults_now ≡ shelf.faults_before →
+    IfOk result (IsTextFor command known) → IfOk result (λ _. CanBeDone command known) → IfErr result (HasNoText command known) →
+    IsAnswered command shelf result
+read_answer command shelf known (Ok text) read quiet says done stops =
+    text_answer command shelf text (text_there command shelf known read text says done) quiet
+read_answer command shelf known (Err status) read quiet says done stops =
+    refused_answer command shelf (Err status) status refl (stopped command shelf known read status stops) (λ _. quiet)
+
+-- a log was not that of the script, or memory ran out
+pub check_stopped :
+    (known : Known) (said : Said) (setup : Setup) (bytes script log : List ℕ) → known.script ≡ Some said →
+    setup ≡ board_of known said → bytes ≡ known.log → (fault : CheckFault) →
+    ((line : ℕ) → fault ≡ DiffersAtLine line → DiffersAt setup said.version said.phases bytes line) →
+    HasNoText (Check script log) known (status_of_check_fault fault)
+check_stopped known said setup bytes script log is fits same (DiffersAtLine line) differs = (
+  said,
+  is,
+  subst (λ (setup' : Setup). DiffersAt setup' said.version said.phases known.log line) fits
+      (subst (λ (bytes' : List ℕ). DiffersAt setup said.version said.phases bytes' line) same (differs line refl)),
+)
+check_stopped known said setup bytes script log is fits same NoMemoryForCheck differs = tt

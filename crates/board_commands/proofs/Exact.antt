@@ -1,0 +1,93 @@
+-- The status that the words and the files ask for comes, while the outside is quiet.
+use Rattle.std.proofs.Common.{◌≡◌, ℕ, List, inl, inr, Option, Some, None, refl, sym, subst, arith}
+use Rattle.board_outside.specs.Outside.{Rose}
+use Rattle.command_files.specs.declared.status.Status.{Status}
+use Rattle.command_files.specs.declared.status.Status.TheVariants.{Done, Usage, ReadFault, WriteFault, TooLong, BadScript, BadImage, Differs, OtherBoard, NoMemory}
+use Rattle.command_words.specs.Words.{Command}
+use Rattle.command_files.specs.Common.{Files, AsksFor, ShelfCall, OfFiles, OneStatus}
+use Rattle.board_commands.specs.Common.{SinkCall, PutsText, PutsTextFront, IsCaused, IsOrNoMemory, IsQuietFor, IsExact, IsCommandText}
+use Rattle.command_files.proofs.Refusals.{at_files}
+
+-- the shelf is quiet wherever a status is to come
+quiet_shelf_for : (wanted : Status) (quiet_shelf quiet_sink : Type 0) → IsQuietFor wanted quiet_shelf quiet_sink → quiet_shelf
+quiet_shelf_for Done quiet_shelf quiet_sink quiet = quiet.0
+quiet_shelf_for Usage quiet_shelf quiet_sink quiet = quiet
+quiet_shelf_for (ReadFault which) quiet_shelf quiet_sink quiet = quiet
+quiet_shelf_for WriteFault quiet_shelf quiet_sink quiet = quiet
+quiet_shelf_for (TooLong which) quiet_shelf quiet_sink quiet = quiet
+quiet_shelf_for (BadScript line why) quiet_shelf quiet_sink quiet = quiet
+quiet_shelf_for (BadImage which) quiet_shelf quiet_sink quiet = quiet
+quiet_shelf_for (Differs line) quiet_shelf quiet_sink quiet = quiet
+quiet_shelf_for OtherBoard quiet_shelf quiet_sink quiet = quiet
+quiet_shelf_for NoMemory quiet_shelf quiet_sink quiet = quiet
+
+-- a command that has a text can be done
+done_of_text : (command : Command) (files : Files) (text : List ℕ) → IsCommandText command files text → AsksFor command files Done
+done_of_text command files text is = (is.known, is.read, is.done)
+
+module _ (one_status : OneStatus) (command : Command) (files : Files) (shelf : ShelfCall) (sink : SinkCall) (told : shelf.files ≡ Some files) (wanted : Status)
+    (asks : AsksFor command files wanted)
+    (quiet : IsQuietFor wanted (¬ Rose shelf.faults_before shelf.faults_now) (¬ Rose sink.faults_before sink.faults_now)) where
+  abbrev Quiet : Type 0
+  Quiet = ¬ Rose shelf.faults_before shelf.faults_now
+
+  abbrev Calm : Type 0
+  Calm = ¬ Rose sink.faults_before sink.faults_now
+
+  same : (status : Status) → AsksFor command files status → IsOrNoMemory status wanted
+  same status also = inl (one_status command files status wanted also asks)
+
+  told_of : (P : Files → Type 0) → OfFiles shelf.files P → P files
+  told_of P = at_files shelf.files files P told
+
+  left : (status : Status) → IsCaused status (Some command) shelf sink → IsOrNoMemory status wanted
+  left Done is =
+      let puts = told_of (PutsText sink.taken_before sink.taken_now command) is.cause in
+      same Done (done_of_text command files puts.text puts.says)
+  left Usage is = let never = is.cause in absurd cc
+  left (ReadFault which) is = absurd (quiet_shelf_for wanted Quiet Calm quiet is.cause.rose)
+  left WriteFault is =
+      let puts = told_of (PutsTextFront sink.taken_before sink.taken_now command) is.stopped in
+      let done = one_status command files Done wanted (done_of_text command files puts.text puts.says) asks in
+      absurd ((subst (λ (status : Status). IsQuietFor status Quiet Calm) (sym done) quiet).1 is.cause)
+  left (TooLong which) is = same (TooLong which) (told_of (λ files'. AsksFor command files' (TooLong which)) is.cause)
+  left (BadScript line why) is = same (BadScript line why) (told_of (λ files'. AsksFor command files' (BadScript line why)) is.cause)
+  left (BadImage which) is = same (BadImage which) (told_of (λ files'. AsksFor command files' (BadImage which)) is.cause)
+  left (Differs line) is = same (Differs line) (told_of (λ files'. AsksFor command files' (Differs line)) is.cause)
+  left OtherBoard is = same OtherBoard (told_of (λ files'. AsksFor command files' OtherBoard) is.cause)
+  left NoMemory is = inr refl
+
+exact_for :
+    OneStatus → (command : Option Command) (told : Option Files) (shelf : ShelfCall) (sink : SinkCall) (status : Status) → shelf.files ≡ told →
+    IsCaused status command shelf sink →
+    IsExact status command told (¬ Rose shelf.faults_before shelf.faults_now) (¬ Rose sink.faults_before sink.faults_now)
+exact_for one None told shelf sink status told_is is = λ wanted has quiet. absurd has
+exact_for one (Some command) None shelf sink status told_is is = λ wanted has quiet. absurd has
+exact_for one (Some command) (Some files) shelf sink status told_is is = λ wanted has quiet.
+    left one command files shelf sink told_is wanted has quiet status is
+
+pub exact :
+    OneStatus → (command : Option Command) (shelf : ShelfCall) (sink : SinkCall) (status : Status) → IsCaused status command shelf sink →
+    IsExact status command shelf.files (¬ Rose shelf.faults_before shelf.faults_now) (¬ Rose sink.faults_before sink.faults_now)
+exact one command shelf sink status is = exact_for one command shelf.files shelf sink status refl is
+
+none_rose : ¬ Rose 0 0
+none_rose rose = elim rose [ inl more ↦ omega arith | inr last ↦ omega arith ]
+
+always_quiet : (wanted : Status) → IsQuietFor wanted (Unit {0}) (Unit {0}) → IsQuietFor wanted (¬ Rose 0 0) (¬ Rose 0 0)
+always_quiet Done quiet = (none_rose, none_rose)
+always_quiet Usage quiet = none_rose
+always_quiet (ReadFault which) quiet = none_rose
+always_quiet WriteFault quiet = none_rose
+always_quiet (TooLong which) quiet = none_rose
+always_quiet (BadScript line why) quiet = none_rose
+always_quiet (BadImage which) quiet = none_rose
+always_quiet (Differs line) quiet = none_rose
+always_quiet OtherBoard quiet = none_rose
+always_quiet NoMemory quiet = none_rose
+
+-- where the outside cannot fail, it is quiet
+pub always_exact :
+    (status : Status) (command : Option Command) (told : Option Files) → IsExact status command told (¬ Rose 0 0) (¬ Rose 0 0) →
+    IsExact status command told (Unit {0}) (Unit {0})
+always_exact status command told is = λ wanted has quiet. is wanted has (always_quiet wanted quiet)

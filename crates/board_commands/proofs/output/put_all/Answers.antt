@@ -1,0 +1,35 @@
+use Rattle.std.proofs.Common.{rules, refl, sym, ◌∙◌, subst}
+use Rattle.board_commands.specs.Common.{Sent, AllTook}
+use Rattle.board_commands.proofs.SentLemmas.{nothing_sent, then_piece_sent, then_piece_refused}
+use Rattle.command_files.proofs.CallLemmas.{none_made}
+use Rattle.board_commands.proofs.PutLemmas.{piece_put, piece_not_put, puts_failed}
+use Rattle.board_commands.proofs.output.put_all.Goals as goal
+
+pub loop-piece-init : goal.loop-piece-init
+loop-piece-init g c =
+    let taken = g.K.Sink.taken c.args.out.now in
+    record {
+      sent = subst (Sent taken taken c.args.text.now) (sym c.pieces-piece-items.ensures.bytes) (nothing_sent taken c.args.text.now);
+      quiet = refl;
+      puts = none_made (g.K.Sink.puts c.args.out.now) AllTook tt;
+    }
+
+pub loop-piece-preserved : goal.loop-piece-preserved
+loop-piece-preserved g c = record {
+  sent =
+      then_piece_sent _ _ _ _ c.pieces-piece-items.result.now c.loop-piece.piece-index c.piece-item.result _ c.loop-piece-test.true
+      c.piece-item.is c.deref.ensures.value c.loop-piece.invariant.sent c.in_ok-put_piece.ensures.whole;
+  quiet = c.in_ok-put_piece.ensures.quiet ∙ c.loop-piece.invariant.quiet;
+  puts = piece_put _ _ _ c.loop-piece.invariant.puts c.in_ok-put_piece.ensures.puts;
+}
+
+pub returns-in_err-put_piece-clause-front : goal.returns-in_err-put_piece-clause-front
+returns-in_err-put_piece-clause-front g c =
+    then_piece_refused _ _ _ _ c.pieces-piece-items.result.now c.loop-piece.piece-index c.piece-item.result _
+    c.loop-piece-test.true c.piece-item.is c.deref.ensures.value c.loop-piece.invariant.sent c.from_residual.result
+    c.in_err-put_piece.ensures.front
+
+pub returns-in_err-put_piece-clause-puts : goal.returns-in_err-put_piece-clause-puts
+returns-in_err-put_piece-clause-puts g c =
+    puts_failed _ _ c.from_residual.result (search rules)
+    (piece_not_put _ _ _ c.loop-piece.invariant.puts c.in_err-put_piece.ensures.puts)

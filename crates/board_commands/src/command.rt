@@ -1,0 +1,118 @@
+//! The commands, from their words to the bytes that are written.
+
+ghost use Rattle.std.specs.Prelude.{◌≡◌, ◌↔◌, Some, None, IfErr};
+ghost use Rattle.board_outside.specs.Outside.{Rose};
+ghost use Rattle.command_words.specs.Common.{asked, IsCommand, said_by};
+ghost use Rattle.command_files.specs.declared.status.Status.{Status};
+ghost use Rattle.command_files.specs.Common.{status_of, IsRefusal, shelf_call, OfCalls, FetchesOf, AreFetchesOf};
+ghost use Rattle.board_commands.specs.Statuses.{IsAnswered};
+ghost use Rattle.board_commands.specs.Outcomes.{IsCaused, IsExact, sink_call};
+ghost use Rattle.board_commands.specs.Puts.{ArePutsOf};
+
+use crate::output::put_all;
+use crate::texts::text_of;
+use board_outside::{Gate, Shelf, Sink};
+use command_files::laws::law_one_status;
+use command_files::{Status, read_files};
+use command_words::{Command, command_of};
+use log_pieces::Text;
+use std::alloc::Global;
+use std::sync::Wait;
+use std::thread::Threads;
+
+/// Reads the files of a command, and gives the text that it makes of them.
+fn answer<R: Threads + Wait + Sync, S: Shelf, G: Gate>(
+    rt: &R,
+    alloc: Global,
+    command: &Command,
+    shelf: &mut S,
+    gate: &G,
+) -> Result<Text, Status>
+    requires called { IsCommand (said_by command.now) }
+    ensures answer { IsAnswered (said_by command.now)
+        (shelf_call S.files S.faults S.failed_name shelf.old shelf.new) result }
+    ensures same_files { S.files shelf.new ≡ S.files shelf.old }
+    ensures fetches { OfCalls (S.fetches shelf.old) (S.fetches shelf.new)
+        (FetchesOf (said_by command.now) (S.files shelf.old)) }
+{
+    let read = read_files(alloc, shelf, command)?;
+    text_of(rt, alloc, command, read, gate)
+}
+
+/// Makes the text of a command from its files, and puts it to the sink.
+fn run_command<R: Threads + Wait + Sync, S: Shelf, K: Sink, G: Gate>(
+    rt: &R,
+    alloc: Global,
+    command: &Command,
+    shelf: &mut S,
+    out: &mut K,
+    gate: &G,
+) -> Result<(), Status>
+    requires called { IsCommand (said_by command.now) }
+    ensures caused { IsCaused (status_of result) (Some (said_by command.now))
+        (shelf_call S.files S.faults S.failed_name shelf.old shelf.new)
+        (sink_call K.faults K.taken out.old out.new) }
+    ensures only { IfErr result IsRefusal }
+    ensures same_files { S.files shelf.new ≡ S.files shelf.old }
+    ensures fetches { OfCalls (S.fetches shelf.old) (S.fetches shelf.new)
+        (FetchesOf (said_by command.now) (S.files shelf.old)) }
+    ensures puts { OfCalls (K.puts out.old) (K.puts out.new) (ArePutsOf (status_of result)) }
+{
+    let text = answer(rt, alloc, command, shelf, gate)?;
+    put_all(out, &text)?;
+    Ok(())
+}
+
+/// Does the command that the words are. Each status comes only where its cause holds.
+fn run_words<R: Threads + Wait + Sync, S: Shelf, K: Sink, G: Gate>(
+    rt: &R,
+    alloc: Global,
+    words: &[String],
+    shelf: &mut S,
+    out: &mut K,
+    gate: &G,
+) -> Status
+    ensures usage { (result ≡ Status.Usage) ↔ (asked words.now ≡ None) }
+    ensures caused { IsCaused result (asked words.now)
+        (shelf_call S.files S.faults S.failed_name shelf.old shelf.new)
+        (sink_call K.faults K.taken out.old out.new) }
+    ensures same_files { S.files shelf.new ≡ S.files shelf.old }
+    ensures fetches { OfCalls (S.fetches shelf.old) (S.fetches shelf.new)
+        (AreFetchesOf (asked words.now) (S.files shelf.old)) }
+    ensures puts { OfCalls (K.puts out.old) (K.puts out.new) (ArePutsOf result) }
+{
+    let Some(command) = command_of(words) else {
+        return Status::Usage;
+    };
+    match run_command(rt, alloc, &command, shelf, out, gate) {
+        Ok(()) => Status::Done,
+        Err(status) => status,
+    }
+}
+
+/// Does the command that the words are (`Command` has them all), with files from a shelf, and puts its text to a sink.
+/// Where several causes of a status hold, the words come first, then the files in the order in which they are read,
+/// then the output. Nothing is put before all else is done. Only `run` may wait.
+pub fn board<R: Threads + Wait + Sync, S: Shelf, K: Sink, G: Gate>(
+    rt: &R,
+    alloc: Global,
+    words: &[String],
+    shelf: &mut S,
+    out: &mut K,
+    gate: &G,
+) -> Status
+    ensures usage { (result ≡ Status.Usage) ↔ (asked words.now ≡ None) }
+    ensures caused { IsCaused result (asked words.now)
+        (shelf_call S.files S.faults S.failed_name shelf.old shelf.new)
+        (sink_call K.faults K.taken out.old out.new) }
+    ensures exact { IsExact result (asked words.now) (S.files shelf.old)
+        (¬ Rose (S.faults shelf.old) (S.faults shelf.new)) (¬ Rose (K.faults out.old) (K.faults out.new)) }
+    ensures same_files { S.files shelf.new ≡ S.files shelf.old }
+    ensures fetches { OfCalls (S.fetches shelf.old) (S.fetches shelf.new)
+        (AreFetchesOf (asked words.now) (S.files shelf.old)) }
+    ensures puts { OfCalls (K.puts out.old) (K.puts out.new) (ArePutsOf result) }
+{
+    // So that the status is the one that words and files ask for: they ask for at most one.
+    law_one_status();
+    run_words(rt, alloc, words, shelf, out, gate)
+}

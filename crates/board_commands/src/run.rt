@@ -1,0 +1,76 @@
+//! Runs of scripts on threads.
+
+ghost use Rattle.std.specs.Prelude.{◌≡◌, [], reverse, IfOk};
+ghost use Rattle.board_prelude.specs.Common.{IsLegal, IsCompleteFor, log_text};
+ghost use Rattle.run_order.specs.Places.{AreAllInPlace};
+ghost use Rattle.script_spec.specs.ScriptRange.{IsInRangeScript};
+ghost use Rattle.script_text.specs.Script.{said_of};
+ghost use Rattle.board_commands.specs.Texts.{IsRunText};
+
+use board_base::NoMemory;
+use board_core::Board;
+use board_outside::Gate;
+use board_spec::laws::law_lock;
+use log_pieces::{Text, log_by, run_log_by};
+use phase_threads::{EndedRun, run_phases};
+use script_text::Script;
+use std::alloc::Global;
+use std::sync::Wait;
+use std::thread::Threads;
+
+/// Runs a script on a fresh board with its cards: in each phase every processor does its statements on a thread of its
+/// own, and calls the gate before and after each. A phase begins when the one before has ended. The history is legal
+/// and has the statements of each phase, each look in its place. A phase's statements are given back when it has ended.
+pub fn run_script<R: Threads + Wait + Sync, G: Gate>(
+    rt: &R,
+    alloc: Global,
+    board: Board,
+    script: Script,
+    gate: &G,
+) -> Result<EndedRun, NoMemory>
+    requires in_range { IsInRangeScript (said_of script) }
+    requires cards { board.setup.cards ≡ (said_of script).cards }
+    requires fresh { board.entries ≡ [] }
+    ensures legal { IfOk result (λ history. IsLegal board.setup history.entries) }
+    ensures complete { IfOk result (λ history. IsCompleteFor (said_of script).phases history.entries) }
+    ensures places { IfOk result (λ history. AreAllInPlace board.setup
+        (reverse (said_of script).phases) history.entries) }
+{
+    run_phases(rt, alloc, board, script.cpus, script.phases, gate)
+}
+
+/// The log of a run that has ended, written by `workers` threads.
+fn log_of_ended<R: Threads + Sync>(
+    rt: &R,
+    alloc: Global,
+    workers: u8,
+    version: u8,
+    run: &EndedRun,
+) -> Result<Text, NoMemory>
+    ensures text { IfOk result (λ text. text ≡ log_text version run.now.entries) }
+{
+    match run.order() {
+        None => log_by(rt, alloc, workers, version, &run.bus()),
+        Some(order) => run_log_by(rt, alloc, workers, version, &run.bus(), order),
+    }
+}
+
+/// The log of a run of a script. As many threads write it as the script has processors.
+pub(crate) fn log_of_run<R: Threads + Wait + Sync, G: Gate>(
+    rt: &R,
+    alloc: Global,
+    board: Board,
+    script: Script,
+    gate: &G,
+) -> Result<Text, NoMemory>
+    requires in_range { IsInRangeScript (said_of script) }
+    requires cards { board.setup.cards ≡ (said_of script).cards }
+    requires fresh { board.entries ≡ [] }
+    ensures text { IfOk result (λ text. IsRunText board.setup (said_of script) text) }
+{
+    let (version, cpus) = (script.version, script.cpus);
+    let ended = run_script(rt, alloc, board, script, gate)?;
+    let text = log_of_ended(rt, alloc, cpus, version, &ended)?;
+    law_lock();
+    Ok(text)
+}

@@ -1,6 +1,0 @@
--- The definitions that files above cite, passed on from one place. Declares nothing.
-pub use Rattle.board_run.specs.Outcomes.{HasCause, IsCaused, IsExact, IsOrNoMemory, IsQuietFor, OfCommand, PutsText, PutsTextFront, SinkCall, Stopped, WordsCanEnd}
-pub use Rattle.board_run.specs.Output.{AppendsFront, Sent}
-pub use Rattle.board_run.specs.Puts.{AllTook}
-pub use Rattle.board_run.specs.Statuses.{HasNoText, IsAnswered}
-pub use Rattle.board_run.specs.Texts.{IsCommandText, IsTextFor}

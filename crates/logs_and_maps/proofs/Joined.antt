@@ -1,0 +1,72 @@
+-- What two calls in a row append. In the second lemma the last call may still fail.
+use Rattle.std.proofs.Common.{◌∷◌, ◌≡◌, ℕ, ◌++◌, List, Result, Ok, Err, OnOk, ap, sym, ◌∙◌, append_assoc, codes, decimal, OnErr}
+use Rattle.board_prelude.specs.Common.{Entry, Event, Wide, WideAccess, event_text, hex_long, is_write, kind_text, line_text, reply_text, size_text, smm_text, space, value_bytes, written_text}
+use Rattle.logs_and_maps.specs.Adds.{IsFront}
+
+pub appended_more :
+    (old first middle new second : List ℕ) → middle ≡ old ++ first → new ≡ middle ++ second
+    → new ≡ old ++ (first ++ second)
+appended_more old first middle new second one two = two ∙ ap (λ t. t ++ second) one ∙ append_assoc old first second
+
+pub appended_twice :
+    {T E : Type 0} (r : Result T E) (old first : List ℕ) (middle new second whole : List ℕ) → middle ≡ old ++ first
+    → OnOk r (new ≡ middle ++ second) → whole ≡ first ++ second → OnOk r (new ≡ old ++ whole)
+appended_twice (Ok x) old first middle new second whole one two joined =
+    appended_more old first middle new second one two ∙ ap (λ t. old ++ t) (sym joined)
+appended_twice (Err e) old first middle new second whole one two joined = tt
+
+-- after a text that has grown a text that begins with it begins with the old one too
+pub front_more :
+    {T E : Type 0} (r : Result T E) (old first middle new : List ℕ) → middle ≡ old ++ first
+    → OnErr r (IsFront middle new) → OnErr r (IsFront old new)
+front_more (Ok x) old first middle new one front = tt
+front_more (Err e) old first middle new one front =
+    record {
+      rest = first ++ front.rest;
+      joined = front.joined ∙ ap (λ t. t ++ front.rest) one ∙ append_assoc old first front.rest;
+    }
+
+joined_left : (a x y z : List ℕ) → a ++ (x ++ y ++ z) ≡ a ++ x ++ y ++ z
+joined_left a x y z = sym (append_assoc a (x ++ y) z) ∙ ap (λ t. t ++ z) (sym (append_assoc a x y))
+
+-- a number is put before three words at the front of an end of a line
+pub number_put :
+    (number version : ℕ) (x y z old middle new : List ℕ) → number ≡ version → middle ≡ x ++ y ++ z ++ old
+    → new ≡ decimal number ++ middle → new ≡ decimal version ++ x ++ y ++ z ++ old
+number_put number version x y z old middle new same below above =
+    above
+    ∙ ap (λ (t : List ℕ). decimal number ++ t) below
+    ∙ ap (λ (n : ℕ). decimal n ++ (x ++ y ++ z ++ old)) same
+    ∙ sym (append_assoc (decimal version) (x ++ y ++ z) old)
+    ∙ ap (λ t. t ++ old) (joined_left (decimal version) x y z)
+
+parts_joined :
+    (h k z a w s e r : List ℕ)
+    → h ++ (k ++ z ++ a ++ w ++ s) ++ e ++ r ≡ h ++ k ++ z ++ a ++ (w ++ s) ++ (e ++ r)
+parts_joined h k z a w s e r =
+    append_assoc (h ++ (k ++ z ++ a ++ w ++ s)) e r
+    ∙ ap (λ t. t ++ (e ++ r))
+    (ap (λ t. h ++ t) (append_assoc (k ++ z ++ a) w s)
+    ∙ sym (append_assoc h (k ++ z ++ a) (w ++ s))
+    ∙ ap (λ t. t ++ (w ++ s)) (joined_left h k z a))
+
+-- the line of a wide access: up to its address, its value and its mark, and its reply
+pub line_text-wide :
+    (n : ℕ) (entry : Entry) (access : WideAccess) (bytes : ℕ) → entry.event ≡ Wide access → bytes ≡ access.bytes
+    → line_text n entry
+    ≡ decimal n ++ space ∷ decimal entry.actor ++ codes "." ++ decimal entry.seq ++ space ∷ kind_text access.kind
+    ++ space ∷ size_text access.bytes ++ space ∷ hex_long access.addr
+    ++ (written_text (is_write access.kind) access.bytes access.value ++ smm_text access.smm)
+    ++ (codes " = " ++ reply_text bytes entry.reply)
+unfolding line_text event_text
+line_text-wide n entry access bytes same sized =
+    let place : List ℕ = decimal n ++ space ∷ decimal entry.actor ++ codes "." ++ decimal entry.seq in
+    let kind : List ℕ = space ∷ kind_text access.kind in
+    let size : List ℕ = space ∷ size_text access.bytes in
+    let addr : List ℕ = space ∷ hex_long access.addr in
+    let value : List ℕ = written_text (is_write access.kind) access.bytes access.value in
+    let smm : List ℕ = smm_text access.smm in
+    ap (λ (e : Event). place ++ space ∷ event_text e ++ codes " = " ++ reply_text (value_bytes e) entry.reply) same
+    ∙ parts_joined place kind size addr value smm (codes " = ") (reply_text access.bytes entry.reply)
+    ∙ ap (λ (b : ℕ). place ++ kind ++ size ++ addr ++ (value ++ smm) ++ (codes " = " ++ reply_text b entry.reply))
+    (sym sized)

@@ -1,0 +1,230 @@
+-- Where the bytes of a log stop being one.
+use Rattle.std.proofs.Common.{◌≡◌, ◌≢◌, ℕ, ◌+◌, ◌<◌, true, Option, Some, None, List, [], ◌∷◌, ◌++◌, length, reverse, get_or, drop, All, refl, sym, ap, subst, ◌∙◌, inl, inr, append_assoc, append-nil, arith, Result, Ok, Err, IfErr, IsErrAnd, codes, decimal}
+use Rattle.board_prelude.proofs.Common.{cases_lt, get_or_append_left, append_cancel_left, length-append, All-nil, All-cons, All-head, All-tail, All-push, Entry, line_feed, line_text, lines_text, log_text}
+use Rattle.script_spec.specs.Common.{text_of_lines, IsOneLine, IsVersion, IsWellFormed, IsLogText, IsSomeLog, IsBadLog, cut}
+use Rattle.script_spec.proofs.Common.{lacks, lacks-append, lacks-word, decimal_word, one_line, compared, log_lines, lines_joined, lines_whole, nothing_more, some_is, cut_field, cut_joined}
+use Rattle.logs_and_maps.specs.declared.fault.LogFault.{LogFault}
+use Rattle.logs_and_maps.specs.declared.fault.LogFault.TheVariants.{Bad, NoMemory}
+use Rattle.logs_and_maps.specs.Reading.{NamesBad, heading, version_of, HasNoEntry, IsBadAfter}
+use Rattle.logs_and_maps.proofs.ReadLines.{version_said, version_known}
+
+-- ---- the lines of a whole log
+
+abbrev whole : (version : ℕ) → List Entry → List (List ℕ)
+whole version history = heading version ∷ log_lines history
+
+log_is : (version : ℕ) (history : List Entry) → log_text version history ≡ text_of_lines (whole version history)
+log_is version history =
+    ap (λ (text : List ℕ). heading version ++ line_feed ∷ text) (lines_joined history)
+    ∙ sym (append_assoc (heading version) (line_feed ∷ []) (text_of_lines (log_lines history)))
+
+heading_lacks : (version : ℕ) → lacks line_feed (heading version) ≡ true
+heading_lacks version =
+    lacks-append line_feed (codes "access log ") (decimal version) refl
+    (lacks-word line_feed (decimal version) refl (decimal_word version))
+
+each_line : (version : ℕ) (history : List Entry) → All IsOneLine (whole version history)
+each_line version history =
+    All-cons IsOneLine (heading version) (log_lines history) (one_line (heading version) (heading_lacks version))
+    (lines_whole history)
+
+-- lines that begin a log are its first
+begins : (lines : List (List ℕ)) (later : List ℕ) (version : ℕ) (history : List Entry) → All IsOneLine lines
+    → text_of_lines lines ++ later ≡ log_text version history → (more : List (List ℕ)) ×
+    (whole version history ≡ lines ++ more)
+begins lines later version history each same =
+    elim (compared lines later (whole version history) [] each (each_line version history)
+    (same ∙ log_is version history ∙ sym (append-nil (text_of_lines (whole version history))))) [
+      | inl all ↦ ([], sym all ∙ sym (append-nil lines))
+      | inr (inl on) ↦ (on.this ∷ on.more, on.is)
+      | inr (inr on) ↦ absurd (nothing_more on.this (text_of_lines on.more ++ later) on.whole)
+    ]
+
+lines_length : (history : List Entry) → length (log_lines history) ≡ length history
+lines_length [] = refl
+lines_length (entry ∷ before) =
+    length-append (log_lines before) (line_text (length before + 1) entry ∷ []) ∙ omega (arith, lines_length before)
+
+get_at : (lines : List (List ℕ)) (this : List ℕ) (more : List (List ℕ)) (k : ℕ) → k ≡ length lines
+    → get_or (lines ++ this ∷ more) k [] ≡ this
+get_at [] this more k is = rw is refl
+get_at (line ∷ lines) this more k is = rw is (get_at lines this more (length lines) refl)
+
+-- each line of a log is that of an entry
+line_at : (P : Entry → Type 0) (history : List Entry) (k : ℕ) → All P history → k < length history
+    → (entry : Entry) × P entry × (get_or (log_lines history) k [] ≡ line_text (k + 1) entry)
+line_at P [] k each lt = absurd (omega (arith, lt))
+line_at P (entry ∷ before) k each lt = elim (cases_lt k (length before)) [
+  | inl earlier ↦
+      let r = line_at P before k (All-tail P entry before each) earlier in
+      let inside : k < length (log_lines before) = omega (arith, earlier, lines_length before) in
+      (r.0, r.1, get_or_append_left (log_lines before) (line_text (length before + 1) entry ∷ []) [] k inside ∙ r.2)
+  | inr last ↦
+      let at_end : k ≡ length before = omega (arith, lt, last) in
+      let place : k ≡ length (log_lines before) = omega (arith, at_end, lines_length before) in (
+        entry,
+        All-head P entry before each,
+        get_at (log_lines before) (line_text (length before + 1) entry) [] k place
+            ∙ ap (λ (n : ℕ). line_text (n + 1) entry) (sym at_end),
+      )
+]
+
+-- no log goes on where no entry's line does
+clash : (version other : ℕ) (history entries : List Entry) (this : List ℕ) (more : List (List ℕ)) (rest after : List ℕ)
+    → IsVersion version → IsVersion other → All (IsWellFormed other) entries
+    → whole other entries ≡ whole version history ++ this ∷ more
+    → HasNoEntry version (length history + 1) rest → rest ≡ this ++ line_feed ∷ after → ⊥
+clash version other history entries this more rest after known its each same none is =
+    let first : heading other ≡ heading version = ap (λ (lines : List (List ℕ)). get_or lines 0 []) same in
+    let later : log_lines entries ≡ log_lines history ++ this ∷ more = ap (λ (lines : List (List ℕ)). drop 1 lines)
+    same in
+    let versions : other ≡ version =
+    some_is other version (sym (version_known other its) ∙ ap version_of first ∙ version_known version known) in
+    let count = ap length later ∙ length-append (log_lines history) (this ∷ more) in
+    let inside : length history < length entries = omega (arith, count, lines_length history, lines_length entries) in
+    let found = line_at (IsWellFormed other) entries (length history) each inside in
+    let line : this ≡ line_text (length history + 1) found.0 =
+    sym (get_at (log_lines history) this more (length history) (sym (lines_length history)))
+    ∙ ap (λ (lines : List (List ℕ)). get_or lines (length history) []) (sym later)
+    ∙ found.2 in
+    none found.0 after (record {
+      formed = subst (λ (v : ℕ). IsWellFormed v found.0) versions found.1;
+      line = is ∙ ap (λ (text : List ℕ). text ++ line_feed ∷ after) line;
+    })
+
+-- ---- bad headings
+
+abbrev HasNoHeading : List ℕ → Type 0
+HasNoHeading bytes = (version : ℕ) (after : List ℕ) → IsVersion version → bytes ≢ heading version ++ line_feed ∷ after
+
+empty_log : IsSomeLog (log_text 1 [])
+empty_log = record {
+  version = 1;
+  entries = [];
+  log = record {
+    known = inl refl;
+    each = All-nil (IsWellFormed 1);
+    text = refl;
+  };
+}
+
+bad_heading : (bytes : List ℕ) → HasNoHeading bytes → IsBadLog bytes 1
+bad_heading bytes none = record {
+  before = [];
+  each = All-nil IsOneLine;
+  rest = bytes;
+  cut = refl;
+  place = refl;
+  begun = record { later = log_text 1 []; text = empty_log };
+  leaves = λ this after one is begun.
+      let log = begun.text.log in
+      let on = begins (this ∷ []) begun.later begun.text.version begun.text.entries
+      (All-cons IsOneLine this [] one (All-nil IsOneLine)) log.text in
+      let first : heading begun.text.version ≡ this = ap (λ (lines : List (List ℕ)). get_or lines 0 []) on.1 in
+      none begun.text.version after log.known (is ∙ ap (λ (text : List ℕ). text ++ line_feed ∷ after) (sym first));
+  other = λ some. none some.version (lines_text some.entries) some.log.known some.log.text;
+}
+
+pub bad_uncut : (bytes : List ℕ) → None ≡ cut line_feed bytes → IsBadLog bytes 1
+bad_uncut bytes uncut = bad_heading bytes (λ version after known is.
+    let e : ◌≡◌ {A = Option (List ℕ × List ℕ)} None (Some (heading version, after)) =
+    uncut ∙ ap (cut line_feed) is ∙ cut_field line_feed (heading version) after (heading_lacks version) in
+    absurd cc)
+
+pub bad_version : (bytes line after : List ℕ) → Some (line, after) ≡ cut line_feed bytes → None ≡ version_of line
+    → IsBadLog bytes 1
+bad_version bytes line after parts none = bad_heading bytes (λ version later known is.
+    let same = some_is (line, after) (heading version, later)
+    (parts ∙ ap (cut line_feed) is ∙ cut_field line_feed (heading version) later (heading_lacks version)) in
+    let e : ◌≡◌ {A = Option ℕ} None (Some version) =
+    none ∙ ap version_of (ap (λ (p : List ℕ × List ℕ). p.0) same) ∙ version_known version known in
+    absurd cc)
+
+-- ---- bad lines after the heading
+
+pub bad_after : (bytes heading_line lines : List ℕ) (version line : ℕ)
+    → Some (heading_line, lines) ≡ cut line_feed bytes
+    → Some version ≡ version_of heading_line → IsBadAfter version lines line → IsBadLog bytes line
+bad_after bytes heading_line lines version line parts named bad =
+    let said = version_said heading_line version (sym named) in
+    let before : List (List ℕ) = whole version bad.history in
+    let each : All IsOneLine before = each_line version bad.history in
+    let front : bytes ≡ log_text version bad.history ++ bad.rest =
+    cut_joined line_feed bytes heading_line lines (sym parts)
+    ∙ ap (λ (text : List ℕ). text ++ line_feed ∷ lines) said.1
+    ∙ ap (λ (text : List ℕ). heading version ++ line_feed ∷ text) bad.cut
+    ∙ sym (append_assoc (heading version) (line_feed ∷ lines_text bad.history) bad.rest) in
+    let cut : bytes ≡ text_of_lines before ++ bad.rest = front ∙ ap (λ (text : List ℕ). text ++ bad.rest)
+    (log_is version bad.history) in
+    record {
+      before = before;
+      each = each;
+      rest = bad.rest;
+      cut = cut;
+      place = bad.place ∙ omega (arith, lines_length bad.history);
+      begun = record {
+        later = [];
+        text = record {
+          version = version;
+          entries = bad.history;
+          log = record {
+            known = said.0;
+            each = bad.each;
+            text = append-nil (text_of_lines before) ∙ sym (log_is version bad.history);
+          };
+        };
+      };
+      leaves = λ this after one is begun.
+          let log = begun.text.log in
+          let on = begins (before ++ this ∷ []) begun.later begun.text.version begun.text.entries
+          (All-push IsOneLine before this each one) log.text in
+          clash version begun.text.version bad.history begun.text.entries this on.0 bad.rest after said.0 log.known
+          log.each
+          (on.1 ∙ append_assoc before (this ∷ []) on.0) bad.none is;
+      other = λ some.
+          elim (compared before bad.rest (whole some.version some.entries) [] each (each_line some.version some.entries)
+          (sym cut ∙ some.log.text ∙ log_is some.version some.entries ∙ sym
+          (append-nil (text_of_lines (whole some.version some.entries))))) [
+            | inl all ↦
+                bad.some (append_cancel_left (text_of_lines before) bad.rest []
+                (sym cut ∙ some.log.text ∙ log_is some.version some.entries ∙ ap text_of_lines (sym all)
+                ∙ sym (append-nil (text_of_lines before))))
+            | inr (inl on) ↦
+                clash version some.version bad.history some.entries on.this on.more bad.rest
+                (text_of_lines on.more ++ []) said.0 some.log.known
+                some.log.each on.is bad.none on.whole
+            | inr (inr on) ↦ nothing_more on.this (text_of_lines on.more ++ bad.rest) on.whole
+          ];
+    }
+
+-- ---- whole logs
+
+pub good_log : (bytes heading_line lines : List ℕ) (version : ℕ) (entries : List Entry)
+    → Some (heading_line, lines) ≡ cut line_feed bytes
+    → Some version ≡ version_of heading_line → lines ≡ lines_text (reverse entries)
+    → All (IsWellFormed version) (reverse entries)
+    → IsLogText version (reverse entries) bytes
+good_log bytes heading_line lines version entries parts named is each =
+    let said = version_said heading_line version (sym named) in
+    record {
+      known = said.0;
+      each = each;
+      text =
+          cut_joined line_feed bytes heading_line lines (sym parts)
+          ∙ ap (λ (text : List ℕ). text ++ line_feed ∷ lines) said.1
+          ∙ ap (λ (text : List ℕ). heading version ++ line_feed ∷ text) is;
+    }
+
+pub names_bad : (bytes heading_line lines : List ℕ) (version : ℕ) (fault : LogFault)
+    → Some (heading_line, lines) ≡ cut line_feed bytes
+    → Some version ≡ version_of heading_line → NamesBad (IsBadAfter version lines) fault
+    → NamesBad (IsBadLog bytes) fault
+names_bad bytes heading_line lines version (Bad line) parts named bad = bad_after bytes heading_line lines version
+    line parts named bad
+names_bad bytes heading_line lines version NoMemory parts named bad = tt
+
+pub passed_on : {T : Type 0} (result : Result T LogFault) (fault : LogFault) (Named : LogFault → Type 0)
+    → IsErrAnd result (λ given. given ≡ fault)
+    → Named fault → IfErr result Named
+passed_on (Ok value) fault Named is named = tt
+passed_on (Err given) fault Named is named = subst Named (sym is) named

@@ -1,0 +1,16 @@
+use Rattle.logs_and_maps.proofs.ReadLines.{none_uncut, has_entry, no_entry}
+use Rattle.logs_and_maps.proofs.read.next_entry.Goals as goal
+
+pub returns-in_default-clause-exact : goal.returns-in_default-clause-exact
+returns-in_default-clause-exact c = none_uncut c.args.version c.args.n c.args.rest.now c.in_default.ensures.parts
+
+pub returns-in-Some-2-clause-exact : goal.returns-in-Some-2-clause-exact
+returns-in-Some-2-clause-exact c =
+    has_entry c.args.version c.args.n c.args.rest.now c.in-Some.line.now c.in-Some.after.now c.in_ok-entry.field-0
+    c.in-Some-2.entry
+    c.in-Some.ensures.parts c.in_ok-entry.ensures.exact c.in-Some-2.is
+
+pub returns-in-None-clause-exact : goal.returns-in-None-clause-exact
+returns-in-None-clause-exact c =
+    no_entry c.args.version c.args.n c.args.rest.now c.in-Some.line.now c.in-Some.after.now c.in_ok-entry.field-0
+    c.in-Some.ensures.parts c.in_ok-entry.ensures.exact c.in-None.is

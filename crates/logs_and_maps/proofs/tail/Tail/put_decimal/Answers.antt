@@ -1,0 +1,28 @@
+use Rattle.std.proofs.Common.{ap, arith, ◌∙◌, length, decimal}
+use Rattle.std.proofs.lemmas.Fmt.{IsAscii-decimal}
+use Rattle.std.proofs.lemmas.Str.{IsAscii-append}
+use Rattle.std.proofs.lemmas.List.{length-append, length-drop}
+use Rattle.logs_and_maps.proofs.Places.{long_line}
+use Rattle.logs_and_maps.proofs.tail.Tail.put_decimal.Goals as goal
+
+pub write_digits-start-requires : goal.write_digits-start-requires
+write_digits-start-requires c =
+    let long = long_line c.args.number c.ranges.number.fits in
+    let was = ap length c.self.view_is in
+    let cut = length-drop c.self.inside.start c.self.inside.bytes in
+    (omega (arith, long, was, cut, c.requires.room, c.self.invariant.0), omega (arith, c.self.invariant.0))
+
+pub invariant_of-self : goal.invariant_of-self
+invariant_of-self c =
+    let start = c.write_digits-start.ensures.start in (
+      omega (arith, start, c.self.invariant.0),
+      rw c.write_digits-start.ensures.written
+          (IsAscii-append _ _ (IsAscii-decimal c.args.number c.ranges.number.fits) c.self.invariant.1),
+    )
+
+pub returns-clause-length : goal.returns-clause-length
+returns-clause-length c =
+    let long = long_line c.args.number c.ranges.number.fits in
+    let was = ap length c.self.view_is in
+    let now = ap length c.write_digits-start.ensures.written ∙ length-append (decimal c.args.number) _ in
+    omega (arith, long, was, now)

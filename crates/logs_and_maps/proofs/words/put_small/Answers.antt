@@ -1,0 +1,12 @@
+use Rattle.std.proofs.Common.{ℕ, ap, arith, length, decimal}
+use Rattle.std.proofs.lemmas.List.{length-append}
+use Rattle.logs_and_maps.proofs.Places.{long_actor}
+use Rattle.logs_and_maps.proofs.words.put_small.Goals as goal
+
+pub returns-else-number-lt10-clause-length : goal.returns-else-number-lt10-clause-length
+returns-else-number-lt10-clause-length c =
+    let long = long_actor c.args.number c.ranges.number.fits in
+    let now = ap length c.put_decimal.ensures.words in
+    let size = length-append (decimal c.from.result) c.args.line.now in
+    let same = ap (λ (n : ℕ). length (decimal n)) c.from.ensures in
+    omega (arith, long, now, size, same)

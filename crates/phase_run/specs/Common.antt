@@ -1,4 +1,0 @@
--- The definitions that files above cite, passed on from one place. Declares nothing.
-pub use Rattle.phase_run.specs.Ended.{Ended}
-pub use Rattle.phase_run.specs.Jobs.{AreAsked, GrowsBy, HasRun, IsStatement, TakesIn, done_in}
-pub use Rattle.phase_run.specs.Placed.{IsUpTo, entries_of}
