@@ -15,8 +15,8 @@ use crate::{logs, made};
 use board_base::NoMemory;
 use logs_and_maps::{LogFault, read_log};
 use call_words::decimal;
-use log_lines::entry_of;
-use script_lines::item_of;
+use log_lines::parse_entry;
+use script_lines::parse_item;
 use script_text::{ScriptFault, read_script};
 use std::alloc::Global;
 
@@ -99,10 +99,10 @@ fn push_answer(text: &mut String, says: bool) -> Result<(), NoMemory> {
 /// Appends what a line answers.
 fn answer_of_line(call: &str, line: &[u8], text: &mut String) -> Result<(), NoMemory> {
     match call {
-        "item1" => push_answer(text, item_of(1, line).is_some()),
-        "item2" => push_answer(text, item_of(2, line).is_some()),
-        "entry1" => push_answer(text, entry_of(1, line).is_some()),
-        "entry2" => push_answer(text, entry_of(2, line).is_some()),
+        "item1" => push_answer(text, parse_item(1, line).is_some()),
+        "item2" => push_answer(text, parse_item(2, line).is_some()),
+        "entry1" => push_answer(text, parse_entry(1, line).is_some()),
+        "entry2" => push_answer(text, parse_entry(2, line).is_some()),
         _ => Ok(text.push_str("no such call")?),
     }
 }

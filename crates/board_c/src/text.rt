@@ -3,7 +3,7 @@
 ghost use Rattle.std.specs.Prelude.{◌≡◌, ◌≢◌, ◌⊎◌, length, IsSomeAnd};
 ghost use Rattle.board_records.specs.Images.{IsWritten};
 ghost use Rattle.board_records.specs.Statuses.{ok, no_room};
-ghost use Rattle.record_text.specs.Lines.{entry_said, whole_line, IsLineRefusal};
+ghost use Rattle.record_text.specs.Lines.{entry_recorded, whole_line, IsLineRefusal};
 
 use board_records::{EventRecord, ReplyRecord};
 use record_text::tell_line;
@@ -23,12 +23,12 @@ pub extern "C" fn board_text(
     into: &mut [u8],
     bytes: &mut usize,
 ) -> u32
-    ensures done { result ≡ ok → IsSomeAnd (entry_said processor statement event.now reply.now)
+    ensures done { result ≡ ok → IsSomeAnd (entry_recorded processor statement event.now reply.now)
         (λ entry. IsWritten (whole_line number entry) into.old into.new) }
-    ensures refused { result ≢ ok → IsLineRefusal (entry_said processor statement event.now reply.now)
+    ensures refused { result ≢ ok → IsLineRefusal (entry_recorded processor statement event.now reply.now)
         event.now number (length into.old) result }
     ensures unwritten { result ≢ ok → into.new ≡ into.old }
-    ensures counted { ((result ≡ ok) ⊎ (result ≡ no_room)) → IsSomeAnd (entry_said processor statement event.now reply.now)
+    ensures counted { ((result ≡ ok) ⊎ (result ≡ no_room)) → IsSomeAnd (entry_recorded processor statement event.now reply.now)
         (λ entry. bytes.new ≡ length (whole_line number entry)) }
     ensures uncounted { result ≢ ok → result ≢ no_room → bytes.new ≡ bytes.old }
 {

@@ -2,7 +2,7 @@
 
 ghost use Rattle.std.specs.Prelude.{◌≡◌, ◌↔◌, Some, None, IfErr};
 ghost use Rattle.board_outside.specs.Outside.{Rose};
-ghost use Rattle.command_words.specs.Common.{asked, IsCommand, said_by};
+ghost use Rattle.command_words.specs.Common.{command_said, IsCommand, said_by};
 ghost use Rattle.command_files.specs.declared.status.Status.{Status};
 ghost use Rattle.command_files.specs.Common.{status_of, IsRefusal, shelf_call, OfCalls, FetchesOf, AreFetchesOf};
 ghost use Rattle.board_commands.specs.Statuses.{IsAnswered};
@@ -72,13 +72,13 @@ fn run_words<R: Threads + Wait + Sync, S: Shelf, K: Sink, G: Gate>(
     out: &mut K,
     gate: &G,
 ) -> Status
-    ensures usage { (result ≡ Status.Usage) ↔ (asked words.now ≡ None) }
-    ensures caused { IsCaused result (asked words.now)
+    ensures usage { (result ≡ Status.Usage) ↔ (command_said words.now ≡ None) }
+    ensures caused { IsCaused result (command_said words.now)
         (shelf_call S.files S.faults S.failed_name shelf.old shelf.new)
         (sink_call K.faults K.taken out.old out.new) }
     ensures same_files { S.files shelf.new ≡ S.files shelf.old }
     ensures fetches { OfCalls (S.fetches shelf.old) (S.fetches shelf.new)
-        (AreFetchesOf (asked words.now) (S.files shelf.old)) }
+        (AreFetchesOf (command_said words.now) (S.files shelf.old)) }
     ensures puts { OfCalls (K.puts out.old) (K.puts out.new) (ArePutsOf result) }
 {
     let Some(command) = command_of(words) else {
@@ -101,15 +101,15 @@ pub fn board<R: Threads + Wait + Sync, S: Shelf, K: Sink, G: Gate>(
     out: &mut K,
     gate: &G,
 ) -> Status
-    ensures usage { (result ≡ Status.Usage) ↔ (asked words.now ≡ None) }
-    ensures caused { IsCaused result (asked words.now)
+    ensures usage { (result ≡ Status.Usage) ↔ (command_said words.now ≡ None) }
+    ensures caused { IsCaused result (command_said words.now)
         (shelf_call S.files S.faults S.failed_name shelf.old shelf.new)
         (sink_call K.faults K.taken out.old out.new) }
-    ensures exact { IsExact result (asked words.now) (S.files shelf.old)
+    ensures exact { IsExact result (command_said words.now) (S.files shelf.old)
         (¬ Rose (S.faults shelf.old) (S.faults shelf.new)) (¬ Rose (K.faults out.old) (K.faults out.new)) }
     ensures same_files { S.files shelf.new ≡ S.files shelf.old }
     ensures fetches { OfCalls (S.fetches shelf.old) (S.fetches shelf.new)
-        (AreFetchesOf (asked words.now) (S.files shelf.old)) }
+        (AreFetchesOf (command_said words.now) (S.files shelf.old)) }
     ensures puts { OfCalls (K.puts out.old) (K.puts out.new) (ArePutsOf result) }
 {
     // So that the status is the one that words and files ask for: they ask for at most one.

@@ -2,7 +2,7 @@
 
 ghost use Rattle.std.specs.Prelude.{◌≡◌, ◌≢◌, ◌↔◌, [], Some, None};
 ghost use Rattle.board_outside.specs.Files.{file_named};
-ghost use Rattle.command_words.specs.Words.{asked};
+ghost use Rattle.command_words.specs.Words.{command_said};
 ghost use Rattle.command_files.specs.declared.status.Which.{Which};
 ghost use Rattle.board_commands.specs.Outcomes.{IsCaused, IsExact};
 
@@ -22,8 +22,8 @@ pub fn board_in_memory<R: Threads + Wait + Sync, G: Gate>(
     out: &mut SafeSink,
     gate: &G,
 ) -> Status
-    ensures usage { (result ≡ Status.Usage) ↔ (asked words.now ≡ None) }
-    ensures caused { IsCaused result (asked words.now)
+    ensures usage { (result ≡ Status.Usage) ↔ (command_said words.now ≡ None) }
+    ensures caused { IsCaused result (command_said words.now)
         (record {
           files = Some (file_named shelf.old.files.items);
           faults_before = 0;
@@ -38,7 +38,7 @@ pub fn board_in_memory<R: Threads + Wait + Sync, G: Gate>(
         }) }
     ensures no_read_fault { (which : Which) → result ≢ Status.ReadFault which }
     ensures no_write_fault { result ≢ Status.WriteFault }
-    ensures exact { IsExact result (asked words.now) (Some (file_named shelf.old.files.items)) (Unit {0}) (Unit {0}) }
+    ensures exact { IsExact result (command_said words.now) (Some (file_named shelf.old.files.items)) (Unit {0}) (Unit {0}) }
     ensures same_files { file_named shelf.new.files.items ≡ file_named shelf.old.files.items }
 {
     board(rt, alloc, words, shelf, out, gate)

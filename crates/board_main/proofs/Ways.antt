@@ -62,9 +62,9 @@ pub fetches_nothing :
 fetches_nothing words own command told is =
     subst (λ (found : Option OwnAnswer). AreFetchesFor found command told []) is refl
 
-pub kept : (known : Option (List ℕ)) → Keeps known known
-kept None = tt
-kept (Some bytes) = refl
+pub known_kept : (known : Option (List ℕ)) → Keeps known known
+known_kept None = tt
+known_kept (Some bytes) = refl
 
 pub told_nothing : (status : Status) (sink : SinkCall) → status ≡ Done → IsIdle sink → IsTold status sink
 told_nothing status sink is idle = record { done = λ _. idle; refused = λ other. absurd (other is) }

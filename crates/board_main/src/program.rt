@@ -4,7 +4,7 @@ ghost use Rattle.std.specs.Prelude.{◌≡◌, ◌↔◌, None, map, string_byte
 ghost use Rattle.std.specs.Process.{exit_status};
 ghost use Rattle.command_files.specs.declared.status.Status.{Status};
 ghost use Rattle.command_files.specs.Common.{shelf_call, OfCalls, AreFetchesOf};
-ghost use Rattle.command_words.specs.Words.{asked};
+ghost use Rattle.command_words.specs.Words.{command_said};
 ghost use Rattle.board_main.specs.Given.{status_of_words};
 ghost use Rattle.board_main.specs.Own.{own_of, own_text};
 ghost use Rattle.board_main.specs.Outputs.{IsTold, out_call};
@@ -102,7 +102,7 @@ where
         (shelf_call S.files S.faults S.failed_name shelf.old shelf.new) (out_call W.contents out.old out.new) }
     ensures same_files { S.files shelf.new ≡ S.files shelf.old }
     ensures fetches { OfCalls (S.fetches shelf.old) (S.fetches shelf.new)
-        (AreFetchesFor (own_of (map string_bytes words.now)) (asked words.now) (S.files shelf.old)) }
+        (AreFetchesFor (own_of (map string_bytes words.now)) (command_said words.now) (S.files shelf.old)) }
     ensures told { IsTold result (out_call E.contents errors.old errors.new) }
 {
     let status = answer(rt, words, shelf, out);
@@ -120,7 +120,7 @@ where
         (shelf_call S.files S.faults S.failed_name shelf.old shelf.new) (out_call W.contents out.old out.new) }
     ensures same_files { S.files shelf.new ≡ S.files shelf.old }
     ensures fetches { OfCalls (S.fetches shelf.old) (S.fetches shelf.new)
-        (AreFetchesFor (own_of (map string_bytes words.now)) (asked words.now) (S.files shelf.old)) }
+        (AreFetchesFor (own_of (map string_bytes words.now)) (command_said words.now) (S.files shelf.old)) }
 {
     match own_answer(words) {
         Some(own) => write_own(out, own),
@@ -134,12 +134,12 @@ where
     R: AllocGlobal + Threads + Wait + Sync,
     S: Shelf,
     W: Write,
-    ensures usage { (result ≡ Status.Usage) ↔ (asked words.now ≡ None) }
-    ensures answered { EndsCommand result (asked words.now)
+    ensures usage { (result ≡ Status.Usage) ↔ (command_said words.now ≡ None) }
+    ensures answered { EndsCommand result (command_said words.now)
         (shelf_call S.files S.faults S.failed_name shelf.old shelf.new) (out_call W.contents out.old out.new) }
     ensures same_files { S.files shelf.new ≡ S.files shelf.old }
     ensures fetches { OfCalls (S.fetches shelf.old) (S.fetches shelf.new)
-        (AreFetchesOf (asked words.now) (S.files shelf.old)) }
+        (AreFetchesOf (command_said words.now) (S.files shelf.old)) }
 {
     board(rt, rt.alloc(), words, shelf, out, &QuietGate)
 }

@@ -1,7 +1,7 @@
 -- The calls that were made, one after another, and the fetches of one file.
 use Rattle.std.proofs.Common.{◌≡◌, ◌≢◌, ℕ, ◌≤◌, ◌+◌, List, [], ◌∷◌, ◌++◌, Option, Some, None, refl, sym, ap, ◌∙◌, subst, append_assoc, arith, Result, Ok, Err}
 use Rattle.board_outside.specs.Outside.{Fetch, Made}
-use Rattle.command_files.specs.Calls.{OfCalls, count_of, place_after, BroughtBytes, FoundEnd, IsReading, FetchesOnce, ReadsBy}
+use Rattle.command_files.specs.Calls.{OfCalls, count_come, place_after, BroughtBytes, FoundEnd, IsReading, FetchesOnce, ReadsBy}
 
 -- ---- lists of calls
 
@@ -103,7 +103,7 @@ module _ (before between now : Option (List Fetch)) (name : List ℕ) (limit pla
       {E : Type 0} (count : ℕ) → count ≢ 0 → FetchesOnce {E = E} between now name place (Ok count) →
       OfCalls before now (ReadTo name limit (place + count))
   read_piece count some is =
-      let came : count_of is.came ≡ count = ap count_of is.count in
+      let came : count_come is.came ≡ count = ap count_come is.count in
       call_more before between now (record { name = name; at = place; came = is.came }) (ReadTo name limit place)
       (ReadTo name limit (place + count))
       (λ made so.

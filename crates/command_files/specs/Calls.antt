@@ -23,19 +23,19 @@ OfCalls (Some before) now P = Since before now P
 -- ---- the fetches of one file
 
 -- the bytes that a fetch brought: none where it failed
-abbrev pub count_of : Option ℕ → ℕ
-count_of None = 0
-count_of (Some count) = count
+abbrev pub count_come : Option ℕ → ℕ
+count_come None = 0
+count_come (Some count) = count
 
 -- the place in the file that the fetches reached: after the bytes that they brought
 abbrev pub place_after : List Fetch → ℕ
 place_after [] = 0
-place_after (latest ∷ before) = place_after before + count_of latest.came
+place_after (latest ∷ before) = place_after before + count_come latest.came
 
 -- the latest fetch brought at least one byte: it did not fail, and did not find the end
 abbrev pub BroughtBytes : List Fetch → Type 0
 BroughtBytes [] = Unit {0}
-BroughtBytes (latest ∷ before) = 0 < count_of latest.came
+BroughtBytes (latest ∷ before) = 0 < count_come latest.came
 
 -- the latest fetch found the end of the file
 abbrev pub FoundEnd : List Fetch → Type 0

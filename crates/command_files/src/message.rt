@@ -5,8 +5,8 @@ ghost use Rattle.command_files.specs.FaultText.{kind_text, text_of};
 
 use crate::status::{Status, Which};
 use board_base::NoMemory;
-use logs_and_maps::Line;
 use command_words::USAGE;
+use logs_and_maps::Line;
 use std::alloc::{AllocError, Global};
 
 fn kind_text(which: Which) -> &'static str

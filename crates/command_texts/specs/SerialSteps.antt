@@ -9,9 +9,9 @@ use Rattle.uart_16550.specs.Common.{com1_actor, Serial, IsLeftBy, Sending, after
 use Rattle.command_texts.specs.Serial.{steps_for_all, steps_in, sent_in}
 
 -- the byte that an access sent
-abbrev pub byte_in : SerialReply → Option ℕ
-byte_in (Board reply) = None
-byte_in (Uart value sent) = sent
+abbrev pub byte_read : SerialReply → Option ℕ
+byte_read (Board reply) = None
+byte_read (Uart value sent) = sent
 
 -- an event of a processor that a board can do
 pub record IsForPort (setup : Setup) (statement : Statement) : Type 0 where

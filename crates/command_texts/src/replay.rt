@@ -13,9 +13,9 @@ ghost use Rattle.command_texts.specs.Replays.{IsMapText, IsLegalText};
 
 use board_base::NoMemory;
 use board_core::Board;
-use logs_and_maps::{push_decimal, push_range, push_words};
 use log_check::{CheckFault, statement_count};
 use log_pieces::{Text, log_alone};
+use logs_and_maps::{push_decimal, push_range, push_words};
 use map_builder::Range;
 use script_text::Script;
 use std::alloc::Global;

@@ -11,11 +11,11 @@ ghost use Rattle.command_texts.specs.ReplayLog.{HasLog};
 
 use board_base::NoMemory;
 use board_core::{Board, Replay};
-use logs_and_maps::{push_heading, push_line};
 use board_spec::Statement;
 use board_spec::laws::law_lock;
 use log_check::statement_count;
 use log_pieces::Text;
+use logs_and_maps::{push_heading, push_line};
 use script_text::Script;
 use std::alloc::Global;
 

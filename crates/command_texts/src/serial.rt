@@ -8,7 +8,7 @@ ghost use Rattle.uart_16550.specs.Common.{com1_at_reset, sent_by};
 ghost use Rattle.uart_16550.specs.declared.com1.Happening.TheVariants.{Comes, Happens};
 ghost use Rattle.command_texts.specs.Fresh.{IsFreshFor};
 ghost use Rattle.command_texts.specs.Serial.{IsSerialText, bytes_before, left_after};
-ghost use Rattle.command_texts.specs.SerialSteps.{Happened, IsForPort, IsStanding, WentOn, byte_in, port_of};
+ghost use Rattle.command_texts.specs.SerialSteps.{Happened, IsForPort, IsStanding, WentOn, byte_read, port_of};
 
 use board_base::NoMemory;
 use board_core::Board;
@@ -24,8 +24,8 @@ use uart_16550::{SerialBoard, SerialReply};
 const MOST_STEPS: u32 = 3;
 
 /// The byte that the port sent at an access, where it sent one.
-fn byte_in(reply: SerialReply) -> Option<u8>
-    ensures byte { result ≡ byte_in reply }
+fn byte_read(reply: SerialReply) -> Option<u8>
+    ensures byte { result ≡ byte_read reply }
 {
     match reply {
         SerialReply::Board(_) => None,
@@ -68,7 +68,7 @@ fn step(
     ensures spare { OnOk result (serial.old.board.spare ≤ serial.new.board.spare + 2) }
 {
     let reply = serial.step(statement.actor, &statement.event);
-    if let Some(byte) = byte_in(reply) {
+    if let Some(byte) = byte_read(reply) {
         sent.push(byte)?;
     }
     Ok(())

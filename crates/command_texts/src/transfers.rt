@@ -12,11 +12,11 @@ use crate::replay::replay_script;
 use ata_pio::Ata;
 use board_base::{Denial, NoMemory};
 use board_core::Board;
-use logs_and_maps::{push_decimal, push_denial, push_hex_byte, push_hex_long, push_words};
 use bus_master::{BusMaster, COMMAND, DIRECTION, Done, End, START, STATUS, TABLE};
 use command_words::Transfer;
 use dram_store::Dram;
 use log_pieces::Text;
+use logs_and_maps::{push_decimal, push_denial, push_hex_byte, push_hex_long, push_words};
 use script_text::Script;
 use std::alloc::Global;
 

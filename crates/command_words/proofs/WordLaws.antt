@@ -1,7 +1,7 @@
 -- The words that ask for a command are those that a user writes.
 use Rattle.std.proofs.Common.{◌≡◌, ℕ, ◌%◌, inl, inr, eqb, leb, cond, Bool, true, false, List, [], ◌∷◌, Option, Some, None, refl, sym, ap, ◌∙◌, subst, arith, codes, decimal, bytes_eq}
 use Rattle.std.proofs.lemmas.Bool.{cases_Bool, leb-true, le-leb, eqb-true, eq-eqb}
-use Rattle.script_spec.specs.Common.{IsDecimal, decimal_of, hex_of}
+use Rattle.script_spec.specs.Common.{IsDecimal, parse_decimal, parse_hex}
 use Rattle.script_spec.proofs.Common.{some_is, guarded, then_said, both, word_is, decimal_read, decimal_back}
 use Rattle.make_script.specs.Laws.{most_rounds}
 use Rattle.command_words.specs.declared.transfer.Transfer.{Transfer}
@@ -35,7 +35,7 @@ make_read : (words : List (List ℕ)) (command : Command) → make_of words ≡ 
 unfolding make_of
 make_read [] command e = absurd (cc e)
 make_read (word ∷ []) command e =
-    let count = then_said (decimal_of word) (λ count. cond (is_round_count count) (Some (Make count)) None) command e in
+    let count = then_said (parse_decimal word) (λ count. cond (is_round_count count) (Some (Make count)) None) command e in
     let few = guarded (is_round_count count.0) (Some (Make count.0)) command count.2 in
     let ends = both (leb 1 count.0) (leb count.0 most_rounds) few.0 in
     subst (Asks (codes "make" ∷ word ∷ [])) (some_is (Make count.0) command few.1) (
@@ -75,9 +75,9 @@ dma_read (_ ∷ _ ∷ _ ∷ []) command e = absurd (cc e)
 dma_read (_ ∷ _ ∷ _ ∷ _ ∷ []) command e = absurd (cc e)
 dma_read (script ∷ direction ∷ table ∷ lba ∷ count ∷ []) command e =
     let to_memory = then_said (direction_of direction) _ command e in
-    let address = then_said (hex_of 8 table) _ command to_memory.2 in
-    let sector = then_said (decimal_of lba) _ command address.2 in
-    let sectors = then_said (decimal_of count) _ command sector.2 in
+    let address = then_said (parse_hex 8 table) _ command to_memory.2 in
+    let sector = then_said (parse_decimal lba) _ command address.2 in
+    let sectors = then_said (parse_decimal count) _ command sector.2 in
     let transfer : Transfer =
     record { to_memory = to_memory.0; table = address.0; lba = sector.0; count = sectors.0 } in
     let is = guarded (is_transfer transfer) (Some (Dma script transfer)) command sectors.2 in
@@ -148,7 +148,7 @@ transfer_back transfer there =
     ) refl
 
 dma_back :
-    (script digits : List ℕ) (transfer : Transfer) → IsTransfer transfer → hex_of 8 digits ≡ Some transfer.table →
+    (script digits : List ℕ) (transfer : Transfer) → IsTransfer transfer → parse_hex 8 digits ≡ Some transfer.table →
     dma_of (script ∷ direction_word transfer.to_memory ∷ digits ∷ decimal transfer.lba ∷ decimal transfer.count ∷ [])
     ≡ Some (Dma script transfer)
 unfolding dma_of

@@ -1,7 +1,7 @@
 -- The words of the command line, and the command that they are.
 use Rattle.std.specs.Prelude.{ℕ, ◌≡◌, ◌≤◌, ◌*◌, ◌%◌, ◌==◌, ◌↔◌, Bool, true, false, List, [], ◌∷◌, map, string_bytes, String, Option, Some, None, option_map, codes, decimal, bytes_eq, if◌then◌else◌, ◌&&◌, nat_le}
 use Rattle.std.specs.Global.{Global}
-use Rattle.script_spec.specs.Numbers.{decimal_of, hex_of, ◌>>=◌}
+use Rattle.script_spec.specs.Numbers.{parse_decimal, parse_hex, ◌>>=◌}
 use Rattle.make_script.specs.Laws.{most_rounds}
 use Rattle.command_words.specs.declared.transfer.Transfer.{Transfer}
 
@@ -52,7 +52,7 @@ AreWordsOf words (Map script) = words ≡ codes "map" ∷ script ∷ []
 AreWordsOf words (Check script log) = words ≡ codes "check" ∷ script ∷ log ∷ []
 AreWordsOf words (Make rounds) = words ≡ codes "make" ∷ decimal rounds ∷ []
 AreWordsOf words (Dma script transfer) =
-    (digits : List ℕ) × (hex_of 8 digits ≡ Some transfer.table)
+    (digits : List ℕ) × (parse_hex 8 digits ≡ Some transfer.table)
     × (words
     ≡ codes "dma" ∷ script ∷ direction_word transfer.to_memory ∷ digits ∷ decimal transfer.lba ∷ decimal transfer.count ∷ [])
 AreWordsOf words (Save script) = words ≡ codes "save" ∷ script ∷ []
@@ -88,7 +88,7 @@ is_round_count count = nat_le 1 count && nat_le count most_rounds
 
 unfoldable pub make_of : List (List ℕ) → Option Command
 make_of (word ∷ []) = do
-  count ← decimal_of word
+  count ← parse_decimal word
   if is_round_count count then Some (Make count) else None
 make_of _ = None
 
@@ -107,9 +107,9 @@ direction_of word =
 unfoldable pub dma_of : List (List ℕ) → Option Command
 dma_of (script ∷ direction ∷ table ∷ lba ∷ count ∷ []) = do
   to_memory ← direction_of direction
-  address ← hex_of 8 table
-  sector ← decimal_of lba
-  sectors ← decimal_of count
+  address ← parse_hex 8 table
+  sector ← parse_decimal lba
+  sectors ← parse_decimal count
   dma_with script (record { to_memory = to_memory; table = address; lba = sector; count = sectors })
 dma_of _ = None
 
@@ -128,8 +128,8 @@ command_of (verb ∷ words) =
     if bytes_eq verb (codes "blame") then with_name Blame words else None
 
 -- the command that the words ask for
-abbrev pub asked : List (String Global) → Option Command
-asked words = command_of (map string_bytes words)
+abbrev pub command_said : List (String Global) → Option Command
+command_said words = command_of (map string_bytes words)
 
 -- ---- the laws of words
 

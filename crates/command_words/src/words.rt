@@ -1,12 +1,12 @@
 //! The words of the command line.
 
 ghost use Rattle.std.specs.Prelude.{◌≡◌, option_map, map, string_bytes, IfSome};
-ghost use Rattle.script_spec.specs.Numbers.{hex_of};
-ghost use Rattle.command_words.specs.Words.{Check, Resume, Serial, asked, usage_text, name_of, names_of, with_names, is_round_count, make_of, is_transfer, dma_with, direction_of, dma_of, IsCommand, WordsDecide, OneCommand};
+ghost use Rattle.script_spec.specs.Numbers.{parse_hex};
+ghost use Rattle.command_words.specs.Words.{Check, Resume, Serial, command_said, usage_text, name_of, names_of, with_names, is_round_count, make_of, is_transfer, dma_with, direction_of, dma_of, IsCommand, WordsDecide, OneCommand};
 ghost use Rattle.command_words.specs.Commands.{said_by};
 
 use crate::transfer::Transfer;
-use script_lines::{decimal_of, hex_of};
+use script_lines::{parse_decimal, parse_hex};
 
 /// The usage text: the form of each command. Standard error gets it where the words are no command.
 pub const USAGE: &str =
@@ -81,7 +81,7 @@ fn make_of<'a>(words: &'a [String]) -> Option<Command<'a>>
     let [word] = words else {
         return None;
     };
-    let count = decimal_of(word.as_bytes())?;
+    let count = parse_decimal(word.as_bytes())?;
     if is_round_count(count) {
         Some(Command::Alone(Alone::Make(count)))
     } else {
@@ -124,9 +124,9 @@ fn direction_of(word: &str) -> Option<bool>
 
 /// The address that a word of eight hexadecimal digits spells. None for another word.
 fn address_of(word: &str) -> Option<u32>
-    ensures address { result ≡ hex_of 8 word.now }
+    ensures address { result ≡ parse_hex 8 word.now }
 {
-    let address = hex_of(ADDRESS_DIGITS, word.as_bytes())?;
+    let address = parse_hex(ADDRESS_DIGITS, word.as_bytes())?;
     Some(address as u32)
 }
 
@@ -142,8 +142,8 @@ fn dma_of<'a>(words: &'a [String]) -> Option<Command<'a>>
     };
     let to_memory = direction_of(direction.as_str())?;
     let table = address_of(table.as_str())?;
-    let lba = decimal_of(lba.as_bytes())?;
-    let count = decimal_of(count.as_bytes())?;
+    let lba = parse_decimal(lba.as_bytes())?;
+    let count = parse_decimal(count.as_bytes())?;
     dma_with(
         script.as_str(),
         Transfer {
@@ -206,7 +206,7 @@ fn serial_of<'a>(words: &'a [String]) -> Option<Command<'a>>
 /// is out of its range or not spelled as in a script.
 #[tactic(auto, unfolding(crate::specs::Words::command_of))]
 pub fn command_of(words: &[String]) -> Option<Command<'_>>
-    ensures said { option_map said_by result ≡ asked words.now }
+    ensures said { option_map said_by result ≡ command_said words.now }
     ensures called { IfSome result (λ command. IsCommand (said_by command)) }
 {
     let [verb, words @ ..] = words else {

@@ -88,8 +88,8 @@ other_word unlike word other left rest is differs one two same =
     (is_false (pointwise eqb word other) (sym is ∙ differs)) (one ∙ (same ∙ sym two))
 
 -- less than a word is left
-pub ended : (front bytes left rest : List ℕ) → GoesOn front bytes left rest → (result : Option (Bor (List ℕ)))
+pub front_ended : (front bytes left rest : List ℕ) → GoesOn front bytes left rest → (result : Option (Bor (List ℕ)))
     → MatchOption result ((more : List ℕ) → rest ≢ left ++ more) (λ after. rest ≡ left ++ after.now)
     → MatchOption result ((more : List ℕ) → bytes ≢ front ++ more) (λ after. bytes ≡ front ++ after.now)
-ended front bytes left rest so None none = λ more is. none more (so.on more is)
-ended front bytes left rest so (Some after) some = so.back after.now some
+front_ended front bytes left rest so None none = λ more is. none more (so.on more is)
+front_ended front bytes left rest so (Some after) some = so.back after.now some

@@ -16,7 +16,7 @@ pub(crate) struct Front<'a> {
 }
 
 /// The place of a processor's first statement at this place of a phase or after it.
-fn place_of(phase: &[Statement], from: usize, actor: u8) -> Option<usize>
+fn index_of_next(phase: &[Statement], from: usize, actor: u8) -> Option<usize>
     ensures place { MatchOption result (events_by actor (drop from phase.now) ≡ [])
         (λ place. IsNextOf phase.now from actor place) }
 {
@@ -50,7 +50,7 @@ impl<'a> Front<'a> {
         ensures in_range { (setup : Setup) → AreInRange setup self.old.phase.now
             → IfSome result (λ statement. AreInRange setup (statement ∷ [])) }
     {
-        let place = place_of(self.phase, self.places[usize::from(actor)], actor)?;
+        let place = index_of_next(self.phase, self.places[usize::from(actor)], actor)?;
         self.places[usize::from(actor)] = place + 1;
         Some(self.phase[place])
     }

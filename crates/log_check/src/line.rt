@@ -6,8 +6,8 @@ ghost use Rattle.log_check.specs.declared.fault.CheckFault.{CheckFault};
 
 use crate::fault::CheckFault;
 use board_base::NoMemory;
-use logs_and_maps::{push_heading, push_line};
 use board_spec::Entry;
+use logs_and_maps::{push_heading, push_line};
 
 /// How many bytes are compared at once.
 const WORD: usize = 8;

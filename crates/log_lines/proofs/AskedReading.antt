@@ -3,7 +3,7 @@ use Rattle.std.proofs.Common.{◌≡◌, ◌≢◌, ℕ, ◌<◌, ◌≤◌, Boo
 use Rattle.board_prelude.proofs.Common.{option_and_then, cases_Bool, cases_lt, lt-ltb, le-ltb, true≢false, WideAccess, PortAccess, Moment, IsMoment, Event, Memory, Wide, Port, Ack, Pulses, Time, Wire as SetWire, Line as SetLine, BadSector}
 use Rattle.board_base.specs.declared.access.Access.{Access}
 use Rattle.board_spec.specs.declared.event.Event.TheVariants.{Look as LookAt}
-use Rattle.script_spec.specs.Common.{Item, Ask, AskLevel, HasForm, IsNamed, ask, byte_in}
+use Rattle.script_spec.specs.Common.{Item, Ask, AskLevel, HasForm, IsNamed, ask, if_byte}
 use Rattle.script_spec.proofs.LineReading.{one_item}
 use Rattle.script_lines.specs.declared.item.Asked.{Asked}
 use Rattle.script_lines.specs.declared.item.Asked.TheVariants.{Event as AnEvent, Moment as AMoment, Wire, Line}
@@ -11,7 +11,7 @@ use Rattle.script_lines.specs.declared.item.Item.{Item as Read}
 use Rattle.script_lines.specs.declared.item.Item.TheVariants.{Cpus, Memory as SetMemory, Rom, Disk, Card, Phase, Statement as Asks}
 use Rattle.script_lines.specs.declared.moment.MomentFields.{MomentFields}
 use Rattle.script_lines.specs.Items.{asked_said, moment_said, line_said}
-use Rattle.log_lines.specs.Asked.{level_of, wire_of, line_of, IsPlacedEvent, IsEventOf, IsAsked}
+use Rattle.log_lines.specs.Asked.{level_on, wire_event, line_event, IsPlacedEvent, IsEventOf, IsAsked}
 
 -- ---- what an item asks
 
@@ -50,7 +50,7 @@ level_item make verb actor number level =
 
 abbrev level_event : (make : ℕ → Bool → Event) → (number level : ℕ) → Option Event
 level_event make number level =
-    option_and_then (λ n. option_and_then (λ on. Some (make n on)) (level_of level)) (byte_in number)
+    option_and_then (λ n. option_and_then (λ on. Some (make n on)) (level_on level)) (if_byte number)
 
 -- the event of a level, with a number that is a byte
 abbrev IsLevelEvent : (make : ℕ → Bool → Event) → (verb : List ℕ) → (number level : ℕ) → Event → Type 0
@@ -79,17 +79,17 @@ level_none make verb number level event other neither is =
     true≢false (sym (ap asks (sym item ∙ is.0 0)))
 
 low : (make : ℕ → Bool → Event) (verb : List ℕ) (number level : ℕ) → ((on : Bool) → IsPlacedEvent (make number on))
-    → IsExact make verb number level (option_and_then (λ on. Some (make number on)) (level_of level))
+    → IsExact make verb number level (option_and_then (λ on. Some (make number on)) (level_on level))
 low make verb number level fits = elim (cases_Bool (eqb level 0)) [
   | inl off ↦
-      let found : level_of level ≡ Some false = rw off refl in
+      let found : level_on level ≡ Some false = rw off refl in
       rw found (λ actor. level_low make verb actor number level off, fits false)
   | inr other ↦ elim (cases_Bool (eqb level 1)) [
     | inl on ↦
-        let found : level_of level ≡ Some true = rw (other, on) refl in
+        let found : level_on level ≡ Some true = rw (other, on) refl in
         rw found (λ actor. level_high make verb actor number level other on, fits true)
     | inr neither ↦
-        let found : level_of level ≡ None = rw (other, neither) refl in
+        let found : level_on level ≡ None = rw (other, neither) refl in
         rw found (λ event is. level_none make verb number level event other neither is)
   ]
 ]
@@ -132,17 +132,17 @@ as_event asked make verb number level None said exact = λ event is. exact event
 as_event asked make verb number level (Some event) said exact =
     record { said = λ actor. said actor ∙ exact.0 actor; fits = exact.1 }
 
-pub wire_exact : (dev level : ℕ) → MatchOption (wire_of dev level) ((event : Event)
+pub wire_exact : (dev level : ℕ) → MatchOption (wire_event dev level) ((event : Event)
     → ¬ IsEventOf (Wire dev level) event) (IsEventOf (Wire dev level))
-unfolding wire_of
+unfolding wire_event
 wire_exact dev level =
     as_event (Wire dev level) SetWire (codes "wire") dev level (level_event SetWire dev level) (λ actor. refl)
     (level_exact SetWire (codes "wire") dev level (λ on small. record { named = small; placed = refl })
     (λ on is. is.named))
 
-pub line_exact : (irq level : ℕ) → MatchOption (line_of irq level) ((event : Event)
+pub line_exact : (irq level : ℕ) → MatchOption (line_event irq level) ((event : Event)
     → ¬ IsEventOf (Line irq level) event) (IsEventOf (Line irq level))
-unfolding line_of
+unfolding line_event
 line_exact irq level =
     as_event (Line irq level) SetLine (codes "irq") irq level (level_event SetLine irq level) (λ actor. refl)
     (level_exact SetLine (codes "irq") irq level (λ on small. record { named = small; placed = refl })

@@ -1,7 +1,7 @@
 -- The pieces of a line that was read are those of its entry.
 use Rattle.std.proofs.Common.{◌≡◌, ℕ, Option, Some, None, List, ◌∷◌, refl, sym, ap, subst, ◌∙◌}
 use Rattle.board_prelude.proofs.Common.{Event, Reply, Entry, space, value_bytes, reply_text, line_text}
-use Rattle.script_spec.specs.Common.{IsEventForm, HasShape, IsWellFormed, ask, Pieces, pieces_of, actor_of}
+use Rattle.script_spec.specs.Common.{IsEventForm, HasShape, IsWellFormed, ask, Pieces, parse_pieces, parse_actor}
 use Rattle.script_spec.proofs.Common.{some_is, one_item, asked_text, replied_text, pieces, line_pieces, actor_said, asked_said}
 use Rattle.log_lines.specs.Asked.{IsAsked}
 use Rattle.log_lines.proofs.AskedReading.{event_is, actor_is}
@@ -11,14 +11,14 @@ use Rattle.log_lines.proofs.AskedReading.{event_is, actor_is}
 -- the pieces are those of an entry
 pub pieces_are : (version n : ℕ) (entry : Entry) (line : List ℕ) (found : Option Pieces)
     → IsWellFormed version entry → line ≡ line_text n entry
-    → found ≡ pieces_of line → found ≡ Some (pieces entry)
-pieces_are version n entry line found formed is read = read ∙ ap pieces_of is ∙ line_pieces version n entry formed
+    → found ≡ parse_pieces line → found ≡ Some (pieces entry)
+pieces_are version n entry line found formed is read = read ∙ ap parse_pieces is ∙ line_pieces version n entry formed
 
 pub actor_read : (version : ℕ) (entry : Entry) (actor asked replied : List ℕ) → IsWellFormed version entry
     → Some (record { actor = actor; asked = asked; replied = replied }) ≡ Some (pieces entry)
-    → actor_of actor ≡ Some entry.actor
+    → parse_actor actor ≡ Some entry.actor
 actor_read version entry actor asked replied formed are =
-    ap (λ (p : Pieces). actor_of p.actor) (some_is _ (pieces entry) are) ∙ actor_said entry.actor formed.actor
+    ap (λ (p : Pieces). parse_actor p.actor) (some_is _ (pieces entry) are) ∙ actor_said entry.actor formed.actor
 
 pub asked_read : (version : ℕ) (entry : Entry) (actor asked replied : List ℕ) → IsWellFormed version entry
     → Some (record { actor = actor; asked = asked; replied = replied }) ≡ Some (pieces entry)

@@ -3,19 +3,19 @@
 ghost use Rattle.std.specs.Prelude.{◌≡◌, ◌+◌, ◌↔◌, ℕ, IsTrue, MatchOption, nat_le};
 ghost use Rattle.board_prelude.specs.Common.{Event};
 ghost use Rattle.script_lines.specs.declared.item.Asked.{Asked};
-ghost use Rattle.log_lines.specs.Asked.{level_of, wire_of, line_of, IsPlacedEvent, IsEventOf, IsAsked};
+ghost use Rattle.log_lines.specs.Asked.{level_on, wire_event, line_event, IsPlacedEvent, IsEventOf, IsAsked};
 
-use crate::cuts::byte_in;
+use crate::cuts::if_byte;
 use board_base::{Moment, WideAccess};
 use board_spec::Event;
-use script_lines::{Asked, Item, MomentFields, item_of};
+use script_lines::{Asked, Item, MomentFields, parse_item};
 
 /// The first address past the last.
 const END: u64 = 1 << 32;
 
 /// Whether a line goes high.
-fn level_of(level: u32) -> Option<bool>
-    ensures level { result ≡ level_of level }
+fn level_on(level: u32) -> Option<bool>
+    ensures level { result ≡ level_on level }
 {
     match level {
         0 => Some(false),
@@ -25,27 +25,27 @@ fn level_of(level: u32) -> Option<bool>
 }
 
 /// The level of a card's INTA#, where the numbers are in range.
-#[tactic(auto, unfolding(crate::specs::Asked::wire_of))]
-fn wire_of(dev: u32, level: u32) -> Option<Event>
-    ensures event { result ≡ wire_of dev level }
+#[tactic(auto, unfolding(crate::specs::Asked::wire_event))]
+fn wire_event(dev: u32, level: u32) -> Option<Event>
+    ensures event { result ≡ wire_event dev level }
 {
-    let dev = byte_in(dev)?;
-    let on = level_of(level)?;
+    let dev = if_byte(dev)?;
+    let on = level_on(level)?;
     Some(Event::Wire { dev, on })
 }
 
 /// The level of an interrupt line, where the numbers are in range.
-#[tactic(auto, unfolding(crate::specs::Asked::line_of))]
-fn line_of(irq: u32, level: u32) -> Option<Event>
-    ensures event { result ≡ line_of irq level }
+#[tactic(auto, unfolding(crate::specs::Asked::line_event))]
+fn line_event(irq: u32, level: u32) -> Option<Event>
+    ensures event { result ≡ line_event irq level }
 {
-    let irq = byte_in(irq)?;
-    let on = level_of(level)?;
+    let irq = if_byte(irq)?;
+    let on = level_on(level)?;
     Some(Event::Line { irq, on })
 }
 
 /// A moment of the calendar.
-fn time_of(moment: MomentFields) -> Option<Event>
+fn time_event(moment: MomentFields) -> Option<Event>
     ensures event { MatchOption result ((event : Event) → ¬ IsEventOf (Asked.Moment moment) event)
         (IsEventOf (Asked.Moment moment)) }
 {
@@ -81,7 +81,7 @@ fn is_placed(event: Event) -> bool
 }
 
 /// The event, where it is aligned, within the addresses or in the calendar, as `is_placed` says.
-fn placed(event: Event) -> Option<Event>
+fn if_placed(event: Event) -> Option<Event>
     ensures event { MatchOption result ((other : Event) → ¬ IsEventOf (Asked.Event event) other)
         (IsEventOf (Asked.Event event)) }
 {
@@ -89,14 +89,14 @@ fn placed(event: Event) -> Option<Event>
 }
 
 /// The event of a statement, where its numbers are in range.
-fn event_of(asked: Asked) -> Option<Event>
+fn event_asked(asked: Asked) -> Option<Event>
     ensures event { MatchOption result ((event : Event) → ¬ IsEventOf asked event) (IsEventOf asked) }
 {
     match asked {
-        Asked::Event(event) => placed(event),
-        Asked::Moment(moment) => time_of(moment),
-        Asked::Wire { dev, level } => wire_of(dev, level),
-        Asked::Line { irq, level } => line_of(irq, level),
+        Asked::Event(event) => if_placed(event),
+        Asked::Moment(moment) => time_event(moment),
+        Asked::Wire { dev, level } => wire_event(dev, level),
+        Asked::Line { irq, level } => line_event(irq, level),
     }
 }
 
@@ -105,16 +105,16 @@ fn numbered(seq: u32, asked: Asked) -> Option<(u32, Event)>
     ensures asked { MatchOption result ((event : Event) → ¬ IsEventOf asked event)
         (λ p. (p.0 ≡ seq) × IsEventOf asked p.1) }
 {
-    let event = event_of(asked)?;
+    let event = event_asked(asked)?;
     Some((seq, event))
 }
 
 /// The number of a processor's entry and the event of `S STATEMENT`, which a script reads as processor and statement.
-pub(crate) fn asked_of(version: u8, text: &[u8]) -> Option<(u32, Event)>
+pub(crate) fn parse_numbered_event(version: u8, text: &[u8]) -> Option<(u32, Event)>
     ensures asked { MatchOption result ((seq : ℕ) (event : Event) → ¬ IsAsked version text.now seq event)
         (λ p. IsAsked version text.now p.0 p.1) }
 {
-    match item_of(version, text)? {
+    match parse_item(version, text)? {
         Item::Statement { actor, asked } => numbered(actor, asked),
         _ => None,
     }

@@ -1,9 +1,9 @@
 //! Texts that are cut at a mark, and small numbers.
 
 ghost use Rattle.std.specs.Prelude.{◌≡◌, ◌<◌, length, IfSome, option_map};
-ghost use Rattle.script_spec.specs.Cuts.{cut, digit_in, byte_in};
+ghost use Rattle.script_spec.specs.Cuts.{cut, parse_one_digit, if_byte};
 
-use script_lines::digit_of;
+use script_lines::parse_digit;
 
 /// The base of decimals.
 const TEN: u64 = 10;
@@ -20,21 +20,21 @@ pub fn cut(mark: u8, text: &[u8]) -> Option<(&[u8], &[u8])>
 }
 
 /// The number of one decimal digit, 0 to 9.
-#[tactic(auto, unfolding(script_spec::specs::Cuts::digit_in))]
-pub(crate) fn digit_in(field: &[u8]) -> Option<u8>
-    ensures digit { result ≡ digit_in field.now }
+#[tactic(auto, unfolding(script_spec::specs::Cuts::parse_one_digit))]
+pub(crate) fn parse_one_digit(field: &[u8]) -> Option<u8>
+    ensures digit { result ≡ parse_one_digit field.now }
     ensures below { IfSome result (λ digit. digit < 10) }
 {
     let [byte] = field else {
         return None;
     };
-    let digit = digit_of(TEN, *byte)?;
+    let digit = parse_digit(TEN, *byte)?;
     Some(digit as u8)
 }
 
 /// The same number where it is at most 255.
-pub(crate) fn byte_in(number: u32) -> Option<u8>
-    ensures byte { result ≡ byte_in number }
+pub(crate) fn if_byte(number: u32) -> Option<u8>
+    ensures byte { result ≡ if_byte number }
 {
     if number < 0x100 {
         Some(number as u8)

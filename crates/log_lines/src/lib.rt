@@ -9,4 +9,4 @@ mod target;
 mod wide;
 
 pub use cuts::cut;
-pub use entry::entry_of;
+pub use entry::parse_entry;

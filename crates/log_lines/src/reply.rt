@@ -2,14 +2,14 @@
 
 ghost use Rattle.std.specs.Prelude.{◌≡◌, ◌≤◌, ◌<◌, ◌^◌, ◌∷◌, ℕ, false, length, IfSome};
 ghost use Rattle.board_prelude.specs.Common.{Reply, is_write, parts_of, outside_answer, space, value_bytes, reply_text};
-ghost use Rattle.script_spec.specs.Common.{IsDecimal, IsEventForm, IsReplyValue, IsBusReply, IsWideReply, IsLookReply, HasShape, decimal_of, no_value, value_of, bus_of, parts_with, wide_of, reply_of, reply_in, IsNarrow};
-ghost use Rattle.script_spec.specs.Replies.{look_of};
+ghost use Rattle.script_spec.specs.Common.{IsDecimal, IsEventForm, IsReplyValue, IsBusReply, IsWideReply, IsLookReply, HasShape, parse_decimal, parse_no_value, parse_value, parse_bus_reply, parts_with, parse_wide_reply, parse_reply, parse_spaced_reply, IsNarrow};
+ghost use Rattle.script_spec.specs.Replies.{parse_look_reply};
 
-use crate::target::{area_of, denial_of, target_of};
-use crate::wide::{count_of, part_count, parts_in};
+use crate::target::{parse_area, parse_denial, parse_target};
+use crate::wide::{parse_parts, part_count, parts_length};
 use board_base::{Dev, Target, WideAccess};
 use board_spec::{Event, Look, Parts, Reply};
-use script_lines::{Fields, decimal_of, hex_of};
+use script_lines::{Fields, parse_decimal, parse_hex};
 
 /// The most parts of a wide access.
 const MOST_PARTS: u32 = 4;
@@ -17,8 +17,8 @@ const MOST_PARTS: u32 = 4;
 // ---- values
 
 /// No value, which is `-`.
-fn no_value(field: &[u8]) -> Option<Option<u64>>
-    ensures value { result ≡ no_value field.now }
+fn parse_no_value(field: &[u8]) -> Option<Option<u64>>
+    ensures value { result ≡ parse_no_value field.now }
     ensures none { IfSome result (λ value. value ≡ None) }
 {
     match field {
@@ -28,25 +28,25 @@ fn no_value(field: &[u8]) -> Option<Option<u64>>
 }
 
 /// A value has two digits for each byte of the access.
-fn read_value(bytes: u32, field: &[u8]) -> Option<Option<u64>>
+fn parse_read_value(bytes: u32, field: &[u8]) -> Option<Option<u64>>
     requires few { bytes ≤ 8 }
-    ensures value { result ≡ value_of false bytes field.now }
+    ensures value { result ≡ parse_value false bytes field.now }
     ensures fits { IfSome result (IsReplyValue false bytes) }
 {
-    let value = hex_of(2 * bytes as usize, field)?;
+    let value = parse_hex(2 * bytes as usize, field)?;
     Some(Some(value))
 }
 
 /// The value of a reply, of `bytes` bytes, which only an access that reads has.
-fn value_of(writes: bool, bytes: u32, field: &[u8]) -> Option<Option<u64>>
+fn parse_value(writes: bool, bytes: u32, field: &[u8]) -> Option<Option<u64>>
     requires few { bytes ≤ 8 }
-    ensures value { result ≡ value_of writes bytes field.now }
+    ensures value { result ≡ parse_value writes bytes field.now }
     ensures fits { IfSome result (IsReplyValue writes bytes) }
 {
     if writes {
-        no_value(field)
+        parse_no_value(field)
     } else {
-        read_value(bytes, field)
+        parse_read_value(bytes, field)
     }
 }
 
@@ -64,19 +64,19 @@ fn narrowed(value: Option<u64>) -> Option<u32>
 // ---- the shapes
 
 /// `VALUE TARGET DENIAL`.
-#[tactic(auto, unfolding(script_spec::specs::Replies::bus_of))]
-fn bus_of(writes: bool, bytes: u32, words: Fields<'_>) -> Option<Reply>
+#[tactic(auto, unfolding(script_spec::specs::Replies::parse_bus_reply))]
+fn parse_bus_reply(writes: bool, bytes: u32, words: Fields<'_>) -> Option<Reply>
     requires few { bytes ≤ 4 }
-    ensures reply { result ≡ bus_of writes bytes words.entry }
+    ensures reply { result ≡ parse_bus_reply writes bytes words.entry }
     ensures shape { IfSome result (IsBusReply writes bytes) }
 {
     let (value, words) = words.next()?;
     let (target, words) = words.next()?;
     let (denial, words) = words.next()?;
     words.end()?;
-    let value = value_of(writes, bytes, value)?;
-    let target = target_of(target)?;
-    let denial = denial_of(denial)?;
+    let value = parse_value(writes, bytes, value)?;
+    let target = parse_target(target)?;
+    let denial = parse_denial(denial)?;
     Some(Reply::Bus {
         value: narrowed(value),
         target,
@@ -90,7 +90,7 @@ fn parts_with(access: &WideAccess, value: Option<u64>, parts: Parts) -> Option<R
     ensures reply { result ≡ parts_with access.now value parts }
 {
     let count = part_count(MOST_PARTS, u64::from(access.addr), u64::from(access.bytes));
-    if count_of(&parts) == count {
+    if parts_length(&parts) == count {
         Some(Reply::Parts { value, parts })
     } else {
         None
@@ -98,31 +98,31 @@ fn parts_with(access: &WideAccess, value: Option<u64>, parts: Parts) -> Option<R
 }
 
 /// `VALUE`, and `TARGET DENIAL` for each part.
-#[tactic(auto, unfolding(script_spec::specs::Replies::wide_of))]
-fn wide_of(access: &WideAccess, words: Fields<'_>) -> Option<Reply>
+#[tactic(auto, unfolding(script_spec::specs::Replies::parse_wide_reply))]
+fn parse_wide_reply(access: &WideAccess, words: Fields<'_>) -> Option<Reply>
     requires bytes { access.now.bytes ≤ 8 }
-    ensures reply { result ≡ wide_of access.now words.entry }
+    ensures reply { result ≡ parse_wide_reply access.now words.entry }
     ensures shape { IfSome result
         (IsWideReply (is_write access.now.kind) access.now.bytes (length (parts_of access.now))) }
 {
     let (value, words) = words.next()?;
-    let value = value_of(access.kind.is_write(), u32::from(access.bytes), value)?;
-    let parts = parts_in(words)?;
+    let value = parse_value(access.kind.is_write(), u32::from(access.bytes), value)?;
+    let parts = parse_parts(words)?;
     parts_with(access, value, parts)
 }
 
 /// A number of map writes, a decimal.
-fn version_in(field: &[u8]) -> Option<u32>
-    ensures version { result ≡ decimal_of field.now }
+fn parse_version(field: &[u8]) -> Option<u32>
+    ensures version { result ≡ parse_decimal field.now }
     ensures below { IfSome result IsDecimal }
 {
-    decimal_of(field)
+    parse_decimal(field)
 }
 
 /// `VERSION LO HI AREA`.
-#[tactic(auto, unfolding(script_spec::specs::Replies::look_of))]
-fn look_of(words: Fields<'_>) -> Option<Reply>
-    ensures reply { result ≡ look_of words.entry }
+#[tactic(auto, unfolding(script_spec::specs::Replies::parse_look_reply))]
+fn parse_look_reply(words: Fields<'_>) -> Option<Reply>
+    ensures reply { result ≡ parse_look_reply words.entry }
     ensures shape { IfSome result IsLookReply }
 {
     let (version, words) = words.next()?;
@@ -130,10 +130,10 @@ fn look_of(words: Fields<'_>) -> Option<Reply>
     let (hi, words) = words.next()?;
     let (area, words) = words.next()?;
     words.end()?;
-    let version = version_in(version)?;
-    let lo = hex_of(8, lo)?;
-    let hi = hex_of(8, hi)?;
-    let area = area_of(area)?;
+    let version = parse_version(version)?;
+    let lo = parse_hex(8, lo)?;
+    let hi = parse_hex(8, hi)?;
+    let area = parse_area(area)?;
     Some(Reply::Saw(Look {
         version,
         lo: lo as u32,
@@ -154,18 +154,22 @@ fn outside(dev: Dev) -> Reply
 }
 
 /// The reply to an event, by its words.
-#[tactic(auto, unfolding(script_spec::specs::Replies::reply_of))]
-fn reply_of(event: &Event, words: Fields<'_>) -> Option<Reply>
+#[tactic(auto, unfolding(script_spec::specs::Replies::parse_reply))]
+fn parse_reply(event: &Event, words: Fields<'_>) -> Option<Reply>
     requires bytes { IsNarrow event.now }
-    ensures reply { result ≡ reply_of event.now words.entry }
+    ensures reply { result ≡ parse_reply event.now words.entry }
     ensures shape { IfSome result (HasShape event.now) }
 {
     match event {
-        Event::Memory(access) => bus_of(access.kind.is_write(), access.width.bytes(), words),
-        Event::Wide(access) => wide_of(access, words),
-        Event::Port(access) => bus_of(access.write, access.width.bytes(), words),
-        Event::Look { .. } => look_of(words),
-        Event::Ack => bus_of(false, 1, words),
+        Event::Memory(access) => parse_bus_reply(
+            access.kind.is_write(),
+            access.width.bytes(),
+            words,
+        ),
+        Event::Wide(access) => parse_wide_reply(access, words),
+        Event::Port(access) => parse_bus_reply(access.write, access.width.bytes(), words),
+        Event::Look { .. } => parse_look_reply(words),
+        Event::Ack => parse_bus_reply(false, 1, words),
         Event::Pulses(_) => Some(outside(Dev::Pit)),
         Event::Time(_) => Some(outside(Dev::Clock)),
         Event::Wire { .. } => Some(outside(Dev::Wires)),
@@ -175,23 +179,23 @@ fn reply_of(event: &Event, words: Fields<'_>) -> Option<Reply>
 }
 
 /// The reply by the fields of the text after `=`, of which the first is empty.
-#[tactic(auto, unfolding(script_spec::specs::Replies::reply_in))]
-fn reply_in(event: &Event, fields: Fields<'_>) -> Option<Reply>
+#[tactic(auto, unfolding(script_spec::specs::Replies::parse_spaced_reply))]
+fn parse_spaced_reply(event: &Event, fields: Fields<'_>) -> Option<Reply>
     requires bytes { IsNarrow event.now }
-    ensures reply { result ≡ reply_in event.now fields.entry }
+    ensures reply { result ≡ parse_spaced_reply event.now fields.entry }
     ensures shape { IfSome result (HasShape event.now) }
 {
     let (_, words) = fields.next()?;
-    reply_of(event, words)
+    parse_reply(event, words)
 }
 
 /// The reply to an event, by the text after `=`. Any reply that the event can have is read from its text.
-pub(crate) fn read_reply(event: &Event, text: &[u8]) -> Option<Reply>
+pub(crate) fn parse_reply_text(event: &Event, text: &[u8]) -> Option<Reply>
     requires bytes { IsNarrow event.now }
     ensures shape { IfSome result (HasShape event.now) }
     ensures found { (version : ℕ) (reply : Reply) → IsEventForm version event.now → HasShape event.now reply
         → text.now ≡ space ∷ reply_text (value_bytes event.now) reply → result ≡ Some reply }
 {
     let fields = Fields::of(text);
-    reply_in(event, fields)
+    parse_spaced_reply(event, fields)
 }

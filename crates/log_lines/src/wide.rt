@@ -2,44 +2,44 @@
 
 ghost use Rattle.std.specs.Prelude.{◌≡◌, ◌≤◌, ◌+◌, ◌^◌, length, IfSome, All, option_map};
 ghost use Rattle.board_spec.specs.WideParts.{longest_at, parts_list};
-ghost use Rattle.script_spec.specs.Common.{FitsPart, last_parts, more_parts, parts_in, part_count};
-ghost use Rattle.script_spec.specs.Replies.{part_of};
+ghost use Rattle.script_spec.specs.Common.{FitsPart, parse_last_parts, parse_more_parts, parse_parts, part_count};
+ghost use Rattle.script_spec.specs.Replies.{parse_part};
 
-use crate::target::{denial_of, target_of};
+use crate::target::{parse_denial, parse_target};
 use board_base::Width;
 use board_spec::{Part, Parts};
 use script_lines::Fields;
 
 /// What answered and denied one part.
-#[tactic(auto, unfolding(script_spec::specs::Replies::part_of))]
-fn part_of(target: &[u8], denial: &[u8]) -> Option<Part>
-    ensures part { result ≡ part_of target.now denial.now }
+#[tactic(auto, unfolding(script_spec::specs::Replies::parse_part))]
+fn parse_part(target: &[u8], denial: &[u8]) -> Option<Part>
+    ensures part { result ≡ parse_part target.now denial.now }
     ensures fits { IfSome result FitsPart }
 {
-    let target = target_of(target)?;
-    let denial = denial_of(denial)?;
+    let target = parse_target(target)?;
+    let denial = parse_denial(denial)?;
     Some(Part { target, denial })
 }
 
 /// Four parts, the last by its two words.
-fn four_parts(a: Part, b: Part, c: Part, target: &[u8], denial: &[u8]) -> Option<Parts>
+fn parse_four_parts(a: Part, b: Part, c: Part, target: &[u8], denial: &[u8]) -> Option<Parts>
     requires first { FitsPart a }
     requires second { FitsPart b }
     requires third { FitsPart c }
-    ensures parts { result ≡ option_map (Parts.Four a b c) (part_of target.now denial.now) }
+    ensures parts { result ≡ option_map (Parts.Four a b c) (parse_part target.now denial.now) }
     ensures fits { IfSome result (λ parts. All FitsPart (parts_list parts)) }
 {
-    let last = part_of(target, denial)?;
+    let last = parse_part(target, denial)?;
     Some(Parts::Four(a, b, c, last))
 }
 
 /// The parts by the words after those of three.
-#[tactic(auto, unfolding(script_spec::specs::Replies::last_parts))]
-fn last_parts(a: Part, b: Part, c: Part, words: Fields<'_>) -> Option<Parts>
+#[tactic(auto, unfolding(script_spec::specs::Replies::parse_last_parts))]
+fn parse_last_parts(a: Part, b: Part, c: Part, words: Fields<'_>) -> Option<Parts>
     requires first { FitsPart a }
     requires second { FitsPart b }
     requires third { FitsPart c }
-    ensures parts { result ≡ last_parts a b c words.entry }
+    ensures parts { result ≡ parse_last_parts a b c words.entry }
     ensures fits { IfSome result (λ parts. All FitsPart (parts_list parts)) }
 {
     let Some((target, words)) = words.next() else {
@@ -47,42 +47,42 @@ fn last_parts(a: Part, b: Part, c: Part, words: Fields<'_>) -> Option<Parts>
     };
     let (denial, words) = words.next()?;
     words.end()?;
-    four_parts(a, b, c, target, denial)
+    parse_four_parts(a, b, c, target, denial)
 }
 
 /// The parts by the words after those of two.
-#[tactic(auto, unfolding(script_spec::specs::Replies::more_parts))]
-fn more_parts(a: Part, b: Part, words: Fields<'_>) -> Option<Parts>
+#[tactic(auto, unfolding(script_spec::specs::Replies::parse_more_parts))]
+fn parse_more_parts(a: Part, b: Part, words: Fields<'_>) -> Option<Parts>
     requires first { FitsPart a }
     requires second { FitsPart b }
-    ensures parts { result ≡ more_parts a b words.entry }
+    ensures parts { result ≡ parse_more_parts a b words.entry }
     ensures fits { IfSome result (λ parts. All FitsPart (parts_list parts)) }
 {
     let Some((target, words)) = words.next() else {
         return Some(Parts::Two(a, b));
     };
     let (denial, words) = words.next()?;
-    let third = part_of(target, denial)?;
-    last_parts(a, b, third, words)
+    let third = parse_part(target, denial)?;
+    parse_last_parts(a, b, third, words)
 }
 
 /// What answered two to four parts, in two words each.
-#[tactic(auto, unfolding(script_spec::specs::Replies::parts_in))]
-pub(crate) fn parts_in(words: Fields<'_>) -> Option<Parts>
-    ensures parts { result ≡ parts_in words.entry }
+#[tactic(auto, unfolding(script_spec::specs::Replies::parse_parts))]
+pub(crate) fn parse_parts(words: Fields<'_>) -> Option<Parts>
+    ensures parts { result ≡ parse_parts words.entry }
     ensures fits { IfSome result (λ parts. All FitsPart (parts_list parts)) }
 {
     let (target, words) = words.next()?;
     let (denial, words) = words.next()?;
     let (other, words) = words.next()?;
     let (next, words) = words.next()?;
-    let first = part_of(target, denial)?;
-    let second = part_of(other, next)?;
-    more_parts(first, second, words)
+    let first = parse_part(target, denial)?;
+    let second = parse_part(other, next)?;
+    parse_more_parts(first, second, words)
 }
 
 /// How many parts there are.
-pub(crate) fn count_of(parts: &Parts) -> u32
+pub(crate) fn parts_length(parts: &Parts) -> u32
     ensures count { result ≡ length (parts_list parts.now) }
 {
     match *parts {

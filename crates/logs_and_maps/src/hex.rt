@@ -25,7 +25,7 @@ static PAIRS: [u8; 512] = *b"\
 
 /// The digit of the low four bits of a byte.
 #[inline(always)]
-pub(crate) fn digit_of(byte: u8) -> u8
+pub(crate) fn hex_digit(byte: u8) -> u8
     ensures digit { result ≡ hex_digit byte }
 {
     DIGITS[usize::from(byte % 16)]
@@ -33,7 +33,7 @@ pub(crate) fn digit_of(byte: u8) -> u8
 
 /// The two digits of a byte.
 #[inline(always)]
-fn pair_of(byte: u8) -> (u8, u8)
+fn digits_of_byte(byte: u8) -> (u8, u8)
     ensures high { result.0 ≡ hex_digit (byte / 16) }
     ensures low { result.1 ≡ hex_digit byte }
 {
@@ -42,7 +42,7 @@ fn pair_of(byte: u8) -> (u8, u8)
 }
 
 /// A byte of a value; byte 0 is the lowest, and those past the seventh are 0.
-fn byte_of(value: u64, index: u32) -> u8
+fn byte_at(value: u64, index: u32) -> u8
     ensures byte { result ≡ byte value index }
 {
     if index < 8 {
@@ -57,7 +57,7 @@ pub fn push_hex_byte(text: &mut String, byte: u8) -> Result<(), NoMemory>
     ensures appended { OnOk result (AddsWords text.old text.new (hex_byte byte)) }
     ensures front { OnErr result (KeepsFront text.old text.new) }
 {
-    push_ascii(text, &[digit_of(byte / 16), digit_of(byte)])
+    push_ascii(text, &[hex_digit(byte / 16), hex_digit(byte)])
 }
 
 /// Appends an address or an offset, in eight digits.
@@ -78,7 +78,7 @@ pub(crate) fn push_hex(text: &mut String, bytes: u32, value: u64) -> Result<(), 
     let mut left = bytes;
     while left > 0 {
         left -= 1;
-        push_hex_byte(text, byte_of(value, left))?;
+        push_hex_byte(text, byte_at(value, left))?;
     }
     Ok(())
 }
@@ -90,7 +90,7 @@ pub(crate) fn put_hex_byte(line: &mut Tail, byte: u8)
     ensures words { line.new ≡ hex_byte byte ++ line.old }
     ensures length { GrowsBy line.old line.new 2 }
 {
-    let (high, low) = pair_of(byte);
+    let (high, low) = digits_of_byte(byte);
     line.put(&[high, low]);
 }
 
@@ -129,7 +129,7 @@ pub(crate) fn put_hex(line: &mut Tail, bytes: u32, value: u64)
     ensures length { GrowsBy line.old line.new 16 }
 {
     match bytes {
-        1 => put_hex_byte(line, byte_of(value, 0)),
+        1 => put_hex_byte(line, byte_at(value, 0)),
         2 => put_hex_word(line, (value % (1 << 16)) as u16),
         4 => put_hex_long(line, (value % (1 << 32)) as u32),
         _ => put_each_byte(line, bytes, value),
@@ -144,7 +144,7 @@ fn put_each_byte(line: &mut Tail, bytes: u32, value: u64)
     ensures length { GrowsBy line.old line.new 16 }
 {
     for index in 0..bytes {
-        put_hex_byte(line, byte_of(value, index));
+        put_hex_byte(line, byte_at(value, index));
     }
 }
 
@@ -155,5 +155,5 @@ pub(crate) fn put_hex_offset(line: &mut Tail, offset: u32)
     ensures length { GrowsBy line.old line.new 5 }
 {
     put_hex_word(line, (offset % (1 << 16)) as u16);
-    line.put(&[digit_of(byte_of(u64::from(offset), 2))]);
+    line.put(&[hex_digit(byte_at(u64::from(offset), 2))]);
 }

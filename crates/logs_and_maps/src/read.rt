@@ -3,13 +3,13 @@
 ghost use Rattle.std.specs.Prelude.{◌≡◌, ◌≢◌, ◌<◌, ◌-◌, ◌^◌, length, reverse, IfOk, IfErr, IfSome, MatchOption, All};
 ghost use Rattle.board_prelude.specs.Common.{Entry, line_text, lines_text};
 ghost use Rattle.script_spec.specs.Common.{IsVersion, IsWellFormed, IsLogText, IsBadLog};
-ghost use Rattle.logs_and_maps.specs.Reading.{NamesBad, version_of, HasEntry, HasNoEntry, IsBadAfter};
+ghost use Rattle.logs_and_maps.specs.Reading.{NamesBad, parse_version, HasEntry, HasNoEntry, IsBadAfter};
 
 use crate::fault::LogFault;
 use crate::log::push_entry;
 use board_base::NoMemory;
 use board_spec::Entry;
-use log_lines::{cut, entry_of};
+use log_lines::{cut, parse_entry};
 use script_lines::is_word;
 use std::alloc::Global;
 
@@ -21,8 +21,8 @@ pub struct Log {
 }
 
 /// The version that a heading names.
-fn version_of(line: &[u8]) -> Option<u8>
-    ensures version { result ≡ version_of line.now }
+fn parse_version(line: &[u8]) -> Option<u8>
+    ensures version { result ≡ parse_version line.now }
 {
     if is_word(line, "access log 1") {
         return Some(1);
@@ -45,7 +45,7 @@ fn read_entry(
         ((entry : Entry) → IsWellFormed version entry → line.now ≢ line_text n entry)
         (λ entry. IsWellFormed version entry × (line.now ≡ line_text n entry))) }
 {
-    let Some(entry) = entry_of(version, line) else {
+    let Some(entry) = parse_entry(version, line) else {
         return Ok(None);
     };
     text.clear();
@@ -111,7 +111,7 @@ pub fn read_log(alloc: Global, bytes: &[u8]) -> Result<Log, LogFault>
     let Some((heading, lines)) = cut(b'\n', bytes) else {
         return Err(LogFault::Bad { line: 1 });
     };
-    let Some(version) = version_of(heading) else {
+    let Some(version) = parse_version(heading) else {
         return Err(LogFault::Bad { line: 1 });
     };
     let entries = read_entries(alloc, version, lines)?;

@@ -5,7 +5,7 @@ ghost use Rattle.board_spec.specs.Text.{register_text, base_text, area_text, dev
 ghost use Rattle.logs_and_maps.specs.Adds.{AddsWords, KeepsFront};
 ghost use Rattle.logs_and_maps.specs.Tails.{HasRoom, GrowsBy};
 
-use crate::hex::{digit_of, put_hex_byte, put_hex_long, put_hex_offset};
+use crate::hex::{hex_digit, put_hex_byte, put_hex_long, put_hex_offset};
 use crate::tail::Tail;
 use crate::words::put_numbered;
 use board_base::{Area, Denial, Dev, NoMemory, Reg, Target};
@@ -17,7 +17,7 @@ pub(crate) fn put_register(line: &mut Tail, reg: Reg)
     ensures length { GrowsBy line.old line.new 7 }
 {
     put_hex_byte(line, reg.off);
-    line.put(&[b'.', digit_of(reg.fun), b'.']);
+    line.put(&[b'.', hex_digit(reg.fun), b'.']);
     put_hex_byte(line, reg.dev);
 }
 

@@ -125,13 +125,13 @@ no-reason count before statement has fine few =
 -- ---- all of them
 
 -- the items that stand there once statements are read, the newest first
-abbrev pub asked : List Statement → List Item → List Item
-asked [] before = before
-asked (statement ∷ later) before = asked later (Ask statement ∷ before)
+abbrev pub items_asked : List Statement → List Item → List Item
+items_asked [] before = before
+items_asked (statement ∷ later) before = items_asked later (Ask statement ∷ before)
 
 pub asks-read : (statements : List Statement) (count : ℕ) (before : List Item) → AreAsked count before
     → All IsFine statements → count + length statements ≤ 250_000
-    → AreRead 1 before (map said statements) (asked statements before)
+    → AreRead 1 before (map said statements) (items_asked statements before)
 asks-read [] count before has fine few = refl
 asks-read (statement ∷ later) count before has fine few =
     let first : IsFine statement = All-head IsFine statement later fine in
@@ -150,7 +150,7 @@ asks-read (statement ∷ later) count before has fine few =
 -- what does not look at statements is as before
 pub asked-keeps : {X : Type 0} (f : List Item → X) (statements : List Statement) (before : List Item)
     → ((statement : Statement) (items : List Item) → f (Ask statement ∷ items) ≡ f items)
-    → f (asked statements before) ≡ f before
+    → f (items_asked statements before) ≡ f before
 asked-keeps f [] before keeps = refl
 asked-keeps f (statement ∷ later) before keeps =
     asked-keeps f later (Ask statement ∷ before) keeps ∙ keeps statement before
@@ -159,7 +159,7 @@ abbrev pub run_of : List Item → List Item
 run_of items = reverse (filter (λ item. not (is_setup item)) items)
 
 pub asked-run : (statements : List Statement) (before : List Item)
-    → run_of (asked statements before) ≡ run_of before ++ map Ask statements
+    → run_of (items_asked statements before) ≡ run_of before ++ map Ask statements
 asked-run [] before = sym (append-nil (run_of before))
 asked-run (statement ∷ later) before =
     asked-run later (Ask statement ∷ before)

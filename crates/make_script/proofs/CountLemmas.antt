@@ -3,13 +3,13 @@ use Rattle.std.proofs.Common.{ℕ, ◌≡◌, ◌+◌, ◌≤◌, ◌<◌, Bool,
 use mir.Val.{bool_byte}
 use Rattle.board_prelude.proofs.Common.{cases_Bool, All-head, All-tail, Dram, Shadow, Smram, Rom, Card, Device, Config, Abort, Event, Reply, Bus, Saw, Entry}
 use Rattle.board_spec.specs.declared.event.Reply.TheVariants.{Parts as InParts}
-use Rattle.make_script.specs.Common.{is_dram, is_shadow, is_smram, is_rom, is_card, is_config, is_device, is_abort, answers, is_look, count_of, IsCycleReply, KindsAddUp, AreCounts, HasRoomForOne, most_counted}
+use Rattle.make_script.specs.Common.{is_dram, is_shadow, is_smram, is_rom, is_card, is_config, is_device, is_abort, answers, is_look, count_where, IsCycleReply, KindsAddUp, AreCounts, HasRoomForOne, most_counted}
 use Rattle.make_script.specs.declared.counts.Counts.{Counts}
 
 pub count-more :
     (test : Entry → Bool) (entry : Entry) (history : List Entry) (mark : Bool) (n more : ℕ) → mark ≡ test entry
-    → n ≡ count_of test history → more ≡ bool_byte mark
-    → n + more ≡ count_of test (entry ∷ history)
+    → n ≡ count_where test history → more ≡ bool_byte mark
+    → n + more ≡ count_where test (entry ∷ history)
 count-more test entry history mark n more marked before one =
     elim (cases_Bool (test entry)) [
       | inl passes ↦
@@ -20,7 +20,7 @@ count-more test entry history mark n more marked before one =
           rw fails (omega (arith, now, before))
     ]
 
-count-below : (test : Entry → Bool) (history : List Entry) → count_of test history ≤ length history
+count-below : (test : Entry → Bool) (history : List Entry) → count_where test history ≤ length history
 count-below test [] = omega arith
 count-below test (entry ∷ before) =
     elim (cases_Bool (test entry)) [
@@ -28,7 +28,7 @@ count-below test (entry ∷ before) =
       | inr fails ↦ rw fails (omega (arith, count-below test before))
     ]
 
-has-room : (test : Entry → Bool) (history : List Entry) (n : ℕ) → n ≡ count_of test history
+has-room : (test : Entry → Bool) (history : List Entry) (n : ℕ) → n ≡ count_where test history
     → length history < most_counted → n < most_counted
 has-room test history n is few = omega (arith, is, few, count-below test history)
 
@@ -54,7 +54,7 @@ abbrev one : (Entry → Bool) → Entry → ℕ
 one test entry = cond {A = ℕ} (test entry) 1 0
 
 count-one : (test : Entry → Bool) (entry : Entry) (before : List Entry)
-    → count_of test (entry ∷ before) ≡ one test entry + count_of test before
+    → count_where test (entry ∷ before) ≡ one test entry + count_where test before
 count-one test entry before =
     elim (cases_Bool (test entry)) [
       | inl passes ↦ rw passes (omega arith)

@@ -6,7 +6,7 @@ use Rattle.std.proofs.lemmas.List.Sorted.{IsPermutation-reverse}
 use Rattle.script_spec.specs.Common.{lines_of, text_of_lines, Item, SetCpus, SetMemory, SetRom, SetDisk, FitCard, BeginPhase, Ask, IsBaseForm, IsForm, Says, item_text, is_cpus, is_memory, is_rom, is_disk, is_cpus_above, cards_of, lacks_setup, least_reason, most_bytes, is_skipped, IsGoodLine, AreRead, IsSaidBy}
 use Rattle.script_spec.proofs.Common.{lacks, scripts_are_in_range}
 use Rattle.make_script.specs.Common.{setup_lines, opening_lines, round_lines, lines_of_rounds, make_lines, make_text, asks, opening_events, round_statements, statements_of_rounds, made_statements, vga_card, plain_card, made_cards, made_script, rom_image, disk_image, MakeTextIsScript, MadeIsInRange, StatementCount, MadeSetupFits}
-use Rattle.make_script.proofs.AskedLemmas.{lines-back, said, said-lines, AreAsked, asked, asks-read, asked-keeps, asked-run}
+use Rattle.make_script.proofs.AskedLemmas.{lines-back, said, said-lines, AreAsked, items_asked, asks-read, asked-keeps, asked-run}
 use Rattle.make_script.proofs.FineLemmas.{made-fine}
 
 -- ---- each line is that of its statement
@@ -155,7 +155,7 @@ pub statement-count : StatementCount
 statement-count n =
     omega (arith, length-append (map (asks 0) opening_events) (statements_of_rounds n), opening-count, rounds-count n)
 
-said-by : (n : ℕ) → IsSaidBy (made_script n) (asked (made_statements n) setup_items)
+said-by : (n : ℕ) → IsSaidBy (made_script n) (items_asked (made_statements n) setup_items)
 unfolding made_script
 said-by n =
     let statements : List Statement = made_statements n in
@@ -180,7 +180,7 @@ pub make-text-is-script : MakeTextIsScript
 unfolding made_script setup_lines digits
 make-text-is-script n few =
     let statements : List Statement = made_statements n in
-    let items : List Item = asked statements setup_items in
+    let items : List Item = items_asked statements setup_items in
     record {
       version = inl refl;
       later = after_first (map said statements);

@@ -6,5 +6,5 @@ pub use Rattle.make_script.specs.MadeScript.{asks, made_cards, made_setup, made_
 unfoldable pub use Rattle.make_script.specs.MadeScript.{made_script, opening_events, round_statements, statements_of_rounds}
 pub use Rattle.make_script.specs.MakeText.{card_addr, dram_addr, make_lines}
 unfoldable pub use Rattle.make_script.specs.MakeText.{lines_of_rounds, make_text, opening_lines, round_lines, setup_lines}
-pub use Rattle.make_script.specs.Summary.{answers, count_of, is_abort, is_card, is_config, is_device, is_dram, is_look, is_rom, is_shadow, is_smram}
+pub use Rattle.make_script.specs.Summary.{answers, count_where, is_abort, is_card, is_config, is_device, is_dram, is_look, is_rom, is_shadow, is_smram}
 unfoldable pub use Rattle.make_script.specs.Summary.{summary_of}

@@ -1,7 +1,7 @@
 -- What the parts of a reply count as, and how many entries of each kind a history has.
 use Rattle.std.specs.Prelude.{ℕ, ◌≡◌, ◌<◌, ◌^◌, ◌-◌, Bool, List, is_some}
 use Rattle.board_prelude.specs.Common.{list_any, Target, Part, Entry}
-use Rattle.make_script.specs.Summary.{is_dram, is_shadow, is_smram, is_rom, is_card, is_config, is_device, is_abort, answers, is_denied, is_look, count_of}
+use Rattle.make_script.specs.Summary.{is_dram, is_shadow, is_smram, is_rom, is_card, is_config, is_device, is_abort, answers, is_denied, is_look, count_where}
 use Rattle.make_script.specs.declared.counts.Marks.{Marks}
 use Rattle.make_script.specs.declared.counts.Counts.{Counts}
 
@@ -22,16 +22,16 @@ pub record AreMarks (parts : List Part) (marks : Marks) : Type 0 where
 
 -- the counts of a history
 pub record AreCounts (history : List Entry) (counts : Counts) : Type 0 where
-  pub dram : counts.dram ≡ count_of (answers is_dram) history
-  pub shadow : counts.shadow ≡ count_of (answers is_shadow) history
-  pub smram : counts.smram ≡ count_of (answers is_smram) history
-  pub rom : counts.rom ≡ count_of (answers is_rom) history
-  pub card : counts.card ≡ count_of (answers is_card) history
-  pub config : counts.config ≡ count_of (answers is_config) history
-  pub device : counts.device ≡ count_of (answers is_device) history
-  pub abort : counts.abort ≡ count_of (answers is_abort) history
-  pub denied : counts.denied ≡ count_of is_denied history
-  pub looks : counts.looks ≡ count_of is_look history
+  pub dram : counts.dram ≡ count_where (answers is_dram) history
+  pub shadow : counts.shadow ≡ count_where (answers is_shadow) history
+  pub smram : counts.smram ≡ count_where (answers is_smram) history
+  pub rom : counts.rom ≡ count_where (answers is_rom) history
+  pub card : counts.card ≡ count_where (answers is_card) history
+  pub config : counts.config ≡ count_where (answers is_config) history
+  pub device : counts.device ≡ count_where (answers is_device) history
+  pub abort : counts.abort ≡ count_where (answers is_abort) history
+  pub denied : counts.denied ≡ count_where is_denied history
+  pub looks : counts.looks ≡ count_where is_look history
 
 -- a count below this can take one more
 abbrev pub most_counted : ℕ

@@ -5,7 +5,7 @@ use Rattle.board_spec.specs.declared.event.Reply.TheVariants.{Parts as InParts}
 use Rattle.script_spec.specs.Common.{IsScriptText, IsInRangeScript}
 use Rattle.make_script.specs.MakeText.{make_text}
 use Rattle.make_script.specs.MadeScript.{made_statements, made_script, made_setup}
-use Rattle.make_script.specs.Summary.{is_dram, is_shadow, is_smram, is_rom, is_card, is_config, is_device, is_abort, answers, is_look, count_of}
+use Rattle.make_script.specs.Summary.{is_dram, is_shadow, is_smram, is_rom, is_card, is_config, is_device, is_abort, answers, is_look, count_where}
 
 -- the most rounds
 abbrev pub most_rounds : ℕ
@@ -37,7 +37,7 @@ IsCycleReply (Saw look) = Unit {0}
 abbrev pub KindsAddUp : Type 0
 KindsAddUp =
     (history : List Entry) → All (λ entry. IsCycleReply entry.reply) history →
-    count_of (answers is_dram) history + count_of (answers is_shadow) history + count_of (answers is_smram) history
-    + count_of (answers is_rom) history + count_of (answers is_card) history + count_of (answers is_config) history
-    + count_of (answers is_device) history + count_of (answers is_abort) history + count_of is_look history
+    count_where (answers is_dram) history + count_where (answers is_shadow) history + count_where (answers is_smram) history
+    + count_where (answers is_rom) history + count_where (answers is_card) history + count_where (answers is_config) history
+    + count_where (answers is_device) history + count_where (answers is_abort) history + count_where is_look history
     ≡ length history

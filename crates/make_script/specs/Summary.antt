@@ -64,23 +64,23 @@ is_look entry = is_look_reply entry.reply
 
 -- ---- the lines
 
-abbrev pub count_of : (Entry → Bool) → List Entry → ℕ
-count_of test history = length (filter test history)
+abbrev pub count_where : (Entry → Bool) → List Entry → ℕ
+count_where test history = length (filter test history)
 
 -- the lines of the entries, by what answered them and what denied them
 unfoldable pub entry_lines : (history : List Entry) → List (List ℕ)
 entry_lines history =
     (codes "entries " ++ decimal (length history))
-    ∷ (codes "dram " ++ decimal (count_of (answers is_dram) history))
-    ∷ (codes "shadow " ++ decimal (count_of (answers is_shadow) history))
-    ∷ (codes "smram " ++ decimal (count_of (answers is_smram) history))
-    ∷ (codes "rom " ++ decimal (count_of (answers is_rom) history))
-    ∷ (codes "card " ++ decimal (count_of (answers is_card) history))
-    ∷ (codes "config " ++ decimal (count_of (answers is_config) history))
-    ∷ (codes "device " ++ decimal (count_of (answers is_device) history))
-    ∷ (codes "abort " ++ decimal (count_of (answers is_abort) history))
-    ∷ (codes "denied " ++ decimal (count_of is_denied history))
-    ∷ (codes "looks " ++ decimal (count_of is_look history))
+    ∷ (codes "dram " ++ decimal (count_where (answers is_dram) history))
+    ∷ (codes "shadow " ++ decimal (count_where (answers is_shadow) history))
+    ∷ (codes "smram " ++ decimal (count_where (answers is_smram) history))
+    ∷ (codes "rom " ++ decimal (count_where (answers is_rom) history))
+    ∷ (codes "card " ++ decimal (count_where (answers is_card) history))
+    ∷ (codes "config " ++ decimal (count_where (answers is_config) history))
+    ∷ (codes "device " ++ decimal (count_where (answers is_device) history))
+    ∷ (codes "abort " ++ decimal (count_where (answers is_abort) history))
+    ∷ (codes "denied " ++ decimal (count_where is_denied history))
+    ∷ (codes "looks " ++ decimal (count_where is_look history))
     ∷ []
 
 -- the lines of the map

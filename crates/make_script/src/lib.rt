@@ -9,7 +9,7 @@ pub mod laws;
 mod script;
 mod summary;
 
-pub use logs_and_maps::Line;
 pub use images::{make_disk, make_rom};
+pub use logs_and_maps::Line;
 pub use script::make_text;
 pub use summary::push_summary;

@@ -57,7 +57,7 @@ fn read_all(
     for index in 0..values.len() {
         let status = door.step(&event, reply);
         if status != OK {
-            return ended(index, status);
+            return done_or_refused(index, status);
         }
         values[index] = (reply.value % 0x1_0000_0000) as u32;
         if asks_back(reply) {
@@ -110,7 +110,7 @@ fn write_all(
         let event = port_record(WRITE_KIND, port, bytes, values[index]);
         let status = door.step(&event, reply);
         if status != OK {
-            return ended(index, status);
+            return done_or_refused(index, status);
         }
         if asks_back(reply) {
             return Ok(index + 1);
@@ -120,7 +120,7 @@ fn write_all(
 }
 
 /// How accesses end of which the one after so many is refused.
-fn ended(done: usize, status: u32) -> Result<usize, u32>
+fn done_or_refused(done: usize, status: u32) -> Result<usize, u32>
     ensures first { done ≡ 0 → result ≡ Err status }
     ensures later { 0 < done → result ≡ Ok done }
 {

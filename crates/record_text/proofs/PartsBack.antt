@@ -7,10 +7,10 @@ use Rattle.board_base.specs.declared.target.Target.TheVariants as targets
 use Rattle.script_spec.specs.WellFormed.{FitsDevice, FitsTarget, FitsPart}
 use Rattle.board_records.specs.declared.reply.PartRecord.{PartRecord}
 use Rattle.board_records.specs.Common.{device_number, target_said, area_said, with_denial, part_said, of_part}
-use Rattle.record_text.specs.Parts.{device_of, config_of, target_of, denial_of, part_of, area_of}
+use Rattle.record_text.specs.Parts.{device_recorded, config_recorded, target_recorded, denial_recorded, part_recorded, area_recorded}
 
-device_back : (dev : Dev) → FitsDevice dev → device_of (device_number dev) ≡ Some dev
-unfolding device_of
+device_back : (dev : Dev) → FitsDevice dev → device_recorded (device_number dev) ≡ Some dev
+unfolding device_recorded
 device_back devices.Confadd fits = refl
 device_back devices.Reset fits = refl
 device_back devices.Pic0 fits = refl
@@ -29,12 +29,12 @@ device_back (devices.Spurious zero) fits = refl
 device_back (devices.Spurious (suc zero)) fits = refl
 device_back (devices.Spurious (suc (suc chip))) fits = absurd (omega (arith, fits))
 
-register_back : (reg : Reg) → FitsTarget (targets.Config reg) → target_of (target_said (targets.Config reg)) ≡ Some (targets.Config reg)
-unfolding target_of config_of
+register_back : (reg : Reg) → FitsTarget (targets.Config reg) → target_recorded (target_said (targets.Config reg)) ≡ Some (targets.Config reg)
+unfolding target_recorded config_recorded
 register_back reg fits = rw (lt-ltb reg.off 256 fits.2) refl
 
-target_back : (target : Target) → FitsTarget target → target_of (target_said target) ≡ Some target
-unfolding target_of
+target_back : (target : Target) → FitsTarget target → target_recorded (target_said target) ≡ Some target
+unfolding target_recorded
 target_back (targets.Dram row) fits = refl
 target_back (targets.Shadow row) fits = refl
 target_back targets.Smram fits = refl
@@ -45,8 +45,8 @@ target_back (targets.Config reg) fits = register_back reg fits
 target_back targets.Abort fits = refl
 
 -- a denial leaves what answered as it is
-denied_target : (said : PartRecord) (denial : Option Denial) → target_of (with_denial said denial) ≡ target_of said
-unfolding target_of config_of
+denied_target : (said : PartRecord) (denial : Option Denial) → target_recorded (with_denial said denial) ≡ target_recorded said
+unfolding target_recorded config_recorded
 denied_target said None = refl
 denied_target said (Some (Register reg)) = refl
 denied_target said (Some Confadd) = refl
@@ -78,15 +78,15 @@ not_reserved target (Some (Register reg)) = unreserved target
 not_reserved target (Some Confadd) = unreserved target
 not_reserved target (Some NoRegister) = unreserved target
 
-denial_back : (target : Target) (denial : Option Denial) → denial_of (part_said target denial) ≡ Some denial
-unfolding denial_of part_said
+denial_back : (target : Target) (denial : Option Denial) → denial_recorded (part_said target denial) ≡ Some denial
+unfolding denial_recorded part_said
 denial_back target None = rw (not_denied target) refl
 denial_back target (Some (Register reg)) = refl
 denial_back target (Some Confadd) = refl
 denial_back target (Some NoRegister) = refl
 
-pub part_back : (part : Part) → FitsPart part → part_of (of_part part) ≡ Some part
-unfolding part_of part_said
+pub part_back : (part : Part) → FitsPart part → part_recorded (of_part part) ≡ Some part
+unfolding part_recorded part_said
 part_back part fits =
     rw (
       not_reserved part.target part.denial,
@@ -95,8 +95,8 @@ part_back part fits =
       denial_back part.target part.denial,
     ) refl
 
-pub area_back : (area : Area) → area_of (area_said area) ≡ Some area
-unfolding area_of
+pub area_back : (area : Area) → area_recorded (area_said area) ≡ Some area
+unfolding area_recorded
 area_back (areas.Dram row) = refl
 area_back (areas.Shadow row) = refl
 area_back areas.Smram = refl

@@ -8,26 +8,26 @@ use Rattle.board_spec.specs.declared.event.Reply.TheVariants.{Parts as InParts}
 use Rattle.script_spec.specs.WellFormed.{FitsPart, FitsTarget, IsReplyValue, IsBusReply, IsWideReply, IsLookReply, HasShape}
 use Rattle.board_records.specs.declared.reply.AfterStep.{AfterStep}
 use Rattle.board_records.specs.Replies.{record_said, bus_said, wide_said, look_said, blank}
-use Rattle.record_text.specs.Common.{bus_of, two_of, three_of, four_of, parts_of, wide_of, look_of, cycle_value_of, formed_by, reply_said, RecordSaysReply}
+use Rattle.record_text.specs.Common.{bus_recorded, two_parts_recorded, three_parts_recorded, four_parts_recorded, parts_recorded, wide_recorded, look_recorded, cycle_value_recorded, form_recorded, reply_recorded, RecordSaysReply}
 use Rattle.record_text.proofs.PartsBack.{part_back, area_back}
 
 -- ---- by the form
 
 cycle_back : (value : Option ℕ) (target : Target) (denial : Option Denial) (after : AfterStep) →
     IfSome value (λ v. v < 2 ^ 32) → FitsPart (record { target = target; denial = denial }) →
-    reply_said (bus_said value target denial after) ≡ Some (Bus value target denial)
-unfolding reply_said formed_by bus_of cycle_value_of bus_said blank
+    reply_recorded (bus_said value target denial after) ≡ Some (Bus value target denial)
+unfolding reply_recorded form_recorded bus_recorded cycle_value_recorded bus_said blank
 cycle_back None target denial after small fits = rw (part_back (record { target = target; denial = denial }) fits) refl
 cycle_back (Some value) target denial after small fits =
     rw (lt-ltb value (2 ^ 32) small, part_back (record { target = target; denial = denial }) fits) refl
 
-area_seen : (look : Look) (after : AfterStep) → reply_said (look_said look after) ≡ Some (Saw look)
-unfolding reply_said formed_by look_of look_said blank
+area_seen : (look : Look) (after : AfterStep) → reply_recorded (look_said look after) ≡ Some (Saw look)
+unfolding reply_recorded form_recorded look_recorded look_said blank
 area_seen look after = rw (area_back look.area) refl
 
 wide_back : (parts : Parts) (value : Option ℕ) (after : AfterStep) → All FitsPart (parts_list parts) →
-    reply_said (wide_said parts value after) ≡ Some (InParts parts value)
-unfolding reply_said formed_by wide_of parts_of two_of three_of four_of wide_said blank
+    reply_recorded (wide_said parts value after) ≡ Some (InParts parts value)
+unfolding reply_recorded form_recorded wide_recorded parts_recorded two_parts_recorded three_parts_recorded four_parts_recorded wide_said blank
 wide_back (Two a b) None after fits =
     let second = All-tail FitsPart a (b ∷ []) fits in
     rw (
@@ -91,7 +91,7 @@ few_bytes TwoBytes = omega arith
 few_bytes FourBytes = omega arith
 
 bus_back : (writes : Bool) (bytes : ℕ) (reply : Reply) (after : AfterStep) → bytes ≤ 4 → IsBusReply writes bytes reply →
-    reply_said (record_said reply after) ≡ Some reply
+    reply_recorded (record_said reply after) ≡ Some reply
 unfolding record_said
 bus_back writes bytes (Bus value target denial) after few fits =
     cycle_back value target denial after (narrow_value writes bytes value few fits.0) (fits.1, fits.2)
@@ -99,25 +99,25 @@ bus_back writes bytes (InParts parts value) after few fits = absurd fits
 bus_back writes bytes (Saw look) after few fits = absurd fits
 
 parted_back : (writes : Bool) (bytes count : ℕ) (reply : Reply) (after : AfterStep) → IsWideReply writes bytes count reply →
-    reply_said (record_said reply after) ≡ Some reply
+    reply_recorded (record_said reply after) ≡ Some reply
 unfolding record_said
 parted_back writes bytes count (Bus value target denial) after fits = absurd fits
 parted_back writes bytes count (InParts parts value) after fits = wide_back parts value after fits.1
 parted_back writes bytes count (Saw look) after fits = absurd fits
 
-look_back : (reply : Reply) (after : AfterStep) → IsLookReply reply → reply_said (record_said reply after) ≡ Some reply
+look_back : (reply : Reply) (after : AfterStep) → IsLookReply reply → reply_recorded (record_said reply after) ≡ Some reply
 unfolding record_said
 look_back (Bus value target denial) after fits = absurd fits
 look_back (InParts parts value) after fits = absurd fits
 look_back (Saw look) after fits = area_seen look after
 
 outside_back : (dev : Dev) (reply : Reply) (after : AfterStep) → FitsTarget (Device dev) → reply ≡ outside_answer dev →
-    reply_said (record_said reply after) ≡ Some reply
+    reply_recorded (record_said reply after) ≡ Some reply
 unfolding record_said
 outside_back dev reply after fits is = rw is (cycle_back None (Device dev) None after tt (fits, tt))
 
 reply_back : (event : Event) (reply : Reply) (after : AfterStep) → HasShape event reply →
-    reply_said (record_said reply after) ≡ Some reply
+    reply_recorded (record_said reply after) ≡ Some reply
 reply_back (Memory access) reply after shape =
     bus_back (is_write access.kind) (bytes_of access.width) reply after (few_bytes access.width) shape
 reply_back (Wide access) reply after shape =

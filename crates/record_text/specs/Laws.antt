@@ -4,10 +4,10 @@ use Rattle.board_spec.specs.declared.event.Entry.{Entry}
 use Rattle.script_spec.specs.WellFormed.{IsWellFormed}
 use Rattle.board_records.specs.declared.reply.AfterStep.{AfterStep}
 use Rattle.board_records.specs.Replies.{record_said}
-use Rattle.record_text.specs.Replies.{reply_said}
+use Rattle.record_text.specs.Replies.{reply_recorded}
 
 -- the record of a reply that a log can have says this reply, whatever stands after its step
 abbrev pub RecordSaysReply : Type 0
 RecordSaysReply =
     (version : ℕ) (entry : Entry) (after : AfterStep) → IsWellFormed version entry →
-    reply_said (record_said entry.reply after) ≡ Some entry.reply
+    reply_recorded (record_said entry.reply after) ≡ Some entry.reply

@@ -5,13 +5,13 @@ use Rattle.script_spec.specs.Numbers.{◌>>=◌}
 use Rattle.board_records.specs.declared.event.EventRecord.{EventRecord}
 use Rattle.board_records.specs.declared.reply.ReplyRecord.{ReplyRecord}
 use Rattle.board_records.specs.Common.{event_said, no_memory, no_event, no_reply, no_room}
-use Rattle.record_text.specs.Replies.{reply_said}
+use Rattle.record_text.specs.Replies.{reply_recorded}
 
 -- the entry of a processor, the number of this entry among its processor's, an event and its reply
-unfoldable pub entry_said : (processor statement : ℕ) → EventRecord → ReplyRecord → Option Entry
-entry_said processor statement event reply = do
+unfoldable pub entry_recorded : (processor statement : ℕ) → EventRecord → ReplyRecord → Option Entry
+entry_recorded processor statement event reply = do
   asked ← event_said event
-  answered ← reply_said reply
+  answered ← reply_recorded reply
   Some (record { actor = processor; seq = statement; event = asked; reply = answered })
 
 -- line `number` of the log, with its line feed

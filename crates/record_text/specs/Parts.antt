@@ -9,8 +9,8 @@ use Rattle.board_records.specs.declared.reply.PartRecord.{PartRecord}
 use Rattle.board_records.specs.Numbers.{dram_target, shadow_target, smram_target, rom_target, card_target, device_target, config_target, abort_target, register_denial, confadd_denial, no_register_denial}
 
 -- the devices in the order of their numbers, from 1 on
-unfoldable pub device_of : (number : ℕ) → Option Dev
-device_of number =
+unfoldable pub device_recorded : (number : ℕ) → Option Dev
+device_recorded number =
     if number == 1 then Some devices.Confadd else
     if number == 2 then Some devices.Reset else
     if number == 3 then Some devices.Pic0 else
@@ -28,25 +28,25 @@ device_of number =
     if number == 15 then Some (devices.Spurious 1) else None
 
 -- the first register of an access to configuration space, whose offset is a byte
-unfoldable pub config_of : PartRecord → Option Target
-config_of said =
+unfoldable pub config_recorded : PartRecord → Option Target
+config_recorded said =
     if nat_lt said.offset 256
     then Some (targets.Config (record { dev = said.unit; fun = said.base; off = said.offset }))
     else None
 
-unfoldable pub target_of : PartRecord → Option Target
-target_of said =
+unfoldable pub target_recorded : PartRecord → Option Target
+target_recorded said =
     if said.target == dram_target then Some (targets.Dram said.unit) else
     if said.target == shadow_target then Some (targets.Shadow said.unit) else
     if said.target == smram_target then Some targets.Smram else
     if said.target == rom_target then Some (targets.Rom said.offset) else
     if said.target == card_target then Some (targets.Card said.unit said.base said.offset) else
-    if said.target == device_target then option_map targets.Device (device_of said.unit) else
-    if said.target == config_target then config_of said else
+    if said.target == device_target then option_map targets.Device (device_recorded said.unit) else
+    if said.target == config_target then config_recorded said else
     if said.target == abort_target then Some targets.Abort else None
 
-unfoldable pub denial_of : PartRecord → Option (Option Denial)
-denial_of said =
+unfoldable pub denial_recorded : PartRecord → Option (Option Denial)
+denial_recorded said =
     if said.denial == 0 then Some None else
     if said.denial == register_denial
     then Some (Some (Register (record { dev = said.denial_dev; fun = said.denial_fun; off = said.denial_off }))) else
@@ -54,17 +54,17 @@ denial_of said =
     if said.denial == no_register_denial then Some (Some NoRegister) else None
 
 -- what is kept for later versions is 0
-unfoldable pub part_of : PartRecord → Option Part
-part_of said = if said.reserved == 0
+unfoldable pub part_recorded : PartRecord → Option Part
+part_recorded said = if said.reserved == 0
     then (do
-      target ← target_of said
-      denial ← denial_of said
+      target ← target_recorded said
+      denial ← denial_recorded said
       Some (record { target = target; denial = denial }))
     else None
 
 -- the area that a look saw
-unfoldable pub area_of : PartRecord → Option Area
-area_of said =
+unfoldable pub area_recorded : PartRecord → Option Area
+area_recorded said =
     if said.target == dram_target then Some (areas.Dram said.unit) else
     if said.target == shadow_target then Some (areas.Shadow said.unit) else
     if said.target == smram_target then Some areas.Smram else

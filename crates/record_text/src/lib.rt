@@ -7,4 +7,4 @@ mod part;
 mod reply;
 
 pub use line::tell_line;
-pub use reply::reply_of;
+pub use reply::reply_recorded;

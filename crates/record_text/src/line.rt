@@ -4,14 +4,14 @@ ghost use Rattle.std.specs.Prelude.{◌≡◌, ◌≢◌, ◌<◌, ◌⊎◌, le
 ghost use Rattle.std.specs.String.{string_bytes};
 ghost use Rattle.board_records.specs.Images.{IsWritten};
 ghost use Rattle.board_records.specs.Statuses.{ok, no_room};
-ghost use Rattle.record_text.specs.Lines.{entry_said, whole_line, IsLineRefusal};
+ghost use Rattle.record_text.specs.Lines.{entry_recorded, whole_line, IsLineRefusal};
 
-use crate::reply::reply_of;
+use crate::reply::reply_recorded;
 use board_base::NoMemory;
 use board_records::status::{NO_EVENT, NO_MEMORY, NO_REPLY};
 use board_records::{EventRecord, ReplyRecord, event_of, write_front};
-use logs_and_maps::push_line;
 use board_spec::Entry;
+use logs_and_maps::push_line;
 use std::alloc::Global;
 
 /// Line `number` of the log, with its line feed.
@@ -26,7 +26,7 @@ fn line_of(alloc: Global, number: u64, entry: &Entry) -> Result<String, NoMemory
 /// Writes line `number` of a log, with its line feed, of the entry of a processor, the number of its statement, an event and
 /// its reply, and tells how many bytes the line has. Refused with `NO_EVENT` or `NO_REPLY` where a record says none, and
 /// with `NO_ROOM` where the line does not fit: then its count of bytes is told. `NO_MEMORY` may come where both say something.
-#[tactic(auto, unfolding(crate::specs::Lines::entry_said))]
+#[tactic(auto, unfolding(crate::specs::Lines::entry_recorded))]
 pub fn tell_line(
     alloc: Global,
     event: &EventRecord,
@@ -37,19 +37,19 @@ pub fn tell_line(
     into: &mut [u8],
     bytes: &mut usize,
 ) -> u32
-    ensures done { result ≡ ok → IsSomeAnd (entry_said processor statement event.now reply.now)
+    ensures done { result ≡ ok → IsSomeAnd (entry_recorded processor statement event.now reply.now)
         (λ entry. IsWritten (whole_line number entry) into.old into.new) }
-    ensures refused { result ≢ ok → IsLineRefusal (entry_said processor statement event.now reply.now)
+    ensures refused { result ≢ ok → IsLineRefusal (entry_recorded processor statement event.now reply.now)
         event.now number (length into.old) result }
     ensures unwritten { result ≢ ok → into.new ≡ into.old }
-    ensures counted { ((result ≡ ok) ⊎ (result ≡ no_room)) → IsSomeAnd (entry_said processor statement event.now reply.now)
+    ensures counted { ((result ≡ ok) ⊎ (result ≡ no_room)) → IsSomeAnd (entry_recorded processor statement event.now reply.now)
         (λ entry. bytes.new ≡ length (whole_line number entry)) }
     ensures uncounted { result ≢ ok → result ≢ no_room → bytes.new ≡ bytes.old }
 {
     let Some(event) = event_of(event) else {
         return NO_EVENT;
     };
-    let Some(reply) = reply_of(reply) else {
+    let Some(reply) = reply_recorded(reply) else {
         return NO_REPLY;
     };
     let entry = Entry {

@@ -1,7 +1,7 @@
 //! What one part of a reply's record names.
 
 ghost use Rattle.std.specs.Prelude.{◌≡◌};
-ghost use Rattle.record_text.specs.Parts.{device_of, config_of, target_of, denial_of, part_of, area_of};
+ghost use Rattle.record_text.specs.Parts.{device_recorded, config_recorded, target_recorded, denial_recorded, part_recorded, area_recorded};
 
 use board_base::{Area, Denial, Dev, Reg, Target};
 use board_records::PartRecord;
@@ -15,9 +15,9 @@ use board_records::numbers::{
 use board_spec::Part;
 
 /// The device of a number.
-#[tactic(auto, unfolding(crate::specs::Parts::device_of))]
-fn device_of(number: u8) -> Option<Dev>
-    ensures device { result ≡ device_of number }
+#[tactic(auto, unfolding(crate::specs::Parts::device_recorded))]
+fn device_recorded(number: u8) -> Option<Dev>
+    ensures device { result ≡ device_recorded number }
 {
     match number {
         CONFADD_DEVICE => Some(Dev::Confadd),
@@ -40,9 +40,9 @@ fn device_of(number: u8) -> Option<Dev>
 }
 
 /// A configuration register, whose offset is a byte.
-#[tactic(auto, unfolding(crate::specs::Parts::config_of))]
-fn config_of(record: &PartRecord) -> Option<Target>
-    ensures target { result ≡ config_of record.now }
+#[tactic(auto, unfolding(crate::specs::Parts::config_recorded))]
+fn config_recorded(record: &PartRecord) -> Option<Target>
+    ensures target { result ≡ config_recorded record.now }
 {
     match u8::try_from(record.offset) {
         Ok(off) => Some(Target::Config(Reg {
@@ -55,9 +55,9 @@ fn config_of(record: &PartRecord) -> Option<Target>
 }
 
 /// What answered.
-#[tactic(auto, unfolding(crate::specs::Parts::target_of))]
-fn target_of(record: &PartRecord) -> Option<Target>
-    ensures target { result ≡ target_of record.now }
+#[tactic(auto, unfolding(crate::specs::Parts::target_recorded))]
+fn target_recorded(record: &PartRecord) -> Option<Target>
+    ensures target { result ≡ target_recorded record.now }
 {
     match record.target {
         DRAM_TARGET => Some(Target::Dram(record.unit)),
@@ -65,17 +65,17 @@ fn target_of(record: &PartRecord) -> Option<Target>
         SMRAM_TARGET => Some(Target::Smram),
         ROM_TARGET => Some(Target::Rom(record.offset)),
         CARD_TARGET => Some(Target::Card(record.unit, record.base, record.offset)),
-        DEVICE_TARGET => device_of(record.unit).map(Target::Device),
-        CONFIG_TARGET => config_of(record),
+        DEVICE_TARGET => device_recorded(record.unit).map(Target::Device),
+        CONFIG_TARGET => config_recorded(record),
         ABORT_TARGET => Some(Target::Abort),
         _ => None,
     }
 }
 
 /// What denied it, where anything did.
-#[tactic(auto, unfolding(crate::specs::Parts::denial_of))]
-fn denial_of(record: &PartRecord) -> Option<Option<Denial>>
-    ensures denial { result ≡ denial_of record.now }
+#[tactic(auto, unfolding(crate::specs::Parts::denial_recorded))]
+fn denial_recorded(record: &PartRecord) -> Option<Option<Denial>>
+    ensures denial { result ≡ denial_recorded record.now }
 {
     match record.denial {
         0 => Some(None),
@@ -91,22 +91,22 @@ fn denial_of(record: &PartRecord) -> Option<Option<Denial>>
 }
 
 /// What answered, and what denied it. None where the record's reserved byte is not 0.
-#[tactic(auto, unfolding(crate::specs::Parts::part_of))]
-pub(crate) fn part_of(record: &PartRecord) -> Option<Part>
-    ensures part { result ≡ part_of record.now }
+#[tactic(auto, unfolding(crate::specs::Parts::part_recorded))]
+pub(crate) fn part_recorded(record: &PartRecord) -> Option<Part>
+    ensures part { result ≡ part_recorded record.now }
 {
     if record.reserved != 0 {
         return None;
     }
-    let target = target_of(record)?;
-    let denial = denial_of(record)?;
+    let target = target_recorded(record)?;
+    let denial = denial_recorded(record)?;
     Some(Part { target, denial })
 }
 
 /// The area that a look saw.
-#[tactic(auto, unfolding(crate::specs::Parts::area_of))]
-pub(crate) fn area_of(record: &PartRecord) -> Option<Area>
-    ensures area { result ≡ area_of record.now }
+#[tactic(auto, unfolding(crate::specs::Parts::area_recorded))]
+pub(crate) fn area_recorded(record: &PartRecord) -> Option<Area>
+    ensures area { result ≡ area_recorded record.now }
 {
     match record.target {
         DRAM_TARGET => Some(Area::Dram(record.unit)),

@@ -1,16 +1,16 @@
 //! Which reply a record says.
 
 ghost use Rattle.std.specs.Prelude.{◌≡◌};
-ghost use Rattle.record_text.specs.Replies.{value_of, cycle_value_of, bus_of, two_of, three_of, four_of, parts_of, wide_of, look_of, formed_by, reply_said};
+ghost use Rattle.record_text.specs.Replies.{value_recorded, cycle_value_recorded, bus_recorded, two_parts_recorded, three_parts_recorded, four_parts_recorded, parts_recorded, wide_recorded, look_recorded, form_recorded, reply_recorded};
 
-use crate::part::{area_of, part_of};
+use crate::part::{area_recorded, part_recorded};
 use board_records::ReplyRecord;
 use board_records::numbers::{BUS_REPLY, LOOK_REPLY, PARTS_REPLY};
 use board_spec::{Look, Parts, Reply};
 
 /// The value, where one was read.
-fn value_of(record: &ReplyRecord) -> Option<u64>
-    ensures value { result ≡ value_of record.now }
+fn value_recorded(record: &ReplyRecord) -> Option<u64>
+    ensures value { result ≡ value_recorded record.now }
 {
     if record.has_value == 1 {
         Some(record.value)
@@ -20,9 +20,9 @@ fn value_of(record: &ReplyRecord) -> Option<u64>
 }
 
 /// The value of one bus cycle, where one was read. None where it does not fit 32 bits.
-#[tactic(auto, unfolding(crate::specs::Replies::cycle_value_of))]
-fn cycle_value_of(record: &ReplyRecord) -> Option<Option<u32>>
-    ensures value { result ≡ cycle_value_of record.now }
+#[tactic(auto, unfolding(crate::specs::Replies::cycle_value_recorded))]
+fn cycle_value_recorded(record: &ReplyRecord) -> Option<Option<u32>>
+    ensures value { result ≡ cycle_value_recorded record.now }
 {
     if record.has_value != 1 {
         return Some(None);
@@ -33,12 +33,12 @@ fn cycle_value_of(record: &ReplyRecord) -> Option<Option<u32>>
     }
 }
 
-#[tactic(auto, unfolding(crate::specs::Replies::bus_of))]
-fn bus_of(record: &ReplyRecord) -> Option<Reply>
-    ensures reply { result ≡ bus_of record.now }
+#[tactic(auto, unfolding(crate::specs::Replies::bus_recorded))]
+fn bus_recorded(record: &ReplyRecord) -> Option<Reply>
+    ensures reply { result ≡ bus_recorded record.now }
 {
-    let value = cycle_value_of(record)?;
-    let part = part_of(&record.part0)?;
+    let value = cycle_value_recorded(record)?;
+    let part = part_recorded(&record.part0)?;
     Some(Reply::Bus {
         value,
         target: part.target,
@@ -46,65 +46,65 @@ fn bus_of(record: &ReplyRecord) -> Option<Reply>
     })
 }
 
-#[tactic(auto, unfolding(crate::specs::Replies::two_of))]
-fn two_of(record: &ReplyRecord) -> Option<Parts>
-    ensures parts { result ≡ two_of record.now }
+#[tactic(auto, unfolding(crate::specs::Replies::two_parts_recorded))]
+fn two_parts_recorded(record: &ReplyRecord) -> Option<Parts>
+    ensures parts { result ≡ two_parts_recorded record.now }
 {
-    let a = part_of(&record.part0)?;
-    let b = part_of(&record.part1)?;
+    let a = part_recorded(&record.part0)?;
+    let b = part_recorded(&record.part1)?;
     Some(Parts::Two(a, b))
 }
 
-#[tactic(auto, unfolding(crate::specs::Replies::three_of))]
-fn three_of(record: &ReplyRecord) -> Option<Parts>
-    ensures parts { result ≡ three_of record.now }
+#[tactic(auto, unfolding(crate::specs::Replies::three_parts_recorded))]
+fn three_parts_recorded(record: &ReplyRecord) -> Option<Parts>
+    ensures parts { result ≡ three_parts_recorded record.now }
 {
-    let a = part_of(&record.part0)?;
-    let b = part_of(&record.part1)?;
-    let c = part_of(&record.part2)?;
+    let a = part_recorded(&record.part0)?;
+    let b = part_recorded(&record.part1)?;
+    let c = part_recorded(&record.part2)?;
     Some(Parts::Three(a, b, c))
 }
 
-#[tactic(auto, unfolding(crate::specs::Replies::four_of))]
-fn four_of(record: &ReplyRecord) -> Option<Parts>
-    ensures parts { result ≡ four_of record.now }
+#[tactic(auto, unfolding(crate::specs::Replies::four_parts_recorded))]
+fn four_parts_recorded(record: &ReplyRecord) -> Option<Parts>
+    ensures parts { result ≡ four_parts_recorded record.now }
 {
-    let a = part_of(&record.part0)?;
-    let b = part_of(&record.part1)?;
-    let c = part_of(&record.part2)?;
-    let d = part_of(&record.part3)?;
+    let a = part_recorded(&record.part0)?;
+    let b = part_recorded(&record.part1)?;
+    let c = part_recorded(&record.part2)?;
+    let d = part_recorded(&record.part3)?;
     Some(Parts::Four(a, b, c, d))
 }
 
 /// The parts of a wide access, two to four.
-#[tactic(auto, unfolding(crate::specs::Replies::parts_of))]
-fn parts_of(record: &ReplyRecord) -> Option<Parts>
-    ensures parts { result ≡ parts_of record.now }
+#[tactic(auto, unfolding(crate::specs::Replies::parts_recorded))]
+fn parts_recorded(record: &ReplyRecord) -> Option<Parts>
+    ensures parts { result ≡ parts_recorded record.now }
 {
     match record.parts {
-        2 => two_of(record),
-        3 => three_of(record),
-        4 => four_of(record),
+        2 => two_parts_recorded(record),
+        3 => three_parts_recorded(record),
+        4 => four_parts_recorded(record),
         _ => None,
     }
 }
 
-#[tactic(auto, unfolding(crate::specs::Replies::wide_of))]
-fn wide_of(record: &ReplyRecord) -> Option<Reply>
-    ensures reply { result ≡ wide_of record.now }
+#[tactic(auto, unfolding(crate::specs::Replies::wide_recorded))]
+fn wide_recorded(record: &ReplyRecord) -> Option<Reply>
+    ensures reply { result ≡ wide_recorded record.now }
 {
-    let parts = parts_of(record)?;
+    let parts = parts_recorded(record)?;
     Some(Reply::Parts {
         parts,
-        value: value_of(record),
+        value: value_recorded(record),
     })
 }
 
-#[tactic(auto, unfolding(crate::specs::Replies::look_of))]
-fn look_of(record: &ReplyRecord) -> Option<Reply>
-    ensures reply { result ≡ look_of record.now }
+#[tactic(auto, unfolding(crate::specs::Replies::look_recorded))]
+fn look_recorded(record: &ReplyRecord) -> Option<Reply>
+    ensures reply { result ≡ look_recorded record.now }
 {
-    let area = area_of(&record.part0)?;
+    let area = area_recorded(&record.part0)?;
     Some(Reply::Saw(Look {
         version: record.seen,
         lo: record.lo,
@@ -114,31 +114,31 @@ fn look_of(record: &ReplyRecord) -> Option<Reply>
 }
 
 /// The reply by the number of its form; one of a bus cycle and a look has one part.
-#[tactic(auto, unfolding(crate::specs::Replies::formed_by))]
-fn formed_by(record: &ReplyRecord) -> Option<Reply>
-    ensures reply { result ≡ formed_by record.now }
+#[tactic(auto, unfolding(crate::specs::Replies::form_recorded))]
+fn form_recorded(record: &ReplyRecord) -> Option<Reply>
+    ensures reply { result ≡ form_recorded record.now }
 {
     if record.form == PARTS_REPLY {
-        return wide_of(record);
+        return wide_recorded(record);
     }
     if record.parts != 1 {
         return None;
     }
     match record.form {
-        BUS_REPLY => bus_of(record),
-        LOOK_REPLY => look_of(record),
+        BUS_REPLY => bus_recorded(record),
+        LOOK_REPLY => look_recorded(record),
         _ => None,
     }
 }
 
 /// The reply that a record says. None exactly where a number of it names nothing, or does not fit where it goes. What a
 /// reply has no use for is not read, nor what stands after the step.
-#[tactic(auto, unfolding(crate::specs::Replies::reply_said))]
-pub fn reply_of(record: &ReplyRecord) -> Option<Reply>
-    ensures said { result ≡ reply_said record.now }
+#[tactic(auto, unfolding(crate::specs::Replies::reply_recorded))]
+pub fn reply_recorded(record: &ReplyRecord) -> Option<Reply>
+    ensures said { result ≡ reply_recorded record.now }
 {
     if record.reserved != 0 || record.has_value > 1 {
         return None;
     }
-    formed_by(record)
+    form_recorded(record)
 }

@@ -3,7 +3,7 @@ use Rattle.std.proofs.Common.{◌≡◌, ℕ, ◌+◌, ◌*◌, ◌^◌, ◌<◌
 use Rattle.board_prelude.proofs.Common.{drop_more, drop_all, pow-le-pow_right, option_and_then}
 use Rattle.std.proofs.lemmas.Nat.{mul-add-lt}
 use Rattle.std.proofs.lemmas.Grind.{pow_more}
-use Rattle.script_spec.specs.Numbers.{digit_of, number_after}
+use Rattle.script_spec.specs.Numbers.{parse_digit, number_after}
 
 -- one more digit leaves the number below one more power, and no larger than all digits allow
 pub number_below : (base high digit i : ℕ) → high < base ^ i → digit < base → high * base + digit < base ^ (i + 1)
@@ -21,17 +21,17 @@ power_within base i n some le = pow-le-pow_right some le
 
 -- the digit at a place, and the rest after it
 step : (base high i : ℕ) (field : List ℕ) → i < length field
-    → number_after base high (drop i field) ≡ option_and_then (λ digit. number_after base (high * base + digit) (drop (i + 1) field)) (digit_of base (get_or field i 0))
+    → number_after base high (drop i field) ≡ option_and_then (λ digit. number_after base (high * base + digit) (drop (i + 1) field)) (parse_digit base (get_or field i 0))
 unfolding number_after
 step base high i field lt = rw (drop_more field i 0 lt) refl
 
-pub goes_on : (base high digit i : ℕ) (field : List ℕ) (total : Option ℕ) → i < length field → Some digit ≡ digit_of base (get_or field i 0)
+pub goes_on : (base high digit i : ℕ) (field : List ℕ) (total : Option ℕ) → i < length field → Some digit ≡ parse_digit base (get_or field i 0)
     → number_after base high (drop i field) ≡ total → number_after base (high * base + digit) (drop (i + 1) field) ≡ total
 goes_on base high digit i field total lt is so_far =
     let one : number_after base high (drop i field) ≡ number_after base (high * base + digit) (drop (i + 1) field) = step base high i field lt ∙ rw (← is) refl in
     sym one ∙ so_far
 
-pub stops : (base high i : ℕ) (field : List ℕ) (total : Option ℕ) → i < length field → None ≡ digit_of base (get_or field i 0)
+pub stops : (base high i : ℕ) (field : List ℕ) (total : Option ℕ) → i < length field → None ≡ parse_digit base (get_or field i 0)
     → number_after base high (drop i field) ≡ total → None ≡ total
 stops base high i field total lt is so_far =
     let one : number_after base high (drop i field) ≡ None = step base high i field lt ∙ rw (← is) refl in

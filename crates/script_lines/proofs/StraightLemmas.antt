@@ -3,7 +3,7 @@ use Rattle.std.proofs.Common.{◌≡◌, ℕ, ◌+◌, ◌*◌, Bool, true, fals
 use Rattle.board_prelude.proofs.Common.{option_map, ne_eqb, All-nil, All-cons, Event, Width, Kind, Read, Fetch, Write, Port, bytes_of}
 use Rattle.board_spec.specs.declared.event.Event.TheVariants.{Look as LookAt}
 use Rattle.std.proofs.lemmas.List.Splits.{slice_split_none, slice_split_at}
-use Rattle.script_spec.specs.Common.{Item, HasForm, IsDecimal, fields_of, size_of, width_of, kind_of, hex_of, decimal_of, digit_of, number_of, number_after, smm_of, memory_event, read_of, write_of, in_of, out_of, look_of, event_of, ask, is_skipped, event_asked, asked_with, asked_of, statement_of, item_with, item_of}
+use Rattle.script_spec.specs.Common.{Item, HasForm, IsDecimal, fields_of, parse_size, parse_width, parse_kind, parse_hex, parse_decimal, parse_digit, parse_digits, number_after, parse_smm, memory_event, parse_read, parse_write, parse_in, parse_out, parse_look, parse_event, ask, is_skipped, parse_event_item, parse_by_verb, parse_statement_words, parse_statement, parse_by_key, parse_item}
 use Rattle.script_spec.proofs.Chains.{guarded, then_said}
 use Rattle.script_spec.proofs.NumberTexts.{decimal_read}
 use Rattle.script_spec.proofs.FieldTexts.{no_word}
@@ -22,37 +22,37 @@ IsField field = All (λ byte. is_space byte ≡ false) field
 none_some : {A : Type 0} (x : A) → ◌≡◌ {A = Option A} None (Some x) → ⊥
 none_some x e = cc
 
-digit_lacks : (base byte digit : ℕ) → digit_of base byte ≡ Some digit → is_space byte ≡ false
+digit_lacks : (base byte digit : ℕ) → parse_digit base byte ≡ Some digit → is_space byte ≡ false
 digit_lacks base byte digit e =
-    ne_eqb byte 32 (λ is. none_some digit (subst (λ (b : ℕ). digit_of base b ≡ Some digit) is e))
+    ne_eqb byte 32 (λ is. none_some digit (subst (λ (b : ℕ). parse_digit base b ≡ Some digit) is e))
 
 number_lacks : (base high n : ℕ) (field : List ℕ) → number_after base high field ≡ Some n → IsField field
 unfolding number_after
 number_lacks base high n [] e = All-nil (λ byte. is_space byte ≡ false)
 number_lacks base high n (byte ∷ rest) e =
-    let k = then_said (digit_of base byte) (λ digit. number_after base (high * base + digit) rest) n e in
+    let k = then_said (parse_digit base byte) (λ digit. number_after base (high * base + digit) rest) n e in
     All-cons (λ byte. is_space byte ≡ false) byte rest (digit_lacks base byte k.0 k.1)
     (number_lacks base (high * base + k.0) n rest k.2)
 
-hex_lacks : (digits n : ℕ) (field : List ℕ) → hex_of digits field ≡ Some n → IsField field
-hex_lacks digits n field e = number_lacks 16 0 n field (guarded (eqb (length field) digits) (number_of 16 field) n e).1
+hex_lacks : (digits n : ℕ) (field : List ℕ) → parse_hex digits field ≡ Some n → IsField field
+hex_lacks digits n field e = number_lacks 16 0 n field (guarded (eqb (length field) digits) (parse_digits 16 field) n e).1
 
-size_lacks : (version size bytes : ℕ) → size_of version (size ∷ []) ≡ Some bytes → is_space size ≡ false
+size_lacks : (version size bytes : ℕ) → parse_size version (size ∷ []) ≡ Some bytes → is_space size ≡ false
 size_lacks version size bytes e =
-    ne_eqb size 32 (λ is. none_some bytes (subst (λ (b : ℕ). size_of version (b ∷ []) ≡ Some bytes) is e))
+    ne_eqb size 32 (λ is. none_some bytes (subst (λ (b : ℕ). parse_size version (b ∷ []) ≡ Some bytes) is e))
 
-width_lacks : (byte : ℕ) (width : Width) → width_of (byte ∷ []) ≡ Some width → is_space byte ≡ false
+width_lacks : (byte : ℕ) (width : Width) → parse_width (byte ∷ []) ≡ Some width → is_space byte ≡ false
 width_lacks byte width e =
-    ne_eqb byte 32 (λ is. none_some width (subst (λ (b : ℕ). width_of (b ∷ []) ≡ Some width) is e))
+    ne_eqb byte 32 (λ is. none_some width (subst (λ (b : ℕ). parse_width (b ∷ []) ≡ Some width) is e))
 
-kind_lacks : (byte : ℕ) (kind : Kind) → kind_of (byte ∷ []) ≡ Some kind → is_space byte ≡ false
+kind_lacks : (byte : ℕ) (kind : Kind) → parse_kind (byte ∷ []) ≡ Some kind → is_space byte ≡ false
 kind_lacks byte kind e =
-    ne_eqb byte 32 (λ is. none_some kind (subst (λ (b : ℕ). kind_of (b ∷ []) ≡ Some kind) is e))
+    ne_eqb byte 32 (λ is. none_some kind (subst (λ (b : ℕ). parse_kind (b ∷ []) ≡ Some kind) is e))
 
-decimal_lacks : (byte n : ℕ) → decimal_of (byte ∷ []) ≡ Some n → is_space byte ≡ false
+decimal_lacks : (byte n : ℕ) → parse_decimal (byte ∷ []) ≡ Some n → is_space byte ≡ false
 unfolding number_after
 decimal_lacks byte n e =
-    ne_eqb byte 32 (λ is. none_some n (subst (λ (b : ℕ). decimal_of (b ∷ []) ≡ Some n) is e))
+    ne_eqb byte 32 (λ is. none_some n (subst (λ (b : ℕ). parse_decimal (b ∷ []) ≡ Some n) is e))
 
 -- ---- fields
 
@@ -79,53 +79,53 @@ last_fields byte text first second is lacks one two =
 -- ---- events, as what was found says them
 
 pub access_straight : (version size bytes n : ℕ) (kind : Kind) (text addr : List ℕ) (event : Event) → text ≡ size ∷ 32 ∷ addr
-    → Some bytes ≡ size_of version (size ∷ []) → Some n ≡ hex_of 8 addr → event ≡ memory_event version kind bytes n 0 false
-    → read_of version kind (fields_of text) ≡ Some event
-unfolding read_of smm_of
+    → Some bytes ≡ parse_size version (size ∷ []) → Some n ≡ parse_hex 8 addr → event ≡ memory_event version kind bytes n 0 false
+    → parse_read version kind (fields_of text) ≡ Some event
+unfolding parse_read parse_smm
 access_straight version size bytes n kind text addr event is sized at made =
-    ap (λ (t : List ℕ). read_of version kind (fields_of t)) is
-    ∙ ap (read_of version kind) (last_field size addr (size_lacks version size bytes (sym sized)) (hex_lacks 8 n addr (sym at)))
+    ap (λ (t : List ℕ). parse_read version kind (fields_of t)) is
+    ∙ ap (parse_read version kind) (last_field size addr (size_lacks version size bytes (sym sized)) (hex_lacks 8 n addr (sym at)))
     ∙ rw (sym sized, sym at, made) refl
 
 write_read : (version size bytes n m : ℕ) (text fields addr value : List ℕ) (event : Event) → text ≡ size ∷ 32 ∷ fields
-    → fields ≡ addr ++ 32 ∷ value → Some bytes ≡ size_of version (size ∷ []) → Some n ≡ hex_of 8 addr
-    → Some m ≡ hex_of (2 * bytes) value → event ≡ memory_event version Write bytes n m false
-    → write_of version (fields_of text) ≡ Some event
-unfolding write_of smm_of
+    → fields ≡ addr ++ 32 ∷ value → Some bytes ≡ parse_size version (size ∷ []) → Some n ≡ parse_hex 8 addr
+    → Some m ≡ parse_hex (2 * bytes) value → event ≡ memory_event version Write bytes n m false
+    → parse_write version (fields_of text) ≡ Some event
+unfolding parse_write parse_smm
 write_read version size bytes n m text fields addr value event is cut sized at said made =
-    ap (λ (t : List ℕ). write_of version (fields_of t)) is
-    ∙ ap (write_of version)
+    ap (λ (t : List ℕ). parse_write version (fields_of t)) is
+    ∙ ap (parse_write version)
     (last_fields size fields addr value cut (size_lacks version size bytes (sym sized)) (hex_lacks 8 n addr (sym at))
     (hex_lacks (2 * bytes) m value (sym said)))
     ∙ rw (sym sized, sym at, sym said, made) refl
 
-in_read : (byte n : ℕ) (width : Width) (text port : List ℕ) → text ≡ byte ∷ 32 ∷ port → Some width ≡ width_of (byte ∷ [])
-    → Some n ≡ hex_of 4 port
-    → in_of (fields_of text) ≡ Some (Port (record { write = false; port = n; width = width; value = 0 }))
-unfolding in_of
+in_read : (byte n : ℕ) (width : Width) (text port : List ℕ) → text ≡ byte ∷ 32 ∷ port → Some width ≡ parse_width (byte ∷ [])
+    → Some n ≡ parse_hex 4 port
+    → parse_in (fields_of text) ≡ Some (Port (record { write = false; port = n; width = width; value = 0 }))
+unfolding parse_in
 in_read byte n width text port is wide at =
-    ap (λ (t : List ℕ). in_of (fields_of t)) is
-    ∙ ap in_of (last_field byte port (width_lacks byte width (sym wide)) (hex_lacks 4 n port (sym at)))
+    ap (λ (t : List ℕ). parse_in (fields_of t)) is
+    ∙ ap parse_in (last_field byte port (width_lacks byte width (sym wide)) (hex_lacks 4 n port (sym at)))
     ∙ rw (sym wide, sym at) refl
 
 out_read : (byte n m : ℕ) (width : Width) (text fields port value : List ℕ) → text ≡ byte ∷ 32 ∷ fields
-    → fields ≡ port ++ 32 ∷ value → Some width ≡ width_of (byte ∷ []) → Some n ≡ hex_of 4 port
-    → Some m ≡ hex_of (2 * bytes_of width) value
-    → out_of (fields_of text) ≡ Some (Port (record { write = true; port = n; width = width; value = m }))
-unfolding out_of
+    → fields ≡ port ++ 32 ∷ value → Some width ≡ parse_width (byte ∷ []) → Some n ≡ parse_hex 4 port
+    → Some m ≡ parse_hex (2 * bytes_of width) value
+    → parse_out (fields_of text) ≡ Some (Port (record { write = true; port = n; width = width; value = m }))
+unfolding parse_out
 out_read byte n m width text fields port value is cut wide at said =
-    ap (λ (t : List ℕ). out_of (fields_of t)) is
-    ∙ ap out_of
+    ap (λ (t : List ℕ). parse_out (fields_of t)) is
+    ∙ ap parse_out
     (last_fields byte fields port value cut (width_lacks byte width (sym wide)) (hex_lacks 4 n port (sym at))
     (hex_lacks (2 * bytes_of width) m value (sym said)))
     ∙ rw (sym wide, sym at, sym said) refl
 
-look_read : (byte n : ℕ) (kind : Kind) (text addr : List ℕ) → text ≡ byte ∷ 32 ∷ addr → Some kind ≡ kind_of (byte ∷ [])
-    → Some n ≡ hex_of 8 addr → look_of (fields_of text) ≡ Some (LookAt kind n false)
-unfolding look_of smm_of
+look_read : (byte n : ℕ) (kind : Kind) (text addr : List ℕ) → text ≡ byte ∷ 32 ∷ addr → Some kind ≡ parse_kind (byte ∷ [])
+    → Some n ≡ parse_hex 8 addr → parse_look (fields_of text) ≡ Some (LookAt kind n false)
+unfolding parse_look parse_smm
 look_read byte n kind text addr is kindly at =
-    ap (λ (t : List ℕ). look_of (fields_of t)) is
-    ∙ ap look_of (last_field byte addr (kind_lacks byte kind (sym kindly)) (hex_lacks 8 n addr (sym at)))
+    ap (λ (t : List ℕ). parse_look (fields_of t)) is
+    ∙ ap parse_look (last_field byte addr (kind_lacks byte kind (sym kindly)) (hex_lacks 8 n addr (sym at)))
     ∙ rw (sym kindly, sym at) refl
 
 -- ---- verbs
@@ -135,66 +135,66 @@ matched N P None m = tt
 matched N P (Some x) m = m
 
 asks_read : (version : ℕ) (words text : List ℕ) (event : Event) → words ≡ 114 ∷ 32 ∷ text
-    → read_of version Read (fields_of text) ≡ Some event → Asks version words event
-unfolding asked_of asked_with event_asked event_of
+    → parse_read version Read (fields_of text) ≡ Some event → Asks version words event
+unfolding parse_statement_words parse_by_verb parse_event_item parse_event
 asks_read version words text event is said actor =
-    ap (λ (t : List ℕ). asked_of version actor (fields_of t)) is ∙ ap (option_map (ask actor)) said
+    ap (λ (t : List ℕ). parse_statement_words version actor (fields_of t)) is ∙ ap (option_map (ask actor)) said
 
 pub each_read : (version : ℕ) (words text : List ℕ) (found : Option Event) → words ≡ 114 ∷ 32 ∷ text
-    → IfSome found (λ event. read_of version Read (fields_of text) ≡ Some event) → IfSome found (Asks version words)
+    → IfSome found (λ event. parse_read version Read (fields_of text) ≡ Some event) → IfSome found (Asks version words)
 each_read version words text None is said = tt
 each_read version words text (Some event) is said = asks_read version words text event is said
 
 asks_fetch : (version : ℕ) (words text : List ℕ) (event : Event) → words ≡ 102 ∷ 32 ∷ text
-    → read_of version Fetch (fields_of text) ≡ Some event → Asks version words event
-unfolding asked_of asked_with event_asked event_of
+    → parse_read version Fetch (fields_of text) ≡ Some event → Asks version words event
+unfolding parse_statement_words parse_by_verb parse_event_item parse_event
 asks_fetch version words text event is said actor =
-    ap (λ (t : List ℕ). asked_of version actor (fields_of t)) is ∙ ap (option_map (ask actor)) said
+    ap (λ (t : List ℕ). parse_statement_words version actor (fields_of t)) is ∙ ap (option_map (ask actor)) said
 
 pub each_fetch : (version : ℕ) (words text : List ℕ) (found : Option Event) → words ≡ 102 ∷ 32 ∷ text
-    → IfSome found (λ event. read_of version Fetch (fields_of text) ≡ Some event) → IfSome found (Asks version words)
+    → IfSome found (λ event. parse_read version Fetch (fields_of text) ≡ Some event) → IfSome found (Asks version words)
 each_fetch version words text None is said = tt
 each_fetch version words text (Some event) is said = asks_fetch version words text event is said
 
 pub write_straight : (version size bytes n m : ℕ) (words text fields addr value : List ℕ) (event : Event)
     → words ≡ 119 ∷ 32 ∷ text → text ≡ size ∷ 32 ∷ fields → fields ≡ addr ++ 32 ∷ value
-    → Some bytes ≡ size_of version (size ∷ []) → Some n ≡ hex_of 8 addr → Some m ≡ hex_of (2 * bytes) value
+    → Some bytes ≡ parse_size version (size ∷ []) → Some n ≡ parse_hex 8 addr → Some m ≡ parse_hex (2 * bytes) value
     → event ≡ memory_event version Write bytes n m false → Asks version words event
-unfolding asked_of asked_with event_asked event_of
+unfolding parse_statement_words parse_by_verb parse_event_item parse_event
 write_straight version size bytes n m words text fields addr value event verb is cut sized at said made actor =
-    ap (λ (t : List ℕ). asked_of version actor (fields_of t)) verb
+    ap (λ (t : List ℕ). parse_statement_words version actor (fields_of t)) verb
     ∙ ap (option_map (ask actor)) (write_read version size bytes n m text fields addr value event is cut sized at said made)
 
 pub in_straight : (version byte n : ℕ) (width : Width) (words text port : List ℕ) → words ≡ 105 ∷ 110 ∷ 32 ∷ text
-    → text ≡ byte ∷ 32 ∷ port → Some width ≡ width_of (byte ∷ []) → Some n ≡ hex_of 4 port
+    → text ≡ byte ∷ 32 ∷ port → Some width ≡ parse_width (byte ∷ []) → Some n ≡ parse_hex 4 port
     → Asks version words (Port (record { write = false; port = n; width = width; value = 0 }))
-unfolding asked_of asked_with event_asked event_of
+unfolding parse_statement_words parse_by_verb parse_event_item parse_event
 in_straight version byte n width words text port verb is wide at actor =
-    ap (λ (t : List ℕ). asked_of version actor (fields_of t)) verb
+    ap (λ (t : List ℕ). parse_statement_words version actor (fields_of t)) verb
     ∙ ap (option_map (ask actor)) (in_read byte n width text port is wide at)
 
 pub out_straight : (version byte n m : ℕ) (width : Width) (words text fields port value : List ℕ)
     → words ≡ 111 ∷ 117 ∷ 116 ∷ 32 ∷ text → text ≡ byte ∷ 32 ∷ fields → fields ≡ port ++ 32 ∷ value
-    → Some width ≡ width_of (byte ∷ []) → Some n ≡ hex_of 4 port → Some m ≡ hex_of (2 * bytes_of width) value
+    → Some width ≡ parse_width (byte ∷ []) → Some n ≡ parse_hex 4 port → Some m ≡ parse_hex (2 * bytes_of width) value
     → Asks version words (Port (record { write = true; port = n; width = width; value = m }))
-unfolding asked_of asked_with event_asked event_of
+unfolding parse_statement_words parse_by_verb parse_event_item parse_event
 out_straight version byte n m width words text fields port value verb is cut wide at said actor =
-    ap (λ (t : List ℕ). asked_of version actor (fields_of t)) verb
+    ap (λ (t : List ℕ). parse_statement_words version actor (fields_of t)) verb
     ∙ ap (option_map (ask actor)) (out_read byte n m width text fields port value is cut wide at said)
 
 pub look_straight : (version byte n : ℕ) (kind : Kind) (words text addr : List ℕ)
-    → words ≡ 108 ∷ 111 ∷ 111 ∷ 107 ∷ 32 ∷ text → text ≡ byte ∷ 32 ∷ addr → Some kind ≡ kind_of (byte ∷ [])
-    → Some n ≡ hex_of 8 addr → Asks version words (LookAt kind n false)
-unfolding asked_of asked_with event_asked event_of
+    → words ≡ 108 ∷ 111 ∷ 111 ∷ 107 ∷ 32 ∷ text → text ≡ byte ∷ 32 ∷ addr → Some kind ≡ parse_kind (byte ∷ [])
+    → Some n ≡ parse_hex 8 addr → Asks version words (LookAt kind n false)
+unfolding parse_statement_words parse_by_verb parse_event_item parse_event
 look_straight version byte n kind words text addr verb is kindly at actor =
-    ap (λ (t : List ℕ). asked_of version actor (fields_of t)) verb
+    ap (λ (t : List ℕ). parse_statement_words version actor (fields_of t)) verb
     ∙ ap (option_map (ask actor)) (look_read byte n kind text addr is kindly at)
 
 -- ---- the line
 
-number_first : (version n : ℕ) (words : List (List ℕ)) (item : Item) → IsDecimal n → asked_of version n words ≡ Some item
-    → item_of version (decimal n ∷ words) ≡ Some item
-unfolding item_of item_with statement_of
+number_first : (version n : ℕ) (words : List (List ℕ)) (item : Item) → IsDecimal n → parse_statement_words version n words ≡ Some item
+    → parse_item version (decimal n ∷ words) ≡ Some item
+unfolding parse_item parse_by_key parse_statement
 number_first version n words item small read =
     rw (
       no_word n (codes "phase") small (λ d. absurd (omega (arith, d.0))),
@@ -207,21 +207,21 @@ number_first version n words item small read =
     ) read
 
 pub line_straight : (version digit actor : ℕ) (line words : List ℕ) (event : Event) → line ≡ digit ∷ 32 ∷ words
-    → Some actor ≡ decimal_of (digit ∷ []) → Asks version words event → HasForm version line (ask actor event)
+    → Some actor ≡ parse_decimal (digit ∷ []) → Asks version words event → HasForm version line (ask actor event)
 line_straight version digit actor line words event cut said asks =
     let is = decimal_read (digit ∷ []) actor (sym said) in
     read_says version line (ask actor event)
-    (ap (λ (t : List ℕ). item_of version (fields_of t)) cut
-    ∙ ap (item_of version)
+    (ap (λ (t : List ℕ). parse_item version (fields_of t)) cut
+    ∙ ap (parse_item version)
     (one_byte digit words (decimal_lacks digit actor (sym said)) ∙ ap (λ (key : List ℕ). key ∷ fields_of words) is.0)
     ∙ number_first version actor (fields_of words) (ask actor event) is.1 (asks actor))
 
-decimal_said : (byte n : ℕ) → decimal_of (byte ∷ []) ≡ Some n → eqb byte 0x23 ≡ false
+decimal_said : (byte n : ℕ) → parse_decimal (byte ∷ []) ≡ Some n → eqb byte 0x23 ≡ false
 unfolding number_after
 decimal_said byte n e =
-    ne_eqb byte 0x23 (λ is. none_some n (subst (λ (b : ℕ). decimal_of (b ∷ []) ≡ Some n) is e))
+    ne_eqb byte 0x23 (λ is. none_some n (subst (λ (b : ℕ). parse_decimal (b ∷ []) ≡ Some n) is e))
 
 -- it is neither empty nor a comment
-pub line_said : (digit actor : ℕ) (line words : List ℕ) → line ≡ digit ∷ 32 ∷ words → Some actor ≡ decimal_of (digit ∷ [])
+pub line_said : (digit actor : ℕ) (line words : List ℕ) → line ≡ digit ∷ 32 ∷ words → Some actor ≡ parse_decimal (digit ∷ [])
     → is_skipped line ≡ false
 line_said digit actor line words cut said = ap is_skipped cut ∙ decimal_said digit actor (sym said)

@@ -1,7 +1,7 @@
 -- What digits add up to is the number that they make.
 use Rattle.std.proofs.Common.{◌≡◌, ℕ, ◌+◌, ◌*◌, ◌^◌, ◌<◌, ◌≤◌, Option, Some, None, cond, ltb, List, [], ◌∷◌, get_or, map, refl, sym, ap, subst, ◌∙◌, arith, IfSome}
 use Rattle.board_prelude.proofs.Common.{option_and_then, ltb-true, range_with_len, get_or-map-range_with_len}
-use Rattle.script_spec.specs.Numbers.{digit_value, digit_of, number_of, number_after}
+use Rattle.script_spec.specs.Numbers.{digit_value, parse_digit, parse_digits, number_after}
 use Rattle.script_spec.proofs.Chains.{some_is, guarded, then_said}
 use Rattle.script_lines.specs.Sums.{IsSum, sum_after, summand_of, value_or_more}
 use Rattle.script_lines.specs.declared.numbers.TheConstants.{SUMMANDS}
@@ -22,13 +22,13 @@ abbrev IsDigit : Option ℕ → Type 0
 IsDigit None = Unit {0}
 IsDigit (Some digit) = digit < 16
 
-digit_small : (byte digit : ℕ) → digit_of 16 byte ≡ Some digit → digit < 16
+digit_small : (byte digit : ℕ) → parse_digit 16 byte ≡ Some digit → digit < 16
 digit_small byte digit e =
     let s = then_said (digit_value byte) (λ value. cond (ltb value 16) (Some value) None) digit e in
     let g = guarded (ltb s.0 16) (Some s.0) digit s.2 in
     subst (λ (value : ℕ). value < 16) (some_is s.0 digit g.1) (ltb-true s.0 16 g.0)
 
-is_digit : (byte : ℕ) (said : Option ℕ) → digit_of 16 byte ≡ said → IsDigit said
+is_digit : (byte : ℕ) (said : Option ℕ) → parse_digit 16 byte ≡ said → IsDigit said
 is_digit byte None e = tt
 is_digit byte (Some digit) e = digit_small byte digit e
 
@@ -37,7 +37,7 @@ most None small = omega arith
 most (Some digit) small = let le : digit ≤ 2 ^ 32 = omega (arith, small) in le
 
 pub summand_most : (byte : ℕ) → summand_of byte ≤ 2 ^ 32
-summand_most byte = most (digit_of 16 byte) (is_digit byte (digit_of 16 byte) refl)
+summand_most byte = most (parse_digit 16 byte) (is_digit byte (parse_digit 16 byte) refl)
 
 -- ---- one digit more
 
@@ -61,7 +61,7 @@ abbrev after : Option ℕ → List ℕ → Option ℕ
 after high field = option_and_then (λ h. number_after 16 h field) high
 
 first_goes :
-    (high digit : Option ℕ) (byte : ℕ) (field : List ℕ) → digit_of 16 byte ≡ digit
+    (high digit : Option ℕ) (byte : ℕ) (field : List ℕ) → parse_digit 16 byte ≡ digit
     → after high (byte ∷ field) ≡ after (longer high digit) field
 unfolding number_after
 first_goes None digit byte field e = refl
@@ -76,9 +76,9 @@ step :
     → IsSum total (after high (byte ∷ field)) whole
 step limit sum total whole high byte field few is go =
     subst (λ (number : Option ℕ). IsSum total number whole)
-    (sym (first_goes high (digit_of 16 byte) byte field refl))
-    (go (longer high (digit_of 16 byte))
-    (more limit sum high (digit_of 16 byte) few (is_digit byte (digit_of 16 byte) refl) is))
+    (sym (first_goes high (parse_digit 16 byte) byte field refl))
+    (go (longer high (parse_digit 16 byte))
+    (more limit sum high (parse_digit 16 byte) few (is_digit byte (parse_digit 16 byte) refl) is))
 
 none_left : (carried : Option ℕ) → after carried [] ≡ carried
 unfolding number_after
@@ -93,13 +93,13 @@ done total whole carried is = subst (λ (number : Option ℕ). IsSum total numbe
 begun : IsSum 1 (Some 0) 0
 begun = (refl, omega arith)
 
-two : (a b : ℕ) → IsSum 0x100 (number_of 16 (a ∷ b ∷ [])) (sum_after 0 (a ∷ b ∷ []))
+two : (a b : ℕ) → IsSum 0x100 (parse_digits 16 (a ∷ b ∷ [])) (sum_after 0 (a ∷ b ∷ []))
 two a b =
     step 1 0 0x100 _ (Some 0) a (b ∷ []) (omega arith) begun
     (λ one one_is. step 16 _ 0x100 _ one b [] (omega arith) one_is (λ all is. done 0x100 _ all is))
 
 four :
-    (a b c d : ℕ) → IsSum 0x1_0000 (number_of 16 (a ∷ b ∷ c ∷ d ∷ [])) (sum_after 0 (a ∷ b ∷ c ∷ d ∷ []))
+    (a b c d : ℕ) → IsSum 0x1_0000 (parse_digits 16 (a ∷ b ∷ c ∷ d ∷ [])) (sum_after 0 (a ∷ b ∷ c ∷ d ∷ []))
 four a b c d =
     step 1 0 0x1_0000 _ (Some 0) a (b ∷ c ∷ d ∷ []) (omega arith) begun
     (λ one one_is. step 16 _ 0x1_0000 _ one b (c ∷ d ∷ []) (omega arith) one_is
@@ -108,7 +108,7 @@ four a b c d =
     (λ all is. done 0x1_0000 _ all is))))
 
 eight :
-    (a b c d e f g h : ℕ) → IsSum 0x1_0000_0000 (number_of 16 (a ∷ b ∷ c ∷ d ∷ e ∷ f ∷ g ∷ h ∷ []))
+    (a b c d e f g h : ℕ) → IsSum 0x1_0000_0000 (parse_digits 16 (a ∷ b ∷ c ∷ d ∷ e ∷ f ∷ g ∷ h ∷ []))
     (sum_after 0 (a ∷ b ∷ c ∷ d ∷ e ∷ f ∷ g ∷ h ∷ []))
 eight a b c d e f g h =
     step 1 0 0x1_0000_0000 _ (Some 0) a (b ∷ c ∷ d ∷ e ∷ f ∷ g ∷ h ∷ []) (omega arith) begun
@@ -124,11 +124,11 @@ eight a b c d e f g h =
 -- ---- as they are added
 
 pub two_added :
-    (a b x y : ℕ) → x ≡ summand_of a → y ≡ summand_of b → IsSum 0x100 (number_of 16 (a ∷ b ∷ [])) (x * 16 + y)
+    (a b x y : ℕ) → x ≡ summand_of a → y ≡ summand_of b → IsSum 0x100 (parse_digits 16 (a ∷ b ∷ [])) (x * 16 + y)
 two_added a b x y is_x is_y =
     let flat : (0 * 16 + x) * 16 + y ≡ x * 16 + y = omega arith in
     let same : sum_after 0 (a ∷ b ∷ []) ≡ (0 * 16 + x) * 16 + y = rw (is_x, is_y) refl in
-    subst (IsSum 0x100 (number_of 16 (a ∷ b ∷ []))) (same ∙ flat) (two a b)
+    subst (IsSum 0x100 (parse_digits 16 (a ∷ b ∷ []))) (same ∙ flat) (two a b)
 
 pub four_added :
     (a b c d x y z w : ℕ) → x ≡ summand_of a → y ≡ summand_of b → z ≡ summand_of c → w ≡ summand_of d
@@ -140,8 +140,8 @@ four_added a b c d x y z w is_x is_y is_z is_w =
     flat ∙ same
 
 pub four_is :
-    (a b c d sum : ℕ) → sum ≡ sum_after 0 (a ∷ b ∷ c ∷ d ∷ []) → IsSum 0x1_0000 (number_of 16 (a ∷ b ∷ c ∷ d ∷ [])) sum
-four_is a b c d sum is = subst (IsSum 0x1_0000 (number_of 16 (a ∷ b ∷ c ∷ d ∷ []))) (sym is) (four a b c d)
+    (a b c d sum : ℕ) → sum ≡ sum_after 0 (a ∷ b ∷ c ∷ d ∷ []) → IsSum 0x1_0000 (parse_digits 16 (a ∷ b ∷ c ∷ d ∷ [])) sum
+four_is a b c d sum is = subst (IsSum 0x1_0000 (parse_digits 16 (a ∷ b ∷ c ∷ d ∷ []))) (sym is) (four a b c d)
 
 joined :
     (high e f g h : ℕ) → high * 0x1_0000 + ((((0 * 16 + e) * 16 + f) * 16 + g) * 16 + h)
@@ -150,13 +150,13 @@ joined high e f g h = omega arith
 
 pub eight_is :
     (a b c d e f g h high low : ℕ) → high ≡ sum_after 0 (a ∷ b ∷ c ∷ d ∷ []) → low ≡ sum_after 0 (e ∷ f ∷ g ∷ h ∷ [])
-    → IsSum 0x1_0000_0000 (number_of 16 (a ∷ b ∷ c ∷ d ∷ e ∷ f ∷ g ∷ h ∷ [])) (high * 0x1_0000 + low)
+    → IsSum 0x1_0000_0000 (parse_digits 16 (a ∷ b ∷ c ∷ d ∷ e ∷ f ∷ g ∷ h ∷ [])) (high * 0x1_0000 + low)
 eight_is a b c d e f g h high low is_high is_low =
     let same : high * 0x1_0000 + low ≡ sum_after 0 (a ∷ b ∷ c ∷ d ∷ e ∷ f ∷ g ∷ h ∷ []) =
     ap (λ (n : ℕ). n * 0x1_0000 + low) is_high
     ∙ ap (λ (n : ℕ). sum_after 0 (a ∷ b ∷ c ∷ d ∷ []) * 0x1_0000 + n) is_low
     ∙ joined (sum_after 0 (a ∷ b ∷ c ∷ d ∷ [])) (summand_of e) (summand_of f) (summand_of g) (summand_of h) in
-    subst (IsSum 0x1_0000_0000 (number_of 16 (a ∷ b ∷ c ∷ d ∷ e ∷ f ∷ g ∷ h ∷ []))) (sym same) (eight a b c d e f g h)
+    subst (IsSum 0x1_0000_0000 (parse_digits 16 (a ∷ b ∷ c ∷ d ∷ e ∷ f ∷ g ∷ h ∷ []))) (sym same) (eight a b c d e f g h)
 
 -- ---- where the sum is below the limit, and where not
 

@@ -1,6 +1,6 @@
 -- Hexadecimal digits, added up as if each byte were one.
 use Rattle.std.specs.Prelude.{ℕ, ◌≡◌, ◌+◌, ◌*◌, ◌^◌, ◌<◌, ◌≤◌, List, [], ◌∷◌, Option, Some, None}
-use Rattle.script_spec.specs.Numbers.{digit_of}
+use Rattle.script_spec.specs.Numbers.{parse_digit}
 
 -- a digit adds what it stands for, and any other byte more than eight digits make
 abbrev pub value_or_more : Option ℕ → ℕ
@@ -8,7 +8,7 @@ value_or_more None = 2 ^ 32
 value_or_more (Some digit) = digit
 
 abbrev pub summand_of : (byte : ℕ) → ℕ
-summand_of byte = value_or_more (digit_of 16 byte)
+summand_of byte = value_or_more (parse_digit 16 byte)
 
 -- the sum after the bytes that made `sum`
 abbrev pub sum_after : (sum : ℕ) → List ℕ → ℕ

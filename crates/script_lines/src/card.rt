@@ -2,10 +2,10 @@
 
 ghost use Rattle.std.specs.Prelude.{◌≡◌, None, option_map};
 ghost use Rattle.script_lines.specs.Items.{base_said, card_said, tail_said};
-ghost use Rattle.script_spec.specs.Cards.{base_of, rom_of, with_base, with_rom, with_field, with_fields, no_tail, vga_of, card_of};
+ghost use Rattle.script_spec.specs.Cards.{parse_base, parse_rom_bits, with_base, with_rom, with_field, with_fields, no_tail, parse_vga, parse_card};
 
 use crate::fields::Fields;
-use crate::numbers::decimal_of;
+use crate::numbers::parse_decimal;
 use arrayvec::ArrayVec;
 
 /// The most bases of a card.
@@ -34,34 +34,34 @@ pub struct CardFields {
 }
 
 /// The base of a field `mK` or `iK`.
-#[tactic(auto, unfolding(script_spec::specs::Cards::base_of))]
-fn base_of(field: &[u8]) -> Option<BaseField>
-    ensures base { option_map base_said result ≡ base_of field.now }
+#[tactic(auto, unfolding(script_spec::specs::Cards::parse_base))]
+fn parse_base(field: &[u8]) -> Option<BaseField>
+    ensures base { option_map base_said result ≡ parse_base field.now }
 {
     match field {
-        [b'm', digits @ ..] => Some(BaseField::Memory(decimal_of(digits)?)),
-        [b'i', digits @ ..] => Some(BaseField::Io(decimal_of(digits)?)),
+        [b'm', digits @ ..] => Some(BaseField::Memory(parse_decimal(digits)?)),
+        [b'i', digits @ ..] => Some(BaseField::Io(parse_decimal(digits)?)),
         _ => None,
     }
 }
 
 /// The power of two of a field `xK`, which version 2 has.
-#[tactic(auto, unfolding(script_spec::specs::Cards::rom_of))]
-fn rom_of(version: u8, field: &[u8]) -> Option<u32>
-    ensures rom { result ≡ rom_of version field.now }
+#[tactic(auto, unfolding(script_spec::specs::Cards::parse_rom_bits))]
+fn parse_rom_bits(version: u8, field: &[u8]) -> Option<u32>
+    ensures rom { result ≡ parse_rom_bits version field.now }
 {
     if version != 2 {
         return None;
     }
     match field {
-        [b'x', digits @ ..] => decimal_of(digits),
+        [b'x', digits @ ..] => parse_decimal(digits),
         _ => None,
     }
 }
 
 /// Whether it is a VGA adapter.
-fn vga_of(field: &[u8]) -> Option<bool>
-    ensures vga { result ≡ vga_of field.now }
+fn parse_vga(field: &[u8]) -> Option<bool>
+    ensures vga { result ≡ parse_vga field.now }
 {
     match field {
         b"vga" => Some(true),
@@ -86,7 +86,7 @@ fn with_base(mut tail: Tail, field: &[u8]) -> Option<Tail>
     if tail.bases.is_full() {
         return None;
     }
-    tail.bases.push(base_of(field)?);
+    tail.bases.push(parse_base(field)?);
     Some(tail)
 }
 
@@ -98,7 +98,7 @@ fn with_field(version: u8, tail: Tail, field: &[u8]) -> Option<Tail>
     if tail.rom.is_some() {
         return None;
     }
-    match rom_of(version, field) {
+    match parse_rom_bits(version, field) {
         None => with_base(tail, field),
         Some(bits) => Some(Tail {
             bases: tail.bases,
@@ -109,7 +109,7 @@ fn with_field(version: u8, tail: Tail, field: &[u8]) -> Option<Tail>
 
 /// The bases and the expansion ROM of all fields.
 #[tactic(auto, unfolding(script_spec::specs::Cards::with_fields))]
-fn tail_of(version: u8, fields: Fields<'_>) -> Option<Tail>
+fn parse_tail(version: u8, fields: Fields<'_>) -> Option<Tail>
     ensures tail { option_map tail_said result ≡ with_fields version no_tail fields.entry }
 {
     let mut tail = Tail {
@@ -125,15 +125,15 @@ fn tail_of(version: u8, fields: Fields<'_>) -> Option<Tail>
 }
 
 /// The card of a line, by its fields after `card`.
-#[tactic(auto, unfolding(script_spec::specs::Cards::card_of))]
-pub(crate) fn card_of(version: u8, words: Fields<'_>) -> Option<CardFields>
-    ensures card { option_map card_said result ≡ card_of version words.entry }
+#[tactic(auto, unfolding(script_spec::specs::Cards::parse_card))]
+pub(crate) fn parse_card(version: u8, words: Fields<'_>) -> Option<CardFields>
+    ensures card { option_map card_said result ≡ parse_card version words.entry }
 {
     let (dev, words) = words.next()?;
     let (kind, words) = words.next()?;
-    let dev = decimal_of(dev)?;
-    let vga = vga_of(kind)?;
-    let tail = tail_of(version, words)?;
+    let dev = parse_decimal(dev)?;
+    let vga = parse_vga(kind)?;
+    let tail = parse_tail(version, words)?;
     Some(CardFields {
         dev,
         vga,

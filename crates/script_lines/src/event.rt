@@ -2,18 +2,18 @@
 
 ghost use Rattle.std.specs.Prelude.{◌≡◌, ◌*◌, ◌<◌, ◌^◌, IfSome};
 ghost use Rattle.board_base.specs.Access.{bytes_of};
-ghost use Rattle.script_spec.specs.Common.{hex_of, IsSize, width_of, quad_of, size_of, width_with, is_wide, memory_event, kind_of, smm_of, read_of, write_of, in_of, out_of, look_of, ack_of, number_in, sector_of, event_of};
-ghost use Rattle.script_spec.specs.Events.{pulses_of};
+ghost use Rattle.script_spec.specs.Common.{parse_hex, IsSize, parse_width, quad_size, parse_size, width_with, is_wide, memory_event, parse_kind, parse_smm, parse_read, parse_write, parse_in, parse_out, parse_look, parse_ack, parse_number, parse_bad_sector, parse_event};
+ghost use Rattle.script_spec.specs.Events.{parse_pulses};
 
 use crate::fields::Fields;
 use crate::item::is_word;
-use crate::numbers::{decimal_of, hex_of};
+use crate::numbers::{parse_decimal, parse_hex};
 use board_base::{Access, Kind, PortAccess, WideAccess, Width};
 use board_spec::Event;
 
 /// The width of an access to a port.
-pub(crate) fn width_of(field: &[u8]) -> Option<Width>
-    ensures width { result ≡ width_of field.now }
+pub(crate) fn parse_width(field: &[u8]) -> Option<Width>
+    ensures width { result ≡ parse_width field.now }
 {
     match field {
         b"b" => Some(Width::One),
@@ -24,29 +24,29 @@ pub(crate) fn width_of(field: &[u8]) -> Option<Width>
 }
 
 /// Eight bytes, which version 2 has.
-fn quad_of(version: u8) -> Option<u8>
-    ensures size { result ≡ quad_of version }
+fn quad_size(version: u8) -> Option<u8>
+    ensures size { result ≡ quad_size version }
 {
     if version == 2 { Some(8) } else { None }
 }
 
 /// The number of bytes of an access to memory.
 #[inline(always)]
-pub(crate) fn size_of(version: u8, field: &[u8]) -> Option<u8>
-    ensures size { result ≡ size_of version field.now }
+pub(crate) fn parse_size(version: u8, field: &[u8]) -> Option<u8>
+    ensures size { result ≡ parse_size version field.now }
     ensures known { IfSome result (IsSize version) }
 {
     match field {
         b"b" => Some(1),
         b"w" => Some(2),
         b"d" => Some(4),
-        b"q" => quad_of(version),
+        b"q" => quad_size(version),
         _ => None,
     }
 }
 
-pub(crate) fn kind_of(field: &[u8]) -> Option<Kind>
-    ensures kind { result ≡ kind_of field.now }
+pub(crate) fn parse_kind(field: &[u8]) -> Option<Kind>
+    ensures kind { result ≡ parse_kind field.now }
 {
     match field {
         b"f" => Some(Kind::Fetch),
@@ -57,9 +57,9 @@ pub(crate) fn kind_of(field: &[u8]) -> Option<Kind>
 }
 
 /// Whether the access is made in system management mode, by the fields after the others.
-#[tactic(auto, unfolding(script_spec::specs::Events::smm_of))]
-fn smm_of(flags: Fields<'_>) -> Option<bool>
-    ensures smm { result ≡ smm_of flags.entry }
+#[tactic(auto, unfolding(script_spec::specs::Events::parse_smm))]
+fn parse_smm(flags: Fields<'_>) -> Option<bool>
+    ensures smm { result ≡ parse_smm flags.entry }
 {
     let Some((flag, later)) = flags.next() else {
         return Some(false);
@@ -133,59 +133,59 @@ pub(crate) fn memory_event(
 }
 
 /// An address has eight digits.
-pub(crate) fn address_of(field: &[u8]) -> Option<u32>
-    ensures address { result ≡ hex_of 8 field.now }
+pub(crate) fn parse_address(field: &[u8]) -> Option<u32>
+    ensures address { result ≡ parse_hex 8 field.now }
 {
-    let addr = hex_of(8, field)?;
+    let addr = parse_hex(8, field)?;
     Some(addr as u32)
 }
 
 /// A port has four digits.
-pub(crate) fn port_of(field: &[u8]) -> Option<u16>
-    ensures port { result ≡ hex_of 4 field.now }
+pub(crate) fn parse_port(field: &[u8]) -> Option<u16>
+    ensures port { result ≡ parse_hex 4 field.now }
 {
-    let port = hex_of(4, field)?;
+    let port = parse_hex(4, field)?;
     Some(port as u16)
 }
 
 /// `W ADDR` and the flag, after the word for a read or a fetch.
-#[tactic(auto, unfolding(script_spec::specs::Events::read_of))]
-fn read_of(version: u8, kind: Kind, words: Fields<'_>) -> Option<Event>
-    ensures event { result ≡ read_of version kind words.entry }
+#[tactic(auto, unfolding(script_spec::specs::Events::parse_read))]
+fn parse_read(version: u8, kind: Kind, words: Fields<'_>) -> Option<Event>
+    ensures event { result ≡ parse_read version kind words.entry }
 {
     let (size, words) = words.next()?;
     let (addr, words) = words.next()?;
-    let bytes = size_of(version, size)?;
-    let addr = address_of(addr)?;
-    let smm = smm_of(words)?;
+    let bytes = parse_size(version, size)?;
+    let addr = parse_address(addr)?;
+    let smm = parse_smm(words)?;
     Some(memory_event(version, kind, bytes, addr, 0, smm))
 }
 
 /// `W ADDR VALUE` and the flag, after the word for a write.
-#[tactic(auto, unfolding(script_spec::specs::Events::write_of))]
-fn write_of(version: u8, words: Fields<'_>) -> Option<Event>
-    ensures event { result ≡ write_of version words.entry }
+#[tactic(auto, unfolding(script_spec::specs::Events::parse_write))]
+fn parse_write(version: u8, words: Fields<'_>) -> Option<Event>
+    ensures event { result ≡ parse_write version words.entry }
 {
     let (size, words) = words.next()?;
     let (addr, words) = words.next()?;
     let (value, words) = words.next()?;
-    let bytes = size_of(version, size)?;
-    let addr = address_of(addr)?;
-    let value = hex_of(2 * bytes as usize, value)?;
-    let smm = smm_of(words)?;
+    let bytes = parse_size(version, size)?;
+    let addr = parse_address(addr)?;
+    let value = parse_hex(2 * bytes as usize, value)?;
+    let smm = parse_smm(words)?;
     Some(memory_event(version, Kind::Write, bytes, addr, value, smm))
 }
 
 /// `W PORT`, after `in`.
-#[tactic(auto, unfolding(script_spec::specs::Events::in_of))]
-fn in_of(words: Fields<'_>) -> Option<Event>
-    ensures event { result ≡ in_of words.entry }
+#[tactic(auto, unfolding(script_spec::specs::Events::parse_in))]
+fn parse_in(words: Fields<'_>) -> Option<Event>
+    ensures event { result ≡ parse_in words.entry }
 {
     let (width, words) = words.next()?;
     let (port, words) = words.next()?;
     words.end()?;
-    let width = width_of(width)?;
-    let port = port_of(port)?;
+    let width = parse_width(width)?;
+    let port = parse_port(port)?;
     Some(Event::Port(PortAccess {
         write: false,
         port,
@@ -195,25 +195,25 @@ fn in_of(words: Fields<'_>) -> Option<Event>
 }
 
 /// The value of an access to a port has two digits for each byte of its width.
-pub(crate) fn value_of(width: Width, field: &[u8]) -> Option<u32>
-    ensures value { result ≡ hex_of (2 * bytes_of width) field.now }
+pub(crate) fn parse_value(width: Width, field: &[u8]) -> Option<u32>
+    ensures value { result ≡ parse_hex (2 * bytes_of width) field.now }
 {
-    let value = hex_of(2 * width.bytes() as usize, field)?;
+    let value = parse_hex(2 * width.bytes() as usize, field)?;
     Some(value as u32)
 }
 
 /// `W PORT VALUE`, after `out`.
-#[tactic(auto, unfolding(script_spec::specs::Events::out_of))]
-fn out_of(words: Fields<'_>) -> Option<Event>
-    ensures event { result ≡ out_of words.entry }
+#[tactic(auto, unfolding(script_spec::specs::Events::parse_out))]
+fn parse_out(words: Fields<'_>) -> Option<Event>
+    ensures event { result ≡ parse_out words.entry }
 {
     let (width, words) = words.next()?;
     let (port, words) = words.next()?;
     let (value, words) = words.next()?;
     words.end()?;
-    let width = width_of(width)?;
-    let port = port_of(port)?;
-    let value = value_of(width, value)?;
+    let width = parse_width(width)?;
+    let port = parse_port(port)?;
+    let value = parse_value(width, value)?;
     Some(Event::Port(PortAccess {
         write: true,
         port,
@@ -223,65 +223,65 @@ fn out_of(words: Fields<'_>) -> Option<Event>
 }
 
 /// `K ADDR` and the flag, after `look`.
-#[tactic(auto, unfolding(script_spec::specs::Events::look_of))]
-fn look_of(words: Fields<'_>) -> Option<Event>
-    ensures event { result ≡ look_of words.entry }
+#[tactic(auto, unfolding(script_spec::specs::Events::parse_look))]
+fn parse_look(words: Fields<'_>) -> Option<Event>
+    ensures event { result ≡ parse_look words.entry }
 {
     let (kind, words) = words.next()?;
     let (addr, words) = words.next()?;
-    let kind = kind_of(kind)?;
-    let addr = address_of(addr)?;
-    let smm = smm_of(words)?;
+    let kind = parse_kind(kind)?;
+    let addr = parse_address(addr)?;
+    let smm = parse_smm(words)?;
     Some(Event::Look { kind, addr, smm })
 }
 
 /// `ack` has no more fields.
-#[tactic(auto, unfolding(script_spec::specs::Events::ack_of))]
-fn ack_of(words: Fields<'_>) -> Option<Event>
-    ensures event { result ≡ ack_of words.entry }
+#[tactic(auto, unfolding(script_spec::specs::Events::parse_ack))]
+fn parse_ack(words: Fields<'_>) -> Option<Event>
+    ensures event { result ≡ parse_ack words.entry }
 {
     words.end()?;
     Some(Event::Ack)
 }
 
 /// The decimal that is the only field.
-#[tactic(auto, unfolding(script_spec::specs::Events::number_in))]
-pub(crate) fn number_in(words: Fields<'_>) -> Option<u32>
-    ensures number { result ≡ number_in words.entry }
+#[tactic(auto, unfolding(script_spec::specs::Events::parse_number))]
+pub(crate) fn parse_number(words: Fields<'_>) -> Option<u32>
+    ensures number { result ≡ parse_number words.entry }
 {
     let field = words.only()?;
-    decimal_of(field)
+    parse_decimal(field)
 }
 
-fn pulses_of(words: Fields<'_>) -> Option<Event>
-    ensures event { result ≡ pulses_of words.entry }
+fn parse_pulses(words: Fields<'_>) -> Option<Event>
+    ensures event { result ≡ parse_pulses words.entry }
 {
-    let count = number_in(words)?;
+    let count = parse_number(words)?;
     Some(Event::Pulses(count))
 }
 
-fn sector_of(words: Fields<'_>) -> Option<Event>
-    ensures event { result ≡ sector_of words.entry }
+fn parse_bad_sector(words: Fields<'_>) -> Option<Event>
+    ensures event { result ≡ parse_bad_sector words.entry }
 {
-    let sector = number_in(words)?;
+    let sector = parse_number(words)?;
     Some(Event::BadSector(sector))
 }
 
 /// The event of a statement that gives no moment and sets no line, by its verb and the fields after it.
-#[tactic(auto, unfolding(script_spec::specs::Events::event_of))]
-pub(crate) fn event_of(version: u8, verb: &[u8], words: Fields<'_>) -> Option<Event>
-    ensures event { result ≡ event_of version verb.now words.entry }
+#[tactic(auto, unfolding(script_spec::specs::Events::parse_event))]
+pub(crate) fn parse_event(version: u8, verb: &[u8], words: Fields<'_>) -> Option<Event>
+    ensures event { result ≡ parse_event version verb.now words.entry }
 {
     match verb {
-        b"r" => read_of(version, Kind::Read, words),
-        b"f" => read_of(version, Kind::Fetch, words),
-        b"w" => write_of(version, words),
-        b"in" => in_of(words),
-        b"out" => out_of(words),
-        b"look" => look_of(words),
-        b"ack" => ack_of(words),
-        b"pulse" => pulses_of(words),
-        b"bad" => sector_of(words),
+        b"r" => parse_read(version, Kind::Read, words),
+        b"f" => parse_read(version, Kind::Fetch, words),
+        b"w" => parse_write(version, words),
+        b"in" => parse_in(words),
+        b"out" => parse_out(words),
+        b"look" => parse_look(words),
+        b"ack" => parse_ack(words),
+        b"pulse" => parse_pulses(words),
+        b"bad" => parse_bad_sector(words),
         _ => None,
     }
 }

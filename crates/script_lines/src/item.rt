@@ -3,14 +3,14 @@
 ghost use Rattle.std.specs.Prelude.{◌≡◌, ℕ, option_map, bytes_eq, IfSome};
 ghost use Rattle.std.specs.Option.{IfNone};
 ghost use Rattle.std.specs.List.{list_all};
-ghost use Rattle.script_spec.specs.Common.{SetCpus, SetMemory, SetRom, SetDisk, FitCard, HasForm, is_name_start, is_name_byte, number_in, card_of, two_numbers_in, only_moment, moment_asked, wire_asked, line_asked, event_asked, asked_with, asked_of, is_name, name_in, phase_of, statement_of, item_with, item_of};
+ghost use Rattle.script_spec.specs.Common.{SetCpus, SetMemory, SetRom, SetDisk, FitCard, HasForm, is_name_start, is_name_byte, parse_number, parse_card, parse_two_numbers, parse_only_moment, parse_time_item, parse_wire_item, parse_line_item, parse_event_item, parse_by_verb, parse_statement_words, is_name, parse_name, parse_phase, parse_statement, parse_by_key, parse_item};
 ghost use Rattle.script_lines.specs.Items.{moment_said, asked_said, line_said, HasNoForm};
 
-use crate::card::{CardFields, card_of};
-use crate::event::{event_of, number_in};
+use crate::card::{CardFields, parse_card};
+use crate::event::{parse_event, parse_number};
 use crate::fields::Fields;
-use crate::moment::{MomentFields, moment_in};
-use crate::numbers::decimal_of;
+use crate::moment::{MomentFields, parse_moment};
+use crate::numbers::parse_decimal;
 use board_spec::Event;
 
 /// The longest name, in bytes.
@@ -48,81 +48,81 @@ pub fn is_word(field: &[u8], word: &str) -> bool
 
 // ---- statements
 
-#[tactic(auto, unfolding(script_spec::specs::Items::two_numbers_in))]
-fn two_numbers_in(words: Fields<'_>) -> Option<(u32, u32)>
-    ensures numbers { result ≡ two_numbers_in words.entry }
+#[tactic(auto, unfolding(script_spec::specs::Items::parse_two_numbers))]
+fn parse_two_numbers(words: Fields<'_>) -> Option<(u32, u32)>
+    ensures numbers { result ≡ parse_two_numbers words.entry }
 {
     let (first, words) = words.next()?;
     let (second, words) = words.next()?;
     words.end()?;
-    let first = decimal_of(first)?;
-    let second = decimal_of(second)?;
+    let first = parse_decimal(first)?;
+    let second = parse_decimal(second)?;
     Some((first, second))
 }
 
-#[tactic(auto, unfolding(script_spec::specs::Items::only_moment))]
-fn only_moment(words: Fields<'_>) -> Option<MomentFields>
-    ensures moment { option_map moment_said result ≡ only_moment words.entry }
+#[tactic(auto, unfolding(script_spec::specs::Items::parse_only_moment))]
+fn parse_only_moment(words: Fields<'_>) -> Option<MomentFields>
+    ensures moment { option_map moment_said result ≡ parse_only_moment words.entry }
 {
     let field = words.only()?;
-    moment_in(field)
+    parse_moment(field)
 }
 
-#[tactic(auto, unfolding(script_spec::specs::Items::moment_asked))]
-fn moment_of(words: Fields<'_>) -> Option<Asked>
-    ensures asked { (actor : ℕ) → option_map (asked_said actor) result ≡ moment_asked actor words.entry }
+#[tactic(auto, unfolding(script_spec::specs::Items::parse_time_item))]
+fn parse_time_item(words: Fields<'_>) -> Option<Asked>
+    ensures asked { (actor : ℕ) → option_map (asked_said actor) result ≡ parse_time_item actor words.entry }
 {
-    let moment = only_moment(words)?;
+    let moment = parse_only_moment(words)?;
     Some(Asked::Moment(moment))
 }
 
-#[tactic(auto, unfolding(script_spec::specs::Items::wire_asked))]
-fn wire_of(words: Fields<'_>) -> Option<Asked>
-    ensures asked { (actor : ℕ) → option_map (asked_said actor) result ≡ wire_asked actor words.entry }
+#[tactic(auto, unfolding(script_spec::specs::Items::parse_wire_item))]
+fn parse_wire_item(words: Fields<'_>) -> Option<Asked>
+    ensures asked { (actor : ℕ) → option_map (asked_said actor) result ≡ parse_wire_item actor words.entry }
 {
-    let (dev, level) = two_numbers_in(words)?;
+    let (dev, level) = parse_two_numbers(words)?;
     Some(Asked::Wire { dev, level })
 }
 
-#[tactic(auto, unfolding(script_spec::specs::Items::line_asked))]
-fn line_of(words: Fields<'_>) -> Option<Asked>
-    ensures asked { (actor : ℕ) → option_map (asked_said actor) result ≡ line_asked actor words.entry }
+#[tactic(auto, unfolding(script_spec::specs::Items::parse_line_item))]
+fn parse_line_item(words: Fields<'_>) -> Option<Asked>
+    ensures asked { (actor : ℕ) → option_map (asked_said actor) result ≡ parse_line_item actor words.entry }
 {
-    let (irq, level) = two_numbers_in(words)?;
+    let (irq, level) = parse_two_numbers(words)?;
     Some(Asked::Line { irq, level })
 }
 
-#[tactic(auto, unfolding(script_spec::specs::Items::event_asked))]
-fn other_event(version: u8, verb: &[u8], words: Fields<'_>) -> Option<Asked>
-    ensures asked { (actor : ℕ) → option_map (asked_said actor) result ≡ event_asked version actor verb.now words.entry }
+#[tactic(auto, unfolding(script_spec::specs::Items::parse_event_item))]
+fn parse_event_item(version: u8, verb: &[u8], words: Fields<'_>) -> Option<Asked>
+    ensures asked { (actor : ℕ) → option_map (asked_said actor) result ≡ parse_event_item version actor verb.now words.entry }
 {
-    let event = event_of(version, verb, words)?;
+    let event = parse_event(version, verb, words)?;
     Some(Asked::Event(event))
 }
 
-#[tactic(auto, unfolding(script_spec::specs::Items::asked_with))]
-fn asked_with(version: u8, verb: &[u8], words: Fields<'_>) -> Option<Asked>
-    ensures asked { (actor : ℕ) → option_map (asked_said actor) result ≡ asked_with version actor verb.now words.entry }
+#[tactic(auto, unfolding(script_spec::specs::Items::parse_by_verb))]
+fn parse_by_verb(version: u8, verb: &[u8], words: Fields<'_>) -> Option<Asked>
+    ensures asked { (actor : ℕ) → option_map (asked_said actor) result ≡ parse_by_verb version actor verb.now words.entry }
 {
     if is_word(verb, "moment") {
-        return moment_of(words);
+        return parse_time_item(words);
     }
     if is_word(verb, "wire") {
-        return wire_of(words);
+        return parse_wire_item(words);
     }
     if is_word(verb, "irq") {
-        return line_of(words);
+        return parse_line_item(words);
     }
-    other_event(version, verb, words)
+    parse_event_item(version, verb, words)
 }
 
 /// The event of a statement, by the fields of its line after the processor's number.
-#[tactic(auto, unfolding(script_spec::specs::Items::asked_of))]
-fn asked_of(version: u8, words: Fields<'_>) -> Option<Asked>
-    ensures asked { (actor : ℕ) → option_map (asked_said actor) result ≡ asked_of version actor words.entry }
+#[tactic(auto, unfolding(script_spec::specs::Items::parse_statement_words))]
+fn parse_statement_words(version: u8, words: Fields<'_>) -> Option<Asked>
+    ensures asked { (actor : ℕ) → option_map (asked_said actor) result ≡ parse_statement_words version actor words.entry }
 {
     let (verb, words) = words.next()?;
-    asked_with(version, verb, words)
+    parse_by_verb(version, verb, words)
 }
 
 // ---- names
@@ -161,9 +161,9 @@ fn is_name(bytes: &[u8]) -> bool
 }
 
 /// The name that is the only field.
-#[tactic(auto, unfolding(script_spec::specs::Items::name_in))]
-fn name_in<'a>(words: Fields<'a>) -> Option<&'a [u8]>
-    ensures name { option_map (λ name. name.now) result ≡ name_in words.entry }
+#[tactic(auto, unfolding(script_spec::specs::Items::parse_name))]
+fn parse_name<'a>(words: Fields<'a>) -> Option<&'a [u8]>
+    ensures name { option_map (λ name. name.now) result ≡ parse_name words.entry }
 {
     let name = words.only()?;
     if is_name(name) { Some(name) } else { None }
@@ -171,98 +171,98 @@ fn name_in<'a>(words: Fields<'a>) -> Option<&'a [u8]>
 
 // ---- all lines
 
-#[tactic(auto, unfolding(script_spec::specs::Items::phase_of))]
-fn phase_of<'a>(words: Fields<'a>) -> Option<Item<'a>>
-    ensures item { option_map line_said result ≡ phase_of words.entry }
+#[tactic(auto, unfolding(script_spec::specs::Items::parse_phase))]
+fn parse_phase<'a>(words: Fields<'a>) -> Option<Item<'a>>
+    ensures item { option_map line_said result ≡ parse_phase words.entry }
 {
     words.end()?;
     Some(Item::Phase)
 }
 
-fn cpus_of<'a>(words: Fields<'a>) -> Option<Item<'a>>
-    ensures item { option_map line_said result ≡ option_map SetCpus (number_in words.entry) }
+fn parse_cpus<'a>(words: Fields<'a>) -> Option<Item<'a>>
+    ensures item { option_map line_said result ≡ option_map SetCpus (parse_number words.entry) }
 {
-    let count = number_in(words)?;
+    let count = parse_number(words)?;
     Some(Item::Cpus(count))
 }
 
-fn memory_of<'a>(words: Fields<'a>) -> Option<Item<'a>>
-    ensures item { option_map line_said result ≡ option_map SetMemory (number_in words.entry) }
+fn parse_memory<'a>(words: Fields<'a>) -> Option<Item<'a>>
+    ensures item { option_map line_said result ≡ option_map SetMemory (parse_number words.entry) }
 {
-    let mib = number_in(words)?;
+    let mib = parse_number(words)?;
     Some(Item::Memory(mib))
 }
 
-fn rom_of<'a>(words: Fields<'a>) -> Option<Item<'a>>
-    ensures item { option_map line_said result ≡ option_map SetRom (name_in words.entry) }
+fn parse_rom<'a>(words: Fields<'a>) -> Option<Item<'a>>
+    ensures item { option_map line_said result ≡ option_map SetRom (parse_name words.entry) }
 {
-    let name = name_in(words)?;
+    let name = parse_name(words)?;
     Some(Item::Rom(name))
 }
 
-fn disk_of<'a>(words: Fields<'a>) -> Option<Item<'a>>
-    ensures item { option_map line_said result ≡ option_map SetDisk (name_in words.entry) }
+fn parse_disk<'a>(words: Fields<'a>) -> Option<Item<'a>>
+    ensures item { option_map line_said result ≡ option_map SetDisk (parse_name words.entry) }
 {
-    let name = name_in(words)?;
+    let name = parse_name(words)?;
     Some(Item::Disk(name))
 }
 
-fn fitted_of<'a>(version: u8, words: Fields<'a>) -> Option<Item<'a>>
-    ensures item { option_map line_said result ≡ option_map FitCard (card_of version words.entry) }
+fn parse_fitted_card<'a>(version: u8, words: Fields<'a>) -> Option<Item<'a>>
+    ensures item { option_map line_said result ≡ option_map FitCard (parse_card version words.entry) }
 {
-    let card = card_of(version, words)?;
+    let card = parse_card(version, words)?;
     Some(Item::Card(card))
 }
 
-#[tactic(auto, unfolding(script_spec::specs::Items::statement_of))]
-fn statement_of<'a>(version: u8, actor: &[u8], words: Fields<'a>) -> Option<Item<'a>>
-    ensures item { option_map line_said result ≡ statement_of version actor.now words.entry }
+#[tactic(auto, unfolding(script_spec::specs::Items::parse_statement))]
+fn parse_statement<'a>(version: u8, actor: &[u8], words: Fields<'a>) -> Option<Item<'a>>
+    ensures item { option_map line_said result ≡ parse_statement version actor.now words.entry }
 {
-    let actor = decimal_of(actor)?;
-    let asked = asked_of(version, words)?;
+    let actor = parse_decimal(actor)?;
+    let asked = parse_statement_words(version, words)?;
     Some(Item::Statement { actor, asked })
 }
 
-#[tactic(auto, unfolding(script_spec::specs::Items::item_with))]
-fn item_with<'a>(version: u8, key: &[u8], words: Fields<'a>) -> Option<Item<'a>>
-    ensures item { option_map line_said result ≡ item_with version key.now words.entry }
+#[tactic(auto, unfolding(script_spec::specs::Items::parse_by_key))]
+fn parse_by_key<'a>(version: u8, key: &[u8], words: Fields<'a>) -> Option<Item<'a>>
+    ensures item { option_map line_said result ≡ parse_by_key version key.now words.entry }
 {
     if is_word(key, "phase") {
-        return phase_of(words);
+        return parse_phase(words);
     }
     if is_word(key, "cpus") {
-        return cpus_of(words);
+        return parse_cpus(words);
     }
     if is_word(key, "memory") {
-        return memory_of(words);
+        return parse_memory(words);
     }
     if is_word(key, "rom") {
-        return rom_of(words);
+        return parse_rom(words);
     }
     if is_word(key, "disk") {
-        return disk_of(words);
+        return parse_disk(words);
     }
     if is_word(key, "card") {
-        return fitted_of(version, words);
+        return parse_fitted_card(version, words);
     }
-    statement_of(version, key, words)
+    parse_statement(version, key, words)
 }
 
 /// What a line says, by its fields.
-#[tactic(auto, unfolding(script_spec::specs::Items::item_of))]
-fn item_in<'a>(version: u8, fields: Fields<'a>) -> Option<Item<'a>>
-    ensures item { option_map line_said result ≡ item_of version fields.entry }
+#[tactic(auto, unfolding(script_spec::specs::Items::parse_item))]
+fn parse_fields<'a>(version: u8, fields: Fields<'a>) -> Option<Item<'a>>
+    ensures item { option_map line_said result ≡ parse_item version fields.entry }
 {
     let (key, words) = fields.next()?;
-    item_with(version, key, words)
+    parse_by_key(version, key, words)
 }
 
 /// What a line of a script of this version, 1 or 2, says after the first line. None exactly where the line has no form
 /// of the version; an item's numbers may be out of range.
-pub fn item_of(version: u8, line: &[u8]) -> Option<Item<'_>>
+pub fn parse_item(version: u8, line: &[u8]) -> Option<Item<'_>>
     ensures says { IfSome result (λ item. HasForm version line.now (line_said item)) }
     ensures none { IfNone result (HasNoForm version line.now) }
 {
     let fields = Fields::of(line);
-    item_in(version, fields)
+    parse_fields(version, fields)
 }

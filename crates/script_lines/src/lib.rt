@@ -11,7 +11,7 @@ mod straight;
 
 pub use card::{BaseField, CardFields};
 pub use fields::Fields;
-pub use item::{Asked, Item, is_word, item_of};
+pub use item::{Asked, Item, is_word, parse_item};
 pub use moment::MomentFields;
-pub use numbers::{decimal_of, digit_of, hex_of};
-pub use straight::{straight_end, straight_of};
+pub use numbers::{parse_decimal, parse_digit, parse_hex};
+pub use straight::{parse_straight, straight_end};

@@ -1,7 +1,7 @@
 //! Numbers as a script writes them.
 
 ghost use Rattle.std.specs.Prelude.{ℕ, ◌≡◌, ◌<◌, ◌≤◌, ◌^◌, [], ◌∷◌, length, IfSome, option_map, Option, Some, None, if◌then◌else◌};
-ghost use Rattle.script_spec.specs.Numbers.{digit_value, digit_of, number_of, hex_of, decimal_of, has_leading_zero, two_digits_of, after_mark};
+ghost use Rattle.script_spec.specs.Numbers.{digit_value, parse_digit, parse_digits, parse_hex, parse_decimal, has_leading_zero, parse_two_digits, after_mark};
 ghost use Rattle.script_lines.specs.Sums.{IsSum, sum_after, summand_of};
 
 /// The base of hexadecimal numbers.
@@ -67,8 +67,8 @@ fn digit_value(byte: u8) -> Option<u64>
 }
 
 /// A digit of a base.
-pub fn digit_of(base: u64, byte: u8) -> Option<u64>
-    ensures digit { result ≡ digit_of base byte }
+pub fn parse_digit(base: u64, byte: u8) -> Option<u64>
+    ensures digit { result ≡ parse_digit base byte }
     ensures below { IfSome result (λ digit. digit < base) }
 {
     let digit = digit_value(byte)?;
@@ -76,15 +76,15 @@ pub fn digit_of(base: u64, byte: u8) -> Option<u64>
 }
 
 /// The number that the digits of a field make, where every number of that many digits fits 64 bits.
-fn number_of(base: u64, field: &[u8]) -> Option<u64>
+fn parse_digits(base: u64, field: &[u8]) -> Option<u64>
     requires some { 0 < base }
     requires fits { base ^ length field.now ≤ 2 ^ 64 }
-    ensures number { result ≡ number_of base field.now }
+    ensures number { result ≡ parse_digits base field.now }
     ensures below { IfSome result (λ number. number < base ^ length field.now) }
 {
     let mut number = 0;
     for byte in field {
-        number = number * base + digit_of(base, *byte)?;
+        number = number * base + parse_digit(base, *byte)?;
     }
     Some(number)
 }
@@ -121,7 +121,7 @@ fn if_below(limit: u64, sum: u64) -> Option<u64>
 /// The number that two hexadecimal digits make.
 #[inline(always)]
 fn of_two(a: u8, b: u8) -> Option<u64>
-    ensures number { result ≡ number_of 16 (a ∷ b ∷ []) }
+    ensures number { result ≡ parse_digits 16 (a ∷ b ∷ []) }
     ensures below { IfSome result (λ number. number < 16 ^ 2) }
 {
     if_below(0x100, summand_of(a) * HEX + summand_of(b))
@@ -130,7 +130,7 @@ fn of_two(a: u8, b: u8) -> Option<u64>
 /// The number that four hexadecimal digits make.
 #[inline(always)]
 fn of_four(a: u8, b: u8, c: u8, d: u8) -> Option<u64>
-    ensures number { result ≡ number_of 16 (a ∷ b ∷ c ∷ d ∷ []) }
+    ensures number { result ≡ parse_digits 16 (a ∷ b ∷ c ∷ d ∷ []) }
     ensures below { IfSome result (λ number. number < 16 ^ 4) }
 {
     if_below(0x1_0000, sum_of(a, b, c, d))
@@ -139,7 +139,7 @@ fn of_four(a: u8, b: u8, c: u8, d: u8) -> Option<u64>
 /// The number that eight hexadecimal digits make.
 #[inline(always)]
 fn of_eight(a: u8, b: u8, c: u8, d: u8, e: u8, f: u8, g: u8, h: u8) -> Option<u64>
-    ensures number { result ≡ number_of 16 (a ∷ b ∷ c ∷ d ∷ e ∷ f ∷ g ∷ h ∷ []) }
+    ensures number { result ≡ parse_digits 16 (a ∷ b ∷ c ∷ d ∷ e ∷ f ∷ g ∷ h ∷ []) }
     ensures below { IfSome result (λ number. number < 16 ^ 8) }
 {
     let high = sum_of(a, b, c, d);
@@ -149,28 +149,28 @@ fn of_eight(a: u8, b: u8, c: u8, d: u8, e: u8, f: u8, g: u8, h: u8) -> Option<u6
 
 /// The number that hexadecimal digits make, at most sixteen. Two, four and eight are read at once.
 #[inline(always)]
-fn hex_in(field: &[u8]) -> Option<u64>
+fn parse_straight_hex(field: &[u8]) -> Option<u64>
     requires few { length field.now ≤ 16 }
-    ensures number { result ≡ number_of 16 field.now }
+    ensures number { result ≡ parse_digits 16 field.now }
     ensures below { IfSome result (λ number. number < 16 ^ length field.now) }
 {
     match field {
         [a, b] => of_two(*a, *b),
         [a, b, c, d] => of_four(*a, *b, *c, *d),
         [a, b, c, d, e, f, g, h] => of_eight(*a, *b, *c, *d, *e, *f, *g, *h),
-        _ => number_of(HEX, field),
+        _ => parse_digits(HEX, field),
     }
 }
 
 /// The number of exactly `digits` hexadecimal digits, at most sixteen.
 #[inline(always)]
-pub fn hex_of(digits: usize, field: &[u8]) -> Option<u64>
+pub fn parse_hex(digits: usize, field: &[u8]) -> Option<u64>
     requires { digits ≤ 16 }
-    ensures number { result ≡ hex_of digits field.now }
+    ensures number { result ≡ parse_hex digits field.now }
     ensures below { IfSome result (λ number. number < 16 ^ digits) }
 {
     if field.len() == digits {
-        hex_in(field)
+        parse_straight_hex(field)
     } else {
         None
     }
@@ -184,27 +184,27 @@ fn has_leading_zero(field: &[u8]) -> bool
 }
 
 /// The number of 1 to 9 decimal digits, with no leading zero but in `0` itself.
-pub fn decimal_of(field: &[u8]) -> Option<u32>
-    ensures number { result ≡ decimal_of field.now }
+pub fn parse_decimal(field: &[u8]) -> Option<u32>
+    ensures number { result ≡ parse_decimal field.now }
 {
     if field.is_empty() || field.len() > MOST_DIGITS || has_leading_zero(field) {
         return None;
     }
-    let number = number_of(TEN, field)?;
+    let number = parse_digits(TEN, field)?;
     Some(number as u32)
 }
 
 /// The number of two decimal digits, and what stands after them.
-#[tactic(auto, unfolding(script_spec::specs::Numbers::two_digits_of))]
-pub(crate) fn two_digits_of(text: &[u8]) -> Option<(u8, &[u8])>
-    ensures number { option_map (λ p. (p.0, p.1.now)) result ≡ two_digits_of text.now }
+#[tactic(auto, unfolding(script_spec::specs::Numbers::parse_two_digits))]
+pub(crate) fn parse_two_digits(text: &[u8]) -> Option<(u8, &[u8])>
+    ensures number { option_map (λ p. (p.0, p.1.now)) result ≡ parse_two_digits text.now }
     ensures below { IfSome result (λ p. p.0 < 100) }
 {
     let [high, low, rest @ ..] = text else {
         return None;
     };
-    let high = digit_of(TEN, *high)?;
-    let low = digit_of(TEN, *low)?;
+    let high = parse_digit(TEN, *high)?;
+    let low = parse_digit(TEN, *low)?;
     Some(((high * TEN + low) as u8, rest))
 }
 

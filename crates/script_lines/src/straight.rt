@@ -2,13 +2,15 @@
 //! processor with one digit, outside SMM. Any other line is cut into its fields.
 
 ghost use Rattle.std.specs.Prelude.{◌≡◌, ◌≤◌, ◌∷◌, ◌++◌, false, Some, IfSome};
-ghost use Rattle.script_spec.specs.Common.{fields_of, HasForm, is_skipped, read_of};
+ghost use Rattle.script_spec.specs.Common.{fields_of, HasForm, is_skipped, parse_read};
 ghost use Rattle.script_lines.specs.Items.{asked_said};
 ghost use Rattle.script_lines.specs.Straight.{space, Asks};
 ghost use Rattle.script_lines.specs.declared.item.Asked.{Asked};
 
-use crate::event::{address_of, kind_of, memory_event, port_of, size_of, value_of, width_of};
-use crate::numbers::{decimal_of, hex_of};
+use crate::event::{
+    memory_event, parse_address, parse_kind, parse_port, parse_size, parse_value, parse_width,
+};
+use crate::numbers::{parse_decimal, parse_hex};
 use board_base::{Kind, PortAccess};
 use board_spec::Event;
 
@@ -72,11 +74,11 @@ fn after<'a>(verb: &[u8], words: &'a [u8]) -> Option<&'a [u8]>
 /// A read or a fetch, by the size and the address that end its line.
 #[inline(always)]
 fn straight_access(version: u8, kind: Kind, text: &[u8]) -> Option<Event>
-    ensures event { IfSome result (λ event. read_of version kind (fields_of text.now) ≡ Some event) }
+    ensures event { IfSome result (λ event. parse_read version kind (fields_of text.now) ≡ Some event) }
 {
     let (size, field) = first_of(text)?;
-    let bytes = size_of(version, &[size])?;
-    let addr = address_of(field)?;
+    let bytes = parse_size(version, &[size])?;
+    let addr = parse_address(field)?;
     Some(memory_event(version, kind, bytes, addr, 0, false))
 }
 
@@ -103,9 +105,9 @@ fn straight_write(version: u8, words: &[u8]) -> Option<Event>
     let text = after(b"w ", words)?;
     let (size, fields) = first_of(text)?;
     let (place, digits) = cut_at(ADDRESS, fields)?;
-    let bytes = size_of(version, &[size])?;
-    let addr = address_of(place)?;
-    let value = hex_of(2 * bytes as usize, digits)?;
+    let bytes = parse_size(version, &[size])?;
+    let addr = parse_address(place)?;
+    let value = parse_hex(2 * bytes as usize, digits)?;
     Some(memory_event(version, Kind::Write, bytes, addr, value, false))
 }
 
@@ -115,8 +117,8 @@ fn straight_in(version: u8, words: &[u8]) -> Option<Event>
 {
     let text = after(b"in ", words)?;
     let (letter, field) = first_of(text)?;
-    let width = width_of(&[letter])?;
-    let port = port_of(field)?;
+    let width = parse_width(&[letter])?;
+    let port = parse_port(field)?;
     Some(Event::Port(PortAccess {
         write: false,
         port,
@@ -132,9 +134,9 @@ fn straight_out(version: u8, words: &[u8]) -> Option<Event>
     let text = after(b"out ", words)?;
     let (letter, fields) = first_of(text)?;
     let (place, digits) = cut_at(PORT, fields)?;
-    let width = width_of(&[letter])?;
-    let port = port_of(place)?;
-    let value = value_of(width, digits)?;
+    let width = parse_width(&[letter])?;
+    let port = parse_port(place)?;
+    let value = parse_value(width, digits)?;
     Some(Event::Port(PortAccess {
         write: true,
         port,
@@ -149,8 +151,8 @@ fn straight_look(version: u8, words: &[u8]) -> Option<Event>
 {
     let text = after(b"look ", words)?;
     let (letter, field) = first_of(text)?;
-    let kind = kind_of(&[letter])?;
-    let addr = address_of(field)?;
+    let kind = parse_kind(&[letter])?;
+    let addr = parse_address(field)?;
     Some(Event::Look {
         kind,
         addr,
@@ -210,12 +212,12 @@ pub fn straight_end(text: &[u8]) -> usize
 
 /// The processor and the event of a statement that can be read straight. None says nothing of the line.
 #[inline(always)]
-pub fn straight_of(version: u8, line: &[u8]) -> Option<(u32, Event)>
+pub fn parse_straight(version: u8, line: &[u8]) -> Option<(u32, Event)>
     ensures says { IfSome result (λ p. HasForm version line.now (asked_said p.0 (Asked.Event p.1))) }
     ensures read { IfSome result (λ p. is_skipped line.now ≡ false) }
 {
     let (digit, words) = first_of(line)?;
-    let actor = decimal_of(&[digit])?;
+    let actor = parse_decimal(&[digit])?;
     let event = straight_event(version, words)?;
     Some((actor, event))
 }

@@ -1,7 +1,7 @@
 -- Fields that spell the bases and the expansion ROM of a card are read as them.
 use Rattle.std.proofs.Common.{◌≡◌, ℕ, ◌+◌, ◌<◌, ◌≤◌, eqb, Option, Some, None, List, [], ◌∷◌, ◌++◌, length, map, All, inl, inr, refl, sym, ap, ◌∙◌, append_assoc, append-nil, arith, codes, decimal}
 use Rattle.board_prelude.proofs.Common.{cases_Bool, eq-eqb, lt-ltb, length-append, All-head, All-tail, Base, MemoryBase, IoBase}
-use Rattle.script_spec.specs.Common.{IsBaseForm, IsRomForm, base_of, rom_of, with_base, with_rom, with_field, with_fields}
+use Rattle.script_spec.specs.Common.{IsBaseForm, IsRomForm, parse_base, parse_rom_bits, with_base, with_rom, with_field, with_fields}
 use Rattle.script_spec.proofs.NumberBack.{decimal_back}
 use Rattle.script_spec.proofs.CardTexts.{fresh}
 
@@ -13,13 +13,13 @@ abbrev pub rom_words : Option ℕ → List (List ℕ)
 rom_words None = []
 rom_words (Some bits) = (codes "x" ++ decimal bits) ∷ []
 
-base_back : (base : Base) → IsBaseForm base → base_of (base_word base) ≡ Some base
-unfolding base_of
+base_back : (base : Base) → IsBaseForm base → parse_base (base_word base) ≡ Some base
+unfolding parse_base
 base_back (MemoryBase bits) form = rw (decimal_back bits form) refl
 base_back (IoBase bits) form = rw (decimal_back bits form) refl
 
-no_rom : (version : ℕ) (base : Base) → rom_of version (base_word base) ≡ None
-unfolding rom_of
+no_rom : (version : ℕ) (base : Base) → parse_rom_bits version (base_word base) ≡ None
+unfolding parse_rom_bits
 no_rom version (MemoryBase bits) = elim (cases_Bool (eqb version 2)) [ inl two ↦ rw two refl | inr one ↦ rw one refl ]
 no_rom version (IoBase bits) = elim (cases_Bool (eqb version 2)) [ inl two ↦ rw two refl | inr one ↦ rw one refl ]
 
@@ -30,7 +30,7 @@ next_back version before base form room = rw (no_rom version base, lt-ltb (lengt
 
 rom_back : (version : ℕ) (before : List Base) (bits : ℕ) → IsRomForm version (Some bits)
     → with_field version (fresh before) (codes "x" ++ decimal bits) ≡ Some (record { bases = before; rom = Some bits })
-unfolding with_field with_rom rom_of
+unfolding with_field with_rom parse_rom_bits
 rom_back version before bits form = rw (eq-eqb version 2 form.0, decimal_back bits form.1) refl
 
 pub tail_back : (version : ℕ) (before more : List Base) (rom : Option ℕ) → length before + length more ≤ 6 → All IsBaseForm more

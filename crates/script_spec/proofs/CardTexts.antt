@@ -1,7 +1,7 @@
 -- The card that was read is the one that the fields spell.
 use Rattle.std.proofs.Common.{◌≡◌, ℕ, ◌<◌, ◌≤◌, ◌⊎◌, inl, inr, Bool, true, false, cond, eqb, Option, Some, None, List, [], ◌∷◌, ◌++◌, length, flat_map, All, refl, sym, ap, subst, ◌∙◌, append_assoc, append-nil, arith, codes, decimal, bytes_eq, if◌then◌else◌}
 use Rattle.board_prelude.proofs.Common.{join_with_byte, option_map, cases_Bool, eqb-true, ltb-true, length-append, All-nil, All-cons, Base, MemoryBase, IoBase, FittedCard, space}
-use Rattle.script_spec.specs.Common.{IsBaseForm, IsRomForm, IsCardForm, base_text, rom_text, card_text, decimal_of, base_of, Tail, rom_of, has_room, with_base, with_rom, with_field, with_fields, no_tail, vga_of, card_of}
+use Rattle.script_spec.specs.Common.{IsBaseForm, IsRomForm, IsCardForm, base_text, rom_text, card_text, parse_decimal, parse_base, Tail, parse_rom_bits, has_room, with_base, with_rom, with_field, with_fields, no_tail, parse_vga, parse_card}
 use Rattle.script_spec.proofs.Chains.{some_is, guarded, then_said, mapped}
 use Rattle.script_spec.proofs.NumberTexts.{decimal_read}
 use Rattle.script_spec.proofs.Joins.{word_is}
@@ -14,32 +14,32 @@ pub line_spaced : (first : List ℕ) (words : List (List ℕ)) → join_with_byt
 line_spaced first [] = sym (append-nil first)
 line_spaced first (word ∷ words) = ap (λ (rest : List ℕ). first ++ (space ∷ rest)) (line_spaced word words)
 
-base_read : (field : List ℕ) (base : Base) → base_of field ≡ Some base → (space ∷ field ≡ base_text base) × IsBaseForm base
-unfolding base_of
+base_read : (field : List ℕ) (base : Base) → parse_base field ≡ Some base → (space ∷ field ≡ base_text base) × IsBaseForm base
+unfolding parse_base
 base_read [] base e = absurd cc
 base_read (letter ∷ digits) base e = elim (cases_Bool (eqb letter 0x6D)) [
   | inl m ↦
-      let r = mapped (decimal_of digits) MemoryBase base (rw m at e) in
+      let r = mapped (parse_decimal digits) MemoryBase base (rw m at e) in
       let d = decimal_read digits r.0 r.1 in
       let first = eqb-true letter 0x6D m in
       subst (λ (b : Base). (space ∷ letter ∷ digits ≡ base_text b) × IsBaseForm b) (sym r.2)
       ((λ i. space ∷ first i ∷ d.0 i), d.1)
   | inr m ↦
-      let g = guarded (eqb letter 0x69) (option_map IoBase (decimal_of digits)) base (rw m at e) in
-      let r = mapped (decimal_of digits) IoBase base g.1 in
+      let g = guarded (eqb letter 0x69) (option_map IoBase (parse_decimal digits)) base (rw m at e) in
+      let r = mapped (parse_decimal digits) IoBase base g.1 in
       let d = decimal_read digits r.0 r.1 in
       let first = eqb-true letter 0x69 g.0 in
       subst (λ (b : Base). (space ∷ letter ∷ digits ≡ base_text b) × IsBaseForm b) (sym r.2)
       ((λ i. space ∷ first i ∷ d.0 i), d.1)
 ]
 
-rom_read : (version : ℕ) (field : List ℕ) (bits : ℕ) → rom_of version field ≡ Some bits
+rom_read : (version : ℕ) (field : List ℕ) (bits : ℕ) → parse_rom_bits version field ≡ Some bits
     → (space ∷ field ≡ rom_text (Some bits)) × IsRomForm version (Some bits)
-unfolding rom_of
+unfolding parse_rom_bits
 rom_read version [] bits e = absurd cc
 rom_read version (letter ∷ digits) bits e =
-    let v = guarded (eqb version 2) (cond (eqb letter 0x78) (decimal_of digits) None) bits e in
-    let g = guarded (eqb letter 0x78) (decimal_of digits) bits v.1 in
+    let v = guarded (eqb version 2) (cond (eqb letter 0x78) (parse_decimal digits) None) bits e in
+    let g = guarded (eqb letter 0x78) (parse_decimal digits) bits v.1 in
     let d = decimal_read digits bits g.1 in
     let first = eqb-true letter 0x78 g.0 in
     ((λ i. space ∷ first i ∷ d.0 i), (eqb-true version 2 v.0, d.1))
@@ -69,28 +69,28 @@ ended version before (_ ∷ _) bits tail e = absurd cc
 -- a field is an expansion ROM, or a base
 record IsRomNext (version : ℕ) (before : List Base) (field : List ℕ) (next : Tail) : Type 0 where
   pub bits : ℕ
-  pub read : rom_of version field ≡ Some bits
+  pub read : parse_rom_bits version field ≡ Some bits
   pub is : closed before bits ≡ next
 
 record IsBaseNext (before : List Base) (field : List ℕ) (next : Tail) : Type 0 where
   pub base : Base
-  pub read : base_of field ≡ Some base
+  pub read : parse_base field ≡ Some base
   pub is : fresh (before ++ base ∷ []) ≡ next
   pub room : length before < 6
 
-next_cases : (version : ℕ) (before : List Base) (field : List ℕ) (rom : Option ℕ) (next : Tail) → rom_of version field ≡ rom
+next_cases : (version : ℕ) (before : List Base) (field : List ℕ) (rom : Option ℕ) (next : Tail) → parse_rom_bits version field ≡ rom
     → with_rom (fresh before) rom field ≡ Some next → IsRomNext version before field next ⊎ IsBaseNext before field next
 unfolding with_rom with_base
 next_cases version before field (Some bits) next read e = inl (record { bits = bits; read = read; is = some_is _ next e })
 next_cases version before field None next read e =
     let g = guarded (has_room (fresh before)) _ next e in
-    let b = mapped (base_of field) _ next g.1 in
+    let b = mapped (parse_base field) _ next g.1 in
     inr (record { base = b.0; read = b.1; is = sym b.2; room = ltb-true (length before) 6 g.0 })
 
 field_read : (version : ℕ) (before : List Base) (field : List ℕ) (next : Tail) → with_field version (fresh before) field ≡ Some next
     → IsRomNext version before field next ⊎ IsBaseNext before field next
 unfolding with_field
-field_read version before field next e = next_cases version before field (rom_of version field) next refl e
+field_read version before field next e = next_cases version before field (parse_rom_bits version field) next refl e
 
 tail_read : (version : ℕ) (before : List Base) (fields : List (List ℕ)) (tail : Tail) → length before ≤ 6
     → with_fields version (fresh before) fields ≡ Some tail → IsTail version before fields tail
@@ -134,7 +134,7 @@ tail_read version before (field ∷ fields) tail few e =
 abbrev pub kind_word : Bool → List ℕ
 kind_word vga = codes (if vga then "vga" else "plain")
 
-vga_read : (field : List ℕ) (vga : Bool) → vga_of field ≡ Some vga → field ≡ kind_word vga
+vga_read : (field : List ℕ) (vga : Bool) → parse_vga field ≡ Some vga → field ≡ kind_word vga
 vga_read field vga e = elim (cases_Bool (bytes_eq field (codes "vga"))) [
   | inl v ↦ subst (λ (b : Bool). field ≡ kind_word b) (some_is true vga (rw v at e)) (word_is field (codes "vga") v)
   | inr v ↦
@@ -152,14 +152,14 @@ card_parts dev false bases rom =
     sym (append_assoc (decimal dev ++ codes " plain") (flat_map base_text bases) (rom_text rom)
     ∙ append_assoc (decimal dev) (codes " plain") (flat_map base_text bases ++ rom_text rom))
 
-pub card_read : (version : ℕ) (words : List (List ℕ)) (card : FittedCard) → card_of version words ≡ Some card
+pub card_read : (version : ℕ) (words : List (List ℕ)) (card : FittedCard) → parse_card version words ≡ Some card
     → (join_with_byte space (codes "card" ∷ words) ≡ codes "card " ++ card_text card) × IsCardForm version card
-unfolding card_of
+unfolding parse_card
 card_read version [] card e = absurd cc
 card_read version (_ ∷ []) card e = absurd cc
 card_read version (dev ∷ kind ∷ fields) card e =
-    let d = then_said (decimal_of dev) _ card e in
-    let v = then_said (vga_of kind) _ card d.2 in
+    let d = then_said (parse_decimal dev) _ card e in
+    let v = then_said (parse_vga kind) _ card d.2 in
     let t = then_said (with_fields version no_tail fields) _ card v.2 in
     let dev_is = decimal_read dev d.0 d.1 in
     let kind_is = vga_read kind v.0 v.1 in

@@ -1,7 +1,7 @@
 -- What a text says is found line by line: the items of a script, or the first bad line and the least reason.
 use Rattle.std.proofs.Common.{ℕ, ◌≡◌, ◌⊎◌, ◌+◌, Bool, true, false, Option, Some, None, Result, Ok, Err, List, [], ◌∷◌, ◌++◌, length, refl, sym, ap, subst, ◌∙◌, inl, inr, append-nil, arith, ◌<◌, nat_lt, if◌then◌else◌, bytes_eq, ◌≤◌}
 use Rattle.board_prelude.proofs.Common.{digits, cases_Bool, cases_lt, lt-ltb, le-ltb, true≢false, bytes_eq-Decides}
-use Rattle.script_spec.specs.Common.{lines_of, Item, HasForm, read_line, lacks_setup, least_reason, most_bytes, is_skipped, IsBadLine, AreRead, EndsBadly, IsVersion, first_line, BeginsBadly, IsBadLater, Script, IsScriptText}
+use Rattle.script_spec.specs.Common.{lines_of, Item, HasForm, parse_line, lacks_setup, least_reason, most_bytes, is_skipped, IsBadLine, AreRead, EndsBadly, IsVersion, first_line, BeginsBadly, IsBadLater, Script, IsScriptText}
 use Rattle.script_spec.proofs.LineReading.{read_says, nothing_said}
 use Rattle.script_spec.proofs.Lists.{same_head, not_nil}
 use Rattle.script_spec.proofs.ItemBack.{line_back}
@@ -19,14 +19,14 @@ judged_form before (Some item) = judged_item before item (least_reason before it
 abbrev pub judged_line : (version : ℕ) → List Item → List ℕ → Result (List Item) ℕ
 judged_line version before line =
     if nat_lt most_bytes (length line) then Err 2 else
-    if is_skipped line then Ok before else judged_form before (read_line version line)
+    if is_skipped line then Ok before else judged_form before (parse_line version line)
 
 abbrev IsLine : (version : ℕ) → List Item → List ℕ → Result (List Item) ℕ → Type 0
 IsLine version before line (Ok items) = AreRead version before (line ∷ []) items
 IsLine version before line (Err why) = IsBadLine version before line why
 
 reason_is : (version : ℕ) (before : List Item) (line : List ℕ) (item : Item) → length line ≤ most_bytes →
-    is_skipped line ≡ false → read_line version line ≡ Some item → (reason : Option ℕ) →
+    is_skipped line ≡ false → parse_line version line ≡ Some item → (reason : Option ℕ) →
     least_reason before item ≡ reason → IsLine version before line (judged_item before item reason)
 reason_is version before line item short read e None none =
     inr (item, record { short = short; read = read; has = read_says version line item e; none = none }, refl)
@@ -34,7 +34,7 @@ reason_is version before line item short read e (Some why) least =
     inr (inr (record { short = short; read = read; item = item; has = read_says version line item e; least = least }))
 
 form_is : (version : ℕ) (before : List Item) (line : List ℕ) → length line ≤ most_bytes → is_skipped line ≡ false →
-    (found : Option Item) → read_line version line ≡ found → IsLine version before line (judged_form before found)
+    (found : Option Item) → parse_line version line ≡ found → IsLine version before line (judged_form before found)
 form_is version before line short read None e =
     inr (inl (record { short = short; read = read; none = nothing_said version line e }, refl))
 form_is version before line short read (Some item) e =
@@ -48,7 +48,7 @@ line_is version before line =
           rw (le-ltb most_bytes (length line) short) (
           elim (cases_Bool (is_skipped line)) [
             | inl skipped ↦ rw skipped (inl (record { short = short; skipped = skipped }, refl))
-            | inr read ↦ rw read (form_is version before line short read (read_line version line) refl)
+            | inr read ↦ rw read (form_is version before line short read (parse_line version line) refl)
           ]
           )
     ]
@@ -216,7 +216,7 @@ long_line : (version : ℕ) (before : List Item) (line : List ℕ) → most_byte
 long_line version before line long = rw (lt-ltb most_bytes (length line) long) refl
 
 read_so : (version : ℕ) (before : List Item) (line : List ℕ) → length line ≤ most_bytes → is_skipped line ≡ false →
-    judged_line version before line ≡ judged_form before (read_line version line)
+    judged_line version before line ≡ judged_form before (parse_line version line)
 read_so version before line short read = rw (le-ltb most_bytes (length line) short, read) refl
 
 item_so : (version : ℕ) (before : List Item) (line : List ℕ) (item : Item) → length line ≤ most_bytes →
@@ -226,7 +226,7 @@ item_so version before line item short read has =
     read_so version before line short read ∙ ap (judged_form before) (line_back version line item has)
 
 -- a line of which nothing is read has no form
-no_form : (version : ℕ) (line : List ℕ) (found : Option Item) → read_line version line ≡ found →
+no_form : (version : ℕ) (line : List ℕ) (found : Option Item) → parse_line version line ≡ found →
     ((item : Item) → ¬ HasForm version line item) → found ≡ None
 no_form version line None e none = refl
 no_form version line (Some item) e none = absurd (none item (read_says version line item e))
@@ -244,7 +244,7 @@ bad_line : (version : ℕ) (before : List Item) (line : List ℕ) (why : ℕ) �
 bad_line version before line why (inl long) = long_line version before line long.0 ∙ ap (λ w. Err w) (sym long.1)
 bad_line version before line why (inr (inl none)) =
     read_so version before line none.0.short none.0.read
-    ∙ ap (judged_form before) (no_form version line (read_line version line) refl none.0.none) ∙ ap (λ w. Err w) (sym none.1)
+    ∙ ap (judged_form before) (no_form version line (parse_line version line) refl none.0.none) ∙ ap (λ w. Err w) (sym none.1)
 bad_line version before line why (inr (inr refused)) =
     item_so version before line refused.item refused.short refused.read refused.has
     ∙ ap (judged_item before refused.item) refused.least

@@ -3,13 +3,13 @@ use Rattle.std.proofs.Common.{◌≡◌, ℕ, ◌^◌, ◌<◌, inl, inr, Bool, 
 use Rattle.board_prelude.proofs.Common.{eq-eqb, Kind, Fetch, Read, Write, Width, One, bytes_of, Port, hex_number, size_text, width_text, kind_text}
 use Rattle.board_base.specs.declared.access.Width.TheVariants.{Two, Four}
 use Rattle.board_spec.specs.declared.event.Event.TheVariants.{Look as LookAt}
-use Rattle.script_spec.specs.Events.{width_of, size_of, kind_of, smm_of, IsSize, memory_event, read_of, write_of, in_of, out_of, look_of}
+use Rattle.script_spec.specs.Events.{parse_width, parse_size, parse_kind, parse_smm, IsSize, memory_event, parse_read, parse_write, parse_in, parse_out, parse_look}
 use Rattle.script_spec.proofs.Joins.{Spells, Reads, smm_words}
 use Rattle.script_spec.proofs.NumberBack.{plain_is, hex_back}
 
 -- ---- letters
 
-size_back : (version bytes : ℕ) → IsSize version bytes → size_of version (size_text bytes) ≡ Some bytes
+size_back : (version bytes : ℕ) → IsSize version bytes → parse_size version (size_text bytes) ≡ Some bytes
 size_back version bytes (inl one) = rw one refl
 size_back version bytes (inr (inl two)) = rw two refl
 size_back version bytes (inr (inr (inl four))) = rw four refl
@@ -21,22 +21,22 @@ size_plain version bytes field (inr (inl two)) spells = rw two (plain_is field (
 size_plain version bytes field (inr (inr (inl four))) spells = rw four (plain_is field (codes "d") refl (rw four at spells))
 size_plain version bytes field (inr (inr (inr eight))) spells = rw eight.0 (plain_is field (codes "q") refl (rw eight.0 at spells))
 
-pub size_spelled : (version bytes : ℕ) (field : List ℕ) → IsSize version bytes → Spells field (size_text bytes) → size_of version field ≡ Some bytes
+pub size_spelled : (version bytes : ℕ) (field : List ℕ) → IsSize version bytes → Spells field (size_text bytes) → parse_size version field ≡ Some bytes
 size_spelled version bytes field size spells =
-    ap (size_of version) (size_plain version bytes field size spells) ∙ size_back version bytes size
+    ap (parse_size version) (size_plain version bytes field size spells) ∙ size_back version bytes size
 
-pub width_spelled : (width : Width) (field : List ℕ) → Spells field (width_text width) → width_of field ≡ Some width
+pub width_spelled : (width : Width) (field : List ℕ) → Spells field (width_text width) → parse_width field ≡ Some width
 width_spelled One field spells = rw (plain_is field (codes "b") refl spells) refl
 width_spelled Two field spells = rw (plain_is field (codes "w") refl spells) refl
 width_spelled Four field spells = rw (plain_is field (codes "d") refl spells) refl
 
-pub kind_spelled : (kind : Kind) (field : List ℕ) → Spells field (kind_text kind) → kind_of field ≡ Some kind
+pub kind_spelled : (kind : Kind) (field : List ℕ) → Spells field (kind_text kind) → parse_kind field ≡ Some kind
 kind_spelled Fetch field spells = rw (plain_is field (codes "f") refl spells) refl
 kind_spelled Read field spells = rw (plain_is field (codes "r") refl spells) refl
 kind_spelled Write field spells = rw (plain_is field (codes "w") refl spells) refl
 
-pub smm_spelled : (smm : Bool) (flags : List (List ℕ)) → Reads flags (smm_words smm) → smm_of flags ≡ Some smm
-unfolding smm_of
+pub smm_spelled : (smm : Bool) (flags : List (List ℕ)) → Reads flags (smm_words smm) → parse_smm flags ≡ Some smm
+unfolding parse_smm
 smm_spelled false [] reads = refl
 smm_spelled false (f ∷ flags) reads = absurd reads
 smm_spelled true [] reads = absurd reads
@@ -47,8 +47,8 @@ smm_spelled true (f ∷ g ∷ flags) reads = absurd reads.1
 
 pub read_spelled : (version bytes addr : ℕ) (kind : Kind) (smm : Bool) (words : List (List ℕ)) → IsSize version bytes → addr < 2 ^ 32
     → Reads words (size_text bytes ∷ hex_number 4 addr ∷ smm_words smm)
-    → read_of version kind words ≡ Some (memory_event version kind bytes addr 0 smm)
-unfolding read_of
+    → parse_read version kind words ≡ Some (memory_event version kind bytes addr 0 smm)
+unfolding parse_read
 read_spelled version bytes addr kind smm [] size small reads = absurd reads
 read_spelled version bytes addr kind smm (s ∷ []) size small reads = absurd reads.1
 read_spelled version bytes addr kind smm (s ∷ a ∷ flags) size small reads =
@@ -60,8 +60,8 @@ read_spelled version bytes addr kind smm (s ∷ a ∷ flags) size small reads =
 
 pub write_spelled : (version bytes addr value : ℕ) (smm : Bool) (words : List (List ℕ)) → IsSize version bytes → addr < 2 ^ 32
     → value < 256 ^ bytes → Reads words (size_text bytes ∷ hex_number 4 addr ∷ hex_number bytes value ∷ smm_words smm)
-    → write_of version words ≡ Some (memory_event version Write bytes addr value smm)
-unfolding write_of
+    → parse_write version words ≡ Some (memory_event version Write bytes addr value smm)
+unfolding parse_write
 write_spelled version bytes addr value smm [] size small fits reads = absurd reads
 write_spelled version bytes addr value smm (s ∷ []) size small fits reads = absurd reads.1
 write_spelled version bytes addr value smm (s ∷ a ∷ []) size small fits reads = absurd reads.1.1
@@ -74,8 +74,8 @@ write_spelled version bytes addr value smm (s ∷ a ∷ v ∷ flags) size small 
     ) refl
 
 pub in_spelled : (width : Width) (port : ℕ) (words : List (List ℕ)) → port < 2 ^ 16 → Reads words (width_text width ∷ hex_number 2 port ∷ [])
-    → in_of words ≡ Some (Port (record { write = false; port = port; width = width; value = 0 }))
-unfolding in_of
+    → parse_in words ≡ Some (Port (record { write = false; port = port; width = width; value = 0 }))
+unfolding parse_in
 in_spelled width port [] small reads = absurd reads
 in_spelled width port (w ∷ []) small reads = absurd reads.1
 in_spelled width port (w ∷ p ∷ []) small reads =
@@ -84,8 +84,8 @@ in_spelled width port (w ∷ p ∷ q ∷ words) small reads = absurd reads.1.1
 
 pub out_spelled : (width : Width) (port value : ℕ) (words : List (List ℕ)) → port < 2 ^ 16 → value < 256 ^ bytes_of width
     → Reads words (width_text width ∷ hex_number 2 port ∷ hex_number (bytes_of width) value ∷ [])
-    → out_of words ≡ Some (Port (record { write = true; port = port; width = width; value = value }))
-unfolding out_of
+    → parse_out words ≡ Some (Port (record { write = true; port = port; width = width; value = value }))
+unfolding parse_out
 out_spelled width port value [] small fits reads = absurd reads
 out_spelled width port value (w ∷ []) small fits reads = absurd reads.1
 out_spelled width port value (w ∷ p ∷ []) small fits reads = absurd reads.1.1
@@ -98,8 +98,8 @@ out_spelled width port value (w ∷ p ∷ v ∷ []) small fits reads =
 out_spelled width port value (w ∷ p ∷ v ∷ q ∷ words) small fits reads = absurd reads.1.1.1
 
 pub look_spelled : (kind : Kind) (addr : ℕ) (smm : Bool) (words : List (List ℕ)) → addr < 2 ^ 32
-    → Reads words (kind_text kind ∷ hex_number 4 addr ∷ smm_words smm) → look_of words ≡ Some (LookAt kind addr smm)
-unfolding look_of
+    → Reads words (kind_text kind ∷ hex_number 4 addr ∷ smm_words smm) → parse_look words ≡ Some (LookAt kind addr smm)
+unfolding parse_look
 look_spelled kind addr smm [] small reads = absurd reads
 look_spelled kind addr smm (k ∷ []) small reads = absurd reads.1
 look_spelled kind addr smm (k ∷ a ∷ flags) small reads =

@@ -3,7 +3,7 @@ use Rattle.std.proofs.Common.{◌≡◌, ℕ, ◌%◌, ◌^◌, ◌<◌, ◌⊎�
 use Rattle.board_prelude.proofs.Common.{join_with_byte, option_map, cases_Bool, eqb-true, eq-eqb, ne_eqb, Kind, Fetch, Read, Write, Width, One, WideAccess, Moment, bytes_of, Event, Memory, Wide, Port, Ack, Pulses, Time, Wire, Line, BadSector, is_write, FitsBytes, space, hex_number, size_text, width_text, kind_text, level_text, memory_text, moment_text, event_text}
 use Rattle.board_base.specs.declared.access.Width.TheVariants.{Two, Four}
 use Rattle.board_spec.specs.declared.event.Event.TheVariants.{Look as LookAt}
-use Rattle.script_spec.specs.Common.{Item, IsDecimal, IsWideForm, IsMomentForm, IsEventForm, IsSize, memory_event, read_of, ack_of, number_in, event_of, ask, wire_item, line_item, two_numbers_in, only_moment, moment_asked, wire_asked, line_asked, event_asked, asked_with, asked_of}
+use Rattle.script_spec.specs.Common.{Item, IsDecimal, IsWideForm, IsMomentForm, IsEventForm, IsSize, memory_event, parse_read, parse_ack, parse_number, parse_event, ask, wire_item, line_item, parse_two_numbers, parse_only_moment, parse_time_item, parse_wire_item, parse_line_item, parse_event_item, parse_by_verb, parse_statement_words}
 use Rattle.script_spec.proofs.Digits.{lacks, digits_of_decimal}
 use Rattle.script_spec.proofs.Joins.{Spells, Reads, smm_words, access_joined, write_joined, look_joined, port_joined, out_joined}
 use Rattle.script_spec.proofs.Splits.{Lack}
@@ -19,16 +19,16 @@ pub record IsReadBack (version actor : ℕ) (event : Event) : Type 0 where
   pub words : List (List ℕ)
   pub joined : join_with_byte space (verb ∷ words) ≡ event_text event
   pub lack : Lack (verb ∷ words)
-  pub read : (fields : List (List ℕ)) → Reads fields (verb ∷ words) → asked_of version actor fields ≡ Some (ask actor event)
+  pub read : (fields : List (List ℕ)) → Reads fields (verb ∷ words) → parse_statement_words version actor fields ≡ Some (ask actor event)
 
 -- the verb stands for itself alone
 with_verb : (version actor : ℕ) (verb : List ℕ) (words : List (List ℕ)) (item : Item) → is_plain verb ≡ true
-    → ((rest : List (List ℕ)) → Reads rest words → asked_with version actor verb rest ≡ Some item)
-    → (fields : List (List ℕ)) → Reads fields (verb ∷ words) → asked_of version actor fields ≡ Some item
-unfolding asked_of
+    → ((rest : List (List ℕ)) → Reads rest words → parse_by_verb version actor verb rest ≡ Some item)
+    → (fields : List (List ℕ)) → Reads fields (verb ∷ words) → parse_statement_words version actor fields ≡ Some item
+unfolding parse_statement_words
 with_verb version actor verb words item plain read [] reads = absurd reads
 with_verb version actor verb words item plain read (v ∷ rest) reads =
-    ap (λ (v : List ℕ). asked_with version actor v rest) (plain_is v verb plain reads.0) ∙ read rest reads.1
+    ap (λ (v : List ℕ). parse_by_verb version actor v rest) (plain_is v verb plain reads.0) ∙ read rest reads.1
 
 -- ---- memory
 
@@ -98,8 +98,8 @@ IsAccess version kind bytes addr value smm event =
     (memory_event version kind bytes addr value smm ≡ event) × (memory_text kind bytes addr value smm ≡ event_text event)
 
 asked_read : (version actor : ℕ) (kind : Kind) (words : List (List ℕ)) → is_write kind ≡ false
-    → asked_with version actor (kind_text kind) words ≡ option_map (ask actor) (read_of version kind words)
-unfolding asked_with event_asked event_of
+    → parse_by_verb version actor (kind_text kind) words ≡ option_map (ask actor) (parse_read version kind words)
+unfolding parse_by_verb parse_event_item parse_event
 asked_read version actor Fetch words reads = refl
 asked_read version actor Read words reads = refl
 asked_read version actor Write words reads = absurd cc
@@ -120,7 +120,7 @@ read_back version actor kind bytes addr value smm event reads size small none is
 
 write_back : (version actor bytes addr value : ℕ) (smm : Bool) (event : Event) → IsSize version bytes → addr < 2 ^ 32
     → value < 256 ^ bytes → IsAccess version Write bytes addr value smm event → IsReadBack version actor event
-unfolding asked_with event_asked event_of
+unfolding parse_by_verb parse_event_item parse_event
 write_back version actor bytes addr value smm event size small fits is = record {
   verb = codes "w";
   words = size_text bytes ∷ hex_number 4 addr ∷ hex_number bytes value ∷ smm_words smm;
@@ -144,7 +144,7 @@ memory_back version actor Write bytes addr value smm event size small fits is =
 
 port_back : (version actor : ℕ) (write : Bool) (width : Width) (port value : ℕ) → port < 2 ^ 16 → FitsBytes write (bytes_of width) value
     → IsReadBack version actor (Port (record { write = write; port = port; width = width; value = value }))
-unfolding event_text asked_with event_asked event_of
+unfolding event_text parse_by_verb parse_event_item parse_event
 port_back version actor false width port value small none = record {
   verb = codes "in";
   words = width_text width ∷ hex_number 2 port ∷ [];
@@ -164,7 +164,7 @@ port_back version actor true width port value small fits = record {
 }
 
 look_back : (version actor : ℕ) (kind : Kind) (addr : ℕ) (smm : Bool) → addr < 2 ^ 32 → IsReadBack version actor (LookAt kind addr smm)
-unfolding event_text asked_with event_asked event_of
+unfolding event_text parse_by_verb parse_event_item parse_event
 look_back version actor kind addr smm small = record {
   verb = codes "look";
   words = kind_text kind ∷ hex_number 4 addr ∷ smm_words smm;
@@ -180,19 +180,19 @@ look_back version actor kind addr smm small = record {
 pub number_is : (n : ℕ) (field : List ℕ) → IsDecimal n → Spells field (decimal n) → field ≡ decimal n
 number_is n field small spells = plain_is field (decimal n) (plain-digits (decimal n) (digits_of_decimal n small)) spells
 
-number_spelled : (n : ℕ) (words : List (List ℕ)) → IsDecimal n → Reads words (decimal n ∷ []) → number_in words ≡ Some n
-unfolding number_in
+number_spelled : (n : ℕ) (words : List (List ℕ)) → IsDecimal n → Reads words (decimal n ∷ []) → parse_number words ≡ Some n
+unfolding parse_number
 number_spelled n [] small reads = absurd reads
 number_spelled n (field ∷ []) small reads = rw (number_is n field small reads.0) (decimal_back n small)
 number_spelled n (field ∷ other ∷ words) small reads = absurd reads.1
 
 -- a number and a level
-pub two_back : (m n : ℕ) → IsDecimal m → IsDecimal n → two_numbers_in (decimal m ∷ decimal n ∷ []) ≡ Some (m, n)
-unfolding two_numbers_in
+pub two_back : (m n : ℕ) → IsDecimal m → IsDecimal n → parse_two_numbers (decimal m ∷ decimal n ∷ []) ≡ Some (m, n)
+unfolding parse_two_numbers
 two_back m n small few = rw (decimal_back m small, decimal_back n few) refl
 
 two_spelled : (m n : ℕ) (words : List (List ℕ)) → IsDecimal m → IsDecimal n → Reads words (decimal m ∷ decimal n ∷ [])
-    → two_numbers_in words ≡ Some (m, n)
+    → parse_two_numbers words ≡ Some (m, n)
 two_spelled m n [] small few reads = absurd reads
 two_spelled m n (first ∷ []) small few reads = absurd reads.1
 two_spelled m n (first ∷ second ∷ []) small few reads =
@@ -213,7 +213,7 @@ level_small false = omega arith
 level_small true = omega arith
 
 level_spelled : (dev : ℕ) (on : Bool) (words : List (List ℕ)) → IsDecimal dev → Reads words (decimal dev ∷ level_text on ∷ [])
-    → two_numbers_in words ≡ Some (dev, level_of on)
+    → parse_two_numbers words ≡ Some (dev, level_of on)
 level_spelled dev on words small reads =
     two_spelled dev (level_of on) words small (level_small on)
     (subst (λ (t : List ℕ). Reads words (decimal dev ∷ t ∷ [])) (level_number on) reads)
@@ -231,7 +231,7 @@ line_level actor irq false = refl
 line_level actor irq true = refl
 
 wire_back : (version actor dev : ℕ) (on : Bool) → IsDecimal dev → IsReadBack version actor (Wire dev on)
-unfolding event_text asked_with wire_asked
+unfolding event_text parse_by_verb parse_wire_item
 wire_back version actor dev on small = record {
   verb = codes "wire";
   words = decimal dev ∷ level_text on ∷ [];
@@ -243,7 +243,7 @@ wire_back version actor dev on small = record {
 }
 
 line_back : (version actor irq : ℕ) (on : Bool) → IsDecimal irq → IsReadBack version actor (Line irq on)
-unfolding event_text asked_with line_asked
+unfolding event_text parse_by_verb parse_line_item
 line_back version actor irq on small = record {
   verb = codes "irq";
   words = decimal irq ∷ level_text on ∷ [];
@@ -256,13 +256,13 @@ line_back version actor irq on small = record {
 
 -- ---- others
 
-ack_spelled : (words : List (List ℕ)) → Reads words [] → ack_of words ≡ Some Ack
-unfolding ack_of
+ack_spelled : (words : List (List ℕ)) → Reads words [] → parse_ack words ≡ Some Ack
+unfolding parse_ack
 ack_spelled [] reads = refl
 ack_spelled (w ∷ words) reads = absurd reads
 
 ack_back : (version actor : ℕ) → IsReadBack version actor Ack
-unfolding event_text asked_with event_asked event_of
+unfolding event_text parse_by_verb parse_event_item parse_event
 ack_back version actor = record {
   verb = codes "ack";
   words = [];
@@ -272,7 +272,7 @@ ack_back version actor = record {
 }
 
 pulses_back : (version actor count : ℕ) → IsDecimal count → IsReadBack version actor (Pulses count)
-unfolding event_text asked_with event_asked event_of
+unfolding event_text parse_by_verb parse_event_item parse_event
 pulses_back version actor count small = record {
   verb = codes "pulse";
   words = decimal count ∷ [];
@@ -282,7 +282,7 @@ pulses_back version actor count small = record {
 }
 
 sector_back : (version actor sector : ℕ) → IsDecimal sector → IsReadBack version actor (BadSector sector)
-unfolding event_text asked_with event_asked event_of
+unfolding event_text parse_by_verb parse_event_item parse_event
 sector_back version actor sector small = record {
   verb = codes "bad";
   words = decimal sector ∷ [];
@@ -292,15 +292,15 @@ sector_back version actor sector small = record {
 }
 
 moment_spelled : (moment : Moment) (words : List (List ℕ)) → IsMomentForm moment → Reads words (moment_text moment ∷ [])
-    → only_moment words ≡ Some moment
-unfolding only_moment
+    → parse_only_moment words ≡ Some moment
+unfolding parse_only_moment
 moment_spelled moment [] form reads = absurd reads
 moment_spelled moment (field ∷ []) form reads =
     rw (plain_is field (moment_text moment) (plain_moment moment) reads.0) (moment_back moment form)
 moment_spelled moment (field ∷ other ∷ words) form reads = absurd reads.1
 
 time_back : (version actor : ℕ) (moment : Moment) → IsMomentForm moment → IsReadBack version actor (Time moment)
-unfolding event_text asked_with moment_asked
+unfolding event_text parse_by_verb parse_time_item
 time_back version actor moment form = record {
   verb = codes "moment";
   words = moment_text moment ∷ [];

@@ -2,8 +2,8 @@
 use Rattle.std.proofs.Common.{◌≡◌, ℕ, ◌*◌, ◌%◌, ◌^◌, ◌<◌, ◌⊎◌, inl, inr, Bool, true, false, not, eqb, ◌||◌, Some, List, [], ◌∷◌, refl, sym, ap, subst, ◌∙◌, arith, codes, decimal, bytes_eq}
 use Rattle.board_prelude.proofs.Common.{join_with_byte, cases_Bool, eqb-true, eq-eqb, true≢false, Kind, Fetch, Read, Write, Width, One, bytes_of, Event, Ack, is_write, FitsBytes, space, hex_number, size_text, width_text, kind_text, memory_text, event_text}
 use Rattle.board_base.specs.declared.access.Width.TheVariants.{Two, Four}
-use Rattle.script_spec.specs.Common.{IsDecimal, IsEventForm, hex_of, width_of, quad_of, size_of, kind_of, smm_of, IsSize, width_with, is_wide, memory_event, read_of, write_of, in_of, out_of, look_of, ack_of, number_in, sector_of, event_of}
-use Rattle.script_spec.specs.Events.{pulses_of}
+use Rattle.script_spec.specs.Common.{IsDecimal, IsEventForm, parse_hex, parse_width, quad_size, parse_size, parse_kind, parse_smm, IsSize, width_with, is_wide, memory_event, parse_read, parse_write, parse_in, parse_out, parse_look, parse_ack, parse_number, parse_bad_sector, parse_event}
+use Rattle.script_spec.specs.Events.{parse_pulses}
 use Rattle.script_spec.proofs.Chains.{some_is, guarded, then_said, both}
 use Rattle.script_spec.proofs.NumberTexts.{decimal_read, hex_read}
 use Rattle.script_spec.proofs.Joins.{Reads, same, same_as, word_is, smm_words, smm_read, access_joined, write_joined, look_joined, port_joined, out_joined}
@@ -17,7 +17,7 @@ pub record IsRead (version : ℕ) (fields : List (List ℕ)) (event : Event) : T
 
 -- ---- letters
 
-size_read : (version : ℕ) (field : List ℕ) (bytes : ℕ) → size_of version field ≡ Some bytes
+size_read : (version : ℕ) (field : List ℕ) (bytes : ℕ) → parse_size version field ≡ Some bytes
     → (field ≡ size_text bytes) × IsSize version bytes
 size_read version field bytes e = elim (cases_Bool (bytes_eq field (codes "b"))) [
   | inl one ↦
@@ -32,7 +32,7 @@ size_read version field bytes e = elim (cases_Bool (bytes_eq field (codes "b")))
           let is : 4 ≡ bytes = some_is 4 bytes (rw (b, w, four) at e) in
           subst (λ (n : ℕ). (field ≡ size_text n) × IsSize version n) is (word_is field (codes "d") four, inr (inr (inl refl)))
       | inr d ↦
-          let q = guarded (bytes_eq field (codes "q")) (quad_of version) bytes (rw (b, w, d) at e) in
+          let q = guarded (bytes_eq field (codes "q")) (quad_size version) bytes (rw (b, w, d) at e) in
           let v = guarded (eqb version 2) (Some 8) bytes q.1 in
           let is : 8 ≡ bytes = some_is 8 bytes v.1 in
           subst (λ (n : ℕ). (field ≡ size_text n) × IsSize version n) is
@@ -41,7 +41,7 @@ size_read version field bytes e = elim (cases_Bool (bytes_eq field (codes "b")))
   ]
 ]
 
-width_read : (field : List ℕ) (width : Width) → width_of field ≡ Some width → field ≡ width_text width
+width_read : (field : List ℕ) (width : Width) → parse_width field ≡ Some width → field ≡ width_text width
 width_read field width e = elim (cases_Bool (bytes_eq field (codes "b"))) [
   | inl one ↦ subst (λ (w : Width). field ≡ width_text w) (some_is One width (rw one at e)) (word_is field (codes "b") one)
   | inr b ↦ elim (cases_Bool (bytes_eq field (codes "w"))) [
@@ -52,7 +52,7 @@ width_read field width e = elim (cases_Bool (bytes_eq field (codes "b"))) [
   ]
 ]
 
-kind_read : (field : List ℕ) (kind : Kind) → kind_of field ≡ Some kind → field ≡ kind_text kind
+kind_read : (field : List ℕ) (kind : Kind) → parse_kind field ≡ Some kind → field ≡ kind_text kind
 kind_read field kind e = elim (cases_Bool (bytes_eq field (codes "f"))) [
   | inl f ↦ subst (λ (k : Kind). field ≡ kind_text k) (some_is Fetch kind (rw f at e)) (word_is field (codes "f") f)
   | inr f ↦ elim (cases_Bool (bytes_eq field (codes "r"))) [
@@ -143,14 +143,14 @@ is_access version kind bytes addr value smm size small fits = elim (cases_Bool (
 -- ---- statements
 
 read_read : (version : ℕ) (kind : Kind) (words : List (List ℕ)) (event : Event) → is_write kind ≡ false
-    → read_of version kind words ≡ Some event → IsRead version (kind_text kind ∷ words) event
-unfolding read_of
+    → parse_read version kind words ≡ Some event → IsRead version (kind_text kind ∷ words) event
+unfolding parse_read
 read_read version kind [] event reads e = absurd cc
 read_read version kind (_ ∷ []) event reads e = absurd cc
 read_read version kind (size ∷ addr ∷ flags) event reads e =
-    let b = then_said (size_of version size) _ event e in
-    let a = then_said (hex_of 8 addr) _ event b.2 in
-    let s = then_said (smm_of flags) _ event a.2 in
+    let b = then_said (parse_size version size) _ event e in
+    let a = then_said (parse_hex 8 addr) _ event b.2 in
+    let s = then_said (parse_smm flags) _ event a.2 in
     let size_is = size_read version size b.0 b.1 in
     let addr_is = hex_read 4 addr a.0 a.1 in
     let fits : FitsBytes (is_write kind) b.0 0 = rw reads refl in
@@ -164,16 +164,16 @@ read_read version kind (size ∷ addr ∷ flags) event reads e =
     })
 
 write_read : (version : ℕ) (words : List (List ℕ)) (event : Event)
-    → write_of version words ≡ Some event → IsRead version (codes "w" ∷ words) event
-unfolding write_of
+    → parse_write version words ≡ Some event → IsRead version (codes "w" ∷ words) event
+unfolding parse_write
 write_read version [] event e = absurd cc
 write_read version (_ ∷ []) event e = absurd cc
 write_read version (_ ∷ _ ∷ []) event e = absurd cc
 write_read version (size ∷ addr ∷ value ∷ flags) event e =
-    let b = then_said (size_of version size) _ event e in
-    let a = then_said (hex_of 8 addr) _ event b.2 in
-    let v = then_said (hex_of (2 * b.0) value) _ event a.2 in
-    let s = then_said (smm_of flags) _ event v.2 in
+    let b = then_said (parse_size version size) _ event e in
+    let a = then_said (parse_hex 8 addr) _ event b.2 in
+    let v = then_said (parse_hex (2 * b.0) value) _ event a.2 in
+    let s = then_said (parse_smm flags) _ event v.2 in
     let size_is = size_read version size b.0 b.1 in
     let addr_is = hex_read 4 addr a.0 a.1 in
     let value_is = hex_read b.0 value v.0 v.1 in
@@ -186,13 +186,13 @@ write_read version (size ∷ addr ∷ value ∷ flags) event e =
       form = access.1;
     })
 
-in_read : (version : ℕ) (words : List (List ℕ)) (event : Event) → in_of words ≡ Some event → IsRead version (codes "in" ∷ words) event
-unfolding in_of event_text
+in_read : (version : ℕ) (words : List (List ℕ)) (event : Event) → parse_in words ≡ Some event → IsRead version (codes "in" ∷ words) event
+unfolding parse_in event_text
 in_read version [] event e = absurd cc
 in_read version (_ ∷ []) event e = absurd cc
 in_read version (width ∷ port ∷ []) event e =
-    let w = then_said (width_of width) _ event e in
-    let p = then_said (hex_of 4 port) _ event w.2 in
+    let w = then_said (parse_width width) _ event e in
+    let p = then_said (parse_hex 4 port) _ event w.2 in
     let port_is = hex_read 2 port p.0 p.1 in
     subst (λ (x : Event). IsRead version (codes "in" ∷ width ∷ port ∷ []) x) (some_is _ event p.2)
     (record {
@@ -203,15 +203,15 @@ in_read version (width ∷ port ∷ []) event e =
     })
 in_read version (_ ∷ _ ∷ _ ∷ _) event e = absurd cc
 
-out_read : (version : ℕ) (words : List (List ℕ)) (event : Event) → out_of words ≡ Some event → IsRead version (codes "out" ∷ words) event
-unfolding out_of event_text
+out_read : (version : ℕ) (words : List (List ℕ)) (event : Event) → parse_out words ≡ Some event → IsRead version (codes "out" ∷ words) event
+unfolding parse_out event_text
 out_read version [] event e = absurd cc
 out_read version (_ ∷ []) event e = absurd cc
 out_read version (_ ∷ _ ∷ []) event e = absurd cc
 out_read version (width ∷ port ∷ value ∷ []) event e =
-    let w = then_said (width_of width) _ event e in
-    let p = then_said (hex_of 4 port) _ event w.2 in
-    let v = then_said (hex_of (2 * bytes_of w.0) value) _ event p.2 in
+    let w = then_said (parse_width width) _ event e in
+    let p = then_said (parse_hex 4 port) _ event w.2 in
+    let v = then_said (parse_hex (2 * bytes_of w.0) value) _ event p.2 in
     let port_is = hex_read 2 port p.0 p.1 in
     let value_is = hex_read (bytes_of w.0) value v.0 v.1 in
     subst (λ (x : Event). IsRead version (codes "out" ∷ width ∷ port ∷ value ∷ []) x) (some_is _ event v.2)
@@ -223,14 +223,14 @@ out_read version (width ∷ port ∷ value ∷ []) event e =
     })
 out_read version (_ ∷ _ ∷ _ ∷ _ ∷ _) event e = absurd cc
 
-look_read : (version : ℕ) (words : List (List ℕ)) (event : Event) → look_of words ≡ Some event → IsRead version (codes "look" ∷ words) event
-unfolding look_of event_text
+look_read : (version : ℕ) (words : List (List ℕ)) (event : Event) → parse_look words ≡ Some event → IsRead version (codes "look" ∷ words) event
+unfolding parse_look event_text
 look_read version [] event e = absurd cc
 look_read version (_ ∷ []) event e = absurd cc
 look_read version (kind ∷ addr ∷ flags) event e =
-    let k = then_said (kind_of kind) _ event e in
-    let a = then_said (hex_of 8 addr) _ event k.2 in
-    let s = then_said (smm_of flags) _ event a.2 in
+    let k = then_said (parse_kind kind) _ event e in
+    let a = then_said (parse_hex 8 addr) _ event k.2 in
+    let s = then_said (parse_smm flags) _ event a.2 in
     let addr_is = hex_read 4 addr a.0 a.1 in
     subst (λ (x : Event). IsRead version (codes "look" ∷ kind ∷ addr ∷ flags) x) (some_is _ event s.2)
     (record {
@@ -240,16 +240,16 @@ look_read version (kind ∷ addr ∷ flags) event e =
       form = omega (arith, addr_is.1);
     })
 
-ack_read : (version : ℕ) (words : List (List ℕ)) (event : Event) → ack_of words ≡ Some event → IsRead version (codes "ack" ∷ words) event
-unfolding ack_of event_text
+ack_read : (version : ℕ) (words : List (List ℕ)) (event : Event) → parse_ack words ≡ Some event → IsRead version (codes "ack" ∷ words) event
+unfolding parse_ack event_text
 ack_read version [] event e =
     subst (λ (x : Event). IsRead version (codes "ack" ∷ []) x) (some_is Ack event e)
     (record { texts = codes "ack" ∷ []; reads = (same (codes "ack"), tt); joined = refl; form = tt })
 ack_read version (_ ∷ _) event e = absurd cc
 
 -- the only field is a decimal
-pub number_read : (words : List (List ℕ)) (n : ℕ) → number_in words ≡ Some n → (words ≡ decimal n ∷ []) × IsDecimal n
-unfolding number_in
+pub number_read : (words : List (List ℕ)) (n : ℕ) → parse_number words ≡ Some n → (words ≡ decimal n ∷ []) × IsDecimal n
+unfolding parse_number
 number_read [] n e = absurd cc
 number_read (field ∷ []) n e = let d = decimal_read field n e in (ap (λ (f : List ℕ). f ∷ []) d.0, d.1)
 number_read (_ ∷ _ ∷ _) n e = absurd cc
@@ -258,18 +258,18 @@ number_spelled : (word : List ℕ) (words : List (List ℕ)) (n : ℕ) → words
 number_spelled word words n is =
     subst (λ (w : List (List ℕ)). Reads (word ∷ w) (word ∷ decimal n ∷ [])) (sym is) (same word, (same (decimal n), tt))
 
-pulses_read : (version : ℕ) (words : List (List ℕ)) (event : Event) → pulses_of words ≡ Some event → IsRead version (codes "pulse" ∷ words) event
+pulses_read : (version : ℕ) (words : List (List ℕ)) (event : Event) → parse_pulses words ≡ Some event → IsRead version (codes "pulse" ∷ words) event
 unfolding event_text
 pulses_read version words event e =
-    let n = then_said (number_in words) _ event e in
+    let n = then_said (parse_number words) _ event e in
     let d = number_read words n.0 n.1 in
     subst (λ (x : Event). IsRead version (codes "pulse" ∷ words) x) (some_is _ event n.2)
     (record { texts = codes "pulse" ∷ decimal n.0 ∷ []; reads = number_spelled (codes "pulse") words n.0 d.0; joined = refl; form = d.1 })
 
-sector_read : (version : ℕ) (words : List (List ℕ)) (event : Event) → sector_of words ≡ Some event → IsRead version (codes "bad" ∷ words) event
+sector_read : (version : ℕ) (words : List (List ℕ)) (event : Event) → parse_bad_sector words ≡ Some event → IsRead version (codes "bad" ∷ words) event
 unfolding event_text
 sector_read version words event e =
-    let n = then_said (number_in words) _ event e in
+    let n = then_said (parse_number words) _ event e in
     let d = number_read words n.0 n.1 in
     subst (λ (x : Event). IsRead version (codes "bad" ∷ words) x) (some_is _ event n.2)
     (record { texts = codes "bad" ∷ decimal n.0 ∷ []; reads = number_spelled (codes "bad") words n.0 d.0; joined = refl; form = d.1 })
@@ -280,9 +280,9 @@ of_verb : (version : ℕ) (verb word : List ℕ) (words : List (List ℕ)) (even
 of_verb version verb word words event is read =
     subst (λ (v : List ℕ). IsRead version (v ∷ words) event) (sym (word_is verb word is)) read
 
-pub event_read : (version : ℕ) (verb : List ℕ) (words : List (List ℕ)) (event : Event) → event_of version verb words ≡ Some event
+pub event_read : (version : ℕ) (verb : List ℕ) (words : List (List ℕ)) (event : Event) → parse_event version verb words ≡ Some event
     → IsRead version (verb ∷ words) event
-unfolding event_of
+unfolding parse_event
 event_read version verb words event e = elim (cases_Bool (bytes_eq verb (codes "r"))) [
   | inl r ↦ of_verb version verb (codes "r") words event r (read_read version Read words event refl (rw r at e))
   | inr r ↦ elim (cases_Bool (bytes_eq verb (codes "f"))) [
@@ -302,7 +302,7 @@ event_read version verb words event e = elim (cases_Bool (bytes_eq verb (codes "
                     of_verb version verb (codes "pulse") words event p
                     (pulses_read version words event (rw (r, f, w, i, o, l, a, p) at e))
                 | inr p ↦
-                    let b = guarded (bytes_eq verb (codes "bad")) (sector_of words) event (rw (r, f, w, i, o, l, a, p) at e) in
+                    let b = guarded (bytes_eq verb (codes "bad")) (parse_bad_sector words) event (rw (r, f, w, i, o, l, a, p) at e) in
                     of_verb version verb (codes "bad") words event b.0 (sector_read version words event b.1)
               ]
             ]

@@ -2,7 +2,7 @@
 use Rattle.std.proofs.Common.{ℕ, ◌≡◌, ◌<◌, Bool, true, false, List, [], ◌∷◌, map, All, Result, Ok, Err, Some, None, codes, refl, arith, ap, sym, subst, ◌∙◌}
 use Rattle.board_prelude.proofs.Common.{digits, IsPermutation, false≢true, All-nil, All-cons, weekday_of, days_since_1980, days_of_years, days_of_months}
 use Rattle.std.proofs.lemmas.List.Sorted.{IsPermutation-refl}
-use Rattle.script_spec.specs.Common.{lines_of, text_of_lines, Item, number_after, two_digits_of, after_mark, part_of, year_of, date_of, time_of, moment_with, moment_in, base_of, rom_of, with_base, with_rom, with_field, with_fields, card_of, smm_of, memory_event, read_of, write_of, in_of, out_of, look_of, ack_of, number_in, event_of, two_numbers_in, only_moment, moment_asked, wire_asked, line_asked, event_asked, asked_with, asked_of, is_name, name_in, phase_of, statement_of, item_with, item_of, cards_of, least_reason, Script, IsSaidBy, IsScriptText, IsScriptBad, BadText, IsBadText, bad_texts, AreBad, Bound, with_line, IsBound, bounds, AreBounds, TwoProcessors, TwoOrders, WideScript}
+use Rattle.script_spec.specs.Common.{lines_of, text_of_lines, Item, number_after, parse_two_digits, after_mark, parse_moment_part, parse_year, parse_date, parse_time, whole_moment, parse_moment, parse_base, parse_rom_bits, with_base, with_rom, with_field, with_fields, parse_card, parse_smm, memory_event, parse_read, parse_write, parse_in, parse_out, parse_look, parse_ack, parse_number, parse_event, parse_two_numbers, parse_only_moment, parse_time_item, parse_wire_item, parse_line_item, parse_event_item, parse_by_verb, parse_statement_words, is_name, parse_name, parse_phase, parse_statement, parse_by_key, parse_item, cards_of, least_reason, Script, IsSaidBy, IsScriptText, IsScriptBad, BadText, IsBadText, bad_texts, AreBad, Bound, with_line, IsBound, bounds, AreBounds, TwoProcessors, TwoOrders, WideScript}
 use Rattle.script_spec.proofs.ReadingLaws.{same_head, same_tail}
 use Rattle.script_spec.proofs.Decision.{judged, judged_lines, AreGoodLines, AreJudged, judged_is}
 use Rattle.script_spec.proofs.ReadingExists.{text_said}
@@ -26,7 +26,7 @@ each_bad (text ∷ texts) e =
     (each_bad texts (same_tail _ _ _ _ e))
 
 pub are_bad : AreBad
-unfolding AreBad bad_texts lines_of digits judged_lines number_after two_digits_of after_mark part_of year_of date_of time_of moment_with moment_in base_of rom_of with_base with_rom with_field with_fields card_of smm_of memory_event read_of write_of in_of out_of look_of ack_of number_in event_of two_numbers_in only_moment moment_asked wire_asked line_asked event_asked asked_with asked_of is_name name_in phase_of statement_of item_with item_of least_reason weekday_of days_since_1980 days_of_years days_of_months
+unfolding AreBad bad_texts lines_of digits judged_lines number_after parse_two_digits after_mark parse_moment_part parse_year parse_date parse_time whole_moment parse_moment parse_base parse_rom_bits with_base with_rom with_field with_fields parse_card parse_smm memory_event parse_read parse_write parse_in parse_out parse_look parse_ack parse_number parse_event parse_two_numbers parse_only_moment parse_time_item parse_wire_item parse_line_item parse_event_item parse_by_verb parse_statement_words is_name parse_name parse_phase parse_statement parse_by_key parse_item least_reason weekday_of days_since_1980 days_of_years days_of_months
 are_bad = each_bad bad_texts refl
 
 -- ---- the numbers of a script
@@ -55,7 +55,7 @@ each_bound (row ∷ rows) good bad =
     (each_bound rows (same_tail _ _ _ _ good) (same_tail _ _ _ _ bad))
 
 pub are_bounds : AreBounds
-unfolding AreBounds bounds lines_of digits judged_lines number_after two_digits_of after_mark part_of year_of date_of time_of moment_with moment_in base_of rom_of with_base with_rom with_field with_fields card_of smm_of memory_event read_of write_of in_of out_of look_of ack_of number_in event_of two_numbers_in only_moment moment_asked wire_asked line_asked event_asked asked_with asked_of is_name name_in phase_of statement_of item_with item_of least_reason weekday_of days_since_1980 days_of_years days_of_months
+unfolding AreBounds bounds lines_of digits judged_lines number_after parse_two_digits after_mark parse_moment_part parse_year parse_date parse_time whole_moment parse_moment parse_base parse_rom_bits with_base with_rom with_field with_fields parse_card parse_smm memory_event parse_read parse_write parse_in parse_out parse_look parse_ack parse_number parse_event parse_two_numbers parse_only_moment parse_time_item parse_wire_item parse_line_item parse_event_item parse_by_verb parse_statement_words is_name parse_name parse_phase parse_statement parse_by_key parse_item least_reason weekday_of days_since_1980 days_of_years days_of_months
 are_bounds = each_bound bounds refl refl
 
 -- ---- good texts
@@ -86,7 +86,7 @@ says : (bytes : List ℕ) (script : Script) → is_good (judge bytes) ≡ true �
 says bytes script = judged_so bytes script (judge bytes) (judged_is (lines_of bytes))
 
 pub two_processors : TwoProcessors
-unfolding TwoProcessors lines_of digits judged_lines number_after two_digits_of after_mark part_of year_of date_of time_of moment_with moment_in base_of rom_of with_base with_rom with_field with_fields card_of smm_of memory_event read_of write_of in_of out_of look_of ack_of number_in event_of two_numbers_in only_moment moment_asked wire_asked line_asked event_asked asked_with asked_of is_name name_in phase_of statement_of item_with item_of least_reason
+unfolding TwoProcessors lines_of digits judged_lines number_after parse_two_digits after_mark parse_moment_part parse_year parse_date parse_time whole_moment parse_moment parse_base parse_rom_bits with_base with_rom with_field with_fields parse_card parse_smm memory_event parse_read parse_write parse_in parse_out parse_look parse_ack parse_number parse_event parse_two_numbers parse_only_moment parse_time_item parse_wire_item parse_line_item parse_event_item parse_by_verb parse_statement_words is_name parse_name parse_phase parse_statement parse_by_key parse_item least_reason
 two_processors =
     says _ _ refl refl (record {
       cpus = refl;
@@ -99,7 +99,7 @@ two_processors =
     })
 
 pub two_orders : TwoOrders
-unfolding TwoOrders lines_of digits judged_lines number_after two_digits_of after_mark part_of year_of date_of time_of moment_with moment_in base_of rom_of with_base with_rom with_field with_fields card_of smm_of memory_event read_of write_of in_of out_of look_of ack_of number_in event_of two_numbers_in only_moment moment_asked wire_asked line_asked event_asked asked_with asked_of is_name name_in phase_of statement_of item_with item_of least_reason
+unfolding TwoOrders lines_of digits judged_lines number_after parse_two_digits after_mark parse_moment_part parse_year parse_date parse_time whole_moment parse_moment parse_base parse_rom_bits with_base with_rom with_field with_fields parse_card parse_smm memory_event parse_read parse_write parse_in parse_out parse_look parse_ack parse_number parse_event parse_two_numbers parse_only_moment parse_time_item parse_wire_item parse_line_item parse_event_item parse_by_verb parse_statement_words is_name parse_name parse_phase parse_statement parse_by_key parse_item least_reason
 two_orders =
     says _ _ refl refl (record {
       cpus = refl;
@@ -112,7 +112,7 @@ two_orders =
     })
 
 pub wide_script : WideScript
-unfolding WideScript lines_of digits judged_lines number_after two_digits_of after_mark part_of year_of date_of time_of moment_with moment_in base_of rom_of with_base with_rom with_field with_fields card_of smm_of memory_event read_of write_of in_of out_of look_of ack_of number_in event_of two_numbers_in only_moment moment_asked wire_asked line_asked event_asked asked_with asked_of is_name name_in phase_of statement_of item_with item_of least_reason
+unfolding WideScript lines_of digits judged_lines number_after parse_two_digits after_mark parse_moment_part parse_year parse_date parse_time whole_moment parse_moment parse_base parse_rom_bits with_base with_rom with_field with_fields parse_card parse_smm memory_event parse_read parse_write parse_in parse_out parse_look parse_ack parse_number parse_event parse_two_numbers parse_only_moment parse_time_item parse_wire_item parse_line_item parse_event_item parse_by_verb parse_statement_words is_name parse_name parse_phase parse_statement parse_by_key parse_item least_reason
 wide_script =
     says _ _ refl refl (record {
       cpus = refl;

@@ -1,7 +1,7 @@
 -- Each line of a form is read as what it says.
 use Rattle.std.proofs.Common.{◌≡◌, ℕ, ◌≤◌, ◌⊎◌, inl, inr, true, Some, List, [], ◌∷◌, ◌++◌, refl, sym, ap, subst, ◌∙◌, arith, codes, decimal}
 use Rattle.board_prelude.proofs.Common.{option_map, ne_eqb, Event, space, event_text}
-use Rattle.script_spec.specs.Common.{Item, SetCpus, SetMemory, SetRom, SetDisk, FitCard, BeginPhase, Ask, AskLevel, IsDecimal, IsForm, IsLevelForm, Says, HasForm, item_text, fields_of, ask, wire_item, line_item, wire_asked, line_asked, asked_with, asked_of, statement_of, item_with, item_of}
+use Rattle.script_spec.specs.Common.{Item, SetCpus, SetMemory, SetRom, SetDisk, FitCard, BeginPhase, Ask, AskLevel, IsDecimal, IsForm, IsLevelForm, Says, HasForm, item_text, fields_of, ask, wire_item, line_item, parse_wire_item, parse_line_item, parse_by_verb, parse_statement_words, parse_statement, parse_by_key, parse_item}
 use Rattle.script_spec.proofs.Digits.{lacks}
 use Rattle.script_spec.proofs.Joins.{Spells, Reads}
 use Rattle.script_spec.proofs.ItemTexts.{level_joined}
@@ -14,9 +14,9 @@ use Rattle.script_spec.proofs.SetupBack.{IsLineBack, exact_back, cpus_back, memo
 -- ---- statements
 
 -- a line that begins with a number is a statement's
-number_first : (version n : ℕ) (words : List (List ℕ)) (item : Item) → IsDecimal n → asked_of version n words ≡ Some item
-    → item_of version (decimal n ∷ words) ≡ Some item
-unfolding item_of item_with statement_of
+number_first : (version n : ℕ) (words : List (List ℕ)) (item : Item) → IsDecimal n → parse_statement_words version n words ≡ Some item
+    → parse_item version (decimal n ∷ words) ≡ Some item
+unfolding parse_item parse_by_key parse_statement
 number_first version n words item small read =
     rw (
       no_word n (codes "phase") small (λ d. absurd (omega (arith, d.0))),
@@ -29,10 +29,10 @@ number_first version n words item small read =
     ) read
 
 statement_fields : (version n : ℕ) (event : Event) (fields : List (List ℕ)) → IsDecimal n → (back : IsReadBack version n event)
-    → Reads fields (decimal n ∷ back.verb ∷ back.words) → item_of version fields ≡ Some (ask n event)
+    → Reads fields (decimal n ∷ back.verb ∷ back.words) → parse_item version fields ≡ Some (ask n event)
 statement_fields version n event [] small back reads = absurd reads
 statement_fields version n event (key ∷ words) small back reads =
-    ap (λ (k : List ℕ). item_of version (k ∷ words)) (number_is n key small reads.0)
+    ap (λ (k : List ℕ). parse_item version (k ∷ words)) (number_is n key small reads.0)
     ∙ number_first version n words (ask n event) small (back.read words reads.1)
 
 statement_back : (version n : ℕ) (event : Event) (line : List ℕ) → IsDecimal n → IsReadBack version n event
@@ -52,8 +52,8 @@ line_high : (n irq level : ℕ) → 2 ≤ level → line_item n irq level ≡ As
 line_high n irq level high = rw (ne_eqb level 0 (λ is. let none : ⊥ = omega (arith, high, is) in none), ne_eqb level 1 (λ is. let none : ⊥ = omega (arith, high, is) in none)) refl
 
 level_words : (version n : ℕ) (verb : List ℕ) (number level : ℕ) → IsLevelForm n verb number level
-    → asked_of version n (verb ∷ decimal number ∷ decimal level ∷ []) ≡ Some (AskLevel n verb number level)
-unfolding asked_of asked_with wire_asked line_asked
+    → parse_statement_words version n (verb ∷ decimal number ∷ decimal level ∷ []) ≡ Some (AskLevel n verb number level)
+unfolding parse_statement_words parse_by_verb parse_wire_item parse_line_item
 level_words version n verb number level form = elim form.what [
   | inl wire ↦ rw wire (
       ap (option_map (λ p. wire_item n p.0 p.1)) (two_back number level form.which form.few)

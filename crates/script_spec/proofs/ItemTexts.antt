@@ -3,7 +3,7 @@ use Rattle.std.proofs.Common.{◌≡◌, ℕ, zero, suc, ◌≤◌, ◌⊎◌, �
 use Rattle.board_prelude.proofs.Common.{join_with_byte, list_all, option_map, cases_Bool, eqb-true, leb-true, Moment, Event, Time, Wire, Line, space, event_text, moment_text, level_text}
 use Rattle.std.proofs.lemmas.Fmt.{decimal-digits_value}
 use Rattle.std.proofs.lemmas.List.Splits.{join_with_byte-slice_split}
-use Rattle.script_spec.specs.Common.{Item, IsEventForm, SetCpus, SetMemory, SetRom, SetDisk, FitCard, BeginPhase, AskLevel, IsDecimal, IsName, HasForm, item_text, is_name_start, is_name_byte, fields_of, decimal_of, event_of, number_in, card_of, moment_in, ask, two_numbers_in, only_moment, moment_asked, wire_asked, line_asked, event_asked, asked_with, asked_of, is_name, name_in, phase_of, statement_of, item_with, item_of}
+use Rattle.script_spec.specs.Common.{Item, IsEventForm, SetCpus, SetMemory, SetRom, SetDisk, FitCard, BeginPhase, AskLevel, IsDecimal, IsName, HasForm, item_text, is_name_start, is_name_byte, fields_of, parse_decimal, parse_event, parse_number, parse_card, parse_moment, ask, parse_two_numbers, parse_only_moment, parse_time_item, parse_wire_item, parse_line_item, parse_event_item, parse_by_verb, parse_statement_words, is_name, parse_name, parse_phase, parse_statement, parse_by_key, parse_item}
 use Rattle.script_spec.proofs.Digits.{own}
 use Rattle.script_spec.proofs.Chains.{some_is, guarded, then_said, mapped, both}
 use Rattle.script_spec.proofs.NumberTexts.{decimal_read}
@@ -18,7 +18,7 @@ line fields = join_with_byte space fields
 
 -- ---- statements
 
-ask_read : (version n : ℕ) (actor verb : List ℕ) (words : List (List ℕ)) (event : Event) → decimal_of actor ≡ Some n
+ask_read : (version n : ℕ) (actor verb : List ℕ) (words : List (List ℕ)) (event : Event) → parse_decimal actor ≡ Some n
     → IsRead version (verb ∷ words) event → HasForm version (line (actor ∷ verb ∷ words)) (ask n event)
 unfolding item_text
 ask_read version n actor verb words event e read =
@@ -29,14 +29,14 @@ ask_read version n actor verb words event e read =
           (inl refl, subst (Spells (line (verb ∷ words))) read.joined (joined (verb ∷ words) read.texts read.reads));
     }
 
-only_read : (words : List (List ℕ)) (moment : Moment) → only_moment words ≡ Some moment
-    → (field : List ℕ) × (words ≡ field ∷ []) × (moment_in field ≡ Some moment)
-unfolding only_moment
+only_read : (words : List (List ℕ)) (moment : Moment) → parse_only_moment words ≡ Some moment
+    → (field : List ℕ) × (words ≡ field ∷ []) × (parse_moment field ≡ Some moment)
+unfolding parse_only_moment
 only_read [] moment e = absurd cc
 only_read (field ∷ []) moment e = (field, refl, e)
 only_read (_ ∷ _ ∷ _) moment e = absurd cc
 
-time_read : (version : ℕ) (words : List (List ℕ)) (moment : Moment) → only_moment words ≡ Some moment
+time_read : (version : ℕ) (words : List (List ℕ)) (moment : Moment) → parse_only_moment words ≡ Some moment
     → IsRead version (codes "moment" ∷ words) (Time moment)
 unfolding event_text
 time_read version words moment e =
@@ -50,22 +50,22 @@ time_read version words moment e =
       form = m.1;
     })
 
-moment_item : (version n : ℕ) (actor : List ℕ) (words : List (List ℕ)) (item : Item) → decimal_of actor ≡ Some n
-    → moment_asked n words ≡ Some item → HasForm version (line (actor ∷ codes "moment" ∷ words)) item
-unfolding moment_asked
+moment_item : (version n : ℕ) (actor : List ℕ) (words : List (List ℕ)) (item : Item) → parse_decimal actor ≡ Some n
+    → parse_time_item n words ≡ Some item → HasForm version (line (actor ∷ codes "moment" ∷ words)) item
+unfolding parse_time_item
 moment_item version n actor words item d e =
-    let m = mapped (only_moment words) _ item e in
+    let m = mapped (parse_only_moment words) _ item e in
     subst (HasForm version (line (actor ∷ codes "moment" ∷ words))) (sym m.2)
     (ask_read version n actor (codes "moment") words (Time m.0) d (time_read version words m.0 m.1))
 
-two_read : (words : List (List ℕ)) (p : ℕ × ℕ) → two_numbers_in words ≡ Some p
+two_read : (words : List (List ℕ)) (p : ℕ × ℕ) → parse_two_numbers words ≡ Some p
     → (words ≡ decimal p.0 ∷ decimal p.1 ∷ []) × (IsDecimal p.0 × IsDecimal p.1)
-unfolding two_numbers_in
+unfolding parse_two_numbers
 two_read [] p e = absurd cc
 two_read (_ ∷ []) p e = absurd cc
 two_read (first ∷ second ∷ []) p e =
-    let a = then_said (decimal_of first) _ p e in
-    let b = then_said (decimal_of second) _ p a.2 in
+    let a = then_said (parse_decimal first) _ p e in
+    let b = then_said (parse_decimal second) _ p a.2 in
     let first_is = decimal_read first a.0 a.1 in
     let second_is = decimal_read second b.0 b.1 in
     subst (λ (p : ℕ × ℕ). (first ∷ second ∷ [] ≡ decimal p.0 ∷ decimal p.1 ∷ []) × (IsDecimal p.0 × IsDecimal p.1)) (some_is (a.0, b.0) p b.2)
@@ -80,7 +80,7 @@ level_joined n verb number level =
     ∙ append_assoc n (space ∷ verb) (space ∷ (number ++ (space ∷ level))))
 
 -- a level that is neither 0 nor 1
-high_read : (version n number level : ℕ) (actor verb : List ℕ) → decimal_of actor ≡ Some n
+high_read : (version n number level : ℕ) (actor verb : List ℕ) → parse_decimal actor ≡ Some n
     → (verb ≡ codes "wire") ⊎ (verb ≡ codes "irq") → IsDecimal number → IsDecimal level → 2 ≤ level
     → HasForm version (line (actor ∷ verb ∷ decimal number ∷ decimal level ∷ [])) (AskLevel n verb number level)
 unfolding item_text
@@ -127,7 +127,7 @@ level_item verb event actor number level =
     if level == 0 then ask actor (event number false) else
     if level == 1 then ask actor (event number true) else AskLevel actor verb number level
 
-level_asked : (version n number level : ℕ) (actor verb : List ℕ) (event : ℕ → Bool → Event) → decimal_of actor ≡ Some n
+level_asked : (version n number level : ℕ) (actor verb : List ℕ) (event : ℕ → Bool → Event) → parse_decimal actor ≡ Some n
     → (verb ≡ codes "wire") ⊎ (verb ≡ codes "irq")
     → ((on : Bool) → IsRead version (verb ∷ decimal number ∷ level_text on ∷ []) (event number on)) → IsDecimal number → IsDecimal level
     → HasForm version (line (actor ∷ verb ∷ decimal number ∷ decimal level ∷ [])) (level_item verb event n number level)
@@ -143,35 +143,35 @@ level_asked version n number level actor verb event d known read small few = eli
   ]
 ]
 
-level_asks : (version n : ℕ) (actor verb : List ℕ) (event : ℕ → Bool → Event) (words : List (List ℕ)) (item : Item) → decimal_of actor ≡ Some n
+level_asks : (version n : ℕ) (actor verb : List ℕ) (event : ℕ → Bool → Event) (words : List (List ℕ)) (item : Item) → parse_decimal actor ≡ Some n
     → (verb ≡ codes "wire") ⊎ (verb ≡ codes "irq")
     → ((number : ℕ) (on : Bool) → IsDecimal number → IsRead version (verb ∷ decimal number ∷ level_text on ∷ []) (event number on))
-    → option_map (λ p. level_item verb event n p.0 p.1) (two_numbers_in words) ≡ Some item
+    → option_map (λ p. level_item verb event n p.0 p.1) (parse_two_numbers words) ≡ Some item
     → HasForm version (line (actor ∷ verb ∷ words)) item
 level_asks version n actor verb event words item d known read e =
-    let p = mapped (two_numbers_in words) _ item e in
+    let p = mapped (parse_two_numbers words) _ item e in
     let two = two_read words p.0 p.1 in
     subst (HasForm version (line (actor ∷ verb ∷ words))) (sym p.2)
     (subst (λ (w : List (List ℕ)). HasForm version (line (actor ∷ verb ∷ w)) (level_item verb event n p.0.0 p.0.1)) (sym two.0)
     (level_asked version n p.0.0 p.0.1 actor verb event d known (λ on. read p.0.0 on two.1.0) two.1.0 two.1.1))
 
-wire_asks : (version n : ℕ) (actor : List ℕ) (words : List (List ℕ)) (item : Item) → decimal_of actor ≡ Some n
-    → wire_asked n words ≡ Some item → HasForm version (line (actor ∷ codes "wire" ∷ words)) item
-unfolding wire_asked
+wire_asks : (version n : ℕ) (actor : List ℕ) (words : List (List ℕ)) (item : Item) → parse_decimal actor ≡ Some n
+    → parse_wire_item n words ≡ Some item → HasForm version (line (actor ∷ codes "wire" ∷ words)) item
+unfolding parse_wire_item
 wire_asks version n actor words item d =
     level_asks version n actor (codes "wire") Wire words item d (inl refl) (wire_read version)
 
-line_asks : (version n : ℕ) (actor : List ℕ) (words : List (List ℕ)) (item : Item) → decimal_of actor ≡ Some n
-    → line_asked n words ≡ Some item → HasForm version (line (actor ∷ codes "irq" ∷ words)) item
-unfolding line_asked
+line_asks : (version n : ℕ) (actor : List ℕ) (words : List (List ℕ)) (item : Item) → parse_decimal actor ≡ Some n
+    → parse_line_item n words ≡ Some item → HasForm version (line (actor ∷ codes "irq" ∷ words)) item
+unfolding parse_line_item
 line_asks version n actor words item d =
     level_asks version n actor (codes "irq") Line words item d (inr refl) (irq_read version)
 
-event_asks : (version n : ℕ) (actor verb : List ℕ) (words : List (List ℕ)) (item : Item) → decimal_of actor ≡ Some n
-    → event_asked version n verb words ≡ Some item → HasForm version (line (actor ∷ verb ∷ words)) item
-unfolding event_asked
+event_asks : (version n : ℕ) (actor verb : List ℕ) (words : List (List ℕ)) (item : Item) → parse_decimal actor ≡ Some n
+    → parse_event_item version n verb words ≡ Some item → HasForm version (line (actor ∷ verb ∷ words)) item
+unfolding parse_event_item
 event_asks version n actor verb words item d e =
-    let m = mapped (event_of version verb words) _ item e in
+    let m = mapped (parse_event version verb words) _ item e in
     subst (HasForm version (line (actor ∷ verb ∷ words))) (sym m.2)
     (ask_read version n actor verb words m.0 d (event_read version verb words m.0 m.1))
 
@@ -181,9 +181,9 @@ of_verb : (version : ℕ) (actor verb word : List ℕ) (words : List (List ℕ))
 of_verb version actor verb word words item is read =
     subst (λ (v : List ℕ). HasForm version (line (actor ∷ v ∷ words)) item) (sym (word_is verb word is)) read
 
-asked_read : (version n : ℕ) (actor verb : List ℕ) (words : List (List ℕ)) (item : Item) → decimal_of actor ≡ Some n
-    → asked_with version n verb words ≡ Some item → HasForm version (line (actor ∷ verb ∷ words)) item
-unfolding asked_with
+asked_read : (version n : ℕ) (actor verb : List ℕ) (words : List (List ℕ)) (item : Item) → parse_decimal actor ≡ Some n
+    → parse_by_verb version n verb words ≡ Some item → HasForm version (line (actor ∷ verb ∷ words)) item
+unfolding parse_by_verb
 asked_read version n actor verb words item d e = elim (cases_Bool (bytes_eq verb (codes "moment"))) [
   | inl m ↦ of_verb version actor verb (codes "moment") words item m (moment_item version n actor words item d (rw m at e))
   | inr m ↦ elim (cases_Bool (bytes_eq verb (codes "wire"))) [
@@ -195,13 +195,13 @@ asked_read version n actor verb words item d e = elim (cases_Bool (bytes_eq verb
   ]
 ]
 
-statement_read : (version : ℕ) (actor : List ℕ) (words : List (List ℕ)) (item : Item) → statement_of version actor words ≡ Some item
+statement_read : (version : ℕ) (actor : List ℕ) (words : List (List ℕ)) (item : Item) → parse_statement version actor words ≡ Some item
     → HasForm version (line (actor ∷ words)) item
-unfolding statement_of asked_of
+unfolding parse_statement parse_statement_words
 statement_read version actor [] item e =
-    let a = then_said (decimal_of actor) _ item e in let f = a.2 in absurd cc
+    let a = then_said (parse_decimal actor) _ item e in let f = a.2 in absurd cc
 statement_read version actor (verb ∷ words) item e =
-    let a = then_said (decimal_of actor) _ item e in
+    let a = then_said (parse_decimal actor) _ item e in
     asked_read version a.0 actor verb words item a.1 a.2
 
 -- ---- names
@@ -222,8 +222,8 @@ name_is (first ∷ rest) e =
       each = all.1;
     }
 
-name_read : (words : List (List ℕ)) (name : List ℕ) → name_in words ≡ Some name → (words ≡ name ∷ []) × IsName name
-unfolding name_in
+name_read : (words : List (List ℕ)) (name : List ℕ) → parse_name words ≡ Some name → (words ≡ name ∷ []) × IsName name
+unfolding parse_name
 name_read [] name e = absurd cc
 name_read (field ∷ []) name e =
     let g = guarded (is_name field) (Some field) name e in
@@ -233,54 +233,54 @@ name_read (_ ∷ _ ∷ _) name e = absurd cc
 
 -- ---- all lines
 
-phase_read : (version : ℕ) (words : List (List ℕ)) (item : Item) → phase_of words ≡ Some item
+phase_read : (version : ℕ) (words : List (List ℕ)) (item : Item) → parse_phase words ≡ Some item
     → HasForm version (line (codes "phase" ∷ words)) item
-unfolding phase_of item_text
+unfolding parse_phase item_text
 phase_read version [] item e =
     subst (HasForm version (line (codes "phase" ∷ []))) (some_is BeginPhase item e) (record { form = tt; says = refl })
 phase_read version (_ ∷ _) item e = absurd cc
 
-cpus_read : (version : ℕ) (words : List (List ℕ)) (item : Item) → option_map SetCpus (number_in words) ≡ Some item
+cpus_read : (version : ℕ) (words : List (List ℕ)) (item : Item) → option_map SetCpus (parse_number words) ≡ Some item
     → HasForm version (line (codes "cpus" ∷ words)) item
 unfolding item_text
 cpus_read version words item e =
-    let m = mapped (number_in words) SetCpus item e in
+    let m = mapped (parse_number words) SetCpus item e in
     let n = number_read words m.0 m.1 in
     subst (HasForm version (line (codes "cpus" ∷ words))) (sym m.2)
     (subst (λ (w : List (List ℕ)). HasForm version (line (codes "cpus" ∷ w)) (SetCpus m.0)) (sym n.0) (record { form = n.1; says = refl }))
 
-memory_read : (version : ℕ) (words : List (List ℕ)) (item : Item) → option_map SetMemory (number_in words) ≡ Some item
+memory_read : (version : ℕ) (words : List (List ℕ)) (item : Item) → option_map SetMemory (parse_number words) ≡ Some item
     → HasForm version (line (codes "memory" ∷ words)) item
 unfolding item_text
 memory_read version words item e =
-    let m = mapped (number_in words) SetMemory item e in
+    let m = mapped (parse_number words) SetMemory item e in
     let n = number_read words m.0 m.1 in
     subst (HasForm version (line (codes "memory" ∷ words))) (sym m.2)
     (subst (λ (w : List (List ℕ)). HasForm version (line (codes "memory" ∷ w)) (SetMemory m.0)) (sym n.0) (record { form = n.1; says = refl }))
 
-rom_read : (version : ℕ) (words : List (List ℕ)) (item : Item) → option_map SetRom (name_in words) ≡ Some item
+rom_read : (version : ℕ) (words : List (List ℕ)) (item : Item) → option_map SetRom (parse_name words) ≡ Some item
     → HasForm version (line (codes "rom" ∷ words)) item
 unfolding item_text
 rom_read version words item e =
-    let m = mapped (name_in words) SetRom item e in
+    let m = mapped (parse_name words) SetRom item e in
     let n = name_read words m.0 m.1 in
     subst (HasForm version (line (codes "rom" ∷ words))) (sym m.2)
     (subst (λ (w : List (List ℕ)). HasForm version (line (codes "rom" ∷ w)) (SetRom m.0)) (sym n.0) (record { form = n.1; says = refl }))
 
-disk_read : (version : ℕ) (words : List (List ℕ)) (item : Item) → option_map SetDisk (name_in words) ≡ Some item
+disk_read : (version : ℕ) (words : List (List ℕ)) (item : Item) → option_map SetDisk (parse_name words) ≡ Some item
     → HasForm version (line (codes "disk" ∷ words)) item
 unfolding item_text
 disk_read version words item e =
-    let m = mapped (name_in words) SetDisk item e in
+    let m = mapped (parse_name words) SetDisk item e in
     let n = name_read words m.0 m.1 in
     subst (HasForm version (line (codes "disk" ∷ words))) (sym m.2)
     (subst (λ (w : List (List ℕ)). HasForm version (line (codes "disk" ∷ w)) (SetDisk m.0)) (sym n.0) (record { form = n.1; says = refl }))
 
-fitted_read : (version : ℕ) (words : List (List ℕ)) (item : Item) → option_map FitCard (card_of version words) ≡ Some item
+fitted_read : (version : ℕ) (words : List (List ℕ)) (item : Item) → option_map FitCard (parse_card version words) ≡ Some item
     → HasForm version (line (codes "card" ∷ words)) item
 unfolding item_text
 fitted_read version words item e =
-    let m = mapped (card_of version words) FitCard item e in
+    let m = mapped (parse_card version words) FitCard item e in
     let c = card_read version words m.0 m.1 in
     subst (HasForm version (line (codes "card" ∷ words))) (sym m.2) (record { form = c.1; says = c.0 })
 
@@ -289,9 +289,9 @@ of_key : (version : ℕ) (key word : List ℕ) (words : List (List ℕ)) (item :
 of_key version key word words item is read =
     subst (λ (k : List ℕ). HasForm version (line (k ∷ words)) item) (sym (word_is key word is)) read
 
-with_read : (version : ℕ) (key : List ℕ) (words : List (List ℕ)) (item : Item) → item_with version key words ≡ Some item
+with_read : (version : ℕ) (key : List ℕ) (words : List (List ℕ)) (item : Item) → parse_by_key version key words ≡ Some item
     → HasForm version (line (key ∷ words)) item
-unfolding item_with
+unfolding parse_by_key
 with_read version key words item e = elim (cases_Bool (bytes_eq key (codes "phase"))) [
   | inl p ↦ of_key version key (codes "phase") words item p (phase_read version words item (rw p at e))
   | inr p ↦ elim (cases_Bool (bytes_eq key (codes "cpus"))) [
@@ -312,12 +312,12 @@ with_read version key words item e = elim (cases_Bool (bytes_eq key (codes "phas
   ]
 ]
 
-fields_read : (version : ℕ) (fields : List (List ℕ)) (item : Item) → item_of version fields ≡ Some item → HasForm version (line fields) item
-unfolding item_of
+fields_read : (version : ℕ) (fields : List (List ℕ)) (item : Item) → parse_item version fields ≡ Some item → HasForm version (line fields) item
+unfolding parse_item
 fields_read version [] item e = absurd cc
 fields_read version (key ∷ words) item e = with_read version key words item e
 
 -- what is read from a line's fields, the line says
-pub item_read : (version : ℕ) (text : List ℕ) (item : Item) → item_of version (fields_of text) ≡ Some item → HasForm version text item
+pub item_read : (version : ℕ) (text : List ℕ) (item : Item) → parse_item version (fields_of text) ≡ Some item → HasForm version text item
 item_read version text item e =
     subst (λ (t : List ℕ). HasForm version t item) (join_with_byte-slice_split space text) (fields_read version (fields_of text) item e)

@@ -1,7 +1,7 @@
 -- Fields that are spelled make a line that is spelled.
 use Rattle.std.proofs.Common.{◌≡◌, ℕ, Bool, true, false, Some, List, [], ◌∷◌, ◌++◌, inl, refl, sym, ap, subst, ◌∙◌, append_assoc, append-nil, codes, bytes_eq}
 use Rattle.board_prelude.proofs.Common.{AllZip, join_with_byte, bytes_eq-Decides, space, smm_text}
-use Rattle.script_spec.specs.Common.{StandsFor, smm_of}
+use Rattle.script_spec.specs.Common.{StandsFor, parse_smm}
 use Rattle.script_spec.proofs.Chains.{some_is, guarded}
 
 abbrev pub Spells : List ℕ → List ℕ → Type 0
@@ -43,8 +43,8 @@ abbrev pub smm_words : Bool → List (List ℕ)
 smm_words false = []
 smm_words true = codes "smm" ∷ []
 
-pub smm_read : (flags : List (List ℕ)) (smm : Bool) → smm_of flags ≡ Some smm → Reads flags (smm_words smm)
-unfolding smm_of
+pub smm_read : (flags : List (List ℕ)) (smm : Bool) → parse_smm flags ≡ Some smm → Reads flags (smm_words smm)
+unfolding parse_smm
 smm_read [] smm e = subst (λ (b : Bool). Reads [] (smm_words b)) (some_is false smm e) tt
 smm_read (field ∷ []) smm e =
     let g = guarded (bytes_eq field (codes "smm")) (Some true) smm e in

@@ -1,7 +1,7 @@
 -- A line of the log is taken apart, and its entry is read from it.
 use Rattle.std.proofs.Common.{◌≡◌, ℕ, ◌<◌, true, Option, Some, None, List, [], ◌∷◌, ◌++◌, refl, sym, ap, ◌∙◌, inl, inr, append_assoc, arith, codes, decimal}
 use Rattle.board_prelude.proofs.Common.{lt-ltb, common_steps, Event, Statement, Entry, space, event_text, value_bytes, reply_text, line_text}
-use Rattle.script_spec.specs.Common.{Item, Ask, HasForm, item_text, IsWellFormed, fields_of, ◌>>=◌, ask, read_line, cut, reply_in, Pieces, but_last, pieces_of, actor_of}
+use Rattle.script_spec.specs.Common.{Item, Ask, HasForm, item_text, IsWellFormed, fields_of, ◌>>=◌, ask, parse_line, cut, parse_spaced_reply, Pieces, but_last, parse_pieces, parse_actor}
 use Rattle.script_spec.proofs.Digits.{lacks}
 use Rattle.script_spec.proofs.Fields.{lacks-append, lacks-decimal}
 use Rattle.script_spec.proofs.PlainText.{lacks-word, lacks-plain, decimal_word}
@@ -39,8 +39,8 @@ but_last_push xs c = grind (arith, common_steps)
 
 pieces_said : (line number rest actor later asked replied : List ℕ) → cut space line ≡ Some (number, rest)
     → cut 0x2E rest ≡ Some (actor, later) → cut 0x3D later ≡ Some (asked ++ space ∷ [], replied)
-    → pieces_of line ≡ Some (record { actor = actor; asked = asked; replied = replied })
-unfolding pieces_of
+    → parse_pieces line ≡ Some (record { actor = actor; asked = asked; replied = replied })
+unfolding parse_pieces
 pieces_said line number rest actor later asked replied one two three =
     rw (one, two, three) (ap (λ (text : List ℕ). Some (record { actor = actor; asked = text; replied = replied }))
     (but_last_push asked space))
@@ -54,7 +54,7 @@ later_parts seq event reply =
     ∙ ap (λ (text : List ℕ). text ++ 0x3D ∷ space ∷ reply) (sym (append_assoc seq (space ∷ event) (space ∷ [])))
 
 pub line_pieces : (version n : ℕ) (entry : Entry) → IsWellFormed version entry
-    → pieces_of (line_text n entry) ≡ Some (pieces entry)
+    → parse_pieces (line_text n entry) ≡ Some (pieces entry)
 unfolding line_text
 line_pieces version n entry formed =
     let event : List ℕ = event_text entry.event in
@@ -68,7 +68,7 @@ line_pieces version n entry formed =
     (lacks-plain 0x3D event refl (event_plain entry.event)))
     refl
     in
-    ap pieces_of
+    ap parse_pieces
     (seven_parts (decimal n) (space ∷ decimal entry.actor) (codes ".") (decimal entry.seq) (space ∷ event)
     (codes " = ") reply)
     ∙ pieces_said (decimal n ++ space ∷ rest) (decimal n) rest (decimal entry.actor) later asked (space ∷ reply)
@@ -78,8 +78,8 @@ line_pieces version n entry formed =
     (ap (cut 0x3D) (later_parts (decimal entry.seq) event reply) ∙ cut_field 0x3D (asked ++ space ∷ [])
     (space ∷ reply) lack)
 
-pub actor_said : (actor : ℕ) → actor < 0x100 → actor_of (decimal actor) ≡ Some actor
-unfolding actor_of
+pub actor_said : (actor : ℕ) → actor < 0x100 → parse_actor (decimal actor) ≡ Some actor
+unfolding parse_actor
 actor_said actor small = rw (decimal_back actor (omega (arith, small)), lt-ltb actor 0x100 small) refl
 
 pub asked_said : (version : ℕ) (entry : Entry) → IsWellFormed version entry
@@ -95,17 +95,17 @@ asked_in _ = None
 
 unfoldable pub entry_in : (version : ℕ) → List ℕ → Option Entry
 entry_in version line = do
-  pieces ← pieces_of line
-  actor ← actor_of pieces.actor
-  item ← read_line version pieces.asked
+  pieces ← parse_pieces line
+  actor ← parse_actor pieces.actor
+  item ← parse_line version pieces.asked
   asked ← asked_in item
-  reply ← reply_in asked.event (fields_of pieces.replied)
+  reply ← parse_spaced_reply asked.event (fields_of pieces.replied)
   Some (record { actor = actor; seq = asked.actor; event = asked.event; reply = reply })
 
-entry_said : (version : ℕ) (entry : Entry) (line : List ℕ) → pieces_of line ≡ Some (pieces entry)
-    → actor_of (decimal entry.actor) ≡ Some entry.actor
-    → read_line version (asked_text entry.seq entry.event) ≡ Some (ask entry.seq entry.event)
-    → reply_in entry.event (fields_of (replied_text entry)) ≡ Some entry.reply → entry_in version line ≡ Some entry
+entry_said : (version : ℕ) (entry : Entry) (line : List ℕ) → parse_pieces line ≡ Some (pieces entry)
+    → parse_actor (decimal entry.actor) ≡ Some entry.actor
+    → parse_line version (asked_text entry.seq entry.event) ≡ Some (ask entry.seq entry.event)
+    → parse_spaced_reply entry.event (fields_of (replied_text entry)) ≡ Some entry.reply → entry_in version line ≡ Some entry
 unfolding entry_in
 entry_said version entry line one two three four = rw (one, two, three, four) refl
 

@@ -1,11 +1,11 @@
 -- A field that spells a moment is read as that moment.
 use Rattle.std.proofs.Common.{◌≡◌, ℕ, ◌+◌, ◌*◌, ◌/◌, ◌%◌, ◌<◌, Some, List, [], ◌∷◌, ◌++◌, refl, sym, ap, arith}
 use Rattle.board_prelude.proofs.Common.{eq-eqb, Moment, moment_of, two_digits, moment_text}
-use Rattle.script_spec.specs.Common.{IsMomentForm, two_digits_of, after_mark, part_of, year_of, date_of, time_of, moment_with, moment_in}
+use Rattle.script_spec.specs.Common.{IsMomentForm, parse_two_digits, after_mark, parse_moment_part, parse_year, parse_date, parse_time, whole_moment, parse_moment}
 use Rattle.script_spec.proofs.NumberBack.{digit_so}
 
-two_back : (n : ℕ) (rest : List ℕ) → n < 100 → two_digits_of (two_digits n ++ rest) ≡ Some (n, rest)
-unfolding two_digits_of
+two_back : (n : ℕ) (rest : List ℕ) → n < 100 → parse_two_digits (two_digits n ++ rest) ≡ Some (n, rest)
+unfolding parse_two_digits
 two_back n rest small =
     let whole : n / 10 % 10 * 10 + n % 10 ≡ n = omega (arith, small) in
     rw (
@@ -13,22 +13,22 @@ two_back n rest small =
       digit_so (0x30 + n % 10) (n % 10) (omega arith) (omega arith) (omega arith) (omega arith),
     ) (ap (λ (x : ℕ). Some (x, rest)) whole)
 
-part_back : (mark n : ℕ) (rest : List ℕ) → n < 100 → part_of mark (mark ∷ (two_digits n ++ rest)) ≡ Some (n, rest)
-unfolding part_of after_mark
+part_back : (mark n : ℕ) (rest : List ℕ) → n < 100 → parse_moment_part mark (mark ∷ (two_digits n ++ rest)) ≡ Some (n, rest)
+unfolding parse_moment_part after_mark
 part_back mark n rest small = rw (eq-eqb mark mark refl) (two_back n rest small)
 
 year_back : (year : ℕ) (rest : List ℕ) → year < 10_000
-    → year_of (two_digits (year / 100) ++ (two_digits (year % 100) ++ rest)) ≡ Some (year, rest)
-unfolding year_of
+    → parse_year (two_digits (year / 100) ++ (two_digits (year % 100) ++ rest)) ≡ Some (year, rest)
+unfolding parse_year
 year_back year rest small =
     let whole : year / 100 * 100 + year % 100 ≡ year = omega arith in
     rw (two_back (year / 100) (two_digits (year % 100) ++ rest) (omega (arith, small)), two_back (year % 100) rest (omega arith))
     (ap (λ (x : ℕ). Some (x, rest)) whole)
 
 date_back : (year month day : ℕ) (rest : List ℕ) → year < 10_000 → month < 100 → day < 100
-    → date_of (two_digits (year / 100) ++ (two_digits (year % 100) ++ 0x2D ∷ (two_digits month ++ 0x2D ∷ (two_digits day ++ rest))))
+    → parse_date (two_digits (year / 100) ++ (two_digits (year % 100) ++ 0x2D ∷ (two_digits month ++ 0x2D ∷ (two_digits day ++ rest))))
     ≡ Some (record { first = year; second = month; third = day; rest = rest })
-unfolding date_of
+unfolding parse_date
 date_back year month day rest y m d =
     rw (
       year_back year (0x2D ∷ (two_digits month ++ 0x2D ∷ (two_digits day ++ rest))) y,
@@ -37,9 +37,9 @@ date_back year month day rest y m d =
     ) refl
 
 time_back : (hour minute second : ℕ) → hour < 100 → minute < 100 → second < 100
-    → time_of (0x54 ∷ (two_digits hour ++ 0x3A ∷ (two_digits minute ++ 0x3A ∷ (two_digits second ++ []))))
+    → parse_time (0x54 ∷ (two_digits hour ++ 0x3A ∷ (two_digits minute ++ 0x3A ∷ (two_digits second ++ []))))
     ≡ Some (record { first = hour; second = minute; third = second; rest = [] })
-unfolding time_of
+unfolding parse_time
 time_back hour minute second h m s =
     rw (
       part_back 0x54 hour (0x3A ∷ (two_digits minute ++ 0x3A ∷ (two_digits second ++ []))) h,
@@ -51,8 +51,8 @@ weekday : (moment : Moment) → IsMomentForm moment
     → moment_of moment.year moment.month moment.day moment.hour moment.minute moment.second ≡ moment
 weekday moment form = ap (λ (w : ℕ). record moment { weekday = w }) (sym form.weekday)
 
-pub moment_back : (moment : Moment) → IsMomentForm moment → moment_in (moment_text moment) ≡ Some moment
-unfolding moment_in moment_with
+pub moment_back : (moment : Moment) → IsMomentForm moment → parse_moment (moment_text moment) ≡ Some moment
+unfolding parse_moment whole_moment
 moment_back moment form =
     let time : List ℕ =
     0x54 ∷ (two_digits moment.hour ++ 0x3A ∷ (two_digits moment.minute ++ 0x3A ∷ (two_digits moment.second ++ []))) in

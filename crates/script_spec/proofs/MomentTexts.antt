@@ -1,20 +1,20 @@
 -- The moment that was read is the one that the field spells.
 use Rattle.std.proofs.Common.{◌≡◌, ℕ, ◌+◌, ◌*◌, ◌/◌, ◌%◌, ◌<◌, eqb, Some, List, [], ◌∷◌, ◌++◌, refl, sym, ap, subst, ◌∙◌, arith}
 use Rattle.board_prelude.proofs.Common.{eqb-true, Moment, moment_of, two_digits, moment_text}
-use Rattle.script_spec.specs.Common.{IsMomentForm, digit_of, two_digits_of, after_mark, part_of, year_of, Three, date_of, time_of, moment_with, moment_in}
+use Rattle.script_spec.specs.Common.{IsMomentForm, parse_digit, parse_two_digits, after_mark, parse_moment_part, parse_year, Three, parse_date, parse_time, whole_moment, parse_moment}
 use Rattle.script_spec.proofs.Chains.{some_is, guarded, then_said}
 use Rattle.script_spec.proofs.NumberTexts.{ten_is}
 
 digits_again : (high low n : ℕ) → high < 10 → low < 10 → n ≡ high * 10 + low → (0x30 + n / 10 % 10 ≡ 48 + high) × (0x30 + n % 10 ≡ 48 + low)
 digits_again high low n a b is = (omega (arith, is), omega (arith, is))
 
-two_read : (text : List ℕ) (p : ℕ × List ℕ) → two_digits_of text ≡ Some p → (text ≡ two_digits p.0 ++ p.1) × (p.0 < 100)
-unfolding two_digits_of
+two_read : (text : List ℕ) (p : ℕ × List ℕ) → parse_two_digits text ≡ Some p → (text ≡ two_digits p.0 ++ p.1) × (p.0 < 100)
+unfolding parse_two_digits
 two_read [] p e = absurd cc
 two_read (_ ∷ []) p e = absurd cc
 two_read (high ∷ low ∷ rest) p e =
-    let h = then_said (digit_of 10 high) _ p e in
-    let l = then_said (digit_of 10 low) _ p h.2 in
+    let h = then_said (parse_digit 10 high) _ p e in
+    let l = then_said (parse_digit 10 low) _ p h.2 in
     let is : (h.0 * 10 + l.0, rest) ≡ p = some_is (h.0 * 10 + l.0, rest) p l.2 in
     let high_is = ten_is high h.0 h.1 in
     let low_is = ten_is low l.0 l.1 in
@@ -31,8 +31,8 @@ after_mark_read mark (c ∷ cs) rest e =
     let later = some_is cs rest g.1 in
     λ i. first i ∷ later i
 
-part_read : (mark : ℕ) (text : List ℕ) (p : ℕ × List ℕ) → part_of mark text ≡ Some p → (text ≡ mark ∷ (two_digits p.0 ++ p.1)) × (p.0 < 100)
-unfolding part_of
+part_read : (mark : ℕ) (text : List ℕ) (p : ℕ × List ℕ) → parse_moment_part mark text ≡ Some p → (text ≡ mark ∷ (two_digits p.0 ++ p.1)) × (p.0 < 100)
+unfolding parse_moment_part
 part_read mark text p e =
     let b = then_said (after_mark mark text) _ p e in
     let t = two_read b.0 p b.2 in
@@ -41,12 +41,12 @@ part_read mark text p e =
 halves : (c y n : ℕ) → c < 100 → y < 100 → n ≡ c * 100 + y → (n / 100 ≡ c) × (n % 100 ≡ y)
 halves c y n a b is = (omega (arith, is), omega (arith, is))
 
-year_read : (text : List ℕ) (p : ℕ × List ℕ) → year_of text ≡ Some p
+year_read : (text : List ℕ) (p : ℕ × List ℕ) → parse_year text ≡ Some p
     → (text ≡ two_digits (p.0 / 100) ++ (two_digits (p.0 % 100) ++ p.1)) × (p.0 < 10_000)
-unfolding year_of
+unfolding parse_year
 year_read text p e =
-    let c = then_said (two_digits_of text) _ p e in
-    let y = then_said (two_digits_of c.0.1) _ p c.2 in
+    let c = then_said (parse_two_digits text) _ p e in
+    let y = then_said (parse_two_digits c.0.1) _ p c.2 in
     let is : (c.0.0 * 100 + y.0.0, y.0.1) ≡ p = some_is (c.0.0 * 100 + y.0.0, y.0.1) p y.2 in
     let century = two_read text c.0 c.1 in
     let year = two_read c.0.1 y.0 y.1 in
@@ -66,12 +66,12 @@ record IsDateRead (text : List ℕ) (d : Three) : Type 0 where
   pub month : d.second < 100
   pub day : d.third < 100
 
-date_read : (text : List ℕ) (d : Three) → date_of text ≡ Some d → IsDateRead text d
-unfolding date_of
+date_read : (text : List ℕ) (d : Three) → parse_date text ≡ Some d → IsDateRead text d
+unfolding parse_date
 date_read text d e =
-    let y = then_said (year_of text) _ d e in
-    let m = then_said (part_of 0x2D y.0.1) _ d y.2 in
-    let k = then_said (part_of 0x2D m.0.1) _ d m.2 in
+    let y = then_said (parse_year text) _ d e in
+    let m = then_said (parse_moment_part 0x2D y.0.1) _ d y.2 in
+    let k = then_said (parse_moment_part 0x2D m.0.1) _ d m.2 in
     let year = year_read text y.0 y.1 in
     let month = part_read 0x2D y.0.1 m.0 m.1 in
     let day = part_read 0x2D m.0.1 k.0 k.1 in
@@ -91,12 +91,12 @@ record IsTimeRead (text : List ℕ) (t : Three) : Type 0 where
   pub minute : t.second < 100
   pub second : t.third < 100
 
-time_read : (text : List ℕ) (t : Three) → time_of text ≡ Some t → IsTimeRead text t
-unfolding time_of
+time_read : (text : List ℕ) (t : Three) → parse_time text ≡ Some t → IsTimeRead text t
+unfolding parse_time
 time_read text t e =
-    let h = then_said (part_of 0x54 text) _ t e in
-    let m = then_said (part_of 0x3A h.0.1) _ t h.2 in
-    let s = then_said (part_of 0x3A m.0.1) _ t m.2 in
+    let h = then_said (parse_moment_part 0x54 text) _ t e in
+    let m = then_said (parse_moment_part 0x3A h.0.1) _ t h.2 in
+    let s = then_said (parse_moment_part 0x3A m.0.1) _ t m.2 in
     let hour = part_read 0x54 text h.0 h.1 in
     let minute = part_read 0x3A h.0.1 m.0 m.1 in
     let second = part_read 0x3A m.0.1 s.0 s.1 in
@@ -110,17 +110,17 @@ time_read text t e =
       second = second.1;
     })
 
-with_read : (date time : Three) (rest : List ℕ) (moment : Moment) → moment_with date time rest ≡ Some moment
+with_read : (date time : Three) (rest : List ℕ) (moment : Moment) → whole_moment date time rest ≡ Some moment
     → (rest ≡ []) × (moment_of date.first date.second date.third time.first time.second time.third ≡ moment)
-unfolding moment_with
+unfolding whole_moment
 with_read date time [] moment e = (refl, some_is _ moment e)
 with_read date time (_ ∷ _) moment e = absurd cc
 
-pub moment_read : (field : List ℕ) (moment : Moment) → moment_in field ≡ Some moment → (field ≡ moment_text moment) × IsMomentForm moment
-unfolding moment_in
+pub moment_read : (field : List ℕ) (moment : Moment) → parse_moment field ≡ Some moment → (field ≡ moment_text moment) × IsMomentForm moment
+unfolding parse_moment
 moment_read field moment e =
-    let d = then_said (date_of field) _ moment e in
-    let t = then_said (time_of d.0.rest) _ moment d.2 in
+    let d = then_said (parse_date field) _ moment e in
+    let t = then_said (parse_time d.0.rest) _ moment d.2 in
     let date = date_read field d.0 d.1 in
     let time = time_read d.0.rest t.0 t.1 in
     let end = with_read d.0 t.0 t.0.rest moment t.2 in

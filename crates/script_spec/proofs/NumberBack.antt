@@ -8,7 +8,7 @@ use Rattle.std.proofs.lemmas.Str.{digit_value_digit}
 use Rattle.std.proofs.lemmas.Fmt.{digits_value-decimal, length-decimal-le, first_decimal, decimal_nonempty, decimal_digit}
 use Rattle.std.proofs.lemmas.List.Elements.{length_all_zip}
 use Rattle.std.proofs.Math.Nat.{div-eq_of_lt}
-use Rattle.script_spec.specs.Common.{IsDecimal, StandsFor, digit_of, number_after, number_of, hex_of, has_leading_zero, decimal_of}
+use Rattle.script_spec.specs.Common.{IsDecimal, StandsFor, parse_digit, number_after, parse_digits, parse_hex, has_leading_zero, parse_decimal}
 use Rattle.script_spec.proofs.Digits.{own, digits_of_decimal}
 use Rattle.script_spec.proofs.NumberTexts.{quotient, digit_again}
 use Rattle.script_spec.proofs.Joins.{Spells}
@@ -37,10 +37,10 @@ plain-digits (c ∷ cs) digits =
 
 -- ---- decimals
 
-pub digit_so : (c d : ℕ) → 48 ≤ c → c ≤ 57 → c - 48 ≡ d → d < 10 → digit_of 10 c ≡ Some d
+pub digit_so : (c d : ℕ) → 48 ≤ c → c ≤ 57 → c - 48 ≡ d → d < 10 → parse_digit 10 c ≡ Some d
 digit_so c d low high is small = rw (le-leb 0x30 c low, le-leb c 0x39 high, is, lt-ltb d 10 small) refl
 
-digit_read : (c : ℕ) → value_of_digit c < 10 → digit_of 10 c ≡ Some (value_of_digit c)
+digit_read : (c : ℕ) → value_of_digit c < 10 → parse_digit 10 c ≡ Some (value_of_digit c)
 digit_read c small =
     let range = digit_from_value c small in
     digit_so c (value_of_digit c) range.0 (omega (arith, range.1)) (omega (arith, digit_value_digit c range)) small
@@ -64,9 +64,9 @@ first_digit : (n : ℕ) → IsDecimal n → 2 ≤ length (decimal n) → 48 < ge
 first_digit zero small long = let one = ap length (decimal_digit 0 (lit< tt)) in absurd (omega (arith, long, one))
 first_digit (suc n) small long = first_decimal (suc n) (omega arith) (omega (arith, small))
 
-pub decimal_back : (n : ℕ) → IsDecimal n → decimal_of (decimal n) ≡ Some n
+pub decimal_back : (n : ℕ) → IsDecimal n → parse_decimal (decimal n) ≡ Some n
 decimal_back n small =
-    let read : number_of 10 (decimal n) ≡ Some n =
+    let read : parse_digits 10 (decimal n) ≡ Some n =
     digits_read 0 (decimal n) (digits_of_decimal n small)
     ∙ ap (λ (x : ℕ). Some x) (digits_value-decimal own n (omega (arith, small))) in
     let some = decimal_nonempty n (omega (arith, small)) in
@@ -80,7 +80,7 @@ decimal_back n small =
 -- ---- hexadecimal numbers
 
 -- what stands for a digit of so much is read as so much
-pub hex_digit_read : (c d : ℕ) → d < 16 → StandsFor c (hex_digit d) → digit_of 16 c ≡ Some d
+pub hex_digit_read : (c d : ℕ) → d < 16 → StandsFor c (hex_digit d) → parse_digit 16 c ≡ Some d
 hex_digit_read c d small stands = elim (cases_lt d 10) [
   | inl low ↦
       let e : d % 16 ≡ d = omega (arith, small) in
@@ -138,9 +138,9 @@ hex_after (suc k) high n (c ∷ []) is spells = absurd spells.1
 hex_after (suc k) high n (c ∷ d ∷ cs) is spells =
     let b : ℕ = byte n k in
     let above : high ≡ n / 256 ^ k / 256 = is ∙ ap (λ (p : ℕ). n / p) (pow-suc 256 k) ∙ quotient n (256 ^ k) in
-    let first : digit_of 16 c ≡ Some (b / 16) = hex_digit_read c (b / 16) (omega arith) spells.0 in
+    let first : parse_digit 16 c ≡ Some (b / 16) = hex_digit_read c (b / 16) (omega arith) spells.0 in
     let low : hex_digit b ≡ hex_digit (b % 16) = digit_again b (b % 16) refl in
-    let second : digit_of 16 d ≡ Some (b % 16) = hex_digit_read d (b % 16) (omega arith) (subst (StandsFor d) low spells.1.0) in
+    let second : parse_digit 16 d ≡ Some (b % 16) = hex_digit_read d (b % 16) (omega arith) (subst (StandsFor d) low spells.1.0) in
     rw (first, second)
     (hex_after k ((high * 16 + b / 16) * 16 + b % 16) n cs (next_value (n / 256 ^ k) high b above refl) spells.1.1)
 
@@ -148,7 +148,7 @@ hex_length : (k n : ℕ) → length (hex_number k n) ≡ 2 * k
 hex_length zero n = refl
 hex_length (suc k) n = omega (arith, hex_length k n)
 
-pub hex_back : (k n : ℕ) (field : List ℕ) → n < 256 ^ k → Spells field (hex_number k n) → hex_of (2 * k) field ≡ Some n
+pub hex_back : (k n : ℕ) (field : List ℕ) → n < 256 ^ k → Spells field (hex_number k n) → parse_hex (2 * k) field ≡ Some n
 hex_back k n field small spells =
     let long : length field ≡ 2 * k = length_all_zip StandsFor field (hex_number k n) spells ∙ hex_length k n in
     rw (eq-eqb (length field) (2 * k) long) (hex_after k 0 n field (sym (div-eq_of_lt small)) spells)

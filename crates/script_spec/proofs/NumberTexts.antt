@@ -6,7 +6,7 @@ use Rattle.std.specs.Str.Parse.{digits_value_after}
 use native.Mathlib.Nat.{div-div-eq-div-mul}
 use Rattle.std.proofs.lemmas.Fmt.{decimal-digits_value}
 use Rattle.std.proofs.lemmas.Int.Digits.{digits_value-lt}
-use Rattle.script_spec.specs.Common.{IsDecimal, StandsFor, digit_value, digit_of, number_after, number_of, hex_of, has_leading_zero, decimal_of}
+use Rattle.script_spec.specs.Common.{IsDecimal, StandsFor, digit_value, parse_digit, number_after, parse_digits, parse_hex, has_leading_zero, parse_decimal}
 use Rattle.script_spec.proofs.Digits.{own}
 use Rattle.script_spec.proofs.Chains.{some_is, guarded, then_said, both, is_within_is}
 
@@ -33,7 +33,7 @@ digit_cases c d e = elim (cases_Bool (is_within 0x30 0x39 c)) [
   ]
 ]
 
-below : (base c d : ℕ) → digit_of base c ≡ Some d → (digit_value c ≡ Some d) × (d < base)
+below : (base c d : ℕ) → parse_digit base c ≡ Some d → (digit_value c ≡ Some d) × (d < base)
 below base c d e =
     let s = then_said (digit_value c) (λ digit. cond (ltb digit base) (Some digit) None) d e in
     let g = guarded (ltb s.0 base) (Some s.0) d s.2 in
@@ -42,7 +42,7 @@ below base c d e =
 
 -- ---- decimals
 
-ten : (c d : ℕ) → digit_of 10 c ≡ Some d → (value_of_digit c < 10) × (d ≡ value_of_digit c)
+ten : (c d : ℕ) → parse_digit 10 c ≡ Some d → (value_of_digit c < 10) × (d ≡ value_of_digit c)
 ten c d e =
     let b = below 10 c d e in
     elim (digit_cases c d b.0) [
@@ -56,7 +56,7 @@ ten c d e =
       ]
     ]
 
-pub ten_is : (c d : ℕ) → digit_of 10 c ≡ Some d → (c ≡ 48 + d) × (d < 10)
+pub ten_is : (c d : ℕ) → parse_digit 10 c ≡ Some d → (c ≡ 48 + d) × (d < 10)
 ten_is c d e =
     let b = below 10 c d e in
     let lt = b.1 in (
@@ -74,7 +74,7 @@ digits : (high n : ℕ) (ds : List ℕ) → number_after 10 high ds ≡ Some n �
 unfolding number_after
 digits high n [] e = (tt, some_is high n e)
 digits high n (c ∷ cs) e =
-    let s = then_said (digit_of 10 c) (λ digit. number_after 10 (high * 10 + digit) cs) n e in
+    let s = then_said (parse_digit 10 c) (λ digit. number_after 10 (high * 10 + digit) cs) n e in
     let t = ten c s.0 s.1 in
     let later = digits (high * 10 + s.0) n cs s.2 in
     ((t.0, later.0), ap (λ (d : ℕ). digits_value_after 10 (high * 10 + d) cs) (sym t.1) ∙ later.1)
@@ -84,9 +84,9 @@ no_zero [] e some first = absurd (omega (arith, some))
 no_zero (c ∷ []) e some first = refl
 no_zero (c ∷ d ∷ cs) e some first = let f = rw (first, le-leb 2 (length (c ∷ d ∷ cs)) (omega arith)) at e in absurd (true≢false f)
 
-pub decimal_read : (field : List ℕ) (n : ℕ) → decimal_of field ≡ Some n → (field ≡ decimal n) × IsDecimal n
+pub decimal_read : (field : List ℕ) (n : ℕ) → parse_decimal field ≡ Some n → (field ≡ decimal n) × IsDecimal n
 decimal_read field n e =
-    let g = guarded (leb 1 (length field) && leb (length field) 9 && not (has_leading_zero field)) (number_of 10 field) n e in
+    let g = guarded (leb 1 (length field) && leb (length field) 9 && not (has_leading_zero field)) (parse_digits 10 field) n e in
     let h = both (leb 1 (length field) && leb (length field) 9) (not (has_leading_zero field)) g.0 in
     let k = both (leb 1 (length field)) (leb (length field) 9) h.0 in
     let some = leb-true 1 (length field) k.0 in
@@ -108,7 +108,7 @@ hex_low d lt = let e : d % 16 ≡ d = omega arith in rw (e, lt-ltb d 10 lt) refl
 hex_high : (d : ℕ) → 10 ≤ d → d < 16 → hex_digit d ≡ 55 + d
 hex_high d le lt = let e : d % 16 ≡ d = omega arith in rw (e, le-ltb d 10 le) refl
 
-digit_stands : (c d : ℕ) → digit_of 16 c ≡ Some d → StandsFor c (hex_digit d) × (d < 16)
+digit_stands : (c d : ℕ) → parse_digit 16 c ≡ Some d → StandsFor c (hex_digit d) × (d < 16)
 digit_stands c d e =
     let b = below 16 c d e in (
       elim (digit_cases c d b.0) [
@@ -157,8 +157,8 @@ hex_digits zero high n (c ∷ cs) long e = absurd (omega (arith, long))
 hex_digits (suc k) high n [] long e = absurd (omega (arith, long))
 hex_digits (suc k) high n (c ∷ []) long e = absurd (omega (arith, long))
 hex_digits (suc k) high n (c ∷ d ∷ cs) long e =
-    let s = then_said (digit_of 16 c) (λ digit. number_after 16 (high * 16 + digit) (d ∷ cs)) n e in
-    let t = then_said (digit_of 16 d) (λ digit. number_after 16 ((high * 16 + s.0) * 16 + digit) cs) n s.2 in
+    let s = then_said (parse_digit 16 c) (λ digit. number_after 16 (high * 16 + digit) (d ∷ cs)) n e in
+    let t = then_said (parse_digit 16 d) (λ digit. number_after 16 ((high * 16 + s.0) * 16 + digit) cs) n s.2 in
     let later = hex_digits k ((high * 16 + s.0) * 16 + t.0) n cs (omega (arith, long)) t.2 in
     let first = digit_stands c s.0 s.1 in
     let second = digit_stands d t.0 t.1 in
@@ -172,9 +172,9 @@ hex_digits (suc k) high n (c ∷ d ∷ cs) long e =
       ),
     )
 
-pub hex_read : (k : ℕ) (field : List ℕ) (n : ℕ) → hex_of (2 * k) field ≡ Some n → AllZip StandsFor field (hex_number k n) × (n < 256 ^ k)
+pub hex_read : (k : ℕ) (field : List ℕ) (n : ℕ) → parse_hex (2 * k) field ≡ Some n → AllZip StandsFor field (hex_number k n) × (n < 256 ^ k)
 hex_read k field n e =
-    let g = guarded (eqb (length field) (2 * k)) (number_of 0x10 field) n e in
+    let g = guarded (eqb (length field) (2 * k)) (parse_digits 0x10 field) n e in
     let long : length field ≡ k + k = omega (arith, eqb-true (length field) (2 * k) g.0) in
     let read = hex_digits k 0 n field long g.1 in
     (read.1, below_power n (256 ^ k) (power k) read.0)

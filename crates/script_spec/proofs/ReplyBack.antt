@@ -3,7 +3,7 @@ use Rattle.std.proofs.Common.{◌≡◌, ℕ, zero, suc, ◌+◌, ◌-◌, ◌^�
 use Rattle.board_prelude.proofs.Common.{option_map, pow-le-pow_right, cases_Bool, eq-eqb, eqb-true, true≢false, All-head, All-tail, Kind, Fetch, Read, Write, WideAccess, Target, Denial, bytes_of, Event, Memory, Wide, Port, Ack, Pulses, Time, Wire, Line, BadSector, Look, Part, Parts, Two, Three, Four, Reply, Bus, Saw, is_write, longest_at, parts_from, parts_of, parts_list, space, hex_long, area_text, target_text, denial_text, value_bytes, value_text, answered_text, reply_text}
 use Rattle.board_spec.specs.declared.event.Event.TheVariants.{Look as LookAt}
 use Rattle.board_spec.specs.declared.event.Reply.TheVariants.{Parts as InParts}
-use Rattle.script_spec.specs.Common.{IsDecimal, FitsPart, IsReplyValue, IsBusReply, IsWideReply, IsLookReply, HasShape, fields_of, hex_of, decimal_of, denial_of, area_of, target_of, value_of, bus_of, last_parts, more_parts, parts_in, part_count, parts_with, wide_of, reply_of, reply_in}
+use Rattle.script_spec.specs.Common.{IsDecimal, FitsPart, IsReplyValue, IsBusReply, IsWideReply, IsLookReply, HasShape, fields_of, parse_hex, parse_decimal, parse_denial, parse_area, parse_target, parse_value, parse_bus_reply, parse_last_parts, parse_more_parts, parse_parts, part_count, parts_with, parse_wide_reply, parse_reply, parse_spaced_reply}
 use Rattle.script_spec.proofs.PlainText.{is_word, lacks-word, hex_number_word, decimal_word, area_word, target_word, denial_word}
 use Rattle.script_spec.proofs.PlainLines.{value_word}
 use Rattle.script_spec.proofs.Digits.{lacks}
@@ -11,7 +11,7 @@ use Rattle.script_spec.proofs.CardTexts.{spaced, line_spaced}
 use Rattle.script_spec.proofs.Splits.{Lack, split_exact}
 use Rattle.script_spec.proofs.NumberTexts.{decimal_read}
 use Rattle.script_spec.proofs.NumberBack.{decimal_back}
-use Rattle.script_spec.specs.Replies.{part_of, look_of}
+use Rattle.script_spec.specs.Replies.{parse_part, parse_look_reply}
 use Rattle.script_spec.proofs.TargetBack.{hex_read, denial_back, area_back, target_back}
 
 -- ---- the words of a reply
@@ -73,38 +73,38 @@ reply_fields bytes reply =
 -- ---- from its words
 
 value_back : (writes : Bool) (bytes : ℕ) (value : Option ℕ) → IsReplyValue writes bytes value
-    → value_of writes bytes (value_text bytes value) ≡ Some value
+    → parse_value writes bytes (value_text bytes value) ≡ Some value
 value_back true bytes value fits = rw fits refl
 value_back false bytes None fits = absurd fits
 value_back false bytes (Some n) fits = ap (option_map Some) (hex_read bytes n fits)
 
 bus_said : (writes : Bool) (bytes : ℕ) (v t d : List ℕ) (value : Option ℕ) (target : Target) (denial : Option Denial)
-    → value_of writes bytes v ≡ Some value → target_of t ≡ Some target → denial_of d ≡ Some denial
-    → bus_of writes bytes (v ∷ t ∷ d ∷ []) ≡ Some (Bus value target denial)
-unfolding bus_of
+    → parse_value writes bytes v ≡ Some value → parse_target t ≡ Some target → parse_denial d ≡ Some denial
+    → parse_bus_reply writes bytes (v ∷ t ∷ d ∷ []) ≡ Some (Bus value target denial)
+unfolding parse_bus_reply
 bus_said writes bytes v t d value target denial one two three = rw (one, two, three) refl
 
 bus_back : (writes : Bool) (bytes : ℕ) (reply : Reply) → IsBusReply writes bytes reply
-    → bus_of writes bytes (words_in bytes reply) ≡ Some reply
+    → parse_bus_reply writes bytes (words_in bytes reply) ≡ Some reply
 bus_back writes bytes (Bus value target denial) fits =
     bus_said writes bytes (value_text bytes value) (target_text target) (denial_text denial) value target denial
     (value_back writes bytes value fits.0) (target_back target fits.1) (denial_back denial fits.2)
 bus_back writes bytes (InParts parts value) fits = absurd fits
 bus_back writes bytes (Saw look) fits = absurd fits
 
-part_said : (t d : List ℕ) (target : Target) (denial : Option Denial) → target_of t ≡ Some target
-    → denial_of d ≡ Some denial
-    → part_of t d ≡ Some (record { target = target; denial = denial })
-unfolding part_of
+part_said : (t d : List ℕ) (target : Target) (denial : Option Denial) → parse_target t ≡ Some target
+    → parse_denial d ≡ Some denial
+    → parse_part t d ≡ Some (record { target = target; denial = denial })
+unfolding parse_part
 part_said t d target denial one two = rw (one, two) refl
 
-part_back : (part : Part) → FitsPart part → part_of (target_text part.target) (denial_text part.denial) ≡ Some part
+part_back : (part : Part) → FitsPart part → parse_part (target_text part.target) (denial_text part.denial) ≡ Some part
 part_back part fits =
     part_said (target_text part.target) (denial_text part.denial) part.target part.denial
     (target_back part.target fits.0) (denial_back part.denial fits.1)
 
-parts_back : (parts : Parts) → All FitsPart (parts_list parts) → parts_in (words_of (parts_list parts)) ≡ Some parts
-unfolding parts_in more_parts last_parts
+parts_back : (parts : Parts) → All FitsPart (parts_list parts) → parse_parts (words_of (parts_list parts)) ≡ Some parts
+unfolding parse_parts parse_more_parts parse_last_parts
 parts_back (Two a b) fits =
     let later = All-tail FitsPart a (b ∷ []) fits in
     rw (part_back a (All-head FitsPart a (b ∷ []) fits), part_back b (All-head FitsPart b [] later)) refl
@@ -140,16 +140,16 @@ counted access (suc most) addr left = elim (cases_Bool (eqb left 0)) [
 ]
 
 wide_said : (access : WideAccess) (v : List ℕ) (words : List (List ℕ)) (value : Option ℕ) (parts : Parts)
-    → value_of (is_write access.kind) access.bytes v ≡ Some value → parts_in words ≡ Some parts
+    → parse_value (is_write access.kind) access.bytes v ≡ Some value → parse_parts words ≡ Some parts
     → length (parts_list parts) ≡ part_count 4 access.addr access.bytes
-    → wide_of access (v ∷ words) ≡ Some (InParts parts value)
-unfolding wide_of
+    → parse_wide_reply access (v ∷ words) ≡ Some (InParts parts value)
+unfolding parse_wide_reply
 wide_said access v words value parts one two three =
     rw (one, two, eq-eqb (length (parts_list parts)) (part_count 4 access.addr access.bytes) three) refl
 
 wide_back : (access : WideAccess) (reply : Reply) → IsWideReply (is_write access.kind) access.bytes
     (length (parts_of access)) reply
-    → wide_of access (words_in access.bytes reply) ≡ Some reply
+    → parse_wide_reply access (words_in access.bytes reply) ≡ Some reply
 wide_back access (Bus value target denial) fits = absurd fits
 wide_back access (InParts parts value) fits =
     wide_said access (value_text access.bytes value) (words_of (parts_list parts)) value parts
@@ -157,12 +157,12 @@ wide_back access (InParts parts value) fits =
     (fits.2 ∙ counted access 4 access.addr access.bytes)
 wide_back access (Saw look) fits = absurd fits
 
-look_said : (v l h a : List ℕ) (look : Look) → decimal_of v ≡ Some look.version → hex_of 8 l ≡ Some look.lo
-    → hex_of 8 h ≡ Some look.hi → area_of a ≡ Some look.area → look_of (v ∷ l ∷ h ∷ a ∷ []) ≡ Some (Saw look)
-unfolding look_of
+look_said : (v l h a : List ℕ) (look : Look) → parse_decimal v ≡ Some look.version → parse_hex 8 l ≡ Some look.lo
+    → parse_hex 8 h ≡ Some look.hi → parse_area a ≡ Some look.area → parse_look_reply (v ∷ l ∷ h ∷ a ∷ []) ≡ Some (Saw look)
+unfolding parse_look_reply
 look_said v l h a look one two three four = rw (one, two, three, four) refl
 
-look_back : (bytes : ℕ) (reply : Reply) → IsLookReply reply → look_of (words_in bytes reply) ≡ Some reply
+look_back : (bytes : ℕ) (reply : Reply) → IsLookReply reply → parse_look_reply (words_in bytes reply) ≡ Some reply
 look_back bytes (Bus value target denial) fits = absurd fits
 look_back bytes (InParts parts value) fits = absurd fits
 look_back bytes (Saw look) fits =
@@ -171,9 +171,9 @@ look_back bytes (Saw look) fits =
     (hex_read 4 look.hi (omega (arith, fits.2)))
     (area_back look.area fits.3)
 
-reply_back : (event : Event) (reply : Reply) → HasShape event reply → reply_of event
+reply_back : (event : Event) (reply : Reply) → HasShape event reply → parse_reply event
     (words_in (value_bytes event) reply) ≡ Some reply
-unfolding reply_of
+unfolding parse_reply
 reply_back (Memory access) reply shape = bus_back (is_write access.kind) (bytes_of access.width) reply shape
 reply_back (Wide access) reply shape = wide_back access reply shape
 reply_back (Port access) reply shape = bus_back access.write (bytes_of access.width) reply shape
@@ -186,10 +186,10 @@ reply_back (Line irq on) reply shape = ap Some (sym shape)
 reply_back (BadSector sector) reply shape = ap Some (sym shape)
 
 pub reply_read : (event : Event) (reply : Reply) → HasShape event reply
-    → reply_in event (fields_of (space ∷ reply_text (value_bytes event) reply)) ≡ Some reply
-unfolding reply_in
+    → parse_spaced_reply event (fields_of (space ∷ reply_text (value_bytes event) reply)) ≡ Some reply
+unfolding parse_spaced_reply
 reply_read event reply shape =
-    ap (reply_in event) (reply_fields (value_bytes event) reply) ∙ reply_back event reply shape
+    ap (parse_spaced_reply event) (reply_fields (value_bytes event) reply) ∙ reply_back event reply shape
 
 -- ---- the shape of what was read
 
@@ -224,6 +224,6 @@ writes_is Read false same = refl
 writes_is Write true same = refl
 writes_is Write false same = absurd (true≢false (sym (same.1 refl)))
 
-pub decimal_below : (field : List ℕ) (found : Option ℕ) → found ≡ decimal_of field → IfSome found IsDecimal
+pub decimal_below : (field : List ℕ) (found : Option ℕ) → found ≡ parse_decimal field → IfSome found IsDecimal
 decimal_below field None is = tt
 decimal_below field (Some n) is = (decimal_read field n (sym is)).1

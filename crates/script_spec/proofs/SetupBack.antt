@@ -1,7 +1,7 @@
 -- Each line of a form that asks nothing is read again from its fields.
 use Rattle.std.proofs.Common.{◌≡◌, ℕ, Bool, true, false, Option, Some, None, List, [], ◌∷◌, ◌++◌, length, flat_map, map, leb, ◌&&◌, refl, sym, ap, ◌∙◌, append_assoc, append-nil, arith, codes, decimal}
 use Rattle.board_prelude.proofs.Common.{join_with_byte, list_all, option_map, and_parts, and_from, le-leb, Base, MemoryBase, IoBase, FittedCard, space}
-use Rattle.script_spec.specs.Common.{Item, SetCpus, SetMemory, SetRom, SetDisk, FitCard, BeginPhase, IsDecimal, IsName, IsCardForm, base_text, rom_text, item_text, is_name_start, is_name_byte, number_in, card_of, fields_of, is_name, name_in, phase_of, item_with, item_of}
+use Rattle.script_spec.specs.Common.{Item, SetCpus, SetMemory, SetRom, SetDisk, FitCard, BeginPhase, IsDecimal, IsName, IsCardForm, base_text, rom_text, item_text, is_name_start, is_name_byte, parse_number, parse_card, fields_of, is_name, parse_name, parse_phase, parse_by_key, parse_item}
 use Rattle.script_spec.proofs.Digits.{lacks}
 use Rattle.script_spec.proofs.Splits.{Lack, split_exact}
 use Rattle.script_spec.proofs.NumberBack.{decimal_back}
@@ -11,36 +11,36 @@ use Rattle.script_spec.proofs.FieldTexts.{lacks_decimal, lacks_name}
 
 -- a line is read as this item
 abbrev pub IsLineBack : (version : ℕ) → (line : List ℕ) → Item → Type 0
-IsLineBack version line item = item_of version (fields_of line) ≡ Some item
+IsLineBack version line item = parse_item version (fields_of line) ≡ Some item
 
 -- a line that is these fields joined
 pub exact_back : (version : ℕ) (line key : List ℕ) (words : List (List ℕ)) (item : Item) → line ≡ join_with_byte space (key ∷ words)
-    → Lack (key ∷ words) → item_of version (key ∷ words) ≡ Some item → IsLineBack version line item
+    → Lack (key ∷ words) → parse_item version (key ∷ words) ≡ Some item → IsLineBack version line item
 exact_back version line key words item is lack read =
-    ap (item_of version) (ap fields_of is ∙ split_exact key words lack) ∙ read
+    ap (parse_item version) (ap fields_of is ∙ split_exact key words lack) ∙ read
 
 -- ---- numbers
 
-number_back : (n : ℕ) → IsDecimal n → number_in (decimal n ∷ []) ≡ Some n
-unfolding number_in
+number_back : (n : ℕ) → IsDecimal n → parse_number (decimal n ∷ []) ≡ Some n
+unfolding parse_number
 number_back n small = decimal_back n small
 
 pub cpus_back : (version count : ℕ) (line : List ℕ) → IsDecimal count → line ≡ item_text (SetCpus count)
     → IsLineBack version line (SetCpus count)
-unfolding item_text item_of item_with
+unfolding item_text parse_item parse_by_key
 cpus_back version count line small is =
     exact_back version line (codes "cpus") (decimal count ∷ []) (SetCpus count) is (refl, (lacks_decimal count, tt))
     (ap (option_map SetCpus) (number_back count small))
 
 pub memory_back : (version mib : ℕ) (line : List ℕ) → IsDecimal mib → line ≡ item_text (SetMemory mib)
     → IsLineBack version line (SetMemory mib)
-unfolding item_text item_of item_with
+unfolding item_text parse_item parse_by_key
 memory_back version mib line small is =
     exact_back version line (codes "memory") (decimal mib ∷ []) (SetMemory mib) is (refl, (lacks_decimal mib, tt))
     (ap (option_map SetMemory) (number_back mib small))
 
 pub phase_back : (version : ℕ) (line : List ℕ) → line ≡ item_text BeginPhase → IsLineBack version line BeginPhase
-unfolding item_text item_of item_with phase_of
+unfolding item_text parse_item parse_by_key parse_phase
 phase_back version line is = exact_back version line (codes "phase") [] BeginPhase is (refl, tt) refl
 
 -- ---- names
@@ -53,18 +53,18 @@ is_so (first ∷ rest) form =
     and_from (leb (length (first ∷ rest)) 64 && is_name_start first) (list_all is_name_byte (first ∷ rest))
     (and_from (leb (length (first ∷ rest)) 64) (is_name_start first) (le-leb (length (first ∷ rest)) 64 form.few) start.0) form.each
 
-name_back : (name : List ℕ) → IsName name → name_in (name ∷ []) ≡ Some name
-unfolding name_in
+name_back : (name : List ℕ) → IsName name → parse_name (name ∷ []) ≡ Some name
+unfolding parse_name
 name_back name form = rw (is_so name form) refl
 
 pub rom_back : (version : ℕ) (name line : List ℕ) → IsName name → line ≡ item_text (SetRom name) → IsLineBack version line (SetRom name)
-unfolding item_text item_of item_with
+unfolding item_text parse_item parse_by_key
 rom_back version name line form is =
     exact_back version line (codes "rom") (name ∷ []) (SetRom name) is (refl, (lacks_name name form.each, tt))
     (ap (option_map SetRom) (name_back name form))
 
 pub disk_back : (version : ℕ) (name line : List ℕ) → IsName name → line ≡ item_text (SetDisk name) → IsLineBack version line (SetDisk name)
-unfolding item_text item_of item_with
+unfolding item_text parse_item parse_by_key
 disk_back version name line form is =
     exact_back version line (codes "disk") (name ∷ []) (SetDisk name) is (refl, (lacks_name name form.each, tt))
     (ap (option_map SetDisk) (name_back name form))
@@ -102,9 +102,9 @@ lacks_tail (base ∷ bases) rom = (lacks_base base, lacks_tail bases rom)
 
 fitted_back : (version dev : ℕ) (vga : Bool) (bases : List Base) (rom : Option ℕ)
     → IsCardForm version (record { dev = dev; vga = vga; bases = bases; rom = rom })
-    → card_of version (decimal dev ∷ kind_word vga ∷ tail_words bases rom)
+    → parse_card version (decimal dev ∷ kind_word vga ∷ tail_words bases rom)
     ≡ Some (record { dev = dev; vga = vga; bases = bases; rom = rom })
-unfolding card_of
+unfolding parse_card
 fitted_back version dev true bases rom form =
     rw (decimal_back dev form.dev, tail_back version [] bases rom (omega (arith, form.count)) form.each form.rom) refl
 fitted_back version dev false bases rom form =
@@ -112,7 +112,7 @@ fitted_back version dev false bases rom form =
 
 pub card_back : (version : ℕ) (card : FittedCard) (line : List ℕ) → IsCardForm version card → line ≡ item_text (FitCard card)
     → IsLineBack version line (FitCard card)
-unfolding item_text item_of item_with
+unfolding item_text parse_item parse_by_key
 card_back version card line form is =
     let words : List (List ℕ) = tail_words card.bases card.rom in
     let joined : join_with_byte space (decimal card.dev ∷ kind_word card.vga ∷ words)

@@ -5,45 +5,45 @@ use Rattle.std.proofs.lemmas.Fmt.{decimal_digit}
 use Rattle.board_base.specs.declared.target.Dev.TheVariants as devices
 use Rattle.board_base.specs.declared.target.Area.TheVariants as areas
 use Rattle.board_base.specs.declared.target.Target.TheVariants as targets
-use Rattle.script_spec.specs.Common.{FitsReg, FitsArea, FitsDevice, FitsTarget, FitsDenial, digit_of, number_after, hex_of, cut, digit_in, register_of, denial_with, denial_of, placed_area, area_of, placed_target, device_of, target_of}
+use Rattle.script_spec.specs.Common.{FitsReg, FitsArea, FitsDevice, FitsTarget, FitsDenial, parse_digit, number_after, parse_hex, cut, parse_one_digit, parse_register, denial_with, parse_denial, parse_placed_area, parse_area, parse_placed_target, parse_device, parse_target}
 use Rattle.script_spec.proofs.Digits.{lacks}
 use Rattle.script_spec.proofs.Fields.{lacks-append, lacks-decimal}
 use Rattle.script_spec.proofs.Joins.{same}
 use Rattle.script_spec.proofs.NumberTexts.{digit_again}
 use Rattle.script_spec.proofs.NumberBack.{digit_so, hex_digit_read, hex_after, hex_back}
-use Rattle.script_spec.specs.Targets.{base_of, card_of}
+use Rattle.script_spec.specs.Targets.{parse_card_base, parse_card_target}
 use Rattle.script_spec.proofs.CutLemmas.{cut_field}
 
 -- ---- numbers
 
-pub hex_read : (bytes n : ℕ) → n < 256 ^ bytes → hex_of (2 * bytes) (hex_number bytes n) ≡ Some n
+pub hex_read : (bytes n : ℕ) → n < 256 ^ bytes → parse_hex (2 * bytes) (hex_number bytes n) ≡ Some n
 hex_read bytes n small = hex_back bytes n (hex_number bytes n) small (same (hex_number bytes n))
 
-hex_digit_back : (n : ℕ) → digit_of 16 (hex_digit n) ≡ Some (n % 16)
+hex_digit_back : (n : ℕ) → parse_digit 16 (hex_digit n) ≡ Some (n % 16)
 hex_digit_back n =
-    ap (digit_of 16) (digit_again n (n % 16) refl)
+    ap (parse_digit 16) (digit_again n (n % 16) refl)
     ∙ hex_digit_read (hex_digit (n % 16)) (n % 16) (omega arith) (inl refl)
 
-byte_back : (n : ℕ) → n < 0x100 → hex_of 2 (hex_byte n) ≡ Some n
+byte_back : (n : ℕ) → n < 0x100 → parse_hex 2 (hex_byte n) ≡ Some n
 byte_back n small =
     let e : byte n 0 ≡ n = omega (arith, small) in
-    ap (λ (b : ℕ). hex_of 2 (hex_byte b)) (sym e) ∙ hex_read 1 n (omega (arith, small))
+    ap (λ (b : ℕ). parse_hex 2 (hex_byte b)) (sym e) ∙ hex_read 1 n (omega (arith, small))
 
-nibble_back : (n : ℕ) → n < 16 → hex_of 1 (hex_digit n ∷ []) ≡ Some n
+nibble_back : (n : ℕ) → n < 16 → parse_hex 1 (hex_digit n ∷ []) ≡ Some n
 unfolding number_after
 nibble_back n small =
     let e : 0 * 16 + n % 16 ≡ n = omega (arith, small) in
     rw (hex_digit_back n) (ap (λ (x : ℕ). Some x) e)
 
-offset_back : (n : ℕ) → n < 0x10_0000 → hex_of 5 (hex_offset n) ≡ Some n
+offset_back : (n : ℕ) → n < 0x10_0000 → parse_hex 5 (hex_offset n) ≡ Some n
 unfolding number_after
 offset_back n small =
     let d : ℕ = byte n 2 in
     let e : 0 * 16 + d % 16 ≡ n / 256 ^ 2 = omega (arith, small) in
     rw (hex_digit_back d) (hex_after 2 (0 * 16 + d % 16) n (hex_number 2 n) e (same (hex_number 2 n)))
 
-digit_back : (n : ℕ) → n < 10 → digit_in (decimal n) ≡ Some n
-unfolding digit_in
+digit_back : (n : ℕ) → n < 10 → parse_one_digit (decimal n) ≡ Some n
+unfolding parse_one_digit
 digit_back n small =
     rw (decimal_digit n small) (digit_so (48 + n) n (omega arith) (omega (arith, small)) (omega arith) small)
 
@@ -67,12 +67,12 @@ byte_lacks mark n outside = rw (digit_not (n / 0x10) mark outside, digit_not n m
 
 register_said :
     (field dev fun off rest : List ℕ) (d f o : ℕ) → cut 0x2E field ≡ Some (dev, rest) → cut 0x2E rest ≡ Some (fun, off)
-    → hex_of 2 dev ≡ Some d → hex_of 1 fun ≡ Some f → hex_of 2 off ≡ Some o
-    → register_of field ≡ Some (record { dev = d; fun = f; off = o })
-unfolding register_of
+    → parse_hex 2 dev ≡ Some d → parse_hex 1 fun ≡ Some f → parse_hex 2 off ≡ Some o
+    → parse_register field ≡ Some (record { dev = d; fun = f; off = o })
+unfolding parse_register
 register_said field dev fun off rest d f o one two three four five = rw (one, two, three, four, five) refl
 
-register_back : (reg : Reg) → FitsReg reg → register_of (register_text reg) ≡ Some reg
+register_back : (reg : Reg) → FitsReg reg → parse_register (register_text reg) ≡ Some reg
 register_back reg fits =
     let rest : List ℕ = hex_digit reg.fun ∷ 0x2E ∷ hex_byte reg.off in
     register_said (register_text reg) (hex_byte reg.dev) (hex_digit reg.fun ∷ []) (hex_byte reg.off) rest reg.dev
@@ -81,8 +81,8 @@ register_back reg fits =
     (cut_field 0x2E (hex_digit reg.fun ∷ []) (hex_byte reg.off) (hex_lacks 0x2E reg.fun (inl (omega arith))))
     (byte_back reg.dev fits.0) (nibble_back reg.fun fits.1) (byte_back reg.off fits.2)
 
-pub denial_back : (denial : Option Denial) → FitsDenial denial → denial_of (denial_text denial) ≡ Some denial
-unfolding denial_of register_of cut
+pub denial_back : (denial : Option Denial) → FitsDenial denial → parse_denial (denial_text denial) ≡ Some denial
+unfolding parse_denial parse_register cut
 denial_back None fits = refl
 denial_back (Some (Register reg)) fits = ap (λ (r : Option Reg). denial_with r (register_text reg))
     (register_back reg fits)
@@ -91,25 +91,25 @@ denial_back (Some NoRegister) fits = refl
 
 -- ---- areas
 
-base_said : (field dev base : List ℕ) (d b : ℕ) → cut 0x2E field ≡ Some (dev, base) → digit_in dev ≡ Some d
-    → digit_in base ≡ Some b
-    → base_of field ≡ Some (d, b)
-unfolding base_of
+base_said : (field dev base : List ℕ) (d b : ℕ) → cut 0x2E field ≡ Some (dev, base) → parse_one_digit dev ≡ Some d
+    → parse_one_digit base ≡ Some b
+    → parse_card_base field ≡ Some (d, b)
+unfolding parse_card_base
 base_said field dev base d b one two three = rw (one, two, three) refl
 
-base_back : (dev base : ℕ) → dev < 10 → base < 10 → base_of (decimal dev ++ 0x2E ∷ decimal base) ≡ Some (dev, base)
+base_back : (dev base : ℕ) → dev < 10 → base < 10 → parse_card_base (decimal dev ++ 0x2E ∷ decimal base) ≡ Some (dev, base)
 base_back dev base one two =
     base_said (decimal dev ++ 0x2E ∷ decimal base) (decimal dev) (decimal base) dev base
     (cut_field 0x2E (decimal dev) (decimal base) (lacks-decimal 0x2E dev (inl (omega arith)) (omega (arith, one))))
     (digit_back dev one) (digit_back base two)
 
-base_parts : (dev base : ℕ) → dev < 10 → base < 10 → base_of (decimal dev ++ codes "." ++ decimal base) ≡ Some
+base_parts : (dev base : ℕ) → dev < 10 → base < 10 → parse_card_base (decimal dev ++ codes "." ++ decimal base) ≡ Some
     (dev, base)
-base_parts dev base one two = ap base_of (append_assoc (decimal dev) (codes ".") (decimal base))
+base_parts dev base one two = ap parse_card_base (append_assoc (decimal dev) (codes ".") (decimal base))
     ∙ base_back dev base one two
 
-pub area_back : (area : Area) → FitsArea area → area_of (area_text area) ≡ Some area
-unfolding area_of placed_area cut
+pub area_back : (area : Area) → FitsArea area → parse_area (area_text area) ≡ Some area
+unfolding parse_area parse_placed_area cut
 area_back (areas.Dram row) fits = ap (option_map areas.Dram) (digit_back row fits)
 area_back (areas.Shadow row) fits = ap (option_map areas.Shadow) (digit_back row fits)
 area_back areas.Smram fits = refl
@@ -120,13 +120,13 @@ area_back areas.Abort fits = refl
 -- ---- targets
 
 card_said : (field place off : List ℕ) (dev base n : ℕ) → cut 0x3A field ≡ Some (place, off)
-    → base_of place ≡ Some (dev, base)
-    → hex_of 8 off ≡ Some n → card_of field ≡ Some (targets.Card dev base n)
-unfolding card_of
+    → parse_card_base place ≡ Some (dev, base)
+    → parse_hex 8 off ≡ Some n → parse_card_target field ≡ Some (targets.Card dev base n)
+unfolding parse_card_target
 card_said field place off dev base n one two three = rw (one, two, three) refl
 
 card_back : (dev base off : ℕ) → dev < 10 → base < 10 → off < 2 ^ 32
-    → card_of (decimal dev ++ codes "." ++ decimal base ++ codes ":" ++ hex_long off) ≡ Some (targets.Card dev base off)
+    → parse_card_target (decimal dev ++ codes "." ++ decimal base ++ codes ":" ++ hex_long off) ≡ Some (targets.Card dev base off)
 card_back dev base off one two three =
     let place : List ℕ = decimal dev ++ codes "." ++ decimal base in
     let parts : place ++ codes ":" ++ hex_long off ≡ place ++ 0x3A ∷ hex_long off = append_assoc place (codes ":")
@@ -136,13 +136,13 @@ card_back dev base off one two three =
     let lack : lacks 0x3A place ≡ true =
     lacks-append 0x3A (decimal dev ++ codes ".") (decimal base)
     (lacks-append 0x3A (decimal dev) (codes ".") first refl) second in
-    ap card_of parts
+    ap parse_card_target parts
     ∙ card_said (place ++ 0x3A ∷ hex_long off) place (hex_long off) dev base off
     (cut_field 0x3A place (hex_long off) lack)
     (base_parts dev base one two) (hex_read 4 off (omega (arith, three)))
 
-device_back : (dev : Dev) → FitsDevice dev → target_of (device_text dev) ≡ Some (targets.Device dev)
-unfolding target_of device_of digits
+device_back : (dev : Dev) → FitsDevice dev → parse_target (device_text dev) ≡ Some (targets.Device dev)
+unfolding parse_target parse_device digits
 device_back devices.Confadd fits = refl
 device_back devices.Reset fits = refl
 device_back devices.Pic0 fits = refl
@@ -161,8 +161,8 @@ device_back (devices.Spurious zero) fits = refl
 device_back (devices.Spurious (suc zero)) fits = refl
 device_back (devices.Spurious (suc (suc chip))) fits = absurd (omega (arith, fits))
 
-pub target_back : (target : Target) → FitsTarget target → target_of (target_text target) ≡ Some target
-unfolding target_of device_of placed_target cut
+pub target_back : (target : Target) → FitsTarget target → parse_target (target_text target) ≡ Some target
+unfolding parse_target parse_device parse_placed_target cut
 target_back (targets.Dram row) fits = ap (option_map targets.Dram) (digit_back row fits)
 target_back (targets.Shadow row) fits = ap (option_map targets.Shadow) (digit_back row fits)
 target_back targets.Smram fits = refl

@@ -3,38 +3,38 @@ use Rattle.std.specs.Prelude.{ℕ, ◌*◌, ◌%◌, ◌≡◌, ◌⊎◌, ◌==
 use Rattle.board_prelude.specs.Common.{option_and_then, Width, One, bytes_of, Kind, Fetch, Read, Write, Event, Memory, Wide, Port, Ack, Pulses, BadSector}
 use Rattle.board_base.specs.declared.access.Width.TheVariants.{Two, Four}
 use Rattle.board_spec.specs.declared.event.Event.TheVariants.{Look as LookAt}
-use Rattle.script_spec.specs.Numbers.{hex_of, decimal_of, ◌>>=◌}
+use Rattle.script_spec.specs.Numbers.{parse_hex, parse_decimal, ◌>>=◌}
 
 -- ---- fields
 
-abbrev pub width_of : List ℕ → Option Width
-width_of field =
+abbrev pub parse_width : List ℕ → Option Width
+parse_width field =
     if bytes_eq field (codes "b") then Some One else
     if bytes_eq field (codes "w") then Some Two else
     if bytes_eq field (codes "d") then Some Four else None
 
-abbrev pub quad_of : (version : ℕ) → Option ℕ
-quad_of version = if version == 2 then Some 8 else None
+abbrev pub quad_size : (version : ℕ) → Option ℕ
+quad_size version = if version == 2 then Some 8 else None
 
 -- the bytes of a memory access
-abbrev pub size_of : (version : ℕ) → List ℕ → Option ℕ
-size_of version field =
+abbrev pub parse_size : (version : ℕ) → List ℕ → Option ℕ
+parse_size version field =
     if bytes_eq field (codes "b") then Some 1 else
     if bytes_eq field (codes "w") then Some 2 else
     if bytes_eq field (codes "d") then Some 4 else
-    if bytes_eq field (codes "q") then quad_of version else None
+    if bytes_eq field (codes "q") then quad_size version else None
 
-abbrev pub kind_of : List ℕ → Option Kind
-kind_of field =
+abbrev pub parse_kind : List ℕ → Option Kind
+parse_kind field =
     if bytes_eq field (codes "f") then Some Fetch else
     if bytes_eq field (codes "r") then Some Read else
     if bytes_eq field (codes "w") then Some Write else None
 
 -- the last field of an access in SMM
-unfoldable pub smm_of : List (List ℕ) → Option Bool
-smm_of [] = Some false
-smm_of (field ∷ []) = if bytes_eq field (codes "smm") then Some true else None
-smm_of (_ ∷ _ ∷ _) = None
+unfoldable pub parse_smm : List (List ℕ) → Option Bool
+parse_smm [] = Some false
+parse_smm (field ∷ []) = if bytes_eq field (codes "smm") then Some true else None
+parse_smm (_ ∷ _ ∷ _) = None
 
 -- ---- memory
 
@@ -56,88 +56,88 @@ memory_event version kind bytes addr value smm =
     else Memory (record { kind = kind; addr = addr; width = width_with bytes; smm = smm; value = value })
 
 -- `W ADDR`, after `r` or `f`
-unfoldable pub read_of : (version : ℕ) → Kind → List (List ℕ) → Option Event
-read_of version kind [] = None
-read_of version kind (_ ∷ []) = None
-read_of version kind (size ∷ addr ∷ flags) = do
-  bytes ← size_of version size
-  addr ← hex_of 8 addr
-  smm ← smm_of flags
+unfoldable pub parse_read : (version : ℕ) → Kind → List (List ℕ) → Option Event
+parse_read version kind [] = None
+parse_read version kind (_ ∷ []) = None
+parse_read version kind (size ∷ addr ∷ flags) = do
+  bytes ← parse_size version size
+  addr ← parse_hex 8 addr
+  smm ← parse_smm flags
   Some (memory_event version kind bytes addr 0 smm)
 
 -- `W ADDR VALUE`, after `w`
-unfoldable pub write_of : (version : ℕ) → List (List ℕ) → Option Event
-write_of version [] = None
-write_of version (_ ∷ []) = None
-write_of version (_ ∷ _ ∷ []) = None
-write_of version (size ∷ addr ∷ value ∷ flags) = do
-  bytes ← size_of version size
-  addr ← hex_of 8 addr
-  value ← hex_of (2 * bytes) value
-  smm ← smm_of flags
+unfoldable pub parse_write : (version : ℕ) → List (List ℕ) → Option Event
+parse_write version [] = None
+parse_write version (_ ∷ []) = None
+parse_write version (_ ∷ _ ∷ []) = None
+parse_write version (size ∷ addr ∷ value ∷ flags) = do
+  bytes ← parse_size version size
+  addr ← parse_hex 8 addr
+  value ← parse_hex (2 * bytes) value
+  smm ← parse_smm flags
   Some (memory_event version Write bytes addr value smm)
 
 -- ---- ports
 
 -- `W PORT`, after `in`
-unfoldable pub in_of : List (List ℕ) → Option Event
-in_of [] = None
-in_of (_ ∷ []) = None
-in_of (width ∷ port ∷ []) = do
-  width ← width_of width
-  port ← hex_of 4 port
+unfoldable pub parse_in : List (List ℕ) → Option Event
+parse_in [] = None
+parse_in (_ ∷ []) = None
+parse_in (width ∷ port ∷ []) = do
+  width ← parse_width width
+  port ← parse_hex 4 port
   Some (Port (record { write = false; port = port; width = width; value = 0 }))
-in_of (_ ∷ _ ∷ _ ∷ _) = None
+parse_in (_ ∷ _ ∷ _ ∷ _) = None
 
 -- `W PORT VALUE`, after `out`
-unfoldable pub out_of : List (List ℕ) → Option Event
-out_of [] = None
-out_of (_ ∷ []) = None
-out_of (_ ∷ _ ∷ []) = None
-out_of (width ∷ port ∷ value ∷ []) = do
-  width ← width_of width
-  port ← hex_of 4 port
-  value ← hex_of (2 * bytes_of width) value
+unfoldable pub parse_out : List (List ℕ) → Option Event
+parse_out [] = None
+parse_out (_ ∷ []) = None
+parse_out (_ ∷ _ ∷ []) = None
+parse_out (width ∷ port ∷ value ∷ []) = do
+  width ← parse_width width
+  port ← parse_hex 4 port
+  value ← parse_hex (2 * bytes_of width) value
   Some (Port (record { write = true; port = port; width = width; value = value }))
-out_of (_ ∷ _ ∷ _ ∷ _ ∷ _) = None
+parse_out (_ ∷ _ ∷ _ ∷ _ ∷ _) = None
 
 -- ---- others
 
 -- `K ADDR`, after `look`
-unfoldable pub look_of : List (List ℕ) → Option Event
-look_of [] = None
-look_of (_ ∷ []) = None
-look_of (kind ∷ addr ∷ flags) = do
-  kind ← kind_of kind
-  addr ← hex_of 8 addr
-  smm ← smm_of flags
+unfoldable pub parse_look : List (List ℕ) → Option Event
+parse_look [] = None
+parse_look (_ ∷ []) = None
+parse_look (kind ∷ addr ∷ flags) = do
+  kind ← parse_kind kind
+  addr ← parse_hex 8 addr
+  smm ← parse_smm flags
   Some (LookAt kind addr smm)
 
-unfoldable pub ack_of : List (List ℕ) → Option Event
-ack_of [] = Some Ack
-ack_of (_ ∷ _) = None
+unfoldable pub parse_ack : List (List ℕ) → Option Event
+parse_ack [] = Some Ack
+parse_ack (_ ∷ _) = None
 
 -- the number that is the only field
-unfoldable pub number_in : List (List ℕ) → Option ℕ
-number_in [] = None
-number_in (field ∷ []) = decimal_of field
-number_in (_ ∷ _ ∷ _) = None
+unfoldable pub parse_number : List (List ℕ) → Option ℕ
+parse_number [] = None
+parse_number (field ∷ []) = parse_decimal field
+parse_number (_ ∷ _ ∷ _) = None
 
-abbrev pub pulses_of : List (List ℕ) → Option Event
-pulses_of words = option_and_then (λ count. Some (Pulses count)) (number_in words)
+abbrev pub parse_pulses : List (List ℕ) → Option Event
+parse_pulses words = option_and_then (λ count. Some (Pulses count)) (parse_number words)
 
-abbrev pub sector_of : List (List ℕ) → Option Event
-sector_of words = option_and_then (λ sector. Some (BadSector sector)) (number_in words)
+abbrev pub parse_bad_sector : List (List ℕ) → Option Event
+parse_bad_sector words = option_and_then (λ sector. Some (BadSector sector)) (parse_number words)
 
 -- the verb says what is asked
-unfoldable pub event_of : (version : ℕ) → (verb : List ℕ) → (words : List (List ℕ)) → Option Event
-event_of version verb words =
-    if bytes_eq verb (codes "r") then read_of version Read words else
-    if bytes_eq verb (codes "f") then read_of version Fetch words else
-    if bytes_eq verb (codes "w") then write_of version words else
-    if bytes_eq verb (codes "in") then in_of words else
-    if bytes_eq verb (codes "out") then out_of words else
-    if bytes_eq verb (codes "look") then look_of words else
-    if bytes_eq verb (codes "ack") then ack_of words else
-    if bytes_eq verb (codes "pulse") then pulses_of words else
-    if bytes_eq verb (codes "bad") then sector_of words else None
+unfoldable pub parse_event : (version : ℕ) → (verb : List ℕ) → (words : List (List ℕ)) → Option Event
+parse_event version verb words =
+    if bytes_eq verb (codes "r") then parse_read version Read words else
+    if bytes_eq verb (codes "f") then parse_read version Fetch words else
+    if bytes_eq verb (codes "w") then parse_write version words else
+    if bytes_eq verb (codes "in") then parse_in words else
+    if bytes_eq verb (codes "out") then parse_out words else
+    if bytes_eq verb (codes "look") then parse_look words else
+    if bytes_eq verb (codes "ack") then parse_ack words else
+    if bytes_eq verb (codes "pulse") then parse_pulses words else
+    if bytes_eq verb (codes "bad") then parse_bad_sector words else None

@@ -3,10 +3,10 @@ use Rattle.std.specs.Prelude.{ℕ, ◌==◌, Bool, true, false, ◌&&◌, nat_le
 use Rattle.board_prelude.specs.Common.{list_all, Moment, Event, Time, Wire as SetWire, Line as SetLine}
 use Rattle.script_spec.specs.Grammar.{Item, SetCpus, SetMemory, SetRom, SetDisk, FitCard, BeginPhase, Ask, AskLevel, is_name_start, is_name_byte}
 use Rattle.script_spec.specs.Fields.{fields_of}
-use Rattle.script_spec.specs.Numbers.{decimal_of, ◌>>=◌}
-use Rattle.script_spec.specs.Events.{event_of, number_in}
-use Rattle.script_spec.specs.Cards.{card_of}
-use Rattle.script_spec.specs.Moments.{moment_in}
+use Rattle.script_spec.specs.Numbers.{parse_decimal, ◌>>=◌}
+use Rattle.script_spec.specs.Events.{parse_event, parse_number}
+use Rattle.script_spec.specs.Cards.{parse_card}
+use Rattle.script_spec.specs.Moments.{parse_moment}
 
 -- ---- statements
 
@@ -24,41 +24,41 @@ line_item actor irq level =
     if level == 0 then ask actor (SetLine irq false) else
     if level == 1 then ask actor (SetLine irq true) else AskLevel actor (codes "irq") irq level
 
-unfoldable pub two_numbers_in : List (List ℕ) → Option (ℕ × ℕ)
-two_numbers_in [] = None
-two_numbers_in (_ ∷ []) = None
-two_numbers_in (first ∷ second ∷ []) = do
-  first ← decimal_of first
-  second ← decimal_of second
+unfoldable pub parse_two_numbers : List (List ℕ) → Option (ℕ × ℕ)
+parse_two_numbers [] = None
+parse_two_numbers (_ ∷ []) = None
+parse_two_numbers (first ∷ second ∷ []) = do
+  first ← parse_decimal first
+  second ← parse_decimal second
   Some (first, second)
-two_numbers_in (_ ∷ _ ∷ _ ∷ _) = None
+parse_two_numbers (_ ∷ _ ∷ _ ∷ _) = None
 
-unfoldable pub only_moment : List (List ℕ) → Option Moment
-only_moment [] = None
-only_moment (field ∷ []) = moment_in field
-only_moment (_ ∷ _ ∷ _) = None
+unfoldable pub parse_only_moment : List (List ℕ) → Option Moment
+parse_only_moment [] = None
+parse_only_moment (field ∷ []) = parse_moment field
+parse_only_moment (_ ∷ _ ∷ _) = None
 
-unfoldable pub moment_asked : (actor : ℕ) → List (List ℕ) → Option Item
-moment_asked actor words = option_map (λ moment. ask actor (Time moment)) (only_moment words)
+unfoldable pub parse_time_item : (actor : ℕ) → List (List ℕ) → Option Item
+parse_time_item actor words = option_map (λ moment. ask actor (Time moment)) (parse_only_moment words)
 
-unfoldable pub wire_asked : (actor : ℕ) → List (List ℕ) → Option Item
-wire_asked actor words = option_map (λ p. wire_item actor p.0 p.1) (two_numbers_in words)
+unfoldable pub parse_wire_item : (actor : ℕ) → List (List ℕ) → Option Item
+parse_wire_item actor words = option_map (λ p. wire_item actor p.0 p.1) (parse_two_numbers words)
 
-unfoldable pub line_asked : (actor : ℕ) → List (List ℕ) → Option Item
-line_asked actor words = option_map (λ p. line_item actor p.0 p.1) (two_numbers_in words)
+unfoldable pub parse_line_item : (actor : ℕ) → List (List ℕ) → Option Item
+parse_line_item actor words = option_map (λ p. line_item actor p.0 p.1) (parse_two_numbers words)
 
-unfoldable pub event_asked : (version actor : ℕ) → (verb : List ℕ) → (words : List (List ℕ)) → Option Item
-event_asked version actor verb words = option_map (ask actor) (event_of version verb words)
+unfoldable pub parse_event_item : (version actor : ℕ) → (verb : List ℕ) → (words : List (List ℕ)) → Option Item
+parse_event_item version actor verb words = option_map (ask actor) (parse_event version verb words)
 
-unfoldable pub asked_with : (version actor : ℕ) → (verb : List ℕ) → (words : List (List ℕ)) → Option Item
-asked_with version actor verb words =
-    if bytes_eq verb (codes "moment") then moment_asked actor words else
-    if bytes_eq verb (codes "wire") then wire_asked actor words else
-    if bytes_eq verb (codes "irq") then line_asked actor words else event_asked version actor verb words
+unfoldable pub parse_by_verb : (version actor : ℕ) → (verb : List ℕ) → (words : List (List ℕ)) → Option Item
+parse_by_verb version actor verb words =
+    if bytes_eq verb (codes "moment") then parse_time_item actor words else
+    if bytes_eq verb (codes "wire") then parse_wire_item actor words else
+    if bytes_eq verb (codes "irq") then parse_line_item actor words else parse_event_item version actor verb words
 
-unfoldable pub asked_of : (version actor : ℕ) → List (List ℕ) → Option Item
-asked_of version actor [] = None
-asked_of version actor (verb ∷ words) = asked_with version actor verb words
+unfoldable pub parse_statement_words : (version actor : ℕ) → List (List ℕ) → Option Item
+parse_statement_words version actor [] = None
+parse_statement_words version actor (verb ∷ words) = parse_by_verb version actor verb words
 
 -- ---- all lines
 
@@ -68,34 +68,34 @@ is_name [] = false
 is_name (first ∷ rest) =
     nat_le (length (first ∷ rest)) 64 && is_name_start first && list_all is_name_byte (first ∷ rest)
 
-unfoldable pub name_in : List (List ℕ) → Option (List ℕ)
-name_in [] = None
-name_in (name ∷ []) = if is_name name then Some name else None
-name_in (_ ∷ _ ∷ _) = None
+unfoldable pub parse_name : List (List ℕ) → Option (List ℕ)
+parse_name [] = None
+parse_name (name ∷ []) = if is_name name then Some name else None
+parse_name (_ ∷ _ ∷ _) = None
 
-unfoldable pub phase_of : List (List ℕ) → Option Item
-phase_of [] = Some BeginPhase
-phase_of (_ ∷ _) = None
+unfoldable pub parse_phase : List (List ℕ) → Option Item
+parse_phase [] = Some BeginPhase
+parse_phase (_ ∷ _) = None
 
-unfoldable pub statement_of : (version : ℕ) → (actor : List ℕ) → List (List ℕ) → Option Item
-statement_of version actor words = do
-  actor ← decimal_of actor
-  asked_of version actor words
+unfoldable pub parse_statement : (version : ℕ) → (actor : List ℕ) → List (List ℕ) → Option Item
+parse_statement version actor words = do
+  actor ← parse_decimal actor
+  parse_statement_words version actor words
 
-unfoldable pub item_with : (version : ℕ) → (key : List ℕ) → (words : List (List ℕ)) → Option Item
-item_with version key words =
-    if bytes_eq key (codes "phase") then phase_of words else
-    if bytes_eq key (codes "cpus") then option_map SetCpus (number_in words) else
-    if bytes_eq key (codes "memory") then option_map SetMemory (number_in words) else
-    if bytes_eq key (codes "rom") then option_map SetRom (name_in words) else
-    if bytes_eq key (codes "disk") then option_map SetDisk (name_in words) else
-    if bytes_eq key (codes "card") then option_map FitCard (card_of version words) else
-    statement_of version key words
+unfoldable pub parse_by_key : (version : ℕ) → (key : List ℕ) → (words : List (List ℕ)) → Option Item
+parse_by_key version key words =
+    if bytes_eq key (codes "phase") then parse_phase words else
+    if bytes_eq key (codes "cpus") then option_map SetCpus (parse_number words) else
+    if bytes_eq key (codes "memory") then option_map SetMemory (parse_number words) else
+    if bytes_eq key (codes "rom") then option_map SetRom (parse_name words) else
+    if bytes_eq key (codes "disk") then option_map SetDisk (parse_name words) else
+    if bytes_eq key (codes "card") then option_map FitCard (parse_card version words) else
+    parse_statement version key words
 
-unfoldable pub item_of : (version : ℕ) → List (List ℕ) → Option Item
-item_of version [] = None
-item_of version (key ∷ words) = item_with version key words
+unfoldable pub parse_item : (version : ℕ) → List (List ℕ) → Option Item
+parse_item version [] = None
+parse_item version (key ∷ words) = parse_by_key version key words
 
 -- what a line says
-abbrev pub read_line : (version : ℕ) → List ℕ → Option Item
-read_line version line = item_of version (fields_of line)
+abbrev pub parse_line : (version : ℕ) → List ℕ → Option Item
+parse_line version line = parse_item version (fields_of line)

@@ -15,39 +15,39 @@ digit_value byte =
     if is_within 0x61 0x66 byte then Some (byte - 0x61 + 10) else None
 
 -- a digit of a base
-abbrev pub digit_of : ℕ → ℕ → Option ℕ
-digit_of base byte = option_and_then (λ digit. if nat_lt digit base then Some digit else None) (digit_value byte)
+abbrev pub parse_digit : ℕ → ℕ → Option ℕ
+parse_digit base byte = option_and_then (λ digit. if nat_lt digit base then Some digit else None) (digit_value byte)
 
 -- the number that digits make after those that made `high`
 unfoldable pub number_after : ℕ → ℕ → List ℕ → Option ℕ
 number_after base high [] = Some high
 number_after base high (byte ∷ rest) =
-    option_and_then (λ digit. number_after base (high * base + digit) rest) (digit_of base byte)
+    option_and_then (λ digit. number_after base (high * base + digit) rest) (parse_digit base byte)
 
 -- the number that all the digits of a field make
-abbrev pub number_of : ℕ → List ℕ → Option ℕ
-number_of base field = number_after base 0 field
+abbrev pub parse_digits : ℕ → List ℕ → Option ℕ
+parse_digits base field = number_after base 0 field
 
 -- a number of exactly so many hexadecimal digits
-abbrev pub hex_of : ℕ → List ℕ → Option ℕ
-hex_of digits field = if length field == digits then number_of 0x10 field else None
+abbrev pub parse_hex : ℕ → List ℕ → Option ℕ
+parse_hex digits field = if length field == digits then parse_digits 0x10 field else None
 
 -- the first of several digits is a zero
 abbrev pub has_leading_zero : List ℕ → Bool
 has_leading_zero field = nat_le 2 (length field) && slice_index field 0 == 0x30
 
 -- a number of 1 to 9 decimal digits, with no leading zero but in `0` itself
-abbrev pub decimal_of : List ℕ → Option ℕ
-decimal_of field =
-    if nat_le 1 (length field) && nat_le (length field) 9 && not (has_leading_zero field) then number_of 10 field else None
+abbrev pub parse_decimal : List ℕ → Option ℕ
+parse_decimal field =
+    if nat_le 1 (length field) && nat_le (length field) 9 && not (has_leading_zero field) then parse_digits 10 field else None
 
 -- two decimal digits
-unfoldable pub two_digits_of : List ℕ → Option (ℕ × List ℕ)
-two_digits_of [] = None
-two_digits_of (_ ∷ []) = None
-two_digits_of (high ∷ low ∷ rest) = do
-  high ← digit_of 10 high
-  low ← digit_of 10 low
+unfoldable pub parse_two_digits : List ℕ → Option (ℕ × List ℕ)
+parse_two_digits [] = None
+parse_two_digits (_ ∷ []) = None
+parse_two_digits (high ∷ low ∷ rest) = do
+  high ← parse_digit 10 high
+  low ← parse_digit 10 low
   Some (high * 10 + low, rest)
 
 -- what stands after a byte

@@ -18,12 +18,12 @@ longer : (x : ℕ) (xs : List ℕ) → is_feed x ≡ false → lines_of (x ∷ x
 unfolding lines_of
 longer x xs e = ap (λ b. cond b ([] ∷ lines_of xs) (onto_first x (lines_of xs))) e
 
-pub ended : (line rest : List ℕ) → IsLine line → lines_of (line ++ 10 ∷ rest) ≡ line ∷ lines_of rest
+pub line_ended : (line rest : List ℕ) → IsLine line → lines_of (line ++ 10 ∷ rest) ≡ line ∷ lines_of rest
 unfolding lines_of
-ended [] rest h = refl
-ended (x ∷ line) rest h =
+line_ended [] rest h = refl
+line_ended (x ∷ line) rest h =
     longer x (line ++ 10 ∷ rest) (All-head (λ byte. is_feed byte ≡ false) x line h)
-    ∙ ap (onto_first x) (ended line rest (All-tail (λ byte. is_feed byte ≡ false) x line h))
+    ∙ ap (onto_first x) (line_ended line rest (All-tail (λ byte. is_feed byte ≡ false) x line h))
 
 alone : (x : ℕ) (line : List ℕ) → IsLine (x ∷ line) → lines_of (x ∷ line) ≡ (x ∷ line) ∷ []
 unfolding lines_of
@@ -42,7 +42,7 @@ lines_cut bytes lt =
     let feed : get_or bytes (position_or_len is_feed bytes) 0 ≡ 10 = eqb-true _ 10 (passes_at_first is_feed bytes 0 lt) in
     let cut : bytes ≡ before_first is_feed bytes ++ 10 ∷ after_first is_feed bytes =
     subst (λ (byte : ℕ). bytes ≡ before_first is_feed bytes ++ byte ∷ after_first is_feed bytes) feed (split_at_first is_feed bytes 0 lt) in
-    ap lines_of cut ∙ ended (before_first is_feed bytes) (after_first is_feed bytes) (before bytes)
+    ap lines_of cut ∙ line_ended (before_first is_feed bytes) (after_first is_feed bytes) (before bytes)
 
 not_so : (b : Bool) → ¬ (b ≡ true) → b ≡ false
 not_so true never = absurd (never refl)

@@ -8,7 +8,7 @@ use Rattle.script_text.specs.declared.fault.ScriptFault.TheVariants.{Bad, NoMemo
 use Rattle.script_text.specs.declared.reading.Reading.{Reading}
 use Rattle.script_text.specs.Common.{OnBad, IsReadingOf}
 use Rattle.script_text.specs.Straight.{IsStraight}
-use Rattle.script_text.proofs.LineLemmas.{is_feed, ended}
+use Rattle.script_text.proofs.LineLemmas.{is_feed, line_ended}
 
 -- ---- no byte of it is a line feed
 
@@ -42,7 +42,7 @@ pub line_cut :
     (version actor : ℕ) (text line rest : List ℕ) (event : Event) → text ≡ line ++ 10 ∷ rest
     → HasForm version line (ask actor event) → lines_of text ≡ line ∷ lines_of rest
 line_cut version actor text line rest event cut has =
-    ap lines_of cut ∙ ended line rest (asked_line version actor line event has)
+    ap lines_of cut ∙ line_ended line rest (asked_line version actor line event has)
 
 -- ---- it is read
 

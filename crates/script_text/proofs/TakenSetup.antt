@@ -59,10 +59,10 @@ place_in card cards = position_or_len (λ other. nat_lt card.dev other.dev) card
 abbrev pub put : FittedCard → List FittedCard → List FittedCard
 put card cards = insert cards (place_in card cards) card
 
-pub placed :
+pub card_inserted :
     (card : FittedCard) (dev place : ℕ) (read cards new : List FittedCard) → dev ≡ card.dev → read ≡ cards →
     place ≡ position_or_len (λ other. nat_lt dev other.dev) read → new ≡ insert cards place card → new ≡ put card cards
-placed card dev place read cards new device same at_place is =
+card_inserted card dev place read cards new device same at_place is =
     let here : place ≡ place_in card cards =
     at_place ∙ ap (λ d. position_or_len (λ other. nat_lt d other.dev) read) device ∙ ap (place_in card) same in
     is ∙ ap (λ n. insert cards n card) here

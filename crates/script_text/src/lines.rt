@@ -6,7 +6,7 @@ ghost use Rattle.script_text.specs.Straight.{IsStraight};
 
 use board_spec::Event;
 use memchr::memchr;
-use script_lines::{is_word, straight_end, straight_of};
+use script_lines::{is_word, parse_straight, straight_end};
 
 /// What ends a line.
 const LINE_FEED: u8 = b'\n';
@@ -55,7 +55,7 @@ fn straight_line<'a>(version: u8, bytes: &'a [u8]) -> Option<Straight<'a>>
     ensures straight { IfSome result (λ p. IsStraight version p.0.now p.2 p.3) }
 {
     let (line, rest) = cut_at(straight_end(bytes), bytes)?;
-    let (actor, event) = straight_of(version, line)?;
+    let (actor, event) = parse_straight(version, line)?;
     Some((line, rest, actor, event))
 }
 
@@ -77,7 +77,7 @@ pub(crate) fn next_line<'a>(version: u8, bytes: &'a [u8]) -> Option<Next<'a>>
 }
 
 /// The version that line 1 names, and the bytes after that line. None where it names none, or there is no line.
-pub(crate) fn version_of(bytes: &[u8]) -> Option<(u8, &[u8])>
+pub(crate) fn parse_version(bytes: &[u8]) -> Option<(u8, &[u8])>
     ensures cases { MatchOption result (BeginsBadly (lines_of bytes.now))
         (λ p. IsVersion p.0 × (lines_of bytes.now ≡ first_line p.0 ∷ lines_of p.1.now)) }
     ensures shorter { IfSome result (λ p. length p.1.now < length bytes.now) }

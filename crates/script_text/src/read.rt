@@ -8,11 +8,11 @@ ghost use Rattle.script_text.specs.Script.{said_of};
 ghost use Rattle.script_text.specs.Straight.{IsStraight};
 
 use crate::fault::{Reason, ScriptFault};
-use crate::lines::{is_skipped, next_line, version_of};
+use crate::lines::{is_skipped, next_line, parse_version};
 use crate::reading::Reading;
 use crate::script::Script;
 use board_spec::Event;
-use script_lines::{Asked, item_of};
+use script_lines::{Asked, parse_item};
 use std::alloc::Global;
 
 /// The most bytes of a line after the first.
@@ -34,7 +34,7 @@ fn read_statement(
     ensures bad { IfErr result (λ fault. OnBad fault (λ place why. (place ≡ number)
         × ((items : List Said) → IsReadingOf items reading.old → least_reason items (ask actor event) ≡ Some why))) }
 {
-    match reading.judge_statement(actor, Asked::Event(event)) {
+    match reading.validate_statement(actor, Asked::Event(event)) {
         Ok(statement) => {
             reading.take_statement(statement)?;
             Ok(())
@@ -64,10 +64,10 @@ fn read_line(
     if is_skipped(line) {
         return Ok(());
     }
-    let Some(item) = item_of(version, line) else {
+    let Some(item) = parse_item(version, line) else {
         return Err(ScriptFault::at(number, Reason::NoForm));
     };
-    match reading.judge(version, item) {
+    match reading.validate(version, item) {
         Ok(item) => {
             reading.take(alloc, item)?;
             Ok(())
@@ -130,7 +130,7 @@ pub fn read_script(alloc: Global, bytes: &[u8]) -> Result<Script, ScriptFault>
     ensures in_range { IfOk result (λ script. IsInRangeScript (said_of script)) }
     ensures bad { IfErr result (λ fault. OnBad fault (IsScriptBad bytes.now)) }
 {
-    let Some((version, rest)) = version_of(bytes) else {
+    let Some((version, rest)) = parse_version(bytes) else {
         return Err(ScriptFault::at(1, Reason::NoVersion));
     };
     read_later(alloc, version, rest)

@@ -10,7 +10,7 @@ ghost use Rattle.script_text.specs.Reading.{is_below, IsReadingOf, IsWithinLimit
 
 use crate::fault::Reason;
 use crate::reading::Reading;
-use crate::valid::{ValidItem, card_of, event_of, is_placed, is_within, pulses_of};
+use crate::valid::{ValidItem, is_placed, is_within, pulses_of, valid_card, valid_event};
 use board_spec::limits::MOST_STATEMENTS;
 use board_spec::{Event, Statement};
 use pci_bars::{BaseSpec, CardSpec};
@@ -103,7 +103,7 @@ impl Reading {
     }
 
     /// Refuses a line of the setup after the first phase, or where one of its kind came before.
-    fn judge_setup(&self, came: bool) -> Result<(), Reason>
+    fn validate_setup(&self, came: bool) -> Result<(), Reason>
         ensures judged { (items : List Said) (item : Said) → IsReadingOf items self.now → is_setup item ≡ true
             → is_repeated items item ≡ came → Stands items item result }
     {
@@ -116,10 +116,10 @@ impl Reading {
         Ok(())
     }
 
-    fn judge_cpus(&self, count: u32) -> Result<u8, Reason>
+    fn validate_cpus(&self, count: u32) -> Result<u8, Reason>
         ensures judged { (items : List Said) → IsReadingOf items self.now → Judges SetCpus items (SetCpus count) result }
     {
-        self.judge_setup(self.cpus.is_some())?;
+        self.validate_setup(self.cpus.is_some())?;
         if is_within(1, MOST_CPUS, count) {
             Ok(count as u8)
         } else {
@@ -127,10 +127,10 @@ impl Reading {
         }
     }
 
-    fn judge_memory(&self, mib: u32) -> Result<u8, Reason>
+    fn validate_memory(&self, mib: u32) -> Result<u8, Reason>
         ensures judged { (items : List Said) → IsReadingOf items self.now → Judges SetMemory items (SetMemory mib) result }
     {
-        self.judge_setup(self.mib.is_some())?;
+        self.validate_setup(self.mib.is_some())?;
         if is_within(1, MOST_MIB, mib) {
             Ok(mib as u8)
         } else {
@@ -138,29 +138,29 @@ impl Reading {
         }
     }
 
-    fn judge_rom(&self) -> Result<(), Reason>
+    fn validate_rom(&self) -> Result<(), Reason>
         ensures judged { (items : List Said) (name : List ℕ) → IsReadingOf items self.now
             → Judges (λ done. SetRom name) items (SetRom name) result }
     {
-        self.judge_setup(self.rom.is_some())
+        self.validate_setup(self.rom.is_some())
     }
 
-    fn judge_disk(&self) -> Result<(), Reason>
+    fn validate_disk(&self) -> Result<(), Reason>
         ensures judged { (items : List Said) (name : List ℕ) → IsReadingOf items self.now
             → Judges (λ done. SetDisk name) items (SetDisk name) result }
     {
-        self.judge_setup(self.disk.is_some())
+        self.validate_setup(self.disk.is_some())
     }
 
-    fn judge_card(&self, fields: &CardFields) -> Result<CardSpec, Reason>
+    fn validate_card(&self, fields: &CardFields) -> Result<CardSpec, Reason>
         requires few { length fields.now.bases.items ≤ 6 }
         requires limits { IsWithinLimits self.now }
         ensures judged { (items : List Said) → IsReadingOf items self.now
             → Judges FitCard items (FitCard (card_said fields.now)) result }
         ensures fits { IfOk result IsCard }
     {
-        self.judge_setup(self.has_card(fields.dev))?;
-        let Some(card) = card_of(fields) else {
+        self.validate_setup(self.has_card(fields.dev))?;
+        let Some(card) = valid_card(fields) else {
             return Err(Reason::OutOfRange);
         };
         if self.memory + memory_of_card(&card) > MOST_MEMORY {
@@ -169,7 +169,7 @@ impl Reading {
         Ok(card)
     }
 
-    fn judge_phase(&self) -> Result<(), Reason>
+    fn validate_phase(&self) -> Result<(), Reason>
         ensures judged { (items : List Said) → IsReadingOf items self.now
             → Judges (λ done. BeginPhase) items BeginPhase result }
     {
@@ -193,7 +193,7 @@ impl Reading {
     }
 
     #[inline(always)]
-    pub(crate) fn judge_statement(&self, actor: u32, asked: Asked) -> Result<Statement, Reason>
+    pub(crate) fn validate_statement(&self, actor: u32, asked: Asked) -> Result<Statement, Reason>
         requires limits { IsWithinLimits self.now }
         ensures judged { (items : List Said) → IsReadingOf items self.now
             → Judges Ask items (asked_said actor asked) result }
@@ -202,7 +202,7 @@ impl Reading {
         if !self.has_phase() {
             return Err(Reason::Misplaced);
         }
-        let Some(event) = event_of(asked) else {
+        let Some(event) = valid_event(asked) else {
             return Err(Reason::OutOfRange);
         };
         if !is_placed(&event) {
@@ -224,30 +224,30 @@ impl Reading {
     }
 
     /// The item of a line, where it can stand after those before it, and otherwise the least reason to refuse it.
-    pub(crate) fn judge<'a>(&self, version: u8, item: Item<'a>) -> Result<ValidItem<'a>, Reason>
+    pub(crate) fn validate<'a>(&self, version: u8, item: Item<'a>) -> Result<ValidItem<'a>, Reason>
         requires form { IsForm version (line_said item) }
         requires limits { IsWithinLimits self.now }
         ensures judged { (items : List Said) → IsReadingOf items self.now → Judges item_said items (line_said item.entry) result }
         ensures valid { IfOk result IsValid }
     {
         match item {
-            Item::Cpus(count) => Ok(ValidItem::Cpus(self.judge_cpus(count)?)),
-            Item::Memory(mib) => Ok(ValidItem::Memory(self.judge_memory(mib)?)),
+            Item::Cpus(count) => Ok(ValidItem::Cpus(self.validate_cpus(count)?)),
+            Item::Memory(mib) => Ok(ValidItem::Memory(self.validate_memory(mib)?)),
             Item::Rom(name) => {
-                self.judge_rom()?;
+                self.validate_rom()?;
                 Ok(ValidItem::Rom(name))
             }
             Item::Disk(name) => {
-                self.judge_disk()?;
+                self.validate_disk()?;
                 Ok(ValidItem::Disk(name))
             }
-            Item::Card(fields) => Ok(ValidItem::Card(self.judge_card(&fields)?)),
+            Item::Card(fields) => Ok(ValidItem::Card(self.validate_card(&fields)?)),
             Item::Phase => {
-                self.judge_phase()?;
+                self.validate_phase()?;
                 Ok(ValidItem::Phase)
             }
             Item::Statement { actor, asked } => {
-                Ok(ValidItem::Asked(self.judge_statement(actor, asked)?))
+                Ok(ValidItem::Asked(self.validate_statement(actor, asked)?))
             }
         }
     }

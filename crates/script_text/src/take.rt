@@ -15,7 +15,7 @@ use pci_bars::CardSpec;
 use std::alloc::{AllocError, Global};
 
 /// The place of the first card of a device above this one, or the end.
-fn place_of(cards: &[CardSpec], dev: u8) -> usize
+fn index_for_card(cards: &[CardSpec], dev: u8) -> usize
     ensures place { result ≡ position_or_len (λ other. nat_lt dev other.dev) cards.now }
     ensures within { result ≤ length cards.now }
 {
@@ -76,7 +76,7 @@ impl Reading {
         requires limits { IsWithinLimits self.old }
         ensures taken { OnOk result (Takes self.old (FitCard card) self.new) }
     {
-        let place = place_of(&self.cards, card.dev);
+        let place = index_for_card(&self.cards, card.dev);
         self.memory += memory_of_card(&card);
         self.cards.insert(place, card)?;
         Ok(())

@@ -64,7 +64,7 @@ pub(crate) fn is_within(first: u32, last: u32, number: u32) -> bool
 // ---- cards
 
 /// A base of 16 bytes to 16 MiB, or of 4 to 256 ports.
-fn base_of(field: BaseField) -> Option<BaseSpec>
+fn valid_base(field: BaseField) -> Option<BaseSpec>
     ensures base { option_map base_of result ≡ in_case (is_base_in_range (base_said field)) (base_said field) }
 {
     match field {
@@ -94,20 +94,20 @@ fn io_base(bits: u32) -> Option<BaseSpec>
 }
 
 /// All bases of a card, where each is in range.
-fn bases_of(fields: &[BaseField]) -> Option<ArrayVec<BaseSpec, BASE_COUNT>>
+fn valid_bases(fields: &[BaseField]) -> Option<ArrayVec<BaseSpec, BASE_COUNT>>
     requires few { length fields.now ≤ 6 }
     ensures bases { option_map (λ bases. map base_of bases.items) result
         ≡ in_case (list_all is_base_in_range (map base_said fields.now)) (map base_said fields.now) }
 {
     let mut bases = ArrayVec::new();
     for field in fields {
-        bases.push(base_of(*field)?);
+        bases.push(valid_base(*field)?);
     }
     Some(bases)
 }
 
 /// The expansion ROM of 2 KiB to 16 MiB, or none. None where it is out of range.
-fn rom_of(rom: Option<u32>) -> Option<Option<u8>>
+fn valid_rom(rom: Option<u32>) -> Option<Option<u8>>
     ensures rom { result ≡ in_case (is_rom_in_range rom) rom }
 {
     match rom {
@@ -127,7 +127,7 @@ fn rom_bits(bits: u32) -> Option<Option<u8>>
 }
 
 /// A card whose device, bases and expansion ROM are in range.
-pub(crate) fn card_of(fields: &CardFields) -> Option<CardSpec>
+pub(crate) fn valid_card(fields: &CardFields) -> Option<CardSpec>
     requires few { length fields.now.bases.items ≤ 6 }
     ensures card { result ≡ in_case (is_card_in_range (card_said fields.now)) (card_said fields.now) }
     ensures fits { IfSome result IsCard }
@@ -135,8 +135,8 @@ pub(crate) fn card_of(fields: &CardFields) -> Option<CardSpec>
     if !is_within(FIRST_DEVICE, LAST_DEVICE, fields.dev) {
         return None;
     }
-    let bases = bases_of(&fields.bases)?;
-    let rom = rom_of(fields.rom)?;
+    let bases = valid_bases(&fields.bases)?;
+    let rom = valid_rom(fields.rom)?;
     Some(CardSpec {
         dev: fields.dev as u8,
         vga: fields.vga,
@@ -198,7 +198,7 @@ fn event_in_range(event: Event) -> Option<Event>
     }
 }
 
-fn time_of(fields: MomentFields) -> Option<Event>
+fn valid_time(fields: MomentFields) -> Option<Event>
     ensures event { (actor : ℕ) → option_map (ask actor) result
         ≡ in_case (is_in_range (asked_said actor (Asked.Moment fields))) (asked_said actor (Asked.Moment fields)) }
 {
@@ -213,7 +213,7 @@ fn time_of(fields: MomentFields) -> Option<Event>
     Some(Event::Time(moment))
 }
 
-fn wire_of(dev: u32, level: u32) -> Option<Event>
+fn valid_wire(dev: u32, level: u32) -> Option<Event>
     ensures event { (actor : ℕ) → option_map (ask actor) result
         ≡ in_case (is_in_range (asked_said actor (Asked.Wire dev level))) (asked_said actor (Asked.Wire dev level)) }
 {
@@ -226,7 +226,7 @@ fn wire_of(dev: u32, level: u32) -> Option<Event>
     })
 }
 
-fn line_of(irq: u32, level: u32) -> Option<Event>
+fn valid_line(irq: u32, level: u32) -> Option<Event>
     ensures event { (actor : ℕ) → option_map (ask actor) result
         ≡ in_case (is_in_range (asked_said actor (Asked.Line irq level))) (asked_said actor (Asked.Line irq level)) }
 {
@@ -241,15 +241,15 @@ fn line_of(irq: u32, level: u32) -> Option<Event>
 
 /// The event of a statement, where its numbers are in range.
 #[inline(always)]
-pub(crate) fn event_of(asked: Asked) -> Option<Event>
+pub(crate) fn valid_event(asked: Asked) -> Option<Event>
     ensures event { (actor : ℕ) → option_map (ask actor) result
         ≡ in_case (is_in_range (asked_said actor asked)) (asked_said actor asked) }
 {
     match asked {
         Asked::Event(event) => event_in_range(event),
-        Asked::Moment(fields) => time_of(fields),
-        Asked::Wire { dev, level } => wire_of(dev, level),
-        Asked::Line { irq, level } => line_of(irq, level),
+        Asked::Moment(fields) => valid_time(fields),
+        Asked::Wire { dev, level } => valid_wire(dev, level),
+        Asked::Line { irq, level } => valid_line(irq, level),
     }
 }
 

@@ -1,10 +1,10 @@
 use Rattle.board_commands.proofs.Exact.{exact}
-use Rattle.command_words.specs.Words.{asked}
+use Rattle.command_words.specs.Words.{command_said}
 use Rattle.board_commands.proofs.command.board.Goals as goal
 
 pub returns-clause-exact : goal.returns-clause-exact
 returns-clause-exact g c =
-    exact c.law_one_status.ensures.one (asked c.args.words.now)
+    exact c.law_one_status.ensures.one (command_said c.args.words.now)
     (record {
       files = g.S.Shelf.files c.args.shelf.now;
       faults_before = g.S.Shelf.faults c.args.shelf.now;

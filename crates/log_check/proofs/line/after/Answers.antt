@@ -1,7 +1,7 @@
 use Rattle.std.proofs.Common.{◌<◌, ◌≤◌, length, arith}
 use Rattle.std.proofs.lemmas.Bool.Decides.{Decides-eqb}
 use Rattle.std.proofs.lemmas.Slice.Eq.{strip_prefix_is}
-use Rattle.log_check.proofs.Fronted.{goes_on_first, past_word, not_word, too_short, same_word, other_word, ended}
+use Rattle.log_check.proofs.Fronted.{goes_on_first, past_word, not_word, too_short, same_word, other_word, front_ended}
 use Rattle.log_check.proofs.line.after.Goals as goal
 
 pub loop-word-init : goal.loop-word-init
@@ -44,7 +44,7 @@ loop-word-preserved c =
 pub returns : goal.returns
 returns c = record {
   cases =
-      ended c.args.front.now c.args.bytes.now c.loop-word.left.now c.loop-word.rest.now c.loop-word.invariant
+      front_ended c.args.front.now c.args.bytes.now c.loop-word.left.now c.loop-word.rest.now c.loop-word.invariant
       c.strip_prefix.result
       (strip_prefix_is Decides-eqb c.loop-word.rest.now c.loop-word.left.now c.strip_prefix.result
       c.strip_prefix.ensures.cases);

@@ -1,0 +1,26 @@
+use Rattle.std.proofs.Common.{subst}
+use Rattle.script_spec.specs.Grammar.{HasForm}
+use Rattle.script_lines.specs.Items.{line_said}
+use Rattle.log_lines.proofs.AskedReading.{none_asked, not_asked, asked_exact}
+use Rattle.log_lines.proofs.asked.parse_numbered_event.Goals as goal
+
+pub returns-in_err-actor : goal.returns-in_err-actor
+returns-in_err-actor c = record {
+  asked = rw c.from_residual.ensures (λ seq event. none_asked c.args.version seq c.args.text.now event
+      c.in_err-actor.ensures.none);
+}
+
+pub returns-in-Statement : goal.returns-in-Statement
+returns-in-Statement c =
+    let has = subst (λ item. HasForm c.args.version c.args.text.now (line_said item)) c.in-Statement.is
+    c.in_ok-actor.ensures.says in
+    record {
+      asked = asked_exact c.args.version c.in-Statement.actor c.args.text.now c.in-Statement.asked
+          c.numbered.result has c.numbered.ensures.asked;
+    }
+
+pub returns-in_default : goal.returns-in_default
+returns-in_default c = record {
+  asked = λ seq event. not_asked c.args.version seq c.args.text.now c.in_ok-actor.field-0 event
+      c.in_ok-actor.ensures.says c.in_default.not-Statement;
+}

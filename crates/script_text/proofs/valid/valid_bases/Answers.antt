@@ -1,0 +1,18 @@
+use Rattle.std.proofs.Common.{arith}
+use Rattle.script_text.proofs.BaseRuns.{base_read, base_added, base_refused}
+use Rattle.script_text.proofs.valid.valid_bases.Goals as goal
+
+pub returns-in_err-valid_base : goal.returns-in_err-valid_base
+returns-in_err-valid_base c = record {
+  bases = rw c.from_residual.ensures
+      (base_refused c.args.fields.now c.loop-field.field-index _ c.loop-field-test.true c.in_err-valid_base.ensures.base);
+}
+
+pub loop-field-preserved : goal.loop-field-preserved
+loop-field-preserved c = record {
+  count = omega (arith, c.push.ensures.len, c.loop-field.invariant.count);
+  each = base_read c.args.fields.now c.loop-field.field-index _ c.in_ok-valid_base.field-0 c.loop-field-test.true
+      c.in_ok-valid_base.ensures.base c.loop-field.invariant.each;
+  same = base_added c.args.fields.now c.loop-field.field-index _ c.in_ok-valid_base.field-0 c.loop-field.bases.items _
+      c.loop-field-test.true c.in_ok-valid_base.ensures.base c.push.ensures.items c.loop-field.invariant.same;
+}
