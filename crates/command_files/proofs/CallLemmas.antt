@@ -2,6 +2,7 @@
 use Rattle.std.proofs.Common.{◌≡◌, ◌≢◌, ℕ, ◌≤◌, ◌+◌, List, [], ◌∷◌, ◌++◌, Option, Some, None, refl, sym, ap, ◌∙◌, subst, append_assoc, arith, Result, Ok, Err}
 use Rattle.board_outside.specs.Outside.{Fetch, Made}
 use Rattle.command_files.specs.Calls.{OfCalls, count_come, place_after, BroughtBytes, FoundEnd, IsReading, FetchesOnce, ReadsBy}
+use Rattle.script_spec.proofs.Common.{same_some}
 
 -- ---- lists of calls
 
@@ -16,9 +17,6 @@ pub calls_hold :
 calls_hold None now P Q each is = tt
 calls_hold (Some before) now P Q each is = record { made = is.made; told = is.told; holds = each is.made is.holds }
 
-some_of : {A : Type 0} (x y : A) → Some x ≡ Some y → x ≡ y
-some_of x y is = cc
-
 pub none_told : {A : Type 0} (x : A) → None ≡ Some x → ⊥
 none_told x is = absurd cc
 
@@ -30,7 +28,7 @@ call_more None between now call P Q each is made = tt
 call_more (Some before) None now call P Q each is made = absurd (none_told (is.made ++ before) is.told)
 call_more (Some before) (Some between) now call P Q each is made = record {
   made = call ∷ is.made;
-  told = made ∙ ap (λ calls. Some (call ∷ calls)) (some_of between (is.made ++ before) is.told);
+  told = made ∙ ap (λ calls. Some (call ∷ calls)) (same_some between (is.made ++ before) is.told);
   holds = each is.made is.holds;
 }
 
@@ -51,7 +49,7 @@ calls_both (Some before) (Some between) now P Q one two = record {
   made = two.made ++ one.made;
   told =
       two.told
-      ∙ ap (λ calls. Some (two.made ++ calls)) (some_of between (one.made ++ before) one.told)
+      ∙ ap (λ calls. Some (two.made ++ calls)) (same_some between (one.made ++ before) one.told)
       ∙ ap Some (sym (append_assoc two.made one.made before));
   holds = record { first = one.made; second = two.made; parts = refl; one = one.holds; two = two.holds };
 }

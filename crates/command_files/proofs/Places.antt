@@ -13,14 +13,9 @@ use Rattle.command_files.specs.declared.status.Status.TheVariants.{Done, Usage, 
 use Rattle.command_files.specs.Common.{files_of, name_in_words, limit_of, Files, Known, nothing_known, file_name, Learns, Passes, AreReadAs, ComesTo, ReadsFile, FitsFile, IsNoImage, ShelfCall, OfFiles, CanRead, FailsAt, IsNotTaken, IsRefused, OfCalls, FoundEnd, ReachesFile, Reads, ReadEach, FetchesOf, IsPassed, IsNotPassed, ReadsNamed}
 use Rattle.command_files.proofs.CallLemmas.{Both, calls_both, calls_hold}
 use Rattle.command_files.proofs.Refusals.{of_files, at_files, at_file, any_file}
+use Rattle.logs_and_maps.proofs.Lines.{reverse-take_more}
 
 -- ---- places of a list
-
-taken_more :
-    {A : Type 0} (files : List A) (index : ℕ) (d : A) → index < length files →
-    reverse (take (index + 1) files) ≡ get_or files index d ∷ reverse (take index files)
-taken_more files index d within =
-    ap reverse ((take_at_read files index d within).1) ∙ reverse-append (take index files) (get_or files index d ∷ [])
 
 -- a list is what stands before a place, that place, and what stands after it
 placed :
@@ -269,7 +264,7 @@ module _ (command : Command) (told : Option Files) (files : List Which) (index :
       (now : Known) → IsPassed told known here (file_name command known here) now →
       AreTaken command told (reverse (take (index + 1) files)) now
   taken_next now passed =
-      subst (λ (whiches : List Which). AreTaken command told whiches now) (sym (taken_more files index d within))
+      subst (λ (whiches : List Which). AreTaken command told whiches now) (sym (reverse-take_more files index d within))
       (known, are, passed)
 
   pub whole_next :
@@ -279,7 +274,7 @@ module _ (command : Command) (told : Option Files) (files : List Which) (index :
       OfCalls start now (WholeBefore command told (reverse (take (index + 1) files)))
   whole_next E value start between now one two =
       subst (λ (whiches : List Which). OfCalls start now (WholeBefore command told whiches))
-      (sym (taken_more files index d within))
+      (sym (reverse-take_more files index d within))
       (fetches_next command told here passed_by (drop (suc index) files) known at_here are E value start between now one two)
 
   -- the command stops at it

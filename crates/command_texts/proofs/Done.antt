@@ -1,6 +1,6 @@
 -- What a board did, put together.
 use Rattle.std.proofs.Common.{◌≡◌, ℕ, List, [], ◌∷◌, ◌++◌, refl, sym, ap, ◌∙◌, subst, map, reverse, length, Result, Ok, Err, OnOk, OnErr}
-use Rattle.board_prelude.proofs.Common.{append-nil, map-append, reverse-append, length-map, length-reverse, Entry, Reply, Statement, Setup, IsAnswer, next_entry, IsLegal, statement_of, statements_of, IsReplayOf}
+use Rattle.board_prelude.proofs.Common.{append-nil, map-append, reverse-append, length-map, length-reverse, Entry, Reply, Statement, Setup, IsAnswer, next_entry, IsLegal, statement_of, statements_of, IsReplayOf, statements-newest}
 use Rattle.std.proofs.lemmas.List.{append_assoc}
 use Rattle.board_core.specs.Kept.{Standing}
 use Rattle.command_texts.specs.Done.{DidStatements}
@@ -24,10 +24,6 @@ done_more old between new first later one two = record {
   legal = λ legal. two.legal (one.legal legal);
 }
 
-pub newest : (entry : Entry) (before : List Entry) → statements_of (entry ∷ before) ≡ statements_of before ++ statement_of entry ∷ []
-newest entry before =
-    ap (map statement_of) (reverse-append (entry ∷ []) before) ∙ map-append statement_of (reverse before) (entry ∷ [])
-
 pub done_one :
     (old new : Standing) (statement : Statement) (reply : Reply) (spare : ℕ) →
     IsAnswer old.setup old.entries statement.event reply →
@@ -40,7 +36,7 @@ done_one old new statement reply spare answer is = record {
   setup = ap (λ (board : Standing). board.setup) is;
   same =
       ap (λ (board : Standing). statements_of board.entries) is
-      ∙ newest (next_entry old.entries statement.actor statement.event reply) old.entries;
+      ∙ statements-newest (next_entry old.entries statement.actor statement.event reply) old.entries;
   legal = λ legal. subst (λ (board : Standing). IsLegal board.setup board.entries) (sym is)
       (record { number = refl; answer = answer }, legal);
 }

@@ -27,14 +27,6 @@ rises_by_one setup entry before =
     let few = listed_few (map_change_of setup before entry.event) in
     (omega (arith, next), omega (arith, next, few))
 
-pub version_few : (setup : Setup) (history : List Entry) → version_of setup history ≤ length history
-unfolding map_writes_of
-version_few setup [] = omega arith
-version_few setup (entry ∷ before) =
-    let rise = (rises_by_one setup entry before).1 in
-    let few = version_few setup before in
-    omega (arith, rise, few)
-
 earlier_is_lower : (setup : Setup) (history : List Entry) (k : ℕ) → version_of setup (drop k history) ≤ version_of setup history
 earlier_is_lower setup history zero = omega arith
 earlier_is_lower setup [] (suc k) = omega arith

@@ -1,11 +1,10 @@
 -- One entry more in the log of a replay.
 use Rattle.std.proofs.Common.{ℕ, ◌≡◌, ◌+◌, ◌<◌, List, [], ◌∷◌, ◌++◌, length, take, get_or, refl, sym, ap, ◌∙◌, subst, append_assoc, append-nil, add-one}
 use Rattle.std.proofs.lemmas.List.{take_more}
-use Rattle.board_prelude.proofs.Common.{Entry, Statement, line_feed, line_text, lines_text, log_text, statement_of, statements_of}
+use Rattle.board_prelude.proofs.Common.{Entry, Statement, line_feed, line_text, lines_text, log_text, statement_of, statements_of, statements-newest}
 use Rattle.board_core.specs.Kept.{Playing, HasPlayed}
 use Rattle.log_check.proofs.LogLines.{log_parts, lines-newest}
 use Rattle.command_texts.specs.ReplayLog.{HasLog}
-use Rattle.command_texts.proofs.Done.{newest}
 
 -- the newest entry has the last line
 log-newest :
@@ -38,7 +37,7 @@ log_with version old new said statement entry n text after actor event number pl
       history = entry ∷ history;
       played = now;
       same =
-          newest entry history
+          statements-newest entry history
           ∙ ap (λ (before : List Statement). before ++ statement_of entry ∷ []) so_far.same
           ∙ ap (λ (last : Statement). said ++ last ∷ []) (statement_is entry statement actor event);
       log =

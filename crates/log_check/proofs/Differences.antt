@@ -5,8 +5,9 @@ use Rattle.script_spec.specs.Common.{text_of_lines, IsOneLine, AreBegun, IsLogOf
 use Rattle.script_spec.proofs.LogLaws.{line_whole}
 use Rattle.log_check.specs.Common.{IsTyped, GoesOnWithNone, StopsAt}
 use Rattle.log_check.proofs.TextCuts.{cut_line}
-use Rattle.log_check.proofs.LogLines.{heading, heading_whole, heading-log, log_parts, lines_from, newest_last, lines_left, log_joined, lined, one_line_more}
+use Rattle.log_check.proofs.LogLines.{heading_whole, heading-log, log_parts, lines_from, newest_last, lines_left, log_joined, lined, one_line_more}
 use Rattle.log_check.proofs.Histories.{no_line, legal_front, begun_front, Extends, extends, completed}
+use Rattle.logs_and_maps.specs.Reading.{heading}
 
 -- what is known of a script
 pub record Known (setup : Setup) (phases : List (List Statement)) : Type 0 where

@@ -3,10 +3,7 @@ use Rattle.std.proofs.Common.{ℕ, ◌≡◌, ◌+◌, List, [], ◌∷◌, ◌+
 use Rattle.board_prelude.proofs.Common.{flat_map-append, reverse-append, reverse-reverse, append_cancel_left, All-nil, All-cons, All-push, Entry, line_feed, line_text, lines_text, log_text}
 use Rattle.script_spec.specs.Lines.{text_of_lines, IsOneLine}
 use Rattle.script_spec.proofs.Common.{lacks-append, one_line, lacks-word, decimal_word, line_whole}
-
--- the heading of a log without its line feed
-abbrev pub heading : (version : ℕ) → List ℕ
-heading version = codes "access log " ++ decimal version
+use Rattle.logs_and_maps.specs.Reading.{heading}
 
 pub heading_whole : (version : ℕ) → IsOneLine (heading version)
 heading_whole version =

@@ -3,6 +3,7 @@ use Rattle.std.proofs.Common.{◌≡◌, ℕ, suc, ◌+◌, ◌-◌, Bool, true,
 use Rattle.board_prelude.proofs.Common.{position_or_len, option_map, cases_Bool, cases_lt, lt-ltb, le-ltb, take_rest}
 use Rattle.std.proofs.lemmas.Option.{cond_some}
 use Rattle.script_spec.specs.Cuts.{cut}
+use Rattle.script_lines.proofs.FieldLemmas.{nowhere}
 
 abbrev pub is_mark : ℕ → ℕ → Bool
 is_mark mark byte = eqb byte mark
@@ -40,10 +41,6 @@ pub cut_at : (mark : ℕ) (text : List ℕ) (end : ℕ) → place mark text ≡ 
 cut_at mark text end found =
     let there = cond_some (ltb (place_of mark text) (length text)) (place_of mark text) end found in
     rw take_rest (sym (cut_is mark text ∙ rw (there.0, there.1) refl))
-
-nowhere : (b : Bool) (n : ℕ) → cond b (Some n) None ≡ None → b ≡ false
-nowhere true n e = absurd cc
-nowhere false n e = refl
 
 pub uncut : (mark : ℕ) (text : List ℕ) → place mark text ≡ None → None ≡ cut mark text
 uncut mark text none =

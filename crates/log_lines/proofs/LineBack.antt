@@ -59,6 +59,3 @@ pub entry_is : (entry : Entry) (actor seq : ℕ) (event : Event) (reply : Reply)
     → seq ≡ entry.seq → event ≡ entry.event
     → reply ≡ entry.reply → Some (record { actor = actor; seq = seq; event = event; reply = reply }) ≡ Some entry
 entry_is entry actor seq event reply one two three four = rw (one, two, three, four) refl
-
-pub not_none : {A : Type 0} (x : A) → ◌≡◌ {A = Option A} None (Some x) → ⊥
-not_none x e = absurd cc

@@ -4,7 +4,7 @@ use Rattle.board_prelude.proofs.Common.{reverse-append, take_at_read, Entry, lin
 
 -- with the entry at i as the newest, the history is one longer
 pub reverse-take_more :
-    (entries : List Entry) (i : ℕ) (default : Entry) → i < length entries
+    {A : Type 0} (entries : List A) (i : ℕ) (default : A) → i < length entries
     → reverse (take (i + 1) entries) ≡ get_or entries i default ∷ reverse (take i entries)
 reverse-take_more entries i default inside =
     ap reverse ((take_at_read entries i default inside).1) ∙ reverse-append (take i entries) (get_or entries i default ∷ [])

@@ -3,6 +3,7 @@ use Rattle.std.proofs.Common.{ℕ, ◌≡◌, ◌+◌, ◌*◌, ◌<◌, ◌≤�
 use Rattle.board_prelude.proofs.Common.{find, list_any, AllZip, onto_first, list_all, le-ltb, and_from, and_parts, reverse-append, All-head, All-tail, sum_by-cons, Statement, memory_of_cards, space, line_feed, event_text}
 use Rattle.script_spec.specs.Common.{lines_of, text_of_lines, Item, Ask, StandsFor, IsEventForm, item_text, reason, is_phase, is_statement, is_setup, cards_of, is_misplaced, is_repeated, lacks_setup, is_in_range, is_event_in_range, is_placed, is_event_placed, is_there, is_cpus_above, is_card_there, pulses_of, pulses_of_event, passes_limits, least_reason, most_bytes, is_skipped, AreRead}
 use Rattle.script_spec.proofs.Common.{lacks, lacks-first, lacks-later, lacks-append, lacks-word, lacks-plain, decimal_word, event_plain}
+use Rattle.script_spec.proofs.ReadingExists.{run_of}
 
 -- ---- lines
 
@@ -154,9 +155,6 @@ pub asked-keeps : {X : Type 0} (f : List Item → X) (statements : List Statemen
 asked-keeps f [] before keeps = refl
 asked-keeps f (statement ∷ later) before keeps =
     asked-keeps f later (Ask statement ∷ before) keeps ∙ keeps statement before
-
-abbrev pub run_of : List Item → List Item
-run_of items = reverse (filter (λ item. not (is_setup item)) items)
 
 pub asked-run : (statements : List Statement) (before : List Item)
     → run_of (items_asked statements before) ≡ run_of before ++ map Ask statements

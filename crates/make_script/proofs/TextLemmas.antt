@@ -33,14 +33,3 @@ pub text-begun : (text : List ℕ) → text ≡ text_of_lines (setup_lines ++ op
 unfolding lines_of_rounds
 text-begun text begun =
     begun ∙ ap (λ (ls : List (List ℕ)). text_of_lines ls) (sym (append-nil (setup_lines ++ opening_lines)))
-
--- what is kept after words that were appended
-pub kept-twice :
-    {T E : Type 0} (r : Result T E) (old first middle new : List ℕ) → middle ≡ old ++ first
-    → OnErr r (IsFront middle new) → OnErr r (IsFront old new)
-kept-twice (Ok x) old first middle new one two = tt
-kept-twice (Err e) old first middle new one two =
-    record {
-      rest = first ++ two.rest;
-      joined = two.joined ∙ ap (λ (t : List ℕ). t ++ two.rest) one ∙ append_assoc old first two.rest;
-    }

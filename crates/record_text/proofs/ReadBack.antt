@@ -1,6 +1,6 @@
 -- What the record of a reply says is this reply.
 use Rattle.std.proofs.Common.{◌≡◌, ℕ, ◌<◌, ◌≤◌, ◌^◌, Bool, true, false, Option, Some, None, [], ◌∷◌, length, All, refl, arith, lit<, IfSome}
-use Rattle.board_prelude.proofs.Common.{pow-le-pow_right, lt-ltb, All-head, All-tail, Width, One, Dev, Pit, Wires, Ata, Target, Device, Denial, bytes_of, Event, Memory, Wide, Port, Ack, Pulses, Time, Wire, Line, BadSector, Parts, Two, Three, Four, Look, Reply, Bus, Saw, is_write, outside_answer, parts_list, parts_of as cut_of}
+use Rattle.board_prelude.proofs.Common.{pow-le-pow_right, lt-ltb, All-head, All-tail, Width, One, Dev, Pit, Wires, Ata, Target, Device, Denial, bytes_of, Event, Memory, Wide, Port, Ack, Pulses, Time, Wire, Line, BadSector, Parts, Two, Three, Four, Look, Reply, Bus, Saw, is_write, outside_answer, parts_list, parts_of as cut_of, bytes_few}
 use Rattle.board_base.specs.declared.access.Width.TheVariants.{Two as TwoBytes, Four as FourBytes}
 use Rattle.board_base.specs.declared.target.Dev.TheVariants.{Clock}
 use Rattle.board_spec.specs.declared.event.Event.TheVariants.{Look as LookAt}
@@ -10,6 +10,7 @@ use Rattle.board_records.specs.declared.reply.AfterStep.{AfterStep}
 use Rattle.board_records.specs.Replies.{record_said, bus_said, wide_said, look_said, blank}
 use Rattle.record_text.specs.Common.{bus_recorded, two_parts_recorded, three_parts_recorded, four_parts_recorded, parts_recorded, wide_recorded, look_recorded, cycle_value_recorded, form_recorded, reply_recorded, RecordSaysReply}
 use Rattle.record_text.proofs.PartsBack.{part_back, area_back}
+use Rattle.script_spec.proofs.ReplyBack.{narrow_value}
 
 -- ---- by the form
 
@@ -79,17 +80,6 @@ wide_back (Four a b c d) (Some value) after fits =
 
 -- ---- by the event
 
-narrow_value : (writes : Bool) (bytes : ℕ) (value : Option ℕ) → bytes ≤ 4 → IsReplyValue writes bytes value →
-    IfSome value (λ v. v < 2 ^ 32)
-narrow_value true bytes value few fits = rw fits tt
-narrow_value false bytes None few fits = tt
-narrow_value false bytes (Some n) few fits = omega (arith, fits, pow-le-pow_right {n = 256} (lit< tt) few)
-
-few_bytes : (width : Width) → bytes_of width ≤ 4
-few_bytes One = omega arith
-few_bytes TwoBytes = omega arith
-few_bytes FourBytes = omega arith
-
 bus_back : (writes : Bool) (bytes : ℕ) (reply : Reply) (after : AfterStep) → bytes ≤ 4 → IsBusReply writes bytes reply →
     reply_recorded (record_said reply after) ≡ Some reply
 unfolding record_said
@@ -119,11 +109,11 @@ outside_back dev reply after fits is = rw is (cycle_back None (Device dev) None 
 reply_back : (event : Event) (reply : Reply) (after : AfterStep) → HasShape event reply →
     reply_recorded (record_said reply after) ≡ Some reply
 reply_back (Memory access) reply after shape =
-    bus_back (is_write access.kind) (bytes_of access.width) reply after (few_bytes access.width) shape
+    bus_back (is_write access.kind) (bytes_of access.width) reply after (bytes_few access.width) shape
 reply_back (Wide access) reply after shape =
     parted_back (is_write access.kind) access.bytes (length (cut_of access)) reply after shape
 reply_back (Port access) reply after shape =
-    bus_back access.write (bytes_of access.width) reply after (few_bytes access.width) shape
+    bus_back access.write (bytes_of access.width) reply after (bytes_few access.width) shape
 reply_back (LookAt kind addr smm) reply after shape = look_back reply after shape
 reply_back Ack reply after shape = bus_back false 1 reply after (omega arith) shape
 reply_back (Pulses count) reply after shape = outside_back Pit reply after tt shape

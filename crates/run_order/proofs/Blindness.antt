@@ -1,6 +1,6 @@
 -- No answer depends on the looks and the numbers before it: each definition over histories gives the same without them.
 use Rattle.std.proofs.Common.{◌≡◌, ℕ, zero, suc, ◌*◌, ◌+◌, ◌==◌, nat_lt, Bool, true, List, [], ◌∷◌, ◌++◌, length, refl, sym, ◌∙◌, ap, inl, inr, Option, Some, None, unwrap_or, option_map, option_and_then, if◌then◌else◌}
-use Rattle.board_prelude.proofs.Common.{option_to_list, option_map_or, cases_Bool, WideAccess, PortAccess, Kind, Width, Reg, Target, Dram, Shadow, Smram, Rom, Card, Device, Config, Abort, Dev, Pic0, Pic1, Pit, System, Keyboard, Elcr, Ata, Wires, Vector, Spurious, largest_of, Triggers, triggers_at_reset, trigger_byte, PitState, out_of, pulses, port_read, reset as timer_at_reset, Clock, after_reset as clock_after_reset, read_value, Disk, read_of, Pair, pair_at_reset, pair_after_lines, port_byte, answer_of, Event, Memory, Wide, Port, Ack, Pulses, Time, Wire, Line, BadSector, Look, Parts as PartList, Reply, Bus, Saw, Entry, MapChange, Setup, installed, wide, pirq, control_written, control_after, resets_hard, reset_control, is_hard_reset, address_written, kept_address, config_address, config_store, register_change, byte_with, byte_of, touches_map, map_change_of, map_writes_of, Cell, DramCell, CardCell, entry_put, stored_of, dram_byte, expansion_byte, parts_of, wire_set, wire_of, line_set, irq_of, triggers_after, triggers_of, SystemPort, system_at_reset, system_after, system_of, timer_after, timer_of, clock_after, clock_of, disk_after, disk_with, disk_of, pirqs, levels_with, levels_of, elcr_of, pair_after, pair_pulsed, pair_reset_or_after, pair_stepped, pair_of, device_value, system_value, who_answered, IsOfMemory, SameDevices, MemoryLeavesDevices, IsAnswer, memory_answer, part_answer, wide_value, IsWideAnswer, port_answer, port_value, value_at, IsLookAnswer, map-same, SameDrivers, levels-same, disk_of-same}
+use Rattle.board_prelude.proofs.Common.{option_to_list, option_map_or, cases_Bool, WideAccess, PortAccess, Kind, Width, Reg, Target, Dram, Shadow, Smram, Rom, Card, Device, Config, Abort, Dev, Pic0, Pic1, Pit, System, Keyboard, Elcr, Ata, Wires, Vector, Spurious, largest_of, Triggers, triggers_at_reset, trigger_byte, PitState, out_of, pulses, port_read, reset as timer_at_reset, Clock, after_reset as clock_after_reset, read_value, Disk, read_of, Pair, pair_at_reset, pair_after_lines, port_byte, answer_of, Event, Memory, Wide, Port, Ack, Pulses, Time, Wire, Line, BadSector, Look, Parts as PartList, Reply, Bus, Saw, Entry, MapChange, Setup, installed, wide, pirq, control_written, control_after, resets_hard, reset_control, is_hard_reset, address_written, kept_address, config_address, config_store, register_change, byte_with, byte_of, touches_map, map_change_of, map_writes_of, Cell, DramCell, CardCell, entry_put, stored_of, dram_byte, expansion_byte, parts_of, wire_set, wire_of, line_set, irq_of, triggers_after, triggers_of, SystemPort, system_at_reset, system_after, system_of, timer_after, timer_of, clock_after, clock_of, disk_after, disk_with, disk_of, pirqs, levels_with, levels_of, elcr_of, pair_after, pair_pulsed, pair_reset_or_after, pair_stepped, pair_of, device_value, system_value, who_answered, IsOfMemory, SameDevices, MemoryLeavesDevices, IsAnswer, memory_answer, part_answer, wide_value, IsWideAnswer, port_answer, port_value, value_at, IsLookAnswer, map-same, SameDrivers, levels-same, disk_of-same, elcr-same}
 use Rattle.board_base.specs.declared.access.Access.{Access}
 use Rattle.board_base.specs.declared.target.Dev.TheVariants.{Confadd, Reset, Clock as ClockChip}
 use Rattle.device_spec.specs.Ata.Steps.{after_reset as disk_after_reset}
@@ -152,9 +152,6 @@ line_next : (line : ℕ) (entry : Entry) (before : List Entry) → irq_of before
 unfolding irq_of
 line_next line entry before same = ap (unwrap_or (line_set line entry.event)) same
 
-elcr_same : (history other : List Entry) → triggers_of history ≡ triggers_of other → elcr_of history ≡ elcr_of other
-elcr_same history other same = ap (λ (triggers : Triggers). triggers.low + 0x100 * triggers.high) same
-
 module _ (leaves : MemoryLeavesDevices) (setup : Setup) where
   left : (entry : Entry) (before : List Entry) → is_look entry.event ≡ true → SameDevices setup before (entry ∷ before)
   left entry before is = leaves setup before entry (looks_are_silent entry.event is).memory
@@ -212,7 +209,7 @@ module _ (leaves : MemoryLeavesDevices) (setup : Setup) where
       ap (λ (p : Pair). pair_after_lines p (levels_with setup before (pulses (suc k) (timer_of before))) (elcr_of before)) (pulsed_bare before k pair)
       ∙ ap (λ (t : PitState). pair_after_lines (pair_pulsed setup (bare before) k pair) (levels_with setup before (pulses (suc k) t)) (elcr_of before)) (timer_bare before)
       ∙ ap (λ (l : List Bool). pair_after_lines (pair_pulsed setup (bare before) k pair) l (elcr_of before)) (levels_bare before (pulses (suc k) (timer_of (bare before))))
-      ∙ ap (pair_after_lines (pair_pulsed setup (bare before) k pair) (levels_with setup (bare before) (pulses (suc k) (timer_of (bare before))))) (elcr_same before (bare before) (triggers_bare before))
+      ∙ ap (pair_after_lines (pair_pulsed setup (bare before) k pair) (levels_with setup (bare before) (pulses (suc k) (timer_of (bare before))))) (elcr-same before (bare before) (triggers_bare before))
 
   reset_or_after_next : (entry : Entry) (before : List Entry) (pair : Pair) → pair_reset_or_after setup entry before pair ≡ pair_reset_or_after setup (plain entry) (bare before) pair
   reset_or_after_next entry before pair =
@@ -226,7 +223,7 @@ module _ (leaves : MemoryLeavesDevices) (setup : Setup) where
       ap (λ (p : Pair). pair_after_lines p (levels_of setup (entry ∷ before)) (elcr_of (entry ∷ before))) (reset_or_after_next entry before pair)
       ∙ ap (λ (l : List Bool). pair_after_lines (pair_reset_or_after setup (plain entry) (bare before) pair) l (elcr_of (entry ∷ before))) (levels_next entry before)
       ∙ ap (pair_after_lines (pair_reset_or_after setup (plain entry) (bare before) pair) (levels_of setup (plain entry ∷ bare before)))
-      (elcr_same (entry ∷ before) (plain entry ∷ bare before) (triggers_next entry before (triggers_bare before)))
+      (elcr-same (entry ∷ before) (plain entry ∷ bare before) (triggers_next entry before (triggers_bare before)))
 
   stepped_next : (entry : Entry) (before : List Entry) (event : Event) (pair : Pair) → pair_stepped setup entry before event pair ≡ pair_stepped setup (plain entry) (bare before) event pair
   stepped_next entry before (Pulses count) pair = pulsed_bare before count pair

@@ -21,7 +21,7 @@ cut_at text end found =
     rw take_rest (subst (λ (n : ℕ). fields_of text ≡ take n text ∷ fields_of (drop (n + 1) text)) at_end.1
     (slice_split_first is_space text 0 (ltb-true _ _ at_end.0)))
 
-nowhere : (b : Bool) (n : ℕ) → cond b (Some n) None ≡ None → b ≡ false
+pub nowhere : (b : Bool) (n : ℕ) → cond b (Some n) None ≡ None → b ≡ false
 nowhere true n e = absurd cc
 nowhere false n e = refl
 

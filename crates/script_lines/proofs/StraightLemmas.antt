@@ -10,16 +10,15 @@ use Rattle.script_spec.proofs.FieldTexts.{no_word}
 use Rattle.script_spec.proofs.NumberBack.{decimal_back}
 use Rattle.script_spec.proofs.LineReading.{read_says}
 use Rattle.script_lines.specs.Straight.{Asks}
-
-abbrev is_space : ℕ → Bool
-is_space byte = eqb byte 32
+use Rattle.script_spec.proofs.ItemBack.{number_first}
+use Rattle.script_lines.proofs.FieldLemmas.{is_space}
 
 abbrev IsField : List ℕ → Type 0
 IsField field = All (λ byte. is_space byte ≡ false) field
 
 -- ---- what says something has no space
 
-none_some : {A : Type 0} (x : A) → ◌≡◌ {A = Option A} None (Some x) → ⊥
+pub none_some : {A : Type 0} (x : A) → ◌≡◌ {A = Option A} None (Some x) → ⊥
 none_some x e = cc
 
 digit_lacks : (base byte digit : ℕ) → parse_digit base byte ≡ Some digit → is_space byte ≡ false
@@ -191,20 +190,6 @@ look_straight version byte n kind words text addr verb is kindly at actor =
     ∙ ap (option_map (ask actor)) (look_read byte n kind text addr is kindly at)
 
 -- ---- the line
-
-number_first : (version n : ℕ) (words : List (List ℕ)) (item : Item) → IsDecimal n → parse_statement_words version n words ≡ Some item
-    → parse_item version (decimal n ∷ words) ≡ Some item
-unfolding parse_item parse_by_key parse_statement
-number_first version n words item small read =
-    rw (
-      no_word n (codes "phase") small (λ d. absurd (omega (arith, d.0))),
-      no_word n (codes "cpus") small (λ d. absurd (omega (arith, d.0))),
-      no_word n (codes "memory") small (λ d. absurd (omega (arith, d.0))),
-      no_word n (codes "rom") small (λ d. absurd (omega (arith, d.0))),
-      no_word n (codes "disk") small (λ d. absurd (omega (arith, d.0))),
-      no_word n (codes "card") small (λ d. absurd (omega (arith, d.0))),
-      decimal_back n small,
-    ) read
 
 pub line_straight : (version digit actor : ℕ) (line words : List ℕ) (event : Event) → line ≡ digit ∷ 32 ∷ words
     → Some actor ≡ parse_decimal (digit ∷ []) → Asks version words event → HasForm version line (ask actor event)

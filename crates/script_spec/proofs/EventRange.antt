@@ -4,11 +4,7 @@ use Rattle.board_prelude.proofs.Common.{false≢true, and_parts, leb-true, eqb-t
 use Rattle.board_base.specs.declared.access.Width.TheVariants.{Two, Four}
 use Rattle.board_spec.specs.declared.event.Event.TheVariants.{Look as LookAt}
 use Rattle.script_spec.specs.Common.{Item, IsMomentForm, IsEventForm, has_card, is_event_in_range, is_event_placed, is_card_there}
-
-pub within : (low high n : ℕ) → is_within low high n ≡ true → (low ≤ n) × (n ≤ high)
-within low high n test =
-    let both : (leb low n ≡ true) × (leb n high ≡ true) = and_parts (leb low n) (leb n high) test in
-    (leb-true low n both.0, leb-true n high both.1)
+use Rattle.script_spec.proofs.Chains.{is_within_is}
 
 fits_access : (writes : Bool) (width : Width) (value : ℕ) → FitsBytes writes (bytes_of width) value →
     FitsAccess writes width value
@@ -30,9 +26,9 @@ six true true true true true true test = (refl, refl, refl, refl, refl, refl)
 moment_there : (m : Moment) → IsMomentForm m → is_moment m.year m.month m.day m.hour m.minute m.second ≡ true → IsMoment m
 moment_there m form test =
     let parts = six _ _ _ _ _ _ test in
-    let year = within _ _ m.year parts.0 in
-    let month = within _ _ m.month parts.1 in
-    let day = within _ _ m.day parts.2 in
+    let year = is_within_is _ _ m.year parts.0 in
+    let month = is_within_is _ _ m.month parts.1 in
+    let day = is_within_is _ _ m.day parts.2 in
     record {
       date = record {
         year_low = year.0;
@@ -75,7 +71,7 @@ event_in_range version setup before (Port access) form range place there cards =
 }
 event_in_range version setup before (LookAt kind addr smm) form range place there cards = tt
 event_in_range version setup before Ack form range place there cards = tt
-event_in_range version setup before (Pulses count) form range place there cards = within _ _ count range
+event_in_range version setup before (Pulses count) form range place there cards = is_within_is _ _ count range
 event_in_range version setup before (Time moment) form range place there cards = moment_there moment form range
 event_in_range version setup before (Wire dev on) form range place there cards = cards dev there
 event_in_range version setup before (Line irq on) form range place there cards = range

@@ -14,7 +14,7 @@ use Rattle.script_spec.proofs.SetupBack.{IsLineBack, exact_back, cpus_back, memo
 -- ---- statements
 
 -- a line that begins with a number is a statement's
-number_first : (version n : ℕ) (words : List (List ℕ)) (item : Item) → IsDecimal n → parse_statement_words version n words ≡ Some item
+pub number_first : (version n : ℕ) (words : List (List ℕ)) (item : Item) → IsDecimal n → parse_statement_words version n words ≡ Some item
     → parse_item version (decimal n ∷ words) ≡ Some item
 unfolding parse_item parse_by_key parse_statement
 number_first version n words item small read =

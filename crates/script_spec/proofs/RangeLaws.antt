@@ -9,7 +9,8 @@ use Rattle.std.proofs.lemmas.List.Sorted.{IsPermutation-reverse, sum_by-IsPermut
 use Rattle.script_spec.specs.Common.{Item, SetCpus, SetMemory, SetRom, SetDisk, FitCard, BeginPhase, Ask, AskLevel, IsForm, is_phase, is_statement, is_setup, is_cpus, is_memory, is_rom, is_disk, is_cpus_above, has_card, cards_of, pulses_of, pulses_of_event, is_card_there, Script, IsVersion, phase_items, IsSaidBy, IsDiskName, statements_in, IsInRangeScript, ScriptsAreInRange}
 use Rattle.script_spec.proofs.GoodItems.{NoReason, AreGood, read_good, found_good}
 use Rattle.script_spec.proofs.ScriptLaws.{count_of}
-use Rattle.script_spec.proofs.EventRange.{within, HasCards, event_in_range, sector_in_range, event_in_version}
+use Rattle.script_spec.proofs.EventRange.{HasCards, event_in_range, sector_in_range, event_in_version}
+use Rattle.script_spec.proofs.Chains.{is_within_is}
 
 -- ---- processors
 
@@ -147,14 +148,14 @@ all_bases : (bases : List Base) → list_all is_base_in_range bases ≡ true →
 all_bases [] test = All-nil IsBase
 all_bases (MemoryBase bits ∷ bases) test =
     let both = and_parts _ (list_all is_base_in_range bases) test in
-    All-cons IsBase (MemoryBase bits) bases (within _ _ bits both.0) (all_bases bases both.1)
+    All-cons IsBase (MemoryBase bits) bases (is_within_is _ _ bits both.0) (all_bases bases both.1)
 all_bases (IoBase bits ∷ bases) test =
     let both = and_parts _ (list_all is_base_in_range bases) test in
-    All-cons IsBase (IoBase bits) bases (within _ _ bits both.0) (all_bases bases both.1)
+    All-cons IsBase (IoBase bits) bases (is_within_is _ _ bits both.0) (all_bases bases both.1)
 
 rom_there : (rom : Option ℕ) → is_rom_in_range rom ≡ true → IsExpansionRom rom
 rom_there None test = tt
-rom_there (Some bits) test = within _ _ bits test
+rom_there (Some bits) test = is_within_is _ _ bits test
 
 three : (a b c : Bool) → (a && b && c) ≡ true → (a ≡ true) × (b ≡ true) × (c ≡ true)
 three false b c test = absurd (false≢true test)
@@ -166,7 +167,7 @@ all_cards : (version : ℕ) (items : List Item) → AreGood version items → Al
 all_cards version [] good = All-nil IsCard
 all_cards version (FitCard card ∷ before) good =
     let parts = three _ (list_all is_base_in_range card.bases) (is_rom_in_range card.rom) good.1.range in
-    let dev = within _ _ card.dev parts.0 in
+    let dev = is_within_is _ _ card.dev parts.0 in
     All-cons IsCard card (cards_of before)
     (record {
       first = dev.0;
@@ -337,9 +338,9 @@ in_range : (items : List Item) (script : Script) → AreGood script.version item
     IsInRangeScript script
 in_range items script good version said =
     let cpus = found_good script.version items is_cpus (SetCpus script.cpus) good said.cpus in
-    let count = within _ _ script.cpus cpus.1 in
+    let count = is_within_is _ _ script.cpus cpus.1 in
     let memory = found_good script.version items is_memory (SetMemory script.mib) good said.memory in
-    let mib = within _ _ script.mib memory.1 in
+    let mib = is_within_is _ _ script.mib memory.1 in
     let limits : IsWithinLimits items = within_limits script.version items good in
     let cards : All IsCard script.cards =
     All-permutation IsCard (cards_of items) script.cards said.cards (all_cards script.version items good)

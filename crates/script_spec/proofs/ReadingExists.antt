@@ -142,7 +142,7 @@ in_order version (AskLevel actor verb number level ∷ before) good = in_order v
 
 -- ---- the phases
 
-abbrev run_of : List Item → List Item
+abbrev pub run_of : List Item → List Item
 run_of items = reverse (filter (λ item. not (is_setup item)) items)
 
 record LastPhase (items : List Item) : Type 0 where

@@ -2,7 +2,7 @@
 use Rattle.std.proofs.Common.{◌≡◌, ℕ, ◌+◌, true, false, Result, Ok, Err, List, [], ◌∷◌, ◌++◌, length, refl, sym, ap, ◌∙◌, inl, inr, append_assoc, append-nil, length-append, arith, IfOk, codes, bytes_eq}
 use Rattle.board_prelude.proofs.Common.{digits, true≢false, bytes_eq-Decides}
 use Rattle.script_spec.specs.Common.{lines_of, Item, lacks_setup, Script as Said, IsBadLine, AreRead, IsVersion, first_line, IsSaidBy, IsScriptText, BeginsBadly, IsBadLater, IsInRangeScript}
-use Rattle.script_spec.proofs.Common.{same_head, read_more, skip_more, scripts_are_in_range}
+use Rattle.script_spec.proofs.Common.{same_head, read_more, skip_more, scripts_are_in_range, word_is}
 use Rattle.script_text.specs.declared.fault.ScriptFault.{ScriptFault}
 use Rattle.script_text.specs.declared.fault.ScriptFault.TheVariants.{Bad, NoMemory}
 use Rattle.script_text.specs.declared.reading.Reading.{Reading}
@@ -19,21 +19,18 @@ second_is : first_line 2 ≡ codes "board 2"
 unfolding digits
 second_is = refl
 
-same_text : (line text : List ℕ) → bytes_eq line text ≡ true → line ≡ text
-same_text line text e = (bytes_eq-Decides line text).0 e
-
 other_text : (line text : List ℕ) → bytes_eq line text ≡ false → line ≡ text → ⊥
 other_text line text e same = true≢false (sym ((bytes_eq-Decides line text).1 same) ∙ e)
 
 pub first_version : (lines later : List (List ℕ)) (line : List ℕ) → lines ≡ line ∷ later →
     bytes_eq line (codes "board 1") ≡ true → lines ≡ first_line 1 ∷ later
 first_version lines later line cut e =
-    cut ∙ ap (λ (l : List ℕ). l ∷ later) (same_text line (codes "board 1") e ∙ sym first_is)
+    cut ∙ ap (λ (l : List ℕ). l ∷ later) (word_is line (codes "board 1") e ∙ sym first_is)
 
 pub second_version : (lines later : List (List ℕ)) (line : List ℕ) → lines ≡ line ∷ later →
     bytes_eq line (codes "board 2") ≡ true → lines ≡ first_line 2 ∷ later
 second_version lines later line cut e =
-    cut ∙ ap (λ (l : List ℕ). l ∷ later) (same_text line (codes "board 2") e ∙ sym second_is)
+    cut ∙ ap (λ (l : List ℕ). l ∷ later) (word_is line (codes "board 2") e ∙ sym second_is)
 
 pub no_version : (lines later : List (List ℕ)) (line : List ℕ) → lines ≡ line ∷ later →
     bytes_eq line (codes "board 1") ≡ false → bytes_eq line (codes "board 2") ≡ false → BeginsBadly lines

@@ -4,15 +4,15 @@ use Rattle.script_spec.specs.ScriptRange.{statements_in}
 use Rattle.script_text.specs.Script.{said_of}
 use Rattle.command_texts.proofs.Done.{length_of_replay}
 use Rattle.command_texts.proofs.MapWrites.{version_is}
-use Rattle.command_texts.proofs.EntryLaw.{version_few}
 use Rattle.command_texts.proofs.BlameLemmas.{all_since, all_kept, blame_text}
 use Rattle.command_texts.proofs.blame.blame_after_replay.Goals as goal
+use Rattle.board_chipset.proofs.MapVersions.{few_writes}
 
 pub blame-requires-clause-count : goal.blame-requires-clause-count
 blame-requires-clause-count c =
     let board = c.replay_noting.new.board in
     let is = version_is board.setup board.entries c.in_ok-writes.writes c.in_ok-writes.ensures.writes in
-    let few = version_few board.setup board.entries in
+    let few = few_writes board.setup board.entries in
     let count = length_of_replay c.args.board.now.setup (statements_in (said_of c.args.script.now)) board.entries c.in_ok-writes.ensures.replay in
     let noted : length c.deref-2.result.now ≡ length c.in_ok-writes.writes.changes.items = ap length c.deref-2.ensures.value in
     omega (arith, is, few, count, noted, c.requires.fresh.in_range.statements)

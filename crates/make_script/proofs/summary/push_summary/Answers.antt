@@ -1,9 +1,9 @@
 use Rattle.std.proofs.Common.{ℕ, ◌++◌, reverse, sym, ap, ◌∙◌}
 use Rattle.board_prelude.proofs.Common.{length-reverse, version_of}
-use Rattle.logs_and_maps.proofs.Joined.{appended_twice}
+use Rattle.logs_and_maps.proofs.Joined.{appended_twice, front_more}
 use Rattle.script_spec.specs.Lines.{text_of_lines}
 use Rattle.make_script.specs.Summary.{entry_lines, map_lines, summary_of}
-use Rattle.make_script.proofs.TextLemmas.{text-append, kept-twice}
+use Rattle.make_script.proofs.TextLemmas.{text-append}
 use Rattle.make_script.proofs.summary.push_summary.Goals as goal
 
 pub returns-clause-appended : goal.returns-clause-appended
@@ -18,7 +18,7 @@ returns-clause-appended c setup writes =
 
 pub returns-clause-front : goal.returns-clause-front
 returns-clause-front c =
-    kept-twice c.push_map.result _ _ _ _
+    front_more c.push_map.result _ _ _ _
     (c.in_ok-push_counts.ensures.appended (reverse c.args.entries.now) (c.len.ensures.length ∙ sym (length-reverse c.args.entries.now))
     c.counts_of.ensures.counts)
     c.push_map.ensures.front
