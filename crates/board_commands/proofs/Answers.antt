@@ -1,12 +1,12 @@
 -- What a command answers, from the files that it read and the text that came of them.
-use Rattle.std.proofs.Common.{◌≡◌, ◌≢◌, ℕ, [], ◌∷◌, List, Option, Some, None, refl, sym, subst, Result, Ok, Err, IfOk, IfErr}
+use Rattle.std.proofs.Common.{◌≡◌, ◌≢◌, ℕ, [], ◌∷◌, List, Some, refl, sym, subst, Result, Ok, Err, IfOk, IfErr}
 use Rattle.board_spec.specs.Setup.{Setup}
 use Rattle.script_spec.specs.Common.{Script as Said, DiffersAt}
 use Rattle.log_check.specs.declared.fault.CheckFault.{CheckFault}
 use Rattle.log_check.specs.declared.fault.CheckFault.TheVariants.{Differs as DiffersAtLine, NoMemory as NoMemoryForCheck}
 use Rattle.command_words.specs.Words.{Command, Replay, Run, Map, Check, Make, Dma, Save, Resume, Serial, Blame}
 use Rattle.command_files.specs.declared.status.Which.{Which}
-use Rattle.command_files.specs.declared.status.Which.TheVariants.{Script, Rom, Disk, Log}
+use Rattle.command_files.specs.declared.status.Which.TheVariants.{Script, Rom, Disk}
 use Rattle.command_files.specs.declared.status.Status.{Status}
 use Rattle.command_files.specs.declared.status.Status.TheVariants.{Done, Usage, ReadFault, WriteFault, TooLong, BadScript, BadImage, Differs, OtherBoard, NoMemory}
 use Rattle.command_files.specs.Common.{status_of_check_fault, Files, Known, AllRead, board_of, CanBeDone, OfCheck, OfResume, LogDiffers, BoardsDiffer, AsksFor, ShelfCall, OfFiles, CanEnd, CompareBoards, IsRefused}

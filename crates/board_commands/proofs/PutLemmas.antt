@@ -1,5 +1,5 @@
 -- The puts that were made, one part of a text after another.
-use Rattle.std.proofs.Common.{◌≡◌, ℕ, inl, inr, List, [], ◌∷◌, ◌++◌, Option, Some, None, refl, sym, subst, Result, Ok, Err, IsErr}
+use Rattle.std.proofs.Common.{ℕ, inl, inr, List, [], ◌∷◌, ◌++◌, Option, Some, None, refl, sym, subst, Result, Ok, Err, IsErr}
 use Rattle.board_prelude.proofs.Common.{result_ok}
 use Rattle.board_outside.specs.Outside.{Put, Made}
 use Rattle.board_outside.specs.declared.fault.PutFault.{PutFault}

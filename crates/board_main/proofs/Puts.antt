@@ -1,9 +1,9 @@
 -- Texts that are put one after another.
-use Rattle.std.proofs.Common.{◌≡◌, ◌≢◌, ◌⊎◌, ℕ, List, [], ◌++◌, Option, refl, sym, ap, ◌∙◌, append_assoc, Result, Ok, Err, IsErr, inl, inr}
-use Rattle.board_prelude.proofs.Common.{Appends, Keeps}
+use Rattle.std.proofs.Common.{◌⊎◌, ℕ, List, ◌++◌, Option, sym, ap, ◌∙◌, append_assoc, Result, Ok, Err, IsErr, inl, inr}
+use Rattle.board_prelude.proofs.Common.{Appends}
 use Rattle.board_outside.specs.Counts.{next_fault}
 use Rattle.board_files.specs.declared.out_sink.OutSink.{OutSink}
-use Rattle.board_commands.specs.Output.{Sent, AppendsFront}
+use Rattle.board_commands.specs.Output.{AppendsFront}
 use Rattle.board_commands.specs.Outcomes.{SinkCall}
 use Rattle.board_commands.proofs.SentLemmas.{more_taken}
 use Rattle.board_main.specs.Common.{IsIdle, TookAll, TookFront, IsPut, out_call}

@@ -1,7 +1,6 @@
 -- The ways in which the words end.
-use Rattle.std.proofs.Common.{◌≡◌, ◌≢◌, ◌↔◌, ◌⊎◌, ℕ, List, [], ◌∷◌, ◌++◌, Option, Some, None, Result, Ok, Err, refl, sym, ◌∙◌, subst, inl, inr}
+use Rattle.std.proofs.Common.{◌≡◌, ◌≢◌, ◌↔◌, ◌⊎◌, ℕ, List, [], ◌∷◌, ◌++◌, Option, Some, None, refl, sym, ◌∙◌, subst}
 use Rattle.board_prelude.proofs.Common.{Keeps}
-use Rattle.board_outside.specs.Outside.{Fetch}
 use Rattle.command_words.specs.Words.{Command, command_of}
 use Rattle.command_files.specs.declared.status.Status.{Status}
 use Rattle.command_files.specs.declared.status.Status.TheVariants.{Done, Usage, ReadFault, WriteFault, TooLong, BadScript, BadImage, Differs, NoMemory, OtherBoard}
@@ -9,7 +8,7 @@ use Rattle.command_files.specs.Common.{Files, ShelfCall}
 use Rattle.command_files.specs.FaultText.{text_of}
 use Rattle.board_commands.specs.Outcomes.{SinkCall}
 use Rattle.board_main.specs.declared.answers.OwnAnswer.{OwnAnswer}
-use Rattle.board_main.specs.Common.{Ends, EndsCommand, EndsOwn, IsWritten, IsIdle, IsPut, IsTold, TookAll, TookFront, own_of, own_text}
+use Rattle.board_main.specs.Common.{Ends, EndsCommand, EndsOwn, IsWritten, IsIdle, IsTold, TookAll, TookFront, own_of, own_text}
 use Rattle.board_main.specs.Ends.{AreFetchesFor}
 
 -- an answer of the program's own is no faulty command line

@@ -1,6 +1,6 @@
 -- A command at a place of its table: what its status is there, and which fetches it made.
 use Rattle.std.proofs.Common.{◌≡◌, ◌≢◌, ℕ, suc, ◌+◌, ◌<◌, ◌≤◌, ◌⊎◌, inl, inr, List, [], ◌∷◌, ◌++◌, length, take, drop, reverse, get_or, Option, Some, None, refl, sym, ap, ◌∙◌, subst, append_assoc, Result, Ok, OnOk}
-use Rattle.board_prelude.proofs.Common.{reverse-append, reverse-reverse, append-nil, take_all, take_at_read}
+use Rattle.board_prelude.proofs.Common.{reverse-append, reverse-reverse, append-nil, take_all}
 use Rattle.board_outside.specs.Outside.{Rose, OfFile}
 use Rattle.std.proofs.Math.Seq.{split_at}
 use Rattle.board_outside.specs.Outside.{Fetch}

@@ -1,6 +1,6 @@
 //! The files that a command reads.
 
-ghost use Rattle.std.specs.Prelude.{◌≡◌, ◌≢◌, ◌<◌, ◌≤◌, ◌^◌, length, IfOk, IfErr, OnOk, vec_len};
+ghost use Rattle.std.specs.Prelude.{◌≡◌, ◌≢◌, ◌<◌, ◌≤◌, IfOk, IfErr, OnOk, vec_len};
 ghost use Rattle.board_outside.specs.Outside.{OfFile};
 ghost use Rattle.command_files.specs.declared.status.Which.{Which};
 ghost use Rattle.command_files.specs.declared.status.Status.{Status};

@@ -1,6 +1,6 @@
 //! Whole files, read in pieces from a shelf.
 
-ghost use Rattle.std.specs.Prelude.{◌≡◌, ◌≢◌, ◌<◌, ◌≤◌, ◌+◌, ◌++◌, ◌^◌, length, take, IfOk, IfErr, OnOk, vec_len};
+ghost use Rattle.std.specs.Prelude.{◌≡◌, ◌≢◌, ◌<◌, ◌≤◌, ◌+◌, ◌++◌, length, take, IfOk, IfErr, OnOk, vec_len};
 ghost use Rattle.board_outside.specs.Outside.{Rose, OfFile};
 ghost use Rattle.command_files.specs.Files.{IsLongerFront};
 ghost use Rattle.command_files.specs.Calls.{OfCalls, FetchesOnce, ReadsBy};

@@ -1,6 +1,6 @@
 -- What a board did, put together.
-use Rattle.std.proofs.Common.{◌≡◌, ℕ, List, [], ◌∷◌, ◌++◌, refl, sym, ap, ◌∙◌, subst, map, reverse, length, Result, Ok, Err, OnOk, OnErr}
-use Rattle.board_prelude.proofs.Common.{append-nil, map-append, reverse-append, length-map, length-reverse, Entry, Reply, Statement, Setup, IsAnswer, next_entry, IsLegal, statement_of, statements_of, IsReplayOf, statements-newest}
+use Rattle.std.proofs.Common.{◌≡◌, ℕ, List, [], ◌∷◌, ◌++◌, refl, sym, ap, ◌∙◌, subst, reverse, length, Result, Ok, Err, OnOk, OnErr}
+use Rattle.board_prelude.proofs.Common.{append-nil, length-map, length-reverse, Entry, Reply, Statement, Setup, IsAnswer, next_entry, IsLegal, statement_of, statements_of, IsReplayOf, statements-newest}
 use Rattle.std.proofs.lemmas.List.{append_assoc}
 use Rattle.board_core.specs.Kept.{Standing}
 use Rattle.command_texts.specs.Done.{DidStatements}

@@ -1,7 +1,7 @@
 -- One entry more in the log of a replay.
 use Rattle.std.proofs.Common.{ℕ, ◌≡◌, ◌+◌, ◌<◌, List, [], ◌∷◌, ◌++◌, length, take, get_or, refl, sym, ap, ◌∙◌, subst, append_assoc, append-nil, add-one}
 use Rattle.std.proofs.lemmas.List.{take_more}
-use Rattle.board_prelude.proofs.Common.{Entry, Statement, line_feed, line_text, lines_text, log_text, statement_of, statements_of, statements-newest}
+use Rattle.board_prelude.proofs.Common.{Entry, Statement, line_feed, line_text, lines_text, log_text, statement_of, statements-newest}
 use Rattle.board_core.specs.Kept.{Playing, HasPlayed}
 use Rattle.log_check.proofs.LogLines.{log_parts, lines-newest}
 use Rattle.command_texts.specs.ReplayLog.{HasLog}

@@ -3,9 +3,8 @@ use Rattle.std.proofs.Common.{◌≡◌, ℕ, ◌+◌, ◌*◌, ◌<◌, ◌≤�
 use Rattle.board_prelude.proofs.Common.{Vec, Global, take_more, length-take-le, Statement, in_file_order, statements_of, Setup}
 use Rattle.std.proofs.Math.Nat.{le-add_right}
 use Rattle.board_core.specs.Kept.{Standing}
-use Rattle.uart_16550.specs.declared.com1.Happening.{Happening}
 use Rattle.uart_16550.specs.declared.com1.Happening.TheVariants.{Comes, Happens}
-use Rattle.uart_16550.specs.Common.{Serial, Sending, sending_after, sent_by, bytes_sent, after_all}
+use Rattle.uart_16550.specs.Common.{Serial, Sending, sent_by, bytes_sent, after_all}
 use Rattle.script_spec.specs.Phases.{lists_of}
 use Rattle.log_check.proofs.PhaseLists.{all_of_phase, few_so_far, phases_cut, phases_more, statements_cut}
 use Rattle.command_texts.specs.Common.{bytes_before, left_after, happenings_of, happenings_in, steps_for_all, steps_in, sent_in, IsForPort, IsStanding, Happened, SerialPlace, WentOn, port_of}

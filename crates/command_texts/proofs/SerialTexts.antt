@@ -1,14 +1,10 @@
 -- What a board with a serial port sent in a whole replay.
-use Rattle.std.proofs.Common.{◌≡◌, ℕ, ◌+◌, ◌<◌, ◌≤◌, Bool, true, false, List, [], ◌∷◌, ◌++◌, length, All, refl, sym, ap, subst, ◌∙◌, append-nil, arith, slice_index, if◌then◌else◌}
-use Rattle.board_prelude.proofs.Common.{option_to_list, cases_Bool, PortAccess, Event, Reply, Entry, Statement, Setup, IsAnswer, reset_control, IsLegal, LegalKeepsLock, statements_of, IsReplayOf}
+use Rattle.std.proofs.Common.{◌≡◌, ℕ, ◌+◌, ◌≤◌, true, List, [], ◌∷◌, ◌++◌, length, All, refl, sym, ap, subst, ◌∙◌, append-nil, arith, slice_index}
+use Rattle.board_prelude.proofs.Common.{Entry, Statement, Setup, reset_control, IsLegal, LegalKeepsLock, statements_of}
 use Rattle.board_core.specs.Kept.{Standing}
 use Rattle.script_spec.specs.Common.{Script as Said, IsInRangeScript, statements_in}
-use Rattle.uart_16550.specs.declared.com1.Com1.{Com1}
-use Rattle.uart_16550.specs.declared.com1.Happening.TheVariants.{Happens}
-use Rattle.uart_16550.specs.declared.com1.SerialReply.{SerialReply}
-use Rattle.uart_16550.specs.declared.com1.SerialReply.TheVariants.{Board}
-use Rattle.uart_16550.specs.Common.{Uart, has_room, com1_at_reset, uart_access, uart_reply, Serial, Sending, sending_at_reset, sent_by, sent_by_access}
-use Rattle.command_texts.specs.Common.{bytes_before, left_after, happenings_in, steps_in, sent_in, IsSerialText, IsForPort, SerialPlace, WentOn, port_of}
+use Rattle.uart_16550.specs.Common.{Uart, has_room, com1_at_reset, Serial, Sending, sending_at_reset}
+use Rattle.command_texts.specs.Common.{bytes_before, happenings_in, steps_in, sent_in, IsSerialText, IsForPort, WentOn, port_of}
 use Rattle.command_texts.proofs.Happenings.{port_is}
 
 -- ---- the byte that comes

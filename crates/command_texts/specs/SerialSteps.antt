@@ -1,5 +1,5 @@
 -- How a replay on a board with a serial port goes on.
-use Rattle.std.specs.Prelude.{ℕ, ◌≡◌, ◌+◌, ◌*◌, ◌<◌, ◌≤◌, ◌++◌, List, length, All, Option, None}
+use Rattle.std.specs.Prelude.{ℕ, ◌≡◌, ◌+◌, ◌*◌, ◌<◌, ◌≤◌, ◌++◌, List, length, Option, None}
 use Rattle.board_prelude.specs.Common.{Statement, Setup, IsInRange, reset_control, statements_of}
 use Rattle.board_core.specs.Kept.{Standing}
 use Rattle.uart_16550.specs.declared.com1.Happening.{Happening}

@@ -1,6 +1,6 @@
 //! The command `blame`: since which map write each range of the address map stands, and on which map writes it rests.
 
-ghost use Rattle.std.specs.Prelude.{◌≡◌, ◌++◌, ◌≤◌, ℕ, List, All, length, flat_map, IfOk, OnOk};
+ghost use Rattle.std.specs.Prelude.{◌≡◌, ◌++◌, ◌≤◌, List, All, length, flat_map, IfOk, OnOk};
 ghost use Rattle.board_prelude.specs.Common.{Entry, Setup, range_text};
 ghost use Rattle.logs_and_maps.specs.Adds.{AddsWords};
 ghost use Rattle.map_builder.specs.Map.{range_of};

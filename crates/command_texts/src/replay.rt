@@ -1,6 +1,6 @@
 //! Replays of a script on its board, and the texts of `map` and `check`.
 
-ghost use Rattle.std.specs.Prelude.{◌≡◌, ◌∷◌, ◌++◌, ◌≤◌, ◌⊎◌, ℕ, [], Ok, Err, length, map, flat_map, string_bytes, codes, decimal, IfOk, IfErr, OnOk, OnErr};
+ghost use Rattle.std.specs.Prelude.{◌≡◌, ◌∷◌, ◌++◌, ◌≤◌, ◌⊎◌, ℕ, [], Ok, Err, length, map, string_bytes, codes, decimal, IfOk, IfErr, OnOk, OnErr};
 ghost use Rattle.board_prelude.specs.Common.{IsLegal, most_statements, log_text, IsReplayOf, IsBegunFor, line_feed, map_text};
 ghost use Rattle.map_builder.specs.Map.{range_of};
 ghost use Rattle.script_spec.specs.Common.{IsInRangeScript, statements_in, IsLogOf, DiffersAt};

@@ -1,8 +1,8 @@
 -- The pieces of a line that was read are those of its entry.
-use Rattle.std.proofs.Common.{◌≡◌, ℕ, Option, Some, None, List, ◌∷◌, refl, sym, ap, subst, ◌∙◌}
+use Rattle.std.proofs.Common.{◌≡◌, ℕ, Option, Some, List, ◌∷◌, refl, sym, ap, subst, ◌∙◌}
 use Rattle.board_prelude.proofs.Common.{Event, Reply, Entry, space, value_bytes, reply_text, line_text}
 use Rattle.script_spec.specs.Common.{IsEventForm, HasShape, IsWellFormed, ask, Pieces, parse_pieces, parse_actor}
-use Rattle.script_spec.proofs.Common.{some_is, one_item, asked_text, replied_text, pieces, line_pieces, actor_said, asked_said}
+use Rattle.script_spec.proofs.Common.{some_is, one_item, replied_text, pieces, line_pieces, actor_said, asked_said}
 use Rattle.log_lines.specs.Asked.{IsAsked}
 use Rattle.log_lines.proofs.AskedReading.{event_is, actor_is}
 

@@ -1,6 +1,6 @@
 //! Numbers in hexadecimal, in upper-case digits, two for each byte.
 
-ghost use Rattle.std.specs.Prelude.{◌≡◌, ◌+◌, ◌/◌, ◌<◌, ◌≤◌, ◌++◌, OnOk, OnErr, IsAscii};
+ghost use Rattle.std.specs.Prelude.{◌≡◌, ◌+◌, ◌/◌, ◌<◌, ◌≤◌, ◌++◌, OnOk, OnErr};
 ghost use Rattle.board_prelude.specs.Common.{byte, hex_digit, hex_byte, hex_number, hex_offset};
 ghost use Rattle.logs_and_maps.specs.Adds.{AddsWords, KeepsFront};
 ghost use Rattle.logs_and_maps.specs.Tails.{HasRoom, GrowsBy};

@@ -1,6 +1,6 @@
 //! What answers an access, as text.
 
-ghost use Rattle.std.specs.Prelude.{◌≡◌, ◌+◌, ◌≤◌, ◌++◌, length, OnOk, OnErr};
+ghost use Rattle.std.specs.Prelude.{◌≡◌, ◌+◌, ◌++◌, length, OnOk, OnErr};
 ghost use Rattle.board_spec.specs.Text.{register_text, base_text, area_text, device_text, target_text, denial_text};
 ghost use Rattle.logs_and_maps.specs.Adds.{AddsWords, KeepsFront};
 ghost use Rattle.logs_and_maps.specs.Tails.{HasRoom, GrowsBy};

@@ -1,6 +1,6 @@
 //! Fixed words, and numbers in decimal.
 
-ghost use Rattle.std.specs.Prelude.{◌≡◌, ◌+◌, ◌≤◌, ◌++◌, length, OnOk, OnErr, decimal, IsAscii};
+ghost use Rattle.std.specs.Prelude.{◌≡◌, ◌+◌, ◌++◌, length, OnOk, OnErr, decimal, IsAscii};
 ghost use Rattle.board_spec.specs.LogText.{two_digits};
 ghost use Rattle.logs_and_maps.specs.Adds.{AddsWords, KeepsFront};
 ghost use Rattle.logs_and_maps.specs.Tails.{HasRoom, GrowsBy};

@@ -1,5 +1,5 @@
 -- Statements that are read in turn after a setup and a phase.
-use Rattle.std.proofs.Common.{ℕ, ◌≡◌, ◌+◌, ◌*◌, ◌<◌, ◌≤◌, Bool, true, false, ◌&&◌, ◌||◌, not, ltb, None, List, [], ◌∷◌, ◌++◌, length, map, filter, reverse, sum_by, All, refl, sym, ap, ◌∙◌, inl, inr, append_assoc, append-nil, arith, option_map, decimal}
+use Rattle.std.proofs.Common.{ℕ, ◌≡◌, ◌+◌, ◌*◌, ◌<◌, ◌≤◌, Bool, true, false, ◌&&◌, ◌||◌, not, ltb, None, List, [], ◌∷◌, ◌++◌, length, map, filter, sum_by, All, refl, sym, ap, ◌∙◌, inl, inr, append_assoc, append-nil, arith, option_map, decimal}
 use Rattle.board_prelude.proofs.Common.{find, list_any, AllZip, onto_first, list_all, le-ltb, and_from, and_parts, reverse-append, All-head, All-tail, sum_by-cons, Statement, memory_of_cards, space, line_feed, event_text}
 use Rattle.script_spec.specs.Common.{lines_of, text_of_lines, Item, Ask, StandsFor, IsEventForm, item_text, reason, is_phase, is_statement, is_setup, cards_of, is_misplaced, is_repeated, lacks_setup, is_in_range, is_event_in_range, is_placed, is_event_placed, is_there, is_cpus_above, is_card_there, pulses_of, pulses_of_event, passes_limits, least_reason, most_bytes, is_skipped, AreRead}
 use Rattle.script_spec.proofs.Common.{lacks, lacks-first, lacks-later, lacks-append, lacks-word, lacks-plain, decimal_word, event_plain}

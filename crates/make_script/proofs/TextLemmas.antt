@@ -1,7 +1,6 @@
 -- The lines of one round more.
-use Rattle.std.proofs.Common.{ℕ, suc, ◌≡◌, ◌+◌, List, [], ◌∷◌, ◌++◌, append-nil, Result, Ok, Err, OnErr, sym, ap, ◌∙◌, append_assoc, arith}
+use Rattle.std.proofs.Common.{ℕ, suc, ◌≡◌, ◌+◌, List, [], ◌∷◌, ◌++◌, append-nil, sym, ap, ◌∙◌, append_assoc, arith}
 use Rattle.board_prelude.proofs.Common.{flat_map-append, line_feed}
-use Rattle.logs_and_maps.specs.Adds.{IsFront}
 use Rattle.script_spec.specs.Lines.{text_of_lines}
 use Rattle.make_script.specs.MakeText.{setup_lines, opening_lines, round_lines, lines_of_rounds, make_lines}
 

@@ -1,6 +1,5 @@
 //! The callers of a shared board.
 
-ghost use Rattle.std.specs.Prelude.{◌≡◌};
 
 use crate::caller::Caller;
 use board_base::{Kind, NoMemory};

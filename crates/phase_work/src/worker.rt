@@ -1,6 +1,6 @@
 //! A worker of a phase: it does the statements of one processor.
 
-ghost use Rattle.std.specs.Prelude.{◌≡◌, ◌+◌, ◌<◌, ◌≤◌, List, [], ◌∷◌, All, length, reverse, OnOk, IfOk};
+ghost use Rattle.std.specs.Prelude.{◌≡◌, ◌+◌, ◌<◌, ◌≤◌, List, [], ◌∷◌, All, length, OnOk, IfOk};
 ghost use Rattle.board_prelude.specs.Common.{Entry, IsInRange, entries_by, events_by, map_writes_of, most_statements};
 ghost use Rattle.run_order.specs.declared.done.Done.{Done};
 ghost use Rattle.run_order.specs.Common.{event_of, IsDone};

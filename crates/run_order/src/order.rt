@@ -1,6 +1,6 @@
 //! The order of the entries of a run, with the looks of all processors.
 
-ghost use Rattle.std.specs.Prelude.{◌≡◌, ◌-◌, ◌+◌, ◌<◌, ◌≤◌, ℕ, List, [], ◌∷◌, length, map, drop, reverse, slice_index_or, All, max, IsFalse, IsOk, IfOk, OnOk, OnErr};
+ghost use Rattle.std.specs.Prelude.{◌≡◌, ◌-◌, ◌+◌, ◌<◌, ◌≤◌, List, [], ◌∷◌, length, map, drop, reverse, slice_index_or, All, max, IsFalse, IsOk, IfOk, OnOk, OnErr};
 ghost use Rattle.board_prelude.specs.Common.{Entry, Saw, Setup, IsLegal, entries_by, next_entry};
 ghost use Rattle.board_spec.specs.declared.event.Event.TheVariants.{Look as LookAt};
 ghost use Rattle.run_order.specs.Over.{IsPlacedBelow, entry_of, nowhere, over};

@@ -1,8 +1,8 @@
 //! A moment, as a statement spells it.
 
-ghost use Rattle.std.specs.Prelude.{◌≡◌, ◌<◌, IfSome, option_map};
+ghost use Rattle.std.specs.Prelude.{◌≡◌, ◌<◌, option_map};
 ghost use Rattle.script_lines.specs.Items.{moment_said};
-ghost use Rattle.script_spec.specs.Moments.{Three, parse_moment_part, parse_year, parse_date, parse_time, parse_moment};
+ghost use Rattle.script_spec.specs.Moments.{parse_moment_part, parse_year, parse_date, parse_time, parse_moment};
 
 use crate::numbers::{after_mark, parse_two_digits};
 

@@ -1,5 +1,5 @@
 -- What a text says is found line by line: the items of a script, or the first bad line and the least reason.
-use Rattle.std.proofs.Common.{ℕ, ◌≡◌, ◌⊎◌, ◌+◌, Bool, true, false, Option, Some, None, Result, Ok, Err, List, [], ◌∷◌, ◌++◌, length, refl, sym, ap, subst, ◌∙◌, inl, inr, append-nil, arith, ◌<◌, nat_lt, if◌then◌else◌, bytes_eq, ◌≤◌}
+use Rattle.std.proofs.Common.{ℕ, ◌≡◌, ◌⊎◌, ◌+◌, true, false, Option, Some, None, Result, Ok, Err, List, [], ◌∷◌, ◌++◌, length, refl, sym, ap, subst, ◌∙◌, inl, inr, append-nil, arith, ◌<◌, nat_lt, if◌then◌else◌, bytes_eq, ◌≤◌}
 use Rattle.board_prelude.proofs.Common.{digits, cases_Bool, cases_lt, lt-ltb, le-ltb, true≢false, bytes_eq-Decides}
 use Rattle.script_spec.specs.Common.{lines_of, Item, HasForm, parse_line, lacks_setup, least_reason, most_bytes, is_skipped, IsBadLine, AreRead, EndsBadly, IsVersion, first_line, BeginsBadly, IsBadLater, Script, IsScriptText}
 use Rattle.script_spec.proofs.LineReading.{read_says, nothing_said}

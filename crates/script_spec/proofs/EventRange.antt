@@ -1,6 +1,6 @@
 -- Events that have a form, and that there is no reason to refuse, are in range.
-use Rattle.std.proofs.Common.{ℕ, ◌≡◌, ◌+◌, ◌%◌, ◌≤◌, Bool, true, false, ◌&&◌, leb, List, refl, arith, is_some}
-use Rattle.board_prelude.proofs.Common.{false≢true, and_parts, leb-true, eqb-true, Width, One, Moment, bytes_of, days_in_month, IsMoment, Event, Memory, Wide, Port, Ack, Pulses, Time, Wire, Line, BadSector, Setup, card_at, is_within, is_write, FitsAccess, FitsBytes, IsInRange, IsScriptSector, IsInVersion, is_moment}
+use Rattle.std.proofs.Common.{ℕ, ◌≡◌, ◌+◌, ◌%◌, Bool, true, false, ◌&&◌, List, refl, arith, is_some}
+use Rattle.board_prelude.proofs.Common.{false≢true, leb-true, eqb-true, Width, One, Moment, bytes_of, IsMoment, Event, Memory, Wide, Port, Ack, Pulses, Time, Wire, Line, BadSector, Setup, card_at, is_write, FitsAccess, FitsBytes, IsInRange, IsScriptSector, IsInVersion, is_moment}
 use Rattle.board_base.specs.declared.access.Width.TheVariants.{Two, Four}
 use Rattle.board_spec.specs.declared.event.Event.TheVariants.{Look as LookAt}
 use Rattle.script_spec.specs.Common.{Item, IsMomentForm, IsEventForm, has_card, is_event_in_range, is_event_placed, is_card_there}

@@ -1,5 +1,5 @@
 -- The first of a list, and the rest.
-use Rattle.std.proofs.Common.{ℕ, suc, ◌≡◌, Some, List, [], ◌∷◌, length, get_or, drop, ap, arith, unwrap_or}
+use Rattle.std.proofs.Common.{suc, ◌≡◌, Some, List, [], ◌∷◌, length, get_or, drop, ap, arith, unwrap_or}
 
 pub same_head : {X : Type 0} (x y : X) (xs ys : List X) → x ∷ xs ≡ y ∷ ys → x ≡ y
 same_head x y xs ys e = ap (λ l. get_or l 0 x) e

@@ -1,8 +1,8 @@
 -- A text says at most one script, and is bad at one line for one reason, but not both: it is decided.
-use Rattle.std.proofs.Common.{ℕ, ◌≡◌, Result, Ok, Err, List, [], ◌∷◌, ◌++◌, refl, sym, ap, ◌∙◌, inl, inr}
+use Rattle.std.proofs.Common.{ℕ, ◌≡◌, Result, Ok, Err, List, [], ◌∷◌, ◌++◌, sym, ap, ◌∙◌, inl, inr}
 use Rattle.script_spec.specs.Common.{lines_of, Item, IsSkipped, IsGoodLine, AreRead, NotBoth, OneRefusal}
 pub use Rattle.script_spec.proofs.Lists.{same_head, same_tail, not_nil, same_some}
-use Rattle.script_spec.proofs.Decision.{judged, text_decided, bad_decided}
+use Rattle.script_spec.proofs.Decision.{text_decided, bad_decided}
 
 -- one line more is read
 pub read_more : (version : ℕ) (lines : List (List ℕ)) (line : List ℕ) (before items : List Item) (item : Item) →

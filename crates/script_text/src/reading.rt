@@ -2,7 +2,6 @@
 
 ghost use Rattle.std.specs.Prelude.{◌≡◌, [], List, true, false, IfOk, IfErr};
 ghost use Rattle.script_spec.specs.Common.{Item, lacks_setup, IsSaidBy};
-ghost use Rattle.script_text.specs.Faults.{number_of};
 ghost use Rattle.script_text.specs.Reading.{IsReadingOf};
 ghost use Rattle.script_text.specs.Script.{said_of};
 ghost use Rattle.script_text.specs.declared.fault.Reason.{Reason};

@@ -4,7 +4,7 @@ ghost use Rattle.std.specs.Prelude.{◌≡◌, ◌≤◌, ℕ, length, map, opti
 ghost use Rattle.board_prelude.specs.Common.{list_all, is_free_line, IsCard, is_within, is_base_in_range, is_rom_in_range, is_moment};
 ghost use Rattle.pci_bars.specs.Bases.{base_of};
 ghost use Rattle.script_spec.specs.Common.{is_card_in_range, is_event_in_range, is_event_placed, is_in_range, pulses_of_event, ask};
-ghost use Rattle.script_lines.specs.Items.{base_said, card_said, moment_said, asked_said};
+ghost use Rattle.script_lines.specs.Items.{base_said, card_said, asked_said};
 ghost use Rattle.script_text.specs.Valid.{in_case};
 
 use arrayvec::ArrayVec;

@@ -1,4 +1,4 @@
-use Rattle.std.proofs.Common.{List, subst, sym}
+use Rattle.std.proofs.Common.{List, subst}
 use Rattle.board_prelude.proofs.Common.{Entry}
 use Rattle.board_core.specs.Kept.{HasPlayed}
 use Rattle.command_texts.proofs.replay_log.log_of_replay.Goals as goal

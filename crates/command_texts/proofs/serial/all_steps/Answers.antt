@@ -1,7 +1,4 @@
-use Rattle.std.proofs.Common.{◌≡◌, ℕ, ◌+◌, ◌*◌, ◌≤◌, List, length, take, drop, All, ap, sym, subst, ◌∙◌, arith}
-use Rattle.board_prelude.proofs.Common.{Statement, Setup, in_file_order}
-use Rattle.script_spec.specs.Phases.{lists_of}
-use Rattle.command_texts.specs.SerialSteps.{IsForPort, SerialPlace, WentOn}
+use Rattle.std.proofs.Common.{◌≡◌, length, ap, arith}
 use Rattle.command_texts.proofs.SerialReplays.{all_for_port_as, phase_for_port, went_nowhere, went_on_as, went_on_phase, room_for_phase}
 use Rattle.command_texts.proofs.serial.all_steps.Goals as goal
 

@@ -2,7 +2,7 @@
 use Rattle.std.proofs.Common.{take}
 use Rattle.board_spec.specs.OrderLaws.{in_file_order}
 use Rattle.script_spec.specs.Phases.{lists_of}
-use Rattle.command_texts.specs.SerialSteps.{SerialPlace, WentOn}
+use Rattle.command_texts.specs.SerialSteps.{WentOn}
 use Rattle.command_texts.proofs.serial.all_steps.Given as goal
 
 abbrev pub invariant-loop-phase : goal.invariant-loop-phase

@@ -1,4 +1,4 @@
-use Rattle.std.proofs.Common.{◌≡◌, ℕ, List, map, refl, sym, subst, ◌∙◌, slice_index}
+use Rattle.std.proofs.Common.{ℕ, List, map, sym, subst, slice_index}
 use Rattle.uart_16550.specs.declared.com1.Happening.TheVariants.{Comes}
 use Rattle.command_texts.specs.SerialSteps.{Happened}
 use Rattle.command_texts.proofs.Happenings.{byte_came}

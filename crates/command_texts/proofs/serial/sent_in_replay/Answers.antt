@@ -1,4 +1,4 @@
-use Rattle.std.proofs.Common.{◌≡◌, ℕ, List, ap, subst, ◌∙◌}
+use Rattle.std.proofs.Common.{ℕ, List, ap, subst}
 use Rattle.board_spec.specs.OrderLaws.{in_file_order}
 use Rattle.script_spec.specs.Common.{lists_of, statements_in}
 use Rattle.script_text.specs.Script.{said_of}

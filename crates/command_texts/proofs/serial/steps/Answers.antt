@@ -1,5 +1,4 @@
-use Rattle.std.proofs.Common.{◌≡◌, ℕ, ◌+◌, ◌*◌, ◌≤◌, sym, subst, ◌∙◌, arith}
-use Rattle.command_texts.specs.SerialSteps.{IsForPort, SerialPlace, WentOn}
+use Rattle.std.proofs.Common.{◌∙◌, arith}
 use Rattle.command_texts.proofs.SerialReplays.{for_port_as, went_nowhere, went_on_step, went_on_more, room_for_next}
 use Rattle.command_texts.proofs.serial.steps.Goals as goal
 

@@ -1,6 +1,6 @@
 -- The statements so far are done.
 use Rattle.std.proofs.Common.{take}
-use Rattle.command_texts.specs.SerialSteps.{SerialPlace, WentOn}
+use Rattle.command_texts.specs.SerialSteps.{WentOn}
 use Rattle.command_texts.proofs.serial.steps.Given as goal
 
 abbrev pub invariant-loop-statement : goal.invariant-loop-statement

@@ -1,4 +1,4 @@
-use Rattle.std.proofs.Common.{◌≡◌, ◌+◌, ◌*◌, ◌≤◌, ◌<◌, ℕ, length, ap, sym, subst, ◌∙◌, refl, arith, slice_index}
+use Rattle.std.proofs.Common.{refl, arith, slice_index}
 use Rattle.command_texts.specs.Transfers.{sum_below}
 use Rattle.dram_store.specs.Bank.{bank_size}
 use Rattle.command_texts.proofs.Sums.{part_added}

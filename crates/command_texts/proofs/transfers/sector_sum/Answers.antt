@@ -1,4 +1,4 @@
-use Rattle.std.proofs.Common.{◌≡◌, ◌+◌, ◌*◌, ◌≤◌, ℕ, length, take, drop, ap, sym, subst, ◌∙◌, refl, arith, slice_index}
+use Rattle.std.proofs.Common.{◌≤◌, length, ap, sym, ◌∙◌, refl, arith, slice_index}
 use Rattle.command_texts.specs.Transfers.{sum_below}
 use Rattle.command_texts.proofs.Sums.{part_added, cut_byte, cut_length}
 use Rattle.command_texts.proofs.transfers.sector_sum.Goals as goal

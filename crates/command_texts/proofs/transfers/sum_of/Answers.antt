@@ -1,4 +1,4 @@
-use Rattle.std.proofs.Common.{◌≡◌, ◌+◌, ◌*◌, ◌≤◌, ap, sym, ◌∙◌, refl, arith, slice_index}
+use Rattle.std.proofs.Common.{refl, arith, slice_index}
 use Rattle.command_texts.specs.Transfers.{sum_below}
 use Rattle.command_texts.proofs.Sums.{sum_below-more}
 use Rattle.command_texts.proofs.transfers.sum_of.Goals as goal

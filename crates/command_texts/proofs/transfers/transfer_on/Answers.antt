@@ -1,5 +1,4 @@
-use Rattle.std.proofs.Common.{◌≡◌, ℕ, refl, sym, ap, ◌∙◌}
-use Rattle.bus_master.specs.Registers.{Master, register_of}
+use Rattle.std.proofs.Common.{refl, ◌∙◌}
 use Rattle.command_texts.proofs.TransferTexts.{cells_left, transfer_told, ok_then, status_read}
 use Rattle.command_texts.proofs.transfers.transfer_on.Goals as goal
 

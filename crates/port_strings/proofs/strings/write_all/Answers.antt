@@ -1,4 +1,4 @@
-use Rattle.std.proofs.Common.{◌≡◌, ◌+◌, ◌∙◌, sym, subst, inl, inr, arith}
+use Rattle.std.proofs.Common.{◌∙◌, sym, subst, inl, inr, arith}
 use Rattle.board_records.specs.declared.event.EventRecord.{EventRecord}
 use Rattle.port_strings.specs.Strings.{IsAny, IsStep, writes}
 use Rattle.port_strings.proofs.Turns.{one_more, goes_on}

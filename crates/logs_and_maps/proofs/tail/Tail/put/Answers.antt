@@ -1,5 +1,5 @@
-use Rattle.std.proofs.Common.{ℕ, ◌≡◌, ◌+◌, ◌-◌, ◌∷◌, ◌++◌, List, drop, get_or, length, ap, ◌∙◌, arith}
-use Rattle.board_prelude.proofs.Common.{drop_more, length-append, length-drop}
+use Rattle.std.proofs.Common.{ℕ, ◌≡◌, ◌+◌, ◌-◌, ◌∷◌, List, drop, get_or, length, ap, ◌∙◌, arith}
+use Rattle.board_prelude.proofs.Common.{length-append, length-drop}
 use Rattle.logs_and_maps.proofs.Places.{ascii_one, one_more}
 use Rattle.logs_and_maps.proofs.tail.Tail.put.Goals as goal
 
