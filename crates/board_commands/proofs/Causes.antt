@@ -59,7 +59,8 @@ module _ (command : Command) (shelf : ShelfCall) (sink : SinkCall) where
 
   -- a command was refused before it had its text, and nothing was put
   pub caused_refusal :
-      (status : Status) → IsRefused command shelf status → HidesNoFault shelf status → sink.faults_now ≡ sink.faults_before →
+      (status : Status) → IsRefused command shelf status → HidesNoFault shelf status
+          → sink.faults_now ≡ sink.faults_before →
       Keeps sink.taken_before sink.taken_now → IsCaused status (Some command) shelf sink
   caused_refusal status refused quiet calm keeps = record {
     cause = refusal_cause status refused;
@@ -69,7 +70,8 @@ module _ (command : Command) (shelf : ShelfCall) (sink : SinkCall) where
     stopped = refusal_stopped status refused keeps;
   }
 
-  module _ (text : List ℕ) (says : OfFiles shelf.files (λ files. IsCommandText command files text)) (quiet : shelf.faults_now ≡ shelf.faults_before) where
+  module _ (text : List ℕ) (says : OfFiles shelf.files (λ files. IsCommandText command files text))
+      (quiet : shelf.faults_now ≡ shelf.faults_before) where
     front_put : AppendsFront sink.taken_before sink.taken_now text → Front
     front_put taken =
         of_files shelf.files (PutsTextFront sink.taken_before sink.taken_now command)
@@ -120,7 +122,8 @@ module _ (command : Command) (shelf : ShelfCall) (sink : SinkCall) where
 
 -- words that are no command
 pub caused_usage :
-    (command : Option Command) (shelf : ShelfCall) (sink : SinkCall) → command ≡ None → shelf.faults_now ≡ shelf.faults_before →
+    (command : Option Command) (shelf : ShelfCall) (sink : SinkCall) → command ≡ None
+        → shelf.faults_now ≡ shelf.faults_before →
     sink.faults_now ≡ sink.faults_before → Keeps sink.taken_before sink.taken_now → IsCaused Usage command shelf sink
 caused_usage command shelf sink none quiet calm keeps = record {
   cause = none;
@@ -130,7 +133,8 @@ caused_usage command shelf sink none quiet calm keeps = record {
   stopped = keeps;
 }
 
-pub refusal_of : (command : Command) (shelf : ShelfCall) (status : Status) → IsRefused command shelf status → IsRefusal status
+pub refusal_of : (command : Command) (shelf : ShelfCall) (status : Status) → IsRefused command shelf status
+    → IsRefusal status
 refusal_of command shelf Done refused = refused
 refusal_of command shelf Usage refused = refused
 refusal_of command shelf (ReadFault which) refused = tt

@@ -9,7 +9,8 @@ use Rattle.board_commands.specs.Common.{SinkCall, PutsText, PutsTextFront, IsCau
 use Rattle.command_files.proofs.Refusals.{at_files}
 
 -- the shelf is quiet wherever a status is to come
-quiet_shelf_for : (wanted : Status) (quiet_shelf quiet_sink : Type 0) → IsQuietFor wanted quiet_shelf quiet_sink → quiet_shelf
+quiet_shelf_for : (wanted : Status) (quiet_shelf quiet_sink : Type 0) → IsQuietFor wanted quiet_shelf quiet_sink
+    → quiet_shelf
 quiet_shelf_for Done quiet_shelf quiet_sink quiet = quiet.0
 quiet_shelf_for Usage quiet_shelf quiet_sink quiet = quiet
 quiet_shelf_for (ReadFault which) quiet_shelf quiet_sink quiet = quiet
@@ -22,12 +23,15 @@ quiet_shelf_for OtherBoard quiet_shelf quiet_sink quiet = quiet
 quiet_shelf_for NoMemory quiet_shelf quiet_sink quiet = quiet
 
 -- a command that has a text can be done
-done_of_text : (command : Command) (files : Files) (text : List ℕ) → IsCommandText command files text → AsksFor command files Done
+done_of_text : (command : Command) (files : Files) (text : List ℕ) → IsCommandText command files text
+    → AsksFor command files Done
 done_of_text command files text is = (is.known, is.read, is.done)
 
-module _ (one_status : OneStatus) (command : Command) (files : Files) (shelf : ShelfCall) (sink : SinkCall) (told : shelf.files ≡ Some files) (wanted : Status)
+module _ (one_status : OneStatus) (command : Command) (files : Files) (shelf : ShelfCall) (sink : SinkCall)
+    (told : shelf.files ≡ Some files) (wanted : Status)
     (asks : AsksFor command files wanted)
-    (quiet : IsQuietFor wanted (¬ Rose shelf.faults_before shelf.faults_now) (¬ Rose sink.faults_before sink.faults_now)) where
+    (quiet : IsQuietFor wanted (¬ Rose shelf.faults_before shelf.faults_now)
+        (¬ Rose sink.faults_before sink.faults_now)) where
   abbrev Quiet : Type 0
   Quiet = ¬ Rose shelf.faults_before shelf.faults_now
 
@@ -51,24 +55,30 @@ module _ (one_status : OneStatus) (command : Command) (files : Files) (shelf : S
       let done = one_status command files Done wanted (done_of_text command files puts.text puts.says) asks in
       absurd ((subst (λ (status : Status). IsQuietFor status Quiet Calm) (sym done) quiet).1 is.cause)
   left (TooLong which) is = same (TooLong which) (told_of (λ files'. AsksFor command files' (TooLong which)) is.cause)
-  left (BadScript line why) is = same (BadScript line why) (told_of (λ files'. AsksFor command files' (BadScript line why)) is.cause)
-  left (BadImage which) is = same (BadImage which) (told_of (λ files'. AsksFor command files' (BadImage which)) is.cause)
+  left (BadScript line why) is =
+      same (BadScript line why) (told_of (λ files'. AsksFor command files' (BadScript line why)) is.cause)
+  left (BadImage which) is =
+      same (BadImage which) (told_of (λ files'. AsksFor command files' (BadImage which)) is.cause)
   left (Differs line) is = same (Differs line) (told_of (λ files'. AsksFor command files' (Differs line)) is.cause)
   left OtherBoard is = same OtherBoard (told_of (λ files'. AsksFor command files' OtherBoard) is.cause)
   left NoMemory is = inr refl
 
 exact_for :
-    OneStatus → (command : Option Command) (told : Option Files) (shelf : ShelfCall) (sink : SinkCall) (status : Status) → shelf.files ≡ told →
+    OneStatus → (command : Option Command) (told : Option Files) (shelf : ShelfCall) (sink : SinkCall) (status : Status)
+        → shelf.files ≡ told →
     IsCaused status command shelf sink →
-    IsExact status command told (¬ Rose shelf.faults_before shelf.faults_now) (¬ Rose sink.faults_before sink.faults_now)
+    IsExact status command told (¬ Rose shelf.faults_before shelf.faults_now)
+        (¬ Rose sink.faults_before sink.faults_now)
 exact_for one None told shelf sink status told_is is = λ wanted has quiet. absurd has
 exact_for one (Some command) None shelf sink status told_is is = λ wanted has quiet. absurd has
 exact_for one (Some command) (Some files) shelf sink status told_is is = λ wanted has quiet.
     left one command files shelf sink told_is wanted has quiet status is
 
 pub exact :
-    OneStatus → (command : Option Command) (shelf : ShelfCall) (sink : SinkCall) (status : Status) → IsCaused status command shelf sink →
-    IsExact status command shelf.files (¬ Rose shelf.faults_before shelf.faults_now) (¬ Rose sink.faults_before sink.faults_now)
+    OneStatus → (command : Option Command) (shelf : ShelfCall) (sink : SinkCall) (status : Status)
+        → IsCaused status command shelf sink →
+    IsExact status command shelf.files (¬ Rose shelf.faults_before shelf.faults_now)
+        (¬ Rose sink.faults_before sink.faults_now)
 exact one command shelf sink status is = exact_for one command shelf.files shelf sink status refl is
 
 none_rose : ¬ Rose 0 0
@@ -88,6 +98,7 @@ always_quiet NoMemory quiet = none_rose
 
 -- where the outside cannot fail, it is quiet
 pub always_exact :
-    (status : Status) (command : Option Command) (told : Option Files) → IsExact status command told (¬ Rose 0 0) (¬ Rose 0 0) →
+    (status : Status) (command : Option Command) (told : Option Files)
+        → IsExact status command told (¬ Rose 0 0) (¬ Rose 0 0) →
     IsExact status command told (Unit {0}) (Unit {0})
 always_exact status command told is = λ wanted has quiet. is wanted has (always_quiet wanted quiet)

@@ -23,10 +23,12 @@ module _ (before between now : Option (List Put)) (so_far : OfCalls before betwe
       OfCalls before now LatestRefused
   then_refused (Ok count) is made = absurd cc
   then_refused (Err error) is made =
-      call_more before between now (record { took = None }) AllTook LatestRefused (λ puts took. (refl, took)) so_far made
+      call_more before between now (record { took = None }) AllTook LatestRefused (λ puts took. (refl, took)) so_far
+          made
 
 pub puts_failed :
-    {T E : Type 0} (before now : Option (List Put)) (result : Result T E) → IsErr result → OfCalls before now LatestRefused →
+    {T E : Type 0} (before now : Option (List Put)) (result : Result T E) → IsErr result
+        → OfCalls before now LatestRefused →
     OfCalls before now (PutsBy result)
 puts_failed before now (Ok value) is refused = absurd cc
 puts_failed before now (Err error) is refused = refused
@@ -56,7 +58,8 @@ piece_not_put before between now so_far made =
     (λ puts both. subst LatestRefused (sym both.parts) (latest_refused both.second both.first both.two both.one))
     (calls_both before between now AllTook LatestRefused so_far made)
 
-pub nothing_put : (command : Command) (shelf : ShelfCall) (status : Status) → IsRefused command shelf status → ArePutsOf status []
+pub nothing_put : (command : Command) (shelf : ShelfCall) (status : Status) → IsRefused command shelf status
+    → ArePutsOf status []
 nothing_put command shelf Done refused = absurd refused
 nothing_put command shelf Usage refused = absurd refused
 nothing_put command shelf (ReadFault which) refused = refl

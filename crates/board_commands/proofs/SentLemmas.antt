@@ -6,7 +6,8 @@ use Rattle.log_pieces.specs.Text.{bytes_in, joined}
 use Rattle.board_commands.specs.Output.{Sent, AppendsFront}
 
 kept_front :
-    (before now later : Option (List ℕ)) (text : List ℕ) → Appends before now text → Keeps now later → Appends before later text
+    (before now later : Option (List ℕ)) (text : List ℕ) → Appends before now text → Keeps now later
+        → Appends before later text
 kept_front None now later text sent kept = tt
 kept_front (Some xs) None later text sent kept = absurd sent
 kept_front (Some xs) (Some ys) None text sent kept = absurd kept
@@ -17,7 +18,8 @@ pub front_sent :
     Sent before now text rest → Keeps now later → AppendsFront before later text
 front_sent before now later text rest sent kept = record {
   rest = rest;
-  sent = record { front = sent.front; whole = sent.whole; taken = kept_front before now later sent.front sent.taken kept };
+  sent = record { front = sent.front; whole = sent.whole; taken = kept_front before now later sent.front sent.taken kept
+      };
 }
 
 pub more_taken :
@@ -43,7 +45,8 @@ more_sent before now later text rest k sent more = record {
 
 -- so it is with what is left after the piece
 pub then_sent :
-    (before now later : Option (List ℕ)) (text rest left : List ℕ) (k : ℕ) → left ≡ drop k rest → Sent before now text rest →
+    (before now later : Option (List ℕ)) (text rest left : List ℕ) (k : ℕ) → left ≡ drop k rest
+        → Sent before now text rest →
     Appends now later (take k rest) → Sent before later text left
 then_sent before now later text rest left k is sent more = rw is (more_sent before now later text rest k sent more)
 
@@ -54,9 +57,11 @@ nothing_taken (Some xs) = sym (append-nil xs)
 pub nothing_sent : (known : Option (List ℕ)) (text : List ℕ) → Sent known known text text
 nothing_sent known text = record { front = []; whole = refl; taken = nothing_taken known }
 
-pub all_sent : (before now : Option (List ℕ)) (text rest : List ℕ) → Sent before now text rest → rest ≡ [] → Appends before now text
+pub all_sent : (before now : Option (List ℕ)) (text rest : List ℕ) → Sent before now text rest → rest ≡ []
+    → Appends before now text
 all_sent before now text rest sent empty =
-    let whole : text ≡ sent.front = sent.whole ∙ ap (λ (bytes : List ℕ). sent.front ++ bytes) empty ∙ append-nil sent.front in
+    let whole : text ≡ sent.front = sent.whole ∙ ap (λ (bytes : List ℕ). sent.front ++ bytes) empty
+        ∙ append-nil sent.front in
     rw whole sent.taken
 
 -- with all of the next piece
@@ -106,7 +111,8 @@ module _ (before now later : Option (List ℕ)) (text : List ℕ) (pieces : List
   then_piece_sent taken =
       piece_sent before now later text bytes more (subst (Sent before now text) next_piece sent) taken
 
-  pub then_piece_refused : {T E : Type 0} (result : Result T E) → AppendsFront now later bytes → OnErr result (AppendsFront before later text)
+  pub then_piece_refused : {T E : Type 0} (result : Result T E) → AppendsFront now later bytes
+      → OnErr result (AppendsFront before later text)
   then_piece_refused (Ok value) refused = tt
   then_piece_refused (Err error) refused =
       piece_refused before now later text bytes more (subst (Sent before now text) next_piece sent) refused

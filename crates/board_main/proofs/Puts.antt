@@ -39,17 +39,20 @@ module _ {W T E : Type 0} (contents : W → Option (List ℕ)) (result : Result 
   -- a text was put whole, and then another one with this result
   pub put_more :
       (before between now : OutSink W) → TookAll (out_call contents before between) first →
-      IsPut result second (out_call contents between now) → IsPut result (first ++ second) (out_call contents before now)
+      IsPut result second (out_call contents between now)
+          → IsPut result (first ++ second) (out_call contents before now)
   put_more before between now taken then = by_result result then
     where
       by_result : (result : Result T E) → IsPut result second (out_call contents between now) →
           IsPut result (first ++ second) (out_call contents before now)
       by_result (Ok done) then = record {
-        taken = more_taken (contents before.out) (contents between.out) (contents now.out) first second taken.taken then.taken;
+        taken = more_taken (contents before.out) (contents between.out) (contents now.out) first second taken.taken
+            then.taken;
         quiet = then.quiet ∙ taken.quiet;
       }
       by_result (Err fault) then = record {
-        taken = front_more (contents before.out) (contents between.out) (contents now.out) first second taken.taken then.taken;
+        taken = front_more (contents before.out) (contents between.out) (contents now.out) first second taken.taken
+            then.taken;
         failed = then.failed ∙ ap next_fault taken.quiet;
       }
 

@@ -69,6 +69,7 @@ pub told_nothing : (status : Status) (sink : SinkCall) → status ≡ Done → I
 told_nothing status sink is idle = record { done = λ _. idle; refused = λ other. absurd (other is) }
 
 pub told_line :
-    (status : Status) (sink : SinkCall) → status ≢ Done → IsIdle sink ⊎ (TookAll sink (text_of status ++ 10 ∷ []) ⊎ TookFront sink (text_of status ++ 10 ∷ [])) →
+    (status : Status) (sink : SinkCall) → status ≢ Done
+        → IsIdle sink ⊎ (TookAll sink (text_of status ++ 10 ∷ []) ⊎ TookFront sink (text_of status ++ 10 ∷ [])) →
     IsTold status sink
 told_line status sink other is = record { done = λ done. absurd (other done); refused = λ _. is }

@@ -52,14 +52,16 @@ EndsAfter (Err fault) status shelf sink =
     (status ≡ status_of_words fault) × (shelf.faults_now ≡ shelf.faults_before) × IsIdle sink
 
 -- the words that are given end with this status, and standard error is told
-pub record EndsLine (given : Option (List (List ℕ))) (status : Status) (shelf : ShelfCall) (sink errors : SinkCall) : Type 0 where
+pub record EndsLine (given : Option (List (List ℕ))) (status : Status) (shelf : ShelfCall)
+    (sink errors : SinkCall) : Type 0 where
   pub words : Result (List (List ℕ)) WordFault
   pub read : AreRead given words
   pub ends : EndsAfter words status shelf sink
   pub told : IsTold status errors
 
 -- and with its exit code
-pub record EndsProgram (given : Option (List (List ℕ))) (code : ℕ) (shelf : ShelfCall) (sink errors : SinkCall) : Type 0 where
+pub record EndsProgram (given : Option (List (List ℕ))) (code : ℕ) (shelf : ShelfCall) (sink errors : SinkCall) : Type 0
+    where
   pub status : Status
   pub coded : code ≡ code_of status
   pub ends : EndsLine given status shelf sink errors

@@ -13,7 +13,8 @@ abbrev pub bytes_read : Result (Vec (String Global)) WordFault → Result (List 
 bytes_read (Ok words) = Ok (map string_bytes words.items)
 bytes_read (Err fault) = Err fault
 
--- where it is told which words are given, these were read; words are refused only where one is not UTF-8, or for want of
+-- where it is told which words are given, these were read; words are refused only where one is not UTF-8, or for want
+-- of
 -- memory
 abbrev pub AreRead : (given : Option (List (List ℕ))) → Result (List (List ℕ)) WordFault → Type 0
 AreRead None read = Unit {0}

@@ -44,4 +44,5 @@ pub record IsTold (status : Status) (sink : SinkCall) : Type 0 where
   pub done : status ≡ Done → IsIdle sink
   pub refused :
       status ≢ Done →
-      IsIdle sink ⊎ (TookAll sink (text_of status ++ line_feed ∷ []) ⊎ TookFront sink (text_of status ++ line_feed ∷ []))
+      IsIdle sink ⊎ (TookAll sink (text_of status ++ line_feed ∷ [])
+          ⊎ TookFront sink (text_of status ++ line_feed ∷ []))

@@ -54,21 +54,29 @@ module _ {T E F : Type 0} (entries : T → List E) (actor : E → ℕ) (fixed : 
   K = Knows actor first part
 
   -- the joined pass p is not the pass id, which is not spent
-  pub far : (views : List V) (id p : ℕ) (v : V) → get_elem? views id ≡ some v → v.stage ≢ Spent → IsSpent views p → p ≢ id
-  far views id p v at lives gone e = lives (ap (λ (z : V). z.stage) (some-injective v spent (sym at ∙ (ap (get_elem? views) (sym e) ∙ gone))))
+  pub far : (views : List V) (id p : ℕ) (v : V) → get_elem? views id ≡ some v → v.stage ≢ Spent → IsSpent views p
+      → p ≢ id
+  far views id p v at lives gone e =
+      lives (ap (λ (z : V). z.stage) (some-injective v spent (sym at ∙ (ap (get_elem? views) (sym e) ∙ gone))))
 
   abbrev pub AllJoined : B → List V → List (ℕ × List E) → Type 0
   AllJoined b views xs = All (λ p. (own_by actor p.0 b.since ≡ p.1) × IsSpent views p.0) xs
 
   -- the joined passes stay so over a step of the pass id
-  pub joined_on : (b b' : B) (views : List V) (id : ℕ) (v w : V) → get_elem? views id ≡ some v → v.stage ≢ Spent → ((n : ℕ) → n ≢ id → own_by actor n b'.since ≡ own_by actor n b.since) → (xs : List (ℕ × List E))
+  pub joined_on : (b b' : B) (views : List V) (id : ℕ) (v w : V) → get_elem? views id ≡ some v → v.stage ≢ Spent
+      → ((n : ℕ) → n ≢ id → own_by actor n b'.since ≡ own_by actor n b.since) → (xs : List (ℕ × List E))
       → AllJoined b views xs → AllJoined b' (set views id w) xs
-  joined_on b b' views id v w at lives same xs all = All-more (λ (p : ℕ × List E). (own_by actor p.0 b.since ≡ p.1) × IsSpent views p.0)
+  joined_on b b' views id v w at lives same xs all = All-more (λ (p : ℕ × List E). (own_by actor p.0 b.since ≡ p.1)
+      × IsSpent views p.0)
       (λ (p : ℕ × List E). (own_by actor p.0 b'.since ≡ p.1) × IsSpent (set views id w) p.0) xs
-      (λ p h. let apart = far views id p.0 v at lives h.1 in (same p.0 apart ∙ h.0, set_else views id p.0 w apart ∙ h.1)) all
+      (λ p h. let apart = far views id p.0 v at lives h.1 in
+          (same p.0 apart ∙ h.0, set_else views id p.0 w apart ∙ h.1)) all
 
-  pub stays : (b b' : B) (views : List V) (id j : ℕ) (v w u : V) → get_elem? views id ≡ some v → v.stage ≢ Spent → IsPrefix (log_of first b) (log_of first b')
-      → ((n : ℕ) → n ≢ id → own_by actor n b'.since ≡ own_by actor n b.since) → j ≢ id → (AtStage first b j u.seen u.stage → AtStage first b' j u.seen u.stage) → K b views j u → K b' (set views id w) j u
+  pub stays : (b b' : B) (views : List V) (id j : ℕ) (v w u : V) → get_elem? views id ≡ some v → v.stage ≢ Spent
+      → IsPrefix (log_of first b) (log_of first b')
+      → ((n : ℕ) → n ≢ id → own_by actor n b'.since ≡ own_by actor n b.since) → j ≢ id
+      → (AtStage first b j u.seen u.stage → AtStage first b' j u.seen u.stage) → K b views j u
+      → K b' (set views id w) j u
   stays b b' views id j v w u at lives logs same other on k = record {
     opened = k.opened;
     part_is = k.part_is;
@@ -82,12 +90,16 @@ module _ {T E F : Type 0} (entries : T → List E) (actor : E → ℕ) (fixed : 
   }
 
   -- The pass id goes from the view v to w, and the book from that of r to b
-  unfoldable pub moved : (s : State (Option T) V) (r : O s) (id : ℕ) (v w : V) (words : List ℕ) (homes : List (maybe.Option (Option T))) (b : B) → get_elem? s.views id ≡ some v → v.stage ≢ Spent
-      → words ≡ words_of first b → homes ≡ slot_of b.place ∷ [] → b.ticket + waits v + r.book.serving ≡ r.book.ticket + waits w + b.serving
+  unfoldable pub moved : (s : State (Option T) V) (r : O s) (id : ℕ) (v w : V) (words : List ℕ)
+      (homes : List (maybe.Option (Option T))) (b : B) → get_elem? s.views id ≡ some v → v.stage ≢ Spent
+      → words ≡ words_of first b → homes ≡ slot_of b.place ∷ []
+      → b.ticket + waits v + r.book.serving ≡ r.book.ticket + waits w + b.serving
       → Lies entries fixed first part b (set s.views id w) b.place → IsPrefix (log_of first r.book) (log_of first b)
-      → ((n : ℕ) → n ≢ id → own_by actor n b.since ≡ own_by actor n r.book.since) → All (λ e. actor e < length s.views) b.since
+      → ((n : ℕ) → n ≢ id → own_by actor n b.since ≡ own_by actor n r.book.since)
+      → All (λ e. actor e < length s.views) b.since
       → ((j : ℕ) (u : V) → j ≢ id → AtStage first r.book j u.seen u.stage → AtStage first b j u.seen u.stage)
-      → (w.stage ≢ Spent → K b (set s.views id w) id w) → O record { words = words; homes = homes; views = set s.views id w }
+      → (w.stage ≢ Spent → K b (set s.views id w) id w)
+      → O record { words = words; homes = homes; views = set s.views id w }
   moved s r id v w words homes b at lives words_are home_is count lies logs same numbered others mine = record {
     book = b;
     words_are = words_are;
@@ -96,25 +108,33 @@ module _ {T E F : Type 0} (entries : T → List E) (actor : E → ℕ) (fixed : 
     few = let l = length-set s.views id w in let f = r.few in (omega arith, omega arith);
     lies = lies;
     each_seat = λ j u e alive. ⊎_elim
-        (λ (t : (j ≡ id) × (w ≡ u)). subst (λ (z : ℕ × V). K b (set s.views id w) z.0 z.1) (λ i. (sym t.0 i, t.1 i)) (mine (λ dead. alive (ap (λ (z : V). z.stage) (sym t.1) ∙ dead))))
-        (λ (t : (j ≢ id) × (get_elem? s.views j ≡ some u)). stays r.book b s.views id j v w u at lives logs same t.0 (others j u t.0) (r.each_seat j u t.1 alive)) (at_set s.views id j w u e);
+        (λ (t : (j ≡ id) × (w ≡ u)). subst (λ (z : ℕ × V). K b (set s.views id w) z.0 z.1) (λ i. (sym t.0 i, t.1 i))
+            (mine (λ dead. alive (ap (λ (z : V). z.stage) (sym t.1) ∙ dead))))
+        (λ (t : (j ≢ id) × (get_elem? s.views j ≡ some u)). stays r.book b s.views id j v w u at lives logs same t.0
+            (others j u t.0) (r.each_seat j u t.1 alive)) (at_set s.views id j w u e);
     numbered = subst (λ (n : ℕ). All (λ (e : E). actor e < n) b.since) (sym (length-set s.views id w)) numbered;
   }
 
   -- the value is with another pass, which goes on to hold it
-  pub lies_away : (s : State (Option T) V) (b b' : B) (id : ℕ) (v w : V) → get_elem? s.views id ≡ some v → v.stage ≢ Holds → b'.owner b'.serving ≡ b.owner b.serving
+  pub lies_away : (s : State (Option T) V) (b b' : B) (id : ℕ) (v w : V) → get_elem? s.views id ≡ some v
+      → v.stage ≢ Holds → b'.owner b'.serving ≡ b.owner b.serving
       → Lies entries fixed first part b s.views away → Lies entries fixed first part b' (set s.views id w) away
   lies_away s b b' id v w at free same lies =
       let h : V = lies.0 in let i : ℕ = b.owner b.serving in
-      let other : i ≢ id = λ e. free (ap (λ (z : V). z.stage) (some-injective v h (sym at ∙ (ap (get_elem? s.views) (sym e) ∙ lies.1))) ∙ lies.2) in
+      let other : i ≢ id = λ e. free
+          (ap (λ (z : V). z.stage) (some-injective v h (sym at ∙ (ap (get_elem? s.views) (sym e) ∙ lies.1)))
+          ∙ lies.2) in
       (h, ap (get_elem? (set s.views id w)) same ∙ (set_else s.views id i w other ∙ lies.1), lies.2)
 
   -- a pass that does not hold the value steps, and the book stays
-  pub lies_kept : (s : State (Option T) V) (b : B) (id : ℕ) (v w : V) → get_elem? s.views id ≡ some v → v.stage ≢ Holds → (p : Place T) → Lies entries fixed first part b s.views p
+  pub lies_kept : (s : State (Option T) V) (b : B) (id : ℕ) (v w : V) → get_elem? s.views id ≡ some v → v.stage ≢ Holds
+      → (p : Place T) → Lies entries fixed first part b s.views p
       → Lies entries fixed first part b (set s.views id w) p
   lies_kept s b id v w at free (home x) h = h
   lies_kept s b id v w at free away h = lies_away s b b id v w at free refl h
 
   -- the joined passes are counted as before
-  pub as_joined : (views : List V) (id : ℕ) (v w : V) → get_elem? views id ≡ some v → is_gone w ≡ is_gone v → joins w ≡ joins v → AreJoined views → AreJoined (set views id w)
-  as_joined views id v w at a b h = let t = total_set is_gone views id v w at in let u = total_set joins views id v w at in let h' : total is_gone views ≡ total joins views = h in omega arith
+  pub as_joined : (views : List V) (id : ℕ) (v w : V) → get_elem? views id ≡ some v → is_gone w ≡ is_gone v
+      → joins w ≡ joins v → AreJoined views → AreJoined (set views id w)
+  as_joined views id v w at a b h = let t = total_set is_gone views id v w at in
+      let u = total_set joins views id v w at in let h' : total is_gone views ≡ total joins views = h in omega arith

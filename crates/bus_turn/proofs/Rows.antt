@@ -12,7 +12,8 @@ module _ {A : Type 0} where
   at_lt (x ∷ xs) zero a e = omega arith
   at_lt (x ∷ xs) (suc i) a e = let h = at_lt xs i a e in omega arith
 
-  pub at_end : (l : List A) (a b : A) (j : ℕ) → get_elem? (l ++ a ∷ []) j ≡ some b → (get_elem? l j ≡ some b) ⊎ ((j ≡ length l) × (a ≡ b))
+  pub at_end : (l : List A) (a b : A) (j : ℕ) → get_elem? (l ++ a ∷ []) j ≡ some b
+      → (get_elem? l j ≡ some b) ⊎ ((j ≡ length l) × (a ≡ b))
   at_end [] a b zero e = inr (refl, some-injective a b e)
   at_end [] a b (suc j) e = absurd (some-ne-none b (sym e))
   at_end (x ∷ xs) a b zero e = inl e
@@ -40,16 +41,21 @@ module _ {A : Type 0} where
   drop_front (x ∷ xs) ys = drop_front xs ys
 
 module _ {E : Type 0} (actor : E → ℕ) where
-  pub own_more : (n : ℕ) (xs : List E) (e : E) → actor e ≡ n → own_by actor n (xs ++ e ∷ []) ≡ own_by actor n xs ++ e ∷ []
-  own_more n xs e is = filter-append (λ (x : E). actor x == n) xs (e ∷ []) ∙ ap (λ (b : Bool). own_by actor n xs ++ cond b (e ∷ []) []) (eq-eqb (actor e) n is)
+  pub own_more : (n : ℕ) (xs : List E) (e : E) → actor e ≡ n
+      → own_by actor n (xs ++ e ∷ []) ≡ own_by actor n xs ++ e ∷ []
+  own_more n xs e is = filter-append (λ (x : E). actor x == n) xs (e ∷ [])
+      ∙ ap (λ (b : Bool). own_by actor n xs ++ cond b (e ∷ []) []) (eq-eqb (actor e) n is)
 
   pub own_else : (n : ℕ) (xs : List E) (e : E) → actor e ≢ n → own_by actor n (xs ++ e ∷ []) ≡ own_by actor n xs
-  own_else n xs e other = filter-append (λ (x : E). actor x == n) xs (e ∷ []) ∙ (ap (λ (b : Bool). own_by actor n xs ++ cond b (e ∷ []) []) (ne_eqb (actor e) n other) ∙ append-nil (own_by actor n xs))
+  own_else n xs e other = filter-append (λ (x : E). actor x == n) xs (e ∷ [])
+      ∙ (ap (λ (b : Bool). own_by actor n xs ++ cond b (e ∷ []) []) (ne_eqb (actor e) n other)
+      ∙ append-nil (own_by actor n xs))
 
   pub own_none : (n : ℕ) (xs : List E) → All (λ e. actor e < n) xs → own_by actor n xs ≡ []
   own_none n [] h = refl
   own_none n (x ∷ xs) h = let low : actor x < n = All-head (λ (e : E). actor e < n) x xs h in
-      ap (λ (b : Bool). cond b (x ∷ own_by actor n xs) (own_by actor n xs)) (ne_eqb (actor x) n (λ e. omega arith)) ∙ own_none n xs (All-tail (λ (e : E). actor e < n) x xs h)
+      ap (λ (b : Bool). cond b (x ∷ own_by actor n xs) (own_by actor n xs)) (ne_eqb (actor x) n (λ e. omega arith))
+          ∙ own_none n xs (All-tail (λ (e : E). actor e < n) x xs h)
 
 pub All-more : {X : Type 0} (P Q : X → Type 0) (xs : List X) → ((x : X) → P x → Q x) → All P xs → All Q xs
 All-more P Q xs h all k d lt = h _ (all k d lt)

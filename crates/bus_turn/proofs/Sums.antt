@@ -24,9 +24,11 @@ module _ {A : Type 0} (f : A → ℕ) where
   total_below small (x ∷ xs) = let h = total_below small xs in let s = small x in omega arith
 
   -- one of them is 0
-  pub total_under : ((x : A) → f x ≤ 1) → (l : List A) (i : ℕ) (a : A) → get_elem? l i ≡ some a → f a ≡ 0 → total f l + 1 ≤ length l
+  pub total_under : ((x : A) → f x ≤ 1) → (l : List A) (i : ℕ) (a : A) → get_elem? l i ≡ some a → f a ≡ 0
+      → total f l + 1 ≤ length l
   total_under small [] i a e z = absurd (some-ne-none a (sym e))
-  total_under small (x ∷ xs) zero a e z = let same : f x ≡ f a = ap f (some-injective x a e) in let h = total_below small xs in omega arith
+  total_under small (x ∷ xs) zero a e z = let same : f x ≡ f a = ap f (some-injective x a e) in
+      let h = total_below small xs in omega arith
   total_under small (x ∷ xs) (suc i) a e z = let h = total_under small xs i a e z in let s = small x in omega arith
 
 pub total_both : {A : Type 0} (f g : A → ℕ) (l : List A) → total (λ x. f x + g x) l ≡ total f l + total g l

@@ -46,7 +46,8 @@ module _ {T E F : Type 0} where
 
   -- the pass is of one caller and of one opened value
   abbrev pub IsSameCaller : Pass T E F → Pass T E F → Type 0
-  IsSameCaller pass pass' = (number_of pass' ≡ number_of pass) × (opened_of pass' ≡ opened_of pass) × (part_of pass' ≡ part_of pass)
+  IsSameCaller pass pass' = (number_of pass' ≡ number_of pass) × (opened_of pass' ≡ opened_of pass)
+      × (part_of pass' ≡ part_of pass)
 
   abbrev pub HasSameJoined : Pass T E F → Pass T E F → Type 0
   HasSameJoined pass pass' = (splits_of pass' ≡ splits_of pass) × (joined_of pass' ≡ joined_of pass)

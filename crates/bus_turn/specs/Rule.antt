@@ -19,7 +19,8 @@ abbrev pub slot_of : {T : Type 0} → Place T → maybe.Option (Option T)
 slot_of (home x) = some (Some x)
 slot_of away = none
 
--- What there is beside the table: the entries since the opening, the tickets drawn and served in all, and which pass drew which
+-- What there is beside the table: the entries since the opening, the tickets drawn and served in all, and which pass
+-- drew which
 pub record Book (T E : Type 0) : Type 0 where
   pub since : List E
   pub ticket : ℕ
@@ -76,7 +77,8 @@ module _ {T E : Type 0} (first : List E) where
   AtStage b i seen Spent = Unit {0}
 
 -- what the pass i knows. Its number is its place among the views
-pub record Knows {T E F : Type 0} (actor : E → ℕ) (first : List E) (part : F) (b : Book T E) (views : List (View E F)) (i : ℕ) (v : View E F) : Type 0 where
+pub record Knows {T E F : Type 0} (actor : E → ℕ) (first : List E) (part : F) (b : Book T E) (views : List (View E F))
+    (i : ℕ) (v : View E F) : Type 0 where
   pub opened : v.opened ≡ first
   pub part_is : v.fixed ≡ Some part
   pub begins : IsPrefix v.seen (log_of first b)
@@ -90,17 +92,21 @@ pub record Knows {T E F : Type 0} (actor : E → ℕ) (first : List E) (part : F
 -- the value in the slot has all entries, or the pass whose ticket is served holds it
 abbrev pub Lies : {T E F : Type 0} → (T → List E) → (T → F) → List E → F → Book T E → List (View E F) → Place T → Type 0
 Lies entries fixed first part b views (home x) = (entries x ≡ log_of first b) × (fixed x ≡ part)
-Lies {T} {E} {F} entries fixed first part b views away = (v : View E F) × (get_elem? views (b.owner b.serving) ≡ some v) × (v.stage ≡ Holds)
+Lies {T} {E} {F} entries fixed first part b views away = (v : View E F) × (get_elem? views (b.owner b.serving) ≡ some v)
+    × (v.stage ≡ Holds)
 
-pub record Ordered {T E F : Type 0} (entries : T → List E) (actor : E → ℕ) (fixed : T → F) (first : List E) (part : F) (s : State (Option T) (View E F)) : Type 0 where
+pub record Ordered {T E F : Type 0} (entries : T → List E) (actor : E → ℕ) (fixed : T
+    → F) (first : List E) (part : F) (s : State (Option T) (View E F)) : Type 0 where
   pub book : Book T E
   pub words_are : s.words ≡ words_of first book
   pub home_is : s.homes ≡ slot_of book.place ∷ []
   pub out : book.ticket ≡ book.serving + total waits s.views
   pub few : (0 < length s.views) × (length s.views ≤ 256)
   pub lies : Lies entries fixed first part book s.views book.place
-  pub each_seat : (i : ℕ) (v : View E F) → get_elem? s.views i ≡ some v → v.stage ≢ Spent → Knows actor first part book s.views i v
+  pub each_seat : (i : ℕ) (v : View E F) → get_elem? s.views i ≡ some v → v.stage ≢ Spent
+      → Knows actor first part book s.views i v
   pub numbered : All (λ e. actor e < length s.views) book.since
 
-abbrev pub Ruled : {T E F : Type 0} → (T → List E) → (E → ℕ) → (T → F) → List E → F → State (Option T) (View E F) → Type 0
+abbrev pub Ruled : {T E F : Type 0} → (T → List E) → (E → ℕ) → (T → F) → List E → F → State (Option T) (View E F)
+    → Type 0
 Ruled entries actor fixed first part s = Ordered entries actor fixed first part s × AreJoined s.views

@@ -12,7 +12,8 @@ none_made None P none = tt
 none_made (Some before) P none = record { made = []; told = refl; holds = none }
 
 pub calls_hold :
-    {Call : Type 0} (before now : Option (List Call)) (P Q : List Call → Type 0) → ((made : List Call) → P made → Q made) →
+    {Call : Type 0} (before now : Option (List Call)) (P Q : List Call → Type 0)
+        → ((made : List Call) → P made → Q made) →
     OfCalls before now P → OfCalls before now Q
 calls_hold None now P Q each is = tt
 calls_hold (Some before) now P Q each is = record { made = is.made; told = is.told; holds = each is.made is.holds }
@@ -23,7 +24,8 @@ none_told x is = absurd cc
 -- one call more
 pub call_more :
     {Call : Type 0} (before between now : Option (List Call)) (call : Call) (P Q : List Call → Type 0) →
-    ((made : List Call) → P made → Q (call ∷ made)) → OfCalls before between P → Made between now call → OfCalls before now Q
+    ((made : List Call) → P made → Q (call ∷ made)) → OfCalls before between P → Made between now call
+        → OfCalls before now Q
 call_more None between now call P Q each is made = tt
 call_more (Some before) None now call P Q each is made = absurd (none_told (is.made ++ before) is.told)
 call_more (Some before) (Some between) now call P Q each is made = record {
@@ -82,7 +84,8 @@ module _ (before between now : Option (List Fetch)) (name : List ℕ) (limit pla
 
   -- a fetch was made, and failed or not
   pub read_once :
-      {E : Type 0} (result : Result ℕ E) → FetchesOnce between now name place result → OfCalls before now (IsReading name limit)
+      {E : Type 0} (result : Result ℕ E) → FetchesOnce between now name place result
+          → OfCalls before now (IsReading name limit)
   read_once result is =
       call_more before between now (record { name = name; at = place; came = is.came }) (ReadTo name limit place)
       (IsReading name limit) (next_fetch is.came) so_far is.made
@@ -114,7 +117,8 @@ module _ (before between now : Option (List Fetch)) (name : List ℕ) (limit pla
 
 -- the file was not taken
 pub reading_failed :
-    {T E : Type 0} (before now : Option (List Fetch)) (result : Result T E) (error : E) (name : List ℕ) (limit : ℕ) → result ≡ Err error →
+    {T E : Type 0} (before now : Option (List Fetch)) (result : Result T E) (error : E) (name : List ℕ) (limit : ℕ)
+        → result ≡ Err error →
     OfCalls before now (IsReading name limit) → OfCalls before now (ReadsBy result name limit)
 reading_failed {T = T} {E = E} before now result error name limit is read =
     subst (λ (result' : Result T E). OfCalls before now (ReadsBy result' name limit)) (sym is)

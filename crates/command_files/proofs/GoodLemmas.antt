@@ -20,7 +20,8 @@ record HasRom (known : Known) : Type 0 where
 module _ (told : Option Files) where
   script_read :
       (before now : Known) (name : List ℕ) → before.disk ≡ None → IsTaken told before Script name now → HasScript now
-  script_read before now name none is = record { script = is.range; no_disk = ap (λ (k : Known). k.disk) is.learns.2 ∙ none }
+  script_read before now name none is = record { script = is.range; no_disk = ap (λ (k : Known). k.disk) is.learns.2
+      ∙ none }
 
   rom_read :
       (before now : Known) (script : Option Said) → before.script ≡ script → HasScript before →
@@ -54,7 +55,8 @@ module _ (told : Option Files) where
   log_read before now name has is =
       subst HasBoard (sym is.learns) (record { script = has.script; rom = has.rom; disk = has.disk })
 
-  input_read : (before now : Known) (name : List ℕ) → HasBoard before → IsTaken told before Input name now → HasBoard now
+  input_read : (before now : Known) (name : List ℕ) → HasBoard before → IsTaken told before Input name now
+      → HasBoard now
   input_read before now name has is =
       subst HasBoard (sym is.learns) (record { script = has.script; rom = has.rom; disk = has.disk })
 
@@ -70,7 +72,8 @@ module _ (told : Option Files) where
             (found.0, ap (λ (k : Known). k.image) script.learns.2 ∙ ap (λ (k : Known). k.image) found.3, found.1);
       }
 
-  pub has_read : (command : Command) (known : Known) → AreTaken command told (reverse (files_of command)) known → HasRead command known
+  pub has_read : (command : Command) (known : Known) → AreTaken command told (reverse (files_of command)) known
+      → HasRead command known
   has_read (Replay script) known is = board_read (Replay script) script refl known is
   has_read (Run script) known is = board_read (Run script) script refl known is
   has_read (Map script) known is = board_read (Map script) script refl known is

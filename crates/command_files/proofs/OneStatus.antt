@@ -1,4 +1,5 @@
--- The words and the files ask for at most one status: what was read before a file is determined, and so is what is said of it.
+-- The words and the files ask for at most one status: what was read before a file is determined, and so is what is said
+-- of it.
 use Rattle.std.proofs.Common.{◌≡◌, ℕ, ◌<◌, ◌≤◌, ◌++◌, ◌⊎◌, inl, inr, List, [], ◌∷◌, length, reverse, Option, Some, None, refl, sym, ap, ◌∙◌, subst, append_assoc, append-nil}
 use Rattle.std.proofs.Math.Nat.{not-le_of_lt}
 use Rattle.board_prelude.proofs.Common.{reverse-append, reverse-reverse, Statement, Setup}
@@ -90,7 +91,8 @@ EndsAs command known status =
     ⊎ ((line : ℕ) × OfCheck command (LogDiffers known line) × (status ≡ Differs line))
     ⊎ (OfResume command (BoardsDiffer known) × (status ≡ OtherBoard))
 
-ends_as : (command : Command) (known : Known) (status : Status) → EndsWith command known status → EndsAs command known status
+ends_as : (command : Command) (known : Known) (status : Status) → EndsWith command known status
+    → EndsAs command known status
 ends_as command known Done ends = inl (ends, refl)
 ends_as command known Usage ends = absurd ends
 ends_as command known (ReadFault which) ends = absurd ends
@@ -103,7 +105,8 @@ ends_as command known NoMemory ends = absurd ends
 ends_as command known OtherBoard ends = inr (inr (ends, refl))
 
 -- only `check` compares logs, and only `resume` boards
-check_is : (command : Command) (P : Type 0) → OfCheck command P → (script : List ℕ) × (log : List ℕ) × (command ≡ Check script log) × P
+check_is : (command : Command) (P : Type 0) → OfCheck command P
+    → (script : List ℕ) × (log : List ℕ) × (command ≡ Check script log) × P
 check_is (Replay script) P is = absurd is
 check_is (Run script) P is = absurd is
 check_is (Map script) P is = absurd is
@@ -115,7 +118,8 @@ check_is (Resume image script) P is = absurd is
 check_is (Serial script input) P is = absurd is
 check_is (Blame script) P is = absurd is
 
-resume_is : (command : Command) (P : Type 0) → OfResume command P → (image : List ℕ) × (script : List ℕ) × (command ≡ Resume image script) × P
+resume_is : (command : Command) (P : Type 0) → OfResume command P
+    → (image : List ℕ) × (script : List ℕ) × (command ≡ Resume image script) × P
 resume_is (Replay script) P is = absurd is
 resume_is (Run script) P is = absurd is
 resume_is (Map script) P is = absurd is
@@ -160,12 +164,14 @@ boards_apart known differ agree =
     both_of_script known (λ script. OfImage known (λ image. ¬ IsForBoard image.setup script))
     (λ script. OfImage known (λ image. IsForBoard image.setup script)) differ agree in
     let images =
-    both_of_image known (λ image. ¬ IsForBoard image.setup both.0) (λ image. IsForBoard image.setup both.0) both.1 both.2
+    both_of_image known (λ image. ¬ IsForBoard image.setup both.0) (λ image. IsForBoard image.setup both.0) both.1
+        both.2
     in
     images.1 images.2
 
 done_or_differs :
-    (command : Command) (known : Known) (line : ℕ) → CanBeDone command known → OfCheck command (LogDiffers known line) → ⊥
+    (command : Command) (known : Known) (line : ℕ) → CanBeDone command known → OfCheck command (LogDiffers known line)
+        → ⊥
 done_or_differs command known line done differs =
     let check = check_is command (LogDiffers known line) differs in
     log_apart known line check.3 (subst (λ (command' : Command). CanBeDone command' known) check.2 done)
@@ -222,7 +228,8 @@ Stage files known which (Some name) Later status =
 abbrev EndsAt : Command → Files → Known → List Which → Status → Type 0
 EndsAt command files known [] status = EndsWith command known status
 EndsAt command files known (which ∷ later) status =
-    Stage files known which (file_name command known which) (λ now status'. EndsAt command files now later status') status
+    Stage files known which (file_name command known which) (λ now status'. EndsAt command files now later status')
+        status
 
 one_stage :
     OneSpelling → (files : Files) (known : Known) (which : Which) (name : Option (List ℕ))
@@ -260,11 +267,13 @@ one_end spelling command files known (which ∷ later) =
 
 passed :
     (files : Files) (before now : Known) (which : Which) (name : Option (List ℕ)) (Later : Known → Status → Type 0)
-    (status : Status) → Passes files before which name now → Later now status → Stage files before which name Later status
+    (status : Status) → Passes files before which name now → Later now status
+        → Stage files before which name Later status
 passed files before now which None Later status passes ends = subst (λ (known : Known). Later known status) passes ends
 passed files before now which (Some name) Later status passes ends = inr (inr (passes.0, (now, passes.1, ends)))
 
-reverse_on : (before later : List Which) (which : Which) → reverse before ++ which ∷ later ≡ reverse (which ∷ before) ++ later
+reverse_on : (before later : List Which) (which : Which)
+    → reverse before ++ which ∷ later ≡ reverse (which ∷ before) ++ later
 reverse_on before later which =
     sym (ap (λ (whiches : List Which). whiches ++ later) (reverse-append (which ∷ []) before)
     ∙ append_assoc (reverse before) (which ∷ []) later)
@@ -292,7 +301,8 @@ at_file command files which known name status comes ends =
     subst (λ (whiches : List Which). EndsAt command files nothing_known whiches status) (sym comes.place)
     (from_start command files comes.before (which ∷ comes.later) known status comes.read
     (subst
-    (λ (named : Option (List ℕ)). Stage files known which named (λ now status'. EndsAt command files now comes.later status')
+    (λ (named : Option (List ℕ)). Stage files known which named
+        (λ now status'. EndsAt command files now comes.later status')
     status) (sym comes.named) ends))
 
 at_end :

@@ -29,17 +29,20 @@ placed files index d within = rw (reverse-reverse (take index files)) (split_at 
 abbrev pub AreTaken : Command → Option Files → List Which → Known → Type 0
 AreTaken command told [] known = known ≡ nothing_known
 AreTaken command told (which ∷ before) known =
-    (earlier : Known) × AreTaken command told before earlier × IsPassed told earlier which (file_name command earlier which) known
+    (earlier : Known) × AreTaken command told before earlier
+        × IsPassed told earlier which (file_name command earlier which) known
 
 passed_as :
     (files : Files) (before : Known) (which : Which) (name : Option (List ℕ)) (now : Known) →
     IsPassed (Some files) before which name now → Passes files before which name now
 passed_as files before which None now is = is
 passed_as files before which (Some name) now is =
-    subst (λ (file : List ℕ). (length file ≤ limit_of which) × Learns before which file now) is.whole (is.fits, is.learns)
+    subst (λ (file : List ℕ). (length file ≤ limit_of which) × Learns before which file now) is.whole
+        (is.fits, is.learns)
 
 taken_as :
-    (command : Command) (files : Files) (whiches : List Which) (known : Known) → AreTaken command (Some files) whiches known →
+    (command : Command) (files : Files) (whiches : List Which) (known : Known)
+        → AreTaken command (Some files) whiches known →
     AreReadAs command files whiches known
 taken_as command files [] known is = is
 taken_as command files (which ∷ before) known (earlier, are, passed) = (
@@ -49,7 +52,8 @@ taken_as command files (which ∷ before) known (earlier, are, passed) = (
 )
 
 pub are_read :
-    (command : Command) (told : Option Files) (whiches : List Which) (known : Known) → AreTaken command told whiches known →
+    (command : Command) (told : Option Files) (whiches : List Which) (known : Known)
+        → AreTaken command told whiches known →
     OfFiles told (λ files. AreReadAs command files whiches known)
 are_read command None whiches known is = tt
 are_read command (Some files) whiches known is = taken_as command files whiches known is
@@ -58,7 +62,8 @@ are_read command (Some files) whiches known is = taken_as command files whiches 
 
 -- a name in the words is the name
 in_words :
-    (command : Command) (known : Known) (which : Which) (name other : List ℕ) → file_name command known which ≡ Some name →
+    (command : Command) (known : Known) (which : Which) (name other : List ℕ)
+        → file_name command known which ≡ Some name →
     name_in_words command which ≡ Some other → other ≡ name
 in_words command known Script name other named is = cc
 in_words command known Rom name other named is = absurd cc
@@ -98,7 +103,8 @@ module _ (command : Command) (told : Option Files) (which : Which) (before later
             before = before;
             later = later;
             place = place;
-            read = at_files told files (λ files'. AreReadAs command files' before known) is (are_read command told before known are);
+            read = at_files told files (λ files'. AreReadAs command files' before known) is
+                (are_read command told before known are);
             named = named;
           },
         ));
@@ -115,7 +121,8 @@ module _ (command : Command) (told : Option Files) (which : Which) (before later
     reads P holds =
         of_files told (λ files. ReadsFile command files which P)
         (λ files is.
-        let comes = at_files told files (λ files'. (known' : Known) × ComesTo command files' which known' name) is (reaches name named).comes in
+        let comes = at_files told files (λ files'. (known' : Known) × ComesTo command files' which known' name) is
+            (reaches name named).comes in
         record {
           known = comes.0;
           name = name;
@@ -142,7 +149,8 @@ module _ (command : Command) (told : Option Files) (which : Which) (before later
         ((reaches name named).can_read, reads (λ name' bytes. limit_of which < length bytes) holds)
     not_taken (BadScript line why) (same, holds) = (
       subst (CanRead command) same (reaches name named).can_read,
-      subst (λ (which' : Which). OfFiles told (λ files. ReadsFile command files which' (FitsFile Script (λ bytes. IsScriptBad bytes line why)))) same
+      subst (λ (which' : Which). OfFiles told
+          (λ files. ReadsFile command files which' (FitsFile Script (λ bytes. IsScriptBad bytes line why)))) same
           (reads (FitsFile Script (λ bytes. IsScriptBad bytes line why)) holds),
     )
     not_taken (BadImage other) (same, kind, holds) =
@@ -153,8 +161,10 @@ module _ (command : Command) (told : Option Files) (which : Which) (before later
     not_taken NoMemory is = tt
 
   stopped_at :
-      (start now : ℕ) (kept : List ℕ) (name : Option (List ℕ)) → file_name command known which ≡ name → (status : Status) →
-      IsNotPassed which name (record { files = told; faults_before = start; faults_now = now; failed_name = kept }) status →
+      (start now : ℕ) (kept : List ℕ) (name : Option (List ℕ)) → file_name command known which ≡ name
+          → (status : Status) →
+      IsNotPassed which name (record { files = told; faults_before = start; faults_now = now; failed_name = kept })
+          status →
       IsRefused command (record { files = told; faults_before = start; faults_now = now; failed_name = kept }) status
   stopped_at start now kept None named status is = absurd is
   stopped_at start now kept (Some name) named status is = not_taken start now kept name named status is
@@ -162,10 +172,12 @@ module _ (command : Command) (told : Option Files) (which : Which) (before later
   -- the command stops at this place, after none of the fetches before had failed
   stops :
       (start between now : ℕ) (kept : List ℕ) (status : Status) → between ≡ start →
-      IsNotPassed which (file_name command known which) (record { files = told; faults_before = between; faults_now = now; failed_name = kept }) status →
+      IsNotPassed which (file_name command known which)
+          (record { files = told; faults_before = between; faults_now = now; failed_name = kept }) status →
       IsRefused command (record { files = told; faults_before = start; faults_now = now; failed_name = kept }) status
   stops start between now kept status same is =
-      subst (λ (start' : ℕ). IsRefused command (record { files = told; faults_before = start'; faults_now = now; failed_name = kept }) status) same
+      subst (λ (start' : ℕ). IsRefused command
+          (record { files = told; faults_before = start'; faults_now = now; failed_name = kept }) status) same
       (stopped_at between now kept (file_name command known which) refl status is)
 
   -- ---- the fetches
@@ -181,7 +193,8 @@ module _ (command : Command) (told : Option Files) (which : Which) (before later
   -- the file at this place was read to its end
   own_whole :
       {T : Type 0} (E : Type 0) (value : T) (made : List Fetch) →
-      Both (WholeBefore command told before) (ReadsNamed {E = E} (Ok value) (file_name command known which) (limit_of which)) made →
+      Both (WholeBefore command told before) (ReadsNamed {E = E} (Ok value) (file_name command known which)
+          (limit_of which)) made →
       WholeBefore command told (which ∷ before) made
   own_whole E value made is = λ more. (
     is.second,
@@ -198,7 +211,8 @@ module _ (command : Command) (told : Option Files) (which : Which) (before later
       OfCalls start now (WholeBefore command told (which ∷ before))
   fetches_next E value start between now one two =
       calls_hold start now
-      (Both (WholeBefore command told before) (ReadsNamed {E = E} (Ok value) (file_name command known which) (limit_of which)))
+      (Both (WholeBefore command told before) (ReadsNamed {E = E} (Ok value) (file_name command known which)
+          (limit_of which)))
       (WholeBefore command told (which ∷ before)) (own_whole E value)
       (calls_both start between now (WholeBefore command told before)
       (ReadsNamed {E = E} (Ok value) (file_name command known which) (limit_of which)) one two)
@@ -233,7 +247,8 @@ module _ (command : Command) (told : Option Files) (which : Which) (before later
       OfCalls between now (ReadsNamed result (file_name command known which) (limit_of which)) →
       OfCalls start now (FetchesOf command told)
   fetches_last result start between now one two =
-      calls_hold start now (Both (WholeBefore command told before) (ReadsNamed result (file_name command known which) (limit_of which)))
+      calls_hold start now (Both (WholeBefore command told before)
+          (ReadsNamed result (file_name command known which) (limit_of which)))
       (FetchesOf command told) (last_read result)
       (calls_both start between now (WholeBefore command told before)
       (ReadsNamed result (file_name command known which) (limit_of which)) one two)
@@ -241,9 +256,11 @@ module _ (command : Command) (told : Option Files) (which : Which) (before later
 -- the command read all files
 pub fetches_all :
     (command : Command) (told : Option Files) (start now : Option (List Fetch)) →
-    OfCalls start now (WholeBefore command told (reverse (files_of command))) → OfCalls start now (FetchesOf command told)
+    OfCalls start now (WholeBefore command told (reverse (files_of command)))
+        → OfCalls start now (FetchesOf command told)
 fetches_all command told start now is =
-    calls_hold start now (WholeBefore command told (reverse (files_of command))) (FetchesOf command told) (λ made whole. whole []) is
+    calls_hold start now (WholeBefore command told (reverse (files_of command))) (FetchesOf command told)
+        (λ made whole. whole []) is
 
 -- ---- a loop along the table
 
@@ -275,7 +292,8 @@ module _ (command : Command) (told : Option Files) (files : List Which) (index :
   whole_next E value start between now one two =
       subst (λ (whiches : List Which). OfCalls start now (WholeBefore command told whiches))
       (sym (reverse-take_more files index d within))
-      (fetches_next command told here passed_by (drop (suc index) files) known at_here are E value start between now one two)
+      (fetches_next command told here passed_by (drop (suc index) files) known at_here are E value start between now one
+          two)
 
   -- the command stops at it
   pub stops_here :

@@ -3,7 +3,8 @@ use Rattle.std.proofs.Common.{◌≡◌, ℕ, List, Option, Some, None, refl, sy
 use Rattle.board_outside.specs.Outside.{OfFile}
 use Rattle.command_files.specs.Common.{Files, OfFiles}
 
-pub of_files : (told : Option Files) (P : Files → Type 0) → ((files : Files) → told ≡ Some files → P files) → OfFiles told P
+pub of_files : (told : Option Files) (P : Files → Type 0) → ((files : Files) → told ≡ Some files → P files)
+    → OfFiles told P
 of_files None P each = tt
 of_files (Some files) P each = each files refl
 
@@ -11,7 +12,8 @@ pub at_files : (told : Option Files) (files : Files) (P : Files → Type 0) → 
 at_files told files P is holds = subst (λ (told' : Option Files). OfFiles told' P) is holds
 
 pub at_file :
-    (told : Option Files) (files : Files) (name : List ℕ) (P : List ℕ → Type 0) → told ≡ Some files → OfFile told name P →
+    (told : Option Files) (files : Files) (name : List ℕ) (P : List ℕ → Type 0) → told ≡ Some files → OfFile told name P
+        →
     P (files name)
 at_file told files name P is holds = subst (λ (told' : Option Files). OfFile told' name P) is holds
 
@@ -22,4 +24,5 @@ any_file (Some files) name P holds = holds
 -- this holds of a result that is this error, where it holds of the error
 pub holds_of_error :
     {T E : Type 0} (P : E → Type 0) (result : Result T E) (error : E) → result ≡ Err error → P error → IfErr result P
-holds_of_error {T = T} {E = E} P result error is holds = subst (λ (result' : Result T E). IfErr result' P) (sym is) holds
+holds_of_error {T = T} {E = E} P result error is holds = subst (λ (result' : Result T E). IfErr result' P)
+    (sym is) holds

@@ -16,7 +16,8 @@ use Rattle.command_files.specs.Known.{Files, Known, AllRead, ComesTo, board_of, 
 -- ---- a file that is refused
 
 -- a command comes to a file of which this holds
-pub record ReadsFile (command : Command) (files : Files) (which : Which) (P : (name bytes : List ℕ) → Type 0) : Type 0 where
+pub record ReadsFile (command : Command) (files : Files) (which : Which) (P : (name bytes : List ℕ)
+    → Type 0) : Type 0 where
   pub known : Known
   pub name : List ℕ
   pub comes : ComesTo command files which known name

@@ -57,7 +57,8 @@ IsReading name limit (latest ∷ before) = ReadsOn name limit before latest × I
 
 -- ---- the fetches of a command
 
--- a command reads the file of this name, if it comes so far: the words have the name, or the script that was read before,
+-- a command reads the file of this name, if it comes so far: the words have the name, or the script that was read
+-- before,
 -- which is known where the shelf tells its files
 pub record ReachesFile (command : Command) (told : Option Files) (which : Which) (name : List ℕ) : Type 0 where
   pub can_read : CanRead command which

@@ -58,7 +58,8 @@ Learns before Input bytes now = now ≡ record before { input = bytes }
 -- a file of this name is within its limit and good; one without a name is passed over
 abbrev pub Passes : Files → Known → Which → (name : Option (List ℕ)) → Known → Type 0
 Passes files before which None now = now ≡ before
-Passes files before which (Some name) now = (length (files name) ≤ limit_of which) × Learns before which (files name) now
+Passes files before which (Some name) now = (length (files name) ≤ limit_of which)
+    × Learns before which (files name) now
 
 -- ---- one file after another
 

@@ -49,7 +49,8 @@ name_in_words command Image = image_name command
 name_in_words command Input = input_name command
 name_in_words command _ = None
 
--- the most bytes of a file: 16 MiB of a script, 512 KiB of a ROM, 32 MiB of a disk, 64 MiB of a log, 40 MiB of an image,
+-- the most bytes of a file: 16 MiB of a script, 512 KiB of a ROM, 32 MiB of a disk, 64 MiB of a log, 40 MiB of an
+-- image,
 -- 1 MiB of input
 abbrev pub limit_of : Which → ℕ
 limit_of Script = 0x100_0000

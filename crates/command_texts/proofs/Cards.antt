@@ -32,14 +32,16 @@ back [] = refl
 back (Memory bits ∷ later) = ap (λ (bases : List BaseSpec). Memory bits ∷ bases) (back later)
 back (Io bits ∷ later) = ap (λ (bases : List BaseSpec). Io bits ∷ bases) (back later)
 
-pub bases_eq : (r : Bool) (xs ys : List BaseSpec) → r ≡ pointwise eq-value.it xs ys → Decides r (map base_of xs ≡ map base_of ys)
+pub bases_eq : (r : Bool) (xs ys : List BaseSpec) → r ≡ pointwise eq-value.it xs ys
+    → Decides r (map base_of xs ≡ map base_of ys)
 bases_eq r xs ys is =
     Decides-like r (λ (same : xs ≡ ys). ap (map base_of) same)
     (λ (same : map base_of xs ≡ map base_of ys). sym (back xs) ∙ ap (map spec_of) same ∙ back ys)
     (slice_eq-Decides base_eq xs ys r is)
 
 pub card_same :
-    (one other : FittedCard) → one.dev ≡ other.dev → one.vga ≡ other.vga → one.rom ≡ other.rom → one.bases ≡ other.bases →
+    (one other : FittedCard) → one.dev ≡ other.dev → one.vga ≡ other.vga → one.rom ≡ other.rom → one.bases ≡ other.bases
+        →
     one ≡ other
 card_same one other dev vga rom bases = λ k. record { dev = dev k; vga = vga k; bases = bases k; rom = rom k }
 

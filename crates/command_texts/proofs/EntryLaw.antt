@@ -27,7 +27,8 @@ rises_by_one setup entry before =
     let few = listed_few (map_change_of setup before entry.event) in
     (omega (arith, next), omega (arith, next, few))
 
-earlier_is_lower : (setup : Setup) (history : List Entry) (k : ℕ) → version_of setup (drop k history) ≤ version_of setup history
+earlier_is_lower : (setup : Setup) (history : List Entry) (k : ℕ)
+    → version_of setup (drop k history) ≤ version_of setup history
 earlier_is_lower setup history zero = omega arith
 earlier_is_lower setup [] (suc k) = omega arith
 earlier_is_lower setup (entry ∷ before) (suc k) =

@@ -10,7 +10,8 @@ line_of range = range_text range ++ line_feed ∷ []
 one_range : (range : MapRange) → map_text (range ∷ []) ≡ line_of range
 one_range range = append-nil (line_of range)
 
-range_added : (before : List MapRange) (range : MapRange) → map_text (before ++ range ∷ []) ≡ map_text before ++ line_of range
+range_added : (before : List MapRange) (range : MapRange)
+    → map_text (before ++ range ∷ []) ≡ map_text before ++ line_of range
 range_added before range =
     flat_map-append line_of before (range ∷ []) ∙ ap (λ (text : List ℕ). map_text before ++ text) (one_range range)
 
@@ -27,4 +28,5 @@ map_text-more ranges i default inside old text new so_far added =
     ∙ append_assoc old (map_text before) (line_of range)
     ∙ ap (λ (lines : List ℕ). old ++ lines)
     (sym (range_added before range)
-    ∙ ap map_text (sym (ap (map range_of) (take_more ranges i default inside) ∙ map-append range_of (take i ranges) (get_or ranges i default ∷ []))))
+    ∙ ap map_text (sym (ap (map range_of) (take_more ranges i default inside)
+    ∙ map-append range_of (take i ranges) (get_or ranges i default ∷ []))))

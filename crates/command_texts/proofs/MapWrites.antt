@@ -7,12 +7,14 @@ use Rattle.command_texts.specs.declared.writes.MapWrites.{MapWrites}
 use Rattle.command_texts.specs.Common.{entry_of_version, AreWritesOf}
 
 pub no_writes :
-    (setup : Setup) (writes : MapWrites) → writes.changes.items ≡ [] → writes.entries.items ≡ [] → AreWritesOf setup [] writes
+    (setup : Setup) (writes : MapWrites) → writes.changes.items ≡ [] → writes.entries.items ≡ []
+        → AreWritesOf setup [] writes
 unfolding map_writes_of
 no_writes setup writes changes entries = record {
   changes = ap reverse changes;
   count = ap length entries ∙ sym (ap length changes);
-  entry = λ index below. let none : length writes.changes.items ≡ 0 = ap length changes in absurd (omega (arith, below, none));
+  entry = λ index below. let none : length writes.changes.items ≡ 0 = ap length changes in
+      absurd (omega (arith, below, none));
 }
 
 pub version_is :
@@ -57,7 +59,8 @@ entry_at setup history writes version are some most =
 
 pub writes_same :
     (setup : Setup) (entry : Entry) (before : List Entry) (writes : MapWrites) →
-    map_change_of setup before entry.event ≡ None → AreWritesOf setup before writes → AreWritesOf setup (entry ∷ before) writes
+    map_change_of setup before entry.event ≡ None → AreWritesOf setup before writes
+        → AreWritesOf setup (entry ∷ before) writes
 unfolding map_writes_of
 writes_same setup entry before writes none are = record {
   changes = rw none are.changes;
@@ -89,7 +92,8 @@ writes_more setup entry before change old new some changes entries are =
       entry = λ index below. elim (cases_lt index (length old.changes.items)) [
         | inl earlier ↦
             ap (λ (numbers : List ℕ). slice_index numbers index) entries
-            ∙ get_or_append_left old.entries.items ((length before + 1) ∷ []) 0 index (omega (arith, earlier, are.count))
+            ∙ get_or_append_left old.entries.items ((length before + 1) ∷ []) 0 index
+                (omega (arith, earlier, are.count))
             ∙ are.entry index earlier
             ∙ sym (entry_before setup entry before (index + 1) (omega (arith, earlier, version)))
         | inr last ↦

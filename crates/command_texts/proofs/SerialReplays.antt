@@ -75,7 +75,8 @@ went_on_once statement old middle new input sent after received done added one t
           ∙ ap (λ (front : List ℕ). front ++ sent_in (after_all (port_of old) now) left later) (sym sends)
           ∙ ap (λ (port : Sending). after ++ sent_in port left later) (sym both.port);
       steps = λ later.
-          ap (λ (more : List Statement). statements_of old.board.entries ++ more) (steps_first (port_of old) input statement later)
+          ap (λ (more : List Statement). statements_of old.board.entries ++ more)
+              (steps_first (port_of old) input statement later)
           ∙ sym (append_assoc (statements_of old.board.entries) (steps_for_all statement.actor (port_of old) now)
           (steps_in (after_all (port_of old) now) left later))
           ∙ ap (λ (front : List Statement). front ++ steps_in (after_all (port_of old) now) left later) (sym both.steps)
@@ -110,7 +111,8 @@ went_on_twice old middle new first second one two =
           ∙ one.sent (second ++ later)
           ∙ two.sent later;
       steps = λ later.
-          ap (λ (statements : List Statement). statements_of old.serial.board.entries ++ steps_in (port_of old.serial) old.input statements)
+          ap (λ (statements : List Statement). statements_of old.serial.board.entries ++ steps_in (port_of old.serial)
+              old.input statements)
           (append_assoc first second later)
           ∙ one.steps (second ++ later)
           ∙ two.steps later;
@@ -134,7 +136,8 @@ room_for_next statements i old middle within room so_far =
     omega (arith, so_far.spare)
 
 -- a phase more
-pub went_on_phase : (phases : List (Vec Statement Global)) (i : ℕ) (phase : Vec Statement Global) (old middle new : SerialPlace) →
+pub went_on_phase : (phases : List (Vec Statement Global)) (i : ℕ) (phase : Vec Statement Global)
+    (old middle new : SerialPlace) →
     i < length phases → phase ≡ get_or phases i phase →
     WentOn old (in_file_order (lists_of (take i phases))) middle → WentOn middle phase.items new →
     WentOn old (in_file_order (lists_of (take (i + 1) phases))) new
@@ -146,7 +149,8 @@ went_on_phase phases i phase old middle new within is so_far next =
     subst (λ (done : List Statement). WentOn old done new) (sym more)
     (went_on_twice old middle new (in_file_order before) phase.items so_far next)
 
-pub room_for_phase : (phases : List (Vec Statement Global)) (i : ℕ) (phase : Vec Statement Global) (old middle : SerialPlace) →
+pub room_for_phase : (phases : List (Vec Statement Global)) (i : ℕ) (phase : Vec Statement Global)
+    (old middle : SerialPlace) →
     i < length phases → phase ≡ get_or phases i phase →
     3 * length (in_file_order (lists_of phases)) ≤ old.serial.board.spare →
     WentOn old (in_file_order (lists_of (take i phases))) middle → 3 * length phase.items ≤ middle.serial.board.spare
@@ -170,9 +174,11 @@ pub phase_for_port : (setup : Setup) (phases : List (Vec Statement Global)) (i :
     All (IsForPort setup) phase.items
 phase_for_port setup phases i phase within is all =
     all_of_phase (IsForPort setup) (lists_of (take i phases)) phase.items (lists_of (drop (i + 1) phases))
-    (subst (λ (ps : List (List Statement)). All (IsForPort setup) (in_file_order ps)) (phases_cut phases i phase within is) all)
+    (subst (λ (ps : List (List Statement)). All (IsForPort setup) (in_file_order ps))
+        (phases_cut phases i phase within is) all)
 
 -- the same under another name of the statements
-pub went_on_as : (old new : SerialPlace) (statements others : List Statement) → statements ≡ others → WentOn old statements new →
+pub went_on_as : (old new : SerialPlace) (statements others : List Statement) → statements ≡ others
+    → WentOn old statements new →
     WentOn old others new
 went_on_as old new statements others same went = subst (λ (list : List Statement). WentOn old list new) same went

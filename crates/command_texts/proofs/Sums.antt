@@ -4,7 +4,8 @@ use Rattle.std.proofs.Math.Nat.{suc-mul, min-le_left}
 use Rattle.std.proofs.lemmas.List.{get_or_past, get_or-take, get_or-drop, length-take}
 use Rattle.command_texts.specs.Transfers.{sum_below}
 
-pub sum_below-more : (count : ℕ) (byte_at : ℕ → ℕ) → sum_below (count + 1) byte_at ≡ sum_below count byte_at + byte_at count
+pub sum_below-more : (count : ℕ) (byte_at : ℕ → ℕ)
+    → sum_below (count + 1) byte_at ≡ sum_below count byte_at + byte_at count
 unfolding sum_below
 sum_below-more count byte_at = ap (λ (n : ℕ). sum_below n byte_at) (add-one count)
 
@@ -31,8 +32,10 @@ sum_below-append first (suc more) byte_at =
     let count : first + suc more ≡ suc (first + more) = omega arith in
     let next : sum_below (first + suc more) byte_at ≡ sum_below (suc (first + more)) byte_at =
     ap (λ (n : ℕ). sum_below n byte_at) count in
-    let outer : sum_below (suc (first + more)) byte_at ≡ sum_below (first + more) byte_at + byte_at (first + more) = refl in
-    let inner : sum_below (suc more) (λ k. byte_at (first + k)) ≡ sum_below more (λ k. byte_at (first + k)) + byte_at (first + more) = refl in
+    let outer : sum_below (suc (first + more)) byte_at ≡ sum_below (first + more) byte_at + byte_at (first + more) =
+        refl in
+    let inner : sum_below (suc more) (λ k. byte_at (first + k)) ≡ sum_below more (λ k. byte_at (first + k)) + byte_at
+        (first + more) = refl in
     let before = sum_below-append first more byte_at in
     omega (arith, before)
 
@@ -83,4 +86,5 @@ cut_byte size i k bytes below =
     ∙ sym (get_or-take size (drop (size * i) bytes) k 0 below ∙ get_or-drop (size * i) bytes k 0)
 
 pub cut_length : (size i : ℕ) (bytes : List ℕ) → length (take size (drop (size * i) bytes)) ≤ size
-cut_length size i bytes = omega (arith, length-take size (drop (size * i) bytes), min-le_left size (length (drop (size * i) bytes)))
+cut_length size i bytes =
+    omega (arith, length-take size (drop (size * i) bytes), min-le_left size (length (drop (size * i) bytes)))

@@ -37,7 +37,8 @@ dram_told setup store moving size cells =
     ∙ ap (λ (n : ℕ). sum_below n (λ addr. moving.cells (DramCell addr))) size
 
 same_lines : {done other : Done} {status status' dram dram' disk disk' : ℕ} → done ≡ other → status ≡ status' →
-    dram ≡ dram' → disk ≡ disk' → ended_line done status ++ sums_line dram disk ≡ ended_line other status' ++ sums_line dram' disk'
+    dram ≡ dram' → disk ≡ disk'
+        → ended_line done status ++ sums_line dram disk ≡ ended_line other status' ++ sums_line dram' disk'
 same_lines one two three four = rw (one, two, three, four) refl
 
 -- the text of the transfer by these registers over this disk
@@ -46,7 +47,8 @@ text_by setup history transfer store master disk =
     transfer_text setup disk master
     (transferred setup (byte_of setup history) master transfer.lba transfer.count (cells_of store) (medium_of disk))
 
-pub transfer_told : (setup : Setup) (history : List Entry) (transfer : Transfer) (old new : Store) (master after : Master)
+pub transfer_told : (setup : Setup) (history : List Entry) (transfer : Transfer) (old new : Store)
+    (master after : Master)
     (done : Done) (status dram disk : ℕ) (text : List ℕ) (moving : Moving) →
     moving ≡ transfer_of setup (byte_of setup history) master transfer.lba transfer.count old →
     master ≡ started transfer → old.disk ≡ disk_of setup history → AreCellsAfter setup history (cells_of old) →
@@ -68,7 +70,8 @@ transfer_told setup history transfer old new master after done status dram disk 
           ∙ ap (λ (d : Option Disk). text_by setup history transfer old (started transfer) d) left;
     }
 
-pub ok_then : {T E : Type 0} {P Q : T → Type 0} (result : Result T E) → IfOk result P → ((x : T) → P x → Q x) → IfOk result Q
+pub ok_then : {T E : Type 0} {P Q : T → Type 0} (result : Result T E) → IfOk result P → ((x : T) → P x → Q x)
+    → IfOk result Q
 ok_then (Ok x) is more = more x is
 ok_then (Err fault) is more = tt
 
@@ -81,7 +84,8 @@ pub abort_added : {T E : Type 0} (result : Result T E) (old one two three new fi
     one ≡ old ++ first → two ≡ one ++ second → three ≡ two ++ space ∷ [] → OnOk result (new ≡ three ++ last) →
     OnOk result (new ≡ old ++ (first ++ second ++ space ∷ last))
 abort_added (Ok done) old one two three new first second last a b c d =
-    d ∙ ap (λ (t : List ℕ). t ++ last) (c ∙ ap (λ (t : List ℕ). t ++ space ∷ []) (b ∙ ap (λ (t : List ℕ). t ++ second) a))
+    d ∙ ap (λ (t : List ℕ). t ++ last)
+        (c ∙ ap (λ (t : List ℕ). t ++ space ∷ []) (b ∙ ap (λ (t : List ℕ). t ++ second) a))
     ∙ append_assoc (old ++ first ++ second) (space ∷ []) last
     ∙ ap (λ (t : List ℕ). t ++ space ∷ last) (append_assoc old first second)
     ∙ append_assoc old (first ++ second) (space ∷ last)

@@ -28,7 +28,8 @@ IsStanding serial =
     IsLeftBy (λ board history. board.entries ≡ history) serial serial.board.entries
 
 -- these happened to it, each event by this processor
-pub record Happened (actor : ℕ) (old : Serial Standing) (happenings : List Happening) (new : Serial Standing) : Type 0 where
+pub record Happened (actor : ℕ) (old : Serial Standing) (happenings : List Happening) (new : Serial Standing) : Type 0
+    where
   pub setup : new.board.setup ≡ old.board.setup
   pub standing : IsStanding new
   pub port : port_of new ≡ after_all (port_of old) happenings

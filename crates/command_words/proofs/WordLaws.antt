@@ -31,11 +31,13 @@ two_read verb named each (name ∷ other ∷ []) command e =
     subst (Asks (verb ∷ name ∷ other ∷ [])) (some_is (named name other) command e) (each name other)
 two_read verb named each (name ∷ other ∷ more ∷ rest) command e = absurd (cc e)
 
-make_read : (words : List (List ℕ)) (command : Command) → make_of words ≡ Some command → Asks (codes "make" ∷ words) command
+make_read : (words : List (List ℕ)) (command : Command) → make_of words ≡ Some command
+    → Asks (codes "make" ∷ words) command
 unfolding make_of
 make_read [] command e = absurd (cc e)
 make_read (word ∷ []) command e =
-    let count = then_said (parse_decimal word) (λ count. cond (is_round_count count) (Some (Make count)) None) command e in
+    let count = then_said (parse_decimal word) (λ count. cond (is_round_count count) (Some (Make count)) None) command
+        e in
     let few = guarded (is_round_count count.0) (Some (Make count.0)) command count.2 in
     let ends = both (leb 1 count.0) (leb count.0 most_rounds) few.0 in
     subst (Asks (codes "make" ∷ word ∷ [])) (some_is (Make count.0) command few.1) (
@@ -56,7 +58,8 @@ transfer_is transfer e =
       most = leb-true transfer.count 256 three.1;
     }
 
-direction_read : (word : List ℕ) (to_memory : Bool) → direction_of word ≡ Some to_memory → word ≡ direction_word to_memory
+direction_read : (word : List ℕ) (to_memory : Bool) → direction_of word ≡ Some to_memory
+    → word ≡ direction_word to_memory
 unfolding direction_of
 direction_read word to_memory e = elim (cases_Bool (bytes_eq word (codes "in"))) [
   | inl one ↦
@@ -66,7 +69,8 @@ direction_read word to_memory e = elim (cases_Bool (bytes_eq word (codes "in")))
       word_is word (codes "out") out.0 ∙ ap direction_word (some_is false to_memory out.1)
 ]
 
-dma_read : (words : List (List ℕ)) (command : Command) → dma_of words ≡ Some command → Asks (codes "dma" ∷ words) command
+dma_read : (words : List (List ℕ)) (command : Command) → dma_of words ≡ Some command
+    → Asks (codes "dma" ∷ words) command
 unfolding dma_of
 dma_read [] command e = absurd (cc e)
 dma_read (_ ∷ []) command e = absurd (cc e)
@@ -81,7 +85,8 @@ dma_read (script ∷ direction ∷ table ∷ lba ∷ count ∷ []) command e =
     let transfer : Transfer =
     record { to_memory = to_memory.0; table = address.0; lba = sector.0; count = sectors.0 } in
     let is = guarded (is_transfer transfer) (Some (Dma script transfer)) command sectors.2 in
-    subst (Asks (codes "dma" ∷ script ∷ direction ∷ table ∷ lba ∷ count ∷ [])) (some_is (Dma script transfer) command is.1) (
+    subst (Asks (codes "dma" ∷ script ∷ direction ∷ table ∷ lba ∷ count ∷ []))
+        (some_is (Dma script transfer) command is.1) (
       transfer_is transfer is.0,
       (
         table,
@@ -90,7 +95,8 @@ dma_read (script ∷ direction ∷ table ∷ lba ∷ count ∷ []) command e =
             (direction_read direction to_memory.0 to_memory.1)
             ∙ ap (λ (word : List ℕ). codes "dma" ∷ script ∷ direction_word to_memory.0 ∷ table ∷ word ∷ count ∷ [])
             (decimal_read lba sector.0 sector.1).0
-            ∙ ap (λ (word : List ℕ). codes "dma" ∷ script ∷ direction_word to_memory.0 ∷ table ∷ decimal sector.0 ∷ word ∷ [])
+            ∙ ap (λ (word : List ℕ). codes "dma" ∷ script ∷ direction_word to_memory.0 ∷ table ∷ decimal sector.0 ∷ word
+            ∷ [])
             (decimal_read count sectors.0 sectors.1).0,
       ),
     )
@@ -127,7 +133,8 @@ all_read (verb ∷ words) command e =
 
 -- ---- back
 
-made_back : (rounds : ℕ) → IsCommand (Make rounds) → command_of (codes "make" ∷ decimal rounds ∷ []) ≡ Some (Make rounds)
+made_back : (rounds : ℕ) → IsCommand (Make rounds)
+    → command_of (codes "make" ∷ decimal rounds ∷ []) ≡ Some (Make rounds)
 unfolding command_of make_of
 made_back rounds there =
     let small : IsDecimal rounds = omega (arith, there.1) in

@@ -24,7 +24,8 @@ pub data Command : Type 0 where
 abbrev pub IsRoundCount : ℕ → Type 0
 IsRoundCount rounds = (1 ≤ rounds) × (rounds ≤ most_rounds)
 
--- a descriptor table is at an address that is a multiple of 4, a disk has the sectors 0 to 65,535, and a transfer moves 1 to
+-- a descriptor table is at an address that is a multiple of 4, a disk has the sectors 0 to 65,535, and a transfer moves
+-- 1 to
 -- 256 of them
 pub record IsTransfer (transfer : Transfer) : Type 0 where
   pub aligned : transfer.table % 4 ≡ 0
@@ -54,7 +55,8 @@ AreWordsOf words (Make rounds) = words ≡ codes "make" ∷ decimal rounds ∷ [
 AreWordsOf words (Dma script transfer) =
     (digits : List ℕ) × (parse_hex 8 digits ≡ Some transfer.table)
     × (words
-    ≡ codes "dma" ∷ script ∷ direction_word transfer.to_memory ∷ digits ∷ decimal transfer.lba ∷ decimal transfer.count ∷ [])
+    ≡ codes "dma" ∷ script ∷ direction_word transfer.to_memory ∷ digits ∷ decimal transfer.lba ∷ decimal transfer.count
+    ∷ [])
 AreWordsOf words (Save script) = words ≡ codes "save" ∷ script ∷ []
 AreWordsOf words (Resume image script) = words ≡ codes "resume" ∷ image ∷ script ∷ []
 AreWordsOf words (Serial script input) = words ≡ codes "serial" ∷ script ∷ input ∷ []

@@ -9,7 +9,8 @@ use Rattle.log_pieces.specs.Pieces.{Piece, IsPiece, ArePieces}
 -- the lines that follow `n` entries are numbered on, and where there are no more entries there are no lines
 lines_after :
     (n size : ℕ) (entries : List Entry)
-    → lines_from (1 + length (take n entries)) (take size (drop n entries)) ≡ lines_from (n + 1) (take size (drop n entries))
+    → lines_from (1 + length (take n entries)) (take size (drop n entries)) ≡ lines_from (n + 1)
+        (take size (drop n entries))
 unfolding lines_from
 lines_after n size entries = elim (cases_lt (length entries) n) [
   | inl past ↦
@@ -40,11 +41,13 @@ piece_at :
     → ArePieces size entries (done ++ piece ∷ rest) → piece ≡ Ok lines → IsPiece size (length done) entries (Ok lines)
 piece_at size entries done rest lines piece are is =
     let inside : length done < length (done ++ piece ∷ rest) = omega (arith, length-append done (piece ∷ rest)) in
-    subst (IsPiece size (length done) entries) (get_or-append_seam done piece rest piece ∙ is) (are (length done) piece inside)
+    subst (IsPiece size (length done) entries) (get_or-append_seam done piece rest piece ∙ is)
+        (are (length done) piece inside)
 
 -- with the lines of the next piece
 pub piece_added :
-    (size : ℕ) (entries : List Entry) (done rest : List Piece) (lines : String Global) (piece : Piece) (old text new : List ℕ)
+    (size : ℕ) (entries : List Entry) (done rest : List Piece) (lines : String Global) (piece : Piece)
+        (old text new : List ℕ)
     → ArePieces size entries (done ++ piece ∷ rest) → piece ≡ Ok lines
     → text ≡ old ++ lines_from 1 (take (length done * size) entries) → new ≡ text ++ string_bytes lines
     → new ≡ old ++ lines_from 1 (take (length (done ++ piece ∷ []) * size) entries)
@@ -87,7 +90,8 @@ no_lines_between start entries text =
     sym (append-nil text) ∙ ap (λ (n : ℕ). text ++ lines_from (start + 1) (take n (drop start entries))) none
 
 -- the line of the entry at i makes the lines from a place on one entry longer
-pub line_added : (start i : ℕ) (entries : List Entry) (line : Entry) → start ≤ i → i < length entries → get_or entries i line ≡ line → (old lines new : List ℕ)
+pub line_added : (start i : ℕ) (entries : List Entry) (line : Entry) → start ≤ i → i < length entries
+    → get_or entries i line ≡ line → (old lines new : List ℕ)
     → lines ≡ old ++ lines_from (start + 1) (take (i - start) (drop start entries))
     → new ≡ lines ++ (line_text (i + 1) line ++ line_feed ∷ [])
     → new ≡ old ++ lines_from (start + 1) (take (i + 1 - start) (drop start entries))

@@ -7,7 +7,8 @@ pub reverse-take_more :
     {A : Type 0} (entries : List A) (i : ℕ) (default : A) → i < length entries
     → reverse (take (i + 1) entries) ≡ get_or entries i default ∷ reverse (take i entries)
 reverse-take_more entries i default inside =
-    ap reverse ((take_at_read entries i default inside).1) ∙ reverse-append (take i entries) (get_or entries i default ∷ [])
+    ap reverse ((take_at_read entries i default inside).1)
+        ∙ reverse-append (take i entries) (get_or entries i default ∷ [])
 
 pub lines_text-newest :
     (before : List Entry) (entry : Entry) (i : ℕ) → length before ≡ i

@@ -37,7 +37,9 @@ IsCycleReply (Saw look) = Unit {0}
 abbrev pub KindsAddUp : Type 0
 KindsAddUp =
     (history : List Entry) → All (λ entry. IsCycleReply entry.reply) history →
-    count_where (answers is_dram) history + count_where (answers is_shadow) history + count_where (answers is_smram) history
-    + count_where (answers is_rom) history + count_where (answers is_card) history + count_where (answers is_config) history
+    count_where (answers is_dram) history + count_where (answers is_shadow) history + count_where (answers is_smram)
+        history
+    + count_where (answers is_rom) history + count_where (answers is_card) history + count_where (answers is_config)
+        history
     + count_where (answers is_device) history + count_where (answers is_abort) history + count_where is_look history
     ≡ length history

@@ -18,8 +18,10 @@ unchanged map = record { stands = λ setup bytes stands. stands; cards = refl; v
 -- a map after one change more
 pub changed_again :
     (opened now next : Mapped) (changes : List MapChange) (change : MapChange) → IsMapAfter opened changes now →
-    ((setup : Setup) (bytes : Bytes) → StandsFor setup bytes now.regs → StandsFor setup (after setup change bytes) next.regs) →
-    cards_of next.regs.cards ≡ cards_of now.regs.cards → next.version ≡ now.version + 1 → IsMapAfter opened (change ∷ changes) next
+    ((setup : Setup) (bytes : Bytes) → StandsFor setup bytes now.regs
+        → StandsFor setup (after setup change bytes) next.regs) →
+    cards_of next.regs.cards ≡ cards_of now.regs.cards → next.version ≡ now.version + 1
+        → IsMapAfter opened (change ∷ changes) next
 unfolding bytes_after
 changed_again opened now next changes change before stands cards version = record {
   stands = λ setup bytes was. stands setup (bytes_after setup changes bytes) (before.stands setup bytes was);
@@ -28,30 +30,39 @@ changed_again opened now next changes change before stands cards version = recor
 }
 
 -- the registers after changes that followed others from reset on
-pub registers_after_more : (setup : Setup) (changes earlier : List MapChange) → bytes_after setup changes (registers_after setup earlier) ≡ registers_after setup (changes ++ earlier)
+pub registers_after_more : (setup : Setup) (changes earlier : List MapChange)
+    → bytes_after setup changes (registers_after setup earlier) ≡ registers_after setup (changes ++ earlier)
 unfolding bytes_after registers_after
 registers_after_more setup [] earlier = refl
-registers_after_more setup (change ∷ changes) earlier = ap (after setup change) (registers_after_more setup changes earlier)
+registers_after_more setup (change ∷ changes) earlier =
+    ap (after setup change) (registers_after_more setup changes earlier)
 
 -- ---- lists
 
 -- a list that goes on has the changes of its beginning, and more
-pub changes_extend : (front whole : List Mark) → IsPrefix front whole → (more : List MapChange) × (changes_of whole ≡ more ++ changes_of front)
+pub changes_extend : (front whole : List Mark) → IsPrefix front whole
+    → (more : List MapChange) × (changes_of whole ≡ more ++ changes_of front)
 changes_extend front whole (rest, is) = (
   changes_of rest,
-  ap changes_of (sym is) ∙ (ap reverse (flat_map-append changes_in front rest) ∙ reverse-append (flat_map changes_in front) (flat_map changes_in rest)),
+  ap changes_of (sym is)
+      ∙ (ap reverse (flat_map-append changes_in front rest) ∙ reverse-append (flat_map changes_in front)
+      (flat_map changes_in rest)),
 )
 
-pub changes_added : (log : List Mark) (change : MapChange) → changes_of (log ++ Changed change ∷ []) ≡ change ∷ changes_of log
-changes_added log change = ap reverse (flat_map-append changes_in log (Changed change ∷ [])) ∙ reverse-append (flat_map changes_in log) (change ∷ [])
+pub changes_added : (log : List Mark) (change : MapChange)
+    → changes_of (log ++ Changed change ∷ []) ≡ change ∷ changes_of log
+changes_added log change = ap reverse (flat_map-append changes_in log (Changed change ∷ []))
+    ∙ reverse-append (flat_map changes_in log) (change ∷ [])
 
 -- a list that goes on was opened with the same map
-pub opened_same : (front whole : List Mark) → 0 < length front → IsPrefix front whole → opened_of whole ≡ opened_of front
+pub opened_same : (front whole : List Mark) → 0 < length front → IsPrefix front whole
+    → opened_of whole ≡ opened_of front
 opened_same [] whole some prefix = absurd (omega (arith, some))
 opened_same (first ∷ later) whole some (rest, is) = ap opened_of (sym is)
 
 -- a list that goes on has no lower version
-pub version_grows : (front whole : List Mark) → 0 < length front → IsPrefix front whole → version_after front ≤ version_after whole
+pub version_grows : (front whole : List Mark) → 0 < length front → IsPrefix front whole
+    → version_after front ≤ version_after whole
 version_grows front whole some prefix =
     let opened = ap (λ (map : Mapped). map.version) (opened_same front whole some prefix) in
     let changes = changes_extend front whole prefix in
@@ -63,13 +74,17 @@ pub opened_changed : (log : List Mark) (change : MapChange) → opened_of (log +
 opened_changed [] change = refl
 opened_changed (first ∷ later) change = refl
 
-pub with_change_below : (log : List Mark) (change : MapChange) → version_after log < 4_000_000 → with_change log change ≡ log ++ Changed change ∷ []
+pub with_change_below : (log : List Mark) (change : MapChange) → version_after log < 4_000_000
+    → with_change log change ≡ log ++ Changed change ∷ []
 with_change_below log change below = grind (arith, nat_tests)
 
 -- the map of a list with a change made in it is the map of the list with the change at its end
 pub changed_map :
     (log : List Mark) (change : MapChange) (now next : Mapped) → IsMapOfLog log now →
-    ((setup : Setup) (bytes : Bytes) → StandsFor setup bytes now.regs → StandsFor setup (after setup change bytes) next.regs) →
-    cards_of next.regs.cards ≡ cards_of now.regs.cards → next.version ≡ now.version + 1 → IsMapOfLog (log ++ Changed change ∷ []) next
+    ((setup : Setup) (bytes : Bytes) → StandsFor setup bytes now.regs
+        → StandsFor setup (after setup change bytes) next.regs) →
+    cards_of next.regs.cards ≡ cards_of now.regs.cards → next.version ≡ now.version + 1
+        → IsMapOfLog (log ++ Changed change ∷ []) next
 changed_map log change now next before stands cards version =
-    rw (opened_changed log change, changes_added log change) (changed_again (opened_of log) now next (changes_of log) change before stands cards version)
+    rw (opened_changed log change, changes_added log change)
+        (changed_again (opened_of log) now next (changes_of log) change before stands cards version)

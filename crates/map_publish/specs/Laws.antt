@@ -12,7 +12,8 @@ pub record IsMapOfWrites (setup : Setup) (writes : List MapChange) (map : Mapped
   pub version : map.version ≡ length writes
 
 -- a look shows the map of a board after these map writes
-pub record IsLookAfter (setup : Setup) (writes : List MapChange) (addr : ℕ) (kind : Kind) (smm : Bool) (look : Look) : Type 0 where
+pub record IsLookAfter (setup : Setup) (writes : List MapChange) (addr : ℕ) (kind : Kind) (smm : Bool)
+    (look : Look) : Type 0 where
   pub version : look.version ≡ length writes
   pub span : IsSpan setup (registers_after setup writes) addr kind smm look.lo look.hi look.area
 

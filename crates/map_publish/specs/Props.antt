@@ -14,7 +14,8 @@ pub HoldsRom-prop : (bytes : Bytes) (dev rom : ℕ) (size : Option ℕ) → IsPr
 HoldsRom-prop bytes dev rom None = Unit-prop
 HoldsRom-prop bytes dev rom (Some bits) = hlevel props
 
-pub IsMapAfter-prop : (opened : Mapped) (changes : List MapChange) (now : Mapped) → IsProp (IsMapAfter opened changes now)
+pub IsMapAfter-prop : (opened : Mapped) (changes : List MapChange) (now : Mapped)
+    → IsProp (IsMapAfter opened changes now)
 IsMapAfter-prop opened changes now = hlevel (props, HoldsRom-prop)
 
 -- that ranges are a flat map has at most one proof, too

@@ -14,18 +14,23 @@ legal_end setup (entry ∷ later) before legal = legal_end setup later before le
 pub cut_is : (n : ℕ) (bus : List Entry) → reverse bus ≡ reverse (drop n bus) ++ reverse (take n bus)
 cut_is n bus = ap reverse (sym (take-append-drop n bus)) ∙ reverse-append (take n bus) (drop n bus)
 
-pub legal_front : (setup : Setup) (n : ℕ) (bus : List Entry) → IsLegal setup (reverse bus) → IsLegal setup (reverse (take n bus))
-legal_front setup n bus legal = legal_end setup (reverse (drop n bus)) (reverse (take n bus)) (subst (IsLegal setup) (cut_is n bus) legal)
+pub legal_front : (setup : Setup) (n : ℕ) (bus : List Entry) → IsLegal setup (reverse bus)
+    → IsLegal setup (reverse (take n bus))
+legal_front setup n bus legal = legal_end setup (reverse (drop n bus)) (reverse (take n bus))
+    (subst (IsLegal setup) (cut_is n bus) legal)
 
 -- what an order takes in over the whole of the bus's history, it takes in over what it was before
-pub taken_in : (bus : List Entry) (opened version : ℕ) (works : List (List Done)) (old new : Order) → opened ≤ length bus → old.bus ≡ opened → All (IsPlacedBelow old.bus) old.entries
+pub taken_in : (bus : List Entry) (opened version : ℕ) (works : List (List Done)) (old new : Order)
+    → opened ≤ length bus → old.bus ≡ opened → All (IsPlacedBelow old.bus) old.entries
     → over bus new.entries ≡ placed version (drop old.bus bus) works (over bus old.entries)
-    → entries_of (Some new) (reverse bus) ≡ placed version (drop opened bus) works (entries_of (Some old) (reverse (take opened bus)))
+    → entries_of (Some new) (reverse bus) ≡ placed version (drop opened bus) works
+        (entries_of (Some old) (reverse (take opened bus)))
 taken_in bus opened version works old new fits size within is =
     let front : over (reverse (reverse (take opened bus))) old.entries ≡ over bus old.entries =
     ap (λ (b : List Entry). over b old.entries) (reverse-reverse (take opened bus))
     ∙ over_front opened bus old.entries (subst (λ (n : ℕ). All (IsPlacedBelow n) old.entries) size within) in
-    ap (λ (b : List Entry). over b new.entries) (reverse-reverse bus) ∙ (is ∙ (λ t. placed version (drop (size t) bus) works (sym front t)))
+    ap (λ (b : List Entry). over b new.entries) (reverse-reverse bus)
+        ∙ (is ∙ (λ t. placed version (drop (size t) bus) works (sym front t)))
 
 pub front_length : (bus : List Entry) (opened : ℕ) → opened ≤ length bus → length (reverse (take opened bus)) ≡ opened
 front_length bus opened fits = length-reverse (take opened bus) ∙ length-take-le opened bus fits

@@ -28,9 +28,11 @@ few_by actor (statement ∷ phase) =
     elim (cases_Bool (statement.actor == actor)) [ inl own ↦ rw own (omega arith) | inr other ↦ rw other (omega arith) ]
 
 -- one statement more
-pub counts_more : (counts : List ℕ) (phase : List Statement) (i : ℕ) (d : Statement) (actor other : ℕ) → length counts ≡ 256 → other < 256 → i < length phase
+pub counts_more : (counts : List ℕ) (phase : List Statement) (i : ℕ) (d : Statement) (actor other : ℕ)
+    → length counts ≡ 256 → other < 256 → i < length phase
     → actor ≡ (slice_index_or phase i d).actor → slice_index counts other ≡ length (events_by other (take i phase))
-    → slice_index (set counts actor (slice_index_or counts actor 0 + 1)) other ≡ length (events_by other (take (i + 1) phase))
+    → slice_index (set counts actor (slice_index_or counts actor 0 + 1)) other ≡ length
+        (events_by other (take (i + 1) phase))
 counts_more counts phase i d actor other many small less own was =
     let more = length-filter_more (is_by other) phase i d less in
     let before = length-map (filter (is_by other) (take i phase)) event_in in
@@ -38,7 +40,8 @@ counts_more counts phase i d actor other many small less own was =
     elim (cases_eq other actor) [
       | inl same ↦
           let is : is_by other (slice_index_or phase i d) ≡ true = grind (arith, nat_tests) in
-          let new = get_or-set_at counts actor other (get_or counts actor 0 + 1) 0 same (omega (arith, many, small, same)) in
+          let new = get_or-set_at counts actor other (get_or counts actor 0 + 1) 0 same
+              (omega (arith, many, small, same)) in
           let old = ap (slice_index counts) same in
           let one = ap {B = ℕ} (λ (b : Bool). cond b 1 0) is in
           omega (arith, new, old, was, more, before, after, one)
@@ -50,29 +53,36 @@ counts_more counts phase i d actor other many small less own was =
     ]
 
 -- one processor more
-pub due_more : (works : List Work) (work : Work) (phase : List Statement) (actor : ℕ) (next : List Work) → next ≡ works ++ work ∷ [] → length works ≡ actor
+pub due_more : (works : List Work) (work : Work) (phase : List Statement) (actor : ℕ) (next : List Work)
+    → next ≡ works ++ work ∷ [] → length works ≡ actor
     → AreDue phase works → work.due ≡ length (events_by actor phase) → AreDue phase next
 due_more works work phase actor next more size was own =
     let count = ap length more ∙ length-append works (work ∷ []) in
     let long : length next ≡ actor + 1 = omega (arith, count, size) in
-    let old : map due_in works ≡ map (count_in phase) (range_with_len 0 actor) = was ∙ ap (λ (n : ℕ). map (count_in phase) (range_with_len 0 n)) size in
+    let old : map due_in works ≡ map (count_in phase) (range_with_len 0 actor) = was
+        ∙ ap (λ (n : ℕ). map (count_in phase) (range_with_len 0 n)) size in
     ap (map due_in) more ∙ (map-append due_in works (work ∷ [])
-    ∙ (ap (λ (dues : List ℕ). dues ++ work.due ∷ []) old ∙ (ap (λ (due : ℕ). map (count_in phase) (range_with_len 0 actor) ++ due ∷ []) own
-    ∙ (sym (map-range_with_len_more (count_in phase) 0 actor actor (omega arith)) ∙ ap (λ (n : ℕ). map (count_in phase) (range_with_len 0 n)) (sym long)))))
+    ∙ (ap (λ (dues : List ℕ). dues ++ work.due ∷ []) old
+    ∙ (ap (λ (due : ℕ). map (count_in phase) (range_with_len 0 actor) ++ due ∷ []) own
+    ∙ (sym (map-range_with_len_more (count_in phase) 0 actor actor (omega arith))
+    ∙ ap (λ (n : ℕ). map (count_in phase) (range_with_len 0 n)) (sym long)))))
 
 same_each : {X : Type 0} (f g : X → ℕ) (xs : List X) → map f xs ≡ map g xs → All (λ x. f x ≡ g x) xs
 same_each f g xs e = λ k d less.
     sym (get_or-map f xs k d 0 less) ∙ (ap (λ (ns : List ℕ). slice_index_or ns k 0) e ∙ get_or-map g xs k d 0 less)
 
 -- each job has the work of its own processor
-pub due_by_number : (jobs : List Job) (works : List Work) (phase : List Statement) (n : ℕ) → map (λ (job : Job). job.work) (reverse jobs) ≡ works
+pub due_by_number : (jobs : List Job) (works : List Work) (phase : List Statement) (n : ℕ)
+    → map (λ (job : Job). job.work) (reverse jobs) ≡ works
     → map (λ (job : Job). job.cpu.number) (reverse jobs) ≡ range_with_len 0 n → length works ≡ n → AreDue phase works
     → All (λ job. job.work.due ≡ length (events_by job.cpu.number phase)) jobs
 due_by_number jobs works phase n are_works numbers size due =
     let work : Job → Work = λ job. job.work in
     let number : Job → ℕ = λ job. job.cpu.number in
-    let dues : map (λ (job : Job). job.work.due) (reverse jobs) ≡ map due_in works = sym (map_twice work due_in (reverse jobs)) ∙ ap (map due_in) are_works in
-    let counts : map (count_in phase) (range_with_len 0 n) ≡ map (λ (job : Job). count_in phase job.cpu.number) (reverse jobs) =
+    let dues : map (λ (job : Job). job.work.due) (reverse jobs) ≡ map due_in works =
+        sym (map_twice work due_in (reverse jobs)) ∙ ap (map due_in) are_works in
+    let counts : map (count_in phase) (range_with_len 0 n) ≡ map (λ (job : Job). count_in phase job.cpu.number)
+        (reverse jobs) =
     ap (map (count_in phase)) (sym numbers) ∙ map_twice number (count_in phase) (reverse jobs) in
     all_turned (λ job. job.work.due ≡ length (events_by job.cpu.number phase)) jobs
     (same_each (λ (job : Job). job.work.due) (λ (job : Job). count_in phase job.cpu.number) (reverse jobs)

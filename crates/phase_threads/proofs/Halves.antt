@@ -11,25 +11,31 @@ use Rattle.phase_threads.specs.declared.jobs.Job.{Job}
 use Rattle.phase_threads.specs.Jobs.{IsReadyToWork, IsRun, Runs}
 use Rattle.phase_work.specs.Works.{HasDone}
 
-zip_append : {X : Type 0} (R : X → X → Type 0) (xs ys us vs : List X) → AllZip R xs us → AllZip R ys vs → AllZip R (xs ++ ys) (us ++ vs)
+zip_append : {X : Type 0} (R : X → X → Type 0) (xs ys us vs : List X) → AllZip R xs us → AllZip R ys vs
+    → AllZip R (xs ++ ys) (us ++ vs)
 zip_append R [] ys [] vs front back = back
 zip_append R [] ys (u ∷ us) vs front back = absurd front
 zip_append R (x ∷ xs) ys [] vs front back = absurd front
 zip_append R (x ∷ xs) ys (u ∷ us) vs front back = (front.0, zip_append R xs ys us vs front.1 back)
 
 -- both halves of a list
-pub zip_both : {X : Type 0} (R : X → X → Type 0) (xs ys us vs all : List X) → all ≡ xs ++ ys → AllZip R xs us → AllZip R ys vs → AllZip R all (us ++ vs)
-zip_both {X} R xs ys us vs all whole front back = subst (λ (list : List X). AllZip R list (us ++ vs)) (sym whole) (zip_append R xs ys us vs front back)
+pub zip_both : {X : Type 0} (R : X → X → Type 0) (xs ys us vs all : List X) → all ≡ xs ++ ys → AllZip R xs us
+    → AllZip R ys vs → AllZip R all (us ++ vs)
+zip_both {X} R xs ys us vs all whole front back = subst (λ (list : List X). AllZip R list (us ++ vs)) (sym whole)
+    (zip_append R xs ys us vs front back)
 
 no_events : (events : List Event) → length events ≡ 0 → events ≡ []
 no_events [] none = refl
 no_events (event ∷ events) none = absurd (omega (arith, none))
 
 -- a processor without statements has done all of them
-nothing_done : (setup : Setup) (actor : ℕ) (opened : List Entry) (phase : List Statement) (done : List Done) (seen : List Entry) (known : List MapChange)
-    → done ≡ [] → events_by actor phase ≡ [] → seen ≡ opened → known ≡ map_writes_of setup opened → HasDone setup actor opened phase done seen known
+nothing_done : (setup : Setup) (actor : ℕ) (opened : List Entry) (phase : List Statement) (done : List Done)
+    (seen : List Entry) (known : List MapChange)
+    → done ≡ [] → events_by actor phase ≡ [] → seen ≡ opened → known ≡ map_writes_of setup opened
+    → HasDone setup actor opened phase done seen known
 nothing_done setup actor opened phase done seen known empty none same all =
-    subst (λ (list : List Done). HasDone setup actor opened phase list seen known) (sym empty) (record { trace = (same, all); said = sym none })
+    subst (λ (list : List Done). HasDone setup actor opened phase list seen known) (sym empty)
+        (record { trace = (same, all); said = sym none })
 
 -- a worker that has no statement ends as it began
 idle_runs : (live : Live) (phase : List Statement) (job : Job) → job.work.due ≡ 0 → Runs live phase job job
@@ -44,12 +50,14 @@ idle_runs live phase job idle = record {
         setup = ready.new.setup;
         asked = omega (arith, ready.asked);
         mine = λ fine. omega (arith, mine, ready.mine);
-        done = λ fine. nothing_done board.setup job.cpu.number board.entries phase job.work.done.items (seen_of job.cpu) (known_of job.cpu)
+        done = λ fine. nothing_done board.setup job.cpu.number board.entries phase job.work.done.items (seen_of job.cpu)
+            (known_of job.cpu)
             ready.empty (no_events (events_by job.cpu.number phase) none) ready.new.seen ready.new.known;
       };
 }
 
-pub all_idle : (live : Live) (phase : List Statement) (jobs : List Job) → All (λ job. job.work.due ≡ 0) jobs → AllZip (Runs live phase) jobs jobs
+pub all_idle : (live : Live) (phase : List Statement) (jobs : List Job) → All (λ job. job.work.due ≡ 0) jobs
+    → AllZip (Runs live phase) jobs jobs
 all_idle live phase [] idle = tt
 all_idle live phase (job ∷ jobs) idle =
     let none : Job → Type 0 = λ job. job.work.due ≡ 0 in
@@ -64,9 +72,11 @@ numbers_stay live phase [] (last ∷ now) ran = absurd ran
 numbers_stay live phase (job ∷ jobs) [] ran = absurd ran
 numbers_stay live phase (job ∷ jobs) (last ∷ now) ran =
     let numbers : List Job → List ℕ = map (λ (job : Job). job.cpu.number) in
-    ap (λ (n : ℕ). n ∷ numbers now) ran.0.number ∙ ap (λ (ns : List ℕ). job.cpu.number ∷ ns) (numbers_stay live phase jobs now ran.1)
+    ap (λ (n : ℕ). n ∷ numbers now) ran.0.number
+        ∙ ap (λ (ns : List ℕ). job.cpu.number ∷ ns) (numbers_stay live phase jobs now ran.1)
 
-pub all_run : (live : Live) (board : Standing) (part : Option Origin) (phase : List Statement) (before : ℕ) (jobs now : List Job) → AllZip (Runs live phase) jobs now
+pub all_run : (live : Live) (board : Standing) (part : Option Origin) (phase : List Statement) (before : ℕ)
+    (jobs now : List Job) → AllZip (Runs live phase) jobs now
     → All (IsReadyToWork live board part phase before) jobs → All (IsRun live board part phase before) now
 all_run live board part phase before [] [] ran ready = λ k d less. absurd (omega (arith, less))
 all_run live board part phase before [] (last ∷ now) ran ready = absurd ran

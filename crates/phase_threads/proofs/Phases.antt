@@ -13,67 +13,84 @@ use Rattle.run_order.proofs.Over.{all_reverse}
 abbrev pub gained : (opened entries : List Entry) → List Entry
 gained opened entries = drop (length opened) entries
 
-later_is : (before now opened entries : List Entry) (b : Begins before now) → opened ≡ reverse before → entries ≡ reverse now → gained opened entries ≡ reverse b.0
+later_is : (before now opened entries : List Entry) (b : Begins before now) → opened ≡ reverse before
+    → entries ≡ reverse now → gained opened entries ≡ reverse b.0
 later_is before now opened entries b old is =
     let cut : entries ≡ reverse before ++ reverse b.0 = is ∙ (ap reverse b.1 ∙ reverse-append b.0 before) in
     let size : length opened ≡ length (reverse before) = ap length old in
-    ap (drop (length opened)) cut ∙ (ap (λ (n : ℕ). drop n (reverse before ++ reverse b.0)) size ∙ drop-append_seam (reverse before) (reverse b.0))
+    ap (drop (length opened)) cut ∙ (ap (λ (n : ℕ). drop n (reverse before ++ reverse b.0)) size
+        ∙ drop-append_seam (reverse before) (reverse b.0))
 
-pub whole_is : (before now opened entries : List Entry) → Begins before now → opened ≡ reverse before → entries ≡ reverse now
+pub whole_is : (before now opened entries : List Entry) → Begins before now → opened ≡ reverse before
+    → entries ≡ reverse now
     → reverse (gained opened entries) ++ before ≡ now
 whole_is before now opened entries b old is =
     ap (λ (later : List Entry). reverse later ++ before) (later_is before now opened entries b old is)
     ∙ (ap (λ (more : List Entry). more ++ before) (reverse-reverse b.0) ∙ sym b.1)
 
-pub gained_all : (P : Entry → Type 0) (now opened entries : List Entry) → entries ≡ reverse now → All P now → All P (gained opened entries)
+pub gained_all : (P : Entry → Type 0) (now opened entries : List Entry) → entries ≡ reverse now → All P now
+    → All P (gained opened entries)
 gained_all P now opened entries is all =
     All-drop P (length opened) entries (subst (All P) (sym is) (all_reverse P now all))
 
-pub gained_within : (before now opened entries : List Entry) → Begins before now → opened ≡ reverse before → entries ≡ reverse now → length opened ≤ length entries
+pub gained_within : (before now opened entries : List Entry) → Begins before now → opened ≡ reverse before
+    → entries ≡ reverse now → length opened ≤ length entries
 gained_within before now opened entries b old is =
     let all : length now ≡ length b.0 + length before = ap length b.1 ∙ length-append b.0 before in
     omega (arith, all, ap length old, ap length is, length-reverse before, length-reverse now)
 
 pub phase_is_run : (before now : Standing) (opened entries : List Entry) (phase : List Statement) (works : List Work)
-    → (run : HasRunSo before now phase works) → opened ≡ reverse before.entries → entries ≡ reverse now.entries → IsCardList before.setup.cards
-    → IsLegal now.setup now.entries → All (λ entry. entry.actor < length works) now.entries → All (IsStatement before.setup (length works)) phase
+    → (run : HasRunSo before now phase works) → opened ≡ reverse before.entries → entries ≡ reverse now.entries
+    → IsCardList before.setup.cards
+    → IsLegal now.setup now.entries → All (λ entry. entry.actor < length works) now.entries
+    → All (IsStatement before.setup (length works)) phase
     → IsPhaseRun before.setup before.entries (gained opened entries) phase run.lists
 phase_is_run before now opened entries phase works run old is cards legal callers speakers =
     let whole = whole_is before.entries now.entries opened entries run.begins old is in
     record {
       cards = cards;
-      legal = subst (λ (setup : Setup). IsLegal setup (reverse (gained opened entries) ++ before.entries)) run.setup (subst (IsLegal now.setup) (sym whole) legal);
+      legal = subst (λ (setup : Setup). IsLegal setup (reverse (gained opened entries) ++ before.entries)) run.setup
+          (subst (IsLegal now.setup) (sym whole) legal);
       callers = subst (λ (n : ℕ). All (λ (entry : Entry). entry.actor < n) (gained opened entries)) (sym run.count)
           (gained_all (λ (entry : Entry). entry.actor < length works) now.entries opened entries is callers);
-      speakers = subst (λ (n : ℕ). All (λ (statement : Statement). statement.actor < n) phase) (sym run.count) (λ k d less. (speakers k d less).actor);
+      speakers = subst (λ (n : ℕ). All (λ (statement : Statement). statement.actor < n) phase) (sym run.count)
+          (λ k d less. (speakers k d less).actor);
       each = λ actor less.
           let few : actor < length works = subst (λ (n : ℕ). actor < n) run.count less in
-          subst (λ (h : List Entry). IsWork before.setup before.entries h phase actor (done_by 0 actor run.lists)) (sym whole) (run.each actor few);
+          subst (λ (h : List Entry). IsWork before.setup before.entries h phase actor (done_by 0 actor run.lists))
+              (sym whole) (run.each actor few);
     }
 
 -- ---- the history of the run
 
-pub front_is : (before now opened entries : List Entry) → Begins before now → opened ≡ reverse before → entries ≡ reverse now
+pub front_is : (before now opened entries : List Entry) → Begins before now → opened ≡ reverse before
+    → entries ≡ reverse now
     → reverse (take (length opened) entries) ≡ before
 front_is before now opened entries b old is =
     let cut : entries ≡ reverse before ++ reverse b.0 = is ∙ (ap reverse b.1 ∙ reverse-append b.0 before) in
     let size : length opened ≡ length (reverse before) = ap length old in
     let front : take (length opened) entries ≡ reverse before =
-    ap (take (length opened)) cut ∙ (ap (λ (n : ℕ). take n (reverse before ++ reverse b.0)) size ∙ take-append_seam (reverse before) (reverse b.0)) in
+    ap (take (length opened)) cut ∙ (ap (λ (n : ℕ). take n (reverse before ++ reverse b.0)) size
+        ∙ take-append_seam (reverse before) (reverse b.0)) in
     ap reverse front ∙ reverse-reverse before
 
 pub back_is : (now entries : List Entry) → entries ≡ reverse now → reverse entries ≡ now
 back_is now entries is = ap reverse is ∙ reverse-reverse now
 
-pub front_all : (n : ℕ) (before now opened entries : List Entry) → Begins before now → opened ≡ reverse before → entries ≡ reverse now
+pub front_all : (n : ℕ) (before now opened entries : List Entry) → Begins before now → opened ≡ reverse before
+    → entries ≡ reverse now
     → n ≤ 8 → All (λ entry. entry.actor < n) before → All (λ entry. entry.actor < 8) (take (length opened) entries)
 front_all n before now opened entries b old is few all =
-    let back : take (length opened) entries ≡ reverse before = sym (reverse-reverse (take (length opened) entries)) ∙ ap reverse (front_is before now opened entries b old is) in
+    let back : take (length opened) entries ≡ reverse before = sym (reverse-reverse (take (length opened) entries))
+        ∙ ap reverse (front_is before now opened entries b old is) in
     subst (All (λ (entry : Entry). entry.actor < 8)) (sym back)
-    (all_reverse (λ (entry : Entry). entry.actor < 8) before (λ k d less. let one = all k d less in omega (arith, one, few)))
+    (all_reverse (λ (entry : Entry). entry.actor < 8) before (λ k d less. let one = all k d less in
+        omega (arith, one, few)))
 
-pub takes_in : (before now : Standing) (opened entries : List Entry) (phase : List Statement) (lists : List (List Done)) (old new : Option Order) (version : ℕ)
-    → PhaseRuns → IsPhaseRun before.setup before.entries (gained opened entries) phase lists → Begins before.entries now.entries
+pub takes_in : (before now : Standing) (opened entries : List Entry) (phase : List Statement) (lists : List (List Done))
+    (old new : Option Order) (version : ℕ)
+    → PhaseRuns → IsPhaseRun before.setup before.entries (gained opened entries) phase lists
+    → Begins before.entries now.entries
     → opened ≡ reverse before.entries → entries ≡ reverse now.entries → version ≡ version_of before.setup before.entries
     → IsLegal before.setup (entries_of old before.entries) → bare (entries_of old before.entries) ≡ bare before.entries
     → entries_of new (reverse entries)
@@ -106,7 +123,8 @@ Phase = Vec Statement Global
 abbrev in_phase : Phase → List Statement
 in_phase phase = phase.items
 
-pub phases_more : (done : List Phase) (phase : Phase) → map in_phase (done ++ phase ∷ []) ≡ map in_phase done ++ phase.items ∷ []
+pub phases_more : (done : List Phase) (phase : Phase)
+    → map in_phase (done ++ phase ∷ []) ≡ map in_phase done ++ phase.items ∷ []
 phases_more done phase = map-append in_phase done (phase ∷ [])
 
 -- the last phase is the first of those that have the newest first
@@ -114,14 +132,18 @@ pub newest_first : (done : List Phase) (phase : Phase)
     → reverse (map in_phase (done ++ phase ∷ [])) ≡ phase.items ∷ reverse (map in_phase done)
 newest_first done phase = ap reverse (phases_more done phase) ∙ reverse-append (map in_phase done) (phase.items ∷ [])
 
-pub all_in_place : (setup : Setup) (phase : List Statement) (earlier : List (List Statement)) (added history all : List Entry)
-    → all ≡ added ++ history → length added ≡ length phase → AreInPlace setup history added → AreAllInPlace setup earlier history
+pub all_in_place : (setup : Setup) (phase : List Statement) (earlier : List (List Statement))
+    (added history all : List Entry)
+    → all ≡ added ++ history → length added ≡ length phase → AreInPlace setup history added
+    → AreAllInPlace setup earlier history
     → AreAllInPlace setup (phase ∷ earlier) all
 all_in_place setup phase earlier added history all is size places before =
     let front : take (length phase) all ≡ added =
-    ap (take (length phase)) is ∙ (ap (λ (n : ℕ). take n (added ++ history)) (sym size) ∙ take-append_seam added history) in
+    ap (take (length phase)) is
+        ∙ (ap (λ (n : ℕ). take n (added ++ history)) (sym size) ∙ take-append_seam added history) in
     let back : drop (length phase) all ≡ history =
-    ap (drop (length phase)) is ∙ (ap (λ (n : ℕ). drop n (added ++ history)) (sym size) ∙ drop-append_seam added history) in
+    ap (drop (length phase)) is
+        ∙ (ap (λ (n : ℕ). drop n (added ++ history)) (sym size) ∙ drop-append_seam added history) in
     rw (front, back) (places, before)
 
 pub statements_more : (done : List Phase) (phase : Phase)
@@ -144,7 +166,9 @@ pub few_so_far : (phases : List Phase) (i : ℕ) (phase : Phase) → i < length 
     → length (flat_map in_phase (take i phases)) + length phase.items ≤ length (flat_map in_phase phases)
 few_so_far phases i phase less is =
     let cut : take i phases ++ phase ∷ drop (i + 1) phases ≡ phases =
-    ap (λ (rest : List Phase). take i phases ++ rest) (ap (λ (p : Phase). p ∷ drop (i + 1) phases) is ∙ sym (drop_more phases i phase less))
+    ap (λ (rest : List Phase). take i phases ++ rest) (ap (λ (p : Phase). p ∷ drop (i + 1) phases) is
+        ∙ sym (drop_more phases i phase less))
     ∙ take-append-drop i phases in
-    subst (λ (ps : List Phase). length (flat_map in_phase (take i phases)) + length phase.items ≤ length (flat_map in_phase ps)) cut
+    subst (λ (ps : List Phase). length (flat_map in_phase (take i phases)) + length phase.items ≤ length
+        (flat_map in_phase ps)) cut
     (statements_within (take i phases) phase (drop (i + 1) phases))

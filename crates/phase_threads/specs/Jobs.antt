@@ -38,7 +38,8 @@ pub record IsReadyToWork (live : Live) (board : Standing) (part : Option Origin)
   pub room : before + length phase ≤ most_statements
 
 abbrev pub CanRun : Live → List Statement → Job → Type 0
-CanRun live phase job = (board : Standing) × (part : Option Origin) × (before : ℕ) × IsReadyToWork live board part phase before job
+CanRun live phase job = (board : Standing) × (part : Option Origin) × (before : ℕ)
+    × IsReadyToWork live board part phase before job
 
 -- a worker that did its processor's statements of a phase, or was refused memory
 pub record IsRun (live : Live) (board : Standing) (part : Option Origin) (phase : List Statement) (before : ℕ)

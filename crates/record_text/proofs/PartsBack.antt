@@ -29,7 +29,8 @@ device_back (devices.Spurious zero) fits = refl
 device_back (devices.Spurious (suc zero)) fits = refl
 device_back (devices.Spurious (suc (suc chip))) fits = absurd (omega (arith, fits))
 
-register_back : (reg : Reg) → FitsTarget (targets.Config reg) → target_recorded (target_said (targets.Config reg)) ≡ Some (targets.Config reg)
+register_back : (reg : Reg) → FitsTarget (targets.Config reg)
+    → target_recorded (target_said (targets.Config reg)) ≡ Some (targets.Config reg)
 unfolding target_recorded config_recorded
 register_back reg fits = rw (lt-ltb reg.off 256 fits.2) refl
 
@@ -45,7 +46,8 @@ target_back (targets.Config reg) fits = register_back reg fits
 target_back targets.Abort fits = refl
 
 -- a denial leaves what answered as it is
-denied_target : (said : PartRecord) (denial : Option Denial) → target_recorded (with_denial said denial) ≡ target_recorded said
+denied_target : (said : PartRecord) (denial : Option Denial)
+    → target_recorded (with_denial said denial) ≡ target_recorded said
 unfolding target_recorded config_recorded
 denied_target said None = refl
 denied_target said (Some (Register reg)) = refl

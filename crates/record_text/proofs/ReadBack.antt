@@ -27,7 +27,8 @@ area_seen look after = rw (area_back look.area) refl
 
 wide_back : (parts : Parts) (value : Option ℕ) (after : AfterStep) → All FitsPart (parts_list parts) →
     reply_recorded (wide_said parts value after) ≡ Some (InParts parts value)
-unfolding reply_recorded form_recorded wide_recorded parts_recorded two_parts_recorded three_parts_recorded four_parts_recorded wide_said blank
+unfolding reply_recorded form_recorded wide_recorded parts_recorded two_parts_recorded three_parts_recorded
+    four_parts_recorded wide_said blank
 wide_back (Two a b) None after fits =
     let second = All-tail FitsPart a (b ∷ []) fits in
     rw (
@@ -87,14 +88,16 @@ bus_back writes bytes (Bus value target denial) after few fits =
 bus_back writes bytes (InParts parts value) after few fits = absurd fits
 bus_back writes bytes (Saw look) after few fits = absurd fits
 
-parted_back : (writes : Bool) (bytes count : ℕ) (reply : Reply) (after : AfterStep) → IsWideReply writes bytes count reply →
+parted_back : (writes : Bool) (bytes count : ℕ) (reply : Reply) (after : AfterStep)
+    → IsWideReply writes bytes count reply →
     reply_recorded (record_said reply after) ≡ Some reply
 unfolding record_said
 parted_back writes bytes count (Bus value target denial) after fits = absurd fits
 parted_back writes bytes count (InParts parts value) after fits = wide_back parts value after fits.1
 parted_back writes bytes count (Saw look) after fits = absurd fits
 
-look_back : (reply : Reply) (after : AfterStep) → IsLookReply reply → reply_recorded (record_said reply after) ≡ Some reply
+look_back : (reply : Reply) (after : AfterStep) → IsLookReply reply
+    → reply_recorded (record_said reply after) ≡ Some reply
 unfolding record_said
 look_back (Bus value target denial) after fits = absurd fits
 look_back (InParts parts value) after fits = absurd fits

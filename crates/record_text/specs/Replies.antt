@@ -1,4 +1,5 @@
--- Which reply a record says: none where a number of it names nothing, or does not fit where it goes. What a reply has no
+-- Which reply a record says: none where a number of it names nothing, or does not fit where it goes. What a reply has
+-- no
 -- use for is not read, nor what stands after the step.
 use Rattle.std.specs.Prelude.{ℕ, ◌==◌, ◌^◌, nat_lt, nat_le, ◌&&◌, if◌then◌else◌, Option, Some, None}
 use Rattle.board_prelude.specs.Common.{Parts, Reply}
@@ -67,7 +68,8 @@ unfoldable pub form_recorded : ReplyRecord → Option Reply
 form_recorded said =
     if said.form == parts_reply then wide_recorded said else
     if said.parts == 1
-    then (if said.form == bus_reply then bus_recorded said else if said.form == look_reply then look_recorded said else None)
+    then (if said.form == bus_reply then bus_recorded said else if said.form == look_reply then look_recorded said
+        else None)
     else None
 
 -- what is kept for later versions is 0, and the flag of a value 0 or 1

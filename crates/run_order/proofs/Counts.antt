@@ -13,7 +13,8 @@ looks_append (Went version event ∷ xs) ys = looks_append xs ys
 looks_append (Looked kind addr smm look ∷ xs) ys = let more = looks_append xs ys in omega (arith, more)
 
 -- one more statement
-pub looks_next : (xs : List Done) (k : ℕ) (d : Done) (count one : ℕ) → k < length xs → count ≡ looks_in (take k xs) → one ≡ looks_in (get_or xs k d ∷ []) →
+pub looks_next : (xs : List Done) (k : ℕ) (d : Done) (count one : ℕ) → k < length xs → count ≡ looks_in (take k xs)
+    → one ≡ looks_in (get_or xs k d ∷ []) →
     count + one ≡ looks_in (take (k + 1) xs)
 looks_next xs k d count one less count_is one_is =
     let next = ap looks_in (take_more xs k d less) ∙ looks_append (take k xs) (get_or xs k d ∷ []) in
@@ -39,7 +40,8 @@ one_of (x ∷ xs) zero less = omega arith
 one_of (x ∷ xs) (suc k) less = let more = one_of xs k (omega (arith, less)) in omega (arith, more)
 
 -- a list takes the place of another
-pub count_set : (xs : List (List Done)) (k : ℕ) (y : List Done) → k < length xs → all_looks_in (set xs k y) + looks_in (get_or xs k []) ≡ all_looks_in xs + looks_in y
+pub count_set : (xs : List (List Done)) (k : ℕ) (y : List Done) → k < length xs
+    → all_looks_in (set xs k y) + looks_in (get_or xs k []) ≡ all_looks_in xs + looks_in y
 count_set [] k y less = absurd (omega (arith, less))
 count_set (x ∷ xs) zero y less = omega arith
 count_set (x ∷ xs) (suc k) y less = let more = count_set xs k y (omega (arith, less)) in omega (arith, more)
@@ -51,24 +53,30 @@ no_more_by (entry ∷ before) actor =
     elim (cases_Bool (entry.actor == actor)) [ inl same ↦ rw same (omega arith) | inr other ↦ rw other (omega arith) ]
 
 -- a processor's next number is small, and so is the next place
-pub number_fits : (order : Order) (capacity : ℕ) (counts : List ℕ) (actor place : ℕ) → place ≡ actor → actor < 8 → 1 ≤ order.spare →
+pub number_fits : (order : Order) (capacity : ℕ) (counts : List ℕ) (actor place : ℕ) → place ≡ actor → actor < 8
+    → 1 ≤ order.spare →
     IsOrder order capacity counts → slice_index counts place + 1 < 2 ^ 32
 number_fits order capacity counts actor place same below some kept =
-    let count : slice_index counts actor ≡ length (entries_by actor (over [] order.entries)) = kept.counted [] actor below in
-    let few : length (entries_by actor (over [] order.entries)) ≤ length (over [] order.entries) = no_more_by (over [] order.entries) actor in
+    let count : slice_index counts actor ≡ length (entries_by actor (over [] order.entries)) =
+        kept.counted [] actor below in
+    let few : length (entries_by actor (over [] order.entries)) ≤ length (over [] order.entries) =
+        no_more_by (over [] order.entries) actor in
     let size : length (over [] order.entries) ≡ length order.entries = length-map order.entries (entry_of []) in
     rw same (omega (arith, count, few, size, kept.few, some))
 
-pub place_fits : (order : Order) (capacity : ℕ) (counts : List ℕ) → 1 ≤ order.spare → IsOrder order capacity counts → order.bus + 1 < 2 ^ 32
+pub place_fits : (order : Order) (capacity : ℕ) (counts : List ℕ) → 1 ≤ order.spare → IsOrder order capacity counts
+    → order.bus + 1 < 2 ^ 32
 place_fits order capacity counts some kept = omega (arith, kept.fewer, kept.few, some)
 
-counts_more : (counts : List ℕ) (actor other : ℕ) (entry : Entry) (before : List Entry) → length counts ≡ 8 → other < 8 → entry.actor ≡ actor
+counts_more : (counts : List ℕ) (actor other : ℕ) (entry : Entry) (before : List Entry) → length counts ≡ 8 → other < 8
+    → entry.actor ≡ actor
     → slice_index counts other ≡ length (entries_by other before)
     → slice_index (set counts actor (slice_index counts actor + 1)) other ≡ length (entries_by other (entry ∷ before))
 counts_more counts actor other entry before eight small own was = elim (cases_eq other actor) [
   | inl same ↦
       let is : (entry.actor == other) ≡ true = grind (arith, nat_tests) in
-      let new = get_or-set_at counts actor other (get_or counts actor 0 + 1) 0 same (omega (arith, eight, small, same)) in
+      let new = get_or-set_at counts actor other (get_or counts actor 0 + 1) 0 same
+          (omega (arith, eight, small, same)) in
       let old = ap (slice_index counts) same in
       rw is (omega (arith, new, old, was))
   | inr not ↦
@@ -77,29 +85,39 @@ counts_more counts actor other entry before eight small own was = elim (cases_eq
 ]
 
 -- an entry more
-pub order_more : (items items' : List RunEntry) (spare bus capacity capacity' : ℕ) (counts : List ℕ) (actor place : ℕ) (entry : RunEntry) (bus' : ℕ)
-    → IsOrder (record { entries = reverse items; spare = spare; bus = bus }) capacity counts → items' ≡ items ++ entry ∷ [] → capacity ≤ capacity' → length counts ≡ 8
-    → place ≡ actor → actor < 8 → ((of_bus : List Entry) → (entry_of of_bus entry).actor ≡ actor) → IsPlacedBelow bus' entry → bus ≤ bus' → bus' ≤ bus + 1 → 1 ≤ spare
-    → IsOrder (record { entries = reverse items'; spare = spare - 1; bus = bus' }) capacity' (set counts place (slice_index counts place + 1))
-order_more items items' spare bus capacity capacity' counts actor place entry bus' kept more wider eight same below own within least next some =
+pub order_more : (items items' : List RunEntry) (spare bus capacity capacity' : ℕ) (counts : List ℕ) (actor place : ℕ)
+    (entry : RunEntry) (bus' : ℕ)
+    → IsOrder (record { entries = reverse items; spare = spare; bus = bus }) capacity counts
+    → items' ≡ items ++ entry ∷ [] → capacity ≤ capacity' → length counts ≡ 8
+    → place ≡ actor → actor < 8 → ((of_bus : List Entry) → (entry_of of_bus entry).actor ≡ actor)
+    → IsPlacedBelow bus' entry → bus ≤ bus' → bus' ≤ bus + 1 → 1 ≤ spare
+    → IsOrder (record { entries = reverse items'; spare = spare - 1; bus = bus' }) capacity'
+        (set counts place (slice_index counts place + 1))
+order_more items items' spare bus capacity capacity' counts actor place entry bus' kept more wider eight same below own
+    within least next some =
     let old : List RunEntry = reverse items in
     let is : reverse items' ≡ entry ∷ old = ap reverse more ∙ reverse-append items (entry ∷ []) in
-    subst (λ (z : List RunEntry × ℕ). IsOrder (record { entries = z.0; spare = spare - 1; bus = bus' }) capacity' (set counts z.1 (slice_index counts z.1 + 1))) (λ t. (sym is t, sym same t))
+    subst (λ (z : List RunEntry × ℕ). IsOrder (record { entries = z.0; spare = spare - 1; bus = bus' }) capacity'
+        (set counts z.1 (slice_index counts z.1 + 1))) (λ t. (sym is t, sym same t))
     (record {
       room = omega (arith, kept.room, some, wider);
       few = omega (arith, kept.few, some);
       fewer = omega (arith, kept.fewer, next);
-      within = All-cons (IsPlacedBelow bus') entry old within (λ k d less. within_more bus bus' least (get_or old k d) (kept.within k d less));
-      counted = λ of_bus other small. counts_more counts actor other (entry_of of_bus entry) (over of_bus old) eight small (own of_bus) (kept.counted of_bus other small);
+      within = All-cons (IsPlacedBelow bus') entry old within
+          (λ k d less. within_more bus bus' least (get_or old k d) (kept.within k d less));
+      counted = λ of_bus other small. counts_more counts actor other (entry_of of_bus entry) (over of_bus old) eight
+          small (own of_bus) (kept.counted of_bus other small);
     })
 
 -- room for more
 pub order_reserved : (items items' : List RunEntry) (spare bus capacity capacity' : ℕ) (counts : List ℕ) (n : ℕ)
-    → IsOrder (record { entries = reverse items; spare = spare; bus = bus }) capacity counts → items' ≡ items → length items + n ≤ capacity' → length items + n < 2 ^ 32
+    → IsOrder (record { entries = reverse items; spare = spare; bus = bus }) capacity counts → items' ≡ items
+    → length items + n ≤ capacity' → length items + n < 2 ^ 32
     → IsOrder (record { entries = reverse items'; spare = n; bus = bus }) capacity' counts
 order_reserved items items' spare bus capacity capacity' counts n kept same room few =
     let size : length (reverse items) ≡ length items = length-reverse items in
-    subst (λ (all : List RunEntry). IsOrder (record { entries = reverse all; spare = n; bus = bus }) capacity' counts) (sym same)
+    subst (λ (all : List RunEntry). IsOrder (record { entries = reverse all; spare = n; bus = bus }) capacity' counts)
+        (sym same)
     (record {
       room = omega (arith, size, room);
       few = omega (arith, size, few);
@@ -113,11 +131,13 @@ order_reserved items items' spare bus capacity capacity' counts n kept same room
 -- what a processor did has no look, where none of it is one
 pub none_looked : (done : List Done) → All (λ one. looks_in (one ∷ []) ≢ 1) done → looks_in done ≡ 0
 none_looked [] none = refl
-none_looked (Went version event ∷ done) none = none_looked done (All-tail (λ one. looks_in (one ∷ []) ≢ 1) (Went version event) done none)
+none_looked (Went version event ∷ done) none =
+    none_looked done (All-tail (λ one. looks_in (one ∷ []) ≢ 1) (Went version event) done none)
 none_looked (Looked kind addr smm look ∷ done) none =
     absurd (All-head (λ one. looks_in (one ∷ []) ≢ 1) (Looked kind addr smm look) done none refl)
 
-pub nobody_looked : {X : Type 0} (f : X → List Done) (works : List X) → All (λ work. looks_in (f work) ≡ 0) works → all_looks_in (map f works) ≡ 0
+pub nobody_looked : {X : Type 0} (f : X → List Done) (works : List X) → All (λ work. looks_in (f work) ≡ 0) works
+    → all_looks_in (map f works) ≡ 0
 nobody_looked f [] none = refl
 nobody_looked f (work ∷ works) none =
     let own = All-head (λ work. looks_in (f work) ≡ 0) work works none in

@@ -21,12 +21,15 @@ Due setup before K (Looked kind addr smm look ∷ items) =
 abbrev pub Headed : Event → ℕ → (List Done → Type 0) → List Done → Type 0
 Headed event version P [] = ⊥
 Headed event version P (Looked kind addr smm look ∷ items) = ⊥
-Headed event version P (Went after said ∷ items) = (said ≡ event) × (after ≡ version) × (is_look event ≡ false) × P items
+Headed event version P (Went after said ∷ items) = (said ≡ event) × (after ≡ version) × (is_look event ≡ false)
+    × P items
 
 abbrev pub Fits : Setup → ℕ → List Entry → List Entry → List Done → Type 0
 Fits setup actor before [] items = Due setup before (λ rest. rest ≡ []) items
 Fits setup actor before (entry ∷ later) items =
-    Due setup before (λ rest. MatchBool (entry.actor == actor) (Headed entry.event (version_of setup (entry ∷ before)) (Fits setup actor (entry ∷ before) later) rest) (Fits setup actor (entry ∷ before) later rest)) items
+    Due setup before (λ rest. MatchBool (entry.actor == actor)
+        (Headed entry.event (version_of setup (entry ∷ before)) (Fits setup actor (entry ∷ before) later) rest)
+        (Fits setup actor (entry ∷ before) later rest)) items
 
 -- a look that comes next has at least so many map writes
 abbrev pub Late : ℕ → List Done → Type 0
@@ -34,14 +37,16 @@ Late n [] = Unit {0}
 Late n (Went after event ∷ items) = Unit {0}
 Late n (Looked kind addr smm look ∷ items) = n ≤ look.version
 
-pub late_by : (setup : Setup) (whole : List Entry) (actor : ℕ) (from : List Entry) (low n : ℕ) (items : List Done) → Follows setup whole actor from low items → n ≤ low → Late n items
+pub late_by : (setup : Setup) (whole : List Entry) (actor : ℕ) (from : List Entry) (low n : ℕ) (items : List Done)
+    → Follows setup whole actor from low items → n ≤ low → Late n items
 late_by setup whole actor from low n [] f le = tt
 late_by setup whole actor from low n (Went after event ∷ items) f le = tt
 late_by setup whole actor from low n (Looked kind addr smm look ∷ items) f le = omega (arith, f.0, le)
 
 module _ (setup : Setup) (whole : List Entry) (actor : ℕ) where
   -- what a processor knew is in the history before its next call
-  until_call : (items : List Done) (from : List Entry) (low : ℕ) → Follows setup whole actor from low items → (before : List Entry) (entry : Entry) → Begins (entry ∷ before) whole
+  until_call : (items : List Done) (from : List Entry) (low : ℕ) → Follows setup whole actor from low items
+      → (before : List Entry) (entry : Entry) → Begins (entry ∷ before) whole
       → entry.actor ≡ actor → entries_by actor before ≡ entries_by actor from → low ≤ version_of setup before
   until_call [] from low f before entry b own n =
       let less = own_later actor entry before whole b own in
@@ -55,35 +60,45 @@ module _ (setup : Setup) (whole : List Entry) (actor : ℕ) where
       subst (λ (h : List Entry). low ≤ version_of setup h) one.1 call.known
 
   due : (before from : List Entry) (K : List Done → Type 0) → Begins before whole
-      → ((items : List Done) (low : ℕ) → Follows setup whole actor from low items → Late (version_of setup before + 1) items → K items)
-      → (items : List Done) (low : ℕ) → Follows setup whole actor from low items → Late (version_of setup before) items → Due setup before K items
+      → ((items : List Done) (low : ℕ) → Follows setup whole actor from low items
+      → Late (version_of setup before + 1) items → K items)
+      → (items : List Done) (low : ℕ) → Follows setup whole actor from low items → Late (version_of setup before) items
+      → Due setup before K items
   due before from K b k [] low f late = k [] low f tt
   due before from K b k (Went after event ∷ items) low f late = k (Went after event ∷ items) low f tt
   due before from K b k (Looked kind addr smm look ∷ items) low f late =
       elim (cases_Bool (nat_le look.version (version_of setup before))) [
         | inl is ↦
             let here : version_of setup before ≡ look.version = grind (arith, nat_tests) in
-            let more = due before from K b k items look.version f.3 (late_by setup whole actor from look.version (version_of setup before) items f.3 (omega (arith, here))) in
+            let more = due before from K b k items look.version f.3
+                (late_by setup whole actor from look.version (version_of setup before) items f.3
+                (omega (arith, here))) in
             rw is (f.2 before b here, more)
         | inr not ↦
             let past : version_of setup before + 1 ≤ look.version = grind (arith, nat_tests) in
             rw not (k (Looked kind addr smm look ∷ items) low f past)
       ]
 
-  none_left : (before from : List Entry) → whole ≡ before → entries_by actor before ≡ entries_by actor from → (items : List Done) (low : ℕ)
+  none_left : (before from : List Entry) → whole ≡ before → entries_by actor before ≡ entries_by actor from
+      → (items : List Done) (low : ℕ)
       → Follows setup whole actor from low items → Late (version_of setup before + 1) items → items ≡ []
   none_left before from is n [] low f late = refl
   none_left before from is n (Looked kind addr smm look ∷ items) low f late =
-      let bound : look.version ≤ version_of setup before = subst (λ (h : List Entry). look.version ≤ version_of setup h) is f.1 in absurd (omega (arith, bound, late))
+      let bound : look.version ≤ version_of setup before = subst (λ (h : List Entry). look.version ≤ version_of setup h)
+          is f.1 in absurd (omega (arith, bound, late))
   none_left before from is n (Went after event ∷ items) low f late =
       let call = f.2 in
       let less = own_later actor f.1 f.0 whole call.place call.own in
-      absurd (omega (arith, less, ap (λ (h : List Entry). length (entries_by actor h)) is, ap length n, ap length call.next))
+      absurd (omega (arith, less, ap (λ (h : List Entry). length (entries_by actor h)) is, ap length n,
+          ap length call.next))
 
   -- a call of the processor's own is its next statement
-  headed : (entry : Entry) (before from : List Entry) (P : List Done → Type 0) → Begins (entry ∷ before) whole → entry.actor ≡ actor → entries_by actor before ≡ entries_by actor from
-      → ((items : List Done) (at : List Entry) (low : ℕ) → Follows setup whole actor at low items → entries_by actor (entry ∷ before) ≡ entries_by actor at → version_of setup (entry ∷ before) ≤ low → P items)
-      → (items : List Done) (low : ℕ) → Follows setup whole actor from low items → Late (version_of setup before + 1) items → Headed entry.event (version_of setup (entry ∷ before)) P items
+  headed : (entry : Entry) (before from : List Entry) (P : List Done → Type 0) → Begins (entry ∷ before) whole
+      → entry.actor ≡ actor → entries_by actor before ≡ entries_by actor from
+      → ((items : List Done) (at : List Entry) (low : ℕ) → Follows setup whole actor at low items
+      → entries_by actor (entry ∷ before) ≡ entries_by actor at → version_of setup (entry ∷ before) ≤ low → P items)
+      → (items : List Done) (low : ℕ) → Follows setup whole actor from low items
+      → Late (version_of setup before + 1) items → Headed entry.event (version_of setup (entry ∷ before)) P items
   headed entry before from P b own n p [] low f late =
       let less = own_later actor entry before whole b own in
       absurd (omega (arith, less, ap length f, ap length n))
@@ -97,30 +112,40 @@ module _ (setup : Setup) (whole : List Entry) (actor : ℕ) where
         sym call.said ∙ ap (λ (e : Entry). e.event) one.0,
         call.noted ∙ ap (version_of setup) (sym next),
         ap is_look (ap (λ (e : Entry). e.event) (sym one.0) ∙ call.said) ∙ call.no_look,
-        p items (f.1 ∷ f.0) (version_of setup (f.1 ∷ f.0)) f.3 (ap (entries_by actor) next) (omega (arith, ap (version_of setup) next)),
+        p items (f.1 ∷ f.0) (version_of setup (f.1 ∷ f.0)) f.3 (ap (entries_by actor) next)
+            (omega (arith, ap (version_of setup) next)),
       )
 
-  pub fits : (later before from : List Entry) (low : ℕ) (items : List Done) → whole ≡ onto later before → entries_by actor before ≡ entries_by actor from
-      → Follows setup whole actor from low items → Late (version_of setup before) items → Fits setup actor before later items
+  pub fits : (later before from : List Entry) (low : ℕ) (items : List Done) → whole ≡ onto later before
+      → entries_by actor before ≡ entries_by actor from
+      → Follows setup whole actor from low items → Late (version_of setup before) items
+      → Fits setup actor before later items
   fits [] before from low items is n f late =
       due before from (λ rest. rest ≡ []) ([], is) (none_left before from is n) items low f late
   fits (entry ∷ later) before from low items is n f late =
-      let b : Begins (entry ∷ before) whole = subst (Begins (entry ∷ before)) (sym is) (onto_begins later (entry ∷ before)) in
+      let b : Begins (entry ∷ before) whole = subst (Begins (entry ∷ before)) (sym is)
+          (onto_begins later (entry ∷ before)) in
       let step = version_step setup entry before in
-      due before from (λ rest. MatchBool (entry.actor == actor) (Headed entry.event (version_of setup (entry ∷ before)) (Fits setup actor (entry ∷ before) later) rest) (Fits setup actor (entry ∷ before) later rest))
+      due before from (λ rest. MatchBool (entry.actor == actor)
+          (Headed entry.event (version_of setup (entry ∷ before)) (Fits setup actor (entry ∷ before) later) rest)
+          (Fits setup actor (entry ∷ before) later rest))
       (begins_before entry before whole b)
       (λ rest low' f' late'. elim (cases_Bool (entry.actor == actor)) [
         | inl own ↦
             let owns : entry.actor ≡ actor = grind (arith, nat_tests) in
             rw own (headed entry before from (Fits setup actor (entry ∷ before) later) b owns n
-            (λ items' at low'' f'' n' le. fits later (entry ∷ before) at low'' items' is n' f'' (late_by setup whole actor at low'' (version_of setup (entry ∷ before)) items' f'' le))
+            (λ items' at low'' f'' n' le. fits later (entry ∷ before) at low'' items' is n' f''
+                (late_by setup whole actor at low'' (version_of setup (entry ∷ before)) items' f'' le))
             rest low' f' late')
         | inr other ↦
-            rw other (fits later (entry ∷ before) from low' rest is (other_entry actor entry before other ∙ n) f' (later_still rest late' step.1))
+            rw other (fits later (entry ∷ before) from low' rest is (other_entry actor entry before other ∙ n) f'
+                (later_still rest late' step.1))
       ])
       items low f late
     where
-      later_still : (rest : List Done) → Late (version_of setup before + 1) rest → version_of setup (entry ∷ before) ≤ version_of setup before + 1 → Late (version_of setup (entry ∷ before)) rest
+      later_still : (rest : List Done) → Late (version_of setup before + 1) rest
+          → version_of setup (entry ∷ before) ≤ version_of setup before + 1
+          → Late (version_of setup (entry ∷ before)) rest
       later_still [] late le = tt
       later_still (Went after event ∷ rest) late le = tt
       later_still (Looked kind addr smm look ∷ rest) late le = omega (arith, late, le)

@@ -1,4 +1,5 @@
--- A processor's statements of a phase in the bus's whole history: where its calls stand, and between which versions its looks.
+-- A processor's statements of a phase in the bus's whole history: where its calls stand, and between which versions its
+-- looks.
 use Rattle.std.specs.Prelude.{ℕ, ◌≡◌, ◌≤◌, ◌<◌, false, List, [], ◌∷◌, length, map, All}
 use Rattle.board_prelude.proofs.Common.{Event, Look, Saw, Entry, Statement, Setup, version_of, IsAnswer, entries_by, IsLegal, events_by}
 use Rattle.board_spec.specs.declared.event.Event.TheVariants.{Look as LookAt}
@@ -10,10 +11,12 @@ use Rattle.run_order.proofs.Histories.{onto}
 -- what a look saw is the answer after every beginning of the history that has as many map writes
 abbrev pub IsRight : Setup → List Entry → Event → Look → Type 0
 IsRight setup whole event look =
-    (before : List Entry) → Begins before whole → version_of setup before ≡ look.version → IsAnswer setup before event (Saw look)
+    (before : List Entry) → Begins before whole → version_of setup before ≡ look.version
+        → IsAnswer setup before event (Saw look)
 
 -- a call of the bus: the processor's next entry after `from`, when it knew `low` map writes, and the version after it
-pub record IsCall (setup : Setup) (whole : List Entry) (actor : ℕ) (from : List Entry) (low : ℕ) (event : Event) (version : ℕ) (before : List Entry) (entry : Entry) : Type 0 where
+pub record IsCall (setup : Setup) (whole : List Entry) (actor : ℕ) (from : List Entry) (low : ℕ) (event : Event)
+    (version : ℕ) (before : List Entry) (entry : Entry) : Type 0 where
   pub own : entry.actor ≡ actor
   pub said : entry.event ≡ event
   pub no_look : is_look event ≡ false
@@ -22,7 +25,8 @@ pub record IsCall (setup : Setup) (whole : List Entry) (actor : ℕ) (from : Lis
   pub known : low ≤ version_of setup before
   pub place : Begins (entry ∷ before) whole
 
--- a processor's own statements in a history of the bus, which is whole now: `from` is the history up to its own last call, and
+-- a processor's own statements in a history of the bus, which is whole now: `from` is the history up to its own last
+-- call, and
 -- `low` how many map writes it knew
 abbrev pub Follows : Setup → List Entry → ℕ → List Entry → ℕ → List Done → Type 0
 Follows setup whole actor from low [] = entries_by actor whole ≡ entries_by actor from
@@ -34,8 +38,10 @@ Follows setup whole actor from low (Went version event ∷ items) =
     × Follows setup whole actor (entry ∷ before) (version_of setup (entry ∷ before)) items
 
 -- what the processors hand over after a phase
-pub record IsHandOver (setup : Setup) (opened later : List Entry) (phase : List Statement) (rests : List (List Done)) : Type 0 where
+pub record IsHandOver (setup : Setup) (opened later : List Entry) (phase : List Statement)
+    (rests : List (List Done)) : Type 0 where
   pub legal : IsLegal setup (onto later opened)
   pub callers : All (λ entry. entry.actor < length rests) later
-  pub follows : (actor : ℕ) → actor < length rests → Follows setup (onto later opened) actor opened (version_of setup opened) (done_by 0 actor rests)
+  pub follows : (actor : ℕ) → actor < length rests
+      → Follows setup (onto later opened) actor opened (version_of setup opened) (done_by 0 actor rests)
   pub said : (actor : ℕ) → map event_of (done_by 0 actor rests) ≡ events_by actor phase

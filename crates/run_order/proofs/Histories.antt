@@ -11,7 +11,8 @@ onto (x ∷ later) before = onto later (x ∷ before)
 pub onto_is : {X : Type 0} (later before : List X) → onto later before ≡ reverse later ++ before
 onto_is [] before = refl
 onto_is {X} (x ∷ later) before =
-    onto_is later (x ∷ before) ∙ sym (ap (λ (h : List X). h ++ before) (reverse-append (x ∷ []) later) ∙ append_assoc (reverse later) (x ∷ []) before)
+    onto_is later (x ∷ before) ∙ sym (ap (λ (h : List X). h ++ before) (reverse-append (x ∷ []) later)
+        ∙ append_assoc (reverse later) (x ∷ []) before)
 
 pub begins_self : (history : List Entry) → Begins history history
 begins_self history = ([], refl)
@@ -20,39 +21,54 @@ pub begins_before : (entry : Entry) (before whole : List Entry) → Begins (entr
 begins_before entry before whole b = (b.0 ++ entry ∷ [], b.1 ∙ sym (append_assoc b.0 (entry ∷ []) before))
 
 pub begins_trans : (first middle last : List Entry) → Begins first middle → Begins middle last → Begins first last
-begins_trans first middle last a b = (b.0 ++ a.0, b.1 ∙ (ap (λ (h : List Entry). b.0 ++ h) a.1 ∙ sym (append_assoc b.0 a.0 first)))
+begins_trans first middle last a b =
+    (b.0 ++ a.0, b.1 ∙ (ap (λ (h : List Entry). b.0 ++ h) a.1 ∙ sym (append_assoc b.0 a.0 first)))
 
 pub onto_begins : (later before : List Entry) → Begins before (onto later before)
 onto_begins [] before = begins_self before
-onto_begins (entry ∷ later) before = begins_before entry before (onto later (entry ∷ before)) (onto_begins later (entry ∷ before))
+onto_begins (entry ∷ later) before = begins_before entry before (onto later (entry ∷ before))
+    (onto_begins later (entry ∷ before))
 
-pub own_entry : (actor : ℕ) (entry : Entry) (before : List Entry) → (entry.actor == actor) ≡ true → entries_by actor (entry ∷ before) ≡ entry ∷ entries_by actor before
+pub own_entry : (actor : ℕ) (entry : Entry) (before : List Entry) → (entry.actor == actor) ≡ true
+    → entries_by actor (entry ∷ before) ≡ entry ∷ entries_by actor before
 own_entry actor entry before is = rw is refl
 
-pub other_entry : (actor : ℕ) (entry : Entry) (before : List Entry) → (entry.actor == actor) ≡ false → entries_by actor (entry ∷ before) ≡ entries_by actor before
+pub other_entry : (actor : ℕ) (entry : Entry) (before : List Entry) → (entry.actor == actor) ≡ false
+    → entries_by actor (entry ∷ before) ≡ entries_by actor before
 other_entry actor entry before is = rw is refl
 
 pub own_test : (actor : ℕ) (entry : Entry) → entry.actor ≡ actor → (entry.actor == actor) ≡ true
 own_test actor entry own = grind (arith, nat_tests)
 
 -- an entry of the processor's own counts
-pub own_counts : (actor : ℕ) (more : List Entry) (entry : Entry) (before : List Entry) → entry.actor ≡ actor → length (entries_by actor before) < length (entries_by actor (more ++ entry ∷ before))
+pub own_counts : (actor : ℕ) (more : List Entry) (entry : Entry) (before : List Entry) → entry.actor ≡ actor
+    → length (entries_by actor before) < length (entries_by actor (more ++ entry ∷ before))
 own_counts actor [] entry before own =
-    let one : length (entries_by actor (entry ∷ before)) ≡ length (entry ∷ entries_by actor before) = ap length (own_entry actor entry before (own_test actor entry own)) in
+    let one : length (entries_by actor (entry ∷ before)) ≡ length (entry ∷ entries_by actor before) =
+        ap length (own_entry actor entry before (own_test actor entry own)) in
     omega (arith, one)
 own_counts actor (last ∷ more) entry before own =
     let less = own_counts actor more entry before own in
     elim (cases_Bool (last.actor == actor)) [
-      | inl is ↦ let e : length (entries_by actor (last ∷ (more ++ entry ∷ before))) ≡ length (last ∷ entries_by actor (more ++ entry ∷ before)) = ap length (own_entry actor last (more ++ entry ∷ before) is) in omega (arith, less, e)
-      | inr not ↦ let e : length (entries_by actor (last ∷ (more ++ entry ∷ before))) ≡ length (entries_by actor (more ++ entry ∷ before)) = ap length (other_entry actor last (more ++ entry ∷ before) not) in omega (arith, less, e)
+      | inl is ↦ let e : length (entries_by actor (last ∷ (more ++ entry ∷ before))) ≡ length
+          (last ∷ entries_by actor (more ++ entry ∷ before)) =
+          ap length (own_entry actor last (more ++ entry ∷ before) is) in omega (arith, less, e)
+      | inr not ↦ let e : length (entries_by actor (last ∷ (more ++ entry ∷ before))) ≡ length
+          (entries_by actor (more ++ entry ∷ before)) =
+          ap length (other_entry actor last (more ++ entry ∷ before) not) in omega (arith, less, e)
     ]
 
-pub own_later : (actor : ℕ) (entry : Entry) (before whole : List Entry) → Begins (entry ∷ before) whole → entry.actor ≡ actor → length (entries_by actor before) < length (entries_by actor whole)
-own_later actor entry before whole b own = subst (λ (w : List Entry). length (entries_by actor before) < length (entries_by actor w)) (sym b.1) (own_counts actor b.0 entry before own)
+pub own_later : (actor : ℕ) (entry : Entry) (before whole : List Entry) → Begins (entry ∷ before) whole
+    → entry.actor ≡ actor → length (entries_by actor before) < length (entries_by actor whole)
+own_later actor entry before whole b own =
+    subst (λ (w : List Entry). length (entries_by actor before) < length (entries_by actor w)) (sym b.1)
+    (own_counts actor b.0 entry before own)
 
 -- two entries of a processor's in one history with as many of its entries before them are one
-same : (actor : ℕ) (more others : List Entry) (left right : Entry) (before other : List Entry) → more ++ left ∷ before ≡ others ++ right ∷ other
-    → left.actor ≡ actor → right.actor ≡ actor → length (entries_by actor before) ≡ length (entries_by actor other) → (left ≡ right) × (before ≡ other)
+same : (actor : ℕ) (more others : List Entry) (left right : Entry) (before other : List Entry)
+    → more ++ left ∷ before ≡ others ++ right ∷ other
+    → left.actor ≡ actor → right.actor ≡ actor → length (entries_by actor before) ≡ length (entries_by actor other)
+    → (left ≡ right) × (before ≡ other)
 same actor [] [] left right before other e l r n = (cc (e), cc (e))
 same actor [] (last ∷ others) left right before other e l r n =
     let tail : before ≡ others ++ right ∷ other = cc (e) in
@@ -62,17 +78,25 @@ same actor (last ∷ more) [] left right before other e l r n =
     let tail : more ++ left ∷ before ≡ other = cc (e) in
     let less = own_counts actor more left before l in
     absurd (omega (arith, less, ap (λ (h : List Entry). length (entries_by actor h)) tail, n))
-same actor (last ∷ more) (last' ∷ others) left right before other e l r n = same actor more others left right before other (cc (e)) l r n
+same actor (last ∷ more) (last' ∷ others) left right before other e l r n = same actor more others left right before
+    other (cc (e)) l r n
 
-pub same_place : (actor : ℕ) (whole : List Entry) (left right : Entry) (before other : List Entry) → Begins (left ∷ before) whole → Begins (right ∷ other) whole
-    → left.actor ≡ actor → right.actor ≡ actor → entries_by actor before ≡ entries_by actor other → (left ≡ right) × (before ≡ other)
-same_place actor whole left right before other a b l r n = same actor a.0 b.0 left right before other (sym a.1 ∙ b.1) l r (ap length n)
+pub same_place : (actor : ℕ) (whole : List Entry) (left right : Entry) (before other : List Entry)
+    → Begins (left ∷ before) whole → Begins (right ∷ other) whole
+    → left.actor ≡ actor → right.actor ≡ actor → entries_by actor before ≡ entries_by actor other
+    → (left ≡ right) × (before ≡ other)
+same_place actor whole left right before other a b l r n = same actor a.0 b.0 left right before other (sym a.1 ∙ b.1) l
+    r (ap length n)
 
-one_write : (change : Option MapChange) (writes : List MapChange) → (length writes ≤ length (option_to_list change ++ writes)) × (length (option_to_list change ++ writes) ≤ length writes + 1)
+one_write : (change : Option MapChange) (writes : List MapChange)
+    → (length writes ≤ length (option_to_list change ++ writes))
+    × (length (option_to_list change ++ writes) ≤ length writes + 1)
 one_write None writes = (omega arith, omega arith)
 one_write (Some change) writes = (omega arith, omega arith)
 
 -- an entry is at most one map write
-pub version_step : (setup : Setup) (entry : Entry) (before : List Entry) → (version_of setup before ≤ version_of setup (entry ∷ before)) × (version_of setup (entry ∷ before) ≤ version_of setup before + 1)
+pub version_step : (setup : Setup) (entry : Entry) (before : List Entry)
+    → (version_of setup before ≤ version_of setup (entry ∷ before))
+    × (version_of setup (entry ∷ before) ≤ version_of setup before + 1)
 unfolding map_writes_of
 version_step setup entry before = one_write (map_change_of setup before entry.event) (map_writes_of setup before)

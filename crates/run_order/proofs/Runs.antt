@@ -11,18 +11,21 @@ use Rattle.run_order.proofs.Phases.{phase_placed}
 back_again : (items : List Done) → onto (reverse items) [] ≡ items
 back_again items = onto_is (reverse items) [] ∙ (append-nil (reverse (reverse items)) ∙ reverse-reverse items)
 
-nobody_else : (actor n : ℕ) (phase : List Statement) → n ≤ actor → All (λ statement. statement.actor < n) phase → events_by actor phase ≡ []
+nobody_else : (actor n : ℕ) (phase : List Statement) → n ≤ actor → All (λ statement. statement.actor < n) phase
+    → events_by actor phase ≡ []
 nobody_else actor n [] past few = refl
 nobody_else actor n (statement ∷ phase) past few =
     let less = All-head (λ (s : Statement). s.actor < n) statement phase few in
     let not : (statement.actor == actor) ≡ false = grind (arith, nat_tests) in
     rw not (nobody_else actor n phase past (All-tail (λ (s : Statement). s.actor < n) statement phase few))
 
-nothing_past : (first actor : ℕ) (rests : List (List Done)) → first + length rests ≤ actor → done_by first actor rests ≡ []
+nothing_past : (first actor : ℕ) (rests : List (List Done)) → first + length rests ≤ actor
+    → done_by first actor rests ≡ []
 unfolding done_by
 nothing_past first actor [] past = refl
 nothing_past first actor (items ∷ rests) past =
-    let not : (actor == first) ≡ false = grind (arith, nat_tests) in rw not (nothing_past (first + 1) actor rests (omega (arith, past)))
+    let not : (actor == first) ≡ false = grind (arith, nat_tests) in
+    rw not (nothing_past (first + 1) actor rests (omega (arith, past)))
 
 pub phase_runs : AnswersAreBlind → PhaseRuns
 phase_runs blind setup opened later phase works final run legal same =
@@ -32,11 +35,14 @@ phase_runs blind setup opened later phase works final run legal same =
       legal = subst (IsLegal setup) is run.legal;
       callers = run.callers;
       follows = λ actor few.
-          let w = subst (λ (h : List Entry). IsWork setup opened h phase actor (done_by 0 actor works)) is (run.each actor few) in
+          let w = subst (λ (h : List Entry). IsWork setup opened h phase actor (done_by 0 actor works)) is
+              (run.each actor few) in
           subst (Follows setup whole actor opened (version_of setup opened)) (back_again (done_by 0 actor works))
-          (follows setup run.cards whole actor opened (reverse (done_by 0 actor works)) w.seen w.known w.trace w.closed);
+          (follows setup run.cards whole actor opened (reverse (done_by 0 actor works)) w.seen w.known w.trace
+              w.closed);
       said = λ actor. elim (cases_lt actor (length works)) [
         | inl few ↦ (run.each actor few).said
-        | inr past ↦ ap (map event_of) (nothing_past 0 actor works (omega (arith, past))) ∙ sym (nobody_else actor (length works) phase past run.speakers)
+        | inr past ↦ ap (map event_of) (nothing_past 0 actor works (omega (arith, past)))
+            ∙ sym (nobody_else actor (length works) phase past run.speakers)
       ];
     }) legal same

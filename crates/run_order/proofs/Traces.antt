@@ -8,35 +8,46 @@ use Rattle.run_order.proofs.Following.{IsRight, IsCall, Follows}
 use Rattle.run_order.specs.Trace.{Begins, HasMoreWrites, IsLookOf, IsDone, IsClosed}
 use Rattle.run_order.proofs.Histories.{onto, begins_before, begins_trans}
 
-extends_trans : (first middle last : List MapChange) → HasMoreWrites first middle → HasMoreWrites middle last → HasMoreWrites first last
-extends_trans first middle last a b = (b.0 ++ a.0, b.1 ∙ (ap (λ (h : List MapChange). b.0 ++ h) a.1 ∙ sym (append_assoc b.0 a.0 first)))
+extends_trans : (first middle last : List MapChange) → HasMoreWrites first middle → HasMoreWrites middle last
+    → HasMoreWrites first last
+extends_trans first middle last a b =
+    (b.0 ++ a.0, b.1 ∙ (ap (λ (h : List MapChange). b.0 ++ h) a.1 ∙ sym (append_assoc b.0 a.0 first)))
 
 extends_length : (shorter longer : List MapChange) → HasMoreWrites shorter longer → length shorter ≤ length longer
 extends_length shorter longer e = omega (arith, ap length e.1 ∙ length-append e.0 shorter)
 
 -- two ends of one list that are as long are one
-same_end : (xs ys shorter other : List MapChange) → xs ++ shorter ≡ ys ++ other → length shorter ≡ length other → shorter ≡ other
+same_end : (xs ys shorter other : List MapChange) → xs ++ shorter ≡ ys ++ other → length shorter ≡ length other
+    → shorter ≡ other
 same_end [] [] shorter other e n = e
 same_end [] (y ∷ ys) shorter other e n = absurd (omega (arith, n, ap length e, length-append ys other))
 same_end (x ∷ xs) [] shorter other e n = absurd (omega (arith, n, ap length e, length-append xs shorter))
 same_end (x ∷ xs) (y ∷ ys) shorter other e n = same_end xs ys shorter other (cc e) n
 
-writes_begin : (setup : Setup) (more before : List Entry) → HasMoreWrites (map_writes_of setup before) (map_writes_of setup (more ++ before))
+writes_begin : (setup : Setup) (more before : List Entry)
+    → HasMoreWrites (map_writes_of setup before) (map_writes_of setup (more ++ before))
 unfolding map_writes_of
 writes_begin setup [] before = ([], refl)
 writes_begin setup (entry ∷ more) before =
     let rest = writes_begin setup more before in
     let change : List MapChange = option_to_list (map_change_of setup (more ++ before) entry.event) in
-    (change ++ rest.0, ap (λ (ws : List MapChange). change ++ ws) rest.1 ∙ sym (append_assoc change rest.0 (map_writes_of setup before)))
+    (change ++ rest.0, ap (λ (ws : List MapChange). change ++ ws) rest.1
+        ∙ sym (append_assoc change rest.0 (map_writes_of setup before)))
 
-writes_extend : (setup : Setup) (before whole : List Entry) → Begins before whole → HasMoreWrites (map_writes_of setup before) (map_writes_of setup whole)
-writes_extend setup before whole b = subst (λ (h : List Entry). HasMoreWrites (map_writes_of setup before) (map_writes_of setup h)) (sym b.1) (writes_begin setup b.0 before)
+writes_extend : (setup : Setup) (before whole : List Entry) → Begins before whole
+    → HasMoreWrites (map_writes_of setup before) (map_writes_of setup whole)
+writes_extend setup before whole b =
+    subst (λ (h : List Entry). HasMoreWrites (map_writes_of setup before) (map_writes_of setup h)) (sym b.1)
+    (writes_begin setup b.0 before)
 
 -- a span of one state of the registers is one of each state with the same map bytes
-span_moves : (setup : Setup) (bytes other : Bytes) → IsCardList setup.cards → SameMapBytes setup bytes other → (addr : ℕ) (kind : Kind) (smm : Bool) (lo hi : ℕ) (area : Area)
+span_moves : (setup : Setup) (bytes other : Bytes) → IsCardList setup.cards → SameMapBytes setup bytes other
+    → (addr : ℕ) (kind : Kind) (smm : Bool) (lo hi : ℕ) (area : Area)
     → IsSpan setup bytes addr kind smm lo hi area → IsSpan setup other addr kind smm lo hi area
 span_moves setup bytes other cards same addr kind smm lo hi area span =
-    let area_same : (x : ℕ) → area_of setup bytes x kind smm ≡ area_of setup other x kind smm = λ x. (map_bytes_decide setup bytes other cards same x kind smm).0 in
+    let area_same : (x : ℕ)
+        → area_of setup bytes x kind smm ≡ area_of setup other x kind smm =
+        λ x. (map_bytes_decide setup bytes other cards same x kind smm).0 in
     record {
       above = span.above;
       below = span.below;
@@ -47,18 +58,24 @@ span_moves setup bytes other cards same addr kind smm lo hi area span =
     }
 
 module _ (setup : Setup) (cards : IsCardList setup.cards) (whole : List Entry) (actor : ℕ) (opened : List Entry) where
-  right : (known : List MapChange) (kind : Kind) (addr : ℕ) (smm : Bool) (look : Look) → IsLookOf setup known kind addr smm look → HasMoreWrites known (map_writes_of setup whole)
+  right : (known : List MapChange) (kind : Kind) (addr : ℕ) (smm : Bool) (look : Look)
+      → IsLookOf setup known kind addr smm look → HasMoreWrites known (map_writes_of setup whole)
       → IsRight setup whole (LookAt kind addr smm) look
   right known kind addr smm look is e before b version =
       let part = writes_extend setup before whole b in
-      let same : map_writes_of setup before ≡ known = same_end part.0 e.0 (map_writes_of setup before) known (sym part.1 ∙ e.1) (version ∙ is.version) in
+      let same : map_writes_of setup before ≡ known = same_end part.0 e.0 (map_writes_of setup before) known
+          (sym part.1 ∙ e.1) (version ∙ is.version) in
       let bytes : SameMapBytes setup (registers_after setup known) (byte_of setup before) =
-      λ reg on. ap (λ (ws : List MapChange). registers_after setup ws reg) (sym same) ∙ sym (map_writes_decide setup before reg on) in
-      record { version = sym version; span = span_moves setup (registers_after setup known) (byte_of setup before) cards bytes addr kind smm look.lo look.hi look.area is.span }
+      λ reg on. ap (λ (ws : List MapChange). registers_after setup ws reg) (sym same)
+          ∙ sym (map_writes_decide setup before reg on) in
+      record { version = sym version; span = span_moves setup (registers_after setup known) (byte_of setup before) cards
+          bytes addr kind smm look.lo look.hi look.area is.span }
 
   -- what a worker did leads on to what it still has to do
-  pub follows_on : (done : List Done) (seen : List Entry) (known : List MapChange) (items : List Done) → IsDone setup actor opened done seen known
-      → Begins seen whole → HasMoreWrites known (map_writes_of setup whole) → Follows setup whole actor seen (length known) items
+  pub follows_on : (done : List Done) (seen : List Entry) (known : List MapChange) (items : List Done)
+      → IsDone setup actor opened done seen known
+      → Begins seen whole → HasMoreWrites known (map_writes_of setup whole)
+      → Follows setup whole actor seen (length known) items
       → Follows setup whole actor opened (version_of setup opened) (onto done items)
   follows_on [] seen known items d b e f =
       subst (λ (z : List Entry × ℕ). Follows setup whole actor z.0 z.1 items) (λ i. (d.0 i, length (d.1 i))) f
@@ -66,9 +83,12 @@ module _ (setup : Setup) (cards : IsCardList setup.cards) (whole : List Entry) (
       let older : List MapChange = d.0 in let one = d.1 in
       let less = extends_length older known one.later in
       let most = extends_length known (map_writes_of setup whole) e in
-      let rest : Follows setup whole actor seen look.version items = subst (λ (n : ℕ). Follows setup whole actor seen n items) (sym one.saw.version) f in
-      follows_on before seen older (Looked kind addr smm look ∷ items) d.2 b (extends_trans older known (map_writes_of setup whole) one.later e)
-      (omega (arith, less, one.saw.version), omega (arith, most, one.saw.version), right known kind addr smm look one.saw e, rest)
+      let rest : Follows setup whole actor seen look.version items =
+          subst (λ (n : ℕ). Follows setup whole actor seen n items) (sym one.saw.version) f in
+      follows_on before seen older (Looked kind addr smm look ∷ items) d.2 b
+          (extends_trans older known (map_writes_of setup whole) one.later e)
+      (omega (arith, less, one.saw.version), omega (arith, most, one.saw.version),
+          right known kind addr smm look one.saw e, rest)
   follows_on (Went version event ∷ before) seen known items d b e f =
       let was : List Entry = d.0 in let older : List MapChange = d.1 in let one = d.2 in
       let place : Begins (one.entry ∷ one.list) whole = subst (λ (h : List Entry). Begins h whole) one.now_is b in
@@ -83,12 +103,16 @@ module _ (setup : Setup) (cards : IsCardList setup.cards) (whole : List Entry) (
         place = place;
       } in
       let rest : Follows setup whole actor (one.entry ∷ one.list) (version_of setup (one.entry ∷ one.list)) items =
-      subst (λ (z : List Entry × ℕ). Follows setup whole actor z.0 z.1 items) (λ i. (one.now_is i, (ap length one.known_is ∙ ap (λ (h : List Entry). version_of setup h) one.now_is) i)) f in
+      subst (λ (z : List Entry × ℕ). Follows setup whole actor z.0 z.1 items)
+          (λ i. (one.now_is i, (ap length one.known_is ∙ ap (λ (h : List Entry). version_of setup h) one.now_is) i))
+          f in
       follows_on before was older (Went version event ∷ items) d.5 (begins_trans was one.list whole one.begins inside)
-      (extends_trans older (map_writes_of setup one.list) (map_writes_of setup whole) one.meets (writes_extend setup one.list whole inside))
+      (extends_trans older (map_writes_of setup one.list) (map_writes_of setup whole) one.meets
+          (writes_extend setup one.list whole inside))
       (one.list, one.entry, call, rest)
 
   -- a worker that is done, in a history that was closed
-  pub follows : (done : List Done) (seen : List Entry) (known : List MapChange) → IsDone setup actor opened done seen known → IsClosed setup actor seen known whole
+  pub follows : (done : List Done) (seen : List Entry) (known : List MapChange)
+      → IsDone setup actor opened done seen known → IsClosed setup actor seen known whole
       → Follows setup whole actor opened (version_of setup opened) (onto done [])
   follows done seen known d closed = follows_on done seen known [] d closed.begins closed.meets closed.mine

@@ -32,7 +32,8 @@ number_lacks base high n (byte ∷ rest) e =
     (number_lacks base (high * base + k.0) n rest k.2)
 
 hex_lacks : (digits n : ℕ) (field : List ℕ) → parse_hex digits field ≡ Some n → IsField field
-hex_lacks digits n field e = number_lacks 16 0 n field (guarded (eqb (length field) digits) (parse_digits 16 field) n e).1
+hex_lacks digits n field e =
+    number_lacks 16 0 n field (guarded (eqb (length field) digits) (parse_digits 16 field) n e).1
 
 size_lacks : (version size bytes : ℕ) → parse_size version (size ∷ []) ≡ Some bytes → is_space size ≡ false
 size_lacks version size bytes e =
@@ -53,7 +54,8 @@ decimal_lacks byte n e =
 
 -- ---- fields
 
-one_byte : (byte : ℕ) (rest : List ℕ) → is_space byte ≡ false → fields_of (byte ∷ 32 ∷ rest) ≡ (byte ∷ []) ∷ fields_of rest
+one_byte : (byte : ℕ) (rest : List ℕ) → is_space byte ≡ false
+    → fields_of (byte ∷ 32 ∷ rest) ≡ (byte ∷ []) ∷ fields_of rest
 one_byte byte rest lacks =
     slice_split_at is_space (byte ∷ []) 32 rest
     (All-cons (λ byte. is_space byte ≡ false) byte [] lacks (All-nil (λ byte. is_space byte ≡ false))) refl
@@ -64,7 +66,8 @@ last_field byte field lacks whole =
     one_byte byte field lacks
     ∙ ap (λ (fields : List (List ℕ)). (byte ∷ []) ∷ fields) (slice_split_none is_space field whole)
 
-last_fields : (byte : ℕ) (text first second : List ℕ) → text ≡ first ++ 32 ∷ second → is_space byte ≡ false → IsField first
+last_fields : (byte : ℕ) (text first second : List ℕ) → text ≡ first ++ 32 ∷ second → is_space byte ≡ false
+    → IsField first
     → IsField second → fields_of (byte ∷ 32 ∷ text) ≡ (byte ∷ []) ∷ first ∷ second ∷ []
 last_fields byte text first second is lacks one two =
     one_byte byte text lacks
@@ -75,13 +78,16 @@ last_fields byte text first second is lacks one two =
 
 -- ---- events, as what was found says them
 
-pub access_straight : (version size bytes n : ℕ) (kind : Kind) (text addr : List ℕ) (event : Event) → text ≡ size ∷ 32 ∷ addr
-    → Some bytes ≡ parse_size version (size ∷ []) → Some n ≡ parse_hex 8 addr → event ≡ memory_event version kind bytes n 0 false
+pub access_straight : (version size bytes n : ℕ) (kind : Kind) (text addr : List ℕ) (event : Event)
+    → text ≡ size ∷ 32 ∷ addr
+    → Some bytes ≡ parse_size version (size ∷ []) → Some n ≡ parse_hex 8 addr
+    → event ≡ memory_event version kind bytes n 0 false
     → parse_read version kind (fields_of text) ≡ Some event
 unfolding parse_read parse_smm
 access_straight version size bytes n kind text addr event is sized at made =
     ap (λ (t : List ℕ). parse_read version kind (fields_of t)) is
-    ∙ ap (parse_read version kind) (last_field size addr (size_lacks version size bytes (sym sized)) (hex_lacks 8 n addr (sym at)))
+    ∙ ap (parse_read version kind) (last_field size addr (size_lacks version size bytes (sym sized))
+        (hex_lacks 8 n addr (sym at)))
     ∙ rw (sym sized, sym at, made) refl
 
 write_read : (version size bytes n m : ℕ) (text fields addr value : List ℕ) (event : Event) → text ≡ size ∷ 32 ∷ fields
@@ -96,7 +102,8 @@ write_read version size bytes n m text fields addr value event is cut sized at s
     (hex_lacks (2 * bytes) m value (sym said)))
     ∙ rw (sym sized, sym at, sym said, made) refl
 
-in_read : (byte n : ℕ) (width : Width) (text port : List ℕ) → text ≡ byte ∷ 32 ∷ port → Some width ≡ parse_width (byte ∷ [])
+in_read : (byte n : ℕ) (width : Width) (text port : List ℕ) → text ≡ byte ∷ 32 ∷ port
+    → Some width ≡ parse_width (byte ∷ [])
     → Some n ≡ parse_hex 4 port
     → parse_in (fields_of text) ≡ Some (Port (record { write = false; port = n; width = width; value = 0 }))
 unfolding parse_in
@@ -117,7 +124,8 @@ out_read byte n m width text fields port value is cut wide at said =
     (hex_lacks (2 * bytes_of width) m value (sym said)))
     ∙ rw (sym wide, sym at, sym said) refl
 
-look_read : (byte n : ℕ) (kind : Kind) (text addr : List ℕ) → text ≡ byte ∷ 32 ∷ addr → Some kind ≡ parse_kind (byte ∷ [])
+look_read : (byte n : ℕ) (kind : Kind) (text addr : List ℕ) → text ≡ byte ∷ 32 ∷ addr
+    → Some kind ≡ parse_kind (byte ∷ [])
     → Some n ≡ parse_hex 8 addr → parse_look (fields_of text) ≡ Some (LookAt kind n false)
 unfolding parse_look parse_smm
 look_read byte n kind text addr is kindly at =
@@ -160,7 +168,8 @@ pub write_straight : (version size bytes n m : ℕ) (words text fields addr valu
 unfolding parse_statement_words parse_by_verb parse_event_item parse_event
 write_straight version size bytes n m words text fields addr value event verb is cut sized at said made actor =
     ap (λ (t : List ℕ). parse_statement_words version actor (fields_of t)) verb
-    ∙ ap (option_map (ask actor)) (write_read version size bytes n m text fields addr value event is cut sized at said made)
+    ∙ ap (option_map (ask actor)) (write_read version size bytes n m text fields addr value event is cut sized at said
+        made)
 
 pub in_straight : (version byte n : ℕ) (width : Width) (words text port : List ℕ) → words ≡ 105 ∷ 110 ∷ 32 ∷ text
     → text ≡ byte ∷ 32 ∷ port → Some width ≡ parse_width (byte ∷ []) → Some n ≡ parse_hex 4 port
@@ -205,6 +214,7 @@ decimal_said byte n e =
     ne_eqb byte 0x23 (λ is. none_some n (subst (λ (b : ℕ). parse_decimal (b ∷ []) ≡ Some n) is e))
 
 -- it is neither empty nor a comment
-pub line_said : (digit actor : ℕ) (line words : List ℕ) → line ≡ digit ∷ 32 ∷ words → Some actor ≡ parse_decimal (digit ∷ [])
+pub line_said : (digit actor : ℕ) (line words : List ℕ) → line ≡ digit ∷ 32 ∷ words
+    → Some actor ≡ parse_decimal (digit ∷ [])
     → is_skipped line ≡ false
 line_said digit actor line words cut said = ap is_skipped cut ∙ decimal_said digit actor (sym said)

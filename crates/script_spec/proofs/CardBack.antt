@@ -26,20 +26,24 @@ no_rom version (IoBase bits) = elim (cases_Bool (eqb version 2)) [ inl two ↦ r
 next_back : (version : ℕ) (before : List Base) (base : Base) → IsBaseForm base → length before < 6
     → with_field version (fresh before) (base_word base) ≡ Some (fresh (before ++ base ∷ []))
 unfolding with_field with_rom with_base
-next_back version before base form room = rw (no_rom version base, lt-ltb (length before) 6 room, base_back base form) refl
+next_back version before base form room = rw (no_rom version base, lt-ltb (length before) 6 room, base_back base form)
+    refl
 
 rom_back : (version : ℕ) (before : List Base) (bits : ℕ) → IsRomForm version (Some bits)
     → with_field version (fresh before) (codes "x" ++ decimal bits) ≡ Some (record { bases = before; rom = Some bits })
 unfolding with_field with_rom parse_rom_bits
 rom_back version before bits form = rw (eq-eqb version 2 form.0, decimal_back bits form.1) refl
 
-pub tail_back : (version : ℕ) (before more : List Base) (rom : Option ℕ) → length before + length more ≤ 6 → All IsBaseForm more
+pub tail_back : (version : ℕ) (before more : List Base) (rom : Option ℕ) → length before + length more ≤ 6
+    → All IsBaseForm more
     → IsRomForm version rom
-    → with_fields version (fresh before) (map base_word more ++ rom_words rom) ≡ Some (record { bases = before ++ more; rom = rom })
+    → with_fields version (fresh before) (map base_word more ++ rom_words rom) ≡ Some
+        (record { bases = before ++ more; rom = rom })
 unfolding with_fields
 tail_back version before [] None few each form = ap (λ (b : List Base). Some (fresh b)) (sym (append-nil before))
 tail_back version before [] (Some bits) few each form =
-    rw (rom_back version before bits form) (ap (λ (b : List Base). Some (record { bases = b; rom = Some bits })) (sym (append-nil before)))
+    rw (rom_back version before bits form) (ap (λ (b : List Base). Some (record { bases = b; rom = Some bits }))
+        (sym (append-nil before)))
 tail_back version before (base ∷ more) rom few each form =
     rw (next_back version before base (All-head IsBaseForm base more each) (omega (arith, few)))
     (tail_back version (before ++ base ∷ []) more rom (omega (arith, few, length-append before (base ∷ [])))

@@ -10,11 +10,13 @@ use Rattle.script_spec.proofs.Joins.{word_is}
 abbrev pub spaced : List (List ℕ) → List ℕ
 spaced words = flat_map (λ word. space ∷ word) words
 
-pub line_spaced : (first : List ℕ) (words : List (List ℕ)) → join_with_byte space (first ∷ words) ≡ first ++ spaced words
+pub line_spaced : (first : List ℕ) (words : List (List ℕ))
+    → join_with_byte space (first ∷ words) ≡ first ++ spaced words
 line_spaced first [] = sym (append-nil first)
 line_spaced first (word ∷ words) = ap (λ (rest : List ℕ). first ++ (space ∷ rest)) (line_spaced word words)
 
-base_read : (field : List ℕ) (base : Base) → parse_base field ≡ Some base → (space ∷ field ≡ base_text base) × IsBaseForm base
+base_read : (field : List ℕ) (base : Base) → parse_base field ≡ Some base
+    → (space ∷ field ≡ base_text base) × IsBaseForm base
 unfolding parse_base
 base_read [] base e = absurd cc
 base_read (letter ∷ digits) base e = elim (cases_Bool (eqb letter 0x6D)) [
@@ -78,16 +80,19 @@ record IsBaseNext (before : List Base) (field : List ℕ) (next : Tail) : Type 0
   pub is : fresh (before ++ base ∷ []) ≡ next
   pub room : length before < 6
 
-next_cases : (version : ℕ) (before : List Base) (field : List ℕ) (rom : Option ℕ) (next : Tail) → parse_rom_bits version field ≡ rom
+next_cases : (version : ℕ) (before : List Base) (field : List ℕ) (rom : Option ℕ) (next : Tail)
+    → parse_rom_bits version field ≡ rom
     → with_rom (fresh before) rom field ≡ Some next → IsRomNext version before field next ⊎ IsBaseNext before field next
 unfolding with_rom with_base
-next_cases version before field (Some bits) next read e = inl (record { bits = bits; read = read; is = some_is _ next e })
+next_cases version before field (Some bits) next read e =
+    inl (record { bits = bits; read = read; is = some_is _ next e })
 next_cases version before field None next read e =
     let g = guarded (has_room (fresh before)) _ next e in
     let b = mapped (parse_base field) _ next g.1 in
     inr (record { base = b.0; read = b.1; is = sym b.2; room = ltb-true (length before) 6 g.0 })
 
-field_read : (version : ℕ) (before : List Base) (field : List ℕ) (next : Tail) → with_field version (fresh before) field ≡ Some next
+field_read : (version : ℕ) (before : List Base) (field : List ℕ) (next : Tail)
+    → with_field version (fresh before) field ≡ Some next
     → IsRomNext version before field next ⊎ IsBaseNext before field next
 unfolding with_field
 field_read version before field next e = next_cases version before field (parse_rom_bits version field) next refl e
@@ -97,18 +102,21 @@ tail_read : (version : ℕ) (before : List Base) (fields : List (List ℕ)) (tai
 unfolding with_fields
 tail_read version before [] tail few e =
     subst (IsTail version before []) (some_is (fresh before) tail e)
-    (record { more = []; bases = sym (append-nil before); text = refl; each = All-nil IsBaseForm; rom = tt; count = few })
+    (record { more = []; bases = sym (append-nil before); text = refl; each = All-nil IsBaseForm; rom = tt; count =
+        few })
 tail_read version before (field ∷ fields) tail few e =
     let s = then_said (with_field version (fresh before) field) _ tail e in
     elim (field_read version before field s.0 s.1) [
       | inl rom ↦
-          let end = ended version before fields rom.bits tail (subst (λ (t : Tail). with_fields version t fields ≡ Some tail) (sym rom.is) s.2) in
+          let end = ended version before fields rom.bits tail
+              (subst (λ (t : Tail). with_fields version t fields ≡ Some tail) (sym rom.is) s.2) in
           let read = rom_read version field rom.bits rom.read in
           subst (IsTail version before (field ∷ fields)) end.1
           (record {
             more = [];
             bases = sym (append-nil before);
-            text = ap (λ (later : List (List ℕ)). space ∷ (field ++ spaced later)) end.0 ∙ append-nil (space ∷ field) ∙ read.0;
+            text = ap (λ (later : List (List ℕ)). space ∷ (field ++ spaced later)) end.0 ∙ append-nil (space ∷ field)
+                ∙ read.0;
             each = All-nil IsBaseForm;
             rom = read.1;
             count = few;
@@ -164,7 +172,8 @@ card_read version (dev ∷ kind ∷ fields) card e =
     let dev_is = decimal_read dev d.0 d.1 in
     let kind_is = vga_read kind v.0 v.1 in
     let tail = tail_read version [] fields t.0 (omega arith) t.1 in
-    subst (λ (c : FittedCard). (join_with_byte space (codes "card" ∷ dev ∷ kind ∷ fields) ≡ codes "card " ++ card_text c) × IsCardForm version c)
+    subst (λ (c : FittedCard). (join_with_byte space (codes "card" ∷ dev ∷ kind ∷ fields) ≡ codes "card " ++ card_text
+        c) × IsCardForm version c)
     (some_is _ card t.2) (
       ap (λ (rest : List ℕ). codes "card " ++ rest) (
           ap (λ (rest : List ℕ). dev ++ (space ∷ rest)) (line_spaced kind fields)

@@ -40,7 +40,8 @@ form_is version before line short read None e =
 form_is version before line short read (Some item) e =
     reason_is version before line item short read e (least_reason before item) refl
 
-line_is : (version : ℕ) (before : List Item) (line : List ℕ) → IsLine version before line (judged_line version before line)
+line_is : (version : ℕ) (before : List Item) (line : List ℕ)
+    → IsLine version before line (judged_line version before line)
 line_is version before line =
     elim (cases_lt most_bytes (length line)) [
       | inl long ↦ rw (lt-ltb most_bytes (length line) long) (inl (long, refl))
@@ -55,7 +56,8 @@ line_is version before line =
 
 -- ---- the lines after the first, of which the next has this number
 
-abbrev goes_on : Result (List Item) ℕ → (number : ℕ) → (List Item → Result (List Item) (ℕ × ℕ)) → Result (List Item) (ℕ × ℕ)
+abbrev goes_on : Result (List Item) ℕ → (number : ℕ) → (List Item → Result (List Item) (ℕ × ℕ))
+    → Result (List Item) (ℕ × ℕ)
 goes_on (Ok items) number later = later items
 goes_on (Err why) number later = Err (number, why)
 
@@ -78,7 +80,8 @@ AreLines version before lines number (Ok items) = AreRead version before lines i
 AreLines version before lines number (Err end) = Stops version before lines number end
 
 after_line : (version : ℕ) (line : List ℕ) (later : List (List ℕ)) (before items ends : List Item) →
-    AreRead version before (line ∷ []) items → AreRead version items later ends → AreRead version before (line ∷ later) ends
+    AreRead version before (line ∷ []) items → AreRead version items later ends
+        → AreRead version before (line ∷ later) ends
 after_line version line later before items ends (inl skipped) read =
     inl (skipped.0, subst (λ (b : List Item). AreRead version b later ends) skipped.1 read)
 after_line version line later before items ends (inr one) read =
@@ -100,7 +103,8 @@ later_are version number line later before items one (Err end) stops = record {
 }
 
 next_are : (version number : ℕ) (line : List ℕ) (later : List (List ℕ)) (before : List Item)
-    (next : List Item → Result (List Item) (ℕ × ℕ)) (result : Result (List Item) ℕ) → IsLine version before line result →
+    (next : List Item → Result (List Item) (ℕ × ℕ)) (result : Result (List Item) ℕ) → IsLine version before line result
+        →
     ((items : List Item) → AreLines version items later (number + 1) (next items)) →
     AreLines version before (line ∷ later) number (goes_on result number next)
 next_are version number line later before next (Ok items) one rest =
@@ -133,7 +137,8 @@ lines_are version number [] before =
     ]
 lines_are version number (line ∷ later) before =
     next_are version number line later before (λ items. judged_lines version items (number + 1) later)
-    (judged_line version before line) (line_is version before line) (λ items. lines_are version (number + 1) later items)
+    (judged_line version before line) (line_is version before line)
+        (λ items. lines_are version (number + 1) later items)
 
 -- ---- the whole
 
@@ -244,7 +249,8 @@ bad_line : (version : ℕ) (before : List Item) (line : List ℕ) (why : ℕ) �
 bad_line version before line why (inl long) = long_line version before line long.0 ∙ ap (λ w. Err w) (sym long.1)
 bad_line version before line why (inr (inl none)) =
     read_so version before line none.0.short none.0.read
-    ∙ ap (judged_form before) (no_form version line (parse_line version line) refl none.0.none) ∙ ap (λ w. Err w) (sym none.1)
+    ∙ ap (judged_form before) (no_form version line (parse_line version line) refl none.0.none)
+    ∙ ap (λ w. Err w) (sym none.1)
 bad_line version before line why (inr (inr refused)) =
     item_so version before line refused.item refused.short refused.read refused.has
     ∙ ap (judged_item before refused.item) refused.least
@@ -270,7 +276,8 @@ front_decided version number (line ∷ good) rest before items read =
     rw (line_decided version before one.0 line one.1)
     (front_decided version (number + 1) good rest one.0 items one.2 ∙ ap (λ n. judged_lines version items n rest) e)
 
-end_decided : (version number : ℕ) (items : List Item) (rest : List (List ℕ)) (why : ℕ) → EndsBadly version items rest why →
+end_decided : (version number : ℕ) (items : List Item) (rest : List (List ℕ)) (why : ℕ)
+    → EndsBadly version items rest why →
     judged_lines version items number rest ≡ Err (number, why)
 unfolding judged_lines
 end_decided version number items [] why bad = rw bad.0 (ap (λ w. Err (number, w)) (sym bad.1))
@@ -302,7 +309,8 @@ begins_badly (first ∷ later) none =
       | inl one ↦ absurd (none 1 later (inl refl) (ap (λ l. l ∷ later) ((bytes_eq-Decides first (first_line 1)).0 one)))
       | inr not_one ↦
           elim (cases_Bool (bytes_eq first (first_line 2))) [
-            | inl two ↦ absurd (none 2 later (inr refl) (ap (λ l. l ∷ later) ((bytes_eq-Decides first (first_line 2)).0 two)))
+            | inl two ↦ absurd (none 2 later (inr refl)
+                (ap (λ l. l ∷ later) ((bytes_eq-Decides first (first_line 2)).0 two)))
             | inr not_two ↦ rw (not_one, not_two) refl
           ]
     ]

@@ -15,13 +15,17 @@ size_back version bytes (inr (inl two)) = rw two refl
 size_back version bytes (inr (inr (inl four))) = rw four refl
 size_back version bytes (inr (inr (inr eight))) = rw (eight.0, eq-eqb version 2 eight.1) refl
 
-size_plain : (version bytes : ℕ) (field : List ℕ) → IsSize version bytes → Spells field (size_text bytes) → field ≡ size_text bytes
+size_plain : (version bytes : ℕ) (field : List ℕ) → IsSize version bytes → Spells field (size_text bytes)
+    → field ≡ size_text bytes
 size_plain version bytes field (inl one) spells = rw one (plain_is field (codes "b") refl (rw one at spells))
 size_plain version bytes field (inr (inl two)) spells = rw two (plain_is field (codes "w") refl (rw two at spells))
-size_plain version bytes field (inr (inr (inl four))) spells = rw four (plain_is field (codes "d") refl (rw four at spells))
-size_plain version bytes field (inr (inr (inr eight))) spells = rw eight.0 (plain_is field (codes "q") refl (rw eight.0 at spells))
+size_plain version bytes field (inr (inr (inl four))) spells =
+    rw four (plain_is field (codes "d") refl (rw four at spells))
+size_plain version bytes field (inr (inr (inr eight))) spells =
+    rw eight.0 (plain_is field (codes "q") refl (rw eight.0 at spells))
 
-pub size_spelled : (version bytes : ℕ) (field : List ℕ) → IsSize version bytes → Spells field (size_text bytes) → parse_size version field ≡ Some bytes
+pub size_spelled : (version bytes : ℕ) (field : List ℕ) → IsSize version bytes → Spells field (size_text bytes)
+    → parse_size version field ≡ Some bytes
 size_spelled version bytes field size spells =
     ap (parse_size version) (size_plain version bytes field size spells) ∙ size_back version bytes size
 
@@ -45,7 +49,8 @@ smm_spelled true (f ∷ g ∷ flags) reads = absurd reads.1
 
 -- ---- statements
 
-pub read_spelled : (version bytes addr : ℕ) (kind : Kind) (smm : Bool) (words : List (List ℕ)) → IsSize version bytes → addr < 2 ^ 32
+pub read_spelled : (version bytes addr : ℕ) (kind : Kind) (smm : Bool) (words : List (List ℕ)) → IsSize version bytes
+    → addr < 2 ^ 32
     → Reads words (size_text bytes ∷ hex_number 4 addr ∷ smm_words smm)
     → parse_read version kind words ≡ Some (memory_event version kind bytes addr 0 smm)
 unfolding parse_read
@@ -58,7 +63,8 @@ read_spelled version bytes addr kind smm (s ∷ a ∷ flags) size small reads =
       smm_spelled smm flags reads.1.1,
     ) refl
 
-pub write_spelled : (version bytes addr value : ℕ) (smm : Bool) (words : List (List ℕ)) → IsSize version bytes → addr < 2 ^ 32
+pub write_spelled : (version bytes addr value : ℕ) (smm : Bool) (words : List (List ℕ)) → IsSize version bytes
+    → addr < 2 ^ 32
     → value < 256 ^ bytes → Reads words (size_text bytes ∷ hex_number 4 addr ∷ hex_number bytes value ∷ smm_words smm)
     → parse_write version words ≡ Some (memory_event version Write bytes addr value smm)
 unfolding parse_write
@@ -73,7 +79,8 @@ write_spelled version bytes addr value smm (s ∷ a ∷ v ∷ flags) size small 
       smm_spelled smm flags reads.1.1.1,
     ) refl
 
-pub in_spelled : (width : Width) (port : ℕ) (words : List (List ℕ)) → port < 2 ^ 16 → Reads words (width_text width ∷ hex_number 2 port ∷ [])
+pub in_spelled : (width : Width) (port : ℕ) (words : List (List ℕ)) → port < 2 ^ 16
+    → Reads words (width_text width ∷ hex_number 2 port ∷ [])
     → parse_in words ≡ Some (Port (record { write = false; port = port; width = width; value = 0 }))
 unfolding parse_in
 in_spelled width port [] small reads = absurd reads
@@ -82,7 +89,8 @@ in_spelled width port (w ∷ p ∷ []) small reads =
     rw (width_spelled width w reads.0, hex_back 2 port p (omega (arith, small)) reads.1.0) refl
 in_spelled width port (w ∷ p ∷ q ∷ words) small reads = absurd reads.1.1
 
-pub out_spelled : (width : Width) (port value : ℕ) (words : List (List ℕ)) → port < 2 ^ 16 → value < 256 ^ bytes_of width
+pub out_spelled : (width : Width) (port value : ℕ) (words : List (List ℕ)) → port < 2 ^ 16
+    → value < 256 ^ bytes_of width
     → Reads words (width_text width ∷ hex_number 2 port ∷ hex_number (bytes_of width) value ∷ [])
     → parse_out words ≡ Some (Port (record { write = true; port = port; width = width; value = value }))
 unfolding parse_out

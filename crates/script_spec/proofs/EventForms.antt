@@ -19,7 +19,8 @@ pub record IsReadBack (version actor : ℕ) (event : Event) : Type 0 where
   pub words : List (List ℕ)
   pub joined : join_with_byte space (verb ∷ words) ≡ event_text event
   pub lack : Lack (verb ∷ words)
-  pub read : (fields : List (List ℕ)) → Reads fields (verb ∷ words) → parse_statement_words version actor fields ≡ Some (ask actor event)
+  pub read : (fields : List (List ℕ)) → Reads fields (verb ∷ words)
+      → parse_statement_words version actor fields ≡ Some (ask actor event)
 
 -- the verb stands for itself alone
 with_verb : (version actor : ℕ) (verb : List ℕ) (words : List (List ℕ)) (item : Item) → is_plain verb ≡ true
@@ -38,7 +39,8 @@ not_moved version rest aligned = elim (cases_Bool (eqb version 2)) [
   | inr first ↦ rw first refl
 ]
 
-narrow_event : (version : ℕ) (kind : Kind) (width : Width) (addr value : ℕ) (smm : Bool) → (version ≡ 2 → addr % bytes_of width ≡ 0)
+narrow_event : (version : ℕ) (kind : Kind) (width : Width) (addr value : ℕ) (smm : Bool)
+    → (version ≡ 2 → addr % bytes_of width ≡ 0)
     → memory_event version kind (bytes_of width) addr value smm
     ≡ Memory (record { kind = kind; addr = addr; width = width; smm = smm; value = value })
 unfolding memory_event
@@ -95,7 +97,8 @@ lacks_smm true = (refl, tt)
 -- an access of so many bytes, which is a wide one or not
 abbrev IsAccess : (version : ℕ) → Kind → (bytes addr value : ℕ) → Bool → Event → Type 0
 IsAccess version kind bytes addr value smm event =
-    (memory_event version kind bytes addr value smm ≡ event) × (memory_text kind bytes addr value smm ≡ event_text event)
+    (memory_event version kind bytes addr value smm ≡ event)
+        × (memory_text kind bytes addr value smm ≡ event_text event)
 
 asked_read : (version actor : ℕ) (kind : Kind) (words : List (List ℕ)) → is_write kind ≡ false
     → parse_by_verb version actor (kind_text kind) words ≡ option_map (ask actor) (parse_read version kind words)
@@ -104,7 +107,8 @@ asked_read version actor Fetch words reads = refl
 asked_read version actor Read words reads = refl
 asked_read version actor Write words reads = absurd cc
 
-read_back : (version actor : ℕ) (kind : Kind) (bytes addr value : ℕ) (smm : Bool) (event : Event) → is_write kind ≡ false
+read_back : (version actor : ℕ) (kind : Kind) (bytes addr value : ℕ) (smm : Bool) (event : Event)
+    → is_write kind ≡ false
     → IsSize version bytes → addr < 2 ^ 32 → value ≡ 0 → IsAccess version kind bytes addr value smm event
     → IsReadBack version actor event
 read_back version actor kind bytes addr value smm event reads size small none is = record {
@@ -115,7 +119,8 @@ read_back version actor kind bytes addr value smm event reads size small none is
   read = with_verb version actor (kind_text kind) _ (ask actor event) (plain_kind kind) (λ rest spelled.
       asked_read version actor kind rest reads
       ∙ ap (option_map (ask actor)) (read_spelled version bytes addr kind smm rest size small spelled
-      ∙ ap (λ (v : ℕ). Some (memory_event version kind bytes addr v smm)) (sym none) ∙ ap (λ (e : Event). Some e) is.0));
+      ∙ ap (λ (v : ℕ). Some (memory_event version kind bytes addr v smm)) (sym none)
+      ∙ ap (λ (e : Event). Some e) is.0));
 }
 
 write_back : (version actor bytes addr value : ℕ) (smm : Bool) (event : Event) → IsSize version bytes → addr < 2 ^ 32
@@ -127,10 +132,12 @@ write_back version actor bytes addr value smm event size small fits is = record 
   joined = write_joined (codes "w") (size_text bytes) (hex_number 4 addr) (hex_number bytes value) smm ∙ is.1;
   lack = (refl, (lacks_size version bytes size, (lacks_hex 4 addr, (lacks_hex bytes value, lacks_smm smm))));
   read = with_verb version actor (codes "w") _ (ask actor event) refl (λ rest reads.
-      ap (option_map (ask actor)) (write_spelled version bytes addr value smm rest size small fits reads ∙ ap (λ (e : Event). Some e) is.0));
+      ap (option_map (ask actor)) (write_spelled version bytes addr value smm rest size small fits reads
+          ∙ ap (λ (e : Event). Some e) is.0));
 }
 
-memory_back : (version actor : ℕ) (kind : Kind) (bytes addr value : ℕ) (smm : Bool) (event : Event) → IsSize version bytes
+memory_back : (version actor : ℕ) (kind : Kind) (bytes addr value : ℕ) (smm : Bool) (event : Event)
+    → IsSize version bytes
     → addr < 2 ^ 32 → FitsBytes (is_write kind) bytes value → IsAccess version kind bytes addr value smm event
     → IsReadBack version actor event
 memory_back version actor Fetch bytes addr value smm event size small fits is =
@@ -142,7 +149,8 @@ memory_back version actor Write bytes addr value smm event size small fits is =
 
 -- ---- ports and looks
 
-port_back : (version actor : ℕ) (write : Bool) (width : Width) (port value : ℕ) → port < 2 ^ 16 → FitsBytes write (bytes_of width) value
+port_back : (version actor : ℕ) (write : Bool) (width : Width) (port value : ℕ) → port < 2 ^ 16
+    → FitsBytes write (bytes_of width) value
     → IsReadBack version actor (Port (record { write = write; port = port; width = width; value = value }))
 unfolding event_text parse_by_verb parse_event_item parse_event
 port_back version actor false width port value small none = record {
@@ -163,7 +171,8 @@ port_back version actor true width port value small fits = record {
       ap (option_map (ask actor)) (out_spelled width port value rest small fits reads));
 }
 
-look_back : (version actor : ℕ) (kind : Kind) (addr : ℕ) (smm : Bool) → addr < 2 ^ 32 → IsReadBack version actor (LookAt kind addr smm)
+look_back : (version actor : ℕ) (kind : Kind) (addr : ℕ) (smm : Bool) → addr < 2 ^ 32
+    → IsReadBack version actor (LookAt kind addr smm)
 unfolding event_text parse_by_verb parse_event_item parse_event
 look_back version actor kind addr smm small = record {
   verb = codes "look";
@@ -178,9 +187,11 @@ look_back version actor kind addr smm small = record {
 
 -- a decimal stands for itself alone
 pub number_is : (n : ℕ) (field : List ℕ) → IsDecimal n → Spells field (decimal n) → field ≡ decimal n
-number_is n field small spells = plain_is field (decimal n) (plain-digits (decimal n) (digits_of_decimal n small)) spells
+number_is n field small spells = plain_is field (decimal n) (plain-digits (decimal n) (digits_of_decimal n small))
+    spells
 
-number_spelled : (n : ℕ) (words : List (List ℕ)) → IsDecimal n → Reads words (decimal n ∷ []) → parse_number words ≡ Some n
+number_spelled : (n : ℕ) (words : List (List ℕ)) → IsDecimal n → Reads words (decimal n ∷ [])
+    → parse_number words ≡ Some n
 unfolding parse_number
 number_spelled n [] small reads = absurd reads
 number_spelled n (field ∷ []) small reads = rw (number_is n field small reads.0) (decimal_back n small)
@@ -212,7 +223,8 @@ level_small : (on : Bool) → IsDecimal (level_of on)
 level_small false = omega arith
 level_small true = omega arith
 
-level_spelled : (dev : ℕ) (on : Bool) (words : List (List ℕ)) → IsDecimal dev → Reads words (decimal dev ∷ level_text on ∷ [])
+level_spelled : (dev : ℕ) (on : Bool) (words : List (List ℕ)) → IsDecimal dev
+    → Reads words (decimal dev ∷ level_text on ∷ [])
     → parse_two_numbers words ≡ Some (dev, level_of on)
 level_spelled dev on words small reads =
     two_spelled dev (level_of on) words small (level_small on)
@@ -268,7 +280,8 @@ ack_back version actor = record {
   words = [];
   joined = refl;
   lack = (refl, tt);
-  read = with_verb version actor (codes "ack") _ _ refl (λ rest reads. ap (option_map (ask actor)) (ack_spelled rest reads));
+  read = with_verb version actor (codes "ack") _ _ refl
+      (λ rest reads. ap (option_map (ask actor)) (ack_spelled rest reads));
 }
 
 pulses_back : (version actor count : ℕ) → IsDecimal count → IsReadBack version actor (Pulses count)
@@ -278,7 +291,8 @@ pulses_back version actor count small = record {
   words = decimal count ∷ [];
   joined = refl;
   lack = (refl, (lacks_decimal count, tt));
-  read = with_verb version actor (codes "pulse") _ _ refl (λ rest reads. rw (number_spelled count rest small reads) refl);
+  read = with_verb version actor (codes "pulse") _ _ refl
+      (λ rest reads. rw (number_spelled count rest small reads) refl);
 }
 
 sector_back : (version actor sector : ℕ) → IsDecimal sector → IsReadBack version actor (BadSector sector)
@@ -288,7 +302,8 @@ sector_back version actor sector small = record {
   words = decimal sector ∷ [];
   joined = refl;
   lack = (refl, (lacks_decimal sector, tt));
-  read = with_verb version actor (codes "bad") _ _ refl (λ rest reads. rw (number_spelled sector rest small reads) refl);
+  read = with_verb version actor (codes "bad") _ _ refl
+      (λ rest reads. rw (number_spelled sector rest small reads) refl);
 }
 
 moment_spelled : (moment : Moment) (words : List (List ℕ)) → IsMomentForm moment → Reads words (moment_text moment ∷ [])

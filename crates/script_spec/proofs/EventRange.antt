@@ -23,7 +23,8 @@ six true true true true false f test = absurd (false≢true test)
 six true true true true true false test = absurd (false≢true test)
 six true true true true true true test = (refl, refl, refl, refl, refl, refl)
 
-moment_there : (m : Moment) → IsMomentForm m → is_moment m.year m.month m.day m.hour m.minute m.second ≡ true → IsMoment m
+moment_there : (m : Moment) → IsMomentForm m → is_moment m.year m.month m.day m.hour m.minute m.second ≡ true
+    → IsMoment m
 moment_there m form test =
     let parts = six _ _ _ _ _ _ test in
     let year = is_within_is _ _ m.year parts.0 in

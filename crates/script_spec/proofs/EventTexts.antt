@@ -30,7 +30,8 @@ size_read version field bytes e = elim (cases_Bool (bytes_eq field (codes "b")))
     | inr w ↦ elim (cases_Bool (bytes_eq field (codes "d"))) [
       | inl four ↦
           let is : 4 ≡ bytes = some_is 4 bytes (rw (b, w, four) at e) in
-          subst (λ (n : ℕ). (field ≡ size_text n) × IsSize version n) is (word_is field (codes "d") four, inr (inr (inl refl)))
+          subst (λ (n : ℕ). (field ≡ size_text n) × IsSize version n) is (word_is field (codes "d") four,
+              inr (inr (inl refl)))
       | inr d ↦
           let q = guarded (bytes_eq field (codes "q")) (quad_size version) bytes (rw (b, w, d) at e) in
           let v = guarded (eqb version 2) (Some 8) bytes q.1 in
@@ -43,9 +44,11 @@ size_read version field bytes e = elim (cases_Bool (bytes_eq field (codes "b")))
 
 width_read : (field : List ℕ) (width : Width) → parse_width field ≡ Some width → field ≡ width_text width
 width_read field width e = elim (cases_Bool (bytes_eq field (codes "b"))) [
-  | inl one ↦ subst (λ (w : Width). field ≡ width_text w) (some_is One width (rw one at e)) (word_is field (codes "b") one)
+  | inl one ↦ subst (λ (w : Width). field ≡ width_text w) (some_is One width (rw one at e))
+      (word_is field (codes "b") one)
   | inr b ↦ elim (cases_Bool (bytes_eq field (codes "w"))) [
-    | inl two ↦ subst (λ (w : Width). field ≡ width_text w) (some_is Two width (rw (b, two) at e)) (word_is field (codes "w") two)
+    | inl two ↦ subst (λ (w : Width). field ≡ width_text w) (some_is Two width (rw (b, two) at e))
+        (word_is field (codes "w") two)
     | inr w ↦
         let d = guarded (bytes_eq field (codes "d")) (Some Four) width (rw (b, w) at e) in
         subst (λ (w : Width). field ≡ width_text w) (some_is Four width d.1) (word_is field (codes "d") d.0)
@@ -56,7 +59,8 @@ kind_read : (field : List ℕ) (kind : Kind) → parse_kind field ≡ Some kind 
 kind_read field kind e = elim (cases_Bool (bytes_eq field (codes "f"))) [
   | inl f ↦ subst (λ (k : Kind). field ≡ kind_text k) (some_is Fetch kind (rw f at e)) (word_is field (codes "f") f)
   | inr f ↦ elim (cases_Bool (bytes_eq field (codes "r"))) [
-    | inl r ↦ subst (λ (k : Kind). field ≡ kind_text k) (some_is Read kind (rw (f, r) at e)) (word_is field (codes "r") r)
+    | inl r ↦ subst (λ (k : Kind). field ≡ kind_text k) (some_is Read kind (rw (f, r) at e))
+        (word_is field (codes "r") r)
     | inr r ↦
         let w = guarded (bytes_eq field (codes "w")) (Some Write) kind (rw (f, r) at e) in
         subst (λ (k : Kind). field ≡ kind_text k) (some_is Write kind w.1) (word_is field (codes "w") w.0)
@@ -90,7 +94,8 @@ narrow_access version kind bytes addr value smm narrow same_size small fits =
       record {
         addr = small;
         value = subst (λ (n : ℕ). FitsBytes (is_write kind) n value) (sym same_size) fits;
-        aligned = λ second. subst (λ (n : ℕ). addr % n ≡ 0) (sym same_size) (aligned_if version bytes addr narrow second);
+        aligned = λ second. subst (λ (n : ℕ). addr % n ≡ 0) (sym same_size)
+            (aligned_if version bytes addr narrow second);
       },
     )
 
@@ -181,12 +186,14 @@ write_read version (size ∷ addr ∷ value ∷ flags) event e =
     subst (λ (x : Event). IsRead version (codes "w" ∷ size ∷ addr ∷ value ∷ flags) x) (some_is _ event s.2)
     (record {
       texts = codes "w" ∷ size_text b.0 ∷ hex_number 4 a.0 ∷ hex_number b.0 v.0 ∷ smm_words s.0;
-      reads = (same (codes "w"), (same_as size (size_text b.0) size_is.0, (addr_is.0, (value_is.0, smm_read flags s.0 s.1))));
+      reads = (same (codes "w"),
+          (same_as size (size_text b.0) size_is.0, (addr_is.0, (value_is.0, smm_read flags s.0 s.1))));
       joined = write_joined (codes "w") (size_text b.0) (hex_number 4 a.0) (hex_number b.0 v.0) s.0 ∙ access.0;
       form = access.1;
     })
 
-in_read : (version : ℕ) (words : List (List ℕ)) (event : Event) → parse_in words ≡ Some event → IsRead version (codes "in" ∷ words) event
+in_read : (version : ℕ) (words : List (List ℕ)) (event : Event) → parse_in words ≡ Some event
+    → IsRead version (codes "in" ∷ words) event
 unfolding parse_in event_text
 in_read version [] event e = absurd cc
 in_read version (_ ∷ []) event e = absurd cc
@@ -203,7 +210,8 @@ in_read version (width ∷ port ∷ []) event e =
     })
 in_read version (_ ∷ _ ∷ _ ∷ _) event e = absurd cc
 
-out_read : (version : ℕ) (words : List (List ℕ)) (event : Event) → parse_out words ≡ Some event → IsRead version (codes "out" ∷ words) event
+out_read : (version : ℕ) (words : List (List ℕ)) (event : Event) → parse_out words ≡ Some event
+    → IsRead version (codes "out" ∷ words) event
 unfolding parse_out event_text
 out_read version [] event e = absurd cc
 out_read version (_ ∷ []) event e = absurd cc
@@ -217,13 +225,15 @@ out_read version (width ∷ port ∷ value ∷ []) event e =
     subst (λ (x : Event). IsRead version (codes "out" ∷ width ∷ port ∷ value ∷ []) x) (some_is _ event v.2)
     (record {
       texts = codes "out" ∷ width_text w.0 ∷ hex_number 2 p.0 ∷ hex_number (bytes_of w.0) v.0 ∷ [];
-      reads = (same (codes "out"), (same_as width (width_text w.0) (width_read width w.0 w.1), (port_is.0, (value_is.0, tt))));
+      reads = (same (codes "out"),
+          (same_as width (width_text w.0) (width_read width w.0 w.1), (port_is.0, (value_is.0, tt))));
       joined = out_joined (codes "out") (width_text w.0) (hex_number 2 p.0) (hex_number (bytes_of w.0) v.0);
       form = record { port = omega (arith, port_is.1); value = value_is.1 };
     })
 out_read version (_ ∷ _ ∷ _ ∷ _ ∷ _) event e = absurd cc
 
-look_read : (version : ℕ) (words : List (List ℕ)) (event : Event) → parse_look words ≡ Some event → IsRead version (codes "look" ∷ words) event
+look_read : (version : ℕ) (words : List (List ℕ)) (event : Event) → parse_look words ≡ Some event
+    → IsRead version (codes "look" ∷ words) event
 unfolding parse_look event_text
 look_read version [] event e = absurd cc
 look_read version (_ ∷ []) event e = absurd cc
@@ -235,12 +245,14 @@ look_read version (kind ∷ addr ∷ flags) event e =
     subst (λ (x : Event). IsRead version (codes "look" ∷ kind ∷ addr ∷ flags) x) (some_is _ event s.2)
     (record {
       texts = codes "look" ∷ kind_text k.0 ∷ hex_number 4 a.0 ∷ smm_words s.0;
-      reads = (same (codes "look"), (same_as kind (kind_text k.0) (kind_read kind k.0 k.1), (addr_is.0, smm_read flags s.0 s.1)));
+      reads = (same (codes "look"),
+          (same_as kind (kind_text k.0) (kind_read kind k.0 k.1), (addr_is.0, smm_read flags s.0 s.1)));
       joined = look_joined (kind_text k.0) (hex_number 4 a.0) s.0;
       form = omega (arith, addr_is.1);
     })
 
-ack_read : (version : ℕ) (words : List (List ℕ)) (event : Event) → parse_ack words ≡ Some event → IsRead version (codes "ack" ∷ words) event
+ack_read : (version : ℕ) (words : List (List ℕ)) (event : Event) → parse_ack words ≡ Some event
+    → IsRead version (codes "ack" ∷ words) event
 unfolding parse_ack event_text
 ack_read version [] event e =
     subst (λ (x : Event). IsRead version (codes "ack" ∷ []) x) (some_is Ack event e)
@@ -254,25 +266,30 @@ number_read [] n e = absurd cc
 number_read (field ∷ []) n e = let d = decimal_read field n e in (ap (λ (f : List ℕ). f ∷ []) d.0, d.1)
 number_read (_ ∷ _ ∷ _) n e = absurd cc
 
-number_spelled : (word : List ℕ) (words : List (List ℕ)) (n : ℕ) → words ≡ decimal n ∷ [] → Reads (word ∷ words) (word ∷ decimal n ∷ [])
+number_spelled : (word : List ℕ) (words : List (List ℕ)) (n : ℕ) → words ≡ decimal n ∷ []
+    → Reads (word ∷ words) (word ∷ decimal n ∷ [])
 number_spelled word words n is =
     subst (λ (w : List (List ℕ)). Reads (word ∷ w) (word ∷ decimal n ∷ [])) (sym is) (same word, (same (decimal n), tt))
 
-pulses_read : (version : ℕ) (words : List (List ℕ)) (event : Event) → parse_pulses words ≡ Some event → IsRead version (codes "pulse" ∷ words) event
+pulses_read : (version : ℕ) (words : List (List ℕ)) (event : Event) → parse_pulses words ≡ Some event
+    → IsRead version (codes "pulse" ∷ words) event
 unfolding event_text
 pulses_read version words event e =
     let n = then_said (parse_number words) _ event e in
     let d = number_read words n.0 n.1 in
     subst (λ (x : Event). IsRead version (codes "pulse" ∷ words) x) (some_is _ event n.2)
-    (record { texts = codes "pulse" ∷ decimal n.0 ∷ []; reads = number_spelled (codes "pulse") words n.0 d.0; joined = refl; form = d.1 })
+    (record { texts = codes "pulse" ∷ decimal n.0 ∷ []; reads = number_spelled (codes "pulse") words n.0 d.0; joined =
+        refl; form = d.1 })
 
-sector_read : (version : ℕ) (words : List (List ℕ)) (event : Event) → parse_bad_sector words ≡ Some event → IsRead version (codes "bad" ∷ words) event
+sector_read : (version : ℕ) (words : List (List ℕ)) (event : Event) → parse_bad_sector words ≡ Some event
+    → IsRead version (codes "bad" ∷ words) event
 unfolding event_text
 sector_read version words event e =
     let n = then_said (parse_number words) _ event e in
     let d = number_read words n.0 n.1 in
     subst (λ (x : Event). IsRead version (codes "bad" ∷ words) x) (some_is _ event n.2)
-    (record { texts = codes "bad" ∷ decimal n.0 ∷ []; reads = number_spelled (codes "bad") words n.0 d.0; joined = refl; form = d.1 })
+    (record { texts = codes "bad" ∷ decimal n.0 ∷ []; reads = number_spelled (codes "bad") words n.0 d.0; joined = refl;
+        form = d.1 })
 
 -- a verb that is this word
 of_verb : (version : ℕ) (verb word : List ℕ) (words : List (List ℕ)) (event : Event) → bytes_eq verb word ≡ true
@@ -280,7 +297,8 @@ of_verb : (version : ℕ) (verb word : List ℕ) (words : List (List ℕ)) (even
 of_verb version verb word words event is read =
     subst (λ (v : List ℕ). IsRead version (v ∷ words) event) (sym (word_is verb word is)) read
 
-pub event_read : (version : ℕ) (verb : List ℕ) (words : List (List ℕ)) (event : Event) → parse_event version verb words ≡ Some event
+pub event_read : (version : ℕ) (verb : List ℕ) (words : List (List ℕ)) (event : Event)
+    → parse_event version verb words ≡ Some event
     → IsRead version (verb ∷ words) event
 unfolding parse_event
 event_read version verb words event e = elim (cases_Bool (bytes_eq verb (codes "r"))) [
@@ -292,17 +310,21 @@ event_read version verb words event e = elim (cases_Bool (bytes_eq verb (codes "
       | inr w ↦ elim (cases_Bool (bytes_eq verb (codes "in"))) [
         | inl i ↦ of_verb version verb (codes "in") words event i (in_read version words event (rw (r, f, w, i) at e))
         | inr i ↦ elim (cases_Bool (bytes_eq verb (codes "out"))) [
-          | inl o ↦ of_verb version verb (codes "out") words event o (out_read version words event (rw (r, f, w, i, o) at e))
+          | inl o ↦ of_verb version verb (codes "out") words event o
+              (out_read version words event (rw (r, f, w, i, o) at e))
           | inr o ↦ elim (cases_Bool (bytes_eq verb (codes "look"))) [
-            | inl l ↦ of_verb version verb (codes "look") words event l (look_read version words event (rw (r, f, w, i, o, l) at e))
+            | inl l ↦ of_verb version verb (codes "look") words event l
+                (look_read version words event (rw (r, f, w, i, o, l) at e))
             | inr l ↦ elim (cases_Bool (bytes_eq verb (codes "ack"))) [
-              | inl a ↦ of_verb version verb (codes "ack") words event a (ack_read version words event (rw (r, f, w, i, o, l, a) at e))
+              | inl a ↦ of_verb version verb (codes "ack") words event a
+                  (ack_read version words event (rw (r, f, w, i, o, l, a) at e))
               | inr a ↦ elim (cases_Bool (bytes_eq verb (codes "pulse"))) [
                 | inl p ↦
                     of_verb version verb (codes "pulse") words event p
                     (pulses_read version words event (rw (r, f, w, i, o, l, a, p) at e))
                 | inr p ↦
-                    let b = guarded (bytes_eq verb (codes "bad")) (parse_bad_sector words) event (rw (r, f, w, i, o, l, a, p) at e) in
+                    let b = guarded (bytes_eq verb (codes "bad")) (parse_bad_sector words) event
+                        (rw (r, f, w, i, o, l, a, p) at e) in
                     of_verb version verb (codes "bad") words event b.0 (sector_read version words event b.1)
               ]
             ]

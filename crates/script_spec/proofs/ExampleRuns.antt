@@ -19,14 +19,20 @@ is_bad bytes line why e = subst (AreJudged (lines_of bytes)) e (judged_is (lines
 -- ---- bad texts
 
 each_bad : (texts : List BadText) →
-    map (λ text. judge (text_of_lines text.lines)) texts ≡ map (λ text. Err (text.line, text.why)) texts → All IsBadText texts
+    map (λ text. judge (text_of_lines text.lines)) texts ≡ map (λ text. Err (text.line, text.why)) texts
+        → All IsBadText texts
 each_bad [] e = All-nil IsBadText
 each_bad (text ∷ texts) e =
     All-cons IsBadText text texts (is_bad (text_of_lines text.lines) text.line text.why (same_head _ _ _ _ e))
     (each_bad texts (same_tail _ _ _ _ e))
 
 pub are_bad : AreBad
-unfolding AreBad bad_texts lines_of digits judged_lines number_after parse_two_digits after_mark parse_moment_part parse_year parse_date parse_time whole_moment parse_moment parse_base parse_rom_bits with_base with_rom with_field with_fields parse_card parse_smm memory_event parse_read parse_write parse_in parse_out parse_look parse_ack parse_number parse_event parse_two_numbers parse_only_moment parse_time_item parse_wire_item parse_line_item parse_event_item parse_by_verb parse_statement_words is_name parse_name parse_phase parse_statement parse_by_key parse_item least_reason weekday_of days_since_1980 days_of_years days_of_months
+unfolding AreBad bad_texts lines_of digits judged_lines number_after parse_two_digits after_mark parse_moment_part
+    parse_year parse_date parse_time whole_moment parse_moment parse_base parse_rom_bits with_base with_rom with_field
+    with_fields parse_card parse_smm memory_event parse_read parse_write parse_in parse_out parse_look parse_ack
+    parse_number parse_event parse_two_numbers parse_only_moment parse_time_item parse_wire_item parse_line_item
+    parse_event_item parse_by_verb parse_statement_words is_name parse_name parse_phase parse_statement parse_by_key
+    parse_item least_reason weekday_of days_since_1980 days_of_years days_of_months
 are_bad = each_bad bad_texts refl
 
 -- ---- the numbers of a script
@@ -55,7 +61,12 @@ each_bound (row ∷ rows) good bad =
     (each_bound rows (same_tail _ _ _ _ good) (same_tail _ _ _ _ bad))
 
 pub are_bounds : AreBounds
-unfolding AreBounds bounds lines_of digits judged_lines number_after parse_two_digits after_mark parse_moment_part parse_year parse_date parse_time whole_moment parse_moment parse_base parse_rom_bits with_base with_rom with_field with_fields parse_card parse_smm memory_event parse_read parse_write parse_in parse_out parse_look parse_ack parse_number parse_event parse_two_numbers parse_only_moment parse_time_item parse_wire_item parse_line_item parse_event_item parse_by_verb parse_statement_words is_name parse_name parse_phase parse_statement parse_by_key parse_item least_reason weekday_of days_since_1980 days_of_years days_of_months
+unfolding AreBounds bounds lines_of digits judged_lines number_after parse_two_digits after_mark parse_moment_part
+    parse_year parse_date parse_time whole_moment parse_moment parse_base parse_rom_bits with_base with_rom with_field
+    with_fields parse_card parse_smm memory_event parse_read parse_write parse_in parse_out parse_look parse_ack
+    parse_number parse_event parse_two_numbers parse_only_moment parse_time_item parse_wire_item parse_line_item
+    parse_event_item parse_by_verb parse_statement_words is_name parse_name parse_phase parse_statement parse_by_key
+    parse_item least_reason weekday_of days_since_1980 days_of_years days_of_months
 are_bounds = each_bound bounds refl refl
 
 -- ---- good texts
@@ -69,7 +80,8 @@ version_in (Ok found) = found.0
 version_in (Err end) = 0
 
 judged_so : (bytes : List ℕ) (script : Script) (result : Judged) → AreJudged (lines_of bytes) result →
-    is_good result ≡ true → version_in result ≡ script.version → IsSaidBy script (items_in result) → IsScriptText bytes script
+    is_good result ≡ true → version_in result ≡ script.version → IsSaidBy script (items_in result)
+        → IsScriptText bytes script
 judged_so bytes script (Ok found) good e same said = record {
   version = rw (← same) good.known;
   later = good.later;
@@ -86,7 +98,12 @@ says : (bytes : List ℕ) (script : Script) → is_good (judge bytes) ≡ true �
 says bytes script = judged_so bytes script (judge bytes) (judged_is (lines_of bytes))
 
 pub two_processors : TwoProcessors
-unfolding TwoProcessors lines_of digits judged_lines number_after parse_two_digits after_mark parse_moment_part parse_year parse_date parse_time whole_moment parse_moment parse_base parse_rom_bits with_base with_rom with_field with_fields parse_card parse_smm memory_event parse_read parse_write parse_in parse_out parse_look parse_ack parse_number parse_event parse_two_numbers parse_only_moment parse_time_item parse_wire_item parse_line_item parse_event_item parse_by_verb parse_statement_words is_name parse_name parse_phase parse_statement parse_by_key parse_item least_reason
+unfolding TwoProcessors lines_of digits judged_lines number_after parse_two_digits after_mark parse_moment_part
+    parse_year parse_date parse_time whole_moment parse_moment parse_base parse_rom_bits with_base with_rom with_field
+    with_fields parse_card parse_smm memory_event parse_read parse_write parse_in parse_out parse_look parse_ack
+    parse_number parse_event parse_two_numbers parse_only_moment parse_time_item parse_wire_item parse_line_item
+    parse_event_item parse_by_verb parse_statement_words is_name parse_name parse_phase parse_statement parse_by_key
+    parse_item least_reason
 two_processors =
     says _ _ refl refl (record {
       cpus = refl;
@@ -94,12 +111,18 @@ two_processors =
       rom = refl;
       disk = refl;
       cards = IsPermutation-refl _;
-      rises = (All-cons (λ other. 2 < other.dev) _ [] (omega arith) (All-nil (λ other. 2 < other.dev)), (All-nil (λ other. 3 < other.dev), tt));
+      rises = (All-cons (λ other. 2 < other.dev) _ [] (omega arith) (All-nil (λ other. 2 < other.dev)),
+          (All-nil (λ other. 3 < other.dev), tt));
       phases = refl;
     })
 
 pub two_orders : TwoOrders
-unfolding TwoOrders lines_of digits judged_lines number_after parse_two_digits after_mark parse_moment_part parse_year parse_date parse_time whole_moment parse_moment parse_base parse_rom_bits with_base with_rom with_field with_fields parse_card parse_smm memory_event parse_read parse_write parse_in parse_out parse_look parse_ack parse_number parse_event parse_two_numbers parse_only_moment parse_time_item parse_wire_item parse_line_item parse_event_item parse_by_verb parse_statement_words is_name parse_name parse_phase parse_statement parse_by_key parse_item least_reason
+unfolding TwoOrders lines_of digits judged_lines number_after parse_two_digits after_mark parse_moment_part parse_year
+    parse_date parse_time whole_moment parse_moment parse_base parse_rom_bits with_base with_rom with_field with_fields
+    parse_card parse_smm memory_event parse_read parse_write parse_in parse_out parse_look parse_ack parse_number
+    parse_event parse_two_numbers parse_only_moment parse_time_item parse_wire_item parse_line_item parse_event_item
+    parse_by_verb parse_statement_words is_name parse_name parse_phase parse_statement parse_by_key parse_item
+    least_reason
 two_orders =
     says _ _ refl refl (record {
       cpus = refl;
@@ -112,7 +135,12 @@ two_orders =
     })
 
 pub wide_script : WideScript
-unfolding WideScript lines_of digits judged_lines number_after parse_two_digits after_mark parse_moment_part parse_year parse_date parse_time whole_moment parse_moment parse_base parse_rom_bits with_base with_rom with_field with_fields parse_card parse_smm memory_event parse_read parse_write parse_in parse_out parse_look parse_ack parse_number parse_event parse_two_numbers parse_only_moment parse_time_item parse_wire_item parse_line_item parse_event_item parse_by_verb parse_statement_words is_name parse_name parse_phase parse_statement parse_by_key parse_item least_reason
+unfolding WideScript lines_of digits judged_lines number_after parse_two_digits after_mark parse_moment_part parse_year
+    parse_date parse_time whole_moment parse_moment parse_base parse_rom_bits with_base with_rom with_field with_fields
+    parse_card parse_smm memory_event parse_read parse_write parse_in parse_out parse_look parse_ack parse_number
+    parse_event parse_two_numbers parse_only_moment parse_time_item parse_wire_item parse_line_item parse_event_item
+    parse_by_verb parse_statement_words is_name parse_name parse_phase parse_statement parse_by_key parse_item
+    least_reason
 wide_script =
     says _ _ refl refl (record {
       cpus = refl;

@@ -9,7 +9,8 @@ use Rattle.script_spec.proofs.Joins.{word_is}
 use Rattle.script_spec.proofs.NumberBack.{is_plain}
 
 -- what passes one test passes another
-all_so : (p q : ℕ → Bool) → ((b : ℕ) → p b ≡ true → q b ≡ true) → (bytes : List ℕ) → list_all p bytes ≡ true → list_all q bytes ≡ true
+all_so : (p q : ℕ → Bool) → ((b : ℕ) → p b ≡ true → q b ≡ true) → (bytes : List ℕ) → list_all p bytes ≡ true
+    → list_all q bytes ≡ true
 all_so p q so [] each = refl
 all_so p q so (c ∷ cs) each =
     let parts = and_parts (p c) (list_all p cs) each in
@@ -39,9 +40,11 @@ is_stamp_byte byte = is_within 0x2D 0x3A byte || eqb byte 0x54
 digit_stamp : (d : ℕ) → d < 10 → is_stamp_byte (0x30 + d) ≡ true
 digit_stamp d small =
     or_left (is_within 0x2D 0x3A (0x30 + d)) _
-    (and_from (leb 0x2D (0x30 + d)) (leb (0x30 + d) 0x3A) (le-leb 0x2D (0x30 + d) (omega arith)) (le-leb (0x30 + d) 0x3A (omega arith)))
+    (and_from (leb 0x2D (0x30 + d)) (leb (0x30 + d) 0x3A) (le-leb 0x2D (0x30 + d) (omega arith))
+        (le-leb (0x30 + d) 0x3A (omega arith)))
 
-two_stamps : (n : ℕ) (rest : List ℕ) → list_all is_stamp_byte rest ≡ true → list_all is_stamp_byte (two_digits n ++ rest) ≡ true
+two_stamps : (n : ℕ) (rest : List ℕ) → list_all is_stamp_byte rest ≡ true
+    → list_all is_stamp_byte (two_digits n ++ rest) ≡ true
 two_stamps n rest each =
     and_from (is_stamp_byte (0x30 + n / 10 % 10)) _ (digit_stamp (n / 10 % 10) (omega arith))
     (and_from (is_stamp_byte (0x30 + n % 10)) (list_all is_stamp_byte rest) (digit_stamp (n % 10) (omega arith)) each)
@@ -60,7 +63,8 @@ moment_stamp moment =
 
 pub lacks_moment : (moment : Moment) → lacks space (moment_text moment) ≡ true
 lacks_moment moment =
-    all_so is_stamp_byte (λ b. not (eqb b space)) (no_space is_stamp_byte refl) (moment_text moment) (moment_stamp moment)
+    all_so is_stamp_byte (λ b. not (eqb b space)) (no_space is_stamp_byte refl) (moment_text moment)
+        (moment_stamp moment)
 
 stamp_plain : (b : ℕ) → is_stamp_byte b ≡ true → not (is_within 0x41 0x46 b) ≡ true
 stamp_plain b stamp = elim (or_cases (is_within 0x2D 0x3A b) (eqb b 0x54) stamp) [

@@ -14,7 +14,8 @@ use Rattle.script_spec.proofs.SetupBack.{IsLineBack, exact_back, cpus_back, memo
 -- ---- statements
 
 -- a line that begins with a number is a statement's
-pub number_first : (version n : ℕ) (words : List (List ℕ)) (item : Item) → IsDecimal n → parse_statement_words version n words ≡ Some item
+pub number_first : (version n : ℕ) (words : List (List ℕ)) (item : Item) → IsDecimal n
+    → parse_statement_words version n words ≡ Some item
     → parse_item version (decimal n ∷ words) ≡ Some item
 unfolding parse_item parse_by_key parse_statement
 number_first version n words item small read =
@@ -28,7 +29,8 @@ number_first version n words item small read =
       decimal_back n small,
     ) read
 
-statement_fields : (version n : ℕ) (event : Event) (fields : List (List ℕ)) → IsDecimal n → (back : IsReadBack version n event)
+statement_fields : (version n : ℕ) (event : Event) (fields : List (List ℕ)) → IsDecimal n
+    → (back : IsReadBack version n event)
     → Reads fields (decimal n ∷ back.verb ∷ back.words) → parse_item version fields ≡ Some (ask n event)
 statement_fields version n event [] small back reads = absurd reads
 statement_fields version n event (key ∷ words) small back reads =
@@ -46,10 +48,12 @@ statement_back version n event line small back spells =
 
 -- a level that is neither 0 nor 1
 wire_high : (n dev level : ℕ) → 2 ≤ level → wire_item n dev level ≡ AskLevel n (codes "wire") dev level
-wire_high n dev level high = rw (ne_eqb level 0 (λ is. let none : ⊥ = omega (arith, high, is) in none), ne_eqb level 1 (λ is. let none : ⊥ = omega (arith, high, is) in none)) refl
+wire_high n dev level high = rw (ne_eqb level 0 (λ is. let none : ⊥ = omega (arith, high, is) in none),
+    ne_eqb level 1 (λ is. let none : ⊥ = omega (arith, high, is) in none)) refl
 
 line_high : (n irq level : ℕ) → 2 ≤ level → line_item n irq level ≡ AskLevel n (codes "irq") irq level
-line_high n irq level high = rw (ne_eqb level 0 (λ is. let none : ⊥ = omega (arith, high, is) in none), ne_eqb level 1 (λ is. let none : ⊥ = omega (arith, high, is) in none)) refl
+line_high n irq level high = rw (ne_eqb level 0 (λ is. let none : ⊥ = omega (arith, high, is) in none),
+    ne_eqb level 1 (λ is. let none : ⊥ = omega (arith, high, is) in none)) refl
 
 level_words : (version n : ℕ) (verb : List ℕ) (number level : ℕ) → IsLevelForm n verb number level
     → parse_statement_words version n (verb ∷ decimal number ∷ decimal level ∷ []) ≡ Some (AskLevel n verb number level)
@@ -74,11 +78,13 @@ level_back version n verb number level line form is =
     exact_back version line (decimal n) (verb ∷ decimal number ∷ decimal level ∷ []) (AskLevel n verb number level)
     (is ∙ sym (level_joined (decimal n) verb (decimal number) (decimal level)))
     (lacks_decimal n, (lacks_verb verb form.what, (lacks_decimal number, (lacks_decimal level, tt))))
-    (number_first version n (verb ∷ decimal number ∷ decimal level ∷ []) _ form.who (level_words version n verb number level form))
+    (number_first version n (verb ∷ decimal number ∷ decimal level ∷ []) _ form.who
+        (level_words version n verb number level form))
 
 -- ---- all lines
 
-item_back : (version : ℕ) (line : List ℕ) (item : Item) → IsForm version item → Says line item → IsLineBack version line item
+item_back : (version : ℕ) (line : List ℕ) (item : Item) → IsForm version item → Says line item
+    → IsLineBack version line item
 unfolding item_text
 item_back version line (SetCpus count) form says = cpus_back version count line form says
 item_back version line (SetMemory mib) form says = memory_back version mib line form says
@@ -87,8 +93,10 @@ item_back version line (SetDisk name) form says = disk_back version name line fo
 item_back version line (FitCard card) form says = card_back version card line form says
 item_back version line BeginPhase form says = phase_back version line says
 item_back version line (Ask statement) form says =
-    statement_back version statement.actor statement.event line form.0 (event_back version statement.actor statement.event form.1) says
-item_back version line (AskLevel actor verb number level) form says = level_back version actor verb number level line form says
+    statement_back version statement.actor statement.event line form.0
+        (event_back version statement.actor statement.event form.1) says
+item_back version line (AskLevel actor verb number level) form says = level_back version actor verb number level line
+    form says
 
 -- a line that has a form is read as the item that it says
 pub line_back : (version : ℕ) (line : List ℕ) (item : Item) → HasForm version line item → IsLineBack version line item

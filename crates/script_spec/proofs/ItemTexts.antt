@@ -68,7 +68,8 @@ two_read (first ∷ second ∷ []) p e =
     let b = then_said (parse_decimal second) _ p a.2 in
     let first_is = decimal_read first a.0 a.1 in
     let second_is = decimal_read second b.0 b.1 in
-    subst (λ (p : ℕ × ℕ). (first ∷ second ∷ [] ≡ decimal p.0 ∷ decimal p.1 ∷ []) × (IsDecimal p.0 × IsDecimal p.1)) (some_is (a.0, b.0) p b.2)
+    subst (λ (p : ℕ × ℕ). (first ∷ second ∷ [] ≡ decimal p.0 ∷ decimal p.1 ∷ []) × (IsDecimal p.0 × IsDecimal p.1))
+        (some_is (a.0, b.0) p b.2)
     ((λ i. first_is.0 i ∷ second_is.0 i ∷ []), (first_is.1, second_is.1))
 two_read (_ ∷ _ ∷ _ ∷ _) p e = absurd cc
 
@@ -100,7 +101,8 @@ one_text = decimal-digits_value own (49 ∷ []) (lit< tt, tt) (lit< tt) (λ _. r
 
 -- an event with a level, spelled by its verb, a number and the level
 level_read : (version number : ℕ) (verb : List ℕ) (on : Bool) (event : Event) → IsEventForm version event
-    → event_text event ≡ line (verb ∷ decimal number ∷ level_text on ∷ []) → IsRead version (verb ∷ decimal number ∷ level_text on ∷ []) event
+    → event_text event ≡ line (verb ∷ decimal number ∷ level_text on ∷ [])
+    → IsRead version (verb ∷ decimal number ∷ level_text on ∷ []) event
 level_read version number verb on event form is = record {
   texts = verb ∷ decimal number ∷ level_text on ∷ [];
   reads = (same verb, (same (decimal number), (same (level_text on), tt)));
@@ -108,11 +110,13 @@ level_read version number verb on event form is = record {
   form = form;
 }
 
-wire_read : (version dev : ℕ) (on : Bool) → IsDecimal dev → IsRead version (codes "wire" ∷ decimal dev ∷ level_text on ∷ []) (Wire dev on)
+wire_read : (version dev : ℕ) (on : Bool) → IsDecimal dev
+    → IsRead version (codes "wire" ∷ decimal dev ∷ level_text on ∷ []) (Wire dev on)
 unfolding event_text
 wire_read version dev on small = level_read version dev (codes "wire") on (Wire dev on) small refl
 
-irq_read : (version irq : ℕ) (on : Bool) → IsDecimal irq → IsRead version (codes "irq" ∷ decimal irq ∷ level_text on ∷ []) (Line irq on)
+irq_read : (version irq : ℕ) (on : Bool) → IsDecimal irq
+    → IsRead version (codes "irq" ∷ decimal irq ∷ level_text on ∷ []) (Line irq on)
 unfolding event_text
 irq_read version irq on small = level_read version irq (codes "irq") on (Line irq on) small refl
 
@@ -127,9 +131,11 @@ level_item verb event actor number level =
     if level == 0 then ask actor (event number false) else
     if level == 1 then ask actor (event number true) else AskLevel actor verb number level
 
-level_asked : (version n number level : ℕ) (actor verb : List ℕ) (event : ℕ → Bool → Event) → parse_decimal actor ≡ Some n
+level_asked : (version n number level : ℕ) (actor verb : List ℕ) (event : ℕ → Bool → Event)
+    → parse_decimal actor ≡ Some n
     → (verb ≡ codes "wire") ⊎ (verb ≡ codes "irq")
-    → ((on : Bool) → IsRead version (verb ∷ decimal number ∷ level_text on ∷ []) (event number on)) → IsDecimal number → IsDecimal level
+    → ((on : Bool) → IsRead version (verb ∷ decimal number ∷ level_text on ∷ []) (event number on)) → IsDecimal number
+    → IsDecimal level
     → HasForm version (line (actor ∷ verb ∷ decimal number ∷ decimal level ∷ [])) (level_item verb event n number level)
 level_asked version n number level actor verb event d known read small few = elim (cases_Bool (eqb level 0)) [
   | inl off ↦
@@ -143,16 +149,19 @@ level_asked version n number level actor verb event d known read small few = eli
   ]
 ]
 
-level_asks : (version n : ℕ) (actor verb : List ℕ) (event : ℕ → Bool → Event) (words : List (List ℕ)) (item : Item) → parse_decimal actor ≡ Some n
+level_asks : (version n : ℕ) (actor verb : List ℕ) (event : ℕ → Bool → Event) (words : List (List ℕ)) (item : Item)
+    → parse_decimal actor ≡ Some n
     → (verb ≡ codes "wire") ⊎ (verb ≡ codes "irq")
-    → ((number : ℕ) (on : Bool) → IsDecimal number → IsRead version (verb ∷ decimal number ∷ level_text on ∷ []) (event number on))
+    → ((number : ℕ) (on : Bool) → IsDecimal number
+    → IsRead version (verb ∷ decimal number ∷ level_text on ∷ []) (event number on))
     → option_map (λ p. level_item verb event n p.0 p.1) (parse_two_numbers words) ≡ Some item
     → HasForm version (line (actor ∷ verb ∷ words)) item
 level_asks version n actor verb event words item d known read e =
     let p = mapped (parse_two_numbers words) _ item e in
     let two = two_read words p.0 p.1 in
     subst (HasForm version (line (actor ∷ verb ∷ words))) (sym p.2)
-    (subst (λ (w : List (List ℕ)). HasForm version (line (actor ∷ verb ∷ w)) (level_item verb event n p.0.0 p.0.1)) (sym two.0)
+    (subst (λ (w : List (List ℕ)). HasForm version (line (actor ∷ verb ∷ w)) (level_item verb event n p.0.0 p.0.1))
+        (sym two.0)
     (level_asked version n p.0.0 p.0.1 actor verb event d known (λ on. read p.0.0 on two.1.0) two.1.0 two.1.1))
 
 wire_asks : (version n : ℕ) (actor : List ℕ) (words : List (List ℕ)) (item : Item) → parse_decimal actor ≡ Some n
@@ -185,17 +194,21 @@ asked_read : (version n : ℕ) (actor verb : List ℕ) (words : List (List ℕ))
     → parse_by_verb version n verb words ≡ Some item → HasForm version (line (actor ∷ verb ∷ words)) item
 unfolding parse_by_verb
 asked_read version n actor verb words item d e = elim (cases_Bool (bytes_eq verb (codes "moment"))) [
-  | inl m ↦ of_verb version actor verb (codes "moment") words item m (moment_item version n actor words item d (rw m at e))
+  | inl m ↦ of_verb version actor verb (codes "moment") words item m
+      (moment_item version n actor words item d (rw m at e))
   | inr m ↦ elim (cases_Bool (bytes_eq verb (codes "wire"))) [
-    | inl w ↦ of_verb version actor verb (codes "wire") words item w (wire_asks version n actor words item d (rw (m, w) at e))
+    | inl w ↦ of_verb version actor verb (codes "wire") words item w
+        (wire_asks version n actor words item d (rw (m, w) at e))
     | inr w ↦ elim (cases_Bool (bytes_eq verb (codes "irq"))) [
-      | inl i ↦ of_verb version actor verb (codes "irq") words item i (line_asks version n actor words item d (rw (m, w, i) at e))
+      | inl i ↦ of_verb version actor verb (codes "irq") words item i
+          (line_asks version n actor words item d (rw (m, w, i) at e))
       | inr i ↦ event_asks version n actor verb words item d (rw (m, w, i) at e)
     ]
   ]
 ]
 
-statement_read : (version : ℕ) (actor : List ℕ) (words : List (List ℕ)) (item : Item) → parse_statement version actor words ≡ Some item
+statement_read : (version : ℕ) (actor : List ℕ) (words : List (List ℕ)) (item : Item)
+    → parse_statement version actor words ≡ Some item
     → HasForm version (line (actor ∷ words)) item
 unfolding parse_statement parse_statement_words
 statement_read version actor [] item e =
@@ -206,7 +219,8 @@ statement_read version actor (verb ∷ words) item e =
 
 -- ---- names
 
-first_start : (first : ℕ) (rest : List ℕ) → is_name_start first ≡ true → list_all is_name_start (take 1 (first ∷ rest)) ≡ true
+first_start : (first : ℕ) (rest : List ℕ) → is_name_start first ≡ true
+    → list_all is_name_start (take 1 (first ∷ rest)) ≡ true
 first_start first rest e = rw e refl
 
 name_is : (name : List ℕ) → is_name name ≡ true → IsName name
@@ -247,16 +261,19 @@ cpus_read version words item e =
     let m = mapped (parse_number words) SetCpus item e in
     let n = number_read words m.0 m.1 in
     subst (HasForm version (line (codes "cpus" ∷ words))) (sym m.2)
-    (subst (λ (w : List (List ℕ)). HasForm version (line (codes "cpus" ∷ w)) (SetCpus m.0)) (sym n.0) (record { form = n.1; says = refl }))
+    (subst (λ (w : List (List ℕ)). HasForm version (line (codes "cpus" ∷ w)) (SetCpus m.0)) (sym n.0)
+        (record { form = n.1; says = refl }))
 
-memory_read : (version : ℕ) (words : List (List ℕ)) (item : Item) → option_map SetMemory (parse_number words) ≡ Some item
+memory_read : (version : ℕ) (words : List (List ℕ)) (item : Item)
+    → option_map SetMemory (parse_number words) ≡ Some item
     → HasForm version (line (codes "memory" ∷ words)) item
 unfolding item_text
 memory_read version words item e =
     let m = mapped (parse_number words) SetMemory item e in
     let n = number_read words m.0 m.1 in
     subst (HasForm version (line (codes "memory" ∷ words))) (sym m.2)
-    (subst (λ (w : List (List ℕ)). HasForm version (line (codes "memory" ∷ w)) (SetMemory m.0)) (sym n.0) (record { form = n.1; says = refl }))
+    (subst (λ (w : List (List ℕ)). HasForm version (line (codes "memory" ∷ w)) (SetMemory m.0)) (sym n.0)
+        (record { form = n.1; says = refl }))
 
 rom_read : (version : ℕ) (words : List (List ℕ)) (item : Item) → option_map SetRom (parse_name words) ≡ Some item
     → HasForm version (line (codes "rom" ∷ words)) item
@@ -265,7 +282,8 @@ rom_read version words item e =
     let m = mapped (parse_name words) SetRom item e in
     let n = name_read words m.0 m.1 in
     subst (HasForm version (line (codes "rom" ∷ words))) (sym m.2)
-    (subst (λ (w : List (List ℕ)). HasForm version (line (codes "rom" ∷ w)) (SetRom m.0)) (sym n.0) (record { form = n.1; says = refl }))
+    (subst (λ (w : List (List ℕ)). HasForm version (line (codes "rom" ∷ w)) (SetRom m.0)) (sym n.0)
+        (record { form = n.1; says = refl }))
 
 disk_read : (version : ℕ) (words : List (List ℕ)) (item : Item) → option_map SetDisk (parse_name words) ≡ Some item
     → HasForm version (line (codes "disk" ∷ words)) item
@@ -274,9 +292,11 @@ disk_read version words item e =
     let m = mapped (parse_name words) SetDisk item e in
     let n = name_read words m.0 m.1 in
     subst (HasForm version (line (codes "disk" ∷ words))) (sym m.2)
-    (subst (λ (w : List (List ℕ)). HasForm version (line (codes "disk" ∷ w)) (SetDisk m.0)) (sym n.0) (record { form = n.1; says = refl }))
+    (subst (λ (w : List (List ℕ)). HasForm version (line (codes "disk" ∷ w)) (SetDisk m.0)) (sym n.0)
+        (record { form = n.1; says = refl }))
 
-fitted_read : (version : ℕ) (words : List (List ℕ)) (item : Item) → option_map FitCard (parse_card version words) ≡ Some item
+fitted_read : (version : ℕ) (words : List (List ℕ)) (item : Item)
+    → option_map FitCard (parse_card version words) ≡ Some item
     → HasForm version (line (codes "card" ∷ words)) item
 unfolding item_text
 fitted_read version words item e =
@@ -289,7 +309,8 @@ of_key : (version : ℕ) (key word : List ℕ) (words : List (List ℕ)) (item :
 of_key version key word words item is read =
     subst (λ (k : List ℕ). HasForm version (line (k ∷ words)) item) (sym (word_is key word is)) read
 
-with_read : (version : ℕ) (key : List ℕ) (words : List (List ℕ)) (item : Item) → parse_by_key version key words ≡ Some item
+with_read : (version : ℕ) (key : List ℕ) (words : List (List ℕ)) (item : Item)
+    → parse_by_key version key words ≡ Some item
     → HasForm version (line (key ∷ words)) item
 unfolding parse_by_key
 with_read version key words item e = elim (cases_Bool (bytes_eq key (codes "phase"))) [
@@ -301,9 +322,11 @@ with_read version key words item e = elim (cases_Bool (bytes_eq key (codes "phas
       | inr m ↦ elim (cases_Bool (bytes_eq key (codes "rom"))) [
         | inl r ↦ of_key version key (codes "rom") words item r (rom_read version words item (rw (p, c, m, r) at e))
         | inr r ↦ elim (cases_Bool (bytes_eq key (codes "disk"))) [
-          | inl d ↦ of_key version key (codes "disk") words item d (disk_read version words item (rw (p, c, m, r, d) at e))
+          | inl d ↦ of_key version key (codes "disk") words item d
+              (disk_read version words item (rw (p, c, m, r, d) at e))
           | inr d ↦ elim (cases_Bool (bytes_eq key (codes "card"))) [
-            | inl k ↦ of_key version key (codes "card") words item k (fitted_read version words item (rw (p, c, m, r, d, k) at e))
+            | inl k ↦ of_key version key (codes "card") words item k
+                (fitted_read version words item (rw (p, c, m, r, d, k) at e))
             | inr k ↦ statement_read version key words item (rw (p, c, m, r, d, k) at e)
           ]
         ]
@@ -312,12 +335,15 @@ with_read version key words item e = elim (cases_Bool (bytes_eq key (codes "phas
   ]
 ]
 
-fields_read : (version : ℕ) (fields : List (List ℕ)) (item : Item) → parse_item version fields ≡ Some item → HasForm version (line fields) item
+fields_read : (version : ℕ) (fields : List (List ℕ)) (item : Item) → parse_item version fields ≡ Some item
+    → HasForm version (line fields) item
 unfolding parse_item
 fields_read version [] item e = absurd cc
 fields_read version (key ∷ words) item e = with_read version key words item e
 
 -- what is read from a line's fields, the line says
-pub item_read : (version : ℕ) (text : List ℕ) (item : Item) → parse_item version (fields_of text) ≡ Some item → HasForm version text item
+pub item_read : (version : ℕ) (text : List ℕ) (item : Item) → parse_item version (fields_of text) ≡ Some item
+    → HasForm version text item
 item_read version text item e =
-    subst (λ (t : List ℕ). HasForm version t item) (join_with_byte-slice_split space text) (fields_read version (fields_of text) item e)
+    subst (λ (t : List ℕ). HasForm version t item) (join_with_byte-slice_split space text)
+        (fields_read version (fields_of text) item e)

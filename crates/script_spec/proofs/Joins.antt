@@ -75,7 +75,8 @@ pub write_joined : (k s h v : List ℕ) (smm : Bool) → join_with_byte space (k
     ≡ k ++ space ∷ s ++ space ∷ h ++ (space ∷ v) ++ smm_text smm
 write_joined k s h v true = sym (write_parts k s h v (smm_text true))
 write_joined k s h v false =
-    sym (write_parts k s h v [] ∙ ap (λ (t : List ℕ). k ++ (space ∷ (s ++ (space ∷ (h ++ (space ∷ t)))))) (append-nil v))
+    sym (write_parts k s h v [] ∙ ap (λ (t : List ℕ). k ++ (space ∷ (s ++ (space ∷ (h ++ (space ∷ t))))))
+        (append-nil v))
 
 look_parts : (k h m : List ℕ) → codes "look " ++ k ++ space ∷ h ++ m ≡ codes "look " ++ (k ++ (space ∷ (h ++ m)))
 look_parts k h m =
@@ -90,6 +91,8 @@ look_joined k h false =
 pub port_joined : (verb s h : List ℕ) → join_with_byte space (verb ∷ s ∷ h ∷ []) ≡ verb ++ space ∷ s ++ space ∷ h ++ []
 port_joined verb s h = sym (append-nil (verb ++ space ∷ s ++ space ∷ h) ∙ append_assoc verb (space ∷ s) (space ∷ h))
 
-pub out_joined : (verb s h v : List ℕ) → join_with_byte space (verb ∷ s ∷ h ∷ v ∷ []) ≡ verb ++ space ∷ s ++ space ∷ h ++ (space ∷ v)
+pub out_joined : (verb s h v : List ℕ)
+    → join_with_byte space (verb ∷ s ∷ h ∷ v ∷ []) ≡ verb ++ space ∷ s ++ space ∷ h ++ (space ∷ v)
 out_joined verb s h v =
-    sym (append_assoc (verb ++ space ∷ s) (space ∷ h) (space ∷ v) ∙ append_assoc verb (space ∷ s) (space ∷ (h ++ (space ∷ v))))
+    sym (append_assoc (verb ++ space ∷ s) (space ∷ h) (space ∷ v)
+        ∙ append_assoc verb (space ∷ s) (space ∷ (h ++ (space ∷ v))))

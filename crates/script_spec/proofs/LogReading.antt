@@ -85,7 +85,8 @@ actor_said actor small = rw (decimal_back actor (omega (arith, small)), lt-ltb a
 pub asked_said : (version : ℕ) (entry : Entry) → IsWellFormed version entry
     → HasForm version (asked_text entry.seq entry.event) (ask entry.seq entry.event)
 unfolding item_text
-asked_said version entry formed = record { form = (formed.seq, formed.form); says = same (asked_text entry.seq entry.event) }
+asked_said version entry formed =
+    record { form = (formed.seq, formed.form); says = same (asked_text entry.seq entry.event) }
 
 -- ---- an entry is read from its line
 
@@ -105,12 +106,15 @@ entry_in version line = do
 entry_said : (version : ℕ) (entry : Entry) (line : List ℕ) → parse_pieces line ≡ Some (pieces entry)
     → parse_actor (decimal entry.actor) ≡ Some entry.actor
     → parse_line version (asked_text entry.seq entry.event) ≡ Some (ask entry.seq entry.event)
-    → parse_spaced_reply entry.event (fields_of (replied_text entry)) ≡ Some entry.reply → entry_in version line ≡ Some entry
+    → parse_spaced_reply entry.event (fields_of (replied_text entry)) ≡ Some entry.reply
+    → entry_in version line ≡ Some entry
 unfolding entry_in
 entry_said version entry line one two three four = rw (one, two, three, four) refl
 
-pub entry_read : (version n : ℕ) (entry : Entry) → IsWellFormed version entry → entry_in version (line_text n entry) ≡ Some entry
+pub entry_read : (version n : ℕ) (entry : Entry) → IsWellFormed version entry
+    → entry_in version (line_text n entry) ≡ Some entry
 entry_read version n entry formed =
-    entry_said version entry (line_text n entry) (line_pieces version n entry formed) (actor_said entry.actor formed.actor)
+    entry_said version entry (line_text n entry) (line_pieces version n entry formed)
+        (actor_said entry.actor formed.actor)
     (line_back version (asked_text entry.seq entry.event) (ask entry.seq entry.event) (asked_said version entry formed))
     (reply_read entry.event entry.reply formed.shape)

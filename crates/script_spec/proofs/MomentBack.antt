@@ -13,7 +13,8 @@ two_back n rest small =
       digit_so (0x30 + n % 10) (n % 10) (omega arith) (omega arith) (omega arith) (omega arith),
     ) (ap (λ (x : ℕ). Some (x, rest)) whole)
 
-part_back : (mark n : ℕ) (rest : List ℕ) → n < 100 → parse_moment_part mark (mark ∷ (two_digits n ++ rest)) ≡ Some (n, rest)
+part_back : (mark n : ℕ) (rest : List ℕ) → n < 100
+    → parse_moment_part mark (mark ∷ (two_digits n ++ rest)) ≡ Some (n, rest)
 unfolding parse_moment_part after_mark
 part_back mark n rest small = rw (eq-eqb mark mark refl) (two_back n rest small)
 
@@ -22,11 +23,13 @@ year_back : (year : ℕ) (rest : List ℕ) → year < 10_000
 unfolding parse_year
 year_back year rest small =
     let whole : year / 100 * 100 + year % 100 ≡ year = omega arith in
-    rw (two_back (year / 100) (two_digits (year % 100) ++ rest) (omega (arith, small)), two_back (year % 100) rest (omega arith))
+    rw (two_back (year / 100) (two_digits (year % 100) ++ rest) (omega (arith, small)),
+        two_back (year % 100) rest (omega arith))
     (ap (λ (x : ℕ). Some (x, rest)) whole)
 
 date_back : (year month day : ℕ) (rest : List ℕ) → year < 10_000 → month < 100 → day < 100
-    → parse_date (two_digits (year / 100) ++ (two_digits (year % 100) ++ 0x2D ∷ (two_digits month ++ 0x2D ∷ (two_digits day ++ rest))))
+    → parse_date (two_digits
+        (year / 100) ++ (two_digits (year % 100) ++ 0x2D ∷ (two_digits month ++ 0x2D ∷ (two_digits day ++ rest))))
     ≡ Some (record { first = year; second = month; third = day; rest = rest })
 unfolding parse_date
 date_back year month day rest y m d =

@@ -5,10 +5,12 @@ use Rattle.script_spec.specs.Common.{IsMomentForm, parse_digit, parse_two_digits
 use Rattle.script_spec.proofs.Chains.{some_is, guarded, then_said}
 use Rattle.script_spec.proofs.NumberTexts.{ten_is}
 
-digits_again : (high low n : ℕ) → high < 10 → low < 10 → n ≡ high * 10 + low → (0x30 + n / 10 % 10 ≡ 48 + high) × (0x30 + n % 10 ≡ 48 + low)
+digits_again : (high low n : ℕ) → high < 10 → low < 10 → n ≡ high * 10 + low
+    → (0x30 + n / 10 % 10 ≡ 48 + high) × (0x30 + n % 10 ≡ 48 + low)
 digits_again high low n a b is = (omega (arith, is), omega (arith, is))
 
-two_read : (text : List ℕ) (p : ℕ × List ℕ) → parse_two_digits text ≡ Some p → (text ≡ two_digits p.0 ++ p.1) × (p.0 < 100)
+two_read : (text : List ℕ) (p : ℕ × List ℕ) → parse_two_digits text ≡ Some p
+    → (text ≡ two_digits p.0 ++ p.1) × (p.0 < 100)
 unfolding parse_two_digits
 two_read [] p e = absurd cc
 two_read (_ ∷ []) p e = absurd cc
@@ -31,7 +33,8 @@ after_mark_read mark (c ∷ cs) rest e =
     let later = some_is cs rest g.1 in
     λ i. first i ∷ later i
 
-part_read : (mark : ℕ) (text : List ℕ) (p : ℕ × List ℕ) → parse_moment_part mark text ≡ Some p → (text ≡ mark ∷ (two_digits p.0 ++ p.1)) × (p.0 < 100)
+part_read : (mark : ℕ) (text : List ℕ) (p : ℕ × List ℕ) → parse_moment_part mark text ≡ Some p
+    → (text ≡ mark ∷ (two_digits p.0 ++ p.1)) × (p.0 < 100)
 unfolding parse_moment_part
 part_read mark text p e =
     let b = then_said (after_mark mark text) _ p e in
@@ -61,7 +64,8 @@ year_read text p e =
 
 record IsDateRead (text : List ℕ) (d : Three) : Type 0 where
   pub text_is :
-      text ≡ two_digits (d.first / 100) ++ (two_digits (d.first % 100) ++ 0x2D ∷ (two_digits d.second ++ 0x2D ∷ (two_digits d.third ++ d.rest)))
+      text ≡ two_digits (d.first / 100)
+          ++ (two_digits (d.first % 100) ++ 0x2D ∷ (two_digits d.second ++ 0x2D ∷ (two_digits d.third ++ d.rest)))
   pub year : d.first < 10_000
   pub month : d.second < 100
   pub day : d.third < 100
@@ -86,7 +90,8 @@ date_read text d e =
     })
 
 record IsTimeRead (text : List ℕ) (t : Three) : Type 0 where
-  pub text_is : text ≡ 0x54 ∷ (two_digits t.first ++ 0x3A ∷ (two_digits t.second ++ 0x3A ∷ (two_digits t.third ++ t.rest)))
+  pub text_is : text ≡ 0x54 ∷
+      (two_digits t.first ++ 0x3A ∷ (two_digits t.second ++ 0x3A ∷ (two_digits t.third ++ t.rest)))
   pub hour : t.first < 100
   pub minute : t.second < 100
   pub second : t.third < 100
@@ -116,7 +121,8 @@ unfolding whole_moment
 with_read date time [] moment e = (refl, some_is _ moment e)
 with_read date time (_ ∷ _) moment e = absurd cc
 
-pub moment_read : (field : List ℕ) (moment : Moment) → parse_moment field ≡ Some moment → (field ≡ moment_text moment) × IsMomentForm moment
+pub moment_read : (field : List ℕ) (moment : Moment) → parse_moment field ≡ Some moment
+    → (field ≡ moment_text moment) × IsMomentForm moment
 unfolding parse_moment
 moment_read field moment e =
     let d = then_said (parse_date field) _ moment e in
@@ -126,9 +132,12 @@ moment_read field moment e =
     let end = with_read d.0 t.0 t.0.rest moment t.2 in
     subst (λ (m : Moment). (field ≡ moment_text m) × IsMomentForm m) end.1 (
       date.text_is
-          ∙ ap (λ (rest : List ℕ). two_digits (d.0.first / 100) ++ (two_digits (d.0.first % 100) ++ 0x2D ∷ (two_digits d.0.second ++ 0x2D ∷ (two_digits d.0.third ++ rest))))
+          ∙ ap (λ (rest : List ℕ). two_digits (d.0.first / 100)
+          ++ (two_digits (d.0.first % 100) ++ 0x2D ∷ (two_digits d.0.second ++ 0x2D ∷ (two_digits d.0.third ++ rest))))
           (time.text_is
-          ∙ ap (λ (rest : List ℕ). 0x54 ∷ (two_digits t.0.first ++ 0x3A ∷ (two_digits t.0.second ++ 0x3A ∷ (two_digits t.0.third ++ rest)))) end.0),
+          ∙ ap (λ (rest : List ℕ).
+              0x54 ∷ (two_digits t.0.first ++ 0x3A ∷ (two_digits t.0.second ++ 0x3A ∷ (two_digits t.0.third ++ rest))))
+              end.0),
       record {
         year = date.year;
         month = date.month;

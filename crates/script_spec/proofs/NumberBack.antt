@@ -45,7 +45,8 @@ digit_read c small =
     let range = digit_from_value c small in
     digit_so c (value_of_digit c) range.0 (omega (arith, range.1)) (omega (arith, digit_value_digit c range)) small
 
-digits_read : (high : ℕ) (ds : List ℕ) → AllDigits 10 ds → number_after 10 high ds ≡ Some (digits_value_after 10 high ds)
+digits_read : (high : ℕ) (ds : List ℕ) → AllDigits 10 ds
+    → number_after 10 high ds ≡ Some (digits_value_after 10 high ds)
 unfolding number_after
 digits_read high [] digits = refl
 digits_read high (c ∷ cs) digits =
@@ -89,7 +90,8 @@ hex_digit_read c d small stands = elim (cases_lt d 10) [
         | inl is ↦
             let c_is : c ≡ 48 + d = is ∙ text in
             let value : c - 0x30 ≡ d = omega (arith, c_is) in
-            rw (le-leb 0x30 c (omega (arith, c_is)), le-leb c 0x39 (omega (arith, c_is, low)), value, lt-ltb d 16 small) refl
+            rw (le-leb 0x30 c (omega (arith, c_is)), le-leb c 0x39 (omega (arith, c_is, low)), value, lt-ltb d 16 small)
+                refl
         | inr lower ↦
             let parts = and_parts (leb 0x41 (hex_digit d)) (leb (hex_digit d) 0x46) lower.0 in
             absurd (omega (arith, leb-true 0x41 (hex_digit d) parts.0, text, low))
@@ -129,7 +131,8 @@ next_value : (q high b : ℕ) → high ≡ q / 256 → b ≡ q % 256 → (high *
 next_value q high b one two = omega (arith, one, two)
 
 -- after the digits that made what stands above so many bytes
-pub hex_after : (k high n : ℕ) (field : List ℕ) → high ≡ n / 256 ^ k → Spells field (hex_number k n) → number_after 16 high field ≡ Some n
+pub hex_after : (k high n : ℕ) (field : List ℕ) → high ≡ n / 256 ^ k → Spells field (hex_number k n)
+    → number_after 16 high field ≡ Some n
 unfolding number_after
 hex_after zero high n [] is spells = let same : high ≡ n = omega (arith, is) in ap (λ (x : ℕ). Some x) same
 hex_after zero high n (c ∷ cs) is spells = absurd spells
@@ -140,7 +143,8 @@ hex_after (suc k) high n (c ∷ d ∷ cs) is spells =
     let above : high ≡ n / 256 ^ k / 256 = is ∙ ap (λ (p : ℕ). n / p) (pow-suc 256 k) ∙ quotient n (256 ^ k) in
     let first : parse_digit 16 c ≡ Some (b / 16) = hex_digit_read c (b / 16) (omega arith) spells.0 in
     let low : hex_digit b ≡ hex_digit (b % 16) = digit_again b (b % 16) refl in
-    let second : parse_digit 16 d ≡ Some (b % 16) = hex_digit_read d (b % 16) (omega arith) (subst (StandsFor d) low spells.1.0) in
+    let second : parse_digit 16 d ≡ Some (b % 16) = hex_digit_read d (b % 16) (omega arith)
+        (subst (StandsFor d) low spells.1.0) in
     rw (first, second)
     (hex_after k ((high * 16 + b / 16) * 16 + b % 16) n cs (next_value (n / 256 ^ k) high b above refl) spells.1.1)
 
@@ -148,7 +152,8 @@ hex_length : (k n : ℕ) → length (hex_number k n) ≡ 2 * k
 hex_length zero n = refl
 hex_length (suc k) n = omega (arith, hex_length k n)
 
-pub hex_back : (k n : ℕ) (field : List ℕ) → n < 256 ^ k → Spells field (hex_number k n) → parse_hex (2 * k) field ≡ Some n
+pub hex_back : (k n : ℕ) (field : List ℕ) → n < 256 ^ k → Spells field (hex_number k n)
+    → parse_hex (2 * k) field ≡ Some n
 hex_back k n field small spells =
     let long : length field ≡ 2 * k = length_all_zip StandsFor field (hex_number k n) spells ∙ hex_length k n in
     rw (eq-eqb (length field) (2 * k) long) (hex_after k 0 n field (sym (div-eq_of_lt small)) spells)

@@ -70,7 +70,8 @@ ten_is c d e =
       lt,
     )
 
-digits : (high n : ℕ) (ds : List ℕ) → number_after 10 high ds ≡ Some n → AllDigits 10 ds × (digits_value_after 10 high ds ≡ n)
+digits : (high n : ℕ) (ds : List ℕ) → number_after 10 high ds ≡ Some n
+    → AllDigits 10 ds × (digits_value_after 10 high ds ≡ n)
 unfolding number_after
 digits high n [] e = (tt, some_is high n e)
 digits high n (c ∷ cs) e =
@@ -79,14 +80,17 @@ digits high n (c ∷ cs) e =
     let later = digits (high * 10 + s.0) n cs s.2 in
     ((t.0, later.0), ap (λ (d : ℕ). digits_value_after 10 (high * 10 + d) cs) (sym t.1) ∙ later.1)
 
-no_zero : (field : List ℕ) → has_leading_zero field ≡ false → 1 ≤ length field → get_or field 0 0 ≡ 48 → length field ≡ 1
+no_zero : (field : List ℕ) → has_leading_zero field ≡ false → 1 ≤ length field → get_or field 0 0 ≡ 48
+    → length field ≡ 1
 no_zero [] e some first = absurd (omega (arith, some))
 no_zero (c ∷ []) e some first = refl
-no_zero (c ∷ d ∷ cs) e some first = let f = rw (first, le-leb 2 (length (c ∷ d ∷ cs)) (omega arith)) at e in absurd (true≢false f)
+no_zero (c ∷ d ∷ cs) e some first = let f = rw (first, le-leb 2 (length (c ∷ d ∷ cs)) (omega arith)) at e in
+    absurd (true≢false f)
 
 pub decimal_read : (field : List ℕ) (n : ℕ) → parse_decimal field ≡ Some n → (field ≡ decimal n) × IsDecimal n
 decimal_read field n e =
-    let g = guarded (leb 1 (length field) && leb (length field) 9 && not (has_leading_zero field)) (parse_digits 10 field) n e in
+    let g = guarded (leb 1 (length field) && leb (length field) 9 && not (has_leading_zero field))
+        (parse_digits 10 field) n e in
     let h = both (leb 1 (length field) && leb (length field) 9) (not (has_leading_zero field)) g.0 in
     let k = both (leb 1 (length field)) (leb (length field) 9) h.0 in
     let some = leb-true 1 (length field) k.0 in
@@ -95,7 +99,8 @@ decimal_read field n e =
     let small : digits_value 10 field < 1_000_000_000 =
     omega (arith, digits_value-lt 10 field read.0, pow-le-pow_right {n = 10} (lit< tt) few) in
     let zero_free : has_leading_zero field ≡ false =
-    elim (cases_Bool (has_leading_zero field)) [ inl yes_zero ↦ (let f = rw yes_zero at h in absurd cc) | inr none ↦ none ] in
+    elim (cases_Bool (has_leading_zero field)) [ inl yes_zero ↦ (let f = rw yes_zero at h in absurd cc) | inr
+        none ↦ none ] in
     let text : decimal (digits_value 10 field) ≡ field =
     decimal-digits_value own field read.0 (omega (arith, some)) (no_zero field zero_free some) (omega (arith, small)) in
     (sym text ∙ ap decimal read.1, subst (λ (x : ℕ). x < 1_000_000_000) read.1 small)
@@ -119,7 +124,8 @@ digit_stands c d e =
           | inr lower ↦
               let is : hex_digit d ≡ 55 + d = hex_high d (omega (arith, lower.0, lower.1.1)) b.1 in
               inr (
-                rw (le-leb 0x41 (hex_digit d) (omega (arith, is, lower.0, lower.1.0, lower.1.1)), le-leb (hex_digit d) 0x46 (omega (arith, is, lower.0, lower.1.0, lower.1.1))) refl,
+                rw (le-leb 0x41 (hex_digit d) (omega (arith, is, lower.0, lower.1.0, lower.1.1)),
+                    le-leb (hex_digit d) 0x46 (omega (arith, is, lower.0, lower.1.0, lower.1.1))) refl,
                 omega (arith, is, lower.0, lower.1.0, lower.1.1),
               )
         ]
@@ -135,7 +141,8 @@ power zero = lit< tt
 power (suc k) = omega (arith, pow-suc 256 k, power k)
 
 -- two digits are a byte
-two_digits : (h a b q : ℕ) → a < 16 → b < 16 → q ≡ (h * 16 + a) * 16 + b → (q / 256 ≡ h) × ((q % 256 / 16 % 16 ≡ a) × (q % 256 % 16 ≡ b))
+two_digits : (h a b q : ℕ) → a < 16 → b < 16 → q ≡ (h * 16 + a) * 16 + b
+    → (q / 256 ≡ h) × ((q % 256 / 16 % 16 ≡ a) × (q % 256 % 16 ≡ b))
 two_digits h a b q la lb is = (omega arith, (omega arith, omega arith))
 
 pub digit_again : (n d : ℕ) → n % 16 ≡ d → hex_digit n ≡ hex_digit d
@@ -145,7 +152,8 @@ below_power : (n p : ℕ) → 0 < p → n / p ≡ 0 → n < p
 below_power n p some none =
     elim (cases_lt n p) [
       | inl lt ↦ lt
-      | inr le ↦ let one : 1 ≤ n / p = (le-div_iff_mul-le some).1 (omega (arith, le)) in absurd (omega (arith, one, none))
+      | inr le ↦ let one : 1 ≤ n / p = (le-div_iff_mul-le some).1 (omega (arith, le)) in
+          absurd (omega (arith, one, none))
     ]
 
 -- so many digits after those that made `high`
@@ -172,7 +180,8 @@ hex_digits (suc k) high n (c ∷ d ∷ cs) long e =
       ),
     )
 
-pub hex_read : (k : ℕ) (field : List ℕ) (n : ℕ) → parse_hex (2 * k) field ≡ Some n → AllZip StandsFor field (hex_number k n) × (n < 256 ^ k)
+pub hex_read : (k : ℕ) (field : List ℕ) (n : ℕ) → parse_hex (2 * k) field ≡ Some n
+    → AllZip StandsFor field (hex_number k n) × (n < 256 ^ k)
 hex_read k field n e =
     let g = guarded (eqb (length field) (2 * k)) (parse_digits 0x10 field) n e in
     let long : length field ≡ k + k = omega (arith, eqb-true (length field) (2 * k) g.0) in

@@ -285,7 +285,8 @@ text_said bytes version items good =
       },
     )
 
-reading_of : (bytes : List ℕ) (result : Result (ℕ × List Item) (ℕ × ℕ)) → AreJudged (lines_of bytes) result → Reading bytes
+reading_of : (bytes : List ℕ) (result : Result (ℕ × List Item) (ℕ × ℕ)) → AreJudged (lines_of bytes) result
+    → Reading bytes
 reading_of bytes (Ok found) good = inl (text_said bytes found.0 found.1 good)
 reading_of bytes (Err end) bad = inr (end.0, end.1, bad)
 

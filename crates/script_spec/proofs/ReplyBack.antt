@@ -25,7 +25,8 @@ words_in bytes (Bus value target denial) = value_text bytes value ∷ target_tex
 words_in bytes (InParts parts value) = value_text bytes value ∷ words_of (parts_list parts)
 words_in bytes (Saw look) = decimal look.version ∷ hex_long look.lo ∷ hex_long look.hi ∷ area_text look.area ∷ []
 
-parts_spaced : (parts : List Part) → flat_map (λ part. answered_text part.target part.denial) parts ≡ spaced (words_of parts)
+parts_spaced : (parts : List Part)
+    → flat_map (λ part. answered_text part.target part.denial) parts ≡ spaced (words_of parts)
 parts_spaced [] = refl
 parts_spaced (part ∷ later) =
     append_assoc (space ∷ target_text part.target) (space ∷ denial_text part.denial) (flat_map
@@ -45,7 +46,8 @@ reply_spaced bytes (Saw look) =
     let lo : List ℕ = space ∷ hex_long look.lo in
     let hi : List ℕ = space ∷ hex_long look.hi in
     ap (λ (text : List ℕ). space ∷ text)
-    (append_assoc (version ++ lo) hi (space ∷ area_text look.area) ∙ append_assoc version lo (hi ++ space ∷ area_text look.area))
+    (append_assoc (version ++ lo) hi (space ∷ area_text look.area)
+        ∙ append_assoc version lo (hi ++ space ∷ area_text look.area))
     ∙ ap (λ (rest : List ℕ). (space ∷ version) ++ (lo ++ (hi ++ rest))) (sym (append-nil (space ∷ area_text look.area)))
 
 lack : (word : List ℕ) → is_word word ≡ true → lacks space word ≡ true
@@ -54,15 +56,19 @@ lack word is = lacks-word space word refl is
 parts_lack : (parts : List Part) → Lack (words_of parts)
 parts_lack [] = tt
 parts_lack (part ∷ later) =
-    (lack (target_text part.target) (target_word part.target), (lack (denial_text part.denial) (denial_word part.denial), parts_lack later))
+    (lack (target_text part.target) (target_word part.target),
+        (lack (denial_text part.denial) (denial_word part.denial), parts_lack later))
 
 words_lack : (bytes : ℕ) (reply : Reply) → Lack (words_in bytes reply)
 words_lack bytes (Bus value target denial) =
-    (lack (value_text bytes value) (value_word bytes value), (lack (target_text target) (target_word target), (lack (denial_text denial) (denial_word denial), tt)))
+    (lack (value_text bytes value) (value_word bytes value),
+        (lack (target_text target) (target_word target), (lack (denial_text denial) (denial_word denial), tt)))
 words_lack bytes (InParts parts value) =
     (lack (value_text bytes value) (value_word bytes value), parts_lack (parts_list parts))
 words_lack bytes (Saw look) =
-    (lack (decimal look.version) (decimal_word look.version), (lack (hex_long look.lo) (hex_number_word 4 look.lo), (lack (hex_long look.hi) (hex_number_word 4 look.hi), (lack (area_text look.area) (area_word look.area), tt))))
+    (lack (decimal look.version) (decimal_word look.version),
+        (lack (hex_long look.lo) (hex_number_word 4 look.lo),
+        (lack (hex_long look.hi) (hex_number_word 4 look.hi), (lack (area_text look.area) (area_word look.area), tt))))
 
 -- the first field is empty
 reply_fields : (bytes : ℕ) (reply : Reply) → fields_of (space ∷ reply_text bytes reply) ≡ [] ∷ words_in bytes reply
@@ -158,7 +164,8 @@ wide_back access (InParts parts value) fits =
 wide_back access (Saw look) fits = absurd fits
 
 look_said : (v l h a : List ℕ) (look : Look) → parse_decimal v ≡ Some look.version → parse_hex 8 l ≡ Some look.lo
-    → parse_hex 8 h ≡ Some look.hi → parse_area a ≡ Some look.area → parse_look_reply (v ∷ l ∷ h ∷ a ∷ []) ≡ Some (Saw look)
+    → parse_hex 8 h ≡ Some look.hi → parse_area a ≡ Some look.area
+    → parse_look_reply (v ∷ l ∷ h ∷ a ∷ []) ≡ Some (Saw look)
 unfolding parse_look_reply
 look_said v l h a look one two three four = rw (one, two, three, four) refl
 

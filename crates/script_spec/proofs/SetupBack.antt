@@ -14,7 +14,8 @@ abbrev pub IsLineBack : (version : ℕ) → (line : List ℕ) → Item → Type 
 IsLineBack version line item = parse_item version (fields_of line) ≡ Some item
 
 -- a line that is these fields joined
-pub exact_back : (version : ℕ) (line key : List ℕ) (words : List (List ℕ)) (item : Item) → line ≡ join_with_byte space (key ∷ words)
+pub exact_back : (version : ℕ) (line key : List ℕ) (words : List (List ℕ)) (item : Item)
+    → line ≡ join_with_byte space (key ∷ words)
     → Lack (key ∷ words) → parse_item version (key ∷ words) ≡ Some item → IsLineBack version line item
 exact_back version line key words item is lack read =
     ap (parse_item version) (ap fields_of is ∙ split_exact key words lack) ∙ read
@@ -51,19 +52,22 @@ is_so [] form = absurd (omega (arith, form.some))
 is_so (first ∷ rest) form =
     let start = and_parts (is_name_start first) true form.first in
     and_from (leb (length (first ∷ rest)) 64 && is_name_start first) (list_all is_name_byte (first ∷ rest))
-    (and_from (leb (length (first ∷ rest)) 64) (is_name_start first) (le-leb (length (first ∷ rest)) 64 form.few) start.0) form.each
+    (and_from (leb (length (first ∷ rest)) 64) (is_name_start first) (le-leb (length (first ∷ rest)) 64 form.few)
+        start.0) form.each
 
 name_back : (name : List ℕ) → IsName name → parse_name (name ∷ []) ≡ Some name
 unfolding parse_name
 name_back name form = rw (is_so name form) refl
 
-pub rom_back : (version : ℕ) (name line : List ℕ) → IsName name → line ≡ item_text (SetRom name) → IsLineBack version line (SetRom name)
+pub rom_back : (version : ℕ) (name line : List ℕ) → IsName name → line ≡ item_text (SetRom name)
+    → IsLineBack version line (SetRom name)
 unfolding item_text parse_item parse_by_key
 rom_back version name line form is =
     exact_back version line (codes "rom") (name ∷ []) (SetRom name) is (refl, (lacks_name name form.each, tt))
     (ap (option_map SetRom) (name_back name form))
 
-pub disk_back : (version : ℕ) (name line : List ℕ) → IsName name → line ≡ item_text (SetDisk name) → IsLineBack version line (SetDisk name)
+pub disk_back : (version : ℕ) (name line : List ℕ) → IsName name → line ≡ item_text (SetDisk name)
+    → IsLineBack version line (SetDisk name)
 unfolding item_text parse_item parse_by_key
 disk_back version name line form is =
     exact_back version line (codes "disk") (name ∷ []) (SetDisk name) is (refl, (lacks_name name form.each, tt))
@@ -79,7 +83,8 @@ spaced_base : (base : Base) → space ∷ base_word base ≡ base_text base
 spaced_base (MemoryBase bits) = refl
 spaced_base (IoBase bits) = refl
 
-spaced_tail : (bases : List Base) (rom : Option ℕ) → spaced (tail_words bases rom) ≡ flat_map base_text bases ++ rom_text rom
+spaced_tail : (bases : List Base) (rom : Option ℕ)
+    → spaced (tail_words bases rom) ≡ flat_map base_text bases ++ rom_text rom
 spaced_tail [] None = refl
 spaced_tail [] (Some bits) = append-nil (codes " x" ++ decimal bits)
 spaced_tail (base ∷ bases) rom =
@@ -110,7 +115,8 @@ fitted_back version dev true bases rom form =
 fitted_back version dev false bases rom form =
     rw (decimal_back dev form.dev, tail_back version [] bases rom (omega (arith, form.count)) form.each form.rom) refl
 
-pub card_back : (version : ℕ) (card : FittedCard) (line : List ℕ) → IsCardForm version card → line ≡ item_text (FitCard card)
+pub card_back : (version : ℕ) (card : FittedCard) (line : List ℕ) → IsCardForm version card
+    → line ≡ item_text (FitCard card)
     → IsLineBack version line (FitCard card)
 unfolding item_text parse_item parse_by_key
 card_back version card line form is =
@@ -120,6 +126,7 @@ card_back version card line form is =
     ap (λ (rest : List ℕ). decimal card.dev ++ (space ∷ rest)) (line_spaced (kind_word card.vga) words
     ∙ ap (λ (rest : List ℕ). kind_word card.vga ++ rest) (spaced_tail card.bases card.rom)) in
     exact_back version line (codes "card") (decimal card.dev ∷ kind_word card.vga ∷ words) (FitCard card)
-    (is ∙ sym (ap (λ (rest : List ℕ). codes "card " ++ rest) (joined ∙ card_parts card.dev card.vga card.bases card.rom)))
+    (is ∙ sym (ap (λ (rest : List ℕ). codes "card " ++ rest)
+        (joined ∙ card_parts card.dev card.vga card.bases card.rom)))
     (refl, (lacks_decimal card.dev, (lacks_kind card.vga, lacks_tail card.bases card.rom)))
     (ap (option_map FitCard) (fitted_back version card.dev card.vga card.bases card.rom form))

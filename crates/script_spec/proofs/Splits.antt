@@ -18,7 +18,8 @@ no_space written byte (inr small) other =
     ne_eqb written 32 (λ is. let none : ⊥ = omega (arith, low, small.1, is) in none)
 
 -- a field that spells a text without spaces has none
-spelled_lacks : (field text : List ℕ) → Spells field text → lacks space text ≡ true → All (λ byte. is_space byte ≡ false) field
+spelled_lacks : (field text : List ℕ) → Spells field text → lacks space text ≡ true
+    → All (λ byte. is_space byte ≡ false) field
 spelled_lacks [] text spells lack = All-nil (λ byte. is_space byte ≡ false)
 spelled_lacks (c ∷ cs) [] spells lack = absurd spells
 spelled_lacks (c ∷ cs) (t ∷ ts) spells lack =
@@ -38,7 +39,8 @@ cut line [] second spells = record { front = []; rest = line; is = refl; spells 
 cut [] (t ∷ ts) second spells = absurd spells
 cut (c ∷ cs) (t ∷ ts) second spells =
     let k = cut cs ts second spells.1 in
-    record { front = c ∷ k.front; rest = k.rest; is = ap (λ (l : List ℕ). c ∷ l) k.is; spells = (spells.0, k.spells); later = k.later }
+    record { front = c ∷ k.front; rest = k.rest; is = ap (λ (l : List ℕ). c ∷ l) k.is; spells = (spells.0, k.spells);
+        later = k.later }
 
 -- only a space stands for a space
 space_is : (written : ℕ) → StandsFor written 32 → written ≡ 32
@@ -51,8 +53,10 @@ Lack (text ∷ later) = (lacks space text ≡ true) × Lack later
 
 -- a line that is cut before a space, where what stands after it has its fields
 split_at : (line front rest text next : List ℕ) (texts : List (List ℕ)) → lacks space text ≡ true
-    → ((later : List ℕ) → Spells later (join_with_byte space (next ∷ texts)) → Reads (fields_of later) (next ∷ texts)) → line ≡ front ++ rest
-    → Spells front text → Spells rest (space ∷ join_with_byte space (next ∷ texts)) → Reads (fields_of line) (text ∷ next ∷ texts)
+    → ((later : List ℕ) → Spells later (join_with_byte space (next ∷ texts)) → Reads (fields_of later) (next ∷ texts))
+    → line ≡ front ++ rest
+    → Spells front text → Spells rest (space ∷ join_with_byte space (next ∷ texts))
+    → Reads (fields_of line) (text ∷ next ∷ texts)
 split_at line front [] text next texts lack reads_later is spells later = absurd later
 split_at line front (c ∷ rest) text next texts lack reads_later is spells later =
     let first : c ≡ 32 = space_is c later.0 in
@@ -61,21 +65,24 @@ split_at line front (c ∷ rest) text next texts lack reads_later is spells late
     (sym (ap fields_of whole ∙ slice_split_at is_space front 32 rest (spelled_lacks front text spells lack) refl))
     (spells, reads_later rest later.1)
 
-pub split : (line text : List ℕ) (texts : List (List ℕ)) → Lack (text ∷ texts) → Spells line (join_with_byte space (text ∷ texts))
+pub split : (line text : List ℕ) (texts : List (List ℕ)) → Lack (text ∷ texts)
+    → Spells line (join_with_byte space (text ∷ texts))
     → Reads (fields_of line) (text ∷ texts)
 split line text [] lack spells =
     subst (λ (fields : List (List ℕ)). Reads fields (text ∷ []))
     (sym (slice_split_none is_space line (spelled_lacks line text spells lack.0))) (spells, tt)
 split line text (next ∷ texts) lack spells =
     let k = cut line text (space ∷ join_with_byte space (next ∷ texts)) spells in
-    split_at line k.front k.rest text next texts lack.0 (λ later spells. split later next texts lack.1 spells) k.is k.spells k.later
+    split_at line k.front k.rest text next texts lack.0 (λ later spells. split later next texts lack.1 spells) k.is
+        k.spells k.later
 
 -- ---- a line that is fields joined
 
 own_bytes : (field : List ℕ) → lacks space field ≡ true → All (λ byte. is_space byte ≡ false) field
 own_bytes [] lack = All-nil (λ byte. is_space byte ≡ false)
 own_bytes (c ∷ cs) lack =
-    All-cons (λ byte. is_space byte ≡ false) c cs (lacks-first space c cs lack) (own_bytes cs (lacks-later space c cs lack))
+    All-cons (λ byte. is_space byte ≡ false) c cs (lacks-first space c cs lack)
+        (own_bytes cs (lacks-later space c cs lack))
 
 pub split_exact : (field : List ℕ) (fields : List (List ℕ)) → Lack (field ∷ fields)
     → fields_of (join_with_byte space (field ∷ fields)) ≡ field ∷ fields

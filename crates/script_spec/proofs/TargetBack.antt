@@ -97,7 +97,8 @@ base_said : (field dev base : List ℕ) (d b : ℕ) → cut 0x2E field ≡ Some 
 unfolding parse_card_base
 base_said field dev base d b one two three = rw (one, two, three) refl
 
-base_back : (dev base : ℕ) → dev < 10 → base < 10 → parse_card_base (decimal dev ++ 0x2E ∷ decimal base) ≡ Some (dev, base)
+base_back : (dev base : ℕ) → dev < 10 → base < 10
+    → parse_card_base (decimal dev ++ 0x2E ∷ decimal base) ≡ Some (dev, base)
 base_back dev base one two =
     base_said (decimal dev ++ 0x2E ∷ decimal base) (decimal dev) (decimal base) dev base
     (cut_field 0x2E (decimal dev) (decimal base) (lacks-decimal 0x2E dev (inl (omega arith)) (omega (arith, one))))
@@ -126,7 +127,8 @@ unfolding parse_card_target
 card_said field place off dev base n one two three = rw (one, two, three) refl
 
 card_back : (dev base off : ℕ) → dev < 10 → base < 10 → off < 2 ^ 32
-    → parse_card_target (decimal dev ++ codes "." ++ decimal base ++ codes ":" ++ hex_long off) ≡ Some (targets.Card dev base off)
+    → parse_card_target (decimal dev ++ codes "." ++ decimal base ++ codes ":" ++ hex_long off) ≡ Some
+        (targets.Card dev base off)
 card_back dev base off one two three =
     let place : List ℕ = decimal dev ++ codes "." ++ decimal base in
     let parts : place ++ codes ":" ++ hex_long off ≡ place ++ 0x3A ∷ hex_long off = append_assoc place (codes ":")

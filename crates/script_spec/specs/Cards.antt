@@ -18,7 +18,8 @@ pub record Tail : Type 0 where
 -- `xK`, which version 2 has
 unfoldable pub parse_rom_bits : (version : ℕ) → List ℕ → Option ℕ
 parse_rom_bits version [] = None
-parse_rom_bits version (letter ∷ digits) = if version == 2 then (if letter == 0x78 then parse_decimal digits else None) else None
+parse_rom_bits version (letter ∷ digits) = if version == 2 then (if letter == 0x78 then parse_decimal digits else None)
+    else None
 
 abbrev pub has_room : Tail → Bool
 has_room tail = nat_lt (length tail.bases) 6

@@ -28,12 +28,14 @@ base_read fields i d base inside some so_far =
     let place : i < length (map base_said fields) = omega (arith, length-map fields base_said, inside) in
     let here : is_base_in_range (get_or (map base_said fields) i (base_said d)) ≡ true =
     ap is_base_in_range (get_or-map base_said fields i d (base_said d) inside)
-    ∙ (some_in_case (is_base_in_range (base_said (get_or fields i d))) (base_said (get_or fields i d)) (base_of base) some).0 in
+    ∙ (some_in_case (is_base_in_range (base_said (get_or fields i d))) (base_said (get_or fields i d)) (base_of base)
+        some).0 in
     list_all_more is_base_in_range (map base_said fields) i (base_said d) place
     ∙ and_from (list_all is_base_in_range (take i (map base_said fields)))
     (is_base_in_range (get_or (map base_said fields) i (base_said d))) so_far here
 
-pub base_added : (fields : List BaseField) (i : ℕ) (d : BaseField) (base : BaseSpec) (bases new : List BaseSpec) → i < length fields →
+pub base_added : (fields : List BaseField) (i : ℕ) (d : BaseField) (base : BaseSpec) (bases new : List BaseSpec)
+    → i < length fields →
     Some (base_of base) ≡ in_case (is_base_in_range (base_said (get_or fields i d))) (base_said (get_or fields i d)) →
     new ≡ bases ++ base ∷ [] → map base_of bases ≡ take i (map base_said fields) →
     map base_of new ≡ take (i + 1) (map base_said fields)
@@ -41,7 +43,8 @@ base_added fields i d base bases new inside some pushed so_far =
     let place : i < length (map base_said fields) = omega (arith, length-map fields base_said, inside) in
     let here : get_or (map base_said fields) i (base_said d) ≡ base_of base =
     get_or-map base_said fields i d (base_said d) inside
-    ∙ sym (some_in_case (is_base_in_range (base_said (get_or fields i d))) (base_said (get_or fields i d)) (base_of base) some).1 in
+    ∙ sym (some_in_case (is_base_in_range (base_said (get_or fields i d))) (base_said (get_or fields i d))
+        (base_of base) some).1 in
     ap (map base_of) pushed
     ∙ map-append base_of bases (base ∷ [])
     ∙ ap (λ (front : List Base). front ++ base_of base ∷ []) so_far

@@ -33,15 +33,19 @@ alone x (y ∷ line) h =
     ∙ ap (onto_first x) (alone y line (All-tail (λ byte. is_feed byte ≡ false) x (y ∷ line) h))
 
 before : (bytes : List ℕ) → IsLine (before_first is_feed bytes)
-before bytes k d lt = let k' = fails_before_first is_feed bytes k d (grind (arith, common_steps)) in grind (arith, common_steps)
+before bytes k d lt = let k' = fails_before_first is_feed bytes k d (grind (arith, common_steps)) in
+    grind (arith, common_steps)
 
 -- with a line feed the first line ends there
 lines_cut : (bytes : List ℕ) → position_or_len is_feed bytes < length bytes
-    → lines_of bytes ≡ take (position_or_len is_feed bytes) bytes ∷ lines_of (drop (position_or_len is_feed bytes + 1) bytes)
+    → lines_of bytes ≡ take (position_or_len is_feed bytes) bytes ∷ lines_of
+        (drop (position_or_len is_feed bytes + 1) bytes)
 lines_cut bytes lt =
-    let feed : get_or bytes (position_or_len is_feed bytes) 0 ≡ 10 = eqb-true _ 10 (passes_at_first is_feed bytes 0 lt) in
+    let feed : get_or bytes (position_or_len is_feed bytes) 0 ≡ 10 =
+        eqb-true _ 10 (passes_at_first is_feed bytes 0 lt) in
     let cut : bytes ≡ before_first is_feed bytes ++ 10 ∷ after_first is_feed bytes =
-    subst (λ (byte : ℕ). bytes ≡ before_first is_feed bytes ++ byte ∷ after_first is_feed bytes) feed (split_at_first is_feed bytes 0 lt) in
+    subst (λ (byte : ℕ). bytes ≡ before_first is_feed bytes ++ byte ∷ after_first is_feed bytes) feed
+        (split_at_first is_feed bytes 0 lt) in
     ap lines_of cut ∙ line_ended (before_first is_feed bytes) (after_first is_feed bytes) (before bytes)
 
 not_so : (b : Bool) → ¬ (b ≡ true) → b ≡ false
@@ -58,7 +62,8 @@ cut_at bytes end first =
     (lines_cut bytes (subst (λ (n : ℕ). n < length bytes) (sym place) first.0.high)))
 
 -- with none it is the whole text
-pub uncut : (bytes : List ℕ) → false ≡ eqb (length bytes) 0 → IsFirstByte is_feed bytes None → lines_of bytes ≡ bytes ∷ lines_of []
+pub uncut : (bytes : List ℕ) → false ≡ eqb (length bytes) 0 → IsFirstByte is_feed bytes None
+    → lines_of bytes ≡ bytes ∷ lines_of []
 unfolding lines_of
 uncut [] some none = absurd cc
 uncut (x ∷ xs) some none =

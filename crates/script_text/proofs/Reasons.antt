@@ -63,13 +63,15 @@ pub past_limit :
     (items : List Item) (item : Item) → is_misplaced items item ≡ false → is_repeated items item ≡ false →
     (is_phase item && lacks_setup items) ≡ false → is_in_range item ≡ true → is_placed item ≡ true →
     is_there items item ≡ true → passes_limits (item ∷ items) ≡ true → least_reason items item ≡ Some 10
-past_limit items item ea eb ec ed ee ef eg = first_is false false false true true true true items item ea eb ec ed ee ef eg
+past_limit items item ea eb ec ed ee ef eg = first_is false false false true true true true items item ea eb ec ed ee ef
+    eg
 
 pub no_reason :
     (items : List Item) (item : Item) → is_misplaced items item ≡ false → is_repeated items item ≡ false →
     (is_phase item && lacks_setup items) ≡ false → is_in_range item ≡ true → is_placed item ≡ true →
     is_there items item ≡ true → passes_limits (item ∷ items) ≡ false → least_reason items item ≡ None
-no_reason items item ea eb ec ed ee ef eg = first_is false false false true true true false items item ea eb ec ed ee ef eg
+no_reason items item ea eb ec ed ee ef eg = first_is false false false true true true false items item ea eb ec ed ee ef
+    eg
 
 -- ---- places
 
@@ -85,7 +87,8 @@ pub setup_place :
 setup_place items item true setup e = rw (e, setup) refl
 setup_place items item false setup e = rw e (neither (is_phase item) (is_statement item) setup).1
 
-pub begun_setup : (items : List Item) (item : Item) → is_setup item ≡ true → (is_phase item && lacks_setup items) ≡ false
+pub begun_setup : (items : List Item) (item : Item) → is_setup item ≡ true
+    → (is_phase item && lacks_setup items) ≡ false
 begun_setup items item setup = rw (neither (is_phase item) (is_statement item) setup).0 refl
 
 -- a statement after it
@@ -162,7 +165,8 @@ disk_kept items reading is = found is_disk SetDisk items reading.disk is.disk
 
 pub setup_kept : (items : List Item) (reading : Reading) → IsReadingOf items reading →
     has_setup items ≡ (is_some reading.cpus && is_some reading.mib && is_some reading.rom)
-setup_kept items reading is = rw (cpus_kept items reading is, memory_kept items reading is, rom_kept items reading is) refl
+setup_kept items reading is = rw (cpus_kept items reading is, memory_kept items reading is, rom_kept items reading is)
+    refl
 
 pub actor_kept : (items : List Item) (reading : Reading) (actor : ℕ) → IsReadingOf items reading →
     list_any (is_cpus_above actor) items ≡ is_below actor reading.cpus
@@ -170,7 +174,8 @@ actor_kept items reading actor is = is.actors actor
 
 pub card_kept : (items : List Item) (reading : Reading) (dev : ℕ) → IsReadingOf items reading →
     has_card items dev ≡ list_any (λ card. card.dev == dev) reading.cards.items
-card_kept items reading dev is = list_any-IsPermutation (λ card. card.dev == dev) (cards_of items) reading.cards.items is.cards
+card_kept items reading dev is = list_any-IsPermutation (λ card. card.dev == dev) (cards_of items) reading.cards.items
+    is.cards
 
 -- ---- statements
 
@@ -198,17 +203,20 @@ asked_all P asks levels actor (LineAt irq level) =
 pub asked_place : (items : List Item) (actor : ℕ) (asked : Asked) (any : Bool) → list_any is_phase items ≡ any →
     is_misplaced items (asked_said actor asked) ≡ not any
 asked_place items actor asked any e =
-    asked_all (λ item. is_misplaced items item ≡ not any) (λ statement. statement_place items (Ask statement) any refl refl e)
+    asked_all (λ item. is_misplaced items item ≡ not any)
+        (λ statement. statement_place items (Ask statement) any refl refl e)
     (λ n verb number level. statement_place items (AskLevel n verb number level) any refl refl e) actor asked
 
-pub asked_repeated : (items : List Item) (actor : ℕ) (asked : Asked) → is_repeated items (asked_said actor asked) ≡ false
+pub asked_repeated : (items : List Item) (actor : ℕ) (asked : Asked)
+    → is_repeated items (asked_said actor asked) ≡ false
 asked_repeated items actor asked =
     asked_all (λ item. is_repeated items item ≡ false) (λ statement. refl) (λ n verb number level. refl) actor asked
 
 pub asked_begun : (items : List Item) (actor : ℕ) (asked : Asked) →
     (is_phase (asked_said actor asked) && lacks_setup items) ≡ false
 asked_begun items actor asked =
-    asked_all (λ item. (is_phase item && lacks_setup items) ≡ false) (λ statement. refl) (λ n verb number level. refl) actor asked
+    asked_all (λ item. (is_phase item && lacks_setup items) ≡ false) (λ statement. refl) (λ n verb number level. refl)
+        actor asked
 
 pub few_pulses : (event : Event) → is_event_in_range event ≡ true → pulses_of_event event ≤ 1_000_000
 few_pulses (Pulses count) e = leb-true count 1_000_000 (and_parts (nat_le 1 count) (nat_le count 1_000_000) e).1
@@ -317,14 +325,16 @@ pub setup_within : (items : List Item) (reading : Reading) (item : Item) → IsR
     is_setup item ≡ true → pulses_of item ≡ 0 →
     memory_with item reading.memory ≤ 0x400_0000 → passes_limits (item ∷ items) ≡ false
 setup_within items reading item is setup pulses little =
-    let kind : (is_phase item ≡ false) × (is_statement item ≡ false) = neither (is_phase item) (is_statement item) setup in
+    let kind : (is_phase item ≡ false) × (is_statement item ≡ false) = neither (is_phase item) (is_statement item)
+        setup in
     let few : pulses_of item + reading.pulses ≤ 100_000_000 = omega (arith, pulses, is.limits.pulses) in
     limits_with items reading item is
     ∙ rw (kind.0, kind.1) (within reading.statements (length reading.phases.items) (pulses_of item + reading.pulses)
     (memory_with item reading.memory) is.limits.statements is.limits.phases few little)
 
 -- a reason that is handed on
-pub refused : {X : Type 0} (said : X → Item) (items : List Item) (item : Item) (result : Result X Reason) (least : Reason) →
+pub refused : {X : Type 0} (said : X → Item) (items : List Item) (item : Item) (result : Result X Reason)
+    (least : Reason) →
     IsErr result × IsErrAnd result (λ handed. handed ≡ least) → least_reason items item ≡ Some (number_of least) →
     Judges said items item result
 refused said items item (Ok x) least e is = absurd (false≢true e.0)

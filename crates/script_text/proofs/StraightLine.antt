@@ -47,7 +47,8 @@ line_cut version actor text line rest event cut has =
 -- ---- it is read
 
 -- where its item is taken, the line is read
-pub line_taken : {T E : Type 0} (r : Result T E) (version : ℕ) (line : List ℕ) (actor : ℕ) (event : Event) (old new : Reading)
+pub line_taken : {T E : Type 0} (r : Result T E) (version : ℕ) (line : List ℕ) (actor : ℕ) (event : Event)
+    (old new : Reading)
     → IsStraight version line actor event
     → OnOk r ((items : List Item) → IsReadingOf items old
     → (least_reason items (ask actor event) ≡ None) × IsReadingOf (ask actor event ∷ items) new)
@@ -63,7 +64,8 @@ line_taken (Err e) version line actor event old new is taken = tt
 
 -- and where it is refused, the line is bad
 pub line_refused :
-    {T : Type 0} (r : Result T ScriptFault) (version number : ℕ) (line : List ℕ) (actor : ℕ) (event : Event) (old : Reading)
+    {T : Type 0} (r : Result T ScriptFault) (version number : ℕ) (line : List ℕ) (actor : ℕ) (event : Event)
+        (old : Reading)
     → IsStraight version line actor event
     → IfErr r (λ fault. OnBad fault (λ place why. (place ≡ number)
     × ((items : List Item) → IsReadingOf items old → least_reason items (ask actor event) ≡ Some why)))

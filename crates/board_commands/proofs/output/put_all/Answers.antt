@@ -9,7 +9,8 @@ pub loop-piece-init : goal.loop-piece-init
 loop-piece-init g c =
     let taken = g.K.Sink.taken c.args.out.now in
     record {
-      sent = subst (Sent taken taken c.args.text.now) (sym c.pieces-piece-items.ensures.bytes) (nothing_sent taken c.args.text.now);
+      sent = subst (Sent taken taken c.args.text.now) (sym c.pieces-piece-items.ensures.bytes)
+          (nothing_sent taken c.args.text.now);
       quiet = refl;
       puts = none_made (g.K.Sink.puts c.args.out.now) AllTook tt;
     }
@@ -17,7 +18,8 @@ loop-piece-init g c =
 pub loop-piece-preserved : goal.loop-piece-preserved
 loop-piece-preserved g c = record {
   sent =
-      then_piece_sent _ _ _ _ c.pieces-piece-items.result.now c.loop-piece.piece-index c.piece-item.result _ c.loop-piece-test.true
+      then_piece_sent _ _ _ _ c.pieces-piece-items.result.now c.loop-piece.piece-index c.piece-item.result _
+          c.loop-piece-test.true
       c.piece-item.is c.deref.ensures.value c.loop-piece.invariant.sent c.in_ok-put_piece.ensures.whole;
   quiet = c.in_ok-put_piece.ensures.quiet ∙ c.loop-piece.invariant.quiet;
   puts = piece_put _ _ _ c.loop-piece.invariant.puts c.in_ok-put_piece.ensures.puts;

@@ -10,4 +10,5 @@ pub returns-in-Resume-clause-done : goal.returns-in-Resume-clause-done
 returns-in-Resume-clause-done c = rw c.in-Resume.is (c.resume.ensures.done c.in-Resume.image.now c.in-Resume.script.now)
 
 pub returns-in-Resume-clause-stops : goal.returns-in-Resume-clause-stops
-returns-in-Resume-clause-stops c = rw c.in-Resume.is (c.resume.ensures.stops c.in-Resume.image.now c.in-Resume.script.now)
+returns-in-Resume-clause-stops c =
+    rw c.in-Resume.is (c.resume.ensures.stops c.in-Resume.image.now c.in-Resume.script.now)

@@ -12,6 +12,7 @@ returns-in_err-put_text g c = record {
 pub returns : goal.returns
 returns g c = record {
   put =
-      put_more g.W.Write.contents c.put_two.result c.args.first.now (c.args.second.now ++ c.args.third.now) c.args.out.now
+      put_more g.W.Write.contents c.put_two.result c.args.first.now (c.args.second.now ++ c.args.third.now)
+          c.args.out.now
       c.put_text.new.out c.put_two.new.out c.in_ok-put_text.ensures.put c.put_two.ensures.put;
 }

@@ -10,7 +10,8 @@ invariant-loop-shelf g l = record {
   room : 0 < vec_len l.piece;
   no_fault : g.S.Shelf.faults l.shelf ≡ g.S.Shelf.faults l.fn.shelf;
   same : g.S.Shelf.files l.shelf ≡ g.S.Shelf.files l.fn.shelf;
-  fetches : OfCalls (g.S.Shelf.fetches l.fn.shelf) (g.S.Shelf.fetches l.shelf) (ReadTo l.name l.limit (vec_len l.bytes));
+  fetches : OfCalls (g.S.Shelf.fetches l.fn.shelf) (g.S.Shelf.fetches l.shelf)
+      (ReadTo l.name l.limit (vec_len l.bytes));
 }
 
 abbrev pub decreases-loop-shelf : goal.decreases-loop-shelf

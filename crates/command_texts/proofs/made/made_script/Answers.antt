@@ -18,4 +18,5 @@ unreachable-requires c =
     not_both (make_text c.args.rounds) (made_script c.args.rounds) c.in-Err-Bad.field-0-0 c.in-Err-Bad.field-0-1
     (c.law_make_text.ensures.says c.args.rounds c.requires.most)
     (subst (λ (bytes : List ℕ). IsScriptBad bytes c.in-Err-Bad.field-0-0 c.in-Err-Bad.field-0-1) same
-    (subst (λ (fault : ScriptFault). OnBad fault (IsScriptBad c.as_bytes.result.now)) c.in-Err-Bad.field-0-is c.in-Err-Bad.ensures.bad))
+    (subst (λ (fault : ScriptFault). OnBad fault (IsScriptBad c.as_bytes.result.now)) c.in-Err-Bad.field-0-is
+        c.in-Err-Bad.ensures.bad))

@@ -13,11 +13,13 @@ use Rattle.command_texts.proofs.replay.do_statements.Goals as goal
 
 pub loop-phase-init : goal.loop-phase-init
 loop-phase-init c =
-    let opened : c.reserve.new.self ≡ record c.args.board.now { spare = max c.args.board.now.spare c.statement_count.result } =
+    let opened : c.reserve.new.self ≡ record c.args.board.now
+        { spare = max c.args.board.now.spare c.statement_count.result } =
     c.in_ok-reserve.ensures.ok in
     let count : c.statement_count.result ≡ length (in_file_order (lists_of c.deref-phase-items.result.now)) =
     c.statement_count.ensures.count
-    ∙ ap (λ phases. length (in_file_order (lists_of phases))) (c.deref.ensures.value ∙ sym c.deref-phase-items.ensures.value) in
+    ∙ ap (λ phases. length (in_file_order (lists_of phases))) (c.deref.ensures.value
+    ∙ sym c.deref-phase-items.ensures.value) in
     let spare : c.reserve.new.self.spare ≡ max c.args.board.now.spare c.statement_count.result =
     ap (λ (board : Standing). board.spare) opened in
     let most = le-max_right c.args.board.now.spare c.statement_count.result in
@@ -37,8 +39,10 @@ steps-requires-clause-in_range c =
 
 pub steps-requires-clause-spare : goal.steps-requires-clause-spare
 steps-requires-clause-spare c =
-    let few = few_so_far c.deref-phase-items.result.now c.loop-phase.phase-index c.phase-item.result c.loop-phase-test.true c.phase-item.is in
-    let same : length c.deref-in-loop-phase.result.now ≡ length c.phase-item.result.items = ap length c.deref-in-loop-phase.ensures.value in
+    let few = few_so_far c.deref-phase-items.result.now c.loop-phase.phase-index c.phase-item.result
+        c.loop-phase-test.true c.phase-item.is in
+    let same : length c.deref-in-loop-phase.result.now ≡ length c.phase-item.result.items =
+        ap length c.deref-in-loop-phase.ensures.value in
     omega (arith, c.loop-phase.invariant.room, few, same)
 
 pub loop-phase-preserved : goal.loop-phase-preserved
@@ -47,13 +51,15 @@ loop-phase-preserved c =
     let i : ℕ = c.loop-phase.phase-index in
     let few = few_so_far phases i c.phase-item.result c.loop-phase-test.true c.phase-item.is in
     let more = phase_length phases i c.phase-item.result c.loop-phase-test.true c.phase-item.is in
-    let same : length c.deref-in-loop-phase.result.now ≡ length c.phase-item.result.items = ap length c.deref-in-loop-phase.ensures.value in
+    let same : length c.deref-in-loop-phase.result.now ≡ length c.phase-item.result.items =
+        ap length c.deref-in-loop-phase.ensures.value in
     record {
       done =
           phase_done phases i c.phase-item.result c.loop-phase-test.true c.phase-item.is c.args.board.now
           c.loop-phase.board c.steps.new.self c.deref-in-loop-phase.result.now c.deref-in-loop-phase.ensures.value
           c.loop-phase.invariant.done
-          (record { setup = c.steps.ensures.setup; same = c.steps.ensures.same; legal = λ legal. c.steps.ensures.legal });
+          (record { setup = c.steps.ensures.setup; same = c.steps.ensures.same; legal =
+              λ legal. c.steps.ensures.legal });
       room = omega (arith, c.loop-phase.invariant.room, c.steps.ensures.spare, few, more, same);
     }
 

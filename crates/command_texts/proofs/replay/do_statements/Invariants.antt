@@ -10,5 +10,6 @@ abbrev pub invariant-loop-phase : goal.invariant-loop-phase
 invariant-loop-phase l = record {
   done : DidStatements l.fn.board (said_before l.phase-items l.phase-index) l.board;
   room :
-      length (in_file_order (lists_of l.phase-items)) ≤ l.board.spare + length (said_before l.phase-items l.phase-index);
+      length (in_file_order (lists_of l.phase-items)) ≤ l.board.spare + length
+          (said_before l.phase-items l.phase-index);
 }

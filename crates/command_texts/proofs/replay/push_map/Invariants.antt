@@ -5,4 +5,5 @@ use Rattle.command_texts.proofs.replay.push_map.Given as goal
 
 -- the lines of the ranges so far
 abbrev pub invariant-loop-range : goal.invariant-loop-range
-invariant-loop-range l = string_bytes l.text ≡ string_bytes l.fn.text ++ map_text (map range_of (take l.range-index l.ranges))
+invariant-loop-range l = string_bytes l.text ≡ string_bytes l.fn.text ++ map_text
+    (map range_of (take l.range-index l.ranges))

@@ -37,7 +37,8 @@ pub returns-in_err-print_line-clause-walked : goal.returns-in_err-print_line-cla
 returns-in_err-print_line-clause-walked c = λ place within past short.
     let taken = c.in-Some-next.ensures.taken in
     let entry : Entry =
-    next_entry c.args.board.now.entries c.in-Some-next.statement.actor c.in-Some-next.statement.event c.play-entry.result.reply in
+    next_entry c.args.board.now.entries c.in-Some-next.statement.actor c.in-Some-next.statement.event
+        c.play-entry.result.reply in
     let grown : c.play-entry.new.self.entries ≡ entry ∷ c.args.board.now.entries =
     ap (λ board. board.entries) c.play-entry.ensures.entry
     ∙ ap (λ (newest : Entry). newest ∷ c.args.board.now.entries) c.play-entry.ensures.next in
@@ -56,7 +57,8 @@ pub returns-clause-walked : goal.returns-clause-walked
 returns-clause-walked c = λ place within past short.
     let taken = c.in-Some-next.ensures.taken in
     let entry : Entry =
-    next_entry c.args.board.now.entries c.in-Some-next.statement.actor c.in-Some-next.statement.event c.play-entry.result.reply in
+    next_entry c.args.board.now.entries c.in-Some-next.statement.actor c.in-Some-next.statement.event
+        c.play-entry.result.reply in
     let grown : c.play-entry.new.self.entries ≡ entry ∷ c.args.board.now.entries =
     ap (λ board. board.entries) c.play-entry.ensures.entry
     ∙ ap (λ (newest : Entry). newest ∷ c.args.board.now.entries) c.play-entry.ensures.next in

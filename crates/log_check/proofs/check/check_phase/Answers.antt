@@ -62,9 +62,11 @@ returns-in_err-left-clause-walked c = λ place complete past.
     (subst (λ (phase : List Statement). c.loop.counter < length phase) (sym c.loop.invariant.phase) c.loop-test.true)
     in
     handed_on c.from_residual.result c.in_err-left.field-0.0 _ _ c.from_residual.ensures.1
-    (subst (λ (setup : Setup). StoppedCheck setup place.version (place.done ++ c.args.phase.now ∷ place.later) place.bytes
+    (subst (λ (setup : Setup). StoppedCheck setup place.version (place.done ++ c.args.phase.now ∷ place.later)
+        place.bytes
     c.check_line.new.board.entries c.in_err-left.field-0.0) c.loop.invariant.setup
-    (subst (λ (phase : List Statement). StoppedCheck c.loop.board.setup place.version (place.done ++ phase ∷ place.later)
+    (subst (λ (phase : List Statement). StoppedCheck c.loop.board.setup place.version
+        (place.done ++ phase ∷ place.later)
     place.bytes c.check_line.new.board.entries c.in_err-left.field-0.0) c.loop.invariant.phase after))
 
 pub returns-clause-walked : goal.returns-clause-walked

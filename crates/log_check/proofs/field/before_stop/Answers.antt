@@ -4,7 +4,8 @@ use Rattle.log_check.proofs.field.before_stop.Goals as goal
 
 pub returns-in_err-digits : goal.returns-in_err-digits
 returns-in_err-digits c = record {
-  number = λ number after small is. absurd (c.in_err-digits.ensures.parts (decimal number) after (decimal_apart number small) is);
+  number = λ number after small is. absurd
+      (c.in_err-digits.ensures.parts (decimal number) after (decimal_apart number small) is);
 }
 
 pub returns : goal.returns

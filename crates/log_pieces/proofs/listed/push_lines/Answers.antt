@@ -15,7 +15,8 @@ loop-i-preserved g c =
     record {
       later = omega (arith, l.invariant.later);
       lines = line_added c.args.start l.i (g.L.Listed.entries c.args.list.now) c.entry.result l.invariant.later
-          (omega (arith, c.loop-i-test.true, c.requires.within)) (c.entry.ensures.entry c.entry.result) _ _ _ l.invariant.lines
+          (omega (arith, c.loop-i-test.true, c.requires.within)) (c.entry.ensures.entry c.entry.result) _ _ _
+              l.invariant.lines
           c.in_ok-push_line.ensures.appended;
     }
 
@@ -24,6 +25,8 @@ returns g c =
     let l = c.loop-i in
     let last : l.i ≡ c.args.end = omega (arith, c.loop-i-test.false, l.auto.i, l.auto.i-end, c.requires.order) in
     record {
-      appended = subst (λ (n : ℕ). AddsWords c.args.text.now l.text (lines_from (c.args.start + 1) (take (n - c.args.start) (drop c.args.start (g.L.Listed.entries c.args.list.now)))))
+      appended = subst (λ (n : ℕ). AddsWords c.args.text.now l.text
+          (lines_from (c.args.start + 1)
+          (take (n - c.args.start) (drop c.args.start (g.L.Listed.entries c.args.list.now)))))
           last l.invariant.lines;
     }

@@ -6,5 +6,6 @@ use Rattle.log_pieces.proofs.listed.push_lines.Given as goal
 abbrev pub invariant-loop-i : goal.invariant-loop-i
 invariant-loop-i g l = record {
   later : l.start ≤ l.i;
-  lines : AddsWords l.fn.text l.text (lines_from (l.start + 1) (take (l.i - l.start) (drop l.start (g.L.Listed.entries l.list))));
+  lines : AddsWords l.fn.text l.text
+      (lines_from (l.start + 1) (take (l.i - l.start) (drop l.start (g.L.Listed.entries l.list))));
 }

@@ -12,5 +12,6 @@ compare_exchange-found-requires c =
       ap (λ s. s.book) again ∙ sym (ap (λ w. w.book) head),
       pen.0 ∙ (ap (λ s. s.book) again ∙ sym (ap (λ w. w.book) head)),
       asked.0 ∙ sym (ap (λ s. s.names) again),
-      rw (ap (λ w. w.key) head, pen.1, asked.1, again, c.from-old.ensures) (adds_moves c.args.seen.now.log c.args.asked.ask c.args.count (sym c.requires.count)),
+      rw (ap (λ w. w.key) head, pen.1, asked.1, again, c.from-old.ensures)
+          (adds_moves c.args.seen.now.log c.args.asked.ask c.args.count (sym c.requires.count)),
     )

@@ -14,5 +14,6 @@ loop-preserved c =
     record {
       front = front;
       count = search rules;
-      each = subst (λ (viewers : List Viewer). All P viewers) (sym added) (All-append P before (viewer ∷ []) c.loop.invariant.each last);
+      each = subst (λ (viewers : List Viewer). All P viewers) (sym added)
+          (All-append P before (viewer ∷ []) c.loop.invariant.each last);
     }

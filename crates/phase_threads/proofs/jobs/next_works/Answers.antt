@@ -13,6 +13,7 @@ loop-actor-preserved c =
       count = grind (arith, common_steps);
       asked = grind (arith, common_steps);
       empty = grind (arith, common_steps);
-      due = due_more l.next.items work c.args.phase.now l.actor c.push.new.self.items (search rules) l.invariant.count l.invariant.due
+      due = due_more l.next.items work c.args.phase.now l.actor c.push.new.self.items (search rules) l.invariant.count
+          l.invariant.due
           (c.own_in-own.ensures.own l.actor (search rules));
     }

@@ -12,14 +12,16 @@ abbrev in_phase : Phase → List Statement
 in_phase phase = phase.items
 
 -- what holds of each phase holds of one between others
-of_one : (P : Phase → Type 0) (done : List Phase) (phase : Phase) (rest : List Phase) → All P (done ++ phase ∷ rest) → P phase
+of_one : (P : Phase → Type 0) (done : List Phase) (phase : Phase) (rest : List Phase) → All P (done ++ phase ∷ rest)
+    → P phase
 of_one P done phase rest all =
     let size = length-append done (phase ∷ rest) in
     let less : length done < length (done ++ phase ∷ rest) = omega (arith, size) in
     subst P (get_or-append_seam done phase rest phase) (all (length done) phase less)
 
 room_for : (done : List Phase) (phase : Phase) (rest phases : List Phase) → done ++ phase ∷ rest ≡ phases
-    → length (flat_map in_phase phases) ≤ most_statements → length (flat_map in_phase done) + length phase.items ≤ most_statements
+    → length (flat_map in_phase phases) ≤ most_statements
+    → length (flat_map in_phase done) + length phase.items ≤ most_statements
 room_for done phase rest phases whole most =
     let within = statements_within done phase rest in
     let all : length (flat_map in_phase (done ++ phase ∷ rest)) ≤ most_statements =
@@ -34,8 +36,10 @@ run_phase-requires-clause-can g c κs within =
     let steps : into_iter_items l.phase-iterator ≡ phase ∷ rest = c.in-Some.ensures.steps.0 in
     let whole : l.yielded ++ phase ∷ rest ≡ c.args.phases.items =
     ap (λ (phases : List Phase). l.yielded ++ phases) (sym steps) ∙ l.invariant.left in
-    let ranges = of_one (λ (one : Phase). All (IsStatement c.args.board.setup c.args.cpus) one.items) l.yielded phase rest
-    (subst (All (λ (one : Phase). All (IsStatement c.args.board.setup c.args.cpus) one.items)) (sym whole) c.requires.in_range) in
+    let ranges = of_one (λ (one : Phase). All (IsStatement c.args.board.setup c.args.cpus) one.items) l.yielded phase
+        rest
+    (subst (All (λ (one : Phase). All (IsStatement c.args.board.setup c.args.cpus) one.items)) (sym whole)
+        c.requires.in_range) in
     record {
       some = search rules;
       few = search rules;
@@ -67,15 +71,20 @@ loop-phase-preserved g c =
           omega arith;
       setup = c.in_ok-run.ensures.setup ∙ l.invariant.setup;
       count = c.in_ok-run.ensures.goes_on.count ∙ l.invariant.count;
-      legal = subst (λ (setup : Setup). IsLegal setup (entries_of c.run_phase.new.placing.order next.board.entries)) l.invariant.setup c.in_ok-run.ensures.takes_in.legal;
+      legal = subst (λ (setup : Setup). IsLegal setup (entries_of c.run_phase.new.placing.order next.board.entries))
+          l.invariant.setup c.in_ok-run.ensures.takes_in.legal;
       same = c.in_ok-run.ensures.takes_in.same;
       up_to = c.in_ok-run.ensures.up_to;
-      phases = subst (λ (ps : List (List Statement)). HasPhases ps (statements_of (entries_of c.run_phase.new.placing.order next.board.entries)))
+      phases = subst (λ (ps : List (List Statement)). HasPhases ps
+          (statements_of (entries_of c.run_phase.new.placing.order next.board.entries)))
           (sym (phases_more l.yielded phase)) (c.in_ok-run.ensures.takes_in.phases _ l.invariant.phases);
-      places = subst (λ (ps : List (List Statement)). AreAllInPlace c.args.board.setup ps (entries_of c.run_phase.new.placing.order next.board.entries))
+      places = subst (λ (ps : List (List Statement)). AreAllInPlace c.args.board.setup ps
+          (entries_of c.run_phase.new.placing.order next.board.entries))
           (sym (newest_first l.yielded phase))
           (all_in_place c.args.board.setup phase.items _ taken.added _ _ taken.adds taken.size
-          (subst (λ (setup : Setup). AreInPlace setup (entries_of l.placing.order l.run.board.entries) taken.added) l.invariant.setup taken.places)
+          (subst (λ (setup : Setup). AreInPlace setup (entries_of l.placing.order l.run.board.entries) taken.added)
+              l.invariant.setup taken.places)
           l.invariant.places);
-      asked = subst (λ (most : ℕ). AreAsked most next.board.entries next.works.items) (sym (statements_more l.yielded phase)) asked;
+      asked = subst (λ (most : ℕ). AreAsked most next.board.entries next.works.items)
+          (sym (statements_more l.yielded phase)) asked;
     }

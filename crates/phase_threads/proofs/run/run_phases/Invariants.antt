@@ -14,7 +14,9 @@ invariant-loop-phase g l = record {
   legal : IsLegal l.fn.board.setup (entries_of l.placing.order l.run.board.entries);
   same : bare (entries_of l.placing.order l.run.board.entries) ≡ bare l.run.board.entries;
   up_to : IsUpTo l.placing.order l.run.board.entries;
-  phases : HasPhases (map (λ phase. phase.items) l.yielded) (statements_of (entries_of l.placing.order l.run.board.entries));
-  places : AreAllInPlace l.fn.board.setup (reverse (map (λ phase. phase.items) l.yielded)) (entries_of l.placing.order l.run.board.entries);
+  phases : HasPhases (map (λ phase. phase.items) l.yielded)
+      (statements_of (entries_of l.placing.order l.run.board.entries));
+  places : AreAllInPlace l.fn.board.setup (reverse (map (λ phase. phase.items) l.yielded))
+      (entries_of l.placing.order l.run.board.entries);
   asked : AreAsked (length (flat_map (λ phase. phase.items) l.yielded)) l.run.board.entries l.run.works.items;
 }

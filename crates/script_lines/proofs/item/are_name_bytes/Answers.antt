@@ -6,5 +6,6 @@ use Rattle.script_lines.proofs.item.are_name_bytes.Goals as goal
 
 pub returns : goal.returns
 returns c = record {
-  bytes = all_from_yields_List is_name_byte _ _ c.all.result c.all.ensures.ran (YieldsList-from_slice c.args.bytes.now c.iter.ensures.rest) (λ x b q k. search (rules, tests));
+  bytes = all_from_yields_List is_name_byte _ _ c.all.result c.all.ensures.ran
+      (YieldsList-from_slice c.args.bytes.now c.iter.ensures.rest) (λ x b q k. search (rules, tests));
 }

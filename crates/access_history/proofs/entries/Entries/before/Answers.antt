@@ -5,5 +5,7 @@ use Rattle.access_history.proofs.entries.Entries.before.Goals as goal
 
 pub returns : goal.returns
 returns c = record {
-  entries = c.new.ensures.entries ∙ sym (take-map (entry_in c.self.inside.parts.now) c.args.end c.self.inside.entries.now) ∙ ap (take c.args.end) c.self.view_is;
+  entries = c.new.ensures.entries
+      ∙ sym (take-map (entry_in c.self.inside.parts.now) c.args.end c.self.inside.entries.now)
+      ∙ ap (take c.args.end) c.self.view_is;
 }

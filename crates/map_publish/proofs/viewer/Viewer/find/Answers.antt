@@ -7,6 +7,8 @@ pub returns-clause-look : goal.returns-clause-look
 returns-clause-look c =
     let viewer = c.args.self.now in
     record {
-      version = c.version.ensures.version ∙ (ap (λ (sight : Sighted). sight.version) c.find-span.ensures.same ∙ viewer.seen.same);
-      span = λ setup bytes stands. c.find-span.ensures.span setup (bytes_after setup (changes_of viewer.front.seen.log) bytes) (viewer.seen.flat setup bytes stands);
+      version = c.version.ensures.version ∙ (ap (λ (sight : Sighted). sight.version) c.find-span.ensures.same
+          ∙ viewer.seen.same);
+      span = λ setup bytes stands. c.find-span.ensures.span setup
+          (bytes_after setup (changes_of viewer.front.seen.log) bytes) (viewer.seen.flat setup bytes stands);
     }

@@ -13,6 +13,7 @@ invariant_of-self-in-Ok-clause-seen c =
     let shown = c.get-shown.result.now in
     let known : IsMapOfLog shown.front.seen.log shown.map = search rules in
     elim c.if-begins.branch [
-      | then-begins+then-self-shown w ↦ rw w.self-is (rw (w.again.ensures.equal) (sight_of _ shown.map _ known w.take_in.ensures.version w.take_in.ensures.map))
+      | then-begins+then-self-shown w ↦ rw w.self-is
+          (rw (w.again.ensures.equal) (sight_of _ shown.map _ known w.take_in.ensures.version w.take_in.ensures.map))
       | else-begins w ↦ rw w.self-is c.args.self.now.seen
     ]

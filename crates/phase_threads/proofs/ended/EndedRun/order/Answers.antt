@@ -13,4 +13,5 @@ returns-in-Some-clause-entries c =
     let told : over (reverse own) c.entries.result.now ≡ reverse (entries_of (Some order) own) =
     ap (over (reverse own)) c.entries.ensures.entries ∙ map_reverse (entry_of (reverse own)) order.entries in
     sym (ap (λ (run : Ended). over run.bus c.entries.result.now) c.self.view_is)
-    ∙ (told ∙ (ap (λ (o : Option Order). reverse (entries_of o own)) (sym some) ∙ ap (λ (run : Ended). reverse run.entries) c.self.view_is))
+    ∙ (told ∙ (ap (λ (o : Option Order). reverse (entries_of o own)) (sym some)
+    ∙ ap (λ (run : Ended). reverse run.entries) c.self.view_is))

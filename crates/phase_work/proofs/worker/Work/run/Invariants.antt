@@ -11,8 +11,10 @@ invariant-loop-statement g l = record {
   fixed : g.C.Caller.fixed l.cpu ≡ g.C.Caller.fixed l.fn.cpu;
   is : l.number ≡ g.C.Caller.number l.fn.cpu;
   said : map event_of l.self.done.items ≡ events_by l.number (take l.statement-index l.phase);
-  done : IsDone (g.C.Caller.setup l.fn.cpu) (g.C.Caller.number l.fn.cpu) (g.C.Caller.seen l.fn.cpu) (reverse l.self.done.items) (g.C.Caller.seen l.cpu) (g.C.Caller.known l.cpu);
-  mine : length (entries_by (g.C.Caller.number l.fn.cpu) (g.C.Caller.seen l.cpu)) ≤ length (entries_by (g.C.Caller.number l.fn.cpu) (g.C.Caller.seen l.fn.cpu)) + l.statement-index;
+  done : IsDone (g.C.Caller.setup l.fn.cpu) (g.C.Caller.number l.fn.cpu) (g.C.Caller.seen l.fn.cpu)
+      (reverse l.self.done.items) (g.C.Caller.seen l.cpu) (g.C.Caller.known l.cpu);
+  mine : length (entries_by (g.C.Caller.number l.fn.cpu) (g.C.Caller.seen l.cpu)) ≤ length
+      (entries_by (g.C.Caller.number l.fn.cpu) (g.C.Caller.seen l.fn.cpu)) + l.statement-index;
   asked : l.self.asked ≤ l.fn.self.asked + l.statement-index;
   counted : l.self.asked ≡ l.fn.self.asked + length l.self.done.items;
 }

@@ -6,7 +6,8 @@ use Rattle.run_order.proofs.order.RunOrder.all_looks.Given as goal
 
 abbrev pub invariant-loop-actor : goal.invariant-loop-actor
 invariant-loop-actor l = record {
-  looked : (bus : List Entry) → AreLooked l.version l.actor (map (λ done. done.now) l.fn.rests) (map (λ done. done.now) l.rests)
+  looked : (bus : List Entry)
+      → AreLooked l.version l.actor (map (λ done. done.now) l.fn.rests) (map (λ done. done.now) l.rests)
       (over bus l.fn.self.entries) (over bus l.self.entries) l.fn.self.spare l.self.spare;
   bus : l.self.bus ≡ l.fn.self.bus;
   keeps : in_all l.self ≡ in_all l.fn.self;

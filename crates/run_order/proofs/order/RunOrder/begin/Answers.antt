@@ -12,9 +12,12 @@ loop-i-preserved c =
     let less : l.i < length entries = omega (arith, c.loop-i-test.true, c.len-i-end.ensures.length) in
     let is = sym (c.entry.ensures.entry nowhere) in
     let at = ap bus l.invariant.bus in
-    let pushed = c.push_bus.ensures.pushed entries ∙ (λ t. next_entry (over entries l.order.entries) (is t).actor (at t).event (at t).reply ∷ over entries l.order.entries) in
+    let pushed = c.push_bus.ensures.pushed entries
+        ∙ (λ t. next_entry (over entries l.order.entries) (is t).actor (at t).event (at t).reply ∷ over entries
+        l.order.entries) in
     record {
-      same = begin_step c.requires.legal.0 entries l.i nowhere c.requires.legal.1 less (over entries l.order.entries) l.invariant.same _ pushed;
+      same = begin_step c.requires.legal.0 entries l.i nowhere c.requires.legal.1 less (over entries l.order.entries)
+          l.invariant.same _ pushed;
       bus = omega (arith, c.push_bus.ensures.bus, l.invariant.bus);
       room = omega (arith, c.push_bus.ensures.spare, l.invariant.room, less);
       most = omega (arith, c.push_bus.ensures.keeps, l.invariant.most);

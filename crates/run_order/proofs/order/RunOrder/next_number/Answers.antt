@@ -9,12 +9,14 @@ overflow_add-result c =
     let old = c.self.inside in
     let some : 1 ≤ old.spare = rw (ap (λ (o : Order). o.spare) c.self.view_is) c.requires.room in
     let fits : slice_index old.counts c.from.result + 1 < 2 ^ 32 =
-    number_fits (record { entries = reverse old.entries.items; spare = old.spare; bus = old.bus }) (vec_capacity old.entries) old.counts c.args.actor c.from.result c.from.ensures
+    number_fits (record { entries = reverse old.entries.items; spare = old.spare; bus = old.bus })
+        (vec_capacity old.entries) old.counts c.args.actor c.from.result c.from.ensures
     c.requires.actor some c.self.invariant in
     omega arith
 
 pub returns : goal.returns
 returns c = record {
   number = λ bus. ap (λ (n : ℕ). n + 1) (ap (slice_index c.self.inside.counts) c.from.ensures
-      ∙ (c.self.invariant.counted bus c.args.actor c.requires.actor ∙ ap (λ (o : Order). length (entries_by c.args.actor (over bus o.entries))) c.self.view_is));
+      ∙ (c.self.invariant.counted bus c.args.actor c.requires.actor
+      ∙ ap (λ (o : Order). length (entries_by c.args.actor (over bus o.entries))) c.self.view_is));
 }

@@ -27,7 +27,8 @@ returns-clause-whole c items is =
       lacks_is items is.whole ∙ ap not has,
       record {
         cpus = is.cpus ∙ ap (option_map SetCpus) c.in-Some.is;
-        memory = is.mib ∙ ap (option_map SetMemory) c.in-Some-mib.is ∙ ap (λ n. Some (SetMemory n)) (sym c.from.ensures);
+        memory = is.mib ∙ ap (option_map SetMemory) c.in-Some-mib.is
+            ∙ ap (λ n. Some (SetMemory n)) (sym c.from.ensures);
         rom = is.rom ∙ ap (option_map SetRom) c.in-Some-rom.is;
         disk = is.disk;
         cards = is.cards;

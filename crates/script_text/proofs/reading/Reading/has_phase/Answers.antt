@@ -5,5 +5,6 @@ use Rattle.script_text.proofs.reading.Reading.has_phase.Goals as goal
 
 pub returns : goal.returns
 returns c = record {
-  phase = λ items is. let kept = phase_kept items c.args.self.now is in grind (arith, nat_tests, kept, c.is_empty.ensures);
+  phase = λ items is. let kept = phase_kept items c.args.self.now is in
+      grind (arith, nat_tests, kept, c.is_empty.ensures);
 }
