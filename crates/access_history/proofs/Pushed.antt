@@ -33,12 +33,19 @@ parts_front : (list more : List Part) (count : Count) (first : ℕ) → first + 
 parts_front list more Two first less =
     rw (one_front list more first (omega (arith, less)), one_front list more (first + 1) (omega (arith, less))) refl
 parts_front list more Three first less =
-    rw (one_front list more first (omega (arith, less)), one_front list more (first + 1) (omega (arith, less)),
-        one_front list more (first + 2) (omega (arith, less))) refl
+    rw (
+      one_front list more first (omega (arith, less)),
+      one_front list more (first + 1) (omega (arith, less)),
+      one_front list more (first + 2) (omega (arith, less)),
+    ) refl
 parts_front list more Four first less =
-    rw (one_front list more first (omega (arith, less)), one_front list more (first + 1) (omega (arith, less)),
-        one_front list more (first + 2) (omega (arith, less)), one_front list more (first + 3) (omega (arith, less)))
-        refl
+    rw (
+      one_front list more first (omega (arith, less)),
+      one_front list more (first + 1) (omega (arith, less)),
+      one_front list more (first + 2) (omega (arith, less)),
+      one_front list more (first + 3) (omega (arith, less)),
+    )
+    refl
 
 reply_front : (list more : List Part) (reply : PackedReply) → IsWithin (length list) reply
     → reply_in (list ++ more) reply ≡ reply_in list reply
@@ -53,16 +60,17 @@ entries_front : (list more : List Part) (entries : List PackedEntry) → AreWith
     → entries_in (list ++ more) entries ≡ entries_in list entries
 entries_front list more [] within = refl
 entries_front list more (entry ∷ entries) within =
-    λ t. (record (entry_in list entry)
-        { reply = reply_front list more entry.reply
-        (All-head (λ e. IsWithin (length list) e.reply) entry entries within) t })
+    λ t. (record (entry_in list entry) {
+      reply = reply_front list more entry.reply
+          (All-head (λ e. IsWithin (length list) e.reply) entry entries within) t;
+    })
     ∷ entries_front list more entries (All-tail (λ e. IsWithin (length list) e.reply) entry entries within) t
 
 pub pushed_entries : (entries new_entries : List PackedEntry) (parts new_parts : List Part) (packed : PackedEntry)
     (entry : Entry) →
     AreWithin (length parts) entries → KeepsParts parts new_parts packed.reply → entry_in new_parts packed ≡ entry →
     new_entries ≡ entries ++ packed ∷ []
-        → reverse (entries_in new_parts new_entries) ≡ entry ∷ reverse (entries_in parts entries)
+    → reverse (entries_in new_parts new_entries) ≡ entry ∷ reverse (entries_in parts entries)
 pushed_entries entries new_entries parts new_parts packed entry within kept same new_is =
     let split : entries_in new_parts new_entries ≡ entries_in new_parts entries ++ entry_in new_parts packed ∷ [] =
     ap (entries_in new_parts) new_is ∙ map-append (entry_in new_parts) entries (packed ∷ []) in
@@ -79,14 +87,14 @@ pub pushed_history : (entries new_entries : List PackedEntry) (parts new_parts :
 pushed_history entries new_entries parts new_parts packed spare capacity new_capacity room new_room old some kept new_is
     more_capacity more_room =
     let parts_are : length new_parts ≡ length parts + length kept.more = ap length kept.adds
-        ∙ length-append parts kept.more in
+    ∙ length-append parts kept.more in
     let entries_are : length new_entries ≡ length entries + 1 = ap length new_is
-        ∙ length-append entries (packed ∷ []) in
+    ∙ length-append entries (packed ∷ []) in
     record {
       within = subst (AreWithin (length new_parts)) (sym new_is)
           (All-push (λ e. IsWithin (length new_parts) e.reply) entries packed
           (are_within_more (length parts) (length new_parts) (omega (arith, parts_are)) entries old.within)
-              kept.within);
+          kept.within);
       room = omega (arith, old.room, some, more_capacity, entries_are);
       parts_room = omega (arith, old.parts_room, some, more_room, parts_are, kept.few);
       few = omega (arith, old.few, some, entries_are);
@@ -98,4 +106,4 @@ pub entry_at : (list : List Part) (entries : List PackedEntry) (i : ℕ) (packed
     slice_get (entries_in list entries) i ≡ Some (entry_in list packed)
 entry_at list entries i packed less same =
     slice_get-map (entry_in list) entries i
-        ∙ ap (option_map (entry_in list)) (slice_get_read entries (length entries) i packed refl less same)
+    ∙ ap (option_map (entry_in list)) (slice_get_read entries (length entries) i packed refl less same)

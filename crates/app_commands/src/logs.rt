@@ -2,9 +2,9 @@
 
 use access_history::History;
 use board_base::NoMemory;
-use logs_and_maps::{Log, push_lines, push_log, read_log};
 use board_spec::Entry;
 use call_words::decimal;
+use logs_and_maps::{Log, push_lines, push_log, read_log};
 use make_script::push_summary;
 use std::alloc::Global;
 

@@ -13,9 +13,9 @@
 
 use crate::{logs, made};
 use board_base::NoMemory;
-use logs_and_maps::{LogFault, read_log};
 use call_words::decimal;
 use log_lines::parse_entry;
+use logs_and_maps::{LogFault, read_log};
 use script_lines::parse_item;
 use script_text::{ScriptFault, read_script};
 use std::alloc::Global;

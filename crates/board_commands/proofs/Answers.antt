@@ -16,7 +16,7 @@ use Rattle.board_commands.specs.Common.{IsTextFor, IsCommandText, HasNoText, IsA
 pub refused_answer :
     (command : Command) (shelf : ShelfCall) (result : Result (List ℕ) Status) (status : Status) → result ≡ Err status →
     IsRefused command shelf status
-        → (((which : Which) → status ≢ ReadFault which) → shelf.faults_now ≡ shelf.faults_before) →
+    → (((which : Which) → status ≢ ReadFault which) → shelf.faults_now ≡ shelf.faults_before) →
     IsAnswered command shelf result
 refused_answer command shelf result status is refused quiet =
     subst (IsAnswered command shelf) (sym is)
@@ -62,7 +62,7 @@ module _ (command : Command) (shelf : ShelfCall) (known : Known)
       OfFiles shelf.files P
   asked_at_end status P each =
       of_files shelf.files P
-          (λ files is. each files (at_files shelf.files files (λ files'. AllRead command files' known) is read))
+      (λ files is. each files (at_files shelf.files files (λ files'. AllRead command files' known) is read))
 
   -- the text stopped
   pub stopped : (status : Status) → HasNoText command known status → IsRefused command shelf status
@@ -96,7 +96,7 @@ pub read_answer :
     (command : Command) (shelf : ShelfCall) (known : Known) (result : Result (List ℕ) Status) →
     OfFiles shelf.files (λ files. AllRead command files known) → shelf.faults_now ≡ shelf.faults_before →
     IfOk result (IsTextFor command known) → IfOk result (λ _. CanBeDone command known)
-        → IfErr result (HasNoText command known) →
+    → IfErr result (HasNoText command known) →
     IsAnswered command shelf result
 read_answer command shelf known (Ok text) read quiet says done stops =
     text_answer command shelf text (text_there command shelf known read text says done) quiet

@@ -60,7 +60,7 @@ module _ (command : Command) (shelf : ShelfCall) (sink : SinkCall) where
   -- a command was refused before it had its text, and nothing was put
   pub caused_refusal :
       (status : Status) → IsRefused command shelf status → HidesNoFault shelf status
-          → sink.faults_now ≡ sink.faults_before →
+      → sink.faults_now ≡ sink.faults_before →
       Keeps sink.taken_before sink.taken_now → IsCaused status (Some command) shelf sink
   caused_refusal status refused quiet calm keeps = record {
     cause = refusal_cause status refused;
@@ -123,7 +123,7 @@ module _ (command : Command) (shelf : ShelfCall) (sink : SinkCall) where
 -- words that are no command
 pub caused_usage :
     (command : Option Command) (shelf : ShelfCall) (sink : SinkCall) → command ≡ None
-        → shelf.faults_now ≡ shelf.faults_before →
+    → shelf.faults_now ≡ shelf.faults_before →
     sink.faults_now ≡ sink.faults_before → Keeps sink.taken_before sink.taken_now → IsCaused Usage command shelf sink
 caused_usage command shelf sink none quiet calm keeps = record {
   cause = none;

@@ -31,7 +31,7 @@ module _ (one_status : OneStatus) (command : Command) (files : Files) (shelf : S
     (told : shelf.files ≡ Some files) (wanted : Status)
     (asks : AsksFor command files wanted)
     (quiet : IsQuietFor wanted (¬ Rose shelf.faults_before shelf.faults_now)
-        (¬ Rose sink.faults_before sink.faults_now)) where
+    (¬ Rose sink.faults_before sink.faults_now)) where
   abbrev Quiet : Type 0
   Quiet = ¬ Rose shelf.faults_before shelf.faults_now
 
@@ -65,10 +65,10 @@ module _ (one_status : OneStatus) (command : Command) (files : Files) (shelf : S
 
 exact_for :
     OneStatus → (command : Option Command) (told : Option Files) (shelf : ShelfCall) (sink : SinkCall) (status : Status)
-        → shelf.files ≡ told →
+    → shelf.files ≡ told →
     IsCaused status command shelf sink →
     IsExact status command told (¬ Rose shelf.faults_before shelf.faults_now)
-        (¬ Rose sink.faults_before sink.faults_now)
+    (¬ Rose sink.faults_before sink.faults_now)
 exact_for one None told shelf sink status told_is is = λ wanted has quiet. absurd has
 exact_for one (Some command) None shelf sink status told_is is = λ wanted has quiet. absurd has
 exact_for one (Some command) (Some files) shelf sink status told_is is = λ wanted has quiet.
@@ -76,9 +76,9 @@ exact_for one (Some command) (Some files) shelf sink status told_is is = λ want
 
 pub exact :
     OneStatus → (command : Option Command) (shelf : ShelfCall) (sink : SinkCall) (status : Status)
-        → IsCaused status command shelf sink →
+    → IsCaused status command shelf sink →
     IsExact status command shelf.files (¬ Rose shelf.faults_before shelf.faults_now)
-        (¬ Rose sink.faults_before sink.faults_now)
+    (¬ Rose sink.faults_before sink.faults_now)
 exact one command shelf sink status is = exact_for one command shelf.files shelf sink status refl is
 
 none_rose : ¬ Rose 0 0
@@ -99,6 +99,6 @@ always_quiet NoMemory quiet = none_rose
 -- where the outside cannot fail, it is quiet
 pub always_exact :
     (status : Status) (command : Option Command) (told : Option Files)
-        → IsExact status command told (¬ Rose 0 0) (¬ Rose 0 0) →
+    → IsExact status command told (¬ Rose 0 0) (¬ Rose 0 0) →
     IsExact status command told (Unit {0}) (Unit {0})
 always_exact status command told is = λ wanted has quiet. is wanted has (always_quiet wanted quiet)

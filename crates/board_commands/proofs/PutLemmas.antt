@@ -24,11 +24,11 @@ module _ (before between now : Option (List Put)) (so_far : OfCalls before betwe
   then_refused (Ok count) is made = absurd cc
   then_refused (Err error) is made =
       call_more before between now (record { took = None }) AllTook LatestRefused (λ puts took. (refl, took)) so_far
-          made
+      made
 
 pub puts_failed :
     {T E : Type 0} (before now : Option (List Put)) (result : Result T E) → IsErr result
-        → OfCalls before now LatestRefused →
+    → OfCalls before now LatestRefused →
     OfCalls before now (PutsBy result)
 puts_failed before now (Ok value) is refused = absurd cc
 puts_failed before now (Err error) is refused = refused

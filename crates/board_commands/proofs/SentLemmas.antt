@@ -7,7 +7,7 @@ use Rattle.board_commands.specs.Output.{Sent, AppendsFront}
 
 kept_front :
     (before now later : Option (List ℕ)) (text : List ℕ) → Appends before now text → Keeps now later
-        → Appends before later text
+    → Appends before later text
 kept_front None now later text sent kept = tt
 kept_front (Some xs) None later text sent kept = absurd sent
 kept_front (Some xs) (Some ys) None text sent kept = absurd kept
@@ -18,8 +18,11 @@ pub front_sent :
     Sent before now text rest → Keeps now later → AppendsFront before later text
 front_sent before now later text rest sent kept = record {
   rest = rest;
-  sent = record { front = sent.front; whole = sent.whole; taken = kept_front before now later sent.front sent.taken kept
-      };
+  sent = record {
+    front = sent.front;
+    whole = sent.whole;
+    taken = kept_front before now later sent.front sent.taken kept;
+  };
 }
 
 pub more_taken :
@@ -46,7 +49,7 @@ more_sent before now later text rest k sent more = record {
 -- so it is with what is left after the piece
 pub then_sent :
     (before now later : Option (List ℕ)) (text rest left : List ℕ) (k : ℕ) → left ≡ drop k rest
-        → Sent before now text rest →
+    → Sent before now text rest →
     Appends now later (take k rest) → Sent before later text left
 then_sent before now later text rest left k is sent more = rw is (more_sent before now later text rest k sent more)
 
@@ -61,7 +64,7 @@ pub all_sent : (before now : Option (List ℕ)) (text rest : List ℕ) → Sent 
     → Appends before now text
 all_sent before now text rest sent empty =
     let whole : text ≡ sent.front = sent.whole ∙ ap (λ (bytes : List ℕ). sent.front ++ bytes) empty
-        ∙ append-nil sent.front in
+    ∙ append-nil sent.front in
     rw whole sent.taken
 
 -- with all of the next piece

@@ -106,7 +106,7 @@ pub finds :
     own_by by_actor (number_of cpu.pass) (drop (length (opened_by cpu.pass)) (reverse held.board.value.entries))
     ≡ mine_in cpu.pass →
     part_of cpu.pass ≡ Some (opened_with held) → IsPrefix cpu.viewer.front.seen.log held.publisher.value.front.seen.log
-        →
+    →
     Finds cpu held
 finds cpu held begins opens own part meets =
     let actor = cpu.number in
@@ -123,7 +123,7 @@ finds cpu held begins opens own part meets =
     (subst (λ (n : ℕ). own_by by_actor n (drop (length (opened_by pass)) (reverse history)) ≡ mine_in pass)
     cpu.passed.number own) in
     let known : Extends (known_of cpu)
-        (known_after (setup_in pass) (opened_in pass) held.publisher.value.front.seen.log) =
+    (known_after (setup_in pass) (opened_in pass) held.publisher.value.front.seen.log) =
     known_extend (setup_in pass) (opened_in pass) log held.publisher.value.front.seen.log meets in
     record {
       setup = setup;

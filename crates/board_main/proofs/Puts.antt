@@ -40,7 +40,7 @@ module _ {W T E : Type 0} (contents : W → Option (List ℕ)) (result : Result 
   pub put_more :
       (before between now : OutSink W) → TookAll (out_call contents before between) first →
       IsPut result second (out_call contents between now)
-          → IsPut result (first ++ second) (out_call contents before now)
+      → IsPut result (first ++ second) (out_call contents before now)
   put_more before between now taken then = by_result result then
     where
       by_result : (result : Result T E) → IsPut result second (out_call contents between now) →

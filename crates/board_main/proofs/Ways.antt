@@ -70,6 +70,6 @@ told_nothing status sink is idle = record { done = λ _. idle; refused = λ othe
 
 pub told_line :
     (status : Status) (sink : SinkCall) → status ≢ Done
-        → IsIdle sink ⊎ (TookAll sink (text_of status ++ 10 ∷ []) ⊎ TookFront sink (text_of status ++ 10 ∷ [])) →
+    → IsIdle sink ⊎ (TookAll sink (text_of status ++ 10 ∷ []) ⊎ TookFront sink (text_of status ++ 10 ∷ [])) →
     IsTold status sink
 told_line status sink other is = record { done = λ done. absurd (other done); refused = λ _. is }

@@ -61,7 +61,7 @@ pub record EndsLine (given : Option (List (List ℕ))) (status : Status) (shelf 
 
 -- and with its exit code
 pub record EndsProgram (given : Option (List (List ℕ))) (code : ℕ) (shelf : ShelfCall) (sink errors : SinkCall) : Type 0
-    where
-  pub status : Status
-  pub coded : code ≡ code_of status
-  pub ends : EndsLine given status shelf sink errors
+  where
+    pub status : Status
+    pub coded : code ≡ code_of status
+    pub ends : EndsLine given status shelf sink errors

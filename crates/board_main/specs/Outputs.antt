@@ -45,4 +45,4 @@ pub record IsTold (status : Status) (sink : SinkCall) : Type 0 where
   pub refused :
       status ≢ Done →
       IsIdle sink ⊎ (TookAll sink (text_of status ++ line_feed ∷ [])
-          ⊎ TookFront sink (text_of status ++ line_feed ∷ []))
+      ⊎ TookFront sink (text_of status ++ line_feed ∷ []))

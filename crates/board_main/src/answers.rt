@@ -6,9 +6,9 @@ ghost use Rattle.board_main.specs.Own.{own_of, own_by, own_text};
 ghost use Rattle.board_main.specs.Outputs.{IsPut, out_call};
 
 use crate::put::{put_text, put_three};
+use board_commands::USAGE;
 use board_files::OutSink;
 use board_outside::Failed;
-use board_commands::USAGE;
 use std::io::Write;
 
 const TITLE: &str = "\

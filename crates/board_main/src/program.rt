@@ -13,9 +13,9 @@ ghost use Rattle.board_main.specs.Ends.{Ends, EndsCommand, EndsLine, EndsProgram
 use crate::answers::{OwnAnswer, own_answer, write_answer};
 use crate::line::{CommandLine, WordFault};
 use crate::put::put_two;
+use board_commands::{Status, board, exit_code, fault_text};
 use board_files::OutSink;
 use board_outside::{QuietGate, Shelf};
-use board_commands::{Status, board, exit_code, fault_text};
 use std::alloc::Global;
 use std::io::Write;
 use std::process::ExitCode;

@@ -5,9 +5,9 @@ ghost use Rattle.run_order.specs.Over.{IsPlacedBelow};
 
 use access_history::{Entries, History};
 use board_base::{Access, Area, Kind, Target, Width};
-use logs_and_maps::push_log;
 use board_spec::{Entry, Event, Look, Reply};
 use log_pieces::{Text, log_by, run_log_by};
+use logs_and_maps::push_log;
 use run_order::RunEntry;
 use std::alloc::Global;
 use std::process::Abort;

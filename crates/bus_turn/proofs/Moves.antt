@@ -70,7 +70,7 @@ module _ {T E F : Type 0} (entries : T → List E) (actor : E → ℕ) (fixed : 
       × IsSpent views p.0)
       (λ (p : ℕ × List E). (own_by actor p.0 b'.since ≡ p.1) × IsSpent (set views id w) p.0) xs
       (λ p h. let apart = far views id p.0 v at lives h.1 in
-          (same p.0 apart ∙ h.0, set_else views id p.0 w apart ∙ h.1)) all
+      (same p.0 apart ∙ h.0, set_else views id p.0 w apart ∙ h.1)) all
 
   pub stays : (b b' : B) (views : List V) (id j : ℕ) (v w u : V) → get_elem? views id ≡ some v → v.stage ≢ Spent
       → IsPrefix (log_of first b) (log_of first b')
@@ -109,9 +109,9 @@ module _ {T E F : Type 0} (entries : T → List E) (actor : E → ℕ) (fixed : 
     lies = lies;
     each_seat = λ j u e alive. ⊎_elim
         (λ (t : (j ≡ id) × (w ≡ u)). subst (λ (z : ℕ × V). K b (set s.views id w) z.0 z.1) (λ i. (sym t.0 i, t.1 i))
-            (mine (λ dead. alive (ap (λ (z : V). z.stage) (sym t.1) ∙ dead))))
+        (mine (λ dead. alive (ap (λ (z : V). z.stage) (sym t.1) ∙ dead))))
         (λ (t : (j ≢ id) × (get_elem? s.views j ≡ some u)). stays r.book b s.views id j v w u at lives logs same t.0
-            (others j u t.0) (r.each_seat j u t.1 alive)) (at_set s.views id j w u e);
+        (others j u t.0) (r.each_seat j u t.1 alive)) (at_set s.views id j w u e);
     numbered = subst (λ (n : ℕ). All (λ (e : E). actor e < n) b.since) (sym (length-set s.views id w)) numbered;
   }
 
@@ -122,8 +122,8 @@ module _ {T E F : Type 0} (entries : T → List E) (actor : E → ℕ) (fixed : 
   lies_away s b b' id v w at free same lies =
       let h : V = lies.0 in let i : ℕ = b.owner b.serving in
       let other : i ≢ id = λ e. free
-          (ap (λ (z : V). z.stage) (some-injective v h (sym at ∙ (ap (get_elem? s.views) (sym e) ∙ lies.1)))
-          ∙ lies.2) in
+      (ap (λ (z : V). z.stage) (some-injective v h (sym at ∙ (ap (get_elem? s.views) (sym e) ∙ lies.1)))
+      ∙ lies.2) in
       (h, ap (get_elem? (set s.views id w)) same ∙ (set_else s.views id i w other ∙ lies.1), lies.2)
 
   -- a pass that does not hold the value steps, and the book stays

@@ -55,7 +55,7 @@ module _ {E : Type 0} (actor : E → ℕ) where
   own_none n [] h = refl
   own_none n (x ∷ xs) h = let low : actor x < n = All-head (λ (e : E). actor e < n) x xs h in
       ap (λ (b : Bool). cond b (x ∷ own_by actor n xs) (own_by actor n xs)) (ne_eqb (actor x) n (λ e. omega arith))
-          ∙ own_none n xs (All-tail (λ (e : E). actor e < n) x xs h)
+      ∙ own_none n xs (All-tail (λ (e : E). actor e < n) x xs h)
 
 pub All-more : {X : Type 0} (P Q : X → Type 0) (xs : List X) → ((x : X) → P x → Q x) → All P xs → All Q xs
 All-more P Q xs h all k d lt = h _ (all k d lt)

@@ -60,8 +60,13 @@ module _ {T E F : Type 0} (entries : T → List E) (actor : E → ℕ) (fixed : 
 
   -- a ticket is drawn
   drawn_by : B → ℕ → B
-  drawn_by b id = record { since = b.since; ticket = b.ticket + 1; serving = b.serving; owner = put b.owner b.ticket id;
-      place = b.place }
+  drawn_by b id = record {
+    since = b.since;
+    ticket = b.ticket + 1;
+    serving = b.serving;
+    owner = put b.owner b.ticket id;
+    place = b.place;
+  }
 
   after_draw : (b : B) (id j : ℕ) (seen : List E) (st : Stage) → AtStage first b j seen st
       → AtStage first (drawn_by b id) j seen st
@@ -81,9 +86,9 @@ module _ {T E F : Type 0} (entries : T → List E) (actor : E → ℕ) (fixed : 
   lies_drawn s o id v w at idle away h =
       let b = o.book in let k = o.each_seat (b.owner b.serving) h.0 h.1 (alive h.0.stage Holds h.2 refl) in
       let st : AtStage first b (b.owner b.serving) h.0.seen Holds = subst (AtStage first b (b.owner b.serving) h.0.seen)
-          h.2 k.stage in let low : b.serving < b.ticket = st.0 in
+      h.2 k.stage in let low : b.serving < b.ticket = st.0 in
       lies_away entries actor fixed first part s b (drawn_by b id) id v w
-          at (λ e. let one : waiting Idle ≡ waiting Holds = ap waiting (sym idle ∙ e) in omega arith)
+      at (λ e. let one : waiting Idle ≡ waiting Holds = ap waiting (sym idle ∙ e) in omega arith)
       (put_else b.owner b.ticket id b.serving (λ e. omega arith)) h
 
   pub draws : (slots id : ℕ) (me : M) → me.0.stage ≡ Idle
@@ -100,10 +105,10 @@ module _ {T E F : Type 0} (entries : T → List E) (actor : E → ℕ) (fixed : 
         (
           moved entries actor fixed first part s o id v w _ s.homes b' at lives
               (ap (λ (ws : List ℕ). set ws 0 ((get_or ws 0 0 + 1) % 2 ^ 64)) o.words_are
-                  ∙ ap (λ (n : ℕ). n ∷ (b.serving % 2 ^ 64) ∷ (length (log_of first b) % 2 ^ 64) ∷ [])
-                  (mod-add-mod b.ticket (2 ^ 64) 1)) o.home_is
+              ∙ ap (λ (n : ℕ). n ∷ (b.serving % 2 ^ 64) ∷ (length (log_of first b) % 2 ^ 64) ∷ [])
+              (mod-add-mod b.ticket (2 ^ 64) 1)) o.home_is
               (omega arith) (lies_drawn s o id v w at idle b.place o.lies) (prefix_refl (log_of first b)) (λ n _. refl)
-                  o.numbered (λ j u _ h. after_draw b id j u.seen u.stage h)
+              o.numbered (λ j u _ h. after_draw b id j u.seen u.stage h)
               (λ _. record {
                 opened = k.opened;
                 part_is = k.part_is;
@@ -168,7 +173,7 @@ module _ {T E F : Type 0} (entries : T → List E) (actor : E → ℕ) (fixed : 
       let before : t < b.ticket = st.1 in
       let low : b.serving < b.ticket = subst (λ (n : ℕ). n < b.ticket) same before in
       let found : ticket_of v.stage % 2 ^ 64 ≡ get_or s.words 1 0 = ap (λ (z : Stage). ticket_of z % 2 ^ 64) is
-          ∙ (ap (λ (n : ℕ). n % 2 ^ 64) same ∙ sym (ap (λ (ws : List ℕ). get_or ws 1 0) o.words_are)) in (
+      ∙ (ap (λ (n : ℕ). n % 2 ^ 64) same ∙ sym (ap (λ (ws : List ℕ). get_or ws 1 0) o.words_are)) in (
         w,
         takes 0 (Some x),
         ap (λ (hs : Homes). get_elem? hs 0) (o.home_is ∙ ap (λ (q : Place T). slot_of q ∷ []) place),
@@ -177,7 +182,7 @@ module _ {T E F : Type 0} (entries : T → List E) (actor : E → ℕ) (fixed : 
               (ap (λ (ws : List ℕ). set ws 1 (get_or ws 1 0)) o.words_are)
               (ap (λ (hs : Homes). set hs 0 none) o.home_is) (omega arith)
               (w, ap (get_elem? (set s.views id w)) own ∙ set_here s.views id w (at_lt s.views id v at), refl)
-                  (prefix_refl (log_of first b)) (λ n _. refl) o.numbered (λ j u _ h. after_call b j u.seen u.stage h)
+              (prefix_refl (log_of first b)) (λ n _. refl) o.numbered (λ j u _ h. after_call b j u.seen u.stage h)
               (λ _. record {
                 opened = k.opened;
                 part_is = k.part_is;
@@ -200,8 +205,8 @@ module _ {T E F : Type 0} (entries : T → List E) (actor : E → ℕ) (fixed : 
       let st : AtStage first b id v.seen (Waits t) = subst (AtStage first b id v.seen) is k.stage in
       let own : b.owner b.serving ≡ id = ap b.owner (sym same) ∙ st.2 in
       absurd (waits_not_holds v t is
-          (ap (λ (z : V). z.stage) (some-injective v lies.0 (sym at ∙ (ap (get_elem? s.views) (sym own) ∙ lies.1)))
-          ∙ lies.2))
+      (ap (λ (z : V). z.stage) (some-injective v lies.0 (sym at ∙ (ap (get_elem? s.views) (sym own) ∙ lies.1)))
+      ∙ lies.2))
 
   misses : (slots id : ℕ) (me : M) (s : S) → R s → get_elem? s.views id ≡ some me.0
       → ticket_of me.0.stage % 2 ^ 64 ≢ get_or s.words 1 0 → Called slots id me s
@@ -210,8 +215,12 @@ module _ {T E F : Type 0} (entries : T → List E) (actor : E → ℕ) (fixed : 
     me.0,
     keeps,
     tt,
-    subst R (λ i. record { words = sym (set-get_or s.words 1 0) i; homes = s.homes; views =
-        sym (set_again s.views id me.0 at) i }) r,
+    subst R (λ i. record {
+      words = sym (set-get_or s.words 1 0) i;
+      homes = s.homes;
+      views =
+          sym (set_again s.views id me.0 at) i;
+    }) r,
     ((λ hit. absurd (missed hit)), λ _. refl),
   )
 
@@ -227,8 +236,8 @@ module _ {T E F : Type 0} (entries : T → List E) (actor : E → ℕ) (fixed : 
       let shown : get_or s.words 1 0 ≡ b.serving % 2 ^ 64 = ap (λ (ws : List ℕ). get_or ws 1 0) o.words_are in
       dite (ℕ_discrete (ticket_of v.stage % 2 ^ 64) (get_or s.words 1 0))
       (λ hit. hits slots id me t is s r
-          at (sym (one_turn b.serving t (2 ^ 64) low (omega arith)
-          (sym shown ∙ (sym hit ∙ ap (λ (z : Stage). ticket_of z % 2 ^ 64) is)))) b.place refl o.lies)
+      at (sym (one_turn b.serving t (2 ^ 64) low (omega arith)
+      (sym shown ∙ (sym hit ∙ ap (λ (z : Stage). ticket_of z % 2 ^ 64) is)))) b.place refl o.lies)
       (λ missed. misses slots id me s r at missed)
 
   pub looks : (slots id : ℕ) (me : M) → me.0.stage ≡ Idle
@@ -244,7 +253,7 @@ module _ {T E F : Type 0} (entries : T → List E) (actor : E → ℕ) (fixed : 
           moved entries actor fixed first part s o id v w _ s.homes b at lives
               (ap (λ (ws : List ℕ). set ws 1 (get_or ws 1 0)) o.words_are) o.home_is (omega arith)
               (lies_kept entries actor fixed first part s b id v w at (idle_not_holds v idle) b.place o.lies)
-                  (prefix_refl (log_of first b)) (λ n _. refl) o.numbered (λ j u _ h. h)
+              (prefix_refl (log_of first b)) (λ n _. refl) o.numbered (λ j u _ h. h)
               (λ _. record {
                 opened = k.opened;
                 part_is = k.part_is;
@@ -264,8 +273,14 @@ module _ {T E F : Type 0} (entries : T → List E) (actor : E → ℕ) (fixed : 
 
   -- an entry is committed
   with_entry : B → E → B
-  with_entry b e = record { since = b.since ++ e ∷ []; ticket = b.ticket; serving = b.serving; owner = b.owner; place =
-      b.place }
+  with_entry b e = record {
+    since = b.since ++ e ∷ [];
+    ticket = b.ticket;
+    serving = b.serving;
+    owner = b.owner;
+    place =
+        b.place;
+  }
 
   after_commit : (b : B) (e : E) (id j : ℕ) (seen : List E) (st : Stage) → b.owner b.serving ≡ id → j ≢ id
       → AtStage first b j seen st → AtStage first (with_entry b e) j seen st
@@ -287,11 +302,11 @@ module _ {T E F : Type 0} (entries : T → List E) (actor : E → ℕ) (fixed : 
       let mine : actor e ≡ id = by ∙ k.number in let inside = at_lt s.views id v at in
       let logs : IsPrefix (log_of first b) (log_of first b') = (e ∷ [], append_assoc first b.since (e ∷ [])) in
       let same : (n : ℕ) → n ≢ id
-          → own_by actor n b'.since ≡ own_by actor n b.since = λ n other. own_else actor n b.since e
-          (λ d. other (sym d ∙ mine)) in
+      → own_by actor n b'.since ≡ own_by actor n b.since = λ n other. own_else actor n b.since e
+      (λ d. other (sym d ∙ mine)) in
       let long : length (log_of first b) + 1 ≡ length (log_of first b') =
-          (let l = length-append (log_of first b) (e ∷ []) in let m = ap (λ (xs : List E). length xs) logs.1 in
-          omega arith) in
+      (let l = length-append (log_of first b) (e ∷ []) in let m = ap (λ (xs : List E). length xs) logs.1 in
+      omega arith) in
       let all : v.seen ++ e ∷ [] ≡ log_of first b' = ap (λ (xs : List E). xs ++ e ∷ []) st.3 ∙ logs.1 in (
         w,
         keeps,
@@ -300,14 +315,14 @@ module _ {T E F : Type 0} (entries : T → List E) (actor : E → ℕ) (fixed : 
           moved entries actor fixed first part s o id v w _ s.homes b' at lives
               (ap (λ (ws : List ℕ). set ws 2 ((get_or ws 2 0 + 1) % 2 ^ 64)) o.words_are
               ∙ ap (λ (n : ℕ). (b.ticket % 2 ^ 64) ∷ (b.serving % 2 ^ 64) ∷ n ∷ [])
-                  (mod-add-mod (length (log_of first b)) (2 ^ 64) 1 ∙ ap (λ (n : ℕ). n % 2 ^ 64) long)) o.home_is
-                  (omega arith)
+              (mod-add-mod (length (log_of first b)) (2 ^ 64) 1 ∙ ap (λ (n : ℕ). n % 2 ^ 64) long)) o.home_is
+              (omega arith)
               (subst (Lies entries fixed first part b' (set s.views id w)) (sym st.2)
-                  (w, ap (get_elem? (set s.views id w)) st.1 ∙ set_here s.views id w inside, is)) logs same
+              (w, ap (get_elem? (set s.views id w)) st.1 ∙ set_here s.views id w inside, is)) logs same
               (All-append (λ (x : E). actor x < length s.views) b.since (e ∷ []) o.numbered
-                  (All-cons (λ (x : E). actor x < length s.views) e []
-                  (subst (λ (n : ℕ). n < length s.views) (sym mine) inside)
-                  (All-nil (λ (x : E). actor x < length s.views))))
+              (All-cons (λ (x : E). actor x < length s.views) e []
+              (subst (λ (n : ℕ). n < length s.views) (sym mine) inside)
+              (All-nil (λ (x : E). actor x < length s.views))))
               (λ j u other h. after_commit b e id j u.seen u.stage st.1 other h)
               (λ _. record {
                 opened = k.opened;
@@ -340,9 +355,12 @@ module _ {T E F : Type 0} (entries : T → List E) (actor : E → ℕ) (fixed : 
       → AtStage first b j seen st → AtStage first (given_by b x) j seen st
   unfolding given_by
   after_give b x id j seen Idle own other h = tt
-  after_give b x id j seen (Waits t) own other h =
-      (⊎_elim (λ (e : b.serving ≡ t). absurd (other (sym h.2 ∙ (ap b.owner (sym e) ∙ own))))
-      (λ (lt : b.serving < t). omega arith) (eq-or-lt_of_le h.0), h.1, h.2)
+  after_give b x id j seen (Waits t) own other h = (
+    ⊎_elim (λ (e : b.serving ≡ t). absurd (other (sym h.2 ∙ (ap b.owner (sym e) ∙ own))))
+        (λ (lt : b.serving < t). omega arith) (eq-or-lt_of_le h.0),
+    h.1,
+    h.2,
+  )
   after_give b x id j seen Holds own other h = absurd (other (sym h.1 ∙ own))
   after_give b x id j seen Spent own other h = tt
 
@@ -363,9 +381,9 @@ module _ {T E F : Type 0} (entries : T → List E) (actor : E → ℕ) (fixed : 
           moved entries actor fixed first part s o id v w _ _ b' at lives
               (ap (λ (ws : List ℕ). set ws 1 ((get_or ws 1 0 + 1) % 2 ^ 64)) o.words_are
               ∙ ap (λ (n : ℕ). (b.ticket % 2 ^ 64) ∷ n ∷ (length (log_of first b) % 2 ^ 64) ∷ [])
-                  (mod-add-mod b.serving (2 ^ 64) 1))
+              (mod-add-mod b.serving (2 ^ 64) 1))
               (ap (put_back s.homes) carried ∙ ap (λ (hs : Homes). set hs 0 (some (Some x))) o.home_is) (omega arith)
-                  (list ∙ st.3, ap (part_or part) (sym fixed_is ∙ k.part_is)) (prefix_refl (log_of first b))
+              (list ∙ st.3, ap (part_or part) (sym fixed_is ∙ k.part_is)) (prefix_refl (log_of first b))
               (λ n _. refl) o.numbered (λ j u other h. after_give b x id j u.seen u.stage st.1 other h)
               (λ _. record {
                 opened = k.opened;
@@ -400,7 +418,7 @@ module _ {T E F : Type 0} (entries : T → List E) (actor : E → ℕ) (fixed : 
     joined = All-more (λ (p : ℕ × List E). (own_by actor p.0 b.since ≡ p.1) × IsSpent (set views id w) p.0)
         (λ (p : ℕ × List E). (own_by actor p.0 b.since ≡ p.1) × IsSpent (set views id w ++ right ∷ []) p.0) u.joined
         (λ p h. (h.0, at_longer (set views id w) (right ∷ []) p.0 spent h.1))
-            (joined_on entries actor fixed first part b b views id v w at lives (λ m _. refl) u.joined k.joined);
+        (joined_on entries actor fixed first part b b views id v w at lives (λ m _. refl) u.joined k.joined);
     stage = k.stage;
   }
 
@@ -417,7 +435,7 @@ module _ {T E F : Type 0} (entries : T → List E) (actor : E → ℕ) (fixed : 
       let zeroth : id ≡ 0 = sym k.number ∙ opener in let n : ℕ = length s.views in
       let all : v.splits + 1 ≡ n = k.splits zeroth in let views : List V = set s.views id left ++ right ∷ [] in
       let long : length views ≡ n + 1 = length-append (set s.views id left) (right ∷ [])
-          ∙ ap (λ (m : ℕ). m + 1) (length-set s.views id left) in
+      ∙ ap (λ (m : ℕ). m + 1) (length-set s.views id left) in
       let waited = total_set waits s.views id v left at in let waited' = total_snoc waits (set s.views id left) right in
       let lost = total_set is_gone s.views id v left at in let lost' = total_snoc is_gone (set s.views id left) right in
       let found = total_set joins s.views id v left at in let found' = total_snoc joins (set s.views id left) right in
@@ -433,13 +451,13 @@ module _ {T E F : Type 0} (entries : T → List E) (actor : E → ℕ) (fixed : 
           each_seat = λ j u e live. ⊎_elim
               (λ (old : get_elem? (set s.views id left) j ≡ some u). ⊎_elim
               (λ (t : (j ≡ id) × (left ≡ u)). subst (λ (z : ℕ × V). K b views z.0 z.1) (λ i. (sym t.0 i, t.1 i))
-                  (grows b s.views id id (v.splits + 1) v left right v at lives (λ _. omega arith) k))
+              (grows b s.views id id (v.splits + 1) v left right v at lives (λ _. omega arith) k))
               (λ (t : (j ≢ id) × (get_elem? s.views j ≡ some u)). grows b s.views id j u.splits v left right u at lives
-                  (λ z. absurd (t.0 (z ∙ sym zeroth))) (o.each_seat j u t.1 live))
+              (λ z. absurd (t.0 (z ∙ sym zeroth))) (o.each_seat j u t.1 live))
               (at_set s.views id j left u old))
               (λ (new : (j ≡ length (set s.views id left)) × (right ≡ u)). let place : n ≡ j =
-                  sym (new.0 ∙ length-set s.views id left) in
-                  subst (λ (z : ℕ × V). K b views z.0 z.1) (λ i. (place i, new.1 i)) record {
+              sym (new.0 ∙ length-set s.views id left) in
+              subst (λ (z : ℕ × V). K b views z.0 z.1) (λ i. (place i, new.1 i)) record {
                 opened = k.opened;
                 part_is = k.part_is;
                 begins = k.begins;
@@ -467,16 +485,16 @@ module _ {T E F : Type 0} (entries : T → List E) (actor : E → ℕ) (fixed : 
       let none_out : waits v ≡ 0 = ap waiting idle in let none_out' : waits w ≡ 0 = ap waiting idle' in
       let views₁ : List V = set s.views other spent in let apart' : id ≢ other = λ e. apart (sym e) in
       let o₁ : O record { words = s.words; homes = s.homes; views = views₁ } = moved entries actor fixed first part s o
-          other w spent s.words s.homes b at' lives' o.words_are o.home_is (omega arith)
+      other w spent s.words s.homes b at' lives' o.words_are o.home_is (omega arith)
       (lies_kept entries actor fixed first part s b other w spent at' (idle_not_holds w idle') b.place o.lies)
-          (prefix_refl (log_of first b)) (λ n _. refl) o.numbered (λ j u _ h. h) (λ n. absurd (n refl)) in
+      (prefix_refl (log_of first b)) (λ n _. refl) o.numbered (λ j u _ h. h) (λ n. absurd (n refl)) in
       let s₁ : S = record { words = s.words; homes = s.homes; views = views₁ } in
       let at₁ : get_elem? views₁ id ≡ some v = set_else s.views other id spent apart' ∙ at in
       let k : K b views₁ id v = o₁.each_seat id v at₁ lives in let views₂ : List V = set views₁ id both in
       let o₂ : O record { words = s.words; homes = s.homes; views = views₂ } = moved entries actor fixed first part s₁
-          o₁ id v both s.words s.homes b at₁ lives o.words_are o.home_is (omega arith)
+      o₁ id v both s.words s.homes b at₁ lives o.words_are o.home_is (omega arith)
       (lies_kept entries actor fixed first part s₁ b id v both at₁ (idle_not_holds v idle) b.place o₁.lies)
-          (prefix_refl (log_of first b)) (λ n _. refl) o₁.numbered (λ j u _ h. h)
+      (prefix_refl (log_of first b)) (λ n _. refl) o₁.numbered (λ j u _ h. h)
       (λ _. record {
         opened = k.opened;
         part_is = k.part_is;
@@ -487,14 +505,16 @@ module _ {T E F : Type 0} (entries : T → List E) (actor : E → ℕ) (fixed : 
         mine = k.mine;
         joined = let P : ℕ × List E → Type 0 = λ p. (own_by actor p.0 b.since ≡ p.1) × IsSpent views₂ p.0 in
             All-append P v.joined ((w.number, w.mine) ∷ w.joined)
-                (joined_on entries actor fixed first part b b views₁ id v both at₁ lives (λ n _. refl) v.joined
-                k.joined)
-            (All-cons P (w.number, w.mine) w.joined
-            (ap (λ (n : ℕ). own_by actor n b.since) kw.number ∙ kw.mine, ap (get_elem? views₂) kw.number
-                ∙ (set_else views₁ id other both apart ∙ set_here s.views other spent (at_lt s.views other w at')))
+            (joined_on entries actor fixed first part b b views₁ id v both at₁ lives (λ n _. refl) v.joined
+            k.joined)
+            (All-cons P (w.number, w.mine) w.joined (
+              ap (λ (n : ℕ). own_by actor n b.since) kw.number ∙ kw.mine,
+              ap (get_elem? views₂) kw.number
+                  ∙ (set_else views₁ id other both apart ∙ set_here s.views other spent (at_lt s.views other w at')),
+            )
             (joined_on entries actor fixed first part b b views₁ id v both at₁ lives (λ n _. refl) w.joined
             (joined_on entries actor fixed first part b b s.views other w spent at' lives' (λ n _. refl) w.joined
-                kw.joined)));
+            kw.joined)));
         stage = subst (AtStage first b id v.seen) (sym idle) tt;
       }) in
       let lost = total_set is_gone s.views other w spent at' in let lost' = total_set is_gone views₁ id v both at₁ in
@@ -503,7 +523,7 @@ module _ {T E F : Type 0} (entries : T → List E) (actor : E → ℕ) (fixed : 
       let not_gone : is_gone w ≡ 0 = ap gone idle' in let joined : total is_gone s.views ≡ total joins s.views = r.1 in
       let joined₂ : AreJoined views₂ = omega arith in
       subst (λ (vs : List V). R record { words = s.words; homes = s.homes; views = vs })
-          (sym (set_apart s.views id other both spent apart)) (o₂, joined₂)
+      (sym (set_apart s.views id other both spent apart)) (o₂, joined₂)
 
 module _ {T E F : Type 0} (entries : T → List E) (actor : E → ℕ) (fixed : T → F) where
   -- the table as `open` makes it, told of x, with y in the slot
@@ -514,9 +534,9 @@ module _ {T E F : Type 0} (entries : T → List E) (actor : E → ℕ) (fixed : 
       let first : List E = entries x in let part : F = fixed x in let v : View E F = starting first part in
       let b : Book T E = record { since = []; ticket = 0; serving = 0; owner = λ _. 0; place = home y } in
       let long : count ≡ length (log_of first b) % 2 ^ 64 = sym (mod-eq_of_lt small)
-          ∙ ap (λ (n : ℕ). n % 2 ^ 64)
-          (is ∙ (ap (λ (z : T). length (entries z)) (sym same)
-          ∙ ap (λ (xs : List E). length xs) (sym (append-nil first)))) in (
+      ∙ ap (λ (n : ℕ). n % 2 ^ 64)
+      (is ∙ (ap (λ (z : T). length (entries z)) (sym same)
+      ∙ ap (λ (xs : List E). length xs) (sym (append-nil first)))) in (
         record {
           book = b;
           words_are = words_are ∙ ap (λ (n : ℕ). 0 ∷ 0 ∷ n ∷ []) long;
@@ -579,30 +599,30 @@ module _ {T E F : Type 0} (entries : T → List E) (actor : E → ℕ) (fixed : 
           let joined : total is_gone s.views ≡ total joins s.views = final.1.0.1 in
           let most : joins v ≤ total joins s.views = total_at joins s.views id v at in
           let under = total_under (λ (u : View E F). waits u + is_gone u) (λ (u : View E F). stage_small u.stage)
-              s.views id v at (ap (λ (st : Stage). waiting st + gone st) idle) in
+          s.views id v at (ap (λ (st : Stage). waiting st + gone st) idle) in
           let both = total_both waits is_gone s.views in let out = o.out in let n = split in omega arith
 
       found : (p : Place T) → o.book.place ≡ p → Lies entries fixed first part o.book s.views p
           → (x : T) × (get_elem? slots 0 ≡ some (Some x)) × Closes entries actor fixed v x
       found (home x) is lies = let since : drop (length v.opened) (entries x) ≡ o.book.since =
           (λ c. drop (length (k.opened c)) (lies.0 c)) ∙ drop_front first o.book.since in (
-        x,
-        final.4 0 (Some x) (ap (λ (hs : List (maybe.Option (Option T))). get_elem? hs 0)
-            (o.home_is ∙ ap (λ (q : Place T). slot_of q ∷ []) is)),
-        record {
-          fits = fits entries actor fixed first part o.book s.views id v x k lies.0 lies.1;
-          joined = All-more (λ (p : ℕ × List E). (own_by actor p.0 o.book.since ≡ p.1) × IsSpent s.views p.0)
-              (λ (p : ℕ × List E). own_by actor p.0 (drop (length v.opened) (entries x)) ≡ p.1) v.joined
-              (λ p h. ap (own_by actor p.0) since ∙ h.0) k.joined;
-          callers = subst (All (λ (e : E). actor e ≤ v.splits)) (sym since)
-              (All-more (λ (e : E). actor e < length s.views) (λ (e : E). actor e ≤ v.splits) o.book.since
-              (λ e low. let n = split in omega arith) o.numbered);
-        },
-      )
+            x,
+            final.4 0 (Some x) (ap (λ (hs : List (maybe.Option (Option T))). get_elem? hs 0)
+                (o.home_is ∙ ap (λ (q : Place T). slot_of q ∷ []) is)),
+            record {
+              fits = fits entries actor fixed first part o.book s.views id v x k lies.0 lies.1;
+              joined = All-more (λ (p : ℕ × List E). (own_by actor p.0 o.book.since ≡ p.1) × IsSpent s.views p.0)
+                  (λ (p : ℕ × List E). own_by actor p.0 (drop (length v.opened) (entries x)) ≡ p.1) v.joined
+                  (λ p h. ap (own_by actor p.0) since ∙ h.0) k.joined;
+              callers = subst (All (λ (e : E). actor e ≤ v.splits)) (sym since)
+                  (All-more (λ (e : E). actor e < length s.views) (λ (e : E). actor e ≤ v.splits) o.book.since
+                  (λ e low. let n = split in omega arith) o.numbered);
+            },
+          )
       found away is lies =
           let h = o.each_seat (o.book.owner o.book.serving) lies.0 lies.1 (alive lies.0.stage Holds lies.2 refl) in
           let st : AtStage first o.book (o.book.owner o.book.serving) lies.0.seen Holds =
-              subst (AtStage first o.book (o.book.owner o.book.serving) lies.0.seen) lies.2 h.stage in
+          subst (AtStage first o.book (o.book.owner o.book.serving) lies.0.seen) lies.2 h.stage in
           let low : o.book.serving < o.book.ticket = st.0 in let none = none_waits in absurd (omega arith)
 
   -- the slot that was found has the value

@@ -39,7 +39,7 @@ module _ {T E F : Type 0} where
   abbrev pub called : (T → List E) → (E → ℕ) → (T → F) → Told T E F
   called entries actor fixed st m found m' =
       (ticket_of m.0.stage % 2 ^ 64 ≡ found
-          → (x : T) × (m' ≡ (sees m.0 Holds (entries x), (0, Some x) ∷ m.1)) × Fits entries actor fixed m.0 x)
+      → (x : T) × (m' ≡ (sees m.0 Holds (entries x), (0, Some x) ∷ m.1)) × Fits entries actor fixed m.0 x)
       × (ticket_of m.0.stage % 2 ^ 64 ≢ found → m' ≡ m)
 
   abbrev pub counted : List E → Told T E F

@@ -11,13 +11,32 @@ own_by actor number entries = filter (λ e. actor e == number) entries
 module _ {E F : Type 0} where
   -- the pass of `open`, over the list and the fixed part of the opened value
   abbrev pub starting : List E → F → View E F
-  starting entries fixed = record { number = 0; stage = Idle; splits = 0; opened = entries; fixed = Some fixed; seen =
-      entries; told = []; mine = []; joined = [] }
+  starting entries fixed = record {
+    number = 0;
+    stage = Idle;
+    splits = 0;
+    opened = entries;
+    fixed = Some fixed;
+    seen =
+        entries;
+    told = [];
+    mine = [];
+    joined = [];
+  }
 
   -- what is left of a pass that was joined into another
   abbrev pub spent : View E F
-  spent = record { number = 0; stage = Spent; splits = 0; opened = []; fixed = None; seen = []; told = []; mine = [];
-      joined = [] }
+  spent = record {
+    number = 0;
+    stage = Spent;
+    splits = 0;
+    opened = [];
+    fixed = None;
+    seen = [];
+    told = [];
+    mine = [];
+    joined = [];
+  }
 
   abbrev pub staged : View E F → Stage → View E F
   staged v stage = record v { stage = stage }
@@ -33,8 +52,18 @@ module _ {E F : Type 0} where
   after_split v = record v { splits = v.splits + 1 }
 
   abbrev pub split_off : View E F → View E F
-  split_off v = record { number = v.splits + 1; stage = Idle; splits = 0; opened = v.opened; fixed = v.fixed; seen =
-      v.seen; told = []; mine = []; joined = [] }
+  split_off v = record {
+    number = v.splits + 1;
+    stage = Idle;
+    splits = 0;
+    opened = v.opened;
+    fixed = v.fixed;
+    seen =
+        v.seen;
+    told = [];
+    mine = [];
+    joined = [];
+  }
 
   abbrev pub with_joined : View E F → View E F → View E F
   with_joined v w = record v { told = w.seen; joined = v.joined ++ (w.number, w.mine) ∷ w.joined }

@@ -13,7 +13,7 @@ none_made (Some before) P none = record { made = []; told = refl; holds = none }
 
 pub calls_hold :
     {Call : Type 0} (before now : Option (List Call)) (P Q : List Call → Type 0)
-        → ((made : List Call) → P made → Q made) →
+    → ((made : List Call) → P made → Q made) →
     OfCalls before now P → OfCalls before now Q
 calls_hold None now P Q each is = tt
 calls_hold (Some before) now P Q each is = record { made = is.made; told = is.told; holds = each is.made is.holds }
@@ -25,7 +25,7 @@ none_told x is = absurd cc
 pub call_more :
     {Call : Type 0} (before between now : Option (List Call)) (call : Call) (P Q : List Call → Type 0) →
     ((made : List Call) → P made → Q (call ∷ made)) → OfCalls before between P → Made between now call
-        → OfCalls before now Q
+    → OfCalls before now Q
 call_more None between now call P Q each is made = tt
 call_more (Some before) None now call P Q each is made = absurd (none_told (is.made ++ before) is.told)
 call_more (Some before) (Some between) now call P Q each is made = record {
@@ -85,7 +85,7 @@ module _ (before between now : Option (List Fetch)) (name : List ℕ) (limit pla
   -- a fetch was made, and failed or not
   pub read_once :
       {E : Type 0} (result : Result ℕ E) → FetchesOnce between now name place result
-          → OfCalls before now (IsReading name limit)
+      → OfCalls before now (IsReading name limit)
   read_once result is =
       call_more before between now (record { name = name; at = place; came = is.came }) (ReadTo name limit place)
       (IsReading name limit) (next_fetch is.came) so_far is.made
@@ -118,7 +118,7 @@ module _ (before between now : Option (List Fetch)) (name : List ℕ) (limit pla
 -- the file was not taken
 pub reading_failed :
     {T E : Type 0} (before now : Option (List Fetch)) (result : Result T E) (error : E) (name : List ℕ) (limit : ℕ)
-        → result ≡ Err error →
+    → result ≡ Err error →
     OfCalls before now (IsReading name limit) → OfCalls before now (ReadsBy result name limit)
 reading_failed {T = T} {E = E} before now result error name limit is read =
     subst (λ (result' : Result T E). OfCalls before now (ReadsBy result' name limit)) (sym is)

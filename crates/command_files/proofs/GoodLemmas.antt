@@ -20,8 +20,11 @@ record HasRom (known : Known) : Type 0 where
 module _ (told : Option Files) where
   script_read :
       (before now : Known) (name : List ℕ) → before.disk ≡ None → IsTaken told before Script name now → HasScript now
-  script_read before now name none is = record { script = is.range; no_disk = ap (λ (k : Known). k.disk) is.learns.2
-      ∙ none }
+  script_read before now name none is = record {
+    script = is.range;
+    no_disk = ap (λ (k : Known). k.disk) is.learns.2
+        ∙ none;
+  }
 
   rom_read :
       (before now : Known) (script : Option Said) → before.script ≡ script → HasScript before →

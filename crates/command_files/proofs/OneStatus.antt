@@ -165,13 +165,13 @@ boards_apart known differ agree =
     (λ script. OfImage known (λ image. IsForBoard image.setup script)) differ agree in
     let images =
     both_of_image known (λ image. ¬ IsForBoard image.setup both.0) (λ image. IsForBoard image.setup both.0) both.1
-        both.2
+    both.2
     in
     images.1 images.2
 
 done_or_differs :
     (command : Command) (known : Known) (line : ℕ) → CanBeDone command known → OfCheck command (LogDiffers known line)
-        → ⊥
+    → ⊥
 done_or_differs command known line done differs =
     let check = check_is command (LogDiffers known line) differs in
     log_apart known line check.3 (subst (λ (command' : Command). CanBeDone command' known) check.2 done)
@@ -229,7 +229,7 @@ abbrev EndsAt : Command → Files → Known → List Which → Status → Type 0
 EndsAt command files known [] status = EndsWith command known status
 EndsAt command files known (which ∷ later) status =
     Stage files known which (file_name command known which) (λ now status'. EndsAt command files now later status')
-        status
+    status
 
 one_stage :
     OneSpelling → (files : Files) (known : Known) (which : Which) (name : Option (List ℕ))
@@ -268,7 +268,7 @@ one_end spelling command files known (which ∷ later) =
 passed :
     (files : Files) (before now : Known) (which : Which) (name : Option (List ℕ)) (Later : Known → Status → Type 0)
     (status : Status) → Passes files before which name now → Later now status
-        → Stage files before which name Later status
+    → Stage files before which name Later status
 passed files before now which None Later status passes ends = subst (λ (known : Known). Later known status) passes ends
 passed files before now which (Some name) Later status passes ends = inr (inr (passes.0, (now, passes.1, ends)))
 
@@ -302,7 +302,7 @@ at_file command files which known name status comes ends =
     (from_start command files comes.before (which ∷ comes.later) known status comes.read
     (subst
     (λ (named : Option (List ℕ)). Stage files known which named
-        (λ now status'. EndsAt command files now comes.later status')
+    (λ now status'. EndsAt command files now comes.later status')
     status) (sym comes.named) ends))
 
 at_end :

@@ -30,7 +30,7 @@ abbrev pub AreTaken : Command → Option Files → List Which → Known → Type
 AreTaken command told [] known = known ≡ nothing_known
 AreTaken command told (which ∷ before) known =
     (earlier : Known) × AreTaken command told before earlier
-        × IsPassed told earlier which (file_name command earlier which) known
+    × IsPassed told earlier which (file_name command earlier which) known
 
 passed_as :
     (files : Files) (before : Known) (which : Which) (name : Option (List ℕ)) (now : Known) →
@@ -38,11 +38,11 @@ passed_as :
 passed_as files before which None now is = is
 passed_as files before which (Some name) now is =
     subst (λ (file : List ℕ). (length file ≤ limit_of which) × Learns before which file now) is.whole
-        (is.fits, is.learns)
+    (is.fits, is.learns)
 
 taken_as :
     (command : Command) (files : Files) (whiches : List Which) (known : Known)
-        → AreTaken command (Some files) whiches known →
+    → AreTaken command (Some files) whiches known →
     AreReadAs command files whiches known
 taken_as command files [] known is = is
 taken_as command files (which ∷ before) known (earlier, are, passed) = (
@@ -53,7 +53,7 @@ taken_as command files (which ∷ before) known (earlier, are, passed) = (
 
 pub are_read :
     (command : Command) (told : Option Files) (whiches : List Which) (known : Known)
-        → AreTaken command told whiches known →
+    → AreTaken command told whiches known →
     OfFiles told (λ files. AreReadAs command files whiches known)
 are_read command None whiches known is = tt
 are_read command (Some files) whiches known is = taken_as command files whiches known is
@@ -63,7 +63,7 @@ are_read command (Some files) whiches known is = taken_as command files whiches 
 -- a name in the words is the name
 in_words :
     (command : Command) (known : Known) (which : Which) (name other : List ℕ)
-        → file_name command known which ≡ Some name →
+    → file_name command known which ≡ Some name →
     name_in_words command which ≡ Some other → other ≡ name
 in_words command known Script name other named is = cc
 in_words command known Rom name other named is = absurd cc
@@ -122,7 +122,7 @@ module _ (command : Command) (told : Option Files) (which : Which) (before later
         of_files told (λ files. ReadsFile command files which P)
         (λ files is.
         let comes = at_files told files (λ files'. (known' : Known) × ComesTo command files' which known' name) is
-            (reaches name named).comes in
+        (reaches name named).comes in
         record {
           known = comes.0;
           name = name;
@@ -162,9 +162,9 @@ module _ (command : Command) (told : Option Files) (which : Which) (before later
 
   stopped_at :
       (start now : ℕ) (kept : List ℕ) (name : Option (List ℕ)) → file_name command known which ≡ name
-          → (status : Status) →
+      → (status : Status) →
       IsNotPassed which name (record { files = told; faults_before = start; faults_now = now; failed_name = kept })
-          status →
+      status →
       IsRefused command (record { files = told; faults_before = start; faults_now = now; failed_name = kept }) status
   stopped_at start now kept None named status is = absurd is
   stopped_at start now kept (Some name) named status is = not_taken start now kept name named status is
@@ -173,11 +173,11 @@ module _ (command : Command) (told : Option Files) (which : Which) (before later
   stops :
       (start between now : ℕ) (kept : List ℕ) (status : Status) → between ≡ start →
       IsNotPassed which (file_name command known which)
-          (record { files = told; faults_before = between; faults_now = now; failed_name = kept }) status →
+      (record { files = told; faults_before = between; faults_now = now; failed_name = kept }) status →
       IsRefused command (record { files = told; faults_before = start; faults_now = now; failed_name = kept }) status
   stops start between now kept status same is =
       subst (λ (start' : ℕ). IsRefused command
-          (record { files = told; faults_before = start'; faults_now = now; failed_name = kept }) status) same
+      (record { files = told; faults_before = start'; faults_now = now; failed_name = kept }) status) same
       (stopped_at between now kept (file_name command known which) refl status is)
 
   -- ---- the fetches
@@ -194,7 +194,7 @@ module _ (command : Command) (told : Option Files) (which : Which) (before later
   own_whole :
       {T : Type 0} (E : Type 0) (value : T) (made : List Fetch) →
       Both (WholeBefore command told before) (ReadsNamed {E = E} (Ok value) (file_name command known which)
-          (limit_of which)) made →
+      (limit_of which)) made →
       WholeBefore command told (which ∷ before) made
   own_whole E value made is = λ more. (
     is.second,
@@ -212,7 +212,7 @@ module _ (command : Command) (told : Option Files) (which : Which) (before later
   fetches_next E value start between now one two =
       calls_hold start now
       (Both (WholeBefore command told before) (ReadsNamed {E = E} (Ok value) (file_name command known which)
-          (limit_of which)))
+      (limit_of which)))
       (WholeBefore command told (which ∷ before)) (own_whole E value)
       (calls_both start between now (WholeBefore command told before)
       (ReadsNamed {E = E} (Ok value) (file_name command known which) (limit_of which)) one two)
@@ -248,7 +248,7 @@ module _ (command : Command) (told : Option Files) (which : Which) (before later
       OfCalls start now (FetchesOf command told)
   fetches_last result start between now one two =
       calls_hold start now (Both (WholeBefore command told before)
-          (ReadsNamed result (file_name command known which) (limit_of which)))
+      (ReadsNamed result (file_name command known which) (limit_of which)))
       (FetchesOf command told) (last_read result)
       (calls_both start between now (WholeBefore command told before)
       (ReadsNamed result (file_name command known which) (limit_of which)) one two)
@@ -257,10 +257,10 @@ module _ (command : Command) (told : Option Files) (which : Which) (before later
 pub fetches_all :
     (command : Command) (told : Option Files) (start now : Option (List Fetch)) →
     OfCalls start now (WholeBefore command told (reverse (files_of command)))
-        → OfCalls start now (FetchesOf command told)
+    → OfCalls start now (FetchesOf command told)
 fetches_all command told start now is =
     calls_hold start now (WholeBefore command told (reverse (files_of command))) (FetchesOf command told)
-        (λ made whole. whole []) is
+    (λ made whole. whole []) is
 
 -- ---- a loop along the table
 
@@ -293,7 +293,7 @@ module _ (command : Command) (told : Option Files) (files : List Which) (index :
       subst (λ (whiches : List Which). OfCalls start now (WholeBefore command told whiches))
       (sym (reverse-take_more files index d within))
       (fetches_next command told here passed_by (drop (suc index) files) known at_here are E value start between now one
-          two)
+      two)
 
   -- the command stops at it
   pub stops_here :

@@ -13,7 +13,7 @@ at_files told files P is holds = subst (λ (told' : Option Files). OfFiles told'
 
 pub at_file :
     (told : Option Files) (files : Files) (name : List ℕ) (P : List ℕ → Type 0) → told ≡ Some files → OfFile told name P
-        →
+    →
     P (files name)
 at_file told files name P is holds = subst (λ (told' : Option Files). OfFile told' name P) is holds
 

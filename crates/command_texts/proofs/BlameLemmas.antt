@@ -10,7 +10,7 @@ use Rattle.map_blame.proofs.KeptLemmas.{kept_number}
 
 since_most :
     (setup : Setup) (changes : List MapChange) (range : MapRange) (since : ℕ)
-        → IsRight setup (registers_after setup changes) range →
+    → IsRight setup (registers_after setup changes) range →
     IsSince setup changes range since → since ≤ length changes
 since_most setup changes range since right is =
     is.least (length changes)
@@ -24,7 +24,7 @@ all_since setup changes ranges count all are = λ k d below.
     subst (IsRight setup (registers_after setup changes)) (get_or-map map_range_of ranges k d)
     (are.map.right k (map_range_of d) (omega (arith, below, length-map ranges map_range_of))) in
     let most = since_most setup changes (map_range_of (get_or ranges k d)) (get_or ranges k d).since right
-        (are.since k d below) in
+    (are.since k d below) in
     omega (arith, most, all)
 
 pub all_kept :
@@ -39,7 +39,7 @@ all_kept setup changes keep count all is = λ k d below.
 
 pub blame_text :
     {E : Type 0} (result : Result (List ℕ) E) (old new : Setup) (script : Said) (history : List Entry)
-        (changes : List MapChange)
+    (changes : List MapChange)
     (ranges : List Blamed) (keep : List ℕ) → new ≡ old → changes ≡ map_writes_of new history →
     IsReplayOf old (statements_in script) history → IsBlame new changes ranges keep →
     IfOk result (λ text. text ≡ flat_map (blamed_text new history) ranges ++ flat_map (keep_text new history) keep) →

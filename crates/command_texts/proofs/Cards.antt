@@ -41,7 +41,7 @@ bases_eq r xs ys is =
 
 pub card_same :
     (one other : FittedCard) → one.dev ≡ other.dev → one.vga ≡ other.vga → one.rom ≡ other.rom → one.bases ≡ other.bases
-        →
+    →
     one ≡ other
 card_same one other dev vga rom bases = λ k. record { dev = dev k; vga = vga k; bases = bases k; rom = rom k }
 

@@ -14,7 +14,7 @@ done_none old new setup entries = record {
 
 pub done_more :
     (old between new : Standing) (first later : List Statement) → DidStatements old first between
-        → DidStatements between later new →
+    → DidStatements between later new →
     DidStatements old (first ++ later) new
 done_more old between new first later one two = record {
   setup = two.setup ∙ one.setup;
@@ -48,7 +48,7 @@ done_one old new statement reply spare answer is = record {
 pub replay_goes_on :
     (setup : Setup) (old new : Standing) (steps statements : List Statement) → old.setup ≡ setup →
     IsReplayOf setup steps old.entries → DidStatements old statements new
-        → IsReplayOf setup (steps ++ statements) new.entries
+    → IsReplayOf setup (steps ++ statements) new.entries
 replay_goes_on setup old new steps statements is replay done = record {
   legal =
       subst (λ (setup : Setup). IsLegal setup new.entries) (done.setup ∙ is)

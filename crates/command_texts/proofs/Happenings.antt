@@ -48,7 +48,7 @@ IsLeftHere board level history =
 abbrev IsAfterHere : Standing → Bool → List Entry → List Statement → Type 0
 IsAfterHere board level before steps =
     IsLeftAfter IsAnswer (λ (b : Standing). b.setup) (λ (b : Standing) (h : List Entry). b.entries ≡ h) board level
-        before steps
+    before steps
 
 now_standing : (new : Serial Standing) (before : List Entry) (steps : List Statement) →
     IsAfterHere new.board (level_of new.com1) before steps → IsStanding new

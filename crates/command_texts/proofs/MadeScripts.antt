@@ -76,7 +76,7 @@ rom_opens disk fault refused is = subst (IsNotOpened (Some disk)) is refused
 
 pub disk_opens :
     (disk : List ℕ) (fault : BoardOpen) → IsSetup made_setup → disk ≡ disk_image → IsNotOpened (Some disk) fault
-        → fault ≡ BadDisk → ⊥
+    → fault ≡ BadDisk → ⊥
 disk_opens disk fault fits same refused is =
     subst (IsNotOpened (Some disk)) is refused (subst (λ (bytes : List ℕ). IsDisk (Some bytes)) (sym same) fits.disk)
 
@@ -84,7 +84,7 @@ disk_opens disk fault fits same refused is =
 
 pub made_text :
     (rounds : ℕ) (script : Said) (setup : Setup) (history : List Entry) (text : List ℕ)
-        → IsScriptText (make_text rounds) script →
+    → IsScriptText (make_text rounds) script →
     setup ≡ made_setup_of script → IsReplayOf setup (statements_in script) history → HasSummary setup history text →
     IsMakeText rounds text
 made_text rounds script setup history text says same replay summary = record {
@@ -98,7 +98,7 @@ made_text rounds script setup history text says same replay summary = record {
 pub made_result :
     {E : Type 0} (rounds : ℕ) (script : Said) (setup : Setup) (history : List Entry) (result : Result (List ℕ) E) →
     IsScriptText (make_text rounds) script → setup ≡ made_setup_of script
-        → IsReplayOf setup (statements_in script) history →
+    → IsReplayOf setup (statements_in script) history →
     IfOk result (λ text. HasSummary setup history text) → IfOk result (λ text. IsMakeText rounds text)
 made_result rounds script setup history (Ok text) says same replay summary =
     made_text rounds script setup history text says same replay summary

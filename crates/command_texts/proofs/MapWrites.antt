@@ -8,7 +8,7 @@ use Rattle.command_texts.specs.Common.{entry_of_version, AreWritesOf}
 
 pub no_writes :
     (setup : Setup) (writes : MapWrites) → writes.changes.items ≡ [] → writes.entries.items ≡ []
-        → AreWritesOf setup [] writes
+    → AreWritesOf setup [] writes
 unfolding map_writes_of
 no_writes setup writes changes entries = record {
   changes = ap reverse changes;
@@ -60,7 +60,7 @@ entry_at setup history writes version are some most =
 pub writes_same :
     (setup : Setup) (entry : Entry) (before : List Entry) (writes : MapWrites) →
     map_change_of setup before entry.event ≡ None → AreWritesOf setup before writes
-        → AreWritesOf setup (entry ∷ before) writes
+    → AreWritesOf setup (entry ∷ before) writes
 unfolding map_writes_of
 writes_same setup entry before writes none are = record {
   changes = rw none are.changes;
@@ -93,7 +93,7 @@ writes_more setup entry before change old new some changes entries are =
         | inl earlier ↦
             ap (λ (numbers : List ℕ). slice_index numbers index) entries
             ∙ get_or_append_left old.entries.items ((length before + 1) ∷ []) 0 index
-                (omega (arith, earlier, are.count))
+            (omega (arith, earlier, are.count))
             ∙ are.entry index earlier
             ∙ sym (entry_before setup entry before (index + 1) (omega (arith, earlier, version)))
         | inr last ↦

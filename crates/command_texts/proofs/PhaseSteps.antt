@@ -27,12 +27,12 @@ module _ (phases : List (Vec Statement Global)) (i : ℕ) (phase : Vec Statement
       (all_of_phase (λ statement. IsInRange setup statement.event) (lists_of (take i phases)) phase.items
       (lists_of (drop (i + 1) phases))
       (subst (λ (lists : List (List Statement)). AreInRange setup (in_file_order lists))
-          (phases_cut phases i phase within is) all))
+      (phases_cut phases i phase within is) all))
 
   pub phase_done :
       (old between new : Standing) (statements : List Statement) → statements ≡ phase.items →
       DidStatements old (said_before phases i) between → DidStatements between statements new
-          → DidStatements old (said_before phases (i + 1)) new
+      → DidStatements old (said_before phases (i + 1)) new
   phase_done old between new statements same before here =
       subst (λ (all : List Statement). DidStatements old all new)
       (ap (λ (items : List Statement). said_before phases i ++ items) same ∙ sym said_with)

@@ -76,7 +76,7 @@ went_on_once statement old middle new input sent after received done added one t
           ∙ ap (λ (port : Sending). after ++ sent_in port left later) (sym both.port);
       steps = λ later.
           ap (λ (more : List Statement). statements_of old.board.entries ++ more)
-              (steps_first (port_of old) input statement later)
+          (steps_first (port_of old) input statement later)
           ∙ sym (append_assoc (statements_of old.board.entries) (steps_for_all statement.actor (port_of old) now)
           (steps_in (after_all (port_of old) now) left later))
           ∙ ap (λ (front : List Statement). front ++ steps_in (after_all (port_of old) now) left later) (sym both.steps)
@@ -112,7 +112,7 @@ went_on_twice old middle new first second one two =
           ∙ two.sent later;
       steps = λ later.
           ap (λ (statements : List Statement). statements_of old.serial.board.entries ++ steps_in (port_of old.serial)
-              old.input statements)
+          old.input statements)
           (append_assoc first second later)
           ∙ one.steps (second ++ later)
           ∙ two.steps later;
@@ -175,7 +175,7 @@ pub phase_for_port : (setup : Setup) (phases : List (Vec Statement Global)) (i :
 phase_for_port setup phases i phase within is all =
     all_of_phase (IsForPort setup) (lists_of (take i phases)) phase.items (lists_of (drop (i + 1) phases))
     (subst (λ (ps : List (List Statement)). All (IsForPort setup) (in_file_order ps))
-        (phases_cut phases i phase within is) all)
+    (phases_cut phases i phase within is) all)
 
 -- the same under another name of the statements
 pub went_on_as : (old new : SerialPlace) (statements others : List Statement) → statements ≡ others

@@ -31,7 +31,7 @@ no_steps_later port input = refl
 
 pub serial_told : LegalKeepsLock → (setup : Setup) (script : Said) (fresh last : Serial Standing)
     (input left sent text : List ℕ) → fresh.board.setup ≡ setup → fresh.board.entries ≡ [] → fresh.com1 ≡ com1_at_reset
-        →
+    →
     WentOn (record { serial = fresh; input = input; sent = [] }) (statements_in script)
     (record { serial = last; input = left; sent = sent }) → IsLegal last.board.setup last.board.entries →
     text ≡ sent → IsSerialText setup script input text
@@ -50,7 +50,7 @@ serial_told locks setup script fresh last input left sent text fitted none new w
             ∙ ap (λ (more : List Statement). statements_of history ++ more) (sym (no_steps_later (port_of last) left))
             ∙ sym (went.steps [])
             ∙ ap (λ (entries : List Entry). statements_of entries ++ steps_in (port_of fresh) input
-                (statements_in script ++ [])) none
+            (statements_in script ++ [])) none
             ∙ ap (steps_in (port_of fresh) input) all
             ∙ ap (λ (port : Sending). steps_in port input (statements_in script)) begin;
       };

@@ -33,9 +33,9 @@ sum_below-append first (suc more) byte_at =
     let next : sum_below (first + suc more) byte_at ≡ sum_below (suc (first + more)) byte_at =
     ap (λ (n : ℕ). sum_below n byte_at) count in
     let outer : sum_below (suc (first + more)) byte_at ≡ sum_below (first + more) byte_at + byte_at (first + more) =
-        refl in
+    refl in
     let inner : sum_below (suc more) (λ k. byte_at (first + k)) ≡ sum_below more (λ k. byte_at (first + k)) + byte_at
-        (first + more) = refl in
+    (first + more) = refl in
     let before = sum_below-append first more byte_at in
     omega (arith, before)
 

@@ -6,7 +6,7 @@ use Rattle.std.proofs.lemmas.List.{flat_map_more}
 -- the line of the element at i makes the text one line longer
 pub lines_more :
     {A : Type 0} (line_of : A → List ℕ) (elements : List A) (i : ℕ) (default : A) → i < length elements
-        → (old text new : List ℕ) →
+    → (old text new : List ℕ) →
     text ≡ old ++ flat_map line_of (take i elements) → new ≡ text ++ line_of (get_or elements i default) →
     new ≡ old ++ flat_map line_of (take (i + 1) elements)
 lines_more line_of elements i default inside old text new so_far added =

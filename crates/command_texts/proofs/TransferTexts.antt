@@ -38,7 +38,7 @@ dram_told setup store moving size cells =
 
 same_lines : {done other : Done} {status status' dram dram' disk disk' : ℕ} → done ≡ other → status ≡ status' →
     dram ≡ dram' → disk ≡ disk'
-        → ended_line done status ++ sums_line dram disk ≡ ended_line other status' ++ sums_line dram' disk'
+    → ended_line done status ++ sums_line dram disk ≡ ended_line other status' ++ sums_line dram' disk'
 same_lines one two three four = rw (one, two, three, four) refl
 
 -- the text of the transfer by these registers over this disk
@@ -85,7 +85,7 @@ pub abort_added : {T E : Type 0} (result : Result T E) (old one two three new fi
     OnOk result (new ≡ old ++ (first ++ second ++ space ∷ last))
 abort_added (Ok done) old one two three new first second last a b c d =
     d ∙ ap (λ (t : List ℕ). t ++ last)
-        (c ∙ ap (λ (t : List ℕ). t ++ space ∷ []) (b ∙ ap (λ (t : List ℕ). t ++ second) a))
+    (c ∙ ap (λ (t : List ℕ). t ++ space ∷ []) (b ∙ ap (λ (t : List ℕ). t ++ second) a))
     ∙ append_assoc (old ++ first ++ second) (space ∷ []) last
     ∙ ap (λ (t : List ℕ). t ++ space ∷ last) (append_assoc old first second)
     ∙ append_assoc old (first ++ second) (space ∷ last)

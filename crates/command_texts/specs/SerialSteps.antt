@@ -29,13 +29,13 @@ IsStanding serial =
 
 -- these happened to it, each event by this processor
 pub record Happened (actor : ℕ) (old : Serial Standing) (happenings : List Happening) (new : Serial Standing) : Type 0
-    where
-  pub setup : new.board.setup ≡ old.board.setup
-  pub standing : IsStanding new
-  pub port : port_of new ≡ after_all (port_of old) happenings
-  pub steps :
-      statements_of new.board.entries
-      ≡ statements_of old.board.entries ++ steps_for_all actor (port_of old) happenings
+  where
+    pub setup : new.board.setup ≡ old.board.setup
+    pub standing : IsStanding new
+    pub port : port_of new ≡ after_all (port_of old) happenings
+    pub steps :
+        statements_of new.board.entries
+        ≡ statements_of old.board.entries ++ steps_for_all actor (port_of old) happenings
 
 -- how far it came: the board with its port, the input that is left, and the bytes that were sent
 pub record SerialPlace : Type 0 where

@@ -37,7 +37,7 @@ unfolding make_of
 make_read [] command e = absurd (cc e)
 make_read (word ∷ []) command e =
     let count = then_said (parse_decimal word) (λ count. cond (is_round_count count) (Some (Make count)) None) command
-        e in
+    e in
     let few = guarded (is_round_count count.0) (Some (Make count.0)) command count.2 in
     let ends = both (leb 1 count.0) (leb count.0 most_rounds) few.0 in
     subst (Asks (codes "make" ∷ word ∷ [])) (some_is (Make count.0) command few.1) (
@@ -86,7 +86,7 @@ dma_read (script ∷ direction ∷ table ∷ lba ∷ count ∷ []) command e =
     record { to_memory = to_memory.0; table = address.0; lba = sector.0; count = sectors.0 } in
     let is = guarded (is_transfer transfer) (Some (Dma script transfer)) command sectors.2 in
     subst (Asks (codes "dma" ∷ script ∷ direction ∷ table ∷ lba ∷ count ∷ []))
-        (some_is (Dma script transfer) command is.1) (
+    (some_is (Dma script transfer) command is.1) (
       transfer_is transfer is.0,
       (
         table,

@@ -150,7 +150,7 @@ pub begun_after :
     (setup : Setup) (version : ℕ) (phases : List (List Statement)) (bytes : List ℕ) (entries : List Entry)
     (result : Result ℕ CheckFault) →
     MatchResult result (IsCheckedLog setup version phases bytes entries)
-        (FailedCheck setup version phases bytes entries) →
+    (FailedCheck setup version phases bytes entries) →
     IsBegunFor phases entries
 begun_after setup version phases bytes entries (Ok count) checked =
     complete_is_begun phases entries (subst (IsCompleteFor phases) checked.same checked.log.complete)
@@ -160,7 +160,7 @@ pub exactly :
     (setup : Setup) (version : ℕ) (phases : List (List Statement)) (bytes : List ℕ) (entries : List Entry)
     (result : Result ℕ CheckFault) →
     MatchResult result (IsCheckedLog setup version phases bytes entries)
-        (FailedCheck setup version phases bytes entries) →
+    (FailedCheck setup version phases bytes entries) →
     (log : IsLogOf setup version phases bytes) → (result ≡ Ok (length log.history)) ⊎ (result ≡ Err NoMemory)
 exactly setup version phases bytes entries (Ok count) checked log =
     let own : length checked.log.history ≡ length (in_file_order phases) =

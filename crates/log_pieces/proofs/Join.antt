@@ -10,7 +10,7 @@ use Rattle.log_pieces.specs.Pieces.{Piece, IsPiece, ArePieces}
 lines_after :
     (n size : ℕ) (entries : List Entry)
     → lines_from (1 + length (take n entries)) (take size (drop n entries)) ≡ lines_from (n + 1)
-        (take size (drop n entries))
+    (take size (drop n entries))
 unfolding lines_from
 lines_after n size entries = elim (cases_lt (length entries) n) [
   | inl past ↦
@@ -42,12 +42,12 @@ piece_at :
 piece_at size entries done rest lines piece are is =
     let inside : length done < length (done ++ piece ∷ rest) = omega (arith, length-append done (piece ∷ rest)) in
     subst (IsPiece size (length done) entries) (get_or-append_seam done piece rest piece ∙ is)
-        (are (length done) piece inside)
+    (are (length done) piece inside)
 
 -- with the lines of the next piece
 pub piece_added :
     (size : ℕ) (entries : List Entry) (done rest : List Piece) (lines : String Global) (piece : Piece)
-        (old text new : List ℕ)
+    (old text new : List ℕ)
     → ArePieces size entries (done ++ piece ∷ rest) → piece ≡ Ok lines
     → text ≡ old ++ lines_from 1 (take (length done * size) entries) → new ≡ text ++ string_bytes lines
     → new ≡ old ++ lines_from 1 (take (length (done ++ piece ∷ []) * size) entries)

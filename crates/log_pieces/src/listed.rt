@@ -6,8 +6,8 @@ ghost use Rattle.logs_and_maps.specs.Common.{AddsWords, lines_from};
 
 use access_history::Entries;
 use board_base::NoMemory;
-use logs_and_maps::push_line;
 use board_spec::Entry;
+use logs_and_maps::push_line;
 use run_order::RunEntry;
 
 /// A history whose entries are read by their places, the oldest first.

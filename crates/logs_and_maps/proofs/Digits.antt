@@ -27,7 +27,7 @@ byte_past value index small past =
 four :
     (a b c d e f g h : ℕ) → a ≡ e → b ≡ f → c ≡ g → d ≡ h
     → hex_byte a ++ hex_byte b ++ hex_byte c ++ hex_byte d ++ [] ≡ hex_byte e ++ hex_byte f ++ hex_byte g ++ hex_byte
-        h ++ []
+    h ++ []
 four a b c d e f g h one two three last = rw (one, two, three, last) refl
 
 -- the low four bytes are those of the low 32 bits

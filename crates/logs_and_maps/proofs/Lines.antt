@@ -8,7 +8,7 @@ pub reverse-take_more :
     → reverse (take (i + 1) entries) ≡ get_or entries i default ∷ reverse (take i entries)
 reverse-take_more entries i default inside =
     ap reverse ((take_at_read entries i default inside).1)
-        ∙ reverse-append (take i entries) (get_or entries i default ∷ [])
+    ∙ reverse-append (take i entries) (get_or entries i default ∷ [])
 
 pub lines_text-newest :
     (before : List Entry) (entry : Entry) (i : ℕ) → length before ≡ i

@@ -38,8 +38,8 @@ abbrev pub KindsAddUp : Type 0
 KindsAddUp =
     (history : List Entry) → All (λ entry. IsCycleReply entry.reply) history →
     count_where (answers is_dram) history + count_where (answers is_shadow) history + count_where (answers is_smram)
-        history
+    history
     + count_where (answers is_rom) history + count_where (answers is_card) history + count_where (answers is_config)
-        history
+    history
     + count_where (answers is_device) history + count_where (answers is_abort) history + count_where is_look history
     ≡ length history

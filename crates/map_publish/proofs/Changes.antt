@@ -19,9 +19,9 @@ unchanged map = record { stands = λ setup bytes stands. stands; cards = refl; v
 pub changed_again :
     (opened now next : Mapped) (changes : List MapChange) (change : MapChange) → IsMapAfter opened changes now →
     ((setup : Setup) (bytes : Bytes) → StandsFor setup bytes now.regs
-        → StandsFor setup (after setup change bytes) next.regs) →
+    → StandsFor setup (after setup change bytes) next.regs) →
     cards_of next.regs.cards ≡ cards_of now.regs.cards → next.version ≡ now.version + 1
-        → IsMapAfter opened (change ∷ changes) next
+    → IsMapAfter opened (change ∷ changes) next
 unfolding bytes_after
 changed_again opened now next changes change before stands cards version = record {
   stands = λ setup bytes was. stands setup (bytes_after setup changes bytes) (before.stands setup bytes was);
@@ -82,9 +82,9 @@ with_change_below log change below = grind (arith, nat_tests)
 pub changed_map :
     (log : List Mark) (change : MapChange) (now next : Mapped) → IsMapOfLog log now →
     ((setup : Setup) (bytes : Bytes) → StandsFor setup bytes now.regs
-        → StandsFor setup (after setup change bytes) next.regs) →
+    → StandsFor setup (after setup change bytes) next.regs) →
     cards_of next.regs.cards ≡ cards_of now.regs.cards → next.version ≡ now.version + 1
-        → IsMapOfLog (log ++ Changed change ∷ []) next
+    → IsMapOfLog (log ++ Changed change ∷ []) next
 changed_map log change now next before stands cards version =
     rw (opened_changed log change, changes_added log change)
-        (changed_again (opened_of log) now next (changes_of log) change before stands cards version)
+    (changed_again (opened_of log) now next (changes_of log) change before stands cards version)

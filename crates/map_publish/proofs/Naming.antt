@@ -22,12 +22,12 @@ snoc_holds : (shown : Shown) (views : List Name) (given : Name) → AllKnow show
     → AllKnow shown (views ++ given ∷ [])
 snoc_holds shown views given holds knows seat other at =
     ⊎_elim (λ before. holds seat other before) (λ (last : given ≡ other). subst (KnowsBook shown) last knows)
-        (at_snoc views given other seat at)
+    (at_snoc views given other seat at)
 
 set_holds :
     (shown next : Shown) (views : List Name) (seat : ℕ) (given : Name) →
     ((j : ℕ) (other : Name) → get_elem? views j ≡ some other → KnowsBook next other) → KnowsBook next given
-        → AllKnow next (set views seat given)
+    → AllKnow next (set views seat given)
 set_holds shown next views seat given others knows j other at =
     ⊎_elim
     (λ (here : (j ≡ seat) × (given ≡ other)). subst (KnowsBook next) here.1 knows)
@@ -39,13 +39,16 @@ admits shown views holds = snoc_holds shown views nobody holds (nobody_knows sho
 
 -- an entry keeps the seat's name
 pub enters : (seat : ℕ) (given : Name) → Turns AllKnow seat given (λ shown. shown) Stays
-enters seat given shown views holds at = (given, set_holds shown shown views seat given holds (holds seat given at),
-    (refl, holds seat given at))
+enters seat given shown views holds at = (
+  given,
+  set_holds shown shown views seat given holds (holds seat given at),
+  (refl, holds seat given at),
+)
 
 pub forks : (seat : ℕ) (given : Name) → Forks AllKnow seat given given given
 forks seat given shown views holds at =
     snoc_holds shown (set views seat given) given (set_holds shown shown views seat given holds (holds seat given at))
-        (holds seat given at)
+    (holds seat given at)
 
 pub merges : (seat : ℕ) (given : Name) (other : ℕ) (told : Name) → Merges AllKnow seat given other told told nobody
 merges seat given other told shown views holds at apart there =
@@ -55,7 +58,7 @@ merges seat given other told shown views holds at apart there =
     (λ (beside : (other ≢ seat) × (get_elem? views other ≡ some told)). holds other told beside.1)
     (at_set views seat other told told there) in
     set_holds shown shown (set views seat told) other nobody (set_holds shown shown views seat told holds knows)
-        (nobody_knows shown)
+    (nobody_knows shown)
 
 -- what is right of what was published is right of what is published next in its place
 next_known : (shown next : Shown) → next.front.seen.book ≡ shown.front.seen.book
@@ -65,17 +68,23 @@ next_known shown next own map given knows named = record { own = own ∙ (knows 
 turns_to : (seat : ℕ) (given : Name) (shown next : Shown) → next.front.seen.book ≡ shown.front.seen.book
     → IsMapOfLog next.front.seen.log next.map → TurnsAt AllKnow seat given shown next Stays
 turns_to seat given shown next own map views holds at =
-    let known : (other : Name) → KnowsBook shown other → KnowsBook next other = next_known shown next own map in
-    (given, set_holds shown next views seat given (λ j other there. known other (holds j other there))
-        (known given (holds seat given at)), (refl, known given (holds seat given at)))
+    let known : (other : Name) → KnowsBook shown other → KnowsBook next other = next_known shown next own map in (
+      given,
+      set_holds shown next views seat given (λ j other there. known other (holds j other there))
+          (known given (holds seat given at)),
+      (refl, known given (holds seat given at)),
+    )
 
 names_it : (seat : ℕ) (given : Name) (shown next : Shown) → next.front.seen.book ≡ shown.front.seen.book
     → IsMapOfLog next.front.seen.log next.map → TurnsAt AllKnow seat given shown next LearnsName
 names_it seat given shown next own map views holds at =
     let known : (other : Name) → KnowsBook shown other → KnowsBook next other = next_known shown next own map in
-    let to = name shown.front.seen.book in
-    (to, set_holds shown next views seat to (λ j other there. known other (holds j other there))
-        (λ named. record { own = own; map = map }), refl)
+    let to = name shown.front.seen.book in (
+      to,
+      set_holds shown next views seat to (λ j other there. known other (holds j other there))
+          (λ named. record { own = own; map = map }),
+      refl,
+    )
 
 -- what a copy shows once it has taken in what was published next
 step :
@@ -100,13 +109,13 @@ pub publishes :
     front.seen.book ≡ shown.front.seen.book → front.seen.log ≡ shown.front.seen.log ++ Changed change ∷ [] →
     ops ≡ Change change front ∷ [] →
     (next.list.log, next.front) ≡ fold applied (shown.list.log, shown.front) ops
-        → TurnsAt AllKnow seat given shown next Stays
+    → TurnsAt AllKnow seat given shown next Stays
 publishes seat given shown next change front ops listed room own added is to =
     let both = taken_in shown next ops (Change change front) is to in
     let list : with_change shown.list.log change ≡ front.seen.log =
-        rw (listed) (with_change_below shown.front.seen.log change room ∙ sym added) in
+    rw (listed) (with_change_below shown.front.seen.log change room ∙ sym added) in
     let done = step shown next (with_change shown.list.log change) front (ap (λ p. p.0) both) (ap (λ p. p.1) both) own
-        list in
+    list in
     turns_to seat given shown next done.0 done.1
 
 -- the first publish names the seat
@@ -114,7 +123,7 @@ pub begins :
     (seat : ℕ) (given : Name) (shown next : Shown) (ops : List Next) →
     shown.list.log ≡ shown.front.seen.log → ops ≡ Same ∷ [] →
     (next.list.log, next.front) ≡ fold applied (shown.list.log, shown.front) ops
-        → TurnsAt AllKnow seat given shown next LearnsName
+    → TurnsAt AllKnow seat given shown next LearnsName
 begins seat given shown next ops listed is to =
     let both = taken_in shown next ops Same is to in
     let done = step shown next shown.list.log shown.front (ap (λ p. p.0) both) (ap (λ p. p.1) both) refl listed in

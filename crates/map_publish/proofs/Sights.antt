@@ -12,7 +12,7 @@ use Rattle.map_publish.specs.Sights.{IsSight, IsSightOf, Sighted}
 -- a span is that of each address in it
 pub span_at :
     (setup : Setup) (bytes : Bytes) (addr x : ℕ) (kind : Kind) (smm : Bool) (lo hi : ℕ) (area : Area)
-        → IsSpan setup bytes addr kind smm lo hi area →
+    → IsSpan setup bytes addr kind smm lo hi area →
     lo ≤ x → x ≤ hi → IsSpan setup bytes x kind smm lo hi area
 span_at setup bytes addr x kind smm lo hi area span above below = record {
   above = above;
@@ -26,7 +26,7 @@ span_at setup bytes addr x kind smm lo hi area span above below = record {
 -- the ranges of a map, where no span is remembered
 pub kept_of :
     (of : List MapRange) (seen cells : List Range) (count : ℕ) (kind : Kind) (smm : Bool) (area : Area)
-        → map range_of seen ≡ of → Tiles 0 of →
+    → map range_of seen ≡ of → Tiles 0 of →
     length of ≤ most_ranges → count ≡ length seen → length cells ≡ most_ranges → take count cells ≡ seen →
     IsSight cells count kind smm (record { lo = 1; hi = 0; area = area })
 kept_of of seen cells count kind smm area ranges tiles few all room copied = record {
@@ -40,7 +40,7 @@ kept_of of seen cells count kind smm area ranges tiles few all room copied = rec
 pub sight_of :
     (log : List Mark) (of : Mapped) (sight : Sighted) → IsMapOfLog log of → sight.version ≡ of.version →
     ((setup : Setup) (bytes : Bytes) → StandsFor setup bytes of.regs → IsFlatMapOf setup bytes sight.ranges)
-        → IsSightOf log sight
+    → IsSightOf log sight
 sight_of log of sight is_map version flat = record {
   same = version ∙ is_map.version;
   flat = λ setup bytes stands. flat setup (bytes_after setup (changes_of log) bytes) (is_map.stands setup bytes stands);

@@ -22,7 +22,7 @@ pub record IsSight (cells : List Range) (count : ℕ) (kind : Kind) (smm : Bool)
   pub tiles : Tiles 0 (map range_of (take count cells))
   pub spans :
       found.lo ≤ found.hi → (setup : Setup) (bytes : Bytes) → IsFlatMapOf setup bytes (map range_of (take count cells))
-          →
+      →
       IsSpan setup bytes found.lo kind smm found.lo found.hi found.area
 
 -- a sight shows the opened map after the changes: its version, and its ranges

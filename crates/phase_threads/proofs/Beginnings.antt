@@ -24,13 +24,13 @@ pub taken_in : (bus : List Entry) (opened version : ℕ) (works : List (List Don
     → opened ≤ length bus → old.bus ≡ opened → All (IsPlacedBelow old.bus) old.entries
     → over bus new.entries ≡ placed version (drop old.bus bus) works (over bus old.entries)
     → entries_of (Some new) (reverse bus) ≡ placed version (drop opened bus) works
-        (entries_of (Some old) (reverse (take opened bus)))
+    (entries_of (Some old) (reverse (take opened bus)))
 taken_in bus opened version works old new fits size within is =
     let front : over (reverse (reverse (take opened bus))) old.entries ≡ over bus old.entries =
     ap (λ (b : List Entry). over b old.entries) (reverse-reverse (take opened bus))
     ∙ over_front opened bus old.entries (subst (λ (n : ℕ). All (IsPlacedBelow n) old.entries) size within) in
     ap (λ (b : List Entry). over b new.entries) (reverse-reverse bus)
-        ∙ (is ∙ (λ t. placed version (drop (size t) bus) works (sym front t)))
+    ∙ (is ∙ (λ t. placed version (drop (size t) bus) works (sym front t)))
 
 pub front_length : (bus : List Entry) (opened : ℕ) → opened ≤ length bus → length (reverse (take opened bus)) ≡ opened
 front_length bus opened fits = length-reverse (take opened bus) ∙ length-take-le opened bus fits

@@ -32,7 +32,7 @@ pub counts_more : (counts : List ℕ) (phase : List Statement) (i : ℕ) (d : St
     → length counts ≡ 256 → other < 256 → i < length phase
     → actor ≡ (slice_index_or phase i d).actor → slice_index counts other ≡ length (events_by other (take i phase))
     → slice_index (set counts actor (slice_index_or counts actor 0 + 1)) other ≡ length
-        (events_by other (take (i + 1) phase))
+    (events_by other (take (i + 1) phase))
 counts_more counts phase i d actor other many small less own was =
     let more = length-filter_more (is_by other) phase i d less in
     let before = length-map (filter (is_by other) (take i phase)) event_in in
@@ -41,7 +41,7 @@ counts_more counts phase i d actor other many small less own was =
       | inl same ↦
           let is : is_by other (slice_index_or phase i d) ≡ true = grind (arith, nat_tests) in
           let new = get_or-set_at counts actor other (get_or counts actor 0 + 1) 0 same
-              (omega (arith, many, small, same)) in
+          (omega (arith, many, small, same)) in
           let old = ap (slice_index counts) same in
           let one = ap {B = ℕ} (λ (b : Bool). cond b 1 0) is in
           omega (arith, new, old, was, more, before, after, one)
@@ -60,7 +60,7 @@ due_more works work phase actor next more size was own =
     let count = ap length more ∙ length-append works (work ∷ []) in
     let long : length next ≡ actor + 1 = omega (arith, count, size) in
     let old : map due_in works ≡ map (count_in phase) (range_with_len 0 actor) = was
-        ∙ ap (λ (n : ℕ). map (count_in phase) (range_with_len 0 n)) size in
+    ∙ ap (λ (n : ℕ). map (count_in phase) (range_with_len 0 n)) size in
     ap (map due_in) more ∙ (map-append due_in works (work ∷ [])
     ∙ (ap (λ (dues : List ℕ). dues ++ work.due ∷ []) old
     ∙ (ap (λ (due : ℕ). map (count_in phase) (range_with_len 0 actor) ++ due ∷ []) own
@@ -80,9 +80,9 @@ due_by_number jobs works phase n are_works numbers size due =
     let work : Job → Work = λ job. job.work in
     let number : Job → ℕ = λ job. job.cpu.number in
     let dues : map (λ (job : Job). job.work.due) (reverse jobs) ≡ map due_in works =
-        sym (map_twice work due_in (reverse jobs)) ∙ ap (map due_in) are_works in
+    sym (map_twice work due_in (reverse jobs)) ∙ ap (map due_in) are_works in
     let counts : map (count_in phase) (range_with_len 0 n) ≡ map (λ (job : Job). count_in phase job.cpu.number)
-        (reverse jobs) =
+    (reverse jobs) =
     ap (map (count_in phase)) (sym numbers) ∙ map_twice number (count_in phase) (reverse jobs) in
     all_turned (λ job. job.work.due ≡ length (events_by job.cpu.number phase)) jobs
     (same_each (λ (job : Job). job.work.due) (λ (job : Job). count_in phase job.cpu.number) (reverse jobs)

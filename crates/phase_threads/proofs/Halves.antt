@@ -35,7 +35,7 @@ nothing_done : (setup : Setup) (actor : ℕ) (opened : List Entry) (phase : List
     → HasDone setup actor opened phase done seen known
 nothing_done setup actor opened phase done seen known empty none same all =
     subst (λ (list : List Done). HasDone setup actor opened phase list seen known) (sym empty)
-        (record { trace = (same, all); said = sym none })
+    (record { trace = (same, all); said = sym none })
 
 -- a worker that has no statement ends as it began
 idle_runs : (live : Live) (phase : List Statement) (job : Job) → job.work.due ≡ 0 → Runs live phase job job
@@ -73,7 +73,7 @@ numbers_stay live phase (job ∷ jobs) [] ran = absurd ran
 numbers_stay live phase (job ∷ jobs) (last ∷ now) ran =
     let numbers : List Job → List ℕ = map (λ (job : Job). job.cpu.number) in
     ap (λ (n : ℕ). n ∷ numbers now) ran.0.number
-        ∙ ap (λ (ns : List ℕ). job.cpu.number ∷ ns) (numbers_stay live phase jobs now ran.1)
+    ∙ ap (λ (ns : List ℕ). job.cpu.number ∷ ns) (numbers_stay live phase jobs now ran.1)
 
 pub all_run : (live : Live) (board : Standing) (part : Option Origin) (phase : List Statement) (before : ℕ)
     (jobs now : List Job) → AllZip (Runs live phase) jobs now

@@ -13,8 +13,8 @@ pub map_reverse : {X Y : Type 0} (f : X → Y) (xs : List X) → map f (reverse 
 map_reverse f [] = refl
 map_reverse {X} {Y} f (x ∷ xs) =
     ap (map f) (reverse-append (x ∷ []) xs)
-        ∙ (map-append f (reverse xs) (x ∷ [])
-        ∙ (ap (λ (ys : List Y). ys ++ f x ∷ []) (map_reverse f xs) ∙ sym (reverse-append (f x ∷ []) (map f xs))))
+    ∙ (map-append f (reverse xs) (x ∷ [])
+    ∙ (ap (λ (ys : List Y). ys ++ f x ∷ []) (map_reverse f xs) ∙ sym (reverse-append (f x ∷ []) (map f xs))))
 
 pub map_twice : {X Y Z : Type 0} (f : X → Y) (g : Y → Z) (xs : List X) → map g (map f xs) ≡ map (λ x. g (f x)) xs
 map_twice f g [] = refl
@@ -37,7 +37,7 @@ pub number_at : {X : Type 0} (f : X → ℕ) (xs : List X) (n : ℕ) → map f x
 number_at f xs n e k d less =
     let few : k < n = subst (λ m. k < m) (numbered_length f xs n e) less in
     sym (get_or-map f xs k d (f d) less)
-        ∙ (ap (λ (ns : List ℕ). slice_index_or ns k (f d)) e ∙ (get_or-range_with_len 0 n k (f d) few ∙ omega arith))
+    ∙ (ap (λ (ns : List ℕ). slice_index_or ns k (f d)) e ∙ (get_or-range_with_len 0 n k (f d) few ∙ omega arith))
 
 pub numbers_below : {X : Type 0} (f : X → ℕ) (xs : List X) (n a : ℕ) → map f xs ≡ range_with_len 0 n
     → Any (λ x. f x ≡ a) xs → a < n
@@ -52,8 +52,8 @@ same_numbers f xs ys a e any =
     let less : any.0 < length ys = subst (λ n. any.0 < n) (sym (same_lengths f f ys xs e)) any.2 in
     let y = slice_index_or ys any.0 any.1 in
     let number : f y ≡ a = sym (get_or-map f ys any.0 any.1 (f any.1) less)
-        ∙ (ap (λ (ns : List ℕ). slice_index_or ns any.0 (f any.1)) e
-        ∙ (get_or-map f xs any.0 any.1 (f any.1) any.2 ∙ (ap f any.3 ∙ any.4))) in
+    ∙ (ap (λ (ns : List ℕ). slice_index_or ns any.0 (f any.1)) e
+    ∙ (get_or-map f xs any.0 any.1 (f any.1) any.2 ∙ (ap f any.3 ∙ any.4))) in
     (any.0, y, less, get_or_default ys any.0 y any.1 less, number)
 
 -- what holds of each job's processor and work holds by processor
@@ -84,7 +84,7 @@ pub asked_again : (most : ℕ) (works next : List Work)
     → All (λ work. work.asked ≤ most) works → All (λ work. work.asked ≤ most) next
 asked_again most works next e all =
     all_mapped (λ (work : Work). work.asked) (λ n. n ≤ most) next
-        (subst (All (λ n. n ≤ most)) (sym e) (All-map (λ n. n ≤ most) (λ (work : Work). work.asked) works all))
+    (subst (All (λ n. n ≤ most)) (sym e) (All-map (λ n. n ≤ most) (λ (work : Work). work.asked) works all))
 
 -- what a slice of a whole list leaves of it
 pub lent_back : {X : Type 0} (n : ℕ) (old now : List X) → n ≡ length old → length now ≡ length old

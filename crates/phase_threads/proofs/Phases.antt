@@ -19,7 +19,7 @@ later_is before now opened entries b old is =
     let cut : entries ≡ reverse before ++ reverse b.0 = is ∙ (ap reverse b.1 ∙ reverse-append b.0 before) in
     let size : length opened ≡ length (reverse before) = ap length old in
     ap (drop (length opened)) cut ∙ (ap (λ (n : ℕ). drop n (reverse before ++ reverse b.0)) size
-        ∙ drop-append_seam (reverse before) (reverse b.0))
+    ∙ drop-append_seam (reverse before) (reverse b.0))
 
 pub whole_is : (before now opened entries : List Entry) → Begins before now → opened ≡ reverse before
     → entries ≡ reverse now
@@ -58,7 +58,7 @@ phase_is_run before now opened entries phase works run old is cards legal caller
       each = λ actor less.
           let few : actor < length works = subst (λ (n : ℕ). actor < n) run.count less in
           subst (λ (h : List Entry). IsWork before.setup before.entries h phase actor (done_by 0 actor run.lists))
-              (sym whole) (run.each actor few);
+          (sym whole) (run.each actor few);
     }
 
 -- ---- the history of the run
@@ -71,7 +71,7 @@ front_is before now opened entries b old is =
     let size : length opened ≡ length (reverse before) = ap length old in
     let front : take (length opened) entries ≡ reverse before =
     ap (take (length opened)) cut ∙ (ap (λ (n : ℕ). take n (reverse before ++ reverse b.0)) size
-        ∙ take-append_seam (reverse before) (reverse b.0)) in
+    ∙ take-append_seam (reverse before) (reverse b.0)) in
     ap reverse front ∙ reverse-reverse before
 
 pub back_is : (now entries : List Entry) → entries ≡ reverse now → reverse entries ≡ now
@@ -82,10 +82,10 @@ pub front_all : (n : ℕ) (before now opened entries : List Entry) → Begins be
     → n ≤ 8 → All (λ entry. entry.actor < n) before → All (λ entry. entry.actor < 8) (take (length opened) entries)
 front_all n before now opened entries b old is few all =
     let back : take (length opened) entries ≡ reverse before = sym (reverse-reverse (take (length opened) entries))
-        ∙ ap reverse (front_is before now opened entries b old is) in
+    ∙ ap reverse (front_is before now opened entries b old is) in
     subst (All (λ (entry : Entry). entry.actor < 8)) (sym back)
     (all_reverse (λ (entry : Entry). entry.actor < 8) before (λ k d less. let one = all k d less in
-        omega (arith, one, few)))
+    omega (arith, one, few)))
 
 pub takes_in : (before now : Standing) (opened entries : List Entry) (phase : List Statement) (lists : List (List Done))
     (old new : Option Order) (version : ℕ)
@@ -140,10 +140,10 @@ pub all_in_place : (setup : Setup) (phase : List Statement) (earlier : List (Lis
 all_in_place setup phase earlier added history all is size places before =
     let front : take (length phase) all ≡ added =
     ap (take (length phase)) is
-        ∙ (ap (λ (n : ℕ). take n (added ++ history)) (sym size) ∙ take-append_seam added history) in
+    ∙ (ap (λ (n : ℕ). take n (added ++ history)) (sym size) ∙ take-append_seam added history) in
     let back : drop (length phase) all ≡ history =
     ap (drop (length phase)) is
-        ∙ (ap (λ (n : ℕ). drop n (added ++ history)) (sym size) ∙ drop-append_seam added history) in
+    ∙ (ap (λ (n : ℕ). drop n (added ++ history)) (sym size) ∙ drop-append_seam added history) in
     rw (front, back) (places, before)
 
 pub statements_more : (done : List Phase) (phase : Phase)
@@ -167,8 +167,8 @@ pub few_so_far : (phases : List Phase) (i : ℕ) (phase : Phase) → i < length 
 few_so_far phases i phase less is =
     let cut : take i phases ++ phase ∷ drop (i + 1) phases ≡ phases =
     ap (λ (rest : List Phase). take i phases ++ rest) (ap (λ (p : Phase). p ∷ drop (i + 1) phases) is
-        ∙ sym (drop_more phases i phase less))
+    ∙ sym (drop_more phases i phase less))
     ∙ take-append-drop i phases in
     subst (λ (ps : List Phase). length (flat_map in_phase (take i phases)) + length phase.items ≤ length
-        (flat_map in_phase ps)) cut
+    (flat_map in_phase ps)) cut
     (statements_within (take i phases) phase (drop (i + 1) phases))

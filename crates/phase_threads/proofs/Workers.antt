@@ -65,7 +65,7 @@ pub ready : (live : Live) (board : Standing) (n : ℕ) (cpus : List Cpu) (works 
 ready live board n cpus works jobs phase before o are_cpus are_works empty due asked in_range mine room =
     let named : map number_in (reverse jobs) ≡ range_with_len 0 n = job_numbers cpus jobs n are_cpus o.numbers in
     let size : length works ≡ n = sym (ap length are_works)
-        ∙ (length-map (reverse jobs) work_in ∙ numbered_length number_in (reverse jobs) n named) in
+    ∙ (length-map (reverse jobs) work_in ∙ numbered_length number_in (reverse jobs) n named) in
     λ k d less. record {
       own = from_cpus (IsCallerOf live) jobs cpus are_cpus o.all.own k d less;
       same = from_cpus (λ cpu. part_of cpu.pass ≡ Some o.all.opened) jobs cpus are_cpus o.all.same k d less;
@@ -144,9 +144,11 @@ whole_begins live board now part phase before [] some run closes fine = absurd (
 whole_begins live board now part phase before (job ∷ jobs) some run closes fine =
     let ran = All-head (IsRun live board part phase before) job jobs run in
     let closed = All-head (λ (job : Job). ClosesBoard now job.cpu) job jobs closes in
-    let trace = (ran.done (All-head (λ (job : Job). job.refused ≡ false) job jobs fine)).trace in
-    (sym closed.setup ∙ ran.setup, begins_trans board.entries (seen_of job.cpu) now.entries
-        (begins_opened _ _ _ _ _ _ trace) closed.begins)
+    let trace = (ran.done (All-head (λ (job : Job). job.refused ≡ false) job jobs fine)).trace in (
+      sym closed.setup ∙ ran.setup,
+      begins_trans board.entries (seen_of job.cpu) now.entries
+          (begins_opened _ _ _ _ _ _ trace) closed.begins,
+    )
 
 -- nobody else has entries
 none_by : (n actor : ℕ) (entries : List Entry) → n ≤ actor → All (λ entry. entry.actor < n) entries
@@ -167,7 +169,7 @@ pub has_run : (live : Live) (board now : Standing) (n : ℕ) (cpus cpus1 : List 
 has_run live board now n cpus cpus1 works1 jobs jobs1 phase before o are_cpus are_cpus1 are_works1 same run fine closes
     some =
     let numbers : map number_by cpus1 ≡ range_with_len 0 n = numbers_again cpus cpus1 jobs jobs1 are_cpus are_cpus1 same
-        ∙ o.numbers in
+    ∙ o.numbers in
     let named : map number_in (reverse jobs1) ≡ range_with_len 0 n = job_numbers cpus1 jobs1 n are_cpus1 numbers in
     let size : length (reverse jobs1) ≡ n = numbered_length number_in (reverse jobs1) n named in
     let many : 0 < length jobs1 = omega (arith, size, length-reverse jobs1, some) in
@@ -176,15 +178,15 @@ has_run live board now n cpus cpus1 works1 jobs jobs1 phase before o are_cpus ar
     let W : ℕ → List Done → Type 0 = λ actor done. IsWork board.setup board.entries now.entries phase actor done in
     let all : All (λ job. W job.cpu.number job.work.done.items) (reverse jobs1) =
     all_reverse (λ job. W job.cpu.number job.work.done.items) jobs1
-        (λ k d less. work_of live board now (Some o.all.opened) phase before _ (run k d less) (closed k d less)
-        (fine k d less)) in
+    (λ k d less. work_of live board now (Some o.all.opened) phase before _ (run k d less) (closed k d less)
+    (fine k d less)) in
     let listed : length works1 ≡ n = ap length (sym are_works1) ∙ (length-map (reverse jobs1) work_in ∙ size) in
     record {
       setup = whole.0;
       begins = whole.1;
       each = λ actor less. subst (λ (ws : List Work). W actor (done_by 0 actor (done_in ws))) are_works1
           (by_number W (reverse jobs1) 0 all (subst (λ (m : ℕ). map number_in (reverse jobs1) ≡ range_with_len 0 m)
-              (sym size) named) actor (omega arith)
+          (sym size) named) actor (omega arith)
           (omega (arith, less, listed, size)));
     }
 
@@ -199,18 +201,18 @@ pub are_asked : (live : Live) (board now : Standing) (n : ℕ) (cpus cpus1 : Lis
 are_asked live board now n cpus cpus1 works1 jobs jobs1 phase before o are_cpus are_cpus1 are_works1 same run fine
     closes callers =
     let numbers : map number_by cpus1 ≡ range_with_len 0 n = numbers_again cpus cpus1 jobs jobs1 are_cpus are_cpus1 same
-        ∙ o.numbers in
+    ∙ o.numbers in
     let named : map number_in (reverse jobs1) ≡ range_with_len 0 n = job_numbers cpus1 jobs1 n are_cpus1 numbers in
     let size : length (reverse jobs1) ≡ n = numbered_length number_in (reverse jobs1) n named in
     let closed = from_cpus (ClosesBoard now) jobs1 cpus1 are_cpus1 closes in
     let listed : length works1 ≡ n = ap length (sym are_works1) ∙ (length-map (reverse jobs1) work_in ∙ size) in
     let actors : All (λ entry. entry.actor < n) now.entries = λ k d less. numbers_below number_by cpus1 n _ numbers
-        (callers k d less) in
+    (callers k d less) in
     let W : ℕ → List Done → Type 0 = λ actor done. length (entries_by actor now.entries) ≤ before + length phase in
     let all : All (λ job. W job.cpu.number job.work.done.items) (reverse jobs1) =
     all_reverse (λ job. W job.cpu.number job.work.done.items) jobs1
-        (λ k d less. subst (λ (own : List Entry). length own ≤ before + length phase) (sym (closed k d less).mine)
-        ((run k d less).mine (fine k d less))) in
+    (λ k d less. subst (λ (own : List Entry). length own ≤ before + length phase) (sym (closed k d less).mine)
+    ((run k d less).mine (fine k d less))) in
     record {
       actors = subst (λ (m : ℕ). All (λ entry. entry.actor < m) now.entries) (sym listed) actors;
       mine = λ actor. elim (cases_lt actor n) [

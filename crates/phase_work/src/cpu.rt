@@ -1,6 +1,5 @@
 //! The callers of a shared board.
 
-
 use crate::caller::Caller;
 use board_base::{Kind, NoMemory};
 use board_live::{Cpu, Live, Origin};

@@ -69,7 +69,7 @@ form_recorded said =
     if said.form == parts_reply then wide_recorded said else
     if said.parts == 1
     then (if said.form == bus_reply then bus_recorded said else if said.form == look_reply then look_recorded said
-        else None)
+    else None)
     else None
 
 -- what is kept for later versions is 0, and the flag of a value 0 or 1

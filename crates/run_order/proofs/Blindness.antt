@@ -46,7 +46,7 @@ plain entry = record entry { seq = 0 }
 along : {X : Type 0} (f : List Entry → X) →
     ((entry : Entry) (before : List Entry) → is_look entry.event ≡ true → f (entry ∷ before) ≡ f before) →
     ((entry : Entry) (before : List Entry) → f before ≡ f (bare before)
-        → f (entry ∷ before) ≡ f (plain entry ∷ bare before)) →
+    → f (entry ∷ before) ≡ f (plain entry ∷ bare before)) →
     (h : List Entry) → f h ≡ f (bare h)
 unfolding bare
 along f looks steps [] = refl
@@ -91,7 +91,7 @@ byte_next : (setup : Setup) (reg : Reg) (entry : Entry) (before : List Entry)
 unfolding byte_of
 byte_next setup reg entry before same =
     ap (λ (c : Option MapChange). byte_with setup c reg (byte_of setup before reg))
-        (register_change_bare setup before entry.event)
+    (register_change_bare setup before entry.event)
     ∙ ap (byte_with setup (register_change setup (bare before) entry.event) reg) same
 
 byte_bare : (setup : Setup) (reg : Reg) (h : List Entry) → byte_of setup h reg ≡ byte_of setup (bare h) reg
@@ -99,7 +99,7 @@ unfolding byte_of
 byte_bare setup reg =
     along (λ h. byte_of setup h reg)
     (λ entry before is. ap (λ (c : Option MapChange). byte_with setup c reg (byte_of setup before reg))
-        (look_changes_nothing setup before entry.event is))
+    (look_changes_nothing setup before entry.event is))
     (byte_next setup reg)
 
 change_kept : Setup → Option MapChange → Option MapChange
@@ -110,10 +110,10 @@ unfolding map_writes_of map_change_of change_kept
 writes_bare setup =
     along (map_writes_of setup)
     (λ entry before is. ap (λ (c : Option MapChange). option_to_list (change_kept setup c) ++ map_writes_of setup
-        before) (look_changes_nothing setup before entry.event is))
+    before) (look_changes_nothing setup before entry.event is))
     (λ entry before same.
     ap (λ (c : Option MapChange). option_to_list (change_kept setup c) ++ map_writes_of setup before)
-        (register_change_bare setup before entry.event)
+    (register_change_bare setup before entry.event)
     ∙ ap (λ (ws : List MapChange). option_to_list (change_kept setup (register_change setup (bare before) entry.event))
     ++ ws) same)
 
@@ -122,7 +122,7 @@ unfolding stored_of
 stored_bare cell =
     along (λ h. stored_of h cell)
     (λ entry before is. ap (λ (put : Option ℕ). unwrap_or put (stored_of before cell))
-        ((looks_are_silent entry.event is).put entry.reply cell))
+    ((looks_are_silent entry.event is).put entry.reply cell))
     (λ entry before same. ap (unwrap_or (entry_put entry.event entry.reply cell)) same)
 
 -- ---- the devices
@@ -134,7 +134,7 @@ after_entry at_reset goes_on control event x = if resets_hard control (control_w
 
 after_same : {X : Type 0} (at_reset goes_on : X → X) (event : Event) (before : List Entry) (x y : X) → x ≡ y →
     after_entry at_reset goes_on (reset_control before) event x ≡ after_entry at_reset goes_on
-        (reset_control (bare before)) event y
+    (reset_control (bare before)) event y
 after_same at_reset goes_on event before x y same =
     ap (λ (c : ℕ). after_entry at_reset goes_on c event x) (control_bare before)
     ∙ ap (after_entry at_reset goes_on (reset_control (bare before)) event) same
@@ -222,7 +222,7 @@ module _ (leaves : MemoryLeavesDevices) (setup : Setup) where
       → levels_of setup (entry ∷ before) ≡ levels_of setup (plain entry ∷ bare before)
   levels_next entry before =
       levels-same setup (entry ∷ before) (plain entry ∷ bare before) (timer_of (entry ∷ before))
-          (timer_of (plain entry ∷ bare before)) (drivers_next entry before)
+      (timer_of (plain entry ∷ bare before)) (drivers_next entry before)
 
   levels_bare : (before : List Entry) (timer : PitState)
       → levels_with setup before timer ≡ levels_with setup (bare before) timer
@@ -241,36 +241,36 @@ module _ (leaves : MemoryLeavesDevices) (setup : Setup) where
   pulsed_bare before zero pair = refl
   pulsed_bare before (suc k) pair =
       ap (λ (p : Pair). pair_after_lines p (levels_with setup before (pulses (suc k) (timer_of before)))
-          (elcr_of before)) (pulsed_bare before k pair)
+      (elcr_of before)) (pulsed_bare before k pair)
       ∙ ap (λ (t : PitState). pair_after_lines (pair_pulsed setup (bare before) k pair)
-          (levels_with setup before (pulses (suc k) t)) (elcr_of before)) (timer_bare before)
+      (levels_with setup before (pulses (suc k) t)) (elcr_of before)) (timer_bare before)
       ∙ ap (λ (l : List Bool). pair_after_lines (pair_pulsed setup (bare before) k pair) l (elcr_of before))
-          (levels_bare before (pulses (suc k) (timer_of (bare before))))
+      (levels_bare before (pulses (suc k) (timer_of (bare before))))
       ∙ ap (pair_after_lines (pair_pulsed setup (bare before) k pair)
-          (levels_with setup (bare before) (pulses (suc k) (timer_of (bare before)))))
-          (elcr-same before (bare before) (triggers_bare before))
+      (levels_with setup (bare before) (pulses (suc k) (timer_of (bare before)))))
+      (elcr-same before (bare before) (triggers_bare before))
 
   reset_or_after_next : (entry : Entry) (before : List Entry) (pair : Pair)
       → pair_reset_or_after setup entry before pair ≡ pair_reset_or_after setup (plain entry) (bare before) pair
   reset_or_after_next entry before pair =
       ap (λ (l : List Bool). if is_hard_reset before entry.event then pair_at_reset l
-          else pair_after entry.event entry.reply pair) (levels_next entry before)
+      else pair_after entry.event entry.reply pair) (levels_next entry before)
       ∙ ap (λ (c : ℕ). if resets_hard c (control_written entry.event)
-          then pair_at_reset (levels_of setup (plain entry ∷ bare before)) else pair_after entry.event entry.reply pair)
-          (control_bare before)
+      then pair_at_reset (levels_of setup (plain entry ∷ bare before)) else pair_after entry.event entry.reply pair)
+      (control_bare before)
 
   reached_next : (entry : Entry) (before : List Entry) (pair : Pair) →
       pair_after_lines (pair_reset_or_after setup entry before pair) (levels_of setup (entry ∷ before))
-          (elcr_of (entry ∷ before))
+      (elcr_of (entry ∷ before))
       ≡ pair_after_lines (pair_reset_or_after setup (plain entry) (bare before) pair)
-          (levels_of setup (plain entry ∷ bare before)) (elcr_of (plain entry ∷ bare before))
+      (levels_of setup (plain entry ∷ bare before)) (elcr_of (plain entry ∷ bare before))
   reached_next entry before pair =
       ap (λ (p : Pair). pair_after_lines p (levels_of setup (entry ∷ before)) (elcr_of (entry ∷ before)))
-          (reset_or_after_next entry before pair)
+      (reset_or_after_next entry before pair)
       ∙ ap (λ (l : List Bool). pair_after_lines (pair_reset_or_after setup (plain entry) (bare before) pair) l
-          (elcr_of (entry ∷ before))) (levels_next entry before)
+      (elcr_of (entry ∷ before))) (levels_next entry before)
       ∙ ap (pair_after_lines (pair_reset_or_after setup (plain entry) (bare before) pair)
-          (levels_of setup (plain entry ∷ bare before)))
+      (levels_of setup (plain entry ∷ bare before)))
       (elcr-same (entry ∷ before) (plain entry ∷ bare before) (triggers_next entry before (triggers_bare before)))
 
   stepped_next : (entry : Entry) (before : List Entry) (event : Event) (pair : Pair)
@@ -291,7 +291,7 @@ module _ (leaves : MemoryLeavesDevices) (setup : Setup) where
   unfolding pair_of
   pair_next entry before same =
       ap (pair_stepped setup entry before entry.event) same
-          ∙ stepped_next entry before entry.event (pair_of setup (bare before))
+      ∙ stepped_next entry before entry.event (pair_of setup (bare before))
 
   pair_bare : (h : List Entry) → pair_of setup h ≡ pair_of setup (bare h)
   pair_bare = along (pair_of setup) (λ entry before is. (left entry before is).pair) pair_next
@@ -299,139 +299,145 @@ module _ (leaves : MemoryLeavesDevices) (setup : Setup) where
 -- ---- two histories with the same entries but for looks and numbers
 
 module _ (leaves : MemoryLeavesDevices) (setup : Setup) (final before : List Entry) (same : bare final ≡ bare before)
-    where
-  -- what is the same without looks is the same
-  both : {X : Type 0} (f : List Entry → X) → ((h : List Entry) → f h ≡ f (bare h)) → f final ≡ f before
-  both f is = is final ∙ ap f same ∙ sym (is before)
+  where
+    -- what is the same without looks is the same
+    both : {X : Type 0} (f : List Entry → X) → ((h : List Entry) → f h ≡ f (bare h)) → f final ≡ f before
+    both f is = is final ∙ ap f same ∙ sym (is before)
 
-  control_same : reset_control final ≡ reset_control before
-  control_same = both reset_control control_bare
+    control_same : reset_control final ≡ reset_control before
+    control_same = both reset_control control_bare
 
-  address_same : config_address final ≡ config_address before
-  address_same = both config_address address_bare
+    address_same : config_address final ≡ config_address before
+    address_same = both config_address address_bare
 
-  bytes_same : byte_of setup final ≡ byte_of setup before
-  bytes_same = λ i reg. both (λ h. byte_of setup h reg) (byte_bare setup reg) i
+    bytes_same : byte_of setup final ≡ byte_of setup before
+    bytes_same = λ i reg. both (λ h. byte_of setup h reg) (byte_bare setup reg) i
 
-  cells_same : stored_of final ≡ stored_of before
-  cells_same = λ i cell. both (λ h. stored_of h cell) (stored_bare cell) i
+    cells_same : stored_of final ≡ stored_of before
+    cells_same = λ i cell. both (λ h. stored_of h cell) (stored_bare cell) i
 
-  writes_same : map_writes_of setup final ≡ map_writes_of setup before
-  writes_same = both (map_writes_of setup) (writes_bare setup)
+    writes_same : map_writes_of setup final ≡ map_writes_of setup before
+    writes_same = both (map_writes_of setup) (writes_bare setup)
 
-  timer_same : timer_of final ≡ timer_of before
-  timer_same = both timer_of (timer_bare leaves setup)
+    timer_same : timer_of final ≡ timer_of before
+    timer_same = both timer_of (timer_bare leaves setup)
 
-  pair_same : pair_of setup final ≡ pair_of setup before
-  pair_same = both (pair_of setup) (pair_bare leaves setup)
+    pair_same : pair_of setup final ≡ pair_of setup before
+    pair_same = both (pair_of setup) (pair_bare leaves setup)
 
-  disk_same : disk_of setup final ≡ disk_of setup before
-  disk_same = disk_of-same setup.disk (λ bytes. disk_with bytes final) (λ bytes. disk_with bytes before)
-      (λ bytes. both (disk_with bytes) (disk_bare leaves setup bytes))
+    disk_same : disk_of setup final ≡ disk_of setup before
+    disk_same = disk_of-same setup.disk (λ bytes. disk_with bytes final) (λ bytes. disk_with bytes before)
+        (λ bytes. both (disk_with bytes) (disk_bare leaves setup bytes))
 
-  device_same : (dev : Dev) (port : ℕ) (width : Width)
-      → device_value setup final dev port width ≡ device_value setup before dev port width
-  unfolding device_value
-  device_same Pic0 port width = ap (λ (p : Pair). port_byte p port) pair_same
-  device_same Pic1 port width = ap (λ (p : Pair). port_byte p port) pair_same
-  device_same Pit port width = ap (λ (t : PitState). (port_read port t).0) timer_same
-  device_same System port width =
-      ap (λ (s : SystemPort). system_value s (timer_of final)) (both system_of (system_bare leaves setup))
-      ∙ ap (system_value (system_of before)) timer_same
-  device_same ClockChip port width = ap (λ (c : Clock). read_value c port) (both clock_of (clock_bare leaves setup))
-  device_same Elcr port width = ap (λ (t : Triggers). trigger_byte t (port == 0x4D1))
-      (both triggers_of (triggers_bare leaves setup))
-  device_same Ata port width =
-      ap (λ (d : Option Disk). option_map_or (λ disk. read_of port width disk) d (largest_of width)) disk_same
-  device_same Confadd port width = refl
-  device_same Reset port width = refl
-  device_same Keyboard port width = refl
-  device_same Wires port width = refl
-  device_same (Vector chip) port width = refl
-  device_same (Spurious chip) port width = refl
+    device_same : (dev : Dev) (port : ℕ) (width : Width)
+        → device_value setup final dev port width ≡ device_value setup before dev port width
+    unfolding device_value
+    device_same Pic0 port width = ap (λ (p : Pair). port_byte p port) pair_same
+    device_same Pic1 port width = ap (λ (p : Pair). port_byte p port) pair_same
+    device_same Pit port width = ap (λ (t : PitState). (port_read port t).0) timer_same
+    device_same System port width =
+        ap (λ (s : SystemPort). system_value s (timer_of final)) (both system_of (system_bare leaves setup))
+        ∙ ap (system_value (system_of before)) timer_same
+    device_same ClockChip port width = ap (λ (c : Clock). read_value c port) (both clock_of (clock_bare leaves setup))
+    device_same Elcr port width = ap (λ (t : Triggers). trigger_byte t (port == 0x4D1))
+        (both triggers_of (triggers_bare leaves setup))
+    device_same Ata port width =
+        ap (λ (d : Option Disk). option_map_or (λ disk. read_of port width disk) d (largest_of width)) disk_same
+    device_same Confadd port width = refl
+    device_same Reset port width = refl
+    device_same Keyboard port width = refl
+    device_same Wires port width = refl
+    device_same (Vector chip) port width = refl
+    device_same (Spurious chip) port width = refl
 
-  port_same : (dev : Dev) (port : ℕ) (width : Width)
-      → port_value setup final dev port width ≡ port_value setup before dev port width
-  port_same Confadd port width = address_same
-  port_same Reset port width = control_same
-  port_same Pic0 port width = device_same Pic0 port width
-  port_same Pic1 port width = device_same Pic1 port width
-  port_same Pit port width = device_same Pit port width
-  port_same System port width = device_same System port width
-  port_same Keyboard port width = refl
-  port_same ClockChip port width = device_same ClockChip port width
-  port_same Elcr port width = device_same Elcr port width
-  port_same Ata port width = device_same Ata port width
-  port_same Wires port width = device_same Wires port width
-  port_same (Vector chip) port width = device_same (Vector chip) port width
-  port_same (Spurious chip) port width = device_same (Spurious chip) port width
+    port_same : (dev : Dev) (port : ℕ) (width : Width)
+        → port_value setup final dev port width ≡ port_value setup before dev port width
+    port_same Confadd port width = address_same
+    port_same Reset port width = control_same
+    port_same Pic0 port width = device_same Pic0 port width
+    port_same Pic1 port width = device_same Pic1 port width
+    port_same Pit port width = device_same Pit port width
+    port_same System port width = device_same System port width
+    port_same Keyboard port width = refl
+    port_same ClockChip port width = device_same ClockChip port width
+    port_same Elcr port width = device_same Elcr port width
+    port_same Ata port width = device_same Ata port width
+    port_same Wires port width = device_same Wires port width
+    port_same (Vector chip) port width = device_same (Vector chip) port width
+    port_same (Spurious chip) port width = device_same (Spurious chip) port width
 
-  dram_same : dram_byte setup final ≡ dram_byte setup before
-  dram_same = λ i addr. if nat_lt addr (installed setup) then cells_same i (DramCell addr) else 0xFF
+    dram_same : dram_byte setup final ≡ dram_byte setup before
+    dram_same = λ i addr. if nat_lt addr (installed setup) then cells_same i (DramCell addr) else 0xFF
 
-  value_same : (target : Target) (addr : ℕ) (width : Width)
-      → value_at setup final target addr width ≡ value_at setup before target addr width
-  value_same (Dram row) addr width = ap (λ (f : ℕ → ℕ). wide f addr width) dram_same
-  value_same (Shadow row) addr width = ap (λ (f : ℕ → ℕ). wide f addr width) dram_same
-  value_same Smram addr width = ap (λ (f : ℕ → ℕ). wide f addr width) dram_same
-  value_same (Rom off) addr width = refl
-  value_same (Card dev base off) addr width =
-      ap (λ (f : Cell → ℕ). wide (λ at. if base == 6 then expansion_byte dev at else f (CardCell dev base at)) off
-      width) cells_same
-  value_same (Config reg) addr width = ap (λ (f : Reg → ℕ). wide (λ off. f (record reg { off = off })) reg.off width)
-      bytes_same
-  value_same (Device dev) addr width = port_same dev addr width
-  value_same Abort addr width = refl
+    value_same : (target : Target) (addr : ℕ) (width : Width)
+        → value_at setup final target addr width ≡ value_at setup before target addr width
+    value_same (Dram row) addr width = ap (λ (f : ℕ → ℕ). wide f addr width) dram_same
+    value_same (Shadow row) addr width = ap (λ (f : ℕ → ℕ). wide f addr width) dram_same
+    value_same Smram addr width = ap (λ (f : ℕ → ℕ). wide f addr width) dram_same
+    value_same (Rom off) addr width = refl
+    value_same (Card dev base off) addr width =
+        ap (λ (f : Cell → ℕ). wide (λ at. if base == 6 then expansion_byte dev at else f (CardCell dev base at)) off
+        width) cells_same
+    value_same (Config reg) addr width = ap (λ (f : Reg → ℕ). wide (λ off. f (record reg { off = off })) reg.off width)
+        bytes_same
+    value_same (Device dev) addr width = port_same dev addr width
+    value_same Abort addr width = refl
 
-  values_same : value_at setup final ≡ value_at setup before
-  values_same = λ i target addr width. value_same target addr width i
+    values_same : value_at setup final ≡ value_at setup before
+    values_same = λ i target addr width. value_same target addr width i
 
-  memory_same : (access : Access) → memory_answer setup final access ≡ memory_answer setup before access
-  unfolding memory_answer
-  memory_same access = rw (bytes_same, values_same) refl
+    memory_same : (access : Access) → memory_answer setup final access ≡ memory_answer setup before access
+    unfolding memory_answer
+    memory_same access = rw (bytes_same, values_same) refl
 
-  part_same : (part : Access) → part_answer setup final part ≡ part_answer setup before part
-  unfolding part_answer
-  part_same part = rw bytes_same refl
+    part_same : (part : Access) → part_answer setup final part ≡ part_answer setup before part
+    unfolding part_answer
+    part_same part = rw bytes_same refl
 
-  wide_same : (access : WideAccess) → wide_value setup final access ≡ wide_value setup before access
-  unfolding wide_value
-  wide_same access = rw (bytes_same, values_same) refl
+    wide_same : (access : WideAccess) → wide_value setup final access ≡ wide_value setup before access
+    unfolding wide_value
+    wide_same access = rw (bytes_same, values_same) refl
 
-  ports_same : (access : PortAccess) → port_answer setup final access ≡ port_answer setup before access
-  unfolding port_answer
-  ports_same access = rw (bytes_same, address_same, values_same) refl
+    ports_same : (access : PortAccess) → port_answer setup final access ≡ port_answer setup before access
+    unfolding port_answer
+    ports_same access = rw (bytes_same, address_same, values_same) refl
 
-  look_same : (kind : Kind) (addr : ℕ) (smm : Bool) (look : Look) → IsLookAnswer setup before kind addr smm look
-      → IsLookAnswer setup final kind addr smm look
-  look_same kind addr smm look answer = record { version = answer.version ∙ sym (ap length writes_same); span =
-      rw bytes_same answer.span }
+    look_same : (kind : Kind) (addr : ℕ) (smm : Bool) (look : Look) → IsLookAnswer setup before kind addr smm look
+        → IsLookAnswer setup final kind addr smm look
+    look_same kind addr smm look answer = record {
+      version = answer.version ∙ sym (ap length writes_same);
+      span =
+          rw bytes_same answer.span;
+    }
 
-  parts_same : (access : WideAccess) (value : Option ℕ) (parts : PartList)
-      → IsWideAnswer setup before access value parts → IsWideAnswer setup final access value parts
-  parts_same access value parts answer = record { value_is = answer.value_is ∙ sym (wide_same access); each =
-      answer.each ∙ sym (map-same _ _ (parts_of access) part_same) }
+    parts_same : (access : WideAccess) (value : Option ℕ) (parts : PartList)
+        → IsWideAnswer setup before access value parts → IsWideAnswer setup final access value parts
+    parts_same access value parts answer = record {
+      value_is = answer.value_is ∙ sym (wide_same access);
+      each =
+          answer.each ∙ sym (map-same _ _ (parts_of access) part_same);
+    }
 
-  ack_same : (reply : Reply) → IsAnswer setup before Ack reply → IsAnswer setup final Ack reply
-  ack_same reply answer =
-      answer ∙ sym (ap (λ (p : Pair). Bus (Some ((answer_of p).vector)) (Device (who_answered (answer_of p))) None)
-          pair_same)
+    ack_same : (reply : Reply) → IsAnswer setup before Ack reply → IsAnswer setup final Ack reply
+    ack_same reply answer =
+        answer ∙ sym (ap (λ (p : Pair). Bus (Some ((answer_of p).vector)) (Device (who_answered (answer_of p))) None)
+        pair_same)
 
-  blind_at : (event : Event) (reply : Reply) → IsAnswer setup before event reply → IsAnswer setup final event reply
-  blind_at (Memory access) reply answer = answer ∙ sym (memory_same access)
-  blind_at (Wide access) (Parts parts value) answer = parts_same access value parts answer
-  blind_at (Wide access) (Bus value target denial) answer = absurd answer
-  blind_at (Wide access) (Saw look) answer = absurd answer
-  blind_at (Port access) reply answer = answer ∙ sym (ports_same access)
-  blind_at (LookAt kind addr smm) (Saw look) answer = look_same kind addr smm look answer
-  blind_at (LookAt kind addr smm) (Bus value target denial) answer = absurd answer
-  blind_at (LookAt kind addr smm) (Parts parts value) answer = absurd answer
-  blind_at Ack reply answer = ack_same reply answer
-  blind_at (Pulses count) reply answer = answer
-  blind_at (Time moment) reply answer = answer
-  blind_at (Wire dev on) reply answer = answer
-  blind_at (Line irq on) reply answer = answer
-  blind_at (BadSector sector) reply answer = answer
+    blind_at : (event : Event) (reply : Reply) → IsAnswer setup before event reply → IsAnswer setup final event reply
+    blind_at (Memory access) reply answer = answer ∙ sym (memory_same access)
+    blind_at (Wide access) (Parts parts value) answer = parts_same access value parts answer
+    blind_at (Wide access) (Bus value target denial) answer = absurd answer
+    blind_at (Wide access) (Saw look) answer = absurd answer
+    blind_at (Port access) reply answer = answer ∙ sym (ports_same access)
+    blind_at (LookAt kind addr smm) (Saw look) answer = look_same kind addr smm look answer
+    blind_at (LookAt kind addr smm) (Bus value target denial) answer = absurd answer
+    blind_at (LookAt kind addr smm) (Parts parts value) answer = absurd answer
+    blind_at Ack reply answer = ack_same reply answer
+    blind_at (Pulses count) reply answer = answer
+    blind_at (Time moment) reply answer = answer
+    blind_at (Wire dev on) reply answer = answer
+    blind_at (Line irq on) reply answer = answer
+    blind_at (BadSector sector) reply answer = answer
 
 pub answers_are_blind : MemoryLeavesDevices → AnswersAreBlind
 answers_are_blind leaves setup before other same event reply answer = blind_at leaves setup before other same event

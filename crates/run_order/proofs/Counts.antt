@@ -58,9 +58,9 @@ pub number_fits : (order : Order) (capacity : ℕ) (counts : List ℕ) (actor pl
     IsOrder order capacity counts → slice_index counts place + 1 < 2 ^ 32
 number_fits order capacity counts actor place same below some kept =
     let count : slice_index counts actor ≡ length (entries_by actor (over [] order.entries)) =
-        kept.counted [] actor below in
+    kept.counted [] actor below in
     let few : length (entries_by actor (over [] order.entries)) ≤ length (over [] order.entries) =
-        no_more_by (over [] order.entries) actor in
+    no_more_by (over [] order.entries) actor in
     let size : length (over [] order.entries) ≡ length order.entries = length-map order.entries (entry_of []) in
     rw same (omega (arith, count, few, size, kept.few, some))
 
@@ -76,7 +76,7 @@ counts_more counts actor other entry before eight small own was = elim (cases_eq
   | inl same ↦
       let is : (entry.actor == other) ≡ true = grind (arith, nat_tests) in
       let new = get_or-set_at counts actor other (get_or counts actor 0 + 1) 0 same
-          (omega (arith, eight, small, same)) in
+      (omega (arith, eight, small, same)) in
       let old = ap (slice_index counts) same in
       rw is (omega (arith, new, old, was))
   | inr not ↦
@@ -92,13 +92,13 @@ pub order_more : (items items' : List RunEntry) (spare bus capacity capacity' : 
     → place ≡ actor → actor < 8 → ((of_bus : List Entry) → (entry_of of_bus entry).actor ≡ actor)
     → IsPlacedBelow bus' entry → bus ≤ bus' → bus' ≤ bus + 1 → 1 ≤ spare
     → IsOrder (record { entries = reverse items'; spare = spare - 1; bus = bus' }) capacity'
-        (set counts place (slice_index counts place + 1))
+    (set counts place (slice_index counts place + 1))
 order_more items items' spare bus capacity capacity' counts actor place entry bus' kept more wider eight same below own
     within least next some =
     let old : List RunEntry = reverse items in
     let is : reverse items' ≡ entry ∷ old = ap reverse more ∙ reverse-append items (entry ∷ []) in
     subst (λ (z : List RunEntry × ℕ). IsOrder (record { entries = z.0; spare = spare - 1; bus = bus' }) capacity'
-        (set counts z.1 (slice_index counts z.1 + 1))) (λ t. (sym is t, sym same t))
+    (set counts z.1 (slice_index counts z.1 + 1))) (λ t. (sym is t, sym same t))
     (record {
       room = omega (arith, kept.room, some, wider);
       few = omega (arith, kept.few, some);
@@ -117,7 +117,7 @@ pub order_reserved : (items items' : List RunEntry) (spare bus capacity capacity
 order_reserved items items' spare bus capacity capacity' counts n kept same room few =
     let size : length (reverse items) ≡ length items = length-reverse items in
     subst (λ (all : List RunEntry). IsOrder (record { entries = reverse all; spare = n; bus = bus }) capacity' counts)
-        (sym same)
+    (sym same)
     (record {
       room = omega (arith, size, room);
       few = omega (arith, size, few);

@@ -130,7 +130,7 @@ start_each setup history v (items ∷ rests) first =
 write_first : (setup : Setup) (history : List Entry) (actor : ℕ) (items : List Done) (entry : Entry)
     (before : List Entry) → is_look entry.event ≡ false →
     Late (version_of setup (before ++ history) + 1) items
-        → FirstIsDirect setup history (version_of setup (entry ∷ before ++ history)) actor items (entry ∷ before)
+    → FirstIsDirect setup history (version_of setup (entry ∷ before ++ history)) actor items (entry ∷ before)
 write_first setup history actor [] entry before call late = tt
 write_first setup history actor (Went after event ∷ items) entry before call late = tt
 write_first setup history actor (Looked kind addr smm look ∷ items) entry before call late =
@@ -150,7 +150,7 @@ module _ (setup : Setup) (history since : List Entry) (ends : EndsBare since) (v
   with_looks_direct : (actor : ℕ) (items : List Done) (final : List Entry)
       (have : HaveLooks setup history since (actor + 1) final) →
       FirstIsDirect setup history v actor items (have.looks ++ since)
-          → HaveLooks setup history since (actor + 1) (with_looks v actor items final)
+      → HaveLooks setup history since (actor + 1) (with_looks v actor items final)
   unfolding with_looks
   with_looks_direct actor [] final have first = have
   with_looks_direct actor (Went after event ∷ items) final have first = have
@@ -171,15 +171,20 @@ module _ (setup : Setup) (history since : List Entry) (ends : EndsBare since) (v
   all_looks_direct : (rests : List (List Done)) (first : ℕ) (final : List Entry)
       → HaveLooks setup history since first final →
       Each (λ a items. FirstIsDirect setup history v a items since) first rests
-          → (last : ℕ) × HaveLooks setup history since last (with_all_looks v first rests final)
+      → (last : ℕ) × HaveLooks setup history since last (with_all_looks v first rests final)
   unfolding with_all_looks
   all_looks_direct [] first final have each = (first, have)
   all_looks_direct (items ∷ rests) first final have each =
       let out : without_lower first (have.looks ++ since) ≡ without_lower first since =
-          lower_out first have.looks since have.lower ends ∙ sym (ends_bare first since ends) in
+      lower_out first have.looks since have.lower ends ∙ sym (ends_bare first since ends) in
       let one = with_looks_direct first items final
-          (record { looks = have.looks; is = have.is; places = have.places; lower =
-          lower_on first have.looks have.lower })
+      (record {
+        looks = have.looks;
+        is = have.is;
+        places = have.places;
+        lower =
+            lower_on first have.looks have.lower;
+      })
       (first_moves setup history v first items (have.looks ++ since) since out each.0) in
       all_looks_direct rests (first + 1) (with_looks v first items final) one each.1
 
@@ -206,14 +211,14 @@ module _ (blind : AnswersAreBlind) (setup : Setup) (history : List Entry) where
   placed_direct : (later before : List Entry) (rests : List (List Done)) (final since : List Entry) → EndsBare since
       → final ≡ since ++ history → AreInPlace setup history since →
       IsLegal setup (onto later before) → Good setup before final → All (λ e. e.actor < length rests) later
-          → Each (λ a. Fits setup a before later) 0 rests →
+      → Each (λ a. Fits setup a before later) 0 rests →
       Each (λ a items. FirstIsDirect setup history (version_of setup before) a items since) 0 rests →
       HasAdded setup history (placed (version_of setup before) later rests final)
   unfolding placed
   placed_direct [] before rests final since ends is places legal good few fit direct =
       let v : ℕ = version_of setup before in
       let have = (all_looks_direct setup history since ends v rests 0 final
-          (record { looks = []; is = is; places = places; lower = tt }) direct).1 in
+      (record { looks = []; is = is; places = places; lower = tt }) direct).1 in
       record { added = have.looks ++ since; adds = have.is; places = have.places }
   placed_direct (entry ∷ later) before rests final since ends is places legal good few fit direct =
       let v : ℕ = version_of setup before in
@@ -221,44 +226,44 @@ module _ (blind : AnswersAreBlind) (setup : Setup) (history : List Entry) where
       let looked : List Entry = with_all_looks v 0 rests final in
       let new : Entry = next_entry looked entry.actor entry.event entry.reply in
       let have = (all_looks_direct setup history since ends v rests 0 final
-          (record { looks = []; is = is; places = places; lower = tt }) direct).1 in
+      (record { looks = []; is = is; places = places; lower = tt }) direct).1 in
       let here = all_looks_good setup blind before (Beside setup entry before later) rests 0 final good fit in
       let within : entry.actor < length left = few_left v entry later rests few in
       let head = own_head setup entry before later left within here.1 in
       let call : is_look entry.event ≡ false = headed_no_look entry.event (version_of setup (entry ∷ before))
-          (Fits setup entry.actor (entry ∷ before) later) (done_by 0 entry.actor left) head in
+      (Fits setup entry.actor (entry ∷ before) later) (done_by 0 entry.actor left) head in
       let next : IsNext setup before entry = (legal_front setup blind later (entry ∷ before) legal).0 in
       let entry_good = entered setup blind before looked entry here.0 next in
       let since' : List Entry = new ∷ have.looks ++ since in
       let old_version : version_of setup ((have.looks ++ since) ++ history) ≡ v = ap (version_of setup) (sym have.is)
-          ∙ version_same setup looked before here.0.bare in
+      ∙ version_same setup looked before here.0.bare in
       let new_version : version_of setup (new ∷ (have.looks ++ since) ++ history) ≡ version_of setup (entry ∷ before) =
       ap (λ (h : List Entry). version_of setup (new ∷ h)) (sym have.is)
-          ∙ version_same setup (new ∷ looked) (entry ∷ before) entry_good.bare in
+      ∙ version_same setup (new ∷ looked) (entry ∷ before) entry_good.bare in
       let after : Each (λ a items. FirstIsDirect setup history (version_of setup (entry ∷ before)) a items since') 0
-          left =
+      left =
       each_goes (λ _ items. Late (v + 1) items)
-          (λ a items. FirstIsDirect setup history (version_of setup (entry ∷ before)) a items since')
+      (λ a items. FirstIsDirect setup history (version_of setup (entry ∷ before)) a items since')
       (λ a items late. subst (λ (n : ℕ). FirstIsDirect setup history n a items since') new_version
       (write_first setup history a items new (have.looks ++ since) call
-          (subst (λ (n : ℕ). Late (n + 1) items) (sym old_version) late)))
+      (subst (λ (n : ℕ). Late (n + 1) items) (sym old_version) late)))
       left 0 (each_late v rests 0) in
       subst (λ (n : ℕ). HasAdded setup history (placed n later (passed 0 entry.actor left) (new ∷ looked)))
       (sym (noted_is setup entry before later left v within here.1))
       (placed_direct later (entry ∷ before) (passed 0 entry.actor left) (new ∷ looked) since' call
-          (ap (λ (h : List Entry). new ∷ h) have.is)
+      (ap (λ (h : List Entry). new ∷ h) have.is)
       (call_in_place setup history (have.looks ++ since) entry.actor entry.event entry.reply call, have.places) legal
-          entry_good (few_passed v entry later rests few)
+      entry_good (few_passed v entry later rests few)
       (pass setup entry before later left 0 here.1)
       (passed_each (λ a items. FirstIsDirect setup history (version_of setup (entry ∷ before)) a items since')
-          entry.actor
+      entry.actor
       (λ items. own_first setup history (version_of setup (entry ∷ before)) items new (have.looks ++ since)) left 0
-          after))
+      after))
 
   pub has_added : (later before : List Entry) (rests : List (List Done)) → IsLegal setup (onto later before)
       → Good setup before history → All (λ e. e.actor < length rests) later →
       Each (λ a. Fits setup a before later) 0 rests
-          → HasAdded setup history (placed (version_of setup before) later rests history)
+      → HasAdded setup history (placed (version_of setup before) later rests history)
   has_added later before rests legal good few fit =
       placed_direct later before rests history [] tt refl tt legal good few fit
-          (start_each setup history (version_of setup before) rests 0)
+      (start_each setup history (version_of setup before) rests 0)

@@ -28,8 +28,8 @@ abbrev pub Fits : Setup → ℕ → List Entry → List Entry → List Done → 
 Fits setup actor before [] items = Due setup before (λ rest. rest ≡ []) items
 Fits setup actor before (entry ∷ later) items =
     Due setup before (λ rest. MatchBool (entry.actor == actor)
-        (Headed entry.event (version_of setup (entry ∷ before)) (Fits setup actor (entry ∷ before) later) rest)
-        (Fits setup actor (entry ∷ before) later rest)) items
+    (Headed entry.event (version_of setup (entry ∷ before)) (Fits setup actor (entry ∷ before) later) rest)
+    (Fits setup actor (entry ∷ before) later rest)) items
 
 -- a look that comes next has at least so many map writes
 abbrev pub Late : ℕ → List Done → Type 0
@@ -71,8 +71,8 @@ module _ (setup : Setup) (whole : List Entry) (actor : ℕ) where
         | inl is ↦
             let here : version_of setup before ≡ look.version = grind (arith, nat_tests) in
             let more = due before from K b k items look.version f.3
-                (late_by setup whole actor from look.version (version_of setup before) items f.3
-                (omega (arith, here))) in
+            (late_by setup whole actor from look.version (version_of setup before) items f.3
+            (omega (arith, here))) in
             rw is (f.2 before b here, more)
         | inr not ↦
             let past : version_of setup before + 1 ≤ look.version = grind (arith, nat_tests) in
@@ -85,12 +85,17 @@ module _ (setup : Setup) (whole : List Entry) (actor : ℕ) where
   none_left before from is n [] low f late = refl
   none_left before from is n (Looked kind addr smm look ∷ items) low f late =
       let bound : look.version ≤ version_of setup before = subst (λ (h : List Entry). look.version ≤ version_of setup h)
-          is f.1 in absurd (omega (arith, bound, late))
+      is f.1 in absurd (omega (arith, bound, late))
   none_left before from is n (Went after event ∷ items) low f late =
       let call = f.2 in
       let less = own_later actor f.1 f.0 whole call.place call.own in
-      absurd (omega (arith, less, ap (λ (h : List Entry). length (entries_by actor h)) is, ap length n,
-          ap length call.next))
+      absurd (omega (
+        arith,
+        less,
+        ap (λ (h : List Entry). length (entries_by actor h)) is,
+        ap length n,
+        ap length call.next,
+      ))
 
   -- a call of the processor's own is its next statement
   headed : (entry : Entry) (before from : List Entry) (P : List Done → Type 0) → Begins (entry ∷ before) whole
@@ -124,22 +129,22 @@ module _ (setup : Setup) (whole : List Entry) (actor : ℕ) where
       due before from (λ rest. rest ≡ []) ([], is) (none_left before from is n) items low f late
   fits (entry ∷ later) before from low items is n f late =
       let b : Begins (entry ∷ before) whole = subst (Begins (entry ∷ before)) (sym is)
-          (onto_begins later (entry ∷ before)) in
+      (onto_begins later (entry ∷ before)) in
       let step = version_step setup entry before in
       due before from (λ rest. MatchBool (entry.actor == actor)
-          (Headed entry.event (version_of setup (entry ∷ before)) (Fits setup actor (entry ∷ before) later) rest)
-          (Fits setup actor (entry ∷ before) later rest))
+      (Headed entry.event (version_of setup (entry ∷ before)) (Fits setup actor (entry ∷ before) later) rest)
+      (Fits setup actor (entry ∷ before) later rest))
       (begins_before entry before whole b)
       (λ rest low' f' late'. elim (cases_Bool (entry.actor == actor)) [
         | inl own ↦
             let owns : entry.actor ≡ actor = grind (arith, nat_tests) in
             rw own (headed entry before from (Fits setup actor (entry ∷ before) later) b owns n
             (λ items' at low'' f'' n' le. fits later (entry ∷ before) at low'' items' is n' f''
-                (late_by setup whole actor at low'' (version_of setup (entry ∷ before)) items' f'' le))
+            (late_by setup whole actor at low'' (version_of setup (entry ∷ before)) items' f'' le))
             rest low' f' late')
         | inr other ↦
             rw other (fits later (entry ∷ before) from low' rest is (other_entry actor entry before other ∙ n) f'
-                (later_still rest late' step.1))
+            (later_still rest late' step.1))
       ])
       items low f late
     where

@@ -12,7 +12,7 @@ use Rattle.run_order.proofs.Histories.{onto}
 abbrev pub IsRight : Setup → List Entry → Event → Look → Type 0
 IsRight setup whole event look =
     (before : List Entry) → Begins before whole → version_of setup before ≡ look.version
-        → IsAnswer setup before event (Saw look)
+    → IsAnswer setup before event (Saw look)
 
 -- a call of the bus: the processor's next entry after `from`, when it knew `low` map writes, and the version after it
 pub record IsCall (setup : Setup) (whole : List Entry) (actor : ℕ) (from : List Entry) (low : ℕ) (event : Event)

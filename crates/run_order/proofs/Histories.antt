@@ -12,7 +12,7 @@ pub onto_is : {X : Type 0} (later before : List X) → onto later before ≡ rev
 onto_is [] before = refl
 onto_is {X} (x ∷ later) before =
     onto_is later (x ∷ before) ∙ sym (ap (λ (h : List X). h ++ before) (reverse-append (x ∷ []) later)
-        ∙ append_assoc (reverse later) (x ∷ []) before)
+    ∙ append_assoc (reverse later) (x ∷ []) before)
 
 pub begins_self : (history : List Entry) → Begins history history
 begins_self history = ([], refl)
@@ -45,7 +45,7 @@ pub own_counts : (actor : ℕ) (more : List Entry) (entry : Entry) (before : Lis
     → length (entries_by actor before) < length (entries_by actor (more ++ entry ∷ before))
 own_counts actor [] entry before own =
     let one : length (entries_by actor (entry ∷ before)) ≡ length (entry ∷ entries_by actor before) =
-        ap length (own_entry actor entry before (own_test actor entry own)) in
+    ap length (own_entry actor entry before (own_test actor entry own)) in
     omega (arith, one)
 own_counts actor (last ∷ more) entry before own =
     let less = own_counts actor more entry before own in

@@ -62,14 +62,17 @@ module _ (setup : Setup) where
         | inl is ↦
             let less : entry.actor < first + 1 = grind (arith, nat_tests) in
             let head = subst (λ (b : Bool). MatchBool b
-                (Headed entry.event (version_of setup (entry ∷ before)) (Fits setup first (entry ∷ before) later) items)
-                (Fits setup first (entry ∷ before) later items)) is each.0 in
-            rw is (headed_rest entry.event (version_of setup (entry ∷ before)) (Fits setup first (entry ∷ before) later)
-                items head, pass_none entry before later rests (first + 1) less each.1)
+            (Headed entry.event (version_of setup (entry ∷ before)) (Fits setup first (entry ∷ before) later) items)
+            (Fits setup first (entry ∷ before) later items)) is each.0 in
+            rw is (
+              headed_rest entry.event (version_of setup (entry ∷ before)) (Fits setup first (entry ∷ before) later)
+                  items head,
+              pass_none entry before later rests (first + 1) less each.1,
+            )
         | inr not ↦
             let head = subst (λ (b : Bool). MatchBool b
-                (Headed entry.event (version_of setup (entry ∷ before)) (Fits setup first (entry ∷ before) later) items)
-                (Fits setup first (entry ∷ before) later items)) not each.0 in
+            (Headed entry.event (version_of setup (entry ∷ before)) (Fits setup first (entry ∷ before) later) items)
+            (Fits setup first (entry ∷ before) later items)) not each.0 in
             rw not (head, pass entry before later rests (first + 1) each.1)
       ]
 
@@ -107,13 +110,13 @@ headed_noted event version P (Went after said ∷ items) v h = h.1
 pub own_head : (setup : Setup) (entry : Entry) (before later : List Entry) (left : List (List Done))
     → entry.actor < length left → Each (Beside setup entry before later) 0 left
     → Headed entry.event (version_of setup (entry ∷ before)) (Fits setup entry.actor (entry ∷ before) later)
-        (done_by 0 entry.actor left)
+    (done_by 0 entry.actor left)
 own_head setup entry before later left few each =
     let here = each_at (Beside setup entry before later) left 0 entry.actor (omega arith) (omega (arith, few)) each in
     subst (λ (b : Bool). MatchBool b
-        (Headed entry.event (version_of setup (entry ∷ before)) (Fits setup entry.actor (entry ∷ before) later)
-        (done_by 0 entry.actor left)) (Fits setup entry.actor (entry ∷ before) later (done_by 0 entry.actor left)))
-        (same_test entry.actor) here
+    (Headed entry.event (version_of setup (entry ∷ before)) (Fits setup entry.actor (entry ∷ before) later)
+    (done_by 0 entry.actor left)) (Fits setup entry.actor (entry ∷ before) later (done_by 0 entry.actor left)))
+    (same_test entry.actor) here
 
 -- the version that it noted
 pub noted_is : (setup : Setup) (entry : Entry) (before later : List Entry) (left : List (List Done)) (v : ℕ)
@@ -121,23 +124,26 @@ pub noted_is : (setup : Setup) (entry : Entry) (before later : List Entry) (left
     → noted v (done_by 0 entry.actor left) ≡ version_of setup (entry ∷ before)
 noted_is setup entry before later left v few each =
     headed_noted entry.event (version_of setup (entry ∷ before)) (Fits setup entry.actor (entry ∷ before) later)
-        (done_by 0 entry.actor left) v
+    (done_by 0 entry.actor left) v
     (own_head setup entry before later left few each)
 
 -- a processor of the phase, when its looks are left out and when one has done its call
 pub few_left : (v : ℕ) (entry : Entry) (later : List Entry) (rests : List (List Done))
     → All (λ e. e.actor < length rests) (entry ∷ later) → entry.actor < length (all_left v rests)
-few_left v entry later rests few = omega (arith, All-head (λ (e : Entry). e.actor < length rests) entry later few,
-    length-map rests (left_after v))
+few_left v entry later rests few = omega (
+  arith,
+  All-head (λ (e : Entry). e.actor < length rests) entry later few,
+  length-map rests (left_after v),
+)
 
 pub few_passed : (v : ℕ) (entry : Entry) (later : List Entry) (rests : List (List Done))
     → All (λ e. e.actor < length rests) (entry ∷ later)
     → All (λ e. e.actor < length (passed 0 entry.actor (all_left v rests))) later
 few_passed v entry later rests few =
     let size : length (passed 0 entry.actor (all_left v rests)) ≡ length rests =
-        passed_length entry.actor 0 (all_left v rests) ∙ length-map rests (left_after v) in
+    passed_length entry.actor 0 (all_left v rests) ∙ length-map rests (left_after v) in
     subst (λ (n : ℕ). All (λ e. e.actor < n) later) (sym size)
-        (All-tail (λ (e : Entry). e.actor < length rests) entry later few)
+    (All-tail (λ (e : Entry). e.actor < length rests) entry later few)
 
 module _ (setup : Setup) (blind : AnswersAreBlind) where
   looked : (before final : List Entry) (actor : ℕ) (kind : Kind) (addr : ℕ) (smm : Bool) (look : Look)
@@ -145,16 +151,23 @@ module _ (setup : Setup) (blind : AnswersAreBlind) where
       → Good setup before (next_entry final actor (LookAt kind addr smm) (Saw look) ∷ final)
   unfolding bare
   looked before final actor kind addr smm look good right = record {
-    legal = (record { number = refl; answer = blind setup final before good.bare (LookAt kind addr smm) (Saw look) right
-        }, good.legal);
+    legal = (
+      record {
+        number = refl;
+        answer = blind setup final before good.bare (LookAt kind addr smm) (Saw look) right;
+      },
+      good.legal,
+    );
     bare = good.bare;
   }
 
   pub entered : (before final : List Entry) (entry : Entry) → Good setup before final → IsNext setup before entry
       → Good setup (entry ∷ before) (next_entry final entry.actor entry.event entry.reply ∷ final)
   entered before final entry good next = record {
-    legal = (record { number = refl; answer = blind setup final before good.bare entry.event entry.reply next.answer },
-        good.legal);
+    legal = (
+      record { number = refl; answer = blind setup final before good.bare entry.event entry.reply next.answer },
+      good.legal,
+    );
     bare = bare_bus entry before final good.bare;
   }
 
@@ -167,14 +180,14 @@ module _ (setup : Setup) (blind : AnswersAreBlind) where
   with_looks_good before actor K (Went after event ∷ items) final good due = (good, due)
   with_looks_good before actor K (Looked kind addr smm look ∷ items) final good due =
       go (λ final' good' due'. with_looks_good before actor K items final' good' due')
-          (nat_le look.version (version_of setup before)) refl due
+      (nat_le look.version (version_of setup before)) refl due
     where
       go : ((final' : List Entry) → Good setup before final' → Due setup before K items
           → Good setup before (with_looks (version_of setup before) actor items final')
           × K (left_after (version_of setup before) items))
           → (b : Bool) → nat_le look.version (version_of setup before) ≡ b
           → MatchBool b (IsAnswer setup before (LookAt kind addr smm) (Saw look) × Due setup before K items)
-              (K (Looked kind addr smm look ∷ items))
+          (K (Looked kind addr smm look ∷ items))
           → Good setup before (with_looks (version_of setup before) actor (Looked kind addr smm look ∷ items) final)
           × K (left_after (version_of setup before) (Looked kind addr smm look ∷ items))
       go more true is d = rw is (more (next_entry final actor (LookAt kind addr smm) (Saw look) ∷ final)
@@ -191,7 +204,7 @@ module _ (setup : Setup) (blind : AnswersAreBlind) where
   all_looks_good before K (items ∷ rests) first final good due =
       let one = with_looks_good before first (K first) items final good due.0 in
       let more = all_looks_good before K rests (first + 1) (with_looks (version_of setup before) first items final)
-          one.0 due.1 in
+      one.0 due.1 in
       (more.0, (one.1, more.1))
 
   pub legal_front : (later before : List Entry) → IsLegal setup (onto later before) → IsLegal setup before
@@ -214,8 +227,8 @@ module _ (setup : Setup) (blind : AnswersAreBlind) where
       let here = all_looks_good before (Beside setup entry before later) rests 0 final good fit in
       let next : IsNext setup before entry = (legal_front later (entry ∷ before) legal).0 in
       subst (λ (n : ℕ). Good setup (onto later (entry ∷ before))
-          (placed n later (passed 0 entry.actor left) (new ∷ looked)))
+      (placed n later (passed 0 entry.actor left) (new ∷ looked)))
       (sym (noted_is setup entry before later left v (few_left v entry later rests few) here.1))
       (placed_good later (entry ∷ before) (passed 0 entry.actor left) (new ∷ looked) legal
-          (entered before looked entry here.0 next)
+      (entered before looked entry here.0 next)
       (few_passed v entry later rests few) (pass setup entry before later left 0 here.1))

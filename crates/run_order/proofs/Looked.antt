@@ -10,12 +10,12 @@ use Rattle.run_order.proofs.Counts.{one_of, count_set}
 -- the looks of the first `k` processors have entered: `old` and `before` were there first, and `rests` and `now` are
 -- there now
 pub record AreLooked (version k : ℕ) (old rests : List (List Done)) (before now : List Entry) (room spare : ℕ) : Type 0
-    where
-  pub placed : with_all_looks version k (drop k rests) now ≡ with_all_looks version 0 old before
-  pub left : take k rests ≡ all_left version (take k old)
-  pub ahead : drop k rests ≡ drop k old
-  pub same : length rests ≡ length old
-  pub fits : spare + all_looks_in old ≡ room + all_looks_in rests
+  where
+    pub placed : with_all_looks version k (drop k rests) now ≡ with_all_looks version 0 old before
+    pub left : take k rests ≡ all_left version (take k old)
+    pub ahead : drop k rests ≡ drop k old
+    pub same : length rests ≡ length old
+    pub fits : spare + all_looks_in old ≡ room + all_looks_in rests
 
 pub looked_first : (version : ℕ) (old : List (List Done)) (before : List Entry) (room : ℕ)
     → AreLooked version 0 old old before before room room
@@ -26,24 +26,24 @@ head_same : (k : ℕ) (xs ys : List (List Done)) → k < length xs → length xs
     (get_or xs k [] ≡ get_or ys k []) × (drop (k + 1) xs ≡ drop (k + 1) ys)
 head_same k xs ys less same ahead =
     let e : get_or xs k [] ∷ drop (k + 1) xs ≡ get_or ys k [] ∷ drop (k + 1) ys = sym (drop_more xs k [] less)
-        ∙ (ahead ∙ drop_more ys k [] (omega (arith, less, same))) in
+    ∙ (ahead ∙ drop_more ys k [] (omega (arith, less, same))) in
     (cc (e), cc (e))
 
 pub looked_next : (version k : ℕ) (old rests : List (List Done)) (before now : List Entry) (room spare : ℕ)
     → AreLooked version k old rests before now room spare →
     k < length rests → (left : List Done) (now' : List Entry) (spare' : ℕ)
-        → left ≡ left_after version (get_or rests k []) → now' ≡ with_looks version k (get_or rests k []) now →
+    → left ≡ left_after version (get_or rests k []) → now' ≡ with_looks version k (get_or rests k []) now →
     spare' + looks_in (get_or rests k []) ≡ spare + looks_in left
-        → AreLooked version (k + 1) old (set rests k left) before now' room spare'
+    → AreLooked version (k + 1) old (set rests k left) before now' room spare'
 unfolding with_all_looks
 looked_next version k old rests before now room spare so less left now' spare' left_is now_is spare_is =
     let head = head_same k rests old less so.same so.ahead in
     let past : drop (k + 1) (set rests k left) ≡ drop (k + 1) rests = drop-set-lt (k + 1) rests k left (omega arith) in
     let looks : with_all_looks version k (drop k rests) now ≡ with_all_looks version (k + 1) (drop (k + 1) rests)
-        (with_looks version k (get_or rests k []) now) =
+    (with_looks version k (get_or rests k []) now) =
     ap (λ (r : List (List Done)). with_all_looks version k r now) (drop_more rests k [] less) in
     let more : take (k + 1) old ≡ take k old ++ get_or old k [] ∷ [] =
-        take_more old k [] (omega (arith, less, so.same)) in
+    take_more old k [] (omega (arith, less, so.same)) in
     let count = count_set rests k left less in
     let next : k + 1 ≡ suc k = omega arith in
     record {
@@ -62,10 +62,10 @@ looked_next version k old rests before now room spare so less left now' spare' l
 
 -- all of them
 pub record AllLooked (version : ℕ) (old rests : List (List Done)) (before now : List Entry) (room spare : ℕ) : Type 0
-    where
-  pub placed : now ≡ with_all_looks version 0 old before
-  pub left : rests ≡ all_left version old
-  pub fits : spare + all_looks_in old ≡ room + all_looks_in rests
+  where
+    pub placed : now ≡ with_all_looks version 0 old before
+    pub left : rests ≡ all_left version old
+    pub fits : spare + all_looks_in old ≡ room + all_looks_in rests
 
 pub looked_last : (version k : ℕ) (old rests : List (List Done)) (before now : List Entry) (room spare : ℕ)
     → AreLooked version k old rests before now room spare →

@@ -13,7 +13,7 @@ pub all_reverse : {X : Type 0} (P : X → Type 0) (xs : List X) → All P xs →
 all_reverse P [] all = All-nil P
 all_reverse P (x ∷ xs) all =
     subst (All P) (sym (reverse-append (x ∷ []) xs)) (All-push P (reverse xs) x (all_reverse P xs (All-tail P x xs all))
-        (All-head P x xs all))
+    (All-head P x xs all))
 
 pub all_turned : {X : Type 0} (P : X → Type 0) (xs : List X) → All P (reverse xs) → All P xs
 all_turned P xs all = subst (All P) (reverse-reverse xs) (all_reverse P (reverse xs) all)
@@ -30,4 +30,4 @@ pub over_front : (n : ℕ) (bus : List Entry) (entries : List RunEntry) → All 
 over_front n bus [] within = refl
 over_front n bus (entry ∷ entries) within =
     λ t. of_front n bus entry (All-head (IsPlacedBelow n) entry entries within) t ∷ over_front n bus entries
-        (All-tail (IsPlacedBelow n) entry entries within) t
+    (All-tail (IsPlacedBelow n) entry entries within) t

@@ -20,7 +20,7 @@ events_append : (c : ℕ) (xs ys : List Statement) → events_by c (xs ++ ys) �
 events_append c xs ys =
     ap (map (λ (s : Statement). s.event)) (filter-append (λ (s : Statement). s.actor == c) xs ys)
     ∙ map-append (λ (s : Statement). s.event) (filter (λ (s : Statement). s.actor == c) xs)
-        (filter (λ (s : Statement). s.actor == c) ys)
+    (filter (λ (s : Statement). s.actor == c) ys)
 
 reverse_cons : (event : Event) (events : List Event) → reverse (event ∷ events) ≡ reverse events ++ event ∷ []
 reverse_cons event events = reverse-append (event ∷ []) events
@@ -35,9 +35,9 @@ events_own : (c : ℕ) (h : List Entry) → events_by c (statements_of h) ≡ re
 events_own c [] = refl
 events_own c (entry ∷ before) =
     let split : events_by c (statements_of (entry ∷ before)) ≡ events_by c (statements_of before) ++ events_by c
-        (statement_of entry ∷ []) =
+    (statement_of entry ∷ []) =
     ap (events_by c) (statements_more (entry ∷ []) before)
-        ∙ events_append c (statements_of before) (statement_of entry ∷ []) in
+    ∙ events_append c (statements_of before) (statement_of entry ∷ []) in
     elim (cases_Bool (entry.actor == c)) [
       | inl is ↦ split ∙ (ap (λ (es : List Event). events_by c (statements_of before) ++ es) (one_own c entry is)
           ∙ (ap (λ (es : List Event). es ++ entry.event ∷ []) (events_own c before)
@@ -50,7 +50,7 @@ events_own c (entry ∷ before) =
 reverse_onto : (xs ys : List Event) → reverse (onto xs ys) ≡ reverse ys ++ xs
 reverse_onto xs ys =
     ap reverse (onto_is xs ys)
-        ∙ (reverse-append (reverse xs) ys ∙ ap (λ (es : List Event). reverse ys ++ es) (reverse-reverse xs))
+    ∙ (reverse-append (reverse xs) ys ∙ ap (λ (es : List Event). reverse ys ++ es) (reverse-reverse xs))
 
 -- ---- as many statements
 
@@ -115,7 +115,7 @@ same_size (x ∷ xs) ys same =
       | inl here ↦
           let e : x.actor ≡ c = grind (arith, nat_tests) in
           let d : count c ys ≡ suc (count c (drop_one x.actor ys)) =
-              subst (λ (k : ℕ). count k ys ≡ suc (count k (drop_one x.actor ys))) e (count_drop_own x.actor ys some) in
+          subst (λ (k : ℕ). count k ys ≡ suc (count k (drop_one x.actor ys))) e (count_drop_own x.actor ys some) in
           omega (arith, same c, count_own c x xs here, d)
       | inr there ↦ sym (count_other c x xs there) ∙ (same c ∙ count_drop_other x.actor c ys there)
     ] in
@@ -148,43 +148,46 @@ each_from P (items ∷ rests) first all =
       each_from P rests (first + 1) (λ c low high.
           let apart : (c == first) ≡ false = grind (arith, nat_tests) in
           subst (λ (b : Bool). P c (if b then items else done_by (first + 1) c rests)) apart
-              (all c (omega (arith, low)) (omega (arith, high)))),
+          (all c (omega (arith, low)) (omega (arith, high)))),
     )
 
 pub phase_placed :
     (blind : AnswersAreBlind) (setup : Setup) (opened later : List Entry) (phase : List Statement)
-        (rests : List (List Done)) (final : List Entry) →
+    (rests : List (List Done)) (final : List Entry) →
     IsHandOver setup opened later phase rests → IsLegal setup final → bare final ≡ bare opened →
     IsPlaced setup opened later phase final (placed (version_of setup opened) later rests final)
 phase_placed blind setup opened later phase rests final over legal same =
     let whole : List Entry = onto later opened in
     let all : List Entry = placed (version_of setup opened) later rests final in
     let fit : Each (λ a. Fits setup a opened later) 0 rests = each_from (λ a. Fits setup a opened later) rests 0
-        (λ c low high.
+    (λ c low high.
     let f = over.follows c (omega (arith, high)) in
     fits setup whole c later opened opened (version_of setup opened) (done_by 0 c rests) refl refl f
     (late_by setup whole c opened (version_of setup opened) (version_of setup opened) (done_by 0 c rests) f
-        (omega arith))) in
+    (omega arith))) in
     let good = placed_good setup blind later opened rests final over.legal (record { legal = legal; bare = same })
-        over.callers fit in
+    over.callers fit in
     let adds = has_added blind setup final later opened rests over.legal (record { legal = legal; bare = same })
-        over.callers fit in
+    over.callers fit in
     let part : List Statement = statements_of adds.added in
     let said : statements_of all ≡ statements_of final ++ part = ap statements_of adds.adds
-        ∙ statements_more adds.added final in
+    ∙ statements_more adds.added final in
     let events : (c : ℕ) → events_by c part ≡ events_by c phase = λ c.
     let one : events_by c (statements_of final) ++ events_by c part ≡ events_by c (statements_of all) =
-        sym (ap (events_by c) said ∙ events_append c (statements_of final) part) in
+    sym (ap (events_by c) said ∙ events_append c (statements_of final) part) in
     let two : events_by c (statements_of all) ≡ reverse (onto (map event_of (done_by 0 c rests)) (own c final)) =
-        events_own c all ∙ ap reverse (placed_own setup later opened rests final c fit over.callers) in
+    events_own c all ∙ ap reverse (placed_own setup later opened rests final c fit over.callers) in
     let three : reverse (onto (map event_of (done_by 0 c rests)) (own c final)) ≡ events_by c (statements_of final)
-        ++ map event_of (done_by 0 c rests) =
+    ++ map event_of (done_by 0 c rests) =
     reverse_onto (map event_of (done_by 0 c rests)) (own c final)
-        ∙ ap (λ (es : List Event). es ++ map event_of (done_by 0 c rests)) (sym (events_own c final)) in
+    ∙ ap (λ (es : List Event). es ++ map event_of (done_by 0 c rests)) (sym (events_own c final)) in
     append_cancel_left (events_by c (statements_of final)) (events_by c part) (map event_of (done_by 0 c rests))
-        (one ∙ (two ∙ three)) ∙ over.said c in
-    let is_whole : IsWholePhase phase part = record { size = same_size part phase (λ c. ap length (events c)); each =
-        events } in
+    (one ∙ (two ∙ three)) ∙ over.said c in
+    let is_whole : IsWholePhase phase part = record {
+      size = same_size part phase (λ c. ap length (events c));
+      each =
+          events;
+    } in
     record {
       legal = good.legal;
       bus = good.bare ∙ ap bare (onto_is later opened);

@@ -36,10 +36,10 @@ phase_runs blind setup opened later phase works final run legal same =
       callers = run.callers;
       follows = λ actor few.
           let w = subst (λ (h : List Entry). IsWork setup opened h phase actor (done_by 0 actor works)) is
-              (run.each actor few) in
+          (run.each actor few) in
           subst (Follows setup whole actor opened (version_of setup opened)) (back_again (done_by 0 actor works))
           (follows setup run.cards whole actor opened (reverse (done_by 0 actor works)) w.seen w.known w.trace
-              w.closed);
+          w.closed);
       said = λ actor. elim (cases_lt actor (length works)) [
         | inl few ↦ (run.each actor few).said
         | inr past ↦ ap (map event_of) (nothing_past 0 actor works (omega (arith, past)))

@@ -63,7 +63,7 @@ pub left_is_settled : (version : ℕ) (rests : List (List Done)) → IsSettled v
 left_is_settled version [] = λ k. tt
 left_is_settled version (done ∷ rests) =
     settled_more version (left_after version done) (all_left version rests) (not_due_left version done)
-        (left_is_settled version rests)
+    (left_is_settled version rests)
 
 -- ---- where a look can be due in one list alone
 
@@ -87,7 +87,7 @@ one_placed version first zero (done ∷ rests) history so less =
 one_placed version first (suc k) (done ∷ rests) history so less =
     let at : first + 1 + k ≡ first + suc k = omega arith in
     ap (with_all_looks version (first + 1) rests)
-        (not_due_placed version first done history (so 0 (λ e. absurd (omega (arith, e)))))
+    (not_due_placed version first done history (so 0 (λ e. absurd (omega (arith, e)))))
     ∙ (one_placed version (first + 1) k rests history (but_tail version k done rests so) (omega (arith, less))
     ∙ ap (λ (n : ℕ). with_looks version n (get_or rests k []) history) at)
 
@@ -96,17 +96,17 @@ one_left : (version k : ℕ) (rests : List (List Done)) → IsSettledBut version
 one_left version k [] so less = absurd (omega (arith, less))
 one_left version zero (done ∷ rests) so less =
     ap (λ (r : List (List Done)). left_after version done ∷ r)
-        (settled_left version rests (but_first version done rests so))
+    (settled_left version rests (but_first version done rests so))
 one_left version (suc k) (done ∷ rests) so less =
     λ t. not_due_same version done (so 0 (λ e. absurd (omega (arith, e)))) t ∷ one_left version k rests
-        (but_tail version k done rests so) (omega (arith, less)) t
+    (but_tail version k done rests so) (omega (arith, less)) t
 
 -- one processor's looks are those of all
 pub record AreAll (version : ℕ) (rests left : List (List Done)) (before now : List Entry) (spare spare' : ℕ) : Type 0
-    where
-  pub placed : now ≡ with_all_looks version 0 rests before
-  pub left_is : left ≡ all_left version rests
-  pub room : spare' + all_looks_in rests ≡ spare + all_looks_in left
+  where
+    pub placed : now ≡ with_all_looks version 0 rests before
+    pub left_is : left ≡ all_left version rests
+    pub room : spare' + all_looks_in rests ≡ spare + all_looks_in left
 
 pub one_is_all : (version k : ℕ) (rests : List (List Done)) (before now : List Entry) (spare spare' : ℕ)
     (left : List Done) → IsSettledBut version k rests → k < length rests
@@ -127,7 +127,7 @@ one_is_all version k rests before now spare spare' left so less left_is now_is r
 
 placed_again : (version : ℕ) (later : List Entry) (rests : List (List Done)) (history : List Entry)
     → placed version later (all_left version rests) (with_all_looks version 0 rests history) ≡ placed version later
-        rests history
+    rests history
 unfolding placed
 placed_again version [] rests history = settled_placed version 0 (all_left version rests)
     (with_all_looks version 0 rests history) (left_is_settled version rests)
@@ -135,7 +135,7 @@ placed_again version (entry ∷ later) rests history =
     let before : List Entry = with_all_looks version 0 rests history in
     let left : List (List Done) = all_left version rests in
     let same : with_all_looks version 0 left before ≡ before = settled_placed version 0 left before
-        (left_is_settled version rests) in
+    (left_is_settled version rests) in
     let again : all_left version left ≡ left = settled_left version left (left_is_settled version rests) in
     λ t. placed (noted version (done_by 0 entry.actor (again t))) later (passed 0 entry.actor (again t))
     (next_entry (same t) entry.actor entry.event entry.reply ∷ same t)
@@ -166,7 +166,7 @@ pub next_placed : (later : List Entry) (i start version : ℕ) (old rests : List
 next_placed later i start version old rests before now spare so settled less callers d next next_is place version' rest
     place_is version_is rest_is =
     placed_step later i start version old rests before now spare so less callers d next rests now spare next_is
-        (sym (settled_left version rests settled))
+    (sym (settled_left version rests settled))
     (sym (settled_placed version 0 rests now settled)) refl place version' rest place_is version_is rest_is
 
 pub but_one : (version version' place actor : ℕ) (rests : List (List Done)) (x : List Done) → IsSettled version rests

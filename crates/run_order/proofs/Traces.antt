@@ -30,9 +30,11 @@ unfolding map_writes_of
 writes_begin setup [] before = ([], refl)
 writes_begin setup (entry ∷ more) before =
     let rest = writes_begin setup more before in
-    let change : List MapChange = option_to_list (map_change_of setup (more ++ before) entry.event) in
-    (change ++ rest.0, ap (λ (ws : List MapChange). change ++ ws) rest.1
-        ∙ sym (append_assoc change rest.0 (map_writes_of setup before)))
+    let change : List MapChange = option_to_list (map_change_of setup (more ++ before) entry.event) in (
+      change ++ rest.0,
+      ap (λ (ws : List MapChange). change ++ ws) rest.1
+          ∙ sym (append_assoc change rest.0 (map_writes_of setup before)),
+    )
 
 writes_extend : (setup : Setup) (before whole : List Entry) → Begins before whole
     → HasMoreWrites (map_writes_of setup before) (map_writes_of setup whole)
@@ -46,8 +48,8 @@ span_moves : (setup : Setup) (bytes other : Bytes) → IsCardList setup.cards �
     → IsSpan setup bytes addr kind smm lo hi area → IsSpan setup other addr kind smm lo hi area
 span_moves setup bytes other cards same addr kind smm lo hi area span =
     let area_same : (x : ℕ)
-        → area_of setup bytes x kind smm ≡ area_of setup other x kind smm =
-        λ x. (map_bytes_decide setup bytes other cards same x kind smm).0 in
+    → area_of setup bytes x kind smm ≡ area_of setup other x kind smm =
+    λ x. (map_bytes_decide setup bytes other cards same x kind smm).0 in
     record {
       above = span.above;
       below = span.below;
@@ -64,12 +66,15 @@ module _ (setup : Setup) (cards : IsCardList setup.cards) (whole : List Entry) (
   right known kind addr smm look is e before b version =
       let part = writes_extend setup before whole b in
       let same : map_writes_of setup before ≡ known = same_end part.0 e.0 (map_writes_of setup before) known
-          (sym part.1 ∙ e.1) (version ∙ is.version) in
+      (sym part.1 ∙ e.1) (version ∙ is.version) in
       let bytes : SameMapBytes setup (registers_after setup known) (byte_of setup before) =
       λ reg on. ap (λ (ws : List MapChange). registers_after setup ws reg) (sym same)
-          ∙ sym (map_writes_decide setup before reg on) in
-      record { version = sym version; span = span_moves setup (registers_after setup known) (byte_of setup before) cards
-          bytes addr kind smm look.lo look.hi look.area is.span }
+      ∙ sym (map_writes_decide setup before reg on) in
+      record {
+        version = sym version;
+        span = span_moves setup (registers_after setup known) (byte_of setup before) cards
+            bytes addr kind smm look.lo look.hi look.area is.span;
+      }
 
   -- what a worker did leads on to what it still has to do
   pub follows_on : (done : List Done) (seen : List Entry) (known : List MapChange) (items : List Done)
@@ -84,11 +89,14 @@ module _ (setup : Setup) (cards : IsCardList setup.cards) (whole : List Entry) (
       let less = extends_length older known one.later in
       let most = extends_length known (map_writes_of setup whole) e in
       let rest : Follows setup whole actor seen look.version items =
-          subst (λ (n : ℕ). Follows setup whole actor seen n items) (sym one.saw.version) f in
+      subst (λ (n : ℕ). Follows setup whole actor seen n items) (sym one.saw.version) f in
       follows_on before seen older (Looked kind addr smm look ∷ items) d.2 b
-          (extends_trans older known (map_writes_of setup whole) one.later e)
-      (omega (arith, less, one.saw.version), omega (arith, most, one.saw.version),
-          right known kind addr smm look one.saw e, rest)
+      (extends_trans older known (map_writes_of setup whole) one.later e) (
+        omega (arith, less, one.saw.version),
+        omega (arith, most, one.saw.version),
+        right known kind addr smm look one.saw e,
+        rest,
+      )
   follows_on (Went version event ∷ before) seen known items d b e f =
       let was : List Entry = d.0 in let older : List MapChange = d.1 in let one = d.2 in
       let place : Begins (one.entry ∷ one.list) whole = subst (λ (h : List Entry). Begins h whole) one.now_is b in
@@ -104,11 +112,11 @@ module _ (setup : Setup) (cards : IsCardList setup.cards) (whole : List Entry) (
       } in
       let rest : Follows setup whole actor (one.entry ∷ one.list) (version_of setup (one.entry ∷ one.list)) items =
       subst (λ (z : List Entry × ℕ). Follows setup whole actor z.0 z.1 items)
-          (λ i. (one.now_is i, (ap length one.known_is ∙ ap (λ (h : List Entry). version_of setup h) one.now_is) i))
-          f in
+      (λ i. (one.now_is i, (ap length one.known_is ∙ ap (λ (h : List Entry). version_of setup h) one.now_is) i))
+      f in
       follows_on before was older (Went version event ∷ items) d.5 (begins_trans was one.list whole one.begins inside)
       (extends_trans older (map_writes_of setup one.list) (map_writes_of setup whole) one.meets
-          (writes_extend setup one.list whole inside))
+      (writes_extend setup one.list whole inside))
       (one.list, one.entry, call, rest)
 
   -- a worker that is done, in a history that was closed

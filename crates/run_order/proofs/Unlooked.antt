@@ -77,11 +77,11 @@ onto_placed setup version (entry ∷ later) rests history none legal =
     let version' : ℕ = noted version (done_by 0 entry.actor (all_left version rests)) in
     let rests' : List (List Done) = passed 0 entry.actor (all_left version rests) in
     let next : next_entry (with_all_looks version 0 rests history) entry.actor entry.event entry.reply ∷ with_all_looks
-        version 0 rests history ≡ entry ∷ history =
+    version 0 rests history ≡ entry ∷ history =
     ap (λ (h : List Entry). next_entry h entry.actor entry.event entry.reply ∷ h) before
-        ∙ ap (λ (e : Entry). e ∷ history) (next_onto setup later history entry legal) in
+    ∙ ap (λ (e : Entry). e ∷ history) (next_onto setup later history entry legal) in
     let none' : all_looks_in rests' ≡ 0 = none_passed 0 entry.actor (all_left version rests) (ap all_looks_in left
-        ∙ none) in
+    ∙ none) in
     ap (placed version' later rests') next ∙ onto_placed setup version' later rests' (entry ∷ history) none' legal
 
 pub unlooked : (setup : Setup) (version : ℕ) (later : List Entry) (rests : List (List Done)) (history : List Entry)
@@ -97,7 +97,7 @@ unlooked setup version later rests history none legal =
 next_of_bus : (setup : Setup) (entries : List Entry) (i : ℕ) (d : Entry) → IsLegal setup (reverse entries)
     → i < length entries
     → next_entry (reverse (take i entries)) (get_or entries i d).actor (get_or entries i d).event
-        (get_or entries i d).reply ∷ reverse (take i entries)
+    (get_or entries i d).reply ∷ reverse (take i entries)
     ≡ reverse (take (i + 1) entries)
 next_of_bus setup entries i d legal less =
     let entry : Entry = get_or entries i d in
@@ -106,9 +106,9 @@ next_of_bus setup entries i d legal less =
     ∙ (sym (onto_is (drop i entries) (reverse (take i entries)))
     ∙ ap (λ (later : List Entry). onto later (reverse (take i entries))) (drop_more entries i d less))) in
     let next = next_onto setup (drop (i + 1) entries) (reverse (take i entries)) entry
-        (subst (IsLegal setup) cut legal) in
+    (subst (IsLegal setup) cut legal) in
     let more : reverse (take (i + 1) entries) ≡ entry ∷ reverse (take i entries) =
-        ap reverse (take_more entries i d less) ∙ reverse-append (take i entries) (entry ∷ []) in
+    ap reverse (take_more entries i d less) ∙ reverse-append (take i entries) (entry ∷ []) in
     ap (λ (e : Entry). e ∷ reverse (take i entries)) next ∙ sym more
 
 -- the same, as the loop has it
@@ -116,9 +116,9 @@ pub begin_step : (setup : Setup) (entries : List Entry) (i : ℕ) (d : Entry) �
     → i < length entries
     → (history : List Entry) → history ≡ reverse (take i entries) → (next : List Entry)
     → next ≡ next_entry history (get_or entries i d).actor (get_or entries i d).event (get_or entries i d).reply ∷
-        history
+    history
     → next ≡ reverse (take (i + 1) entries)
 begin_step setup entries i d legal less history is next pushed =
     let entry : Entry = get_or entries i d in
     pushed ∙ (ap (λ (h : List Entry). next_entry h entry.actor entry.event entry.reply ∷ h) is
-        ∙ next_of_bus setup entries i d legal less)
+    ∙ next_of_bus setup entries i d legal less)

@@ -53,11 +53,11 @@ with_all_other v [] first c final less = refl
 with_all_other v (items ∷ rests) first c final less =
     let other : (first == c) ≡ false = grind (arith, nat_tests) in
     with_all_other v rests (first + 1) c (with_looks v first items final) (omega (arith, less))
-        ∙ with_looks_other v first c items final other
+    ∙ with_looks_other v first c items final other
 
 all_own : (v : ℕ) (rests : List (List Done)) (first c : ℕ) (final : List Entry)
     → onto (map event_of (done_by first c (all_left v rests))) (own c (with_all_looks v first rests final)) ≡ onto
-        (map event_of (done_by first c rests)) (own c final)
+    (map event_of (done_by first c rests)) (own c final)
 unfolding with_all_looks done_by
 all_own v [] first c final = refl
 all_own v (items ∷ rests) first c final =
@@ -66,17 +66,17 @@ all_own v (items ∷ rests) first c final =
           let here : first ≡ c = grind (arith, nat_tests) in
           let less : c < first + 1 = omega (arith, here) in
           let one : own c (with_all_looks v (first + 1) rests (with_looks v first items final)) ≡ own c
-              (with_looks v first items final) = with_all_other v rests (first + 1) c (with_looks v first items final)
-              less in
+          (with_looks v first items final) = with_all_other v rests (first + 1) c (with_looks v first items final)
+          less in
           let two : onto (map event_of (left_after v items)) (own c (with_looks v first items final)) ≡ onto
-              (map event_of items) (own c final) =
+          (map event_of items) (own c final) =
           subst (λ (k : ℕ). onto (map event_of (left_after v items)) (own k (with_looks v first items final)) ≡ onto
-              (map event_of items) (own k final)) here (with_looks_own v first items final) in
+          (map event_of items) (own k final)) here (with_looks_own v first items final) in
           rw is (ap (onto (map event_of (left_after v items))) one ∙ two)
       | inr not ↦
           let other : (first == c) ≡ false = grind (arith, nat_tests) in
           rw not (all_own v rests (first + 1) c (with_looks v first items final)
-              ∙ ap (onto (map event_of (done_by (first + 1) c rests))) (with_looks_other v first c items final other))
+          ∙ ap (onto (map event_of (done_by (first + 1) c rests))) (with_looks_other v first c items final other))
     ]
 
 passed_own : (actor first : ℕ) (rests : List (List Done))
@@ -130,7 +130,7 @@ left_one setup before K (Looked kind addr smm look ∷ items) due = go (λ d. le
     go : (Due setup before K items → K (left_after (version_of setup before) items)) → (b : Bool)
         → nat_le look.version (version_of setup before) ≡ b
         → MatchBool b (IsAnswer setup before (LookAt kind addr smm) (Saw look) × Due setup before K items)
-            (K (Looked kind addr smm look ∷ items))
+        (K (Looked kind addr smm look ∷ items))
         → K (left_after (version_of setup before) (Looked kind addr smm look ∷ items))
     go more true is d = rw is (more d.1)
     go more false not d = rw not d
@@ -147,13 +147,13 @@ module _ (setup : Setup) where
       → Each (λ a. Fits setup a before later) 0 rests
       → All (λ entry. entry.actor < length rests) later
       → own c (placed (version_of setup before) later rests final) ≡ onto (map event_of (done_by 0 c rests))
-          (own c final)
+      (own c final)
   unfolding placed
   placed_own [] before rests final c fit few =
       let v : ℕ = version_of setup before in
       let none = none_at (all_left v rests) 0 c (left_each setup before (λ _ rest. rest ≡ []) rests 0 fit) in
       ap (λ (items : List Done). onto (map event_of items) (own c (with_all_looks v 0 rests final))) (sym none)
-          ∙ all_own v rests 0 c final
+      ∙ all_own v rests 0 c final
   placed_own (entry ∷ later) before rests final c fit few =
       let v : ℕ = version_of setup before in
       let left : List (List Done) = all_left v rests in
@@ -162,24 +162,24 @@ module _ (setup : Setup) where
       let each = left_each setup before (Beside setup entry before later) rests 0 fit in
       let within : entry.actor < length left = few_left v entry later rests few in
       let more = ap (λ (n : ℕ). own c (placed n later (passed 0 entry.actor left) (new ∷ looked)))
-          (noted_is setup entry before later left v within each)
+      (noted_is setup entry before later left v within each)
       ∙ placed_own later (entry ∷ before) (passed 0 entry.actor left) (new ∷ looked) c
-          (pass setup entry before later left 0 each) (few_passed v entry later rests few) in
+      (pass setup entry before later left 0 each) (few_passed v entry later rests few) in
       elim (cases_Bool (entry.actor == c)) [
         | inl is ↦
             let same : entry.actor ≡ c = grind (arith, nat_tests) in
             let head = own_head setup entry before later left within each in
             let events = headed_events entry.event (version_of setup (entry ∷ before))
-                (Fits setup entry.actor (entry ∷ before) later) (done_by 0 entry.actor left) head in
+            (Fits setup entry.actor (entry ∷ before) later) (done_by 0 entry.actor left) head in
             let one = ap (λ (items : List Done). onto (map event_of items) (own c (new ∷ looked)))
-                (ap (λ (k : ℕ). done_by 0 k (passed 0 entry.actor left)) (sym same) ∙ passed_own entry.actor 0 left) in
+            (ap (λ (k : ℕ). done_by 0 k (passed 0 entry.actor left)) (sym same) ∙ passed_own entry.actor 0 left) in
             let two = ap (onto (map event_of (without_first (done_by 0 entry.actor left)))) (own_new c new looked is) in
             let three = ap (λ (es : List Event). onto es (own c looked))
-                (sym events ∙ ap (λ (k : ℕ). map event_of (done_by 0 k left)) same) in
+            (sym events ∙ ap (λ (k : ℕ). map event_of (done_by 0 k left)) same) in
             more ∙ (one ∙ (two ∙ (three ∙ all_own v rests 0 c final)))
         | inr not ↦
             let one = ap (λ (items : List Done). onto (map event_of items) (own c (new ∷ looked)))
-                (passed_other entry.actor c 0 left not) in
+            (passed_other entry.actor c 0 left not) in
             let two = ap (onto (map event_of (done_by 0 c left))) (own_old c new looked not) in
             more ∙ (one ∙ (two ∙ all_own v rests 0 c final))
       ]

@@ -1,7 +1,7 @@
 //! A command over any shelf, sink and gate, and the files that the tests give it.
 
-use board_outside::{Gate, QuietGate, SafeShelf, SafeSink, Shelf, Sink};
 use board_commands::{Status, board};
+use board_outside::{Gate, QuietGate, SafeShelf, SafeSink, Shelf, Sink};
 use std::alloc::Global;
 use std::sync::Wait;
 use std::test::Fail;

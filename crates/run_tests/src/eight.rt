@@ -2,8 +2,8 @@
 
 use crate::commands::{answer, files_of, status_of};
 use crate::counting_gate::CountingGate;
-use board_outside::{SafeShelf, SafeSink};
 use board_commands::Status;
+use board_outside::{SafeShelf, SafeSink};
 use std::alloc::Global;
 use std::sync::Wait;
 use std::test::Fail;

@@ -3,8 +3,8 @@
 use crate::commands::{answer, files_of, status_of};
 use crate::holding_gate::HoldingGate;
 use crate::holding_gate::Moment::{self, After, Before};
-use board_outside::{QuietGate, SafeShelf, SafeSink};
 use board_commands::Status;
+use board_outside::{QuietGate, SafeShelf, SafeSink};
 use outside_doubles::{MemShelf, SlowShelf};
 use std::alloc::Global;
 use std::sync::Wait;

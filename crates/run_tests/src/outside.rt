@@ -2,8 +2,8 @@
 
 use crate::commands::{ROM_SIZE, SETUP, files_of, status_of};
 use crate::told::{MadeFetch, ToldShelf, ToldSink};
-use board_outside::QuietGate;
 use board_commands::{Status, Which};
+use board_outside::QuietGate;
 use outside_doubles::{MemShelf, MemSink, SlowShelf, SlowSink};
 use std::alloc::{AllocError, Global};
 use std::sync::Wait;

@@ -18,7 +18,7 @@ pub cut_at : (text : List ℕ) (end : ℕ) → space_place text ≡ Some end
     → fields_of text ≡ take end text ∷ fields_of (take (length text - (end + 1)) (drop (end + 1) text))
 cut_at text end found =
     let at_end = cond_some (ltb (position_or_len is_space text) (length text)) (position_or_len is_space text) end
-        found in
+    found in
     rw take_rest (subst (λ (n : ℕ). fields_of text ≡ take n text ∷ fields_of (drop (n + 1) text)) at_end.1
     (slice_split_first is_space text 0 (ltb-true _ _ at_end.0)))
 

@@ -23,7 +23,7 @@ power_within base i n some le = pow-le-pow_right some le
 -- the digit at a place, and the rest after it
 step : (base high i : ℕ) (field : List ℕ) → i < length field
     → number_after base high (drop i field) ≡ option_and_then
-        (λ digit. number_after base (high * base + digit) (drop (i + 1) field)) (parse_digit base (get_or field i 0))
+    (λ digit. number_after base (high * base + digit) (drop (i + 1) field)) (parse_digit base (get_or field i 0))
 unfolding number_after
 step base high i field lt = rw (drop_more field i 0 lt) refl
 
@@ -33,7 +33,7 @@ pub goes_on : (base high digit i : ℕ) (field : List ℕ) (total : Option ℕ) 
     → number_after base (high * base + digit) (drop (i + 1) field) ≡ total
 goes_on base high digit i field total lt is so_far =
     let one : number_after base high (drop i field) ≡ number_after base (high * base + digit) (drop (i + 1) field) =
-        step base high i field lt ∙ rw (← is) refl in
+    step base high i field lt ∙ rw (← is) refl in
     sym one ∙ so_far
 
 pub stops : (base high i : ℕ) (field : List ℕ) (total : Option ℕ) → i < length field

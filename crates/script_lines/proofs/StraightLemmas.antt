@@ -87,7 +87,7 @@ unfolding parse_read parse_smm
 access_straight version size bytes n kind text addr event is sized at made =
     ap (λ (t : List ℕ). parse_read version kind (fields_of t)) is
     ∙ ap (parse_read version kind) (last_field size addr (size_lacks version size bytes (sym sized))
-        (hex_lacks 8 n addr (sym at)))
+    (hex_lacks 8 n addr (sym at)))
     ∙ rw (sym sized, sym at, made) refl
 
 write_read : (version size bytes n m : ℕ) (text fields addr value : List ℕ) (event : Event) → text ≡ size ∷ 32 ∷ fields
@@ -169,7 +169,7 @@ unfolding parse_statement_words parse_by_verb parse_event_item parse_event
 write_straight version size bytes n m words text fields addr value event verb is cut sized at said made actor =
     ap (λ (t : List ℕ). parse_statement_words version actor (fields_of t)) verb
     ∙ ap (option_map (ask actor)) (write_read version size bytes n m text fields addr value event is cut sized at said
-        made)
+    made)
 
 pub in_straight : (version byte n : ℕ) (width : Width) (words text port : List ℕ) → words ≡ 105 ∷ 110 ∷ 32 ∷ text
     → text ≡ byte ∷ 32 ∷ port → Some width ≡ parse_width (byte ∷ []) → Some n ≡ parse_hex 4 port

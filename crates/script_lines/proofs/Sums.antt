@@ -141,7 +141,7 @@ four_added a b c d x y z w is_x is_y is_z is_w =
 
 pub four_is :
     (a b c d sum : ℕ) → sum ≡ sum_after 0 (a ∷ b ∷ c ∷ d ∷ [])
-        → IsSum 0x1_0000 (parse_digits 16 (a ∷ b ∷ c ∷ d ∷ [])) sum
+    → IsSum 0x1_0000 (parse_digits 16 (a ∷ b ∷ c ∷ d ∷ [])) sum
 four_is a b c d sum is = subst (IsSum 0x1_0000 (parse_digits 16 (a ∷ b ∷ c ∷ d ∷ []))) (sym is) (four a b c d)
 
 joined :
@@ -158,7 +158,7 @@ eight_is a b c d e f g h high low is_high is_low =
     ∙ ap (λ (n : ℕ). sum_after 0 (a ∷ b ∷ c ∷ d ∷ []) * 0x1_0000 + n) is_low
     ∙ joined (sum_after 0 (a ∷ b ∷ c ∷ d ∷ [])) (summand_of e) (summand_of f) (summand_of g) (summand_of h) in
     subst (IsSum 0x1_0000_0000 (parse_digits 16 (a ∷ b ∷ c ∷ d ∷ e ∷ f ∷ g ∷ h ∷ []))) (sym same)
-        (eight a b c d e f g h)
+    (eight a b c d e f g h)
 
 -- ---- where the sum is below the limit, and where not
 

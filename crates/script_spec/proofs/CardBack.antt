@@ -38,12 +38,12 @@ pub tail_back : (version : ℕ) (before more : List Base) (rom : Option ℕ) →
     → All IsBaseForm more
     → IsRomForm version rom
     → with_fields version (fresh before) (map base_word more ++ rom_words rom) ≡ Some
-        (record { bases = before ++ more; rom = rom })
+    (record { bases = before ++ more; rom = rom })
 unfolding with_fields
 tail_back version before [] None few each form = ap (λ (b : List Base). Some (fresh b)) (sym (append-nil before))
 tail_back version before [] (Some bits) few each form =
     rw (rom_back version before bits form) (ap (λ (b : List Base). Some (record { bases = b; rom = Some bits }))
-        (sym (append-nil before)))
+    (sym (append-nil before)))
 tail_back version before (base ∷ more) rom few each form =
     rw (next_back version before base (All-head IsBaseForm base more each) (omega (arith, few)))
     (tail_back version (before ++ base ∷ []) more rom (omega (arith, few, length-append before (base ∷ [])))

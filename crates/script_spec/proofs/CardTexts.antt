@@ -102,14 +102,21 @@ tail_read : (version : ℕ) (before : List Base) (fields : List (List ℕ)) (tai
 unfolding with_fields
 tail_read version before [] tail few e =
     subst (IsTail version before []) (some_is (fresh before) tail e)
-    (record { more = []; bases = sym (append-nil before); text = refl; each = All-nil IsBaseForm; rom = tt; count =
-        few })
+    (record {
+      more = [];
+      bases = sym (append-nil before);
+      text = refl;
+      each = All-nil IsBaseForm;
+      rom = tt;
+      count =
+          few;
+    })
 tail_read version before (field ∷ fields) tail few e =
     let s = then_said (with_field version (fresh before) field) _ tail e in
     elim (field_read version before field s.0 s.1) [
       | inl rom ↦
           let end = ended version before fields rom.bits tail
-              (subst (λ (t : Tail). with_fields version t fields ≡ Some tail) (sym rom.is) s.2) in
+          (subst (λ (t : Tail). with_fields version t fields ≡ Some tail) (sym rom.is) s.2) in
           let read = rom_read version field rom.bits rom.read in
           subst (IsTail version before (field ∷ fields)) end.1
           (record {
@@ -173,7 +180,7 @@ card_read version (dev ∷ kind ∷ fields) card e =
     let kind_is = vga_read kind v.0 v.1 in
     let tail = tail_read version [] fields t.0 (omega arith) t.1 in
     subst (λ (c : FittedCard). (join_with_byte space (codes "card" ∷ dev ∷ kind ∷ fields) ≡ codes "card " ++ card_text
-        c) × IsCardForm version c)
+    c) × IsCardForm version c)
     (some_is _ card t.2) (
       ap (λ (rest : List ℕ). codes "card " ++ rest) (
           ap (λ (rest : List ℕ). dev ++ (space ∷ rest)) (line_spaced kind fields)

@@ -81,7 +81,7 @@ AreLines version before lines number (Err end) = Stops version before lines numb
 
 after_line : (version : ℕ) (line : List ℕ) (later : List (List ℕ)) (before items ends : List Item) →
     AreRead version before (line ∷ []) items → AreRead version items later ends
-        → AreRead version before (line ∷ later) ends
+    → AreRead version before (line ∷ later) ends
 after_line version line later before items ends (inl skipped) read =
     inl (skipped.0, subst (λ (b : List Item). AreRead version b later ends) skipped.1 read)
 after_line version line later before items ends (inr one) read =
@@ -104,7 +104,7 @@ later_are version number line later before items one (Err end) stops = record {
 
 next_are : (version number : ℕ) (line : List ℕ) (later : List (List ℕ)) (before : List Item)
     (next : List Item → Result (List Item) (ℕ × ℕ)) (result : Result (List Item) ℕ) → IsLine version before line result
-        →
+    →
     ((items : List Item) → AreLines version items later (number + 1) (next items)) →
     AreLines version before (line ∷ later) number (goes_on result number next)
 next_are version number line later before next (Ok items) one rest =
@@ -138,7 +138,7 @@ lines_are version number [] before =
 lines_are version number (line ∷ later) before =
     next_are version number line later before (λ items. judged_lines version items (number + 1) later)
     (judged_line version before line) (line_is version before line)
-        (λ items. lines_are version (number + 1) later items)
+    (λ items. lines_are version (number + 1) later items)
 
 -- ---- the whole
 

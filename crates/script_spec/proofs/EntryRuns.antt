@@ -7,8 +7,11 @@ name_borders = record {
   rows = (omega arith, omega arith, omega arith, omega arith);
   row_10 = λ is. grind (arith, is);
   shadow_10 = λ is. grind (arith, is);
-  functions = ((omega arith, omega arith, omega arith), (omega arith, omega arith, omega arith),
-      (omega arith, omega arith, omega arith));
+  functions = (
+    (omega arith, omega arith, omega arith),
+    (omega arith, omega arith, omega arith),
+    (omega arith, omega arith, omega arith),
+  );
   function_16 = λ is. grind (arith, is.1);
   device_256 = λ is. grind (arith, is.0);
   offset_256 = λ is. grind (arith, is.2);

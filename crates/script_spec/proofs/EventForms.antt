@@ -98,7 +98,7 @@ lacks_smm true = (refl, tt)
 abbrev IsAccess : (version : ℕ) → Kind → (bytes addr value : ℕ) → Bool → Event → Type 0
 IsAccess version kind bytes addr value smm event =
     (memory_event version kind bytes addr value smm ≡ event)
-        × (memory_text kind bytes addr value smm ≡ event_text event)
+    × (memory_text kind bytes addr value smm ≡ event_text event)
 
 asked_read : (version actor : ℕ) (kind : Kind) (words : List (List ℕ)) → is_write kind ≡ false
     → parse_by_verb version actor (kind_text kind) words ≡ option_map (ask actor) (parse_read version kind words)
@@ -133,7 +133,7 @@ write_back version actor bytes addr value smm event size small fits is = record 
   lack = (refl, (lacks_size version bytes size, (lacks_hex 4 addr, (lacks_hex bytes value, lacks_smm smm))));
   read = with_verb version actor (codes "w") _ (ask actor event) refl (λ rest reads.
       ap (option_map (ask actor)) (write_spelled version bytes addr value smm rest size small fits reads
-          ∙ ap (λ (e : Event). Some e) is.0));
+      ∙ ap (λ (e : Event). Some e) is.0));
 }
 
 memory_back : (version actor : ℕ) (kind : Kind) (bytes addr value : ℕ) (smm : Bool) (event : Event)

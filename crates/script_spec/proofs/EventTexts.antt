@@ -30,8 +30,10 @@ size_read version field bytes e = elim (cases_Bool (bytes_eq field (codes "b")))
     | inr w ↦ elim (cases_Bool (bytes_eq field (codes "d"))) [
       | inl four ↦
           let is : 4 ≡ bytes = some_is 4 bytes (rw (b, w, four) at e) in
-          subst (λ (n : ℕ). (field ≡ size_text n) × IsSize version n) is (word_is field (codes "d") four,
-              inr (inr (inl refl)))
+          subst (λ (n : ℕ). (field ≡ size_text n) × IsSize version n) is (
+            word_is field (codes "d") four,
+            inr (inr (inl refl)),
+          )
       | inr d ↦
           let q = guarded (bytes_eq field (codes "q")) (quad_size version) bytes (rw (b, w, d) at e) in
           let v = guarded (eqb version 2) (Some 8) bytes q.1 in
@@ -186,8 +188,10 @@ write_read version (size ∷ addr ∷ value ∷ flags) event e =
     subst (λ (x : Event). IsRead version (codes "w" ∷ size ∷ addr ∷ value ∷ flags) x) (some_is _ event s.2)
     (record {
       texts = codes "w" ∷ size_text b.0 ∷ hex_number 4 a.0 ∷ hex_number b.0 v.0 ∷ smm_words s.0;
-      reads = (same (codes "w"),
-          (same_as size (size_text b.0) size_is.0, (addr_is.0, (value_is.0, smm_read flags s.0 s.1))));
+      reads = (
+        same (codes "w"),
+        (same_as size (size_text b.0) size_is.0, (addr_is.0, (value_is.0, smm_read flags s.0 s.1))),
+      );
       joined = write_joined (codes "w") (size_text b.0) (hex_number 4 a.0) (hex_number b.0 v.0) s.0 ∙ access.0;
       form = access.1;
     })
@@ -225,8 +229,10 @@ out_read version (width ∷ port ∷ value ∷ []) event e =
     subst (λ (x : Event). IsRead version (codes "out" ∷ width ∷ port ∷ value ∷ []) x) (some_is _ event v.2)
     (record {
       texts = codes "out" ∷ width_text w.0 ∷ hex_number 2 p.0 ∷ hex_number (bytes_of w.0) v.0 ∷ [];
-      reads = (same (codes "out"),
-          (same_as width (width_text w.0) (width_read width w.0 w.1), (port_is.0, (value_is.0, tt))));
+      reads = (
+        same (codes "out"),
+        (same_as width (width_text w.0) (width_read width w.0 w.1), (port_is.0, (value_is.0, tt))),
+      );
       joined = out_joined (codes "out") (width_text w.0) (hex_number 2 p.0) (hex_number (bytes_of w.0) v.0);
       form = record { port = omega (arith, port_is.1); value = value_is.1 };
     })
@@ -245,8 +251,10 @@ look_read version (kind ∷ addr ∷ flags) event e =
     subst (λ (x : Event). IsRead version (codes "look" ∷ kind ∷ addr ∷ flags) x) (some_is _ event s.2)
     (record {
       texts = codes "look" ∷ kind_text k.0 ∷ hex_number 4 a.0 ∷ smm_words s.0;
-      reads = (same (codes "look"),
-          (same_as kind (kind_text k.0) (kind_read kind k.0 k.1), (addr_is.0, smm_read flags s.0 s.1)));
+      reads = (
+        same (codes "look"),
+        (same_as kind (kind_text k.0) (kind_read kind k.0 k.1), (addr_is.0, smm_read flags s.0 s.1)),
+      );
       joined = look_joined (kind_text k.0) (hex_number 4 a.0) s.0;
       form = omega (arith, addr_is.1);
     })
@@ -278,8 +286,13 @@ pulses_read version words event e =
     let n = then_said (parse_number words) _ event e in
     let d = number_read words n.0 n.1 in
     subst (λ (x : Event). IsRead version (codes "pulse" ∷ words) x) (some_is _ event n.2)
-    (record { texts = codes "pulse" ∷ decimal n.0 ∷ []; reads = number_spelled (codes "pulse") words n.0 d.0; joined =
-        refl; form = d.1 })
+    (record {
+      texts = codes "pulse" ∷ decimal n.0 ∷ [];
+      reads = number_spelled (codes "pulse") words n.0 d.0;
+      joined =
+          refl;
+      form = d.1;
+    })
 
 sector_read : (version : ℕ) (words : List (List ℕ)) (event : Event) → parse_bad_sector words ≡ Some event
     → IsRead version (codes "bad" ∷ words) event
@@ -288,8 +301,12 @@ sector_read version words event e =
     let n = then_said (parse_number words) _ event e in
     let d = number_read words n.0 n.1 in
     subst (λ (x : Event). IsRead version (codes "bad" ∷ words) x) (some_is _ event n.2)
-    (record { texts = codes "bad" ∷ decimal n.0 ∷ []; reads = number_spelled (codes "bad") words n.0 d.0; joined = refl;
-        form = d.1 })
+    (record {
+      texts = codes "bad" ∷ decimal n.0 ∷ [];
+      reads = number_spelled (codes "bad") words n.0 d.0;
+      joined = refl;
+      form = d.1;
+    })
 
 -- a verb that is this word
 of_verb : (version : ℕ) (verb word : List ℕ) (words : List (List ℕ)) (event : Event) → bytes_eq verb word ≡ true
@@ -324,7 +341,7 @@ event_read version verb words event e = elim (cases_Bool (bytes_eq verb (codes "
                     (pulses_read version words event (rw (r, f, w, i, o, l, a, p) at e))
                 | inr p ↦
                     let b = guarded (bytes_eq verb (codes "bad")) (parse_bad_sector words) event
-                        (rw (r, f, w, i, o, l, a, p) at e) in
+                    (rw (r, f, w, i, o, l, a, p) at e) in
                     of_verb version verb (codes "bad") words event b.0 (sector_read version words event b.1)
               ]
             ]

@@ -20,7 +20,7 @@ is_bad bytes line why e = subst (AreJudged (lines_of bytes)) e (judged_is (lines
 
 each_bad : (texts : List BadText) →
     map (λ text. judge (text_of_lines text.lines)) texts ≡ map (λ text. Err (text.line, text.why)) texts
-        → All IsBadText texts
+    → All IsBadText texts
 each_bad [] e = All-nil IsBadText
 each_bad (text ∷ texts) e =
     All-cons IsBadText text texts (is_bad (text_of_lines text.lines) text.line text.why (same_head _ _ _ _ e))
@@ -81,7 +81,7 @@ version_in (Err end) = 0
 
 judged_so : (bytes : List ℕ) (script : Script) (result : Judged) → AreJudged (lines_of bytes) result →
     is_good result ≡ true → version_in result ≡ script.version → IsSaidBy script (items_in result)
-        → IsScriptText bytes script
+    → IsScriptText bytes script
 judged_so bytes script (Ok found) good e same said = record {
   version = rw (← same) good.known;
   later = good.later;
@@ -111,8 +111,10 @@ two_processors =
       rom = refl;
       disk = refl;
       cards = IsPermutation-refl _;
-      rises = (All-cons (λ other. 2 < other.dev) _ [] (omega arith) (All-nil (λ other. 2 < other.dev)),
-          (All-nil (λ other. 3 < other.dev), tt));
+      rises = (
+        All-cons (λ other. 2 < other.dev) _ [] (omega arith) (All-nil (λ other. 2 < other.dev)),
+        (All-nil (λ other. 3 < other.dev), tt),
+      );
       phases = refl;
     })
 

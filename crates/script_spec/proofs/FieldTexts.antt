@@ -41,7 +41,7 @@ digit_stamp : (d : ℕ) → d < 10 → is_stamp_byte (0x30 + d) ≡ true
 digit_stamp d small =
     or_left (is_within 0x2D 0x3A (0x30 + d)) _
     (and_from (leb 0x2D (0x30 + d)) (leb (0x30 + d) 0x3A) (le-leb 0x2D (0x30 + d) (omega arith))
-        (le-leb (0x30 + d) 0x3A (omega arith)))
+    (le-leb (0x30 + d) 0x3A (omega arith)))
 
 two_stamps : (n : ℕ) (rest : List ℕ) → list_all is_stamp_byte rest ≡ true
     → list_all is_stamp_byte (two_digits n ++ rest) ≡ true
@@ -64,7 +64,7 @@ moment_stamp moment =
 pub lacks_moment : (moment : Moment) → lacks space (moment_text moment) ≡ true
 lacks_moment moment =
     all_so is_stamp_byte (λ b. not (eqb b space)) (no_space is_stamp_byte refl) (moment_text moment)
-        (moment_stamp moment)
+    (moment_stamp moment)
 
 stamp_plain : (b : ℕ) → is_stamp_byte b ≡ true → not (is_within 0x41 0x46 b) ≡ true
 stamp_plain b stamp = elim (or_cases (is_within 0x2D 0x3A b) (eqb b 0x54) stamp) [

@@ -48,12 +48,16 @@ statement_back version n event line small back spells =
 
 -- a level that is neither 0 nor 1
 wire_high : (n dev level : ℕ) → 2 ≤ level → wire_item n dev level ≡ AskLevel n (codes "wire") dev level
-wire_high n dev level high = rw (ne_eqb level 0 (λ is. let none : ⊥ = omega (arith, high, is) in none),
-    ne_eqb level 1 (λ is. let none : ⊥ = omega (arith, high, is) in none)) refl
+wire_high n dev level high = rw (
+  ne_eqb level 0 (λ is. let none : ⊥ = omega (arith, high, is) in none),
+  ne_eqb level 1 (λ is. let none : ⊥ = omega (arith, high, is) in none),
+) refl
 
 line_high : (n irq level : ℕ) → 2 ≤ level → line_item n irq level ≡ AskLevel n (codes "irq") irq level
-line_high n irq level high = rw (ne_eqb level 0 (λ is. let none : ⊥ = omega (arith, high, is) in none),
-    ne_eqb level 1 (λ is. let none : ⊥ = omega (arith, high, is) in none)) refl
+line_high n irq level high = rw (
+  ne_eqb level 0 (λ is. let none : ⊥ = omega (arith, high, is) in none),
+  ne_eqb level 1 (λ is. let none : ⊥ = omega (arith, high, is) in none),
+) refl
 
 level_words : (version n : ℕ) (verb : List ℕ) (number level : ℕ) → IsLevelForm n verb number level
     → parse_statement_words version n (verb ∷ decimal number ∷ decimal level ∷ []) ≡ Some (AskLevel n verb number level)
@@ -79,7 +83,7 @@ level_back version n verb number level line form is =
     (is ∙ sym (level_joined (decimal n) verb (decimal number) (decimal level)))
     (lacks_decimal n, (lacks_verb verb form.what, (lacks_decimal number, (lacks_decimal level, tt))))
     (number_first version n (verb ∷ decimal number ∷ decimal level ∷ []) _ form.who
-        (level_words version n verb number level form))
+    (level_words version n verb number level form))
 
 -- ---- all lines
 
@@ -94,7 +98,7 @@ item_back version line (FitCard card) form says = card_back version card line fo
 item_back version line BeginPhase form says = phase_back version line says
 item_back version line (Ask statement) form says =
     statement_back version statement.actor statement.event line form.0
-        (event_back version statement.actor statement.event form.1) says
+    (event_back version statement.actor statement.event form.1) says
 item_back version line (AskLevel actor verb number level) form says = level_back version actor verb number level line
     form says
 

@@ -69,7 +69,7 @@ two_read (first ∷ second ∷ []) p e =
     let first_is = decimal_read first a.0 a.1 in
     let second_is = decimal_read second b.0 b.1 in
     subst (λ (p : ℕ × ℕ). (first ∷ second ∷ [] ≡ decimal p.0 ∷ decimal p.1 ∷ []) × (IsDecimal p.0 × IsDecimal p.1))
-        (some_is (a.0, b.0) p b.2)
+    (some_is (a.0, b.0) p b.2)
     ((λ i. first_is.0 i ∷ second_is.0 i ∷ []), (first_is.1, second_is.1))
 two_read (_ ∷ _ ∷ _ ∷ _) p e = absurd cc
 
@@ -161,7 +161,7 @@ level_asks version n actor verb event words item d known read e =
     let two = two_read words p.0 p.1 in
     subst (HasForm version (line (actor ∷ verb ∷ words))) (sym p.2)
     (subst (λ (w : List (List ℕ)). HasForm version (line (actor ∷ verb ∷ w)) (level_item verb event n p.0.0 p.0.1))
-        (sym two.0)
+    (sym two.0)
     (level_asked version n p.0.0 p.0.1 actor verb event d known (λ on. read p.0.0 on two.1.0) two.1.0 two.1.1))
 
 wire_asks : (version n : ℕ) (actor : List ℕ) (words : List (List ℕ)) (item : Item) → parse_decimal actor ≡ Some n
@@ -262,7 +262,7 @@ cpus_read version words item e =
     let n = number_read words m.0 m.1 in
     subst (HasForm version (line (codes "cpus" ∷ words))) (sym m.2)
     (subst (λ (w : List (List ℕ)). HasForm version (line (codes "cpus" ∷ w)) (SetCpus m.0)) (sym n.0)
-        (record { form = n.1; says = refl }))
+    (record { form = n.1; says = refl }))
 
 memory_read : (version : ℕ) (words : List (List ℕ)) (item : Item)
     → option_map SetMemory (parse_number words) ≡ Some item
@@ -273,7 +273,7 @@ memory_read version words item e =
     let n = number_read words m.0 m.1 in
     subst (HasForm version (line (codes "memory" ∷ words))) (sym m.2)
     (subst (λ (w : List (List ℕ)). HasForm version (line (codes "memory" ∷ w)) (SetMemory m.0)) (sym n.0)
-        (record { form = n.1; says = refl }))
+    (record { form = n.1; says = refl }))
 
 rom_read : (version : ℕ) (words : List (List ℕ)) (item : Item) → option_map SetRom (parse_name words) ≡ Some item
     → HasForm version (line (codes "rom" ∷ words)) item
@@ -283,7 +283,7 @@ rom_read version words item e =
     let n = name_read words m.0 m.1 in
     subst (HasForm version (line (codes "rom" ∷ words))) (sym m.2)
     (subst (λ (w : List (List ℕ)). HasForm version (line (codes "rom" ∷ w)) (SetRom m.0)) (sym n.0)
-        (record { form = n.1; says = refl }))
+    (record { form = n.1; says = refl }))
 
 disk_read : (version : ℕ) (words : List (List ℕ)) (item : Item) → option_map SetDisk (parse_name words) ≡ Some item
     → HasForm version (line (codes "disk" ∷ words)) item
@@ -293,7 +293,7 @@ disk_read version words item e =
     let n = name_read words m.0 m.1 in
     subst (HasForm version (line (codes "disk" ∷ words))) (sym m.2)
     (subst (λ (w : List (List ℕ)). HasForm version (line (codes "disk" ∷ w)) (SetDisk m.0)) (sym n.0)
-        (record { form = n.1; says = refl }))
+    (record { form = n.1; says = refl }))
 
 fitted_read : (version : ℕ) (words : List (List ℕ)) (item : Item)
     → option_map FitCard (parse_card version words) ≡ Some item
@@ -346,4 +346,4 @@ pub item_read : (version : ℕ) (text : List ℕ) (item : Item) → parse_item v
     → HasForm version text item
 item_read version text item e =
     subst (λ (t : List ℕ). HasForm version t item) (join_with_byte-slice_split space text)
-        (fields_read version (fields_of text) item e)
+    (fields_read version (fields_of text) item e)

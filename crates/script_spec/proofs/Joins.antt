@@ -76,7 +76,7 @@ pub write_joined : (k s h v : List ℕ) (smm : Bool) → join_with_byte space (k
 write_joined k s h v true = sym (write_parts k s h v (smm_text true))
 write_joined k s h v false =
     sym (write_parts k s h v [] ∙ ap (λ (t : List ℕ). k ++ (space ∷ (s ++ (space ∷ (h ++ (space ∷ t))))))
-        (append-nil v))
+    (append-nil v))
 
 look_parts : (k h m : List ℕ) → codes "look " ++ k ++ space ∷ h ++ m ≡ codes "look " ++ (k ++ (space ∷ (h ++ m)))
 look_parts k h m =
@@ -95,4 +95,4 @@ pub out_joined : (verb s h v : List ℕ)
     → join_with_byte space (verb ∷ s ∷ h ∷ v ∷ []) ≡ verb ++ space ∷ s ++ space ∷ h ++ (space ∷ v)
 out_joined verb s h v =
     sym (append_assoc (verb ++ space ∷ s) (space ∷ h) (space ∷ v)
-        ∙ append_assoc verb (space ∷ s) (space ∷ (h ++ (space ∷ v))))
+    ∙ append_assoc verb (space ∷ s) (space ∷ (h ++ (space ∷ v))))

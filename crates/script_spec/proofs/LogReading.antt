@@ -115,6 +115,6 @@ pub entry_read : (version n : ℕ) (entry : Entry) → IsWellFormed version entr
     → entry_in version (line_text n entry) ≡ Some entry
 entry_read version n entry formed =
     entry_said version entry (line_text n entry) (line_pieces version n entry formed)
-        (actor_said entry.actor formed.actor)
+    (actor_said entry.actor formed.actor)
     (line_back version (asked_text entry.seq entry.event) (ask entry.seq entry.event) (asked_said version entry formed))
     (reply_read entry.event entry.reply formed.shape)

@@ -23,13 +23,15 @@ year_back : (year : ℕ) (rest : List ℕ) → year < 10_000
 unfolding parse_year
 year_back year rest small =
     let whole : year / 100 * 100 + year % 100 ≡ year = omega arith in
-    rw (two_back (year / 100) (two_digits (year % 100) ++ rest) (omega (arith, small)),
-        two_back (year % 100) rest (omega arith))
+    rw (
+      two_back (year / 100) (two_digits (year % 100) ++ rest) (omega (arith, small)),
+      two_back (year % 100) rest (omega arith),
+    )
     (ap (λ (x : ℕ). Some (x, rest)) whole)
 
 date_back : (year month day : ℕ) (rest : List ℕ) → year < 10_000 → month < 100 → day < 100
     → parse_date (two_digits
-        (year / 100) ++ (two_digits (year % 100) ++ 0x2D ∷ (two_digits month ++ 0x2D ∷ (two_digits day ++ rest))))
+    (year / 100) ++ (two_digits (year % 100) ++ 0x2D ∷ (two_digits month ++ 0x2D ∷ (two_digits day ++ rest))))
     ≡ Some (record { first = year; second = month; third = day; rest = rest })
 unfolding parse_date
 date_back year month day rest y m d =

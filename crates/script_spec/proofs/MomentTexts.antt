@@ -65,7 +65,7 @@ year_read text p e =
 record IsDateRead (text : List ℕ) (d : Three) : Type 0 where
   pub text_is :
       text ≡ two_digits (d.first / 100)
-          ++ (two_digits (d.first % 100) ++ 0x2D ∷ (two_digits d.second ++ 0x2D ∷ (two_digits d.third ++ d.rest)))
+      ++ (two_digits (d.first % 100) ++ 0x2D ∷ (two_digits d.second ++ 0x2D ∷ (two_digits d.third ++ d.rest)))
   pub year : d.first < 10_000
   pub month : d.second < 100
   pub day : d.third < 100
@@ -136,8 +136,8 @@ moment_read field moment e =
           ++ (two_digits (d.0.first % 100) ++ 0x2D ∷ (two_digits d.0.second ++ 0x2D ∷ (two_digits d.0.third ++ rest))))
           (time.text_is
           ∙ ap (λ (rest : List ℕ).
-              0x54 ∷ (two_digits t.0.first ++ 0x3A ∷ (two_digits t.0.second ++ 0x3A ∷ (two_digits t.0.third ++ rest))))
-              end.0),
+          0x54 ∷ (two_digits t.0.first ++ 0x3A ∷ (two_digits t.0.second ++ 0x3A ∷ (two_digits t.0.third ++ rest))))
+          end.0),
       record {
         year = date.year;
         month = date.month;

@@ -91,7 +91,7 @@ hex_digit_read c d small stands = elim (cases_lt d 10) [
             let c_is : c ≡ 48 + d = is ∙ text in
             let value : c - 0x30 ≡ d = omega (arith, c_is) in
             rw (le-leb 0x30 c (omega (arith, c_is)), le-leb c 0x39 (omega (arith, c_is, low)), value, lt-ltb d 16 small)
-                refl
+            refl
         | inr lower ↦
             let parts = and_parts (leb 0x41 (hex_digit d)) (leb (hex_digit d) 0x46) lower.0 in
             absurd (omega (arith, leb-true 0x41 (hex_digit d) parts.0, text, low))
@@ -144,7 +144,7 @@ hex_after (suc k) high n (c ∷ d ∷ cs) is spells =
     let first : parse_digit 16 c ≡ Some (b / 16) = hex_digit_read c (b / 16) (omega arith) spells.0 in
     let low : hex_digit b ≡ hex_digit (b % 16) = digit_again b (b % 16) refl in
     let second : parse_digit 16 d ≡ Some (b % 16) = hex_digit_read d (b % 16) (omega arith)
-        (subst (StandsFor d) low spells.1.0) in
+    (subst (StandsFor d) low spells.1.0) in
     rw (first, second)
     (hex_after k ((high * 16 + b / 16) * 16 + b % 16) n cs (next_value (n / 256 ^ k) high b above refl) spells.1.1)
 

@@ -90,7 +90,7 @@ no_zero (c ∷ d ∷ cs) e some first = let f = rw (first, le-leb 2 (length (c �
 pub decimal_read : (field : List ℕ) (n : ℕ) → parse_decimal field ≡ Some n → (field ≡ decimal n) × IsDecimal n
 decimal_read field n e =
     let g = guarded (leb 1 (length field) && leb (length field) 9 && not (has_leading_zero field))
-        (parse_digits 10 field) n e in
+    (parse_digits 10 field) n e in
     let h = both (leb 1 (length field) && leb (length field) 9) (not (has_leading_zero field)) g.0 in
     let k = both (leb 1 (length field)) (leb (length field) 9) h.0 in
     let some = leb-true 1 (length field) k.0 in
@@ -99,8 +99,11 @@ decimal_read field n e =
     let small : digits_value 10 field < 1_000_000_000 =
     omega (arith, digits_value-lt 10 field read.0, pow-le-pow_right {n = 10} (lit< tt) few) in
     let zero_free : has_leading_zero field ≡ false =
-    elim (cases_Bool (has_leading_zero field)) [ inl yes_zero ↦ (let f = rw yes_zero at h in absurd cc) | inr
-        none ↦ none ] in
+    elim (cases_Bool (has_leading_zero field)) [
+      | inl yes_zero ↦ (let f = rw yes_zero at h in absurd cc)
+      | inr
+          none ↦ none
+    ] in
     let text : decimal (digits_value 10 field) ≡ field =
     decimal-digits_value own field read.0 (omega (arith, some)) (no_zero field zero_free some) (omega (arith, small)) in
     (sym text ∙ ap decimal read.1, subst (λ (x : ℕ). x < 1_000_000_000) read.1 small)
@@ -124,8 +127,10 @@ digit_stands c d e =
           | inr lower ↦
               let is : hex_digit d ≡ 55 + d = hex_high d (omega (arith, lower.0, lower.1.1)) b.1 in
               inr (
-                rw (le-leb 0x41 (hex_digit d) (omega (arith, is, lower.0, lower.1.0, lower.1.1)),
-                    le-leb (hex_digit d) 0x46 (omega (arith, is, lower.0, lower.1.0, lower.1.1))) refl,
+                rw (
+                  le-leb 0x41 (hex_digit d) (omega (arith, is, lower.0, lower.1.0, lower.1.1)),
+                  le-leb (hex_digit d) 0x46 (omega (arith, is, lower.0, lower.1.0, lower.1.1)),
+                ) refl,
                 omega (arith, is, lower.0, lower.1.0, lower.1.1),
               )
         ]

@@ -47,7 +47,7 @@ reply_spaced bytes (Saw look) =
     let hi : List ℕ = space ∷ hex_long look.hi in
     ap (λ (text : List ℕ). space ∷ text)
     (append_assoc (version ++ lo) hi (space ∷ area_text look.area)
-        ∙ append_assoc version lo (hi ++ space ∷ area_text look.area))
+    ∙ append_assoc version lo (hi ++ space ∷ area_text look.area))
     ∙ ap (λ (rest : List ℕ). (space ∷ version) ++ (lo ++ (hi ++ rest))) (sym (append-nil (space ∷ area_text look.area)))
 
 lack : (word : List ℕ) → is_word word ≡ true → lacks space word ≡ true
@@ -55,20 +55,25 @@ lack word is = lacks-word space word refl is
 
 parts_lack : (parts : List Part) → Lack (words_of parts)
 parts_lack [] = tt
-parts_lack (part ∷ later) =
-    (lack (target_text part.target) (target_word part.target),
-        (lack (denial_text part.denial) (denial_word part.denial), parts_lack later))
+parts_lack (part ∷ later) = (
+  lack (target_text part.target) (target_word part.target),
+  (lack (denial_text part.denial) (denial_word part.denial), parts_lack later),
+)
 
 words_lack : (bytes : ℕ) (reply : Reply) → Lack (words_in bytes reply)
-words_lack bytes (Bus value target denial) =
-    (lack (value_text bytes value) (value_word bytes value),
-        (lack (target_text target) (target_word target), (lack (denial_text denial) (denial_word denial), tt)))
+words_lack bytes (Bus value target denial) = (
+  lack (value_text bytes value) (value_word bytes value),
+  (lack (target_text target) (target_word target), (lack (denial_text denial) (denial_word denial), tt)),
+)
 words_lack bytes (InParts parts value) =
     (lack (value_text bytes value) (value_word bytes value), parts_lack (parts_list parts))
-words_lack bytes (Saw look) =
-    (lack (decimal look.version) (decimal_word look.version),
-        (lack (hex_long look.lo) (hex_number_word 4 look.lo),
-        (lack (hex_long look.hi) (hex_number_word 4 look.hi), (lack (area_text look.area) (area_word look.area), tt))))
+words_lack bytes (Saw look) = (
+  lack (decimal look.version) (decimal_word look.version),
+  (
+    lack (hex_long look.lo) (hex_number_word 4 look.lo),
+    (lack (hex_long look.hi) (hex_number_word 4 look.hi), (lack (area_text look.area) (area_word look.area), tt)),
+  ),
+)
 
 -- the first field is empty
 reply_fields : (bytes : ℕ) (reply : Reply) → fields_of (space ∷ reply_text bytes reply) ≡ [] ∷ words_in bytes reply

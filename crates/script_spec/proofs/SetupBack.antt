@@ -53,7 +53,7 @@ is_so (first ∷ rest) form =
     let start = and_parts (is_name_start first) true form.first in
     and_from (leb (length (first ∷ rest)) 64 && is_name_start first) (list_all is_name_byte (first ∷ rest))
     (and_from (leb (length (first ∷ rest)) 64) (is_name_start first) (le-leb (length (first ∷ rest)) 64 form.few)
-        start.0) form.each
+    start.0) form.each
 
 name_back : (name : List ℕ) → IsName name → parse_name (name ∷ []) ≡ Some name
 unfolding parse_name
@@ -127,6 +127,6 @@ card_back version card line form is =
     ∙ ap (λ (rest : List ℕ). kind_word card.vga ++ rest) (spaced_tail card.bases card.rom)) in
     exact_back version line (codes "card") (decimal card.dev ∷ kind_word card.vga ∷ words) (FitCard card)
     (is ∙ sym (ap (λ (rest : List ℕ). codes "card " ++ rest)
-        (joined ∙ card_parts card.dev card.vga card.bases card.rom)))
+    (joined ∙ card_parts card.dev card.vga card.bases card.rom)))
     (refl, (lacks_decimal card.dev, (lacks_kind card.vga, lacks_tail card.bases card.rom)))
     (ap (option_map FitCard) (fitted_back version card.dev card.vga card.bases card.rom form))

@@ -39,8 +39,13 @@ cut line [] second spells = record { front = []; rest = line; is = refl; spells 
 cut [] (t ∷ ts) second spells = absurd spells
 cut (c ∷ cs) (t ∷ ts) second spells =
     let k = cut cs ts second spells.1 in
-    record { front = c ∷ k.front; rest = k.rest; is = ap (λ (l : List ℕ). c ∷ l) k.is; spells = (spells.0, k.spells);
-        later = k.later }
+    record {
+      front = c ∷ k.front;
+      rest = k.rest;
+      is = ap (λ (l : List ℕ). c ∷ l) k.is;
+      spells = (spells.0, k.spells);
+      later = k.later;
+    }
 
 -- only a space stands for a space
 space_is : (written : ℕ) → StandsFor written 32 → written ≡ 32
@@ -74,7 +79,7 @@ split line text [] lack spells =
 split line text (next ∷ texts) lack spells =
     let k = cut line text (space ∷ join_with_byte space (next ∷ texts)) spells in
     split_at line k.front k.rest text next texts lack.0 (λ later spells. split later next texts lack.1 spells) k.is
-        k.spells k.later
+    k.spells k.later
 
 -- ---- a line that is fields joined
 
@@ -82,7 +87,7 @@ own_bytes : (field : List ℕ) → lacks space field ≡ true → All (λ byte. 
 own_bytes [] lack = All-nil (λ byte. is_space byte ≡ false)
 own_bytes (c ∷ cs) lack =
     All-cons (λ byte. is_space byte ≡ false) c cs (lacks-first space c cs lack)
-        (own_bytes cs (lacks-later space c cs lack))
+    (own_bytes cs (lacks-later space c cs lack))
 
 pub split_exact : (field : List ℕ) (fields : List (List ℕ)) → Lack (field ∷ fields)
     → fields_of (join_with_byte space (field ∷ fields)) ≡ field ∷ fields

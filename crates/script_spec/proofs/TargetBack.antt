@@ -128,7 +128,7 @@ card_said field place off dev base n one two three = rw (one, two, three) refl
 
 card_back : (dev base off : ℕ) → dev < 10 → base < 10 → off < 2 ^ 32
     → parse_card_target (decimal dev ++ codes "." ++ decimal base ++ codes ":" ++ hex_long off) ≡ Some
-        (targets.Card dev base off)
+    (targets.Card dev base off)
 card_back dev base off one two three =
     let place : List ℕ = decimal dev ++ codes "." ++ decimal base in
     let parts : place ++ codes ":" ++ hex_long off ≡ place ++ 0x3A ∷ hex_long off = append_assoc place (codes ":")

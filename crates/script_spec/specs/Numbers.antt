@@ -40,7 +40,7 @@ has_leading_zero field = nat_le 2 (length field) && slice_index field 0 == 0x30
 abbrev pub parse_decimal : List ℕ → Option ℕ
 parse_decimal field =
     if nat_le 1 (length field) && nat_le (length field) 9 && not (has_leading_zero field) then parse_digits 10 field
-        else None
+    else None
 
 -- two decimal digits
 unfoldable pub parse_two_digits : List ℕ → Option (ℕ × List ℕ)

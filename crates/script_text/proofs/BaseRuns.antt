@@ -29,7 +29,7 @@ base_read fields i d base inside some so_far =
     let here : is_base_in_range (get_or (map base_said fields) i (base_said d)) ≡ true =
     ap is_base_in_range (get_or-map base_said fields i d (base_said d) inside)
     ∙ (some_in_case (is_base_in_range (base_said (get_or fields i d))) (base_said (get_or fields i d)) (base_of base)
-        some).0 in
+    some).0 in
     list_all_more is_base_in_range (map base_said fields) i (base_said d) place
     ∙ and_from (list_all is_base_in_range (take i (map base_said fields)))
     (is_base_in_range (get_or (map base_said fields) i (base_said d))) so_far here
@@ -44,7 +44,7 @@ base_added fields i d base bases new inside some pushed so_far =
     let here : get_or (map base_said fields) i (base_said d) ≡ base_of base =
     get_or-map base_said fields i d (base_said d) inside
     ∙ sym (some_in_case (is_base_in_range (base_said (get_or fields i d))) (base_said (get_or fields i d))
-        (base_of base) some).1 in
+    (base_of base) some).1 in
     ap (map base_of) pushed
     ∙ map-append base_of bases (base ∷ [])
     ∙ ap (λ (front : List Base). front ++ base_of base ∷ []) so_far

@@ -25,18 +25,18 @@ pub base_at : (card : FittedCard) (bases : List BaseSpec) (i : ℕ) (d : BaseSpe
 base_at card bases i d fits view lt =
     let each : All IsBase (map base_of bases) = rw view fits.each in
     subst IsBase (get_or-map base_of bases i d (base_of d) lt)
-        (All-get_or IsBase (map base_of bases) i (base_of d) (omega (arith, length-map bases base_of)) each)
+    (All-get_or IsBase (map base_of bases) i (base_of d) (omega (arith, length-map bases base_of)) each)
 
 pub next_base :
     (card : FittedCard) (bases : List BaseSpec) (i total size : ℕ) (d : BaseSpec) → map base_of bases ≡ card.bases
-        → i < length bases →
+    → i < length bases →
     total ≡ sum_by memory_size (take i card.bases) → size ≡ memory_size (base_of (get_or bases i d))
-        → total + size ≡ sum_by memory_size (take (i + 1) card.bases)
+    → total + size ≡ sum_by memory_size (take (i + 1) card.bases)
 next_base card bases i total size d view lt is here =
     let base : get_or (map base_of bases) i (base_of d) ≡ base_of (get_or bases i d) =
-        get_or-map base_of bases i d (base_of d) lt in
+    get_or-map base_of bases i d (base_of d) lt in
     let more : sum_by memory_size (take (i + 1) (map base_of bases)) ≡ sum_by memory_size (take i (map base_of bases)) +
-        memory_size (get_or (map base_of bases) i (base_of d)) =
+    memory_size (get_or (map base_of bases) i (base_of d)) =
     sum_by_more memory_size (map base_of bases) i (base_of d) (omega (arith, length-map bases base_of)) in
     let so_far : total ≡ sum_by memory_size (take i (map base_of bases)) = rw view is in
     let next : size ≡ memory_size (get_or (map base_of bases) i (base_of d)) = rw base here in
@@ -50,7 +50,7 @@ pub place_is : (dev : ℕ) (cards : List FittedCard)
     (λ other. nat_lt dev other.dev) cards
 place_is dev cards =
     let le : position_or_len (λ other. nat_lt dev other.dev) cards ≤ length cards =
-        prefix_len-le-length (λ other. not (nat_lt dev other.dev)) cards in
+    prefix_len-le-length (λ other. not (nat_lt dev other.dev)) cards in
     elim (cases_Bool (nat_lt (position_or_len (λ other. nat_lt dev other.dev) cards) (length cards))) [
       | inl below ↦ rw below refl
       | inr none ↦ let end : length cards ≤ position_or_len (λ other. nat_lt dev other.dev) cards =

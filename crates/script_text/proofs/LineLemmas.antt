@@ -39,13 +39,13 @@ before bytes k d lt = let k' = fails_before_first is_feed bytes k d (grind (arit
 -- with a line feed the first line ends there
 lines_cut : (bytes : List ℕ) → position_or_len is_feed bytes < length bytes
     → lines_of bytes ≡ take (position_or_len is_feed bytes) bytes ∷ lines_of
-        (drop (position_or_len is_feed bytes + 1) bytes)
+    (drop (position_or_len is_feed bytes + 1) bytes)
 lines_cut bytes lt =
     let feed : get_or bytes (position_or_len is_feed bytes) 0 ≡ 10 =
-        eqb-true _ 10 (passes_at_first is_feed bytes 0 lt) in
+    eqb-true _ 10 (passes_at_first is_feed bytes 0 lt) in
     let cut : bytes ≡ before_first is_feed bytes ++ 10 ∷ after_first is_feed bytes =
     subst (λ (byte : ℕ). bytes ≡ before_first is_feed bytes ++ byte ∷ after_first is_feed bytes) feed
-        (split_at_first is_feed bytes 0 lt) in
+    (split_at_first is_feed bytes 0 lt) in
     ap lines_of cut ∙ line_ended (before_first is_feed bytes) (after_first is_feed bytes) (before bytes)
 
 not_so : (b : Bool) → ¬ (b ≡ true) → b ≡ false

@@ -204,7 +204,7 @@ pub asked_place : (items : List Item) (actor : ℕ) (asked : Asked) (any : Bool)
     is_misplaced items (asked_said actor asked) ≡ not any
 asked_place items actor asked any e =
     asked_all (λ item. is_misplaced items item ≡ not any)
-        (λ statement. statement_place items (Ask statement) any refl refl e)
+    (λ statement. statement_place items (Ask statement) any refl refl e)
     (λ n verb number level. statement_place items (AskLevel n verb number level) any refl refl e) actor asked
 
 pub asked_repeated : (items : List Item) (actor : ℕ) (asked : Asked)
@@ -216,7 +216,7 @@ pub asked_begun : (items : List Item) (actor : ℕ) (asked : Asked) →
     (is_phase (asked_said actor asked) && lacks_setup items) ≡ false
 asked_begun items actor asked =
     asked_all (λ item. (is_phase item && lacks_setup items) ≡ false) (λ statement. refl) (λ n verb number level. refl)
-        actor asked
+    actor asked
 
 pub few_pulses : (event : Event) → is_event_in_range event ≡ true → pulses_of_event event ≤ 1_000_000
 few_pulses (Pulses count) e = leb-true count 1_000_000 (and_parts (nat_le 1 count) (nat_le count 1_000_000) e).1
@@ -326,7 +326,7 @@ pub setup_within : (items : List Item) (reading : Reading) (item : Item) → IsR
     memory_with item reading.memory ≤ 0x400_0000 → passes_limits (item ∷ items) ≡ false
 setup_within items reading item is setup pulses little =
     let kind : (is_phase item ≡ false) × (is_statement item ≡ false) = neither (is_phase item) (is_statement item)
-        setup in
+    setup in
     let few : pulses_of item + reading.pulses ≤ 100_000_000 = omega (arith, pulses, is.limits.pulses) in
     limits_with items reading item is
     ∙ rw (kind.0, kind.1) (within reading.statements (length reading.phases.items) (pulses_of item + reading.pulses)

@@ -138,7 +138,7 @@ whole_end version lines rest number reading said known end run same whole text f
 pub in_range : (result : Result Script ScriptFault) (bytes : List ℕ) (version : ℕ) (later : List (List ℕ)) →
     lines_of bytes ≡ first_line version ∷ later →
     IfOk result (λ script. (text : List ℕ) → lines_of text ≡ first_line version ∷ later
-        → IsScriptText text (said_of script)) →
+    → IsScriptText text (said_of script)) →
     IfOk result (λ script. IsInRangeScript (said_of script))
 in_range (Ok script) bytes version later first said = scripts_are_in_range bytes (said_of script) (said bytes first)
 in_range (Err fault) bytes version later first said = tt

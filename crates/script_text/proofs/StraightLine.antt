@@ -65,7 +65,7 @@ line_taken (Err e) version line actor event old new is taken = tt
 -- and where it is refused, the line is bad
 pub line_refused :
     {T : Type 0} (r : Result T ScriptFault) (version number : ℕ) (line : List ℕ) (actor : ℕ) (event : Event)
-        (old : Reading)
+    (old : Reading)
     → IsStraight version line actor event
     → IfErr r (λ fault. OnBad fault (λ place why. (place ≡ number)
     × ((items : List Item) → IsReadingOf items old → least_reason items (ask actor event) ≡ Some why)))

@@ -11,21 +11,21 @@ returns-in_err-text-clause-caused g c =
     let is : status_of c.from_residual.result ≡ c.in_err-text.field-0.0 = search rules in
     rw is
     (caused_refusal _ _ _ c.in_err-text.field-0.0 c.in_err-text.ensures.answer.refused
-        c.in_err-text.ensures.answer.no_fault_hidden
+    c.in_err-text.ensures.answer.no_fault_hidden
     refl (Keeps-refl (g.K.Sink.taken c.args.out.now)))
 
 pub returns-in_err-text-clause-only : goal.returns-in_err-text-clause-only
 returns-in_err-text-clause-only g c =
     holds_of_error _ c.from_residual.result c.in_err-text.field-0.0 (search rules)
-        (refusal_of _ _ c.in_err-text.field-0.0 c.in_err-text.ensures.answer.refused)
+    (refusal_of _ _ c.in_err-text.field-0.0 c.in_err-text.ensures.answer.refused)
 
 pub returns-in_err-put_all-clause-caused : goal.returns-in_err-put_all-clause-caused
 returns-in_err-put_all-clause-caused g c =
     let is : status_of c.from_residual-in_err-put_all.result ≡ status_of_put_fault c.in_err-put_all.field-0.0 =
-        search rules in
+    search rules in
     rw is
     (caused_put_fault _ _ _ _ c.in_ok-text.ensures.answer.text c.in_ok-text.ensures.answer.quiet
-        c.in_err-put_all.field-0.0
+    c.in_err-put_all.field-0.0
     c.in_err-put_all.ensures.front c.in_err-put_all.ensures.failed c.in_err-put_all.ensures.no_fault)
 
 pub returns-clause-caused : goal.returns-clause-caused
@@ -41,5 +41,5 @@ returns-in_err-text-clause-puts g c =
 pub returns-in_err-put_all-clause-puts : goal.returns-in_err-put_all-clause-puts
 returns-in_err-put_all-clause-puts g c =
     let is : status_of c.from_residual-in_err-put_all.result ≡ status_of_put_fault c.in_err-put_all.field-0.0 =
-        search rules in
+    search rules in
     rw is (calls_hold _ _ _ _ (put_refused c.in_err-put_all.field-0.0) c.in_err-put_all.ensures.puts)

@@ -7,4 +7,4 @@ use Rattle.board_commands.proofs.memory.board_in_memory.Goals as goal
 pub returns-clause-exact : goal.returns-clause-exact
 returns-clause-exact g c =
     always_exact c.board.result (command_said c.args.words.now) (Some (file_named c.args.shelf.now.files.items))
-        c.board.ensures.exact
+    c.board.ensures.exact

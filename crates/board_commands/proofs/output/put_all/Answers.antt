@@ -19,7 +19,7 @@ pub loop-piece-preserved : goal.loop-piece-preserved
 loop-piece-preserved g c = record {
   sent =
       then_piece_sent _ _ _ _ c.pieces-piece-items.result.now c.loop-piece.piece-index c.piece-item.result _
-          c.loop-piece-test.true
+      c.loop-piece-test.true
       c.piece-item.is c.deref.ensures.value c.loop-piece.invariant.sent c.in_ok-put_piece.ensures.whole;
   quiet = c.in_ok-put_piece.ensures.quiet ∙ c.loop-piece.invariant.quiet;
   puts = piece_put _ _ _ c.loop-piece.invariant.puts c.in_ok-put_piece.ensures.puts;

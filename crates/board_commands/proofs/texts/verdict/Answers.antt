@@ -9,7 +9,7 @@ pub returns-in_err-text-clause-stops : goal.returns-in_err-text-clause-stops
 returns-in_err-text-clause-stops c = λ script log.
     holds_of_error _ c.from_residual-in_err-text.result (status_of_check_fault c.in_err-text.field-0.0) (search rules)
     (check_stopped c.args.read (said_of c.in_ok-prepared.prepared.script) c.in_ok-prepared.prepared.board.setup _ script
-        log
+    log
     c.in_ok-prepared.ensures.script c.in_ok-prepared.ensures.setup (c.deref.ensures.value
-        ∙ c.in_ok-prepared.ensures.log)
+    ∙ c.in_ok-prepared.ensures.log)
     c.in_err-text.field-0.0 (λ line is. c.verdict_on_log.ensures.differs line (c.in_err-text.was ∙ ap Err is)))

@@ -13,6 +13,6 @@ pub returns : goal.returns
 returns g c = record {
   put =
       put_more g.W.Write.contents c.put_text-2.result c.args.first.now c.args.second.now c.args.out.now
-          c.put_text.new.out
+      c.put_text.new.out
       c.put_text-2.new.out c.in_ok-put_text.ensures.put c.put_text-2.ensures.put;
 }

@@ -10,6 +10,6 @@ returns-clause-second g c = let marks : List ℕ = c.close.result.marks.items in
     let own : own_by (λ (m : ℕ). m) 1 marks ≡ mine_of other =
     All-head (λ (p : ℕ × List ℕ). own_by (λ (m : ℕ). m) p.0 marks ≡ p.1) (1, mine_of other) []
     (subst (λ (z : List ℕ × List (ℕ × List ℕ)). All
-        (λ (p : ℕ × List ℕ). own_by (λ (m : ℕ). m) p.0 (drop (length z.0) marks) ≡ p.1) z.1) (λ i. (none i, is i))
-        c.close.ensures.joined) in
+    (λ (p : ℕ × List ℕ). own_by (λ (m : ℕ). m) p.0 (drop (length z.0) marks) ≡ p.1) z.1) (λ i. (none i, is i))
+    c.close.ensures.joined) in
     ap (λ (ms : List ℕ). length ms) own ∙ search rules

@@ -22,13 +22,13 @@ loop-which-preserved g c =
     record {
       taken =
           taken_next (said_by c.args.command.now) _ _ _ _ _ c.files_of-files.ensures.files c.loop-which-test.true
-              so_far.taken _
+          so_far.taken _
           (rw so_far.same at c.in_ok-read_next.ensures.passed);
       no_fault = search rules;
       same = search rules;
       fetches =
           whole_next (said_by c.args.command.now) _ _ _ _ _ c.files_of-files.ensures.files c.loop-which-test.true
-              so_far.taken Status tt _ _ _
+          so_far.taken Status tt _ _ _
           so_far.fetches c.in_ok-read_next.ensures.fetches;
     }
 
@@ -37,14 +37,14 @@ returns-in_err-read_next-clause-refused g c =
     let so_far = c.loop-which.invariant in
     holds_of_error _ c.from_residual.result c.in_err-read_next.field-0.0 (search rules)
     (stops_here (said_by c.args.command.now) _ _ _ _ _ c.files_of-files.ensures.files c.loop-which-test.true
-        so_far.taken _ _ _ _ _
+    so_far.taken _ _ _ _ _
     so_far.no_fault (rw so_far.same at c.in_err-read_next.ensures.refused))
 
 pub returns-in_err-read_next-clause-fetches : goal.returns-in_err-read_next-clause-fetches
 returns-in_err-read_next-clause-fetches g c =
     let so_far = c.loop-which.invariant in
     fetches_here (said_by c.args.command.now) _ _ _ _ _ c.files_of-files.ensures.files c.loop-which-test.true
-        so_far.taken
+    so_far.taken
     c.read_next.result _ _ _ so_far.fetches c.read_next.ensures.fetches
 
 pub returns-clause-read : goal.returns-clause-read
@@ -71,4 +71,4 @@ returns-clause-fetches g c =
     (past_table command _ _ c.files_of-files.ensures.files c.loop-which-test.false
     (λ whiches.
     OfCalls (g.S.Shelf.fetches c.args.shelf.now) (g.S.Shelf.fetches c.loop-which.shelf)
-        (WholeBefore command told whiches)) c.loop-which.invariant.fetches)
+    (WholeBefore command told whiches)) c.loop-which.invariant.fetches)

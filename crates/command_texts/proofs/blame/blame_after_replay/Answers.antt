@@ -14,9 +14,9 @@ blame-requires-clause-count c =
     let is = version_is board.setup board.entries c.in_ok-writes.writes c.in_ok-writes.ensures.writes in
     let few = few_writes board.setup board.entries in
     let count = length_of_replay c.args.board.now.setup (statements_in (said_of c.args.script.now)) board.entries
-        c.in_ok-writes.ensures.replay in
+    c.in_ok-writes.ensures.replay in
     let noted : length c.deref-2.result.now ≡ length c.in_ok-writes.writes.changes.items =
-        ap length c.deref-2.ensures.value in
+    ap length c.deref-2.ensures.value in
     omega (arith, is, few, count, noted, c.requires.fresh.in_range.statements)
 
 pub report_text-requires-clause-ranges : goal.report_text-requires-clause-ranges

@@ -9,6 +9,6 @@ returns c = record {
   appended =
       last_gone (string_bytes c.args.text.now) (string_bytes c.push_range.new.text) (string_bytes c.pop.new.self)
       (range_text (range_of c.args.range.now)) (string_len c.push_range.new.text) line_feed
-          c.in_ok-push_range.ensures.appended
+      c.in_ok-push_range.ensures.appended
       (omega arith) (search rules) c.pop.ensures.ascii_bytes;
 }

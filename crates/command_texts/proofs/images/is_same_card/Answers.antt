@@ -6,7 +6,7 @@ pub returns : goal.returns
 returns c =
     let bases = bases_eq c.eq.result c.card.inside.bases.items c.other.inside.bases.items c.eq.ensures in
     let rom : c.card.inside.rom ≡ c.other.inside.rom = rom_same c.card.inside.rom c.other.inside.rom
-        (c.if-ne.ensures) in
+    (c.if-ne.ensures) in
     record {
       same = (
         (λ is. card_same c.args.card.now c.args.other.now (search rules) (search rules) (search rules)

@@ -7,7 +7,7 @@ use Rattle.command_texts.proofs.images.resumed.Goals as goal
 pub do_statements-requires-clause-before : goal.do_statements-requires-clause-before
 do_statements-requires-clause-before c =
     let count = length_of_replay c.args.image.setup c.args.image.steps c.in_ok-board.board.entries
-        c.in_ok-board.ensures.replay in
+    c.in_ok-board.ensures.replay in
     omega (arith, count, c.requires.image.count)
 
 pub returns-clause-replay : goal.returns-clause-replay

@@ -11,4 +11,4 @@ unreachable-requires c = rom_opens _ _ c.in-Err-BadRom.ensures.refused c.in-Err-
 pub unreachable-requires-in-Err-BadDisk : goal.unreachable-requires-in-Err-BadDisk
 unreachable-requires-in-Err-BadDisk c =
     disk_opens _ _ c.law_made_script.ensures.setup c.in_ok-disk.ensures.bytes c.in-Err-BadDisk.ensures.refused
-        c.in-Err-BadDisk.field-0-is
+    c.in-Err-BadDisk.field-0-is

@@ -19,4 +19,4 @@ unreachable-requires c =
     (c.law_make_text.ensures.says c.args.rounds c.requires.most)
     (subst (λ (bytes : List ℕ). IsScriptBad bytes c.in-Err-Bad.field-0-0 c.in-Err-Bad.field-0-1) same
     (subst (λ (fault : ScriptFault). OnBad fault (IsScriptBad c.as_bytes.result.now)) c.in-Err-Bad.field-0-is
-        c.in-Err-Bad.ensures.bad))
+    c.in-Err-Bad.ensures.bad))

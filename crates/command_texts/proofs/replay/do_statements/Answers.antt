@@ -14,7 +14,7 @@ use Rattle.command_texts.proofs.replay.do_statements.Goals as goal
 pub loop-phase-init : goal.loop-phase-init
 loop-phase-init c =
     let opened : c.reserve.new.self ≡ record c.args.board.now
-        { spare = max c.args.board.now.spare c.statement_count.result } =
+    { spare = max c.args.board.now.spare c.statement_count.result } =
     c.in_ok-reserve.ensures.ok in
     let count : c.statement_count.result ≡ length (in_file_order (lists_of c.deref-phase-items.result.now)) =
     c.statement_count.ensures.count
@@ -40,9 +40,9 @@ steps-requires-clause-in_range c =
 pub steps-requires-clause-spare : goal.steps-requires-clause-spare
 steps-requires-clause-spare c =
     let few = few_so_far c.deref-phase-items.result.now c.loop-phase.phase-index c.phase-item.result
-        c.loop-phase-test.true c.phase-item.is in
+    c.loop-phase-test.true c.phase-item.is in
     let same : length c.deref-in-loop-phase.result.now ≡ length c.phase-item.result.items =
-        ap length c.deref-in-loop-phase.ensures.value in
+    ap length c.deref-in-loop-phase.ensures.value in
     omega (arith, c.loop-phase.invariant.room, few, same)
 
 pub loop-phase-preserved : goal.loop-phase-preserved
@@ -52,14 +52,18 @@ loop-phase-preserved c =
     let few = few_so_far phases i c.phase-item.result c.loop-phase-test.true c.phase-item.is in
     let more = phase_length phases i c.phase-item.result c.loop-phase-test.true c.phase-item.is in
     let same : length c.deref-in-loop-phase.result.now ≡ length c.phase-item.result.items =
-        ap length c.deref-in-loop-phase.ensures.value in
+    ap length c.deref-in-loop-phase.ensures.value in
     record {
       done =
           phase_done phases i c.phase-item.result c.loop-phase-test.true c.phase-item.is c.args.board.now
           c.loop-phase.board c.steps.new.self c.deref-in-loop-phase.result.now c.deref-in-loop-phase.ensures.value
           c.loop-phase.invariant.done
-          (record { setup = c.steps.ensures.setup; same = c.steps.ensures.same; legal =
-              λ legal. c.steps.ensures.legal });
+          (record {
+            setup = c.steps.ensures.setup;
+            same = c.steps.ensures.same;
+            legal =
+                λ legal. c.steps.ensures.legal;
+          });
       room = omega (arith, c.loop-phase.invariant.room, c.steps.ensures.spare, few, more, same);
     }
 

@@ -11,5 +11,5 @@ invariant-loop-phase l = record {
   done : DidStatements l.fn.board (said_before l.phase-items l.phase-index) l.board;
   room :
       length (in_file_order (lists_of l.phase-items)) ≤ l.board.spare + length
-          (said_before l.phase-items l.phase-index);
+      (said_before l.phase-items l.phase-index);
 }

@@ -25,7 +25,7 @@ loop-phase-init c = record {
 pub push_phase-requires-clause-in_range : goal.push_phase-requires-clause-in_range
 push_phase-requires-clause-in_range c =
     let all = in_range c.args.replay.now.chipset.setup (said_of c.args.script.now) c.requires.in_range
-        c.requires.cards in
+    c.requires.cards in
     phase_in_range c.deref-phase-items.result.now c.loop-phase.phase-index c.phase-item.result c.loop-phase-test.true
     c.phase-item.is c.loop-phase.replay.chipset.setup c.deref.result.now c.deref.ensures.value
     (rw (c.loop-phase.invariant.setup, c.deref-phase-items.ensures.value) all)
@@ -33,7 +33,7 @@ push_phase-requires-clause-in_range c =
 pub push_phase-requires-clause-few : goal.push_phase-requires-clause-few
 push_phase-requires-clause-few c =
     let few = few_so_far c.deref-phase-items.result.now c.loop-phase.phase-index c.phase-item.result
-        c.loop-phase-test.true c.phase-item.is in
+    c.loop-phase-test.true c.phase-item.is in
     let same : length c.deref.result.now ≡ length c.phase-item.result.items = ap length c.deref.ensures.value in
     let all = ap (λ ps. length (in_file_order (lists_of ps))) c.deref-phase-items.ensures.value in
     omega (arith, c.loop-phase.invariant.count, few, same, all, c.requires.in_range.statements)

@@ -27,5 +27,5 @@ steps-requires-clause-spare c =
 pub loop-phase-preserved : goal.loop-phase-preserved
 loop-phase-preserved c =
     went_on_phase c.args.phases.now c.loop-phase.phase-index c.phase-item.result _ _ _ c.loop-phase-test.true
-        c.phase-item.is
+    c.phase-item.is
     c.loop-phase.invariant (went_on_as _ _ _ _ c.deref.ensures.value c.in_ok-left.ensures.went_on)

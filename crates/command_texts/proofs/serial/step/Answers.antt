@@ -5,7 +5,7 @@ use Rattle.command_texts.proofs.serial.step.Goals as goal
 pub returns-in_ok-push-clause-happened : goal.returns-in_ok-push-clause-happened
 returns-in_ok-push-clause-happened c =
     event_done c.args.statement.now.actor c.args.statement.now.event c.args.serial.now c.step-reply.new.self
-        c.step-reply.ensures.setup
+    c.step-reply.ensures.setup
     (c.step-reply.ensures.com1 c.args.serial.now.board.entries c.requires.standing)
     (c.step-reply.ensures.history c.args.serial.now.board.entries c.requires.standing)
 
@@ -13,13 +13,13 @@ pub returns-in_ok-push-clause-spare : goal.returns-in_ok-push-clause-spare
 returns-in_ok-push-clause-spare c =
     let few : c.args.serial.now.board.spare - 2 + 2 ≤ c.args.serial.now.board.spare = omega (arith, c.requires.spare) in
     let left : c.args.serial.now.board.spare - 2 ≤ c.step-reply.new.self.board.spare =
-        c.step-reply.ensures.spare _ few in
+    c.step-reply.ensures.spare _ few in
     omega (arith, left)
 
 pub returns-in_default-clause-happened : goal.returns-in_default-clause-happened
 returns-in_default-clause-happened c =
     event_done c.args.statement.now.actor c.args.statement.now.event c.args.serial.now c.step-reply.new.self
-        c.step-reply.ensures.setup
+    c.step-reply.ensures.setup
     (c.step-reply.ensures.com1 c.args.serial.now.board.entries c.requires.standing)
     (c.step-reply.ensures.history c.args.serial.now.board.entries c.requires.standing)
 
@@ -27,5 +27,5 @@ pub returns-in_default-clause-spare : goal.returns-in_default-clause-spare
 returns-in_default-clause-spare c =
     let few : c.args.serial.now.board.spare - 2 + 2 ≤ c.args.serial.now.board.spare = omega (arith, c.requires.spare) in
     let left : c.args.serial.now.board.spare - 2 ≤ c.step-reply.new.self.board.spare =
-        c.step-reply.ensures.spare _ few in
+    c.step-reply.ensures.spare _ few in
     omega (arith, left)

@@ -10,8 +10,11 @@ receive_next-left-requires-clause-standing c = c.loop-statement.invariant.standi
 
 pub receive_next-left-requires-clause-spare : goal.receive_next-left-requires-clause-spare
 receive_next-left-requires-clause-spare c =
-    omega (arith, room_for_next c.args.statements.now c.loop-statement.statement-index _ _ c.loop-statement-test.true
-        c.requires.spare c.loop-statement.invariant)
+    omega (
+      arith,
+      room_for_next c.args.statements.now c.loop-statement.statement-index _ _ c.loop-statement-test.true
+          c.requires.spare c.loop-statement.invariant,
+    )
 
 pub step-requires-clause-standing : goal.step-requires-clause-standing
 step-requires-clause-standing c = (c.receive_next-left.ensures.happened 0).standing
@@ -23,13 +26,17 @@ step-requires-clause-for_port c =
 
 pub step-requires-clause-spare : goal.step-requires-clause-spare
 step-requires-clause-spare c =
-    omega (arith, room_for_next c.args.statements.now c.loop-statement.statement-index _ _ c.loop-statement-test.true
-        c.requires.spare c.loop-statement.invariant, c.receive_next-left.ensures.spare)
+    omega (
+      arith,
+      room_for_next c.args.statements.now c.loop-statement.statement-index _ _ c.loop-statement-test.true
+          c.requires.spare c.loop-statement.invariant,
+      c.receive_next-left.ensures.spare,
+    )
 
 pub loop-statement-preserved : goal.loop-statement-preserved
 loop-statement-preserved c =
     went_on_more c.args.statements.now c.loop-statement.statement-index _ _ _ _ c.loop-statement-test.true
-        c.loop-statement.invariant
+    c.loop-statement.invariant
     (went_on_step _ c.loop-statement.serial c.receive_next-left.new.serial c.step.new.serial c.loop-statement.left.now
     c.receive_next-left.result.now c.loop-statement.sent.items c.step.new.sent.items c.receive_next-left.ensures.left
     (c.receive_next-left.ensures.happened _) c.in_ok-step.ensures.happened c.in_ok-step.ensures.sent

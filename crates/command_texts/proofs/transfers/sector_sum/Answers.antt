@@ -20,7 +20,7 @@ loop-lba-preserved c =
     omega (arith, ap length c.sector.ensures.bytes, cut_length 512 c.loop-lba.lba bytes) in
     let added = part_added 512 c.loop-lba.lba (slice_index bytes) c.sector.result.now few
     (λ k below. cut_byte 512 c.loop-lba.lba k bytes below
-        ∙ ap (λ part. slice_index part k) (sym c.sector.ensures.bytes)) in
+    ∙ ap (λ part. slice_index part k) (sym c.sector.ensures.bytes)) in
     record {
       sum = omega (arith, c.loop-lba.invariant.sum, c.sum_of-sum.ensures.sum, added);
       most = omega (arith, c.loop-lba.invariant.most, c.sum_of-sum.ensures.most);

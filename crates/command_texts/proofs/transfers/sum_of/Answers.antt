@@ -9,7 +9,11 @@ loop-byte-init c = record { sum = refl; most = omega arith }
 
 pub loop-byte-preserved : goal.loop-byte-preserved
 loop-byte-preserved c = record {
-  sum = omega (arith, c.loop-byte.invariant.sum, sum_below-more c.loop-byte.byte-index (slice_index c.args.bytes.now),
-      c.from-sum.ensures);
+  sum = omega (
+    arith,
+    c.loop-byte.invariant.sum,
+    sum_below-more c.loop-byte.byte-index (slice_index c.args.bytes.now),
+    c.from-sum.ensures,
+  );
   most = omega (arith, c.loop-byte.invariant.most, c.from-sum.ensures);
 }

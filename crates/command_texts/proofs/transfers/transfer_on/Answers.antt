@@ -19,5 +19,5 @@ returns c =
           (c.transfer-done.ensures.registers setup _ of) (c.transfer-done.ensures.disk setup _ of)
           (λ cell there. c.transfer-done.ensures.cells setup _ cell of there)
           (c.port_read-status.ensures.value ∙ status_read c.transfer-done.new.self) c.dram_sum.ensures.sum
-              c.disk_sum.ensures.sum lines);
+          c.disk_sum.ensures.sum lines);
     }

@@ -14,7 +14,7 @@ use Rattle.command_texts.proofs.writes.replay_noting.Goals as goal
 pub loop-phase-init : goal.loop-phase-init
 loop-phase-init c =
     let opened : c.reserve.new.self ≡ record c.args.board.now
-        { spare = max c.args.board.now.spare c.statement_count.result } =
+    { spare = max c.args.board.now.spare c.statement_count.result } =
     c.in_ok-reserve.ensures.ok in
     let count : c.statement_count.result ≡ length (in_file_order (lists_of c.deref-phase-items.result.now)) =
     c.statement_count.ensures.count
@@ -23,7 +23,7 @@ loop-phase-init c =
     let spare : c.reserve.new.self.spare ≡ max c.args.board.now.spare c.statement_count.result =
     ap (λ (board : Standing). board.spare) opened in
     let entries : c.reserve.new.self.entries ≡ c.args.board.now.entries = ap (λ (board : Standing). board.entries)
-        opened in
+    opened in
     let most = le-max_right c.args.board.now.spare c.statement_count.result in
     record {
       done =
@@ -37,7 +37,7 @@ loop-phase-init c =
 pub steps_noting-requires-clause-in_range : goal.steps_noting-requires-clause-in_range
 steps_noting-requires-clause-in_range c =
     let all = in_range c.args.board.now.setup (said_of c.args.script.now) c.requires.fresh.in_range
-        c.requires.fresh.cards in
+    c.requires.fresh.cards in
     phase_in_range c.deref-phase-items.result.now c.loop-phase.phase-index c.phase-item.result c.loop-phase-test.true
     c.phase-item.is c.loop-phase.board.setup c.deref-in-loop-phase.result.now c.deref-in-loop-phase.ensures.value
     (rw (c.loop-phase.invariant.done.setup, c.deref-phase-items.ensures.value) all)
@@ -45,9 +45,9 @@ steps_noting-requires-clause-in_range c =
 pub steps_noting-requires-clause-spare : goal.steps_noting-requires-clause-spare
 steps_noting-requires-clause-spare c =
     let few = few_so_far c.deref-phase-items.result.now c.loop-phase.phase-index c.phase-item.result
-        c.loop-phase-test.true c.phase-item.is in
+    c.loop-phase-test.true c.phase-item.is in
     let same : length c.deref-in-loop-phase.result.now ≡ length c.phase-item.result.items =
-        ap length c.deref-in-loop-phase.ensures.value in
+    ap length c.deref-in-loop-phase.ensures.value in
     omega (arith, c.loop-phase.invariant.room, few, same)
 
 pub loop-phase-preserved : goal.loop-phase-preserved
@@ -57,12 +57,12 @@ loop-phase-preserved c =
     let few = few_so_far phases i c.phase-item.result c.loop-phase-test.true c.phase-item.is in
     let more = phase_length phases i c.phase-item.result c.loop-phase-test.true c.phase-item.is in
     let same : length c.deref-in-loop-phase.result.now ≡ length c.phase-item.result.items =
-        ap length c.deref-in-loop-phase.ensures.value in
+    ap length c.deref-in-loop-phase.ensures.value in
     record {
       done =
           phase_done phases i c.phase-item.result c.loop-phase-test.true c.phase-item.is c.args.board.now
           c.loop-phase.board c.steps_noting.new.board c.deref-in-loop-phase.result.now
-              c.deref-in-loop-phase.ensures.value
+          c.deref-in-loop-phase.ensures.value
           c.loop-phase.invariant.done c.in_ok-steps_noting.ensures.done;
       room = omega (arith, c.loop-phase.invariant.room, c.in_ok-steps_noting.ensures.spare, few, more, same);
       writes = c.in_ok-steps_noting.ensures.writes;

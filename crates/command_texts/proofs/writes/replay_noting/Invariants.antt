@@ -11,6 +11,6 @@ invariant-loop-phase l = record {
   done : DidStatements l.fn.board (said_before l.phase-items l.phase-index) l.board;
   room :
       length (in_file_order (lists_of l.phase-items)) ≤ l.board.spare + length
-          (said_before l.phase-items l.phase-index);
+      (said_before l.phase-items l.phase-index);
   writes : AreWritesOf l.board.setup l.board.entries l.writes;
 }

@@ -18,7 +18,7 @@ returns-clause-writes c =
           (writes_more board.setup entry board.entries w.in-Some.change c.args.writes.now w.add.new.self (search rules)
           w.in_ok-add.ensures.change
           (w.in_ok-add.ensures.entry ∙ ap (λ (n : ℕ). c.args.writes.now.entries.items ++ (n + 1) ∷ []) count)
-              c.requires.writes)
+          c.requires.writes)
       | in_default w ↦
           subst (AreWritesOf board.setup (entry ∷ board.entries)) (sym w.writes-is)
           (writes_same board.setup entry board.entries c.args.writes.now (search rules) c.requires.writes)

@@ -38,7 +38,7 @@ returns-in_err-print_line-clause-walked c = λ place within past short.
     let taken = c.in-Some-next.ensures.taken in
     let entry : Entry =
     next_entry c.args.board.now.entries c.in-Some-next.statement.actor c.in-Some-next.statement.event
-        c.play-entry.result.reply in
+    c.play-entry.result.reply in
     let grown : c.play-entry.new.self.entries ≡ entry ∷ c.args.board.now.entries =
     ap (λ board. board.entries) c.play-entry.ensures.entry
     ∙ ap (λ (newest : Entry). newest ∷ c.args.board.now.entries) c.play-entry.ensures.next in
@@ -58,7 +58,7 @@ returns-clause-walked c = λ place within past short.
     let taken = c.in-Some-next.ensures.taken in
     let entry : Entry =
     next_entry c.args.board.now.entries c.in-Some-next.statement.actor c.in-Some-next.statement.event
-        c.play-entry.result.reply in
+    c.play-entry.result.reply in
     let grown : c.play-entry.new.self.entries ≡ entry ∷ c.args.board.now.entries =
     ap (λ board. board.entries) c.play-entry.ensures.entry
     ∙ ap (λ (newest : Entry). newest ∷ c.args.board.now.entries) c.play-entry.ensures.next in

@@ -63,10 +63,10 @@ returns-in_err-left-clause-walked c = λ place complete past.
     in
     handed_on c.from_residual.result c.in_err-left.field-0.0 _ _ c.from_residual.ensures.1
     (subst (λ (setup : Setup). StoppedCheck setup place.version (place.done ++ c.args.phase.now ∷ place.later)
-        place.bytes
+    place.bytes
     c.check_line.new.board.entries c.in_err-left.field-0.0) c.loop.invariant.setup
     (subst (λ (phase : List Statement). StoppedCheck c.loop.board.setup place.version
-        (place.done ++ phase ∷ place.later)
+    (place.done ++ phase ∷ place.later)
     place.bytes c.check_line.new.board.entries c.in_err-left.field-0.0) c.loop.invariant.phase after))
 
 pub returns-clause-walked : goal.returns-clause-walked

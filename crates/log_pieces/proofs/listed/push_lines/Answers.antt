@@ -16,7 +16,7 @@ loop-i-preserved g c =
       later = omega (arith, l.invariant.later);
       lines = line_added c.args.start l.i (g.L.Listed.entries c.args.list.now) c.entry.result l.invariant.later
           (omega (arith, c.loop-i-test.true, c.requires.within)) (c.entry.ensures.entry c.entry.result) _ _ _
-              l.invariant.lines
+          l.invariant.lines
           c.in_ok-push_line.ensures.appended;
     }
 

@@ -30,5 +30,5 @@ loop-piece-preserved c =
       added = λ size entries are.
           piece_added size entries at.yielded rest c.in_ok-lines.lines piece _ _ _
           (subst (ArePieces size entries) (sym whole) are) c.in_ok-lines.was (at.invariant.added size entries are)
-              c.in_ok-push.ensures.added;
+          c.in_ok-push.ensures.added;
     }

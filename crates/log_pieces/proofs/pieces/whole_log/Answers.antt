@@ -12,6 +12,6 @@ returns g c =
       text = whole_of_lines c.args.version entries _ _ _ c.whole.result c.in_ok-text.ensures.bytes
           c.in_ok-push_heading.ensures.appended
           (c.in_ok-push_lines.ensures.appended
-              ∙ ap (λ (es : List Entry). string_bytes c.push_heading.new.text ++ lines_from 1 es) all)
-              c.whole.ensures.bytes;
+          ∙ ap (λ (es : List Entry). string_bytes c.push_heading.new.text ++ lines_from 1 es) all)
+          c.whole.ensures.bytes;
     }

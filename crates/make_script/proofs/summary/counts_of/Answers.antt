@@ -22,6 +22,6 @@ loop-i-preserved c =
     let less : c.loop-i.i < length entries = omega (arith, c.loop-i-test.true, c.len-i-end.ensures.length) in
     let own = c.entry.ensures.entry c.entry.result in
     let more = reverse-take_more entries c.loop-i.i c.entry.result less
-        ∙ (λ t. own t ∷ reverse (take c.loop-i.i entries)) in
+    ∙ (λ t. own t ∷ reverse (take c.loop-i.i entries)) in
     subst (λ (history : List Entry). AreCounts history c.with-counts.result) (sym more)
-        (c.with-counts.ensures.counts _ c.loop-i.invariant)
+    (c.with-counts.ensures.counts _ c.loop-i.invariant)

@@ -12,7 +12,7 @@ returns-clause-appended c setup writes =
     let history = reverse c.args.entries.now in
     appended_twice c.push_map.result _ _ _ _ _ _
     (c.in_ok-push_counts.ensures.appended history (c.len.ensures.length ∙ sym (length-reverse c.args.entries.now))
-        c.counts_of.ensures.counts)
+    c.counts_of.ensures.counts)
     c.push_map.ensures.appended
     (text-append (entry_lines history) (map_lines (version_of setup history) c.args.ranges)
     ∙ ap (λ (n : ℕ). text_of_lines (entry_lines history) ++ text_of_lines (map_lines n c.args.ranges)) (sym writes))
@@ -21,6 +21,6 @@ pub returns-clause-front : goal.returns-clause-front
 returns-clause-front c =
     front_more c.push_map.result _ _ _ _
     (c.in_ok-push_counts.ensures.appended (reverse c.args.entries.now) (c.len.ensures.length
-        ∙ sym (length-reverse c.args.entries.now))
+    ∙ sym (length-reverse c.args.entries.now))
     c.counts_of.ensures.counts)
     c.push_map.ensures.front

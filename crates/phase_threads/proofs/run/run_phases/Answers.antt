@@ -37,9 +37,9 @@ run_phase-requires-clause-can g c κs within =
     let whole : l.yielded ++ phase ∷ rest ≡ c.args.phases.items =
     ap (λ (phases : List Phase). l.yielded ++ phases) (sym steps) ∙ l.invariant.left in
     let ranges = of_one (λ (one : Phase). All (IsStatement c.args.board.setup c.args.cpus) one.items) l.yielded phase
-        rest
+    rest
     (subst (All (λ (one : Phase). All (IsStatement c.args.board.setup c.args.cpus) one.items)) (sym whole)
-        c.requires.in_range) in
+    c.requires.in_range) in
     record {
       some = search rules;
       few = search rules;
@@ -83,7 +83,7 @@ loop-phase-preserved g c =
           (sym (newest_first l.yielded phase))
           (all_in_place c.args.board.setup phase.items _ taken.added _ _ taken.adds taken.size
           (subst (λ (setup : Setup). AreInPlace setup (entries_of l.placing.order l.run.board.entries) taken.added)
-              l.invariant.setup taken.places)
+          l.invariant.setup taken.places)
           l.invariant.places);
       asked = subst (λ (most : ℕ). AreAsked most next.board.entries next.works.items)
           (sym (statements_more l.yielded phase)) asked;

@@ -15,7 +15,7 @@ overflow_cast-len g c =
     let listed : c.in_ok-works.works.len ≡ length c.in_ok-works.works.items = search rules in
     let works : length c.in_ok-works.works.items ≡ length c.args.run.works.items =
     same_lengths (λ (w : Work). w.asked) (λ (w : Work). w.asked) c.in_ok-works.works.items c.deref.result.now
-        c.in_ok-works.ensures.asked ∙ ap length c.deref.ensures.value in
+    c.in_ok-works.ensures.asked ∙ ap length c.deref.ensures.value in
     let count : c.len-2.result ≡ length c.args.run.works.items = c.len-2.ensures ∙ (listed ∙ works) in
     let small : c.len-2.result < 256 = omega (arith, count, c.requires.can.few) in
     search (rules, small)
@@ -25,7 +25,7 @@ open-requires g c =
     let listed : c.in_ok-works.works.len ≡ length c.in_ok-works.works.items = search rules in
     let works : length c.in_ok-works.works.items ≡ length c.args.run.works.items =
     same_lengths (λ (w : Work). w.asked) (λ (w : Work). w.asked) c.in_ok-works.works.items c.deref.result.now
-        c.in_ok-works.ensures.asked ∙ ap length c.deref.ensures.value in
+    c.in_ok-works.ensures.asked ∙ ap length c.deref.ensures.value in
     let count : c.len-2.result ≡ length c.args.run.works.items = c.len-2.ensures ∙ (listed ∙ works) in
     let asked = c.requires.can.asked in
     let room = c.requires.can.room in
@@ -44,18 +44,18 @@ begin-requires-clause-same g c =
     let listed : c.in_ok-works.works.len ≡ length c.in_ok-works.works.items = search rules in
     let works : length c.in_ok-works.works.items ≡ length c.args.run.works.items =
     same_lengths (λ (w : Work). w.asked) (λ (w : Work). w.asked) c.in_ok-works.works.items c.deref.result.now
-        c.in_ok-works.ensures.asked ∙ ap length c.deref.ensures.value in
+    c.in_ok-works.ensures.asked ∙ ap length c.deref.ensures.value in
     let count : c.len-2.result ≡ length c.args.run.works.items = c.len-2.ensures ∙ (listed ∙ works) in
     let opened = c.in-Ok.ensures.opened in
     let size : length c.in-Ok.cpus.items ≡ c.len-2.result = numbered_length (λ (cpu : Cpu). cpu.number)
-        c.in-Ok.cpus.items c.len-2.result opened.numbers in
+    c.in-Ok.cpus.items c.len-2.result opened.numbers in
     omega (arith, works, count, size)
 
 pub begin-requires-clause-room : goal.begin-requires-clause-room
 begin-requires-clause-room g c =
     let opened = c.in-Ok.ensures.opened in
     let size : length c.in-Ok.cpus.items ≡ c.len-2.result = numbered_length (λ (cpu : Cpu). cpu.number)
-        c.in-Ok.cpus.items c.len-2.result opened.numbers in
+    c.in-Ok.cpus.items c.len-2.result opened.numbers in
     omega (arith, size, c.len-2.ensures, c.len.ensures, c.in_ok-jobs.ensures.capacity)
 
 pub run_jobs-requires-clause-some : goal.run_jobs-requires-clause-some
@@ -63,11 +63,11 @@ run_jobs-requires-clause-some g c κs within =
     let listed : c.in_ok-works.works.len ≡ length c.in_ok-works.works.items = search rules in
     let works : length c.in_ok-works.works.items ≡ length c.args.run.works.items =
     same_lengths (λ (w : Work). w.asked) (λ (w : Work). w.asked) c.in_ok-works.works.items c.deref.result.now
-        c.in_ok-works.ensures.asked ∙ ap length c.deref.ensures.value in
+    c.in_ok-works.ensures.asked ∙ ap length c.deref.ensures.value in
     let count : c.len-2.result ≡ length c.args.run.works.items = c.len-2.ensures ∙ (listed ∙ works) in
     let opened = c.in-Ok.ensures.opened in
     let size : length c.in-Ok.cpus.items ≡ c.len-2.result = numbered_length (λ (cpu : Cpu). cpu.number)
-        c.in-Ok.cpus.items c.len-2.result opened.numbers in
+    c.in-Ok.cpus.items c.len-2.result opened.numbers in
     let jobs = jobs_count (λ (job : Job). job.cpu) c.begin.new.jobs.items c.in-Ok.cpus.items c.begin.ensures.cpus in
     let same : length c.deref_mut.result.now ≡ length c.begin.new.jobs.items = ap length c.deref_mut.ensures.value in
     omega (arith, size, count, jobs, same, c.requires.can.some)
@@ -79,13 +79,13 @@ run_jobs-requires-clause-can g c κs within =
     let most = c.requires.can.most in
     let opened = c.in-Ok.ensures.opened in
     let next = asked_again most c.args.run.works.items c.in_ok-works.works.items (c.in_ok-works.ensures.asked
-        ∙ ap (map (λ (w : Work). w.asked)) c.deref.ensures.value) asked.asked in
+    ∙ ap (map (λ (w : Work). w.asked)) c.deref.ensures.value) asked.asked in
     let all = ready c.in-Ok.live c.args.run.board c.len-2.result c.in-Ok.cpus.items c.in_ok-works.works.items
-        c.begin.new.jobs.items c.args.phase.now most
+    c.begin.new.jobs.items c.args.phase.now most
     opened c.begin.ensures.cpus c.begin.ensures.works c.in_ok-works.ensures.empty c.in_ok-works.ensures.due next
-        (λ k d less. (c.requires.can.in_range k d less).event) asked.mine room in
+    (λ k d less. (c.requires.can.in_range k d less).event) asked.mine room in
     subst (All (CanRun c.in-Ok.live c.args.phase.now)) (sym c.deref_mut.ensures.value)
-        (λ k d less. (c.args.run.board, Some opened.all.opened, most, all k d less))
+    (λ k d less. (c.args.run.board, Some opened.all.opened, most, all k d less))
 
 pub close-board-requires : goal.close-board-requires
 close-board-requires g c =
@@ -94,24 +94,24 @@ close-board-requires g c =
     let most = c.requires.can.most in
     let opened = c.in-Ok.ensures.opened in
     let next = asked_again most c.args.run.works.items c.in_ok-works.works.items (c.in_ok-works.ensures.asked
-        ∙ ap (map (λ (w : Work). w.asked)) c.deref.ensures.value) asked.asked in
+    ∙ ap (map (λ (w : Work). w.asked)) c.deref.ensures.value) asked.asked in
     let all = ready c.in-Ok.live c.args.run.board c.len-2.result c.in-Ok.cpus.items c.in_ok-works.works.items
-        c.begin.new.jobs.items c.args.phase.now most
+    c.begin.new.jobs.items c.args.phase.now most
     opened c.begin.ensures.cpus c.begin.ensures.works c.in_ok-works.ensures.empty c.in_ok-works.ensures.due next
-        (λ k d less. (c.requires.can.in_range k d less).event) asked.mine room in
+    (λ k d less. (c.requires.can.in_range k d less).event) asked.mine room in
     let lent : List Job = c.run_jobs.new.jobs in
     let numbers = numbers_stay c.in-Ok.live c.args.phase.now c.deref_mut.result.now lent c.run_jobs.ensures.runs
-        ∙ ap (map (λ (job : Job). job.cpu.number)) c.deref_mut.ensures.value in
+    ∙ ap (map (λ (job : Job). job.cpu.number)) c.deref_mut.ensures.value in
     let jobs_len : c.begin.new.jobs.len ≡ length c.begin.new.jobs.items = search rules in
     let back = lent_back c.begin.new.jobs.len c.begin.new.jobs.items lent jobs_len
-        (same_lengths (λ (job : Job). job.cpu.number) (λ (job : Job). job.cpu.number) lent c.begin.new.jobs.items
-        numbers) in
+    (same_lengths (λ (job : Job). job.cpu.number) (λ (job : Job). job.cpu.number) lent c.begin.new.jobs.items
+    numbers) in
     let cpus : map (λ (job : Job). job.cpu) (reverse lent) ≡ c.end.new.cpus.items =
-        ap (λ (jobs : List Job). map (λ (job : Job). job.cpu) (reverse jobs)) (sym back) ∙ c.end.ensures.cpus in
+    ap (λ (jobs : List Job). map (λ (job : Job). job.cpu) (reverse jobs)) (sym back) ∙ c.end.ensures.cpus in
     let run = all_run c.in-Ok.live c.args.run.board (Some opened.all.opened) c.args.phase.now most
-        c.deref_mut.result.now lent c.run_jobs.ensures.runs
+    c.deref_mut.result.now lent c.run_jobs.ensures.runs
     (subst (All (IsReadyToWork c.in-Ok.live c.args.run.board (Some opened.all.opened) c.args.phase.now most))
-        (sym c.deref_mut.ensures.value) all) in
+    (sym c.deref_mut.ensures.value) all) in
     record {
       cpus = all_again c.in-Ok.live c.args.run.board c.len-2.result c.in-Ok.cpus.items c.end.new.cpus.items
           c.begin.new.jobs.items lent c.args.phase.now most
@@ -123,46 +123,46 @@ returns-clause-goes_on g c =
     let listed : c.in_ok-works.works.len ≡ length c.in_ok-works.works.items = search rules in
     let works : length c.in_ok-works.works.items ≡ length c.args.run.works.items =
     same_lengths (λ (w : Work). w.asked) (λ (w : Work). w.asked) c.in_ok-works.works.items c.deref.result.now
-        c.in_ok-works.ensures.asked ∙ ap length c.deref.ensures.value in
+    c.in_ok-works.ensures.asked ∙ ap length c.deref.ensures.value in
     let count : c.len-2.result ≡ length c.args.run.works.items = c.len-2.ensures ∙ (listed ∙ works) in
     let opened = c.in-Ok.ensures.opened in
     let size : length c.in-Ok.cpus.items ≡ c.len-2.result = numbered_length (λ (cpu : Cpu). cpu.number)
-        c.in-Ok.cpus.items c.len-2.result opened.numbers in
+    c.in-Ok.cpus.items c.len-2.result opened.numbers in
     let lent : List Job = c.run_jobs.new.jobs in
     let numbers = numbers_stay c.in-Ok.live c.args.phase.now c.deref_mut.result.now lent c.run_jobs.ensures.runs
-        ∙ ap (map (λ (job : Job). job.cpu.number)) c.deref_mut.ensures.value in
+    ∙ ap (map (λ (job : Job). job.cpu.number)) c.deref_mut.ensures.value in
     let jobs_len : c.begin.new.jobs.len ≡ length c.begin.new.jobs.items = search rules in
     let back = lent_back c.begin.new.jobs.len c.begin.new.jobs.items lent jobs_len
-        (same_lengths (λ (job : Job). job.cpu.number) (λ (job : Job). job.cpu.number) lent c.begin.new.jobs.items
-        numbers) in
+    (same_lengths (λ (job : Job). job.cpu.number) (λ (job : Job). job.cpu.number) lent c.begin.new.jobs.items
+    numbers) in
     let cpus : map (λ (job : Job). job.cpu) (reverse lent) ≡ c.end.new.cpus.items =
-        ap (λ (jobs : List Job). map (λ (job : Job). job.cpu) (reverse jobs)) (sym back) ∙ c.end.ensures.cpus in
+    ap (λ (jobs : List Job). map (λ (job : Job). job.cpu) (reverse jobs)) (sym back) ∙ c.end.ensures.cpus in
     let works1 : map (λ (job : Job). job.work) (reverse lent) ≡ c.end.new.works.items =
-        ap (λ (jobs : List Job). map (λ (job : Job). job.work) (reverse jobs)) (sym back) ∙ c.end.ensures.works in
+    ap (λ (jobs : List Job). map (λ (job : Job). job.work) (reverse jobs)) (sym back) ∙ c.end.ensures.works in
     let jobs = jobs_count (λ (job : Job). job.cpu) c.begin.new.jobs.items c.in-Ok.cpus.items c.begin.ensures.cpus in
     let same = same_lengths (λ (job : Job). job.cpu.number) (λ (job : Job). job.cpu.number) lent c.begin.new.jobs.items
-        numbers in
+    numbers in
     let kept = jobs_count (λ (job : Job). job.work) lent c.end.new.works.items works1 in
     record {
       count = omega (arith, size, count, jobs, same, kept);
       asked = λ most asked room.
           let next = asked_again most c.args.run.works.items c.in_ok-works.works.items (c.in_ok-works.ensures.asked
-              ∙ ap (map (λ (w : Work). w.asked)) c.deref.ensures.value) asked.asked in
+          ∙ ap (map (λ (w : Work). w.asked)) c.deref.ensures.value) asked.asked in
           let all = ready c.in-Ok.live c.args.run.board c.len-2.result c.in-Ok.cpus.items c.in_ok-works.works.items
-              c.begin.new.jobs.items c.args.phase.now most
+          c.begin.new.jobs.items c.args.phase.now most
           opened c.begin.ensures.cpus c.begin.ensures.works c.in_ok-works.ensures.empty c.in_ok-works.ensures.due next
-              (λ k d less. (c.requires.can.in_range k d less).event) asked.mine room in
+          (λ k d less. (c.requires.can.in_range k d less).event) asked.mine room in
           let run = all_run c.in-Ok.live c.args.run.board (Some opened.all.opened) c.args.phase.now most
-              c.deref_mut.result.now lent c.run_jobs.ensures.runs
+          c.deref_mut.result.now lent c.run_jobs.ensures.runs
           (subst (All (IsReadyToWork c.in-Ok.live c.args.run.board (Some opened.all.opened) c.args.phase.now most))
-              (sym c.deref_mut.ensures.value) all) in
+          (sym c.deref_mut.ensures.value) all) in
           let fine : All (λ (job : Job). job.refused ≡ false) lent =
           subst (All (λ (job : Job). job.refused ≡ false)) (c.deref-2.ensures.value ∙ back)
-              (c.is_refused-refused.ensures.none c.if-refused.false) in
+          (c.is_refused-refused.ensures.none c.if-refused.false) in
           are_asked c.in-Ok.live c.args.run.board c.close-board.result c.len-2.result c.in-Ok.cpus.items
-              c.end.new.cpus.items c.end.new.works.items c.begin.new.jobs.items lent c.args.phase.now most
+          c.end.new.cpus.items c.end.new.works.items c.begin.new.jobs.items lent c.args.phase.now most
           opened c.begin.ensures.cpus cpus works1 numbers run fine c.close-board.ensures.cpus
-              c.close-board.ensures.entries;
+          c.close-board.ensures.entries;
     }
 
 pub returns-clause-run : goal.returns-clause-run
@@ -170,38 +170,38 @@ returns-clause-run g c =
     let listed : c.in_ok-works.works.len ≡ length c.in_ok-works.works.items = search rules in
     let works : length c.in_ok-works.works.items ≡ length c.args.run.works.items =
     same_lengths (λ (w : Work). w.asked) (λ (w : Work). w.asked) c.in_ok-works.works.items c.deref.result.now
-        c.in_ok-works.ensures.asked ∙ ap length c.deref.ensures.value in
+    c.in_ok-works.ensures.asked ∙ ap length c.deref.ensures.value in
     let count : c.len-2.result ≡ length c.args.run.works.items = c.len-2.ensures ∙ (listed ∙ works) in
     let asked = c.requires.can.asked in
     let room = c.requires.can.room in
     let most = c.requires.can.most in
     let opened = c.in-Ok.ensures.opened in
     let next = asked_again most c.args.run.works.items c.in_ok-works.works.items (c.in_ok-works.ensures.asked
-        ∙ ap (map (λ (w : Work). w.asked)) c.deref.ensures.value) asked.asked in
+    ∙ ap (map (λ (w : Work). w.asked)) c.deref.ensures.value) asked.asked in
     let all = ready c.in-Ok.live c.args.run.board c.len-2.result c.in-Ok.cpus.items c.in_ok-works.works.items
-        c.begin.new.jobs.items c.args.phase.now most
+    c.begin.new.jobs.items c.args.phase.now most
     opened c.begin.ensures.cpus c.begin.ensures.works c.in_ok-works.ensures.empty c.in_ok-works.ensures.due next
-        (λ k d less. (c.requires.can.in_range k d less).event) asked.mine room in
+    (λ k d less. (c.requires.can.in_range k d less).event) asked.mine room in
     let lent : List Job = c.run_jobs.new.jobs in
     let numbers = numbers_stay c.in-Ok.live c.args.phase.now c.deref_mut.result.now lent c.run_jobs.ensures.runs
-        ∙ ap (map (λ (job : Job). job.cpu.number)) c.deref_mut.ensures.value in
+    ∙ ap (map (λ (job : Job). job.cpu.number)) c.deref_mut.ensures.value in
     let jobs_len : c.begin.new.jobs.len ≡ length c.begin.new.jobs.items = search rules in
     let back = lent_back c.begin.new.jobs.len c.begin.new.jobs.items lent jobs_len
-        (same_lengths (λ (job : Job). job.cpu.number) (λ (job : Job). job.cpu.number) lent c.begin.new.jobs.items
-        numbers) in
+    (same_lengths (λ (job : Job). job.cpu.number) (λ (job : Job). job.cpu.number) lent c.begin.new.jobs.items
+    numbers) in
     let cpus : map (λ (job : Job). job.cpu) (reverse lent) ≡ c.end.new.cpus.items =
-        ap (λ (jobs : List Job). map (λ (job : Job). job.cpu) (reverse jobs)) (sym back) ∙ c.end.ensures.cpus in
+    ap (λ (jobs : List Job). map (λ (job : Job). job.cpu) (reverse jobs)) (sym back) ∙ c.end.ensures.cpus in
     let run = all_run c.in-Ok.live c.args.run.board (Some opened.all.opened) c.args.phase.now most
-        c.deref_mut.result.now lent c.run_jobs.ensures.runs
+    c.deref_mut.result.now lent c.run_jobs.ensures.runs
     (subst (All (IsReadyToWork c.in-Ok.live c.args.run.board (Some opened.all.opened) c.args.phase.now most))
-        (sym c.deref_mut.ensures.value) all) in
+    (sym c.deref_mut.ensures.value) all) in
     let works1 : map (λ (job : Job). job.work) (reverse lent) ≡ c.end.new.works.items =
-        ap (λ (jobs : List Job). map (λ (job : Job). job.work) (reverse jobs)) (sym back) ∙ c.end.ensures.works in
+    ap (λ (jobs : List Job). map (λ (job : Job). job.work) (reverse jobs)) (sym back) ∙ c.end.ensures.works in
     let fine : All (λ (job : Job). job.refused ≡ false) lent =
     subst (All (λ (job : Job). job.refused ≡ false)) (c.deref-2.ensures.value ∙ back)
-        (c.is_refused-refused.ensures.none c.if-refused.false) in
+    (c.is_refused-refused.ensures.none c.if-refused.false) in
     so c.args.run.board c.close-board.result c.args.phase.now c.end.new.works.items
     (has_run c.in-Ok.live c.args.run.board c.close-board.result c.len-2.result c.in-Ok.cpus.items c.end.new.cpus.items
-        c.end.new.works.items c.begin.new.jobs.items lent c.args.phase.now most
+    c.end.new.works.items c.begin.new.jobs.items lent c.args.phase.now most
     opened c.begin.ensures.cpus cpus works1 numbers run fine c.close-board.ensures.cpus
-        (omega (arith, count, c.requires.can.some)))
+    (omega (arith, count, c.requires.can.some)))

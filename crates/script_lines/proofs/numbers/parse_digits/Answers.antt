@@ -5,14 +5,21 @@ use Rattle.script_lines.proofs.numbers.parse_digits.Goals as goal
 pub overflow_mul-number : goal.overflow_mul-number
 overflow_mul-number c =
     let lt : c.loop-byte.byte-index < length c.args.field.now = omega arith in
-    omega (arith, number_fits c.args.base c.loop-byte.number 0 c.loop-byte.byte-index (length c.args.field.now)
-        (2 ^ 64) c.loop-byte.invariant.below c.requires.some lt c.requires.fits)
+    omega (
+      arith,
+      number_fits c.args.base c.loop-byte.number 0 c.loop-byte.byte-index (length c.args.field.now)
+          (2 ^ 64) c.loop-byte.invariant.below c.requires.some lt c.requires.fits,
+    )
 
 pub overflow_add-number : goal.overflow_add-number
 overflow_add-number c =
     let lt : c.loop-byte.byte-index < length c.args.field.now = omega arith in
-    omega (arith, number_fits c.args.base c.loop-byte.number c.in_ok-number.field-0 c.loop-byte.byte-index
-        (length c.args.field.now) (2 ^ 64) c.loop-byte.invariant.below c.in_ok-number.ensures.below lt c.requires.fits)
+    omega (
+      arith,
+      number_fits c.args.base c.loop-byte.number c.in_ok-number.field-0 c.loop-byte.byte-index
+          (length c.args.field.now) (2 ^ 64) c.loop-byte.invariant.below c.in_ok-number.ensures.below lt
+          c.requires.fits,
+    )
 
 pub loop-byte-preserved : goal.loop-byte-preserved
 loop-byte-preserved c =
@@ -28,7 +35,7 @@ pub returns-in_err-number-clause-number : goal.returns-in_err-number-clause-numb
 returns-in_err-number-clause-number c =
     let lt : c.loop-byte.byte-index < length c.args.field.now = omega arith in
     rw c.from_residual.ensures (stops c.args.base c.loop-byte.number c.loop-byte.byte-index c.args.field.now _ lt
-        c.in_err-number.ensures.digit c.loop-byte.invariant.kept)
+    c.in_err-number.ensures.digit c.loop-byte.invariant.kept)
 
 pub returns-clause-number : goal.returns-clause-number
 returns-clause-number c =

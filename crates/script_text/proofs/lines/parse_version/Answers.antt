@@ -22,5 +22,5 @@ returns-then-is_word-2-clause-cases c = (
 pub returns-clause-cases : goal.returns-clause-cases
 returns-clause-cases c =
     no_version (lines_of c.args.bytes.now) (lines_of c.in_ok-line.rest.now) c.in_ok-line.line.now
-        c.in_ok-line.ensures.cases
+    c.in_ok-line.ensures.cases
     (sym c.is_word.ensures.same ∙ c.if-is_word.false) (sym c.is_word-2.ensures.same ∙ c.if-is_word-2.false)

@@ -14,7 +14,7 @@ returns-in-Some-clause-cases c =
 pub returns-in-None-clause-cases : goal.returns-in-None-clause-cases
 returns-in-None-clause-cases c =
     uncut c.args.bytes.now c.if-is_empty.ensures
-        (subst (IsFirstByte is_feed c.args.bytes.now) c.in-None.is c.memchr.ensures)
+    (subst (IsFirstByte is_feed c.args.bytes.now) c.in-None.is c.memchr.ensures)
 
 pub returns-then-is_empty-clause-cases : goal.returns-then-is_empty-clause-cases
 returns-then-is_empty-clause-cases c = none_left c.args.bytes.now c.if-is_empty.ensures

@@ -7,7 +7,7 @@ use Rattle.script_text.proofs.read.read_next.Goals as goal
 pub returns-in-Some-clause-read : goal.returns-in-Some-clause-read
 returns-in-Some-clause-read c =
     line_taken c.read_statement.result c.args.version c.args.line.now _ _ c.args.reading.now
-        c.read_statement.new.reading
+    c.read_statement.new.reading
     (subst (λ (known : Option (ℕ × Event)). IfSome known (λ k. IsStraight c.args.version c.args.line.now k.0 k.1))
     c.in-Some.is c.requires.straight) c.read_statement.ensures.read
 

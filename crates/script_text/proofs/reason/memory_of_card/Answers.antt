@@ -7,26 +7,31 @@ use Rattle.script_text.proofs.reason.memory_of_card.Goals as goal
 pub memory_size-memory-requires : goal.memory_size-memory-requires
 memory_size-memory-requires c =
     let view : map base_of c.as_slice-base-items.result.now ≡ c.args.card.now.bases =
-        ap (map base_of) c.as_slice-base-items.ensures.value ∙ ap (λ card. card.bases) c.card.view_is in
-    record { base = base_at c.args.card.now c.as_slice-base-items.result.now c.loop-base.base-index (Memory 0)
-        c.requires.card view c.loop-base-test.true }
+    ap (map base_of) c.as_slice-base-items.ensures.value ∙ ap (λ card. card.bases) c.card.view_is in
+    record {
+      base = base_at c.args.card.now c.as_slice-base-items.result.now c.loop-base.base-index (Memory 0)
+          c.requires.card view c.loop-base-test.true;
+    }
 
 pub overflow_add-memory : goal.overflow_add-memory
 overflow_add-memory c =
     let view : map base_of c.as_slice-base-items.result.now ≡ c.args.card.now.bases =
-        ap (map base_of) c.as_slice-base-items.ensures.value ∙ ap (λ card. card.bases) c.card.view_is in
-    omega (arith, total_most c.args.card.now (c.loop-base.base-index + 1) _ c.requires.card
-        (next_base c.args.card.now c.as_slice-base-items.result.now c.loop-base.base-index c.loop-base.memory
-        c.memory_size-memory.result (Memory 0) view c.loop-base-test.true c.loop-base.invariant
-        c.memory_size-memory.ensures.size))
+    ap (map base_of) c.as_slice-base-items.ensures.value ∙ ap (λ card. card.bases) c.card.view_is in
+    omega (
+      arith,
+      total_most c.args.card.now (c.loop-base.base-index + 1) _ c.requires.card
+          (next_base c.args.card.now c.as_slice-base-items.result.now c.loop-base.base-index c.loop-base.memory
+          c.memory_size-memory.result (Memory 0) view c.loop-base-test.true c.loop-base.invariant
+          c.memory_size-memory.ensures.size),
+    )
 
 pub loop-base-preserved : goal.loop-base-preserved
 loop-base-preserved c =
     let view : map base_of c.as_slice-base-items.result.now ≡ c.args.card.now.bases =
-        ap (map base_of) c.as_slice-base-items.ensures.value ∙ ap (λ card. card.bases) c.card.view_is in
+    ap (map base_of) c.as_slice-base-items.ensures.value ∙ ap (λ card. card.bases) c.card.view_is in
     next_base c.args.card.now c.as_slice-base-items.result.now c.loop-base.base-index c.loop-base.memory
-        c.memory_size-memory.result (Memory 0) view c.loop-base-test.true c.loop-base.invariant
-        c.memory_size-memory.ensures.size
+    c.memory_size-memory.result (Memory 0) view c.loop-base-test.true c.loop-base.invariant
+    c.memory_size-memory.ensures.size
 
 pub returns-clause-most : goal.returns-clause-most
 returns-clause-most c = total_most c.args.card.now c.loop-base.base-index c.loop-base.memory c.requires.card

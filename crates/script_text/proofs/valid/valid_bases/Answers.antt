@@ -6,7 +6,7 @@ pub returns-in_err-valid_base : goal.returns-in_err-valid_base
 returns-in_err-valid_base c = record {
   bases = rw c.from_residual.ensures
       (base_refused c.args.fields.now c.loop-field.field-index _ c.loop-field-test.true
-          c.in_err-valid_base.ensures.base);
+      c.in_err-valid_base.ensures.base);
 }
 
 pub loop-field-preserved : goal.loop-field-preserved

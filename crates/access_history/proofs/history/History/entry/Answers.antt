@@ -11,10 +11,15 @@ returns c =
     let list = c.self.inside.parts.items in
     let entries = c.self.inside.entries.items in
     let seen = sym (reverse-reverse (entries_in list entries))
-        ∙ ap (λ (past : Past). reverse past.entries) c.self.view_is in
+    ∙ ap (λ (past : Past). reverse past.entries) c.self.view_is in
     let within : c.args.i < length entries =
-        omega (arith, c.requires, ap length seen, length-reverse c.args.self.now.entries,
-        length-map entries (entry_in list)) in
+    omega (
+      arith,
+      c.requires,
+      ap length seen,
+      length-reverse c.args.self.now.entries,
+      length-map entries (entry_in list),
+    ) in
     record {
       entry = ap (λ all. slice_get all c.args.i) (sym seen) ∙ entry_at list entries c.args.i c.index.result.now within
           c.index.ensures

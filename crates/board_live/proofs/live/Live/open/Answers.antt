@@ -20,7 +20,7 @@ shared-requires-clause-opens g c =
     let map : opened_of c.in-Ok-new.publisher.value.front.seen.log ≡ c.map.result.now = search rules in
     let version : c.map.result.now.version ≡ length (map_writes_of board.setup board.entries) = c.map.ensures.version in
     subst (λ (b : Standing). IsMapOpened b.setup b.entries (opened_of c.in-Ok-new.publisher.value.front.seen.log))
-        c.deref.ensures
+    c.deref.ensures
     (subst (λ (m : Mapped). IsMapOpened board.setup board.entries m) (sym map)
     (record {
       stands = stands_after board.setup board.entries c.map.result.now.regs

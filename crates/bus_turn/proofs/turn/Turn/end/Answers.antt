@@ -11,5 +11,7 @@ unwrap-value-requires g c = let e = found_some g.T.Kept.entries g.T.Kept.actor g
 pub returns : goal.returns
 returns g c = let e = found_some g.T.Kept.entries g.T.Kept.actor g.T.Kept.fixed _ _ _ c.args.pass.me.0 _ _ c.take.result
     c.requires.idle.0 c.requires.first c.requires.joined c.close_with-closed.ensures.values.2 c.take.ensures.value in
-    record { closes = closes g.T.Kept.entries g.T.Kept.actor g.T.Kept.fixed c.args.pass.me.0 c.take.result _ e
-        (search rules) }
+    record {
+      closes = closes g.T.Kept.entries g.T.Kept.actor g.T.Kept.fixed c.args.pass.me.0 c.take.result _ e
+          (search rules);
+    }

@@ -3,6 +3,9 @@ use Rattle.bus_turn.proofs.Steps.{gives_back}
 use Rattle.bus_turn.proofs.turn.Turn.give.Goals as goal
 
 pub fetch_add-requires : goal.fetch_add-requires
-fetch_add-requires g c =
-    (search rules, search rules, gives_back g.T.Kept.entries g.T.Kept.actor g.T.Kept.fixed _ _ _ _ _ c.args.held.value
-    (search rules) (search rules) (search rules) (search rules))
+fetch_add-requires g c = (
+  search rules,
+  search rules,
+  gives_back g.T.Kept.entries g.T.Kept.actor g.T.Kept.fixed _ _ _ _ _ c.args.held.value
+      (search rules) (search rules) (search rules) (search rules),
+)

@@ -18,6 +18,6 @@ pub exchange-requires : goal.exchange-requires
 exchange-requires g c = let drew = c.fetch_add-ticket.ensures.2 in
     let is : c.loop.pass.me.0.stage ≡ Waits drew.0 = search rules in
     let hit : ticket_of c.loop.pass.me.0.stage % 2 ^ 64 ≡ c.load-serving.result = ap (λ st. ticket_of st % 2 ^ 64) is
-        ∙ (drew.1 ∙ sym c.if-serving-ticket.true) in
+    ∙ (drew.1 ∙ sym c.if-serving-ticket.true) in
     let took = c.load-serving.ensures.2.0 hit in let carried = ap (λ m. m.1) took.1 in
     (search rules, (Some took.0, carried ∙ ap (λ cs. (0, Some took.0) ∷ rest cs) (sym carried)))

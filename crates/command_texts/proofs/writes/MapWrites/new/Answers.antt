@@ -5,5 +5,5 @@ pub returns : goal.returns
 returns c = record {
   none = λ setup.
       no_writes setup (record { changes = c.new.result; entries = c.new-2.result }) c.new.ensures.items
-          c.new-2.ensures.items;
+      c.new-2.ensures.items;
 }

@@ -15,10 +15,10 @@ invariant_of-self c =
       spans = λ some setup bytes flat.
           let found = c.span_in-span.ensures.span setup bytes flat in
           span_at setup bytes c.args.addr span.lo c.args.kind c.args.smm span.lo span.hi span.area found (omega arith)
-              some;
+          some;
     }
 
 pub returns-clause-span : goal.returns-clause-span
 returns-clause-span c setup bytes flat =
     c.span_in-span.ensures.span setup bytes (subst (λ (sight : Sighted). IsFlatMapOf setup bytes sight.ranges)
-        (sym c.self.view_is) flat)
+    (sym c.self.view_is) flat)

@@ -6,7 +6,7 @@ invariant_of-self c =
     let seen = c.ranges-2.ensures in
     let copied = c.copy_over-self-inside.ensures in
     kept_of c.args.map.now.ranges c.ranges-2.result.now c.copy_over-self-inside.new.row c.copy_over-self-inside.result _
-        _ _ seen.ranges seen.tiles seen.few
+    _ _ seen.ranges seen.tiles seen.few
     copied.count.0 copied.count.1 copied.copied
 
 pub returns-clause-map : goal.returns-clause-map

@@ -15,11 +15,11 @@ returns-in-Some-clause-placed c =
     let some : c.args.self.now.order ≡ Some c.in-Some.order = search rules in
     let size : c.in-Some.order.bus ≡ c.args.opened =
     subst (λ (order : Option Order). IsUpTo order before) some c.requires.up_to
-        ∙ front_length bus c.args.opened c.requires.gained in
+    ∙ front_length bus c.args.opened c.requires.gained in
     on_ok c.place.result (λ is. taken_in bus c.args.opened c.args.version lists c.in-Some.order c.place.new.self
-        c.requires.gained size c.place.ensures.within is
+    c.requires.gained size c.place.ensures.within is
     ∙ ap (λ (order : Option Order). placed c.args.version (drop c.args.opened bus) lists (entries_of order before))
-        (sym some)) c.place.ensures.placed
+    (sym some)) c.place.ensures.placed
 
 pub returns-then-not-has_looks-clause-placed : goal.returns-then-not-has_looks-clause-placed
 returns-then-not-has_looks-clause-placed c =
@@ -31,15 +31,17 @@ returns-then-not-has_looks-clause-placed c =
     let looks : all_looks_in lists ≡ 0 = c.if-not-has_looks.ensures.none (search rules) in
     let cut = cut_is c.args.opened bus in
     let same = unlooked c.requires.legal.0 c.args.version later lists before looks
-        (subst (IsLegal c.requires.legal.0) cut c.requires.legal.1) in
+    (subst (IsLegal c.requires.legal.0) cut c.requires.legal.1) in
     subst (λ (order : Option Order). entries_of order (reverse bus) ≡ placed c.args.version later lists
-        (entries_of order before)) (sym none) (cut ∙ sym same)
+    (entries_of order before)) (sym none) (cut ∙ sym same)
 
 pub begin-requires-clause-legal : goal.begin-requires-clause-legal
 begin-requires-clause-legal c =
-    let setup : Setup = c.requires.legal.0 in
-    (setup, subst (λ (front : List Entry). IsLegal setup (reverse front)) (sym c.before-2.ensures.entries)
-        (legal_front setup c.args.opened c.args.bus.now c.requires.legal.1))
+    let setup : Setup = c.requires.legal.0 in (
+      setup,
+      subst (λ (front : List Entry). IsLegal setup (reverse front)) (sym c.before-2.ensures.entries)
+          (legal_front setup c.args.opened c.args.bus.now c.requires.legal.1),
+    )
 
 pub returns-clause-placed : goal.returns-clause-placed
 returns-clause-placed c =
@@ -50,11 +52,11 @@ returns-clause-placed c =
     let begun : Order = c.in_ok-order.order in
     let front : c.before-2.result ≡ take c.args.opened bus = c.before-2.ensures.entries in
     let size : begun.bus ≡ c.args.opened = c.in_ok-order.ensures.bus ∙ ap length front
-        ∙ length-take-le c.args.opened bus c.requires.gained in
+    ∙ length-take-le c.args.opened bus c.requires.gained in
     let own = subst (λ (b : List Entry). over b begun.entries ≡ reverse b) front c.in_ok-order.ensures.same in
     let same : entries_of (Some begun) before ≡ before =
     ap (λ (b : List Entry). over b begun.entries) (reverse-reverse (take c.args.opened bus)) ∙ own in
     taken_in bus c.args.opened c.args.version lists begun c.place-2.new.self c.requires.gained size
-        c.place-2.ensures.within c.in_ok-place.ensures.placed
+    c.place-2.ensures.within c.in_ok-place.ensures.placed
     ∙ ap (placed c.args.version (drop c.args.opened bus) lists)
-        (same ∙ ap (λ (order : Option Order). entries_of order before) (sym none))
+    (same ∙ ap (λ (order : Option Order). entries_of order before) (sym none))

@@ -13,8 +13,8 @@ loop-i-preserved c =
     let is = sym (c.entry.ensures.entry nowhere) in
     let at = ap bus l.invariant.bus in
     let pushed = c.push_bus.ensures.pushed entries
-        ∙ (λ t. next_entry (over entries l.order.entries) (is t).actor (at t).event (at t).reply ∷ over entries
-        l.order.entries) in
+    ∙ (λ t. next_entry (over entries l.order.entries) (is t).actor (at t).event (at t).reply ∷ over entries
+    l.order.entries) in
     record {
       same = begin_step c.requires.legal.0 entries l.i nowhere c.requires.legal.1 less (over entries l.order.entries)
           l.invariant.same _ pushed;

@@ -11,8 +11,14 @@ loop-next-preserved c =
           ∙ (sym (c.in-Some.ensures.places c.args.actor (over bus l.self.entries)) ∙ l.invariant.placed bus);
       left = sym c.in-Some.ensures.left ∙ l.invariant.left;
       bus = c.push_look.ensures.bus ∙ l.invariant.bus;
-      room = omega (arith, c.push_look.ensures.spare, c.in-Some.ensures.fewer, l.invariant.room, l.invariant.keeps,
-          c.requires.room);
+      room = omega (
+        arith,
+        c.push_look.ensures.spare,
+        c.in-Some.ensures.fewer,
+        l.invariant.room,
+        l.invariant.keeps,
+        c.requires.room,
+      );
       keeps = c.push_look.ensures.keeps ∙ l.invariant.keeps;
       actor = refl;
     }

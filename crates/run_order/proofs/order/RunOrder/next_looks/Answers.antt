@@ -11,9 +11,9 @@ looks-requires-clause-room c =
     let rests : List (List Done) = map (λ done. done.now) c.args.rests.now in
     let place = c.from-place.result in
     let one = get_or-map (λ done. done.now) c.args.rests.now place (record { ref_ptr = (0, 0); now = [] }) []
-        (omega (arith, c.requires.actor, c.from-place.ensures)) in
+    (omega (arith, c.requires.actor, c.from-place.ensures)) in
     let less : place < length rests =
-        omega (arith, c.requires.actor, c.from-place.ensures, length-map c.args.rests.now (λ done. done.now)) in
+    omega (arith, c.requires.actor, c.from-place.ensures, length-map c.args.rests.now (λ done. done.now)) in
     omega (arith, ap looks_in one, one_of rests place less, c.requires.room)
 
 pub returns : goal.returns
@@ -21,17 +21,17 @@ returns c =
     let rests : List (List Done) = map (λ done. done.now) c.args.rests.now in
     let place = c.from-place.result in
     let one = get_or-map (λ done. done.now) c.args.rests.now place (record { ref_ptr = (0, 0); now = [] }) []
-        (omega (arith, c.requires.actor, c.from-place.ensures)) in
+    (omega (arith, c.requires.actor, c.from-place.ensures)) in
     let less : place < length rests =
-        omega (arith, c.requires.actor, c.from-place.ensures, length-map c.args.rests.now (λ done. done.now)) in
+    omega (arith, c.requires.actor, c.from-place.ensures, length-map c.args.rests.now (λ done. done.now)) in
     let is : place ≡ c.args.actor = c.from-place.ensures in
     let so = subst (λ (k : ℕ). IsSettledBut c.args.version k rests) (sym is)
-        (c.requires.settled c.if-version-before.false) in
+    (c.requires.settled c.if-version-before.false) in
     let all = λ (bus : List Entry). one_is_all c.args.version place rests (over bus c.args.self.now.entries)
-        (over bus c.looks.new.self.entries) c.args.self.now.spare c.looks.new.self.spare
+    (over bus c.looks.new.self.entries) c.args.self.now.spare c.looks.new.self.spare
     c.looks.result.now so less (c.looks.ensures.left ∙ ap (left_after c.args.version) (sym one))
     (c.looks.ensures.placed bus
-        ∙ (λ t. with_looks c.args.version (sym is t) (sym one t) (over bus c.args.self.now.entries)))
+    ∙ (λ t. with_looks c.args.version (sym is t) (sym one t) (over bus c.args.self.now.entries)))
     (omega (arith, c.looks.ensures.room, ap looks_in one)) in
     let set_is = map-set (λ done. done.now) c.args.rests.now place c.looks.result in
     record {

@@ -10,7 +10,7 @@ overflow_add-result c =
     let some : 1 ≤ old.spare = rw (ap (λ (o : Order). o.spare) c.self.view_is) c.requires.room in
     let fits : slice_index old.counts c.from.result + 1 < 2 ^ 32 =
     number_fits (record { entries = reverse old.entries.items; spare = old.spare; bus = old.bus })
-        (vec_capacity old.entries) old.counts c.args.actor c.from.result c.from.ensures
+    (vec_capacity old.entries) old.counts c.args.actor c.from.result c.from.ensures
     c.requires.actor some c.self.invariant in
     omega arith
 

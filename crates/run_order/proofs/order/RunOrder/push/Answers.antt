@@ -9,7 +9,7 @@ overflow_add-self c =
     let some : 1 ≤ old.spare = rw (ap (λ (o : Order). o.spare) c.self.view_is) c.requires.room in
     let fits : slice_index old.counts c.from.result + 1 < 2 ^ 32 =
     number_fits (record { entries = reverse old.entries.items; spare = old.spare; bus = old.bus })
-        (vec_capacity old.entries) old.counts c.args.actor c.from.result c.from.ensures
+    (vec_capacity old.entries) old.counts c.args.actor c.from.result c.from.ensures
     c.requires.actor some c.self.invariant in
     omega arith
 
@@ -22,6 +22,6 @@ invariant_of-self c =
     let items : c.push.new.self.items ≡ old.entries.items ++ c.args.entry ∷ [] = search rules in
     let eight : length old.counts ≡ 8 = search rules in
     order_more old.entries.items c.push.new.self.items old.spare old.bus (vec_capacity old.entries)
-        (vec_capacity c.push.new.self) old.counts c.args.actor c.from.result c.args.entry c.args.bus
+    (vec_capacity c.push.new.self) old.counts c.args.actor c.from.result c.args.entry c.args.bus
     c.self.invariant items c.push.ensures.capacity eight c.from.ensures c.requires.actor c.requires.own
-        c.requires.within least next some
+    c.requires.within least next some

@@ -9,7 +9,7 @@ pub returns-in_default-clause-judged : goal.returns-in_default-clause-judged
 returns-in_default-clause-judged c items is =
     let card = card_said c.args.fields.now in
     let stands = c.in_ok-validate_setup.ensures.judged items (FitCard card) is refl
-        (sym (c.has_card.ensures.card items is)) in
+    (sym (c.has_card.ensures.card items is)) in
     out_of_range items (FitCard card)
     stands.0 stands.1
     refl (none_in_case (is_card_in_range card) card (sym c.in_default.is ∙ c.valid_card.ensures.card))
@@ -19,7 +19,7 @@ pub returns-then-self-memory_of_card-gt-MOST_MEMORY-clause-judged :
 returns-then-self-memory_of_card-gt-MOST_MEMORY-clause-judged c items is =
     let card = card_said c.args.fields.now in
     let stands = c.in_ok-validate_setup.ensures.judged items (FitCard card) is refl
-        (sym (c.has_card.ensures.card items is)) in
+    (sym (c.has_card.ensures.card items is)) in
     let reading = c.args.self.now in
     let read : (is_card_in_range card ≡ true) × (c.in-Some.card ≡ card) =
     some_in_case (is_card_in_range card) card c.in-Some.card c.in-Some.ensures.card in
@@ -37,7 +37,7 @@ pub returns-clause-judged : goal.returns-clause-judged
 returns-clause-judged c items is =
     let card = card_said c.args.fields.now in
     let stands = c.in_ok-validate_setup.ensures.judged items (FitCard card) is refl
-        (sym (c.has_card.ensures.card items is)) in
+    (sym (c.has_card.ensures.card items is)) in
     let reading = c.args.self.now in
     let read : (is_card_in_range card ≡ true) × (c.in-Some.card ≡ card) =
     some_in_case (is_card_in_range card) card c.in-Some.card c.in-Some.ensures.card in

@@ -7,7 +7,7 @@ pub returns-in_err-validate_setup : goal.returns-in_err-validate_setup
 returns-in_err-validate_setup c = record {
   judged = λ items is.
       let least = c.in_err-validate_setup.ensures.judged items (SetCpus c.args.count) is refl
-          (cpus_kept items c.args.self.now is ∙ sym c.is_some.ensures) in
+      (cpus_kept items c.args.self.now is ∙ sym c.is_some.ensures) in
       refused SetCpus items _ c.from_residual.result c.in_err-validate_setup.field-0.0 c.from_residual.ensures least;
 }
 
@@ -15,7 +15,7 @@ pub returns-then-is_within : goal.returns-then-is_within
 returns-then-is_within c = record {
   judged = λ items is.
       let stands = c.in_ok-validate_setup.ensures.judged items (SetCpus c.args.count) is refl
-          (cpus_kept items c.args.self.now is ∙ sym c.is_some.ensures) in (
+      (cpus_kept items c.args.self.now is ∙ sym c.is_some.ensures) in (
         no_reason items (SetCpus c.args.count) stands.0 stands.1 refl (sym c.is_within.ensures.within
             ∙ c.if-is_within.true) refl refl
             (setup_within items c.args.self.now (SetCpus c.args.count) is refl refl is.limits.memory),
@@ -27,7 +27,7 @@ pub returns-else-is_within : goal.returns-else-is_within
 returns-else-is_within c = record {
   judged = λ items is.
       let stands = c.in_ok-validate_setup.ensures.judged items (SetCpus c.args.count) is refl
-          (cpus_kept items c.args.self.now is ∙ sym c.is_some.ensures) in
+      (cpus_kept items c.args.self.now is ∙ sym c.is_some.ensures) in
       out_of_range items (SetCpus c.args.count) stands.0 stands.1 refl (sym c.is_within.ensures.within
-          ∙ c.if-is_within.false);
+      ∙ c.if-is_within.false);
 }

@@ -8,5 +8,5 @@ returns c = record {
   judged = λ items name is. name_judged items c.args.self.now (SetDisk name) c.validate_setup.result is refl refl refl
       refl refl refl
       (c.validate_setup.ensures.judged items (SetDisk name) is refl (disk_kept items c.args.self.now is
-          ∙ sym c.is_some.ensures));
+      ∙ sym c.is_some.ensures));
 }

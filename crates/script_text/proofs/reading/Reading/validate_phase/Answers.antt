@@ -7,7 +7,7 @@ pub returns-then-not-has_setup : goal.returns-then-not-has_setup
 returns-then-not-has_setup c = record {
   judged = λ items is.
       let has : has_setup items ≡ false = setup_kept items c.args.self.now is ∙ sym c.has_setup.ensures.setup
-          ∙ c.if-not-has_setup.true in
+      ∙ c.if-not-has_setup.true in
       no_setup items BeginPhase (phase_placed items) refl (lacks_is items is.whole ∙ ap not has);
 }
 
@@ -16,7 +16,7 @@ returns-then-len-eq-MOST_PHASES c = record {
   judged = λ items is.
       let reading = c.args.self.now in
       let has : has_setup items ≡ true = setup_kept items c.args.self.now is ∙ sym c.has_setup.ensures.setup
-          ∙ c.if-not-has_setup.false in
+      ∙ c.if-not-has_setup.false in
       past_limit items BeginPhase (phase_placed items) refl (lacks_is items is.whole ∙ ap not has) refl refl refl
       (limits_with items reading BeginPhase is
       ∙ past_phases reading.statements (length reading.phases.items + 1) (0 + reading.pulses) reading.memory
@@ -28,13 +28,13 @@ returns c = record {
   judged = λ items is.
       let reading = c.args.self.now in
       let has : has_setup items ≡ true = setup_kept items c.args.self.now is ∙ sym c.has_setup.ensures.setup
-          ∙ c.if-not-has_setup.false in (
+      ∙ c.if-not-has_setup.false in (
         no_reason items BeginPhase (phase_placed items) refl (lacks_is items is.whole ∙ ap not has) refl refl refl
             (limits_with items reading BeginPhase is
             ∙ within reading.statements (length reading.phases.items + 1) (0 + reading.pulses) reading.memory
             is.limits.statements
             (omega (arith, is.limits.phases, c.args.self.now.phases.ok, c.len.ensures, c.if-len-eq-MOST_PHASES.false))
-                (omega (arith, is.limits.pulses)) is.limits.memory),
+            (omega (arith, is.limits.pulses)) is.limits.memory),
         refl,
       );
 }

@@ -8,5 +8,5 @@ returns c = record {
   judged = λ items name is. name_judged items c.args.self.now (SetRom name) c.validate_setup.result is refl refl refl
       refl refl refl
       (c.validate_setup.ensures.judged items (SetRom name) is refl (rom_kept items c.args.self.now is
-          ∙ sym c.is_some.ensures));
+      ∙ sym c.is_some.ensures));
 }

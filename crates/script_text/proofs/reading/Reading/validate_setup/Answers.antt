@@ -12,7 +12,7 @@ pub returns-then-came : goal.returns-then-came
 returns-then-came c = record {
   judged = λ items item is setup came. repeated items item
       (setup_place items item false setup (sym (c.has_phase.ensures.phase items is) ∙ c.if-has_phase.false))
-          (came ∙ c.if-came.true);
+      (came ∙ c.if-came.true);
 }
 
 pub returns : goal.returns

@@ -13,24 +13,24 @@ pub returns-then-not-has_phase-clause-judged : goal.returns-then-not-has_phase-c
 returns-then-not-has_phase-clause-judged c items is =
     misplaced items (asked_said c.args.actor c.args.asked)
     (asked_place items c.args.actor c.args.asked false (sym (c.has_phase.ensures.phase items is)
-        ∙ c.if-not-has_phase.true))
+    ∙ c.if-not-has_phase.true))
 
 pub returns-in_default-clause-judged : goal.returns-in_default-clause-judged
 returns-in_default-clause-judged c items is =
     let item : Item = asked_said c.args.actor c.args.asked in
     out_of_range items item
     (asked_place items c.args.actor c.args.asked true (sym (c.has_phase.ensures.phase items is)
-        ∙ c.if-not-has_phase.false))
+    ∙ c.if-not-has_phase.false))
     (asked_repeated items c.args.actor c.args.asked) (asked_begun items c.args.actor c.args.asked)
     (none_in_case (is_in_range item) item (ap (option_map (ask c.args.actor)) (sym c.in_default.is)
-        ∙ c.valid_event.ensures.event c.args.actor))
+    ∙ c.valid_event.ensures.event c.args.actor))
 
 pub returns-then-not-is_placed-clause-judged : goal.returns-then-not-is_placed-clause-judged
 returns-then-not-is_placed-clause-judged c items is =
     let item : Item = asked_said c.args.actor c.args.asked in
     let asks : Item = ask c.args.actor c.in-Some.event in
     let read : (is_in_range item ≡ true) × (asks ≡ item) = some_in_case (is_in_range item) item asks
-        (c.in-Some.ensures.event c.args.actor) in
+    (c.in-Some.ensures.event c.args.actor) in
     ap (least_reason items) (sym read.1)
     ∙ not_placed items asks
     (statement_place items asks true refl refl (sym (c.has_phase.ensures.phase items is) ∙ c.if-not-has_phase.false))
@@ -41,10 +41,10 @@ returns-then-not-has_processor-clause-judged c items is =
     let item : Item = asked_said c.args.actor c.args.asked in
     let asks : Item = ask c.args.actor c.in-Some.event in
     let read : (is_in_range item ≡ true) × (asks ≡ item) = some_in_case (is_in_range item) item asks
-        (c.in-Some.ensures.event c.args.actor) in
+    (c.in-Some.ensures.event c.args.actor) in
     let above : list_any (is_cpus_above c.args.actor) items ≡ false =
     actor_kept items c.args.self.now c.args.actor is ∙ sym c.has_processor.ensures.processor
-        ∙ c.if-not-has_processor.true in
+    ∙ c.if-not-has_processor.true in
     ap (least_reason items) (sym read.1)
     ∙ not_there items asks
     (statement_place items asks true refl refl (sym (c.has_phase.ensures.phase items is) ∙ c.if-not-has_phase.false))
@@ -56,9 +56,9 @@ returns-then-not-has_card_of-clause-judged c items is =
     let item : Item = asked_said c.args.actor c.args.asked in
     let asks : Item = ask c.args.actor c.in-Some.event in
     let read : (is_in_range item ≡ true) × (asks ≡ item) = some_in_case (is_in_range item) item asks
-        (c.in-Some.ensures.event c.args.actor) in
+    (c.in-Some.ensures.event c.args.actor) in
     let there : is_card_there items c.in-Some.event ≡ false = sym (c.has_card_of.ensures.there items is)
-        ∙ c.if-not-has_card_of.true in
+    ∙ c.if-not-has_card_of.true in
     ap (least_reason items) (sym read.1)
     ∙ not_there items asks
     (statement_place items asks true refl refl (sym (c.has_phase.ensures.phase items is) ∙ c.if-not-has_phase.false))
@@ -70,7 +70,7 @@ is_past_limit-requires-clause-few c =
     let item : Item = asked_said c.args.actor c.args.asked in
     let asks : Item = ask c.args.actor c.in-Some.event in
     let read : (is_in_range item ≡ true) × (asks ≡ item) = some_in_case (is_in_range item) item asks
-        (c.in-Some.ensures.event c.args.actor) in
+    (c.in-Some.ensures.event c.args.actor) in
     few_pulses c.in-Some.event (ap is_in_range read.1 ∙ read.0)
 
 pub returns-then-is_past_limit-clause-judged : goal.returns-then-is_past_limit-clause-judged
@@ -79,11 +79,11 @@ returns-then-is_past_limit-clause-judged c items is =
     let item : Item = asked_said c.args.actor c.args.asked in
     let asks : Item = ask c.args.actor c.in-Some.event in
     let read : (is_in_range item ≡ true) × (asks ≡ item) = some_in_case (is_in_range item) item asks
-        (c.in-Some.ensures.event c.args.actor) in
+    (c.in-Some.ensures.event c.args.actor) in
     let there : is_there items asks ≡ true =
     and_from (list_any (is_cpus_above c.args.actor) items) (is_card_there items c.in-Some.event)
     (actor_kept items c.args.self.now c.args.actor is ∙ sym c.has_processor.ensures.processor
-        ∙ c.if-not-has_processor.false)
+    ∙ c.if-not-has_processor.false)
     (sym (c.has_card_of.ensures.there items is) ∙ c.if-not-has_card_of.false) in
     ap (least_reason items) (sym read.1)
     ∙ past_limit items asks
@@ -91,7 +91,7 @@ returns-then-is_past_limit-clause-judged c items is =
     refl refl (ap is_in_range read.1 ∙ read.0) (sym c.is_placed.ensures.placed ∙ c.if-not-is_placed.false) there
     (limits_with items reading asks is
     ∙ past_two (reading.statements + 1) (length reading.phases.items) (pulses_of_event c.in-Some.event + reading.pulses)
-        reading.memory
+    reading.memory
     is.limits.phases is.limits.memory
     ∙ sym c.is_past_limit.ensures.past ∙ c.if-is_past_limit.true)
 
@@ -101,20 +101,20 @@ returns-clause-judged c items is =
     let item : Item = asked_said c.args.actor c.args.asked in
     let asks : Item = ask c.args.actor c.in-Some.event in
     let read : (is_in_range item ≡ true) × (asks ≡ item) = some_in_case (is_in_range item) item asks
-        (c.in-Some.ensures.event c.args.actor) in
+    (c.in-Some.ensures.event c.args.actor) in
     let there : is_there items asks ≡ true =
     and_from (list_any (is_cpus_above c.args.actor) items) (is_card_there items c.in-Some.event)
     (actor_kept items c.args.self.now c.args.actor is ∙ sym c.has_processor.ensures.processor
-        ∙ c.if-not-has_processor.false)
+    ∙ c.if-not-has_processor.false)
     (sym (c.has_card_of.ensures.there items is) ∙ c.if-not-has_card_of.false) in (
       ap (least_reason items) (sym read.1)
           ∙ no_reason items asks
           (statement_place items asks true refl refl (sym (c.has_phase.ensures.phase items is)
-              ∙ c.if-not-has_phase.false))
+          ∙ c.if-not-has_phase.false))
           refl refl (ap is_in_range read.1 ∙ read.0) (sym c.is_placed.ensures.placed ∙ c.if-not-is_placed.false) there
           (limits_with items reading asks is
           ∙ past_two (reading.statements + 1) (length reading.phases.items)
-              (pulses_of_event c.in-Some.event + reading.pulses) reading.memory
+          (pulses_of_event c.in-Some.event + reading.pulses) reading.memory
           is.limits.phases is.limits.memory
           ∙ sym c.is_past_limit.ensures.past ∙ c.if-is_past_limit.false),
       read.1,
@@ -125,5 +125,5 @@ returns-clause-few c =
     let item : Item = asked_said c.args.actor c.args.asked in
     let asks : Item = ask c.args.actor c.in-Some.event in
     let read : (is_in_range item ≡ true) × (asks ≡ item) = some_in_case (is_in_range item) item asks
-        (c.in-Some.ensures.event c.args.actor) in
+    (c.in-Some.ensures.event c.args.actor) in
     few_pulses c.in-Some.event (ap is_in_range read.1 ∙ read.0)
