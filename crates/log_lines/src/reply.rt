@@ -112,7 +112,7 @@ fn parse_wide_reply(access: &WideAccess, words: Fields<'_>) -> Option<Reply>
 }
 
 /// A number of map writes, a decimal.
-fn parse_version(field: &[u8]) -> Option<u32>
+fn parse_map_version(field: &[u8]) -> Option<u32>
     ensures version { result ≡ parse_decimal field.now }
     ensures below { IfSome result IsDecimal }
 {
@@ -130,7 +130,7 @@ fn parse_look_reply(words: Fields<'_>) -> Option<Reply>
     let (hi, words) = words.next()?;
     let (area, words) = words.next()?;
     words.end()?;
-    let version = parse_version(version)?;
+    let version = parse_map_version(version)?;
     let lo = parse_hex(8, lo)?;
     let hi = parse_hex(8, hi)?;
     let area = parse_area(area)?;

@@ -3,7 +3,7 @@ use Rattle.std.proofs.Common.{◌≡◌, ◌≢◌, ℕ, ◌+◌, ◌≤◌, Opt
 use Rattle.board_prelude.proofs.Common.{digits, cases_Bool, reverse-append, length-append, All-nil, All-cons, All-head, All-tail, All-push, Entry, line_feed, line_text, lines_text}
 use Rattle.script_spec.specs.Common.{IsVersion, IsWellFormed, cut}
 use Rattle.script_spec.proofs.Common.{lacks-line, line_whole, some_is, word_is, cut_field, cut_joined}
-use Rattle.logs_and_maps.specs.Reading.{heading, parse_version, HasEntry, HasNoEntry}
+use Rattle.logs_and_maps.specs.Reading.{heading, parse_heading, HasEntry, HasNoEntry}
 use Rattle.logs_and_maps.proofs.Lines.{lines_text-newest}
 
 -- ---- the next line
@@ -97,7 +97,7 @@ room_left version n rest entry after entries most has room =
 
 -- ---- headings
 
-pub version_said : (line : List ℕ) (version : ℕ) → parse_version line ≡ Some version
+pub version_said : (line : List ℕ) (version : ℕ) → parse_heading line ≡ Some version
     → IsVersion version × (line ≡ heading version)
 unfolding digits
 version_said line version e = elim (cases_Bool (bytes_eq line (codes "access log 1"))) [
@@ -112,7 +112,7 @@ version_said line version e = elim (cases_Bool (bytes_eq line (codes "access log
   ]
 ]
 
-pub version_known : (version : ℕ) → IsVersion version → parse_version (heading version) ≡ Some version
+pub version_known : (version : ℕ) → IsVersion version → parse_heading (heading version) ≡ Some version
 unfolding digits
 version_known version (inl one) = rw one refl
 version_known version (inr two) = rw two refl

@@ -5,7 +5,7 @@ use Rattle.script_spec.specs.Common.{text_of_lines, IsOneLine, IsVersion, IsWell
 use Rattle.script_spec.proofs.Common.{lacks, lacks-append, lacks-word, decimal_word, one_line, compared, log_lines, lines_joined, lines_whole, nothing_more, some_is, cut_field, cut_joined}
 use Rattle.logs_and_maps.specs.declared.fault.LogFault.{LogFault}
 use Rattle.logs_and_maps.specs.declared.fault.LogFault.TheVariants.{Bad, NoMemory}
-use Rattle.logs_and_maps.specs.Reading.{NamesBad, heading, parse_version, HasNoEntry, IsBadAfter}
+use Rattle.logs_and_maps.specs.Reading.{NamesBad, heading, parse_heading, HasNoEntry, IsBadAfter}
 use Rattle.logs_and_maps.proofs.ReadLines.{version_said, version_known}
 
 -- ---- the lines of a whole log
@@ -79,7 +79,7 @@ clash version other history entries this more rest after known its each same non
     let later : log_lines entries ≡ log_lines history ++ this ∷ more = ap (λ (lines : List (List ℕ)). drop 1 lines)
     same in
     let versions : other ≡ version =
-    some_is other version (sym (version_known other its) ∙ ap parse_version first ∙ version_known version known) in
+    some_is other version (sym (version_known other its) ∙ ap parse_heading first ∙ version_known version known) in
     let count = ap length later ∙ length-append (log_lines history) (this ∷ more) in
     let inside : length history < length entries = omega (arith, count, lines_length history, lines_length entries) in
     let found = line_at (IsWellFormed other) entries (length history) each inside in
@@ -131,20 +131,20 @@ bad_uncut bytes uncut = bad_heading bytes (λ version after known is.
     uncut ∙ ap (cut line_feed) is ∙ cut_field line_feed (heading version) after (heading_lacks version) in
     absurd cc)
 
-pub bad_version : (bytes line after : List ℕ) → Some (line, after) ≡ cut line_feed bytes → None ≡ parse_version line
+pub bad_version : (bytes line after : List ℕ) → Some (line, after) ≡ cut line_feed bytes → None ≡ parse_heading line
     → IsBadLog bytes 1
 bad_version bytes line after parts none = bad_heading bytes (λ version later known is.
     let same = some_is (line, after) (heading version, later)
     (parts ∙ ap (cut line_feed) is ∙ cut_field line_feed (heading version) later (heading_lacks version)) in
     let e : ◌≡◌ {A = Option ℕ} None (Some version) =
-    none ∙ ap parse_version (ap (λ (p : List ℕ × List ℕ). p.0) same) ∙ version_known version known in
+    none ∙ ap parse_heading (ap (λ (p : List ℕ × List ℕ). p.0) same) ∙ version_known version known in
     absurd cc)
 
 -- ---- bad lines after the heading
 
 pub bad_after : (bytes heading_line lines : List ℕ) (version line : ℕ)
     → Some (heading_line, lines) ≡ cut line_feed bytes
-    → Some version ≡ parse_version heading_line → IsBadAfter version lines line → IsBadLog bytes line
+    → Some version ≡ parse_heading heading_line → IsBadAfter version lines line → IsBadLog bytes line
 bad_after bytes heading_line lines version line parts named bad =
     let said = version_said heading_line version (sym named) in
     let before : List (List ℕ) = whole version bad.history in
@@ -201,7 +201,7 @@ bad_after bytes heading_line lines version line parts named bad =
 
 pub good_log : (bytes heading_line lines : List ℕ) (version : ℕ) (entries : List Entry)
     → Some (heading_line, lines) ≡ cut line_feed bytes
-    → Some version ≡ parse_version heading_line → lines ≡ lines_text (reverse entries)
+    → Some version ≡ parse_heading heading_line → lines ≡ lines_text (reverse entries)
     → All (IsWellFormed version) (reverse entries)
     → IsLogText version (reverse entries) bytes
 good_log bytes heading_line lines version entries parts named is each =
@@ -217,7 +217,7 @@ good_log bytes heading_line lines version entries parts named is each =
 
 pub names_bad : (bytes heading_line lines : List ℕ) (version : ℕ) (fault : LogFault)
     → Some (heading_line, lines) ≡ cut line_feed bytes
-    → Some version ≡ parse_version heading_line → NamesBad (IsBadAfter version lines) fault
+    → Some version ≡ parse_heading heading_line → NamesBad (IsBadAfter version lines) fault
     → NamesBad (IsBadLog bytes) fault
 names_bad bytes heading_line lines version (Bad line) parts named bad = bad_after bytes heading_line lines version
     line parts named bad

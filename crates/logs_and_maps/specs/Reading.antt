@@ -13,8 +13,8 @@ NamesBad IsBad NoMemory = Unit {0}
 abbrev pub heading : (version : ℕ) → List ℕ
 heading version = codes "access log " ++ decimal version
 
-abbrev pub parse_version : List ℕ → Option ℕ
-parse_version line =
+abbrev pub parse_heading : List ℕ → Option ℕ
+parse_heading line =
     if bytes_eq line (codes "access log 1") then Some 1 else
     if bytes_eq line (codes "access log 2") then Some 2 else None
 

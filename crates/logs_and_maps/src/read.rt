@@ -3,7 +3,7 @@
 ghost use Rattle.std.specs.Prelude.{◌≡◌, ◌≢◌, ◌<◌, ◌-◌, ◌^◌, length, reverse, IfOk, IfErr, IfSome, MatchOption, All};
 ghost use Rattle.board_prelude.specs.Common.{Entry, line_text, lines_text};
 ghost use Rattle.script_spec.specs.Common.{IsVersion, IsWellFormed, IsLogText, IsBadLog};
-ghost use Rattle.logs_and_maps.specs.Reading.{NamesBad, parse_version, HasEntry, HasNoEntry, IsBadAfter};
+ghost use Rattle.logs_and_maps.specs.Reading.{NamesBad, parse_heading, HasEntry, HasNoEntry, IsBadAfter};
 
 use crate::fault::LogFault;
 use crate::log::push_entry;
@@ -21,8 +21,8 @@ pub struct Log {
 }
 
 /// The version that a heading names.
-fn parse_version(line: &[u8]) -> Option<u8>
-    ensures version { result ≡ parse_version line.now }
+fn parse_heading(line: &[u8]) -> Option<u8>
+    ensures version { result ≡ parse_heading line.now }
 {
     if is_word(line, "access log 1") {
         return Some(1);
@@ -111,7 +111,7 @@ pub fn read_log(alloc: Global, bytes: &[u8]) -> Result<Log, LogFault>
     let Some((heading, lines)) = cut(b'\n', bytes) else {
         return Err(LogFault::Bad { line: 1 });
     };
-    let Some(version) = parse_version(heading) else {
+    let Some(version) = parse_heading(heading) else {
         return Err(LogFault::Bad { line: 1 });
     };
     let entries = read_entries(alloc, version, lines)?;

@@ -160,7 +160,7 @@ fn put_look_at(line: &mut Tail, kind: Kind, addr: u32, smm: bool)
 }
 
 /// Puts a mark and two digits, like `-07`.
-fn put_part(line: &mut Tail, mark: u8, number: u8)
+fn put_moment_part(line: &mut Tail, mark: u8, number: u8)
     requires ascii { mark < 128 }
     requires room { HasRoom line.old 3 }
     ensures words { line.new ≡ mark ∷ two_digits number ++ line.old }
@@ -177,8 +177,8 @@ fn put_day(line: &mut Tail, moment: Moment)
         ++ codes "-" ++ two_digits moment.month ++ codes "-" ++ two_digits moment.day ++ line.old }
     ensures length { GrowsBy line.old line.new 10 }
 {
-    put_part(line, b'-', moment.day);
-    put_part(line, b'-', moment.month);
+    put_moment_part(line, b'-', moment.day);
+    put_moment_part(line, b'-', moment.month);
     put_two_digits(line, moment.year % 100);
     put_two_digits(line, moment.year / 100);
 }
@@ -190,9 +190,9 @@ fn put_time_of_day(line: &mut Tail, moment: Moment)
         ++ codes ":" ++ two_digits moment.second ++ line.old }
     ensures length { GrowsBy line.old line.new 9 }
 {
-    put_part(line, b':', moment.second);
-    put_part(line, b':', moment.minute);
-    put_part(line, b'T', moment.hour);
+    put_moment_part(line, b':', moment.second);
+    put_moment_part(line, b':', moment.minute);
+    put_moment_part(line, b'T', moment.hour);
 }
 
 /// Puts the statement that gives the clock a moment, like `moment 2024-02-29T23:59:58`.

@@ -96,7 +96,7 @@ fn push_opening(text: &mut String) -> Result<(), NoMemory>
 }
 
 /// Appends words, a number in eight hexadecimal digits, and a line feed.
-fn push_long_line(text: &mut String, words: &str, number: u32) -> Result<(), NoMemory>
+fn push_numbered_line(text: &mut String, words: &str, number: u32) -> Result<(), NoMemory>
     ensures appended { OnOk result (AddsWords text.old text.new (words.now ++ hex_long number ++ line_feed ∷ [])) }
     ensures front { OnErr result (KeepsFront text.old text.new) }
 {
@@ -114,7 +114,7 @@ fn push_write(text: &mut String, words: &str, addr: u32, value: u32) -> Result<(
 {
     push_words(text, words)?;
     push_hex_long(text, addr)?;
-    push_long_line(text, " ", value)
+    push_numbered_line(text, " ", value)
 }
 
 /// Appends the eleven statements of a round. Rounds count from 0.
@@ -126,7 +126,7 @@ pub(crate) fn push_round(text: &mut String, round: u32) -> Result<(), NoMemory>
     let dram = 0x10_0000 + 4 * (round % 4096);
     let card = 0xE000_0000 + 4 * (round % 256);
     push_write(text, "0 w d ", dram, round)?;
-    push_long_line(text, "1 r d ", dram)?;
+    push_numbered_line(text, "1 r d ", dram)?;
     push_write(text, "1 w d ", card, round)?;
     push_words(text, ROUND_END)
 }

@@ -71,7 +71,7 @@ fn push_counts(text: &mut String, count: u64, counts: Counts) -> Result<(), NoMe
 
 /// Appends the lines of the map.
 #[tactic(auto, unfolding(crate::specs::Summary::map_lines))]
-fn push_map(text: &mut String, writes: u32, ranges: usize) -> Result<(), NoMemory>
+fn push_map_lines(text: &mut String, writes: u32, ranges: usize) -> Result<(), NoMemory>
     ensures appended { OnOk result (AddsWords text.old text.new (text_of_lines (map_lines writes ranges))) }
     ensures front { OnErr result (KeepsFront text.old text.new) }
 {
@@ -92,5 +92,5 @@ pub fn push_summary(
     ensures front { OnErr result (KeepsFront text.old text.new) }
 {
     push_counts(text, entries.len() as u64, counts_of(entries))?;
-    push_map(text, map_writes, ranges)
+    push_map_lines(text, map_writes, ranges)
 }

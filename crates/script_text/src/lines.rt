@@ -77,7 +77,7 @@ pub(crate) fn next_line<'a>(version: u8, bytes: &'a [u8]) -> Option<Next<'a>>
 }
 
 /// The version that line 1 names, and the bytes after that line. None where it names none, or there is no line.
-pub(crate) fn parse_version(bytes: &[u8]) -> Option<(u8, &[u8])>
+pub(crate) fn parse_first_line(bytes: &[u8]) -> Option<(u8, &[u8])>
     ensures cases { MatchOption result (BeginsBadly (lines_of bytes.now))
         (λ p. IsVersion p.0 × (lines_of bytes.now ≡ first_line p.0 ∷ lines_of p.1.now)) }
     ensures shorter { IfSome result (λ p. length p.1.now < length bytes.now) }

@@ -8,7 +8,7 @@ ghost use Rattle.script_text.specs.Script.{said_of};
 ghost use Rattle.script_text.specs.Straight.{IsStraight};
 
 use crate::fault::{Reason, ScriptFault};
-use crate::lines::{is_skipped, next_line, parse_version};
+use crate::lines::{is_skipped, next_line, parse_first_line};
 use crate::reading::Reading;
 use crate::script::Script;
 use board_spec::Event;
@@ -130,7 +130,7 @@ pub fn read_script(alloc: Global, bytes: &[u8]) -> Result<Script, ScriptFault>
     ensures in_range { IfOk result (λ script. IsInRangeScript (said_of script)) }
     ensures bad { IfErr result (λ fault. OnBad fault (IsScriptBad bytes.now)) }
 {
-    let Some((version, rest)) = parse_version(bytes) else {
+    let Some((version, rest)) = parse_first_line(bytes) else {
         return Err(ScriptFault::at(1, Reason::NoVersion));
     };
     read_later(alloc, version, rest)

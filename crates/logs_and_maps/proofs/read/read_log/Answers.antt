@@ -6,21 +6,21 @@ use Rattle.logs_and_maps.proofs.read.read_log.Goals as goal
 pub returns-in_default-clause-bad : goal.returns-in_default-clause-bad
 returns-in_default-clause-bad c = bad_uncut c.args.bytes.now c.in_default.ensures.parts
 
-pub returns-in_default-parse_version-clause-bad : goal.returns-in_default-parse_version-clause-bad
-returns-in_default-parse_version-clause-bad c =
+pub returns-in_default-parse_heading-clause-bad : goal.returns-in_default-parse_heading-clause-bad
+returns-in_default-parse_heading-clause-bad c =
     bad_version c.args.bytes.now c.in-Some.heading.now c.in-Some.lines.now c.in-Some.ensures.parts
-    c.in_default-parse_version.ensures.version
+    c.in_default-parse_heading.ensures.version
 
 pub returns-in_err-entries-clause-bad : goal.returns-in_err-entries-clause-bad
 returns-in_err-entries-clause-bad c =
-    let bad = names_bad c.args.bytes.now c.in-Some.heading.now c.in-Some.lines.now c.in-Some-parse_version.version _
+    let bad = names_bad c.args.bytes.now c.in-Some.heading.now c.in-Some.lines.now c.in-Some-parse_heading.version _
     c.in-Some.ensures.parts
-    c.in-Some-parse_version.ensures.version c.in_err-entries.ensures.bad in
+    c.in-Some-parse_heading.ensures.version c.in_err-entries.ensures.bad in
     passed_on c.from_residual.result _ (NamesBad (IsBadLog c.args.bytes.now)) c.from_residual.ensures.1 bad
 
 pub returns-clause-log : goal.returns-clause-log
 returns-clause-log c =
-    good_log c.args.bytes.now c.in-Some.heading.now c.in-Some.lines.now c.in-Some-parse_version.version
+    good_log c.args.bytes.now c.in-Some.heading.now c.in-Some.lines.now c.in-Some-parse_heading.version
     c.in_ok-entries.entries.items
-    c.in-Some.ensures.parts c.in-Some-parse_version.ensures.version c.in_ok-entries.ensures.entries.0
+    c.in-Some.ensures.parts c.in-Some-parse_heading.ensures.version c.in_ok-entries.ensures.entries.0
     c.in_ok-entries.ensures.entries.1

@@ -1,7 +1,7 @@
 use Rattle.std.proofs.Common.{◌∙◌, inl, inr, refl, sym}
 use Rattle.script_spec.specs.Lines.{lines_of}
 use Rattle.script_text.proofs.Runs.{first_version, second_version, no_version}
-use Rattle.script_text.proofs.lines.parse_version.Goals as goal
+use Rattle.script_text.proofs.lines.parse_first_line.Goals as goal
 
 pub returns-then-is_word-clause-cases : goal.returns-then-is_word-clause-cases
 returns-then-is_word-clause-cases c = (
