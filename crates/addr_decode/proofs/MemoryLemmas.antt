@@ -1,8 +1,9 @@
 -- The memory map in the order of the code is that of the definitions.
-use Rattle.std.proofs.Common.{◌≡◌, ℕ, Bool, true, false, not, ◌&&◌, Option, Some, None, refl, sym, ◌∙◌, ap, arith, is_some, unwrap_or, [], ◌∷◌, option_map, if◌then◌else◌}
+use Rattle.std.proofs.Common.{◌≡◌, ℕ, Bool, true, false, not, ◌&&◌, Option, Some, None, IfSome, refl, sym, ◌∙◌, ap, arith, is_some, unwrap_or, [], ◌∷◌, option_map, if◌then◌else◌}
 use Rattle.board_prelude.proofs.Common.{nat_tests, Area, Denial, Kind, top_of, memory_shut, rom_unselected, abort_denial, rom_denial, denial_in, denial_of, Setup, lies_in, upper_memory, Window, first_of, line_where, is_smram_range, is_shadow_range, card_area, area_under, Bytes, row_of, is_in, hole_of, pam_register, is_high_window, nibble, is_open, is_shadowed, smram_answers, is_rom_selected, memory_claim, area_of, xbcs as select_register, smram as smram_register, fdhc as hole_register}
 use Rattle.board_base.specs.declared.target.Area.TheVariants.{Dram, Shadow, Smram, Rom, Abort}
-use Rattle.addr_decode.specs.Common.{dram_area, row_area, above_dram, beside_dram, area_by, master_area}
+use Rattle.pmc_regs.specs.Pmc.{IsRowsOf}
+use Rattle.addr_decode.specs.Common.{MapBytes, StandsFor, dram_area, row_area, above_dram, beside_dram, area_by, master_area}
 
 -- the table of the memory map over the ranges that the address lies in, SMRAM's and all of upper memory, and over what
 -- the registers say of it
@@ -156,6 +157,33 @@ dram_undenied setup bytes addr kind smm area is =
     (is_in (hole_of (bytes hole_register)) addr) addr area kind abort rom is
     ∙ ap (λ (it : Area). denial_in it kind abort rom)
     (either_answers setup bytes addr kind smm (Some area) (beside_dram setup bytes addr) is refl)
+
+-- a row of ordinary DRAM
+plain_dram : (bytes : Bytes) (addr row fdhc : ℕ) (kind : Kind) (smm : Bool) → lies_in upper_memory addr ≡ false →
+    is_in (hole_of fdhc) addr ≡ false → fdhc ≡ bytes hole_register → Some row ≡ row_of bytes addr →
+    Some (Dram row) ≡ dram_by bytes addr kind smm
+plain_dram bytes addr row fdhc kind smm outside no_hole same is =
+    let beside : is_smram_range addr ≡ false = grind (arith, nat_tests) in
+    let unshadowed : is_shadow_range addr ≡ false = grind (arith, nat_tests) in
+    rw (← is, ← same, beside, unshadowed, no_hole) refl
+
+pub if_plain_area : (regs : MapBytes) (addr : ℕ) (found : Option ℕ) → lies_in upper_memory addr ≡ false →
+    is_in (hole_of regs.fdhc) addr ≡ false → ((bytes : Bytes) → IsRowsOf bytes regs.drb → found ≡ row_of bytes addr) →
+    IfSome found (λ row. (setup : Setup) (bytes : Bytes) (kind : Kind) (smm : Bool) → StandsFor setup bytes regs →
+    area_of setup bytes addr kind smm ≡ Dram row)
+if_plain_area regs addr None outside no_hole is = tt
+if_plain_area regs addr (Some row) outside no_hole is = λ setup bytes kind smm stands.
+    sym (either_answers setup bytes addr kind smm (Some (Dram row)) (beside_dram setup bytes addr)
+    (plain_dram bytes addr row regs.fdhc kind smm outside no_hole stands.hole (is bytes stands.rows)) refl)
+
+pub if_plain_undenied : (regs : MapBytes) (addr : ℕ) (found : Option ℕ) → lies_in upper_memory addr ≡ false →
+    is_in (hole_of regs.fdhc) addr ≡ false → ((bytes : Bytes) → IsRowsOf bytes regs.drb → found ≡ row_of bytes addr) →
+    IfSome found (λ row. (setup : Setup) (bytes : Bytes) (kind : Kind) (smm : Bool) → StandsFor setup bytes regs →
+    denial_of setup bytes addr kind smm ≡ None)
+if_plain_undenied regs addr None outside no_hole is = tt
+if_plain_undenied regs addr (Some row) outside no_hole is = λ setup bytes kind smm stands.
+    sym (dram_undenied setup bytes addr kind smm (Dram row)
+    (plain_dram bytes addr row regs.fdhc kind smm outside no_hole stands.hole (is bytes stands.rows)))
 
 -- at an address of a shadow window
 row_shadow : (row : ℕ) (opened shadowed hole : Bool) (addr : ℕ) → is_smram_range addr ≡ false → is_shadow_range addr ≡ true →

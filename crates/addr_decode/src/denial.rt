@@ -16,6 +16,7 @@ use pmc_regs::top_of;
 use xbus_select::sends_bios_writes;
 
 /// What denies an access that reaches this area. None where it is not denied.
+#[inline(always)]
 pub fn denial_in(regs: &MapRegs, area: Area, addr: u32, kind: Kind) -> Option<Denial>
     requires cards { AreFitted regs.now.cards.items }
     ensures denial { (setup : Setup) (bytes : Bytes) → StandsFor setup bytes (map_bytes regs.now)

@@ -24,7 +24,7 @@ pub use change::touches;
 pub use edges::next_edge;
 pub use found::{ConfigRegister, Found, Function, function_of};
 pub use master::decode_master;
-pub use memory::decode;
+pub use memory::{decode, plain_row};
 pub use ports::{PortRegs, decode_port, find_port};
 pub use register::{CardRegister, MapRegister, Names, touch_map};
 pub use regs::MapRegs;

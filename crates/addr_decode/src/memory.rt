@@ -1,7 +1,7 @@
 //! The memory map of the 82441FX and the 82371SB: which area an access reaches, and what denies it.
-ghost use Rattle.std.specs.Prelude.{◌≡◌, true, false, Some, unwrap_or};
-ghost use Rattle.board_prelude.specs.Common.{Read, Write, Setup, Bytes, line_where, is_in, hole_of as hole_by, row_of as row_by, is_shadow_range, is_shadowed, smram_answers, area_of, denial_of, denial_in as denial_by, abort_denial, rom_denial, top_of, memory_shut, rom_unselected, fdhc, smram, xbcs as select_register};
-ghost use Rattle.board_base.specs.declared.target.Area.TheVariants.{Shadow};
+ghost use Rattle.std.specs.Prelude.{◌≡◌, Bool, true, false, Some, None, IfSome, unwrap_or};
+ghost use Rattle.board_prelude.specs.Common.{Kind, Read, Write, Setup, Bytes, line_where, is_in, hole_of as hole_by, row_of as row_by, is_shadow_range, is_shadowed, smram_answers, area_of, denial_of, denial_in as denial_by, abort_denial, rom_denial, top_of, memory_shut, rom_unselected, fdhc, smram, xbcs as select_register};
+ghost use Rattle.board_base.specs.declared.target.Area.TheVariants.{Dram, Shadow};
 ghost use Rattle.pam_windows.specs.Pam.{IsPamOf};
 ghost use Rattle.pci_bars.specs.Cards.{AreFitted};
 ghost use Rattle.addr_decode.specs.MapRegs.{StandsFor, map_bytes};
@@ -11,12 +11,18 @@ use crate::denial::denial_in;
 use crate::regs::MapRegs;
 use board_base::{Area, Denial, Kind};
 use board_spec::offset::PAM0;
-use board_spec::range::{SHADOW_RANGE, SMRAM_RANGE};
+use board_spec::range::{AddressRange, SHADOW_RANGE, SMRAM_RANGE};
 use pam_windows::window_of;
 use pci_bars::claim_mem;
 use pmc_regs::{hole_of, row_of};
 use smram_ctl::smram_reaches;
 use xbus_select::rom_selected;
+
+/// SMRAM and all shadow windows of PAM: no address here is one of ordinary DRAM.
+const UPPER_MEMORY: AddressRange = AddressRange {
+    first: SMRAM_RANGE.first,
+    last: SHADOW_RANGE.last,
+};
 
 /// The area that a memory access reaches, and what denies it: None where the area answers, unless it is the ROM
 /// and the access writes. Nothing denies an access that reaches DRAM.
@@ -32,6 +38,21 @@ pub fn decode(regs: &MapRegs, addr: u32, kind: Kind, smm: bool) -> (Area, Option
         Some(area) => (area, None),
         None => decode_beside_dram(regs, addr, kind),
     }
+}
+
+/// The row of ordinary DRAM at an address, which every kind of access reaches: outside SMRAM, the shadow windows and the
+/// hole. None where there is none.
+#[inline(always)]
+pub fn plain_row(regs: &MapRegs, addr: u32) -> Option<u8>
+    ensures area { IfSome result (λ row. (setup : Setup) (bytes : Bytes) (kind : Kind) (smm : Bool)
+        → StandsFor setup bytes (map_bytes regs.now) → area_of setup bytes addr kind smm ≡ Dram row) }
+    ensures denial { IfSome result (λ row. (setup : Setup) (bytes : Bytes) (kind : Kind) (smm : Bool)
+        → StandsFor setup bytes (map_bytes regs.now) → denial_of setup bytes addr kind smm ≡ None) }
+{
+    if UPPER_MEMORY.contains(addr) || is_in_hole(regs.fdhc, addr) {
+        return None;
+    }
+    row_of(&regs.drb, addr)
 }
 
 /// The area that an access reaches where DRAM does not answer, and what denies it.

@@ -44,6 +44,7 @@ pub fn decode_port(
 }
 
 /// What a port access finds. A register in configuration space comes with the function that has it.
+#[inline(always)]
 pub fn find_port(regs: &MapRegs, ports: &PortRegs, port: u16, width: Width) -> Found
     requires cards { AreFitted regs.now.cards.items }
     ensures decoded { (setup : Setup) (bytes : Bytes) → StandsFor setup bytes (map_bytes regs.now)
