@@ -1,3 +1,4 @@
+pub mod AroundDram
 pub mod Reach
 pub mod Effects
 pub mod MapVersions

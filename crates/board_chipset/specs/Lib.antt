@@ -1,4 +1,5 @@
 pub mod Alone
+pub mod Around
 pub mod BusReplies
 pub mod CardLoads
 pub mod Chipset

@@ -1,7 +1,8 @@
 //! What a monitor can read of a chipset's bytes without an access on the bus.
 
-ghost use Rattle.std.specs.Prelude.{◌≡◌, List, option_map};
-ghost use Rattle.board_prelude.specs.Common.{Entry, clock_of, disk_of};
+ghost use Rattle.std.specs.Prelude.{◌≡◌, ◌≤◌, ◌*◌, List, length, option_map};
+ghost use Rattle.board_prelude.specs.Common.{Entry, clock_of, disk_of, most_mib};
+ghost use Rattle.dram_store.specs.Bank.{bank_size};
 ghost use Rattle.dram_store.specs.Dram.{IsDramOf};
 ghost use Rattle.pci_bars.specs.Contents.{IsContentsOf};
 ghost use Rattle.board_chipset.specs.Chipset.{IsLeftBy};
@@ -18,6 +19,8 @@ impl Chipset {
     pub fn dram(&self) -> &Dram
         ensures dram { (history : List Entry) → IsLeftBy self.now history
             → IsDramOf self.now.setup history result.now }
+        ensures held { result.now ≡ self.now.state.stores.dram }
+        ensures few { length result.now ≤ most_mib * bank_size }
     {
         &self.state.stores.dram
     }

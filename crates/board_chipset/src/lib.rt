@@ -2,6 +2,7 @@
 //! which takes no memory, and whose reply is the answer to the history so far. That history is not kept.
 #![tactic(auto)]
 
+mod around;
 mod bus;
 mod bus_reply;
 mod bytes;
@@ -31,6 +32,7 @@ mod store;
 mod told;
 mod wide;
 
+pub use around::law_dram_between;
 pub use bus_reply::{BusReply, WideReply};
 pub use card_bytes::PastTheBase;
 pub use card_check::{is_base, is_expansion_rom};

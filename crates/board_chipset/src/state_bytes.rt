@@ -177,7 +177,7 @@ fn south(fields: &mut Fields) -> Result<South, Bad>
 
 impl Registers {
     /// Adds the registers.
-    fn save_state(&self, into: &mut Vec<u8>) -> Result<(), NoMemory>
+    pub(crate) fn save_state(&self, into: &mut Vec<u8>) -> Result<(), NoMemory>
         ensures saved { OnOk result (into.new.items ≡ into.old.items ++ registers_bytes self.now) }
         ensures sound { OnOk result ((setup : Fitting) → AreSound setup self.now → AreRegisters setup.cards self.now) }
     {

@@ -1,0 +1,61 @@
+-- Bytes that are put behind others, and those of a room before and after.
+use Rattle.std.proofs.Common.{◌≡◌, ℕ, ◌+◌, ◌-◌, ◌≤◌, List, [], ◌∷◌, ◌++◌, length, take, drop, refl, sym, ap, ◌∙◌, append_assoc, arith}
+use Rattle.board_prelude.proofs.Common.{length-append, length-take, length-drop, take_at, drop_at, take_all, drop-drop, append-nil, take-append-drop, drop-append-le}
+use Rattle.state_room.specs.Room.{IsPutAt}
+
+pub put_length : (at : ℕ) (bytes before after : List ℕ) → IsPutAt at bytes before after → length after ≡ length before
+put_length at bytes before after is =
+    ap length is.put
+    ∙ omega (
+      arith,
+      is.fits,
+      length-append (take at before) (bytes ++ drop (at + length bytes) before),
+      length-append bytes (drop (at + length bytes) before),
+      length-take at before,
+      length-drop (at + length bytes) before,
+    )
+
+-- none are put
+pub put_none : (at : ℕ) (room : List ℕ) → at ≤ length room → IsPutAt at [] room room
+put_none at room within = record {
+  fits = omega (arith, within);
+  put = sym (take-append-drop at room) ∙ ap (λ (k : ℕ). take at room ++ drop k room) (omega arith);
+}
+
+-- some, and then others
+pub put_then :
+    (at mid : ℕ) (xs ys all before between after : List ℕ) → IsPutAt at xs before between → mid ≡ at + length xs →
+    IsPutAt mid ys between after → all ≡ xs ++ ys → IsPutAt at all before after
+put_then at mid xs ys all before between after one is two whole =
+    let rest : List ℕ = drop (at + length xs) before in
+    let front : List ℕ = take at before ++ xs in
+    let same = put_length at xs before between one in
+    let begins : between ≡ front ++ rest = one.put ∙ sym (append_assoc (take at before) xs rest) in
+    let long : length front ≡ mid =
+    omega (arith, is, one.fits, length-append (take at before) xs, length-take at before) in
+    let both : length all ≡ length xs + length ys = ap length whole ∙ length-append xs ys in
+    let past : drop (mid + length ys) between ≡ drop (at + length all) before =
+    sym (drop-drop (length ys) mid between)
+    ∙ ap (drop (length ys)) (ap (drop mid) begins ∙ drop_at front rest mid long)
+    ∙ drop-drop (length ys) (at + length xs) before
+    ∙ ap (λ (k : ℕ). drop k before) (omega (arith, both)) in
+    record {
+      fits = omega (arith, is, both, same, two.fits);
+      put =
+          two.put
+          ∙ rw (ap (take mid) begins ∙ take_at front rest mid long, past)
+          (append_assoc (take at before) xs (ys ++ drop (at + length all) before)
+          ∙ ap (λ (tail : List ℕ). take at before ++ tail)
+          (sym (append_assoc xs ys (drop (at + length all) before))
+          ∙ ap (λ (bytes : List ℕ). bytes ++ drop (at + length all) before) (sym whole)));
+    }
+
+-- a byte, then some, and then others
+pub put_three :
+    (at start end byte : ℕ) (xs ys all room one two three : List ℕ) → IsPutAt at (byte ∷ []) room one → start ≡ at + 1 →
+    IsPutAt start xs one two → end ≡ start + length xs → IsPutAt end ys two three → all ≡ byte ∷ (xs ++ ys) →
+    IsPutAt at all room three
+put_three at start end byte xs ys all room one two three first starts second ends third whole =
+    put_then at end (byte ∷ xs) ys all room two three
+    (put_then at start (byte ∷ []) xs (byte ∷ xs) room one two first starts second refl) (omega (arith, starts, ends))
+    third whole

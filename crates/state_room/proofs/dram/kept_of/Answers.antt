@@ -1,0 +1,18 @@
+use Rattle.std.proofs.Common.{◌∙◌, ◌%◌, ◌*◌, ap, length, arith, refl, drop}
+use Rattle.board_prelude.proofs.Common.{length-take}
+use Rattle.state_room.proofs.Pages.{kept_page}
+use Rattle.byte_fields.specs.Pages.{memory_page}
+use Rattle.state_room.proofs.dram.kept_of.Goals as goal
+
+pub returns-in-Some-clause-within : goal.returns-in-Some-clause-within
+returns-in-Some-clause-within c =
+    omega (
+      arith,
+      ap length c.part_of.ensures.part,
+      length-take memory_page (drop (c.args.page % 256 * memory_page) c.in-Some.kept.now),
+    )
+
+pub returns-in-Some-clause-bytes : goal.returns-in-Some-clause-bytes
+returns-in-Some-clause-bytes c =
+    kept_page c.args.dram.now c.in-Some.kept.now c.part_of.result.now c.args.page (c.args.page % 256 * memory_page) refl
+    c.part_of.ensures.part c.in-Some.ensures.some c.in-Some.ensures.bytes
