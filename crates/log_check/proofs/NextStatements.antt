@@ -1,6 +1,6 @@
 -- A processor has one statement that may come next.
-use Rattle.std.proofs.Common.{ℕ, ◌≡◌, ◌≢◌, ◌+◌, ◌<◌, ◌≤◌, List, [], ◌∷◌, ◌++◌, length, drop, All, refl, sym, ap, ◌∙◌, subst, inl, inr, append_assoc, length-append, arith, map, filter, ◌==◌}
-use Rattle.board_prelude.proofs.Common.{take-append_seam, drop-append_seam, cases_lt, cond-true, cond-false, eq-eqb, ne_eqb, append_cancel_left, map-append, append-nil, filter-append, All-head, All-tail, All-drop, Event, Entry, Statement, Setup, IsNext, IsLegal, statement_of, statements_of, events_by, BeginsWith, IsFrontOfPhase, HasPhasesSoFar, IsBegunFor, in_file_order, OneReplay, statements-newest}
+use Rattle.std.proofs.Common.{ℕ, ◌≡◌, ◌≢◌, ◌+◌, ◌<◌, ◌≤◌, List, [], ◌∷◌, ◌++◌, length, drop, All, refl, sym, ap, ◌∙◌, subst, inl, inr, append_assoc, length-append, add-one, arith, map, filter, ◌==◌}
+use Rattle.board_prelude.proofs.Common.{take-append_seam, drop-append_seam, cases_lt, cond-true, cond-false, eq-eqb, ne_eqb, append_cancel_left, map-append, append-nil, filter-append, All-head, All-tail, All-drop, Event, Entry, Statement, Setup, IsNext, IsLegal, statement_of, statements_of, entries_by, events_by, BeginsWith, IsFrontOfPhase, HasPhasesSoFar, IsBegunFor, in_file_order, OneReplay, statements-newest}
 use Rattle.std.proofs.lemmas.List.Elements.{All-take}
 use Rattle.log_check.specs.Phases.{IsTyped}
 use Rattle.log_check.proofs.PhaseCuts.{in_first_phase, past_first_phase}
@@ -139,6 +139,14 @@ same_next one setup phases history left right legal l r begun others same =
     cc
 
 -- ---- processors
+
+-- a processor's entries are one more with its next
+pub last_number :
+    (history : List Entry) (entry : Entry) →
+    length (entries_by entry.actor (entry ∷ history)) ≡ length (entries_by entry.actor history) + 1
+last_number history entry =
+    ap length (cond-true (entry.actor == entry.actor) _ _ (eq-eqb entry.actor entry.actor refl))
+    ∙ sym (add-one (length (entries_by entry.actor history)))
 
 no_events :
     (actor : ℕ) (phase : List Statement) → All IsTyped phase → 256 ≤ actor → events_by actor phase ≡ []

@@ -49,8 +49,16 @@ fn check_line<'a>(
         return Err(CheckFault::Differs { line });
     };
     law_one_replay();
-    let entry = board.play(statement.actor, &statement.event);
-    print_line(text, line - 1, &entry)?;
+    let reply = board.step(statement.actor, &statement.event);
+    let seq = board.last_of(statement.actor);
+    print_line(
+        text,
+        line - 1,
+        statement.actor,
+        seq,
+        &statement.event,
+        &reply,
+    )?;
     go_past(text, rest, line)
 }
 

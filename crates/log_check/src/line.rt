@@ -2,12 +2,13 @@
 
 ghost use Rattle.std.specs.Prelude.{◌≡◌, ◌≢◌, ◌++◌, ◌∷◌, [], ℕ, List, string_bytes, OnOk, MatchOption, MatchResult};
 ghost use Rattle.board_prelude.specs.Common.{line_feed, line_text, log_text};
+ghost use Rattle.board_script.specs.LinesFrom.{entry_with};
 ghost use Rattle.log_check.specs.declared.fault.CheckFault.{CheckFault};
 
 use crate::fault::CheckFault;
 use board_base::NoMemory;
-use board_spec::Entry;
-use logs_and_maps::{push_heading, push_line};
+use board_script::{push_heading, push_parts_line};
+use board_spec::{Event, Reply};
 
 /// How many bytes are compared at once.
 const WORD: usize = 8;
@@ -20,12 +21,20 @@ pub(crate) fn print_heading(text: &mut String, version: u8) -> Result<(), NoMemo
     push_heading(text, version)
 }
 
-/// Puts the line of the entry of this number in place of a text, with its line feed.
-pub(crate) fn print_line(text: &mut String, n: u32, entry: &Entry) -> Result<(), NoMemory>
-    ensures printed { OnOk result (string_bytes text.new ≡ line_text n entry.now ++ line_feed ∷ []) }
+/// Puts line `n` of the entry of these parts in place of a text, with its line feed.
+pub(crate) fn print_line(
+    text: &mut String,
+    n: u32,
+    actor: u8,
+    seq: u32,
+    event: &Event,
+    reply: &Reply,
+) -> Result<(), NoMemory>
+    ensures printed { OnOk result (string_bytes text.new
+        ≡ line_text n (entry_with actor seq event.now reply.now) ++ line_feed ∷ []) }
 {
     text.clear();
-    push_line(text, u64::from(n), entry)
+    push_parts_line(text, u64::from(n), actor, seq, event, reply)
 }
 
 /// What stands after `front` in bytes that begin with it. None exactly where they do not.
