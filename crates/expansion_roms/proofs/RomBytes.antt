@@ -1,5 +1,5 @@
 -- The bytes of a ROM after some were written, and those of the others beside it.
-use Rattle.std.proofs.Common.{◌≡◌, ◌≢◌, ℕ, ◌+◌, ◌-◌, ◌<◌, ◌≤◌, true, false, ◌&&◌, List, [], ◌∷◌, ◌++◌, replicate, length, get_or, set, inl, inr, refl, sym, ap, ◌∙◌, arith, ◌==◌, nat_le, nat_lt, if◌then◌else◌, slice_index}
+use Rattle.std.proofs.Common.{◌≡◌, ◌≢◌, ℕ, ◌+◌, ◌<◌, ◌≤◌, false, List, [], replicate, length, get_or, set, inl, inr, refl, sym, arith, nat_le, nat_lt, slice_index}
 use Rattle.std.proofs.lemmas.List.{get_or-set_same, get_or-set_other, get_or_read}
 use Rattle.board_prelude.proofs.Common.{and_right, cases_eq, cases_lt, eq-eqb, ne_eqb, lt-ltb, le-ltb, get_or-replicate, get_or_past, length-replicate}
 use Rattle.board_prelude.specs.Common.{expansion_byte}

@@ -1,10 +1,14 @@
 -- The bytes that expansion ROMs were given, by the device numbers of their cards.
-use Rattle.std.specs.Prelude.{ℕ, ◌+◌, ◌-◌, ◌==◌, ◌&&◌, nat_le, nat_lt, if◌then◌else◌, List, [], get_or, length, slice_index}
+use Rattle.std.specs.Prelude.{ℕ, ◌+◌, ◌-◌, ◌≤◌, ◌==◌, ◌&&◌, nat_le, nat_lt, if◌then◌else◌, List, [], get_or, length, slice_index}
 use Rattle.board_prelude.specs.Common.{expansion_byte}
 
 -- those of the card at a device, from the ROM's first on
 abbrev pub given : List (List ℕ) → (dev : ℕ) → List ℕ
 given roms dev = get_or roms dev []
+
+-- all bytes of the ROM of the card at a device, which has so many, are kept: to change them takes no memory
+abbrev pub IsKept : List (List ℕ) → (dev size : ℕ) → Type 0
+IsKept roms dev size = size ≤ length (given roms dev)
 
 -- the byte at an offset that was given, and else the one that is there
 abbrev pub byte_in : List ℕ → (off old : ℕ) → ℕ

@@ -1,7 +1,7 @@
 //! The bytes of expansion ROMs, by the device numbers of their cards.
 
-ghost use Rattle.std.specs.Prelude.{◌≡◌, ◌<◌, ◌≤◌, ◌+◌, ◌==◌, ℕ, [], length, slice_index, not, IfOk, OnOk, OnErr};
-ghost use Rattle.expansion_roms.specs.Roms.{byte_over, given, put_byte, rom_byte};
+ghost use Rattle.std.specs.Prelude.{◌≡◌, ◌≢◌, ◌<◌, ◌≤◌, ◌+◌, ◌==◌, ℕ, [], length, slice_index, not, IfOk, OnOk, OnErr};
+ghost use Rattle.expansion_roms.specs.Roms.{IsKept, byte_over, given, put_byte, rom_byte};
 
 use crate::rom::{Rom, fixed_byte};
 use board_base::NoMemory;
@@ -75,8 +75,8 @@ impl Roms {
         }
     }
 
-    /// Gives the ROM of the card at a device, which has so many bytes, these from an offset on. It takes memory where the
-    /// ROM was given none before. Refused where there is none; then nothing has changed.
+    /// Gives the ROM of the card at a device, which has so many bytes, these from an offset on; from then on all its bytes
+    /// are kept. It takes memory only where they were not, and is refused where there is none; then nothing has changed.
     pub fn put(
         &mut self,
         alloc: Global,
@@ -89,6 +89,9 @@ impl Roms {
         requires within { off + length bytes.now ≤ size }
         ensures put { OnOk result ((d at : ℕ)
             → rom_byte self.new d at ≡ put_byte dev off bytes.now d at (rom_byte self.old d at)) }
+        ensures kept { OnOk result (IsKept self.new dev size) }
+        ensures others { OnOk result ((d : ℕ) → d ≢ dev → given self.new d ≡ given self.old d) }
+        ensures refused { OnErr result (¬ IsKept self.old dev size) }
         ensures unchanged { OnErr result (self.new ≡ self.old) }
     {
         self.grow(alloc, dev, size)?;
@@ -100,7 +103,9 @@ impl Roms {
     fn grow(&mut self, alloc: Global, dev: u8, size: usize) -> Result<(), NoMemory>
         requires device { dev < 10 }
         ensures same { OnOk result ((d at : ℕ) → rom_byte self.new d at ≡ rom_byte self.old d at) }
-        ensures whole { OnOk result (size ≤ length (given self.new dev)) }
+        ensures kept { OnOk result (IsKept self.new dev size) }
+        ensures others { OnOk result ((d : ℕ) → d ≢ dev → given self.new d ≡ given self.old d) }
+        ensures refused { OnErr result (¬ IsKept self.old dev size) }
         ensures unchanged { OnErr result (self.new ≡ self.old) }
     {
         let at = usize::from(dev);

@@ -1,4 +1,4 @@
-use Rattle.std.proofs.Common.{◌≡◌, ◌≤◌, length, sym, arith}
+use Rattle.std.proofs.Common.{◌≤◌, length, sym, arith}
 use Rattle.expansion_roms.proofs.RomBytes.{none_in, none_past}
 use Rattle.expansion_roms.proofs.roms.Roms.byte.Goals as goal
 

@@ -1,4 +1,4 @@
-use Rattle.std.proofs.Common.{◌≡◌, ◌≤◌, length, refl, arith}
+use Rattle.std.proofs.Common.{◌≤◌, length, refl, arith}
 use Rattle.expansion_roms.proofs.RomBytes.{none_past}
 use Rattle.expansion_roms.proofs.roms.Roms.is_given.Goals as goal
 

@@ -11,7 +11,7 @@ returns-clause-put c = λ d at.
     let slot : c.from.result ≡ c.args.dev = c.from.ensures in
     let rom : given roms c.args.dev ≡ c.index_mut.result.now =
     rom_at roms c.args.dev c.index_mut.result.now there (rw (← slot) c.index_mut.ensures.value) in
-    let long : c.args.size ≤ length (given roms c.args.dev) = rw c.self.view_is c.in_ok-grow.ensures.whole in
+    let long : c.args.size ≤ length (given roms c.args.dev) = rw c.self.view_is c.in_ok-grow.ensures.kept in
     let within : c.args.off + length c.args.bytes.now ≤ length (given roms c.args.dev) =
     omega (arith, long, c.requires.within) in
     rw slot
