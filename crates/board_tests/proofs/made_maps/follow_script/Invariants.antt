@@ -1,5 +1,5 @@
 use Rattle.std.proofs.Common.{◌≡◌}
-use Rattle.run_tests.proofs.made_maps.follow_script.Given as goal
+use Rattle.board_tests.proofs.made_maps.follow_script.Given as goal
 
 -- the board keeps its setup
 abbrev pub invariant-loop-phase : goal.invariant-loop-phase

@@ -5,7 +5,7 @@ use Rattle.script_text.specs.Script.{said_of}
 use Rattle.script_spec.specs.Phases.{lists_of}
 use Rattle.log_check.proofs.PhaseLists.{phases_cut, all_of_phase}
 use Rattle.command_texts.proofs.Statements.{in_range}
-use Rattle.run_tests.proofs.made_maps.follow_script.Goals as goal
+use Rattle.board_tests.proofs.made_maps.follow_script.Goals as goal
 
 pub follow-requires : goal.follow-requires
 follow-requires g c =

@@ -1,5 +1,5 @@
 use Rattle.std.proofs.Common.{◌≡◌}
-use Rattle.run_tests.proofs.made_maps.follow.Given as goal
+use Rattle.board_tests.proofs.made_maps.follow.Given as goal
 
 -- the board keeps its setup
 abbrev pub invariant-loop-statement : goal.invariant-loop-statement
