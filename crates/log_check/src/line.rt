@@ -2,12 +2,12 @@
 
 ghost use Rattle.std.specs.Prelude.{◌≡◌, ◌≢◌, ◌++◌, ◌∷◌, [], ℕ, List, string_bytes, OnOk, MatchOption, MatchResult};
 ghost use Rattle.board_prelude.specs.Common.{line_feed, line_text, log_text};
-ghost use Rattle.board_script.specs.LinesFrom.{entry_with};
+ghost use Rattle.logs_and_maps.specs.LinesFrom.{entry_with};
 ghost use Rattle.log_check.specs.declared.fault.CheckFault.{CheckFault};
 
 use crate::fault::CheckFault;
 use board_base::NoMemory;
-use board_script::{push_heading, push_parts_line};
+use logs_and_maps::{push_heading, push_parts_line};
 use board_spec::{Event, Reply};
 
 /// How many bytes are compared at once.
