@@ -65,6 +65,7 @@ impl Registers {
     }
 
     /// What an access at a port finds, with a disk fitted or without.
+    #[inline(always)]
     pub fn find_port(&self, port: u16, width: Width, disk: bool) -> Found
         ensures stands { (setup : Setup) (bytes : Bytes) → AreKeptOf setup bytes self.now.map.regs self.now.south
             → decoded_as result ≡ port_target_of setup bytes self.now.address disk port width }

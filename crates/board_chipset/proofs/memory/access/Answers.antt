@@ -1,60 +1,17 @@
-use Rattle.std.proofs.Common.{◌∙◌, refl}
-use Rattle.board_spec.specs.Registers.{byte_of}
-use Rattle.board_stores.proofs.MemoryLemmas.{part_answered}
-use Rattle.board_devices.proofs.DeviceLemmas.{leaves_devices}
-use Rattle.board_chipset.proofs.RegisterSteps.{writes_none}
-use Rattle.board_chipset.proofs.StateSteps.{sound_put, state_put, state_stays}
-use Rattle.board_chipset.proofs.HeldTargets.{stands, ready}
-use Rattle.board_chipset.proofs.MemorySteps.{writes_when, write_answer, read_answer}
+use Rattle.std.proofs.Common.{refl, subst, sym}
+use Rattle.addr_decode.specs.Common.{MapBytes, StandsFor}
 use Rattle.board_chipset.proofs.memory.access.Goals as goal
 
-pub write-requires-clause-ready : goal.write-requires-clause-ready
-write-requires-clause-ready c =
-    let kept = c.requires.kept in
-    let stand = stands kept.sound c.regs.ensures.same in (
-      c.args.rom.now,
-      ready kept.sound kept.image c.requires.bus
-          (c.decoded-answer.ensures.decoded kept.setup kept.sound.registers.bytes stand kept.image),
-    )
+pub answered-requires-clause-decoded : goal.answered-requires-clause-decoded
+answered-requires-clause-decoded c = λ setup bytes stand image.
+    let stands = subst (λ (regs : MapBytes). StandsFor setup bytes regs) (sym c.regs.ensures.same) stand in
+    let access = c.args.access.now in
+    rw (
+      c.in-Some.ensures.area setup bytes access.kind access.smm stands,
+      c.in-Some.ensures.denial setup bytes access.kind access.smm stands,
+    ) refl
 
-pub returns-then-is_write-clause-sound : goal.returns-then-is_write-clause-sound
-returns-then-is_write-clause-sound c = λ setup sound. sound_put sound c.write.ensures.put
-
-pub returns-then-is_write-clause-answer : goal.returns-then-is_write-clause-answer
-returns-then-is_write-clause-answer c = λ setup history kept image.
-    write_answer setup history c.args.access.now c.decoded-answer.result
-    (writes_when c.args.access.now.kind c.is_write.result c.is_write.ensures.write ∙ c.if-is_write.true)
-    (part_answered setup history c.args.access.now c.decoded-answer.result
-    (c.decoded-answer.ensures.decoded setup (byte_of setup history) (c.regs.ensures.stand setup history kept.registers)
-    image))
-
-pub returns-then-is_write-clause-board : goal.returns-then-is_write-clause-board
-returns-then-is_write-clause-board c = λ setup history entry kept image event replied.
-    state_put leaves_devices kept
-    (writes_none setup history entry.event (λ port is. cc))
-    (rw event tt) (λ cell. rw (event, replied) refl) c.write.ensures.put
-
-pub read-requires : goal.read-requires
-read-requires c =
-    let kept = c.requires.kept in
-    let stand = stands kept.sound c.regs.ensures.same in
-    record {
-      ready = ready kept.sound kept.image c.requires.bus
-          (c.decoded-answer.ensures.decoded kept.setup kept.sound.registers.bytes stand kept.image);
-    }
-
-pub returns-clause-answer : goal.returns-clause-answer
-returns-clause-answer c = λ setup history kept image.
-    read_answer setup history c.args.access.now c.decoded-answer.result c.read.result
-    (writes_when c.args.access.now.kind c.is_write.result c.is_write.ensures.write ∙ c.if-is_write.false)
-    (part_answered setup history c.args.access.now c.decoded-answer.result
-    (c.decoded-answer.ensures.decoded setup (byte_of setup history) (c.regs.ensures.stand setup history kept.registers)
-    image))
-    (c.read.ensures.value setup history kept.stores image)
-
-pub returns-clause-board : goal.returns-clause-board
-returns-clause-board c = λ setup history entry kept image event replied.
-    let reads = writes_when c.args.access.now.kind c.is_write.result c.is_write.ensures.write ∙ c.if-is_write.false in
-    state_stays leaves_devices kept
-    (writes_none setup history entry.event (λ port is. cc))
-    (rw event tt) (λ cell. rw (event, replied, reads) refl)
+pub answered-requires-in-None-clause-decoded : goal.answered-requires-in-None-clause-decoded
+answered-requires-in-None-clause-decoded c = λ setup bytes stand image.
+    c.decoded-answer.ensures.decoded setup bytes
+    (subst (λ (regs : MapBytes). StandsFor setup bytes regs) (sym c.regs-in-None.ensures.same) stand) image
