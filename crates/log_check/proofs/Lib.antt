@@ -1,5 +1,5 @@
+pub mod Digits
 pub mod TextCuts
-pub mod Fronted
 pub mod PhaseCuts
 pub mod NextStatements
 pub mod Histories

@@ -64,13 +64,13 @@ stopped setup place phase left history entries rest line walk none stepped legal
 pub stops_unnamed :
     (setup : Setup) (place : WalkPlace) (phase : List Statement) (left : ℕ → List Event) (history : List Entry)
     (rest : List ℕ) (line : ℕ) → Walk setup place phase left history rest →
-    ((n : ℕ) (entry : Entry) (after : List ℕ) → entry.actor < 256 → rest ≡ line_text n entry ++ after → ⊥) →
+    ((entry : Entry) (after : List ℕ) → entry.actor < 256 → rest ≡ line_text (length history + 1) entry ++ after → ⊥) →
     line ≡ length history + 2 →
     StoppedCheck setup place.version (phases_of place phase) place.bytes history (Differs line)
 stops_unnamed setup place phase left history rest line walk unnamed is =
     stopped setup place phase left history history rest line walk
     (λ entry after next more text.
-    unnamed (length history + 1) entry (line_feed ∷ after)
+    unnamed entry (line_feed ∷ after)
     (small_actor place phase left history entry walk.within walk.short walk.typed more) text)
     (inl refl) walk.legal (begun setup place phase left history rest walk) is
 
@@ -78,7 +78,7 @@ stops_unnamed setup place phase left history rest line walk unnamed is =
 pub stops_idle :
     (setup : Setup) (place : WalkPlace) (phase : List Statement) (left : ℕ → List Event) (history : List Entry)
     (rest : List ℕ) (line actor : ℕ) → Walk setup place phase left history rest →
-    ((n : ℕ) (entry : Entry) (after : List ℕ) → entry.actor < 256 → rest ≡ line_text n entry ++ after →
+    ((entry : Entry) (after : List ℕ) → entry.actor < 256 → rest ≡ line_text (length history + 1) entry ++ after →
     actor ≡ entry.actor) → left actor ≡ [] → line ≡ length history + 2 →
     StoppedCheck setup place.version (phases_of place phase) place.bytes history (Differs line)
 stops_idle setup place phase left history rest line actor walk named nothing is =
@@ -86,7 +86,7 @@ stops_idle setup place phase left history rest line actor walk named nothing is 
     (λ entry after next more text.
     none_left place phase left history entry walk.within walk.short
     (subst (λ (a : ℕ). left a ≡ [])
-    (named (length history + 1) entry (line_feed ∷ after)
+    (named entry (line_feed ∷ after)
     (small_actor place phase left history entry walk.within walk.short walk.typed more) text) nothing)
     more)
     (inl refl) walk.legal (begun setup place phase left history rest walk) is
@@ -150,8 +150,8 @@ pub past_line :
     (setup : Setup) (place : WalkPlace) (phase : List Statement) (left after : ℕ → List Event) (history : List Entry)
     (entry : Entry) (rest printed : List ℕ) (line : ℕ) (result : Result (Bor (List ℕ)) CheckFault) → OneReplay →
     Walk setup place phase left history rest → Made setup place phase left after history entry →
-    ((n : ℕ) (other : Entry) (remaining : List ℕ) → other.actor < 256 → rest ≡ line_text n other ++ remaining →
-    entry.actor ≡ other.actor) → printed ≡ line_text (length history + 1) entry ++ line_feed ∷ [] →
+    ((other : Entry) (remaining : List ℕ) → other.actor < 256 →
+    rest ≡ line_text (length history + 1) other ++ remaining → entry.actor ≡ other.actor) → printed ≡ line_text (length history + 1) entry ++ line_feed ∷ [] →
     line ≡ length history + 2 →
     MatchResult result (λ remaining. rest ≡ printed ++ remaining.now)
     (λ fault. (fault ≡ Differs line) × ((remaining : List ℕ) → rest ≢ printed ++ remaining)) →
@@ -177,7 +177,7 @@ past_line setup place phase left after history entry rest printed line (Err faul
     (stopped setup place phase left history (entry ∷ history) rest line walk
     (λ other remaining next more same.
     let actor : entry.actor ≡ other.actor =
-    named (length history + 1) other (line_feed ∷ remaining)
+    named other (line_feed ∷ remaining)
     (small_actor place phase left history other walk.within walk.short walk.typed more) same in
     let equal : entry ≡ other =
     same_next one setup (phases_of place phase) history entry other walk.legal made.next next entries more actor in

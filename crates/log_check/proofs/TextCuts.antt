@@ -6,7 +6,7 @@ use Rattle.std.specs.Str.{IsUtf8}
 use Rattle.std.proofs.lemmas.Fmt.{IsAscii-decimal, decimal_injective}
 use Rattle.std.proofs.Math.Seq.{drop-append-add}
 use Rattle.script_spec.specs.Lines.{IsOneLine}
-use Rattle.script_spec.proofs.Common.{lacks, front, back, front-field, back-field, lacks-first, lacks-later, lacks-decimal, lacks-word, decimal_word, lacks-line}
+use Rattle.script_spec.proofs.Common.{lacks, front, back, front-field, back-field, lacks-first, lacks-later, lacks-decimal, lacks-line}
 
 -- ---- the first byte of a kind
 
@@ -38,7 +38,15 @@ take_rest n bytes =
     let left : length (drop n bytes) ≡ length bytes - n = length-drop n bytes in
     take_all (length bytes - n) (drop n bytes) (omega arith)
 
--- what stands before the mark and what stands after it
+-- what stands after the mark
+pub past_mark :
+    (mark at : ℕ) (bytes before after : List ℕ) → bytes ≡ before ++ mark ∷ after → at ≡ length before →
+    take (length bytes - (at + 1)) (drop (at + 1) bytes) ≡ after
+past_mark mark at bytes before after is place =
+    take_rest (at + 1) bytes ∙ ap (λ (n : ℕ). drop (n + 1) bytes) place ∙ ap (drop (length before + 1)) is
+    ∙ drop-append-add before (mark ∷ after) 1
+
+-- and what stands before it
 pub cut_at_mark :
     (mark at : ℕ) (bytes before after : List ℕ) → All (λ byte. byte ≢ mark) before → bytes ≡ before ++ mark ∷ after →
     position (λ byte. byte == mark) bytes ≡ Some at →
@@ -48,8 +56,7 @@ cut_at_mark mark at bytes before after apart is found =
     sym found ∙ ap (position (λ byte. byte == mark)) is ∙ position_of_mark mark before after apart in
     let place : at ≡ length before = cc in (
       ap (λ (n : ℕ). take n bytes) place ∙ ap (take (length before)) is ∙ take-append_seam before (mark ∷ after),
-      take_rest (at + 1) bytes ∙ ap (λ (n : ℕ). drop (n + 1) bytes) place ∙ ap (drop (length before + 1)) is
-          ∙ drop-append-add before (mark ∷ after) 1,
+      past_mark mark at bytes before after is place,
     )
 
 pub not_lost :
@@ -126,11 +133,7 @@ named n entry after =
           (codes " = ") reply after;
     }
 
--- no byte of a number is a space
-pub number_apart : (n : ℕ) → All (λ byte. byte ≢ space) (decimal n)
-number_apart n = apart_from space (decimal n) (lacks-word space (decimal n) refl (decimal_word n))
-
--- nor a full stop
+-- no byte of a number is a full stop
 pub decimal_apart : (n : ℕ) → n < 256 → All (λ byte. byte ≢ 0x2E) (decimal n)
 decimal_apart n small =
     apart_from 0x2E (decimal n) (lacks-decimal 0x2E n (inl (omega arith)) (omega (arith, small)))

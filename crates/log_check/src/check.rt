@@ -42,7 +42,7 @@ fn check_line<'a>(
         board.new.entries fault) }
 {
     let line = board.history().len() + 2;
-    let Some(actor) = processor(rest) else {
+    let Some(actor) = processor(line - 1, rest) else {
         return Err(CheckFault::Differs { line });
     };
     let Some(statement) = front.next(actor) else {

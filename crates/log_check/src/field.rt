@@ -1,7 +1,7 @@
 //! The processor of a line.
 
-ghost use Rattle.std.specs.Prelude.{◌≡◌, ◌≢◌, ◌<◌, ◌++◌, ◌∷◌, [], ◌==◌, ℕ, List, Some, All, IfSome, MatchOption, decimal};
-ghost use Rattle.board_prelude.specs.Common.{position, Entry, line_text};
+ghost use Rattle.std.specs.Prelude.{◌≡◌, ◌≢◌, ◌<◌, ◌++◌, ◌∷◌, [], ◌==◌, ℕ, List, Some, All, IfSome, MatchOption, decimal, length};
+ghost use Rattle.board_prelude.specs.Common.{position, Entry, space, line_text};
 
 /// The place of the first byte that is `mark`.
 fn place_of_mark(mark: u8, bytes: &[u8]) -> Option<usize>
@@ -61,12 +61,54 @@ fn before_stop(bytes: &[u8]) -> Option<u8>
     number(digits)
 }
 
-/// The processor that the first line of a log's rest names: the number between its first space and the next full stop.
-pub(crate) fn processor(rest: &[u8]) -> Option<u8>
-    ensures named { (n : ℕ) (entry : Entry) (after : List ℕ) → entry.actor < 256 → rest.now ≡ line_text n entry ++ after
+/// How many digits a number below 100,000 has.
+fn few_digits(n: u32) -> usize
+    requires below { n < 100_000 }
+    ensures digits { result ≡ length (decimal n) }
+{
+    if n < 10 {
+        return 1;
+    }
+    if n < 100 {
+        return 2;
+    }
+    if n < 1_000 {
+        return 3;
+    }
+    if n < 10_000 {
+        return 4;
+    }
+    5
+}
+
+/// How many digits a number has.
+fn digit_count(n: u32) -> usize
+    ensures digits { result ≡ length (decimal n) }
+{
+    if n < 100_000 {
+        return few_digits(n);
+    }
+    few_digits(n / 100_000) + 5
+}
+
+/// What stands after the number `n` and a space.
+fn past_number(n: u32, bytes: &[u8]) -> Option<&[u8]>
+    ensures past { (after : List ℕ) → bytes.now ≡ decimal n ++ space ∷ after
+        → MatchOption result ⊥ (λ later. later.now ≡ after) }
+{
+    let digits = digit_count(n);
+    if bytes.len() <= digits {
+        return None;
+    }
+    Some(&bytes[digits + 1..])
+}
+
+/// The processor that line `n` of a log names: the number between its first space and the next full stop.
+pub(crate) fn processor(n: u32, rest: &[u8]) -> Option<u8>
+    ensures named { (entry : Entry) (after : List ℕ) → entry.actor < 256 → rest.now ≡ line_text n entry ++ after
         → result ≡ Some entry.actor }
 {
-    let (_, named) = cut(b' ', rest)?;
+    let named = past_number(n, rest)?;
     match single(named) {
         Some(digit) => Some(digit),
         None => before_stop(named),

@@ -41,17 +41,17 @@ impl<'a> Front<'a> {
     }
 
     /// Takes the next statement of a processor. None where it has none left.
-    pub(crate) fn next(&mut self, actor: u8) -> Option<Statement>
+    pub(crate) fn next(&mut self, actor: u8) -> Option<&'a Statement>
         ensures phase { self.new.phase.now ≡ self.old.phase.now }
         ensures taken { MatchOption result (left_of self.old actor ≡ [])
-            (λ statement. (statement.actor ≡ actor)
-            × (left_of self.old actor ≡ statement.event ∷ left_of self.new actor)) }
+            (λ statement. (statement.now.actor ≡ actor)
+            × (left_of self.old actor ≡ statement.now.event ∷ left_of self.new actor)) }
         ensures others { (other : ℕ) → other ≢ actor → left_of self.new other ≡ left_of self.old other }
         ensures in_range { (setup : Setup) → AreInRange setup self.old.phase.now
-            → IfSome result (λ statement. AreInRange setup (statement ∷ [])) }
+            → IfSome result (λ statement. AreInRange setup (statement.now ∷ [])) }
     {
         let place = index_of_next(self.phase, self.places[usize::from(actor)], actor)?;
         self.places[usize::from(actor)] = place + 1;
-        Some(self.phase[place])
+        Some(&self.phase[place])
     }
 }

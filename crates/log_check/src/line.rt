@@ -1,6 +1,6 @@
 //! The next line of a log: what it must be, and what stands after it.
 
-ghost use Rattle.std.specs.Prelude.{◌≡◌, ◌≢◌, ◌++◌, ◌∷◌, [], ℕ, List, string_bytes, OnOk, MatchOption, MatchResult};
+ghost use Rattle.std.specs.Prelude.{◌≡◌, ◌≢◌, ◌++◌, ◌∷◌, [], ℕ, List, string_bytes, OnOk, MatchResult};
 ghost use Rattle.board_prelude.specs.Common.{line_feed, line_text, log_text};
 ghost use Rattle.logs_and_maps.specs.LinesFrom.{entry_with};
 ghost use Rattle.log_check.specs.declared.fault.CheckFault.{CheckFault};
@@ -9,9 +9,6 @@ use crate::fault::CheckFault;
 use board_base::NoMemory;
 use logs_and_maps::{push_heading, push_parts_line};
 use board_spec::{Event, Reply};
-
-/// How many bytes are compared at once.
-const WORD: usize = 8;
 
 /// Puts the heading of a log in place of a text, with its line feed.
 pub(crate) fn print_heading(text: &mut String, version: u8) -> Result<(), NoMemory>
@@ -37,28 +34,11 @@ pub(crate) fn print_line(
     push_parts_line(text, u64::from(n), actor, seq, event, reply)
 }
 
-/// What stands after `front` in bytes that begin with it. None exactly where they do not.
-fn after<'a>(front: &[u8], bytes: &'a [u8]) -> Option<&'a [u8]>
-    ensures cases { MatchOption result ((after : List ℕ) → bytes.now ≢ front.now ++ after)
-        (λ after. bytes.now ≡ front.now ++ after.now) }
-{
-    let mut left = front;
-    let mut rest = bytes;
-    while let Some((word, later)) = left.split_first_chunk::<WORD>() {
-        let (other, further) = rest.split_first_chunk::<WORD>()?;
-        if *word != *other {
-            return None;
-        }
-        left = later;
-        rest = further;
-    }
-    rest.strip_prefix(left)
-}
-
 /// What stands after the line that was printed. Differs at this line exactly where the rest does not begin with it.
 pub(crate) fn go_past<'a>(printed: &str, rest: &'a [u8], line: u32) -> Result<&'a [u8], CheckFault>
     ensures cases { MatchResult result (λ after. rest.now ≡ printed.now ++ after.now)
         (λ fault. (fault ≡ CheckFault.Differs line) × ((after : List ℕ) → rest.now ≢ printed.now ++ after)) }
 {
-    after(printed.as_bytes(), rest).ok_or(CheckFault::Differs { line })
+    rest.strip_prefix(printed.as_bytes())
+        .ok_or(CheckFault::Differs { line })
 }

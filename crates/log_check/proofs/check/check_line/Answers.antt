@@ -8,22 +8,29 @@ use Rattle.log_check.proofs.check.check_line.Goals as goal
 
 pub returns-in_default-clause-walked : goal.returns-in_default-clause-walked
 returns-in_default-clause-walked c = λ place within past short.
+    let number : c.len-line.result + 2 - 1 ≡ length c.args.board.now.entries + 1 =
+    omega (arith, c.len-line.ensures.length, ap (λ history. length history.entries) c.history.ensures.history) in
     stops_unnamed c.args.board.now.setup place c.args.front.now.phase.now (left_of c.args.front.now)
     c.args.board.now.entries c.args.rest.now (c.len-line.result + 2)
     (walking c.history.ensures.legal c.requires.typed within past short)
-    (λ n entry after small text.
-    let lost : None ≡ Some entry.actor = sym c.in_default.is ∙ c.processor.ensures.named n entry after small text in
+    (λ entry after small text.
+    let lost : None ≡ Some entry.actor =
+    sym c.in_default.is ∙ c.processor.ensures.named entry after small
+    (text ∙ ap (λ (n : ℕ). line_text n entry ++ after) (sym number)) in
     cc)
     (ap (λ (n : ℕ). n + 2)
     (c.len-line.ensures.length ∙ ap (λ history. length history.entries) c.history.ensures.history))
 
 pub returns-in_default-next-clause-walked : goal.returns-in_default-next-clause-walked
 returns-in_default-next-clause-walked c = λ place within past short.
+    let number : c.len-line.result + 2 - 1 ≡ length c.args.board.now.entries + 1 =
+    omega (arith, c.len-line.ensures.length, ap (λ history. length history.entries) c.history.ensures.history) in
     stops_idle c.args.board.now.setup place c.args.front.now.phase.now (left_of c.args.front.now)
     c.args.board.now.entries c.args.rest.now (c.len-line.result + 2) c.in-Some.actor
     (walking c.history.ensures.legal c.requires.typed within past short)
-    (λ n entry after small text.
-    let same : Some c.in-Some.actor ≡ Some entry.actor = c.in-Some.ensures.named n entry after small text in
+    (λ entry after small text.
+    let same : Some c.in-Some.actor ≡ Some entry.actor =
+    c.in-Some.ensures.named entry after small (text ∙ ap (λ (n : ℕ). line_text n entry ++ after) (sym number)) in
     cc)
     c.in_default-next.ensures.taken
     (ap (λ (n : ℕ). n + 2)
@@ -31,14 +38,14 @@ returns-in_default-next-clause-walked c = λ place within past short.
 
 pub step-reply-requires-clause-in_range : goal.step-reply-requires-clause-in_range
 step-reply-requires-clause-in_range c =
-    All-head (λ (statement : Statement). IsInRange c.args.board.now.setup statement.event) c.in-Some-next.statement []
+    All-head (λ (statement : Statement). IsInRange c.args.board.now.setup statement.event) c.in-Some-next.statement.now []
     (c.in-Some-next.ensures.in_range c.args.board.now.setup c.requires.in_range)
 
 pub returns-in_err-print_line-clause-walked : goal.returns-in_err-print_line-clause-walked
 returns-in_err-print_line-clause-walked c = λ place within past short.
     let taken = c.in-Some-next.ensures.taken in
     let entry : Entry =
-    next_entry c.args.board.now.entries c.in-Some-next.statement.actor c.in-Some-next.statement.event c.step-reply.result in
+    next_entry c.args.board.now.entries c.in-Some-next.statement.now.actor c.in-Some-next.statement.now.event c.step-reply.result in
     let grown : c.step-reply.new.self.entries ≡ entry ∷ c.args.board.now.entries =
     ap (λ board. board.entries) c.step-reply.ensures.entry in
     let stopped =
@@ -56,7 +63,7 @@ pub returns-clause-walked : goal.returns-clause-walked
 returns-clause-walked c = λ place within past short.
     let taken = c.in-Some-next.ensures.taken in
     let entry : Entry =
-    next_entry c.args.board.now.entries c.in-Some-next.statement.actor c.in-Some-next.statement.event c.step-reply.result in
+    next_entry c.args.board.now.entries c.in-Some-next.statement.now.actor c.in-Some-next.statement.now.event c.step-reply.result in
     let grown : c.step-reply.new.self.entries ≡ entry ∷ c.args.board.now.entries =
     ap (λ board. board.entries) c.step-reply.ensures.entry in
     let last : c.last_of-seq.result ≡ entry.seq =
@@ -71,8 +78,10 @@ returns-clause-walked c = λ place within past short.
     (walking c.history.ensures.legal c.requires.typed within past short)
     (made c.in-Some.actor entry (record { number = refl; answer = c.step-reply.ensures.answer }) taken.0 taken.1
     c.next.ensures.others)
-    (λ n other remaining small text.
-    let same : Some c.in-Some.actor ≡ Some other.actor = c.in-Some.ensures.named n other remaining small text in
+    (λ other remaining small text.
+    let same : Some c.in-Some.actor ≡ Some other.actor =
+    c.in-Some.ensures.named other remaining small
+    (text ∙ ap (λ (n : ℕ). line_text n other ++ remaining) (sym number)) in
     let actor : c.in-Some.actor ≡ other.actor = cc in
     taken.0 ∙ actor)
     (c.deref.ensures ∙ c.in_ok-print_line.ensures.printed

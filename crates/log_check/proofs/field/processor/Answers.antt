@@ -1,26 +1,26 @@
 use Rattle.std.proofs.Common.{Some, sym, ap, ◌∙◌}
-use Rattle.log_check.proofs.TextCuts.{named, number_apart}
+use Rattle.log_check.proofs.TextCuts.{named}
 use Rattle.log_check.proofs.field.processor.Goals as goal
 
 pub returns-in_err-named : goal.returns-in_err-named
 returns-in_err-named c = record {
-  named = λ n entry after small is.
-      let parts = named n entry after in
-      absurd (c.in_err-named.ensures.parts _ _ (number_apart n) (is ∙ parts.is));
+  named = λ entry after small is.
+      let parts = named c.args.n entry after in
+      absurd (c.in_err-named.ensures.past _ (is ∙ parts.is));
 }
 
 pub returns-in-Some : goal.returns-in-Some
 returns-in-Some c = record {
-  named = λ n entry after small is.
-      let parts = named n entry after in
-      let cut = c.in_ok-named.ensures.parts _ _ (number_apart n) (is ∙ parts.is) in
-      ap Some (sym (c.in-Some.ensures.single entry.actor parts.later small cut.1));
+  named = λ entry after small is.
+      let parts = named c.args.n entry after in
+      let cut = c.in_ok-named.ensures.past _ (is ∙ parts.is) in
+      ap Some (sym (c.in-Some.ensures.single entry.actor parts.later small cut));
 }
 
 pub returns-in-None : goal.returns-in-None
 returns-in-None c = record {
-  named = λ n entry after small is.
-      let parts = named n entry after in
-      let cut = c.in_ok-named.ensures.parts _ _ (number_apart n) (is ∙ parts.is) in
-      c.before_stop.ensures.number entry.actor parts.later small cut.1;
+  named = λ entry after small is.
+      let parts = named c.args.n entry after in
+      let cut = c.in_ok-named.ensures.past _ (is ∙ parts.is) in
+      c.before_stop.ensures.number entry.actor parts.later small cut;
 }

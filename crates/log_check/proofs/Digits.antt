@@ -1,0 +1,41 @@
+-- How many digits a number has.
+use Rattle.std.proofs.Common.{ℕ, ◌≡◌, ◌+◌, ◌/◌, ◌%◌, ◌^◌, ◌<◌, ◌≤◌, [], ◌∷◌, length, ap, ◌∙◌, length-append, arith, decimal}
+use Rattle.std.proofs.lemmas.Fmt.{decimal_digit, decimal_step}
+
+pub one_digit : (n : ℕ) → n < 10 → length (decimal n) ≡ 1
+one_digit n below = ap length (decimal_digit n below)
+
+one_more : (n : ℕ) → 10 ≤ n → n < 2 ^ 64 → length (decimal n) ≡ length (decimal (n / 10)) + 1
+one_more n large fits =
+    ap length (decimal_step n large fits) ∙ length-append (decimal (n / 10)) ((48 + n % 10) ∷ [])
+
+pub two_digits : (n : ℕ) → 10 ≤ n → n < 100 → length (decimal n) ≡ 2
+two_digits n large below =
+    one_more n large (omega (arith, below))
+    ∙ ap (λ (k : ℕ). k + 1) (one_digit (n / 10) (omega (arith, below)))
+
+pub three_digits : (n : ℕ) → 100 ≤ n → n < 1000 → length (decimal n) ≡ 3
+three_digits n large below =
+    one_more n (omega (arith, large)) (omega (arith, below))
+    ∙ ap (λ (k : ℕ). k + 1) (two_digits (n / 10) (omega (arith, large)) (omega (arith, below)))
+
+pub four_digits : (n : ℕ) → 1000 ≤ n → n < 10000 → length (decimal n) ≡ 4
+four_digits n large below =
+    one_more n (omega (arith, large)) (omega (arith, below))
+    ∙ ap (λ (k : ℕ). k + 1) (three_digits (n / 10) (omega (arith, large)) (omega (arith, below)))
+
+pub five_digits : (n : ℕ) → 10000 ≤ n → n < 100000 → length (decimal n) ≡ 5
+five_digits n large below =
+    one_more n (omega (arith, large)) (omega (arith, below))
+    ∙ ap (λ (k : ℕ). k + 1) (four_digits (n / 10) (omega (arith, large)) (omega (arith, below)))
+
+-- without its last five a number has five digits less
+pub five_more : (n : ℕ) → 100000 ≤ n → n < 2 ^ 64 → length (decimal n) ≡ length (decimal (n / 100000)) + 5
+five_more n large fits =
+    let one = one_more n (omega (arith, large)) fits in
+    let two = one_more (n / 10) (omega (arith, large)) (omega (arith, fits)) in
+    let three = one_more (n / 10 / 10) (omega (arith, large)) (omega (arith, fits)) in
+    let four = one_more (n / 10 / 10 / 10) (omega (arith, large)) (omega (arith, fits)) in
+    let five = one_more (n / 10 / 10 / 10 / 10) (omega (arith, large)) (omega (arith, fits)) in
+    let whole : n / 10 / 10 / 10 / 10 / 10 ≡ n / 100000 = omega arith in
+    omega (arith, one, two, three, four, five, ap (λ (k : ℕ). length (decimal k)) whole)
