@@ -1,20 +1,8 @@
 //! The numbers of a line, and the records that they are.
 
 use board_records::{BaseRecord, CardRecord, EventRecord};
+use call_words::long;
 use std::alloc::{AllocError, Global};
-
-/// The number that hexadecimal digits say, modulo 2^64.
-fn number(digits: &[u8]) -> u64 {
-    let mut number = 0u64;
-    for digit in digits {
-        let value = match *digit {
-            b'A'..=b'F' => *digit - b'A' + 10,
-            _ => digit.wrapping_sub(b'0'),
-        };
-        number = number.wrapping_mul(16).wrapping_add(u64::from(value));
-    }
-    number
-}
 
 /// The numbers after the first word of a line.
 #[derive(Drop)]
@@ -27,7 +15,7 @@ impl Numbers {
     pub fn of(alloc: Global, line: &str) -> Result<Numbers, AllocError> {
         let mut all = Vec::new(alloc);
         for word in line.split(' ').skip(1) {
-            all.push(number(word.as_bytes()))?;
+            all.push(long(word))?;
         }
         Ok(Numbers { all })
     }

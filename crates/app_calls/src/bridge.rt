@@ -215,11 +215,7 @@ pub fn tell_pmc(steps: &[&str], text: &mut String) -> Result<(), NoMemory> {
 /// Eight boundaries, one a byte.
 fn boundaries_of(alloc: Global, digits: &str) -> Result<[u8; ROW_COUNT], AllocError> {
     let bytes = bytes_of(alloc, digits)?;
-    let mut drb = [0; ROW_COUNT];
-    for (boundary, byte) in drb.iter_mut().zip(&bytes) {
-        *boundary = *byte;
-    }
-    Ok(drb)
+    Ok(bytes.first_chunk().copied().unwrap_or([0; ROW_COUNT]))
 }
 
 /// The rows of addresses by eight boundaries.

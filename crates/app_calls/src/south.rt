@@ -37,9 +37,10 @@ pub fn tell_elcr(steps: &[&str], text: &mut String) -> Result<(), NoMemory> {
 
 /// The levels that digits say.
 fn levels_of(pins: &str) -> [bool; 4] {
+    let digits = pins.as_bytes();
     let mut levels = [false; 4];
-    for (level, digit) in levels.iter_mut().zip(pins.as_bytes()) {
-        *level = *digit == b'1';
+    for pin in 0..digits.len().min(4) {
+        levels[pin] = digits[pin] == b'1';
     }
     levels
 }

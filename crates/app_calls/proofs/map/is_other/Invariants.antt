@@ -1,4 +1,4 @@
-use Rattle.app_parts.proofs.map.is_other.Given as goal
+use Rattle.app_calls.proofs.map.is_other.Given as goal
 
 abbrev pub ghosts-counted : goal.ghosts-counted
 ghosts-counted a = record { name = a.blank.name; parts = a.blank.parts }

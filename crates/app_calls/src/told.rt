@@ -46,3 +46,16 @@ pub fn push_register(
 ) -> Result<(), AllocError> {
     write!(text, "{off:02X}={before:02X},{ones:02X},{anew:02X} ")
 }
+
+/// Appends the digits of a number, and a space.
+pub fn push_number(text: &mut String, number: u32) -> Result<(), AllocError> {
+    write!(text, "{number:X} ")
+}
+
+/// Appends a byte that was sent, if one was, and a space.
+pub fn push_sent(text: &mut String, sent: Option<u8>) -> Result<(), AllocError> {
+    match sent {
+        Some(byte) => write!(text, "sent:{byte:02X} "),
+        None => text.push_str("- "),
+    }
+}

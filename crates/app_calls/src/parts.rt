@@ -1,25 +1,8 @@
-//! The parts of the board by themselves, each call a line of standard input: a word for the part, and what it is given. Each
-//! line is told with what it answers. `#` begins a comment, which is told as it is.
-#![tactic(auto)]
+//! Which part of the board a call asks, by its word.
 
-mod bridge;
-mod disk_state;
-mod map;
-mod media;
-mod pair;
-mod plain;
-mod south;
-mod stretches;
-mod timer;
-mod told;
-
+use crate::{bridge, disk_state, map, media, pair, plain, south, stretches, timer};
 use board_base::NoMemory;
 use std::alloc::Global;
-use std::io::Write;
-use std::process::ExitCode;
-
-/// The exit code for want of memory or of input.
-const FAILED: u8 = 8;
 
 /// The word at a place; the empty word where there is none.
 fn word<'a>(words: &[&'a str], at: usize) -> &'a str {
@@ -114,7 +97,12 @@ fn answer_of_words(
 }
 
 /// Does what a call asks of a part of the board, and appends the answer.
-fn answer(alloc: Global, call: &str, words: &[&str], text: &mut String) -> Result<(), NoMemory> {
+pub fn answer(
+    alloc: Global,
+    call: &str,
+    words: &[&str],
+    text: &mut String,
+) -> Result<(), NoMemory> {
     match call {
         "timer" => timer::tell(words, text),
         "timer-runs" => timer::tell_runs(text),
@@ -124,37 +112,4 @@ fn answer(alloc: Global, call: &str, words: &[&str], text: &mut String) -> Resul
         "disk-load" => disk_state::tell_load(alloc, word(words, 0), word(words, 1), text),
         _ => answer_of_words(alloc, call, words, text),
     }
-}
-
-/// What a line answers.
-fn answered(alloc: Global, line: &str) -> Result<String, NoMemory> {
-    let words: Vec<&str> = line.split(' ').collect(alloc)?;
-    let mut text = String::new(alloc);
-    if let Some((call, words)) = words.split_first() {
-        answer(alloc, call, words, &mut text)?;
-    }
-    Ok(text)
-}
-
-/// Tells a line and its answer.
-fn tell<W: Write>(alloc: Global, out: &mut W, line: &str) -> Result<(), NoMemory> {
-    if line.starts_with('#') {
-        let _ = writeln!(out, "{line}");
-        return Ok(());
-    }
-    let text = answered(alloc, line)?;
-    let _ = writeln!(out, "{line}: {}", text.as_str());
-    Ok(())
-}
-
-fn main(rt: HostRuntime) -> ExitCode {
-    for line in rt.lines(rt.alloc()) {
-        let Ok(line) = line else {
-            return ExitCode::from(FAILED);
-        };
-        if tell(rt.alloc(), &mut rt.stdout(), line.as_str()).is_err() {
-            return ExitCode::from(FAILED);
-        }
-    }
-    ExitCode::from(0)
 }
