@@ -14,7 +14,9 @@ ghost use Rattle.board_records.specs.Steps.{IsAskedStep, after_step};
 use crate::asked::asked_of;
 use crate::event::{EventRecord, cycle_of, look_of, port_of, wide_of};
 use crate::numbers::{LOOK_EVENT, MEMORY_EVENT, PORT_EVENT};
-use crate::reply::{AfterStep, ReplyRecord, tell, tell_cycle, tell_look, tell_parts_of, tell_uart};
+use crate::reply::{
+    AfterStep, ReplyRecord, tell, tell_cycle, tell_look, tell_memory, tell_parts_of, tell_uart,
+};
 use crate::status::{NO_EVENT, OK, SERIAL_FULL, fault_status};
 use board_base::{Access, Kind, PortAccess, WideAccess};
 use board_chipset::{Chipset, ResetKind, test_memory, test_port};
@@ -142,7 +144,7 @@ fn memory_access(serial: &mut SerialBoard<Chipset>, access: &Access, reply: &mut
     ensures done { IsAskedStep serial.old serial.new reply.new (Happens (Memory access.now)) }
 {
     let said = serial.memory(access);
-    tell_cycle(reply, serial, ResetKind::None, &said);
+    tell_memory(reply, serial, &said);
 }
 
 /// Does an access at a port. Refused with why where it is out of range.

@@ -2,7 +2,7 @@
 
 ghost use Rattle.std.specs.Prelude.{◌≡◌, List, Some};
 ghost use Rattle.board_base.specs.declared.target.Denial.TheVariants.{Register};
-ghost use Rattle.board_prelude.specs.Common.{Entry};
+ghost use Rattle.board_prelude.specs.Common.{Dram, Entry};
 ghost use Rattle.board_chipset.specs.Common.{IsLeftBy as IsChipsetLeftBy};
 ghost use Rattle.board_chipset.specs.declared.reset_control.ResetKind.TheVariants.{None as NoReset};
 ghost use Rattle.board_records.specs.Numbers.{device_number, reset_number};
@@ -140,6 +140,54 @@ pub(crate) fn tell_cycle(
 {
     tell_answer(told, reply);
     tell_beside(told, serial, reset);
+}
+
+/// Tells a reply to an access to memory, as `tell_cycle` does after a step that made no reset. One of DRAM goes a way of its
+/// own, on which nothing is asked of the target again.
+#[inline(always)]
+pub(crate) fn tell_memory(told: &mut ReplyRecord, serial: &SerialBoard<Chipset>, reply: &BusReply)
+    ensures said { (history : List Entry) → IsChipsetLeftBy serial.now.board history
+        → told.new ≡ bus_said reply.now.value reply.now.target reply.now.denial
+        (after_step serial.now.board.setup history NoReset serial.now.com1) }
+{
+    match reply.target {
+        Target::Dram(row) => tell_dram(told, serial, row, reply.value, reply.denial),
+        _ => tell_cycle(told, serial, ResetKind::None, reply),
+    }
+}
+
+/// Tells a reply that a row of DRAM gave.
+#[inline(always)]
+fn tell_dram(
+    told: &mut ReplyRecord,
+    serial: &SerialBoard<Chipset>,
+    row: u8,
+    value: Option<u32>,
+    denial: Option<Denial>,
+)
+    ensures said { (history : List Entry) → IsChipsetLeftBy serial.now.board history
+        → told.new ≡ bus_said value (Dram row) denial
+        (after_step serial.now.board.setup history NoReset serial.now.com1) }
+{
+    let target = Target::Dram(row);
+    match denial {
+        None => {
+            let undenied = BusReply {
+                value,
+                target,
+                denial: None,
+            };
+            tell_cycle(told, serial, ResetKind::None, &undenied);
+        }
+        Some(_) => {
+            let denied = BusReply {
+                value,
+                target,
+                denial,
+            };
+            tell_cycle(told, serial, ResetKind::None, &denied);
+        }
+    }
 }
 
 /// Tells a reply to one bus cycle, and leaves what else the record has.

@@ -167,7 +167,7 @@ impl Uart {
     pub fn irq(&self) -> bool
         ensures level { result ≡ is_interrupting self.now }
     {
-        self.pending().is_some() && is_set(self.mcr.into(), OUT2)
+        is_set(self.mcr.into(), OUT2) && self.pending().is_some()
     }
 
     /// What reads of the registers would give, of which none was made: nothing is taken or cleared.

@@ -23,7 +23,7 @@ returns c =
               com1 = step.com1;
               goes_on = gone;
               told =
-                  c.tell_cycle.ensures.said gone.after gone.left_at.left
+                  c.tell_memory.ensures.said gone.after gone.left_at.left
                   ∙ bus_told said.value said.target said.denial (after_step new.board.setup gone.after NoReset new.com1)
                   ∙ ap (serial_said (OfBoard (reply_of said)))
                   (ap (λ setup. after_step setup gone.after NoReset new.com1) step.setup);
