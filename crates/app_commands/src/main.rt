@@ -9,6 +9,7 @@
 //!     no-room                a command line for whose words there is no memory
 //!     text WORDS             a text or a line by itself (`texts`)
 //!     memory STEP            a command over files in memory, or what makes these (`in_memory`)
+//!     two-callers            a board that two callers share, and what stands in its history
 //!
 //! Of a command line the characters `~`, `^`, `!` and `?` stand for the bytes FFh, C3h, A9h and 80h. `#` begins a comment, which
 //! is told as it is. At last comes the command of this program's own words, as `board` does it.
@@ -23,6 +24,7 @@ mod made;
 mod shaken;
 mod texts;
 mod turn;
+mod two_callers;
 
 use crate::lines::{Bytes, NoRoom, Row, given_by};
 use crate::shaken::{Shaken, ShakenFolder};
@@ -198,6 +200,7 @@ where
         "text" => write_text(told, rt.alloc(), rest),
         "given" => tell_given(rt, told, line, false),
         "unread" => tell_given(rt, told, line, true),
+        "two-callers" => two_callers::tell(rt, told),
         "no-room" => {
             show(rt, told, &NoRoom);
             Ok(())

@@ -1,6 +1,5 @@
 //! Two callers share a board, and what is refused for want of memory is asked for once more. So whichever allocation
-//! is refused, this program writes the same: `tests/each-failure` refuses each in turn.
-#![tactic(auto)]
+//! is refused, the same is told: `tests/each-failure` refuses each in turn.
 
 ghost use Rattle.std.specs.Prelude.{◌≡◌, ◌+◌, ◌<◌, ◌≤◌, [], length, All, IfOk};
 ghost use Rattle.board_prelude.specs.Common.{Setup as Fitting, IsInRange};
@@ -11,13 +10,9 @@ use board_core::{Board, BoardOpen, Setup};
 use board_live::{Cpu, Live, LiveOpen};
 use board_spec::Event;
 use std::alloc::Global;
-use std::io;
-use std::process::ExitCode;
+use std::io::Write;
 use std::sync::Wait;
 use std::thread::{Threads, for_each_mut};
-
-/// The exit code for want of memory.
-const NO_MEMORY: u8 = 8;
 
 /// Selects the registers 58h to 5Bh of the host bridge.
 fn select() -> Event
@@ -130,22 +125,16 @@ fn shared<R: Threads + Wait + Sync>(rt: &R, alloc: Global) -> Result<Board, NoMe
     Ok(live.close(rt, cpus))
 }
 
-/// Writes the version of the map and each entry.
-fn tell(rt: &HostRuntime, board: &Board) -> io::Result<()> {
-    println!(rt; "version {}", board.map().version())?;
+/// Tells the version of the map and each entry of the board that two callers shared.
+pub fn tell<R: AllocGlobal + Threads + Wait + Sync, W: Write>(
+    rt: &R,
+    told: &mut W,
+) -> Result<(), NoMemory> {
+    let board = shared(rt, rt.alloc())?;
+    let _ = writeln!(told, "version {}", board.map().version());
     let entries = board.history().entries();
-    for i in 0..entries.len() {
-        println!(rt; "{:?}", entries.entry(i))?;
+    for index in 0..entries.len() {
+        let _ = writeln!(told, "{:?}", entries.entry(index));
     }
     Ok(())
-}
-
-fn main(rt: HostRuntime) -> io::Result<ExitCode> {
-    match shared(&rt, rt.alloc()) {
-        Ok(board) => {
-            tell(&rt, &board)?;
-            Ok(ExitCode::SUCCESS)
-        }
-        Err(NoMemory) => Ok(ExitCode::from(NO_MEMORY)),
-    }
 }
