@@ -5,3 +5,4 @@ pub mod SmramLemmas
 pub mod TransferLemmas
 pub mod AreaLemmas
 pub mod WayLemmas
+pub mod PieceLemmas

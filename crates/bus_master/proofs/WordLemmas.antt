@@ -10,6 +10,7 @@ use Rattle.bus_master.specs.declared.direction.Direction.{Direction}
 use Rattle.bus_master.specs.declared.direction.Direction.TheVariants.{ToMemory, ToDisk}
 use Rattle.bus_master.specs.Common.{Cells, put_in, Moving, TransferPlace, ◌and_then◌, abort_in, address_after, answered, is_used_up, kind_of, master_target, master_value, medium_of, moved_on, next_moved, next_sector, next_word, ready_for, region_found, sector_tested, table_tested, with_medium, word_moved, words_moved, cells_of, HasSameShape, IsCell, CameOn, HasSector, StandsAt}
 use Rattle.board_chipset.specs.Stores.{IsStoreOf}
+use Rattle.bus_master.specs.Pieces.{is_missing}
 use Rattle.bus_master.proofs.HeldTargets.{master_value_same}
 use Rattle.bus_master.proofs.StepLemmas.{stands_skipped, stands_taken, taken, skipped, answered_stands, table_goes_on, sector_within, region_in_use}
 
@@ -136,14 +137,14 @@ module _ (setup : Setup) (bytes : Bytes) (direction : Direction) (lba : ℕ) whe
         skipped moving (word_moved setup bytes direction lba) end is,
       ) refl
 
-  words_stay : (words : ℕ) (moving : Moving) (end : End) → Some end ≡ moving.end →
+  pub words_stay : (words : ℕ) (moving : Moving) (end : End) → Some end ≡ moving.end →
       words_moved setup bytes direction lba words moving ≡ moving
   unfolding words_moved
   words_stay zero moving end is = refl
   words_stay (suc words) moving end is =
       ap (next_moved setup bytes direction lba) (words_stay words moving end is) ∙ stays moving end is
 
-  words_add : (more words : ℕ) (moving : Moving) →
+  pub words_add : (more words : ℕ) (moving : Moving) →
       words_moved setup bytes direction lba (more + words) moving
       ≡ words_moved setup bytes direction lba more (words_moved setup bytes direction lba words moving)
   unfolding words_moved
@@ -248,15 +249,15 @@ module _ (setup : Setup) (bytes : Bytes) (direction : Direction) (lba : ℕ) whe
     abbrev here : Moving
     here = record { cells = cells; medium = medium; place = place; end = None }
 
-    table_left : is_used_up place ≡ false → table_tested here ≡ here
+    pub table_left : is_used_up place ≡ false → table_tested here ≡ here
     unfolding table_tested
     table_left left = rw left refl
 
-    sector_left : (next_word place == 0) ≡ false → sector_tested lba here ≡ here
+    pub sector_left : is_missing lba place medium ≡ false → sector_tested lba here ≡ here
     unfolding sector_tested
-    sector_left within = rw within refl
+    sector_left there = rw there refl
 
-    region_left : is_used_up place ≡ false → region_found setup bytes here ≡ here
+    pub region_left : is_used_up place ≡ false → region_found setup bytes here ≡ here
     unfolding region_found
     region_left left = rw left refl
 
@@ -266,13 +267,13 @@ module _ (setup : Setup) (bytes : Bytes) (direction : Direction) (lba : ℕ) whe
     unfolding answered
     answer_left answers = ap (λ (end : Option End). record here { end = end }) (sym answers)
 
-    next_word_is : is_used_up place ≡ false → (next_word place == 0) ≡ false →
+    pub next_word_is : is_used_up place ≡ false → is_missing lba place medium ≡ false →
         None ≡ abort_in (master_area setup bytes place.addr (kind_of direction)) place.addr
         (master_denial setup bytes place.addr (kind_of direction)) →
         next_moved setup bytes direction lba here ≡ word_moved setup bytes direction lba here
     unfolding next_moved ready_for
-    next_word_is left within answers =
-        rw (table_left left, sector_left within, region_left left, answer_left answers) refl
+    next_word_is left there answers =
+        rw (table_left left, sector_left there, region_left left, answer_left answers) refl
 
   module _ {store : Store} {place : TransferPlace} (moving : Moving) (is : StandsAt moving store place None) where
     -- within a stretch nothing comes before a word
@@ -284,8 +285,8 @@ module _ (setup : Setup) (bytes : Bytes) (direction : Direction) (lba : ℕ) whe
         subst (λ (m : Moving). next_moved setup bytes direction lba m ≡ word_moved setup bytes direction lba m)
         (moving_is is)
         (next_word_is moving.cells (medium_of store.disk) place (ne_eqb place.left 0 left)
-        (ne_eqb (place.moved % 512 / 2) 0
-        (λ (e : place.moved % 512 / 2 ≡ 0). within (omega (arith, e, whole)))) answers)
+        (and_left _ _ (ne_eqb (place.moved % 512 / 2) 0
+        (λ (e : place.moved % 512 / 2 ≡ 0). within (omega (arith, e, whole))))) answers)
 
   -- the first word of a stretch, where all before it went well
   first_in_stretch : {store : Store} {place : TransferPlace} (moving : Moving) → StandsAt (reached_by moving) store place None →

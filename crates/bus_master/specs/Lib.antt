@@ -3,4 +3,5 @@ pub mod Cells
 pub mod Transfer
 pub mod Stores
 pub mod UnderWay
+pub mod Pieces
 pub mod Common

@@ -4,9 +4,13 @@
 mod direction;
 mod done;
 mod memory;
+mod piece;
+mod pieces;
 mod registers;
 mod transfer;
 mod under_way;
 
 pub use done::{Done, End};
+pub use piece::{Piece, Stretch};
+pub use pieces::{Transfer, law_pieces};
 pub use registers::{BusMaster, COMMAND, DIRECTION, START, STATUS, TABLE};

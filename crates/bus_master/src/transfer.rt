@@ -16,7 +16,7 @@ use board_chipset::Store;
 use board_spec::bits::is_set;
 
 /// How many words a sector has.
-const SECTOR_WORDS: u32 = 256;
+pub(crate) const SECTOR_WORDS: u32 = 256;
 
 impl BusMaster {
     /// Moves `count` sectors, 1 to 256, from `lba` on, which is below 2^28, between the disk and the regions of the
@@ -63,7 +63,7 @@ impl BusMaster {
     }
 
     /// The direction that the command gives.
-    fn direction(&self) -> Direction
+    pub(crate) fn direction(&self) -> Direction
         ensures direction { result ≡ direction_of self.now }
     {
         if is_set(self.command.into(), DIRECTION) {
@@ -74,7 +74,7 @@ impl BusMaster {
     }
 
     /// Clears start, shows in the status how the transfer ended, and moves the table pointer.
-    fn end_transfer(&mut self, end: End, table: u32)
+    pub(crate) fn end_transfer(&mut self, end: End, table: u32)
         requires aligned { table % 4 ≡ 0 }
         ensures ended { (moving : Moving) → end_of moving ≡ end → moving.place.table ≡ table
             → self.new ≡ master_after self.old moving }

@@ -25,15 +25,15 @@ use board_spec::range::SMRAM_RANGE;
 use std::marker::Model;
 
 /// How many bytes a sector has.
-const SECTOR_BYTES: u32 = 512;
+pub(crate) const SECTOR_BYTES: u32 = 512;
 /// How many bytes a word has.
-const WORD_BYTES: u32 = 2;
+pub(crate) const WORD_BYTES: u32 = 2;
 /// How many values a word can have.
 const WORD_VALUES: u32 = 0x1_0000;
 /// How many bytes a descriptor has: a doubleword for the base of a region, and one for its count.
 const DESCRIPTOR_BYTES: u32 = 8;
 /// Where the count stands in a descriptor.
-const COUNT_OFFSET: u32 = 4;
+pub(crate) const COUNT_OFFSET: u32 = 4;
 /// The bit of the count's doubleword that marks the last descriptor of a table.
 const END_OF_TABLE: u32 = 31;
 /// The bytes of a region whose count is 0.
@@ -43,15 +43,15 @@ const LARGEST_REGION: u32 = 0x1_0000;
 #[derive(Drop)]
 pub(crate) struct UnderWay {
     /// The address of the next descriptor.
-    table: u32,
+    pub(crate) table: u32,
     /// Where the region in use goes on.
-    addr: u32,
+    pub(crate) addr: u32,
     /// How many bytes it has left.
-    left: u32,
+    pub(crate) left: u32,
     /// Whether it is the last of the table.
-    is_last: bool,
+    pub(crate) is_last: bool,
     /// How many bytes were moved.
-    moved: u32,
+    pub(crate) moved: u32,
 }
 
 impl Model for UnderWay {
@@ -78,7 +78,7 @@ impl Model for UnderWay {
 }
 
 /// The area that an access of the bus master reaches. Refused with Abort where nobody answers.
-fn answering(regs: &MapRegs, addr: u32, kind: Kind) -> Result<Area, End>
+pub(crate) fn answering(regs: &MapRegs, addr: u32, kind: Kind) -> Result<Area, End>
     requires cards { AreFitted regs.now.cards.items }
     ensures area { (setup : Setup) (bytes : Bytes) → StandsFor setup bytes (map_bytes regs.now)
         → IfOk result (λ area. area ≡ master_area setup bytes addr kind) }
@@ -139,14 +139,14 @@ impl UnderWay {
     }
 
     /// Whether the last region is used up.
-    fn is_over(&self) -> bool
+    pub(crate) fn is_over(&self) -> bool
         ensures over { result ≡ (is_used_up self.now && self.now.is_last) }
     {
         self.left == 0 && self.is_last
     }
 
     /// How a transfer ends that has moved all its words.
-    fn end(&self) -> End
+    pub(crate) fn end(&self) -> End
         ensures end { result ≡ (if is_used_up self.now && self.now.is_last then End.Exact else End.Longer) }
     {
         if self.is_over() {
@@ -295,7 +295,7 @@ impl UnderWay {
     }
 
     /// Goes on in the region of a descriptor.
-    fn take_region(&mut self, base: u32, count: u32)
+    pub(crate) fn take_region(&mut self, base: u32, count: u32)
         ensures taken { self.new ≡ with_region base count self.old }
     {
         self.table = self.table.wrapping_add(DESCRIPTOR_BYTES);
@@ -305,7 +305,7 @@ impl UnderWay {
     }
 
     /// How many of the next words, at most `most`, lie in one sector, one region and one area.
-    fn stretch(&self, regs: &MapRegs, direction: Direction, most: u32) -> u32
+    pub(crate) fn stretch(&self, regs: &MapRegs, direction: Direction, most: u32) -> u32
         requires most { 1 ≤ most }
         requires left { self.now.left ≢ 0 }
         requires cards { AreFitted regs.now.cards.items }
