@@ -9,6 +9,7 @@ use byte_fields::MEMORY_PAGE;
 
 /// What tells a page of zeros, and what stands before any other.
 const ZEROS: [u8; 1] = [0];
+
 const BYTES: [u8; 1] = [1];
 
 /// Whether all bytes of the page are zeros.

@@ -1,4 +1,4 @@
-use Rattle.std.proofs.Common.{◌∙◌, ◌%◌, ◌*◌, ap, length, arith, refl, drop}
+use Rattle.std.proofs.Common.{◌%◌, ◌*◌, ap, length, arith, refl, drop}
 use Rattle.board_prelude.proofs.Common.{length-take}
 use Rattle.state_room.proofs.Pages.{kept_page}
 use Rattle.byte_fields.specs.Pages.{memory_page}

@@ -1,4 +1,4 @@
-use Rattle.std.proofs.Common.{◌+◌, ◌*◌, ◌∙◌, ap, sym, take, length, arith}
+use Rattle.std.proofs.Common.{◌+◌, ◌*◌, take, length, arith}
 use Rattle.byte_fields.specs.Pages.{memory_page, memory_bytes}
 use Rattle.state_room.specs.Room.{page_of}
 use Rattle.state_room.proofs.Puts.{put_length, put_none, put_then}

@@ -1,4 +1,4 @@
-use Rattle.std.proofs.Common.{◌∙◌, ap, take, length, bytes_eq}
+use Rattle.std.proofs.Common.{◌∙◌}
 use Rattle.state_room.proofs.Pages.{zero_page}
 use Rattle.state_room.proofs.page.is_zero.Goals as goal
 

@@ -1,4 +1,4 @@
-use Rattle.std.proofs.Common.{◌∙◌, ◌-◌, ◌++◌, ◌∷◌, [], List, ℕ, sym, ap, length, arith}
+use Rattle.std.proofs.Common.{◌∙◌, ◌-◌, ◌++◌, ◌∷◌, List, ℕ, sym, ap, length, arith}
 use Rattle.board_prelude.proofs.Common.{length-replicate}
 use Rattle.state_room.proofs.Puts.{put_three}
 use Rattle.state_room.proofs.Pages.{zeros_told, bytes_told, page_length, rest_zeros}
