@@ -1,6 +1,6 @@
 //! A running board put into a room: the bytes of its DRAM straight, and those around them by a copy.
 
-ghost use Rattle.std.specs.Prelude.{◌≡◌, ◌≢◌, ◌+◌, ◌≤◌, ◌⊎◌, ◌++◌, length, IfOk, OnOk};
+ghost use Rattle.std.specs.Prelude.{◌≡◌, ◌≢◌, ◌+◌, ◌<◌, ◌≤◌, ◌⊎◌, ◌++◌, length, IfOk, OnOk};
 ghost use Rattle.dram_store.specs.State.{dram_bytes};
 ghost use Rattle.fitted_bytes.specs.Fitted.{IsFitting};
 ghost use Rattle.board_chipset.specs.Around.{after_dram, before_dram};

@@ -2,7 +2,7 @@ use Rattle.std.proofs.Common.{◌+◌, ◌-◌, length, drop, arith}
 use Rattle.board_prelude.proofs.Common.{length-take, length-drop}
 use Rattle.std.proofs.lemmas.List.{take_rest}
 use Rattle.state_room.proofs.Puts.{put_length}
-use Rattle.board_records.proofs.Saved.{written_in_three}
+use Rattle.board_records.proofs.SavedParts.{written_in_three}
 use Rattle.board_records.proofs.saved.put_around.Goals as goal
 
 pub put-start-requires : goal.put-start-requires

@@ -1,11 +1,16 @@
 -- The bytes of a board in three: those before the DRAM's, these, and those after them.
-use Rattle.std.proofs.Common.{◌≡◌, ℕ, ◌+◌, ◌-◌, ◌≤◌, List, ◌++◌, length, take, drop, refl, sym, ap, ◌∙◌, append_assoc, arith}
+use Rattle.std.proofs.Common.{◌≡◌, ℕ, ◌+◌, ◌≤◌, Bool, List, [], ◌∷◌, ◌++◌, length, take, drop, Result, OnOk, refl, sym, ap, subst, ◌∙◌, append_assoc, arith}
 use Rattle.board_prelude.proofs.Common.{length-append, length-take, length-drop, take_at, drop_at}
+use Rattle.pit_8254.proofs.Saved.{joined}
+use Rattle.byte_fields.specs.Fields.{flag_byte}
 use Rattle.dram_store.specs.State.{dram_bytes}
 use Rattle.fitted_bytes.specs.Fitted.{fitting_bytes}
 use Rattle.board_chipset.specs.Around.{after_dram, before_dram}
+use Rattle.board_chipset.specs.Common.{Running}
 use Rattle.board_chipset.proofs.AroundDram.{between}
-use Rattle.uart_16550.specs.State.{com1_bytes}
+use Rattle.uart_16550.specs.Serial.{Serial}
+use Rattle.uart_16550.specs.State.{com1_bytes, uart_bytes}
+use Rattle.uart_16550.specs.Uart.{Uart}
 use Rattle.state_room.specs.Room.{IsPutAt}
 use Rattle.state_room.proofs.Puts.{put_then}
 use Rattle.board_records.specs.Doors.{Behind}
@@ -30,6 +35,34 @@ image_with behind bytes at is whole =
     (ap (λ (rest : List ℕ). before ++ rest) (sym (append_assoc dram after com1))
     ∙ sym (append_assoc before (dram ++ after) com1)
     ∙ ap (λ (state : List ℕ). state ++ com1) (sym (between behind.serial.board)))
+
+-- the same of what was added to no bytes
+pub image_around : (behind : Behind) (none front bytes : List ℕ) (at : ℕ) → none ≡ [] →
+    front ≡ none ++ before_bytes behind → at ≡ length front → bytes ≡ front ++ after_bytes behind →
+    with_dram bytes at behind.serial.board.state.stores.dram ≡ image_bytes behind
+image_around behind none front bytes at empty first is second =
+    let begins : front ≡ before_bytes behind = first ∙ ap (λ (old : List ℕ). old ++ before_bytes behind) empty in
+    image_with behind bytes at (is ∙ ap length begins)
+    (second ∙ ap (λ (old : List ℕ). old ++ after_bytes behind) begins)
+
+-- what was added after the DRAM
+pub after_added :
+    {T E : Type 0} (result : Result T E) (serial : Serial Running) (board : Running) (level : Bool) (uart : Uart)
+    (old one two new : List ℕ) → board ≡ serial.board → one ≡ old ++ after_dram board →
+    level ≡ serial.com1.script_level → two ≡ one ++ flag_byte level ∷ [] → uart ≡ serial.com1.uart →
+    OnOk result (new ≡ two ++ uart_bytes uart) →
+    OnOk result (new ≡ old ++ (after_dram serial.board ++ com1_bytes serial.com1))
+after_added result serial board level uart old one two new of_board first of_level second of_uart third =
+    joined result old one new (after_dram serial.board) (com1_bytes serial.com1)
+    (first ∙ ap (λ (b : Running). old ++ after_dram b) of_board)
+    (joined result one two new (flag_byte serial.com1.script_level ∷ []) (uart_bytes serial.com1.uart)
+    (second ∙ ap (λ (l : Bool). one ++ flag_byte l ∷ []) of_level)
+    (subst (λ (u : Uart). OnOk result (new ≡ two ++ uart_bytes u)) of_uart third))
+
+-- the bytes of a board, by what holds them
+pub same_image : (bytes held dram store image : List ℕ) (at : ℕ) → bytes ≡ held → dram ≡ store →
+    with_dram held at store ≡ image → with_dram bytes at dram ≡ image
+same_image bytes held dram store image at of_bytes of_dram is = rw (of_bytes, of_dram) is
 
 -- how many bytes they are together
 pub with_length : (bytes dram : List ℕ) (at : ℕ) → at ≤ length bytes →
