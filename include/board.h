@@ -312,8 +312,8 @@ void board_close(board *handle);
 
 /* Writes the board as bytes: what it was opened with, and all that it holds. They are whole in
  * themselves, and the same board always has the same bytes. bytes is how many they are, also where
- * they do not fit: a call with room 0 tells it. The board stays as it is. It takes memory for a copy.
- * CLOSED, NO_ROOM, NO_MEMORY. */
+ * they do not fit: a call with room 0 tells it. The board stays as it is. It takes memory for a copy
+ * of all but the bytes of the DRAM, which go straight into the room. CLOSED, NO_ROOM, NO_MEMORY. */
 uint32_t board_save(board *handle, uint8_t *into, size_t room, size_t *bytes);
 /* Opens the board that was saved as these bytes: it is equal to that one, and goes on as that one
  * would. Nothing past them is read, and they may be freed. Bytes that no board wrote are refused, or

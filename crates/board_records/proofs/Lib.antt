@@ -6,6 +6,7 @@ pub mod Cycles
 pub mod Openings
 pub mod Lines
 pub mod Images
+pub mod SavedParts
 pub mod Digits
 pub mod RomParts
 pub mod Identities

@@ -1,8 +1,11 @@
 -- A running board as bytes, whole in itself: what it is fitted with, and then its state.
-use Rattle.std.specs.Prelude.{ℕ, ◌≡◌, ◌≢◌, ◌<◌, ◌≤◌, ◌⊎◌, ◌++◌, List, length, drop}
+use Rattle.std.specs.Prelude.{ℕ, ◌≡◌, ◌≢◌, ◌<◌, ◌≤◌, ◌⊎◌, ◌++◌, List, length, take, drop}
+use Rattle.dram_store.specs.State.{dram_bytes}
 use Rattle.fitted_bytes.specs.Identities.{AreIdentities}
 use Rattle.fitted_bytes.specs.Fitted.{Fitting, IsOtherVersion, fitting_bytes}
+use Rattle.board_chipset.specs.Around.{after_dram, before_dram}
 use Rattle.uart_16550.specs.SerialState.{IsSerial, serial_bytes}
+use Rattle.uart_16550.specs.State.{com1_bytes}
 use Rattle.board_records.specs.Doors.{Behind}
 use Rattle.board_records.specs.Statuses.{bad_image, no_memory, no_room, other_version}
 
@@ -16,6 +19,17 @@ fitting_of behind = record { setup = behind.serial.board.setup; identities = beh
 
 abbrev pub image_bytes : Behind → List ℕ
 image_bytes behind = fitting_bytes (fitting_of behind) ++ serial_bytes behind.serial
+
+-- the same in three: what stands before the bytes of the DRAM, these, and what stands after them
+abbrev pub before_bytes : Behind → List ℕ
+before_bytes behind = fitting_bytes (fitting_of behind) ++ before_dram behind.serial.board
+
+abbrev pub after_bytes : Behind → List ℕ
+after_bytes behind = after_dram behind.serial.board ++ com1_bytes behind.serial.com1
+
+-- bytes with those of a DRAM at a place in them
+abbrev pub with_dram : (bytes : List ℕ) → (at : ℕ) → (dram : List ℕ) → List ℕ
+with_dram bytes at dram = take at bytes ++ (dram_bytes dram ++ drop at bytes)
 
 -- bytes stand in front of a room, and what lies past them is as before
 pub record IsWritten (bytes before after : List ℕ) : Type 0 where

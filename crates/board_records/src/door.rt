@@ -19,14 +19,14 @@ use crate::card::{CardRecord, identities_of};
 use crate::card_roms::{is_plain, roms_told};
 use crate::event::EventRecord;
 use crate::identified::identify_told;
-use crate::image::{Loaded, image_of, load, write_front};
+use crate::image::{Loaded, load};
 use crate::map::{MapRecord, RangeRecord, WindowRecord, tell_map};
 use crate::opening::open;
 use crate::place::{tell_place, tell_rise};
 use crate::reply::{PartRecord, ReplyRecord};
+use crate::saved::save;
 use crate::second::second;
 use crate::standing::{SerialRecord, tell_lines, tell_serial};
-use crate::status::NO_MEMORY;
 use crate::write::{write_clock_byte, write_dram};
 use arrayvec::ArrayVec;
 use board_chipset::Chipset;
@@ -88,8 +88,8 @@ impl Door {
     }
 
     /// Writes the board to the front of the room, as bytes that are whole in themselves, and tells how many they are. Refused
-    /// with `NO_ROOM` where they do not fit, and then too their count is told; and with `NO_MEMORY` where there is none for a
-    /// copy of them. The board stays as it is.
+    /// with `NO_ROOM` where they do not fit, and then too their count is told; and with `NO_MEMORY` where there is none for
+    /// those that stand around the DRAM's, which go straight into the room. The board stays as it is.
     pub fn save(&self, alloc: Global, into: &mut [u8], bytes: &mut usize) -> u32
         ensures done { result ≡ ok → IsSomeAnd self.now
             (λ held. IsBehind held.behind × IsWritten (image_bytes held.behind) into.old into.new) }
@@ -101,13 +101,7 @@ impl Door {
         ensures uncounted { result ≢ ok → result ≢ no_room → bytes.new ≡ bytes.old }
         ensures open { result ≢ closed }
     {
-        match image_of(alloc, &self.serial, &self.identities) {
-            Ok(image) => {
-                *bytes = image.len();
-                write_front(&image, into)
-            }
-            Err(_) => NO_MEMORY,
-        }
+        save(alloc, &self.serial, &self.identities, into, bytes)
     }
 
     /// The board whose bytes these are: equal to the one that was saved, so that all which holds of that one holds of it;

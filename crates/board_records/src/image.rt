@@ -1,6 +1,6 @@
 //! A running board as bytes, out and in.
 
-ghost use Rattle.std.specs.Prelude.{◌≡◌, ◌≢◌, ◌<◌, ◌≤◌, ◌⊎◌, ◌++◌, ℕ, List, [], length, Ok, Err, IfOk, IfErr, OnOk};
+ghost use Rattle.std.specs.Prelude.{◌≡◌, ◌≢◌, ◌<◌, ◌⊎◌, ◌++◌, ℕ, List, [], length, Ok, Err, IfOk, IfErr};
 ghost use Rattle.byte_fields.specs.declared.fault.Fault.TheVariants.{NoMemory as Wanted};
 ghost use Rattle.fitted_bytes.specs.Fitted.{IsFitting, IsOtherVersion};
 ghost use Rattle.uart_16550.specs.SerialState.{serial_bytes};
@@ -10,11 +10,10 @@ ghost use Rattle.board_records.specs.Statuses.{bad_image, no_memory, no_room, ok
 
 use crate::status::{BAD_IMAGE, NO_MEMORY, NO_ROOM, OK, OTHER_VERSION};
 use arrayvec::ArrayVec;
-use board_base::NoMemory;
 use board_chipset::Chipset;
 use byte_fields::{Fault, Fields};
 use card_identity::FittedIdentity;
-use fitted_bytes::{Fitted, is_other_version, push_fitted, read_fitted};
+use fitted_bytes::{Fitted, is_other_version, read_fitted};
 use std::alloc::Global;
 use std::marker::Model;
 use uart_16550::SerialBoard;
@@ -32,23 +31,6 @@ impl Model for Loaded {
     ghost Value = { Behind };
 
     ghost view = { λ loaded. record { serial = loaded.serial; identities = loaded.identities.items } };
-}
-
-/// The bytes of a board.
-pub(crate) fn image_of(
-    alloc: Global,
-    serial: &SerialBoard<Chipset>,
-    identities: &[FittedIdentity],
-) -> Result<Vec<u8>, NoMemory>
-    requires few { length identities.now ≤ 8 }
-    ensures bytes { IfOk result (λ image. image.items
-        ≡ image_bytes (record { serial = serial.now; identities = identities.now })) }
-    ensures sound { OnOk result (IsBehind (record { serial = serial.now; identities = identities.now })) }
-{
-    let mut image = Vec::new(alloc);
-    push_fitted(&mut image, serial.board().setup(), identities)?;
-    serial.save_state(&mut image)?;
-    Ok(image)
 }
 
 /// Writes bytes to the front of the room, where they fit. Else nothing is written.

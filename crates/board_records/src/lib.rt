@@ -19,6 +19,7 @@ mod opening;
 mod over_cards;
 mod place;
 mod reply;
+mod saved;
 mod second;
 mod standing;
 pub mod status;

@@ -1,0 +1,95 @@
+-- The bytes of a board in three: those before the DRAM's, these, and those after them.
+use Rattle.std.proofs.Common.{◌≡◌, ℕ, ◌+◌, ◌≤◌, Bool, List, [], ◌∷◌, ◌++◌, length, take, drop, Result, OnOk, refl, sym, ap, subst, ◌∙◌, append_assoc, arith}
+use Rattle.board_prelude.proofs.Common.{length-append, length-take, length-drop, take_at, drop_at}
+use Rattle.pit_8254.proofs.Saved.{joined}
+use Rattle.byte_fields.specs.Fields.{flag_byte}
+use Rattle.dram_store.specs.State.{dram_bytes}
+use Rattle.fitted_bytes.specs.Fitted.{fitting_bytes}
+use Rattle.board_chipset.specs.Around.{after_dram, before_dram}
+use Rattle.board_chipset.specs.Common.{Running}
+use Rattle.board_chipset.proofs.AroundDram.{between}
+use Rattle.uart_16550.specs.Serial.{Serial}
+use Rattle.uart_16550.specs.State.{com1_bytes, uart_bytes}
+use Rattle.uart_16550.specs.Uart.{Uart}
+use Rattle.state_room.specs.Room.{IsPutAt}
+use Rattle.state_room.proofs.Puts.{put_then}
+use Rattle.board_records.specs.Doors.{Behind}
+use Rattle.board_records.specs.Images.{IsWritten, after_bytes, before_bytes, fitting_of, image_bytes, with_dram}
+
+-- the DRAM's bytes stand between the others
+pub image_with : (behind : Behind) (bytes : List ℕ) (at : ℕ) → at ≡ length (before_bytes behind) →
+    bytes ≡ before_bytes behind ++ after_bytes behind →
+    with_dram bytes at behind.serial.board.state.stores.dram ≡ image_bytes behind
+image_with behind bytes at is whole =
+    let fitting : List ℕ = fitting_bytes (fitting_of behind) in
+    let before : List ℕ = before_dram behind.serial.board in
+    let dram : List ℕ = dram_bytes behind.serial.board.state.stores.dram in
+    let after : List ℕ = after_dram behind.serial.board in
+    let com1 : List ℕ = com1_bytes behind.serial.com1 in
+    let front : List ℕ = fitting ++ before in
+    let split : with_dram bytes at behind.serial.board.state.stores.dram ≡ front ++ (dram ++ (after ++ com1)) =
+    rw (whole, take_at front (after ++ com1) at (sym is), drop_at front (after ++ com1) at (sym is)) refl in
+    split
+    ∙ append_assoc fitting before (dram ++ (after ++ com1))
+    ∙ ap (λ (rest : List ℕ). fitting ++ rest)
+    (ap (λ (rest : List ℕ). before ++ rest) (sym (append_assoc dram after com1))
+    ∙ sym (append_assoc before (dram ++ after) com1)
+    ∙ ap (λ (state : List ℕ). state ++ com1) (sym (between behind.serial.board)))
+
+-- the same of what was added to no bytes
+pub image_around : (behind : Behind) (none front bytes : List ℕ) (at : ℕ) → none ≡ [] →
+    front ≡ none ++ before_bytes behind → at ≡ length front → bytes ≡ front ++ after_bytes behind →
+    with_dram bytes at behind.serial.board.state.stores.dram ≡ image_bytes behind
+image_around behind none front bytes at empty first is second =
+    let begins : front ≡ before_bytes behind = first ∙ ap (λ (old : List ℕ). old ++ before_bytes behind) empty in
+    image_with behind bytes at (is ∙ ap length begins)
+    (second ∙ ap (λ (old : List ℕ). old ++ after_bytes behind) begins)
+
+-- what was added after the DRAM
+pub after_added :
+    {T E : Type 0} (result : Result T E) (serial : Serial Running) (board : Running) (level : Bool) (uart : Uart)
+    (old one two new : List ℕ) → board ≡ serial.board → one ≡ old ++ after_dram board →
+    level ≡ serial.com1.script_level → two ≡ one ++ flag_byte level ∷ [] → uart ≡ serial.com1.uart →
+    OnOk result (new ≡ two ++ uart_bytes uart) →
+    OnOk result (new ≡ old ++ (after_dram serial.board ++ com1_bytes serial.com1))
+after_added result serial board level uart old one two new of_board first of_level second of_uart third =
+    joined result old one new (after_dram serial.board) (com1_bytes serial.com1)
+    (first ∙ ap (λ (b : Running). old ++ after_dram b) of_board)
+    (joined result one two new (flag_byte serial.com1.script_level ∷ []) (uart_bytes serial.com1.uart)
+    (second ∙ ap (λ (l : Bool). one ++ flag_byte l ∷ []) of_level)
+    (subst (λ (u : Uart). OnOk result (new ≡ two ++ uart_bytes u)) of_uart third))
+
+-- the bytes of a board, by what holds them
+pub same_image : (bytes held dram store image : List ℕ) (at : ℕ) → bytes ≡ held → dram ≡ store →
+    with_dram held at store ≡ image → with_dram bytes at dram ≡ image
+same_image bytes held dram store image at of_bytes of_dram is = rw (of_bytes, of_dram) is
+
+-- how many bytes they are together
+pub with_length : (bytes dram : List ℕ) (at : ℕ) → at ≤ length bytes →
+    length (with_dram bytes at dram) ≡ length bytes + length (dram_bytes dram)
+with_length bytes dram at within =
+    omega (
+      arith,
+      within,
+      length-append (take at bytes) (dram_bytes dram ++ drop at bytes),
+      length-append (dram_bytes dram) (drop at bytes),
+      length-take at bytes,
+      length-drop at bytes,
+    )
+
+-- those before, the DRAM's, and those after, one behind another from the front of the room on
+pub written_in_three :
+    (bytes dram last room one two three : List ℕ) (at start end : ℕ) → IsPutAt 0 (take at bytes) room one →
+    start ≡ length (take at bytes) → IsPutAt start (dram_bytes dram) one two →
+    end ≡ start + length (dram_bytes dram) → IsPutAt end last two three →
+    last ≡ drop at bytes → IsWritten (with_dram bytes at dram) room three
+written_in_three bytes dram last room one two three at start end first starts second ends third is =
+    let all : List ℕ = with_dram bytes at dram in
+    let put : IsPutAt 0 all room three =
+    put_then 0 start (take at bytes) (dram_bytes dram ++ drop at bytes) all room one three first (omega (arith, starts))
+    (put_then start end (dram_bytes dram) last (dram_bytes dram ++ drop at bytes) one two three second ends third
+    (ap (λ (tail : List ℕ). dram_bytes dram ++ tail) (sym is))) refl in
+    record {
+      fits = omega (arith, put.fits);
+      written = put.put ∙ ap (λ (n : ℕ). all ++ drop n room) (omega arith);
+    }
