@@ -14,8 +14,7 @@ use Rattle.board_records.specs.declared.reply.ReplyRecord.{ReplyRecord}
 use Rattle.board_records.specs.Cards.{cards_said, identities_said, identity_said}
 use Rattle.board_records.specs.Events.{width_said}
 use Rattle.board_records.specs.Doors.{Held, IsDoorStep, IsOpenedWith, disk_of, setup_said}
-use Rattle.board_records.specs.Identified.{identified_by, identified_record, is_config_read}
-use Rattle.board_records.specs.RomReplies.{with_roms}
+use Rattle.board_records.specs.Identified.{fitted_record, identified_by, identified_record, is_config_read}
 use Rattle.board_records.specs.Steps.{IsAskedStep}
 use Rattle.board_records.proofs.Openings.{said_count}
 use Rattle.board_records.proofs.RomParts.{none_with}
@@ -58,22 +57,19 @@ held serial identities roms =
     Some (record { behind = record { serial = serial; identities = identities }; roms = roms })
 
 pub fitted_step : (asked : Option Happening) (old new : Serial Running) (identities : List FittedIdentity)
-    (roms : List (List ℕ)) (event : EventRecord) (plain identified said : ReplyRecord) →
-    identified ≡ identified_record identities event plain → said ≡ with_roms roms event identified →
-    IsSomeAnd asked (IsAskedStep old new plain) →
+    (roms : List (List ℕ)) (event : EventRecord) (plain said : ReplyRecord) →
+    said ≡ fitted_record identities roms event plain → IsSomeAnd asked (IsAskedStep old new plain) →
     IsSomeAnd asked (IsDoorStep (held old identities roms) (held new identities roms) event said)
-fitted_step None old new identities roms event plain identified said is given done = done
-fitted_step (Some it) old new identities roms event plain identified said is given done = record {
+fitted_step None old new identities roms event plain said is done = done
+fitted_step (Some it) old new identities roms event plain said is done = record {
   same = refl;
   same_roms = refl;
-  holds = record { plain = plain; step = done; told = given ∙ ap (with_roms roms event) is };
+  holds = record { plain = plain; step = done; told = is };
 }
 
 -- of a board whose cards say nothing, and whose ROMs were given no bytes
-pub plain_step : (asked : Option Happening) (old new : Serial Running) (identities : List FittedIdentity)
-    (roms : List (List ℕ)) (event : EventRecord) (said : ReplyRecord) → identities ≡ [] → roms ≡ [] →
-    IsSomeAnd asked (IsAskedStep old new said) →
-    IsSomeAnd asked (IsDoorStep (held old identities roms) (held new identities roms) event said)
-plain_step asked old new identities roms event said none no_roms done =
-    fitted_step asked old new identities roms event said said said (rw none (none_identified event said))
-    (rw no_roms (sym (none_with event said))) done
+pub unfitted : (identities : List FittedIdentity) (roms : List (List ℕ)) (event : EventRecord) (said : ReplyRecord) →
+    identities ≡ [] → roms ≡ [] → said ≡ fitted_record identities roms event said
+unfitted identities roms event said none no_roms =
+    let plain : identified_record identities event said ≡ said = rw none (sym (none_identified event said)) in
+    rw (plain, no_roms) (sym (none_with event said))

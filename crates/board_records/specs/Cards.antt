@@ -28,14 +28,14 @@ card_with said bases = record { dev = said.device; vga = said.vga == 1; bases = 
 
 -- what is kept for later versions is 0, the flag of a VGA adapter 0 or 1, there are at most six bases, a class code has
 -- three bytes, and a pin is INTA# to INTD#, or none is said
-abbrev pub is_plain : CardRecord → Bool
-is_plain said =
+abbrev pub numbers_fit : CardRecord → Bool
+numbers_fit said =
     (said.reserved == 0) && nat_le said.vga 1 && nat_le said.bases most_bases && nat_le said.class_code 0xFF_FFFF &&
     nat_le said.interrupt_pin 4
 
 unfoldable pub card_said : CardRecord → Option FittedCard
 card_said said =
-    if is_plain said
+    if numbers_fit said
     then option_map (card_with said) (all_said base_said (take said.bases said.base)) else None
 
 abbrev pub cards_said : List CardRecord → Option (List FittedCard)

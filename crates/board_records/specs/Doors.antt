@@ -6,6 +6,7 @@ use Rattle.board_chipset.specs.Common.{Running, IsLeftBy, IsSetupFault}
 use Rattle.uart_16550.specs.Common.{com1_at_reset, Serial}
 use Rattle.uart_16550.specs.declared.com1.Happening.{Happening}
 use Rattle.card_identity.specs.declared.identity.FittedIdentity.{FittedIdentity}
+use Rattle.expansion_roms.specs.Roms.{rom_byte}
 use Rattle.board_records.specs.declared.card.CardRecord.{CardRecord}
 use Rattle.board_records.specs.declared.event.EventRecord.{EventRecord}
 use Rattle.board_records.specs.declared.reply.ReplyRecord.{ReplyRecord}
@@ -71,6 +72,11 @@ pub record IsGoneOn (P : Serial Running → Serial Running → Type 0) (old new 
 abbrev pub OnBoth : Option Held → Option Held → (Serial Running → Serial Running → Type 0) → Type 0
 OnBoth (Some old) (Some new) P = IsGoneOn P old new
 OnBoth _ _ P = ⊥
+
+-- each byte of each expansion ROM is what it was: what a guest writes to the address of one is lost
+abbrev pub SameRoms : Option Held → Option Held → Type 0
+SameRoms (Some old) (Some new) = (dev off : ℕ) → rom_byte new.roms dev off ≡ rom_byte old.roms dev off
+SameRoms _ _ = ⊥
 
 -- a step, with the identities' bytes and those of the ROMs in its reply
 abbrev pub IsDoorStep : Option Held → Option Held → EventRecord → ReplyRecord → Happening → Type 0

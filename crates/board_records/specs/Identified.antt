@@ -31,10 +31,13 @@ abbrev pub identified_record : List FittedIdentity → EventRecord → ReplyReco
 identified_record identities event said =
     identified_by (if is_config_read said then identity_at identities said.part0.unit else None) (width_said event.bytes) said
 
--- a step of the chipset with its serial port, and the record of its reply with the identities' bytes, and with those
--- that expansion ROMs were given
+-- the same with the bytes that expansion ROMs were given
+abbrev pub fitted_record : List FittedIdentity → (roms : List (List ℕ)) → EventRecord → ReplyRecord → ReplyRecord
+fitted_record identities roms event said = with_roms roms event (identified_record identities event said)
+
+-- a step of the chipset with its serial port, and the record of its reply with these bytes
 pub record IsFittedStep (identities : List FittedIdentity) (roms : List (List ℕ)) (old new : Serial Running)
     (event : EventRecord) (said : ReplyRecord) (asked : Happening) : Type 0 where
   pub plain : ReplyRecord
   pub step : IsAskedStep old new plain asked
-  pub told : said ≡ with_roms roms event (identified_record identities event plain)
+  pub told : said ≡ fitted_record identities roms event plain

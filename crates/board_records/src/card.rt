@@ -2,7 +2,7 @@
 
 ghost use Rattle.std.specs.Prelude.{◌≡◌, ◌≤◌, length, map, IfOk, is_some, option_map};
 ghost use Rattle.pci_bars.specs.Bases.{base_of as fitted_base};
-ghost use Rattle.board_records.specs.Cards.{all_said, base_said, rom_said, is_plain, card_said, cards_said, identity_said, identities_said};
+ghost use Rattle.board_records.specs.Cards.{all_said, base_said, rom_said, numbers_fit, card_said, cards_said, identity_said, identities_said};
 
 use crate::numbers::{IO_BASE, MEMORY_BASE};
 use arrayvec::ArrayVec;
@@ -89,8 +89,8 @@ pub fn cards_of(alloc: Global, records: &[CardRecord]) -> Result<Option<Vec<Card
 }
 
 /// Whether what is kept for later versions is 0, and each of the other numbers in its range.
-fn is_plain(record: &CardRecord) -> bool
-    ensures plain { result ≡ is_plain record.now }
+fn numbers_fit(record: &CardRecord) -> bool
+    ensures fit { result ≡ numbers_fit record.now }
 {
     record.reserved == 0
         && record.vga <= 1
@@ -103,7 +103,7 @@ fn is_plain(record: &CardRecord) -> bool
 fn card_of(record: &CardRecord) -> Option<CardSpec>
     ensures said { result ≡ card_said record.now }
 {
-    if !is_plain(record) {
+    if !numbers_fit(record) {
         return None;
     }
     match bases_of(&record.base[..usize::from(record.bases)]) {

@@ -1,19 +1,16 @@
 //! The bytes that expansion ROMs of cards were given: over the record of a reply, out and in.
 
-ghost use Rattle.std.specs.Prelude.{◌≡◌, ◌≢◌, ◌==◌, ◌+◌, ◌<◌, ◌≤◌, ◌^◌, ℕ, All, find, option_and_then, [], true, None, Some, IfOk, IfSome, length, slice_index, OnOk, OnErr};
+ghost use Rattle.std.specs.Prelude.{◌≡◌, ◌≢◌, ◌==◌, ◌+◌, ◌<◌, ◌≤◌, ◌^◌, ℕ, All, find, option_and_then, [], None, Some, IfOk, IfSome, length, slice_index, OnOk, OnErr};
 ghost use Rattle.board_prelude.specs.Common.{IsCard, IsExpansionRom, byte, bytes_of, expansion_byte, from_le_bytes, longest_at, w64};
-ghost use Rattle.expansion_roms.specs.Roms.{put_byte, rom_byte};
+ghost use Rattle.expansion_roms.specs.Roms.{IsKept, given, put_byte, rom_byte};
 ghost use Rattle.board_records.specs.CardRoms.{rom_size, size_of_rom};
 ghost use Rattle.board_records.specs.RomReplies.{byte_by, byte_told, bytes_told, is_given, part_of, reads_given, roms_in, with_roms};
-ghost use Rattle.board_records.specs.Statuses.{ok};
 
 use crate::event::EventRecord;
 use crate::numbers::CARD_TARGET;
 use crate::reply::{PartRecord, ReplyRecord};
-use crate::status::OK;
 use board_base::NoMemory;
 use board_chipset::Chipset;
-use card_identity::FittedIdentity;
 use expansion_roms::{Roms, fixed_byte};
 use pci_bars::CardSpec;
 use std::alloc::Global;
@@ -23,29 +20,11 @@ const ROM_BASE: u8 = 6;
 
 // ---- the reply
 
-/// Whether no card says what it is, and no ROM was given bytes.
-#[inline(always)]
-pub(crate) fn is_plain(identities: &[FittedIdentity], roms: &Option<Roms>) -> bool
-    ensures said { result ≡ true → identities.now ≡ [] }
-    ensures given { result ≡ true → roms_in roms.now ≡ [] }
-{
-    identities.is_empty() && roms.is_none()
-}
-
 /// Puts the bytes that expansion ROMs were given into the record of a reply that was told.
 #[tactic(auto, using(crate::proofs::RomParts::none_with))]
-pub(crate) fn roms_told(
-    roms: &Option<Roms>,
-    event: &EventRecord,
-    status: u32,
-    reply: &mut ReplyRecord,
-)
-    ensures told { status ≡ ok → reply.new ≡ with_roms (roms_in roms.now) event.now reply.old }
-    ensures untold { status ≢ ok → reply.new ≡ reply.old }
+pub(crate) fn roms_told(roms: &Option<Roms>, event: &EventRecord, reply: &mut ReplyRecord)
+    ensures told { reply.new ≡ with_roms (roms_in roms.now) event.now reply.old }
 {
-    if status != OK {
-        return;
-    }
     if let Some(roms) = roms {
         tell_roms(roms, event, reply);
     }
@@ -227,8 +206,8 @@ fn read_fixed(dev: u8, off: u32, into: &mut [u8])
     }
 }
 
-/// Gives the expansion ROM of the card at a device, which has so many bytes, these from an offset on. Refused where there
-/// is no memory; then nothing has changed.
+/// Gives the expansion ROM of the card at a device, which has so many bytes, these from an offset on; from then on all its
+/// bytes are kept. It takes memory only where they were not, and is refused where there is none; then nothing has changed.
 pub(crate) fn put_rom(
     alloc: Global,
     roms: &mut Option<Roms>,
@@ -241,6 +220,9 @@ pub(crate) fn put_rom(
     requires within { off + length bytes.now ≤ size }
     ensures put { OnOk result ((d at : ℕ) → rom_byte (roms_in roms.new) d at
         ≡ put_byte dev off bytes.now d at (rom_byte (roms_in roms.old) d at)) }
+    ensures kept { OnOk result (IsKept (roms_in roms.new) dev size) }
+    ensures others { OnOk result ((d : ℕ) → d ≢ dev → given (roms_in roms.new) d ≡ given (roms_in roms.old) d) }
+    ensures refused { OnErr result (0 < size → ¬ IsKept (roms_in roms.old) dev size) }
     ensures unchanged { OnErr result (roms.new ≡ roms.old) }
 {
     match roms {
@@ -263,6 +245,9 @@ fn put_first(
     requires within { off + length bytes.now ≤ size }
     ensures put { OnOk result ((d at : ℕ) → rom_byte (roms_in roms.new) d at
         ≡ put_byte dev off bytes.now d at (rom_byte (roms_in roms.old) d at)) }
+    ensures kept { OnOk result (IsKept (roms_in roms.new) dev size) }
+    ensures others { OnOk result ((d : ℕ) → d ≢ dev → given (roms_in roms.new) d ≡ given (roms_in roms.old) d) }
+    ensures refused { OnErr result (0 < size → ¬ IsKept (roms_in roms.old) dev size) }
     ensures unchanged { OnErr result (roms.new ≡ roms.old) }
 {
     match first_roms(alloc, dev, size, off, bytes) {
@@ -280,6 +265,8 @@ fn first_roms(alloc: Global, dev: u8, size: usize, off: u32, bytes: &[u8]) -> Re
     requires within { off + length bytes.now ≤ size }
     ensures put { IfOk result (λ roms. (d at : ℕ)
         → rom_byte roms d at ≡ put_byte dev off bytes.now d at (rom_byte [] d at)) }
+    ensures kept { IfOk result (λ roms. IsKept roms dev size) }
+    ensures others { IfOk result (λ roms. (d : ℕ) → d ≢ dev → given roms d ≡ []) }
 {
     let mut roms = Roms::open(alloc)?;
     roms.put(alloc, dev, size, off, bytes)?;

@@ -3,7 +3,7 @@
 ghost use Rattle.std.specs.Prelude.{◌≡◌, ◌≢◌, ◌+◌, ◌<◌, ◌≤◌, ◌⊎◌, [], length, Ok, Err, Some, IfOk, IfErr, IsSomeAnd};
 ghost use Rattle.board_spec.specs.Setup.{installed};
 ghost use Rattle.board_records.specs.Bytes.{clock_bytes, IsDramTold, IsSectorTold, IsSectorRefusal, IsClockByte, IsDramWritten, IsClockWritten};
-ghost use Rattle.board_records.specs.Doors.{Behind, IsDoorStep, IsOpenedWith, IsOpenRefusal, OnBoard, OnBoth, setup_said, without_roms};
+ghost use Rattle.board_records.specs.Doors.{Behind, IsDoorStep, IsOpenedWith, IsOpenRefusal, OnBoard, OnBoth, SameRoms, setup_said, without_roms};
 ghost use Rattle.board_records.specs.Cards.{identities_said};
 ghost use Rattle.board_records.specs.Events.{asked_said};
 ghost use Rattle.board_records.specs.Images.{IsBehind, IsLoadRefusal, IsSaveRefusal, IsWritten, image_bytes};
@@ -16,9 +16,8 @@ ghost use Rattle.board_records.specs.Statuses.{ok, closed, no_byte, no_memory, n
 use crate::bytes::{tell_clock_byte, tell_dram, tell_sector};
 use crate::calls::step;
 use crate::card::{CardRecord, identities_of};
-use crate::card_roms::{is_plain, roms_told};
 use crate::event::EventRecord;
-use crate::identified::identify_told;
+use crate::identified::fitted_told;
 use crate::image::{Loaded, load};
 use crate::map::{MapRecord, RangeRecord, WindowRecord, tell_map};
 use crate::opening::open;
@@ -127,39 +126,22 @@ impl Door {
     }
 
     /// Does what a record asks, and tells the reply by another: the chipset's, in which a read of configuration data has
-    /// the bytes of the card's identity, and one of an expansion ROM those that it was given. Refused with why where the record asks nothing (`NO_EVENT`), an event that is out
-    /// of range, or a byte for which COM1 has no room (`SERIAL_FULL`); then nothing has changed.
+    /// the bytes of the card's identity, and one of an expansion ROM those that it was given; what a guest writes to the
+    /// address of one is lost. Refused with why where the record asks nothing (`NO_EVENT`), an event that is out of range,
+    /// or a byte for which COM1 has no room (`SERIAL_FULL`); then nothing has changed.
     #[inline(always)]
     pub fn step(&mut self, event: &EventRecord, reply: &mut ReplyRecord) -> u32
         ensures done { result ≡ ok → IsSomeAnd (asked_said event.now)
             (IsDoorStep self.old self.new event.now reply.new) }
         ensures refused { result ≢ ok
             → OnBoard self.old (λ serial. IsEventRefusal serial (asked_said event.now) result) }
-        ensures unchanged { result ≢ ok → self.new ≡ self.old }
-        ensures untold { result ≢ ok → reply.new ≡ reply.old }
-        ensures open { result ≢ closed }
-    {
-        if is_plain(&self.identities, &self.roms) {
-            return step(&mut self.serial, event, reply);
-        }
-        self.fitted_step(event, reply)
-    }
-
-    /// The same with the cards' identities and the bytes of their ROMs. It is not inlined: few boards have a card with
-    /// either.
-    #[inline(never)]
-    fn fitted_step(&mut self, event: &EventRecord, reply: &mut ReplyRecord) -> u32
-        ensures done { result ≡ ok → IsSomeAnd (asked_said event.now)
-            (IsDoorStep self.old self.new event.now reply.new) }
-        ensures refused { result ≢ ok
-            → OnBoard self.old (λ serial. IsEventRefusal serial (asked_said event.now) result) }
+        ensures same_roms { SameRoms self.old self.new }
         ensures unchanged { result ≢ ok → self.new ≡ self.old }
         ensures untold { result ≢ ok → reply.new ≡ reply.old }
         ensures open { result ≢ closed }
     {
         let status = step(&mut self.serial, event, reply);
-        identify_told(&self.identities, event, status, reply);
-        roms_told(&self.roms, event, status, reply);
+        fitted_told(&self.identities, &self.roms, event, status, reply);
         status
     }
 

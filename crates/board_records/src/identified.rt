@@ -1,29 +1,57 @@
-//! The bytes of the cards' identities over the record of a reply.
+//! The bytes of the cards' identities, and of their expansion ROMs, over the record of a reply.
 
-ghost use Rattle.std.specs.Prelude.{◌≡◌, ◌≢◌, ◌<◌, Some};
-ghost use Rattle.board_records.specs.Identified.{is_config_read, identified_by, identified_record};
+ghost use Rattle.std.specs.Prelude.{◌≡◌, ◌≢◌, ◌<◌, [], true, Some};
+ghost use Rattle.board_records.specs.Identified.{fitted_record, is_config_read, identified_by, identified_record};
+ghost use Rattle.board_records.specs.RomReplies.{roms_in};
 ghost use Rattle.board_records.specs.Statuses.{ok};
 
+use crate::card_roms::roms_told;
 use crate::event::{EventRecord, width_of};
 use crate::numbers::{BUS_REPLY, CONFIG_TARGET};
 use crate::reply::ReplyRecord;
 use crate::status::OK;
 use board_base::Width;
 use card_identity::{FittedIdentity, Identity, identity_at};
+use expansion_roms::Roms;
 
-/// Puts the bytes of the cards' identities into the record of a reply that was told.
-pub(crate) fn identify_told(
+/// Puts the bytes of the cards' identities and of their expansion ROMs into the record of a reply that was told.
+#[inline(always)]
+pub(crate) fn fitted_told(
     identities: &[FittedIdentity],
+    roms: &Option<Roms>,
     event: &EventRecord,
     status: u32,
     reply: &mut ReplyRecord,
 )
-    ensures identified { status ≡ ok → reply.new ≡ identified_record identities.now event.now reply.old }
+    ensures told { status ≡ ok → reply.new ≡ fitted_record identities.now (roms_in roms.now) event.now reply.old }
     ensures untold { status ≢ ok → reply.new ≡ reply.old }
 {
-    if status == OK {
-        identify(identities, event, reply);
+    if status == OK && !is_unfitted(identities, roms) {
+        fit(identities, roms, event, reply);
     }
+}
+
+/// Whether no card says what it is, and no ROM was given bytes.
+#[inline(always)]
+fn is_unfitted(identities: &[FittedIdentity], roms: &Option<Roms>) -> bool
+    ensures said { result ≡ true → identities.now ≡ [] }
+    ensures given { result ≡ true → roms_in roms.now ≡ [] }
+{
+    identities.is_empty() && roms.is_none()
+}
+
+/// The same where some are. It is not inlined: few boards have a card with either.
+#[inline(never)]
+fn fit(
+    identities: &[FittedIdentity],
+    roms: &Option<Roms>,
+    event: &EventRecord,
+    reply: &mut ReplyRecord,
+)
+    ensures told { reply.new ≡ fitted_record identities.now (roms_in roms.now) event.now reply.old }
+{
+    identify(identities, event, reply);
+    roms_told(roms, event, reply);
 }
 
 /// Puts the bytes of the cards' identities in the place of the fixed ones where the reply to an event is to a read of

@@ -1,0 +1,179 @@
+-- Each byte that an aligned read gives is the one that a read of that byte alone gives.
+use Rattle.std.proofs.Common.{◌≡◌, ℕ, zero, suc, ◌+◌, ◌-◌, ◌*◌, ◌/◌, ◌%◌, ◌^◌, ◌<◌, ◌≤◌, List, [], length, replicate, get_or, inl, inr, refl, sym, ap, subst, ◌∙◌, arith, ◌==◌, slice_index}
+use Rattle.std.proofs.lemmas.Nat.{mod-pow-add}
+use Rattle.board_prelude.proofs.Common.{cases_Bool, get_or-replicate, length-replicate, Kind, Width, One, bytes_of, largest_of, Entry, Setup, IsRomSize, IsCardList, Area, Target, Dram, Shadow, Smram, Rom, Card, Device, Config, Abort, Bytes, byte, wide, area_of, memory_claim, window_bits, target_at, dram_byte, card_byte, value_at, address_count}
+use Rattle.board_base.specs.declared.access.Width.TheVariants.{Two, Four}
+use Rattle.board_base.specs.declared.target.Area.TheVariants.{Dram as DramArea, Shadow as ShadowArea, Smram as SmramArea, Rom as RomArea, Card as CardArea, Abort as AbortArea}
+use Rattle.pci_bars.specs.Common.{IsBaseNumber}
+use Rattle.pci_bars.specs.Contents.{held, slot_number}
+use Rattle.board_stores.proofs.ValueLemmas.{value_below}
+use Rattle.rom_laws.proofs.CardWindows.{IsWindow}
+
+-- ---- what the byte after some others reaches
+
+abbrev pub moved : Target → (i : ℕ) → Target
+moved (Dram row) i = Dram row
+moved (Shadow row) i = Shadow row
+moved Smram i = Smram
+moved (Rom off) i = Rom (off + i)
+moved (Card dev base off) i = Card dev base (off + i)
+moved (Device dev) i = Device dev
+moved (Config reg) i = Config reg
+moved Abort i = Abort
+
+same_quarter : (addr i : ℕ) (width : Width) → addr % bytes_of width ≡ 0 → i < bytes_of width →
+    ((addr + i) / 4 ≡ addr / 4) × ((addr + i) % 4 ≡ addr % 4 + i)
+same_quarter addr i One aligned within = (omega arith, omega arith)
+same_quarter addr i Two aligned within = (omega arith, omega arith)
+same_quarter addr i Four aligned within = (omega arith, omega arith)
+
+window_moved : (addr i bits : ℕ) (width : Width) → 2 ≤ bits → addr % bytes_of width ≡ 0 → i < bytes_of width →
+    (addr + i) % 2 ^ bits ≡ addr % 2 ^ bits + i
+window_moved addr i bits width above aligned within =
+    let split : (place : ℕ) → place % 2 ^ bits ≡ place / 4 % 2 ^ (bits - 2) * 4 + place % 4 =
+    λ place. ap (λ n. place % 2 ^ n) (omega arith) ∙ mod-pow-add place (bits - 2) 2 in
+    let near = same_quarter addr i width aligned within in
+    let here : (addr + i) / 4 % 2 ^ (bits - 2) ≡ addr / 4 % 2 ^ (bits - 2) = ap (λ n. n % 2 ^ (bits - 2)) near.0 in
+    omega (arith, split addr, split (addr + i), near.1, here)
+
+rom_moved : (addr i size : ℕ) (width : Width) → IsRomSize size → addr % bytes_of width ≡ 0 → i < bytes_of width →
+    (addr + i) % size ≡ addr % size + i
+rom_moved addr i size width (inl is) aligned within = rw is (window_moved addr i 16 width (omega arith) aligned within)
+rom_moved addr i size width (inr (inl is)) aligned within =
+    rw is (window_moved addr i 17 width (omega arith) aligned within)
+rom_moved addr i size width (inr (inr (inl is))) aligned within =
+    rw is (window_moved addr i 18 width (omega arith) aligned within)
+rom_moved addr i size width (inr (inr (inr is))) aligned within =
+    rw is (window_moved addr i 19 width (omega arith) aligned within)
+
+pub target_moved : (setup : Setup) (area : Area) (addr i : ℕ) (width : Width) → IsRomSize (length setup.rom) →
+    ((dev base : ℕ) → area ≡ CardArea dev base → IsWindow setup dev base) → addr % bytes_of width ≡ 0 →
+    i < bytes_of width → target_at setup area (addr + i) ≡ moved (target_at setup area addr) i
+target_moved setup (DramArea row) addr i width size claim aligned within = refl
+target_moved setup (ShadowArea row) addr i width size claim aligned within = refl
+target_moved setup SmramArea addr i width size claim aligned within = refl
+target_moved setup RomArea addr i width size claim aligned within =
+    ap Rom (rom_moved addr i (length setup.rom) width size aligned within)
+target_moved setup (CardArea dev base) addr i width size claim aligned within =
+    ap (Card dev base)
+    (window_moved addr i (window_bits setup dev base) width (claim dev base refl).least aligned within)
+target_moved setup AbortArea addr i width size claim aligned within = refl
+
+-- ---- what is read there
+
+-- what an access to memory can reach, with a card's base where there is one
+abbrev pub InMemory : Setup → Target → Type 0
+InMemory setup (Card dev base off) = IsWindow setup dev base
+InMemory setup (Device dev) = ⊥
+InMemory setup (Config reg) = ⊥
+InMemory setup target = Unit {0}
+
+pub reaches_memory : (setup : Setup) (area : Area) (addr : ℕ) →
+    ((dev base : ℕ) → area ≡ CardArea dev base → IsWindow setup dev base) → InMemory setup (target_at setup area addr)
+reaches_memory setup (DramArea row) addr claim = tt
+reaches_memory setup (ShadowArea row) addr claim = tt
+reaches_memory setup SmramArea addr claim = tt
+reaches_memory setup RomArea addr claim = tt
+reaches_memory setup (CardArea dev base) addr claim = claim dev base refl
+reaches_memory setup AbortArea addr claim = tt
+
+of_one : (a : ℕ) → a < 256 → byte a 0 ≡ a
+of_one a p = omega (arith, p)
+
+of_two : (a b : ℕ) → a < 256 → byte (a + 0x100 * b) 0 ≡ a
+of_two a b p = omega (arith, p)
+
+second_of_two : (a b : ℕ) → a < 256 → b < 256 → byte (a + 0x100 * b) 1 ≡ b
+second_of_two a b p q = omega (arith, p, q)
+
+of_four : (a b c d : ℕ) → a < 256 → b < 256 → c < 256 → d < 256 →
+    let n : ℕ = a + 0x100 * b + 0x1_0000 * c + 0x100_0000 * d in
+    (byte n 0 ≡ a) × ((byte n 1 ≡ b) × ((byte n 2 ≡ c) × (byte n 3 ≡ d)))
+of_four a b c d p q r t =
+    (omega (arith, p, q, r, t), (omega (arith, p, q, r, t), (omega (arith, p, q, r, t), omega (arith, p, q, r, t))))
+
+start : (from : ℕ) → from ≡ from + 0
+start from = omega arith
+
+wide_byte : (byte_at : ℕ → ℕ) (from i : ℕ) (width : Width) → ((at : ℕ) → byte_at at < 256) → i < bytes_of width →
+    byte (wide byte_at from width) i ≡ byte_at (from + i)
+wide_byte byte_at from zero One below within = of_one (byte_at from) (below from) ∙ ap byte_at (start from)
+wide_byte byte_at from zero Two below within =
+    of_two (byte_at from) (byte_at (from + 1)) (below from) ∙ ap byte_at (start from)
+wide_byte byte_at from (suc zero) Two below within =
+    second_of_two (byte_at from) (byte_at (from + 1)) (below from) (below (from + 1))
+wide_byte byte_at from zero Four below within =
+    (of_four (byte_at from) (byte_at (from + 1)) (byte_at (from + 2)) (byte_at (from + 3)) (below from)
+    (below (from + 1)) (below (from + 2)) (below (from + 3))).0
+    ∙ ap byte_at (start from)
+wide_byte byte_at from (suc zero) Four below within =
+    (of_four (byte_at from) (byte_at (from + 1)) (byte_at (from + 2)) (byte_at (from + 3)) (below from)
+    (below (from + 1)) (below (from + 2)) (below (from + 3))).1.0
+wide_byte byte_at from (suc (suc zero)) Four below within =
+    (of_four (byte_at from) (byte_at (from + 1)) (byte_at (from + 2)) (byte_at (from + 3)) (below from)
+    (below (from + 1)) (below (from + 2)) (below (from + 3))).1.1.0
+wide_byte byte_at from (suc (suc (suc zero))) Four below within =
+    (of_four (byte_at from) (byte_at (from + 1)) (byte_at (from + 2)) (byte_at (from + 3)) (below from)
+    (below (from + 1)) (below (from + 2)) (below (from + 3))).1.1.1
+wide_byte byte_at from (suc i) One below within = absurd (omega arith)
+wide_byte byte_at from (suc (suc i)) Two below within = absurd (omega arith)
+wide_byte byte_at from (suc (suc (suc (suc i)))) Four below within = absurd (omega arith)
+
+wide_fits : (byte_at : ℕ → ℕ) (from : ℕ) (width : Width) → ((at : ℕ) → byte_at at < 256) →
+    wide byte_at from width < 256 ^ bytes_of width
+wide_fits byte_at from One below = below from
+wide_fits byte_at from Two below = omega (arith, below from, below (from + 1))
+wide_fits byte_at from Four below = omega (arith, below from, below (from + 1), below (from + 2), below (from + 3))
+
+ones_byte : (i : ℕ) (width : Width) → i < bytes_of width → byte (largest_of width) i ≡ 255
+ones_byte zero One within = refl
+ones_byte zero Two within = refl
+ones_byte (suc zero) Two within = refl
+ones_byte zero Four within = refl
+ones_byte (suc zero) Four within = refl
+ones_byte (suc (suc zero)) Four within = refl
+ones_byte (suc (suc (suc zero))) Four within = refl
+ones_byte (suc i) One within = absurd (omega arith)
+ones_byte (suc (suc i)) Two within = absurd (omega arith)
+ones_byte (suc (suc (suc (suc i)))) Four within = absurd (omega arith)
+
+module _ (setup : Setup) (before : List Entry) (rom : (at : ℕ) → slice_index setup.rom at < 256) where
+  dram_below : (at : ℕ) → dram_byte setup before at < 256
+  dram_below at = value_below setup before setup.rom [] Smram at One refl rom tt
+
+  card_below : (dev base : ℕ) → IsBaseNumber dev base → (off : ℕ) → card_byte before dev base off < 256
+  card_below dev base number off =
+      let there : List ℕ = replicate (off + 1) 0 in
+      let contents : List (List ℕ) = replicate (slot_number dev base + 1) there in
+      let is_there : held contents dev base ≡ there =
+      get_or-replicate (slot_number dev base + 1) (slot_number dev base) there [] (omega arith) in
+      let long : off + 1 ≤ length (held contents dev base) =
+      rw is_there (omega (arith, length-replicate {A = ℕ} (off + 1) 0)) in
+      value_below setup before setup.rom contents (Card dev base off) 0 One refl rom
+      (record { number = number; fits = λ other. long })
+
+  pub value_fits : (target : Target) (place : ℕ) (width : Width) → InMemory setup target →
+      value_at setup before target place width < 256 ^ bytes_of width
+  value_fits (Dram row) place width is = wide_fits (dram_byte setup before) place width dram_below
+  value_fits (Shadow row) place width is = wide_fits (dram_byte setup before) place width dram_below
+  value_fits Smram place width is = wide_fits (dram_byte setup before) place width dram_below
+  value_fits (Rom off) place width is = wide_fits (slice_index setup.rom) off width rom
+  value_fits (Card dev base off) place width is =
+      wide_fits (λ at. card_byte before dev base at) off width (card_below dev base is.number)
+  value_fits (Device dev) place width is = absurd is
+  value_fits (Config reg) place width is = absurd is
+  value_fits Abort place One is = omega arith
+  value_fits Abort place Two is = omega arith
+  value_fits Abort place Four is = omega arith
+
+  pub byte_alone : (target : Target) (place i : ℕ) (width : Width) → InMemory setup target → i < bytes_of width →
+      byte (value_at setup before target place width) i ≡ value_at setup before (moved target i) (place + i) One
+  byte_alone (Dram row) place i width is within = wide_byte (dram_byte setup before) place i width dram_below within
+  byte_alone (Shadow row) place i width is within = wide_byte (dram_byte setup before) place i width dram_below within
+  byte_alone Smram place i width is within = wide_byte (dram_byte setup before) place i width dram_below within
+  byte_alone (Rom off) place i width is within = wide_byte (slice_index setup.rom) off i width rom within
+  byte_alone (Card dev base off) place i width is within =
+      wide_byte (λ at. card_byte before dev base at) off i width (card_below dev base is.number) within
+  byte_alone (Device dev) place i width is within = absurd is
+  byte_alone (Config reg) place i width is within = absurd is
+  byte_alone Abort place i width is within = ones_byte i width within

@@ -1,0 +1,137 @@
+-- The window of a card that claims an address has the size of its base, of 4 bytes or more.
+use Rattle.std.proofs.Common.{◌≡◌, ℕ, zero, suc, ◌+◌, ◌<◌, ◌≤◌, Bool, true, false, ◌&&◌, List, [], ◌∷◌, ◌++◌, length, get_or, Option, Some, None, inl, inr, refl, sym, ap, subst, ◌∙◌, arith, lit<, lit≤, ◌==◌, All, find, flat_map, slice_get, if◌then◌else◌, is_some, not, unwrap_or}
+use Rattle.board_prelude.proofs.Common.{cases_Bool, cond-true, cond-false, eq-eqb, ne_eqb, All-nil, All-cons, All-head, All-tail, All-append, enumerate_from, Base, MemoryBase, IoBase, FittedCard, Setup, IsBase, IsCard, IsCardList, Rises, IsExpansionRom, card_at, window_bits, bits_of_base, Bytes, Window, is_covered, is_enabled_for, is_rom_on, memory_window, memory_windows, rom_window, rom_window_of, vga_window, memory_claim, Kind, fdhc, smram, xbcs, lies_in, upper_memory, row_of, hole_of, is_in, is_smram_range, is_shadowed, smram_answers, is_rom_selected, area_of}
+use Rattle.board_base.specs.declared.target.Area.TheVariants.{Card as CardArea}
+use Rattle.board_chipset.proofs.HeldTargets.{IsClaim, claim_line}
+use Rattle.pci_bars.specs.Common.{IsBaseNumber}
+use Rattle.pci_bars.proofs.BaseLemmas.{is_base}
+
+-- a card with this number has a base with that one, which has 4 bytes or more
+pub record IsWindow (setup : Setup) (dev base : ℕ) : Type 0 where
+  pub number : IsBaseNumber dev base
+  pub least : 2 ≤ window_bits setup dev base
+
+abbrev OfCard : Setup → Window → Type 0
+OfCard setup window = IsWindow setup window.dev window.base
+
+-- a card that can be fitted, and is found by its number
+abbrev IsFound : Setup → FittedCard → Type 0
+IsFound setup card = IsCard card × (card_at setup card.dev ≡ Some card)
+
+found : (cards : List FittedCard) → Rises cards → (k : ℕ) (d : FittedCard) → k < length cards →
+    find (λ card. card.dev == (get_or cards k d).dev) cards ≡ Some (get_or cards k d)
+found [] rises k d within = absurd (omega arith)
+found (card ∷ later) rises zero d within =
+    cond-true (card.dev == card.dev) (Some card) (find (λ other. other.dev == card.dev) later)
+    (eq-eqb card.dev card.dev refl)
+found (card ∷ later) rises (suc k) d within =
+    let above : card.dev < (get_or later k d).dev = rises.0 k d (omega arith) in
+    cond-false (card.dev == (get_or later k d).dev) (Some card)
+    (find (λ other. other.dev == (get_or later k d).dev) later) (ne_eqb _ _ (omega arith))
+    ∙ found later rises.1 k d (omega arith)
+
+all_found : (setup : Setup) → IsCardList setup.cards → All (IsFound setup) setup.cards
+all_found setup list k d within = (list.each k d within, found setup.cards list.rises k d within)
+
+least_bits : (base : Base) → IsBase base → 2 ≤ bits_of_base (Some base)
+least_bits (MemoryBase bits) fit = omega (arith, fit.0)
+least_bits (IoBase bits) fit = fit.0
+
+base_window : (setup : Setup) (card : FittedCard) (k : ℕ) (base : Base) → IsFound setup card → k < 6 →
+    slice_get card.bases k ≡ Some base → IsWindow setup card.dev k
+base_window setup card k base is below at =
+    let not_vga : (k == 7) ≡ false = ne_eqb k 7 (λ (e : k ≡ 7). omega arith) in
+    let not_rom : (k == 6) ≡ false = ne_eqb k 6 (λ (e : k ≡ 6). omega arith) in
+    record {
+      number = record { first = is.0.first; last = is.0.last; below = omega arith };
+      least = rw (not_vga, not_rom, is.1, at) (least_bits base (is_base card.bases k base is.0.each at));
+    }
+
+base_windows : (setup : Setup) (bytes : Bytes) (card : FittedCard) → IsFound setup card → (k : ℕ) (bases : List Base) →
+    k + length bases ≤ 6 → ((i : ℕ) → slice_get card.bases (k + i) ≡ slice_get bases i) →
+    All (OfCard setup)
+    (flat_map (λ numbered. memory_window bytes card.dev numbered.0 numbered.1) (enumerate_from k bases))
+base_windows setup bytes card is k [] few same = All-nil (OfCard setup)
+base_windows setup bytes card is k (MemoryBase bits ∷ later) few same =
+    All-cons (OfCard setup) _ _
+    (base_window setup card k (MemoryBase bits) is (omega arith) (ap (slice_get card.bases) (omega arith) ∙ same 0))
+    (base_windows setup bytes card is (k + 1) later (omega arith)
+    (λ i. ap (slice_get card.bases) (omega arith) ∙ same (i + 1) ∙ grind arith))
+base_windows setup bytes card is k (IoBase bits ∷ later) few same =
+    base_windows setup bytes card is (k + 1) later (omega arith)
+    (λ i. ap (slice_get card.bases) (omega arith) ∙ same (i + 1) ∙ grind arith)
+
+rom_windows : (setup : Setup) (bytes : Bytes) (card : FittedCard) → IsFound setup card → (rom : Option ℕ) →
+    card.rom ≡ rom → IsExpansionRom rom → All (OfCard setup) (rom_window_of bytes card.dev rom)
+rom_windows setup bytes card is None none size = All-nil (OfCard setup)
+rom_windows setup bytes card is (Some bits) some size =
+    All-cons (OfCard setup) _ [] (record {
+      number = record { first = is.0.first; last = is.0.last; below = lit< tt };
+      least = rw (is.1, some) (omega (arith, size.0));
+    }) (All-nil (OfCard setup))
+
+vga_windows : (setup : Setup) (card : FittedCard) → IsFound setup card → All (OfCard setup) (vga_window card)
+vga_windows setup card is =
+    elim (cases_Bool card.vga) [
+      | inl vga ↦
+          rw vga (All-cons (OfCard setup) _ [] (record {
+            number = record { first = is.0.first; last = is.0.last; below = lit< tt };
+            least = lit≤ tt;
+          }) (All-nil (OfCard setup)))
+      | inr plain ↦ rw plain (All-nil (OfCard setup))
+    ]
+
+card_windows : (setup : Setup) (bytes : Bytes) (card : FittedCard) → IsFound setup card →
+    All (OfCard setup) (memory_windows bytes card)
+card_windows setup bytes card is =
+    let bases : List Window =
+    flat_map (λ numbered. memory_window bytes card.dev numbered.0 numbered.1) (enumerate_from 0 card.bases) in
+    let rom : List Window = if is_rom_on bytes card.dev then rom_window bytes card else [] in
+    let of_rom : All (OfCard setup) rom =
+    elim (cases_Bool (is_rom_on bytes card.dev)) [
+      | inl on ↦ rw on (rom_windows setup bytes card is card.rom refl is.0.rom)
+      | inr off ↦ rw off (All-nil (OfCard setup))
+    ] in
+    All-append (OfCard setup) (bases ++ rom) (vga_window card)
+    (All-append (OfCard setup) bases rom
+    (base_windows setup bytes card is 0 card.bases (let few = is.0.count in omega arith)
+    (λ i. ap (slice_get card.bases) (omega arith))) of_rom)
+    (vga_windows setup card is)
+
+all_windows : (setup : Setup) (bytes : Bytes) (cards : List FittedCard) → All (IsFound setup) cards →
+    All (OfCard setup) (flat_map (memory_windows bytes) cards)
+all_windows setup bytes [] are = All-nil (OfCard setup)
+all_windows setup bytes (card ∷ later) are =
+    All-append (OfCard setup) (memory_windows bytes card) (flat_map (memory_windows bytes) later)
+    (card_windows setup bytes card (All-head (IsFound setup) card later are))
+    (all_windows setup bytes later (All-tail (IsFound setup) card later are))
+
+All-find : (P : Window → Type 0) (test : Window → Bool) (windows : List Window) (window : Window) → All P windows →
+    find test windows ≡ Some window → P window
+All-find P test [] window each is = absurd (cc)
+All-find P test (first ∷ later) window each is =
+    elim (cases_Bool (test first)) [
+      | inl hit ↦ let same : Some first ≡ Some window = rw hit at is in subst P (cc) (All-head P first later each)
+      | inr miss ↦ All-find P test later window (All-tail P first later each) (rw miss at is)
+    ]
+
+pub claiming : (setup : Setup) (bytes : Bytes) (addr : ℕ) (window : Window) → IsCardList setup.cards →
+    memory_claim setup bytes addr ≡ Some window → IsWindow setup window.dev window.base
+unfolding memory_claim
+claiming setup bytes addr window list is =
+    All-find (OfCard setup) (λ window. is_enabled_for 1 bytes window.dev && is_covered addr window)
+    (flat_map (memory_windows bytes) setup.cards) window
+    (all_windows setup bytes setup.cards (all_found setup list)) is
+
+-- the area of a card is that of a window
+pub card_window : (setup : Setup) (bytes : Bytes) (addr : ℕ) (kind : Kind) (smm : Bool) (dev base : ℕ) →
+    IsCardList setup.cards → area_of setup bytes addr kind smm ≡ CardArea dev base → IsWindow setup dev base
+unfolding area_of
+card_window setup bytes addr kind smm dev base list is =
+    let claim : IsClaim (memory_claim setup bytes addr) dev base =
+    claim_line (is_smram_range addr && is_some (row_of bytes addr) && smram_answers (bytes smram) kind smm)
+    (is_some (row_of bytes addr) && is_shadowed bytes addr kind)
+    (not (lies_in upper_memory addr) && is_some (row_of bytes addr) && not (is_in (hole_of (bytes fdhc)) addr))
+    (is_rom_selected (bytes xbcs) addr) (unwrap_or (row_of bytes addr) 0) (memory_claim setup bytes addr) dev base is in
+    subst (λ (n : ℕ). IsWindow setup dev n) claim.3
+    (subst (λ (n : ℕ). IsWindow setup n claim.0.base) claim.2 (claiming setup bytes addr claim.0 list claim.1))

@@ -1,0 +1,6 @@
+mod AlignedAreas
+mod CardWindows
+mod ByteReads
+mod PartBytes
+mod ToldBytes
+mod RomReads

@@ -1,0 +1,351 @@
+-- Each byte of a read is the one that a read of that byte alone gives.
+use Rattle.std.proofs.Common.{◌≡◌, ◌≢◌, ℕ, zero, suc, ◌+◌, ◌-◌, ◌%◌, ◌^◌, ◌<◌, ◌≤◌, ◌⊎◌, Bool, true, false, ◌&&◌, not, List, [], ◌∷◌, ◌++◌, length, Option, Some, None, inl, inr, refl, sym, ap, subst, ◌∙◌, arith, ◌==◌, nat_le, nat_lt, if◌then◌else◌, All, map, slice_index}
+use Rattle.board_prelude.proofs.Common.{AllByRecursion, recursion_from_All, and_parts, and_right, eqb-true, cases_Bool, cond-true, cond-false, eq-eqb, le-ltb, lt-ltb, Width, One, Kind, WideAccess, bytes_of, Area, Target, Dram, Shadow, Smram, Rom, Card, Device, Config, Abort, Denial, Register, Confadd, NoRegister, Entry, Setup, IsSetup, IsInRange, Event, Memory, Wide, Port, Ack, Pulses, Time, Wire, Line, BadSector, Part, Parts, Reply, Bus, Saw, Bytes, byte, is_write, memory_claim, memory_target, memory_denial, parts_of, parts_list, joined, value_at, target_at, longest_at, address_count, expansion_byte, IsPart, AreParts, Covers, IsAnswer, IsWideAnswer}
+use Rattle.board_spec.specs.Common.{area_of, memory_answer, part_answer, parts_from, wide_value}
+use Rattle.board_spec.specs.Registers.{byte_of as register_byte}
+use Rattle.board_spec.specs.declared.event.Event.TheVariants.{Look as LookAt}
+use Rattle.board_spec.specs.declared.event.Parts.TheVariants as parts
+use Rattle.board_spec.specs.declared.event.Reply.TheVariants as replies
+use Rattle.board_spec.proofs.PartLawProofs.{cut_into_parts}
+use Rattle.board_base.specs.declared.access.Width.TheVariants.{Two, Four}
+use Rattle.board_base.specs.declared.access.Access.{Access}
+use Rattle.board_base.specs.declared.target.Area.TheVariants.{Card as CardArea}
+use Rattle.expansion_roms.specs.Roms.{given, rom_byte}
+use Rattle.board_records.specs.declared.event.EventRecord.{EventRecord}
+use Rattle.board_records.specs.declared.reply.AfterStep.{AfterStep}
+use Rattle.board_records.specs.declared.reply.PartRecord.{PartRecord}
+use Rattle.board_records.specs.declared.reply.ReplyRecord.{ReplyRecord}
+use Rattle.board_records.specs.Replies.{no_part, of_part, target_said, with_denial, part_said, blank, bus_said, wide_said, record_said}
+use Rattle.board_records.specs.RomReplies.{byte_by, byte_told, is_given, part_of, parts_said, reads_given, with_roms}
+use Rattle.rom_laws.specs.RomReads.{AreBytes, IsOfGivenRom, OnlyValueChanges, OtherRepliesStay, ReadsByteByByte, SaysRead, byte_access, byte_of, byte_read, read_by}
+use Rattle.rom_laws.proofs.AlignedAreas.{same_area}
+use Rattle.rom_laws.proofs.CardWindows.{IsWindow, card_window}
+use Rattle.rom_laws.proofs.ByteReads.{InMemory, byte_alone, moved, reaches_memory, target_moved, value_fits}
+use Rattle.rom_laws.proofs.PartBytes.{Moves, moves}
+use Rattle.rom_laws.proofs.ToldBytes.{AreOthers, by_others, value_told}
+
+-- ---- the byte of a part, by its target
+
+by_denied : (roms : List (List ℕ)) (part : PartRecord) (denial : Option Denial) (i old : ℕ) →
+    byte_by roms (Some (with_denial part denial, i)) old ≡ byte_by roms (Some (part, i)) old
+by_denied roms part None i old = refl
+by_denied roms part (Some (Register reg)) i old = refl
+by_denied roms part (Some Confadd) i old = refl
+by_denied roms part (Some NoRegister) i old = refl
+
+none_left : (roms : List (List ℕ)) (dev off : ℕ) → (length (given roms dev) == 0) ≡ true →
+    rom_byte roms dev off ≡ expansion_byte dev off
+none_left roms dev off none =
+    let short : length (given roms dev) ≡ 0 = eqb-true (length (given roms dev)) 0 none in
+    cond-false (nat_lt off (length (given roms dev))) _ _ (le-ltb off (length (given roms dev)) (omega (arith, short)))
+
+by_target : (roms : List (List ℕ)) (setup : Setup) (before : List Entry) (target : Target) (i place old : ℕ) →
+    InMemory setup target → old ≡ value_at setup before (moved target i) place One →
+    byte_by roms (Some (target_said target, i)) old ≡ byte_of roms setup before (moved target i) place
+by_target roms setup before (Dram row) i place old is alone = alone
+by_target roms setup before (Shadow row) i place old is alone = alone
+by_target roms setup before Smram i place old is alone = alone
+by_target roms setup before (Rom off) i place old is alone = alone
+by_target roms setup before (Card dev base off) i place old is alone =
+    elim (cases_Bool (base == 6)) [
+      | inl rom ↦
+          let fixed : old ≡ expansion_byte dev (off + i) = rw rom at alone in
+          elim (cases_Bool (length (given roms dev) == 0)) [
+            | inl none ↦ rw (rom, none, fixed) (sym (none_left roms dev (off + i) none))
+            | inr some ↦ rw (rom, some, fixed) refl
+          ]
+      | inr other ↦ rw other (rw other at alone)
+    ]
+by_target roms setup before (Device dev) i place old is alone = absurd is
+by_target roms setup before (Config reg) i place old is alone = absurd is
+by_target roms setup before Abort i place old is alone = alone
+
+-- ---- the byte of a part alone
+
+module _ (setup : Setup) (before : List Entry) (roms : List (List ℕ)) (fits : IsSetup setup) (bytes : AreBytes setup roms) where
+  window_of : (part : Access) (dev base : ℕ) →
+      area_of setup (register_byte setup before) part.addr part.kind part.smm ≡ CardArea dev base →
+      IsWindow setup dev base
+  window_of part dev base is =
+      card_window setup (register_byte setup before) part.addr part.kind part.smm dev base fits.cards is
+
+  in_memory : (part : Access) → InMemory setup (memory_target setup before part)
+  in_memory part =
+      reaches_memory setup (area_of setup (register_byte setup before) part.addr part.kind part.smm) part.addr
+      (window_of part)
+
+  abbrev value_of : Access → ℕ
+  value_of part = value_at setup before (memory_target setup before part) part.addr part.width
+
+  abbrev of_access : Access → PartRecord
+  of_access part = of_part (part_answer setup before part)
+
+  -- byte i of an aligned part, where the board told its byte
+  byte_of_part : (part : Access) (i old : ℕ) → part.addr % bytes_of part.width ≡ 0 → i < bytes_of part.width →
+      part.addr + i < address_count → old ≡ byte (value_of part) i →
+      byte_by roms (Some (of_access part, i)) old ≡ byte_read roms setup before part.kind part.smm (part.addr + i)
+  unfolding part_answer part_said
+  byte_of_part part i old aligned within last is =
+      let registers : Bytes = register_byte setup before in
+      let area : Area = area_of setup registers part.addr part.kind part.smm in
+      let target : Target = memory_target setup before part in
+      let there : memory_target setup before (byte_access part.kind part.smm (part.addr + i)) ≡ moved target i =
+      ap (λ (it : Area). target_at setup it (part.addr + i))
+      (same_area setup registers part.addr i part.width part.kind part.smm fits.cards.each aligned within last)
+      ∙ target_moved setup area part.addr i part.width fits.rom (window_of part) aligned within in
+      let alone : old ≡ value_at setup before (moved target i) (part.addr + i) One =
+      is ∙ byte_alone setup before bytes.rom target part.addr i part.width (in_memory part) within in
+      by_denied roms (target_said target) (memory_denial setup before part) i old
+      ∙ by_target roms setup before target i (part.addr + i) old (in_memory part) alone
+      ∙ ap (λ (it : Target). byte_of roms setup before it (part.addr + i)) (sym there)
+
+  -- ---- one cycle
+
+  one_cycle : (width : Width) (addr : ℕ) → addr % bytes_of width ≡ 0 → longest_at addr (bytes_of width) ≡ width
+  one_cycle One addr aligned = rw (and_right (addr % 4 == 0) false refl, and_right (addr % 2 == 0) false refl) refl
+  one_cycle Two addr aligned = rw (and_right (addr % 4 == 0) false refl, eq-eqb (addr % 2) 0 aligned) refl
+  one_cycle Four addr aligned = rw (eq-eqb (addr % 4) 0 aligned) refl
+
+  moved_by_one : (addr : ℕ) (width : Width) (rest : List PartRecord) (said : PartRecord) (k : ℕ) →
+      addr % bytes_of width ≡ 0 → k < bytes_of width →
+      part_of (said ∷ rest) addr (bytes_of width) 0 k ≡ Some (said, k)
+  unfolding part_of
+  moved_by_one addr width rest said k aligned within =
+      let start : addr + 0 ≡ addr = omega arith in
+      let all : bytes_of width - 0 ≡ bytes_of width = omega arith in
+      let cycle : longest_at (addr + 0) (bytes_of width - 0) ≡ width =
+      ap (λ n. longest_at n (bytes_of width - 0)) start ∙ ap (λ n. longest_at addr n) all ∙ one_cycle width addr aligned in
+      let count : bytes_of (longest_at (addr + 0) (bytes_of width - 0)) ≡ bytes_of width = ap bytes_of cycle in
+      let place : k - 0 ≡ k = omega arith in
+      cond-true (nat_lt k (0 + bytes_of (longest_at (addr + 0) (bytes_of width - 0)))) _ _
+      (lt-ltb k (0 + bytes_of (longest_at (addr + 0) (bytes_of width - 0))) (omega (arith, count, within)))
+      ∙ ap (λ (n : ℕ). Some (said, n)) place
+
+  read_whole : (said : EventRecord) (access : Access) (after : AfterStep) (k : ℕ) → is_write access.kind ≡ false →
+      said.addr ≡ access.addr → said.bytes ≡ bytes_of access.width → access.addr % bytes_of access.width ≡ 0 →
+      access.addr < address_count → k < bytes_of access.width →
+      byte (with_roms roms said (record_said (memory_answer setup before access) after)).value k
+      ≡ byte_read roms setup before access.kind access.smm (access.addr + k)
+  unfolding memory_answer record_said bus_said blank byte_told part_answer area_of part_said
+  read_whole said access after k reads addr count aligned address within =
+      let target : Target = memory_target setup before access in
+      let denial : Option Denial = memory_denial setup before access in
+      let told : ReplyRecord = bus_said (Some (value_of access)) target denial after in
+      let reply : record_said (memory_answer setup before access) after ≡ told =
+      ap (λ (value : Option ℕ). bus_said value target denial after)
+      (cond-false (is_write access.kind) None (Some (value_of access)) reads) in
+      let found : part_of (parts_said told) said.addr said.bytes 0 k ≡ Some (of_access access, k) =
+      rw (addr, count)
+      (moved_by_one access.addr access.width (no_part ∷ no_part ∷ no_part ∷ []) (of_access access) k aligned within) in
+      let by_part : byte_told roms said told k ≡ byte_by roms (Some (of_access access, k)) (byte (value_of access) k) =
+      ap (λ (by : Option (PartRecord × ℕ)). byte_by roms by (byte (value_of access) k)) found in
+      let last : access.addr + k < address_count = ends access.width access.addr k aligned address within in
+      ap (λ (it : ReplyRecord). byte (with_roms roms said it).value k) reply
+      ∙ value_told roms bytes.given said told k refl (few access.width k within)
+      ∙ by_part
+      ∙ byte_of_part access k (byte (value_of access) k) aligned within last refl
+    where
+      few : (width : Width) (k : ℕ) → k < bytes_of width → k < 8
+      few One k within = omega arith
+      few Two k within = omega arith
+      few Four k within = omega arith
+
+      ends : (width : Width) (addr k : ℕ) → addr % bytes_of width ≡ 0 → addr < address_count → k < bytes_of width →
+          addr + k < address_count
+      ends One addr k aligned address within = omega arith
+      ends Two addr k aligned address within = omega arith
+      ends Four addr k aligned address within = omega arith
+
+  -- ---- a wide access
+
+  -- the records after those of the parts
+  abbrev others_of : Parts → List PartRecord
+  others_of (parts.Two a b) = no_part ∷ no_part ∷ []
+  others_of (parts.Three a b c) = no_part ∷ []
+  others_of (parts.Four a b c d) = []
+
+  parts_listed : (they : Parts) (value : ℕ) (after : AfterStep) →
+      parts_said (wide_said they (Some value) after) ≡ map of_part (parts_list they) ++ others_of they
+  unfolding wide_said blank
+  parts_listed (parts.Two a b) value after = refl
+  parts_listed (parts.Three a b c) value after = refl
+  parts_listed (parts.Four a b c d) value after = refl
+
+  map_map : (accesses : List Access) →
+      map of_part (map (part_answer setup before) accesses) ≡ map of_access accesses
+  unfolding part_said
+  map_map [] = refl
+  map_map (first ∷ later) = ap (λ (they : List PartRecord). of_access first ∷ they) (map_map later)
+
+  valued : (they : Parts) (value : ℕ) (after : AfterStep) →
+      ((wide_said they (Some value) after).has_value ≡ 1) × ((wide_said they (Some value) after).value ≡ value)
+  unfolding wide_said blank
+  valued (parts.Two a b) value after = (refl, refl)
+  valued (parts.Three a b c) value after = (refl, refl)
+  valued (parts.Four a b c d) value after = (refl, refl)
+
+  same_byte : (kind kind' : Kind) (smm smm' : Bool) (addr addr' : ℕ) → kind ≡ kind' → smm ≡ smm' → addr ≡ addr' →
+      byte_read roms setup before kind smm addr ≡ byte_read roms setup before kind' smm' addr'
+  same_byte kind kind' smm smm' addr addr' p q r = rw (p, q, r) refl
+
+  few_bytes : (bytes k : ℕ) → (bytes ≡ 2) ⊎ (bytes ≡ 4) ⊎ (bytes ≡ 8) → k < bytes → k < 8
+  few_bytes bytes k (inl two) within = omega arith
+  few_bytes bytes k (inr (inl four)) within = omega arith
+  few_bytes bytes k (inr (inr eight)) within = omega arith
+
+  read_by_part : (said : EventRecord) (access : WideAccess) (they : Parts) (after : AfterStep) (k : ℕ) →
+      said.addr ≡ access.addr → said.bytes ≡ access.bytes → access.addr + k < address_count → k < 8 →
+      map of_part (parts_list they) ≡ map of_access (parts_of access) →
+      Moves access of_access value_of (others_of they) (IsPart access) (parts_of access) 0 k →
+      byte (with_roms roms said (wide_said they (Some (joined value_of (parts_of access))) after)).value k
+      ≡ byte_read roms setup before access.kind access.smm (access.addr + k)
+  unfolding byte_told
+  read_by_part said access they after k addr count last few each by =
+      let whole : ℕ = joined value_of (parts_of access) in
+      let told : ReplyRecord = wide_said they (Some whole) after in
+      let listed : parts_said told ≡ map of_access (parts_of access) ++ others_of they =
+      parts_listed they whole after ∙ ap (λ (list : List PartRecord). list ++ others_of they) each in
+      let start : k ≡ k - 0 = omega arith in
+      let old : byte told.value k ≡ byte (value_of by.part) by.place =
+      ap (λ (n : ℕ). byte n k) (valued they whole after).1 ∙ ap (λ (i : ℕ). byte whole i) start ∙ by.value_is in
+      let found : part_of (parts_said told) said.addr said.bytes 0 k ≡ Some (of_access by.part, by.place) =
+      ap (λ (n : ℕ). part_of (parts_said told) n said.bytes 0 k) addr
+      ∙ ap (λ (n : ℕ). part_of (parts_said told) access.addr n 0 k) count
+      ∙ ap (λ (list : List PartRecord). part_of list access.addr access.bytes 0 k) listed
+      ∙ by.found in
+      let by_part : byte_told roms said told k ≡ byte_by roms (Some (of_access by.part, by.place)) (byte told.value k) =
+      ap (λ (it : Option (PartRecord × ℕ)). byte_by roms it (byte told.value k)) found in
+      let there : by.part.addr + by.place < address_count = omega (arith, by.address, last) in
+      value_told roms bytes.given said told k (valued they whole after).0 few
+      ∙ by_part
+      ∙ byte_of_part by.part by.place (byte told.value k) by.is.legal.aligned by.within there old
+      ∙ same_byte by.part.kind access.kind by.part.smm access.smm (by.part.addr + by.place) (access.addr + k) by.is.kind
+      by.is.smm by.address
+
+  moved_by : (access : WideAccess) (rest : List PartRecord) (k : ℕ) → AreParts access (parts_of access) → k < access.bytes →
+      Moves access of_access value_of rest (IsPart access) (parts_of access) 0 k
+  moved_by access rest k cut within =
+      let start : access.addr ≡ access.addr + 0 = omega arith in
+      let all : access.bytes ≡ access.bytes - 0 = omega arith in
+      let fit : (part : Access) → IsPart access part → value_of part < 256 ^ bytes_of part.width =
+      λ part it.
+      value_fits setup before bytes.rom (memory_target setup before part) part.addr part.width (in_memory part) in
+      moves access of_access value_of rest (IsPart access) fit 4 0 k (parts_of access)
+      (ap (λ n. parts_from access 4 n access.bytes) start ∙ ap (λ n. parts_from access 4 (access.addr + 0) n) all)
+      cut.each (subst (λ (n : ℕ). Covers n (access.addr + access.bytes) (parts_of access)) start cut.covers) (omega arith)
+      within
+
+  read_in_parts : (said : EventRecord) (access : WideAccess) (value : Option ℕ) (they : Parts) (after : AfterStep) (k : ℕ) →
+      is_write access.kind ≡ false → said.addr ≡ access.addr → said.bytes ≡ access.bytes →
+      IsInRange setup (Wide access) → IsWideAnswer setup before access value they → k < access.bytes →
+      byte (with_roms roms said (record_said (replies.Parts they value) after)).value k
+      ≡ byte_read roms setup before access.kind access.smm (access.addr + k)
+  unfolding record_said wide_value area_of
+  read_in_parts said access value they after k reads addr count legal answer within =
+      let whole : ℕ = joined value_of (parts_of access) in
+      let is : value ≡ Some whole = answer.value_is ∙ cond-false (is_write access.kind) None (Some whole) reads in
+      let each : map of_part (parts_list they) ≡ map of_access (parts_of access) =
+      ap (λ (list : List Part). map of_part list) answer.each ∙ map_map (parts_of access) in
+      let last : access.addr + k < address_count = omega (arith, legal.ends, within) in
+      ap (λ (it : Option ℕ). byte (with_roms roms said (wide_said they it after)).value k) is
+      ∙ read_by_part said access they after k addr count last (few_bytes access.bytes k legal.bytes within) each
+      (moved_by access (others_of they) k (cut_into_parts access legal) within)
+
+-- ---- the laws
+
+read_in_wide :
+    (setup : Setup) (before : List Entry) (roms : List (List ℕ)) (fits : IsSetup setup) (bytes : AreBytes setup roms)
+    (said : EventRecord) (access : WideAccess) (reply : Reply) (after : AfterStep) (k : ℕ) →
+    is_write access.kind ≡ false → said.addr ≡ access.addr → said.bytes ≡ access.bytes →
+    IsInRange setup (Wide access) → IsAnswer setup before (Wide access) reply → k < access.bytes →
+    byte (with_roms roms said (record_said reply after)).value k
+    ≡ byte_read roms setup before access.kind access.smm (access.addr + k)
+read_in_wide setup before roms fits bytes said access (Bus value target denial) after k reads addr count legal answer within =
+    absurd answer
+read_in_wide setup before roms fits bytes said access (Saw look) after k reads addr count legal answer within = absurd answer
+read_in_wide setup before roms fits bytes said access (replies.Parts they value) after k reads addr count legal answer within =
+    read_in_parts setup before roms fits bytes said access value they after k reads addr count legal answer within
+
+-- the bytes that are read are those that the record says
+abbrev Reads : (read : WideAccess) → EventRecord → Setup → List Entry → List (List ℕ) → ReplyRecord → (k : ℕ) → Type 0
+Reads read said setup before roms reply k =
+    said.addr ≡ read.addr → said.bytes ≡ read.bytes → read.addr < address_count → k < read.bytes →
+    byte (with_roms roms said reply).value k ≡ byte_read roms setup before read.kind read.smm (read.addr + k)
+
+pub reads_byte_by_byte : ReadsByteByByte
+reads_byte_by_byte setup before roms said (Memory access) read reply after k fits bytes says answer within =
+    elim (cases_Bool (is_write access.kind)) [
+      | inl writes ↦ let none : ◌≡◌ {A = Option WideAccess} None (Some read) = rw writes at says.reads in absurd (cc)
+      | inr reads ↦
+          let whole : WideAccess =
+          record { kind = access.kind; bytes = bytes_of access.width; smm = access.smm; addr = access.addr; value = 0 } in
+          let some : Some whole ≡ Some read = rw reads at says.reads in
+          let same : whole ≡ read = cc in
+          subst (λ (it : WideAccess). Reads it said setup before roms (record_said reply after) k) same
+          (λ addr count address below.
+          ap (λ (it : Reply). byte (with_roms roms said (record_said it after)).value k) answer
+          ∙ read_whole setup before roms fits bytes said access after k reads addr count says.range.aligned address below)
+          says.addr says.bytes says.address within
+    ]
+reads_byte_by_byte setup before roms said (Wide access) read reply after k fits bytes says answer within =
+    elim (cases_Bool (is_write access.kind)) [
+      | inl writes ↦ let none : ◌≡◌ {A = Option WideAccess} None (Some read) = rw writes at says.reads in absurd (cc)
+      | inr reads ↦
+          let some : Some access ≡ Some read = rw reads at says.reads in
+          let same : access ≡ read = cc in
+          subst (λ (it : WideAccess). Reads it said setup before roms (record_said reply after) k) same
+          (λ addr count address below.
+          read_in_wide setup before roms fits bytes said access reply after k reads addr count says.range answer below)
+          says.addr says.bytes says.address within
+    ]
+reads_byte_by_byte setup before roms said (Port access) read reply after k fits bytes says answer within =
+    let none : ◌≡◌ {A = Option WideAccess} None (Some read) = says.reads in absurd (cc)
+reads_byte_by_byte setup before roms said (LookAt kind addr smm) read reply after k fits bytes says answer within =
+    let none : ◌≡◌ {A = Option WideAccess} None (Some read) = says.reads in absurd (cc)
+reads_byte_by_byte setup before roms said Ack read reply after k fits bytes says answer within =
+    let none : ◌≡◌ {A = Option WideAccess} None (Some read) = says.reads in absurd (cc)
+reads_byte_by_byte setup before roms said (Pulses count) read reply after k fits bytes says answer within =
+    let none : ◌≡◌ {A = Option WideAccess} None (Some read) = says.reads in absurd (cc)
+reads_byte_by_byte setup before roms said (Time moment) read reply after k fits bytes says answer within =
+    let none : ◌≡◌ {A = Option WideAccess} None (Some read) = says.reads in absurd (cc)
+reads_byte_by_byte setup before roms said (Wire dev on) read reply after k fits bytes says answer within =
+    let none : ◌≡◌ {A = Option WideAccess} None (Some read) = says.reads in absurd (cc)
+reads_byte_by_byte setup before roms said (Line irq on) read reply after k fits bytes says answer within =
+    let none : ◌≡◌ {A = Option WideAccess} None (Some read) = says.reads in absurd (cc)
+reads_byte_by_byte setup before roms said (BadSector sector) read reply after k fits bytes says answer within =
+    let none : ◌≡◌ {A = Option WideAccess} None (Some read) = says.reads in absurd (cc)
+
+not_given : (roms : List (List ℕ)) (part : PartRecord) → ¬ IsOfGivenRom roms part → is_given roms part ≡ false
+not_given roms part apart =
+    elim (cases_Bool (is_given roms part)) [
+      | inl it ↦ absurd (apart (of_given roms part it))
+      | inr other ↦ other
+    ]
+  where
+    of_given : (roms : List (List ℕ)) (part : PartRecord) → is_given roms part ≡ true → IsOfGivenRom roms part
+    of_given roms part it =
+        let both = and_parts ((part.target == 5) && (part.base == 6)) (not (length (given roms part.unit) == 0)) it in
+        let place = and_parts (part.target == 5) (part.base == 6) both.0 in
+        record {
+          card = eqb-true part.target 5 place.0;
+          base = eqb-true part.base 6 place.1;
+          given = λ none. some_bytes (given roms part.unit) both.1 none;
+        }
+      where
+        some_bytes : (bytes : List ℕ) → not (length bytes == 0) ≡ true → bytes ≢ []
+        some_bytes [] some none = absurd (cc)
+        some_bytes (first ∷ later) some none = cc
+
+pub others_stay : OtherRepliesStay
+others_stay roms event reply none =
+    rw (
+      not_given roms reply.part0 (none 0 no_part (omega arith)),
+      not_given roms reply.part1 (none 1 no_part (omega arith)),
+      not_given roms reply.part2 (none 2 no_part (omega arith)),
+      not_given roms reply.part3 (none 3 no_part (omega arith)),
+      and_right (reply.has_value == 1) false refl,
+    ) refl
+
+pub value_changes : OnlyValueChanges
+value_changes roms event reply =
+    elim (cases_Bool (reads_given roms reply)) [ inl reads ↦ rw reads refl | inr other ↦ rw other refl ]
