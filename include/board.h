@@ -382,7 +382,7 @@ uint32_t board_cmos_write(board *handle, uint8_t address, uint8_t byte);
  * the base lies and whether or not the card decodes it; the bases are those of board_card_read. Of
  * the expansion ROM (6), which no guest writes, its bytes are the board's own until some are put. They
  * are not in what board_save writes: after board_load they are put again.
- * CLOSED, PAST_END; of a ROM NO_MEMORY. */
+ * CLOSED, PAST_END; NO_MEMORY only of a ROM into which no bytes were put yet. */
 uint32_t board_card_write(board *handle, uint8_t device, uint8_t base, uint32_t offset,
                           const uint8_t *from, size_t bytes);
 

@@ -96,7 +96,8 @@ fn tell(board: &Door, device: u8, base: u8, offset: u32, into: &mut [u8]) -> u32
 
 /// Puts bytes into a base of a card from an offset on, as if processors had written them, or into its expansion ROM, base
 /// 6, where reads find them and no processor writes. `CLOSED` exactly where the handle is closed, and `PAST_END` exactly
-/// where they do not all lie in the base; `NO_MEMORY` of a ROM alone; then nothing has changed.
+/// where they do not all lie in the base; `NO_MEMORY` only of a ROM into which no bytes were put yet; then nothing has
+/// changed.
 #[unsafe(no_mangle)]
 pub extern "C" fn board_card_write(
     alloc: Global,

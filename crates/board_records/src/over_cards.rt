@@ -79,8 +79,8 @@ impl Door {
     }
 
     /// Gives the expansion ROM of a card bytes from an offset on: reads give these from now on, and a write of the guest
-    /// changes none. Refused with `PAST_END` as `tell_rom` is, and with `NO_MEMORY` where there is none for all bytes of the
-    /// ROM; then nothing has changed.
+    /// changes none. Refused with `PAST_END` as `tell_rom` is, and with `NO_MEMORY` only of a ROM into which no bytes were
+    /// put yet, which takes memory for all of its bytes at once; then nothing has changed.
     pub fn write_rom(&mut self, alloc: Global, dev: u8, off: u32, bytes: &[u8]) -> u32
         ensures done { result ≡ ok → AreRomsWritten dev off bytes.now self.old self.new }
         ensures refused { result ≢ ok
