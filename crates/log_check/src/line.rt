@@ -7,8 +7,8 @@ ghost use Rattle.log_check.specs.declared.fault.CheckFault.{CheckFault};
 
 use crate::fault::CheckFault;
 use board_base::NoMemory;
-use logs_and_maps::{push_heading, push_parts_line};
 use board_spec::{Event, Reply};
+use logs_and_maps::{push_heading, push_parts_line};
 
 /// Puts the heading of a log in place of a text, with its line feed.
 pub(crate) fn print_heading(text: &mut String, version: u8) -> Result<(), NoMemory>
