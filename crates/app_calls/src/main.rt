@@ -5,6 +5,7 @@
 //!     uart STEP..                     a UART's registers
 //!     serial REQUEST..                a board with a UART on COM1, and the log of what the board itself was asked
 //!     master PRESET STEP..            the bus master and its transfers, over a board on which doublewords were written
+//!     pieces PRESET STEP..            the same in pieces, over a memory of this program's own
 //!     image bare|cards|step BYTES     where an image is bad, beyond what stands before its bytes
 //!     event WORD BYTES PLACE VALUE    whether an event is in range, and which field is not
 //!     time YEAR MONTH DAY WEEKDAY HOUR   the same of a moment
@@ -51,6 +52,7 @@ mod master;
 mod media;
 mod pair;
 mod parts;
+mod pieces;
 mod plain;
 mod ports;
 mod range;

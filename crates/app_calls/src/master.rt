@@ -9,6 +9,7 @@ ghost use Rattle.board_chipset.specs.Stores.{IsOfBoard};
 
 use crate::told::{push_byte, push_number};
 use arrayvec::ArrayVec;
+use ata_pio::Ata;
 use board_base::Width::{self, Four, One};
 use board_base::{Access, Kind, NoMemory, PortAccess};
 use board_chipset::{Chipset, Setup, Store};
@@ -19,21 +20,21 @@ use pci_bars::CardSpec;
 use std::alloc::{AllocError, Global};
 
 /// How many registers there are.
-const REGISTERS: u8 = 8;
+pub const REGISTERS: u8 = 8;
 
 /// The largest number of a sector.
-const LAST_SECTOR: u32 = 0xFFFF;
+pub const LAST_SECTOR: u32 = 0xFFFF;
 
 /// How many words a sector has.
-const SECTOR_WORDS: u32 = 256;
+pub const SECTOR_WORDS: u32 = 256;
 
 /// The card, and the number of the base behind which its window lies.
-const CARD: u8 = 2;
+pub const CARD: u8 = 2;
 
-const WINDOW: u8 = 7;
+pub const WINDOW: u8 = 7;
 
 /// The disk.
-fn disk(alloc: Global) -> Result<Vec<u8>, AllocError> {
+pub fn disk(alloc: Global) -> Result<Vec<u8>, AllocError> {
     let mut disk = vec![in alloc; 1; 512]?;
     for byte in 2..=4 {
         disk.extend_from_slice(&[byte; 512])?;
@@ -84,7 +85,7 @@ fn output(port: u16, width: Width, value: u32) -> Event {
 }
 
 /// The board, with its card enabled.
-fn chipset(alloc: Global) -> Result<Chipset, NoMemory> {
+pub fn chipset(alloc: Global) -> Result<Chipset, NoMemory> {
     let Ok(mut chipset) = Chipset::open_checked(alloc, setup(alloc)?) else {
         return Err(NoMemory);
     };
@@ -144,9 +145,14 @@ fn push_window(text: &mut String, store: &Store, off: u32) -> Result<(), AllocEr
     push_number(text, store.contents.read(CARD, WINDOW, off, Four))
 }
 
-/// Tells a word of the disk.
-fn push_word(text: &mut String, store: &Store, sector: u32, index: u32) -> Result<(), AllocError> {
-    match &store.disk {
+/// Tells a word of a disk.
+pub fn push_word(
+    text: &mut String,
+    disk: Option<&Ata>,
+    sector: u32,
+    index: u32,
+) -> Result<(), AllocError> {
+    match disk {
         Some(disk) if sector < disk.sectors() && index < SECTOR_WORDS => {
             push_number(text, disk.word(sector, index).into())
         }
@@ -163,13 +169,18 @@ fn push_place(text: &mut String, store: &Store, step: &str) -> Result<(), AllocE
         return push_window(text, store, number(off));
     }
     match step.trim_start_matches("disk").split_once('.') {
-        Some((sector, index)) => push_word(text, store, number(sector), number(index)),
+        Some((sector, index)) => push_word(
+            text,
+            store.disk.as_ref(),
+            number(sector),
+            number(index),
+        ),
         None => text.push_str("no step "),
     }
 }
 
 /// Tells all registers.
-fn push_all(text: &mut String, bus: &BusMaster) -> Result<(), AllocError> {
+pub fn push_all(text: &mut String, bus: &BusMaster) -> Result<(), AllocError> {
     for off in 0..REGISTERS {
         push_byte(text, bus.port_read(off))?;
     }
