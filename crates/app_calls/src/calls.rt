@@ -102,6 +102,18 @@ pub fn put<W: Write>(
     Ok(())
 }
 
+/// Bytes of one value into the DRAM.
+pub fn fill<W: Write>(
+    out: &mut W,
+    alloc: Global,
+    door: &mut Door,
+    numbers: &Numbers,
+) -> Result<(), AllocError> {
+    let bytes = vec![in alloc; numbers.byte(2); numbers.number(1) as usize]?;
+    tell::status(out, door.write_dram(numbers.number(0), &bytes));
+    Ok(())
+}
+
 /// One second of the clock.
 pub fn second<W: Write>(
     out: &mut W,

@@ -131,6 +131,7 @@ impl Desk {
             "sector" => calls::sector(out, self.alloc, door, numbers)?,
             "clock" => calls::clock(out, door, numbers),
             "put" => calls::put(out, self.alloc, door, numbers)?,
+            "fill" => calls::fill(out, self.alloc, door, numbers)?,
             "second" => calls::second(out, door, &mut self.event, &mut self.reply),
             "lines" => calls::lines(out, door),
             "serial" => calls::serial(out, door),

@@ -31,6 +31,7 @@
 //!     second                                                 one second of the clock
 //!     in PORT BYTES COUNT · out PORT BYTES VALUE..           accesses to a port in turn
 //!     put ADDR BYTE.. · set ADDR BYTE                        bytes into the DRAM and into the clock
+//!     fill ADDR BYTES BYTE                                   as many bytes of one value into the DRAM
 //!     save ROOM · load                                       the board as bytes, and the board of these bytes
 //!     turn AT BITS · cut COUNT                               turns bits of a byte that was saved; keeps so many
 //!     master ADDR BYTES WRITE                                where an access of a bus master would land
