@@ -15,7 +15,7 @@ use board_spec::Statement;
 use board_spec::laws::law_lock;
 use log_check::statement_count;
 use log_pieces::Text;
-use logs_and_maps::{push_heading, push_line};
+use logs_and_maps::{push_heading, push_parts_line};
 use script_text::Script;
 use std::alloc::Global;
 
@@ -32,8 +32,10 @@ fn push_phase(text: &mut String, replay: &mut Replay, phase: &[Statement]) -> Re
         → OnOk result (HasLog version replay.new (said ++ phase.now) (string_bytes text.new)) }
 {
     for statement in phase {
-        let entry = replay.step(statement.actor, &statement.event);
-        push_line(text, u64::from(replay.count()), &entry)?;
+        let reply = replay.answer(statement.actor, &statement.event);
+        let n = u64::from(replay.count());
+        let seq = replay.last_of(statement.actor);
+        push_parts_line(text, n, statement.actor, seq, &statement.event, &reply)?;
     }
     Ok(())
 }
