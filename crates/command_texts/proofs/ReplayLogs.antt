@@ -1,8 +1,10 @@
 -- One entry more in the log of a replay.
-use Rattle.std.proofs.Common.{ℕ, ◌≡◌, ◌+◌, ◌<◌, List, [], ◌∷◌, ◌++◌, length, take, get_or, refl, sym, ap, ◌∙◌, subst, append_assoc, append-nil, add-one}
+use Rattle.std.proofs.Common.{ℕ, ◌≡◌, ◌+◌, ◌<◌, List, [], ◌∷◌, ◌++◌, length, take, get_or, refl, sym, ap, ◌∙◌, subst, append_assoc, append-nil, add-one, slice_index}
 use Rattle.std.proofs.lemmas.List.{take_more}
 use Rattle.board_prelude.proofs.Common.{Entry, Statement, line_feed, line_text, lines_text, log_text, statement_of, statements-newest}
-use Rattle.board_core.specs.Kept.{Playing, HasPlayed}
+use Rattle.board_spec.specs.declared.event.Reply.{Reply}
+use Rattle.board_core.specs.Kept.{Playing, HasPlayed, entry_of}
+use Rattle.logs_and_maps.specs.LinesFrom.{entry_with}
 use Rattle.log_check.proofs.LogLines.{log_parts, lines-newest}
 use Rattle.command_texts.specs.ReplayLog.{HasLog}
 
@@ -60,3 +62,18 @@ log_step version now new said phase i d entry n text after within asked number p
     (append_assoc said (take i phase) (here ∷ [])
     ∙ ap (λ (front : List Statement). said ++ front) (sym (take_more phase i d within)))
     (log_with version now new (said ++ take i phase) here entry n text after asked.0 asked.1 number played more so_far)
+
+-- and from a reply
+pub log_answered :
+    (version : ℕ) (now new : Playing) (said phase : List Statement) (i : ℕ) (d : Statement) (reply : Reply) (n seq : ℕ)
+    (text after : List ℕ) → i < length phase → n ≡ new.count →
+    ((history : List Entry) → HasPlayed now history →
+    HasPlayed new (entry_of new (get_or phase i d).actor (get_or phase i d).event reply ∷ history)) →
+    seq ≡ slice_index new.counts (get_or phase i d).actor →
+    after ≡ text
+    ++ (line_text n (entry_with (get_or phase i d).actor seq (get_or phase i d).event reply) ++ line_feed ∷ []) →
+    HasLog version now (said ++ take i phase) text → HasLog version new (said ++ take (i + 1) phase) after
+log_answered version now new said phase i d reply n seq text after within number played last more so_far =
+    let entry : Entry = entry_of new (get_or phase i d).actor (get_or phase i d).event reply in
+    log_step version now new said phase i d entry n text after within (refl, refl) number played
+    (more ∙ ap (λ (at : ℕ). text ++ (line_text n (record entry { seq = at }) ++ line_feed ∷ [])) last) so_far
