@@ -1,4 +1,4 @@
-//! Runs of eight processors, each with more than eight statements in a phase.
+//! Runs of eight processors, each with more than eight statements in a phase, and then each alone in phases of its own.
 
 use crate::commands::{answer, files_of, status_of};
 use crate::counting_gate::CountingGate;
@@ -12,6 +12,9 @@ use std::thread::Threads;
 /// The setup of eight processors.
 const SETUP: &str = "board 1\ncpus 8\nmemory 8\nrom r64\n";
 
+/// The processors.
+const ACTORS: [&str; 8] = ["0", "1", "2", "3", "4", "5", "6", "7"];
+
 /// What each processor does in turn.
 const STATEMENTS: [&str; 3] = [
     " w b 00000010 05\n",
@@ -22,6 +25,9 @@ const STATEMENTS: [&str; 3] = [
 /// How often each processor does so in each of two phases.
 const ROUNDS: [usize; 2] = [3, 1];
 
+/// How many statements each processor has: those of the rounds, and one in each phase of its own.
+const EACH: u32 = 14;
+
 /// The script.
 fn script(alloc: Global) -> Result<String, Fail> {
     let mut text = String::from_str(alloc, SETUP)?;
@@ -31,13 +37,26 @@ fn script(alloc: Global) -> Result<String, Fail> {
             push_round(&mut text)?;
         }
     }
+    push_phases_of_one(&mut text)?;
     Ok(text)
 }
 
 /// Adds each statement once for each processor.
 fn push_round(text: &mut String) -> Result<(), Fail> {
     for statement in STATEMENTS {
-        for actor in ["0", "1", "2", "3", "4", "5", "6", "7"] {
+        for actor in ACTORS {
+            text.push_str(actor)?;
+            text.push_str(statement)?;
+        }
+    }
+    Ok(())
+}
+
+/// Adds two phases for each processor, in which it acts alone: it reads in one and looks in the other.
+fn push_phases_of_one(text: &mut String) -> Result<(), Fail> {
+    for statement in [" r b 00000010\n", " look r 000F0000\n"] {
+        for actor in ACTORS {
+            text.push_str("phase\n")?;
             text.push_str(actor)?;
             text.push_str(statement)?;
         }
@@ -57,14 +76,14 @@ fn counted<R: Threads + Wait + Sync>(
     };
     let mut out = SafeSink::new(alloc);
     let status = status_of(rt, alloc, &["run", "s"], &mut shelf, &mut out, &gate)?;
-    if status == Status::Done && gate.has_counted(12) {
+    if status == Status::Done && gate.has_counted(EACH) {
         return Ok(Some(out.bytes));
     }
     Ok(None)
 }
 
 #[test]
-fn eight_processors_with_nine_statements_in_a_phase(rt: HostRuntime) -> Result<(), Fail> {
+fn eight_processors_together_and_each_alone(rt: HostRuntime) -> Result<(), Fail> {
     let alloc = rt.alloc();
     let script = script(alloc)?;
     let script = script.as_bytes();
@@ -72,6 +91,6 @@ fn eight_processors_with_nine_statements_in_a_phase(rt: HostRuntime) -> Result<(
         return Err("another end, or another count".into());
     };
     let (status, text) = answer(&rt, alloc, &["check", "s", "i"], script, &log)?;
-    assert!(rt; status == Status::Done && text.as_slice() == "legal 96\n".as_bytes());
+    assert!(rt; status == Status::Done && text.as_slice() == "legal 112\n".as_bytes());
     Ok(())
 }
