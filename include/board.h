@@ -249,17 +249,20 @@ typedef struct board_com1 {
     uint32_t reserved;
 } board_com1;
 
-/* The kind of a base of a card. */
-enum board_base_kind { BOARD_MEMORY_BASE = 1, BOARD_IO_BASE = 2 };
+/* The kind of a base of a card: for memory, for ports, or for memory whose bytes the monitor keeps.
+ * Of that the board keeps none: reads give ones, writes are lost, and the reply tells card, base and
+ * offset, so that the monitor takes its own value, and its own bytes. */
+enum board_base_kind { BOARD_MEMORY_BASE = 1, BOARD_IO_BASE = 2, BOARD_OUTSIDE = 3 };
 
-/* A base of a card: its kind, and log2 of its size: 4 to 24 of bytes of memory, 2 to 8 of ports. */
+/* A base of a card: its kind, and log2 of its size: 4 to 24 of bytes of memory, 2 to 8 of ports, and
+ * 4 to 28 of bytes outside. */
 typedef struct board_base {
     uint8_t kind; /* board_base_kind */
     uint8_t bits;
 } board_base;
 
 /* A PCI card. Bases past the count of bases are not read; reserved is 0. The memory bases of all
- * cards have at most 64 MiB together.
+ * cards have at most 64 MiB together, of which those outside are none.
  *
  * The last fields are what the card says that it is: reads of its configuration data give them, and
  * where a field is 0 what every card of this board has. Nothing else depends on them: whatever the
@@ -363,7 +366,7 @@ uint32_t board_decode_master(board *handle, uint32_t addr, uint8_t bytes, bool i
                              board_part *part);
 /* Tells bytes of a card from an offset in one of its bases on, as the guest's reads would: of base 0
  * to 5, 6 for its expansion ROM, or 7 for the window of a VGA adapter, A0000h to BFFFFh. A base that
- * is not there has none.
+ * is not there has none, nor one of BOARD_OUTSIDE.
  * CLOSED, PAST_END. */
 uint32_t board_card_read(board *handle, uint8_t device, uint8_t base, uint32_t offset, uint8_t *into,
                          size_t bytes);

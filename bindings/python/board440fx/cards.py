@@ -5,8 +5,8 @@ from dataclasses import dataclass
 from .errors import BadCards
 from .records import MOST_BASES, BaseNumber, BaseRecord, CardRecord
 
-_BASES = {"m": BaseNumber.MEMORY_BASE, "i": BaseNumber.IO_BASE}
-_FORM = re.compile(r"([0-9]{1,3}) (vga|plain)((?: [mi][0-9]{1,2})*)(?: x([0-9]{1,2}))?")
+_BASES = {"m": BaseNumber.MEMORY_BASE, "i": BaseNumber.IO_BASE, "o": BaseNumber.OUTSIDE}
+_FORM = re.compile(r"([0-9]{1,3}) (vga|plain)((?: [mio][0-9]{1,2})*)(?: x([0-9]{1,2}))?")
 
 
 @dataclass(frozen=True)
@@ -32,7 +32,8 @@ class Identity:
 @dataclass(frozen=True)
 class Card:
     """A card as a script has it: `m24` is a base of 2 to the power of 24 bytes of memory, `i6` one of 64 ports, and
-    rom is log2 of the bytes of its expansion ROM, or 0. Its identity, of which a script says nothing, is what it says that
+    rom is log2 of the bytes of its expansion ROM, or 0. No script has `o28`, a base of memory whose bytes the monitor
+    keeps: reads of the board give ones. Its identity, of which a script says nothing, is what it says that
     it is. Whether a board can be fitted with it Board says."""
 
     device: int
@@ -51,7 +52,7 @@ class Card:
 
     def record(self) -> CardRecord:
         """As board.h has it."""
-        if any(re.fullmatch("[mi][0-9]{1,2}", base) is None for base in self.bases) or len(self.bases) > MOST_BASES:
+        if any(re.fullmatch("[mio][0-9]{1,2}", base) is None for base in self.bases) or len(self.bases) > MOST_BASES:
             raise BadCards(self)
         if not (0 <= self.device <= 0xFF and 0 <= self.rom <= 0xFF and self.identity.are_in_range()):
             raise BadCards(self)

@@ -81,6 +81,7 @@ class ResetNumber(IntEnum):
 class BaseNumber(IntEnum):
     MEMORY_BASE = 1
     IO_BASE = 2
+    OUTSIDE = 3
 
 
 class HandleRecord(c.Structure):

@@ -22,6 +22,11 @@ pub enum Base {
         /// log2 of how many, 2 to 8.
         bits: u8,
     },
+    /// Memory whose bytes the monitor keeps: reads of the board give ones.
+    Outside {
+        /// log2 of its bytes, 4 to 28.
+        bits: u8,
+    },
 }
 
 impl Base {
@@ -29,16 +34,18 @@ impl Base {
         match self {
             Base::Memory { bits } => raw::Base { kind: raw::MEMORY_BASE, bits },
             Base::Io { bits } => raw::Base { kind: raw::IO_BASE, bits },
+            Base::Outside { bits } => raw::Base { kind: raw::OUTSIDE, bits },
         }
     }
 }
 
-/// As in a script: `m24`, `i6`.
+/// As in a script: `m24`, `i6`; and `o28` of a base outside, which no script has.
 impl fmt::Display for Base {
     fn fmt(&self, f: &mut fmt::Formatter<'_>) -> fmt::Result {
         match self {
             Base::Memory { bits } => write!(f, "m{bits}"),
             Base::Io { bits } => write!(f, "i{bits}"),
+            Base::Outside { bits } => write!(f, "o{bits}"),
         }
     }
 }
@@ -111,6 +118,12 @@ impl Card {
         self.base(Base::Io { bits })
     }
 
+    /// Adds a base of 2 to the power of `bits` bytes of memory, 4 to 28, which the monitor keeps itself.
+    #[must_use]
+    pub fn outside(self, bits: u8) -> Card {
+        self.base(Base::Outside { bits })
+    }
+
     /// Adds a base.
     #[must_use]
     pub fn base(mut self, base: Base) -> Card {
@@ -169,7 +182,7 @@ impl fmt::Display for Card {
     }
 }
 
-/// Of the line of a script, without the word `card`.
+/// Of the line of a script, without the word `card`, and with bases outside.
 impl FromStr for Card {
     type Err = Error;
 
@@ -185,6 +198,7 @@ impl FromStr for Card {
         words.try_fold(card, |card, word| match word.split_at(usize::from(word.is_char_boundary(1))) {
             ("m", bits) => Ok(card.memory(number(bits)?)),
             ("i", bits) => Ok(card.io(number(bits)?)),
+            ("o", bits) => Ok(card.outside(number(bits)?)),
             ("x", bits) => Ok(card.rom(number(bits)?)),
             _ => Err(Error::BadCards),
         })

@@ -41,6 +41,7 @@ pub(crate) const HARD_RESET: u32 = 2;
 
 pub(crate) const MEMORY_BASE: u8 = 1;
 pub(crate) const IO_BASE: u8 = 2;
+pub(crate) const OUTSIDE: u8 = 3;
 
 pub(crate) const MOST_RANGES: usize = 142;
 pub(crate) const MOST_WINDOWS: usize = 64;

@@ -1,6 +1,6 @@
 -- How many edges a board has, and how many of them lie above an address.
 use Rattle.std.proofs.Common.{◌≡◌, ℕ, ◌+◌, ◌*◌, ◌<◌, ◌≤◌, inl, inr, true, false, List, [], ◌∷◌, ◌++◌, length, Option, Some, None, arith, nat_lt, All, filter, flat_map, IfSome}
-use Rattle.board_prelude.proofs.Common.{Contains, enumerate_from, cases_Bool, nat_tests, length-append, All-head, All-tail, Base, MemoryBase, IoBase, FittedCard, Setup, IsCard, IsCardList, Bytes, memory_window, rom_window, rom_window_of}
+use Rattle.board_prelude.proofs.Common.{Contains, enumerate_from, cases_Bool, nat_tests, length-append, All-head, All-tail, Base, MemoryBase, IoBase, OutsideBase, FittedCard, Setup, IsCard, IsCardList, Bytes, memory_window, rom_window, rom_window_of}
 use Rattle.addr_decode.specs.Edges.{fixed_edges, window_edges, card_edges, edges_of, edges_after, IsNextEdge, FewEdges}
 use Rattle.addr_decode.proofs.EdgeSearchLemmas.{contains_cases}
 
@@ -12,6 +12,7 @@ few_of_bases :
 few_of_bases bytes dev k [] = omega arith
 few_of_bases bytes dev k (MemoryBase bits ∷ later) = omega (arith, few_of_bases bytes dev (k + 1) later)
 few_of_bases bytes dev k (IoBase bits ∷ later) = omega (arith, few_of_bases bytes dev (k + 1) later)
+few_of_bases bytes dev k (OutsideBase bits ∷ later) = omega (arith, few_of_bases bytes dev (k + 1) later)
 
 few_of_rom :
     (bytes : Bytes) (dev : ℕ) (rom : Option ℕ) → length (flat_map window_edges (rom_window_of bytes dev rom)) ≤ 2

@@ -1,6 +1,6 @@
 -- Between two edges all addresses have the same areas.
 use Rattle.std.proofs.Common.{◌≡◌, ℕ, zero, suc, ◌+◌, ◌-◌, ◌*◌, ◌/◌, ◌^◌, ◌<◌, ◌≤◌, inl, inr, Bool, true, false, List, [], ◌∷◌, ◌++◌, Option, Some, None, refl, arith, ◌==◌, nat_lt, nat_le, All, flat_map, unwrap_or, if◌then◌else◌, slice_index_or, IfSome, IsNone}
-use Rattle.board_prelude.proofs.Common.{Contains, AllByRecursion, enumerate_from, cases_Bool, cases_lt, nat_tests, pow_pos, recursion_from_All, Kind, Fetch, Read, Write, Reg, Base, MemoryBase, IoBase, FittedCard, Setup, lies_in, smram_range, upper_memory, shadow_range, hole_at_512_kib, hole_at_15_mib, system_bios, high_bios, lower_bios, lower_high_bios, extended_bios, is_within, Bytes, Window, boundary, row_of, is_in, hole_of, pam_register, is_high_window, nibble, is_open, is_shadow_range, is_shadowed, smram_answers, is_smram_range, is_rom_selected, is_covered, base_value, rom_value, memory_window, rom_window, rom_window_of, is_rom_on, vga_window, memory_windows, is_enabled_for, first_window, memory_claim, area_of, xbcs as select_register, smram as smram_register, fdhc as hole_register, address_count, six_areas}
+use Rattle.board_prelude.proofs.Common.{Contains, AllByRecursion, enumerate_from, cases_Bool, cases_lt, nat_tests, pow_pos, recursion_from_All, Kind, Fetch, Read, Write, Reg, Base, MemoryBase, IoBase, OutsideBase, FittedCard, Setup, lies_in, smram_range, upper_memory, shadow_range, hole_at_512_kib, hole_at_15_mib, system_bios, high_bios, lower_bios, lower_high_bios, extended_bios, is_within, Bytes, Window, boundary, row_of, is_in, hole_of, pam_register, is_high_window, nibble, is_open, is_shadow_range, is_shadowed, smram_answers, is_smram_range, is_rom_selected, is_covered, base_value, rom_value, memory_window, rom_window, rom_window_of, is_rom_on, vga_window, memory_windows, is_enabled_for, first_window, memory_claim, area_of, xbcs as select_register, smram as smram_register, fdhc as hole_register, address_count, six_areas}
 use Rattle.std.proofs.lemmas.Nat.{div_below, le-div}
 use Rattle.std.proofs.lemmas.List.Elements.{All-contains_itself, Contains-append_left, Contains-append_right}
 use Rattle.addr_decode.proofs.MemoryLemmas.{table}
@@ -319,6 +319,10 @@ bases_alike bytes addr x dev order k (MemoryBase bits ∷ later) clear = (
 )
 bases_alike bytes addr x dev order k (IoBase bits ∷ later) clear =
     bases_alike bytes addr x dev order (k + 1) later clear
+bases_alike bytes addr x dev order k (OutsideBase bits ∷ later) clear = (
+  covered_same addr x (record { dev = dev; base = k; inside = base_value bytes dev k; bits = bits }) order clear.0
+      clear.1.0,
+  bases_alike bytes addr x dev order (k + 1) later clear.1.1,
 
 vga_alike :
     (setup : Setup) (bytes : Bytes) (addr x : ℕ) (card : FittedCard) → Between setup bytes addr x →

@@ -1,6 +1,6 @@
 -- The edges that the code looks through are those of the board, and what it finds is the next one.
 use Rattle.std.proofs.Common.{◌≡◌, ℕ, zero, suc, ◌+◌, ◌*◌, ◌<◌, ◌≤◌, ◌⊎◌, inl, inr, ◌&&◌, List, [], ◌∷◌, ◌++◌, length, map, Option, Some, None, refl, sym, ◌∙◌, ap, subst, arith, nat_lt, min, All, flat_map, slice_index, unwrap_or, IfSome, IsNone, ◌↔◌}
-use Rattle.board_prelude.proofs.Common.{Contains, enumerate_from, cases_Bool, cases_lt, nat_tests, All-head, All-tail, none-some, Base, MemoryBase, IoBase, Setup, IsCard, boundary_unit, Bytes, boundary, base_value, memory_window, rom_window_of, bridge, address_count}
+use Rattle.board_prelude.proofs.Common.{Contains, enumerate_from, cases_Bool, cases_lt, nat_tests, All-head, All-tail, none-some, Base, MemoryBase, IoBase, OutsideBase, Setup, IsCard, boundary_unit, Bytes, boundary, base_value, memory_window, rom_window_of, bridge, address_count}
 use Rattle.std.proofs.lemmas.List.Sums.{fold-append}
 use Rattle.std.proofs.lemmas.Option.{same_Some}
 use Rattle.pmc_regs.specs.Pmc.{IsRowsOf}
@@ -21,6 +21,8 @@ ends_same bytes dev values same k (MemoryBase bits ∷ later) few =
     rw (same k (omega arith), ends_same bytes dev values same (k + 1) later (omega arith)) refl
 ends_same bytes dev values same k (IoBase bits ∷ later) few =
     ends_same bytes dev values same (k + 1) later (omega arith)
+ends_same bytes dev values same k (OutsideBase bits ∷ later) few =
+    rw (same k (omega arith), ends_same bytes dev values same (k + 1) later (omega arith)) refl
 
 rom_same : (bytes : Bytes) (dev register : ℕ) (rom : Option ℕ) → HoldsRom bytes dev register rom →
     ends_of_rom rom register ≡ flat_map window_edges (rom_window_of bytes dev rom)

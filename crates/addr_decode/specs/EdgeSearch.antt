@@ -1,7 +1,7 @@
 -- The next edge as the code looks for it: it keeps the least edge above an address.
 use Rattle.std.specs.Prelude.{ℕ, ◌+◌, ◌*◌, ◌/◌, ◌^◌, nat_lt, min, ◌&&◌, if◌then◌else◌, List, [], ◌∷◌, ◌++◌, Option, Some, None, unwrap_or, slice_index}
 use Rattle.std.specs.List.{fold}
-use Rattle.board_prelude.specs.Common.{Base, MemoryBase, IoBase, address_count}
+use Rattle.board_prelude.specs.Common.{Base, MemoryBase, IoBase, OutsideBase, address_count}
 use Rattle.pci_bars.specs.Cards.{CardBytes}
 
 -- the least edge so far, after one more
@@ -17,6 +17,7 @@ nearest addr best edges = fold (nearer addr) best edges
 abbrev pub ends_of : Base → (value : ℕ) → List ℕ
 ends_of (MemoryBase bits) value = value / 2 ^ bits * 2 ^ bits ∷ (value / 2 ^ bits * 2 ^ bits + 2 ^ bits) ∷ []
 ends_of (IoBase bits) value = []
+ends_of (OutsideBase bits) value = value / 2 ^ bits * 2 ^ bits ∷ (value / 2 ^ bits * 2 ^ bits + 2 ^ bits) ∷ []
 
 -- the edges of bases, the first of them base number k, with these values
 abbrev pub ends_from : (values : List ℕ) → (k : ℕ) → List Base → List ℕ

@@ -204,6 +204,7 @@ impl Nearest {
     {
         match base {
             BaseSpec::Memory(bits) => self.see_window(value >> bits << bits, 1 << bits),
+            BaseSpec::Outside(bits) => self.see_window(value >> bits << bits, 1 << bits),
             BaseSpec::Io(_) => {}
         }
     }

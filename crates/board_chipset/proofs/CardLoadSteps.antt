@@ -1,9 +1,10 @@
 -- The state after bytes were written to a card from outside.
 use Rattle.std.proofs.Common.{◌≡◌, ◌≢◌, ℕ, zero, suc, ◌+◌, ◌-◌, ◌<◌, ◌≤◌, true, false, ◌&&◌, List, [], ◌∷◌, ◌++◌, length, take, drop, Option, Some, None, refl, sym, ◌∙◌, ap, arith, inl, inr, ◌==◌, nat_le, nat_lt, if◌then◌else◌, is_some, slice_index, All, find, option_and_then}
 use Rattle.std.proofs.lemmas.Option.{slice_get_past}
-use Rattle.board_prelude.proofs.Common.{cases_Bool, cases_eq, cases_lt, false≢true, ne_eqb, eq-eqb, and_from, and_left, le-leb, lt-leb, lt-ltb, le-ltb, All-head, All-tail, nil_from_length, eqb-true, and_parts, get_or-take, get_or-drop, get_or_append_left, get_or-append_right, length-append, length-take-le, length-drop, nat_tests, Write, One, Card, Denial, Event, Memory, Port, Reply, Bus, Entry, Setup, IsSetup, IsCard, FittedCard, card_at, byte, is_config_port, Cell, DramCell, CardCell, byte_put, entry_put, stored_of, card_byte, device_reached, reset_control_port, config_address_port}
+use Rattle.board_prelude.proofs.Common.{cases_Bool, cases_eq, cases_lt, false≢true, ne_eqb, eq-eqb, and_from, and_left, le-leb, lt-leb, lt-ltb, le-ltb, All-head, All-tail, nil_from_length, eqb-true, and_parts, get_or-take, get_or-drop, get_or_append_left, get_or-append_right, length-append, length-take-le, length-drop, nat_tests, Write, One, Card, Denial, Event, Memory, Port, Reply, Bus, Entry, Setup, IsSetup, IsCard, FittedCard, card_at, byte, is_config_port, Cell, DramCell, CardCell, byte_put, entry_put, stored_of, card_byte, device_reached, reset_control_port, config_address_port, kept_size}
 use Rattle.dram_store.specs.Dram.{IsDramOf}
-use Rattle.pci_bars.specs.Contents.{IsBaseNumber, held, kept_size, HaveSizes, IsContentsOf}
+use Rattle.pci_bars.specs.Contents.{IsBaseNumber, held, HaveSizes, IsContentsOf}
+use Rattle.pci_bars.proofs.ContentsLemmas.{card_within, contents_of, stored_byte}
 use Rattle.board_devices.specs.Common.{PassesBy, LeavesDevices}
 use Rattle.board_chipset.specs.declared.state.State.{State}
 use Rattle.board_chipset.specs.Common.{IsSound, IsStateOf, Writes}
@@ -286,25 +287,23 @@ module _ {old new : List (List ℕ)} {dev base off : ℕ} {bytes : List ℕ} (is
   contents_after : {setup : Setup} {history : List Entry} → IsContentsOf setup history old →
       ((k : ℕ) → slice_index bytes k ≤ 0xFF) → (entries : List Entry) → WriteCard dev base off bytes entries →
       IsContentsOf setup (entries ++ history) new
-  contents_after {setup} {history} has small entries all = record {
-    sizes = λ d b number. sizes_stay d b number ∙ has.sizes d b number;
-    bytes = λ d b at number within. elim (cases_Bool (b == 6)) [
-      | inl rom ↦ rw rom refl
-      | inr kept ↦
-          let before : slice_index (held old d b) at ≡ stored_of history (CardCell d b at) =
-          rw kept at (has.bytes d b at number within) in
-          rw kept (elim (cases_Bool (dev == d && base == b)) [
-            | inl both ↦
-                let same : dev ≡ d = eqb-true dev d (and_parts (dev == d) (base == b) both).0 in
-                let same' : base ≡ b = eqb-true base b (and_parts (dev == d) (base == b) both).1 in
-                copied_at history small entries all d b at same same' kept before
-            | inr apart ↦
-                ap (λ (list : List ℕ). slice_index list at) (is.others d b number (apart_from dev base d b apart))
-                ∙ before
-                ∙ sym (stored_elsewhere dev base off bytes history d b at apart entries all.each)
-          ])
-    ];
-  }
+  contents_after {setup} {history} has small entries all =
+      contents_of (λ d b number. sizes_stay d b number ∙ has.sizes d b number)
+      (λ d b at number other within.
+      let kept : (b == 6) ≡ false = ne_eqb b 6 other in
+      let inside : at < length (held old d b) = omega (arith, within, sizes_stay d b number) in
+      let before : slice_index (held old d b) at ≡ stored_of history (CardCell d b at) =
+      stored_byte has d b at number other inside in
+      elim (cases_Bool (dev == d && base == b)) [
+        | inl both ↦
+            let same : dev ≡ d = eqb-true dev d (and_parts (dev == d) (base == b) both).0 in
+            let same' : base ≡ b = eqb-true base b (and_parts (dev == d) (base == b) both).1 in
+            copied_at history small entries all d b at same same' kept before
+        | inr apart ↦
+            ap (λ (list : List ℕ). slice_index list at) (is.others d b number (apart_from dev base d b apart))
+            ∙ before
+            ∙ sym (stored_elsewhere dev base off bytes history d b at apart entries all.each)
+      ])
 
 -- ---- the state after all of them
 
@@ -402,7 +401,7 @@ module _ {setup : Setup} {old : State} {contents : List (List ℕ)} {dev base of
 
 pub copied_out : {setup : Setup} {history : List Entry} {contents : List (List ℕ)} (dev base off count k : ℕ) →
     IsSetup setup → IsContentsOf setup history contents → off + count ≤ card_size setup dev base → k < count →
-    slice_index (take count (drop off (held contents dev base))) k ≡ card_byte history dev base (off + k)
+    slice_index (take count (drop off (held contents dev base))) k ≡ card_byte setup history dev base (off + k)
 copied_out {setup} {history} {contents} dev base off count k fits has within below =
     get_or-take count (drop off (held contents dev base)) k 0 below
     ∙ get_or-drop off (held contents dev base) k 0
@@ -411,7 +410,8 @@ copied_out {setup} {history} {contents} dev base off count k fits has within bel
           let none = none_past setup dev base fits (omega (arith, rom)) (λ (is : base ≡ 7). omega (arith, rom, is)) in
           absurd (omega (arith, within, below, none))
       | inr other ↦
-          let kept : (base == 6) ≡ false = ne_eqb base 6 other in
           let number = numbered setup dev base (off + count) fits (omega (arith, below)) within in
-          rw kept (rw kept at (has.bytes dev base (off + k) number (omega (arith, within, below))))
+          let inside : off + k < card_size setup dev base = omega (arith, within, below) in
+          stored_byte has dev base (off + k) number other (omega (arith, inside, has.sizes dev base number))
+          ∙ sym (card_within setup history dev base (off + k) other inside)
     ]

@@ -6,6 +6,7 @@ use Rattle.board_spec.specs.declared.event.Reply.TheVariants.{Parts}
 use Rattle.dram_store.specs.declared.dram.PastTheEnd.{PastTheEnd}
 use Rattle.dram_store.specs.Dram.{dram_at, IsDramOf, IsWritten}
 use Rattle.pci_bars.specs.Contents.{IsContentsOf}
+use Rattle.pci_bars.proofs.ContentsLemmas.{contents_of, stored_byte}
 use Rattle.board_devices.specs.Common.{DevicesValue, AreDevicesOf, PassesBy, LeavesDevices, byte_out, WritesClock, PutsClockByte}
 use Rattle.board_stores.specs.Puts.{HasStores}
 use Rattle.board_chipset.specs.declared.registers.Registers.{Registers}
@@ -99,13 +100,11 @@ contents_stay :
     {setup : Setup} {history : List Entry} {contents : List (List ℕ)} (addr : ℕ) (bytes : List ℕ) →
     IsContentsOf setup history contents → (entries : List Entry) → WriteInTurn addr bytes entries →
     IsContentsOf setup (entries ++ history) contents
-contents_stay {history = history} addr bytes has entries each = record {
-  sizes = has.sizes;
-  bytes = λ dev base off number within.
-      has.bytes dev base off number within
-      ∙ ap (λ (held : ℕ). if base == 6 then expansion_byte dev off else held)
-      (sym (stored_card addr bytes history dev base off entries each));
-}
+contents_stay {history = history} addr bytes has entries each =
+    contents_of has.sizes
+    (λ dev base off number kept within.
+    stored_byte has dev base off number kept within
+    ∙ sym (stored_card addr bytes history dev base off entries each))
 
 written_at : (old : List ℕ) (addr count at byte was : ℕ) → at < length old → addr + count ≤ length old →
     slice_index old at ≡ was →

@@ -1,7 +1,8 @@
 -- The bytes behind the addresses after one more entry.
 use Rattle.std.proofs.Common.{◌≡◌, ℕ, ◌<◌, false, List, ◌∷◌, length, Option, None, refl, ◌∙◌, arith, inl, inr, ◌==◌}
 use Rattle.board_prelude.proofs.Common.{cases_eq, ne_eqb, Entry, Setup, Cell, DramCell, CardCell, entry_put, stored_of}
-use Rattle.pci_bars.specs.Contents.{held_byte}
+use Rattle.pci_bars.specs.Contents.{held, held_byte}
+use Rattle.pci_bars.proofs.ContentsLemmas.{contents_of, held_within, stored_byte}
 use Rattle.board_stores.specs.declared.stores.Stores.{Stores}
 use Rattle.board_stores.specs.Puts.{HasStores, ArePut}
 
@@ -19,17 +20,14 @@ stores_put {setup} {history} {entry} {put} {old} {new} has same is = record {
         let before : at < length old.dram = omega (arith, is.size) in
         rw (same (DramCell at), ← has.dram.each at before) (is.dram at before);
   };
-  contents = record {
-    sizes = λ dev base number. is.sizes dev base ∙ has.contents.sizes dev base number;
-    bytes = λ dev base off number within. elim (cases_eq base 6) [
-      | inl rom ↦ rw rom refl
-      | inr kept ↦
-          let not_rom : (base == 6) ≡ false = ne_eqb base 6 kept in
-          let before : held_byte old.contents dev base off ≡ stored_of history (CardCell dev base off) =
-          has.contents.bytes dev base off number within ∙ rw not_rom refl in
-          is.contents dev base off number ∙ rw (before, not_rom, same (CardCell dev base off)) refl
-    ];
-  };
+  contents = contents_of (λ dev base number. is.sizes dev base ∙ has.contents.sizes dev base number)
+      (λ dev base off number kept within.
+      let inside : off < length (held old.contents dev base) = omega (arith, within, is.sizes dev base) in
+      let before : held_byte old.contents dev base off ≡ stored_of history (CardCell dev base off) =
+      held_within old.contents dev base off kept inside ∙ stored_byte has.contents dev base off number kept inside in
+      sym (held_within new.contents dev base off kept within)
+      ∙ is.contents dev base off number inside
+      ∙ rw (before, same (CardCell dev base off)) refl);
 }
 
 -- an entry that puts no byte leaves all as it is
@@ -38,4 +36,4 @@ pub stores_stay :
     ((cell : Cell) → entry_put entry.event entry.reply cell ≡ None) → HasStores setup (entry ∷ history) stores
 stores_stay has none =
     stores_put {put = λ cell. None} has none
-    (record { size = refl; dram = λ at within. refl; sizes = λ dev base. refl; contents = λ dev base off number. refl })
+    (record { size = refl; dram = λ at within. refl; sizes = λ dev base. refl; contents = λ dev base off number within. refl })

@@ -23,7 +23,7 @@ pub struct PastTheBase;
 
 impl Chipset {
     /// How many bytes are kept of a base of a card, 0 to 5, or 7 for the VGA window A0000h to BFFFFh. 0 where there is no
-    /// such card or base, and of an expansion ROM, base 6, whose bytes are fixed.
+    /// such card or base, of an outside base, and of an expansion ROM, base 6, whose bytes are fixed.
     pub fn card_size(&self, dev: u8, base: u8) -> usize
         ensures size { result ≡ card_size self.now.setup dev base }
     {
@@ -47,7 +47,7 @@ impl Chipset {
         ensures untold { OnErr result (into.new ≡ into.old) }
         ensures size { length into.new ≡ length into.old }
         ensures bytes { OnOk result ((history : List Entry) (k : ℕ) → IsLeftBy self.now history → k < length into.old
-            → slice_index into.new k ≡ card_byte history dev base (off + k)) }
+            → slice_index into.new k ≡ card_byte self.now.setup history dev base (off + k)) }
     {
         self.test_card(dev, base, off, into.len())?;
         if into.is_empty() {

@@ -66,6 +66,7 @@ pub fn is_base(base: BaseSpec) -> bool
     match base {
         BaseSpec::Memory(bits) => 4 <= bits && bits <= 24,
         BaseSpec::Io(bits) => 2 <= bits && bits <= 8,
+        BaseSpec::Outside(bits) => 4 <= bits && bits <= 28,
     }
 }
 
@@ -114,6 +115,6 @@ fn memory_size(base: BaseSpec) -> u32
 {
     match base {
         BaseSpec::Memory(bits) => 1 << bits,
-        BaseSpec::Io(_) => 0,
+        BaseSpec::Io(_) | BaseSpec::Outside(_) => 0,
     }
 }

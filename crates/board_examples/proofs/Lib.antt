@@ -8,6 +8,7 @@ mod DeviceRuns
 mod DiskRuns
 mod WideRuns
 mod RomRuns
+mod OutsideRuns
 mod StoryRuns
 mod PortRuns
 mod ColumnRuns

@@ -1,7 +1,7 @@
 -- The borders of a setup, from the definitions.
 use Rattle.std.proofs.Common.{ℕ, zero, suc, ◌≡◌, ◌≤◌, ◌<◌, ◌+◌, List, [], ◌∷◌, All, refl, arith, inl, inr, length}
 use Rattle.std.specs.Prelude.{replicate}
-use Rattle.board_prelude.proofs.Common.{All-nil, All-cons, All-head, leb-true, Base, FittedCard, IoBase, MemoryBase, IsBase, IsCard, IsCardList, IsRomSize, IsDiskSize, Rises, memory_of_cards, most_card_memory}
+use Rattle.board_prelude.proofs.Common.{All-nil, All-cons, All-head, leb-true, Base, FittedCard, IoBase, MemoryBase, OutsideBase, IsBase, IsCard, IsCardList, IsRomSize, IsDiskSize, Rises, memory_of_cards, most_card_memory}
 use Rattle.board_examples.specs.Setups.{Fits, card_with, eight_cards, full_cards, more_cards, MemoryBorders, RomBorders, DiskBorders, BaseBorders, CardBorders, CardListBorders, WindowBorders, Amounts, SetupBorders}
 use Rattle.board_examples.proofs.BasicRuns.{rom_size}
 
@@ -72,6 +72,9 @@ base = record {
   memory = ((omega arith, omega arith), (omega arith, omega arith));
   little_memory = λ is. grind (arith, is.0);
   much_memory = λ is. grind (arith, is.1);
+  outside = ((omega arith, omega arith), (omega arith, omega arith));
+  little_outside = λ is. grind (arith, is.0);
+  much_outside = λ is. grind (arith, is.1);
   ports = ((omega arith, omega arith), (omega arith, omega arith));
   few_ports = λ is. grind (arith, is.0);
   many_ports = λ is. grind (arith, is.1);
@@ -79,6 +82,7 @@ base = record {
   small_rom = λ is. grind (arith, is.0);
   large_rom = λ is. grind (arith, is.1);
   bases_read = refl;
+  outside_read = refl;
   roms_read = refl;
 }
 
@@ -167,11 +171,17 @@ all_large (suc n) = All-cons IsBase (MemoryBase 24) (replicate n (MemoryBase 24)
 many_ports : IsBase (IoBase 8)
 many_ports = (omega arith, omega arith)
 
+far_base : IsBase (OutsideBase 28)
+far_base = (omega arith, omega arith)
+
 windows : WindowBorders
 windows = record {
   most = fits 8 full_cards (omega arith) (omega arith)
-      (two (replicate 3 (MemoryBase 24)) (MemoryBase 24 ∷ IoBase 8 ∷ []) (leb-true _ _ refl) (leb-true _ _ refl) (all_large 3)
-      (All-cons IsBase (MemoryBase 24) (IoBase 8 ∷ []) large_base (All-cons IsBase (IoBase 8) [] many_ports (All-nil IsBase))))
+      (two (replicate 3 (MemoryBase 24)) (MemoryBase 24 ∷ IoBase 8 ∷ OutsideBase 28 ∷ []) (leb-true _ _ refl) (leb-true _ _ refl)
+      (all_large 3)
+      (All-cons IsBase (MemoryBase 24) (IoBase 8 ∷ OutsideBase 28 ∷ []) large_base
+      (All-cons IsBase (IoBase 8) (OutsideBase 28 ∷ []) many_ports
+      (All-cons IsBase (OutsideBase 28) [] far_base (All-nil IsBase)))))
       (leb-true _ _ refl);
   more = λ is. let few : 0x400_0010 ≤ 0x400_0000 = is.windows in grind (arith, few);
 }

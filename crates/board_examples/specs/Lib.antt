@@ -7,6 +7,7 @@ pub mod Devices
 pub mod Disk
 pub mod Wide
 pub mod Roms
+pub mod OutsideBases
 pub mod Stories
 pub mod Ports
 pub mod Masks

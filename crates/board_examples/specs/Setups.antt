@@ -1,7 +1,7 @@
 -- What a board can be fitted with, at the borders: the last that is good on each side, and the first that is bad. The
 -- numbers are those of the README and of the formats, and stand here once more on purpose.
 use Rattle.std.specs.Prelude.{ℕ, ◌≡◌, true, false, List, [], ◌∷◌, ◌++◌, map, replicate, Some, None}
-use Rattle.board_prelude.specs.Common.{Base, MemoryBase, IoBase, FittedCard, IsBase, IsCard, IsCardList, IsDiskSize, IsExpansionRom, IsRomSize, IsSetup, is_base_in_range, is_rom_in_range, is_rom_size, entry_limit, most_phases, most_pulses, most_statements}
+use Rattle.board_prelude.specs.Common.{Base, MemoryBase, IoBase, OutsideBase, FittedCard, IsBase, IsCard, IsCardList, IsDiskSize, IsExpansionRom, IsRomSize, IsSetup, is_base_in_range, is_rom_in_range, is_rom_size, entry_limit, most_phases, most_pulses, most_statements}
 use Rattle.board_examples.specs.Basics.{board_of}
 
 -- a board of so many MiB with these cards
@@ -42,11 +42,15 @@ pub record DiskBorders : Type 0 where
   pub most : IsDiskSize 33_554_432
   pub more : ¬ IsDiskSize 33_554_944
 
--- memory bases of 16 bytes to 16 MiB, I/O bases of 4 to 256 ports, expansion ROMs of 2 KiB to 16 MiB
+-- memory bases of 16 bytes to 16 MiB, and to 256 MiB outside the board, I/O bases of 4 to 256 ports, expansion ROMs of
+-- 2 KiB to 16 MiB
 pub record BaseBorders : Type 0 where
   pub memory : IsBase (MemoryBase 4) × IsBase (MemoryBase 24)
   pub little_memory : ¬ IsBase (MemoryBase 3)
   pub much_memory : ¬ IsBase (MemoryBase 25)
+  pub outside : IsBase (OutsideBase 4) × IsBase (OutsideBase 28)
+  pub little_outside : ¬ IsBase (OutsideBase 3)
+  pub much_outside : ¬ IsBase (OutsideBase 29)
   pub ports : IsBase (IoBase 2) × IsBase (IoBase 8)
   pub few_ports : ¬ IsBase (IoBase 1)
   pub many_ports : ¬ IsBase (IoBase 9)
@@ -57,6 +61,8 @@ pub record BaseBorders : Type 0 where
       map is_base_in_range
       (MemoryBase 3 ∷ MemoryBase 4 ∷ MemoryBase 24 ∷ MemoryBase 25 ∷ IoBase 1 ∷ IoBase 2 ∷ IoBase 8 ∷ IoBase 9 ∷ [])
       ≡ false ∷ true ∷ true ∷ false ∷ false ∷ true ∷ true ∷ false ∷ []
+  pub outside_read : map is_base_in_range (OutsideBase 3 ∷ OutsideBase 4 ∷ OutsideBase 28 ∷ OutsideBase 29 ∷ [])
+      ≡ false ∷ true ∷ true ∷ false ∷ []
   pub roms_read : map is_rom_in_range (None ∷ Some 10 ∷ Some 11 ∷ Some 24 ∷ Some 25 ∷ [])
       ≡ true ∷ false ∷ true ∷ true ∷ false ∷ []
 
@@ -81,10 +87,10 @@ pub record CardListBorders : Type 0 where
   pub twice : ¬ IsCardList (card_with 3 [] ∷ card_with 3 [] ∷ [])
   pub falling : ¬ IsCardList (card_with 3 [] ∷ card_with 2 [] ∷ [])
 
--- 64 MiB behind the memory bases of two cards, beside which ports do not count, and 16 bytes more
+-- 64 MiB behind the memory bases of two cards, beside which ports and 256 MiB outside do not count, and 16 bytes more
 abbrev pub full_cards : List FittedCard
 full_cards =
-    card_with 2 (replicate 3 (MemoryBase 24)) ∷ card_with 3 (MemoryBase 24 ∷ IoBase 8 ∷ []) ∷ []
+    card_with 2 (replicate 3 (MemoryBase 24)) ∷ card_with 3 (MemoryBase 24 ∷ IoBase 8 ∷ OutsideBase 28 ∷ []) ∷ []
 
 abbrev pub more_cards : List FittedCard
 more_cards = card_with 2 (replicate 3 (MemoryBase 24)) ∷ card_with 3 (MemoryBase 24 ∷ MemoryBase 4 ∷ []) ∷ []

@@ -9,6 +9,7 @@ pub mod events;
 pub mod interrupts;
 pub mod machines;
 pub mod masks;
+pub mod outside_bases;
 pub mod ports;
 pub mod resets;
 pub mod roms;

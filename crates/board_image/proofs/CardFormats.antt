@@ -1,9 +1,9 @@
 -- The fields of cards.
 use Rattle.std.proofs.Common.{◌≡◌, ℕ, zero, suc, ◌+◌, ◌-◌, ◌*◌, ◌^◌, ◌<◌, ◌≤◌, inl, inr, Bool, true, false, List, [], ◌∷◌, ◌++◌, length, Option, Some, None, refl, sym, ap, subst, ◌∙◌, arith, nat_le, ◌==◌, ◌&&◌, map, flat_map, sum_by, All, unwrap_or}
-use Rattle.board_prelude.proofs.Common.{AllByRecursion, w8, and_from, and_parts, cases_Bool, cases_eq, eq-eqb, ne_eqb, leb-true, le-leb, lt-leb, append-nil, flat_map-cons, recursion_from_All, sum_by-cons, sum_by-append, Base, MemoryBase, IoBase, FittedCard, IsBase, is_base_in_range, IsCard, IsExpansionRom, Rises, memory_of_cards, memory_size}
+use Rattle.board_prelude.proofs.Common.{AllByRecursion, w8, and_from, and_parts, cases_Bool, cases_eq, eq-eqb, ne_eqb, leb-true, le-leb, lt-leb, append-nil, flat_map-cons, recursion_from_All, sum_by-cons, sum_by-append, Base, MemoryBase, IoBase, OutsideBase, FittedCard, IsBase, is_base_in_range, IsCard, IsExpansionRom, Rises, memory_of_cards, memory_size}
 use Rattle.std.proofs.lemmas.Bool.{leb-false}
 use Rattle.std.proofs.lemmas.List.Elements.{All-from_recursion}
-use Rattle.board_image.specs.Common.{io_base, base_byte, flag_byte, card_bytes, number, where_true, flag_field, base_of_byte, has_room, base_in, rom_of, bases_fields, card_fields, cards_fields}
+use Rattle.board_image.specs.Common.{io_base, outside_base, base_byte, flag_byte, card_bytes, number, where_true, flag_field, base_of_byte, has_room, base_in, rom_of, bases_fields, card_fields, cards_fields}
 use Rattle.byte_fields.proofs.Formats.{IsFormat, format_as, then_format, last_format, many_format, AreGood, AreMany}
 use Rattle.byte_fields.proofs.Numbers.{flag_format, byte_format, byte_within, Ranges, where_ok, some_is}
 use Rattle.board_image.proofs.ImageLoops.{base_field, room_after, bases_in, bases_loop, card_after, past_card, cards_after, cards_loop}
@@ -16,12 +16,15 @@ IsBaseIn room base = IsBase base × (memory_size base ≤ room)
 range_to : (base : Base) → IsBase base → is_base_in_range base ≡ true
 range_to (MemoryBase bits) is = and_from (nat_le 4 bits) (nat_le bits 24) (le-leb 4 bits is.0) (le-leb bits 24 is.1)
 range_to (IoBase bits) is = and_from (nat_le 2 bits) (nat_le bits 8) (le-leb 2 bits is.0) (le-leb bits 8 is.1)
+range_to (OutsideBase bits) is = and_from (nat_le 4 bits) (nat_le bits 28) (le-leb 4 bits is.0) (le-leb bits 28 is.1)
 
 range_from : (base : Base) → is_base_in_range base ≡ true → IsBase base
 range_from (MemoryBase bits) is =
     let both = and_parts (nat_le 4 bits) (nat_le bits 24) is in (leb-true 4 bits both.0, leb-true bits 24 both.1)
 range_from (IoBase bits) is =
     let both = and_parts (nat_le 2 bits) (nat_le bits 8) is in (leb-true 2 bits both.0, leb-true bits 8 both.1)
+range_from (OutsideBase bits) is =
+    let both = and_parts (nat_le 4 bits) (nat_le bits 28) is in (leb-true 4 bits both.0, leb-true bits 28 both.1)
 
 room_to : (room : ℕ) (base : Base) → IsBaseIn room base → has_room room base ≡ true
 room_to room base is =
@@ -34,10 +37,17 @@ room_from room base is =
     (range_from base both.0, leb-true (memory_size base) room both.1)
 
 byte_said : (base : Base) → IsBase base → (base_byte base < 2 ^ 8) × (base_of_byte (base_byte base) ≡ base)
-byte_said (MemoryBase bits) is = (omega (arith, is.1), rw (lt-leb io_base bits (omega (arith, is.1))) refl)
+byte_said (MemoryBase bits) is = (
+  omega (arith, is.1),
+  rw (lt-leb io_base bits (omega (arith, is.1)), lt-leb outside_base bits (omega (arith, is.1))) refl,
+)
 byte_said (IoBase bits) is =
     let same : io_base + bits - io_base ≡ bits = omega arith in
     (omega (arith, is.1), rw (le-leb io_base (io_base + bits) (omega arith), same) refl)
+byte_said (OutsideBase bits) is =
+    let same : outside_base + bits - outside_base ≡ bits = omega arith in
+    let low : nat_le io_base (outside_base + bits) ≡ false = lt-leb io_base (outside_base + bits) (omega (arith, is.1)) in
+    (omega (arith, is.1), rw (low, le-leb outside_base (outside_base + bits) (omega arith), same) refl)
 
 byte_told : (n : ℕ) → n ≡ base_byte (base_of_byte n)
 byte_told n =
@@ -45,7 +55,12 @@ byte_told n =
       | inl high ↦
           let above = leb-true io_base n high in
           rw high (omega (arith, above))
-      | inr low ↦ rw low refl
+      | inr low ↦ elim (cases_Bool (nat_le outside_base n)) [
+        | inl mid ↦
+            let above = leb-true outside_base n mid in
+            rw (low, mid) (omega (arith, above))
+        | inr least ↦ rw (low, least) refl
+      ]
     ]
 
 base_said : (room : ℕ) (base : Base) → IsBaseIn room base →

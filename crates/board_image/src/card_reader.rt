@@ -9,7 +9,7 @@ ghost use Rattle.board_image.specs.ImageFields.{base_in, base_of_byte, rom_of, b
 use arrayvec::ArrayVec;
 use board_core::{is_base, is_expansion_rom};
 use byte_fields::{Bad, Fault, Fields};
-use image_writer::IO_BASE;
+use image_writer::{IO_BASE, OUTSIDE_BASE};
 use pci_bars::{BASE_COUNT, BaseSpec, CardSpec};
 use std::alloc::Global;
 
@@ -20,7 +20,7 @@ const LAST_DEVICE: u8 = 9;
 /// The most bytes behind the memory bases of all cards.
 const MOST_CARD_MEMORY: u32 = 0x400_0000;
 
-/// The base that a byte stands for. None where it stands for none, or for one that decodes more memory than `room`.
+/// The base that a byte stands for. None where it stands for none, or for one that wants more memory than `room`.
 fn base_in(room: u32, byte: u8) -> Option<BaseSpec>
     ensures said { option_map base_of result ≡ base_in room byte }
     ensures base { IfSome result (λ base. IsBase (base_of base)) }
@@ -38,24 +38,26 @@ fn base_of_byte(byte: u8) -> BaseSpec
     ensures said { base_of result ≡ base_of_byte byte }
 {
     if byte >= IO_BASE {
-        BaseSpec::Io(byte - IO_BASE)
-    } else {
-        BaseSpec::Memory(byte)
+        return BaseSpec::Io(byte - IO_BASE);
     }
+    if byte >= OUTSIDE_BASE {
+        return BaseSpec::Outside(byte - OUTSIDE_BASE);
+    }
+    BaseSpec::Memory(byte)
 }
 
-/// The bytes of memory that a base decodes.
+/// The bytes of memory that the board keeps for a base.
 fn memory_size(base: BaseSpec) -> u32
     requires base { IsBase (base_of base) }
     ensures size { result ≡ memory_size (base_of base) }
 {
     match base {
         BaseSpec::Memory(bits) => 1 << bits,
-        BaseSpec::Io(_) => 0,
+        BaseSpec::Io(_) | BaseSpec::Outside(_) => 0,
     }
 }
 
-/// Reads a base, and takes the memory that it decodes from the room.
+/// Reads a base, and takes the memory that it wants from the room.
 fn base(fields: &mut Fields, room: &mut u32) -> Result<BaseSpec, Bad>
     ensures took { Took base_of result fields.new (number w8 (base_in room.old) fields.old) }
     ensures room { IfOk result (λ base. room.new ≡ room.old - memory_size (base_of base)) }
@@ -68,7 +70,7 @@ fn base(fields: &mut Fields, room: &mut u32) -> Result<BaseSpec, Bad>
     Ok(base)
 }
 
-/// Reads some bases, and takes the memory that they decode from the room.
+/// Reads some bases, and takes the memory that they want from the room.
 fn bases(
     fields: &mut Fields,
     count: u8,

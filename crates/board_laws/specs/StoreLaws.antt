@@ -1,6 +1,6 @@
 -- What a byte of DRAM or of a card holds, said of whole histories.
 use Rattle.std.specs.Prelude.{ℕ, zero, suc, ◌≡◌, ◌+◌, ◌*◌, ◌<◌, ◌≤◌, ◌⊎◌, false, true, List, ◌∷◌, ◌++◌, All, Option, Some, None}
-use Rattle.board_prelude.specs.Common.{WideAccess, Wide, Entry, Setup, byte, IsWideAccess, parts_of, Cell, DramCell, CardCell, first_cell, entry_put, is_write, stored_of, dram_byte, memory_target, wide_value, IsNext}
+use Rattle.board_prelude.specs.Common.{Width, WideAccess, Wide, largest_of, Card, Entry, Setup, OutsideBase, card_at, rom_base, base_of_card, value_at, byte, IsWideAccess, parts_of, Cell, DramCell, CardCell, first_cell, entry_put, is_write, stored_of, dram_byte, memory_target, wide_value, IsNext}
 
 -- what an entry puts in a cell
 abbrev pub put_by : Cell → Entry → Option ℕ
@@ -19,6 +19,13 @@ LastStays =
 -- and 0 where no entry did
 abbrev pub NothingStored : Type 0
 NothingStored = (history : List Entry) (cell : Cell) → LeaveCell cell history → stored_of history cell ≡ 0
+
+-- of a base whose bytes the board does not keep every read gives ones, whatever was written
+abbrev pub OutsideGivesOnes : Type 0
+OutsideGivesOnes =
+    (setup : Setup) (before : List Entry) (dev base bits off place : ℕ) (width : Width) →
+    base < rom_base → base_of_card (card_at setup dev) base ≡ Some (OutsideBase bits) →
+    value_at setup before (Card dev base off) place width ≡ largest_of width
 
 -- each part of a wide access lands in DRAM, where bytes are stored by their addresses
 abbrev pub LandsInDram : Setup → List Entry → WideAccess → Type 0

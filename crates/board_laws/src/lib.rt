@@ -6,7 +6,7 @@ ghost use Rattle.board_prelude.specs.Common.{MapBytesDecide, MapWritesDecide, On
 ghost use Rattle.board_laws.specs.AreaLaws.{RowBelowTop, WhoAnswers};
 ghost use Rattle.board_laws.specs.DenialLaws.{DeniedInParts, DeniedOnBus};
 ghost use Rattle.board_laws.specs.MapLaws.{MapWritesDecideMap};
-ghost use Rattle.board_laws.specs.StoreLaws.{WideReads, LastStays, NothingStored, WideStored};
+ghost use Rattle.board_laws.specs.StoreLaws.{WideReads, LastStays, NothingStored, OutsideGivesOnes, WideStored};
 ghost use Rattle.board_laws.specs.RegisterLaws.{RegistersStay};
 ghost use Rattle.board_laws.specs.SmramLaw.{SmramByBits};
 
@@ -50,6 +50,12 @@ pub fn law_wide_store()
 pub fn law_stored()
     ensures last { LastStays }
     ensures none { NothingStored }
+{}
+
+/// A base whose bytes the board does not keep gives ones, whatever was written.
+#[tactic(auto, using(crate::proofs::StoredLaws::outside_gives_ones))]
+pub fn law_outside_bases()
+    ensures ones { OutsideGivesOnes }
 {}
 
 /// The SMRAM register after a write, bit by bit.

@@ -10,7 +10,7 @@ pub record IsCardTold (chipset : Running) (dev base off : ℕ) (before after : L
   pub within : off + length before ≤ card_size chipset.setup dev base
   pub size : length after ≡ length before
   pub bytes : (history : List Entry) (k : ℕ) → IsLeftBy chipset history → k < length before →
-      slice_index after k ≡ card_byte history dev base (off + k)
+      slice_index after k ≡ card_byte chipset.setup history dev base (off + k)
 
 -- these bytes stand in a base of a card from an offset on, as if processors had written them one after another
 pub record IsCardWritten (old new : Serial Running) (dev base off : ℕ) (bytes : List ℕ) : Type 0 where

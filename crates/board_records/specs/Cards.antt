@@ -1,12 +1,12 @@
 -- Which cards some records say, none where a number of one names nothing; and what these say that they are.
 use Rattle.std.specs.Prelude.{ℕ, ◌==◌, nat_le, Bool, ◌&&◌, if◌then◌else◌, List, [], ◌∷◌, take, Option, Some, None, option_map, option_and_then}
-use Rattle.board_spec.specs.Setup.{Base, MemoryBase, IoBase, FittedCard}
+use Rattle.board_spec.specs.Setup.{Base, MemoryBase, IoBase, OutsideBase, FittedCard}
 use Rattle.card_identity.specs.declared.identity.Identity.{Identity}
 use Rattle.card_identity.specs.declared.identity.FittedIdentity.{FittedIdentity}
 use Rattle.card_identity.specs.Header.{is_blank}
 use Rattle.board_records.specs.declared.card.BaseRecord.{BaseRecord}
 use Rattle.board_records.specs.declared.card.CardRecord.{CardRecord}
-use Rattle.board_records.specs.Numbers.{memory_base, io_base, most_bases}
+use Rattle.board_records.specs.Numbers.{memory_base, io_base, outside_base, most_bases}
 
 -- what each says, where each says something
 abbrev pub all_said : {A B : Type 0} → (A → Option B) → List A → Option (List B)
@@ -17,7 +17,8 @@ all_said said (first ∷ later) =
 unfoldable pub base_said : BaseRecord → Option Base
 base_said said =
     if said.kind == memory_base then Some (MemoryBase said.bits) else
-    if said.kind == io_base then Some (IoBase said.bits) else None
+    if said.kind == io_base then Some (IoBase said.bits) else
+    if said.kind == outside_base then Some (OutsideBase said.bits) else None
 
 -- 2 to the power of this number of bytes; 0 is none
 unfoldable pub rom_said : ℕ → Option ℕ

@@ -57,6 +57,9 @@ memory_base = 1
 abbrev pub io_base : ℕ
 io_base = 2
 
+abbrev pub outside_base : ℕ
+outside_base = 3
+
 abbrev pub most_bases : ℕ
 most_bases = 6
 

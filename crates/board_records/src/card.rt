@@ -4,13 +4,14 @@ ghost use Rattle.std.specs.Prelude.{◌≡◌, ◌≤◌, length, map, IfOk, is_
 ghost use Rattle.pci_bars.specs.Bases.{base_of as fitted_base};
 ghost use Rattle.board_records.specs.Cards.{all_said, base_said, rom_said, numbers_fit, card_said, cards_said, identity_said, identities_said};
 
-use crate::numbers::{IO_BASE, MEMORY_BASE};
+use crate::numbers::{IO_BASE, MEMORY_BASE, OUTSIDE_BASE};
 use arrayvec::ArrayVec;
 use card_identity::{FittedIdentity, Identity};
 use pci_bars::{BASE_COUNT, BaseSpec, CardSpec};
 use std::alloc::{AllocError, Global};
 
-/// A base of a card: for memory or for I/O ports (`MEMORY_BASE`, `IO_BASE`), and log2 of its size in bytes or ports.
+/// A base of a card: for memory or for I/O ports (`MEMORY_BASE`, `IO_BASE`), or for memory whose bytes the monitor keeps
+/// (`OUTSIDE_BASE`), and log2 of its size in bytes or ports.
 #[repr(C)]
 #[derive(Clone, Copy, PartialEq, Eq, Debug, Default)]
 pub struct BaseRecord {
@@ -139,6 +140,7 @@ fn base_of(record: BaseRecord) -> Option<BaseSpec>
     match record.kind {
         MEMORY_BASE => Some(BaseSpec::Memory(record.bits)),
         IO_BASE => Some(BaseSpec::Io(record.bits)),
+        OUTSIDE_BASE => Some(BaseSpec::Outside(record.bits)),
         _ => None,
     }
 }

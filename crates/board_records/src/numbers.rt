@@ -32,6 +32,8 @@ pub const WRITE_KIND: u8 = 3;
 pub const MEMORY_BASE: u8 = 1;
 /// A base for I/O ports.
 pub const IO_BASE: u8 = 2;
+/// A base for memory whose bytes the monitor keeps.
+pub const OUTSIDE_BASE: u8 = 3;
 
 /// Main memory.
 pub const DRAM_TARGET: u8 = 1;

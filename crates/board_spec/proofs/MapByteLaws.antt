@@ -1,6 +1,6 @@
 -- Areas and denials depend on the map bytes alone.
 use Rattle.std.proofs.Common.{◌≡◌, ℕ, zero, suc, ◌+◌, ◌*◌, ◌<◌, ◌≤◌, inl, inr, Bool, true, false, cond, ◌&&◌, ◌||◌, not, List, [], ◌∷◌, ◌++◌, length, get_or, Option, Some, None, refl, ◌∙◌, ap, arith, lit<, ◌==◌, nat_le, nat_lt, is_some, find, flat_map, All, if◌then◌else◌}
-use Rattle.board_spec.specs.Common.{AllByRecursion, enumerate_from, Kind, Reg, Base, MemoryBase, IoBase, FittedCard, Setup, IsCard, IsCardList, Rises, card_at, rom_base, vga_base, vga_bits, has_rom, is_bit, is_within, Bytes, boundary, row_of, is_high_window, is_open, nibble, is_shadow_range, is_shadowed, Window, is_covered, base_value, memory_window, vga_window, memory_windows, rom_value, rom_window, rom_window_of, is_rom_on, unselected_windows, rom_unselected, pam_register, is_enabled_for, first_window, memory_claim, memory_shut, area_of, denial_of, bridge, pam, fdhc, smram, xbcs, card_register, card_command, base_register, expansion_rom, is_same, smram_range, system_bios, boundary_unit, SameMapBytes, MapBytesDecide}
+use Rattle.board_spec.specs.Common.{AllByRecursion, enumerate_from, Kind, Reg, Base, MemoryBase, IoBase, OutsideBase, FittedCard, Setup, IsCard, IsCardList, Rises, card_at, rom_base, vga_base, vga_bits, has_rom, is_bit, is_within, Bytes, boundary, row_of, is_high_window, is_open, nibble, is_shadow_range, is_shadowed, Window, is_covered, base_value, memory_window, vga_window, memory_windows, rom_value, rom_window, rom_window_of, is_rom_on, unselected_windows, rom_unselected, pam_register, is_enabled_for, first_window, memory_claim, memory_shut, area_of, denial_of, bridge, pam, fdhc, smram, xbcs, card_register, card_command, base_register, expansion_rom, is_same, smram_range, system_bios, boundary_unit, SameMapBytes, MapBytesDecide}
 use Rattle.device_spec.proofs.Common.{cases_Bool, eq-eqb, nat_tests, All-nil, All-cons, All-append, recursion_from_All}
 
 -- ---- searches in lists
@@ -147,6 +147,8 @@ module _ (setup : Setup) (bytes other : Bytes) (same : SameMapBytes setup bytes 
   window_same dev k (MemoryBase bits) fitted below =
       ap (λ inside. record { dev = dev; base = k; inside = inside; bits = bits } ∷ []) (base_same dev k fitted below)
   window_same dev k (IoBase bits) fitted below = refl
+  window_same dev k (OutsideBase bits) fitted below =
+      ap (λ inside. record { dev = dev; base = k; inside = inside; bits = bits } ∷ []) (base_same dev k fitted below)
 
   abbrev windows_from : Bytes → (dev first : ℕ) → List Base → List Window
   windows_from registers dev first bases = flat_map (λ numbered. memory_window registers dev numbered.0 numbered.1) (enumerate_from first bases)
@@ -186,6 +188,8 @@ module _ (setup : Setup) (bytes other : Bytes) (same : SameMapBytes setup bytes 
   of_bases dev first (MemoryBase bits ∷ later) fitted =
       All-cons IsOfCard (record { dev = dev; base = first; inside = base_value other dev first; bits = bits }) (windows_from other dev (first + 1) later) fitted (of_bases dev (first + 1) later fitted)
   of_bases dev first (IoBase bits ∷ later) fitted = of_bases dev (first + 1) later fitted
+  of_bases dev first (OutsideBase bits ∷ later) fitted =
+      All-cons IsOfCard (record { dev = dev; base = first; inside = base_value other dev first; bits = bits }) (windows_from other dev (first + 1) later) fitted (of_bases dev (first + 1) later fitted)
 
   of_vga : (card : FittedCard) → IsFitted card.dev → All IsOfCard (vga_window card)
   of_vga card fitted =

@@ -12,7 +12,7 @@ use Rattle.board_spec.specs.declared.event.Part.{Part}
 use Rattle.board_spec.specs.declared.event.Parts.{Parts}
 use Rattle.board_spec.specs.declared.event.Reply.TheVariants.{Bus, Parts as InParts, Saw}
 use Rattle.board_spec.specs.declared.event.Entry.{Entry}
-use Rattle.board_spec.specs.Setup.{Base, MemoryBase, IoBase, FittedCard, Setup, card_at, rom_base, vga_base, vga_bits}
+use Rattle.board_spec.specs.Setup.{Base, MemoryBase, IoBase, OutsideBase, FittedCard, Setup, card_at, rom_base, vga_base, vga_bits}
 use Rattle.board_spec.specs.Bits.{wide}
 use Rattle.board_spec.specs.Registers.{reset_control, config_address, byte_of}
 use Rattle.board_spec.specs.MapWrites.{version_of}
@@ -30,6 +30,7 @@ abbrev pub bits_of_base : Option Base → ℕ
 bits_of_base None = 0
 bits_of_base (Some (MemoryBase bits)) = bits
 bits_of_base (Some (IoBase bits)) = bits
+bits_of_base (Some (OutsideBase bits)) = bits
 
 abbrev pub base_of_card : Option FittedCard → ℕ → Option Base
 base_of_card None base = None
@@ -68,7 +69,7 @@ value_at setup before (Dram row) addr width = wide (dram_byte setup before) addr
 value_at setup before (Shadow row) addr width = wide (dram_byte setup before) addr width
 value_at setup before Smram addr width = wide (dram_byte setup before) addr width
 value_at setup before (Rom off) addr width = wide (slice_index setup.rom) off width
-value_at setup before (Card dev base off) addr width = wide (λ at. card_byte before dev base at) off width
+value_at setup before (Card dev base off) addr width = wide (λ at. card_byte setup before dev base at) off width
 value_at setup before (Config reg) port width =
     wide (λ off. byte_of setup before (record reg { off = off })) reg.off width
 value_at setup before (Device dev) port width = port_value setup before dev port width

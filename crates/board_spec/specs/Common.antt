@@ -2,7 +2,7 @@
 pub use Rattle.board_spec.specs.Answer.{IsAnswer, IsLookAnswer, IsSeen, IsWideAnswer, base_of_card, bits_of_base, bus_reply, memory_denial, memory_target, outside_answer, port_value, rom_bits, target_at, value_at, window_bits}
 unfoldable pub use Rattle.board_spec.specs.Answer.{memory_answer, part_answer, port_answer, wide_value}
 pub use Rattle.board_spec.specs.Bits.{bit, byte, is_bit, is_within, long_bytes, merged, wide}
-pub use Rattle.board_spec.specs.Decode.{Bytes, Window, abort_denial, area_under, base_value, boundary, card_area, command_of, denial_in, first_of, first_window, hole_of, io_window, io_windows, is_covered, is_enabled_for, is_high_window, is_in, is_open, is_rom_on, is_rom_selected, is_shadow_range, is_shadowed, is_smram_range, line_where, memory_window, memory_windows, nibble, pam_register, reaches_smram, rom_denial, rom_register_of, rom_value, rom_window, rom_window_of, smram_answers, top_of, unselected_windows, vga_window}
+pub use Rattle.board_spec.specs.Decode.{Bytes, Window, abort_denial, area_under, base_value, base_window, boundary, card_area, command_of, denial_in, first_of, first_window, hole_of, io_window, io_windows, is_covered, is_enabled_for, is_high_window, is_in, is_open, is_rom_on, is_rom_selected, is_shadow_range, is_shadowed, is_smram_range, line_where, memory_window, memory_windows, nibble, pam_register, reaches_smram, rom_denial, rom_register_of, rom_value, rom_window, rom_window_of, smram_answers, top_of, unselected_windows, vga_window}
 unfoldable pub use Rattle.board_spec.specs.Decode.{area_of, denial_of, io_claim, io_shut, memory_claim, memory_shut, rom_unselected, row_of}
 pub use Rattle.board_spec.specs.DeviceLaws.{ActsOnPair, FirstLevels, IsOfMemory, MemoryLeavesDevices, NamesDevice, PairHasSeen, PairStays, SameDevices}
 pub use Rattle.board_spec.specs.Devices.{SystemPort, clock_accessed, clock_after, device_in, device_reached, disk_accessed, disk_after, disk_of, line_set, system_accessed, system_after, system_at_reset, timer_accessed, timer_after, triggers_accessed, triggers_after, wire_set}
@@ -32,7 +32,7 @@ pub use Rattle.board_spec.specs.RegisterTable.{base_reset, base_writable, functi
 unfoldable pub use Rattle.board_spec.specs.RegisterTable.{card_function, host_bridge, ide_function, isa_bridge, reset_byte, writable_bits}
 pub use Rattle.board_spec.specs.Registers.{address_written, bus_of, byte_after, byte_with, changed_byte, config_register, config_store, control_after, control_written, covers, device_of, function_of, is_config_port, is_enabled, is_hard_reset, is_hard_value, kept_address, register_change, register_of, resets_hard, smram_after}
 unfoldable pub use Rattle.board_spec.specs.Registers.{byte_of, config_address, reset_control}
-pub use Rattle.board_spec.specs.Setup.{Base, FittedCard, IoBase, IsBase, IsCard, IsCardList, IsDisk, IsDiskSize, IsExpansionRom, IsRomSize, IsSetup, MemoryBase, Rises, Setup, card_at, installed, is_base_in_range, is_rom_in_range, is_rom_size, memory_of_cards, memory_size, rom_base, vga_base, vga_bits}
+pub use Rattle.board_spec.specs.Setup.{Base, FittedCard, IoBase, IsBase, IsCard, IsCardList, IsDisk, IsDiskSize, IsExpansionRom, IsRomSize, IsSetup, MemoryBase, OutsideBase, Rises, Setup, card_at, installed, is_base_in_range, is_rom_in_range, is_rom_size, kept_of_base, kept_size, memory_of_cards, memory_size, rom_base, vga_base, vga_bits}
 pub use Rattle.board_spec.specs.Stored.{CardCell, Cell, DramCell, byte_put, card_byte, distance, dram_byte, entry_put, expansion_byte, first_cell, is_write, memory_put, port_put}
 unfoldable pub use Rattle.board_spec.specs.Stored.{parts_put, stored_of}
 pub use Rattle.board_spec.specs.Text.{area_text, base_text, denial_text, device_text, hex_byte, hex_digit, hex_long, hex_number, hex_offset, hex_word, line_feed, register_text, space, target_text}

@@ -2,7 +2,7 @@
 use Rattle.std.specs.Prelude.{ℕ, ◌+◌, ◌-◌, ◌*◌, ◌/◌, ◌%◌, ◌^◌, ◌==◌, Bool, true, false, not, ◌&&◌, ◌||◌, nat_lt, nat_le, if◌then◌else◌, List, [], ◌∷◌, ◌++◌, Option, Some, None, is_some, unwrap_or, option_map, find, flat_map}
 use Rattle.device_spec.specs.Common.{enumerate_from, Kind, Fetch, Read, Write, Reg, Area, Denial, Register, NoRegister, Four}
 use Rattle.board_base.specs.declared.target.Area.TheVariants.{Dram, Shadow, Smram, Rom, Card, Abort}
-use Rattle.board_spec.specs.Setup.{Base, MemoryBase, IoBase, FittedCard, Setup, rom_base, vga_base, vga_bits}
+use Rattle.board_spec.specs.Setup.{Base, MemoryBase, IoBase, OutsideBase, FittedCard, Setup, rom_base, vga_base, vga_bits}
 use Rattle.board_spec.specs.Bits.{is_bit, wide}
 use Rattle.board_spec.specs.RegisterNames.{bridge, pam, drb, fdhc, smram, xbcs, card_register, card_command, base_register, expansion_rom}
 use Rattle.board_spec.specs.Ranges.{lies_in, smram_range, expansion_range, system_bios, shadow_range, upper_memory, hole_at_512_kib, hole_at_15_mib, high_bios, lower_bios, lower_high_bios, extended_bios, selectable_bios, largest_top, boundary_unit}
@@ -127,14 +127,20 @@ base_value bytes dev k = wide (λ off. bytes (card_register dev off)) (base_regi
 abbrev pub rom_value : Bytes → ℕ → ℕ
 rom_value bytes dev = wide (λ off. bytes (card_register dev off)) (expansion_rom dev).off Four
 
+-- the window of 2 ^ bits bytes or ports that base number k of a card decodes
+abbrev pub base_window : Bytes → ℕ → ℕ → ℕ → List Window
+base_window bytes dev k bits = record { dev = dev; base = k; inside = base_value bytes dev k; bits = bits } ∷ []
+
+-- in memory, whoever keeps its bytes, and among the ports
 abbrev pub memory_window : Bytes → ℕ → ℕ → Base → List Window
-memory_window bytes dev k (MemoryBase bits) =
-    record { dev = dev; base = k; inside = base_value bytes dev k; bits = bits } ∷ []
+memory_window bytes dev k (MemoryBase bits) = base_window bytes dev k bits
 memory_window bytes dev k (IoBase bits) = []
+memory_window bytes dev k (OutsideBase bits) = base_window bytes dev k bits
 
 abbrev pub io_window : Bytes → ℕ → ℕ → Base → List Window
 io_window bytes dev k (MemoryBase bits) = []
-io_window bytes dev k (IoBase bits) = record { dev = dev; base = k; inside = base_value bytes dev k; bits = bits } ∷ []
+io_window bytes dev k (IoBase bits) = base_window bytes dev k bits
+io_window bytes dev k (OutsideBase bits) = []
 
 -- the window of a card's expansion ROM, where it has one
 abbrev pub rom_window_of : Bytes → ℕ → Option ℕ → List Window

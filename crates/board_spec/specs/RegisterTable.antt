@@ -3,7 +3,7 @@
 -- 2.1, section 6.2. What no line lists reads 00 and ignores writes.
 use Rattle.std.specs.Prelude.{ℕ, ◌+◌, ◌-◌, ◌^◌, ◌==◌, Bool, ◌&&◌, nat_lt, nat_le, if◌then◌else◌, List, [], ◌∷◌, get_or, length, replicate, flat_map, Option, Some, None, is_some, option_map, unwrap_or}
 use Rattle.device_spec.specs.Common.{Reg, route_mask, route_reset}
-use Rattle.board_spec.specs.Setup.{Base, MemoryBase, IoBase, FittedCard, Setup, card_at}
+use Rattle.board_spec.specs.Setup.{Base, MemoryBase, IoBase, OutsideBase, FittedCard, Setup, card_at}
 use Rattle.board_spec.specs.Bits.{long_bytes}
 use Rattle.board_spec.specs.RegisterNames.{pam, drb, fdhc, smram, xbcs, pirq, ide_command, idetim, card_command, base_register, expansion_rom, interrupt_line}
 
@@ -57,11 +57,13 @@ ide_function =
 abbrev pub base_reset : Base → ℕ
 base_reset (MemoryBase bits) = 0
 base_reset (IoBase bits) = 1
+base_reset (OutsideBase bits) = 0
 
 -- the writable bits of a base register of 2 ^ bits bytes: 31 down to `bits`
 abbrev pub base_writable : Base → ℕ
 base_writable (MemoryBase bits) = 0x1_0000_0000 - 2 ^ bits
 base_writable (IoBase bits) = 0x1_0000_0000 - 2 ^ bits
+base_writable (OutsideBase bits) = 0x1_0000_0000 - 2 ^ bits
 
 -- the writable bits of the register of an expansion ROM of 2 ^ bits bytes: 31 down to `bits`, and bit 0,
 -- which enables it. Without a ROM there are none

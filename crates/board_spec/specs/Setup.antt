@@ -1,13 +1,16 @@
 -- What a board is fitted with. Every definition here is for one fixed setup.
-use Rattle.std.specs.Prelude.{ℕ, ◌≡◌, ◌<◌, ◌≤◌, ◌==◌, ◌*◌, ◌^◌, ◌⊎◌, Bool, true, ◌||◌, List, [], ◌∷◌, length, All, sum_by, flat_map, Option, Some, None, find}
+use Rattle.std.specs.Prelude.{ℕ, ◌≡◌, ◌<◌, ◌≤◌, ◌==◌, ◌*◌, ◌^◌, ◌⊎◌, Bool, true, ◌||◌, if◌then◌else◌, List, [], ◌∷◌, length, All, sum_by, flat_map, Option, Some, None, find, slice_get}
+use Rattle.device_spec.specs.Common.{option_map_or}
 use Rattle.board_base.specs.Bits.{is_within}
 use Rattle.board_spec.specs.Limits.{most_mib, most_card_memory}
 
 -- a base address register of a card, for memory or for I/O ports, of 2 ^ bits bytes
--- (PCI Local Bus 2.1, section 6.2.5.1)
+-- (PCI Local Bus 2.1, section 6.2.5.1). The bytes of an outside base, which is for memory too, are kept by the model of
+-- its card, outside the board
 pub data Base : Type 0 where
   MemoryBase : (bits : ℕ) → Base
   IoBase : (bits : ℕ) → Base
+  OutsideBase : (bits : ℕ) → Base
 
 -- the numbers of what a card decodes: 0 to 5 for its base address registers, then its expansion ROM, and then
 -- the window of a VGA adapter, A0000h to BFFFFh, of 2 ^ vga_bits bytes
@@ -46,10 +49,11 @@ card_at setup dev = find (λ card. card.dev == dev) setup.cards
 
 -- ---- what a board can be fitted with
 
--- a memory base has 16 bytes to 16 MiB, an I/O base 4 to 256 ports
+-- a memory base has 16 bytes to 16 MiB, an I/O base 4 to 256 ports, and an outside base 16 bytes to 256 MiB
 abbrev pub IsBase : Base → Type 0
 IsBase (MemoryBase bits) = (4 ≤ bits) × (bits ≤ 24)
 IsBase (IoBase bits) = (2 ≤ bits) × (bits ≤ 8)
+IsBase (OutsideBase bits) = (4 ≤ bits) × (bits ≤ 28)
 
 -- an expansion ROM has 2 KiB to 16 MiB
 abbrev pub IsExpansionRom : Option ℕ → Type 0
@@ -60,6 +64,7 @@ IsExpansionRom (Some bits) = (11 ≤ bits) × (bits ≤ 24)
 abbrev pub is_base_in_range : Base → Bool
 is_base_in_range (MemoryBase bits) = is_within 4 24 bits
 is_base_in_range (IoBase bits) = is_within 2 8 bits
+is_base_in_range (OutsideBase bits) = is_within 4 28 bits
 
 abbrev pub is_rom_in_range : Option ℕ → Bool
 is_rom_in_range None = true
@@ -82,13 +87,32 @@ pub record IsCardList (cards : List FittedCard) : Type 0 where
   pub each : All IsCard cards
   pub rises : Rises cards
 
--- the bytes of memory that a base decodes
+-- the bytes of memory that the board keeps for a base
 abbrev pub memory_size : Base → ℕ
 memory_size (MemoryBase bits) = 2 ^ bits
 memory_size (IoBase bits) = 0
+memory_size (OutsideBase bits) = 0
 
 abbrev pub memory_of_cards : List FittedCard → ℕ
 memory_of_cards cards = sum_by memory_size (flat_map (λ card. card.bases) cards)
+
+-- ---- the bytes that the board keeps of a card
+
+-- of a base: one for each address or port that it decodes, but none of an outside base
+abbrev pub kept_of_base : Base → ℕ
+kept_of_base (MemoryBase bits) = 2 ^ bits
+kept_of_base (IoBase bits) = 2 ^ bits
+kept_of_base (OutsideBase bits) = 0
+
+-- of a base by its number: those of the VGA window too, and none of an expansion ROM, whose bytes are fixed. There are
+-- none where the base does not exist
+abbrev pub kept_size : Option FittedCard → ℕ → ℕ
+kept_size None base = 0
+kept_size (Some card) base =
+    if base == vga_base then (if card.vga then 2 ^ vga_bits else 0)
+    else option_map_or kept_of_base (slice_get card.bases base) 0
+
+-- ---- the ROM and the disk
 
 -- a ROM of 64, 128, 256 or 512 KiB
 abbrev pub IsRomSize : ℕ → Type 0

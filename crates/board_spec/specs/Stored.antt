@@ -8,7 +8,7 @@ use Rattle.board_spec.specs.declared.event.Part.{Part}
 use Rattle.board_spec.specs.declared.event.Reply.{Reply}
 use Rattle.board_spec.specs.declared.event.Reply.TheVariants.{Bus, Parts}
 use Rattle.board_spec.specs.declared.event.Entry.{Entry}
-use Rattle.board_spec.specs.Setup.{Setup, installed, rom_base}
+use Rattle.board_spec.specs.Setup.{Setup, card_at, installed, kept_size, rom_base}
 use Rattle.board_spec.specs.Bits.{byte}
 use Rattle.board_spec.specs.WideParts.{parts_of, parts_list}
 
@@ -77,10 +77,12 @@ stored_of (entry ∷ before) cell = unwrap_or (entry_put entry.event entry.reply
 abbrev pub dram_byte : Setup → List Entry → ℕ → ℕ
 dram_byte setup history addr = if nat_lt addr (installed setup) then stored_of history (DramCell addr) else 0xFF
 
--- a byte of a card's base. That of an expansion ROM is fixed by its offset and the device
+-- a byte of an expansion ROM is fixed by its offset and the device
 abbrev pub expansion_byte : (dev off : ℕ) → ℕ
 expansion_byte dev off = (off + dev) % 256
 
-abbrev pub card_byte : List Entry → (dev base off : ℕ) → ℕ
-card_byte history dev base off =
-    if base == rom_base then expansion_byte dev off else stored_of history (CardCell dev base off)
+-- a byte of a card's base. Where the board keeps none, as for an outside base, it reads FFh
+abbrev pub card_byte : Setup → List Entry → (dev base off : ℕ) → ℕ
+card_byte setup history dev base off =
+    if base == rom_base then expansion_byte dev off else
+    if nat_lt off (kept_size (card_at setup dev) base) then stored_of history (CardCell dev base off) else 0xFF

@@ -12,7 +12,7 @@ put_nothing stores = record {
   size = refl;
   dram = λ at within. refl;
   sizes = λ dev base. refl;
-  contents = λ dev base off number. refl;
+  contents = λ dev base off number within. refl;
 }
 
 later_first :
@@ -36,9 +36,10 @@ put_then first later old mid new before after =
       size = dram.size;
       dram = dram.each;
       sizes = λ dev base. after.sizes dev base ∙ before.sizes dev base;
-      contents = λ dev base off number.
-          after.contents dev base off number
-          ∙ ap (λ (byte : ℕ). unwrap_or (later (CardCell dev base off)) byte) (before.contents dev base off number)
+      contents = λ dev base off number within.
+          after.contents dev base off number (omega (arith, within, before.sizes dev base))
+          ∙ ap (λ (byte : ℕ). unwrap_or (later (CardCell dev base off)) byte)
+          (before.contents dev base off number within)
           ∙ later_first (later (CardCell dev base off)) (first (CardCell dev base off))
           (held_byte old.contents dev base off);
     }

@@ -1,6 +1,6 @@
 -- What is read of memory fits the width of the access: each byte that is stored is below 256.
 use Rattle.std.proofs.Common.{◌≡◌, ℕ, ◌+◌, ◌^◌, ◌<◌, Bool, true, false, List, [], ◌∷◌, Option, Some, None, inl, inr, arith, ◌==◌, nat_lt, if◌then◌else◌, unwrap_or, option_and_then, slice_index}
-use Rattle.board_prelude.proofs.Common.{option_or, cases_Bool, Width, One, Target, Dram, Shadow, Smram, Rom, Card, Device, Config, Abort, bytes_of, Event, Memory, Wide, Port, Ack, Pulses, Time, Wire, Line, BadSector, Reply, Bus, Saw, Part, Entry, Setup, installed, byte, wide, parts_of, parts_list, Cell, DramCell, CardCell, first_cell, distance, is_write, byte_put, memory_put, parts_put, entry_put, stored_of, dram_byte, card_byte, value_at}
+use Rattle.board_prelude.proofs.Common.{option_or, cases_Bool, Width, One, Target, Dram, Shadow, Smram, Rom, Card, Device, Config, Abort, bytes_of, Event, Memory, Wide, Port, Ack, Pulses, Time, Wire, Line, BadSector, Reply, Bus, Saw, Part, Entry, Setup, card_at, installed, kept_size, byte, wide, parts_of, parts_list, Cell, DramCell, CardCell, first_cell, distance, is_write, byte_put, memory_put, parts_put, entry_put, stored_of, dram_byte, card_byte, value_at}
 use Rattle.board_base.specs.declared.access.Width.TheVariants.{Two, Four}
 use Rattle.board_base.specs.declared.access.Access.{Access}
 use Rattle.board_spec.specs.declared.event.Event.TheVariants.{Look}
@@ -85,11 +85,14 @@ dram_below setup history addr =
       | inr past ↦ rw past (omega arith)
     ]
 
-card_below : (history : List Entry) (dev base off : ℕ) → card_byte history dev base off < 256
-card_below history dev base off =
+card_below : (setup : Setup) (history : List Entry) (dev base off : ℕ) → card_byte setup history dev base off < 256
+card_below setup history dev base off =
     elim (cases_Bool (base == 6)) [
       | inl rom ↦ rw rom (omega arith)
-      | inr kept ↦ rw kept (stored_below history (CardCell dev base off))
+      | inr other ↦ elim (cases_Bool (nat_lt off (kept_size (card_at setup dev) base))) [
+        | inl kept ↦ rw (other, kept) (stored_below history (CardCell dev base off))
+        | inr none ↦ rw (other, none) (omega arith)
+      ]
     ]
 
 -- ---- what is read
@@ -116,7 +119,7 @@ value_below setup history rom contents Smram place width image bytes is =
 value_below setup history rom contents (Rom off) place width image bytes is =
     wide_below (slice_index setup.rom) off width (λ at. rw image (bytes at))
 value_below setup history rom contents (Card dev base off) place width image bytes is =
-    wide_below (λ at. card_byte history dev base at) off width (card_below history dev base)
+    wide_below (λ at. card_byte setup history dev base at) off width (card_below setup history dev base)
 value_below setup history rom contents Abort place One image bytes is = omega arith
 value_below setup history rom contents Abort place Two image bytes is = omega arith
 value_below setup history rom contents Abort place Four image bytes is = omega arith

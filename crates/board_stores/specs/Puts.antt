@@ -10,12 +10,12 @@ pub record HasStores (setup : Setup) (history : List Entry) (stores : Stores) : 
   pub dram : IsDramOf setup history stores.dram
   pub contents : IsContentsOf setup history stores.contents
 
--- before and after bytes were put: each cell has the byte that was put there, or its own
+-- before and after bytes were put: each cell that is kept has the byte that was put there, or its own
 pub record ArePut (put : Cell → Option ℕ) (old new : Stores) : Type 0 where
   pub size : length new.dram ≡ length old.dram
   pub dram : (at : ℕ) → at < length old.dram →
       slice_index new.dram at ≡ unwrap_or (put (DramCell at)) (slice_index old.dram at)
   pub sizes : (dev base : ℕ) → length (held new.contents dev base) ≡ length (held old.contents dev base)
-  pub contents : (dev base off : ℕ) → IsBaseNumber dev base →
+  pub contents : (dev base off : ℕ) → IsBaseNumber dev base → off < length (held old.contents dev base) →
       held_byte new.contents dev base off
       ≡ unwrap_or (put (CardCell dev base off)) (held_byte old.contents dev base off)

@@ -1,6 +1,6 @@
 -- The bytes behind the addresses, read and written by target, whatever keeps them.
-use Rattle.std.specs.Prelude.{ℕ, Bool, true, nat_lt, if◌then◌else◌, slice_index, unwrap_or}
-use Rattle.board_prelude.specs.Common.{Width, Target, Dram, Shadow, Smram, Rom, Card, largest_of, Setup, installed, wide, Cell, DramCell, CardCell, byte_put}
+use Rattle.std.specs.Prelude.{ℕ, Bool, nat_lt, if◌then◌else◌, slice_index, unwrap_or}
+use Rattle.board_prelude.specs.Common.{Width, Target, Dram, Shadow, Smram, Rom, Card, largest_of, Setup, card_at, installed, kept_size, wide, Cell, DramCell, CardCell, byte_put}
 
 -- what each byte of the DRAM and of the cards reads
 abbrev pub Cells : Type 0
@@ -15,10 +15,10 @@ value_in setup cells (Rom off) addr width = wide (slice_index setup.rom) off wid
 value_in setup cells (Card dev base off) addr width = wide (λ at. cells (CardCell dev base at)) off width
 value_in setup cells _ addr width = largest_of width
 
--- DRAM past the installed memory keeps nothing
+-- DRAM past the installed memory keeps nothing, and so does an outside base of a card
 abbrev pub is_kept : Setup → Cell → Bool
 is_kept setup (DramCell addr) = nat_lt addr (installed setup)
-is_kept setup (CardCell dev base off) = true
+is_kept setup (CardCell dev base off) = nat_lt off (kept_size (card_at setup dev) base)
 
 -- what they read after a write that has this target
 abbrev pub put_in : Setup → Target → (addr : ℕ) → Width → (value : ℕ) → Cells → Cells

@@ -3,6 +3,7 @@
 ghost use Rattle.std.specs.Prelude.{◌≡◌, ◌%◌, ◌<◌, ◌≤◌, length};
 ghost use Rattle.board_prelude.specs.Common.{bytes_of, largest_of, Kind, sectors_of, word_at, Setup, installed, Bytes, Cell};
 ghost use Rattle.ata_pio.specs.Words.{is_readable, with_word};
+ghost use Rattle.pci_bars.specs.Contents.{HaveSizes};
 ghost use Rattle.addr_decode.specs.Master.{master_area};
 ghost use Rattle.board_stores.specs.Targets.{IsHeld};
 ghost use Rattle.bus_master.specs.Cells.{value_in, put_in};
@@ -64,7 +65,8 @@ fn write_to(store: &mut Store, target: Target, addr: u32, width: Width, value: u
     requires held { IsHeld store.old.rom.items store.old.contents target width }
     requires aligned { addr % bytes_of width ≡ 0 }
     requires fits { value ≤ largest_of width }
-    ensures put { (setup : Setup) → length store.old.dram ≡ installed setup → (cell : Cell) → IsCell cell
+    ensures put { (setup : Setup) → length store.old.dram ≡ installed setup → HaveSizes setup store.old.contents
+        → (cell : Cell) → IsCell cell
         → cells_of store.new cell ≡ put_in setup target addr width value (cells_of store.old) cell }
     ensures shape { HasSameShape store.old store.new }
     ensures disk { store.new.disk ≡ store.old.disk }

@@ -1,22 +1,24 @@
 -- What `==` says of the bases of cards.
 use Rattle.std.proofs.Common.{◌≡◌, inl, inr, ℕ, Bool, true, false, List, [], ◌∷◌, Decides, refl, sym, ap, ◌∙◌, subst, map, not, nat_eq, Option, Some, None}
-use Rattle.board_prelude.proofs.Common.{option_eq, cases_Bool, false≢true, eqb-true, eq-eqb, Base, MemoryBase, IoBase, FittedCard}
+use Rattle.board_prelude.proofs.Common.{option_eq, cases_Bool, false≢true, eqb-true, eq-eqb, Base, MemoryBase, IoBase, OutsideBase, FittedCard}
 use Rattle.std.specs.Cmp.Lexicographic.{pointwise}
 use Rattle.std.proofs.lemmas.Bool.Decides.{Decides-like}
 use Rattle.std.proofs.lemmas.Slice.Eq.{slice_eq-Decides}
 use Rattle.pci_bars.specs.declared.spec.BaseSpec.{BaseSpec}
-use Rattle.pci_bars.specs.declared.spec.BaseSpec.TheVariants.{Memory, Io}
+use Rattle.pci_bars.specs.declared.spec.BaseSpec.TheVariants.{Memory, Io, Outside}
 use Rattle.pci_bars.specs.contracts.spec.BaseSpecPartialEq.TheImpl.{eq-value}
 use Rattle.pci_bars.specs.Bases.{base_of}
 
 base_true : (a b : BaseSpec) → eq-value.it a b ≡ true → a ≡ b
 base_true (Memory bits) (Memory other) same = ap Memory (eqb-true bits other same)
 base_true (Io bits) (Io other) same = ap Io (eqb-true bits other same)
+base_true (Outside bits) (Outside other) same = ap Outside (eqb-true bits other same)
 base_true _ _ same = absurd (false≢true same)
 
 base_same : (a : BaseSpec) → eq-value.it a a ≡ true
 base_same (Memory bits) = eq-eqb bits bits refl
 base_same (Io bits) = eq-eqb bits bits refl
+base_same (Outside bits) = eq-eqb bits bits refl
 
 base_eq : (a b : BaseSpec) → Decides (eq-value.it a b) (a ≡ b)
 base_eq a b = (base_true a b, λ same. subst (λ (other : BaseSpec). eq-value.it a other ≡ true) same (base_same a))
@@ -25,12 +27,14 @@ base_eq a b = (base_true a b, λ same. subst (λ (other : BaseSpec). eq-value.it
 spec_of : Base → BaseSpec
 spec_of (MemoryBase bits) = Memory bits
 spec_of (IoBase bits) = Io bits
+spec_of (OutsideBase bits) = Outside bits
 
 back : (bases : List BaseSpec) → map spec_of (map base_of bases) ≡ bases
 unfolding spec_of
 back [] = refl
 back (Memory bits ∷ later) = ap (λ (bases : List BaseSpec). Memory bits ∷ bases) (back later)
 back (Io bits ∷ later) = ap (λ (bases : List BaseSpec). Io bits ∷ bases) (back later)
+back (Outside bits ∷ later) = ap (λ (bases : List BaseSpec). Outside bits ∷ bases) (back later)
 
 pub bases_eq : (r : Bool) (xs ys : List BaseSpec) → r ≡ pointwise eq-value.it xs ys
     → Decides r (map base_of xs ≡ map base_of ys)

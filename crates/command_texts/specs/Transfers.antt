@@ -1,7 +1,7 @@
 -- What `dma` asks of a bus master after a replay, and the text of the transfer.
 use Rattle.std.specs.Prelude.{ℕ, zero, suc, ◌≡◌, ◌+◌, ◌*◌, ◌<◌, ◌++◌, ◌∷◌, [], List, slice_index, codes, decimal, Option, Some, None, if◌then◌else◌}
-use Rattle.board_prelude.specs.Common.{Disk, sectors_of, Entry, Setup, installed, card_at, byte_of, DramCell, CardCell, dram_byte, card_byte, expansion_byte, rom_base, disk_of, IsReplayOf, space, line_feed, hex_byte, hex_long, denial_text}
-use Rattle.pci_bars.specs.Contents.{IsBaseNumber, kept_size}
+use Rattle.board_prelude.specs.Common.{Disk, sectors_of, Entry, Setup, installed, byte_of, DramCell, CardCell, dram_byte, card_byte, expansion_byte, rom_base, disk_of, IsReplayOf, space, line_feed, hex_byte, hex_long, denial_text}
+use Rattle.pci_bars.specs.Contents.{IsBaseNumber}
 use Rattle.bus_master.specs.declared.done.Done.{Done}
 use Rattle.bus_master.specs.declared.done.End.{End}
 use Rattle.bus_master.specs.declared.done.End.TheVariants.{Exact, Longer, Shorter, Abort, Sector}
@@ -24,8 +24,7 @@ started transfer = record {
 pub record AreCellsAfter (setup : Setup) (history : List Entry) (cells : Cells) : Type 0 where
   pub dram : (addr : ℕ) → cells (DramCell addr) ≡ dram_byte setup history addr
   pub cards :
-      (dev base off : ℕ) → IsBaseNumber dev base → off < kept_size (card_at setup dev) base →
-      cells (CardCell dev base off) ≡ card_byte history dev base off
+      (dev base off : ℕ) → IsBaseNumber dev base → cells (CardCell dev base off) ≡ card_byte setup history dev base off
   pub roms : (dev off : ℕ) → cells (CardCell dev rom_base off) ≡ expansion_byte dev off
 
 -- the transfer over what a history left: the registers of the memory map, these bytes, and the disk

@@ -1,7 +1,7 @@
 -- A board image: what a board is fitted with, and then who asked what of it, in order. The replies follow from these.
 -- Numbers have their low byte first.
 use Rattle.std.specs.Prelude.{ℕ, ◌≤◌, ◌<◌, ◌+◌, ◌^◌, ◌++◌, Bool, true, false, List, [], ◌∷◌, length, map, flat_map, All, Option, is_some, unwrap_or, codes}
-use Rattle.board_prelude.specs.Common.{w16, w32, w64, to_le_bytes, Kind, Fetch, Read, Write, PortAccess, WideAccess, Moment, bytes_of, Event, Memory, Wide, Port, Ack, Pulses, Time, Wire, Line, BadSector, Statement, Base, MemoryBase, IoBase, FittedCard, Setup, IsSetup, IsInRange, IsScriptSector, most_statements}
+use Rattle.board_prelude.specs.Common.{w16, w32, w64, to_le_bytes, Kind, Fetch, Read, Write, PortAccess, WideAccess, Moment, bytes_of, Event, Memory, Wide, Port, Ack, Pulses, Time, Wire, Line, BadSector, Statement, Base, MemoryBase, IoBase, OutsideBase, FittedCard, Setup, IsSetup, IsInRange, IsScriptSector, most_statements}
 use Rattle.board_base.specs.declared.access.Access.{Access}
 pub use Rattle.byte_fields.specs.Fields.{flag_byte}
 use Rattle.board_spec.specs.declared.event.Event.TheVariants.{Look as LookAt}
@@ -21,13 +21,17 @@ magic = codes "BOARDIMG"
 abbrev pub image_version : ℕ
 image_version = 1
 
--- the bit that says of a base that it is for I/O ports
+-- the bit that says of a base that it is for I/O ports, and the one that says that the board keeps no bytes of it
 abbrev pub io_base : ℕ
 io_base = 0x80
+
+abbrev pub outside_base : ℕ
+outside_base = 0x40
 
 abbrev pub base_byte : Base → ℕ
 base_byte (MemoryBase bits) = bits
 base_byte (IoBase bits) = io_base + bits
+base_byte (OutsideBase bits) = outside_base + bits
 
 -- 0 stands where a card has no expansion ROM
 unfoldable pub card_bytes : FittedCard → List ℕ

@@ -8,3 +8,6 @@ pub const VERSION: u16 = 1;
 
 /// The bit of a base's byte that says that it is for I/O ports.
 pub const IO_BASE: u8 = 0x80;
+
+/// The bit of a base's byte that says that it is for memory of which the board keeps no bytes.
+pub const OUTSIDE_BASE: u8 = 0x40;

@@ -7,7 +7,7 @@ mod pieces;
 mod tag;
 mod writer;
 
-pub use format::{IO_BASE, MAGIC, VERSION};
+pub use format::{IO_BASE, MAGIC, OUTSIDE_BASE, VERSION};
 pub use pieces::ImageBytes;
 pub use tag::Tag;
 pub use writer::{push_card, save};

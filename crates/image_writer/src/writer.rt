@@ -6,7 +6,7 @@ ghost use Rattle.pci_bars.specs.Bases.{base_of};
 ghost use Rattle.image_writer.specs.ImageBytes.{flag_byte, base_byte, card_bytes, disk_bytes, head_bytes, size_bytes, image_bytes};
 
 use crate::event_writer::{push_word, steps_piece};
-use crate::format::{IO_BASE, MAGIC, VERSION};
+use crate::format::{IO_BASE, MAGIC, OUTSIDE_BASE, VERSION};
 use crate::pieces::ImageBytes;
 use access_history::History;
 use board_base::NoMemory;
@@ -22,6 +22,7 @@ fn base_byte(base: BaseSpec) -> u8
     match base {
         BaseSpec::Memory(bits) => bits,
         BaseSpec::Io(bits) => IO_BASE + bits,
+        BaseSpec::Outside(bits) => OUTSIDE_BASE + bits,
     }
 }
 

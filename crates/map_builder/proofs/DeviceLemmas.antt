@@ -1,6 +1,6 @@
 -- The windows that the registers of a card govern are those that the code finds by the values of its bases.
 use Rattle.std.proofs.Common.{◌≡◌, ◌≢◌, ℕ, zero, suc, ◌+◌, ◌/◌, ◌<◌, ◌≤◌, inl, inr, Bool, List, [], ◌∷◌, ◌++◌, length, map, filter, Option, Some, None, refl, ◌∙◌, ap, arith, ◌==◌, All, find, flat_map, slice_get, slice_index}
-use Rattle.board_prelude.proofs.Common.{option_map_or, enumerate_from, cases_Bool, eq-eqb, ne_eqb, map-append, All-head, All-tail, Reg, Base, MemoryBase, IoBase, FittedCard, Setup, IsCard, card_at, Bytes, Window, base_value, memory_window, rom_value, rom_window, rom_window_of, vga_window}
+use Rattle.board_prelude.proofs.Common.{option_map_or, enumerate_from, cases_Bool, eq-eqb, ne_eqb, map-append, All-head, All-tail, Reg, Base, MemoryBase, IoBase, OutsideBase, FittedCard, Setup, IsCard, card_at, Bytes, Window, base_value, memory_window, rom_value, rom_window, rom_window_of, vga_window}
 use Rattle.pci_bars.specs.Cards.{CardBytes, HoldsRom, DecodesAs, AreCards, AreDecoded, cards_of}
 use Rattle.addr_decode.specs.declared.register.CardRegister.{CardRegister}
 use Rattle.addr_decode.specs.declared.register.CardRegister.TheVariants.{Command, Base as BaseByte, ExpansionRom}
@@ -32,6 +32,8 @@ all_held bytes dev values first [] hold few = refl
 all_held bytes dev values first (MemoryBase bits ∷ later) hold few =
     rw (hold first (omega arith), all_held bytes dev values (first + 1) later hold (omega arith)) refl
 all_held bytes dev values first (IoBase bits ∷ later) hold few = all_held bytes dev values (first + 1) later hold (omega arith)
+all_held bytes dev values first (OutsideBase bits ∷ later) hold few =
+    rw (hold first (omega arith), all_held bytes dev values (first + 1) later hold (omega arith)) refl
 
 vga_is : (card : FittedCard) → map decoded (vga_window card) ≡ vga_held card.vga
 vga_is card = elim (cases_Bool card.vga) [ inl on ↦ rw on refl | inr off ↦ rw off refl ]
@@ -46,6 +48,8 @@ none_below bytes dev k first [] below = refl
 none_below bytes dev k first (MemoryBase bits ∷ later) below =
     rw (ne_eqb first k (omega arith)) (none_below bytes dev k (first + 1) later (omega arith))
 none_below bytes dev k first (IoBase bits ∷ later) below = none_below bytes dev k (first + 1) later (omega arith)
+none_below bytes dev k first (OutsideBase bits ∷ later) below =
+    rw (ne_eqb first k (omega arith)) (none_below bytes dev k (first + 1) later (omega arith))
 
 one_held : (bytes : Bytes) (dev : ℕ) (values : List ℕ) (k j first : ℕ) (bases : List Base) → Hold bytes dev values → k < 6 → first + j ≡ k →
     map decoded (filter (numbered k) (from_base bytes dev first bases))
@@ -56,10 +60,15 @@ one_held bytes dev values k zero first (MemoryBase bits ∷ later) hold below at
     rw (here, eq-eqb k k refl, none_below bytes dev k (k + 1) later (omega arith), hold k below) refl
 one_held bytes dev values k zero first (IoBase bits ∷ later) hold below at =
     rw (none_below bytes dev k (first + 1) later (omega arith)) refl
+one_held bytes dev values k zero first (OutsideBase bits ∷ later) hold below at =
+    let here : first ≡ k = omega arith in
+    rw (here, eq-eqb k k refl, none_below bytes dev k (k + 1) later (omega arith), hold k below) refl
 one_held bytes dev values k (suc j) first (MemoryBase bits ∷ later) hold below at =
     rw (ne_eqb first k (omega arith)) (one_held bytes dev values k j (first + 1) later hold below (omega arith))
 one_held bytes dev values k (suc j) first (IoBase bits ∷ later) hold below at =
     one_held bytes dev values k j (first + 1) later hold below (omega arith)
+one_held bytes dev values k (suc j) first (OutsideBase bits ∷ later) hold below at =
+    rw (ne_eqb first k (omega arith)) (one_held bytes dev values k j (first + 1) later hold below (omega arith))
 
 -- ---- a card
 

@@ -1,6 +1,6 @@
 -- The card that answers at an address is the same before and after a change that moves no window round it.
 use Rattle.std.proofs.Common.{◌≡◌, ℕ, zero, suc, ◌+◌, ◌-◌, ◌*◌, ◌/◌, ◌<◌, ◌≤◌, ◌⊎◌, inl, inr, Bool, true, false, cond, List, [], ◌∷◌, ◌++◌, length, map, get_or, Option, Some, None, refl, sym, ◌∙◌, ap, subst, arith, ◌==◌, ◌&&◌, All, find, flat_map, slice_get, if◌then◌else◌, is_some, option_map, option_and_then}
-use Rattle.board_prelude.proofs.Common.{and-true, option_map_or, AllByRecursion, cases_Bool, cases_lt, cond-true, cond-false, eq-eqb, ne_eqb, nat_tests, recursion_from_All, map-append, find-append, Reg, Base, MemoryBase, IoBase, FittedCard, Setup, IsCard, IsCardList, Rises, card_at, is_bit, is_within, Bytes, Window, base_value, is_covered, rom_value, rom_window, rom_window_of, is_rom_on, vga_window, memory_windows, is_enabled_for, memory_claim, card_register}
+use Rattle.board_prelude.proofs.Common.{and-true, option_map_or, AllByRecursion, cases_Bool, cases_lt, cond-true, cond-false, eq-eqb, ne_eqb, nat_tests, recursion_from_All, map-append, find-append, Reg, Base, MemoryBase, IoBase, OutsideBase, FittedCard, Setup, IsCard, IsCardList, Rises, card_at, is_bit, is_within, Bytes, Window, base_value, is_covered, rom_value, rom_window, rom_window_of, is_rom_on, vga_window, memory_windows, is_enabled_for, memory_claim, card_register}
 use Rattle.std.proofs.lemmas.Option.{slice_get_within}
 use Rattle.pci_bars.specs.Cards.{CardBytes}
 use Rattle.addr_decode.specs.declared.register.CardRegister.{CardRegister}
@@ -183,19 +183,14 @@ module _ (setup : Setup) (bytes new : Bytes) (addr : ℕ)
             ]
       ]
 
-  bases_same : (dev first : ℕ) (bases : List Base) → is_enabled_for 1 new dev ≡ is_enabled_for 1 bytes dev →
-      ((j : ℕ) (base : Base) → slice_get bases j ≡ Some base → BaseKept dev (first + j) base) →
-      find (claims new) (from_base new dev first bases) ≡ find (claims bytes) (from_base bytes dev first bases)
-  bases_same dev first [] enabled each = refl
-  bases_same dev first (IoBase bits ∷ later) enabled each =
-      bases_same dev (first + 1) later enabled
-      (λ j base at. let place : first + suc j ≡ first + 1 + j = omega arith in subst (λ (k : ℕ). BaseKept dev k base) place (each (suc j) base at))
-  bases_same dev first (MemoryBase bits ∷ later) enabled each =
-      let rest : find (claims new) (from_base new dev (first + 1) later) ≡ find (claims bytes) (from_base bytes dev (first + 1) later) =
-      bases_same dev (first + 1) later enabled
-      (λ j base at. let place : first + suc j ≡ first + 1 + j = omega arith in subst (λ (k : ℕ). BaseKept dev k base) place (each (suc j) base at)) in
-      let here : BaseKept dev first (MemoryBase bits) =
-      let place : first + 0 ≡ first = omega arith in subst (λ (k : ℕ). BaseKept dev k (MemoryBase bits)) place (each 0 (MemoryBase bits) refl) in
+  -- a base in memory and those after it
+  base_then : (dev first bits : ℕ) (later : List Base) → is_enabled_for 1 new dev ≡ is_enabled_for 1 bytes dev →
+      (base_value new dev first ≡ base_value bytes dev first)
+      ⊎ (Outside addr (held_by (MemoryBase bits) (base_value bytes dev first)) × Outside addr (held_by (MemoryBase bits) (base_value new dev first))) →
+      find (claims new) (from_base new dev (first + 1) later) ≡ find (claims bytes) (from_base bytes dev (first + 1) later) →
+      find (claims new) (window dev first (base_value new dev first) bits ∷ from_base new dev (first + 1) later)
+      ≡ find (claims bytes) (window dev first (base_value bytes dev first) bits ∷ from_base bytes dev (first + 1) later)
+  base_then dev first bits later enabled here rest =
       let old : Option Window = find (claims bytes) (from_base bytes dev (first + 1) later) in
       let next : Option Window = find (claims new) (from_base new dev (first + 1) later) in
       elim here [
@@ -211,6 +206,25 @@ module _ (setup : Setup) (bytes new : Bytes) (addr : ℕ)
             (not_covered addr (window dev first (base_value bytes dev first) bits) out.0.0)
             (not_covered addr (window dev first (base_value new dev first) bits) out.1.0) rest
       ]
+
+  base_same : (dev first : ℕ) (base : Base) (later : List Base) → is_enabled_for 1 new dev ≡ is_enabled_for 1 bytes dev →
+      BaseKept dev first base →
+      find (claims new) (from_base new dev (first + 1) later) ≡ find (claims bytes) (from_base bytes dev (first + 1) later) →
+      find (claims new) (from_base new dev first (base ∷ later)) ≡ find (claims bytes) (from_base bytes dev first (base ∷ later))
+  base_same dev first (MemoryBase bits) later enabled here rest = base_then dev first bits later enabled here rest
+  base_same dev first (IoBase bits) later enabled here rest = rest
+  base_same dev first (OutsideBase bits) later enabled here rest = base_then dev first bits later enabled here rest
+
+  bases_same : (dev first : ℕ) (bases : List Base) → is_enabled_for 1 new dev ≡ is_enabled_for 1 bytes dev →
+      ((j : ℕ) (base : Base) → slice_get bases j ≡ Some base → BaseKept dev (first + j) base) →
+      find (claims new) (from_base new dev first bases) ≡ find (claims bytes) (from_base bytes dev first bases)
+  bases_same dev first [] enabled each = refl
+  bases_same dev first (base ∷ later) enabled each =
+      let here : BaseKept dev first base =
+      let place : first + 0 ≡ first = omega arith in subst (λ (k : ℕ). BaseKept dev k base) place (each 0 base refl) in
+      base_same dev first base later enabled here
+      (bases_same dev (first + 1) later enabled
+      (λ j other at. let place : first + suc j ≡ first + 1 + j = omega arith in subst (λ (k : ℕ). BaseKept dev k other) place (each (suc j) other at)))
 
   -- the registers of the expansion ROM are the same, or the address lies outside it
   abbrev pub RomKept : FittedCard → Type 0

@@ -1,6 +1,6 @@
 -- The windows of cards as the code finds them, by what their base registers and that of the expansion ROM hold.
 use Rattle.std.specs.Prelude.{ℕ, ◌+◌, ◌-◌, ◌*◌, ◌/◌, ◌^◌, List, [], ◌∷◌, ◌++◌, Option, Some, None, slice_get, slice_index, find, ◌==◌, Bool, if◌then◌else◌}
-use Rattle.board_prelude.specs.Common.{option_map_or, Base, MemoryBase, IoBase, smram_range}
+use Rattle.board_prelude.specs.Common.{option_map_or, Base, MemoryBase, IoBase, OutsideBase, smram_range}
 use Rattle.pci_bars.specs.Cards.{CardBytes}
 use Rattle.map_builder.specs.declared.range.Changed.{Changed}
 use Rattle.addr_decode.specs.declared.register.CardRegister.{CardRegister}
@@ -15,6 +15,7 @@ block inside bits = from_to (inside / 2 ^ bits * 2 ^ bits) (inside / 2 ^ bits * 
 abbrev pub held_by : Base → (value : ℕ) → List Changed
 held_by (MemoryBase bits) value = block value bits ∷ []
 held_by (IoBase bits) value = []
+held_by (OutsideBase bits) value = block value bits ∷ []
 
 -- those of bases, the first of them base number k, that hold these values
 abbrev pub held_from : (values : List ℕ) → (k : ℕ) → List Base → List Changed

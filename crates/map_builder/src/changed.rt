@@ -302,13 +302,14 @@ fn push_base(windows: &mut Covered, base: BaseSpec, value: u32)
 {
     match base {
         BaseSpec::Memory(bits) => windows.push(block(value, bits)),
+        BaseSpec::Outside(bits) => windows.push(block(value, bits)),
         BaseSpec::Io(_) => {}
     }
 }
 
 /// The 2^`bits` addresses that differ from `inside` in the low `bits` bits alone.
 fn block(inside: u32, bits: u8) -> Changed
-    requires bits { bits ≤ 24 }
+    requires bits { bits ≤ 28 }
     ensures block { result ≡ block inside bits }
 {
     let lo = inside >> bits << bits;

@@ -1,6 +1,6 @@
 -- Claims of the cards' registers are those of the windows that a board's registers make.
 use Rattle.std.proofs.Common.{◌≡◌, ℕ, ◌+◌, ◌<◌, ◌≤◌, Bool, true, false, not, List, [], ◌∷◌, ◌++◌, length, Option, Some, None, inl, inr, ◌∙◌, refl, sym, ap, arith, lit<, ◌==◌, ◌&&◌, All, flat_map, option_map, if◌then◌else◌, slice_index}
-use Rattle.board_prelude.proofs.Common.{enumerate_from, option_or, cases_Bool, append-nil, All-head, All-tail, find-append, Base, MemoryBase, IoBase, FittedCard, Setup, IsCard, byte, is_bit, Bytes, Window, is_covered, base_value, rom_value, memory_window, io_window, rom_window, rom_window_of, is_rom_on, vga_window, unselected_windows, io_windows, is_enabled_for, first_window, memory_claim, memory_shut, rom_unselected, io_claim, io_shut}
+use Rattle.board_prelude.proofs.Common.{enumerate_from, option_or, cases_Bool, append-nil, All-head, All-tail, find-append, Base, MemoryBase, IoBase, OutsideBase, FittedCard, Setup, IsCard, byte, is_bit, Bytes, Window, is_covered, base_value, rom_value, memory_window, io_window, rom_window, rom_window_of, is_rom_on, vga_window, unselected_windows, io_windows, is_enabled_for, first_window, memory_claim, memory_shut, rom_unselected, io_claim, io_shut}
 use Rattle.pci_bars.specs.declared.claims.Gate.{Gate}
 use Rattle.pci_bars.specs.declared.claims.Gate.TheVariants.{Open, Shut}
 use Rattle.pci_bars.specs.declared.claims.Windows.{Windows}
@@ -67,6 +67,11 @@ pick_bases counts Memory bytes dev place values on same k (MemoryBase bits ∷ l
     (pick_bases counts Memory bytes dev place values on same (k + 1) later (omega arith))
 pick_bases counts Memory bytes dev place values on same k (IoBase bits ∷ later) few =
     pick_bases counts Memory bytes dev place values on same (k + 1) later (omega arith)
+pick_bases counts Memory bytes dev place values on same k (OutsideBase bits ∷ later) few =
+    pick_first counts dev k bits (base_value bytes dev k) (slice_index values k) place
+    (base_windows Memory bytes dev (k + 1) later) (covering Memory values place (k + 1) later) on
+    (same k (omega arith))
+    (pick_bases counts Memory bytes dev place values on same (k + 1) later (omega arith))
 pick_bases counts UnselectedRom bytes dev place values on same k (base ∷ later) few =
     pick_bases counts UnselectedRom bytes dev place values on same (k + 1) later (omega arith)
 pick_bases counts Ports bytes dev place values on same k (MemoryBase bits ∷ later) few =
@@ -75,6 +80,8 @@ pick_bases counts Ports bytes dev place values on same k (IoBase bits ∷ later)
     pick_first counts dev k bits (base_value bytes dev k) (slice_index values k) place
     (base_windows Ports bytes dev (k + 1) later) (covering Ports values place (k + 1) later) on (same k (omega arith))
     (pick_bases counts Ports bytes dev place values on same (k + 1) later (omega arith))
+pick_bases counts Ports bytes dev place values on same k (OutsideBase bits ∷ later) few =
+    pick_bases counts Ports bytes dev place values on same (k + 1) later (omega arith)
 
 -- no window of a device that does not count
 pick_none :
@@ -93,6 +100,9 @@ pick_no_bases counts Memory bytes dev place off k (MemoryBase bits ∷ later) =
     (pick_no_bases counts Memory bytes dev place off (k + 1) later)
 pick_no_bases counts Memory bytes dev place off k (IoBase bits ∷ later) =
     pick_no_bases counts Memory bytes dev place off (k + 1) later
+pick_no_bases counts Memory bytes dev place off k (OutsideBase bits ∷ later) =
+    pick_none counts place dev k (base_value bytes dev k) bits (base_windows Memory bytes dev (k + 1) later) off
+    (pick_no_bases counts Memory bytes dev place off (k + 1) later)
 pick_no_bases counts UnselectedRom bytes dev place off k (base ∷ later) =
     pick_no_bases counts UnselectedRom bytes dev place off (k + 1) later
 pick_no_bases counts Ports bytes dev place off k (MemoryBase bits ∷ later) =
@@ -100,6 +110,8 @@ pick_no_bases counts Ports bytes dev place off k (MemoryBase bits ∷ later) =
 pick_no_bases counts Ports bytes dev place off k (IoBase bits ∷ later) =
     pick_none counts place dev k (base_value bytes dev k) bits (base_windows Ports bytes dev (k + 1) later) off
     (pick_no_bases counts Ports bytes dev place off (k + 1) later)
+pick_no_bases counts Ports bytes dev place off k (OutsideBase bits ∷ later) =
+    pick_no_bases counts Ports bytes dev place off (k + 1) later
 
 -- ---- the expansion ROM and the VGA window
 

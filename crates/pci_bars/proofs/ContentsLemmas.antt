@@ -1,8 +1,9 @@
 -- The bytes behind the bases: as they begin, and after a write.
-use Rattle.std.proofs.Common.{◌≡◌, ◌≢◌, ℕ, ◌+◌, ◌-◌, ◌/◌, ◌%◌, ◌<◌, ◌≤◌, true, false, ◌&&◌, List, [], ◌∷◌, map, Vec, Global, length, get_or, set, take, drop, ◌++◌, replicate, inl, inr, ◌∙◌, refl, sym, ap, arith, get_or-set_same, get_or-set_other, length-append, length-drop, length-take-le, ◌==◌, nat_le, nat_lt, find, if◌then◌else◌, slice_index, unwrap_or, vec_len}
-use Rattle.board_prelude.proofs.Common.{with_items, and_from, and_left, and_right, eq-eqb, ne_eqb, le-leb, lt-leb, lt-ltb, le-ltb, cases_lt, cases_eq, get_or-replicate, get_or_past, length-replicate, length-map, map-set, get_or-map, with_items_is, drop-drop, Width, Card, bytes_of, some_bytes, Entry, FittedCard, Setup, byte, CardCell, byte_put, entry_put, stored_of, expansion_byte}
+use Rattle.std.proofs.Common.{◌≡◌, ◌≢◌, ℕ, ◌+◌, ◌-◌, ◌/◌, ◌%◌, ◌<◌, ◌≤◌, true, false, ◌&&◌, List, [], ◌∷◌, map, Vec, Global, length, get_or, set, take, drop, ◌++◌, replicate, inl, inr, ◌∙◌, refl, sym, ap, arith, lit<, get_or-set_same, get_or-set_other, length-append, length-drop, length-take-le, ◌==◌, nat_le, nat_lt, find, if◌then◌else◌, slice_index, unwrap_or, vec_len}
+use Rattle.board_prelude.proofs.Common.{with_items, and_from, and_left, and_right, eq-eqb, ne_eqb, le-leb, lt-leb, lt-ltb, le-ltb, cases_lt, cases_eq, get_or-replicate, get_or_past, length-replicate, length-map, map-set, get_or-map, with_items_is, drop-drop, Width, One, Card, bytes_of, largest_of, Entry, FittedCard, Setup, card_at, kept_size, byte, wide, CardCell, byte_put, card_byte, entry_put, stored_of, expansion_byte}
 use Rattle.std.proofs.lemmas.List.{set_past}
-use Rattle.pci_bars.specs.Contents.{IsBaseNumber, slot_number, held, held_byte, kept_size, LiesIn, IsContentsOf}
+use Rattle.board_base.specs.declared.access.Width.TheVariants.{Two, Four}
+use Rattle.pci_bars.specs.Contents.{IsBaseNumber, slot_number, held, held_byte, kept_at, HaveSizes, IsContentsOf}
 
 -- the bytes of a list after those of a value were put from a place on
 abbrev pub put_byte : (old : List ℕ) → (at count value k : ℕ) → ℕ
@@ -79,60 +80,166 @@ same_slot dev base d b place other same =
     let same_dev : d ≡ dev = omega arith in
     (same_dev, omega arith)
 
--- a base that has bytes is there
-pub slot_within :
-    (contents : List (List ℕ)) (slot off : ℕ) (width : Width) →
-    off + bytes_of width ≤ length (at_slot contents slot) → slot < length contents
-slot_within contents slot off width fits =
-    elim (cases_lt slot (length contents)) [
-      | inl below ↦ below
-      | inr past ↦
-          let none : length (at_slot contents slot) ≡ 0 = ap length (get_or_past contents slot [] past) in
-          let some = some_bytes width in absurd (omega arith)
-    ]
+-- ---- bytes that are kept, and those that are not
+
+kept_within : (kept : List ℕ) (off : ℕ) → off < length kept → kept_at kept off ≡ slice_index kept off
+kept_within kept off within = rw (lt-ltb off (length kept) within) refl
+
+kept_past : (kept : List ℕ) (off : ℕ) → length kept ≤ off → kept_at kept off ≡ 0xFF
+kept_past kept off past = rw (le-ltb off (length kept) past) refl
 
 kept_byte :
     (contents : List (List ℕ)) (dev base off : ℕ) → base ≢ 6 →
-    held_byte contents dev base off ≡ slice_index (held contents dev base) off
+    held_byte contents dev base off ≡ kept_at (held contents dev base) off
 kept_byte contents dev base off kept = let not_rom : (base == 6) ≡ false = ne_eqb base 6 kept in rw not_rom refl
+
+pub held_within :
+    (contents : List (List ℕ)) (dev base off : ℕ) → base ≢ 6 → off < length (held contents dev base) →
+    held_byte contents dev base off ≡ slice_index (held contents dev base) off
+held_within contents dev base off kept within =
+    kept_byte contents dev base off kept ∙ kept_within (held contents dev base) off within
+
+pub held_past :
+    (contents : List (List ℕ)) (dev base off : ℕ) → base ≢ 6 → length (held contents dev base) ≤ off →
+    held_byte contents dev base off ≡ 0xFF
+held_past contents dev base off kept past =
+    kept_byte contents dev base off kept ∙ kept_past (held contents dev base) off past
+
+pub card_within :
+    (setup : Setup) (history : List Entry) (dev base off : ℕ) → base ≢ 6 → off < kept_size (card_at setup dev) base →
+    card_byte setup history dev base off ≡ stored_of history (CardCell dev base off)
+card_within setup history dev base off kept within =
+    let not_rom : (base == 6) ≡ false = ne_eqb base 6 kept in
+    rw (not_rom, lt-ltb off (kept_size (card_at setup dev) base) within) refl
+
+pub card_past :
+    (setup : Setup) (history : List Entry) (dev base off : ℕ) → base ≢ 6 → kept_size (card_at setup dev) base ≤ off →
+    card_byte setup history dev base off ≡ 0xFF
+card_past setup history dev base off kept past =
+    let not_rom : (base == 6) ≡ false = ne_eqb base 6 kept in
+    rw (not_rom, le-ltb off (kept_size (card_at setup dev) base) past) refl
+
+-- what the contents of a history are asked to be, and what they give: each byte that is kept is the last one stored
+pub contents_of :
+    {setup : Setup} {history : List Entry} {contents : List (List ℕ)} → HaveSizes setup contents →
+    ((dev base off : ℕ) → IsBaseNumber dev base → base ≢ 6 → off < length (held contents dev base) →
+    slice_index (held contents dev base) off ≡ stored_of history (CardCell dev base off)) →
+    IsContentsOf setup history contents
+contents_of {setup} {history} {contents} sizes each =
+    record {
+      sizes = sizes;
+      bytes = λ dev base off number. elim (cases_eq base 6) [
+        | inl rom ↦ rw rom refl
+        | inr kept ↦ elim (cases_lt off (length (held contents dev base))) [
+          | inl within ↦
+              held_within contents dev base off kept within
+              ∙ each dev base off number kept within
+              ∙ sym (card_within setup history dev base off kept (omega (arith, within, sizes dev base number)))
+          | inr past ↦
+              held_past contents dev base off kept past
+              ∙ sym (card_past setup history dev base off kept (omega (arith, past, sizes dev base number)))
+        ]
+      ];
+    }
+
+pub stored_byte :
+    {setup : Setup} {history : List Entry} {contents : List (List ℕ)} → IsContentsOf setup history contents →
+    (dev base off : ℕ) → IsBaseNumber dev base → base ≢ 6 → off < length (held contents dev base) →
+    slice_index (held contents dev base) off ≡ stored_of history (CardCell dev base off)
+stored_byte {setup} {history} {contents} is dev base off number kept within =
+    sym (held_within contents dev base off kept within)
+    ∙ is.bytes dev base off number
+    ∙ card_within setup history dev base off kept (omega (arith, within, is.sizes dev base number))
+
+-- ---- what is read
+
+wide_same :
+    (f g : ℕ → ℕ) (off : ℕ) (width : Width) → ((k : ℕ) → k < bytes_of width → f (off + k) ≡ g (off + k)) →
+    wide f off width ≡ wide g off width
+wide_same f g off One same = ap f (omega arith) ∙ same 0 (lit< tt) ∙ ap g (omega arith)
+wide_same f g off Two same =
+    let first : f off ≡ g off = ap f (omega arith) ∙ same 0 (lit< tt) ∙ ap g (omega arith) in
+    rw (first, same 1 (lit< tt)) refl
+wide_same f g off Four same =
+    let first : f off ≡ g off = ap f (omega arith) ∙ same 0 (lit< tt) ∙ ap g (omega arith) in
+    rw (first, same 1 (lit< tt), same 2 (lit< tt), same 3 (lit< tt)) refl
+
+pub kept_read :
+    (kept : List ℕ) (off : ℕ) (width : Width) → off + bytes_of width ≤ length kept →
+    wide (slice_index kept) off width ≡ wide (kept_at kept) off width
+kept_read kept off width fits =
+    wide_same (slice_index kept) (kept_at kept) off width
+    (λ k below. sym (kept_within kept (off + k) (omega (arith, fits, below))))
+
+-- where none are kept all ones are read
+pub none_read : (kept : List ℕ) (off : ℕ) (width : Width) → length kept ≡ 0 → largest_of width ≡ wide (kept_at kept) off width
+none_read kept off One none = sym (kept_past kept off (omega (arith, none)))
+none_read kept off Two none =
+    rw (kept_past kept off (omega (arith, none)), kept_past kept (off + 1) (omega (arith, none))) refl
+none_read kept off Four none =
+    rw (
+      kept_past kept off (omega (arith, none)),
+      kept_past kept (off + 1) (omega (arith, none)),
+      kept_past kept (off + 2) (omega (arith, none)),
+      kept_past kept (off + 3) (omega (arith, none)),
+    ) refl
+
+pub held_read :
+    (contents : List (List ℕ)) (dev base off : ℕ) (width : Width) → base ≢ 6 →
+    wide (kept_at (held contents dev base)) off width ≡ wide (held_byte contents dev base) off width
+held_read contents dev base off width kept =
+    wide_same (kept_at (held contents dev base)) (held_byte contents dev base) off width
+    (λ k below. sym (kept_byte contents dev base (off + k) kept))
+
+pub stored_read :
+    (setup : Setup) (history : List Entry) (contents : List (List ℕ)) (dev base off : ℕ) (width : Width) →
+    IsBaseNumber dev base → IsContentsOf setup history contents →
+    wide (held_byte contents dev base) off width ≡ wide (card_byte setup history dev base) off width
+stored_read setup history contents dev base off width number is =
+    wide_same (held_byte contents dev base) (card_byte setup history dev base) off width
+    (λ k below. is.bytes dev base (off + k) number)
+
+-- ---- what a write leaves
 
 pub bytes_written :
     (contents : List (List ℕ)) (dev base off : ℕ) (width : Width) (value : ℕ) (new : List ℕ) (d b at : ℕ) → base ≢ 6 →
-    LiesIn contents dev base off width → IsBaseNumber d b →
-    ((k : ℕ) → slice_index new k ≡ put_byte (held contents dev base) off (bytes_of width) value k) →
+    slot_number dev base < length contents → IsBaseNumber dev base → IsBaseNumber d b →
+    length new ≡ length (held contents dev base) →
+    ((k : ℕ) → k < length (held contents dev base) →
+    slice_index new k ≡ put_byte (held contents dev base) off (bytes_of width) value k) →
+    at < length (held contents d b) →
     held_byte (set contents (slot_number dev base) new) d b at
     ≡ written_byte dev base off width value d b at (held_byte contents d b at)
-bytes_written contents dev base off width value new d b at kept lies other put =
+bytes_written contents dev base off width value new d b at kept there number other long put within =
     elim (cases_eq b 6) [
       | inl rom ↦
           rw rom
           (sym (written_elsewhere dev base off width value d 6 at (expansion_byte d at) kept
           (and_right (dev == d) (base == 6) (ne_eqb base 6 kept))))
       | inr held_b ↦
-          kept_byte (set contents (slot_number dev base) new) d b at held_b
-          ∙ in_lists held_b
-          ∙ ap (written_byte dev base off width value d b at) (sym (kept_byte contents d b at held_b))
+          held_within (set contents (slot_number dev base) new) d b at held_b
+          (omega (arith, within, sizes_stay contents (slot_number dev base) new (slot_number d b) long))
+          ∙ in_lists
+          ∙ ap (written_byte dev base off width value d b at) (sym (held_within contents d b at held_b within))
     ]
   where
     in_lists :
-        b ≢ 6 →
         slice_index (held (set contents (slot_number dev base) new) d b) at
         ≡ written_byte dev base off width value d b at (slice_index (held contents d b) at)
-    in_lists held_b =
+    in_lists =
         elim (cases_eq (slot_number d b) (slot_number dev base)) [
           | inl same ↦
-              let both = same_slot dev base d b lies.number other same in
+              let both = same_slot dev base d b number other same in
+              let inside : at < length (held contents dev base) = rw (both.0, both.1) at within in
               rw (both.0, both.1) (
-              ap (λ bytes. slice_index bytes at)
-              (get_or-set_same contents (slot_number dev base) new []
-              (slot_within contents (slot_number dev base) off width (lies.fits kept)))
-              ∙ put at
+              ap (λ bytes. slice_index bytes at) (get_or-set_same contents (slot_number dev base) new [] there)
+              ∙ put at inside
               ∙ sym (written_here dev base off width value at (slice_index (held contents dev base) at) kept))
           | inr apart ↦
               ap (λ bytes. slice_index bytes at)
               (get_or-set_other contents (slot_number dev base) (slot_number d b) new [] apart)
               ∙ sym (written_elsewhere dev base off width value d b at (slice_index (held contents d b) at) kept
-              (other_slot dev base d b lies.number other apart))
+              (other_slot dev base d b number other apart))
         ]
 
 -- what a write leaves
@@ -140,27 +247,26 @@ pub record IsWritten (old : List (List ℕ)) (dev base off : ℕ) (width : Width
     : Type 0 where
   pub sizes : (d b : ℕ) → length (held new d b) ≡ length (held old d b)
   pub bytes :
-      (d b at : ℕ) → IsBaseNumber d b →
+      (d b at : ℕ) → IsBaseNumber d b → at < length (held old d b) →
       held_byte new d b at ≡ written_byte dev base off width value d b at (held_byte old d b at)
 
 pub written :
-    (old : List (List ℕ)) (dev base off : ℕ) (width : Width) (value : ℕ) (new : List ℕ) → base ≢ 6 → LiesIn old dev
-    base off width →
-    length new
-    ≡ length (held old dev base) →
-    ((k : ℕ) → slice_index new k ≡ put_byte (held old dev base) off (bytes_of width) value k) →
+    (old : List (List ℕ)) (dev base off : ℕ) (width : Width) (value : ℕ) (new : List ℕ) → base ≢ 6 →
+    slot_number dev base < length old → IsBaseNumber dev base → length new ≡ length (held old dev base) →
+    ((k : ℕ) → k < length (held old dev base) →
+    slice_index new k ≡ put_byte (held old dev base) off (bytes_of width) value k) →
     IsWritten old dev base off width value (set old (slot_number dev base) new)
-written old dev base off width value new kept lies long put =
+written old dev base off width value new kept there number long put =
     record {
       sizes = λ d b. sizes_stay old (slot_number dev base) new (slot_number d b) long;
-      bytes = λ d b at number. bytes_written old dev base off width value new d b at kept lies number put;
+      bytes = λ d b at other. bytes_written old dev base off width value new d b at kept there number other long put;
     }
 
 -- a write to an expansion ROM leaves all
 pub lost :
     (contents : List (List ℕ)) (dev off : ℕ) (width : Width) (value : ℕ) →
     IsWritten contents dev 6 off width value contents
-lost contents dev off width value = record { sizes = λ d b. refl; bytes = λ d b at number. refl }
+lost contents dev off width value = record { sizes = λ d b. refl; bytes = λ d b at number below. refl }
 
 -- contents whose bytes are those after a write
 pub stored_written :
@@ -172,19 +278,14 @@ pub stored_written :
     IsContentsOf setup (entry ∷ history) new
 unfolding stored_of
 stored_written setup history entry place contents new dev base off width value written is wrote =
-    record {
-      sizes = λ d b number. written.sizes d b ∙ is.sizes d b number;
-      bytes = λ d b at number below. elim (cases_eq b 6) [
-        | inl rom ↦ rw rom refl
-        | inr kept ↦
-            let not_rom : (b == 6) ≡ false = ne_eqb b 6 kept in
-            let before : held_byte contents d b at ≡ stored_of history (CardCell d b at) =
-            is.bytes d b at number below ∙ rw not_rom refl in
-            written.bytes d b at number
-            ∙ ap (written_byte dev base off width value d b at) before
-            ∙ rw not_rom (ap (λ byte. unwrap_or byte (stored_of history (CardCell d b at))) (sym (wrote d b at)))
-      ];
-    }
+    contents_of (λ d b number. written.sizes d b ∙ is.sizes d b number)
+    (λ d b at number kept within.
+    let inside : at < length (held contents d b) = omega (arith, within, written.sizes d b) in
+    sym (held_within new d b at kept within)
+    ∙ written.bytes d b at number inside
+    ∙ ap (written_byte dev base off width value d b at)
+    (held_within contents d b at kept inside ∙ stored_byte is d b at number kept inside)
+    ∙ ap (λ byte. unwrap_or byte (stored_of history (CardCell d b at))) (sym (wrote d b at)))
 
 -- ---- as they begin
 
@@ -204,11 +305,10 @@ zero_byte n k =
     ]
 
 pub zeros_held :
-    (cards : List FittedCard) (contents : List (List ℕ)) → IsFilled cards 64 contents → (dev base off : ℕ) → base ≢ 6
-    → held_byte contents dev base off
-    ≡ 0
-zeros_held cards contents is dev base off kept =
-    kept_byte contents dev base off kept ∙
+    (cards : List FittedCard) (contents : List (List ℕ)) → IsFilled cards 64 contents → (dev base off : ℕ) → base ≢ 6 →
+    off < length (held contents dev base) → held_byte contents dev base off ≡ 0
+zeros_held cards contents is dev base off kept below =
+    held_within contents dev base off kept below ∙
     let slot = slot_number dev base in
     let long = is.long in
     elim (cases_lt slot 64) [
@@ -238,18 +338,12 @@ pub stored_at_first :
     IsContentsOf setup [] contents
 unfolding stored_of
 stored_at_first setup cards contents is same =
-    record {
-      sizes =
-          λ dev base number.
-          size_held cards contents is dev base number
-          ∙ ap (λ fitted. kept_size (find (λ card. card.dev == dev) fitted) base) (sym same);
-      bytes = λ dev base off _ _. elim (cases_eq base 6) [
-        | inl rom ↦ rw rom refl
-        | inr kept ↦
-            let not_rom : (base == 6) ≡ false = ne_eqb base 6 kept in zeros_held cards contents is dev base off kept
-            ∙ rw not_rom refl
-      ];
-    }
+    contents_of
+    (λ dev base number.
+    size_held cards contents is dev base number
+    ∙ ap (λ fitted. kept_size (find (λ card. card.dev == dev) fitted) base) (sym same))
+    (λ dev base off number kept within.
+    sym (held_within contents dev base off kept within) ∙ zeros_held cards contents is dev base off kept within)
 
 -- the lists of buffers
 abbrev pub lists : List (Vec ℕ Global) → List (List ℕ)

@@ -1,6 +1,6 @@
 -- The bytes behind the bases are spelled base by base, and read back.
 use Rattle.std.proofs.Common.{◌≡◌, ℕ, zero, suc, ◌+◌, ◌-◌, ◌/◌, ◌%◌, ◌^◌, ◌≤◌, ◌<◌, inl, inr, Bool, true, false, List, [], ◌∷◌, ◌++◌, Vec, Global, length, drop, get_or, Option, Some, None, Result, refl, sym, ap, ◌∙◌, append_assoc, arith, All, find, ◌==◌, slice_get, if◌then◌else◌}
-use Rattle.board_prelude.proofs.Common.{append-nil, flat_map-cons, drop_more, drop_all, cases_Bool, All-head, All-tail, option_map_or, Base, MemoryBase, IoBase, IsBase, FittedCard, IsCard}
+use Rattle.board_prelude.proofs.Common.{append-nil, flat_map-cons, drop_more, drop_all, cases_Bool, All-head, All-tail, option_map_or, Base, MemoryBase, IoBase, OutsideBase, IsBase, FittedCard, IsCard, kept_of_base, kept_size}
 use Rattle.board_prelude.specs.Common.{vga_base, vga_bits}
 use Rattle.std.proofs.Math.Pow.{pow_mono}
 use Rattle.byte_fields.specs.declared.fault.Fault.{Fault}
@@ -10,16 +10,15 @@ use Rattle.byte_fields.specs.Pages.{memory_bytes, memory_fields}
 use Rattle.byte_fields.proofs.Formats.{IsFormat, format_as, many_format, AreGood}
 use Rattle.byte_fields.proofs.Loops.{IsLoop, with_front, stops}
 use Rattle.byte_fields.proofs.PageFormats.{memory_format}
-use Rattle.pci_bars.specs.Bases.{base_size, of_base}
-use Rattle.pci_bars.specs.Contents.{IsBaseNumber, slot_number, held, kept_size, slot_size}
+use Rattle.pci_bars.specs.Contents.{IsBaseNumber, slot_number, held, slot_size}
 use Rattle.pci_bars.specs.State.{AreContents, contents_bytes, slots_fields, contents_fields}
 use Rattle.pci_bars.proofs.BaseLemmas.{is_base}
 use Rattle.pci_bars.proofs.ContentsLemmas.{lists}
 
--- ---- no base has more than 16 MiB
+-- ---- of no base more than 16 MiB are kept
 
 base_few : (found : Option Base) → ((base : Base) → found ≡ Some base → IsBase base) →
-    option_map_or base_size found 0 ≤ 0x100_0000
+    option_map_or kept_of_base found 0 ≤ 0x100_0000
 base_few None each = omega arith
 base_few (Some (MemoryBase bits)) each =
     let range = each (MemoryBase bits) refl in
@@ -29,6 +28,7 @@ base_few (Some (IoBase bits)) each =
     let range = each (IoBase bits) refl in
     let few : 2 ^ bits ≤ 2 ^ 24 = pow_mono {i = bits} {j = 24} (omega (arith, range.1)) in
     omega (arith, few)
+base_few (Some (OutsideBase bits)) each = omega arith
 
 chosen_few : (is_vga has : Bool) (size : ℕ) → size ≤ 0x100_0000 →
     (if is_vga then (if has then 2 ^ vga_bits else 0) else size) ≤ 0x100_0000
@@ -38,7 +38,7 @@ chosen_few false has size few = few
 
 card_few : (card : FittedCard) (base : ℕ) → IsCard card → kept_size (Some card) base ≤ 0x100_0000
 card_few card base is =
-    chosen_few (base == vga_base) card.vga (of_base base_size card.bases base)
+    chosen_few (base == vga_base) card.vga (option_map_or kept_of_base (slice_get card.bases base) 0)
     (base_few (slice_get card.bases base) (λ found there. is_base card.bases base found is.each there))
 
 kept_few : (cards : List FittedCard) (dev base : ℕ) → All IsCard cards →

@@ -1,21 +1,26 @@
 -- The window that claims a place has the size of its base, and an access that it claims lies in its contents.
-use Rattle.std.proofs.Common.{◌≡◌, ◌≢◌, ℕ, ◌+◌, ◌-◌, ◌*◌, ◌/◌, ◌%◌, ◌^◌, ◌<◌, ◌≤◌, Bool, false, ◌&&◌, List, [], ◌∷◌, ◌++◌, length, Option, None, Some, inl, inr, ◌∙◌, refl, sym, ap, subst, arith, lit<, lit≤, ◌==◌, All, find, flat_map, slice_get}
-use Rattle.board_prelude.proofs.Common.{cases_Bool, ne_eqb, pow-add, pow_pos, All-nil, All-cons, All-head, All-tail, All-append, Base, MemoryBase, IoBase, FittedCard, Setup, IsBase, IsExpansionRom, IsCard, card_at, Width, One, bytes_of, window_bits, bits_of_base, Bytes, Window, is_covered, rom_window_of, is_rom_on, io_windows, is_enabled_for, memory_claim, io_claim, base_value}
+use Rattle.std.proofs.Common.{◌≡◌, ◌≢◌, ◌⊎◌, ℕ, ◌+◌, ◌-◌, ◌*◌, ◌/◌, ◌%◌, ◌^◌, ◌<◌, ◌≤◌, Bool, false, ◌&&◌, List, [], ◌∷◌, ◌++◌, length, Option, None, Some, inl, inr, ◌∙◌, refl, sym, ap, subst, arith, lit<, lit≤, ◌==◌, All, find, flat_map, slice_get}
+use Rattle.board_prelude.proofs.Common.{cases_Bool, ne_eqb, nil_from_length, pow-add, pow_pos, All-nil, All-cons, All-head, All-tail, All-append, Base, MemoryBase, IoBase, OutsideBase, FittedCard, Setup, IsBase, IsExpansionRom, IsCard, card_at, kept_of_base, kept_size, Width, One, bytes_of, window_bits, bits_of_base, Bytes, Window, is_covered, rom_window_of, is_rom_on, io_windows, is_enabled_for, memory_claim, io_claim, base_value}
 use Rattle.std.proofs.lemmas.Nat.{mod-pow-add}
 use Rattle.std.proofs.Math.Nat.{mod-lt}
 use Rattle.board_base.specs.declared.access.Width.TheVariants.{Two, Four}
 use Rattle.pci_bars.specs.declared.claims.Windows.{Windows}
 use Rattle.pci_bars.specs.declared.claims.Windows.TheVariants.{Memory, UnselectedRom, Ports}
-use Rattle.pci_bars.specs.Common.{CardBytes, DecodesAs, AreCards, AreDecoded, cards_of, base_size, IsBaseNumber, LiesIn, HaveSizes, kept_size}
+use Rattle.pci_bars.specs.Common.{CardBytes, DecodesAs, AreCards, AreDecoded, cards_of, IsBaseNumber, LiesIn, HaveSizes}
+use Rattle.pci_bars.specs.Contents.{held}
 use Rattle.pci_bars.proofs.BaseLemmas.{is_base}
 use Rattle.pci_bars.proofs.ClaimLemmas.{window_in, base_windows, rom_windows, vga_windows, windows_in, same_windows, io_windows_are}
+
+-- of a base of 2 ^ bits bytes all are kept, or none
+abbrev IsKeptAs : (size bits : ℕ) → Type 0
+IsKeptAs size bits = (size ≡ 0) ⊎ (size ≡ 2 ^ bits)
 
 -- a window is that of a base of the setup's cards, and has its size
 pub record IsSized (setup : Setup) (window : Window) : Type 0 where
   pub number : IsBaseNumber window.dev window.base
   pub least : 2 ≤ window.bits
   pub bits : window.bits ≡ window_bits setup window.dev window.base
-  pub size : window.base ≢ 6 → kept_size (card_at setup window.dev) window.base ≡ 2 ^ window.bits
+  pub size : window.base ≢ 6 → IsKeptAs (kept_size (card_at setup window.dev) window.base) window.bits
 
 All-find :
     (P : Window → Type 0) (test : Window → Bool) (windows : List Window) (window : Window) → All P windows →
@@ -30,10 +35,12 @@ All-find P test (first ∷ later) window each found =
 least_bits : (base : Base) → IsBase base → 2 ≤ bits_of_base (Some base)
 least_bits (MemoryBase bits) fit = omega (arith, fit.0)
 least_bits (IoBase bits) fit = fit.0
+least_bits (OutsideBase bits) fit = omega (arith, fit.0)
 
-size_of_bits : (base : Base) → base_size base ≡ 2 ^ bits_of_base (Some base)
-size_of_bits (MemoryBase bits) = refl
-size_of_bits (IoBase bits) = refl
+size_of_bits : (base : Base) → IsKeptAs (kept_of_base base) (bits_of_base (Some base))
+size_of_bits (MemoryBase bits) = inr refl
+size_of_bits (IoBase bits) = inr refl
+size_of_bits (OutsideBase bits) = inl refl
 
 -- a window of base number k of a card
 sized :
@@ -78,12 +85,17 @@ sized_bases windows setup bytes card fit fitted k (base ∷ later) few same =
         (sized setup card k (base_value bytes card.dev k) (MemoryBase bits) fit fitted (omega arith) at)
         (All-nil (IsSized setup))
     one Memory (IoBase bits) at = All-nil (IsSized setup)
+    one Memory (OutsideBase bits) at =
+        All-cons (IsSized setup) _ []
+        (sized setup card k (base_value bytes card.dev k) (OutsideBase bits) fit fitted (omega arith) at)
+        (All-nil (IsSized setup))
     one UnselectedRom base at = All-nil (IsSized setup)
     one Ports (MemoryBase bits) at = All-nil (IsSized setup)
     one Ports (IoBase bits) at =
         All-cons (IsSized setup) _ []
         (sized setup card k (base_value bytes card.dev k) (IoBase bits) fit fitted (omega arith) at)
         (All-nil (IsSized setup))
+    one Ports (OutsideBase bits) at = All-nil (IsSized setup)
 
 sized_vga :
     (windows : Windows) (setup : Setup) (card : FittedCard) → IsCard card → card_at setup card.dev ≡ Some card →
@@ -95,7 +107,7 @@ sized_vga Memory setup card fit fitted =
             number = record { first = fit.first; last = fit.last; below = lit< tt };
             least = lit≤ tt;
             bits = refl;
-            size = λ _. rw (fitted, vga) refl;
+            size = λ _. rw (fitted, vga) (inr refl);
           }) (All-nil (IsSized setup)))
       | inr plain ↦ rw plain (All-nil (IsSized setup))
     ]
@@ -221,6 +233,12 @@ lies_in_window setup contents window place width sized sizes aligned =
       number = sized.number;
       fits =
           λ not_rom.
-          rw (sizes window.dev window.base sized.number ∙ sized.size not_rom)
-          (fits_window place window.bits width sized.least aligned);
+          elim (sized.size not_rom) [
+            | inl none ↦
+                inl (nil_from_length (held contents window.dev window.base)
+                (sizes window.dev window.base sized.number ∙ none))
+            | inr all ↦
+                inr (rw (sizes window.dev window.base sized.number ∙ all)
+                (fits_window place window.bits width sized.least aligned))
+          ];
     }

@@ -1,17 +1,19 @@
 -- The base address registers of a card by their numbers.
 use Rattle.std.specs.Prelude.{ℕ, ◌^◌, ◌==◌, if◌then◌else◌, List, Option, slice_get}
-use Rattle.board_prelude.specs.Common.{option_map_or, Base, MemoryBase, IoBase, FittedCard, rom_base, vga_base, vga_bits, bits_of_base, base_of_card, rom_bits}
+use Rattle.board_prelude.specs.Common.{option_map_or, Base, MemoryBase, IoBase, OutsideBase, FittedCard, rom_base, vga_base, vga_bits, bits_of_base, base_of_card, rom_bits}
 use Rattle.pci_bars.specs.declared.spec.BaseSpec.{BaseSpec}
-use Rattle.pci_bars.specs.declared.spec.BaseSpec.TheVariants.{Memory, Io}
+use Rattle.pci_bars.specs.declared.spec.BaseSpec.TheVariants.{Memory, Io, Outside}
 
 abbrev pub base_of : BaseSpec → Base
 base_of (Memory bits) = MemoryBase bits
 base_of (Io bits) = IoBase bits
+base_of (Outside bits) = OutsideBase bits
 
 -- how many addresses or ports a base decodes
 abbrev pub base_size : Base → ℕ
 base_size (MemoryBase bits) = 2 ^ bits
 base_size (IoBase bits) = 2 ^ bits
+base_size (OutsideBase bits) = 2 ^ bits
 
 -- a number that each base has, and 0 where there is no base of this number
 abbrev pub of_base : (Base → ℕ) → List Base → ℕ → ℕ

@@ -1,6 +1,6 @@
 -- Claims as the cards' own registers decide them.
 use Rattle.std.specs.Prelude.{ℕ, ◌+◌, ◌/◌, ◌^◌, ◌==◌, Bool, true, false, not, ◌&&◌, if◌then◌else◌, List, [], ◌∷◌, Option, Some, None, option_map, slice_index}
-use Rattle.board_prelude.specs.Common.{option_or, Base, MemoryBase, IoBase, rom_base, vga_base, vga_bits, is_bit, smram_range}
+use Rattle.board_prelude.specs.Common.{option_or, Base, MemoryBase, IoBase, OutsideBase, rom_base, vga_base, vga_bits, is_bit, smram_range}
 use Rattle.pci_bars.specs.declared.claims.Gate.{Gate}
 use Rattle.pci_bars.specs.declared.claims.Gate.TheVariants.{Open, Shut}
 use Rattle.pci_bars.specs.declared.claims.Windows.{Windows}
@@ -14,9 +14,11 @@ agrees bits value place = value / 2 ^ bits == place / 2 ^ bits
 abbrev pub base_covers : Windows → Base → (value place : ℕ) → Bool
 base_covers Memory (MemoryBase bits) value place = agrees bits value place
 base_covers Memory (IoBase bits) value place = false
+base_covers Memory (OutsideBase bits) value place = agrees bits value place
 base_covers UnselectedRom base value place = false
 base_covers Ports (MemoryBase bits) value place = false
 base_covers Ports (IoBase bits) value place = agrees bits value place
+base_covers Ports (OutsideBase bits) value place = false
 
 -- the first of these bases that base_covers a place, where the first of them is number k
 abbrev pub covering : Windows → (values : List ℕ) → (place : ℕ) → ℕ → List Base → Option ℕ

@@ -1,9 +1,9 @@
 -- The bytes behind the bases of the cards as bytes: those of each base in turn, as memory.
 use Rattle.std.specs.Prelude.{ℕ, zero, suc, ◌≡◌, ◌+◌, ◌==◌, List, [], ◌∷◌, length, find, flat_map}
-use Rattle.board_prelude.specs.Common.{FittedCard}
+use Rattle.board_prelude.specs.Common.{FittedCard, kept_size}
 use Rattle.byte_fields.specs.Fields.{Reading, gives, ◌>>=◌}
 use Rattle.byte_fields.specs.Pages.{memory_bytes, memory_fields}
-use Rattle.pci_bars.specs.Contents.{IsBaseNumber, held, kept_size, slot_size}
+use Rattle.pci_bars.specs.Contents.{IsBaseNumber, held, slot_size}
 
 -- the contents of these cards: of each base of each device number as many bytes as are kept of it
 pub record AreContents (cards : List FittedCard) (contents : List (List ℕ)) : Type 0 where

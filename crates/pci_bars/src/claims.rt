@@ -96,7 +96,7 @@ pub fn offset_in(cards: &[CardRegs], dev: u8, base: u8, place: u32) -> u32
 
 /// The lowest bits of a number.
 fn low_bits(number: u32, count: u8) -> u32
-    requires count { count ≤ 24 }
+    requires count { count ≤ 28 }
     ensures low { result ≡ number % 2 ^ count }
 {
     number % (1 << count)
@@ -106,7 +106,7 @@ fn low_bits(number: u32, count: u8) -> u32
 fn bits_at(cards: &[CardRegs], dev: u8, base: u8) -> u8
     requires cards { AreCards cards.now }
     ensures bits { result ≡ bits_in (find (λ card. card.dev == dev) (cards_of cards.now)) base }
-    ensures most { result ≤ 24 }
+    ensures most { result ≤ 28 }
 {
     match card_at(cards, dev) {
         Some(card) => card.spec.window_bits(base),
@@ -233,6 +233,7 @@ fn is_covered(base: BaseSpec, windows: Windows, value: u32, place: u32) -> bool
 {
     match (windows, base) {
         (Windows::Memory, BaseSpec::Memory(bits)) => value >> bits == place >> bits,
+        (Windows::Memory, BaseSpec::Outside(bits)) => value >> bits == place >> bits,
         (Windows::Ports, BaseSpec::Io(bits)) => value >> bits == place >> bits,
         _ => false,
     }

@@ -1,7 +1,7 @@
 //! The bytes behind the bases of the cards.
-ghost use Rattle.std.specs.Prelude.{◌≡◌, ◌≢◌, ◌≤◌, ◌<◌, ◌+◌, ◌++◌, ◌==◌, ℕ, List, [], ◌∷◌, All, find, length, take, drop, IfOk, unwrap_or};
-ghost use Rattle.board_prelude.specs.Common.{Width, Card, largest_of, Entry, Setup, IsCard, rom_base, wide, CardCell, byte_put, card_byte, entry_put, expansion_byte};
-ghost use Rattle.pci_bars.specs.Contents.{IsBaseNumber, slot_number, held, held_byte, kept_size, slot_size, LiesIn, IsContentsOf};
+ghost use Rattle.std.specs.Prelude.{◌≡◌, ◌≢◌, ◌≤◌, ◌<◌, ◌+◌, ◌-◌, ◌++◌, ◌==◌, ◌&&◌, nat_le, nat_lt, if◌then◌else◌, ℕ, List, [], ◌∷◌, All, find, length, slice_index, take, drop, IfOk, unwrap_or};
+ghost use Rattle.board_prelude.specs.Common.{Width, Card, bytes_of, largest_of, byte, Entry, Setup, IsCard, rom_base, kept_size, wide, CardCell, byte_put, card_byte, entry_put, expansion_byte};
+ghost use Rattle.pci_bars.specs.Contents.{IsBaseNumber, slot_number, held, held_byte, kept_at, slot_size, FitsIn, LiesIn, IsContentsOf};
 
 use crate::cards::CARD_COUNT;
 use crate::spec::{CardSpec, ROM_BASE};
@@ -49,7 +49,8 @@ impl Contents {
         requires cards { All IsCard specs.now }
         ensures sizes { IfOk result (λ contents. (dev base : ℕ) → IsBaseNumber dev base
             → length (held contents dev base) ≡ kept_size (find (λ card. card.dev == dev) specs.now) base) }
-        ensures zeros { IfOk result (λ contents. (dev base off : ℕ) → base ≢ rom_base → held_byte contents dev base off ≡ 0) }
+        ensures zeros { IfOk result (λ contents. (dev base off : ℕ) → base ≢ rom_base
+            → off < length (held contents dev base) → held_byte contents dev base off ≡ 0) }
         ensures stored { IfOk result (λ contents. (setup : Setup) → setup.cards ≡ specs.now
             → IsContentsOf setup [] contents) }
     {
@@ -61,8 +62,8 @@ impl Contents {
         Ok(Contents { buffers })
     }
 
-    /// How many bytes are kept of a base: none where it does not exist, and of an expansion ROM. Devices are 2 to
-    /// 9, and base numbers 0 to 7, of which 6 is the expansion ROM and 7 the VGA window.
+    /// How many bytes are kept of a base: none where it does not exist, of an outside base, and of an expansion ROM.
+    /// Devices are 2 to 9, and base numbers 0 to 7, of which 6 is the expansion ROM and 7 the VGA window.
     pub fn size(&self, dev: u8, base: u8) -> usize
         requires number { IsBaseNumber dev base }
         ensures size { result ≡ length (held self.now dev base) }
@@ -70,25 +71,26 @@ impl Contents {
         self.buffers[slot_of(dev, base)].len()
     }
 
-    /// The value at an offset in a base, its low byte first.
+    /// The value at an offset in a base, its low byte first. All ones of one of which no bytes are kept.
     pub fn read(&self, dev: u8, base: u8, off: u32, width: Width) -> u32
         requires place { LiesIn self.now dev base off width }
         ensures value { result ≡ wide (held_byte self.now dev base) off width }
         ensures stored { (setup : Setup) (history : List Entry) → IsContentsOf setup history self.now
-            → result ≡ wide (card_byte history dev base) off width }
+            → result ≡ wide (card_byte setup history dev base) off width }
     {
         if base == ROM_BASE {
             return rom_value(dev, off, width);
         }
-        read_at(&self.buffers[slot_of(dev, base)], off as usize, width)
+        kept_value(&self.buffers[slot_of(dev, base)], off, width)
     }
 
-    /// Writes a value at an offset in a base, its low byte first. A write to an expansion ROM is lost.
+    /// Writes a value at an offset in a base, its low byte first. A write to an expansion ROM is lost, and one to a base
+    /// of which no bytes are kept.
     pub fn write(&mut self, dev: u8, base: u8, off: u32, width: Width, value: u32)
         requires place { LiesIn self.old dev base off width }
         requires value { value ≤ largest_of width }
         ensures sizes { (d b : ℕ) → length (held self.new d b) ≡ length (held self.old d b) }
-        ensures bytes { (d b at : ℕ) → IsBaseNumber d b → held_byte self.new d b at
+        ensures bytes { (d b at : ℕ) → IsBaseNumber d b → at < length (held self.old d b) → held_byte self.new d b at
             ≡ unwrap_or (byte_put (Card dev base off) 0 width value (CardCell d b at)) (held_byte self.old d b at) }
         ensures stored { (setup : Setup) (history : List Entry) (entry : Entry) (place : ℕ)
             → IsContentsOf setup history self.old
@@ -97,12 +99,7 @@ impl Contents {
             → IsContentsOf setup (entry ∷ history) self.new }
     {
         if base != ROM_BASE {
-            write_at(
-                &mut self.buffers[slot_of(dev, base)],
-                off as usize,
-                width,
-                value,
-            );
+            put_value(&mut self.buffers[slot_of(dev, base)], off, width, value);
         }
     }
 }
@@ -153,7 +150,7 @@ pub(crate) fn slot_size(specs: &[CardSpec], slot: u8) -> usize
     )
 }
 
-/// How many bytes are kept of a base of a device. 0 where it does not exist, and of an expansion ROM.
+/// How many bytes are kept of a base of a device. 0 where it does not exist, of an outside base, and of an expansion ROM.
 fn size_of(specs: &[CardSpec], dev: u8, base: u8) -> usize
     requires cards { All IsCard specs.now }
     ensures size { result ≡ kept_size (find (λ card. card.dev == dev) specs.now) base }
@@ -164,6 +161,32 @@ fn size_of(specs: &[CardSpec], dev: u8, base: u8) -> usize
         }
     }
     0
+}
+
+/// The value at an offset of the bytes that are kept of a base. All ones where there are none.
+fn kept_value(kept: &[u8], off: u32, width: Width) -> u32
+    requires fits { FitsIn kept.now off width }
+    ensures value { result ≡ wide (kept_at kept.now) off width }
+{
+    if kept.is_empty() {
+        width.largest()
+    } else {
+        read_at(kept, off as usize, width)
+    }
+}
+
+/// Writes a value at an offset of the bytes that are kept of a base. It is lost where there are none.
+fn put_value(kept: &mut [u8], off: u32, width: Width, value: u32)
+    requires fits { FitsIn kept.old off width }
+    requires value { value ≤ largest_of width }
+    ensures size { length kept.new ≡ length kept.old }
+    ensures bytes { (k : ℕ) → k < length kept.old
+        → slice_index kept.new k
+        ≡ (if nat_le off k && nat_lt k (off + bytes_of width) then byte value (k - off) else slice_index kept.old k) }
+{
+    if !kept.is_empty() {
+        write_at(kept, off as usize, width, value);
+    }
 }
 
 /// The value at an offset of a device's expansion ROM.

@@ -1,8 +1,7 @@
 //! What a card is: its device number, whether it is a VGA adapter, and its bases.
 ghost use Rattle.std.specs.Prelude.{◌≡◌, ◌^◌, ◌≤◌, ℕ, Some, option_map, slice_get, slice_index};
-ghost use Rattle.board_prelude.specs.Common.{IsBase, IsCard, bits_of_base, base_reset, base_writable, rom_writable};
+ghost use Rattle.board_prelude.specs.Common.{IsBase, IsCard, bits_of_base, base_reset, base_writable, kept_of_base, kept_size, rom_writable};
 ghost use Rattle.pci_bars.specs.Bases.{base_of, base_size, bits_in, of_base};
-ghost use Rattle.pci_bars.specs.Contents.{kept_size};
 
 use arrayvec::ArrayVec;
 use std::marker::Model;
@@ -20,11 +19,13 @@ pub(crate) const VGA_BITS: u8 = 17;
 pub(crate) const ROM_ENABLE: u32 = 0;
 
 /// A base address register for memory or for I/O ports, by log2 of its size in bytes or ports: 4 to 24 for memory, and
-/// 2 to 8 for ports.
+/// 2 to 8 for ports. `Outside`, 4 to 28, is for memory too, but the card's model keeps its bytes, outside the board:
+/// reads of it give ones, and its writes are lost.
 #[derive(Clone, Copy, PartialEq, Eq, Debug)]
 pub enum BaseSpec {
     Memory(u8),
     Io(u8),
+    Outside(u8),
 }
 
 impl Default for BaseSpec {
@@ -39,11 +40,12 @@ impl BaseSpec {
         requires base { IsBase (base_of self) }
         ensures bits { result ≡ bits_of_base (Some (base_of self)) }
         ensures size { 2 ^ result ≡ base_size (base_of self) }
-        ensures most { result ≤ 24 }
+        ensures most { result ≤ 28 }
     {
         match self {
             BaseSpec::Memory(bits) => bits,
             BaseSpec::Io(bits) => bits,
+            BaseSpec::Outside(bits) => bits,
         }
     }
 
@@ -53,6 +55,17 @@ impl BaseSpec {
         ensures size { result ≡ base_size (base_of self) }
     {
         1 << self.bits()
+    }
+
+    /// How many bytes the board keeps of it.
+    fn kept(self) -> u32
+        requires base { IsBase (base_of self) }
+        ensures kept { result ≡ kept_of_base (base_of self) }
+    {
+        match self {
+            BaseSpec::Memory(_) | BaseSpec::Io(_) => self.size(),
+            BaseSpec::Outside(_) => 0,
+        }
     }
 
     /// The bits of its register that can be written: those that place it.
@@ -68,7 +81,7 @@ impl BaseSpec {
         ensures reset { result ≡ base_reset (base_of self) }
     {
         match self {
-            BaseSpec::Memory(_) => 0,
+            BaseSpec::Memory(_) | BaseSpec::Outside(_) => 0,
             BaseSpec::Io(_) => 1,
         }
     }
@@ -167,7 +180,7 @@ impl CardSpec {
     }
 
     /// How many bytes are kept of a base, by its number: 0 to 5, or 7 for the VGA window. 0 where it does not
-    /// exist, and of an expansion ROM, whose bytes are fixed.
+    /// exist, of an outside base, and of an expansion ROM, whose bytes are fixed.
     pub(crate) fn kept_size(&self, base: u8) -> usize
         requires card { IsCard self.now }
         ensures size { result ≡ kept_size (Some self.now) base }
@@ -176,7 +189,7 @@ impl CardSpec {
             return if self.vga { 1 << VGA_BITS } else { 0 };
         }
         match self.base(usize::from(base)) {
-            Some(spec) => spec.size() as usize,
+            Some(spec) => spec.kept() as usize,
             None => 0,
         }
     }
@@ -186,7 +199,7 @@ impl CardSpec {
     pub(crate) fn window_bits(&self, base: u8) -> u8
         requires card { IsCard self.now }
         ensures bits { result ≡ bits_in (Some self.now) base }
-        ensures most { result ≤ 24 }
+        ensures most { result ≤ 28 }
     {
         if base == VGA_BASE {
             return VGA_BITS;

@@ -15,7 +15,7 @@ use std::alloc::Global;
 
 impl Contents {
     /// Adds the bytes of each base, by pages of memory: those of device 2 first, and of a device those of base 0 first.
-    /// Of a base that does not exist, and of an expansion ROM, there are none.
+    /// Of a base that does not exist, of an outside base, and of an expansion ROM, there are none.
     pub fn save_state(&self, into: &mut Vec<u8>) -> Result<(), NoMemory>
         ensures saved { OnOk result (into.new.items ≡ into.old.items ++ contents_bytes self.now) }
         ensures sound { (setup : Setup) → HaveSizes setup self.now → AreContents setup.cards self.now }

@@ -2,7 +2,7 @@
 use Rattle.std.proofs.Common.{◌≡◌, ℕ, zero, suc, ◌+◌, ◌-◌, ◌*◌, ◌/◌, ◌%◌, ◌^◌, ◌<◌, ◌≤◌, Bool, true, false, List, [], ◌∷◌, ◌++◌, Option, Some, None, inl, inr, refl, sym, ap, subst, ◌∙◌, arith, All, get_or, length, flat_map, map}
 use Rattle.std.proofs.lemmas.List.Elements.{All-contains, All-from_recursion}
 use Rattle.std.proofs.Math.Nat.{mul_assoc}
-use Rattle.board_prelude.proofs.Common.{AllByRecursion, All-nil, All-cons, All-append, All-head, All-tail, pow-add, enumerate_from, Contains, Kind, Fetch, Read, Write, Width, One, bytes_of, Base, MemoryBase, IoBase, FittedCard, Setup, IsBase, IsExpansionRom, IsCard, Bytes, Window, boundary, base_value, rom_value, memory_window, rom_window_of, rom_window, area_of, address_count, six_areas}
+use Rattle.board_prelude.proofs.Common.{AllByRecursion, All-nil, All-cons, All-append, All-head, All-tail, pow-add, enumerate_from, Contains, Kind, Fetch, Read, Write, Width, One, bytes_of, Base, MemoryBase, IoBase, OutsideBase, FittedCard, Setup, IsBase, IsExpansionRom, IsCard, Bytes, Window, boundary, base_value, rom_value, memory_window, rom_window_of, rom_window, area_of, address_count, six_areas}
 use Rattle.board_base.specs.declared.access.Width.TheVariants.{Two, Four}
 use Rattle.addr_decode.specs.Edges.{fixed_edges, row_edges, first_address, window_edges, card_edges, edges_of, IsEdge}
 use Rattle.addr_decode.proofs.EdgeLaws.{areas_change_at_edges}
@@ -55,6 +55,9 @@ base_even bytes dev k (MemoryBase bits) fit =
     let above : 2 ≤ bits = omega (arith, fit.0) in
     window_all (record { dev = dev; base = k; inside = base_value bytes dev k; bits = bits }) above
 base_even bytes dev k (IoBase bits) fit = All-nil IsEven
+base_even bytes dev k (OutsideBase bits) fit =
+    let above : 2 ≤ bits = omega (arith, fit.0) in
+    window_all (record { dev = dev; base = k; inside = base_value bytes dev k; bits = bits }) above
 
 bases_even : (bytes : Bytes) (dev k : ℕ) (bases : List Base) → All IsBase bases →
     All IsEven

@@ -1,11 +1,11 @@
 -- Each byte that an aligned read gives is the one that a read of that byte alone gives.
-use Rattle.std.proofs.Common.{◌≡◌, ℕ, zero, suc, ◌+◌, ◌-◌, ◌*◌, ◌/◌, ◌%◌, ◌^◌, ◌<◌, ◌≤◌, List, [], length, replicate, get_or, inl, inr, refl, sym, ap, subst, ◌∙◌, arith, ◌==◌, slice_index}
+use Rattle.std.proofs.Common.{◌≡◌, ℕ, zero, suc, ◌+◌, ◌-◌, ◌*◌, ◌/◌, ◌%◌, ◌^◌, ◌<◌, ◌≤◌, List, [], length, get_or, inl, inr, refl, sym, ap, subst, ◌∙◌, arith, ◌==◌, slice_index}
 use Rattle.std.proofs.lemmas.Nat.{mod-pow-add}
-use Rattle.board_prelude.proofs.Common.{cases_Bool, get_or-replicate, length-replicate, Kind, Width, One, bytes_of, largest_of, Entry, Setup, IsRomSize, IsCardList, Area, Target, Dram, Shadow, Smram, Rom, Card, Device, Config, Abort, Bytes, byte, wide, area_of, memory_claim, window_bits, target_at, dram_byte, card_byte, value_at, address_count}
+use Rattle.board_prelude.proofs.Common.{cases_Bool, get_or_past, Kind, Width, One, bytes_of, largest_of, Entry, Setup, IsRomSize, IsCardList, Area, Target, Dram, Shadow, Smram, Rom, Card, Device, Config, Abort, Bytes, byte, wide, area_of, memory_claim, window_bits, target_at, dram_byte, card_byte, value_at, address_count}
 use Rattle.board_base.specs.declared.access.Width.TheVariants.{Two, Four}
 use Rattle.board_base.specs.declared.target.Area.TheVariants.{Dram as DramArea, Shadow as ShadowArea, Smram as SmramArea, Rom as RomArea, Card as CardArea, Abort as AbortArea}
 use Rattle.pci_bars.specs.Common.{IsBaseNumber}
-use Rattle.pci_bars.specs.Contents.{held, slot_number}
+use Rattle.pci_bars.specs.Contents.{slot_number}
 use Rattle.board_stores.proofs.ValueLemmas.{value_below}
 use Rattle.rom_laws.proofs.CardWindows.{IsWindow}
 
@@ -141,16 +141,10 @@ module _ (setup : Setup) (before : List Entry) (rom : (at : ℕ) → slice_index
   dram_below : (at : ℕ) → dram_byte setup before at < 256
   dram_below at = value_below setup before setup.rom [] Smram at One refl rom tt
 
-  card_below : (dev base : ℕ) → IsBaseNumber dev base → (off : ℕ) → card_byte before dev base off < 256
+  card_below : (dev base : ℕ) → IsBaseNumber dev base → (off : ℕ) → card_byte setup before dev base off < 256
   card_below dev base number off =
-      let there : List ℕ = replicate (off + 1) 0 in
-      let contents : List (List ℕ) = replicate (slot_number dev base + 1) there in
-      let is_there : held contents dev base ≡ there =
-      get_or-replicate (slot_number dev base + 1) (slot_number dev base) there [] (omega arith) in
-      let long : off + 1 ≤ length (held contents dev base) =
-      rw is_there (omega (arith, length-replicate {A = ℕ} (off + 1) 0)) in
-      value_below setup before setup.rom contents (Card dev base off) 0 One refl rom
-      (record { number = number; fits = λ other. long })
+      value_below setup before setup.rom [] (Card dev base off) 0 One refl rom
+      (record { number = number; fits = λ other. inl (get_or_past [] (slot_number dev base) [] (omega arith)) })
 
   pub value_fits : (target : Target) (place : ℕ) (width : Width) → InMemory setup target →
       value_at setup before target place width < 256 ^ bytes_of width
@@ -159,7 +153,7 @@ module _ (setup : Setup) (before : List Entry) (rom : (at : ℕ) → slice_index
   value_fits Smram place width is = wide_fits (dram_byte setup before) place width dram_below
   value_fits (Rom off) place width is = wide_fits (slice_index setup.rom) off width rom
   value_fits (Card dev base off) place width is =
-      wide_fits (λ at. card_byte before dev base at) off width (card_below dev base is.number)
+      wide_fits (λ at. card_byte setup before dev base at) off width (card_below dev base is.number)
   value_fits (Device dev) place width is = absurd is
   value_fits (Config reg) place width is = absurd is
   value_fits Abort place One is = omega arith
@@ -173,7 +167,7 @@ module _ (setup : Setup) (before : List Entry) (rom : (at : ℕ) → slice_index
   byte_alone Smram place i width is within = wide_byte (dram_byte setup before) place i width dram_below within
   byte_alone (Rom off) place i width is within = wide_byte (slice_index setup.rom) off i width rom within
   byte_alone (Card dev base off) place i width is within =
-      wide_byte (λ at. card_byte before dev base at) off i width (card_below dev base is.number) within
+      wide_byte (λ at. card_byte setup before dev base at) off i width (card_below dev base is.number) within
   byte_alone (Device dev) place i width is within = absurd is
   byte_alone (Config reg) place i width is within = absurd is
   byte_alone Abort place i width is within = ones_byte i width within

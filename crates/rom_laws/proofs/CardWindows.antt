@@ -1,6 +1,6 @@
 -- The window of a card that claims an address has the size of its base, of 4 bytes or more.
 use Rattle.std.proofs.Common.{◌≡◌, ℕ, zero, suc, ◌+◌, ◌<◌, ◌≤◌, Bool, true, false, ◌&&◌, List, [], ◌∷◌, ◌++◌, length, get_or, Option, Some, None, inl, inr, refl, sym, ap, subst, ◌∙◌, arith, lit<, lit≤, ◌==◌, All, find, flat_map, slice_get, if◌then◌else◌, is_some, not, unwrap_or}
-use Rattle.board_prelude.proofs.Common.{cases_Bool, cond-true, cond-false, eq-eqb, ne_eqb, All-nil, All-cons, All-head, All-tail, All-append, enumerate_from, Base, MemoryBase, IoBase, FittedCard, Setup, IsBase, IsCard, IsCardList, Rises, IsExpansionRom, card_at, window_bits, bits_of_base, Bytes, Window, is_covered, is_enabled_for, is_rom_on, memory_window, memory_windows, rom_window, rom_window_of, vga_window, memory_claim, Kind, fdhc, smram, xbcs, lies_in, upper_memory, row_of, hole_of, is_in, is_smram_range, is_shadowed, smram_answers, is_rom_selected, area_of}
+use Rattle.board_prelude.proofs.Common.{cases_Bool, cond-true, cond-false, eq-eqb, ne_eqb, All-nil, All-cons, All-head, All-tail, All-append, enumerate_from, Base, MemoryBase, IoBase, OutsideBase, FittedCard, Setup, IsBase, IsCard, IsCardList, Rises, IsExpansionRom, card_at, window_bits, bits_of_base, Bytes, Window, is_covered, is_enabled_for, is_rom_on, memory_window, memory_windows, rom_window, rom_window_of, vga_window, memory_claim, Kind, fdhc, smram, xbcs, lies_in, upper_memory, row_of, hole_of, is_in, is_smram_range, is_shadowed, smram_answers, is_rom_selected, area_of}
 use Rattle.board_base.specs.declared.target.Area.TheVariants.{Card as CardArea}
 use Rattle.board_chipset.proofs.HeldTargets.{IsClaim, claim_line}
 use Rattle.pci_bars.specs.Common.{IsBaseNumber}
@@ -36,6 +36,7 @@ all_found setup list k d within = (list.each k d within, found setup.cards list.
 least_bits : (base : Base) → IsBase base → 2 ≤ bits_of_base (Some base)
 least_bits (MemoryBase bits) fit = omega (arith, fit.0)
 least_bits (IoBase bits) fit = fit.0
+least_bits (OutsideBase bits) fit = omega (arith, fit.0)
 
 base_window : (setup : Setup) (card : FittedCard) (k : ℕ) (base : Base) → IsFound setup card → k < 6 →
     slice_get card.bases k ≡ Some base → IsWindow setup card.dev k
@@ -60,6 +61,11 @@ base_windows setup bytes card is k (MemoryBase bits ∷ later) few same =
 base_windows setup bytes card is k (IoBase bits ∷ later) few same =
     base_windows setup bytes card is (k + 1) later (omega arith)
     (λ i. ap (slice_get card.bases) (omega arith) ∙ same (i + 1) ∙ grind arith)
+base_windows setup bytes card is k (OutsideBase bits ∷ later) few same =
+    All-cons (OfCard setup) _ _
+    (base_window setup card k (OutsideBase bits) is (omega arith) (ap (slice_get card.bases) (omega arith) ∙ same 0))
+    (base_windows setup bytes card is (k + 1) later (omega arith)
+    (λ i. ap (slice_get card.bases) (omega arith) ∙ same (i + 1) ∙ grind arith))
 
 rom_windows : (setup : Setup) (bytes : Bytes) (card : FittedCard) → IsFound setup card → (rom : Option ℕ) →
     card.rom ≡ rom → IsExpansionRom rom → All (OfCard setup) (rom_window_of bytes card.dev rom)

@@ -1,6 +1,6 @@
 -- Fields that spell the bases and the expansion ROM of a card are read as them.
 use Rattle.std.proofs.Common.{◌≡◌, ℕ, ◌+◌, ◌<◌, ◌≤◌, eqb, Option, Some, None, List, [], ◌∷◌, ◌++◌, length, map, All, inl, inr, refl, sym, ap, ◌∙◌, append_assoc, append-nil, arith, codes, decimal}
-use Rattle.board_prelude.proofs.Common.{cases_Bool, eq-eqb, lt-ltb, length-append, All-head, All-tail, Base, MemoryBase, IoBase}
+use Rattle.board_prelude.proofs.Common.{cases_Bool, eq-eqb, lt-ltb, length-append, All-head, All-tail, Base, MemoryBase, IoBase, OutsideBase}
 use Rattle.script_spec.specs.Common.{IsBaseForm, IsRomForm, parse_base, parse_rom_bits, with_base, with_rom, with_field, with_fields}
 use Rattle.script_spec.proofs.NumberBack.{decimal_back}
 use Rattle.script_spec.proofs.CardTexts.{fresh}
@@ -8,6 +8,7 @@ use Rattle.script_spec.proofs.CardTexts.{fresh}
 abbrev pub base_word : Base → List ℕ
 base_word (MemoryBase bits) = codes "m" ++ decimal bits
 base_word (IoBase bits) = codes "i" ++ decimal bits
+base_word (OutsideBase bits) = codes "o" ++ decimal bits
 
 abbrev pub rom_words : Option ℕ → List (List ℕ)
 rom_words None = []
@@ -17,11 +18,13 @@ base_back : (base : Base) → IsBaseForm base → parse_base (base_word base) �
 unfolding parse_base
 base_back (MemoryBase bits) form = rw (decimal_back bits form) refl
 base_back (IoBase bits) form = rw (decimal_back bits form) refl
+base_back (OutsideBase bits) form = absurd form
 
 no_rom : (version : ℕ) (base : Base) → parse_rom_bits version (base_word base) ≡ None
 unfolding parse_rom_bits
 no_rom version (MemoryBase bits) = elim (cases_Bool (eqb version 2)) [ inl two ↦ rw two refl | inr one ↦ rw one refl ]
 no_rom version (IoBase bits) = elim (cases_Bool (eqb version 2)) [ inl two ↦ rw two refl | inr one ↦ rw one refl ]
+no_rom version (OutsideBase bits) = elim (cases_Bool (eqb version 2)) [ inl two ↦ rw two refl | inr one ↦ rw one refl ]
 
 next_back : (version : ℕ) (before : List Base) (base : Base) → IsBaseForm base → length before < 6
     → with_field version (fresh before) (base_word base) ≡ Some (fresh (before ++ base ∷ []))

@@ -1,6 +1,6 @@
 -- What a text says is in range.
 use Rattle.std.proofs.Common.{ℕ, ◌≡◌, ◌+◌, ◌-◌, ◌*◌, ◌<◌, ◌≤◌, Bool, true, false, not, ◌&&◌, ◌||◌, cond, ltb, Option, Some, None, List, [], ◌∷◌, ◌++◌, length, map, reverse, All, filter, flat_map, refl, sym, ap, ◌∙◌, inl, inr, get_or, add-one, arith, is_some, ◌==◌}
-use Rattle.board_prelude.proofs.Common.{option_map, find, list_any, list_all, IsPermutation, true≢false, false≢true, or_parts, or_cases, or_right, and_parts, cases_Bool, ltb-true, ltb-false, All-nil, All-cons, All-head, All-tail, All-append, sum_by-cons, sum_by-append, All-permutation, IsPermutation-sym, Statement, most_statements, most_phases, most_pulses, most_card_memory, Setup, Base, MemoryBase, IoBase, FittedCard, IsBase, IsExpansionRom, IsCard, Rises, memory_size, memory_of_cards, IsScripted, is_base_in_range, is_rom_in_range}
+use Rattle.board_prelude.proofs.Common.{option_map, find, list_any, list_all, IsPermutation, true≢false, false≢true, or_parts, or_cases, or_right, and_parts, cases_Bool, ltb-true, ltb-false, All-nil, All-cons, All-head, All-tail, All-append, sum_by-cons, sum_by-append, All-permutation, IsPermutation-sym, Statement, most_statements, most_phases, most_pulses, most_card_memory, Setup, Base, MemoryBase, IoBase, OutsideBase, FittedCard, IsBase, IsExpansionRom, IsCard, Rises, memory_size, memory_of_cards, IsScripted, is_base_in_range, is_rom_in_range}
 use Rattle.std.specs.List.{sum_by}
 use Rattle.std.proofs.lemmas.List.Elements.{All-filter}
 use Rattle.std.proofs.lemmas.List.Folds.{list_any_none}
@@ -152,6 +152,9 @@ all_bases (MemoryBase bits ∷ bases) test =
 all_bases (IoBase bits ∷ bases) test =
     let both = and_parts _ (list_all is_base_in_range bases) test in
     All-cons IsBase (IoBase bits) bases (is_within_is _ _ bits both.0) (all_bases bases both.1)
+all_bases (OutsideBase bits ∷ bases) test =
+    let both = and_parts _ (list_all is_base_in_range bases) test in
+    All-cons IsBase (OutsideBase bits) bases (is_within_is _ _ bits both.0) (all_bases bases both.1)
 
 rom_there : (rom : Option ℕ) → is_rom_in_range rom ≡ true → IsExpansionRom rom
 rom_there None test = tt

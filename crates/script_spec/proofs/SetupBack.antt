@@ -1,6 +1,6 @@
 -- Each line of a form that asks nothing is read again from its fields.
 use Rattle.std.proofs.Common.{◌≡◌, ℕ, Bool, true, false, Option, Some, None, List, [], ◌∷◌, ◌++◌, length, flat_map, map, leb, ◌&&◌, refl, sym, ap, ◌∙◌, append_assoc, append-nil, arith, codes, decimal}
-use Rattle.board_prelude.proofs.Common.{join_with_byte, list_all, option_map, and_parts, and_from, le-leb, Base, MemoryBase, IoBase, FittedCard, space}
+use Rattle.board_prelude.proofs.Common.{join_with_byte, list_all, option_map, and_parts, and_from, le-leb, Base, MemoryBase, IoBase, OutsideBase, FittedCard, space}
 use Rattle.script_spec.specs.Common.{Item, SetCpus, SetMemory, SetRom, SetDisk, FitCard, BeginPhase, IsDecimal, IsName, IsCardForm, base_text, rom_text, item_text, is_name_start, is_name_byte, parse_number, parse_card, fields_of, is_name, parse_name, parse_phase, parse_by_key, parse_item}
 use Rattle.script_spec.proofs.Digits.{lacks}
 use Rattle.script_spec.proofs.Splits.{Lack, split_exact}
@@ -82,6 +82,7 @@ tail_words bases rom = map base_word bases ++ rom_words rom
 spaced_base : (base : Base) → space ∷ base_word base ≡ base_text base
 spaced_base (MemoryBase bits) = refl
 spaced_base (IoBase bits) = refl
+spaced_base (OutsideBase bits) = refl
 
 spaced_tail : (bases : List Base) (rom : Option ℕ)
     → spaced (tail_words bases rom) ≡ flat_map base_text bases ++ rom_text rom
@@ -95,6 +96,7 @@ spaced_tail (base ∷ bases) rom =
 lacks_base : (base : Base) → lacks space (base_word base) ≡ true
 lacks_base (MemoryBase bits) = lacks_decimal bits
 lacks_base (IoBase bits) = lacks_decimal bits
+lacks_base (OutsideBase bits) = lacks_decimal bits
 
 lacks_kind : (vga : Bool) → lacks space (kind_word vga) ≡ true
 lacks_kind true = refl

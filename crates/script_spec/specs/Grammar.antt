@@ -1,7 +1,7 @@
 -- What a line of a script says after its first line. A statement is spelled as the log spells it, with hexadecimal
 -- digits in either case, and everything else as it stands. The forms are those of a version of scripts, 1 or 2.
 use Rattle.std.specs.Prelude.{ℕ, ◌≡◌, ◌≢◌, ◌+◌, ◌%◌, ◌^◌, ◌≤◌, ◌<◌, ◌⊎◌, ◌==◌, Bool, true, ◌||◌, if◌then◌else◌, List, [], ◌∷◌, ◌++◌, length, flat_map, take, All, Option, Some, None, codes, decimal}
-use Rattle.board_prelude.specs.Common.{AllZip, list_all, PortAccess, WideAccess, Moment, bytes_of, weekday_of, Event, Memory, Wide, Port, Ack, Pulses, Time, Wire, Line, BadSector, Statement, Base, MemoryBase, IoBase, FittedCard, is_within, is_write, FitsBytes, space, event_text}
+use Rattle.board_prelude.specs.Common.{AllZip, list_all, PortAccess, WideAccess, Moment, bytes_of, weekday_of, Event, Memory, Wide, Port, Ack, Pulses, Time, Wire, Line, BadSector, Statement, Base, MemoryBase, IoBase, OutsideBase, FittedCard, is_within, is_write, FitsBytes, space, event_text}
 use Rattle.board_base.specs.declared.access.Access.{Access}
 use Rattle.board_spec.specs.declared.event.Event.TheVariants.{Look as LookAt}
 
@@ -19,9 +19,11 @@ pub data Item : Type 0 where
 
 -- ---- how it is spelled
 
+-- no script spells an outside base (`IsBaseForm`), and none can be read
 abbrev pub base_text : Base → List ℕ
 base_text (MemoryBase bits) = codes " m" ++ decimal bits
 base_text (IoBase bits) = codes " i" ++ decimal bits
+base_text (OutsideBase bits) = codes " o" ++ decimal bits
 
 abbrev pub rom_text : Option ℕ → List ℕ
 rom_text None = []
@@ -76,6 +78,7 @@ pub record IsName (name : List ℕ) : Type 0 where
 abbrev pub IsBaseForm : Base → Type 0
 IsBaseForm (MemoryBase bits) = IsDecimal bits
 IsBaseForm (IoBase bits) = IsDecimal bits
+IsBaseForm (OutsideBase bits) = ⊥
 
 -- version 1 has no expansion ROMs
 abbrev pub IsRomForm : (version : ℕ) → Option ℕ → Type 0

@@ -1,6 +1,6 @@
 -- Cards: how much memory their bases decode, and where a card is put among the others.
 use Rattle.std.proofs.Common.{◌≡◌, ℕ, ◌+◌, ◌<◌, ◌≤◌, not, List, length, map, take, get_or, sum_by, All, refl, subst, arith, lit<, lit≤, inl, inr, nat_lt, position, unwrap_or}
-use Rattle.board_prelude.proofs.Common.{position_or_len, cases_Bool, ltb-false, All-get_or, get_or-map, length-map, pow-le-pow_right, Base, MemoryBase, IoBase, FittedCard, IsBase, IsCard, memory_size}
+use Rattle.board_prelude.proofs.Common.{position_or_len, cases_Bool, ltb-false, All-get_or, get_or-map, length-map, pow-le-pow_right, Base, MemoryBase, IoBase, OutsideBase, FittedCard, IsBase, IsCard, memory_size}
 use Rattle.std.proofs.lemmas.List.Sums.{sum_by-le, sum_by-take-le, sum_by_more, prefix_len-le-length}
 use Rattle.pci_bars.specs.declared.spec.BaseSpec.{BaseSpec}
 use Rattle.pci_bars.specs.Bases.{base_of}
@@ -10,6 +10,7 @@ use Rattle.pci_bars.specs.Bases.{base_of}
 base_most : (base : Base) → IsBase base → memory_size base ≤ 0x100_0000
 base_most (MemoryBase bits) fits = pow-le-pow_right (lit< tt) fits.1
 base_most (IoBase bits) fits = lit≤ tt
+base_most (OutsideBase bits) fits = lit≤ tt
 
 pub memory_most : (card : FittedCard) → IsCard card → sum_by memory_size card.bases ≤ 0x600_0000
 memory_most card fits =

@@ -38,7 +38,7 @@ fn memory_size(base: BaseSpec) -> u32
 {
     match base {
         BaseSpec::Memory(bits) => 1 << bits,
-        BaseSpec::Io(_) => 0,
+        BaseSpec::Io(_) | BaseSpec::Outside(_) => 0,
     }
 }
 

@@ -14,7 +14,7 @@ write_to-requires-clause-held c =
 
 pub returns-clause-put : goal.returns-clause-put
 returns-clause-put c = λ setup bytes of reached cell there.
-    c.write_to.ensures.put setup of.memory cell there
+    c.write_to.ensures.put setup of.memory of.contents cell there
     ∙ rw (
       c.target_in-target.ensures.target setup of.registers.cards.0
           (sym of.rom ∙ sym c.deref.ensures.value),

@@ -3,8 +3,8 @@ use Rattle.pci_bars.specs.Bases.{base_of}
 use Rattle.pci_bars.proofs.BaseLemmas.{is_base}
 use Rattle.pci_bars.proofs.spec.CardSpec.kept_size.Goals as goal
 
-pub size-requires : goal.size-requires
-size-requires c =
+pub kept-requires : goal.kept-requires
+kept-requires c =
     record {
       base =
           is_base c.args.self.now.bases c.from.result (base_of c.in-Some.spec) c.requires.card.each
