@@ -334,6 +334,44 @@ static void beside_roms(void) {
     board_close(&b);
 }
 
+/* A base whose bytes the monitor keeps (PCI Local Bus 2.1, section 6.2.5.1): 256 MiB that decode, read as ones and keep
+ * nothing, beside 4 KiB that the board keeps. Behind it is nobody. */
+static void outside_bases(void) {
+    enum { FRAME = 5 };
+    static const board_card frame[] = {{.device = FRAME, .bases = 2, .base = {{BOARD_OUTSIDE, 28}, {BOARD_MEMORY_BASE, 12}}}};
+    static uint8_t image[1 << 20];
+    board b = {0}, other = {0};
+    uint8_t byte = 0x55;
+    size_t size = 0;
+    expect("open", 0, board_open(&b, 16, frame, 1, rom, sizeof rom, rom, 0), BOARD_OK);
+    set(&b, FRAME, BASE0, 4, 0xFFFFFFFF);
+    expect("its size", 0, board_in(&b, DATA, 4, &r), BOARD_OK);
+    expect("its size", 0, r.value, 0xF0000000);
+    set(&b, FRAME, BASE0, 4, 0xC0000000), set(&b, FRAME, BASE1, 4, 0xB0000000), set(&b, FRAME, COMMAND, 1, MEMORY_AND_PORTS);
+    for (uint32_t offset = 0; offset < 0x10000000; offset += 0x00FFFFFC) {
+        expect("a write", offset, board_write(&b, 0xC0000000 + offset, 4, false, offset, &r), BOARD_OK);
+        expect("a read", offset, board_read(&b, 0xC0000000 + offset, 4, false, &r), BOARD_OK);
+        expect("its value", offset, r.value, 0xFFFFFFFF);
+        expect("its target", offset, r.part[0].target, BOARD_CARD);
+        expect("its card", offset, r.part[0].unit, FRAME);
+        expect("its base", offset, r.part[0].base, 0);
+        expect("its offset", offset, r.part[0].offset, offset);
+    }
+    expect("past its end", 0, board_read(&b, 0xD0000000, 4, false, &r), BOARD_OK);
+    expect("past its end", 0, r.part[0].target, BOARD_ABORT);
+    expect("bytes out", 0, board_card_read(&b, FRAME, 0, 0, &byte, 1), BOARD_PAST_END);
+    expect("bytes in", 0, board_card_write(&b, FRAME, 0, 0, &byte, 1), BOARD_PAST_END);
+    expect("bytes of the base beside", 0xFFF, board_card_write(&b, FRAME, 1, 0xFFF, &byte, 1), BOARD_OK);
+    expect("save", 0, board_save(&b, image, sizeof image, &size), BOARD_OK);
+    expect("load", 0, board_load(&other, image, size), BOARD_OK);
+    expect("a read after it", 0, board_read(&other, 0xCFFFFFFC, 4, false, &r), BOARD_OK);
+    expect("its value", 0, r.value, 0xFFFFFFFF);
+    expect("its offset", 0, r.part[0].offset, 0xFFFFFFC);
+    expect("a read beside", 0, board_read(&other, 0xB0000FFF, 1, false, &r), BOARD_OK);
+    expect("its value", 0, r.value, 0x55);
+    board_close(&b), board_close(&other);
+}
+
 int main(void) {
     for (size_t k = 0; k < sizeof rom; k++) rom[k] = (uint8_t)(k * 7 + k / 256);
     masters();
@@ -341,6 +379,7 @@ int main(void) {
     bytes_of_cards();
     roms();
     beside_roms();
+    outside_bases();
     before_the_guest();
     beside_guest();
     return failed;

@@ -112,7 +112,8 @@ static void open_board(board *b) {
         board_card *c = &cards[count++];
         *c = (board_card){.device = device, .vga = next(3) == 0, .bases = (uint8_t)next(4), .rom = next(2) ? 0 : 11};
         if (next(2)) c->vendor_id = 0x1AF4, c->device_id = (uint16_t)next(0x10000), c->class_code = next(0x1000000), c->interrupt_pin = (uint8_t)next(5);
-        for (uint8_t k = 0; k < c->bases; k++) c->base[k] = next(2) ? (board_base){BOARD_IO_BASE, 6} : (board_base){BOARD_MEMORY_BASE, 13};
+        static const board_base kinds[] = {{BOARD_IO_BASE, 6}, {BOARD_MEMORY_BASE, 13}, {BOARD_OUTSIDE, 13}};
+        for (uint8_t k = 0; k < c->bases; k++) c->base[k] = kinds[next(3)];
     }
     uint32_t status = board_open(b, 1 + next(2), cards, count, rom, ROM, disk, next(8) ? sizeof disk : 0);
     if (status) fail("open", 0, status);

@@ -283,9 +283,12 @@ static void cards(void) {
     c = good, c.rom = 25, open_with("an expansion ROM of 32 MiB", c, 1, BOARD_BAD_CARDS);
     c = good, c.bases = 7, open_with("seven bases", c, 1, BOARD_BAD_CARDS);
     c = good, c.bases = 3, open_with("a base of no kind", c, 1, BOARD_BAD_CARDS);
-    c = good, c.base[0].kind = 3, open_with("a base of kind 3", c, 1, BOARD_BAD_CARDS);
+    c = good, c.base[0].kind = 4, open_with("a base of kind 4", c, 1, BOARD_BAD_CARDS);
     c = good, c.base[0].bits = 3, open_with("8 bytes of memory", c, 1, BOARD_BAD_CARDS);
     c = good, c.base[0].bits = 25, open_with("32 MiB of memory", c, 1, BOARD_BAD_CARDS);
+    c = good, c.base[0] = (board_base){BOARD_OUTSIDE, 28}, open_with("256 MiB outside", c, 1, BOARD_OK);
+    c = good, c.base[0] = (board_base){BOARD_OUTSIDE, 3}, open_with("8 bytes outside", c, 1, BOARD_BAD_CARDS);
+    c = good, c.base[0] = (board_base){BOARD_OUTSIDE, 29}, open_with("512 MiB outside", c, 1, BOARD_BAD_CARDS);
     c = good, c.base[1].bits = 1, open_with("two ports", c, 1, BOARD_BAD_CARDS);
     c = good, c.base[1].bits = 9, open_with("512 ports", c, 1, BOARD_BAD_CARDS);
     c = good, c.bases = 5;

@@ -1,4 +1,5 @@
 pub mod HeldTargets
+pub mod PutLemmas
 pub mod StepLemmas
 pub mod WordLemmas
 pub mod SmramLemmas

@@ -11,7 +11,7 @@ use Rattle.addr_decode.specs.MapRegister.{IsNumberedName, map_register, names_of
 use Rattle.map_builder.specs.Common.{name_windows, windows_covered, held_by, held_from, held_at}
 
 -- the last address of a block is an address
-pub block_fits : (inside bits : ℕ) → inside < 2 ^ 32 → bits ≤ 24 → inside / 2 ^ bits * 2 ^ bits + (2 ^ bits - 1) < 2 ^ 32
+pub block_fits : (inside bits : ℕ) → inside < 2 ^ 32 → bits ≤ 28 → inside / 2 ^ bits * 2 ^ bits + (2 ^ bits - 1) < 2 ^ 32
 block_fits inside bits address few =
     let positive : 0 < 2 ^ bits = pow_pos bits in
     let whole : 2 ^ bits * 2 ^ (32 - bits) ≡ 2 ^ 32 =
