@@ -4,3 +4,5 @@ mod ByteReads
 mod PartBytes
 mod ToldBytes
 mod RomReads
+mod SaidReads
+mod StepReads

@@ -69,7 +69,7 @@ module _ (setup : Setup) (before : List Entry) (roms : List (List ℕ)) (fits : 
   window_of part dev base is =
       card_window setup (register_byte setup before) part.addr part.kind part.smm dev base fits.cards is
 
-  in_memory : (part : Access) → InMemory setup (memory_target setup before part)
+  pub in_memory : (part : Access) → InMemory setup (memory_target setup before part)
   in_memory part =
       reaches_memory setup (area_of setup (register_byte setup before) part.addr part.kind part.smm) part.addr
       (window_of part)

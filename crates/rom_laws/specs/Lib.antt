@@ -1,1 +1,2 @@
 pub mod RomReads
+pub mod StepReads

@@ -1,0 +1,174 @@
+-- The bytes of memory that a record asks for are those at its address, as many as it says.
+use Rattle.std.proofs.Common.{◌≡◌, ℕ, ◌%◌, ◌^◌, ◌==◌, Bool, true, false, ◌&&◌, nat_lt, nat_le, if◌then◌else◌, Option, Some, None, option_map, option_and_then, inl, inr, refl, sym, ap, ◌∙◌}
+use Rattle.board_prelude.proofs.Common.{cases_Bool, eqb-true, Kind, Width, One, WideAccess, bytes_of, is_moment, moment_of, is_write, Event, Memory, Wide, Port, Ack, Time}
+use Rattle.board_spec.specs.declared.event.Event.TheVariants.{Look as LookAt, Wire, Line, Pulses, BadSector}
+use Rattle.board_base.specs.declared.access.Width.TheVariants.{Two, Four}
+use Rattle.board_base.specs.declared.access.Access.{Access}
+use Rattle.uart_16550.specs.declared.com1.Happening.{Happening}
+use Rattle.uart_16550.specs.declared.com1.Happening.TheVariants.{Comes, Happens}
+use Rattle.board_records.specs.declared.event.EventRecord.{EventRecord}
+use Rattle.board_records.specs.Events.{access_said, asked_by, asked_said, byte_said, cycle_said, digits_said, direction_said, event_said, is_plain, kind_said, level_said, moment_said, port_said, pulses_said, width_said}
+use Rattle.rom_laws.specs.RomReads.{read_by}
+
+-- these bytes are those that a record says
+pub record IsReadSaid (said : EventRecord) (read : WideAccess) : Type 0 where
+  pub addr : said.addr ≡ read.addr
+  pub bytes : said.bytes ≡ read.bytes
+
+-- so of each event that this may be, where it reads any
+abbrev ReadsSaid : EventRecord → Option Event → Type 0
+ReadsSaid said it =
+    (event : Event) (read : WideAccess) → it ≡ Some event → read_by event ≡ Some read → IsReadSaid said read
+
+module _ (said : EventRecord) where
+  no_event : ReadsSaid said None
+  no_event event read is reads = absurd (cc)
+
+  reads_none : (event : Event) → read_by event ≡ None → ReadsSaid said (Some event)
+  reads_none event none other read is reads =
+      let same : event ≡ other = cc in
+      let some : ◌≡◌ {A = Option WideAccess} None (Some read) = sym none ∙ ap read_by same ∙ reads in
+      absurd (cc)
+
+  either : (b : Bool) (x y : Option Event) → ReadsSaid said x → ReadsSaid said y → ReadsSaid said (if b then x else y)
+  either true x y first second = first
+  either false x y first second = second
+
+  mapped : {A : Type 0} (event : A → Event) (it : Option A) → ((a : A) → ReadsSaid said (Some (event a))) →
+      ReadsSaid said (option_map event it)
+  mapped event None each = no_event
+  mapped event (Some a) each = each a
+
+  followed : {A : Type 0} (event : A → Option Event) (it : Option A) → ((a : A) → ReadsSaid said (event a)) →
+      ReadsSaid said (option_and_then event it)
+  followed event None each = no_event
+  followed event (Some a) each = each a
+
+  -- ---- memory
+
+  by_read : (writes : Bool) (event : Event) (access : WideAccess) → IsReadSaid said access →
+      read_by event ≡ (if writes then None else Some access) → ReadsSaid said (Some event)
+  by_read true event access is none = reads_none event none
+  by_read false event access is some other read same reads =
+      let it : event ≡ other = cc in
+      let both : Some access ≡ Some read = sym some ∙ ap read_by it ∙ reads in
+      let whole : access ≡ read = cc in
+      record {
+        addr = is.addr ∙ ap (λ (w : WideAccess). w.addr) whole;
+        bytes = is.bytes ∙ ap (λ (w : WideAccess). w.bytes) whole;
+      }
+
+  whole_access : Kind → WideAccess
+  whole_access kind =
+      record { kind = kind; bytes = said.bytes; smm = said.smm == 1; addr = said.addr; value = said.value }
+
+  in_parts : (kind : Kind) → ReadsSaid said (Some (Wide (whole_access kind)))
+  in_parts kind =
+      by_read (is_write kind) (Wide (whole_access kind)) (whole_access kind) (record { addr = refl; bytes = refl }) refl
+
+  by_cycle : (kind : Kind) (width : Width) → bytes_of width ≡ said.bytes → ReadsSaid said (cycle_said said kind width)
+  unfolding cycle_said
+  by_cycle kind width is =
+      let access : Access =
+      record { kind = kind; addr = said.addr; width = width; smm = said.smm == 1; value = said.value } in
+      let read : WideAccess =
+      record { kind = kind; bytes = bytes_of width; smm = said.smm == 1; addr = said.addr; value = 0 } in
+      either (said.addr % bytes_of width == 0) _ _
+      (either (nat_lt said.value (2 ^ 32)) _ _
+      (by_read (is_write kind) (Memory access) read (record { addr = refl; bytes = sym is }) refl) no_event)
+      (in_parts kind)
+
+  width_is : (bytes : ℕ) (width : Width) → width_said bytes ≡ Some width → bytes_of width ≡ bytes
+  unfolding width_said
+  width_is bytes width says =
+      elim (cases_Bool (bytes == 1)) [
+        | inl one ↦
+            let some : Some One ≡ Some width = rw one at says in
+            let same : One ≡ width = cc in
+            ap bytes_of (sym same) ∙ sym (eqb-true bytes 1 one)
+        | inr one ↦
+            elim (cases_Bool (bytes == 2)) [
+              | inl two ↦
+                  let some : Some Two ≡ Some width = rw (one, two) at says in
+                  let same : Two ≡ width = cc in
+                  ap bytes_of (sym same) ∙ sym (eqb-true bytes 2 two)
+              | inr two ↦
+                  elim (cases_Bool (bytes == 4)) [
+                    | inl four ↦
+                        let some : Some Four ≡ Some width = rw (one, two, four) at says in
+                        let same : Four ≡ width = cc in
+                        ap bytes_of (sym same) ∙ sym (eqb-true bytes 4 four)
+                    | inr four ↦
+                        let none : ◌≡◌ {A = Option Width} None (Some width) = rw (one, two, four) at says in
+                        absurd (cc)
+                  ]
+            ]
+      ]
+
+  by_width : (kind : Kind) (width : Option Width) → width_said said.bytes ≡ width →
+      ReadsSaid said (option_and_then (cycle_said said kind) width)
+  by_width kind None is = no_event
+  by_width kind (Some width) is = by_cycle kind width (width_is said.bytes width is)
+
+  of_memory : (kind : Kind) → ReadsSaid said (access_said said kind)
+  unfolding access_said
+  of_memory kind = either (said.bytes == 8) _ _ (in_parts kind) (by_width kind (width_said said.bytes) refl)
+
+  -- ---- what reads no memory
+
+  of_port : (width : Width) (write : Bool) → ReadsSaid said (port_said said width write)
+  unfolding port_said
+  of_port width write = either _ _ _ (reads_none _ refl) no_event
+
+  of_ports : (width : Width) → ReadsSaid said (option_and_then (port_said said width) (direction_said said.kind))
+  of_ports width = followed (port_said said width) (direction_said said.kind) (of_port width)
+
+  of_moment : (year month day hour minute second : ℕ) → ReadsSaid said (moment_said year month day hour minute second)
+  unfolding moment_said
+  of_moment year month day hour minute second = either _ _ _ (reads_none _ refl) no_event
+
+  of_level : (event : ℕ → Bool → Event) → ((number : ℕ) (on : Bool) → read_by (event number on) ≡ None) →
+      ReadsSaid said (level_said said event)
+  unfolding level_said
+  of_level event none = either _ _ _ (reads_none _ (none said.addr (said.value == 1))) no_event
+
+  of_all : ReadsSaid said (asked_by said)
+  unfolding asked_by pulses_said digits_said
+  of_all =
+      either _ _ _ (followed (access_said said) (kind_said said.kind) of_memory)
+      (either _ _ _
+      (followed _ (width_said said.bytes) of_ports)
+      (either _ _ _ (mapped (λ (kind : Kind). LookAt kind said.addr (said.smm == 1)) (kind_said said.kind) (λ kind. reads_none _ refl))
+      (either _ _ _ (reads_none Ack refl)
+      (either _ _ _ (either _ _ _ (reads_none _ refl) no_event)
+      (either _ _ _ (of_moment _ _ _ _ _ _)
+      (either _ _ _ (of_level Wire (λ number on. refl))
+      (either _ _ _ (of_level Line (λ number on. refl))
+      (either _ _ _ (reads_none _ refl) no_event))))))))
+
+  of_event : ReadsSaid said (event_said said)
+  unfolding event_said
+  of_event = either (is_plain said) _ _ of_all no_event
+
+  -- ---- an event, or a byte that COM1 receives
+
+  comes : (event : Event) → byte_said said ≡ Some (Happens event) → ⊥
+  unfolding byte_said
+  comes event is =
+      elim (cases_Bool (is_plain said && nat_lt said.value 256)) [
+        | inl yes ↦ let some : Some (Comes said.value) ≡ Some (Happens event) = rw yes at is in absurd (cc)
+        | inr no ↦ let none : ◌≡◌ {A = Option Happening} None (Some (Happens event)) = rw no at is in absurd (cc)
+      ]
+
+  happens : (it : Option Event) (event : Event) → option_map (λ e. Happens e) it ≡ Some (Happens event) → it ≡ Some event
+  happens None event is = absurd (cc)
+  happens (Some other) event is = cc
+
+  pub read_said : (event : Event) (read : WideAccess) → asked_said said ≡ Some (Happens event) →
+      read_by event ≡ Some read → IsReadSaid said read
+  unfolding asked_said
+  read_said event read asked reads =
+      elim (cases_Bool (said.what == 10)) [
+        | inl serial ↦ absurd (comes event (rw serial at asked))
+        | inr other ↦ of_event event read (happens (event_said said) event (rw other at asked)) reads
+      ]

@@ -1,0 +1,145 @@
+-- Each byte that a step reads of memory is the one that a read of that byte alone gives.
+use Rattle.std.proofs.Common.{◌≡◌, ℕ, ◌+◌, ◌<◌, ◌==◌, Bool, true, false, ◌&&◌, List, Option, Some, None, refl, sym, ap, subst, ◌∙◌, arith}
+use Rattle.board_prelude.proofs.Common.{and_right, WideAccess, Target, Dram, Shadow, Smram, Rom, Card, Device, Config, Abort, Denial, Register, Confadd, NoRegister, Entry, Setup, IsSetup, IsInRange, IsAnswer, Event, Memory, Wide, Port, Ack, Pulses, Time, Wire, Line, BadSector, Parts, Reply, Bus, Saw, byte, memory_target, memory_denial, address_count}
+use Rattle.board_base.specs.declared.access.Access.{Access}
+use Rattle.board_spec.specs.Common.{memory_answer}
+use Rattle.board_spec.specs.declared.event.Event.TheVariants.{Look as LookAt}
+use Rattle.board_spec.specs.declared.event.Parts.TheVariants as parts
+use Rattle.board_spec.specs.declared.event.Reply.TheVariants as replies
+use Rattle.board_chipset.specs.Common.{Running}
+use Rattle.uart_16550.specs.Common.{Serial, uart_access}
+use Rattle.uart_16550.specs.declared.com1.Happening.TheVariants.{Happens}
+use Rattle.uart_16550.specs.declared.com1.SerialReply.{SerialReply}
+use Rattle.uart_16550.specs.declared.com1.SerialReply.TheVariants.{Board as OfBoard, Uart as OfUart}
+use Rattle.card_identity.specs.declared.identity.FittedIdentity.{FittedIdentity}
+use Rattle.board_records.specs.declared.event.EventRecord.{EventRecord}
+use Rattle.board_records.specs.declared.reply.AfterStep.{AfterStep}
+use Rattle.board_records.specs.declared.reply.ReplyRecord.{ReplyRecord}
+use Rattle.board_records.specs.Doors.{Held, IsDoorStep}
+use Rattle.board_records.specs.Identified.{fitted_record, identified_record, is_config_read}
+use Rattle.board_records.specs.RomReplies.{with_roms}
+use Rattle.board_records.specs.Replies.{blank, bus_said, part_said, record_said, serial_said, target_said, wide_said, with_denial}
+use Rattle.board_records.specs.Steps.{AnswersAsked, IsEventReply, IsHistoryOf, after_step, reset_by}
+use Rattle.rom_laws.specs.RomReads.{AreBytes, SaysRead, byte_read, read_by}
+use Rattle.rom_laws.specs.StepReads.{AsksRead, StepReadsByteByByte}
+use Rattle.rom_laws.proofs.ByteReads.{InMemory}
+use Rattle.rom_laws.proofs.RomReads.{in_memory, reads_byte_by_byte}
+use Rattle.rom_laws.proofs.SaidReads.{IsReadSaid, read_said}
+
+-- ---- a reply to a read of memory is no reply to one of configuration data
+
+same_target : (target : Target) (denial : Option Denial) → (with_denial (target_said target) denial).target ≡ (target_said target).target
+same_target target None = refl
+same_target target (Some (Register reg)) = refl
+same_target target (Some Confadd) = refl
+same_target target (Some NoRegister) = refl
+
+no_config : (setup : Setup) (target : Target) → InMemory setup target → ((target_said target).target == 7) ≡ false
+no_config setup (Dram row) is = refl
+no_config setup (Shadow row) is = refl
+no_config setup Smram is = refl
+no_config setup (Rom off) is = refl
+no_config setup (Card dev base off) is = refl
+no_config setup (Device dev) is = absurd is
+no_config setup (Config reg) is = absurd is
+no_config setup Abort is = refl
+
+no_config_part : (setup : Setup) (target : Target) (denial : Option Denial) → InMemory setup target →
+    ((part_said target denial).target == 7) ≡ false
+unfolding part_said
+no_config_part setup target denial is = ap (λ n. n == 7) (same_target target denial) ∙ no_config setup target is
+
+of_cycle : (setup : Setup) (value : Option ℕ) (target : Target) (denial : Option Denial) (after : AfterStep) →
+    InMemory setup target → is_config_read (bus_said value target denial after) ≡ false
+unfolding bus_said blank
+of_cycle setup None target denial after is = refl
+of_cycle setup (Some value) target denial after is = rw (no_config_part setup target denial is) refl
+
+of_parts : (they : Parts) (value : Option ℕ) (after : AfterStep) → is_config_read (wide_said they value after) ≡ false
+unfolding wide_said blank
+of_parts (parts.Two a b) None after = refl
+of_parts (parts.Two a b) (Some value) after = refl
+of_parts (parts.Three a b c) None after = refl
+of_parts (parts.Three a b c) (Some value) after = refl
+of_parts (parts.Four a b c d) None after = refl
+of_parts (parts.Four a b c d) (Some value) after = refl
+
+unidentified : (identities : List FittedIdentity) (said : EventRecord) (told : ReplyRecord) → is_config_read told ≡ false →
+    identified_record identities said told ≡ told
+unidentified identities said told none = rw none refl
+
+-- ---- the step
+
+module _ (setup : Setup) (before : List Entry) (roms : List (List ℕ)) (fits : IsSetup setup) (bytes : AreBytes setup roms)
+    (identities : List FittedIdentity) (said : EventRecord) (read : WideAccess) (after : AfterStep) (k : ℕ)
+    (within : k < read.bytes) where
+  abbrev IsTold : ReplyRecord → Type 0
+  IsTold told =
+      byte (fitted_record identities roms said told).value k ≡ byte_read roms setup before read.kind read.smm (read.addr + k)
+
+  by_chipset : (event : Event) (reply : Reply) → SaysRead setup said event read → IsAnswer setup before event reply →
+      is_config_read (record_said reply after) ≡ false → IsTold (record_said reply after)
+  by_chipset event reply says answer none =
+      ap (λ (it : ReplyRecord). byte (with_roms roms said it).value k) (unidentified identities said (record_said reply after) none)
+      ∙ reads_byte_by_byte setup before roms said event read reply after k fits bytes says answer within
+
+  by_parts : (access : WideAccess) (reply : Reply) → SaysRead setup said (Wide access) read →
+      IsAnswer setup before (Wide access) reply → IsTold (record_said reply after)
+  unfolding record_said
+  by_parts access (Bus value target denial) says answer = absurd answer
+  by_parts access (Saw look) says answer = absurd answer
+  by_parts access (replies.Parts they value) says answer =
+      by_chipset (Wide access) (replies.Parts they value) says answer (of_parts they value after)
+
+  by_cycle : (access : Access) (reply : Reply) → SaysRead setup said (Memory access) read →
+      IsAnswer setup before (Memory access) reply → IsTold (record_said reply after)
+  unfolding record_said memory_answer
+  by_cycle access reply says answer =
+      by_chipset (Memory access) reply says answer
+      (ap (λ (it : Reply). is_config_read (record_said it after)) answer
+      ∙ of_cycle setup _ (memory_target setup before access) (memory_denial setup before access) after
+      (in_memory setup before roms fits bytes access))
+
+  no_read : (event : Event) → read_by event ≡ None → SaysRead setup said event read → ⊥
+  no_read event none says =
+      let some : ◌≡◌ {A = Option WideAccess} None (Some read) = sym none ∙ says.reads in absurd (cc)
+
+  by_reply : (serial : Serial Running) → serial.board.setup ≡ setup → (event : Event) (reply : SerialReply) →
+      SaysRead setup said event read → IsEventReply serial before event (uart_access event) reply →
+      IsTold (serial_said reply after)
+  unfolding serial_said
+  by_reply serial same (Memory access) (OfBoard reply) says answer =
+      by_cycle access reply says (subst (λ (it : Setup). IsAnswer it before (Memory access) reply) same answer)
+  by_reply serial same (Memory access) (OfUart value sent) says answer = absurd answer
+  by_reply serial same (Wide access) (OfBoard reply) says answer =
+      by_parts access reply says (subst (λ (it : Setup). IsAnswer it before (Wide access) reply) same answer)
+  by_reply serial same (Wide access) (OfUart value sent) says answer = absurd answer
+  by_reply serial same (Port access) reply says answer = absurd (no_read (Port access) refl says)
+  by_reply serial same (LookAt kind addr smm) reply says answer = absurd (no_read (LookAt kind addr smm) refl says)
+  by_reply serial same Ack reply says answer = absurd (no_read Ack refl says)
+  by_reply serial same (Pulses count) reply says answer = absurd (no_read (Pulses count) refl says)
+  by_reply serial same (Time moment) reply says answer = absurd (no_read (Time moment) refl says)
+  by_reply serial same (Wire dev on) reply says answer = absurd (no_read (Wire dev on) refl says)
+  by_reply serial same (Line irq on) reply says answer = absurd (no_read (Line irq on) refl says)
+  by_reply serial same (BadSector sector) reply says answer = absurd (no_read (BadSector sector) refl says)
+
+pub step_reads : StepReadsByteByByte
+step_reads old new said reply event read history k asks step left within =
+    let serial : Serial Running = old.behind.serial in
+    let fitted = step.holds in
+    let answered = fitted.step.answered history left in
+    let they : IsReadSaid said read = read_said said event read asks.asked asks.reads in
+    let says : SaysRead serial.board.setup said event read =
+    record {
+      range = fitted.step.can;
+      reads = asks.reads;
+      addr = they.addr;
+      bytes = they.bytes;
+      address = omega (arith, they.addr, asks.address);
+    } in
+    let after : AfterStep =
+    after_step serial.board.setup answered.goes_on.after (reset_by history (Happens event)) new.behind.serial.com1 in
+    ap (λ (it : ReplyRecord). byte it.value k) fitted.told
+    ∙ ap (λ (it : ReplyRecord). byte (fitted_record old.behind.identities old.roms said it).value k) answered.told
+    ∙ by_reply serial.board.setup history old.roms asks.fits asks.bytes old.behind.identities said read after k within serial refl
+    event fitted.step.reply says answered.answer

@@ -1,0 +1,28 @@
+-- What a step reads of memory where expansion ROMs were given bytes, whatever history left the board.
+use Rattle.std.specs.Prelude.{ℕ, ◌≡◌, ◌+◌, ◌<◌, List, Some}
+use Rattle.board_prelude.specs.Common.{WideAccess, Entry, Event, IsSetup, byte, address_count}
+use Rattle.uart_16550.specs.declared.com1.Happening.TheVariants.{Happens}
+use Rattle.board_records.specs.declared.event.EventRecord.{EventRecord}
+use Rattle.board_records.specs.declared.reply.ReplyRecord.{ReplyRecord}
+use Rattle.board_records.specs.Doors.{Held, IsDoorStep}
+use Rattle.board_records.specs.Events.{asked_said}
+use Rattle.board_records.specs.Steps.{IsHistoryOf}
+use Rattle.rom_laws.specs.RomReads.{AreBytes, byte_read, read_by}
+
+-- a record asks what is held for these bytes of memory
+pub record AsksRead (held : Held) (said : EventRecord) (event : Event) (read : WideAccess) : Type 0 where
+  pub fits : IsSetup held.behind.serial.board.setup
+  pub bytes : AreBytes held.behind.serial.board.setup held.roms
+  pub asked : asked_said said ≡ Some (Happens event)
+  pub reads : read_by event ≡ Some read
+  pub address : said.addr < address_count
+
+-- each byte that a step tells is what a read of that byte alone gives at its address
+abbrev pub StepReadsByteByByte : Type 0
+StepReadsByteByByte =
+    (old new : Held) (said : EventRecord) (reply : ReplyRecord) (event : Event) (read : WideAccess) (history : List Entry)
+    (k : ℕ) →
+    AsksRead old said event read → IsDoorStep (Some old) (Some new) said reply (Happens event) →
+    IsHistoryOf old.behind.serial history → k < read.bytes →
+    byte reply.value k
+    ≡ byte_read old.roms old.behind.serial.board.setup history read.kind read.smm (read.addr + k)
