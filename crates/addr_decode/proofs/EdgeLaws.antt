@@ -323,6 +323,7 @@ bases_alike bytes addr x dev order k (OutsideBase bits ∷ later) clear = (
   covered_same addr x (record { dev = dev; base = k; inside = base_value bytes dev k; bits = bits }) order clear.0
       clear.1.0,
   bases_alike bytes addr x dev order (k + 1) later clear.1.1,
+)
 
 vga_alike :
     (setup : Setup) (bytes : Bytes) (addr x : ℕ) (card : FittedCard) → Between setup bytes addr x →

@@ -59,7 +59,8 @@ fn are_bases(bases: &[BaseSpec]) -> bool
     true
 }
 
-/// Whether a base has 16 bytes to 16 MiB of memory, or 4 to 256 ports (PCI Local Bus 2.1, section 6.2.5.1).
+/// Whether a base has 16 bytes to 16 MiB of memory, 4 to 256 ports (PCI Local Bus 2.1, section 6.2.5.1), or 16 bytes to
+/// 256 MiB outside the board.
 pub fn is_base(base: BaseSpec) -> bool
     ensures base { IsTrue result ↔ IsBase (base_of base) }
 {
@@ -108,7 +109,7 @@ fn room_after(bases: &[BaseSpec], room: u32) -> Option<u32>
     Some(left)
 }
 
-/// The bytes of memory that a base decodes.
+/// The bytes of memory that the board keeps for a base.
 fn memory_size(base: BaseSpec) -> u32
     requires base { IsBase (base_of base) }
     ensures size { result ≡ memory_size (base_of base) }

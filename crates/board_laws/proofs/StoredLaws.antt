@@ -1,6 +1,7 @@
 -- A cell holds the byte of the last entry that put one there.
 use Rattle.std.proofs.Common.{◌≡◌, ℕ, ◌+◌, List, [], ◌∷◌, ◌++◌, Some, None, ◌==◌, ◌<◌, false, Option, refl, ◌∙◌, ap, arith, unwrap_or}
-use Rattle.board_prelude.proofs.Common.{ne_eqb, All-head, All-tail, Width, One, Entry, FittedCard, OutsideBase, Setup, card_at, base_of_card, kept_size, Cell, card_byte, stored_of}
+use Rattle.board_prelude.proofs.Common.{ne_eqb, le-ltb, All-head, All-tail, Width, One, Entry, FittedCard, OutsideBase, Setup, card_at, kept_size, Cell, card_byte, stored_of}
+use Rattle.board_prelude.specs.Common.{base_of_card}
 use Rattle.board_base.specs.declared.access.Width.TheVariants.{Two, Four}
 use Rattle.board_laws.specs.StoreLaws.{put_by, LastStays, NothingStored, OutsideGivesOnes}
 
@@ -42,7 +43,7 @@ byte_of_none : (setup : Setup) (before : List Entry) (dev base bits : ℕ) → b
 byte_of_none setup before dev base bits below is off =
     let not_vga : (base == 7) ≡ false = ne_eqb base 7 (omega (arith, below)) in
     let not_rom : (base == 6) ≡ false = ne_eqb base 6 (omega (arith, below)) in
-    rw (not_rom, none_kept (card_at setup dev) base bits not_vga is) refl
+    rw (not_rom, none_kept (card_at setup dev) base bits not_vga is, le-ltb off 0 (omega arith)) refl
 
 pub outside_gives_ones : OutsideGivesOnes
 outside_gives_ones setup before dev base bits off place One below is = byte_of_none setup before dev base bits below is off
