@@ -19,3 +19,7 @@ abbrev pub with_bytes : Medium → (sector place : ℕ) → List ℕ → Medium
 with_bytes medium sector place bytes =
     let from = 512 * sector + place in
     record medium { bytes = take from medium.bytes ++ (bytes ++ drop (from + length bytes) medium.bytes) }
+
+-- the sectors after the bytes of all of them were set; no mark changes
+abbrev pub with_all : Medium → List ℕ → Medium
+with_all medium bytes = record medium { bytes = bytes }

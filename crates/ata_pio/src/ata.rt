@@ -2,7 +2,7 @@
 
 ghost use Rattle.std.specs.Prelude.{◌≡◌, ◌+◌, ◌*◌, ◌<◌, ◌≤◌, ◌↔◌, length, false, IsTrue, IfOk};
 ghost use Rattle.device_spec.specs.Common.{is_disk_length, power_on, is_interrupt, sectors_of, word_at, sector_bytes, is_ata_port, read_of, after_bad, word_of, word_read, word_written, register_of, register_read, byte_written};
-ghost use Rattle.ata_pio.specs.Words.{is_readable, with_word, with_bytes};
+ghost use Rattle.ata_pio.specs.Words.{is_readable, with_word, with_bytes, with_all};
 ghost use Rattle.device_spec.specs.Ata.Steps.{after_read, after_write, after_reset};
 
 use crate::controller::Controller;
@@ -170,6 +170,14 @@ impl Ata {
         ensures after { self.new ≡ record self.old { medium = with_bytes self.old.medium lba place bytes.now } }
     {
         self.sectors.set_bytes(lba, place, bytes);
+    }
+
+    /// Replaces the bytes of all sectors by as many. Nothing else changes: a sector that is bad stays so.
+    pub fn set_all_bytes(&mut self, bytes: &[u8])
+        requires whole { length bytes.now ≡ length self.old.medium.bytes }
+        ensures after { self.new ≡ record self.old { medium = with_all self.old.medium bytes.now } }
+    {
+        self.sectors.set_all(bytes);
     }
 
     /// The bytes of all sectors, one after another from sector 0 on, as they are kept. Nothing is copied.

@@ -2,7 +2,7 @@
 
 ghost use Rattle.std.specs.Prelude.{◌≡◌, ◌+◌, ◌*◌, ◌<◌, ◌≤◌, length, vec_len, IsTrue, IfOk};
 ghost use Rattle.device_spec.specs.Common.{is_disk_length, power_on, sectors_of, word_at, sector_bytes, stored, marked, found, readable};
-ghost use Rattle.ata_pio.specs.Words.{is_readable, with_word, with_bytes};
+ghost use Rattle.ata_pio.specs.Words.{is_readable, with_word, with_bytes, with_all};
 
 use crate::fault::Fault;
 use byteorder::{ByteOrder, LittleEndian};
@@ -114,6 +114,14 @@ impl Sectors {
     {
         let at = sector as usize * SECTOR_BYTES + place as usize;
         self.bytes[at..at + bytes.len()].copy_from_slice(bytes);
+    }
+
+    /// Replaces the bytes of all sectors. The marks stay.
+    pub fn set_all(&mut self, bytes: &[u8])
+        requires whole { length bytes.now ≡ length (medium_of self.old).bytes }
+        ensures set { medium_of self.new ≡ with_all (medium_of self.old) bytes.now }
+    {
+        self.bytes.copy_from_slice(bytes);
     }
 
     /// The bytes of all sectors.

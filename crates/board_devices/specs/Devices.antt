@@ -1,6 +1,7 @@
 -- The devices as they stand are those that a history left.
 use Rattle.std.specs.Prelude.{ℕ, ◌≡◌, ◌*◌, ◌<◌, ◌≤◌, ◌&&◌, Bool, false, List, length, slice_index_or, Option, option_map}
 use Rattle.device_spec.specs.Common.{sectors_of}
+use Rattle.ata_pio.specs.Words.{with_all}
 use Rattle.board_prelude.specs.Common.{PitState, Pair, Clock, Triggers, Disk, Entry, Setup, is_free_line, SystemPort, triggers_of, system_of, timer_of, clock_of, disk_of, wire_of, irq_of, routes_of, pair_of}
 
 -- what the devices hold: the machines, port 61h, INTA# of the cards by device, and the lines that `irq` set
@@ -51,3 +52,14 @@ sectors_fitted disk = option_map (λ disk. sectors_of disk.medium) disk
 abbrev pub HasDisk : (fitted : Option (List ℕ)) → Option Disk → Type 0
 HasDisk fitted disk =
     option_map (λ bytes. length bytes) fitted ≡ option_map (λ sectors. 512 * sectors) (sectors_fitted disk)
+
+-- the bytes of all sectors, where a disk is fitted
+abbrev pub sectors_in : Option Disk → Option (List ℕ)
+sectors_in disk = option_map (λ disk. disk.medium.bytes) disk
+
+-- with these bytes in all sectors; which of them are bad stays
+abbrev pub holding : List ℕ → Disk → Disk
+holding bytes disk = record disk { medium = with_all disk.medium bytes }
+
+abbrev pub with_sectors : List ℕ → DevicesValue → DevicesValue
+with_sectors bytes devices = record devices { disk = option_map (holding bytes) devices.disk }

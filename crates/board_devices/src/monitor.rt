@@ -1,11 +1,11 @@
 //! What a monitor asks of the devices between two events, and what it writes to them from outside the bus.
 
-ghost use Rattle.std.specs.Prelude.{◌≡◌, ◌+◌, ◌*◌, ◌<◌, ◌≤◌, ◌↔◌, ◌∷◌, List, option_map, IfSome, true, false};
+ghost use Rattle.std.specs.Prelude.{◌≡◌, ◌+◌, ◌*◌, ◌<◌, ◌≤◌, ◌↔◌, ◌∷◌, List, length, option_map, IfSome, true, false};
 ghost use Rattle.board_base.specs.declared.target.Dev.TheVariants.{Clock as ClockChip};
 ghost use Rattle.board_prelude.specs.Common.{Spurious, Entry, Setup, timer_of, clock_of, disk_of, acknowledged_by, after_write};
 ghost use Rattle.pit_8254.specs.Common.{most_count, IsNextRise};
 ghost use Rattle.cmos_clock.specs.Outside.{with_byte};
-ghost use Rattle.board_devices.specs.Devices.{AreDevicesOf};
+ghost use Rattle.board_devices.specs.Devices.{AreDevicesOf, HasDisk, sectors_fitted, sectors_in, with_sectors};
 ghost use Rattle.board_devices.specs.Events.{is_chip_port};
 ghost use Rattle.board_devices.specs.Outside.{is_interrupting, WritesClock, PutsClockByte};
 
@@ -44,6 +44,32 @@ impl Devices {
             → option_map (λ disk. disk.now) result ≡ disk_of setup history }
     {
         self.disk.as_ref()
+    }
+
+    /// The bytes of all sectors of the disk, where one is fitted.
+    pub fn sectors(&self) -> Option<&[u8]>
+        ensures bytes { option_map (λ bytes. bytes.now) result ≡ sectors_in self.now.disk }
+        ensures whole { HasDisk (sectors_in self.now.disk) self.now.disk }
+    {
+        match &self.disk {
+            Some(disk) => {
+                let _ = disk.sectors();
+                Some(disk.bytes())
+            }
+            None => None,
+        }
+    }
+
+    /// Replaces the bytes of all sectors by as many, where a disk is fitted. Which sectors are bad stays, and so does all
+    /// else.
+    pub fn set_sectors(&mut self, bytes: &[u8])
+        requires whole { IfSome (sectors_fitted self.old.disk) (λ count. length bytes.now ≡ 512 * count) }
+        ensures set { self.new ≡ with_sectors bytes.now self.old }
+    {
+        if let Some(disk) = &mut self.disk {
+            let _ = disk.sectors();
+            disk.set_all_bytes(bytes);
+        }
     }
 
     /// The 128 bytes of the clock by address, as they are kept. A read of the flags of register C and of register D
