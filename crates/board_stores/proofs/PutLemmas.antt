@@ -1,6 +1,6 @@
 -- Bytes that are put into the stores one after the other.
-use Rattle.std.proofs.Common.{◌≡◌, ℕ, suc, ◌+◌, ◌<◌, List, [], ◌∷◌, length, get_or, drop, Option, Some, None, refl, ◌∙◌, ap, arith, unwrap_or}
-use Rattle.board_prelude.proofs.Common.{drop-cons, option_or, Width, Target, Dram, Shadow, Smram, Rom, Card, Device, Config, Abort, Cell, DramCell, CardCell, memory_put, parts_put}
+use Rattle.std.proofs.Common.{◌≡◌, ℕ, suc, ◌+◌, ◌<◌, List, [], ◌∷◌, length, get_or, drop, Option, Some, None, inl, inr, refl, ◌∙◌, ap, arith, unwrap_or}
+use Rattle.board_prelude.proofs.Common.{drop-cons, nil_from_length, option_or, Width, Target, Dram, Shadow, Smram, Rom, Card, Device, Config, Abort, Cell, DramCell, CardCell, memory_put, parts_put}
 use Rattle.pci_bars.specs.Contents.{held, held_byte}
 use Rattle.dram_store.proofs.DramLemmas.{HasPut, put_then as dram_then}
 use Rattle.board_stores.specs.declared.stores.Stores.{Stores}
@@ -81,7 +81,13 @@ held_after rom old new (Shadow row) width same is = tt
 held_after rom old new Smram width same is = tt
 held_after rom old new (Rom off) width same is = is
 held_after rom old new (Card dev base off) width same is =
-    record { number = is.number; fits = λ kept. rw (same dev base) (is.fits kept) }
+    record {
+      number = is.number;
+      fits = λ kept. elim (is.fits kept) [
+        | inl none ↦ inl (nil_from_length (held new dev base) (same dev base ∙ ap length none))
+        | inr all ↦ inr (rw (same dev base) all)
+      ];
+    }
 held_after rom old new (Device dev) width same is = is
 held_after rom old new (Config reg) width same is = is
 held_after rom old new Abort width same is = tt
