@@ -23,6 +23,6 @@ pub returns-clause-bytes : goal.returns-clause-bytes
 returns-clause-bytes c = λ history k left below.
     let within = c.in_ok-test_card.ensures.within in
     let is = state_of c.self.view_is left in
-    rw (c.read_bytes.ensures.bytes)
+    rw (c.read_bytes.ensures.bytes, ← c.self.view_is)
     (copied_out c.args.dev c.args.base c.args.off (length c.args.into.now) k c.self.invariant.fits is.stores.contents
     (rw (← c.self.view_is) at within) below)
