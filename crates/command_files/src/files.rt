@@ -9,7 +9,7 @@ use board_outside::{Failed, Shelf};
 use std::alloc::{AllocError, Global};
 
 /// Why a file could not be read.
-#[derive(Clone, Copy, PartialEq, Eq, Debug)]
+#[derive(Clone, Copy, PartialEq, Eq)]
 pub(crate) enum FileFault {
     /// The shelf failed.
     Failed,

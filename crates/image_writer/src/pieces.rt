@@ -5,7 +5,7 @@ ghost use Rattle.std.specs.Prelude.{◌≡◌, ◌++◌, flat_map};
 use std::marker::Model;
 
 /// The bytes of an image, in pieces. Contracts see them joined.
-#[derive(Drop, Debug)]
+#[derive(Drop)]
 pub struct ImageBytes {
     /// The head, and the cards.
     pub(crate) front: Vec<u8>,

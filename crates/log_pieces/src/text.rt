@@ -8,7 +8,7 @@ use std::alloc::Global;
 use std::marker::Model;
 
 /// A text in pieces, one after another, which need not be UTF-8. Contracts see it as the bytes of them all.
-#[derive(Drop, Debug)]
+#[derive(Drop)]
 pub struct Text {
     pieces: Vec<Vec<u8>>,
 }

@@ -6,7 +6,7 @@ ghost use Rattle.std.specs.String.{string_bytes};
 use std::marker::Model;
 
 /// A text; that of `log_line` has no line feed. Contracts see it as its bytes.
-#[derive(Drop, Debug)]
+#[derive(Drop)]
 pub struct Line {
     text: String,
 }

@@ -14,7 +14,7 @@ use script_lines::is_word;
 use std::alloc::Global;
 
 /// What a log says: its version, 1 or 2, and the entries, the oldest first.
-#[derive(Drop, Debug)]
+#[derive(Drop)]
 pub struct Log {
     pub version: u8,
     pub entries: Vec<Entry>,

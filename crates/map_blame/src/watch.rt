@@ -14,7 +14,7 @@ use map_builder::{Changed, FlatMap, Range, index_of};
 use std::alloc::Global;
 
 /// A range of the map at the end, since when it stands, and whether it does now.
-#[derive(Clone, Copy, PartialEq, Eq, Debug, Default)]
+#[derive(Clone, Copy, PartialEq, Eq, Default)]
 pub struct Watched {
     pub blamed: Blamed,
     pub stands: bool,

@@ -12,7 +12,7 @@ use arrayvec::ArrayVec;
 const MOST_BASES: usize = 6;
 
 /// A base of a card line, by its power of two, which may be out of range.
-#[derive(Clone, Copy, PartialEq, Eq, Debug)]
+#[derive(Clone, Copy, PartialEq, Eq)]
 pub enum BaseField {
     Memory(u32),
     Io(u32),
@@ -25,7 +25,7 @@ impl Default for BaseField {
 }
 
 /// What a card line says, with numbers that may be out of range.
-#[derive(Drop, Debug)]
+#[derive(Drop)]
 pub struct CardFields {
     pub dev: u32,
     pub vga: bool,

@@ -17,7 +17,7 @@ use board_spec::Event;
 const LONGEST_NAME: usize = 64;
 
 /// The event of a statement, with numbers that may be out of range.
-#[derive(Clone, Copy, PartialEq, Eq, Debug)]
+#[derive(Clone, Copy, PartialEq, Eq)]
 pub enum Asked {
     Event(Event),
     Moment(MomentFields),
@@ -28,7 +28,7 @@ pub enum Asked {
 }
 
 /// What a line of a script says, with numbers that may be out of range.
-#[derive(Drop, Debug)]
+#[derive(Drop)]
 pub enum Item<'a> {
     Cpus(u32),
     Memory(u32),

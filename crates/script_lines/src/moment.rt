@@ -7,7 +7,7 @@ ghost use Rattle.script_spec.specs.Moments.{parse_moment_part, parse_year, parse
 use crate::numbers::{after_mark, parse_two_digits};
 
 /// The numbers of a moment, which the calendar may not have.
-#[derive(Clone, Copy, PartialEq, Eq, Debug)]
+#[derive(Clone, Copy, PartialEq, Eq)]
 pub struct MomentFields {
     pub year: u16,
     pub month: u8,

@@ -43,7 +43,7 @@ const LAST_SECTOR: u32 = 0xFFFF;
 const END: u64 = 0x1_0000_0000;
 
 /// What a line says, with its numbers in range.
-#[derive(Drop, Debug)]
+#[derive(Drop)]
 pub(crate) enum ValidItem<'a> {
     Cpus(u8),
     Memory(u8),
