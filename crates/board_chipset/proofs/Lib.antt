@@ -23,6 +23,8 @@ pub mod PortAccessSteps
 pub mod Placed
 pub mod KeptBytes
 pub mod Marks
+pub mod LeftBytes
+pub mod GivenSteps
 pub mod ChipsetFormats
 pub mod ChipsetLoads
 pub mod ChipsetAlone

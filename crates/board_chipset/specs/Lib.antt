@@ -5,6 +5,7 @@ pub mod CardLoads
 pub mod Chipset
 pub mod ChipsetState
 pub mod Faults
+pub mod Given
 pub mod Kept
 pub mod Loads
 pub mod Masters

@@ -68,7 +68,7 @@ fn rom_size(setup: &Setup) -> u32
 }
 
 /// The length of the disk, 0 where there is none.
-fn disk_size(setup: &Setup) -> u32
+pub(crate) fn disk_size(setup: &Setup) -> u32
     requires fits { IsSetup setup.now }
     ensures size { result ≡ disk_size setup.now }
 {
