@@ -1,5 +1,4 @@
 pub mod HeldTargets
-pub mod PutLemmas
 pub mod StepLemmas
 pub mod WordLemmas
 pub mod SmramLemmas

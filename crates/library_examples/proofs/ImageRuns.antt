@@ -2,7 +2,7 @@
 use Rattle.std.proofs.Common.{refl}
 use Rattle.board_image.specs.Common.{card_bytes}
 use Rattle.board_image.specs.ImageFields.{bases_fields, card_fields, head_fields}
-use Rattle.library_examples.specs.Images.{CardFieldBorders, HeadBorders, PortsKept}
+use Rattle.library_examples.specs.Images.{CardFieldBorders, HeadBorders, OutsideKept, PortsKept}
 
 pub ports_kept : PortsKept
 unfolding card_bytes bases_fields card_fields
@@ -14,6 +14,17 @@ ports_kept = record {
   too_few = refl;
   too_many = refl;
   other_bit = refl;
+}
+
+pub outside_kept : OutsideKept
+unfolding card_bytes bases_fields card_fields
+outside_kept = record {
+  written = refl;
+  read = refl;
+  least = refl;
+  too_little = refl;
+  too_much = refl;
+  both_bits = refl;
 }
 
 pub head_borders : HeadBorders

@@ -1,7 +1,7 @@
--- Worked examples of the bytes of an image: the number of a base is its power of two, and bit 7 is set where it is for
--- ports.
+-- Worked examples of the bytes of an image: the number of a base is its power of two, bit 7 is set where it is for ports,
+-- and bit 6 where the board keeps no bytes of it.
 use Rattle.std.specs.Prelude.{ℕ, ◌≡◌, ◌++◌, Bool, true, false, List, [], ◌∷◌, map, Option, Some, None, Result, Ok, Err}
-use Rattle.board_prelude.specs.Common.{MemoryBase, IoBase, FittedCard}
+use Rattle.board_prelude.specs.Common.{MemoryBase, IoBase, OutsideBase, FittedCard}
 use Rattle.board_image.specs.Common.{card_bytes}
 use Rattle.board_image.specs.ImageFields.{card_fields, head_fields}
 
@@ -30,7 +30,26 @@ pub record PortsKept : Type 0 where
   pub most : read_card (with_base 0x88) ≡ Ok (with_ports 8, [])
   pub too_few : read_card (with_base 0x81) ≡ Err 1
   pub too_many : read_card (with_base 0x89) ≡ Err 1
-  pub other_bit : read_card (with_base 0x44) ≡ Err 1
+  pub other_bit : read_card (with_base 0x24) ≡ Err 1
+
+-- a plain card at device 3 with 256 MiB outside the board and 4 KiB of memory, and as an image has it
+abbrev pub frame_card : FittedCard
+frame_card = record { dev = 3; vga = false; bases = OutsideBase 28 ∷ MemoryBase 12 ∷ []; rom = None }
+
+abbrev pub frame_card_bytes : List ℕ
+frame_card_bytes = 3 ∷ 0 ∷ 0 ∷ 2 ∷ 0x5C ∷ 0x0C ∷ []
+
+abbrev pub with_outside : ℕ → FittedCard
+with_outside bits = record { dev = 3; vga = false; bases = OutsideBase bits ∷ []; rom = None }
+
+-- it takes none of the memory that is left for cards
+pub record OutsideKept : Type 0 where
+  pub written : card_bytes frame_card ≡ frame_card_bytes
+  pub read : card_fields 1 0x1000 frame_card_bytes ≡ Ok (frame_card, [])
+  pub least : read_card (with_base 0x44) ≡ Ok (with_outside 4, [])
+  pub too_little : read_card (with_base 0x43) ≡ Err 1
+  pub too_much : read_card (with_base 0x5D) ≡ Err 1
+  pub both_bits : read_card (with_base 0xC4) ≡ Err 1
 
 -- ---- the head: `BOARDIMG`, version 1, MiB, cards, whether there is a disk, a byte that is reserved, and four bytes each
 -- for the length of the ROM, that of the disk, and the number of steps, the low byte first
