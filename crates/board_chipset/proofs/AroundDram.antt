@@ -7,7 +7,8 @@ use Rattle.board_prelude.specs.Common.{Setup}
 use Rattle.board_chipset.specs.Around.{before_dram, after_dram}
 use Rattle.board_chipset.specs.Chipset.{Running}
 use Rattle.board_chipset.specs.Kept.{AreSound}
-use Rattle.board_chipset.specs.ChipsetState.{AreRegisters, head_bytes, registers_bytes, stores_bytes, state_bytes, chipset_bytes}
+use Rattle.board_chipset.specs.ChipsetState.{AreRegisters, head_bytes, registers_bytes, stores_bytes, state_bytes}
+use Rattle.board_chipset.specs.ChipsetState.{chipset_bytes}
 use Rattle.board_chipset.specs.declared.registers.Registers.{Registers}
 
 pub between : (chipset : Running) →

@@ -1,6 +1,9 @@
 -- Cards and bases that are tested one after another.
-use Rattle.std.proofs.Common.{◌≡◌, ℕ, suc, ◌+◌, ◌<◌, ◌≤◌, List, [], ◌∷◌, length, get_or, drop, map, sum_by, refl, ◌∙◌, subst, ap, arith, ◌↔◌, All}
-use Rattle.board_prelude.proofs.Common.{drop-cons, drop_all, get_or-map, length-map, All-nil, All-cons, All-head, All-tail, sum_by-append, Base, FittedCard, IsBase, IsCard, IsCardList, Rises, memory_of_cards, memory_size}
+use Rattle.std.proofs.Common.{◌≡◌, ℕ, suc, ◌+◌, ◌<◌, ◌≤◌, List, [], ◌∷◌, length, get_or, drop, map, sum_by, refl, ◌∙◌}
+use Rattle.std.proofs.Common.{subst, ap, arith, ◌↔◌, All}
+use Rattle.board_prelude.proofs.Common.{drop-cons, drop_all, get_or-map, length-map, All-nil, All-cons, All-head}
+use Rattle.board_prelude.proofs.Common.{All-tail, sum_by-append, Base, FittedCard, IsBase, IsCard, IsCardList, Rises}
+use Rattle.board_prelude.proofs.Common.{memory_of_cards, memory_size}
 use Rattle.pci_bars.specs.declared.spec.BaseSpec.{BaseSpec}
 use Rattle.pci_bars.specs.Bases.{base_of}
 use Rattle.board_chipset.specs.Setups.{RiseFrom}
@@ -76,7 +79,8 @@ pub base_next : (bases : List BaseSpec) (i : ℕ) (d : BaseSpec) → i < length 
     map base_of (drop i bases) ≡ base_of (get_or bases i d) ∷ map base_of (drop (i + 1) bases)
 base_next bases i d within = ap (map base_of) (next bases i (get_or bases i d) d within refl)
 
-pub bases_more : (bases : List BaseSpec) (i : ℕ) (d : BaseSpec) → i < length bases → IsBase (base_of (get_or bases i d)) →
+pub bases_more : (bases : List BaseSpec) (i : ℕ) (d : BaseSpec) → i < length bases →
+    IsBase (base_of (get_or bases i d)) →
     All IsBase (map base_of bases) ↔ All IsBase (map base_of (drop i bases)) →
     All IsBase (map base_of bases) ↔ All IsBase (map base_of (drop (i + 1) bases))
 bases_more bases i d within fits so_far =
@@ -119,7 +123,8 @@ pub sum_next : (bases : List BaseSpec) (i : ℕ) (d : BaseSpec) → i < length b
     sum_by memory_size (map base_of (drop i bases))
     ≡ memory_size (base_of (get_or bases i d)) + sum_by memory_size (map base_of (drop (i + 1) bases))
 sum_next bases i d within =
-    ap (sum_by memory_size) (base_next bases i d within) ∙ sum_first (base_of (get_or bases i d)) (map base_of (drop (i + 1) bases))
+    ap (sum_by memory_size) (base_next bases i d within)
+    ∙ sum_first (base_of (get_or bases i d)) (map base_of (drop (i + 1) bases))
 
 pub memory_next : (cards : List FittedCard) (i : ℕ) (card : FittedCard) → i < length cards →
     card ≡ get_or cards i card →

@@ -1,14 +1,24 @@
 -- The state after bytes were written to a card from outside.
-use Rattle.std.proofs.Common.{◌≡◌, ◌≢◌, ℕ, zero, suc, ◌+◌, ◌-◌, ◌<◌, ◌≤◌, true, false, ◌&&◌, List, [], ◌∷◌, ◌++◌, length, take, drop, Option, Some, None, refl, sym, ◌∙◌, ap, arith, inl, inr, ◌==◌, nat_le, nat_lt, if◌then◌else◌, is_some, slice_index, All, find, option_and_then}
+use Rattle.std.proofs.Common.{◌≡◌, ◌≢◌, ℕ, zero, suc, ◌+◌, ◌-◌, ◌<◌, ◌≤◌, true, false, ◌&&◌, List, [], ◌∷◌, ◌++◌}
+use Rattle.std.proofs.Common.{length, take, drop, Option, Some, None, refl, sym, ◌∙◌, ap, arith, inl, inr, ◌==◌, nat_le}
+use Rattle.std.proofs.Common.{nat_lt, if◌then◌else◌, is_some, slice_index, All, find, option_and_then}
 use Rattle.std.proofs.lemmas.Option.{slice_get_past}
-use Rattle.board_prelude.proofs.Common.{cases_Bool, cases_eq, cases_lt, false≢true, ne_eqb, eq-eqb, and_from, and_left, le-leb, lt-leb, lt-ltb, le-ltb, All-head, All-tail, nil_from_length, eqb-true, and_parts, get_or-take, get_or-drop, get_or_append_left, get_or-append_right, length-append, length-take-le, length-drop, nat_tests, Write, One, Card, Denial, Event, Memory, Port, Reply, Bus, Entry, Setup, IsSetup, IsCard, FittedCard, card_at, byte, is_config_port, Cell, DramCell, CardCell, byte_put, entry_put, stored_of, card_byte, device_reached, reset_control_port, config_address_port, kept_size}
+use Rattle.board_prelude.proofs.Common.{cases_Bool, cases_eq, cases_lt, false≢true, ne_eqb, eq-eqb, and_from, and_left}
+use Rattle.board_prelude.proofs.Common.{le-leb, lt-leb, lt-ltb, le-ltb, All-head, All-tail, nil_from_length, eqb-true}
+use Rattle.board_prelude.proofs.Common.{and_parts, get_or-take, get_or-drop, get_or_append_left, get_or-append_right}
+use Rattle.board_prelude.proofs.Common.{length-append, length-take-le, length-drop, nat_tests, Write, One, Card, Denial}
+use Rattle.board_prelude.proofs.Common.{Event, Memory, Port, Reply, Bus, Entry, Setup, IsSetup, IsCard, FittedCard}
+use Rattle.board_prelude.proofs.Common.{card_at, byte, is_config_port, Cell, DramCell, CardCell, byte_put, entry_put}
+use Rattle.board_prelude.proofs.Common.{stored_of, card_byte, device_reached, reset_control_port, config_address_port}
+use Rattle.board_prelude.proofs.Common.{kept_size}
 use Rattle.dram_store.specs.Dram.{IsDramOf}
 use Rattle.pci_bars.specs.Contents.{IsBaseNumber, held, HaveSizes, IsContentsOf}
 use Rattle.pci_bars.proofs.ContentsLemmas.{card_within, contents_of, stored_byte}
 use Rattle.board_devices.specs.Common.{PassesBy, LeavesDevices}
 use Rattle.board_chipset.specs.declared.state.State.{State}
 use Rattle.board_chipset.specs.Common.{IsSound, IsStateOf, Writes}
-use Rattle.board_chipset.specs.CardLoads.{card_size, is_bridge_port, WritesByte, IsCardWrite, WriteCardInTurn, WriteCard}
+use Rattle.board_chipset.specs.CardLoads.{card_size, is_bridge_port, WritesByte, IsCardWrite, WriteCardInTurn}
+use Rattle.board_chipset.specs.CardLoads.{WriteCard}
 use Rattle.board_chipset.proofs.Effects.{writes_beside}
 use Rattle.board_chipset.proofs.OutsideSteps.{fitted_device}
 use Rattle.board_chipset.proofs.RegisterSteps.{quiet}

@@ -1,6 +1,7 @@
 -- The change of the map that an event makes.
 use Rattle.std.proofs.Common.{◌≡◌, ℕ, Bool, true, false, List, Option, None, Some, refl, sym, ◌∙◌, ap, if◌then◌else◌}
-use Rattle.board_prelude.proofs.Common.{PortAccess, Dev, Device, Event, Port, Entry, MapChange, Reset, Setup, reset_control, is_hard_value, map_change_of}
+use Rattle.board_prelude.proofs.Common.{PortAccess, Dev, Device, Event, Port, Entry, MapChange, Reset, Setup}
+use Rattle.board_prelude.proofs.Common.{reset_control, is_hard_value, map_change_of}
 use Rattle.board_base.specs.declared.target.Dev.TheVariants.{Reset as ResetPort}
 use Rattle.board_chipset.specs.Ports.{Writes}
 use Rattle.board_chipset.proofs.MapVersions.{map_write}

@@ -1,5 +1,6 @@
 -- Bytes that are the state of a chipset, with nothing behind it.
-use Rattle.std.proofs.Common.{◌≡◌, ℕ, ◌+◌, ◌-◌, ◌≤◌, ◌⊎◌, inl, inr, false, List, [], ◌∷◌, ◌++◌, length, Result, Ok, Err, refl, sym, ap, ◌∙◌, arith}
+use Rattle.std.proofs.Common.{◌≡◌, ℕ, ◌-◌, ◌≤◌, ◌⊎◌, inl, inr, false, List, [], ◌∷◌, ◌++◌, length, Result, Ok, Err}
+use Rattle.std.proofs.Common.{refl, sym, ap, ◌∙◌, arith}
 use Rattle.board_prelude.proofs.Common.{append-nil, Setup, IsSetup}
 use Rattle.byte_fields.specs.declared.fault.Fault.{Fault}
 use Rattle.byte_fields.specs.declared.fault.Fault.TheVariants as faults
@@ -7,7 +8,8 @@ use Rattle.byte_fields.specs.Fields.{AreBytes, Filled, ended}
 use Rattle.byte_fields.proofs.Formats.{not_err, err_is}
 use Rattle.board_chipset.specs.Alone.{alone}
 use Rattle.board_chipset.specs.Chipset.{Running}
-use Rattle.board_chipset.specs.ChipsetState.{IsChipset, bare_chipset, chipset_bytes, chipset_fields, LoadsChipset, IsBadStateAt, is_other_version}
+use Rattle.board_chipset.specs.ChipsetState.{IsChipset, bare_chipset, chipset_bytes, chipset_fields, LoadsChipset}
+use Rattle.board_chipset.specs.ChipsetState.{IsBadStateAt, is_other_version}
 use Rattle.board_chipset.specs.declared.state_fault.StateFault.TheVariants.{Bad, NoMemory}
 use Rattle.board_chipset.proofs.Marks.{alone_bad}
 use Rattle.board_chipset.proofs.ChipsetFormats.{chipset_format}

@@ -1,5 +1,6 @@
 -- The state of a chipset is spelled and read back. What is read has no ranges of the map yet.
-use Rattle.std.proofs.Common.{◌≡◌, ℕ, ◌+◌, ◌*◌, ◌^◌, ◌<◌, ◌≤◌, Bool, true, false, List, [], ◌∷◌, ◌++◌, length, Option, Some, None, is_some, refl, sym, ap, ◌∙◌, arith, unwrap_or, inl, inr}
+use Rattle.std.proofs.Common.{◌≡◌, ℕ, ◌+◌, ◌*◌, ◌^◌, ◌<◌, ◌≤◌, Bool, true, false, List, [], ◌++◌, length, Option, Some}
+use Rattle.std.proofs.Common.{None, is_some, refl, sym, ap, arith, unwrap_or, inl, inr}
 use Rattle.board_prelude.proofs.Common.{Setup, FittedCard, IsSetup, IsRomSize, IsDisk}
 use Rattle.byte_fields.specs.Fields.{flag_byte}
 use Rattle.byte_fields.proofs.Formats.{IsFormat, format_as, then_format, last_format}
@@ -19,7 +20,9 @@ use Rattle.board_chipset.specs.declared.registers.Registers.{Registers}
 use Rattle.board_chipset.specs.declared.state.State.{State}
 use Rattle.board_chipset.specs.Chipset.{Running}
 use Rattle.board_devices.specs.State.{AreDevices}
-use Rattle.board_chipset.specs.ChipsetState.{state_mark, state_version, disk_size, size_bytes, head_bytes, size_fields, head_fields, registers_bytes, registers_fields, AreStores, stores_bytes, stores_fields, state_bytes, state_fields, chipset_bytes, chipset_fields}
+use Rattle.board_chipset.specs.ChipsetState.{state_mark, state_version, disk_size, size_bytes, head_bytes, size_fields}
+use Rattle.board_chipset.specs.ChipsetState.{head_fields, registers_bytes, registers_fields, AreStores, stores_bytes}
+use Rattle.board_chipset.specs.ChipsetState.{stores_fields, state_bytes, state_fields, chipset_bytes, chipset_fields}
 
 -- ---- the head
 

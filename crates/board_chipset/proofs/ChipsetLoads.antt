@@ -1,5 +1,6 @@
 -- What was read is a chipset, and the one that was saved.
-use Rattle.std.proofs.Common.{◌≡◌, ℕ, ◌*◌, ◌/◌, ◌^◌, ◌<◌, ◌≤◌, ◌⊎◌, ◌↔◌, inl, inr, Bool, false, not, ◌==◌, List, [], ◌∷◌, ◌++◌, length, get_or, Option, Some, None, Result, Ok, Err, IfOk, refl, sym, ap, subst, ◌∙◌, append_assoc, arith}
+use Rattle.std.proofs.Common.{◌≡◌, ℕ, ◌*◌, ◌↔◌, inl, inr, false, not, ◌==◌, List, [], ◌++◌, length, get_or, Option}
+use Rattle.std.proofs.Common.{Some, None, Result, Ok, Err, IfOk, refl, sym, ap, subst, ◌∙◌, append_assoc, arith}
 use Rattle.board_prelude.proofs.Common.{w16, to_le_bytes, Entry, Setup, FittedCard, IsSetup}
 use Rattle.byte_fields.specs.declared.fault.Bad.{Bad}
 use Rattle.byte_fields.specs.declared.fault.Fault.{Fault}
@@ -19,7 +20,9 @@ use Rattle.board_devices.specs.State.{IsFittedDisk}
 use Rattle.board_chipset.specs.declared.registers.Registers.{Registers}
 use Rattle.board_chipset.specs.Chipset.{Running, IsRunning, IsLeftBy}
 use Rattle.board_chipset.specs.Kept.{AreSound}
-use Rattle.board_chipset.specs.ChipsetState.{AreRegisters, IsChipset, bare_chipset, state_mark, state_version, size_bytes, head_bytes, other_version_field, said_true, is_other_version, registers_bytes, state_bytes, chipset_bytes, chipset_fields, LoadsChipset}
+use Rattle.board_chipset.specs.ChipsetState.{AreRegisters, IsChipset, bare_chipset, state_mark, state_version}
+use Rattle.board_chipset.specs.ChipsetState.{size_bytes, head_bytes, other_version_field, said_true, is_other_version}
+use Rattle.board_chipset.specs.ChipsetState.{registers_bytes, state_bytes, chipset_bytes, chipset_fields, LoadsChipset}
 use Rattle.board_chipset.proofs.KeptBytes.{has_bytes}
 use Rattle.board_chipset.proofs.ChipsetFormats.{AreBareRegisters, IsBareChipset, chipset_format}
 
@@ -28,7 +31,8 @@ use Rattle.board_chipset.proofs.ChipsetFormats.{AreBareRegisters, IsBareChipset,
 card_doublewords : (card : CardBytes) → IsCardRegs card → HoldsDoublewords card
 card_doublewords card is = record { bases = is.widths.bases.each; rom = is.widths.rom }
 
-registers_sound : (setup : Setup) (registers : Registers) → AreRegisters setup.cards registers → AreSound setup registers
+registers_sound : (setup : Setup) (registers : Registers) → AreRegisters setup.cards registers →
+    AreSound setup registers
 registers_sound setup registers are =
     let cards = are.map.saved.regs.cards in
     let has = has_bytes setup registers.map.regs registers.south (record {
@@ -143,7 +147,8 @@ back : (setup : Setup) (chipset : Running) (rest : List ℕ) → chipset.setup �
 back setup chipset rest same is =
     subst (λ (bytes : List ℕ). chipset_fields setup (bytes ++ rest) ≡ Ok (bare_chipset chipset, rest))
     (bare_spelled chipset)
-    ((chipset_format setup (subst IsSetup same is.fits)).back (bare_chipset chipset) rest (to_bare setup chipset same is))
+    ((chipset_format setup (subst IsSetup same is.fits)).back (bare_chipset chipset) rest
+    (to_bare setup chipset same is))
 
 -- the chipset that is read
 pub read_is : (setup : Setup) (chipset : Running) (before after : List ℕ) → IsSetup setup → AreBytes before →
@@ -231,6 +236,7 @@ unfolding chipset_bytes head_bytes
 of_version chipset rest =
     let sizes = size_bytes chipset.setup in
     let state = state_bytes chipset.setup.disk chipset.state in
-    let joined : chipset_bytes chipset ++ rest ≡ state_mark ++ (to_le_bytes w16 state_version ++ (sizes ++ (state ++ rest))) =
+    let joined : chipset_bytes chipset ++ rest
+    ≡ state_mark ++ (to_le_bytes w16 state_version ++ (sizes ++ (state ++ rest))) =
     simp append_assoc in
     rw joined (version_again (sizes ++ (state ++ rest)))

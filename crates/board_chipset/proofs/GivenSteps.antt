@@ -1,5 +1,7 @@
 -- A chipset after bytes that a caller keeps itself were put in.
-use Rattle.std.proofs.Common.{◌≡◌, ℕ, ◌+◌, ◌-◌, ◌*◌, ◌<◌, nat_le, nat_lt, ◌&&◌, if◌then◌else◌, List, [], ◌++◌, length, slice_index, option_map, unwrap_or, Option, Some, None, Result, Ok, Err, OnOk, refl, sym, ap, subst, ◌∙◌, append_assoc, arith}
+use Rattle.std.proofs.Common.{◌≡◌, ℕ, ◌+◌, ◌-◌, ◌<◌, nat_le, nat_lt, ◌&&◌, if◌then◌else◌, List, [], ◌++◌, length}
+use Rattle.std.proofs.Common.{slice_index, option_map, unwrap_or, Option, Some, None, Result, Ok, Err, OnOk, sym, ap}
+use Rattle.std.proofs.Common.{subst, ◌∙◌, append_assoc, arith}
 use Rattle.board_prelude.proofs.Common.{nat_tests, Bytes, Disk, IsDisk, IsDiskSize, Setup, IsSetup}
 use Rattle.board_spec.specs.RegisterTable.{reset_byte}
 use Rattle.std.proofs.lemmas.Grind.{same_number_lists}
@@ -9,7 +11,7 @@ use Rattle.pci_bars.specs.Cards.{CardBytes, DecodesAs, IsCardOf}
 use Rattle.addr_decode.specs.MapRegs.{MapBytes, StandsFor}
 use Rattle.config_regs.specs.Config.{AreKeptOf}
 use Rattle.config_regs.specs.declared.south.South.{South}
-use Rattle.board_devices.specs.Common.{DevicesValue, HasDisk, sectors_fitted, sectors_in}
+use Rattle.board_devices.specs.Common.{DevicesValue, HasDisk, sectors_in}
 use Rattle.board_devices.specs.State.{devices_bytes}
 use Rattle.board_chipset.specs.ChipsetState.{disk_size}
 use Rattle.board_chipset.specs.Common.{IsSound}

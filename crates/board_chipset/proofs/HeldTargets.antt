@@ -1,9 +1,16 @@
 -- What an access reaches has the bytes that it asks for.
-use Rattle.std.proofs.Common.{◌≡◌, ℕ, ◌+◌, ◌%◌, ◌^◌, ◌≤◌, Bool, true, false, ◌&&◌, not, List, [], ◌∷◌, length, Option, Some, None, inl, inr, refl, sym, subst, arith, is_some, unwrap_or, option_map}
-use Rattle.board_prelude.proofs.Common.{Kind, Width, One, Dev, Reg, Area, Target, Device, Config, Card, Abort, bytes_of, Part, Setup, IsRomSize, IsBusAccess, is_write, fdhc, smram, xbcs, lies_in, upper_memory, Bytes, Window, first_of, line_where, card_area, row_of, hole_of, is_in, is_smram_range, is_shadowed, smram_answers, is_rom_selected, memory_claim, area_of, window_bits, target_at}
+use Rattle.std.proofs.Common.{◌≡◌, ℕ, ◌+◌, ◌%◌, ◌^◌, ◌≤◌, Bool, true, false, ◌&&◌, not, List, [], ◌∷◌, length, Option}
+use Rattle.std.proofs.Common.{Some, None, inl, inr, refl, sym, subst, arith, is_some, unwrap_or, option_map}
+use Rattle.board_prelude.proofs.Common.{Kind, Width, One, Dev, Reg, Area, Target, Device, Config, Card, Abort, bytes_of}
+use Rattle.board_prelude.proofs.Common.{Part, Setup, IsRomSize, IsBusAccess, is_write, fdhc, smram, xbcs, lies_in}
+use Rattle.board_prelude.proofs.Common.{upper_memory, Bytes, Window, first_of, line_where, card_area, row_of, hole_of}
+use Rattle.board_prelude.proofs.Common.{is_in, is_smram_range, is_shadowed, smram_answers, is_rom_selected}
+use Rattle.board_prelude.proofs.Common.{memory_claim, area_of, window_bits, target_at}
 use Rattle.board_base.specs.declared.access.Width.TheVariants.{Two, Four}
 use Rattle.board_base.specs.declared.access.Access.{Access}
-use Rattle.board_base.specs.declared.target.Area.TheVariants.{Dram as DramArea, Shadow as ShadowArea, Smram as SmramArea, Rom as RomArea, Card as CardArea, Abort as AbortArea}
+use Rattle.board_base.specs.declared.target.Area.TheVariants.{Dram as DramArea, Shadow as ShadowArea}
+use Rattle.board_base.specs.declared.target.Area.TheVariants.{Smram as SmramArea, Rom as RomArea, Card as CardArea}
+use Rattle.board_base.specs.declared.target.Area.TheVariants.{Abort as AbortArea}
 use Rattle.pci_bars.specs.Common.{AreFitted, LiesIn}
 use Rattle.pci_bars.proofs.WindowLemmas.{IsSized, memory_claim_sized, io_claim_sized, lies_in_window}
 use Rattle.addr_decode.specs.MapRegs.{MapBytes, StandsFor}
@@ -78,7 +85,8 @@ lies_in_base setup contents window dev base place width sized device number lies
 module _ {setup : Setup} {state : State} (kept : IsSound setup state) where
   -- registers that are those of the map
   pub stands : {regs : MapBytes} → regs ≡ state.registers.map.regs → StandsFor setup kept.registers.bytes regs
-  stands same = subst (λ (regs : MapBytes). StandsFor setup kept.registers.bytes regs) (sym same) kept.registers.kept.map
+  stands same =
+      subst (λ (regs : MapBytes). StandsFor setup kept.registers.bytes regs) (sym same) kept.registers.kept.map
 
   cards_fitted : AreFitted state.registers.map.regs.cards
   cards_fitted =

@@ -1,7 +1,12 @@
 -- Registers of the right number and widths are those of a board of their setup: each stands for a byte of its own.
-use Rattle.std.proofs.Common.{◌≡◌, ◌≢◌, ℕ, ◌+◌, ◌-◌, ◌*◌, ◌/◌, ◌%◌, ◌^◌, ◌<◌, ◌≤◌, false, ◌&&◌, List, [], ◌∷◌, length, get_or, Option, Some, None, refl, sym, ◌∙◌, ap, arith, ◌==◌, nat_lt, if◌then◌else◌, All, find, is_some, map, slice_index, option_map}
-use Rattle.board_prelude.proofs.Common.{and-false, or_parts, option_map_or, cond-false, cond-true, ne_eqb, nat_tests, Reg, Setup, FittedCard, IsCard, Bytes, byte, is_within, reset_byte, card_register, bridge, isa, ide, pirq, pirqs}
-use Rattle.pci_bars.specs.Cards.{CardBytes, HoldsLong, HoldsRom, DecodesAs, IsCardOf, AreFitted, is_kept_offset, cards_of}
+use Rattle.std.proofs.Common.{◌≡◌, ◌≢◌, ℕ, ◌+◌, ◌-◌, ◌*◌, ◌/◌, ◌%◌, ◌^◌, ◌<◌, ◌≤◌, false, ◌&&◌, List, [], ◌∷◌, length}
+use Rattle.std.proofs.Common.{get_or, Option, Some, None, refl, sym, ◌∙◌, ap, arith, ◌==◌, nat_lt, if◌then◌else◌, All}
+use Rattle.std.proofs.Common.{find, is_some, map, slice_index, option_map}
+use Rattle.board_prelude.proofs.Common.{and-false, or_parts, option_map_or, cond-false, cond-true, ne_eqb, nat_tests}
+use Rattle.board_prelude.proofs.Common.{Reg, Setup, FittedCard, IsCard, Bytes, byte, is_within, reset_byte}
+use Rattle.board_prelude.proofs.Common.{card_register, bridge, isa, ide, pirq, pirqs}
+use Rattle.pci_bars.specs.Cards.{CardBytes, HoldsLong, HoldsRom, DecodesAs, IsCardOf, AreFitted, is_kept_offset}
+use Rattle.pci_bars.specs.Cards.{cards_of}
 use Rattle.pci_bars.proofs.CardLemmas.{wide_of_bytes}
 use Rattle.addr_decode.specs.MapRegs.{MapBytes}
 use Rattle.map_builder.specs.Map.{HoldsDoublewords}

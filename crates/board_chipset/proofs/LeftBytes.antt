@@ -1,9 +1,11 @@
 -- Bytes that are left out are spelled as any others beside themselves.
-use Rattle.std.proofs.Common.{◌≡◌, ℕ, zero, suc, ◌-◌, ◌≤◌, ◌<◌, min, true, false, Bool, List, [], ◌∷◌, ◌++◌, length, take, drop, replicate, bytes_eq, map, option_map, unwrap_or, is_some, Option, Some, None, refl, sym, ap, ◌∙◌, arith}
-use Rattle.board_prelude.proofs.Common.{bytes_eq-Decides, length-replicate, length-take, length-drop, take_at}
+use Rattle.std.proofs.Common.{◌≡◌, ℕ, zero, suc, ◌≤◌, ◌<◌, true, false, Bool, List, [], ◌∷◌, ◌++◌, length, take, drop}
+use Rattle.std.proofs.Common.{replicate, bytes_eq, map, option_map, unwrap_or, is_some, Option, Some, None, refl, sym}
+use Rattle.std.proofs.Common.{ap, ◌∙◌, arith}
+use Rattle.board_prelude.proofs.Common.{bytes_eq-Decides, length-replicate, length-take, length-drop}
 use Rattle.std.proofs.lemmas.List.{drop_min, take_min}
 use Rattle.byte_fields.specs.Pages.{memory_bytes, memory_page, page_bytes, pages_bytes}
-use Rattle.byte_fields.proofs.PageFormats.{bytes_first, no_pages}
+use Rattle.byte_fields.proofs.PageFormats.{bytes_first}
 use Rattle.byte_fields.specs.Fields.{flag_byte}
 use Rattle.byte_fields.proofs.Numbers.{some_is}
 use Rattle.ata_pio.specs.DriveState.{drive_bytes}
@@ -75,7 +77,8 @@ left_over : (fitted : List ℕ) (disk : Disk) → length fitted ≡ length disk.
 left_over fitted disk same =
     let sectors : List ℕ = disk.medium.bytes in
     let pages : pages_bytes sector_size sectors sectors ≡ pages_bytes sector_size (zeros fitted) (zeros sectors) =
-    own_pages (length sectors) sector_size sectors (zeros sectors) (omega arith) (omega arith) (sym (zeros_length sectors))
+    own_pages (length sectors) sector_size sectors (zeros sectors) (omega arith) (omega arith)
+    (sym (zeros_length sectors))
     ∙ ap (λ (plain : List ℕ). pages_bytes sector_size plain (zeros sectors)) (sym (same_zeros fitted sectors same)) in
     ap (λ (spelled : List ℕ). drive_bytes disk.drive ++ (spelled ++ map flag_byte disk.medium.bad)) pages
 
@@ -104,7 +107,8 @@ pub left_head : (left : Bool) (setup : Setup) →
 unfolding head_bytes size_bytes
 left_head left setup =
     let bytes : List ℕ = unless_left left (unwrap_or setup.disk []) in
-    let size : length (unwrap_or (option_map {T = List ℕ} (λ _. bytes) setup.disk) []) ≡ length (unwrap_or setup.disk []) =
+    let size : length (unwrap_or (option_map {T = List ℕ} (λ _. bytes) setup.disk) [])
+    ≡ length (unwrap_or setup.disk []) =
     ap length (left_on left setup.disk) ∙ left_length left (unwrap_or setup.disk []) in
     rw (size, is_there bytes setup.disk) refl
   where

@@ -1,17 +1,24 @@
 -- The state after bytes were written from outside.
-use Rattle.std.proofs.Common.{◌≡◌, ℕ, zero, suc, ◌+◌, ◌-◌, ◌<◌, ◌≤◌, false, ◌&&◌, List, [], ◌∷◌, ◌++◌, length, Some, None, refl, sym, ◌∙◌, ap, subst, arith, ◌⊎◌, inl, inr, ◌↔◌, Result, Ok, Err, IsErr, OnOk, OnErr, ◌==◌, nat_le, nat_lt, if◌then◌else◌, slice_index, unwrap_or}
-use Rattle.board_prelude.proofs.Common.{cases_eq, nat_tests, Write, One, Target, Dram, Shadow, Smram, Rom, Card, Device, Config, Abort, clock_index_port, clock_data_port, Memory, Port, Bus, Saw, Reply, Entry, Setup, byte, Cell, DramCell, CardCell, first_cell, byte_put, entry_put, stored_of, expansion_byte, clock_of, device_reached}
+use Rattle.std.proofs.Common.{◌≡◌, ℕ, zero, suc, ◌+◌, ◌-◌, ◌<◌, ◌≤◌, false, ◌&&◌, List, [], ◌∷◌, ◌++◌, length, Some}
+use Rattle.std.proofs.Common.{None, refl, sym, ◌∙◌, ap, subst, arith, ◌⊎◌, inl, inr, ◌↔◌, Result, Ok, Err, IsErr, OnOk}
+use Rattle.std.proofs.Common.{OnErr, ◌==◌, nat_le, nat_lt, if◌then◌else◌, slice_index, unwrap_or}
+use Rattle.board_prelude.proofs.Common.{cases_eq, nat_tests, Write, One, Target, Dram, Shadow, Smram, Rom, Card, Device}
+use Rattle.board_prelude.proofs.Common.{Config, Abort, clock_index_port, clock_data_port, Memory, Port, Bus, Saw, Reply}
+use Rattle.board_prelude.proofs.Common.{Entry, Setup, byte, Cell, DramCell, CardCell, first_cell, byte_put, entry_put}
+use Rattle.board_prelude.proofs.Common.{stored_of, clock_of, device_reached}
 use Rattle.board_base.specs.declared.target.Dev.TheVariants.{Clock as ClockChip}
 use Rattle.board_spec.specs.declared.event.Reply.TheVariants.{Parts}
 use Rattle.dram_store.specs.declared.dram.PastTheEnd.{PastTheEnd}
 use Rattle.dram_store.specs.Dram.{dram_at, IsDramOf, IsWritten}
 use Rattle.pci_bars.specs.Contents.{IsContentsOf}
 use Rattle.pci_bars.proofs.ContentsLemmas.{contents_of, stored_byte}
-use Rattle.board_devices.specs.Common.{DevicesValue, AreDevicesOf, PassesBy, LeavesDevices, byte_out, WritesClock, PutsClockByte}
+use Rattle.board_devices.specs.Common.{DevicesValue, AreDevicesOf, PassesBy, LeavesDevices, byte_out, WritesClock}
+use Rattle.board_devices.specs.Common.{PutsClockByte}
 use Rattle.board_stores.specs.Puts.{HasStores}
 use Rattle.board_chipset.specs.declared.registers.Registers.{Registers}
 use Rattle.board_chipset.specs.declared.state.State.{State}
-use Rattle.board_chipset.specs.Common.{HasRegisters, IsStateOf, Writes, IsDramWrite, WriteInTurn, WriteAll, IsClockWrite, WriteClockByte}
+use Rattle.board_chipset.specs.Common.{HasRegisters, IsStateOf, Writes, IsDramWrite, WriteInTurn, WriteAll}
+use Rattle.board_chipset.specs.Common.{IsClockWrite, WriteClockByte}
 use Rattle.board_chipset.proofs.RegisterSteps.{writes_none, quiet}
 use Rattle.board_chipset.proofs.StateSteps.{soft}
 use Rattle.board_chipset.proofs.StoreSteps.{stores_stay}
@@ -127,7 +134,8 @@ dram_after {history = history} {old} {new} {addr} {bytes} has fits is size small
       let before : at < length old = omega (arith, size) in
       here new at within
       ∙ is at
-      ∙ written_at old addr (length bytes) at (slice_index bytes (at - addr)) (stored_of history (DramCell at)) before fits
+      ∙ written_at old addr (length bytes) at (slice_index bytes (at - addr)) (stored_of history (DramCell at)) before
+      fits
       (has.each at before)
       ∙ rw (← all.all) (sym (stored_dram addr bytes history at small entries all.each));
 }
@@ -193,7 +201,8 @@ module _ (setup : Setup) (state : State) (dram : List ℕ) (addr : ℕ) (bytes :
       length dram ≡ length state.stores.dram → ((k : ℕ) → slice_index bytes k ≤ 0xFF) →
       OnOk result ((history entries : List Entry) → IsStateOf setup history state → WriteAll addr bytes entries →
       IsStateOf setup (entries ++ history) (record state { stores = record state.stores { dram = dram } }))
-  load_left (Ok done) law fits is size small = λ history entries kept all. loaded law kept fits is size small entries all
+  load_left (Ok done) law fits is size small =
+      λ history entries kept all. loaded law kept fits is size small entries all
   load_left (Err past) law fits is size small = tt
 
   pub load_kept : (result : Result (Unit {0}) PastTheEnd) → LeavesDevices →
@@ -209,7 +218,8 @@ module _ (setup : Setup) (state : State) (dram : List ℕ) (addr : ℕ) (bytes :
 
 pub load_refused : (result : Result (Unit {0}) PastTheEnd) (size installed end : ℕ) → size ≡ installed →
     OnOk result (end ≤ size) → OnErr result (size < end) → IsErr result ↔ (installed < end)
-load_refused (Ok done) size installed end is fits past = (λ err. absurd (cc), λ beyond. absurd (omega (arith, is, fits, beyond)))
+load_refused (Ok done) size installed end is fits past =
+    (λ err. absurd (cc), λ beyond. absurd (omega (arith, is, fits, beyond)))
 load_refused (Err fault) size installed end is fits past = (λ err. omega (arith, is, past), λ beyond. refl)
 
 -- ---- a byte of the clock
@@ -292,7 +302,8 @@ pub some_clock_entries : (history : List Entry) (address byte : ℕ) →
     (later : List Entry) × WriteClockByte history address byte later
 unfolding clock_entry
 some_clock_entries history address byte = (
-  clock_entry clock_index_port (clock_of history).index ∷ clock_entry clock_data_port byte ∷ clock_entry clock_index_port address ∷ history,
+  clock_entry clock_index_port (clock_of history).index ∷ clock_entry clock_data_port byte
+      ∷ clock_entry clock_index_port address ∷ history,
   record {
     to_address = clock_entry clock_index_port address;
     to_byte = clock_entry clock_data_port byte;

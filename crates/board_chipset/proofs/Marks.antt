@@ -1,5 +1,6 @@
 -- Fixed bytes, and that nothing follows.
-use Rattle.std.proofs.Common.{◌≡◌, ℕ, ◌≤◌, inl, inr, Bool, true, false, cond, List, [], ◌∷◌, ◌++◌, length, take, drop, Result, Ok, Err, OnOk, refl, sym, ap, subst, ◌∙◌, arith, bytes_eq}
+use Rattle.std.proofs.Common.{◌≡◌, ℕ, ◌≤◌, inl, inr, Bool, true, false, cond, List, [], ◌∷◌, ◌++◌, length, take, drop}
+use Rattle.std.proofs.Common.{Result, Ok, Err, OnOk, refl, sym, ap, subst, ◌∙◌, arith, bytes_eq}
 use Rattle.board_prelude.proofs.Common.{take_at, drop_at, take-append-drop, append-nil, bytes_eq-Decides, length-append}
 use Rattle.byte_fields.specs.Fields.{AreBytes, Reading, then_read, gives, exactly, ended}
 use Rattle.board_chipset.specs.Alone.{alone}

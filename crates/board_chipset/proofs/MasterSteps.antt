@@ -1,7 +1,14 @@
 -- What a bus master reaches is neither SMRAM nor DRAM in its range.
-use Rattle.std.proofs.Common.{◌≡◌, ◌≢◌, ℕ, Bool, true, false, not, ◌&&◌, [], ◌∷◌, Option, Some, None, is_some, refl, ap, inl, inr, arith, ◌==◌, unwrap_or, option_map}
-use Rattle.board_prelude.proofs.Common.{cases_Bool, and_left, and_right, nat_tests, Kind, Area, Target, Dram, Shadow, Smram, Rom, Card, Device, Config, Abort, Setup, rom_base, lies_in, smram_range, shadow_range, upper_memory, fdhc, xbcs, Bytes, Window, first_of, line_where, card_area, row_of, hole_of, is_in, is_shadowed, is_rom_selected, memory_claim, is_smram_range, target_at, DramCell, first_cell}
-use Rattle.board_base.specs.declared.target.Area.TheVariants.{Dram as DramArea, Shadow as ShadowArea, Smram as SmramArea, Rom as RomArea, Card as CardArea, Abort as AbortArea}
+use Rattle.std.proofs.Common.{◌≡◌, ◌≢◌, ℕ, Bool, true, false, not, ◌&&◌, [], ◌∷◌, Option, Some, None, is_some, refl, ap}
+use Rattle.std.proofs.Common.{inl, inr, arith, ◌==◌, unwrap_or, option_map}
+use Rattle.board_prelude.proofs.Common.{cases_Bool, and_left, and_right, nat_tests, Kind, Area, Target, Dram, Shadow}
+use Rattle.board_prelude.proofs.Common.{Smram, Rom, Card, Device, Config, Abort, Setup, rom_base, lies_in, smram_range}
+use Rattle.board_prelude.proofs.Common.{shadow_range, upper_memory, fdhc, xbcs, Bytes, Window, first_of, line_where}
+use Rattle.board_prelude.proofs.Common.{card_area, row_of, hole_of, is_in, is_shadowed, is_rom_selected, memory_claim}
+use Rattle.board_prelude.proofs.Common.{is_smram_range, target_at, DramCell, first_cell}
+use Rattle.board_base.specs.declared.target.Area.TheVariants.{Dram as DramArea, Shadow as ShadowArea}
+use Rattle.board_base.specs.declared.target.Area.TheVariants.{Smram as SmramArea, Rom as RomArea, Card as CardArea}
+use Rattle.board_base.specs.declared.target.Area.TheVariants.{Abort as AbortArea}
 use Rattle.addr_decode.specs.Master.{master_area}
 use Rattle.board_chipset.specs.Masters.{IsOutsideSmram, master_target}
 

@@ -1,6 +1,7 @@
 -- The state after an access to memory.
 use Rattle.std.proofs.Common.{◌≡◌, ℕ, true, false, List, None, Some, refl, Bool, IsTrue, ◌↔◌}
-use Rattle.board_prelude.proofs.Common.{Kind, Fetch, Read, Write, Part, Entry, Bus, Setup, is_write, part_answer, value_at, memory_answer}
+use Rattle.board_prelude.proofs.Common.{Kind, Fetch, Read, Write, Part, Entry, Bus, Setup, is_write, part_answer}
+use Rattle.board_prelude.proofs.Common.{value_at, memory_answer}
 use Rattle.board_base.specs.declared.access.Access.{Access}
 
 pub writes_when : (kind : Kind) (writes : Bool) → IsTrue writes ↔ (kind ≡ Write) → is_write kind ≡ writes

@@ -1,6 +1,8 @@
 -- Events for the devices alone: they write no register and store nothing.
-use Rattle.std.proofs.Common.{◌≡◌, ◌≤◌, true, List, [], ◌∷◌, None, refl, sym, ◌∙◌, subst, inl, inr, ℕ, ◌==◌, All, find, is_some}
-use Rattle.board_prelude.proofs.Common.{cases_Bool, eqb-true, All-head, All-tail, Event, Memory, Wide, Port, Reply, Entry, Setup, FittedCard, IsCard, IsSetup, card_at, Cell, entry_put}
+use Rattle.std.proofs.Common.{◌≡◌, ◌≤◌, true, List, [], ◌∷◌, None, refl, sym, ◌∙◌, subst, inl, inr, ℕ, ◌==◌, All, find}
+use Rattle.std.proofs.Common.{is_some}
+use Rattle.board_prelude.proofs.Common.{cases_Bool, eqb-true, All-head, All-tail, Event, Memory, Wide, Port, Reply}
+use Rattle.board_prelude.proofs.Common.{Entry, Setup, FittedCard, IsCard, IsSetup, card_at, Cell, entry_put}
 use Rattle.board_spec.specs.declared.event.Event.TheVariants.{Look as LookAt}
 use Rattle.board_devices.specs.Common.{DevicesValue, AreDevicesOf, AreRoutesOf, Asks}
 use Rattle.board_chipset.specs.declared.state.State.{State}

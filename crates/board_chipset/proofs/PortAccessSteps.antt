@@ -1,13 +1,16 @@
 -- The cycles of an access to ports, done one after another.
-use Rattle.std.proofs.Common.{◌≡◌, ℕ, zero, suc, ◌+◌, ◌-◌, ◌*◌, ◌%◌, ◌^◌, ◌<◌, ◌≤◌, List, [], ◌∷◌, ◌++◌, length, get_or, take, drop, refl, ◌∙◌, ap, subst, arith, lit<, reverse}
-use Rattle.board_prelude.proofs.Common.{take_more, reverse-append, get_or-map, length-map, drop-cons, pow-le-pow_right, mod-eq_of_lt, Width, One, PortAccess, bytes_of, some_bytes, Setup, IsBusAccess}
+use Rattle.std.proofs.Common.{◌≡◌, ℕ, zero, suc, ◌+◌, ◌-◌, ◌*◌, ◌%◌, ◌^◌, ◌<◌, ◌≤◌, List, [], ◌∷◌, ◌++◌, length, get_or}
+use Rattle.std.proofs.Common.{take, drop, refl, ◌∙◌, ap, subst, arith, lit<, reverse}
+use Rattle.board_prelude.proofs.Common.{take_more, reverse-append, get_or-map, length-map, drop-cons, pow-le-pow_right}
+use Rattle.board_prelude.proofs.Common.{mod-eq_of_lt, Width, One, PortAccess, bytes_of, some_bytes, Setup, IsBusAccess}
 use Rattle.board_base.specs.declared.access.Width.TheVariants.{Two, Four}
 use Rattle.board_stores.specs.declared.ports.PortCycle.{PortCycle}
 use Rattle.board_stores.specs.PortCycles.{Follow, port_accesses, AreBusCycles}
 use Rattle.board_stores.proofs.CutLemmas.{byte_power}
 use Rattle.board_chipset.specs.declared.reset_control.ResetKind.{ResetKind}
 use Rattle.board_chipset.specs.declared.reset_control.ResetKind.TheVariants.{None as NoReset}
-use Rattle.board_chipset.specs.Common.{Running, AnswerInTurn, AreCyclesDone, IsCycleStep, bytes_read, read_by, value_read, stronger, strongest}
+use Rattle.board_chipset.specs.Common.{Running, AnswerInTurn, AreCyclesDone, IsCycleStep, bytes_read, read_by}
+use Rattle.board_chipset.specs.Common.{value_read, stronger, strongest}
 
 pub none_done : (setup : Setup) (start : Running) (first : ℕ) → AreCyclesDone setup start first [] start 0 NoReset
 unfolding AnswerInTurn value_read strongest
@@ -18,7 +21,8 @@ next_done :
     (setup : Setup) (start mid now : Running) (first : ℕ) (sooner : List PortAccess) (cycle : PortAccess)
     (value read : ℕ) (reset made : ResetKind) → AreCyclesDone setup start first sooner mid value reset →
     IsCycleStep setup mid cycle now read made →
-    AreCyclesDone setup start first (cycle ∷ sooner) now (value + read * 256 ^ (cycle.port - first)) (stronger made reset)
+    AreCyclesDone setup start first (cycle ∷ sooner) now (value + read * 256 ^ (cycle.port - first))
+    (stronger made reset)
 unfolding AnswerInTurn value_read strongest
 next_done setup start mid now first sooner cycle value read reset made so_far step history [] left each = absurd each
 next_done setup start mid now first sooner cycle value read reset made so_far step history (entry ∷ earlier) left each =
@@ -36,10 +40,12 @@ reversed xs i x within = ap reverse (take_more xs i x within) ∙ reverse-append
 pub cycle_done :
     (setup : Setup) (start mid now : Running) (first value read next : ℕ) (reset made after : ResetKind)
     (cycles : List PortAccess) (i : ℕ) (cycle : PortAccess) → i < length cycles → get_or cycles i cycle ≡ cycle →
-    AreCyclesDone setup start first (reverse (take i cycles)) mid value reset → IsCycleStep setup mid cycle now read made →
+    AreCyclesDone setup start first (reverse (take i cycles)) mid value reset →
+    IsCycleStep setup mid cycle now read made →
     next ≡ value + read * 256 ^ (cycle.port - first) → after ≡ stronger made reset →
     AreCyclesDone setup start first (reverse (take (i + 1) cycles)) now next after
-cycle_done setup start mid now first value read next reset made after cycles i cycle within is so_far step next_is after_is =
+cycle_done setup start mid now first value read next reset made after cycles i cycle within is so_far step next_is
+    after_is =
     rw (reversed cycles i cycle within, is, next_is, after_is)
     (next_done setup start mid now first (reverse (take i cycles)) cycle value read reset made so_far step)
 
@@ -101,7 +107,8 @@ bytes_placed Two (suc (suc (suc later))) value read fits low small = absurd (ome
 bytes_placed Four zero value read fits low small = omega arith
 bytes_placed Four (suc later) value read fits low small = absurd (omega (arith, fits))
 
-pub below_all : (width : Width) (d value : ℕ) → d + bytes_of width ≤ 4 → value < 256 ^ (d + bytes_of width) → value < 2 ^ 32
+pub below_all : (width : Width) (d value : ℕ) → d + bytes_of width ≤ 4 → value < 256 ^ (d + bytes_of width) →
+    value < 2 ^ 32
 below_all width d value fits small = omega (arith, small, pow-le-pow_right {n = 256} (lit< tt) fits)
 
 -- and they are not cut off

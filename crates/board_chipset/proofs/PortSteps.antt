@@ -1,12 +1,17 @@
 -- The state after an access at a port.
 use Rattle.std.proofs.Common.{◌≡◌, ◌≢◌, ℕ, true, false, List, ◌∷◌, Option, None, refl, ◌∙◌, ap}
-use Rattle.board_prelude.proofs.Common.{cond_both, Width, PortAccess, Reg, Dev, Keyboard, Target, Device, Config, Card, Abort, bytes_of, Entry, Reply, Setup, config_address, is_hard_reset, Cell, entry_put, byte_put, port_put, device_in, device_reached, device_value, Decoded, port_value, bus_reply, port_answer, Bytes}
+use Rattle.board_prelude.proofs.Common.{cond_both, Width, PortAccess, Reg, Dev, Keyboard, Target, Device, Config, Card}
+use Rattle.board_prelude.proofs.Common.{Abort, bytes_of, Entry, Reply, Setup, config_address, is_hard_reset, Cell}
+use Rattle.board_prelude.proofs.Common.{entry_put, byte_put, port_put, device_in, device_reached, device_value, Decoded}
+use Rattle.board_prelude.proofs.Common.{port_value, bus_reply, port_answer, Bytes}
 use Rattle.board_base.specs.declared.target.Dev.TheVariants.{Confadd as AddressPort, Reset}
 use Rattle.addr_decode.specs.declared.found.ConfigRegister.{ConfigRegister}
 use Rattle.addr_decode.specs.declared.found.Found.{Found}
-use Rattle.addr_decode.specs.declared.found.Found.TheVariants.{Device as FoundDevice, Register as FoundRegister, Card as FoundCard, Nobody}
+use Rattle.addr_decode.specs.declared.found.Found.TheVariants.{Device as FoundDevice, Register as FoundRegister}
+use Rattle.addr_decode.specs.declared.found.Found.TheVariants.{Card as FoundCard, Nobody}
 use Rattle.addr_decode.specs.Found.{decoded_as}
-use Rattle.board_devices.specs.Common.{DevicesValue, AreDevicesOf, AreRoutesOf, is_chip_port, is_chip, PassesBy, ReachesDevice, LeavesDevices}
+use Rattle.board_devices.specs.Common.{DevicesValue, AreDevicesOf, AreRoutesOf, is_chip_port, is_chip, PassesBy}
+use Rattle.board_devices.specs.Common.{ReachesDevice, LeavesDevices}
 use Rattle.board_stores.specs.declared.stores.Stores.{Stores}
 use Rattle.board_stores.specs.Puts.{ArePut}
 use Rattle.board_chipset.specs.declared.registers.Registers.{Registers}

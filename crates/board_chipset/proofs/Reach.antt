@@ -1,6 +1,12 @@
 -- What an access at a port reaches, and what that tells of the access.
-use Rattle.std.proofs.Common.{◌≡◌, ℕ, ◌%◌, ◌^◌, Bool, true, false, ◌&&◌, not, List, [], ◌∷◌, Option, Some, None, refl, sym, ◌∙◌, arith, ◌==◌, unwrap_or, option_map}
-use Rattle.board_prelude.proofs.Common.{false≢true, cond_both, nat_tests, Width, Reg, Dev, Pic0, Pic1, Pit, System, Keyboard, Elcr, Ata, Target, Card, Device, Config, Abort, Denial, bytes_of, is_port_of, device_at, Setup, is_bit, config_address_port, reset_control_port, xbcs, ide_command, idetim_high, is_config_port, config_register, Bytes, Window, io_claim, Decoded, nobody, card_port, config_port, unselected, by_channel, device_port, port_target_of}
+use Rattle.std.proofs.Common.{◌≡◌, ℕ, ◌%◌, ◌^◌, Bool, true, false, ◌&&◌, not, List, [], ◌∷◌, Option, Some, None, refl}
+use Rattle.std.proofs.Common.{sym, ◌∙◌, arith, ◌==◌, unwrap_or, option_map}
+use Rattle.board_prelude.proofs.Common.{false≢true, cond_both, nat_tests, Width, Reg, Dev, Pic0, Pic1, Pit, System}
+use Rattle.board_prelude.proofs.Common.{Keyboard, Elcr, Ata, Target, Card, Device, Config, Abort, Denial, bytes_of}
+use Rattle.board_prelude.proofs.Common.{is_port_of, device_at, Setup, is_bit, config_address_port, reset_control_port}
+use Rattle.board_prelude.proofs.Common.{xbcs, ide_command, idetim_high, is_config_port, config_register, Bytes, Window}
+use Rattle.board_prelude.proofs.Common.{io_claim, Decoded, nobody, card_port, config_port, unselected, by_channel}
+use Rattle.board_prelude.proofs.Common.{device_port, port_target_of}
 use Rattle.board_base.specs.declared.target.Dev.TheVariants.{Confadd as AddressPort, Reset, Clock}
 use Rattle.device_spec.specs.PortTable.{first_with}
 use Rattle.board_devices.specs.Events.{is_chip_port}
@@ -107,8 +113,10 @@ module _ (setup : Setup) (bytes : Bytes) (address : ℕ) (disk : Bool) (port : �
       (λ _. first Pit (System ∷ Elcr ∷ Keyboard ∷ Clock ∷ Ata ∷ []) (λ is. (by, is))
       (λ _. first System (Elcr ∷ Keyboard ∷ Clock ∷ Ata ∷ []) (λ is. (by, is))
       (λ _. first Elcr (Keyboard ∷ Clock ∷ Ata ∷ []) (λ is. (by, is))
-      (λ _. first Keyboard (Clock ∷ Ata ∷ []) (λ _. cond_both (is_bit (bytes xbcs) 1) _ _ Lands (λ _. by) (λ _. others _ by))
-      (λ _. first Clock (Ata ∷ []) (λ is. cond_both (is_bit (bytes xbcs) 0) _ _ Lands (λ _. (by, is)) (λ _. others _ by))
+      (λ _. first Keyboard (Clock ∷ Ata ∷ [])
+      (λ _. cond_both (is_bit (bytes xbcs) 1) _ _ Lands (λ _. by) (λ _. others _ by))
+      (λ _. first Clock (Ata ∷ []) (λ is. cond_both (is_bit (bytes xbcs) 0) _ _ Lands (λ _. (by, is))
+      (λ _. others _ by))
       (λ _. first Ata [] (λ is. at_disk disk by is) (λ _. others _ by))))))))
 
   past_config : is_config_port port ≡ false → Finds (device_at port (bytes_of width))

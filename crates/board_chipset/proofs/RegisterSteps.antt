@@ -1,6 +1,9 @@
 -- The registers after one more entry.
-use Rattle.std.proofs.Common.{◌≡◌, ℕ, List, [], ◌∷◌, Option, Some, None, refl, sym, ◌∙◌, ap, subst, if◌then◌else◌, unwrap_or, option_map}
-use Rattle.board_prelude.proofs.Common.{PortAccess, Event, Port, Entry, MapChange, Reset, Setup, reset_byte, control_after, resets_hard, kept_address, reset_control, config_address, register_change, byte_with, byte_of, map_writes_of}
+use Rattle.std.proofs.Common.{◌≡◌, ℕ, List, [], ◌∷◌, Option, Some, None, refl, sym, ◌∙◌, ap, subst, if◌then◌else◌}
+use Rattle.std.proofs.Common.{unwrap_or, option_map}
+use Rattle.board_prelude.proofs.Common.{PortAccess, Event, Port, Entry, MapChange, Reset, Setup, reset_byte}
+use Rattle.board_prelude.proofs.Common.{control_after, resets_hard, kept_address, reset_control, config_address}
+use Rattle.board_prelude.proofs.Common.{register_change, byte_with, byte_of, map_writes_of}
 use Rattle.config_regs.specs.Config.{AreKeptOf}
 use Rattle.board_chipset.specs.declared.registers.Registers.{Registers}
 use Rattle.board_chipset.specs.Common.{IsFlat, HasRegisters, Writes, AreLastChanged}
@@ -30,7 +33,8 @@ pub follows :
     Follow setup history (change_by old.control written store) old.map.changed new.map.changed → IsFlat new.map →
     HasRegisters setup (entry ∷ history) new
 unfolding config_address reset_control byte_of
-follows {setup} {history} {entry} {old} {new} {written} {store = store} writes has address control kept version windows flat =
+follows {setup} {history} {entry} {old} {new} {written} {store = store} writes has address control kept version windows
+    flat =
     let change : register_change setup history entry.event ≡ change_by old.control written store =
     rw (has.control) (change_is writes) in
     record {

@@ -1,6 +1,7 @@
 -- The state after an entry that changes a part of it.
 use Rattle.std.proofs.Common.{◌≡◌, ℕ, ◌*◌, option_map, false, List, [], ◌∷◌, Option, None, refl, sym, ◌∙◌, ap, subst}
-use Rattle.board_prelude.proofs.Common.{Event, Entry, MapChange, Setup, kept_address, config_address, byte_of, is_hard_reset, Cell, entry_put, device_reached}
+use Rattle.board_prelude.proofs.Common.{Event, Entry, MapChange, Setup, kept_address, config_address, byte_of}
+use Rattle.board_prelude.proofs.Common.{is_hard_reset, Cell, entry_put, device_reached}
 use Rattle.config_regs.specs.declared.south.South.{South}
 use Rattle.board_devices.specs.Common.{DevicesValue, AreDevicesOf, AreRoutesOf, PassesBy, LeavesDevices, sectors_fitted}
 use Rattle.board_devices.proofs.DiskSizes.{opened_has}

@@ -1,6 +1,6 @@
 -- The bytes behind the addresses after one more entry.
-use Rattle.std.proofs.Common.{◌≡◌, ℕ, ◌<◌, false, List, ◌∷◌, length, Option, None, refl, sym, ◌∙◌, arith, inl, inr, ◌==◌}
-use Rattle.board_prelude.proofs.Common.{cases_eq, ne_eqb, Entry, Setup, Cell, DramCell, CardCell, entry_put, stored_of}
+use Rattle.std.proofs.Common.{◌≡◌, ℕ, ◌<◌, List, ◌∷◌, length, Option, None, refl, sym, ◌∙◌, arith, ◌==◌}
+use Rattle.board_prelude.proofs.Common.{Entry, Setup, Cell, DramCell, CardCell, entry_put, stored_of}
 use Rattle.pci_bars.specs.Contents.{held, held_byte}
 use Rattle.pci_bars.proofs.ContentsLemmas.{contents_of, held_within, stored_byte}
 use Rattle.board_stores.specs.declared.stores.Stores.{Stores}
@@ -36,4 +36,9 @@ pub stores_stay :
     ((cell : Cell) → entry_put entry.event entry.reply cell ≡ None) → HasStores setup (entry ∷ history) stores
 stores_stay has none =
     stores_put {put = λ cell. None} has none
-    (record { size = refl; dram = λ at within. refl; sizes = λ dev base. refl; contents = λ dev base off number within. refl })
+    (record {
+      size = refl;
+      dram = λ at within. refl;
+      sizes = λ dev base. refl;
+      contents = λ dev base off number within. refl;
+    })

@@ -1,6 +1,8 @@
 -- Wide accesses: their cycles can be done.
 use Rattle.std.proofs.Common.{◌≡◌, ℕ, List, [], ◌∷◌, ◌∙◌, true, false, None, Some, refl, ap, arith, map, All}
-use Rattle.board_prelude.proofs.Common.{All-head, All-tail, All-cons, WideAccess, Part, Parts, parts_of, parts_list, joined, Cell, is_write, parts_put, Entry, Setup, IsPart, AreParts, part_answer, IsWideAnswer, wide_value, value_at, memory_target}
+use Rattle.board_prelude.proofs.Common.{All-head, All-tail, All-cons, WideAccess, Part, Parts, parts_of, parts_list}
+use Rattle.board_prelude.proofs.Common.{joined, Cell, is_write, parts_put, Entry, Setup, IsPart, AreParts, part_answer}
+use Rattle.board_prelude.proofs.Common.{IsWideAnswer, wide_value, value_at, memory_target}
 use Rattle.board_base.specs.declared.access.Access.{Access}
 use Rattle.board_stores.specs.declared.cut.Cycle.{Cycle}
 use Rattle.board_stores.specs.Common.{IsReady, accesses, answers, AreReady, part_in}

@@ -1,5 +1,4 @@
 -- A value with nothing behind it.
-use Rattle.std.specs.Prelude.{ℕ, List, Result}
 use Rattle.byte_fields.specs.Fields.{Reading, gives, ◌>>=◌, ended}
 
 -- what is read, after which nothing follows

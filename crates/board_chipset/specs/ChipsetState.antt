@@ -1,6 +1,7 @@
 -- The state of a chipset as bytes, over the setup that it was opened with, of which the bytes have the sizes alone. The
 -- ranges of the map are not in them: they are built anew of its registers.
-use Rattle.std.specs.Prelude.{ℕ, ◌≡◌, ◌+◌, ◌<◌, ◌≤◌, ◌⊎◌, ◌==◌, Bool, false, not, List, [], ◌∷◌, ◌++◌, length, Option, is_some, unwrap_or, Result, Ok, Err, IfOk, codes}
+use Rattle.std.specs.Prelude.{ℕ, ◌≡◌, ◌+◌, ◌<◌, ◌⊎◌, ◌==◌, Bool, false, not, List, [], ◌∷◌, ◌++◌, length, Option}
+use Rattle.std.specs.Prelude.{is_some, unwrap_or, Result, Ok, Err, IfOk, codes}
 use Rattle.board_base.specs.Common.{w8, w16, w32, to_le_bytes}
 use Rattle.board_prelude.specs.Common.{FittedCard, Setup, IsSetup}
 use Rattle.byte_fields.specs.declared.fault.Fault.{Fault}

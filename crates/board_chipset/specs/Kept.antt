@@ -1,6 +1,7 @@
 -- What a history leaves: the registers, the bytes behind the addresses, and the devices.
 use Rattle.std.specs.Prelude.{ℕ, ◌≡◌, ◌%◌, List, length}
-use Rattle.board_prelude.specs.Common.{Event, Entry, Setup, IsSetup, IsInRange, installed, kept_address, reset_control, config_address, byte_of, version_of, Bytes, IsFlatMapOf}
+use Rattle.board_prelude.specs.Common.{Event, Entry, Setup, IsSetup, IsInRange, installed, kept_address, reset_control}
+use Rattle.board_prelude.specs.Common.{config_address, byte_of, version_of, Bytes, IsFlatMapOf}
 use Rattle.addr_decode.specs.MapRegs.{StandsFor}
 use Rattle.map_builder.specs.Map.{Mapped}
 use Rattle.pci_bars.specs.Contents.{HaveSizes}
@@ -40,8 +41,8 @@ pub record AreSound (setup : Setup) (registers : Registers) : Type 0 where
   pub flat : IsFlat registers.map
 
 -- what each step rests on and keeps, whether or not a history leaves a board so: sound registers, as many bytes of DRAM
--- as are installed, and of each card as it has, and a disk exactly where one is fitted, with as many sectors. The devices'
--- types say the rest
+-- as are installed, and of each card as it has, and a disk exactly where one is fitted, with as many sectors. The
+-- devices' types say the rest
 pub record IsSound (setup : Setup) (state : State) : Type 0 where
   pub fits : IsSetup setup
   pub registers : AreSound setup state.registers

@@ -1,6 +1,8 @@
 -- A guest's access to ports, which need not be aligned: the bus cuts it into aligned cycles, and each has its answer.
-use Rattle.std.specs.Prelude.{ℕ, ◌≡◌, ◌+◌, ◌-◌, ◌*◌, ◌%◌, ◌^◌, ◌≤◌, if◌then◌else◌, List, [], ◌∷◌, ◌++◌, reverse, Some, None}
-use Rattle.board_prelude.specs.Common.{PortAccess, bytes_of, Event, Port, Reply, Bus, Entry, Setup, FitsAccess, IsAnswer}
+use Rattle.std.specs.Prelude.{ℕ, ◌≡◌, ◌+◌, ◌-◌, ◌*◌, ◌%◌, ◌^◌, ◌≤◌, if◌then◌else◌, List, [], ◌∷◌, ◌++◌, reverse, Some}
+use Rattle.std.specs.Prelude.{None}
+use Rattle.board_prelude.specs.Common.{PortAccess, bytes_of, Event, Port, Reply, Bus, Entry, Setup, FitsAccess}
+use Rattle.board_prelude.specs.Common.{IsAnswer}
 use Rattle.board_stores.specs.PortCycles.{port_cycles}
 use Rattle.board_chipset.specs.declared.in_range.OutOfRange.{OutOfRange}
 use Rattle.board_chipset.specs.declared.in_range.OutOfRange.TheVariants.{End, Value}
@@ -25,7 +27,8 @@ IsPortFault access End = ¬ EndsAtPort access
 IsPortFault access Value = EndsAtPort access × ¬ FitsAccess access.write access.width access.value
 IsPortFault access _ = ⊥
 
--- each entry is the cycle of its place, with the answer to the history and the entries before it; the newest stand first
+-- each entry is the cycle of its place, with the answer to the history and the entries before it; the newest stand
+-- first
 unfoldable pub AnswerInTurn : Setup → List Entry → List PortAccess → List Entry → Type 0
 AnswerInTurn setup history [] [] = Unit {0}
 AnswerInTurn setup history (cycle ∷ sooner) (entry ∷ earlier) =
@@ -66,9 +69,10 @@ strongest history (entry ∷ earlier) =
     stronger (reset_of (earlier ++ history) entry.event) (strongest history earlier)
 
 -- what is told of an access with these entries
-pub record IsPortReply (history : List Entry) (access : PortAccess) (entries : List Entry) (reply : PortReply) : Type 0 where
-  pub value : reply.value ≡ (if access.write then None else Some (value_read access.port entries))
-  pub reset : reply.reset ≡ strongest history entries
+pub record IsPortReply (history : List Entry) (access : PortAccess) (entries : List Entry) (reply : PortReply) : Type 0
+  where
+    pub value : reply.value ≡ (if access.write then None else Some (value_read access.port entries))
+    pub reset : reply.reset ≡ strongest history entries
 
 -- ---- cycle by cycle
 

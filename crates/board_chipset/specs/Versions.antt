@@ -1,6 +1,7 @@
 -- What a chipset tells of its map: the version modulo 2^32, and the windows of the last change.
 use Rattle.std.specs.Prelude.{ℕ, ◌≡◌, ◌%◌, ◌^◌, Bool, List, [], ◌∷◌, Option, Some, None}
-use Rattle.board_prelude.specs.Common.{Kind, Event, Look, Reply, Entry, MapChange, Setup, byte_of, map_change_of, version_of, IsSpan, IsAnswer, IsSeen}
+use Rattle.board_prelude.specs.Common.{Kind, Event, Look, Reply, Entry, MapChange, Setup, byte_of, map_change_of}
+use Rattle.board_prelude.specs.Common.{version_of, IsSpan, IsAnswer, IsSeen}
 use Rattle.board_spec.specs.declared.event.Event.TheVariants.{Look as LookAt}
 use Rattle.map_builder.specs.declared.range.Changed.{Changed}
 use Rattle.map_builder.specs.Applied.{AreChanged}
@@ -10,7 +11,8 @@ abbrev pub version_count : ℕ
 version_count = 2 ^ 32
 
 -- a look as its answer, but for the version, which is counted modulo 2^32
-pub record IsLookModulo (setup : Setup) (before : List Entry) (kind : Kind) (addr : ℕ) (smm : Bool) (look : Look) : Type 0 where
+pub record IsLookModulo (setup : Setup) (before : List Entry) (kind : Kind) (addr : ℕ) (smm : Bool) (look : Look) : Type
+    0 where
   pub version : look.version ≡ version_of setup before % version_count
   pub span : IsSpan setup (byte_of setup before) addr kind smm look.lo look.hi look.area
 

@@ -6,7 +6,8 @@ ghost use Rattle.board_devices.specs.State.{devices_bytes};
 ghost use Rattle.dram_store.specs.State.{dram_bytes};
 ghost use Rattle.board_chipset.specs.Around.{after_dram, before_dram};
 ghost use Rattle.board_chipset.specs.Chipset.{Running};
-ghost use Rattle.board_chipset.specs.ChipsetState.{AreRegisters, IsChipset, IsWhole, chipset_bytes, head_bytes, registers_bytes};
+ghost use Rattle.board_chipset.specs.ChipsetState.{AreRegisters, IsChipset, IsWhole, chipset_bytes, head_bytes};
+ghost use Rattle.board_chipset.specs.ChipsetState.{registers_bytes};
 ghost use Rattle.board_chipset.specs.Kept.{IsSound};
 
 use crate::chipset::Chipset;
@@ -31,7 +32,8 @@ impl State {
     fn save_after(&self, setup: &Setup, into: &mut Vec<u8>) -> Result<(), NoMemory>
         requires sound { IsSound setup.now self.now }
         ensures saved { OnOk result (into.new.items
-            ≡ into.old.items ++ (contents_bytes self.now.stores.contents ++ devices_bytes setup.now.disk self.now.devices)) }
+            ≡ into.old.items
+            ++ (contents_bytes self.now.stores.contents ++ devices_bytes setup.now.disk self.now.devices)) }
         ensures whole { OnOk result (AreRegisters setup.now.cards self.now.registers → IsWhole setup.now self.now) }
     {
         self.stores.contents.save_state(into)?;
@@ -40,8 +42,8 @@ impl State {
 }
 
 impl Chipset {
-    /// Adds what stands before the bytes of the DRAM in the state: the head, and the registers. After NoMemory some of it
-    /// may have been added.
+    /// Adds what stands before the bytes of the DRAM in the state: the head, and the registers. After NoMemory some of
+    /// it may have been added.
     pub fn save_before_dram(&self, into: &mut Vec<u8>) -> Result<(), NoMemory>
         ensures saved { OnOk result (into.new.items ≡ into.old.items ++ before_dram self.now) }
         ensures sound { OnOk result (AreRegisters self.now.setup.cards self.now.state.registers) }
@@ -49,7 +51,8 @@ impl Chipset {
         self.state.save_before(&self.setup, into)
     }
 
-    /// Adds what stands after them: the bytes of the cards, and the devices. After NoMemory some of it may have been added.
+    /// Adds what stands after them: the bytes of the cards, and the devices. After NoMemory some of it may have been
+    /// added.
     pub fn save_after_dram(&self, into: &mut Vec<u8>) -> Result<(), NoMemory>
         ensures saved { OnOk result (into.new.items ≡ into.old.items ++ after_dram self.now) }
         ensures sound { OnOk result

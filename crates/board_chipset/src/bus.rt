@@ -1,7 +1,8 @@
 //! Steps of a chipset by the kind of event, which are told in few bytes. They have the clauses of `Chipset::step`.
 
 ghost use Rattle.std.specs.Prelude.{◌≡◌, List, ◌∷◌};
-ghost use Rattle.board_prelude.specs.Common.{Entry, Memory, Port, Wide, IsBusAccess, IsInRange, IsWideAccess, IsAnswer, is_write};
+ghost use Rattle.board_prelude.specs.Common.{Entry, Memory, Port, Wide, IsBusAccess, IsInRange, IsWideAccess, IsAnswer};
+ghost use Rattle.board_prelude.specs.Common.{is_write};
 ghost use Rattle.board_spec.specs.declared.event.Event.TheVariants.{Look as LookAt};
 ghost use Rattle.board_spec.specs.declared.event.Reply.TheVariants.{Saw};
 ghost use Rattle.board_chipset.specs.BusReplies.{reply_of, wide_reply_of};
@@ -16,8 +17,8 @@ use board_base::{Access, Kind, PortAccess, WideAccess};
 use board_spec::{Event, Look};
 
 impl Chipset {
-    /// Does an access to memory of one bus cycle, which is in range, as `step` does it: its address is a multiple of the
-    /// width, and the value fits.
+    /// Does an access to memory of one bus cycle, which is in range, as `step` does it: its address is a multiple of
+    /// the width, and the value fits.
     #[inline(always)]
     pub fn memory(&mut self, access: &Access) -> BusReply
         requires bus { IsBusAccess (is_write access.now.kind) access.now.addr access.now.width access.now.value }
@@ -66,8 +67,8 @@ impl Chipset {
         looks::look(&self.state, kind, addr, smm)
     }
 
-    /// Does an event that is no access and no look, and is in range, as `step` does it: an interrupt acknowledge, pulses, a
-    /// moment, a level of a wire or line, a bad sector.
+    /// Does an event that is no access and no look, and is in range, as `step` does it: an interrupt acknowledge,
+    /// pulses, a moment, a level of a wire or line, a bad sector.
     pub fn outside(&mut self, event: &Event) -> BusReply
         requires devices { IsForDevices event.now }
         requires in_range { IsInRange self.old.setup event.now }

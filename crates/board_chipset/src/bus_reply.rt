@@ -6,8 +6,8 @@ ghost use Rattle.board_chipset.specs.BusReplies.{reply_of, wide_reply_of};
 use board_base::{Denial, Target};
 use board_spec::{Parts, Reply};
 
-/// The reply to one bus cycle: the value where it reads, what answered, and what denied it. It is what `Reply::Bus` has, in
-/// a third of the bytes.
+/// The reply to one bus cycle: the value where it reads, what answered, and what denied it. It is what `Reply::Bus`
+/// has, in a third of the bytes.
 #[derive(Clone, Copy, PartialEq, Eq, Debug)]
 pub struct BusReply {
     pub value: Option<u32>,

@@ -1,6 +1,7 @@
 //! Bytes of the cards, out and in without an access on the bus.
 
-ghost use Rattle.std.specs.Prelude.{◌≡◌, ◌≤◌, ◌<◌, ◌+◌, ◌↔◌, ◌++◌, ℕ, true, false, List, length, slice_index, IsErr, OnOk, OnErr};
+ghost use Rattle.std.specs.Prelude.{◌≡◌, ◌≤◌, ◌<◌, ◌+◌, ◌↔◌, ◌++◌, ℕ, true, false, List, length, slice_index, IsErr};
+ghost use Rattle.std.specs.Prelude.{OnOk, OnErr};
 ghost use Rattle.board_prelude.specs.Common.{Entry, card_byte};
 ghost use Rattle.pci_bars.specs.Contents.{IsBaseNumber};
 ghost use Rattle.board_chipset.specs.Chipset.{IsLeftBy};
@@ -22,8 +23,8 @@ const BASE_NUMBERS: u8 = 8;
 pub struct PastTheBase;
 
 impl Chipset {
-    /// How many bytes are kept of a base of a card, 0 to 5, or 7 for the VGA window A0000h to BFFFFh. 0 where there is no
-    /// such card or base, of an outside base, and of an expansion ROM, base 6, whose bytes are fixed.
+    /// How many bytes are kept of a base of a card, 0 to 5, or 7 for the VGA window A0000h to BFFFFh. 0 where there is
+    /// no such card or base, of an outside base, and of an expansion ROM, base 6, whose bytes are fixed.
     pub fn card_size(&self, dev: u8, base: u8) -> usize
         ensures size { result ≡ card_size self.now.setup dev base }
     {

@@ -1,6 +1,7 @@
 //! Tests a setup of which nothing is known, field after field.
 
-ghost use Rattle.std.specs.Prelude.{◌≡◌, ◌≤◌, ◌↔◌, ◌⊎◌, ℕ, List, [], length, Option, IsTrue, MatchResult, IfOk, IfErr, Err, option_map};
+ghost use Rattle.std.specs.Prelude.{◌≡◌, ◌≤◌, ◌↔◌, ◌⊎◌, ℕ, List, [], length, Option, IsTrue, MatchResult, IfOk, IfErr};
+ghost use Rattle.std.specs.Prelude.{Err, option_map};
 ghost use Rattle.board_spec.specs.Setup.{IsDisk, IsSetup, Setup as Fitting};
 ghost use Rattle.board_chipset.specs.Chipset.{IsLeftBy};
 ghost use Rattle.board_chipset.specs.Setups.{HasSizes, IsMemory, IsSetupFault};

@@ -1,7 +1,9 @@
 //! The chipset: each event is one step, and its reply the answer to the history so far, which is not kept.
 
 ghost use Rattle.std.specs.Prelude.{◌≡◌, ◌<◌, ◌≤◌, ◌%◌, ◌↔◌, List, [], ◌∷◌, length, Err, IfOk};
-ghost use Rattle.board_prelude.specs.Common.{Entry, most_mib, most_card_memory, IsCardList, IsDisk, IsRomSize, IsSetup, memory_of_cards, IsInRange, IsAnswer, byte_of, map_change_of, version_of, IsFlatMapOf, disk_of};
+ghost use Rattle.board_prelude.specs.Common.{Entry, most_mib, most_card_memory, IsCardList, IsDisk, IsRomSize, IsSetup};
+ghost use Rattle.board_prelude.specs.Common.{memory_of_cards, IsInRange, IsAnswer, byte_of, map_change_of, version_of};
+ghost use Rattle.board_prelude.specs.Common.{IsFlatMapOf, disk_of};
 ghost use Rattle.addr_decode.specs.MapRegs.{StandsFor, map_bytes};
 ghost use Rattle.dram_store.specs.Dram.{IsDramOf};
 ghost use Rattle.pci_bars.specs.Contents.{IsContentsOf};
@@ -37,8 +39,8 @@ impl Model for Chipset {
 }
 
 impl Chipset {
-    /// The chipset of a setup, as after power-on. The memory is 1 to 512 MiB; the cards are at most eight in rising order
-    /// of device, with at most 64 MiB of memory together. BadRom exactly where the ROM is not of 64, 128, 256 or
+    /// The chipset of a setup, as after power-on. The memory is 1 to 512 MiB; the cards are at most eight in rising
+    /// order of device, with at most 64 MiB of memory together. BadRom exactly where the ROM is not of 64, 128, 256 or
     /// 512 KiB, and BadDisk exactly where it is and the disk is not of 1 to 65,536 whole sectors.
     pub fn open(alloc: Global, setup: Setup) -> Result<Chipset, BoardOpen>
         requires low { 1 ≤ setup.mib }

@@ -48,8 +48,8 @@ impl Chipset {
         Ok(())
     }
 
-    /// Replaces the bytes that the disk was fitted with. Refused exactly where they are not as many, which are none without
-    /// a disk; then nothing has changed. It takes no memory.
+    /// Replaces the bytes that the disk was fitted with. Refused exactly where they are not as many, which are none
+    /// without a disk; then nothing has changed. It takes no memory.
     pub fn put_fitted(&mut self, bytes: &[u8]) -> Result<(), OtherLength>
         ensures refused { IsErr result ↔ length bytes.now ≢ disk_size self.old.setup }
         ensures put { OnOk result (self.new ≡ with_fitted bytes.now self.old) }
@@ -62,8 +62,8 @@ impl Chipset {
         Ok(())
     }
 
-    /// Replaces the bytes of all sectors of the disk, and leaves which of them are bad. Refused exactly where they are not
-    /// as many, which are none without a disk; then nothing has changed. It takes no memory.
+    /// Replaces the bytes of all sectors of the disk, and leaves which of them are bad. Refused exactly where they are
+    /// not as many, which are none without a disk; then nothing has changed. It takes no memory.
     pub fn put_sectors(&mut self, bytes: &[u8]) -> Result<(), OtherLength>
         ensures refused { IsErr result ↔ length bytes.now ≢ disk_size self.old.setup }
         ensures put { OnOk result (self.new ≡ with_sectors bytes.now self.old) }
@@ -76,8 +76,8 @@ impl Chipset {
         Ok(())
     }
 
-    /// Adds what stands after the bytes of the DRAM, without those of the disk: zeros stand in their place. After NoMemory
-    /// some of it may have been added.
+    /// Adds what stands after the bytes of the DRAM, without those of the disk: zeros stand in their place. After
+    /// NoMemory some of it may have been added.
     pub fn save_after_dram_left(&self, into: &mut Vec<u8>) -> Result<(), NoMemory>
         ensures saved { OnOk result (into.new.items ≡ into.old.items ++ after_dram (disk_left true self.now)) }
         ensures sound { OnOk result
@@ -92,7 +92,8 @@ impl State {
     fn save_after_left(&self, setup: &Setup, into: &mut Vec<u8>) -> Result<(), NoMemory>
         requires sound { IsSound setup.now self.now }
         ensures saved { OnOk result (into.new.items
-            ≡ into.old.items ++ (contents_bytes self.now.stores.contents ++ devices_left setup.now.disk self.now.devices)) }
+            ≡ into.old.items
+            ++ (contents_bytes self.now.stores.contents ++ devices_left setup.now.disk self.now.devices)) }
         ensures whole { OnOk result (AreRegisters setup.now.cards self.now.registers → IsWhole setup.now self.now) }
     {
         self.stores.contents.save_state(into)?;

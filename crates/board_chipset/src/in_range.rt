@@ -1,7 +1,8 @@
 //! Events that are in range: what a bus can ask, and what the world outside can do.
 
 ghost use Rattle.std.specs.Prelude.{◌↔◌, ◌≡◌, true, false, IsTrue, MatchResult};
-ghost use Rattle.board_prelude.specs.Common.{card_at, FitsAccess, FitsBytes, IsBusAccess, IsInRange, IsWideAccess, is_free_line, is_write};
+ghost use Rattle.board_prelude.specs.Common.{card_at, FitsAccess, FitsBytes, IsBusAccess, IsInRange, IsWideAccess};
+ghost use Rattle.board_prelude.specs.Common.{is_free_line, is_write};
 ghost use Rattle.board_chipset.specs.OutOfRange.{IsBusFault, IsFault, IsWideFault, IsWideSize};
 
 use crate::setup::Setup;
@@ -48,7 +49,8 @@ pub enum OutOfRange {
 
 /// Whether an event is in range for a board of this setup; if not, the first of its fields that is not.
 pub(crate) fn test(setup: &Setup, event: &Event) -> Result<(), OutOfRange>
-    ensures exact { MatchResult result (λ _. IsInRange setup.now event.now) (λ fault. IsFault setup.now event.now fault) }
+    ensures exact { MatchResult result (λ _. IsInRange setup.now event.now)
+        (λ fault. IsFault setup.now event.now fault) }
 {
     match event {
         Event::Memory(access) => test_memory(access),

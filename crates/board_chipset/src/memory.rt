@@ -25,7 +25,8 @@ pub fn access(state: &mut State, rom: &[u8], access: &Access) -> BusReply
         → reply_of result ≡ memory_answer setup history access.now }
     ensures board { (setup : Setup) (history : List Entry) (entry : Entry)
         → IsStateOf setup history state.old → setup.rom ≡ rom.now
-        → entry.event ≡ Memory access.now → entry.reply ≡ reply_of result → IsStateOf setup (entry ∷ history) state.new }
+        → entry.event ≡ Memory access.now → entry.reply ≡ reply_of result
+        → IsStateOf setup (entry ∷ history) state.new }
 {
     match plain_row(state.registers.regs(), access.addr) {
         Some(row) => {
@@ -55,7 +56,8 @@ fn answered(state: &mut State, rom: &[u8], access: &Access, answer: &Part) -> Bu
         → reply_of result ≡ memory_answer setup history access.now }
     ensures board { (setup : Setup) (history : List Entry) (entry : Entry)
         → IsStateOf setup history state.old → setup.rom ≡ rom.now
-        → entry.event ≡ Memory access.now → entry.reply ≡ reply_of result → IsStateOf setup (entry ∷ history) state.new }
+        → entry.event ≡ Memory access.now → entry.reply ≡ reply_of result
+        → IsStateOf setup (entry ∷ history) state.new }
 {
     let (target, denial) = (answer.target, answer.denial);
     if access.kind.is_write() {

@@ -1,7 +1,9 @@
 //! What a monitor asks of a chipset between two steps; and `ask`, which takes any event and refuses one out of range.
 
-ghost use Rattle.std.specs.Prelude.{◌≡◌, ◌≤◌, ◌<◌, ◌↔◌, true, false, List, ◌∷◌, IfSome, IfOk, IfErr, OnErr, IsTrue, IsErr, MatchResult};
-ghost use Rattle.board_prelude.specs.Common.{Spurious, Entry, Port, IsInRange, IsAnswer, timer_of, acknowledged_by, version_of, is_hard_reset};
+ghost use Rattle.std.specs.Prelude.{◌≡◌, ◌≤◌, ◌<◌, ◌↔◌, true, false, List, ◌∷◌, IfSome, IfOk, IfErr, OnErr, IsTrue};
+ghost use Rattle.std.specs.Prelude.{IsErr, MatchResult};
+ghost use Rattle.board_prelude.specs.Common.{Spurious, Entry, Port, IsInRange, IsAnswer, timer_of, acknowledged_by};
+ghost use Rattle.board_prelude.specs.Common.{version_of, is_hard_reset};
 ghost use Rattle.pit_8254.specs.NextRise.{IsNextRise};
 ghost use Rattle.board_devices.specs.Outside.{is_interrupting};
 ghost use Rattle.board_chipset.specs.Chipset.{IsLeftBy};

@@ -1,10 +1,12 @@
 //! A guest's accesses to ports, which need not be aligned.
 
-ghost use Rattle.std.specs.Prelude.{◌≡◌, ◌<◌, ◌≤◌, ◌+◌, ◌^◌, ◌↔◌, ◌++◌, ℕ, List, reverse, MatchResult, IsErr, IfOk, IfErr, OnErr};
+ghost use Rattle.std.specs.Prelude.{◌≡◌, ◌<◌, ◌≤◌, ◌+◌, ◌^◌, ◌↔◌, ◌++◌, ℕ, List, reverse, MatchResult, IsErr, IfOk};
+ghost use Rattle.std.specs.Prelude.{IfErr, OnErr};
 ghost use Rattle.board_prelude.specs.Common.{bytes_of, Entry, IsBusAccess};
 ghost use Rattle.board_stores.specs.PortCycles.{port_accesses, AreBusCycles, Follow};
 ghost use Rattle.board_chipset.specs.Chipset.{IsLeftBy};
-ghost use Rattle.board_chipset.specs.PortAccesses.{AnswerCycles, IsPortAccess, IsPortFault, IsPortReply, AreCyclesDone, IsCycleStep, bytes_read, stronger};
+ghost use Rattle.board_chipset.specs.PortAccesses.{AnswerCycles, IsPortAccess, IsPortFault, IsPortReply, AreCyclesDone};
+ghost use Rattle.board_chipset.specs.PortAccesses.{IsCycleStep, bytes_read, stronger};
 
 use crate::chipset::Chipset;
 use crate::in_range::{OutOfRange, fits};
@@ -37,10 +39,10 @@ impl ResetKind {
 }
 
 impl Chipset {
-    /// Does a guest's access to ports, which need not be aligned: the bus cuts it into aligned cycles, which are done in
-    /// rising order. The value read is put together, the byte at the first port lowest; the reset is the strongest that a
-    /// cycle made. Refused exactly where the access passes port FFFFh, or its value does not fit the width or is not 0
-    /// where it reads; then nothing has changed.
+    /// Does a guest's access to ports, which need not be aligned: the bus cuts it into aligned cycles, which are done
+    /// in rising order. The value read is put together, the byte at the first port lowest; the reset is the strongest
+    /// that a cycle made. Refused exactly where the access passes port FFFFh, or its value does not fit the width or is
+    /// not 0 where it reads; then nothing has changed.
     pub fn ask_port(&mut self, access: &PortAccess) -> Result<PortReply, OutOfRange>
         ensures refused { IsErr result ↔ ¬ IsPortAccess access.now }
         ensures fault { IfErr result (λ fault. IsPortFault access.now fault) }
@@ -65,7 +67,8 @@ impl Chipset {
         requires bus { AreBusCycles (port_accesses cycles.now) }
         requires follow { (end : ℕ) × Follow first end (port_accesses cycles.now) × (end ≤ first + 4) }
         ensures setup { self.new.setup ≡ self.old.setup }
-        ensures done { AreCyclesDone self.old.setup self.old first (reverse (port_accesses cycles.now)) self.new result.0 result.1 }
+        ensures done { AreCyclesDone self.old.setup self.old first (reverse (port_accesses cycles.now)) self.new
+            result.0 result.1 }
     {
         let mut value = 0;
         let mut reset = ResetKind::None;

@@ -1,7 +1,8 @@
 //! Accesses at ports.
 
 ghost use Rattle.std.specs.Prelude.{◌≡◌, ℕ, true, false, List, ◌∷◌, Some, None, if◌then◌else◌};
-ghost use Rattle.board_prelude.specs.Common.{Entry, Port, Reg, Device, Config, Abort, Setup, IsBusAccess, port_answer, port_value, value_at};
+ghost use Rattle.board_prelude.specs.Common.{Entry, Port, Reg, Device, Config, Abort, Setup, IsBusAccess, port_answer};
+ghost use Rattle.board_prelude.specs.Common.{port_value, value_at};
 ghost use Rattle.board_base.specs.declared.target.Dev.TheVariants.{Reset};
 ghost use Rattle.addr_decode.specs.Common.{HasRegister, as_decoded};
 ghost use Rattle.board_chipset.specs.BusReplies.{reply_of};
@@ -100,7 +101,8 @@ fn register_value(state: &mut State, register: &ConfigRegister, access: &PortAcc
         → Config register.now.reg ≡ (reached setup history access.now).target → result ≡ (if access.now.write then None
         else Some (value_at setup history (Config register.now.reg) access.now.port access.now.width)) }
     ensures board { (setup : Setup) (history : List Entry) (entry : Entry) → IsStateOf setup history state.old
-        → IsEntryOf setup history access.now (Config register.now.reg) entry → IsStateOf setup (entry ∷ history) state.new }
+        → IsEntryOf setup history access.now (Config register.now.reg) entry
+        → IsStateOf setup (entry ∷ history) state.new }
 {
     if access.write {
         write_register(state, register, access);
@@ -227,7 +229,8 @@ fn write_register(state: &mut State, register: &ConfigRegister, access: &PortAcc
     requires writes { access.now.write ≡ true }
     ensures sound { StaysSound state.old state.new }
     ensures board { (setup : Setup) (history : List Entry) (entry : Entry) → IsStateOf setup history state.old
-        → IsEntryOf setup history access.now (Config register.now.reg) entry → IsStateOf setup (entry ∷ history) state.new }
+        → IsEntryOf setup history access.now (Config register.now.reg) entry
+        → IsStateOf setup (entry ∷ history) state.new }
 {
     if state.registers.store(register, access.width, access.value) {
         state.devices.reroute(&state.registers.south.routes);

@@ -1,7 +1,10 @@
 //! The registers of the board.
 
-ghost use Rattle.std.specs.Prelude.{◌≡◌, ◌≢◌, ◌+◌, ◌≤◌, ◌<◌, true, false, List, [], ◌∷◌, Some, None, is_some, if◌then◌else◌};
-ghost use Rattle.board_prelude.specs.Common.{bytes_of, Entry, Port, Store, Reset, Setup, IsCardList, wide, function_exists, reset_byte, byte_of, config_address, is_hard_value, map_change_of, touches_map, Bytes, port_target_of};
+ghost use Rattle.std.specs.Prelude.{◌≡◌, ◌≢◌, ◌+◌, ◌≤◌, ◌<◌, true, false, List, [], ◌∷◌, Some, None, is_some};
+ghost use Rattle.std.specs.Prelude.{if◌then◌else◌};
+ghost use Rattle.board_prelude.specs.Common.{bytes_of, Entry, Port, Store, Reset, Setup, IsCardList, wide};
+ghost use Rattle.board_prelude.specs.Common.{function_exists, reset_byte, byte_of, config_address, is_hard_value};
+ghost use Rattle.board_prelude.specs.Common.{map_change_of, touches_map, Bytes, port_target_of};
 ghost use Rattle.board_base.specs.declared.target.Dev.TheVariants.{Reset as ResetPort};
 ghost use Rattle.pci_bars.specs.Cards.{AreFitted};
 ghost use Rattle.addr_decode.specs.Common.{HasRegister, IsFoundIn, StandsFor, map_bytes, as_decoded, decoded_as};
@@ -104,8 +107,8 @@ impl Registers {
         self.address.write(value);
     }
 
-    /// Stores the bytes of a value in configuration space, the low one first, in rising offset. Returns whether they go to
-    /// the 82371SB, which routes the PCI interrupts.
+    /// Stores the bytes of a value in configuration space, the low one first, in rising offset. Returns whether they go
+    /// to the 82371SB, which routes the PCI interrupts.
     pub fn store(&mut self, register: &ConfigRegister, width: Width, value: u32) -> bool
         requires within { register.now.reg.off + bytes_of width ≤ 0x100 }
         requires function { HasRegister self.old.map.regs.cards register.now.function register.now.reg }

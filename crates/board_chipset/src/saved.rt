@@ -7,7 +7,8 @@ ghost use Rattle.byte_fields.specs.Fields.{Filled};
 ghost use Rattle.board_chipset.specs.Alone.{alone};
 ghost use Rattle.map_builder.specs.State.{IsMapped};
 ghost use Rattle.board_chipset.specs.Chipset.{Running, IsLeftBy};
-ghost use Rattle.board_chipset.specs.ChipsetState.{is_other_version, bare_state, bare_chipset, chipset_bytes, chipset_fields, IsChipset, LoadsChipset, IsBadStateAt};
+ghost use Rattle.board_chipset.specs.ChipsetState.{is_other_version, bare_state, bare_chipset, chipset_bytes};
+ghost use Rattle.board_chipset.specs.ChipsetState.{chipset_fields, IsChipset, LoadsChipset, IsBadStateAt};
 ghost use Rattle.board_chipset.specs.declared.check.SetupFault.{SetupFault};
 ghost use Rattle.board_chipset.specs.Setups.{IsSetupFault};
 ghost use Rattle.board_chipset.specs.StateFaults.{IsOfBytes};
@@ -23,8 +24,8 @@ use map_builder::law_same_map;
 use std::alloc::Global;
 
 impl Chipset {
-    /// Adds the state of the chipset, from which `load_state` makes it again over the same setup. After NoMemory some of it
-    /// may have been added.
+    /// Adds the state of the chipset, from which `load_state` makes it again over the same setup. After NoMemory some
+    /// of it may have been added.
     pub fn save_state(&self, into: &mut Vec<u8>) -> Result<(), NoMemory>
         ensures saved { OnOk result (into.new.items ≡ into.old.items ++ chipset_bytes self.now) }
         ensures sound { OnOk result (IsChipset self.now) }
@@ -33,12 +34,13 @@ impl Chipset {
         self.state.save_state(&self.setup, into)
     }
 
-    /// The chipset of this setup whose state the bytes are. So it is the one that was saved (`law_one_state`), and every
-    /// history that left that one as it was leaves this one so (`law_loaded_is_saved`).
+    /// The chipset of this setup whose state the bytes are. So it is the one that was saved (`law_one_state`), and
+    /// every history that left that one as it was leaves this one so (`law_loaded_is_saved`).
     ///
-    /// Refused with the first field of the setup that no board can have; and then where the bytes are of another version of
-    /// the format; and then with the offset of the first field that is not whole or out of range, or of the first byte too
-    /// many. Bytes over a setup of other sizes are refused at one of these. NoMemory says nothing of the bytes.
+    /// Refused with the first field of the setup that no board can have; and then where the bytes are of another
+    /// version of the format; and then with the offset of the first field that is not whole or out of range, or of the
+    /// first byte too many. Bytes over a setup of other sizes are refused at one of these. NoMemory says nothing of the
+    /// bytes.
     pub fn load_state(alloc: Global, setup: Setup, bytes: &[u8]) -> Result<Chipset, StateFault>
         ensures loaded { IfOk result (λ chipset. (chipset.setup ≡ setup) × IsChipset chipset
             × (chipset_bytes chipset ≡ bytes.now)) }
@@ -62,8 +64,8 @@ impl Chipset {
         load_version(alloc, setup, bytes)
     }
 
-    /// The chipset of this setup whose state is at the front of the bytes, for those that have more behind it. Bad where a
-    /// field is not whole or out of range: the bytes left then begin with the first such field.
+    /// The chipset of this setup whose state is at the front of the bytes, for those that have more behind it. Bad
+    /// where a field is not whole or out of range: the bytes left then begin with the first such field.
     pub fn load_fields(alloc: Global, setup: Setup, fields: &mut Fields) -> Result<Chipset, Fault>
         requires fits { IsSetup setup }
         ensures loaded { LoadsChipset setup fields.old fields.new result }
@@ -135,8 +137,9 @@ pub fn law_one_state()
     law_same_map();
 }
 
-/// Does nothing: a chipset that was loaded from the bytes of one that was saved, over its setup, is as each history leaves
-/// it that left the saved one so, and as no other. So all that the calls of a chipset promise holds of it word for word.
+/// Does nothing: a chipset that was loaded from the bytes of one that was saved, over its setup, is as each history
+/// leaves it that left the saved one so, and as no other. So all that the calls of a chipset promise holds of it word
+/// for word.
 pub fn law_loaded_is_saved()
     ensures same { (saved loaded : Running) (history : List Entry) → IsChipset saved → IsChipset loaded
         → saved.setup ≡ loaded.setup → chipset_bytes saved ≡ chipset_bytes loaded

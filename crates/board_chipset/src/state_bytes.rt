@@ -1,5 +1,5 @@
-//! The state of a chipset as bytes, out and in: the head, the registers, the bytes behind the addresses, and the devices.
-//! The setup is not in them; the head has its sizes.
+//! The state of a chipset as bytes, out and in: the head, the registers, the bytes behind the addresses, and the
+//! devices. The setup is not in them; the head has its sizes.
 
 ghost use Rattle.std.specs.Prelude.{◌≡◌, ◌≤◌, ◌++◌, length, is_some, All, OnOk, IfOk};
 ghost use Rattle.board_prelude.specs.Common.{most_mib, IsCard, IsCardList, IsSetup, Setup as Fitting};
@@ -12,7 +12,11 @@ ghost use Rattle.map_builder.specs.State.{IsMapped, bare, mapped_fields};
 ghost use Rattle.board_devices.specs.State.{devices_fields};
 ghost use Rattle.board_chipset.specs.declared.state.State.{State as StateValue};
 ghost use Rattle.board_chipset.specs.Kept.{AreSound, IsSound};
-ghost use Rattle.board_chipset.specs.ChipsetState.{disk_size, size_bytes, head_bytes, size_fields, head_fields, other_version_field, is_other_version, AreRegisters, registers_bytes, bare_registers, registers_fields, AreStores, stores_bytes, stores_fields, IsWhole, state_bytes, bare_state, state_fields};
+ghost use Rattle.board_chipset.specs.ChipsetState.{disk_size, size_bytes, head_bytes, size_fields, head_fields};
+ghost use Rattle.board_chipset.specs.ChipsetState.{other_version_field, is_other_version, AreRegisters};
+ghost use Rattle.board_chipset.specs.ChipsetState.{registers_bytes, bare_registers, registers_fields, AreStores};
+ghost use Rattle.board_chipset.specs.ChipsetState.{stores_bytes, stores_fields, IsWhole, state_bytes, bare_state};
+ghost use Rattle.board_chipset.specs.ChipsetState.{state_fields};
 
 use crate::registers::Registers;
 use crate::reset_control::ResetControl;

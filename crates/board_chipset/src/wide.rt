@@ -24,7 +24,8 @@ pub fn access(state: &mut State, rom: &[u8], access: &WideAccess) -> WideReply
         → IsAnswer setup history (Wide access.now) (wide_reply_of result) }
     ensures board { (setup : Setup) (history : List Entry) (entry : Entry)
         → IsStateOf setup history state.old → setup.rom ≡ rom.now
-        → entry.event ≡ Wide access.now → entry.reply ≡ wide_reply_of result → IsStateOf setup (entry ∷ history) state.new }
+        → entry.event ≡ Wide access.now → entry.reply ≡ wide_reply_of result
+        → IsStateOf setup (entry ∷ history) state.new }
 {
     law_parts();
     let cut = cycles_of(state.registers.regs(), rom, access);

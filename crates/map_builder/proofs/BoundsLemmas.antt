@@ -1,13 +1,18 @@
 -- Each window that a change may change ends where it begins or above.
-use Rattle.std.proofs.Common.{◌≡◌, ℕ, ◌/◌, ◌≤◌, inl, inr, List, [], ◌∷◌, ◌++◌, map, take, Option, Some, None, refl, ◌∙◌, ap, arith, ◌==◌, flat_map, filter, min, max}
-use Rattle.board_prelude.proofs.Common.{AllByRecursion, option_map_or, cases_Bool, nat_tests, Reg, bytes_of, MapChange, Store, Reset, FittedCard, Setup, card_at, Bytes, Window, rom_window, vga_window, reg_after}
+use Rattle.std.proofs.Common.{◌≡◌, ℕ, ◌/◌, ◌≤◌, inl, inr, List, [], ◌∷◌, ◌++◌, map, take, Option, Some, None, refl, ◌∙◌}
+use Rattle.std.proofs.Common.{ap, arith, ◌==◌, flat_map, filter, min, max}
+use Rattle.board_prelude.proofs.Common.{AllByRecursion, option_map_or, cases_Bool, nat_tests, Reg, bytes_of, MapChange}
+use Rattle.board_prelude.proofs.Common.{Store, Reset, FittedCard, Setup, card_at, Bytes, Window, rom_window, vga_window}
+use Rattle.board_prelude.proofs.Common.{reg_after}
 use Rattle.map_builder.specs.declared.range.Changed.{Changed}
 use Rattle.addr_decode.specs.declared.register.MapRegister.{MapRegister}
-use Rattle.addr_decode.specs.declared.register.MapRegister.TheVariants.{Pam, RowBoundary, Hole, Smram, ChipSelects, Card}
+use Rattle.addr_decode.specs.declared.register.MapRegister.TheVariants.{Pam, RowBoundary, Hole, Smram, ChipSelects}
+use Rattle.addr_decode.specs.declared.register.MapRegister.TheVariants.{Card}
 use Rattle.addr_decode.specs.declared.register.CardRegister.{CardRegister}
 use Rattle.addr_decode.specs.declared.register.CardRegister.TheVariants.{Command, Base, ExpansionRom}
 use Rattle.addr_decode.specs.MapRegister.{map_register}
-use Rattle.map_builder.specs.Changed.{decoded, base_windows, pam_windows, card_windows, register_windows, name_windows, windows_of, windows_covered, after, changed_windows, both, joined, bounds}
+use Rattle.map_builder.specs.Changed.{decoded, base_windows, pam_windows, card_windows, register_windows, name_windows}
+use Rattle.map_builder.specs.Changed.{windows_of, windows_covered, after, changed_windows, both, joined, bounds}
 use Rattle.map_builder.proofs.WindowLemmas.{offsets}
 
 abbrev pub IsOrdered : Changed → Type 0
@@ -22,15 +27,18 @@ ordered_append : (xs ys : List Changed) → Ordered xs → Ordered ys → Ordere
 ordered_append [] ys first later = later
 ordered_append (x ∷ xs) ys first later = (first.0, ordered_append xs ys first.1 later)
 
-ordered_flat_map : (windows : ℕ → List Changed) (ks : List ℕ) → ((k : ℕ) → Ordered (windows k)) → Ordered (flat_map windows ks)
+ordered_flat_map : (windows : ℕ → List Changed) (ks : List ℕ) → ((k : ℕ) → Ordered (windows k)) →
+    Ordered (flat_map windows ks)
 ordered_flat_map windows [] each = tt
-ordered_flat_map windows (k ∷ ks) each = ordered_append (windows k) (flat_map windows ks) (each k) (ordered_flat_map windows ks each)
+ordered_flat_map windows (k ∷ ks) each =
+    ordered_append (windows k) (flat_map windows ks) (each k) (ordered_flat_map windows ks each)
 
 decoded_ordered : (windows : List Window) → Ordered (map decoded windows)
 decoded_ordered [] = tt
 decoded_ordered (window ∷ later) = (omega arith, decoded_ordered later)
 
-card_ordered : (bytes : Bytes) (register : CardRegister) (card : FittedCard) → Ordered (card_windows bytes register card)
+card_ordered : (bytes : Bytes) (register : CardRegister) (card : FittedCard) →
+    Ordered (card_windows bytes register card)
 card_ordered bytes Command card = decoded_ordered (base_windows bytes card ++ rom_window bytes card ++ vga_window card)
 card_ordered bytes (Base k) card = decoded_ordered (filter (λ window. window.base == k / 4) (base_windows bytes card))
 card_ordered bytes (ExpansionRom k) card = decoded_ordered (rom_window bytes card)
@@ -41,9 +49,11 @@ device_ordered bytes register None = tt
 device_ordered bytes register (Some card) = card_ordered bytes register card
 
 pam_ordered : (number : ℕ) → IsOrdered (pam_windows number)
-pam_ordered number = elim (cases_Bool (number == 0)) [ inl first ↦ rw first (omega arith) | inr other ↦ rw other (omega arith) ]
+pam_ordered number =
+    elim (cases_Bool (number == 0)) [ inl first ↦ rw first (omega arith) | inr other ↦ rw other (omega arith) ]
 
-register_ordered : (setup : Setup) (bytes : Bytes) (register : MapRegister) → Ordered (register_windows setup bytes register)
+register_ordered : (setup : Setup) (bytes : Bytes) (register : MapRegister) →
+    Ordered (register_windows setup bytes register)
 register_ordered setup bytes (Pam number) = (pam_ordered number, tt)
 register_ordered setup bytes (RowBoundary row) = (omega arith, tt)
 register_ordered setup bytes Hole = (omega arith, (omega arith, tt))
@@ -58,16 +68,20 @@ name_ordered setup bytes (Some register) = register_ordered setup bytes register
 windows_ordered : (setup : Setup) (bytes : Bytes) (reg : Reg) → Ordered (windows_of setup bytes reg)
 windows_ordered setup bytes reg = name_ordered setup bytes (map_register setup.cards reg)
 
-pub covered_ordered : (setup : Setup) (bytes : Bytes) (change : MapChange) → Ordered (windows_covered setup bytes change)
+pub covered_ordered : (setup : Setup) (bytes : Bytes) (change : MapChange) →
+    Ordered (windows_covered setup bytes change)
 unfolding windows_covered
 covered_ordered setup bytes Reset = (omega arith, tt)
 covered_ordered setup bytes (Store reg width value) =
-    ordered_flat_map (λ k. windows_of setup bytes (reg_after reg k)) (take (bytes_of width) offsets) (λ k. windows_ordered setup bytes (reg_after reg k))
+    ordered_flat_map (λ k. windows_of setup bytes (reg_after reg k)) (take (bytes_of width) offsets)
+    (λ k. windows_ordered setup bytes (reg_after reg k))
 
-pub changed_ordered : (setup : Setup) (bytes : Bytes) (change : MapChange) → Ordered (changed_windows setup bytes change)
+pub changed_ordered : (setup : Setup) (bytes : Bytes) (change : MapChange) →
+    Ordered (changed_windows setup bytes change)
 changed_ordered setup bytes change =
     let new : Bytes = after setup change bytes in
-    ordered_append (windows_covered setup bytes change) (windows_covered setup new change) (covered_ordered setup bytes change) (covered_ordered setup new change)
+    ordered_append (windows_covered setup bytes change) (windows_covered setup new change)
+    (covered_ordered setup bytes change) (covered_ordered setup new change)
 
 -- ---- the bounds of two lists
 
@@ -81,7 +95,8 @@ both_on a b c =
     let highs : max a.hi (max b.hi c.hi) ≡ max (max a.hi b.hi) c.hi = grind (arith, nat_tests) in
     rw (lows, highs) refl
 
-joined_on : (window : Changed) (here there : Option Changed) → joined window (joined_maybe here there) ≡ joined (joined window here) there
+joined_on : (window : Changed) (here there : Option Changed) →
+    joined window (joined_maybe here there) ≡ joined (joined window here) there
 joined_on window None there = refl
 joined_on window (Some here) None = refl
 joined_on window (Some here) (Some there) = both_on window here there
@@ -90,7 +105,8 @@ bounds_two : (xs ys : List Changed) → bounds (xs ++ ys) ≡ joined_maybe (boun
 unfolding bounds
 bounds_two [] ys = refl
 bounds_two (window ∷ xs) ys =
-    ap (λ (rest : Option Changed). Some (joined window rest)) (bounds_two xs ys) ∙ ap Some (joined_on window (bounds xs) (bounds ys))
+    ap (λ (rest : Option Changed). Some (joined window rest)) (bounds_two xs ys)
+    ∙ ap Some (joined_on window (bounds xs) (bounds ys))
 
 joined_same : (it : Option Changed) → joined_maybe it it ≡ it
 joined_same None = refl

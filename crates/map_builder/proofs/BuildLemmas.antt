@@ -1,6 +1,9 @@
 -- The ranges as they are built, from the first address on: the last of them may still go on.
-use Rattle.std.proofs.Common.{◌≡◌, ◌≢◌, ℕ, ◌+◌, ◌-◌, ◌<◌, ◌≤◌, inl, inr, List, [], ◌∷◌, ◌++◌, length, refl, sym, ◌∙◌, ap, subst, arith, append_assoc}
-use Rattle.board_prelude.proofs.Common.{cases_lt, length-append, All-nil, All-cons, All-append, Area, Setup, Bytes, address_count, six_areas, MapRange, Tiles, NeighboursDiffer, IsRight, IsFlatMapOf}
+use Rattle.std.proofs.Common.{◌≡◌, ◌≢◌, ℕ, ◌+◌, ◌-◌, ◌<◌, ◌≤◌, inl, inr, List, [], ◌∷◌, ◌++◌, length, refl, sym, ◌∙◌}
+use Rattle.std.proofs.Common.{ap, subst, arith, append_assoc}
+use Rattle.board_prelude.proofs.Common.{cases_lt, length-append, All-nil, All-cons, All-append, Area, Setup, Bytes}
+use Rattle.board_prelude.proofs.Common.{address_count, six_areas, MapRange, Tiles, NeighboursDiffer, IsRight}
+use Rattle.board_prelude.proofs.Common.{IsFlatMapOf}
 use Rattle.addr_decode.specs.Edges.{SameAreas}
 use Rattle.map_builder.specs.Common.{most_ranges, ContinuesAt, Built, BuiltOf}
 
@@ -11,7 +14,8 @@ range lo hi areas = record { lo = lo; hi = hi; areas = areas }
 abbrev cut_at : ℕ → List Area → MapRange → List MapRange
 cut_at addr areas last = range last.lo (addr - 1) last.areas ∷ range addr last.hi areas ∷ []
 
-tiles_cut : (from : ℕ) (ranges : List MapRange) (last : MapRange) (addr : ℕ) (areas : List Area) → last.lo < addr → addr ≤ last.hi →
+tiles_cut : (from : ℕ) (ranges : List MapRange) (last : MapRange) (addr : ℕ) (areas : List Area) → last.lo < addr →
+    addr ≤ last.hi →
     Tiles from (ranges ++ last ∷ []) → Tiles from (ranges ++ cut_at addr areas last)
 tiles_cut from [] last addr areas above below tiles =
     (tiles.0, omega arith, (omega arith, below, tiles.2))
@@ -22,7 +26,8 @@ differ_cut : (ranges : List MapRange) (last : MapRange) (addr : ℕ) (areas : Li
     NeighboursDiffer (ranges ++ last ∷ []) → NeighboursDiffer (ranges ++ cut_at addr areas last)
 differ_cut [] last addr areas other differ = ((λ same. other (sym same)), (tt, tt))
 differ_cut (here ∷ []) last addr areas other differ = (differ.0, differ_cut [] last addr areas other differ.1)
-differ_cut (here ∷ next ∷ later) last addr areas other differ = (differ.0, differ_cut (next ∷ later) last addr areas other differ.1)
+differ_cut (here ∷ next ∷ later) last addr areas other differ =
+    (differ.0, differ_cut (next ∷ later) last addr areas other differ.1)
 
 -- ---- what holds at each step
 
@@ -46,29 +51,38 @@ built_cut : (ranges : List MapRange) (last : MapRange) (addr edge : ℕ) (areas 
     Built (ranges ++ range last.lo (edge - 1) last.areas ∷ []) (range edge 0xFFFF_FFFF areas) edge
 built_cut ranges last addr edge areas built above below other =
     let high : last.hi ≡ 0xFFFF_FFFF = built.open_end in
-    let joined : (ranges ++ range last.lo (edge - 1) last.areas ∷ []) ++ range edge 0xFFFF_FFFF areas ∷ [] ≡ ranges ++ cut_at edge areas last =
+    let joined : (ranges ++ range last.lo (edge - 1) last.areas ∷ []) ++ range edge 0xFFFF_FFFF areas ∷ []
+    ≡ ranges ++ cut_at edge areas last =
     append_assoc ranges (range last.lo (edge - 1) last.areas ∷ []) (range edge 0xFFFF_FFFF areas ∷ [])
     ∙ ap (λ (hi : ℕ). ranges ++ (range last.lo (edge - 1) last.areas ∷ range edge hi areas ∷ [])) (sym high) in
     record {
-      tiles = subst (Tiles 0) (sym joined) (tiles_cut 0 ranges last edge areas (omega (arith, built.begun)) (omega arith) built.tiles);
+      tiles = subst (Tiles 0) (sym joined)
+          (tiles_cut 0 ranges last edge areas (omega (arith, built.begun)) (omega arith) built.tiles);
       least = subst NeighboursDiffer (sym joined) (differ_cut ranges last edge areas other built.least);
       begun = omega arith;
       open_end = refl;
     }
 
 pub built_on : (ranges ranges' : List MapRange) (last last' : MapRange) (addr edge : ℕ) (areas : List Area) →
-    Built ranges last addr → addr < edge → edge ≤ 0xFFFF_FFFF → ContinuesAt ranges ranges' last last' edge areas → Built ranges' last' edge
+    Built ranges last addr → addr < edge → edge ≤ 0xFFFF_FFFF → ContinuesAt ranges ranges' last last' edge areas →
+    Built ranges' last' edge
 built_on ranges ranges' last last' addr edge areas built above below (inl (same, is, last_is)) =
     subst (λ (xs : List MapRange). Built xs last' edge) (sym is)
     (subst (λ (x : MapRange). Built ranges x edge) (sym last_is)
-    (record { tiles = built.tiles; least = built.least; begun = omega (arith, built.begun); open_end = built.open_end }))
+    (record {
+      tiles = built.tiles;
+      least = built.least;
+      begun = omega (arith, built.begun);
+      open_end = built.open_end;
+    }))
 built_on ranges ranges' last last' addr edge areas built above below (inr (other, is, last_is)) =
     subst (λ (xs : List MapRange). Built xs last' edge) (sym is)
     (subst (λ (x : MapRange). Built (ranges ++ range last.lo (edge - 1) last.areas ∷ []) x edge) (sym last_is)
     (built_cut ranges last addr edge areas built above below other))
 
 -- the areas up to an edge
-pub up_to_edge : (setup : Setup) (bytes : Bytes) (last : MapRange) (addr edge : ℕ) → last.lo ≤ addr → SameAreas setup bytes addr edge →
+pub up_to_edge : (setup : Setup) (bytes : Bytes) (last : MapRange) (addr edge : ℕ) → last.lo ≤ addr →
+    SameAreas setup bytes addr edge →
     ((x : ℕ) → last.lo ≤ x → x ≤ addr → six_areas setup bytes x ≡ last.areas) →
     (x : ℕ) → last.lo ≤ x → x < edge → six_areas setup bytes x ≡ last.areas
 up_to_edge setup bytes last addr edge begun same so_far x low high =
@@ -78,9 +92,11 @@ up_to_edge setup bytes last addr edge begun same so_far x low high =
     ]
 
 pub built_of_on :
-    (setup : Setup) (bytes : Bytes) (ranges ranges' : List MapRange) (last last' : MapRange) (addr edge : ℕ) (areas : List Area) →
+    (setup : Setup) (bytes : Bytes) (ranges ranges' : List MapRange) (last last' : MapRange) (addr edge : ℕ)
+    (areas : List Area) →
     last.lo ≤ addr → addr < edge → SameAreas setup bytes addr edge → areas ≡ six_areas setup bytes edge →
-    ContinuesAt ranges ranges' last last' edge areas → BuiltOf setup bytes ranges last addr → BuiltOf setup bytes ranges' last' edge
+    ContinuesAt ranges ranges' last last' edge areas → BuiltOf setup bytes ranges last addr →
+    BuiltOf setup bytes ranges' last' edge
 built_of_on setup bytes ranges ranges' last last' addr edge areas begun above same row (inl (here, is, last_is)) built =
     subst (λ (xs : List MapRange). BuiltOf setup bytes xs last' edge) (sym is)
     (subst (λ (x : MapRange). BuiltOf setup bytes ranges x edge) (sym last_is)
@@ -89,24 +105,31 @@ built_of_on setup bytes ranges ranges' last last' addr edge areas begun above sa
       so_far = λ x low high.
           elim (cases_lt x edge) [
             | inl below ↦ up_to_edge setup bytes last addr edge begun same built.so_far x low below
-            | inr not_below ↦ let at_edge : x ≡ edge = omega arith in ap (six_areas setup bytes) at_edge ∙ sym row ∙ here
+            | inr not_below ↦ let at_edge : x ≡ edge = omega arith in
+                ap (six_areas setup bytes) at_edge ∙ sym row ∙ here
           ];
     }))
-built_of_on setup bytes ranges ranges' last last' addr edge areas begun above same row (inr (other, is, last_is)) built =
+built_of_on setup bytes ranges ranges' last last' addr edge areas begun above same row (inr (other, is, last_is))
+    built =
     let ended : MapRange = range last.lo (edge - 1) last.areas in
-    let one : IsRight setup bytes ended = record { at_each = λ x low high. up_to_edge setup bytes last addr edge begun same built.so_far x low (omega arith) } in
+    let one : IsRight setup bytes ended = record {
+      at_each = λ x low high. up_to_edge setup bytes last addr edge begun same built.so_far x low (omega arith);
+    } in
     subst (λ (xs : List MapRange). BuiltOf setup bytes xs last' edge) (sym is)
     (subst (λ (x : MapRange). BuiltOf setup bytes (ranges ++ ended ∷ []) x edge) (sym last_is)
     (record {
-      right = All-append (IsRight setup bytes) ranges (ended ∷ []) built.right (All-cons (IsRight setup bytes) ended [] one (All-nil (IsRight setup bytes)));
+      right = All-append (IsRight setup bytes) ranges (ended ∷ []) built.right
+          (All-cons (IsRight setup bytes) ended [] one (All-nil (IsRight setup bytes)));
       so_far = λ x low high. let at_edge : x ≡ edge = omega arith in ap (six_areas setup bytes) at_edge ∙ sym row;
     }))
 
 -- each step adds at most one range, and then leaves fewer edges
-pub few_on : (ranges ranges' : List MapRange) (last last' : MapRange) (edge : ℕ) (areas : List Area) (before after : ℕ) →
+pub few_on : (ranges ranges' : List MapRange) (last last' : MapRange) (edge : ℕ) (areas : List Area)
+    (before after : ℕ) →
     ContinuesAt ranges ranges' last last' edge areas → after ≤ before → (areas ≢ last.areas → after < before) →
     length ranges + before < most_ranges → length ranges' + after < most_ranges
-few_on ranges ranges' last last' edge areas before after (inl (here, is, last_is)) left fewer few = omega (arith, ap (λ (xs : List MapRange). length xs) is)
+few_on ranges ranges' last last' edge areas before after (inl (here, is, last_is)) left fewer few =
+    omega (arith, ap (λ (xs : List MapRange). length xs) is)
 few_on ranges ranges' last last' edge areas before after (inr (other, is, last_is)) left fewer few =
     let long : length ranges' ≡ length ranges + 1 =
     ap (λ (xs : List MapRange). length xs) is ∙ length-append ranges (range last.lo (edge - 1) last.areas ∷ []) in
@@ -118,9 +141,13 @@ pub built_all : (setup : Setup) (bytes : Bytes) (ranges : List MapRange) (last :
     IsFlatMapOf setup bytes (ranges ++ last ∷ [])
 built_all setup bytes ranges last addr built of_board same =
     let one : IsRight setup bytes last =
-    record { at_each = λ x low high. up_to_edge setup bytes last addr address_count built.begun same of_board.so_far x low (omega (arith, built.open_end)) } in
+    record {
+      at_each = λ x low high. up_to_edge setup bytes last addr address_count built.begun same of_board.so_far x low
+          (omega (arith, built.open_end));
+    } in
     record {
       tiles = built.tiles;
-      right = All-append (IsRight setup bytes) ranges (last ∷ []) of_board.right (All-cons (IsRight setup bytes) last [] one (All-nil (IsRight setup bytes)));
+      right = All-append (IsRight setup bytes) ranges (last ∷ []) of_board.right
+          (All-cons (IsRight setup bytes) last [] one (All-nil (IsRight setup bytes)));
       least = built.least;
     }

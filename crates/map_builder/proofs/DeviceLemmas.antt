@@ -1,15 +1,22 @@
 -- The windows that the registers of a card govern are those that the code finds by the values of its bases.
-use Rattle.std.proofs.Common.{◌≡◌, ◌≢◌, ℕ, zero, suc, ◌+◌, ◌/◌, ◌<◌, ◌≤◌, inl, inr, Bool, List, [], ◌∷◌, ◌++◌, length, map, filter, Option, Some, None, refl, ◌∙◌, ap, arith, ◌==◌, All, find, flat_map, slice_get, slice_index}
-use Rattle.board_prelude.proofs.Common.{option_map_or, enumerate_from, cases_Bool, eq-eqb, ne_eqb, map-append, All-head, All-tail, Reg, Base, MemoryBase, IoBase, OutsideBase, FittedCard, Setup, IsCard, card_at, Bytes, Window, base_value, memory_window, rom_value, rom_window, rom_window_of, vga_window}
+use Rattle.std.proofs.Common.{◌≡◌, ◌≢◌, ℕ, zero, suc, ◌+◌, ◌/◌, ◌<◌, ◌≤◌, inl, inr, Bool, List, [], ◌∷◌, ◌++◌, length}
+use Rattle.std.proofs.Common.{map, filter, Option, Some, None, refl, ◌∙◌, ap, arith, ◌==◌, All, find, flat_map}
+use Rattle.std.proofs.Common.{slice_get, slice_index}
+use Rattle.board_prelude.proofs.Common.{option_map_or, enumerate_from, cases_Bool, eq-eqb, ne_eqb, map-append, All-head}
+use Rattle.board_prelude.proofs.Common.{All-tail, Reg, Base, MemoryBase, IoBase, OutsideBase, FittedCard, Setup, IsCard}
+use Rattle.board_prelude.proofs.Common.{card_at, Bytes, Window, base_value, memory_window, rom_value, rom_window}
+use Rattle.board_prelude.proofs.Common.{rom_window_of, vga_window}
 use Rattle.pci_bars.specs.Cards.{CardBytes, HoldsRom, DecodesAs, AreCards, AreDecoded, cards_of}
 use Rattle.addr_decode.specs.declared.register.CardRegister.{CardRegister}
 use Rattle.addr_decode.specs.declared.register.CardRegister.TheVariants.{Command, Base as BaseByte, ExpansionRom}
 use Rattle.addr_decode.specs.MapRegister.{IsCardNumber, in_device, map_register}
-use Rattle.map_builder.specs.Common.{decoded, card_windows, name_windows, windows_of, block, held_by, held_from, rom_held, vga_held, card_held, device_held}
+use Rattle.map_builder.specs.Common.{decoded, card_windows, name_windows, windows_of, block, held_by, held_from}
+use Rattle.map_builder.specs.Common.{rom_held, vga_held, card_held, device_held}
 
 -- the windows of bases, the first of them base number `first`
 abbrev pub from_base : Bytes → (dev first : ℕ) → List Base → List Window
-from_base bytes dev first bases = flat_map (λ numbered. memory_window bytes dev numbered.0 numbered.1) (enumerate_from first bases)
+from_base bytes dev first bases =
+    flat_map (λ numbered. memory_window bytes dev numbered.0 numbered.1) (enumerate_from first bases)
 
 -- the base registers hold these values
 abbrev pub Hold : Bytes → (dev : ℕ) → (values : List ℕ) → Type 0
@@ -19,19 +26,22 @@ Hold bytes dev values = (k : ℕ) → k < 6 → base_value bytes dev k ≡ slice
 abbrev pub HoldRom : Bytes → (dev register : ℕ) → Option ℕ → Type 0
 HoldRom bytes dev register rom = map decoded (rom_window_of bytes dev rom) ≡ rom_held rom register
 
-pub rom_is : (bytes : Bytes) (dev register : ℕ) (rom : Option ℕ) → HoldsRom bytes dev register rom → HoldRom bytes dev register rom
+pub rom_is : (bytes : Bytes) (dev register : ℕ) (rom : Option ℕ) → HoldsRom bytes dev register rom →
+    HoldRom bytes dev register rom
 rom_is bytes dev register None holds = refl
 rom_is bytes dev register (Some bits) holds =
     let same : rom_value bytes dev ≡ register = holds.number in ap (λ inside. block inside bits ∷ []) same
 
 -- ---- the command governs them all
 
-all_held : (bytes : Bytes) (dev : ℕ) (values : List ℕ) (first : ℕ) (bases : List Base) → Hold bytes dev values → first + length bases ≤ 6 →
+all_held : (bytes : Bytes) (dev : ℕ) (values : List ℕ) (first : ℕ) (bases : List Base) → Hold bytes dev values →
+    first + length bases ≤ 6 →
     map decoded (from_base bytes dev first bases) ≡ held_from values first bases
 all_held bytes dev values first [] hold few = refl
 all_held bytes dev values first (MemoryBase bits ∷ later) hold few =
     rw (hold first (omega arith), all_held bytes dev values (first + 1) later hold (omega arith)) refl
-all_held bytes dev values first (IoBase bits ∷ later) hold few = all_held bytes dev values (first + 1) later hold (omega arith)
+all_held bytes dev values first (IoBase bits ∷ later) hold few =
+    all_held bytes dev values (first + 1) later hold (omega arith)
 all_held bytes dev values first (OutsideBase bits ∷ later) hold few =
     rw (hold first (omega arith), all_held bytes dev values (first + 1) later hold (omega arith)) refl
 
@@ -43,7 +53,8 @@ vga_is card = elim (cases_Bool card.vga) [ inl on ↦ rw on refl | inr off ↦ r
 abbrev numbered : ℕ → Window → Bool
 numbered k window = window.base == k
 
-none_below : (bytes : Bytes) (dev k first : ℕ) (bases : List Base) → k < first → filter (numbered k) (from_base bytes dev first bases) ≡ []
+none_below : (bytes : Bytes) (dev k first : ℕ) (bases : List Base) → k < first →
+    filter (numbered k) (from_base bytes dev first bases) ≡ []
 none_below bytes dev k first [] below = refl
 none_below bytes dev k first (MemoryBase bits ∷ later) below =
     rw (ne_eqb first k (omega arith)) (none_below bytes dev k (first + 1) later (omega arith))
@@ -51,7 +62,8 @@ none_below bytes dev k first (IoBase bits ∷ later) below = none_below bytes de
 none_below bytes dev k first (OutsideBase bits ∷ later) below =
     rw (ne_eqb first k (omega arith)) (none_below bytes dev k (first + 1) later (omega arith))
 
-one_held : (bytes : Bytes) (dev : ℕ) (values : List ℕ) (k j first : ℕ) (bases : List Base) → Hold bytes dev values → k < 6 → first + j ≡ k →
+one_held : (bytes : Bytes) (dev : ℕ) (values : List ℕ) (k j first : ℕ) (bases : List Base) → Hold bytes dev values →
+    k < 6 → first + j ≡ k →
     map decoded (filter (numbered k) (from_base bytes dev first bases))
     ≡ option_map_or (λ base. held_by base (slice_index values k)) (slice_get bases j) []
 one_held bytes dev values k j first [] hold below at = refl
@@ -72,12 +84,14 @@ one_held bytes dev values k (suc j) first (OutsideBase bits ∷ later) hold belo
 
 -- ---- a card
 
-pub card_is : (bytes : Bytes) (card : CardBytes) (register : CardRegister) → IsCardNumber register → length card.card.bases ≤ 6 →
+pub card_is : (bytes : Bytes) (card : CardBytes) (register : CardRegister) → IsCardNumber register →
+    length card.card.bases ≤ 6 →
     Hold bytes card.card.dev card.bases → HoldRom bytes card.card.dev card.rom card.card.rom →
     card_windows bytes register card.card ≡ card_held register card
 card_is bytes card Command number few hold hold_rom =
     rw (
-      map-append decoded (from_base bytes card.card.dev 0 card.card.bases ++ rom_window bytes card.card) (vga_window card.card),
+      map-append decoded (from_base bytes card.card.dev 0 card.card.bases ++ rom_window bytes card.card)
+          (vga_window card.card),
       map-append decoded (from_base bytes card.card.dev 0 card.card.bases) (rom_window bytes card.card),
       all_held bytes card.card.dev card.bases 0 card.card.bases hold (omega arith),
       hold_rom,
@@ -87,27 +101,33 @@ card_is bytes card (BaseByte k) number few hold hold_rom =
     one_held bytes card.card.dev card.bases (k / 4) (k / 4) 0 card.card.bases hold (omega (arith, number)) (omega arith)
 card_is bytes card (ExpansionRom k) number few hold hold_rom = hold_rom
 
-cards_are : (setup : Setup) (bytes : Bytes) (cards : List CardBytes) (dev : ℕ) (register : CardRegister) → IsCardNumber register → AreCards cards →
+cards_are : (setup : Setup) (bytes : Bytes) (cards : List CardBytes) (dev : ℕ) (register : CardRegister) →
+    IsCardNumber register → AreCards cards →
     All (DecodesAs setup bytes) cards →
-    option_map_or (card_windows bytes register) (find (λ card. card.dev == dev) (cards_of cards)) [] ≡ device_held dev register cards
+    option_map_or (card_windows bytes register) (find (λ card. card.dev == dev) (cards_of cards)) []
+    ≡ device_held dev register cards
 cards_are setup bytes [] dev register number fit are = refl
 cards_are setup bytes (card ∷ later) dev register number fit are =
     elim (cases_Bool (card.card.dev == dev)) [
       | inl here ↦
           let is : DecodesAs setup bytes card = All-head (DecodesAs setup bytes) card later are in
           rw here
-          (card_is bytes card register number (All-head (λ card. IsCard card.card) card later fit).count (λ k below. (is.bases k below).number)
+          (card_is bytes card register number (All-head (λ card. IsCard card.card) card later fit).count
+          (λ k below. (is.bases k below).number)
           (rom_is bytes card.card.dev card.rom card.card.rom is.rom))
       | inr not_here ↦
           rw not_here
-          (cards_are setup bytes later dev register number (All-tail (λ card. IsCard card.card) card later fit) (All-tail (DecodesAs setup bytes) card later are))
+          (cards_are setup bytes later dev register number (All-tail (λ card. IsCard card.card) card later fit)
+          (All-tail (DecodesAs setup bytes) card later are))
     ]
 
-pub device_is : (setup : Setup) (bytes : Bytes) (cards : List CardBytes) (dev : ℕ) (register : CardRegister) → IsCardNumber register → AreCards cards →
+pub device_is : (setup : Setup) (bytes : Bytes) (cards : List CardBytes) (dev : ℕ) (register : CardRegister) →
+    IsCardNumber register → AreCards cards →
     AreDecoded setup bytes cards →
     option_map_or (card_windows bytes register) (card_at setup dev) [] ≡ device_held dev register cards
 device_is setup bytes cards dev register number fit are =
-    ap (λ (fitted : List FittedCard). option_map_or (card_windows bytes register) (find (λ card. card.dev == dev) fitted) []) are.0
+    ap (λ (fitted : List FittedCard). option_map_or (card_windows bytes register)
+    (find (λ card. card.dev == dev) fitted) []) are.0
     ∙ cards_are setup bytes cards dev register number fit are.1
 
 -- ---- a register of a card

@@ -1,6 +1,8 @@
 -- The ranges of a map by their indices, and the span round an address.
-use Rattle.std.proofs.Common.{◌≡◌, ◌≢◌, ℕ, zero, suc, ◌+◌, ◌-◌, ◌<◌, ◌≤◌, ◌⊎◌, inl, inr, Bool, List, [], ◌∷◌, length, map, sym, ◌∙◌, ap, subst, arith}
-use Rattle.board_prelude.proofs.Common.{cases_lt, get_or-map, length-map, Kind, Setup, Bytes, area_of, address_count, six_areas, MapRange, Tiles, IsRight, IsFlatMapOf, IsSpan}
+use Rattle.std.proofs.Common.{◌≡◌, ◌≢◌, ℕ, zero, suc, ◌+◌, ◌-◌, ◌<◌, ◌≤◌, ◌⊎◌, inl, inr, Bool, List, [], ◌∷◌, length}
+use Rattle.std.proofs.Common.{map, sym, ◌∙◌, ap, subst, arith}
+use Rattle.board_prelude.proofs.Common.{cases_lt, get_or-map, length-map, Kind, Setup, Bytes, area_of, address_count}
+use Rattle.board_prelude.proofs.Common.{six_areas, MapRange, Tiles, IsRight, IsFlatMapOf, IsSpan}
 use Rattle.map_builder.specs.declared.range.Range.{Range}
 use Rattle.map_builder.specs.Common.{range_of, no_range, range_at, in_column, area_at, Holds, IsFirstAlike, IsLastAlike}
 
@@ -20,7 +22,8 @@ whole_more range later here rest zero within = here
 whole_more range later here rest (suc k) within = rest k (omega arith)
 
 next_more : (range : Range) (later : List Range) → Placed (range.hi + 1) later →
-    (k : ℕ) → k + 1 < length (range ∷ later) → (range_at (range ∷ later) (k + 1)).lo ≡ (range_at (range ∷ later) k).hi + 1
+    (k : ℕ) → k + 1 < length (range ∷ later) →
+    (range_at (range ∷ later) (k + 1)).lo ≡ (range_at (range ∷ later) k).hi + 1
 next_more range later rest zero within = rest.first
 next_more range later rest (suc k) within =
     let place : suc k + 1 ≡ suc (k + 1) = omega arith in rw place (rest.next k (omega arith))
@@ -35,7 +38,8 @@ pub tiles_below : (from : ℕ) (ranges : List MapRange) → Tiles from ranges �
 tiles_below from [] tiles = omega arith
 tiles_below from (range ∷ later) tiles = omega (arith, tiles_below (range.hi + 1) later tiles.2, tiles.0, tiles.1)
 
-pub placed : (from : ℕ) (ranges : List Range) → from < address_count → Tiles from (map range_of ranges) → Placed from ranges
+pub placed : (from : ℕ) (ranges : List Range) → from < address_count → Tiles from (map range_of ranges) →
+    Placed from ranges
 placed from [] below tiles = absurd (omega arith)
 placed from (range ∷ []) below tiles = record {
   some = omega arith;
@@ -46,7 +50,8 @@ placed from (range ∷ []) below tiles = record {
 }
 placed from (range ∷ next ∷ later) below tiles =
     let end : next.hi + 1 ≤ address_count = tiles_below (next.hi + 1) (map range_of later) tiles.2.2 in
-    let rest : Placed (range.hi + 1) (next ∷ later) = placed (range.hi + 1) (next ∷ later) (omega (arith, tiles.2.0, tiles.2.1)) tiles.2 in
+    let rest : Placed (range.hi + 1) (next ∷ later) =
+    placed (range.hi + 1) (next ∷ later) (omega (arith, tiles.2.0, tiles.2.1)) tiles.2 in
     record {
       some = omega arith;
       first = tiles.0;
@@ -81,8 +86,10 @@ search_taken ranges addr index left half fewer is above =
       edge = subst (λ (n : ℕ). (n ≡ length ranges) ⊎ (addr < (range_at ranges n).lo)) (sym same) is.edge;
     }
 
-pub search_left : (ranges : List Range) (addr index left half : ℕ) → Placed 0 ranges → 1 ≤ half → half < left → left ≤ half + half + 1 →
-    half + half ≤ left → IsSearched ranges addr index left → addr < (range_at ranges (index + half)).lo → IsSearched ranges addr index (left - half)
+pub search_left : (ranges : List Range) (addr index left half : ℕ) → Placed 0 ranges → 1 ≤ half → half < left →
+    left ≤ half + half + 1 →
+    half + half ≤ left → IsSearched ranges addr index left → addr < (range_at ranges (index + half)).lo →
+    IsSearched ranges addr index (left - half)
 search_left ranges addr index left half placed_is some fewer at_most at_least is below = record {
   some = omega arith;
   within = omega (arith, is.within);
@@ -98,7 +105,12 @@ search_left ranges addr index left half placed_is some fewer at_most at_least is
           | inr at_end ↦ inl (omega (arith, within))
           | inl inside ↦
               let rises : addr < (range_at ranges ((index + half) + 1)).lo =
-              omega (arith, below, placed_is.next (index + half) inside, placed_is.whole (index + half) (omega (arith, inside))) in
+              omega (
+                arith,
+                below,
+                placed_is.next (index + half) inside,
+                placed_is.whole (index + half) (omega (arith, inside)),
+              ) in
               inr (subst (λ (n : ℕ). addr < (range_at ranges n).lo) next rises)
         ]
   ];
@@ -132,7 +144,8 @@ record HeldBetween (ranges : List Range) (first last addr : ℕ) : Type 0 where
   pub to : k ≤ last
   pub holds : Holds ranges k addr
 
-held_between : (ranges : List Range) (addr gap first last : ℕ) → Placed 0 ranges → first + gap ≡ last → last < length ranges →
+held_between : (ranges : List Range) (addr gap first last : ℕ) → Placed 0 ranges → first + gap ≡ last →
+    last < length ranges →
     (range_at ranges first).lo ≤ addr → addr ≤ (range_at ranges last).hi → HeldBetween ranges first last addr
 held_between ranges addr zero first last is distance within above below =
     let same : last ≡ first = omega arith in
@@ -151,7 +164,8 @@ held_between ranges addr (suc gap) first last is distance within above below =
         holds = record { within = omega arith; above = above; below = not_above };
       }
       | inl beyond ↦
-          let rest = held_between ranges addr gap (first + 1) last is (omega arith) within (omega (arith, is.next first (omega arith))) below in
+          let rest = held_between ranges addr gap (first + 1) last is (omega arith) within
+          (omega (arith, is.next first (omega arith))) below in
           record { k = rest.k; from = omega (arith, rest.from); to = rest.to; holds = rest.holds }
     ]
 
@@ -190,25 +204,29 @@ module _ (setup : Setup) (bytes : Bytes) (ranges : List Range) (column : ℕ) (k
     highs zero k within = let same : k + 0 ≡ k = omega arith in rw same (omega arith)
     highs (suc gap) k within =
         let same : k + suc gap ≡ k + 1 + gap = omega arith in
-        let rest : (range_at ranges (k + 1)).hi ≤ (range_at ranges (k + 1 + gap)).hi = highs gap (k + 1) (omega arith) in
+        let rest : (range_at ranges (k + 1)).hi ≤ (range_at ranges (k + 1 + gap)).hi =
+        highs gap (k + 1) (omega arith) in
         rw same (omega (arith, rest, is_placed.next k (omega arith), is_placed.whole (k + 1) (omega arith)))
 
     above_first : (range_at ranges first).lo ≤ addr
     above_first =
         let same : first + (index - first) ≡ index = omega (arith, is_first.below) in
-        let rises : (range_at ranges first).lo ≤ (range_at ranges index).lo = rw same at (lows (index - first) first (omega (arith, is_first.below, holds.within))) in
+        let rises : (range_at ranges first).lo ≤ (range_at ranges index).lo =
+        rw same at (lows (index - first) first (omega (arith, is_first.below, holds.within))) in
         omega (arith, holds.above)
 
     below_last : addr ≤ (range_at ranges last).hi
     below_last =
         let same : index + (last - index) ≡ last = omega (arith, is_last.above) in
-        let rises : (range_at ranges index).hi ≤ (range_at ranges last).hi = rw same at (highs (last - index) index (omega (arith, is_last.above, is_last.within))) in
+        let rises : (range_at ranges index).hi ≤ (range_at ranges last).hi =
+        rw same at (highs (last - index) index (omega (arith, is_last.above, is_last.within))) in
         omega (arith, holds.below)
 
     same_inside : (x : ℕ) → (range_at ranges first).lo ≤ x → x ≤ (range_at ranges last).hi →
         area_of setup bytes x kind smm ≡ area_at ranges column index
     same_inside x low high =
-        let held = held_between ranges x (last - first) first last is_placed (omega (arith, is_first.below, is_last.above)) is_last.within low high in
+        let held = held_between ranges x (last - first) first last is_placed
+        (omega (arith, is_first.below, is_last.above)) is_last.within low high in
         area_held held.k x held.holds ∙ alike held.k held.from held.to
 
     -- a range beside those alike has another area
@@ -217,18 +235,22 @@ module _ (setup : Setup) (bytes : Bytes) (ranges : List Range) (column : ℕ) (k
     beside k x there other same = other (sym (area_held k x there) ∙ same)
 
     begins_at : (k : ℕ) → (k ≡ 0) ⊎ (area_at ranges column (k - 1) ≢ area_at ranges column index) → k < length ranges →
-        ((range_at ranges k).lo ≡ 0) ⊎ (area_of setup bytes ((range_at ranges k).lo - 1) kind smm ≢ area_at ranges column index)
+        ((range_at ranges k).lo ≡ 0)
+        ⊎ (area_of setup bytes ((range_at ranges k).lo - 1) kind smm ≢ area_at ranges column index)
     begins_at zero other within = inl is_placed.first
     begins_at (suc k) (inl none) within = absurd (omega arith)
     begins_at (suc k) (inr other) within =
         let back : suc k - 1 ≡ k = omega arith in
         let place : k + 1 ≡ suc k = omega arith in
-        let joined : (range_at ranges (suc k)).lo ≡ (range_at ranges k).hi + 1 = rw place at (is_placed.next k (omega arith)) in
+        let joined : (range_at ranges (suc k)).lo ≡ (range_at ranges k).hi + 1 =
+        rw place at (is_placed.next k (omega arith)) in
         let there : Holds ranges k ((range_at ranges (suc k)).lo - 1) =
         record { within = omega arith; above = omega (arith, is_placed.whole k (omega arith)); below = omega arith } in
-        inr (beside k ((range_at ranges (suc k)).lo - 1) there (subst (λ (j : ℕ). area_at ranges column j ≢ area_at ranges column index) back other))
+        inr (beside k ((range_at ranges (suc k)).lo - 1) there
+        (subst (λ (j : ℕ). area_at ranges column j ≢ area_at ranges column index) back other))
 
-    ends : ((range_at ranges last).hi + 1 ≡ address_count) ⊎ (area_of setup bytes ((range_at ranges last).hi + 1) kind smm ≢ area_at ranges column index)
+    ends : ((range_at ranges last).hi + 1 ≡ address_count)
+        ⊎ (area_of setup bytes ((range_at ranges last).hi + 1) kind smm ≢ area_at ranges column index)
     ends =
         elim (cases_lt (last + 1) (length ranges)) [
           | inr at_end ↦ inl (is_placed.last last (omega (arith, is_last.within)))
@@ -246,10 +268,12 @@ module _ (setup : Setup) (bytes : Bytes) (ranges : List Range) (column : ℕ) (k
     last_address =
         let end : ℕ = length ranges - 1 in
         let same : last + (end - last) ≡ end = omega (arith, is_last.within) in
-        let rises : (range_at ranges last).hi ≤ (range_at ranges end).hi = rw same at (highs (end - last) last (omega (arith, is_last.within))) in
+        let rises : (range_at ranges last).hi ≤ (range_at ranges end).hi =
+        rw same at (highs (end - last) last (omega (arith, is_last.within))) in
         omega (arith, is_placed.last end (omega (arith, is_last.within)))
 
-    pub is_span : IsSpan setup bytes addr kind smm (range_at ranges first).lo (range_at ranges last).hi (area_at ranges column index)
+    pub is_span : IsSpan setup bytes addr kind smm (range_at ranges first).lo (range_at ranges last).hi
+        (area_at ranges column index)
     is_span = record {
       above = above_first;
       below = below_last;

@@ -1,6 +1,11 @@
 -- The areas of an address are the same before and after a change that moves nothing round it.
-use Rattle.std.proofs.Common.{◌≡◌, ℕ, zero, suc, ◌+◌, ◌-◌, ◌*◌, ◌/◌, ◌<◌, ◌≤◌, ◌⊎◌, inl, inr, Bool, true, false, [], ◌∷◌, None, refl, sym, ◌∙◌, ap, subst, arith, lit<, ◌==◌, ◌&&◌, ◌||◌, nat_le, nat_lt, if◌then◌else◌}
-use Rattle.board_prelude.proofs.Common.{cases_Bool, cases_lt, ne_eqb, nat_tests, Kind, Fetch, Read, Write, Reg, Setup, IsCardList, is_bit, is_within, Bytes, boundary, top_of, row_of, is_in, hole_of, is_high_window, nibble, is_open, is_shadow_range, is_shadowed, is_smram_range, is_rom_selected, pam_register, area_of, bridge, isa, card_register, six_areas}
+use Rattle.std.proofs.Common.{◌≡◌, ℕ, zero, suc, ◌+◌, ◌-◌, ◌*◌, ◌/◌, ◌<◌, ◌≤◌, ◌⊎◌, inl, inr, Bool, true, false, []}
+use Rattle.std.proofs.Common.{◌∷◌, None, refl, sym, ◌∙◌, ap, subst, arith, lit<, ◌==◌, ◌&&◌, ◌||◌, nat_le, nat_lt}
+use Rattle.std.proofs.Common.{if◌then◌else◌}
+use Rattle.board_prelude.proofs.Common.{cases_Bool, cases_lt, ne_eqb, nat_tests, Kind, Fetch, Read, Write, Reg, Setup}
+use Rattle.board_prelude.proofs.Common.{IsCardList, is_bit, is_within, Bytes, boundary, top_of, row_of, is_in, hole_of}
+use Rattle.board_prelude.proofs.Common.{is_high_window, nibble, is_open, is_shadow_range, is_shadowed, is_smram_range}
+use Rattle.board_prelude.proofs.Common.{is_rom_selected, pam_register, area_of, bridge, isa, card_register, six_areas}
 use Rattle.addr_decode.specs.MapRegister.{map_register}
 use Rattle.map_builder.specs.Changed.{from_to, pam_windows, windows_of, IsOutside}
 use Rattle.map_builder.proofs.OutsideLemmas.{Outside, and_no}
@@ -12,7 +17,8 @@ outside_range addr lo hi (inr above) = grind (arith, nat_tests)
 
 -- ---- ranges of addresses that no register governs
 
-in_no_hole : (fdhc addr : ℕ) → IsOutside addr (from_to 0x8_0000 0x9_FFFF) → IsOutside addr (from_to 0xF0_0000 0xFF_FFFF) →
+in_no_hole : (fdhc addr : ℕ) → IsOutside addr (from_to 0x8_0000 0x9_FFFF) →
+    IsOutside addr (from_to 0xF0_0000 0xFF_FFFF) →
     is_in (hole_of fdhc) addr ≡ false
 in_no_hole fdhc addr low high =
     elim (cases_Bool (fdhc / 0x40 == 1)) [
@@ -31,12 +37,15 @@ or_no false = refl
 always_rom : ℕ → Bool
 always_rom addr = is_within 0xF_0000 0xF_FFFF addr || is_within 0xFFFF_0000 0xFFFF_FFFF addr
 
-rom_outside : (xbcs addr : ℕ) → IsOutside addr (from_to 0xE_0000 0xE_FFFF) → IsOutside addr (from_to 0xFFF8_0000 0xFFFE_FFFF) →
+rom_outside : (xbcs addr : ℕ) → IsOutside addr (from_to 0xE_0000 0xE_FFFF) →
+    IsOutside addr (from_to 0xFFF8_0000 0xFFFE_FFFF) →
     is_rom_selected xbcs addr ≡ always_rom addr
 unfolding always_rom
 rom_outside xbcs addr low high =
-    let last : is_within 0xFFFE_0000 0xFFFE_FFFF addr ≡ false = outside_range addr 0xFFFE_0000 0xFFFE_FFFF (elim high [ inl below ↦ inl (omega arith) | inr above ↦ inr above ]) in
-    let rest : is_within 0xFFF8_0000 0xFFFD_FFFF addr ≡ false = outside_range addr 0xFFF8_0000 0xFFFD_FFFF (elim high [ inl below ↦ inl below | inr above ↦ inr (omega arith) ]) in
+    let last : is_within 0xFFFE_0000 0xFFFE_FFFF addr ≡ false =
+    outside_range addr 0xFFFE_0000 0xFFFE_FFFF (elim high [ inl below ↦ inl (omega arith) | inr above ↦ inr above ]) in
+    let rest : is_within 0xFFF8_0000 0xFFFD_FFFF addr ≡ false =
+    outside_range addr 0xFFF8_0000 0xFFFD_FFFF (elim high [ inl below ↦ inl below | inr above ↦ inr (omega arith) ]) in
     rw (
       outside_range addr 0xE_0000 0xE_FFFF low,
       last,
@@ -56,15 +65,18 @@ pam_is : (addr : ℕ) → bridge (pam_offset addr) ≡ pam_register addr
 unfolding pam_offset
 pam_is addr = elim (cases_Bool (nat_le 0xF_0000 addr)) [ inl high ↦ rw high refl | inr low ↦ rw low refl ]
 
-pam_window : (setup : Setup) (bytes : Bytes) (off : ℕ) → 0x59 ≤ off → off ≤ 0x5F → windows_of setup bytes (bridge off) ≡ pam_windows (off - 0x59) ∷ []
+pam_window : (setup : Setup) (bytes : Bytes) (off : ℕ) → 0x59 ≤ off → off ≤ 0x5F →
+    windows_of setup bytes (bridge off) ≡ pam_windows (off - 0x59) ∷ []
 unfolding map_register
-pam_window setup bytes off from to = let within : is_within 0x59 0x5F off ≡ true = grind (arith, nat_tests) in rw within refl
+pam_window setup bytes off from to = let within : is_within 0x59 0x5F off ≡ true = grind (arith, nat_tests) in
+    rw within refl
 
 pam_window_low : (number addr : ℕ) → number ≡ 1 + (addr - 0xC_0000) / 0x8000 → 0xC_0000 ≤ addr → addr < 0xF_0000 →
     Outside addr (pam_windows number ∷ []) → ⊥
 pam_window_low number addr is above below out =
     let other : (number == 0) ≡ false = ne_eqb number 0 (omega arith) in
-    let here : Outside addr (from_to (0xC_0000 + 0x8000 * (number - 1)) (0xC_7FFF + 0x8000 * (number - 1)) ∷ []) = rw other at out in
+    let here : Outside addr (from_to (0xC_0000 + 0x8000 * (number - 1)) (0xC_7FFF + 0x8000 * (number - 1)) ∷ []) =
+    rw other at out in
     elim here.0 [ inl lower ↦ omega arith | inr higher ↦ omega arith ]
 
 in_pam_window : (setup : Setup) (bytes : Bytes) (addr : ℕ) → is_shadow_range addr ≡ true →
@@ -77,7 +89,8 @@ in_pam_window setup bytes addr shadow out =
       | inl high ↦
           let from : 0xF_0000 ≤ addr = grind (arith, nat_tests) in
           let there : Outside addr (windows_of setup bytes (bridge 0x59)) = rw high at out in
-          let here : Outside addr (pam_windows 0 ∷ []) = subst (Outside addr) (pam_window setup bytes 0x59 (omega arith) (omega arith)) there in
+          let here : Outside addr (pam_windows 0 ∷ []) =
+          subst (Outside addr) (pam_window setup bytes 0x59 (omega arith) (omega arith)) there in
           elim here.0 [ inl lower ↦ omega arith | inr higher ↦ omega arith ]
       | inr low ↦
           let from : addr < 0xF_0000 = grind (arith, nat_tests) in
@@ -89,7 +102,8 @@ in_pam_window setup bytes addr shadow out =
 
 -- ---- rows of DRAM
 
-pub row_window : (setup : Setup) (bytes : Bytes) (row : ℕ) → row < 8 → windows_of setup bytes (bridge (0x60 + row)) ≡ from_to 0 0x7F7F_FFFF ∷ []
+pub row_window : (setup : Setup) (bytes : Bytes) (row : ℕ) → row < 8 →
+    windows_of setup bytes (bridge (0x60 + row)) ≡ from_to 0 0x7F7F_FFFF ∷ []
 unfolding map_register
 row_window setup bytes row below =
     let not_pam : is_within 0x59 0x5F (0x60 + row) ≡ false = grind (arith, nat_tests) in
@@ -106,7 +120,8 @@ module _ (setup : Setup) (bytes new : Bytes) (addr : ℕ) (kept : (reg : Reg) �
       elim (kept (bridge (0x60 + row))) [
         | inl same ↦ inl (ap (λ byte. byte * 0x80_0000) same)
         | inr out ↦
-            let here : Outside addr (from_to 0 0x7F7F_FFFF ∷ []) = subst (Outside addr) (row_window setup bytes row below) out.0 in
+            let here : Outside addr (from_to 0 0x7F7F_FFFF ∷ []) =
+            subst (Outside addr) (row_window setup bytes row below) out.0 in
             elim here.0 [ inl lower ↦ absurd (omega arith) | inr higher ↦ inr (omega arith) ]
       ]
 
@@ -121,7 +136,8 @@ module _ (setup : Setup) (bytes new : Bytes) (addr : ℕ) (kept : (reg : Reg) �
               | inl here ↦ inl (λ row below.
                   elim (cases_lt row n) [
                     | inl less ↦ before row less
-                    | inr not_less ↦ let at : row ≡ n = omega arith in subst (λ (k : ℕ). boundary new k ≡ boundary bytes k) (sym at) here
+                    | inr not_less ↦ let at : row ≡ n = omega arith in
+                        subst (λ (k : ℕ). boundary new k ≡ boundary bytes k) (sym at) here
                   ])
             ]
       ]
@@ -132,7 +148,16 @@ module _ (setup : Setup) (bytes new : Bytes) (addr : ℕ) (kept : (reg : Reg) �
       elim (rows_kept 8 (omega arith)) [
         | inr high ↦ no_row new addr top' high ∙ sym (no_row bytes addr top high)
         | inl same ↦
-            rw (same 0 (lit< tt), same 1 (lit< tt), same 2 (lit< tt), same 3 (lit< tt), same 4 (lit< tt), same 5 (lit< tt), same 6 (lit< tt), same 7 (lit< tt)) refl
+            rw (
+              same 0 (lit< tt),
+              same 1 (lit< tt),
+              same 2 (lit< tt),
+              same 3 (lit< tt),
+              same 4 (lit< tt),
+              same 5 (lit< tt),
+              same 6 (lit< tt),
+              same 7 (lit< tt),
+            ) refl
       ]
 
 -- a register is the boundary of a row
@@ -150,18 +175,21 @@ not_of_pam addr shadow =
       | inl high ↦ rw high refl
       | inr low ↦
           let under : addr < 0xF_0000 = grind (arith, nat_tests) in
-          rw low (let not : is_within 0x60 0x67 (0x5A + (addr - 0xC_0000) / 0x8000) ≡ false = grind (arith, nat_tests) in not)
+          rw low (let not : is_within 0x60 0x67 (0x5A + (addr - 0xC_0000) / 0x8000) ≡ false =
+          grind (arith, nat_tests) in not)
     ]
 
 -- where the row of an address stays, and every other register is kept
-module _ (setup : Setup) (bytes new : Bytes) (addr : ℕ) (kept : (reg : Reg) → is_boundary reg ≡ false → Kept setup bytes new addr reg)
+module _ (setup : Setup) (bytes new : Bytes) (addr : ℕ) (kept : (reg : Reg) → is_boundary reg ≡ false →
+    Kept setup bytes new addr reg)
     (row_same : row_of new addr ≡ row_of bytes addr) where
   hole_same : is_in (hole_of (new (bridge 0x68))) addr ≡ is_in (hole_of (bytes (bridge 0x68))) addr
   unfolding map_register
   hole_same =
       elim (kept (bridge 0x68) refl) [
         | inl same ↦ ap (λ fdhc. is_in (hole_of fdhc) addr) same
-        | inr out ↦ in_no_hole (new (bridge 0x68)) addr out.0.0 out.0.1.0 ∙ sym (in_no_hole (bytes (bridge 0x68)) addr out.0.0 out.0.1.0)
+        | inr out ↦ in_no_hole (new (bridge 0x68)) addr out.0.0 out.0.1.0
+            ∙ sym (in_no_hole (bytes (bridge 0x68)) addr out.0.0 out.0.1.0)
       ]
 
   rom_same : is_rom_selected (new (isa 0x4E)) addr ≡ is_rom_selected (bytes (isa 0x4E)) addr
@@ -169,13 +197,17 @@ module _ (setup : Setup) (bytes new : Bytes) (addr : ℕ) (kept : (reg : Reg) �
   rom_same =
       elim (kept (isa 0x4E) refl) [
         | inl same ↦ ap (λ xbcs. is_rom_selected xbcs addr) same
-        | inr out ↦ rom_outside (new (isa 0x4E)) addr out.0.0 out.0.1.0 ∙ sym (rom_outside (bytes (isa 0x4E)) addr out.0.0 out.0.1.0)
+        | inr out ↦ rom_outside (new (isa 0x4E)) addr out.0.0 out.0.1.0
+            ∙ sym (rom_outside (bytes (isa 0x4E)) addr out.0.0 out.0.1.0)
       ]
 
   smram_same : (new (bridge 0x72) ≡ bytes (bridge 0x72)) ⊎ (is_smram_range addr ≡ false)
   unfolding map_register
   smram_same =
-      elim (kept (bridge 0x72) refl) [ inl same ↦ inl same | inr out ↦ inr (outside_range addr 0xA_0000 0xB_FFFF out.0.0) ]
+      elim (kept (bridge 0x72) refl) [
+        | inl same ↦ inl same
+        | inr out ↦ inr (outside_range addr 0xA_0000 0xB_FFFF out.0.0)
+      ]
 
   shadow_same : (kind : Kind) → is_shadowed new addr kind ≡ is_shadowed bytes addr kind
   shadow_same kind =
@@ -184,7 +216,8 @@ module _ (setup : Setup) (bytes new : Bytes) (addr : ℕ) (kept : (reg : Reg) �
         | inl within ↦
             elim (kept (bridge (pam_offset addr)) (not_of_pam addr within)) [
               | inl same ↦
-                  let here : new (pam_register addr) ≡ bytes (pam_register addr) = subst (λ (reg : Reg). new reg ≡ bytes reg) (pam_is addr) same in
+                  let here : new (pam_register addr) ≡ bytes (pam_register addr) =
+                  subst (λ (reg : Reg). new reg ≡ bytes reg) (pam_is addr) same in
                   rw within (ap (λ pam. is_open (nibble pam (is_high_window addr)) kind) here)
               | inr out ↦ absurd (in_pam_window setup bytes addr within out.0)
             ]
@@ -198,10 +231,31 @@ module _ (setup : Setup) (bytes new : Bytes) (addr : ℕ) (kept : (reg : Reg) �
     unfolding area_of
     area_same kind smm =
         elim smram_same [
-          | inl same ↦ rw (row_same, same, shadow_same kind, hole_same, rom_same, claim_same setup bytes new addr card_kept list) refl
-          | inr beside ↦ rw (row_same, beside, shadow_same kind, hole_same, rom_same, claim_same setup bytes new addr card_kept list) refl
+          | inl same ↦ rw (
+            row_same,
+            same,
+            shadow_same kind,
+            hole_same,
+            rom_same,
+            claim_same setup bytes new addr card_kept list,
+          ) refl
+          | inr beside ↦ rw (
+            row_same,
+            beside,
+            shadow_same kind,
+            hole_same,
+            rom_same,
+            claim_same setup bytes new addr card_kept list,
+          ) refl
         ]
 
     pub areas_same : six_areas setup new addr ≡ six_areas setup bytes addr
     areas_same =
-        rw (area_same Fetch false, area_same Read false, area_same Write false, area_same Fetch true, area_same Read true, area_same Write true) refl
+        rw (
+          area_same Fetch false,
+          area_same Read false,
+          area_same Write false,
+          area_same Fetch true,
+          area_same Read true,
+          area_same Write true,
+        ) refl

@@ -1,9 +1,14 @@
 -- A change keeps each register whose windows lie elsewhere.
-use Rattle.std.proofs.Common.{◌≡◌, ℕ, zero, suc, ◌+◌, ◌-◌, ◌<◌, ◌≤◌, inl, inr, true, List, [], ◌∷◌, length, get_or, take, refl, subst, arith, flat_map}
-use Rattle.board_prelude.proofs.Common.{cases_Bool, nat_tests, recursion_from_All, Width, One, Reg, bytes_of, MapChange, Store, Reset, Setup, IsCardList, byte, host_bridge, reset_byte, writable_bits, covers, byte_after, Bytes, top_of, bridge, reg_after, address_count, six_areas, merged-all}
+use Rattle.std.proofs.Common.{◌≡◌, ℕ, zero, suc, ◌+◌, ◌-◌, ◌<◌, ◌≤◌, inl, inr, true, List, [], ◌∷◌, length, get_or}
+use Rattle.std.proofs.Common.{take, refl, subst, arith, flat_map}
+use Rattle.board_prelude.proofs.Common.{cases_Bool, nat_tests, recursion_from_All, Width, One, Reg, bytes_of, MapChange}
+use Rattle.board_prelude.proofs.Common.{Store, Reset, Setup, IsCardList, byte, host_bridge, reset_byte, writable_bits}
+use Rattle.board_prelude.proofs.Common.{covers, byte_after, Bytes, top_of, bridge, reg_after, address_count, six_areas}
+use Rattle.board_prelude.proofs.Common.{merged-all}
 use Rattle.board_base.specs.declared.access.Width.TheVariants.{Two, Four}
 use Rattle.map_builder.specs.declared.range.Changed.{Changed}
-use Rattle.map_builder.specs.Common.{windows_of, windows_covered, after, changed_windows, IsOutside, WindowsHoldChanges, BoundsHoldChanges}
+use Rattle.map_builder.specs.Common.{windows_of, windows_covered, after, changed_windows, IsOutside, WindowsHoldChanges}
+use Rattle.map_builder.specs.Common.{BoundsHoldChanges}
 use Rattle.map_builder.proofs.OutsideLemmas.{Outside, outside_bounds, outside_left, outside_right}
 use Rattle.map_builder.proofs.WindowLemmas.{offsets}
 use Rattle.map_builder.proofs.KeptCards.{Kept}
@@ -11,14 +16,16 @@ use Rattle.map_builder.proofs.KeptLemmas.{row_same, areas_same}
 
 -- ---- the registers that a store covers
 
-outside_at : (addr : ℕ) (windows : ℕ → List Changed) (xs : List ℕ) (k : ℕ) → k < length xs → Outside addr (flat_map windows xs) →
+outside_at : (addr : ℕ) (windows : ℕ → List Changed) (xs : List ℕ) (k : ℕ) → k < length xs →
+    Outside addr (flat_map windows xs) →
     Outside addr (windows (get_or xs k 0))
 outside_at addr windows [] k within out = absurd (omega arith)
 outside_at addr windows (x ∷ xs) zero within out = outside_left addr (windows x) (flat_map windows xs) out
 outside_at addr windows (x ∷ xs) (suc k) within out =
     outside_at addr windows xs k (omega arith) (outside_right addr (windows x) (flat_map windows xs) out)
 
-offset_is : (width : Width) (k : ℕ) → k < bytes_of width → (k < length (take (bytes_of width) offsets)) × (get_or (take (bytes_of width) offsets) k 0 ≡ k)
+offset_is : (width : Width) (k : ℕ) → k < bytes_of width →
+    (k < length (take (bytes_of width) offsets)) × (get_or (take (bytes_of width) offsets) k 0 ≡ k)
 offset_is One zero below = (omega arith, refl)
 offset_is One (suc k) below = absurd (omega arith)
 offset_is Two zero below = (omega arith, refl)
@@ -34,7 +41,8 @@ outside_of : (addr : ℕ) (windows : ℕ → List Changed) (width : Width) (k : 
     Outside addr (flat_map windows (take (bytes_of width) offsets)) → Outside addr (windows k)
 outside_of addr windows width k below out =
     let at = offset_is width k below in
-    subst (λ (j : ℕ). Outside addr (windows j)) at.1 (outside_at addr windows (take (bytes_of width) offsets) k at.0 out)
+    subst (λ (j : ℕ). Outside addr (windows j)) at.1
+    (outside_at addr windows (take (bytes_of width) offsets) k at.0 out)
 
 register : (dev fun off : ℕ) → Reg
 register dev fun off = record { dev = dev; fun = fun; off = off }
@@ -63,7 +71,8 @@ covered at width reg is =
 
 -- each register that a store covers governs windows elsewhere, and the others keep their bytes
 store_keeps : (setup : Setup) (bytes : Bytes) (at : Reg) (width : Width) (value addr : ℕ) →
-    Outside addr (changed_windows setup bytes (Store at width value)) → (reg : Reg) → Kept setup bytes (after setup (Store at width value) bytes) addr reg
+    Outside addr (changed_windows setup bytes (Store at width value)) → (reg : Reg) →
+    Kept setup bytes (after setup (Store at width value) bytes) addr reg
 unfolding windows_covered
 store_keeps setup bytes at width value addr out reg =
     elim (cases_Bool (covers at width reg)) [
@@ -73,10 +82,12 @@ store_keeps setup bytes at width value addr out reg =
           let new : Bytes = after setup (Store at width value) bytes in
           let before : Outside addr (windows_of setup bytes (reg_after at is.k)) =
           outside_of addr (λ k. windows_of setup bytes (reg_after at k)) width is.k is.below
-          (outside_left addr (windows_covered setup bytes (Store at width value)) (windows_covered setup new (Store at width value)) out) in
+          (outside_left addr (windows_covered setup bytes (Store at width value))
+          (windows_covered setup new (Store at width value)) out) in
           let later : Outside addr (windows_of setup new (reg_after at is.k)) =
           outside_of addr (λ k. windows_of setup new (reg_after at k)) width is.k is.below
-          (outside_right addr (windows_covered setup bytes (Store at width value)) (windows_covered setup new (Store at width value)) out) in
+          (outside_right addr (windows_covered setup bytes (Store at width value))
+          (windows_covered setup new (Store at width value)) out) in
           inr (
             subst (λ (other : Reg). Outside addr (windows_of setup bytes other)) is.is before,
             subst (λ (other : Reg). Outside addr (windows_of setup new other)) is.is later,
@@ -90,24 +101,29 @@ unfolding writable_bits host_bridge
 last_row_writable setup = refl
 
 -- a stored byte is a byte
-last_row_after : (setup : Setup) (old written : ℕ) → written < 256 → byte_after setup (bridge 0x67) old written ≡ written
+last_row_after : (setup : Setup) (old written : ℕ) → written < 256 →
+    byte_after setup (bridge 0x67) old written ≡ written
 last_row_after setup old written below = rw (last_row_writable setup) (merged-all old written below)
 
 last_row_at_reset : (setup : Setup) → reset_byte setup (bridge 0x67) ≡ 1
 unfolding reset_byte host_bridge
 last_row_at_reset setup = refl
 
-pub top_after : (setup : Setup) (bytes : Bytes) (change : MapChange) → top_of bytes ≤ 0x7F80_0000 → top_of (after setup change bytes) ≤ 0x7F80_0000
+pub top_after : (setup : Setup) (bytes : Bytes) (change : MapChange) → top_of bytes ≤ 0x7F80_0000 →
+    top_of (after setup change bytes) ≤ 0x7F80_0000
 top_after setup bytes Reset top = rw (last_row_at_reset setup) (omega arith)
 top_after setup bytes (Store at width value) top =
     elim (cases_Bool (covers at width (bridge 0x67))) [
       | inr beside ↦ rw beside top
-      | inl over ↦ rw (over, last_row_after setup (bytes (bridge 0x67)) (byte value (0x67 - at.off)) (omega arith)) (omega arith)
+      | inl over ↦ rw (over, last_row_after setup (bytes (bridge 0x67)) (byte value (0x67 - at.off)) (omega arith))
+          (omega arith)
     ]
 
 -- outside all changed windows nothing changes
-pub changes_keep : (setup : Setup) (bytes : Bytes) (change : MapChange) (addr : ℕ) → IsCardList setup.cards → top_of bytes ≤ 0x7F80_0000 → addr < address_count →
-    Outside addr (changed_windows setup bytes change) → six_areas setup (after setup change bytes) addr ≡ six_areas setup bytes addr
+pub changes_keep : (setup : Setup) (bytes : Bytes) (change : MapChange) (addr : ℕ) → IsCardList setup.cards →
+    top_of bytes ≤ 0x7F80_0000 → addr < address_count →
+    Outside addr (changed_windows setup bytes change) →
+    six_areas setup (after setup change bytes) addr ≡ six_areas setup bytes addr
 unfolding windows_covered
 changes_keep setup bytes Reset addr list top address out =
     elim out.0 [ inl below ↦ absurd (omega arith) | inr above ↦ absurd (omega arith) ]
@@ -119,7 +135,8 @@ changes_keep setup bytes (Store at width value) addr list top address out =
 
 pub windows_hold_changes : WindowsHoldChanges
 windows_hold_changes setup bytes change addr list top address out =
-    changes_keep setup bytes change addr list top address (recursion_from_All (IsOutside addr) (changed_windows setup bytes change) out)
+    changes_keep setup bytes change addr list top address
+    (recursion_from_All (IsOutside addr) (changed_windows setup bytes change) out)
 
 pub bounds_hold_changes : BoundsHoldChanges
 bounds_hold_changes setup bytes change addr list top address out =

@@ -1,13 +1,22 @@
--- What a store to the boundaries of the rows of DRAM moves, and that no more rows are looked up for it than the bound says.
-use Rattle.std.proofs.Common.{◌≡◌, ℕ, zero, suc, ◌⊎◌, Bool, ◌+◌, ◌-◌, ◌*◌, ◌<◌, ◌≤◌, inl, inr, true, false, List, [], ◌∷◌, ◌++◌, take, refl, sym, ◌∙◌, ap, subst, arith, lit<, ◌==◌, ◌&&◌, nat_le, nat_lt, if◌then◌else◌, Option, Some, None, min, max, slice_index, find, flat_map}
-use Rattle.board_prelude.proofs.Common.{AllByRecursion, list_any, cases_Bool, cases_lt, false≢true, and_parts, nat_tests, Width, One, Reg, bytes_of, some_bytes, MapChange, Store, Reset, FittedCard, Setup, IsCardList, covers, Bytes, boundary, row_of, bridge, reg_after, six_areas}
+-- What a store to the boundaries of the rows of DRAM moves, and that no more rows are looked up for it than the bound
+-- says.
+use Rattle.std.proofs.Common.{◌≡◌, ℕ, zero, suc, ◌⊎◌, Bool, ◌+◌, ◌-◌, ◌*◌, ◌<◌, ◌≤◌, inl, inr, true, false, List, []}
+use Rattle.std.proofs.Common.{◌∷◌, ◌++◌, take, refl, sym, ◌∙◌, ap, subst, arith, lit<, ◌==◌, ◌&&◌, nat_le, nat_lt}
+use Rattle.std.proofs.Common.{if◌then◌else◌, Option, Some, None, min, max, slice_index, find, flat_map}
+use Rattle.board_prelude.proofs.Common.{AllByRecursion, list_any, cases_Bool, cases_lt, false≢true, and_parts}
+use Rattle.board_prelude.proofs.Common.{nat_tests, Width, One, Reg, bytes_of, some_bytes, MapChange, Store, Reset}
+use Rattle.board_prelude.proofs.Common.{FittedCard, Setup, IsCardList, covers, Bytes, boundary, row_of, bridge}
+use Rattle.board_prelude.proofs.Common.{reg_after, six_areas}
 use Rattle.board_base.specs.declared.access.Width.TheVariants.{Two, Four}
 use Rattle.addr_decode.specs.declared.register.MapRegister.{MapRegister}
-use Rattle.addr_decode.specs.declared.register.MapRegister.TheVariants.{Pam, RowBoundary, Hole, Smram, ChipSelects, Card}
+use Rattle.addr_decode.specs.declared.register.MapRegister.TheVariants.{Pam, RowBoundary, Hole, Smram, ChipSelects}
+use Rattle.addr_decode.specs.declared.register.MapRegister.TheVariants.{Card}
 use Rattle.addr_decode.specs.Common.{map_register, names_of, MapBytes, StandsFor, edges_of, edges_after}
 use Rattle.addr_decode.proofs.Common.{is_name, in_function_0}
 use Rattle.map_builder.specs.declared.range.Changed.{Changed}
-use Rattle.map_builder.specs.Common.{from_to, windows_of, windows_covered, after, changed_windows, is_above_first, is_inside, edges_inside, is_window, count_of, IsOutside, is_row_name, stores_rows, is_below, IsHidden, StaysOrHidden, RowStays, IsInRows, AreMoved, Rise, rows_in}
+use Rattle.map_builder.specs.Common.{from_to, windows_of, windows_covered, after, changed_windows, is_above_first}
+use Rattle.map_builder.specs.Common.{is_inside, edges_inside, is_window, count_of, IsOutside, is_row_name, stores_rows}
+use Rattle.map_builder.specs.Common.{is_below, IsHidden, StaysOrHidden, RowStays, IsInRows, AreMoved, Rise, rows_in}
 use Rattle.map_builder.proofs.KeptLemmas.{is_boundary, areas_same, row_window}
 use Rattle.map_builder.proofs.SortedLemmas.{filter_more, one_window}
 
@@ -25,7 +34,8 @@ record IsRowAt (at : Reg) (k : ℕ) : Type 0 where
   pub from : 0x60 ≤ at.off + k
   pub to : at.off + k < 0x68
 
-row_placed : (cards : List FittedCard) (at : Reg) (k row : ℕ) → map_register cards (reg_after at k) ≡ Some (RowBoundary row) → IsRowAt at k
+row_placed : (cards : List FittedCard) (at : Reg) (k row : ℕ) →
+    map_register cards (reg_after at k) ≡ Some (RowBoundary row) → IsRowAt at k
 row_placed cards at k row is =
     let name = is_name cards (reg_after at k) (RowBoundary row) is in
     let number : row < 8 = name.number in
@@ -37,7 +47,8 @@ row_placed cards at k row is =
       to = omega arith;
     }
 
-row_named : (cards : List FittedCard) (at : Reg) (k : ℕ) (name : Option MapRegister) → map_register cards (reg_after at k) ≡ name →
+row_named : (cards : List FittedCard) (at : Reg) (k : ℕ) (name : Option MapRegister) →
+    map_register cards (reg_after at k) ≡ name →
     is_row_name name ≡ true → IsRowAt at k
 row_named cards at k (Some (RowBoundary row)) is row_is = row_placed cards at k row is
 row_named cards at k None is row_is = absurd (false≢true row_is)
@@ -47,10 +58,12 @@ row_named cards at k (Some Smram) is row_is = absurd (false≢true row_is)
 row_named cards at k (Some ChipSelects) is row_is = absurd (false≢true row_is)
 row_named cards at k (Some (Card dev register)) is row_is = absurd (false≢true row_is)
 
-row_at : (cards : List FittedCard) (at : Reg) (k : ℕ) → is_row_name (map_register cards (reg_after at k)) ≡ true → IsRowAt at k
+row_at : (cards : List FittedCard) (at : Reg) (k : ℕ) → is_row_name (map_register cards (reg_after at k)) ≡ true →
+    IsRowAt at k
 row_at cards at k is = row_named cards at k (map_register cards (reg_after at k)) refl is
 
-rows_between : (at : Reg) (width : Width) (value last : ℕ) → last + 1 ≡ bytes_of width → IsRowAt at 0 → IsRowAt at last →
+rows_between : (at : Reg) (width : Width) (value last : ℕ) → last + 1 ≡ bytes_of width → IsRowAt at 0 →
+    IsRowAt at last →
     covers_rows (Store at width value) ≡ true
 rows_between at width value last count first end =
     let from : nat_le 0x60 at.off ≡ true = let low = first.from in grind (arith, nat_tests) in
@@ -58,7 +71,8 @@ rows_between at width value last count first end =
     rw (first.dev, first.fun, from, to) refl
 
 -- where the names of the registers that it covers are of rows alone
-pub rows_by_names : (cards : List FittedCard) (change : MapChange) → stores_rows (names_of cards change) ≡ true → covers_rows change ≡ true
+pub rows_by_names : (cards : List FittedCard) (change : MapChange) → stores_rows (names_of cards change) ≡ true →
+    covers_rows change ≡ true
 rows_by_names cards Reset is = absurd (false≢true is)
 rows_by_names cards (Store at One value) is =
     let first = row_at cards at 0 (and_parts _ _ (and_parts _ _ is).1).0 in
@@ -74,7 +88,8 @@ rows_by_names cards (Store at Four value) is =
 -- ---- the areas outside of what moves
 
 -- a register beside the boundaries is not covered
-beside : (at : Reg) (width : Width) (value : ℕ) (reg : Reg) → covers_rows (Store at width value) ≡ true → is_boundary reg ≡ false → covers at width reg ≡ false
+beside : (at : Reg) (width : Width) (value : ℕ) (reg : Reg) → covers_rows (Store at width value) ≡ true →
+    is_boundary reg ≡ false → covers at width reg ≡ false
 beside at width value reg rows other =
     elim (cases_Bool (covers at width reg)) [
       | inr not ↦ not
@@ -89,11 +104,21 @@ beside at width value reg rows other =
           absurd (false≢true (sym other ∙ is))
     ]
 
-pub row_stays : (bytes new : Bytes) (addr : ℕ) → ((row : ℕ) → row < 8 → nat_lt addr (boundary new row) ≡ nat_lt addr (boundary bytes row)) →
+pub row_stays : (bytes new : Bytes) (addr : ℕ) →
+    ((row : ℕ) → row < 8 → nat_lt addr (boundary new row) ≡ nat_lt addr (boundary bytes row)) →
     row_of new addr ≡ row_of bytes addr
 unfolding row_of
 row_stays bytes new addr same =
-    rw (same 0 (lit< tt), same 1 (lit< tt), same 2 (lit< tt), same 3 (lit< tt), same 4 (lit< tt), same 5 (lit< tt), same 6 (lit< tt), same 7 (lit< tt)) refl
+    rw (
+      same 0 (lit< tt),
+      same 1 (lit< tt),
+      same 2 (lit< tt),
+      same 3 (lit< tt),
+      same 4 (lit< tt),
+      same 5 (lit< tt),
+      same 6 (lit< tt),
+      same 7 (lit< tt),
+    ) refl
 
 -- so many rows, from one on
 abbrev rows_from : (first count : ℕ) → List ℕ
@@ -127,7 +152,13 @@ same_first p q first (suc count) alike =
                   | inl stays ↦ inl stays
                   | inr found ↦
                       elim (cases_lt first found.earlier) [
-                        | inl later ↦ inr (record { earlier = found.earlier; from = omega arith; before = found.before; here = found.here; there = found.there })
+                        | inl later ↦ inr (record {
+                          earlier = found.earlier;
+                          from = omega arith;
+                          before = found.before;
+                          here = found.here;
+                          there = found.there;
+                        })
                         | inr at_first ↦
                             let is : found.earlier ≡ first = let low = found.from in omega arith in
                             absurd (false≢true (sym not ∙ ap p (sym is) ∙ found.here))
@@ -136,22 +167,27 @@ same_first p q first (suc count) alike =
           ]
     ]
 
-where_same : (a b : Bool) (x y : Option ℕ) → b ≡ a → (a ≡ true → y ≡ x) → (if b then y else None) ≡ (if a then x else None)
+where_same : (a b : Bool) (x y : Option ℕ) → b ≡ a → (a ≡ true → y ≡ x) →
+    (if b then y else None) ≡ (if a then x else None)
 where_same true b x y is same = rw is (same refl)
 where_same false b x y is same = rw is refl
 
 -- the boundaries in the registers are those of the board
 side_at : (regs : MapBytes) (setup : Setup) (bytes : Bytes) (addr row : ℕ) → StandsFor setup bytes regs → row < 8 →
     is_below regs.drb addr row ≡ nat_lt addr (boundary bytes row)
-side_at regs setup bytes addr row stands below = ap (λ (byte : ℕ). nat_lt addr (byte * 0x80_0000)) (stands.rows row below)
+side_at regs setup bytes addr row stands below =
+    ap (λ (byte : ℕ). nat_lt addr (byte * 0x80_0000)) (stands.rows row below)
 
-row_kept : (old new : MapBytes) (setup : Setup) (bytes later : Bytes) (addr : ℕ) → StandsFor setup bytes old → StandsFor setup later new →
+row_kept : (old new : MapBytes) (setup : Setup) (bytes later : Bytes) (addr : ℕ) → StandsFor setup bytes old →
+    StandsFor setup later new →
     RowStays old.drb new.drb addr → row_of later addr ≡ row_of bytes addr
 unfolding row_of
 row_kept old new setup bytes later addr stands stands' stays =
     let top : nat_lt addr (boundary later 7) ≡ nat_lt addr (boundary bytes 7) =
-    sym (side_at new setup later addr 7 stands' (lit< tt)) ∙ stays.top ∙ side_at old setup bytes addr 7 stands (lit< tt) in
-    where_same (nat_lt addr (boundary bytes 7)) (nat_lt addr (boundary later 7)) (find (λ row. nat_lt addr (boundary bytes row)) (rows_from 0 8))
+    sym (side_at new setup later addr 7 stands' (lit< tt)) ∙ stays.top
+    ∙ side_at old setup bytes addr 7 stands (lit< tt) in
+    where_same (nat_lt addr (boundary bytes 7)) (nat_lt addr (boundary later 7))
+    (find (λ row. nat_lt addr (boundary bytes row)) (rows_from 0 8))
     (find (λ row. nat_lt addr (boundary later row)) (rows_from 0 8)) top
     (λ below.
     same_first (λ row. nat_lt addr (boundary bytes row)) (λ row. nat_lt addr (boundary later row)) 0 8
@@ -160,7 +196,8 @@ row_kept old new setup bytes later addr stands stands' stays =
       | inr last ↦ inl (let is : row ≡ 7 = omega arith in rw is top)
       | inl within ↦
           elim (stays.each (side_at old setup bytes addr 7 stands (lit< tt) ∙ below) row within) [
-            | inl same ↦ inl (sym (side_at new setup later addr row stands' high) ∙ same ∙ side_at old setup bytes addr row stands high)
+            | inl same ↦ inl (sym (side_at new setup later addr row stands' high) ∙ same
+                ∙ side_at old setup bytes addr row stands high)
             | inr hidden ↦
                 let early : hidden.earlier < 8 = let before = hidden.before in omega arith in
                 inr (record {
@@ -173,7 +210,8 @@ row_kept old new setup bytes later addr stands stands' stays =
           ]
     ]))
 
-pub rows_keep : (old new : MapBytes) (setup : Setup) (bytes : Bytes) (change : MapChange) (addr : ℕ) → covers_rows change ≡ true → IsCardList setup.cards →
+pub rows_keep : (old new : MapBytes) (setup : Setup) (bytes : Bytes) (change : MapChange) (addr : ℕ) →
+    covers_rows change ≡ true → IsCardList setup.cards →
     StandsFor setup bytes old → StandsFor setup (after setup change bytes) new → RowStays old.drb new.drb addr →
     six_areas setup (after setup change bytes) addr ≡ six_areas setup bytes addr
 rows_keep old new setup bytes Reset addr rows list stands stands' stays = absurd (false≢true rows)
@@ -198,13 +236,15 @@ record BeginsWithRows (windows : List Changed) : Type 0 where
 first_of : (here rest more : List Changed) → here ≡ from_to 0 0x7F7F_FFFF ∷ [] → BeginsWithRows ((here ++ rest) ++ more)
 first_of here rest more first = record { rest = rest ++ more; is = rw first refl }
 
-first_offset : (windows : ℕ → List Changed) (width : Width) (more : List Changed) → windows 0 ≡ from_to 0 0x7F7F_FFFF ∷ [] →
+first_offset : (windows : ℕ → List Changed) (width : Width) (more : List Changed) →
+    windows 0 ≡ from_to 0 0x7F7F_FFFF ∷ [] →
     BeginsWithRows (flat_map windows (take (bytes_of width) (0 ∷ 1 ∷ 2 ∷ 3 ∷ [])) ++ more)
 first_offset windows One more first = first_of (windows 0) (flat_map windows ([])) more first
 first_offset windows Two more first = first_of (windows 0) (flat_map windows (1 ∷ [])) more first
 first_offset windows Four more first = first_of (windows 0) (flat_map windows (1 ∷ 2 ∷ 3 ∷ [])) more first
 
-begins : (setup : Setup) (bytes : Bytes) (change : MapChange) → covers_rows change ≡ true → BeginsWithRows (changed_windows setup bytes change)
+begins : (setup : Setup) (bytes : Bytes) (change : MapChange) → covers_rows change ≡ true →
+    BeginsWithRows (changed_windows setup bytes change)
 unfolding windows_covered
 begins setup bytes Reset rows = absurd (false≢true rows)
 begins setup bytes (Store at width value) rows =
@@ -218,7 +258,8 @@ begins setup bytes (Store at width value) rows =
     (row_window setup bytes (at.off - 0x60) (omega (arith, some_bytes width))) in
     first_offset (λ k. windows_of setup bytes (reg_after at k)) width
     (windows_covered setup (after setup (Store at width value) bytes) (Store at width value))
-    (subst (λ (reg : Reg). windows_of setup bytes reg ≡ from_to 0 0x7F7F_FFFF ∷ []) (in_function_0 (reg_after at 0) 0 dev fun) window)
+    (subst (λ (reg : Reg). windows_of setup bytes reg ≡ from_to 0 0x7F7F_FFFF ∷ [])
+    (in_function_0 (reg_after at 0) 0 dev fun) window)
 
 count_some : (window : Changed) (later : List Changed) → 1 ≤ count_of (window ∷ later)
 unfolding count_of
@@ -229,7 +270,8 @@ count_some window (other ∷ later) =
       | inr once ↦ rw once (omega arith)
     ]
 
-inside_rows : (window : Changed) (rest : List Changed) (edge : ℕ) → IsInRows window → is_above_first edge window ≡ true →
+inside_rows : (window : Changed) (rest : List Changed) (edge : ℕ) → IsInRows window →
+    is_above_first edge window ≡ true →
     is_inside (from_to 0 0x7F7F_FFFF ∷ rest) edge ≡ true
 inside_rows window rest edge within is =
     let from : window.lo < edge = grind (arith, nat_tests) in
@@ -237,46 +279,62 @@ inside_rows window rest edge within is =
     let here : is_above_first edge (from_to 0 0x7F7F_FFFF) ≡ true = let high = within.1 in grind (arith, nat_tests) in
     rw here refl
 
-few_in_rows : (setup : Setup) (bytes : Bytes) (window : Changed) (windows : List Changed) → IsInRows window → BeginsWithRows windows →
-    edges_after setup bytes window.lo - edges_after setup bytes window.hi + 1 ≤ count_of windows + edges_inside setup bytes windows
+few_in_rows : (setup : Setup) (bytes : Bytes) (window : Changed) (windows : List Changed) → IsInRows window →
+    BeginsWithRows windows →
+    edges_after setup bytes window.lo - edges_after setup bytes window.hi + 1
+    ≤ count_of windows + edges_inside setup bytes windows
 few_in_rows setup bytes window windows within begin =
     rw begin.is
     (omega (
       arith,
       one_window window (edges_of setup bytes),
-      filter_more (λ edge. is_above_first edge window) (is_inside (from_to 0 0x7F7F_FFFF ∷ begin.rest)) (edges_of setup bytes) (λ edge is. inside_rows window begin.rest edge within is),
+      filter_more (λ edge. is_above_first edge window) (is_inside (from_to 0 0x7F7F_FFFF ∷ begin.rest))
+          (edges_of setup bytes) (λ edge is. inside_rows window begin.rest edge within is),
       count_some (from_to 0 0x7F7F_FFFF) begin.rest,
     ))
 
-pub moved_few : (setup : Setup) (bytes new : Bytes) (change : MapChange) (old_rows new_rows : List ℕ) (windows : List Changed) → covers_rows change ≡ true →
+pub moved_few : (setup : Setup) (bytes new : Bytes) (change : MapChange) (old_rows new_rows : List ℕ)
+    (windows : List Changed) → covers_rows change ≡ true →
     AreMoved old_rows new_rows windows →
-    rows_in (edges_after setup new) windows ≤ count_of (changed_windows setup bytes change) + edges_inside setup new (changed_windows setup bytes change)
+    rows_in (edges_after setup new) windows ≤ count_of (changed_windows setup bytes change) + edges_inside setup new
+    (changed_windows setup bytes change)
 moved_few setup bytes new change old_rows new_rows [] rows moved = omega arith
 moved_few setup bytes new change old_rows new_rows (window ∷ []) rows moved =
-    omega (arith, few_in_rows setup new window (changed_windows setup bytes change) moved.each.0 (begins setup bytes change rows))
-moved_few setup bytes new change old_rows new_rows (window ∷ other ∷ later) rows moved = absurd (omega (arith, moved.one))
+    omega (
+      arith,
+      few_in_rows setup new window (changed_windows setup bytes change) moved.each.0 (begins setup bytes change rows),
+    )
+moved_few setup bytes new change old_rows new_rows (window ∷ other ∷ later) rows moved =
+    absurd (omega (arith, moved.one))
 
 -- what moves lies in the windows that change
-past_rows : (addr : ℕ) (window : Changed) → IsInRows window → IsOutside addr (from_to 0 0x7F7F_FFFF) → IsOutside addr window
+past_rows : (addr : ℕ) (window : Changed) → IsInRows window → IsOutside addr (from_to 0 0x7F7F_FFFF) →
+    IsOutside addr window
 past_rows addr window within (inl below) = absurd (omega (arith, below))
 past_rows addr window within (inr above) = inr (let high = within.1 in omega (arith, high, above))
 
-pub moved_within : (setup : Setup) (bytes : Bytes) (change : MapChange) (old_rows new_rows : List ℕ) (windows : List Changed) (addr : ℕ) →
-    covers_rows change ≡ true → AreMoved old_rows new_rows windows → AllByRecursion (IsOutside addr) (changed_windows setup bytes change) →
+pub moved_within : (setup : Setup) (bytes : Bytes) (change : MapChange) (old_rows new_rows : List ℕ)
+    (windows : List Changed) (addr : ℕ) →
+    covers_rows change ≡ true → AreMoved old_rows new_rows windows →
+    AllByRecursion (IsOutside addr) (changed_windows setup bytes change) →
     AllByRecursion (IsOutside addr) windows
 moved_within setup bytes change old_rows new_rows [] addr rows moved out = tt
 moved_within setup bytes change old_rows new_rows (window ∷ []) addr rows moved out =
     let begin = begins setup bytes change rows in
     let first : AllByRecursion (IsOutside addr) (from_to 0 0x7F7F_FFFF ∷ begin.rest) = rw begin.is at out in
     (past_rows addr window moved.each.0 first.0, tt)
-moved_within setup bytes change old_rows new_rows (window ∷ other ∷ later) addr rows moved out = absurd (omega (arith, moved.one))
+moved_within setup bytes change old_rows new_rows (window ∷ other ∷ later) addr rows moved out =
+    absurd (omega (arith, moved.one))
 
 -- ---- one row after the other, as the code takes them
 
--- an address outside of what lies between the boundaries of a row, which no earlier row hides and which lies below the top
-pub stays_on : (old new : List ℕ) (addr row first hidden end top : ℕ) → first ≡ min (slice_index old row) (slice_index new row) →
+-- an address outside of what lies between the boundaries of a row, which no earlier row hides and which lies below the
+-- top
+pub stays_on : (old new : List ℕ) (addr row first hidden end top : ℕ) →
+    first ≡ min (slice_index old row) (slice_index new row) →
     end ≡ max (slice_index old row) (slice_index new row) → slice_index old 7 ≤ top → is_below old addr 7 ≡ true →
-    ((addr < max first hidden * 0x80_0000) ⊎ (min end top * 0x80_0000 ≤ addr)) → (addr < hidden * 0x80_0000 → IsHidden old new addr row) →
+    ((addr < max first hidden * 0x80_0000) ⊎ (min end top * 0x80_0000 ≤ addr)) →
+    (addr < hidden * 0x80_0000 → IsHidden old new addr row) →
     StaysOrHidden old new addr row
 stays_on old new addr row first hidden end top first_is end_is high below (inl low) hides =
     elim (cases_lt addr (hidden * 0x80_0000)) [
@@ -293,13 +351,25 @@ stays_on old new addr row first hidden end top first_is end_is high below (inr p
     inl (new_above ∙ sym old_above)
 
 -- the addresses that the rows so far hide, and those that one more hides
-pub hides_on : (old new : List ℕ) (addr row first hidden : ℕ) → first ≡ min (slice_index old row) (slice_index new row) →
-    (addr < hidden * 0x80_0000 → IsHidden old new addr row) → addr < max hidden first * 0x80_0000 → IsHidden old new addr (row + 1)
+pub hides_on : (old new : List ℕ) (addr row first hidden : ℕ) →
+    first ≡ min (slice_index old row) (slice_index new row) →
+    (addr < hidden * 0x80_0000 → IsHidden old new addr row) → addr < max hidden first * 0x80_0000 →
+    IsHidden old new addr (row + 1)
 hides_on old new addr row first hidden first_is hides low =
     elim (cases_lt addr (hidden * 0x80_0000)) [
       | inl is ↦
           let found = hides is in
-          record { earlier = found.earlier; before = (let before = found.before in omega arith); old_below = found.old_below; new_below = found.new_below }
+          record {
+            earlier = found.earlier;
+            before = (let before = found.before in omega arith);
+            old_below = found.old_below;
+            new_below = found.new_below;
+          }
       | inr not ↦
-          record { earlier = row; before = omega arith; old_below = grind (arith, nat_tests); new_below = grind (arith, nat_tests) }
+          record {
+            earlier = row;
+            before = omega arith;
+            old_below = grind (arith, nat_tests);
+            new_below = grind (arith, nat_tests);
+          }
     ]

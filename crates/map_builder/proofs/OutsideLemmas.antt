@@ -1,5 +1,6 @@
 -- Addresses outside windows and outside their bounds.
-use Rattle.std.proofs.Common.{◌≡◌, ℕ, ◌+◌, ◌*◌, ◌/◌, ◌%◌, ◌^◌, ◌<◌, inl, inr, Bool, true, false, List, [], ◌∷◌, ◌++◌, map, Option, Some, None, refl, ap, arith, ◌&&◌, unwrap_or, find}
+use Rattle.std.proofs.Common.{◌≡◌, ℕ, ◌+◌, ◌*◌, ◌/◌, ◌%◌, ◌^◌, ◌<◌, inl, inr, Bool, true, false, List, [], ◌∷◌, ◌++◌}
+use Rattle.std.proofs.Common.{map, Option, Some, None, refl, ap, arith, ◌&&◌, unwrap_or, find}
 use Rattle.board_prelude.proofs.Common.{AllByRecursion, ne_eqb, pow_pos, Window, is_covered}
 use Rattle.std.proofs.Math.Pow.{split}
 use Rattle.map_builder.specs.declared.range.Changed.{Changed}
@@ -15,7 +16,8 @@ abbrev pub OutsideSome : ℕ → Option Changed → Type 0
 OutsideSome addr None = Unit {0}
 OutsideSome addr (Some interval) = IsOutside addr interval
 
-pub outside_both : (addr : ℕ) (here there : Changed) → IsOutside addr (both here there) → IsOutside addr here × IsOutside addr there
+pub outside_both : (addr : ℕ) (here there : Changed) → IsOutside addr (both here there) →
+    IsOutside addr here × IsOutside addr there
 outside_both addr here there (inl below) = (inl (omega arith), inl (omega arith))
 outside_both addr here there (inr above) = (inr (omega arith), inr (omega arith))
 
@@ -30,11 +32,13 @@ outside_each addr [] out = tt
 outside_each addr (window ∷ later) out =
     let each = outside_joined addr window (bounds later) out in (each.0, outside_each addr later each.1)
 
-outside_some : (addr : ℕ) (found : Option Changed) → IsOutside addr (unwrap_or found (from_to 0 0)) → OutsideSome addr found
+outside_some : (addr : ℕ) (found : Option Changed) → IsOutside addr (unwrap_or found (from_to 0 0)) →
+    OutsideSome addr found
 outside_some addr None out = tt
 outside_some addr (Some interval) out = out
 
-pub outside_bounds : (addr : ℕ) (windows : List Changed) → IsOutside addr (bounds_or_zero windows) → Outside addr windows
+pub outside_bounds : (addr : ℕ) (windows : List Changed) → IsOutside addr (bounds_or_zero windows) →
+    Outside addr windows
 outside_bounds addr windows out = outside_each addr windows (outside_some addr (bounds windows) out)
 
 -- ---- parts of a list of windows
@@ -55,7 +59,8 @@ not_covered addr window out =
     (λ same.
     let parts : addr / 2 ^ window.bits * 2 ^ window.bits + addr % 2 ^ window.bits ≡ addr = split addr window.bits in
     let positive : 0 < 2 ^ window.bits = pow_pos window.bits in
-    let first : window.inside / 2 ^ window.bits * 2 ^ window.bits ≡ addr / 2 ^ window.bits * 2 ^ window.bits = ap (λ q. q * 2 ^ window.bits) same in
+    let first : window.inside / 2 ^ window.bits * 2 ^ window.bits ≡ addr / 2 ^ window.bits * 2 ^ window.bits =
+    ap (λ q. q * 2 ^ window.bits) same in
     elim out [ inl below ↦ omega arith | inr above ↦ omega arith ])
 
 pub and_no : (a : Bool) → (a && false) ≡ false

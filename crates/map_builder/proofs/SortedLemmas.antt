@@ -1,9 +1,12 @@
 -- Windows in rising order hold the addresses of those that were sorted, and are no more than there are different ones.
-use Rattle.std.proofs.Common.{◌≡◌, ℕ, ◌+◌, ◌<◌, ◌≤◌, ◌⊎◌, inl, inr, Bool, true, false, List, [], ◌∷◌, ◌++◌, length, refl, ap, arith, append_assoc, ◌||◌, nat_lt, nat_le, min, max, filter}
-use Rattle.board_prelude.proofs.Common.{list_any, cases_Bool, cases_lt, or_cases, or_left, or_right, false≢true, nat_tests, Setup, Bytes}
+use Rattle.std.proofs.Common.{◌≡◌, ℕ, ◌+◌, ◌<◌, ◌≤◌, ◌⊎◌, inl, inr, Bool, true, false, List, [], ◌∷◌, ◌++◌, length}
+use Rattle.std.proofs.Common.{refl, ap, arith, append_assoc, ◌||◌, nat_lt, nat_le, min, max, filter}
+use Rattle.board_prelude.proofs.Common.{list_any, cases_Bool, cases_lt, or_cases, or_left, or_right, false≢true}
+use Rattle.board_prelude.proofs.Common.{nat_tests, Setup, Bytes}
 use Rattle.addr_decode.specs.Edges.{edges_of, edges_after}
 use Rattle.map_builder.specs.declared.range.Changed.{Changed}
-use Rattle.map_builder.specs.Common.{both, is_above_first, is_inside, edges_inside, is_window, count_of, IsOutside, with_window, sorted, AreAbove, Rise, rows_in}
+use Rattle.map_builder.specs.Common.{both, is_above_first, is_inside, edges_inside, is_window, count_of, IsOutside}
+use Rattle.map_builder.specs.Common.{with_window, sorted, AreAbove, Rise, rows_in}
 use Rattle.map_builder.proofs.OutsideLemmas.{Outside, outside_both}
 use Rattle.map_builder.proofs.BoundsLemmas.{Ordered}
 
@@ -13,7 +16,8 @@ above_lower : (low high : ℕ) (windows : List Changed) → low ≤ high → Are
 above_lower low high [] order above = tt
 above_lower low high (window ∷ later) order above = (omega (arith, above.0), above_lower low high later order above.1)
 
-above_with : (addr : ℕ) (window : Changed) (windows : List Changed) → addr < window.lo → AreAbove addr windows → AreAbove addr (with_window window windows)
+above_with : (addr : ℕ) (window : Changed) (windows : List Changed) → addr < window.lo → AreAbove addr windows →
+    AreAbove addr (with_window window windows)
 unfolding with_window
 above_with addr window [] here above = (here, tt)
 above_with addr window (other ∷ later) here above =
@@ -26,7 +30,8 @@ above_with addr window (other ∷ later) here above =
           ])
     ]
 
-rise_with : (window : Changed) (windows : List Changed) → window.lo ≤ window.hi → Rise windows → Rise (with_window window windows)
+rise_with : (window : Changed) (windows : List Changed) → window.lo ≤ window.hi → Rise windows →
+    Rise (with_window window windows)
 unfolding with_window
 rise_with window [] order rise = (order, tt, tt)
 rise_with window (other ∷ later) order rise =
@@ -38,7 +43,12 @@ rise_with window (other ∷ later) order rise =
           (elim (cases_Bool (nat_lt window.hi other.lo)) [
             | inl behind ↦
                 let low : window.hi < other.lo = grind (arith, nat_tests) in
-                rw behind (order, above_with window.hi other later low (above_lower window.hi other.hi later (omega (arith, rise.0)) rise.1), rise_with other later rise.0 rise.2)
+                rw behind (
+                  order,
+                  above_with window.hi other later low
+                      (above_lower window.hi other.hi later (omega (arith, rise.0)) rise.1),
+                  rise_with other later rise.0 rise.2,
+                )
             | inr overlap ↦ rw overlap (rise_with (both other window) later (omega (arith, rise.0)) rise.2)
           ])
     ]
@@ -50,7 +60,8 @@ rise_sorted (window ∷ later) ordered = rise_with window (sorted later) ordered
 
 -- ---- the same addresses
 
-outside_with : (addr : ℕ) (window : Changed) (windows : List Changed) → Outside addr (with_window window windows) → IsOutside addr window × Outside addr windows
+outside_with : (addr : ℕ) (window : Changed) (windows : List Changed) → Outside addr (with_window window windows) →
+    IsOutside addr window × Outside addr windows
 unfolding with_window
 outside_with addr window [] out = out
 outside_with addr window (other ∷ later) out =
@@ -62,7 +73,8 @@ outside_with addr window (other ∷ later) out =
       | inr not_before ↦
           elim (cases_Bool (nat_lt window.hi other.lo)) [
             | inl behind ↦
-                let parts : IsOutside addr window × Outside addr (with_window other later) = rw (not_before, behind) at out in
+                let parts : IsOutside addr window × Outside addr (with_window other later) =
+                rw (not_before, behind) at out in
                 (parts.0, outside_with addr other later parts.1)
             | inr overlap ↦
                 let parts : Outside addr (with_window (both other window) later) = rw (not_before, overlap) at out in
@@ -86,7 +98,8 @@ beside_both addr other window low high (inl before) (inr above) = absurd (omega 
 beside_both addr other window low high (inr after) (inl below) = absurd (omega (arith, low, high, after, below))
 beside_both addr other window low high (inr after) (inr above) = inr (omega (arith, after, above))
 
-beside_with : (addr : ℕ) (window : Changed) (windows : List Changed) → IsOutside addr window → Outside addr windows → Outside addr (with_window window windows)
+beside_with : (addr : ℕ) (window : Changed) (windows : List Changed) → IsOutside addr window → Outside addr windows →
+    Outside addr (with_window window windows)
 unfolding with_window
 beside_with addr window [] here out = (here, tt)
 beside_with addr window (other ∷ later) here out =
@@ -98,7 +111,8 @@ beside_with addr window (other ∷ later) here out =
             | inr overlap ↦
                 let low : window.lo ≤ other.hi = grind (arith, nat_tests) in
                 let high : other.lo ≤ window.hi = grind (arith, nat_tests) in
-                rw (not_before, overlap) (beside_with addr (both other window) later (beside_both addr other window low high out.0 here) out.1)
+                rw (not_before, overlap) (beside_with addr (both other window) later
+                (beside_both addr other window low high out.0 here) out.1)
           ]
     ]
 
@@ -108,7 +122,8 @@ unfolding sorted
 beside_sorted addr [] out = tt
 beside_sorted addr (window ∷ later) out = beside_with addr window (sorted later) out.0 (beside_sorted addr later out.1)
 
-inside_both : (addr : ℕ) (other window : Changed) → window.lo ≤ other.hi → other.lo ≤ window.hi → is_above_first addr (both other window) ≡ true →
+inside_both : (addr : ℕ) (other window : Changed) → window.lo ≤ other.hi → other.lo ≤ window.hi →
+    is_above_first addr (both other window) ≡ true →
     (is_above_first addr other ≡ true) ⊎ (is_above_first addr window ≡ true)
 inside_both addr other window low high is =
     let from : min other.lo window.lo < addr = grind (arith, nat_tests) in
@@ -128,13 +143,15 @@ inside_both addr other window low high is =
           inr (grind (arith, nat_tests))
     ]
 
-inside_with : (addr : ℕ) (window : Changed) (windows : List Changed) → is_inside (with_window window windows) addr ≡ true → is_inside (window ∷ windows) addr ≡ true
+inside_with : (addr : ℕ) (window : Changed) (windows : List Changed) →
+    is_inside (with_window window windows) addr ≡ true → is_inside (window ∷ windows) addr ≡ true
 unfolding with_window
 inside_with addr window [] is = is
 inside_with addr window (other ∷ later) is =
     elim (cases_Bool (nat_lt other.hi window.lo)) [
       | inl before ↦
-          let parts : (is_above_first addr other || is_inside (with_window window later) addr) ≡ true = rw before at is in
+          let parts : (is_above_first addr other || is_inside (with_window window later) addr) ≡ true =
+          rw before at is in
           elim (or_cases (is_above_first addr other) (is_inside (with_window window later) addr) parts) [
             | inl here ↦ or_right (is_above_first addr window) _ (or_left (is_above_first addr other) _ here)
             | inr rest ↦
@@ -146,19 +163,23 @@ inside_with addr window (other ∷ later) is =
       | inr not_before ↦
           elim (cases_Bool (nat_lt window.hi other.lo)) [
             | inl behind ↦
-                let parts : (is_above_first addr window || is_inside (with_window other later) addr) ≡ true = rw (not_before, behind) at is in
+                let parts : (is_above_first addr window || is_inside (with_window other later) addr) ≡ true =
+                rw (not_before, behind) at is in
                 elim (or_cases (is_above_first addr window) (is_inside (with_window other later) addr) parts) [
                   | inl here ↦ or_left (is_above_first addr window) _ here
                   | inr rest ↦ or_right (is_above_first addr window) _ (inside_with addr other later rest)
                 ]
             | inr overlap ↦
-                let parts : is_inside (with_window (both other window) later) addr ≡ true = rw (not_before, overlap) at is in
+                let parts : is_inside (with_window (both other window) later) addr ≡ true =
+                rw (not_before, overlap) at is in
                 let low : window.lo ≤ other.hi = grind (arith, nat_tests) in
                 let high : other.lo ≤ window.hi = grind (arith, nat_tests) in
-                elim (or_cases (is_above_first addr (both other window)) (is_inside later addr) (inside_with addr (both other window) later parts)) [
+                elim (or_cases (is_above_first addr (both other window)) (is_inside later addr)
+                (inside_with addr (both other window) later parts)) [
                   | inl here ↦
                       elim (inside_both addr other window low high here) [
-                        | inl there ↦ or_right (is_above_first addr window) _ (or_left (is_above_first addr other) _ there)
+                        | inl there ↦ or_right (is_above_first addr window) _
+                            (or_left (is_above_first addr other) _ there)
                         | inr there ↦ or_left (is_above_first addr window) _ there
                       ]
                   | inr rest ↦ or_right (is_above_first addr window) _ (or_right (is_above_first addr other) _ rest)
@@ -166,11 +187,13 @@ inside_with addr window (other ∷ later) is =
           ]
     ]
 
-inside_sorted : (windows : List Changed) (addr : ℕ) → is_inside (sorted windows) addr ≡ true → is_inside windows addr ≡ true
+inside_sorted : (windows : List Changed) (addr : ℕ) → is_inside (sorted windows) addr ≡ true →
+    is_inside windows addr ≡ true
 unfolding sorted
 inside_sorted [] addr is = is
 inside_sorted (window ∷ later) addr is =
-    elim (or_cases (is_above_first addr window) (is_inside (sorted later) addr) (inside_with addr window (sorted later) is)) [
+    elim (or_cases (is_above_first addr window) (is_inside (sorted later) addr)
+    (inside_with addr window (sorted later) is)) [
       | inl here ↦ or_left (is_above_first addr window) _ here
       | inr rest ↦ or_right (is_above_first addr window) _ (inside_sorted later addr rest)
     ]
@@ -195,12 +218,15 @@ abbrev Covers : Changed → List Changed → Type 0
 Covers window [] = ⊥
 Covers window (other ∷ later) = ((other.lo ≤ window.lo) × (window.hi ≤ other.hi)) ⊎ Covers window later
 
-covers_smaller : (window larger : Changed) (windows : List Changed) → larger.lo ≤ window.lo → window.hi ≤ larger.hi → Covers larger windows → Covers window windows
+covers_smaller : (window larger : Changed) (windows : List Changed) → larger.lo ≤ window.lo → window.hi ≤ larger.hi →
+    Covers larger windows → Covers window windows
 covers_smaller window larger [] low high covers = covers
 covers_smaller window larger (other ∷ later) low high (inl here) = inl (omega (arith, here.0), omega (arith, here.1))
-covers_smaller window larger (other ∷ later) low high (inr rest) = inr (covers_smaller window larger later low high rest)
+covers_smaller window larger (other ∷ later) low high (inr rest) =
+    inr (covers_smaller window larger later low high rest)
 
-covers_above : (addr : ℕ) (window : Changed) (windows : List Changed) → AreAbove addr windows → Covers window windows → addr < window.lo
+covers_above : (addr : ℕ) (window : Changed) (windows : List Changed) → AreAbove addr windows → Covers window windows →
+    addr < window.lo
 covers_above addr window [] above covers = absurd covers
 covers_above addr window (other ∷ later) above (inl here) = omega (arith, above.0, here.0)
 covers_above addr window (other ∷ later) above (inr rest) = covers_above addr window later above.1 rest
@@ -215,11 +241,13 @@ covers_new window (other ∷ later) =
           (elim (cases_Bool (nat_lt window.hi other.lo)) [
             | inl behind ↦ rw behind (inl (omega arith, omega arith))
             | inr overlap ↦
-                rw overlap (covers_smaller window (both other window) (with_window (both other window) later) (omega arith) (omega arith) (covers_new (both other window) later))
+                rw overlap (covers_smaller window (both other window) (with_window (both other window) later)
+                (omega arith) (omega arith) (covers_new (both other window) later))
           ])
     ]
 
-covers_old : (old window : Changed) (windows : List Changed) → Covers old windows → Covers old (with_window window windows)
+covers_old : (old window : Changed) (windows : List Changed) → Covers old windows →
+    Covers old (with_window window windows)
 unfolding with_window
 covers_old old window [] covers = absurd covers
 covers_old old window (other ∷ later) covers =
@@ -229,20 +257,23 @@ covers_old old window (other ∷ later) covers =
           (elim (cases_Bool (nat_lt window.hi other.lo)) [
             | inl behind ↦ rw behind
                 (elim covers [
-                  | inl here ↦ inr (covers_smaller old other (with_window other later) here.0 here.1 (covers_new other later))
+                  | inl here ↦ inr (covers_smaller old other (with_window other later) here.0 here.1
+                      (covers_new other later))
                   | inr rest ↦ inr (covers_old old other later rest)
                 ])
             | inr overlap ↦ rw overlap
                 (elim covers [
                   | inl here ↦
-                      covers_smaller old (both other window) (with_window (both other window) later) (omega (arith, here.0)) (omega (arith, here.1))
+                      covers_smaller old (both other window) (with_window (both other window) later)
+                      (omega (arith, here.0)) (omega (arith, here.1))
                       (covers_new (both other window) later)
                   | inr rest ↦ covers_old old (both other window) later rest
                 ])
           ])
     ]
 
-covers_sorted : (window : Changed) (windows : List Changed) → list_any (is_window window) windows ≡ true → Covers window (sorted windows)
+covers_sorted : (window : Changed) (windows : List Changed) → list_any (is_window window) windows ≡ true →
+    Covers window (sorted windows)
 unfolding sorted
 covers_sorted window [] is = absurd (false≢true is)
 covers_sorted window (other ∷ later) is =
@@ -250,12 +281,14 @@ covers_sorted window (other ∷ later) is =
       | inl same ↦
           let low : window.lo ≡ other.lo = grind (arith, nat_tests) in
           let high : window.hi ≡ other.hi = grind (arith, nat_tests) in
-          covers_smaller window other (with_window other (sorted later)) (omega arith) (omega arith) (covers_new other (sorted later))
+          covers_smaller window other (with_window other (sorted later)) (omega arith) (omega arith)
+          (covers_new other (sorted later))
       | inr rest ↦ covers_old window other (sorted later) (covers_sorted window later rest)
     ]
 
 -- one that lies in another adds none
-length_covered : (window : Changed) (windows : List Changed) → window.lo ≤ window.hi → Rise windows → Covers window windows →
+length_covered : (window : Changed) (windows : List Changed) → window.lo ≤ window.hi → Rise windows →
+    Covers window windows →
     length (with_window window windows) ≤ length windows
 unfolding with_window
 length_covered window [] order rise covers = absurd covers
@@ -275,13 +308,19 @@ length_sorted (window ∷ later) ordered =
     elim (cases_Bool (list_any (is_window window) later)) [
       | inl again ↦
           rw again
-          (omega (arith, length_covered window (sorted later) ordered.0 (rise_sorted later ordered.1) (covers_sorted window later again), length_sorted later ordered.1))
+          (omega (
+            arith,
+            length_covered window (sorted later) ordered.0 (rise_sorted later ordered.1)
+                (covers_sorted window later again),
+            length_sorted later ordered.1,
+          ))
       | inr once ↦ rw once (omega (arith, length_with window (sorted later), length_sorted later ordered.1))
     ]
 
 -- ---- windows that were sorted before
 
-with_first : (window : Changed) (windows : List Changed) → window.lo ≤ window.hi → AreAbove window.hi windows → Rise windows →
+with_first : (window : Changed) (windows : List Changed) → window.lo ≤ window.hi → AreAbove window.hi windows →
+    Rise windows →
     with_window window windows ≡ window ∷ windows
 unfolding with_window
 with_first window [] order above rise = refl
@@ -292,7 +331,8 @@ with_first window (other ∷ later) order above rise =
     rw (not_before, behind) (ap (λ (rest : List Changed). window ∷ rest) (with_first other later rise.0 rise.1 rise.2))
 
 -- one that lies in another changes nothing
-with_covered : (window : Changed) (windows : List Changed) → window.lo ≤ window.hi → Rise windows → Covers window windows → with_window window windows ≡ windows
+with_covered : (window : Changed) (windows : List Changed) → window.lo ≤ window.hi → Rise windows →
+    Covers window windows → with_window window windows ≡ windows
 unfolding with_window
 with_covered window [] order rise covers = absurd covers
 with_covered window (other ∷ later) order rise (inl here) =
@@ -310,27 +350,33 @@ abbrev AllCovered : (windows rising : List Changed) → Type 0
 AllCovered [] rising = Unit {0}
 AllCovered (window ∷ later) rising = Covers window rising × AllCovered later rising
 
-covered_with : (windows : List Changed) (window : Changed) (rising : List Changed) → AllCovered windows rising → AllCovered windows (with_window window rising)
+covered_with : (windows : List Changed) (window : Changed) (rising : List Changed) → AllCovered windows rising →
+    AllCovered windows (with_window window rising)
 covered_with [] window rising covered = tt
-covered_with (other ∷ later) window rising covered = (covers_old other window rising covered.0, covered_with later window rising covered.1)
+covered_with (other ∷ later) window rising covered =
+    (covers_old other window rising covered.0, covered_with later window rising covered.1)
 
 all_covered : (windows : List Changed) → AllCovered windows (sorted windows)
 unfolding sorted
 all_covered [] = tt
-all_covered (window ∷ later) = (covers_new window (sorted later), covered_with later window (sorted later) (all_covered later))
+all_covered (window ∷ later) =
+    (covers_new window (sorted later), covered_with later window (sorted later) (all_covered later))
 
-sorted_again : (again windows : List Changed) → Ordered again → Rise (sorted windows) → AllCovered again (sorted windows) → sorted (again ++ windows) ≡ sorted windows
+sorted_again : (again windows : List Changed) → Ordered again → Rise (sorted windows) →
+    AllCovered again (sorted windows) → sorted (again ++ windows) ≡ sorted windows
 unfolding sorted
 sorted_again [] windows ordered rise covered = refl
 sorted_again (window ∷ later) windows ordered rise covered =
-    rw (sorted_again later windows ordered.1 rise covered.1) (with_covered window (sorted windows) ordered.0 rise covered.0)
+    rw (sorted_again later windows ordered.1 rise covered.1)
+    (with_covered window (sorted windows) ordered.0 rise covered.0)
 
 pub sorted_twice : (windows : List Changed) → Ordered windows → sorted (windows ++ windows) ≡ sorted windows
 sorted_twice windows ordered = sorted_again windows windows ordered (rise_sorted windows ordered) (all_covered windows)
 
 -- ---- how many rows are looked up in them
 
-pub filter_more : (p q : ℕ → Bool) (xs : List ℕ) → ((x : ℕ) → p x ≡ true → q x ≡ true) → length (filter p xs) ≤ length (filter q xs)
+pub filter_more : (p q : ℕ → Bool) (xs : List ℕ) → ((x : ℕ) → p x ≡ true → q x ≡ true) →
+    length (filter p xs) ≤ length (filter q xs)
 filter_more p q [] more = omega arith
 filter_more p q (x ∷ xs) more =
     elim (cases_Bool (p x)) [
@@ -344,7 +390,8 @@ filter_more p q (x ∷ xs) more =
 
 -- the edges above the first address of a window lie in it or above it
 pub one_window : (window : Changed) (edges : List ℕ) →
-    length (filter (nat_lt window.lo) edges) ≤ length (filter (λ edge. is_above_first edge window) edges) + length (filter (nat_lt window.hi) edges)
+    length (filter (nat_lt window.lo) edges) ≤ length (filter (λ edge. is_above_first edge window) edges)
+    + length (filter (nat_lt window.hi) edges)
 one_window window [] = omega arith
 one_window window (edge ∷ later) =
     elim (cases_Bool (nat_lt window.lo edge)) [
@@ -364,7 +411,8 @@ one_window window (edge ∷ later) =
           ]
     ]
 
-none_inside : (addr edge : ℕ) (windows : List Changed) → edge ≤ addr → AreAbove addr windows → is_inside windows edge ≡ false
+none_inside : (addr edge : ℕ) (windows : List Changed) → edge ≤ addr → AreAbove addr windows →
+    is_inside windows edge ≡ false
 none_inside addr edge [] low above = refl
 none_inside addr edge (window ∷ later) low above =
     let first : addr < window.lo = above.0 in
@@ -372,13 +420,15 @@ none_inside addr edge (window ∷ later) low above =
     rw not (none_inside addr edge later low above.1)
 
 two_counts : (window : Changed) (windows : List Changed) (edges : List ℕ) → AreAbove window.hi windows →
-    length (filter (λ edge. is_above_first edge window) edges) + length (filter (is_inside windows) edges) ≤ length (filter (is_inside (window ∷ windows)) edges)
+    length (filter (λ edge. is_above_first edge window) edges) + length (filter (is_inside windows) edges)
+    ≤ length (filter (is_inside (window ∷ windows)) edges)
 two_counts window windows [] above = omega arith
 two_counts window windows (edge ∷ later) above =
     elim (cases_Bool (is_above_first edge window)) [
       | inl inside ↦
           let low : edge ≤ window.hi = grind (arith, nat_tests) in
-          rw (inside, none_inside window.hi edge windows low above) (omega (arith, two_counts window windows later above))
+          rw (inside, none_inside window.hi edge windows low above)
+          (omega (arith, two_counts window windows later above))
       | inr not ↦
           elim (cases_Bool (is_inside windows edge)) [
             | inl there ↦ rw (not, there) (omega (arith, two_counts window windows later above))
@@ -387,7 +437,8 @@ two_counts window windows (edge ∷ later) above =
     ]
 
 rows_rise : (windows : List Changed) (edges : List ℕ) → Rise windows →
-    rows_in (λ addr. length (filter (nat_lt addr) edges)) windows ≤ length windows + length (filter (is_inside windows) edges)
+    rows_in (λ addr. length (filter (nat_lt addr) edges)) windows
+    ≤ length windows + length (filter (is_inside windows) edges)
 rows_rise [] edges rise = omega arith
 rows_rise (window ∷ later) edges rise =
     omega (arith, rows_rise later edges rise.2, one_window window edges, two_counts window later edges rise.1)
@@ -420,7 +471,8 @@ step_behind rising later window other not_before behind =
     let is : nat_lt window.hi other.lo ≡ true = grind (arith, nat_tests) in
     rw (not, is) (append_assoc rising (window ∷ []) (with_window other later))
 
-pub step_overlap : (rising later : List Changed) (window other : Changed) → window.lo ≤ other.hi → other.lo ≤ window.hi →
+pub step_overlap : (rising later : List Changed) (window other : Changed) → window.lo ≤ other.hi →
+    other.lo ≤ window.hi →
     rising ++ with_window (both other window) later ≡ rising ++ with_window window (other ∷ later)
 unfolding with_window
 step_overlap rising later window other not_before overlap =

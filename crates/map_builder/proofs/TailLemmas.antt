@@ -1,10 +1,14 @@
 -- The ranges of a map that follow the last window, as they end those that were built.
-use Rattle.std.proofs.Common.{◌≡◌, ℕ, zero, suc, ◌+◌, ◌-◌, ◌<◌, ◌≤◌, inl, inr, List, [], ◌∷◌, ◌++◌, length, map, take, drop, get_or, refl, sym, ◌∙◌, ap, subst, arith, append_assoc, min}
-use Rattle.board_prelude.proofs.Common.{AllByRecursion, length_push, length-map, get_or-map, map-append, length-append, length-drop, take_all, recursion_from_All, All-drop, Area, Setup, Bytes, address_count, MapRange, Tiles, Differs, NeighboursDiffer, IsFlatMapOf}
+use Rattle.std.proofs.Common.{◌≡◌, ℕ, zero, suc, ◌+◌, ◌-◌, ◌<◌, ◌≤◌, inl, inr, List, [], ◌∷◌, ◌++◌, length, map, take}
+use Rattle.std.proofs.Common.{drop, get_or, refl, sym, ◌∙◌, ap, subst, arith, append_assoc, min}
+use Rattle.board_prelude.proofs.Common.{AllByRecursion, length_push, length-map, get_or-map, map-append, length-append}
+use Rattle.board_prelude.proofs.Common.{length-drop, take_all, recursion_from_All, All-drop, Area, Setup, Bytes}
+use Rattle.board_prelude.proofs.Common.{address_count, MapRange, Tiles, Differs, NeighboursDiffer, IsFlatMapOf}
 use Rattle.std.proofs.lemmas.List.{drop-map}
 use Rattle.addr_decode.specs.MapRegs.{MapBytes, StandsFor}
 use Rattle.map_builder.specs.declared.range.Range.{Range}
-use Rattle.map_builder.specs.Common.{range_of, most_ranges, IsOfSomeBoard, no_range, range_at, Holds, ContinuesAt, IsBuilt, IsRightWhere, IsMapWhere, IsBetween, IsWhole}
+use Rattle.map_builder.specs.Common.{range_of, most_ranges, IsOfSomeBoard, no_range, range_at, Holds, ContinuesAt}
+use Rattle.map_builder.specs.Common.{IsBuilt, IsRightWhere, IsMapWhere, IsBetween, IsWhole}
 use Rattle.map_builder.proofs.FindLemmas.{tiles_below}
 use Rattle.map_builder.proofs.BuildLemmas.{range, built_all}
 use Rattle.map_builder.proofs.StepLemmas.{one_address, built_range}
@@ -15,7 +19,8 @@ pub tiles_drop : (from : ℕ) (ranges : List MapRange) (k : ℕ) (d : MapRange) 
 tiles_drop from [] k d tiles within = absurd (omega arith)
 tiles_drop from (here ∷ later) zero d tiles within = tiles.2
 tiles_drop from (here ∷ later) (suc k) d tiles within =
-    let place : suc k + 1 ≡ suc (k + 1) = omega arith in rw place (tiles_drop (here.hi + 1) later k d tiles.2 (omega arith))
+    let place : suc k + 1 ≡ suc (k + 1) = omega arith in
+    rw place (tiles_drop (here.hi + 1) later k d tiles.2 (omega arith))
 
 pub differ_drop : (ranges : List MapRange) (k : ℕ) (d : MapRange) → NeighboursDiffer ranges → k < length ranges →
     Differs (get_or ranges k d) (drop (k + 1) ranges) × NeighboursDiffer (drop (k + 1) ranges)
@@ -25,7 +30,8 @@ differ_drop (here ∷ later) (suc k) d differ within =
     let place : suc k + 1 ≡ suc (k + 1) = omega arith in rw place (differ_drop later k d differ.1 (omega arith))
 
 -- another range with these areas differs as well
-pub differs_as : (here there : MapRange) (rest : List MapRange) → here.areas ≡ there.areas → Differs there rest → Differs here rest
+pub differs_as : (here there : MapRange) (rest : List MapRange) → here.areas ≡ there.areas → Differs there rest →
+    Differs here rest
 differs_as here there [] same differ = tt
 differs_as here there (next ∷ later) same differ = λ alike. differ (sym same ∙ alike)
 
@@ -34,7 +40,8 @@ pub record IsWholeOf (regs : MapBytes) (ranges : List MapRange) : Type 0 where
   pub is_map : (setup : Setup) (bytes : Bytes) → StandsFor setup bytes regs → IsFlatMapOf setup bytes ranges
   pub few : length ranges ≤ most_ranges
 
-pub whole_last : (regs : MapBytes) (board : IsOfSomeBoard regs) (ranges : List MapRange) (last : MapRange) → IsBuilt regs ranges last 0xFFFF_FFFF →
+pub whole_last : (regs : MapBytes) (board : IsOfSomeBoard regs) (ranges : List MapRange) (last : MapRange) →
+    IsBuilt regs ranges last 0xFFFF_FFFF →
     IsWholeOf regs (ranges ++ last ∷ [])
 whole_last regs board ranges last is = record {
   tiles = is.built.tiles;
@@ -45,10 +52,12 @@ whole_last regs board ranges last is = record {
 }
 
 -- the ranges that are built up to an address, and those that follow
-pub whole_tail : (regs : MapBytes) (board : IsOfSomeBoard regs) (Where : ℕ → Type 0) (rest : List MapRange) (ranges : List MapRange) (last : MapRange) (hi : ℕ) →
+pub whole_tail : (regs : MapBytes) (board : IsOfSomeBoard regs) (Where : ℕ → Type 0) (rest : List MapRange)
+    (ranges : List MapRange) (last : MapRange) (hi : ℕ) →
     IsBuilt regs ranges last hi → hi < address_count → Tiles (hi + 1) rest → Differs last rest → NeighboursDiffer rest →
     ((x : ℕ) → hi < x → x < address_count → Where x) →
-    ((setup : Setup) (bytes : Bytes) → StandsFor setup bytes regs → AllByRecursion (IsRightWhere setup bytes Where) rest) →
+    ((setup : Setup) (bytes : Bytes) → StandsFor setup bytes regs →
+    AllByRecursion (IsRightWhere setup bytes Where) rest) →
     IsWholeOf regs (ranges ++ range last.lo hi last.areas ∷ rest)
 whole_tail regs board Where [] ranges last hi built address tiles differs least there right =
     let end : 0xFFFF_FFFF ≡ hi = omega arith in
@@ -63,48 +72,64 @@ whole_tail regs board Where (next ∷ later) ranges last hi built address tiles 
     let on : ContinuesAt ranges (ranges ++ ended ∷ []) last (range next.lo 0xFFFF_FFFF next.areas) next.lo next.areas =
     inr ((λ same. differs (sym same)), refl, refl) in
     let further : IsBuilt regs (ranges ++ ended ∷ []) (range next.lo 0xFFFF_FFFF next.areas) next.hi =
-    built_range regs ranges (ranges ++ ended ∷ []) last (range next.lo 0xFFFF_FFFF next.areas) next hi next.hi joined order below
-    (λ x low high setup bytes stands. sym ((right setup bytes stands).0.at_each x low high (there x (omega arith) (omega arith)))) on built in
-    let whole = whole_tail regs board Where later (ranges ++ ended ∷ []) (range next.lo 0xFFFF_FFFF next.areas) next.hi further below tiles.2
-    (differs_as (range next.lo 0xFFFF_FFFF next.areas) next later refl least.0) least.1 (λ x above address. there x (omega arith) address)
+    built_range regs ranges (ranges ++ ended ∷ []) last (range next.lo 0xFFFF_FFFF next.areas) next hi next.hi joined
+    order below
+    (λ x low high setup bytes stands.
+    sym ((right setup bytes stands).0.at_each x low high (there x (omega arith) (omega arith)))) on built in
+    let whole = whole_tail regs board Where later (ranges ++ ended ∷ []) (range next.lo 0xFFFF_FFFF next.areas) next.hi
+    further below tiles.2
+    (differs_as (range next.lo 0xFFFF_FFFF next.areas) next later refl least.0) least.1
+    (λ x above address. there x (omega arith) address)
     (λ setup bytes stands. (right setup bytes stands).1) in
     let same_end : next.lo - 1 ≡ hi = omega arith in
     subst (IsWholeOf regs)
-    (append_assoc ranges (ended ∷ []) (next ∷ later) ∙ ap (λ (h : ℕ). ranges ++ range last.lo h last.areas ∷ next ∷ later) same_end) whole
+    (append_assoc ranges (ended ∷ []) (next ∷ later)
+    ∙ ap (λ (h : ℕ). ranges ++ range last.lo h last.areas ∷ next ∷ later) same_end) whole
 
 -- the areas of a last range that goes on at an address
-areas_on : (ranges ranges' : List MapRange) (last last' : MapRange) (addr : ℕ) (areas : List Area) → ContinuesAt ranges ranges' last last' addr areas → last'.areas ≡ areas
-areas_on ranges ranges' last last' addr areas (inl (same, is, last_is)) = ap (λ (it : MapRange). it.areas) last_is ∙ sym same
+areas_on : (ranges ranges' : List MapRange) (last last' : MapRange) (addr : ℕ) (areas : List Area) →
+    ContinuesAt ranges ranges' last last' addr areas → last'.areas ≡ areas
+areas_on ranges ranges' last last' addr areas (inl (same, is, last_is)) =
+    ap (λ (it : MapRange). it.areas) last_is ∙ sym same
 areas_on ranges ranges' last last' addr areas (inr (other, is, last_is)) = ap (λ (it : MapRange). it.areas) last_is
 
-pub whole_from : (regs : MapBytes) (board : IsOfSomeBoard regs) (ranges ranges' : List MapRange) (last last' : MapRange) (old : List Range) (k after : ℕ) →
+pub whole_from : (regs : MapBytes) (board : IsOfSomeBoard regs) (ranges ranges' : List MapRange) (last last' : MapRange)
+    (old : List Range) (k after : ℕ) →
     IsMapWhere regs (IsBetween after 0xFFFF_FFFF) (map range_of old) → Holds old k (after + 1) → after < 0xFFFF_FFFF →
     ContinuesAt ranges ranges' last last' (after + 1) (range_at old k).row.areas → IsBuilt regs ranges last after →
     IsWholeOf regs (ranges' ++ range last'.lo (range_at old k).hi last'.areas ∷ drop (k + 1) (map range_of old))
 whole_from regs board ranges ranges' last last' old k after agrees holds more on built =
     let all : List MapRange = map range_of old in
     let long : length all ≡ length old = length-map old range_of in
-    let here : get_or all k (range_of no_range) ≡ range_of (range_at old k) = get_or-map range_of old k no_range (range_of no_range) holds.within in
+    let here : get_or all k (range_of no_range) ≡ range_of (range_at old k) =
+    get_or-map range_of old k no_range (range_of no_range) holds.within in
     let tiles : Tiles ((range_at old k).hi + 1) (drop (k + 1) all) =
-    subst (λ (at : MapRange). Tiles (at.hi + 1) (drop (k + 1) all)) here (tiles_drop 0 all k (range_of no_range) agrees.tiles (omega (arith, holds.within))) in
+    subst (λ (at : MapRange). Tiles (at.hi + 1) (drop (k + 1) all)) here
+    (tiles_drop 0 all k (range_of no_range) agrees.tiles (omega (arith, holds.within))) in
     let differ = differ_drop all k (range_of no_range) agrees.least (omega (arith, holds.within)) in
-    let fits : (range_at old k).hi < address_count = omega (arith, tiles_below ((range_at old k).hi + 1) (drop (k + 1) all) tiles) in
+    let fits : (range_at old k).hi < address_count =
+    omega (arith, tiles_below ((range_at old k).hi + 1) (drop (k + 1) all) tiles) in
     let end : min 0xFFFF_FFFF (range_at old k).hi ≡ (range_at old k).hi = omega arith in
     let further : IsBuilt regs ranges' last' (range_at old k).hi =
     subst (λ (hi : ℕ). IsBuilt regs ranges' last' hi) end
-    (kept_on regs ranges ranges' last last' old k after after 0xFFFF_FFFF agrees holds (omega arith) more (omega arith) on built) in
+    (kept_on regs ranges ranges' last last' old k after after 0xFFFF_FFFF agrees holds (omega arith) more (omega arith)
+    on built) in
     let same : last'.areas ≡ (get_or all k (range_of no_range)).areas =
-    areas_on ranges ranges' last last' (after + 1) (range_at old k).row.areas on ∙ sym (ap (λ (it : MapRange). it.areas) here) in
+    areas_on ranges ranges' last last' (after + 1) (range_at old k).row.areas on
+    ∙ sym (ap (λ (it : MapRange). it.areas) here) in
     let beyond : after < (range_at old k).hi = omega (arith, holds.below) in
-    whole_tail regs board (IsBetween after 0xFFFF_FFFF) (drop (k + 1) all) ranges' last' (range_at old k).hi further fits tiles
+    whole_tail regs board (IsBetween after 0xFFFF_FFFF) (drop (k + 1) all) ranges' last' (range_at old k).hi further
+    fits tiles
     (differs_as last' (get_or all k (range_of no_range)) (drop (k + 1) all) same differ.0) differ.1
     (λ x above address. (omega (arith, beyond), omega arith))
     (λ setup bytes stands.
     recursion_from_All (IsRightWhere setup bytes (IsBetween after 0xFFFF_FFFF)) (drop (k + 1) all)
     (All-drop (IsRightWhere setup bytes (IsBetween after 0xFFFF_FFFF)) (k + 1) all (agrees.right setup bytes stands)))
 
-pub whole_ranges : (regs : MapBytes) (front : List Range) (one : Range) (old : List Range) (k : ℕ) (ranges : List Range) →
-    ranges ≡ (front ++ one ∷ []) ++ drop (k + 1) old → IsWholeOf regs (map range_of front ++ range_of one ∷ drop (k + 1) (map range_of old)) →
+pub whole_ranges : (regs : MapBytes) (front : List Range) (one : Range) (old : List Range) (k : ℕ)
+    (ranges : List Range) →
+    ranges ≡ (front ++ one ∷ []) ++ drop (k + 1) old →
+    IsWholeOf regs (map range_of front ++ range_of one ∷ drop (k + 1) (map range_of old)) →
     IsWhole regs ranges
 whole_ranges regs front one old k ranges is whole =
     let parts : map range_of ranges ≡ map range_of front ++ range_of one ∷ drop (k + 1) (map range_of old) =
@@ -116,7 +141,8 @@ whole_ranges regs front one old k ranges is whole =
     record { tiles = made.tiles; is_map = made.is_map; few = omega (arith, made.few, length-map ranges range_of) }
 
 pub few_from : (regs : MapBytes) (front : List Range) (one : MapRange) (old : List Range) (k : ℕ) →
-    IsWholeOf regs (map range_of front ++ one ∷ drop (k + 1) (map range_of old)) → length front + 1 + length (drop (k + 1) old) ≤ most_ranges
+    IsWholeOf regs (map range_of front ++ one ∷ drop (k + 1) (map range_of old)) →
+    length front + 1 + length (drop (k + 1) old) ≤ most_ranges
 few_from regs front one old k whole =
     let rest : length (drop (k + 1) (map range_of old)) ≡ length (drop (k + 1) old) =
     ap (λ (all : List MapRange). length all) (drop-map range_of (k + 1) old) ∙ length-map (drop (k + 1) old) range_of in

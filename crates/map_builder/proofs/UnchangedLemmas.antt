@@ -1,6 +1,8 @@
 -- A store of one byte to a register that keeps its byte changes no area.
-use Rattle.std.proofs.Common.{◌≡◌, ℕ, ◌+◌, ◌*◌, List, Option, None, length, get_or, inl, inr, refl, sym, ◌∙◌, ap, subst, arith, nat_lt, IfSome}
-use Rattle.board_prelude.proofs.Common.{cases_Bool, nat_tests, One, Reg, MapChange, Store, Reset, FittedCard, Setup, IsCardList, covers, Bytes, bridge, six_areas}
+use Rattle.std.proofs.Common.{◌≡◌, ℕ, ◌+◌, ◌*◌, List, Option, None, length, get_or, inl, inr, refl, sym, ◌∙◌, ap, subst}
+use Rattle.std.proofs.Common.{arith, nat_lt, IfSome}
+use Rattle.board_prelude.proofs.Common.{cases_Bool, nat_tests, One, Reg, MapChange, Store, Reset, FittedCard, Setup}
+use Rattle.board_prelude.proofs.Common.{IsCardList, covers, Bytes, bridge, six_areas}
 use Rattle.board_base.specs.declared.access.Width.TheVariants.{Two, Four}
 use Rattle.addr_decode.specs.declared.register.MapRegister.{MapRegister}
 use Rattle.addr_decode.specs.MapRegister.{map_register, names_of}
@@ -10,7 +12,8 @@ use Rattle.map_builder.proofs.KeptLemmas.{areas_same}
 use Rattle.map_builder.proofs.MovedRows.{row_stays}
 
 -- where one byte is stored and the register has the same byte before and after
-pub same_bytes : (setup : Setup) (bytes : Bytes) (change : MapChange) (held : ℕ) → IsHeldAt change bytes held → IsHeldAt change (after setup change bytes) held →
+pub same_bytes : (setup : Setup) (bytes : Bytes) (change : MapChange) (held : ℕ) → IsHeldAt change bytes held →
+    IsHeldAt change (after setup change bytes) held →
     (reg : Reg) → after setup change bytes reg ≡ bytes reg
 same_bytes setup bytes Reset held before later reg = absurd before
 same_bytes setup bytes (Store at Two value) held before later reg = absurd before
@@ -22,19 +25,25 @@ same_bytes setup bytes (Store at One value) held before later reg =
           let devs : at.dev ≡ reg.dev = grind (arith, nat_tests) in
           let funs : at.fun ≡ reg.fun = grind (arith, nat_tests) in
           let offs : at.off ≡ reg.off = grind (arith, nat_tests) in
-          subst (λ (other : Reg). after setup (Store at One value) bytes other ≡ bytes other) (same_register at reg devs funs offs) (sym later ∙ before)
+          subst (λ (other : Reg). after setup (Store at One value) bytes other ≡ bytes other)
+          (same_register at reg devs funs offs) (sym later ∙ before)
     ]
 
-pub unchanged_keep : (setup : Setup) (bytes : Bytes) (change : MapChange) (addr held : ℕ) → IsCardList setup.cards → IsHeldAt change bytes held →
-    IsHeldAt change (after setup change bytes) held → six_areas setup (after setup change bytes) addr ≡ six_areas setup bytes addr
+pub unchanged_keep : (setup : Setup) (bytes : Bytes) (change : MapChange) (addr held : ℕ) → IsCardList setup.cards →
+    IsHeldAt change bytes held →
+    IsHeldAt change (after setup change bytes) held →
+    six_areas setup (after setup change bytes) addr ≡ six_areas setup bytes addr
 unchanged_keep setup bytes change addr held list before later =
-    let same : (reg : Reg) → after setup change bytes reg ≡ bytes reg = same_bytes setup bytes change held before later in
+    let same : (reg : Reg) → after setup change bytes reg ≡ bytes reg =
+    same_bytes setup bytes change held before later in
     areas_same setup bytes (after setup change bytes) addr (λ reg other. inl (same reg))
-    (row_stays bytes (after setup change bytes) addr (λ row below. ap (λ (byte : ℕ). nat_lt addr (byte * 0x80_0000)) (same (bridge (0x60 + row)))))
+    (row_stays bytes (after setup change bytes) addr
+    (λ row below. ap (λ (byte : ℕ). nat_lt addr (byte * 0x80_0000)) (same (bridge (0x60 + row)))))
     list
 
 -- the byte of the one register that a change names is the byte that it stores to
-pub held_alone : (bytes : Bytes) (change : MapChange) (cards : List FittedCard) (names : List (Option MapRegister)) (found : Option ℕ) →
+pub held_alone : (bytes : Bytes) (change : MapChange) (cards : List FittedCard) (names : List (Option MapRegister))
+    (found : Option ℕ) →
     length names ≡ 1 → names ≡ names_of cards change →
     ((reg : Reg) → get_or names 0 None ≡ map_register cards reg → IfSome found (λ held. held ≡ bytes reg)) →
     IfSome found (IsHeldAt change bytes)

@@ -1,6 +1,10 @@
 -- The windows that registers govern, as the code finds them.
-use Rattle.std.proofs.Common.{◌≡◌, ℕ, zero, suc, ◌+◌, ◌-◌, ◌*◌, ◌/◌, ◌^◌, ◌<◌, ◌≤◌, List, [], ◌∷◌, ◌++◌, length, map, drop, get_or, refl, sym, ◌∙◌, ap, arith, mul_comm, append_assoc, Option, None, slice_get, slice_index, flat_map, take}
-use Rattle.board_prelude.proofs.Common.{AllByRecursion, option_map_or, drop_all, drop_more, take_all, take_more, append-nil, flat_map-append, pow-add, pow_pos, div-lt_iff_lt-mul, Width, Reg, bytes_of, FittedCard, Setup, Bytes, reg_after, MapChange, Store}
+use Rattle.std.proofs.Common.{◌≡◌, ℕ, zero, suc, ◌+◌, ◌-◌, ◌*◌, ◌/◌, ◌^◌, ◌<◌, ◌≤◌, List, [], ◌∷◌, ◌++◌, length, map}
+use Rattle.std.proofs.Common.{drop, get_or, refl, sym, ◌∙◌, ap, arith, mul_comm, append_assoc, Option, None, slice_get}
+use Rattle.std.proofs.Common.{slice_index, flat_map, take}
+use Rattle.board_prelude.proofs.Common.{AllByRecursion, option_map_or, drop_all, drop_more, take_all, take_more}
+use Rattle.board_prelude.proofs.Common.{append-nil, flat_map-append, pow-add, pow_pos, div-lt_iff_lt-mul, Width, Reg}
+use Rattle.board_prelude.proofs.Common.{bytes_of, FittedCard, Setup, Bytes, reg_after, MapChange, Store}
 use Rattle.std.proofs.lemmas.Option.{slice_get-map, slice_get_past}
 use Rattle.std.proofs.lemmas.Nat.{mul-add-lt}
 use Rattle.pci_bars.specs.declared.spec.BaseSpec.{BaseSpec}
@@ -11,7 +15,8 @@ use Rattle.addr_decode.specs.MapRegister.{IsNumberedName, map_register, names_of
 use Rattle.map_builder.specs.Common.{name_windows, windows_covered, held_by, held_from, held_at}
 
 -- the last address of a block is an address
-pub block_fits : (inside bits : ℕ) → inside < 2 ^ 32 → bits ≤ 28 → inside / 2 ^ bits * 2 ^ bits + (2 ^ bits - 1) < 2 ^ 32
+pub block_fits : (inside bits : ℕ) → inside < 2 ^ 32 → bits ≤ 28 →
+    inside / 2 ^ bits * 2 ^ bits + (2 ^ bits - 1) < 2 ^ 32
 block_fits inside bits address few =
     let positive : 0 < 2 ^ bits = pow_pos bits in
     let whole : 2 ^ bits * 2 ^ (32 - bits) ≡ 2 ^ 32 =
@@ -29,16 +34,19 @@ offsets = 0 ∷ 1 ∷ 2 ∷ 3 ∷ []
 windows_of_names : (windows : Option MapRegister → List Changed) (name : ℕ → Option MapRegister) (ks : List ℕ) →
     flat_map windows (map name ks) ≡ flat_map (λ k. windows (name k)) ks
 windows_of_names windows name [] = refl
-windows_of_names windows name (k ∷ later) = ap (λ (more : List Changed). windows (name k) ++ more) (windows_of_names windows name later)
+windows_of_names windows name (k ∷ later) =
+    ap (λ (more : List Changed). windows (name k) ++ more) (windows_of_names windows name later)
 
 -- the windows of the names of a store are those that it covers
 pub covered_by_names : (setup : Setup) (bytes : Bytes) (change : MapChange) (reg : Reg) (width : Width) (value : ℕ)
-    (cards : List FittedCard) (names : List (Option MapRegister)) → change ≡ Store reg width value → setup.cards ≡ cards →
+    (cards : List FittedCard) (names : List (Option MapRegister)) → change ≡ Store reg width value →
+    setup.cards ≡ cards →
     names ≡ names_of cards change → flat_map (name_windows setup bytes) names ≡ windows_covered setup bytes change
 unfolding windows_covered
 covered_by_names setup bytes change reg width value cards names is same named =
     rw (named, ← same, is)
-    (windows_of_names (name_windows setup bytes) (λ k. map_register setup.cards (reg_after reg k)) (take (bytes_of width) offsets))
+    (windows_of_names (name_windows setup bytes) (λ k. map_register setup.cards (reg_after reg k))
+    (take (bytes_of width) offsets))
 
 -- one more name
 pub pushed_on : (windows : Option MapRegister → List Changed) (names : List (Option MapRegister)) (k : ℕ)
@@ -56,7 +64,8 @@ pushed_on windows names k first found next below found_is next_is =
     ∙ ap (λ (more : List Changed). first ++ more) (sym whole)
 
 -- all of them
-pub pushed_all : (windows : Option MapRegister → List Changed) (names : List (Option MapRegister)) (k : ℕ) (first found : List Changed) →
+pub pushed_all : (windows : Option MapRegister → List Changed) (names : List (Option MapRegister)) (k : ℕ)
+    (first found : List Changed) →
     length names ≤ k → found ≡ first ++ flat_map windows (take k names) → found ≡ first ++ flat_map windows names
 pushed_all windows names k first found all found_is =
     found_is ∙ ap (λ (list : List (Option MapRegister)). first ++ flat_map windows list) (take_all k names all)
@@ -68,12 +77,15 @@ numbered_at (name ∷ later) zero d below each = each.0
 numbered_at (name ∷ later) (suc k) d below each = numbered_at later k d (omega arith) each.1
 
 -- one more base
-pub held_on : (bases : List BaseSpec) (values : List ℕ) (k : ℕ) (d : BaseSpec) (found next : List Changed) → k < length bases →
+pub held_on : (bases : List BaseSpec) (values : List ℕ) (k : ℕ) (d : BaseSpec) (found next : List Changed) →
+    k < length bases →
     next ≡ found ++ held_by (base_of (get_or bases k d)) (slice_index values k) →
-    next ++ held_from values (k + 1) (map base_of (drop (k + 1) bases)) ≡ found ++ held_from values k (map base_of (drop k bases))
+    next ++ held_from values (k + 1) (map base_of (drop (k + 1) bases))
+    ≡ found ++ held_from values k (map base_of (drop k bases))
 held_on bases values k d found next within is =
     rw (is, drop_more bases k d within)
-    (append_assoc found (held_by (base_of (get_or bases k d)) (slice_index values k)) (held_from values (k + 1) (map base_of (drop (k + 1) bases))))
+    (append_assoc found (held_by (base_of (get_or bases k d)) (slice_index values k))
+    (held_from values (k + 1) (map base_of (drop (k + 1) bases))))
 
 -- no base is left
 pub held_all : (bases : List BaseSpec) (values : List ℕ) (k : ℕ) (found : List Changed) → length bases ≤ k →
@@ -82,16 +94,20 @@ held_all bases values k found past = rw (drop_all k bases past) (append-nil foun
 
 -- a base by its number
 held_one : (value : ℕ) (bases : List BaseSpec) (k : ℕ) (d : BaseSpec) → k < length bases →
-    option_map_or (λ base. held_by base value) (slice_get (map base_of bases) k) [] ≡ held_by (base_of (get_or bases k d)) value
+    option_map_or (λ base. held_by base value) (slice_get (map base_of bases) k) []
+    ≡ held_by (base_of (get_or bases k d)) value
 held_one value [] k d within = absurd (omega arith)
 held_one value (base ∷ later) zero d within = refl
 held_one value (base ∷ later) (suc k) d within = held_one value later k d (omega arith)
 
-pub held_here : (values : List ℕ) (bases : List BaseSpec) (k : ℕ) (base : BaseSpec) → k < length bases → base ≡ get_or bases k base →
+pub held_here : (values : List ℕ) (bases : List BaseSpec) (k : ℕ) (base : BaseSpec) → k < length bases →
+    base ≡ get_or bases k base →
     held_by (base_of base) (slice_index values k) ≡ held_at values (map base_of bases) k
 held_here values bases k base within is =
-    ap (λ (it : BaseSpec). held_by (base_of it) (slice_index values k)) is ∙ sym (held_one (slice_index values k) bases k base within)
+    ap (λ (it : BaseSpec). held_by (base_of it) (slice_index values k)) is
+    ∙ sym (held_one (slice_index values k) bases k base within)
 
 -- there is no such base
-pub held_past : (values : List ℕ) (bases : List BaseSpec) (k : ℕ) → length bases ≤ k → held_at values (map base_of bases) k ≡ []
+pub held_past : (values : List ℕ) (bases : List BaseSpec) (k : ℕ) → length bases ≤ k →
+    held_at values (map base_of bases) k ≡ []
 held_past values bases k past = rw (slice_get-map base_of bases k, slice_get_past bases k past) refl

@@ -27,7 +27,8 @@ pub record IsApplied (old new : Mapped) (change : MapChange) (result : Changed) 
   pub same_cards : cards_of new.regs.cards ≡ cards_of old.regs.cards
   pub version : new.version ≡ next_version old.version
   pub map : (setup : Setup) (bytes : Bytes) → StandsFor setup bytes new.regs → IsFlatMapOf setup bytes new.ranges
-  pub changed : (setup : Setup) (bytes : Bytes) → StandsFor setup bytes old.regs → result ≡ bounds_or_zero (changed_windows setup bytes change)
+  pub changed : (setup : Setup) (bytes : Bytes) → StandsFor setup bytes old.regs →
+      result ≡ bounds_or_zero (changed_windows setup bytes change)
   pub windows : (setup : Setup) (bytes : Bytes) → StandsFor setup bytes old.regs → AreChanged setup bytes change
       new.changed
 

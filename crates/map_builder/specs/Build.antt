@@ -1,13 +1,15 @@
 -- The ranges of a map as they are built, from the first address on: the last of them may still go on.
 use Rattle.std.specs.Prelude.{ℕ, ◌≡◌, ◌≢◌, ◌+◌, ◌-◌, ◌<◌, ◌≤◌, ◌⊎◌, List, [], ◌∷◌, ◌++◌, length, map, All}
-use Rattle.board_prelude.specs.Common.{Area, Setup, Bytes, address_count, MapRange, six_areas, Tiles, NeighboursDiffer, IsRight, IsFlatMapOf, AllByRecursion}
+use Rattle.board_prelude.specs.Common.{Area, Setup, Bytes, address_count, MapRange, six_areas, Tiles, NeighboursDiffer}
+use Rattle.board_prelude.specs.Common.{IsRight, IsFlatMapOf, AllByRecursion}
 use Rattle.addr_decode.specs.Common.{MapBytes, StandsFor, edges_after}
 use Rattle.map_builder.specs.declared.range.Changed.{Changed}
 use Rattle.map_builder.specs.declared.range.Range.{Range}
 use Rattle.map_builder.specs.Map.{range_of, most_ranges, IsOfSomeBoard}
 use Rattle.map_builder.specs.Changed.{IsOutside}
 
--- how the ranges go on at an address with these areas: the last range has them too, or it ends below, and another begins
+-- how the ranges go on at an address with these areas: the last range has them too, or it ends below, and another
+-- begins
 abbrev pub ContinuesAt : (ranges ranges' : List MapRange) → (last last' : MapRange) → (addr : ℕ) → List Area → Type 0
 ContinuesAt ranges ranges' last last' addr areas =
     ((areas ≡ last.areas) × (ranges' ≡ ranges) × (last' ≡ last))
@@ -58,14 +60,16 @@ abbrev pub IsBeside : List Changed → ℕ → Type 0
 IsBeside windows addr = AllByRecursion (IsOutside addr) windows
 
 -- the ranges of a board are built up to an address, and another map agrees with the board's after it up to another
-pub record IsBuiltUpTo (ranges : List MapRange) (last : MapRange) (before : List MapRange) (after until : ℕ) : Type 0 where
-  pub regs : MapBytes
-  pub board : IsOfSomeBoard regs
-  pub built : IsBuilt regs ranges last after
-  pub agrees : IsMapWhere regs (IsBetween after until) before
+pub record IsBuiltUpTo (ranges : List MapRange) (last : MapRange) (before : List MapRange) (after until : ℕ) : Type 0
+  where
+    pub regs : MapBytes
+    pub board : IsOfSomeBoard regs
+    pub built : IsBuilt regs ranges last after
+    pub agrees : IsMapWhere regs (IsBetween after until) before
 
 -- the ranges are the map of every board that has these registers
 pub record IsWhole (regs : MapBytes) (ranges : List Range) : Type 0 where
   pub tiles : Tiles 0 (map range_of ranges)
-  pub is_map : (setup : Setup) (bytes : Bytes) → StandsFor setup bytes regs → IsFlatMapOf setup bytes (map range_of ranges)
+  pub is_map : (setup : Setup) (bytes : Bytes) → StandsFor setup bytes regs →
+      IsFlatMapOf setup bytes (map range_of ranges)
   pub few : length ranges ≤ most_ranges

@@ -1,8 +1,14 @@
 -- The windows of the address map that each register byte governs, and the bounds of those that a change may change.
-use Rattle.std.specs.Prelude.{ℕ, ◌+◌, ◌-◌, ◌*◌, ◌/◌, ◌^◌, ◌<◌, ◌⊎◌, ◌==◌, nat_lt, nat_le, min, max, Bool, false, ◌&&◌, length, if◌then◌else◌, List, [], ◌∷◌, ◌++◌, take, map, filter, flat_map, Option, Some, None, unwrap_or}
-use Rattle.board_prelude.specs.Common.{option_map_or, enumerate_from, list_any, Reg, bytes_of, MapChange, Store, Reset, FittedCard, Setup, card_at, Bytes, Window, memory_window, rom_window, vga_window, smram_range, expansion_range, system_bios, hole_at_512_kib, hole_at_15_mib, lower_bios, selectable_bios, largest_top, address_count, changed_byte, reg_after}
+use Rattle.std.specs.Prelude.{ℕ, ◌+◌, ◌-◌, ◌*◌, ◌/◌, ◌^◌, ◌<◌, ◌⊎◌, ◌==◌, nat_lt, nat_le, min, max, Bool, false, ◌&&◌}
+use Rattle.std.specs.Prelude.{length, if◌then◌else◌, List, [], ◌∷◌, ◌++◌, take, map, filter, flat_map, Option, Some}
+use Rattle.std.specs.Prelude.{None, unwrap_or}
+use Rattle.board_prelude.specs.Common.{option_map_or, enumerate_from, list_any, Reg, bytes_of, MapChange, Store, Reset}
+use Rattle.board_prelude.specs.Common.{FittedCard, Setup, card_at, Bytes, Window, memory_window, rom_window, vga_window}
+use Rattle.board_prelude.specs.Common.{smram_range, expansion_range, system_bios, hole_at_512_kib, hole_at_15_mib}
+use Rattle.board_prelude.specs.Common.{lower_bios, selectable_bios, largest_top, address_count, changed_byte, reg_after}
 use Rattle.addr_decode.specs.declared.register.MapRegister.{MapRegister}
-use Rattle.addr_decode.specs.declared.register.MapRegister.TheVariants.{Pam, RowBoundary, Hole, Smram, ChipSelects, Card}
+use Rattle.addr_decode.specs.declared.register.MapRegister.TheVariants.{Pam, RowBoundary, Hole, Smram, ChipSelects}
+use Rattle.addr_decode.specs.declared.register.MapRegister.TheVariants.{Card}
 use Rattle.addr_decode.specs.declared.register.CardRegister.{CardRegister}
 use Rattle.addr_decode.specs.declared.register.CardRegister.TheVariants.{Command, Base, ExpansionRom}
 use Rattle.addr_decode.specs.Common.{is_of_card, map_register, edges_of, first_address}
@@ -30,7 +36,8 @@ pam_size = 0x8000
 abbrev pub pam_windows : (number : ℕ) → Changed
 pam_windows number =
     if number == 0 then whole system_bios
-    else from_to (expansion_range.0 + pam_size * (number - 1)) (expansion_range.0 + (pam_size - 1) + pam_size * (number - 1))
+    else from_to (expansion_range.0 + pam_size * (number - 1))
+    (expansion_range.0 + (pam_size - 1) + pam_size * (number - 1))
 
 -- what a window of a card decodes
 abbrev pub decoded : Window → Changed
@@ -80,7 +87,8 @@ after setup change bytes = λ reg. changed_byte setup change reg (bytes reg)
 
 -- by what the registers held before the whole change, and by what they hold after it: a base may have moved
 abbrev pub changed_windows : Setup → Bytes → MapChange → List Changed
-changed_windows setup bytes change = windows_covered setup bytes change ++ windows_covered setup (after setup change bytes) change
+changed_windows setup bytes change =
+    windows_covered setup bytes change ++ windows_covered setup (after setup change bytes) change
 
 -- the windows of registers with these names rest on what the registers hold: one of them is of a card
 abbrev pub is_card_name : Option MapRegister → Bool
@@ -137,4 +145,5 @@ count_of (window ∷ later) = count_of later + (if list_any (is_window window) l
 -- one row for each window, and one for each edge that lies inside them after the change
 abbrev pub most_rows : Setup → Bytes → MapChange → ℕ
 most_rows setup bytes change =
-    count_of (changed_windows setup bytes change) + edges_inside setup (after setup change bytes) (changed_windows setup bytes change)
+    count_of (changed_windows setup bytes change) + edges_inside setup (after setup change bytes)
+    (changed_windows setup bytes change)

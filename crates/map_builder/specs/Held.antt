@@ -1,5 +1,6 @@
 -- The windows of cards as the code finds them, by what their base registers and that of the expansion ROM hold.
-use Rattle.std.specs.Prelude.{ℕ, ◌+◌, ◌-◌, ◌*◌, ◌/◌, ◌^◌, List, [], ◌∷◌, ◌++◌, Option, Some, None, slice_get, slice_index, find, ◌==◌, Bool, if◌then◌else◌}
+use Rattle.std.specs.Prelude.{ℕ, ◌+◌, ◌-◌, ◌*◌, ◌/◌, ◌^◌, List, [], ◌∷◌, ◌++◌, Option, Some, None, slice_get}
+use Rattle.std.specs.Prelude.{slice_index, find, ◌==◌, Bool, if◌then◌else◌}
 use Rattle.board_prelude.specs.Common.{option_map_or, Base, MemoryBase, IoBase, OutsideBase, smram_range}
 use Rattle.pci_bars.specs.Cards.{CardBytes}
 use Rattle.map_builder.specs.declared.range.Changed.{Changed}
@@ -37,7 +38,8 @@ vga_held vga = if vga then whole smram_range ∷ [] else []
 
 -- those that a register of a card governs
 abbrev pub card_held : CardRegister → CardBytes → List Changed
-card_held Command card = held_from card.bases 0 card.card.bases ++ rom_held card.card.rom card.rom ++ vga_held card.card.vga
+card_held Command card = held_from card.bases 0 card.card.bases ++ rom_held card.card.rom card.rom
+    ++ vga_held card.card.vga
 card_held (BaseByte k) card = held_at card.bases card.card.bases (k / 4)
 card_held (ExpansionRom k) card = rom_held card.card.rom card.rom
 

@@ -21,7 +21,8 @@ next_version version = (version + 1) % 2 ^ 32
 abbrev pub range_of : Range → MapRange
 range_of range = record { lo = range.lo; hi = range.hi; areas = range.row.areas }
 
--- some board has these registers. The last boundary register is a byte, so that its DRAM ends at most at 255 times 8 MiB
+-- some board has these registers. The last boundary register is a byte, so that its DRAM ends at most at 255 times 8
+-- MiB
 pub record IsOfSomeBoard (regs : MapBytes) : Type 0 where
   pub setup : Setup
   pub bytes : Bytes

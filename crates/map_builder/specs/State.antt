@@ -1,6 +1,7 @@
 -- The state of a map as bytes: its registers, its version, and the windows of the last change. The ranges are not in
 -- them: registers have one flat map.
-use Rattle.std.specs.Prelude.{ℕ, zero, suc, ◌≡◌, ◌<◌, ◌≤◌, ◌^◌, List, [], ◌∷◌, ◌++◌, length, All, flat_map, Result, Ok, IfOk}
+use Rattle.std.specs.Prelude.{ℕ, zero, suc, ◌≡◌, ◌<◌, ◌≤◌, ◌^◌, List, [], ◌∷◌, ◌++◌, length, All, flat_map, Result, Ok}
+use Rattle.std.specs.Prelude.{IfOk}
 use Rattle.board_base.specs.Common.{w8, w32, to_le_bytes}
 use Rattle.board_spec.specs.Setup.{FittedCard}
 use Rattle.byte_fields.specs.declared.fault.Bad.{Bad}
@@ -90,8 +91,8 @@ mapped_fields fitted = do
   changed ← windows_fields
   gives (record { regs = map_bytes regs; ranges = []; version = version; changed = changed })
 
--- A map that was read is sound, and the bytes before begin with its own. Bytes that begin with those of a sound map give
--- that map, with its ranges. Where a field is bad, the bytes after begin with the first that is.
+-- A map that was read is sound, and the bytes before begin with its own. Bytes that begin with those of a sound map
+-- give that map, with its ranges. Where a field is bad, the bytes after begin with the first that is.
 pub record LoadsMap (fitted : List FittedCard) (before after : List ℕ) (result : Result Mapped Bad) : Type 0 where
   pub loaded : IfOk result (λ map. IsMapped fitted map × (before ≡ mapped_bytes map ++ after))
   pub exact : (map : Mapped) (rest : List ℕ) → IsMapped fitted map → before ≡ mapped_bytes map ++ rest →

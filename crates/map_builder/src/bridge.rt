@@ -1,4 +1,5 @@
-//! The windows of a register of a bridge. They rest on no register, so that they are the same before a change and after.
+//! The windows of a register of a bridge. They rest on no register, so that they are the same before a change and
+//! after.
 ghost use Rattle.std.specs.Prelude.{◌≡◌, false, true, [], Some};
 ghost use Rattle.board_prelude.specs.Common.{Setup, Bytes};
 ghost use Rattle.addr_decode.specs.MapRegister.{IsNumbered, is_of_card};

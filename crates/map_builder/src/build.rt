@@ -6,7 +6,8 @@ ghost use Rattle.pci_bars.specs.Cards.{AreFitted};
 ghost use Rattle.addr_decode.specs.Common.{MapBytes, StandsFor, map_bytes, SameAreas, edges_after};
 ghost use Rattle.map_builder.specs.Map.{range_of, most_ranges, IsOfSomeBoard};
 ghost use Rattle.map_builder.specs.Find.{BeginsBelow, Holds};
-ghost use Rattle.map_builder.specs.Build.{ContinuesAt, IsBuilt, IsMapWhere, IsBelow, IsBetween, IsBeside, IsBuiltUpTo, IsWhole};
+ghost use Rattle.map_builder.specs.Build.{ContinuesAt, IsBuilt, IsMapWhere, IsBelow, IsBetween, IsBeside, IsBuiltUpTo};
+ghost use Rattle.map_builder.specs.Build.{IsWhole};
 ghost use Rattle.map_builder.specs.Sorted.{Rise, rows_in as rows_of};
 
 use crate::changed::EVERYTHING;
@@ -207,9 +208,12 @@ fn keep(
 fn finish(ranges: &mut Ranges, last: Range, before: &[Range], from: usize, after: u32)
     requires tiles { Tiles 0 (map range_of before.now) }
     requires from { BeginsBelow before.now from after }
-    requires kept { IsBuiltUpTo (map range_of ranges.old.items) (range_of last) (map range_of before.now) after (address_count - 1) }
-    ensures whole { (regs : MapBytes) → IsOfSomeBoard regs → IsBuilt regs (map range_of ranges.old.items) (range_of last) after
-        → IsMapWhere regs (IsBetween after (address_count - 1)) (map range_of before.now) → IsWhole regs ranges.new.items }
+    requires kept { IsBuiltUpTo (map range_of ranges.old.items) (range_of last) (map range_of before.now) after
+        (address_count - 1) }
+    ensures whole { (regs : MapBytes) → IsOfSomeBoard regs
+        → IsBuilt regs (map range_of ranges.old.items) (range_of last) after
+        → IsMapWhere regs (IsBetween after (address_count - 1)) (map range_of before.now)
+        → IsWhole regs ranges.new.items }
 {
     if after == LAST_ADDRESS {
         ranges.push(last);
@@ -290,7 +294,8 @@ fn edge_up_to(regs: &MapRegs, addr: u32, hi: u32) -> Option<u32>
 fn range_at(ranges: &mut Ranges, last: Range, addr: u32, row: SixAreas) -> Range
     requires room { length ranges.old.items < 160 }
     requires above { last.lo < addr }
-    ensures goes_on { ContinuesAt (map range_of ranges.old.items) (map range_of ranges.new.items) (range_of last) (range_of result) addr row.areas }
+    ensures goes_on { ContinuesAt (map range_of ranges.old.items) (map range_of ranges.new.items) (range_of last)
+        (range_of result) addr row.areas }
 {
     if row == last.row {
         return last;

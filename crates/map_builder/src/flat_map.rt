@@ -1,8 +1,10 @@
 //! The memory map as one list of ranges.
 ghost use Rattle.std.specs.Prelude.{◌≡◌, ◌≤◌, ◌<◌, ◌+◌, true, false, if◌then◌else◌, [], ◌∷◌, Some, length, map};
-ghost use Rattle.board_prelude.specs.Common.{One, Kind, Setup, Store, touches_map, changed_byte, Bytes, Tiles, IsFlatMapOf, IsSpan};
+ghost use Rattle.board_prelude.specs.Common.{One, Kind, Setup, Store, touches_map, changed_byte, Bytes, Tiles};
+ghost use Rattle.board_prelude.specs.Common.{IsFlatMapOf, IsSpan};
 ghost use Rattle.pci_bars.specs.Cards.{AreCardsOf, AreFitted, cards_of};
-ghost use Rattle.addr_decode.specs.Common.{AreNumbered, HasRegister, is_of_card, names_from, names_of, StandsFor, map_bytes};
+ghost use Rattle.addr_decode.specs.Common.{AreNumbered, HasRegister, is_of_card, names_from, names_of, StandsFor};
+ghost use Rattle.addr_decode.specs.Common.{map_bytes};
 ghost use Rattle.map_builder.specs.Map.{range_of, most_ranges, next_version, IsOfSomeBoard, IsMapOf};
 ghost use Rattle.map_builder.specs.Changed.{most_rows};
 ghost use Rattle.map_builder.specs.Applied.{AreChanged, IsApplied, IsChangedBy, IsStored};
@@ -47,7 +49,12 @@ impl Model for FlatMap {
 
     ghost Value = { Mapped };
 
-    ghost view = { λ flat. record { regs = map_bytes flat.regs; ranges = map range_of flat.ranges.items; version = flat.version; changed = flat.chosen.items } };
+    ghost view = { λ flat. record {
+      regs = map_bytes flat.regs;
+      ranges = map range_of flat.ranges.items;
+      version = flat.version;
+      changed = flat.chosen.items;
+    } };
 
     ghost invariant = { λ flat. IsMapOf (map_bytes flat.regs) (map range_of flat.ranges.items) };
 }
@@ -59,7 +66,8 @@ impl FlatMap {
         ensures regs { result.regs ≡ map_bytes regs }
         ensures version { result.version ≡ 0 }
         ensures changed { result.changed ≡ [] }
-        ensures map { (setup : Setup) (bytes : Bytes) → StandsFor setup bytes result.regs → IsFlatMapOf setup bytes result.ranges }
+        ensures map { (setup : Setup) (bytes : Bytes) → StandsFor setup bytes result.regs
+            → IsFlatMapOf setup bytes result.ranges }
         ensures few { length result.ranges ≤ most_ranges }
     {
         FlatMap::restored(regs, 0, &[])
@@ -171,7 +179,8 @@ impl FlatMap {
         self.apply_uncounted::<Brand>(change, names.as_slice(), Blank::new(1))
     }
 
-    /// Makes a change as `apply` does, where the names of the registers that it stores to are known, and counts nothing.
+    /// Makes a change as `apply` does, where the names of the registers that it stores to are known, and counts
+    /// nothing.
     fn apply_uncounted<L: Ledger>(
         &mut self,
         change: &MapChange,
@@ -390,7 +399,8 @@ impl FlatMap {
     #[inline(always)]
     fn set_beside(&mut self, change: &MapChange, names: &[Option<MapRegister>])
         requires names { names.now ≡ names_of (cards_of self.old.regs.cards) change.now }
-        requires beside { (setup : Setup) (bytes : Bytes) → StandsFor setup bytes self.old.regs → touches_map setup change.now ≡ false }
+        requires beside { (setup : Setup) (bytes : Bytes) → StandsFor setup bytes self.old.regs
+            → touches_map setup change.now ≡ false }
         ensures stands { (setup : Setup) (bytes : Bytes) → StandsFor setup bytes self.old.regs
             → StandsFor setup (λ r. changed_byte setup change.now r (bytes r)) self.new.regs }
         ensures cards { (setup : Setup) (bytes : Bytes) → AreCardsOf setup bytes self.old.regs.cards

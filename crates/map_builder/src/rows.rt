@@ -14,8 +14,9 @@ use board_spec::range::BOUNDARY_UNIT;
 const LAST_ROW: usize = 7;
 
 /// Sets `chosen` to the windows in which the areas are looked up anew, in rising order: `windows`, which the change
-/// covers; after a store to row boundaries alone (by the `names` of the registers) the least window of all addresses whose row may change; none where the
-/// registers are known to keep what they hold (`kept`). What `chosen` held before does not matter.
+/// covers; after a store to row boundaries alone (by the `names` of the registers) the least window of all addresses
+/// whose row may change; none where the registers are known to keep what they hold (`kept`). What `chosen` held before
+/// does not matter.
 pub fn choose_windows(
     chosen: &mut Windows,
     kept: bool,

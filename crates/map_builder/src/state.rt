@@ -7,7 +7,9 @@ ghost use Rattle.byte_fields.specs.Fields.{Took};
 ghost use Rattle.byte_fields.specs.Loads.{OneSpelling};
 ghost use Rattle.pci_bars.specs.Cards.{AreCardsOf};
 ghost use Rattle.map_builder.specs.Map.{IsMapOf};
-ghost use Rattle.map_builder.specs.State.{IsWindow, window_bytes, window_fields, windows_bytes, so_many_windows, windows_fields, bare, IsMapped, mapped_bytes, mapped_fields, LoadsMap, SameMap};
+ghost use Rattle.map_builder.specs.State.{IsWindow, window_bytes, window_fields, windows_bytes, so_many_windows};
+ghost use Rattle.map_builder.specs.State.{windows_fields, bare, IsMapped, mapped_bytes, mapped_fields, LoadsMap};
+ghost use Rattle.map_builder.specs.State.{SameMap};
 
 use crate::flat_map::FlatMap;
 use crate::list::FixedList;

@@ -7,7 +7,8 @@ returns-then-not-is_base c = record {
   bases = (
     λ is. absurd (cc),
     λ all. absurd (bases_not c.args.bases.now c.loop-base.base-index (Memory 0) c.loop-base-test.true
-        (λ fits. let yes = c.is_base.ensures.base.1 fits in let no = c.if-not-is_base.true in cc) c.loop-base.invariant all),
+        (λ fits. let yes = c.is_base.ensures.base.1 fits in let no = c.if-not-is_base.true in
+        cc) c.loop-base.invariant all),
   );
 }
 

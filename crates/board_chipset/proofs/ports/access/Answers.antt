@@ -15,7 +15,8 @@ at_device-requires c =
         bus = c.requires.bus;
         disk = c.has_disk-disk.result;
         target_is =
-            ap (λ (found : Found). (decoded_as found).target) (sym c.in-Device.is) ∙ ap (λ (d : Decoded). d.target) stands;
+            ap (λ (found : Found). (decoded_as found).target) (sym c.in-Device.is)
+            ∙ ap (λ (d : Decoded). d.target) stands;
       };
     }
 
@@ -43,7 +44,8 @@ at_register-requires-clause-reaching c =
       bus = c.requires.bus;
       disk = c.has_disk-disk.result;
       target_is =
-          ap (λ (found : Found). (decoded_as found).target) (sym c.in-Register.is) ∙ ap (λ (d : Decoded). d.target) stands;
+          ap (λ (found : Found). (decoded_as found).target) (sym c.in-Register.is)
+          ∙ ap (λ (d : Decoded). d.target) stands;
     }
 
 pub returns-in-Register-clause-answer : goal.returns-in-Register-clause-answer
@@ -98,7 +100,8 @@ at_nobody-requires c =
         bus = c.requires.bus;
         disk = c.has_disk-disk.result;
         target_is =
-            ap (λ (found : Found). (decoded_as found).target) (sym c.in-Nobody.is) ∙ ap (λ (d : Decoded). d.target) stands;
+            ap (λ (found : Found). (decoded_as found).target) (sym c.in-Nobody.is)
+            ∙ ap (λ (d : Decoded). d.target) stands;
       };
     }
 

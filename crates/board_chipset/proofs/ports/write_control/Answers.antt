@@ -19,7 +19,8 @@ overflow_cast-access c =
 
 pub returns-then-write_control : goal.returns-then-write_control
 returns-then-write_control c = record {
-  sound = λ setup sound. sound_changed sound (c.write_control.ensures.sound setup sound.registers) c.reset.ensures.fitted;
+  sound =
+      λ setup sound. sound_changed sound (c.write_control.ensures.sound setup sound.registers) c.reset.ensures.fitted;
   board = λ setup history entry kept is.
       let writes = entry_writes refl c.requires.writes is in
       let registers : HasRegisters setup (entry ∷ history) c.write_control.new.self =

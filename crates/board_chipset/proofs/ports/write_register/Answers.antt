@@ -37,6 +37,7 @@ returns-else-store c = record {
   board = λ setup history entry kept is.
       let writes = entry_writes refl c.requires.writes is in
       registers_move leaves_devices kept is refl (λ cell. refl)
-      (c.store.ensures.registers setup history entry kept.registers writes) (c.store.ensures.south (c.store.ensures.other c.if-store.false))
+      (c.store.ensures.registers setup history entry kept.registers writes)
+      (c.store.ensures.south (c.store.ensures.other c.if-store.false))
       (soft writes);
 }

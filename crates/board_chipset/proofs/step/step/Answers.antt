@@ -8,11 +8,13 @@ returns-in-Memory-clause-board c = λ setup history entry kept image event repli
 
 pub returns-in-Wide-clause-board : goal.returns-in-Wide-clause-board
 returns-in-Wide-clause-board c = λ setup history entry kept image event replied.
-    c.access-in-Wide.ensures.board setup history entry kept image (event ∙ c.in-Wide.is) (replied ∙ c.reply-in-Wide.ensures.reply)
+    c.access-in-Wide.ensures.board setup history entry kept image (event ∙ c.in-Wide.is)
+    (replied ∙ c.reply-in-Wide.ensures.reply)
 
 pub returns-in-Port-clause-board : goal.returns-in-Port-clause-board
 returns-in-Port-clause-board c = λ setup history entry kept image event replied.
-    c.access-in-Port.ensures.board setup history entry kept (event ∙ c.in-Port.is) (replied ∙ c.reply-in-Port.ensures.reply)
+    c.access-in-Port.ensures.board setup history entry kept (event ∙ c.in-Port.is)
+    (replied ∙ c.reply-in-Port.ensures.reply)
 
 pub returns-in-Look-clause-board : goal.returns-in-Look-clause-board
 returns-in-Look-clause-board c = λ setup history entry kept image event replied.
@@ -21,7 +23,8 @@ returns-in-Look-clause-board c = λ setup history entry kept image event replied
 pub returns-in_default : goal.returns-in_default
 returns-in_default c = record {
   sound = c.answer.ensures.sound;
-  answer = λ setup history kept image. modulo setup history c.args.event.now c.reply-in_default.result c.in_default.not-Look
+  answer =
+      λ setup history kept image. modulo setup history c.args.event.now c.reply-in_default.result c.in_default.not-Look
       (rw (c.reply-in_default.ensures.reply) (c.answer.ensures.answer setup history kept));
   board = λ setup history entry kept image event replied. c.answer.ensures.board setup history entry kept event;
 }

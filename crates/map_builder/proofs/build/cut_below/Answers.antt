@@ -23,11 +23,13 @@ returns g c =
     let ranges' : List MapRange = map range_of c.range_at.new.ranges.items in
     let lo = c.args.lo in
     let row = c.row.result.areas in
-    let on : ContinuesAt (map range_of (take c.args.from before)) ranges' (open_at before c.args.from) (range_of c.range_at.result) lo row =
+    let on : ContinuesAt (map range_of (take c.args.from before)) ranges' (open_at before c.args.from)
+    (range_of c.range_at.result) lo row =
     rw c.requires.same at (rw c.truncate-2.ensures.items at c.range_at.ensures.goes_on) in
     record {
       built =
-          built_to_interval (map_bytes c.args.regs.now) lo (omega arith) before c.requires.below c.args.from ranges' (range_of c.range_at.result) row
+          built_to_interval (map_bytes c.args.regs.now) lo (omega arith) before c.requires.below c.args.from ranges'
+          (range_of c.range_at.result) row
           c.requires.holds (omega arith) c.row.ensures.areas on;
       step = c.row.ensures.step;
     }

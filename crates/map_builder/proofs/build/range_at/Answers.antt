@@ -13,9 +13,11 @@ returns-then-eq c = record {
 pub returns : goal.returns
 returns c = record {
   goes_on = inr (
-    (λ same. false≢true (sym c.if-eq.false ∙ (rows_eq c.eq.result c.args.row.areas c.args.last.row.areas c.eq.ensures).1 same)),
+    (λ same. false≢true (sym c.if-eq.false ∙ (rows_eq c.eq.result c.args.row.areas c.args.last.row.areas c.eq.ensures).1
+        same)),
     (ap (λ (ranges : List Range). map range_of ranges) c.push.ensures.items
-        ∙ map-append range_of c.args.ranges.now.items (record { lo = c.args.last.lo; hi = c.args.addr - 1; row = c.args.last.row } ∷ [])),
+        ∙ map-append range_of c.args.ranges.now.items
+        (record { lo = c.args.last.lo; hi = c.args.addr - 1; row = c.args.last.row } ∷ [])),
     refl,
   );
 }

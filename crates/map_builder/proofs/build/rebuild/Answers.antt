@@ -15,7 +15,8 @@ returns-then-is_empty-clause-map g c =
     let empty : length c.args.windows.now ≡ 0 = grind (arith, nat_tests) in
     let none : c.args.windows.now ≡ [] = no_window c.args.windows.now empty in
     all_right (map_bytes c.args.regs.now) (map range_of c.args.ranges.now.items)
-    (subst (λ (windows : List Changed). IsMapWhere (map_bytes c.args.regs.now) (IsBeside windows) (map range_of c.args.ranges.now.items)) none c.requires.beside)
+    (subst (λ (windows : List Changed). IsMapWhere (map_bytes c.args.regs.now) (IsBeside windows)
+    (map range_of c.args.ranges.now.items)) none c.requires.beside)
 
 pub returns-clause-tiles : goal.returns-clause-tiles
 returns-clause-tiles g c = c.sweep.ensures.whole.tiles

@@ -6,7 +6,8 @@ use Rattle.map_builder.proofs.StepLemmas.{built_step, one_address}
 use Rattle.map_builder.proofs.build.row_at.Goals as goal
 
 pub range_at-requires-clause-room : goal.range_at-requires-clause-room
-range_at-requires-clause-room g c = omega (arith, c.requires.built.few c.requires.board, length-map c.args.ranges.now.items range_of)
+range_at-requires-clause-room g c =
+    omega (arith, c.requires.built.few c.requires.board, length-map c.args.ranges.now.items range_of)
 
 pub range_at-requires-clause-above : goal.range_at-requires-clause-above
 range_at-requires-clause-above g c = omega (arith, c.requires.built.built.begun, c.requires.above)
@@ -14,8 +15,11 @@ range_at-requires-clause-above g c = omega (arith, c.requires.built.built.begun,
 pub returns : goal.returns
 returns g c = record {
   built =
-      built_step (map_bytes c.args.regs.now) (map range_of c.args.ranges.now.items) (map range_of c.range_at.new.ranges.items) (range_of c.args.last)
-      (range_of c.range_at.result) (c.args.addr - 1) c.args.addr c.row.result.areas (omega (arith, c.requires.above)) (omega arith)
-      (one_address (map_bytes c.args.regs.now) (c.args.addr - 1) c.args.addr (omega (arith, c.requires.above))) c.row.ensures.areas c.range_at.ensures.goes_on c.requires.built;
+      built_step (map_bytes c.args.regs.now) (map range_of c.args.ranges.now.items)
+      (map range_of c.range_at.new.ranges.items) (range_of c.args.last)
+      (range_of c.range_at.result) (c.args.addr - 1) c.args.addr c.row.result.areas (omega (arith, c.requires.above))
+      (omega arith)
+      (one_address (map_bytes c.args.regs.now) (c.args.addr - 1) c.args.addr (omega (arith, c.requires.above)))
+      c.row.ensures.areas c.range_at.ensures.goes_on c.requires.built;
   step = c.row.ensures.step;
 }

@@ -12,19 +12,31 @@ range_at-last-requires-clause-room g c =
 pub loop-edge-preserved : goal.loop-edge-preserved
 loop-edge-preserved g c = record {
   built =
-      built_step (map_bytes c.args.regs.now) (map range_of c.loop-edge.ranges.items) (map range_of c.range_at-last.new.ranges.items)
+      built_step (map_bytes c.args.regs.now) (map range_of c.loop-edge.ranges.items)
+      (map range_of c.range_at-last.new.ranges.items)
       (range_of c.loop-edge.last) (range_of c.range_at-last.result) c.loop-edge.addr c.in-Some.edge c.row.result.areas
-      c.in-Some.ensures.above (omega arith) c.in-Some.ensures.equal c.row.ensures.areas c.range_at-last.ensures.goes_on c.loop-edge.invariant.built;
+      c.in-Some.ensures.above (omega arith) c.in-Some.ensures.equal c.row.ensures.areas c.range_at-last.ensures.goes_on
+      c.loop-edge.invariant.built;
   within = c.in-Some.ensures.within;
-  rows = λ setup bytes stands. omega (arith, c.loop-edge.invariant.rows setup bytes stands, c.in-Some.ensures.fewer setup bytes stands, c.row.ensures.step);
+  rows = λ setup bytes stands. omega (
+    arith,
+    c.loop-edge.invariant.rows setup bytes stands,
+    c.in-Some.ensures.fewer setup bytes stands,
+    c.row.ensures.step,
+  );
 }
 
 pub returns : goal.returns
 returns g c = record {
   built =
-      built_over (map_bytes c.args.regs.now) (map range_of c.loop-edge.ranges.items) (range_of c.loop-edge.last) c.loop-edge.addr c.args.interval.hi
+      built_over (map_bytes c.args.regs.now) (map range_of c.loop-edge.ranges.items) (range_of c.loop-edge.last)
+      c.loop-edge.addr c.args.interval.hi
       c.loop-edge.invariant.within c.in_default.ensures.equal c.loop-edge.invariant.built;
   rows = λ setup bytes stands.
-      omega (arith, c.loop-edge.invariant.rows setup bytes stands, edges_left setup bytes c.loop-edge.addr c.args.interval.hi c.loop-edge.invariant.within);
+      omega (
+        arith,
+        c.loop-edge.invariant.rows setup bytes stands,
+        edges_left setup bytes c.loop-edge.addr c.args.interval.hi c.loop-edge.invariant.within,
+      );
   fits = omega arith;
 }

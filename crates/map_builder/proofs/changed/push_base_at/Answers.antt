@@ -16,8 +16,10 @@ pub returns-in-Some-clause-windows : goal.returns-in-Some-clause-windows
 returns-in-Some-clause-windows c =
     c.push_base.ensures.windows
     ∙ ap (λ (more : List Changed). c.args.windows.now.items ++ more)
-    (held_here c.args.values.now c.args.bases.now c.args.index c.in-Some.base.now (omega (arith, c.in-Some.ensures.lookup.3.0)) (c.in-Some.ensures.lookup.3.1 c.in-Some.base.now))
+    (held_here c.args.values.now c.args.bases.now c.args.index c.in-Some.base.now
+    (omega (arith, c.in-Some.ensures.lookup.3.0)) (c.in-Some.ensures.lookup.3.1 c.in-Some.base.now))
 
 pub returns-in-None-clause-windows : goal.returns-in-None-clause-windows
 returns-in-None-clause-windows c =
-    rw (held_past c.args.values.now c.args.bases.now c.args.index c.in-None.ensures.lookup.3) (sym (append-nil c.args.windows.now.items))
+    rw (held_past c.args.values.now c.args.bases.now c.args.index c.in-None.ensures.lookup.3)
+    (sym (append-nil c.args.windows.now.items))

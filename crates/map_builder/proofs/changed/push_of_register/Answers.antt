@@ -13,4 +13,5 @@ returns-in-Card-clause-windows c =
     c.push_of_device.ensures.windows
     ∙ ap (λ (more : List Changed). c.args.windows.now.items ++ more)
     (ap (λ (cards : List CardBytes). device_held c.in-Card.dev c.in-Card.register cards) c.deref.ensures.0
-    ∙ sym (device_is setup bytes c.args.regs.now.cards.items c.in-Card.dev c.in-Card.register number.1 c.requires.cards.each stands.cards)))
+    ∙ sym (device_is setup bytes c.args.regs.now.cards.items c.in-Card.dev c.in-Card.register number.1
+    c.requires.cards.each stands.cards)))

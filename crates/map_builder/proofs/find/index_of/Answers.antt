@@ -12,15 +12,18 @@ loop-left-preserved c =
     elim c.if-ranges-index.branch [
       | then-ranges-index w ↦
           rw w.index-is
-          (search_taken c.args.ranges.now c.args.addr c.loop-left.index left half (omega (arith, more)) c.loop-left.invariant w.if-ranges-index.true)
+          (search_taken c.args.ranges.now c.args.addr c.loop-left.index left half (omega (arith, more))
+          c.loop-left.invariant w.if-ranges-index.true)
       | else-ranges-index w ↦
           rw w.index-is
-          (search_left c.args.ranges.now c.args.addr c.loop-left.index left half is (omega (arith, more)) (omega (arith, more)) (omega (arith, more)) (omega (arith, more))
+          (search_left c.args.ranges.now c.args.addr c.loop-left.index left half is (omega (arith, more))
+          (omega (arith, more)) (omega (arith, more)) (omega (arith, more))
           c.loop-left.invariant (omega (arith, w.if-ranges-index.false)))
     ]
 
 pub returns : goal.returns
 returns c = record {
   holds = search_ends c.args.ranges.now c.args.addr c.loop-left.index c.loop-left.left (omega arith)
-      (placed 0 c.args.ranges.now (omega arith) c.requires.tiles) (omega (arith, c.loop-left-test.false)) c.loop-left.invariant;
+      (placed 0 c.args.ranges.now (omega arith) c.requires.tiles) (omega (arith, c.loop-left-test.false))
+      c.loop-left.invariant;
 }

@@ -9,9 +9,11 @@ returns c = record {
   span = λ setup bytes is_map.
       subst
       (λ (area : Area). IsSpan setup bytes c.args.addr c.args.kind c.args.smm
-      (range_at c.args.ranges.now c.first_alike-first.result).lo (range_at c.args.ranges.now c.last_alike-last.result).hi area)
+      (range_at c.args.ranges.now c.first_alike-first.result).lo
+      (range_at c.args.ranges.now c.last_alike-last.result).hi area)
       (sym c.area_at.ensures.area)
-      (is_span setup bytes c.args.ranges.now c.column_of-column.result c.args.kind c.args.smm is_map (c.column_of-column.ensures.column setup bytes)
+      (is_span setup bytes c.args.ranges.now c.column_of-column.result c.args.kind c.args.smm is_map
+      (c.column_of-column.ensures.column setup bytes)
       c.index_of-index.result c.first_alike-first.result c.last_alike-last.result c.args.addr (omega arith)
       c.index_of-index.ensures.holds c.first_alike-first.ensures.first c.last_alike-last.ensures.last);
 }

@@ -10,15 +10,18 @@ loop-row-preserved c = record {
   top = λ addr out. c.loop-row.invariant.top addr (c.widened-moved-in-loop-row.ensures.wider addr out);
   each = λ addr out below row within.
       elim (cases_lt row c.loop-row.row) [
-        | inl earlier ↦ c.loop-row.invariant.each addr (c.widened-moved-in-loop-row.ensures.wider addr out) below row earlier
+        | inl earlier ↦ c.loop-row.invariant.each addr (c.widened-moved-in-loop-row.ensures.wider addr out) below row
+            earlier
         | inr not ↦
             let is : row ≡ c.loop-row.row = omega arith in
             subst (λ (it : ℕ). StaysOrHidden c.args.old.now c.args.new.now addr it) (sym is)
-            (stays_on c.args.old.now c.args.new.now addr c.loop-row.row c.min-first.result c.loop-row.hidden c.max-end.result c.max-top.result
+            (stays_on c.args.old.now c.args.new.now addr c.loop-row.row c.min-first.result c.loop-row.hidden
+            c.max-end.result c.max-top.result
             c.min-first.ensures c.max-end.ensures (omega (arith, c.max-top.ensures)) below
             (rw (c.max.ensures, c.min-in-loop-row.ensures) at (c.widened-moved-in-loop-row.ensures.between addr out))
             (c.loop-row.invariant.hidden addr))
       ];
-  hidden = λ addr low. hides_on c.args.old.now c.args.new.now addr c.loop-row.row c.min-first.result c.loop-row.hidden c.min-first.ensures
+  hidden = λ addr low. hides_on c.args.old.now c.args.new.now addr c.loop-row.row c.min-first.result c.loop-row.hidden
+      c.min-first.ensures
       (c.loop-row.invariant.hidden addr) (rw c.max-hidden.ensures at low);
 }

@@ -10,7 +10,8 @@ byte_of_name-requires-clause-number c = numbered_at c.args.names.now 0 None (ome
 pub returns : goal.returns
 returns c = record {
   held = λ change named setup bytes stands.
-      held_alone bytes change (cards_of c.args.regs.now.cards.items) c.args.names.now c.byte_of_name.result (omega arith) named
+      held_alone bytes change (cards_of c.args.regs.now.cards.items) c.args.names.now c.byte_of_name.result
+      (omega arith) named
       (λ reg name. c.byte_of_name.ensures.held reg name setup bytes stands);
   compared = λ one. c.byte_of_name.ensures.compared;
 }

@@ -9,7 +9,8 @@ returns-in-Some c = record {
   held = λ reg named setup bytes stands.
       let cards = c.args.regs.now.cards.items in
       let name = sym named ∙ c.in-Some.is in
-      c.byte.ensures.byte setup bytes stands (named_byte setup cards reg c.in-Some.register c.requires.cards stands.cards.0 name)
+      c.byte.ensures.byte setup bytes stands
+      (named_byte setup cards reg c.in-Some.register c.requires.cards stands.cards.0 name)
       ∙ ap bytes (is_name (cards_of cards) reg c.in-Some.register name).place;
   compared = ap (λ (it : Option MapRegister). is_some it) (sym c.in-Some.is);
 }

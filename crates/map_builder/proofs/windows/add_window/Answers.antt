@@ -9,7 +9,11 @@ pub returns-clause-windows : goal.returns-clause-windows
 returns-clause-windows c =
     let rising : List Changed = c.loop-index.rising.items in
     let none : drop c.loop-index.index rising ≡ [] = drop_all c.loop-index.index rising
-    (omega (arith, c.loop-index.invariant.long, ap (λ (all : List Changed). length all) c.as_slice-index-end.ensures.items)) in
+    (omega (
+      arith,
+      c.loop-index.invariant.long,
+      ap (λ (all : List Changed). length all) c.as_slice-index-end.ensures.items,
+    )) in
     c.push.ensures.items
     ∙ ap (λ (below : List Changed). below ++ c.loop-index.window ∷ []) c.truncate.ensures.items
     ∙ sym (step_last (take c.loop-index.kept rising) c.loop-index.window)

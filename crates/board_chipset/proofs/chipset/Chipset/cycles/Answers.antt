@@ -3,7 +3,8 @@ use Rattle.board_prelude.proofs.Common.{take_all, length-map, One, Setup}
 use Rattle.board_stores.specs.declared.ports.PortCycle.{PortCycle}
 use Rattle.board_stores.specs.PortCycles.{port_accesses}
 use Rattle.board_chipset.specs.PortAccesses.{IsCycleStep}
-use Rattle.board_chipset.proofs.PortAccessSteps.{none_done, cycle_done, shifted, room, shift_most, at_next, at_first, inside, item, placed_item, on_bus, bytes_placed, below_all}
+use Rattle.board_chipset.proofs.PortAccessSteps.{none_done, cycle_done, shifted, room, shift_most, at_next, at_first}
+use Rattle.board_chipset.proofs.PortAccessSteps.{inside, item, placed_item, on_bus, bytes_placed, below_all}
 use Rattle.board_chipset.proofs.chipset.Chipset.cycles.Goals as goal
 
 none : PortCycle
@@ -13,7 +14,8 @@ pub loop-cycle-init : goal.loop-cycle-init
 loop-cycle-init c = record {
   setup = refl;
   done = none_done c.args.self.now.setup c.args.self.now c.args.first;
-  at = at_first c.args.first c.requires.follow.0 (port_accesses c.args.cycles.now) c.requires.follow.1 c.requires.follow.2;
+  at = at_first c.args.first c.requires.follow.0 (port_accesses c.args.cycles.now) c.requires.follow.1
+      c.requires.follow.2;
 }
 
 pub cycle-read-requires : goal.cycle-read-requires
@@ -30,24 +32,29 @@ overflow_sub-value c =
 pub overflow_mul-value : goal.overflow_mul-value
 unfolding none
 overflow_mul-value c =
-    let placed = placed_item c.args.cycles.now c.loop-cycle.cycle-index none c.loop-cycle-test.true c.loop-cycle.invariant.at in
+    let placed =
+    placed_item c.args.cycles.now c.loop-cycle.cycle-index none c.loop-cycle-test.true c.loop-cycle.invariant.at in
     omega (arith, shift_most placed)
 
 pub overflow_shl-value : goal.overflow_shl-value
 unfolding none
 overflow_shl-value c =
-    let placed = placed_item c.args.cycles.now c.loop-cycle.cycle-index none c.loop-cycle-test.true c.loop-cycle.invariant.at in
+    let placed =
+    placed_item c.args.cycles.now c.loop-cycle.cycle-index none c.loop-cycle-test.true c.loop-cycle.invariant.at in
     omega (arith, shift_most placed)
 
 pub overflow_add-value : goal.overflow_add-value
 unfolding none
 overflow_add-value c =
-    let placed = placed_item c.args.cycles.now c.loop-cycle.cycle-index none c.loop-cycle-test.true c.loop-cycle.invariant.at in
+    let placed =
+    placed_item c.args.cycles.now c.loop-cycle.cycle-index none c.loop-cycle-test.true c.loop-cycle.invariant.at in
     let cycle = (get_or c.args.cycles.now c.loop-cycle.cycle-index none).access in
     let d = cycle.port - c.args.first in
-    let is = shifted cycle.width d c.loop-cycle.value c.cycle-read.result.0 (room placed) placed.small c.cycle-read.ensures.small in
+    let is = shifted cycle.width d c.loop-cycle.value c.cycle-read.result.0 (room placed) placed.small
+    c.cycle-read.ensures.small in
     let all = below_all cycle.width d _ (room placed)
-    (bytes_placed cycle.width d c.loop-cycle.value c.cycle-read.result.0 (room placed) placed.small c.cycle-read.ensures.small) in
+    (bytes_placed cycle.width d c.loop-cycle.value c.cycle-read.result.0 (room placed) placed.small
+    c.cycle-read.ensures.small) in
     rw is (omega (arith, all))
 
 pub loop-cycle-preserved : goal.loop-cycle-preserved
@@ -62,13 +69,16 @@ loop-cycle-preserved c =
     let read = c.cycle-read.result.0 in
     let small = c.cycle-read.ensures.small in
     let is : c.loop-cycle.value + read * 2 ^ (8 * d) % 2 ^ 32 ≡ c.loop-cycle.value + read * 256 ^ d =
-    ap (λ (n : ℕ). c.loop-cycle.value + n) (shifted cycle.width d c.loop-cycle.value read (room placed) placed.small small) in
+    ap (λ (n : ℕ). c.loop-cycle.value + n)
+    (shifted cycle.width d c.loop-cycle.value read (room placed) placed.small small) in
     record {
       setup = c.cycle-read.ensures.setup ∙ c.loop-cycle.invariant.setup;
       done = cycle_done c.args.self.now.setup c.args.self.now c.loop-cycle.self c.cycle-read.new.self c.args.first
-          c.loop-cycle.value read _ c.loop-cycle.reset c.cycle-read.result.1 c.or-reset.result (port_accesses cycles) i cycle
+          c.loop-cycle.value read _ c.loop-cycle.reset c.cycle-read.result.1 c.or-reset.result (port_accesses cycles) i
+          cycle
           (inside cycles i none within) (item cycles i none within) c.loop-cycle.invariant.done
-          (subst (λ (setup : Setup). IsCycleStep setup c.loop-cycle.self cycle c.cycle-read.new.self read c.cycle-read.result.1)
+          (subst (λ (setup : Setup). IsCycleStep setup c.loop-cycle.self cycle c.cycle-read.new.self read
+          c.cycle-read.result.1)
           c.loop-cycle.invariant.setup c.cycle-read.ensures.step)
           is c.or-reset.ensures.stronger;
       at = at_next placed read _ small is;

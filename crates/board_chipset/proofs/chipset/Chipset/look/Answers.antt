@@ -6,5 +6,6 @@ returns c = record {
   answer = λ history left.
       rw (← c.self.view_is) (c.look.ensures.answer c.self.inside.setup history (state_of c.self.view_is left));
   left = λ history entry left event.
-      left_as c.self.view_is (c.look.ensures.board c.self.inside.setup history entry (state_of c.self.view_is left) event);
+      left_as c.self.view_is (c.look.ensures.board c.self.inside.setup history entry (state_of c.self.view_is left)
+      event);
 }

@@ -1,4 +1,4 @@
-use Rattle.std.proofs.Common.{◌≡◌, length, refl, sym, arith}
+use Rattle.std.proofs.Common.{◌≡◌, length, refl, arith}
 use Rattle.board_prelude.proofs.Common.{nat_tests}
 use Rattle.board_chipset.proofs.GivenSteps.{all_written}
 use Rattle.board_chipset.proofs.chipset.Chipset.put_dram.Goals as goal

@@ -1,4 +1,4 @@
-use Rattle.std.proofs.Common.{◌≡◌, length, refl, sym, arith}
+use Rattle.std.proofs.Common.{◌≡◌, length, arith}
 use Rattle.board_prelude.proofs.Common.{nat_tests}
 use Rattle.board_chipset.specs.ChipsetState.{disk_size}
 use Rattle.board_chipset.proofs.GivenSteps.{sound_as}

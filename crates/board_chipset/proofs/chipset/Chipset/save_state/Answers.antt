@@ -1,4 +1,3 @@
-use Rattle.std.proofs.Common.{◌≡◌, ℕ, ◌++◌, List, OnOk}
 use Rattle.pit_8254.proofs.Saved.{joined}
 use Rattle.board_chipset.specs.ChipsetState.{head_bytes, state_bytes, chipset_bytes}
 use Rattle.board_chipset.proofs.Marks.{on_ok_then}

@@ -19,4 +19,5 @@ returns-clause-answer c = λ history left.
 
 pub returns-clause-left : goal.returns-clause-left
 returns-clause-left c = λ history entry left event reply.
-    left_by (c.access.ensures.board c.self.inside.setup history entry (state_of c.self.view_is left) (sym c.rom.ensures.bytes) event reply)
+    left_by (c.access.ensures.board c.self.inside.setup history entry (state_of c.self.view_is left)
+    (sym c.rom.ensures.bytes) event reply)

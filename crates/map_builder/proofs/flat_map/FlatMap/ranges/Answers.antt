@@ -6,7 +6,8 @@ use Rattle.map_builder.proofs.flat_map.FlatMap.ranges.Goals as goal
 
 pub returns-clause-map : goal.returns-clause-map
 returns-clause-map c =
-    subst (λ (flat : Mapped). (setup : Setup) (bytes : Bytes) → StandsFor setup bytes flat.regs → IsFlatMapOf setup bytes flat.ranges)
+    subst (λ (flat : Mapped). (setup : Setup) (bytes : Bytes) → StandsFor setup bytes flat.regs →
+    IsFlatMapOf setup bytes flat.ranges)
     c.self.view_is c.self.invariant.map
 
 pub returns-clause-few : goal.returns-clause-few

@@ -9,7 +9,8 @@ use Rattle.map_builder.proofs.BoardLemmas.{has_board}
 use Rattle.map_builder.proofs.flat_map.FlatMap.restored.Goals as goal
 
 pub uncounted_ranges-ranges-requires-clause-board : goal.uncounted_ranges-ranges-requires-clause-board
-uncounted_ranges-ranges-requires-clause-board c = has_board (map_bytes c.args.regs) c.requires.cards c.hold_widths.ensures.widths
+uncounted_ranges-ranges-requires-clause-board c =
+    has_board (map_bytes c.args.regs) c.requires.cards c.hold_widths.ensures.widths
 
 is_map : (regs : MapBytes) (ranges : List Range) → AreFitted regs.cards → HaveWidths regs →
     Tiles 0 (map range_of ranges) →

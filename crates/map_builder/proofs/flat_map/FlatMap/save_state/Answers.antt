@@ -13,9 +13,11 @@ pub returns-clause-sound : goal.returns-clause-sound
 returns-clause-sound c = λ setup bytes are.
     let own = subst (λ (map : Mapped). AreCardsOf setup bytes map.regs.cards) (sym c.self.view_is) are in
     let each : All IsWindow c.self.inside.chosen.items =
-    subst (λ (windows : List Changed). All IsWindow windows) c.as_slice-windows.ensures.items c.are_wide.ensures.widths in
+    subst (λ (windows : List Changed). All IsWindow windows) c.as_slice-windows.ensures.items
+    c.are_wide.ensures.widths in
     let few : length c.self.inside.chosen.items ≤ 64 =
-    subst (λ (windows : List Changed). length windows ≤ 64) c.as_slice-windows.ensures.items c.as_slice-windows.ensures.fits in
+    subst (λ (windows : List Changed). length windows ≤ 64) c.as_slice-windows.ensures.items
+    c.as_slice-windows.ensures.fits in
     always c.push_windows.result _ (subst (IsMapped setup.cards) c.self.view_is (record {
       saved = record {
         regs = c.in_ok-save_state.ensures.sound setup bytes own;

@@ -6,8 +6,10 @@ use Rattle.addr_decode.specs.Common.{AreNumbered, names_of, StandsFor, map_bytes
 use Rattle.addr_decode.proofs.NameLemmas.{names_numbered}
 use Rattle.map_builder.specs.declared.range.Changed.{Changed}
 use Rattle.map_builder.specs.Changed.{register_windows}
-use Rattle.map_builder.specs.Common.{Mapped, next_version, range_of, changed_windows, is_row_name, stores_rows, IsMapWhere, IsBeside, sorted, Rise}
-use Rattle.map_builder.proofs.ChangeLemmas.{board_after, bridge_found, build_rise, build_beside, are_changed, keeps_byte, KeepsByte}
+use Rattle.map_builder.specs.Common.{Mapped, next_version, range_of, changed_windows, is_row_name, stores_rows}
+use Rattle.map_builder.specs.Common.{IsMapWhere, IsBeside, sorted, Rise}
+use Rattle.map_builder.proofs.ChangeLemmas.{board_after, bridge_found, build_rise, build_beside, are_changed}
+use Rattle.map_builder.proofs.ChangeLemmas.{keeps_byte, KeepsByte}
 use Rattle.map_builder.proofs.MovedRows.{covers_rows, rows_by_names}
 use Rattle.map_builder.proofs.flat_map.FlatMap.store_in_bridge.Given.{Over}
 use Rattle.map_builder.proofs.flat_map.FlatMap.store_in_bridge.Goals.{After-choose_in_bridge}
