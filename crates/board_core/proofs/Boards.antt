@@ -1,6 +1,9 @@
 -- A board that is fresh, and after a step.
-use Rattle.std.proofs.Common.{◌≡◌, Bool, not, ℕ, zero, suc, ◌+◌, ◌^◌, ◌<◌, List, ◌∷◌, length, inl, inr, refl, sym, ◌∙◌, ap, subst, arith, get_or-set_same, get_or-set_other, ◌↔◌, Result, Ok, Err, ◌==◌, slice_index, slice_set, replicate}
-use Rattle.board_prelude.proofs.Common.{cases_eq, eq-eqb, ne_eqb, Entry, Setup, IsSetup, entries_by, IsLegal, version_of, IsAnswer, entry_limit}
+use Rattle.std.proofs.Common.{◌≡◌, Bool, not, ℕ, zero, suc, ◌+◌, ◌^◌, ◌<◌, List, ◌∷◌, length, inl, inr, refl, sym, ◌∙◌}
+use Rattle.std.proofs.Common.{ap, subst, arith, get_or-set_same, get_or-set_other, ◌↔◌, Result, Ok, Err, ◌==◌}
+use Rattle.std.proofs.Common.{slice_index, slice_set, replicate}
+use Rattle.board_prelude.proofs.Common.{cases_eq, eq-eqb, ne_eqb, Entry, Setup, IsSetup, entries_by, IsLegal}
+use Rattle.board_prelude.proofs.Common.{version_of, IsAnswer, entry_limit}
 use Rattle.std.proofs.lemmas.List.Filters.{length-filter_both}
 use Rattle.board_chipset.specs.Common.{Running, IsLeftBy, version_count}
 use Rattle.board_chipset.proofs.Common.{few_entries, state_of}
@@ -68,7 +71,11 @@ pub stepped :
     entry.seq ≡ slice_index replay.counts entry.actor + 1 → HasPlayed replay history →
     new.setup ≡ replay.chipset.setup → IsAnswer replay.chipset.setup history entry.event entry.reply →
     IsLeftBy new (entry ∷ history) →
-    HasPlayed (record { chipset = new; count = replay.count + 1; counts = slice_set replay.counts entry.actor entry.seq })
+    HasPlayed (record {
+      chipset = new;
+      count = replay.count + 1;
+      counts = slice_set replay.counts entry.actor entry.seq;
+    })
     (entry ∷ history)
 stepped replay history entry new all below few number played same answer left =
     let is_number = number ∙ ap (λ (n : ℕ). n + 1) (played.counted entry.actor below) in

@@ -1,13 +1,17 @@
 -- Passes that are joined into another, one after another.
-use Rattle.std.proofs.Common.{◌≡◌, ℕ, ◌+◌, List, [], ◌∷◌, ◌++◌, Option, Some, length, take, drop, sym, ap, ◌∙◌, subst, append_assoc, length-append, arith, All, Any, reverse}
-use Rattle.board_prelude.proofs.Common.{reverse-reverse, take-append-drop, get_or_append_left, take-append_seam, get_or-append_seam, Entry, MapChange, entries_by, map_writes_of, Setup}
+use Rattle.std.proofs.Common.{◌≡◌, ℕ, ◌+◌, List, [], ◌∷◌, ◌++◌, Option, Some, length, take, drop, sym, ap, ◌∙◌, subst}
+use Rattle.std.proofs.Common.{append_assoc, length-append, arith, All, Any, reverse}
+use Rattle.board_prelude.proofs.Common.{reverse-reverse, take-append-drop, get_or_append_left, take-append_seam}
+use Rattle.board_prelude.proofs.Common.{get_or-append_seam, Entry, MapChange, entries_by, map_writes_of, Setup}
 use mathlib.Core.List.{IsPrefix}
-use Rattle.bus_turn.specs.Common.{number_of, opened_of as opened_by, part_of, seen_of as seen_in, mine_of as mine_in, joined_of, own_by}
+use Rattle.bus_turn.specs.Common.{number_of, opened_of as opened_by, part_of, seen_of as seen_in, mine_of as mine_in}
+use Rattle.bus_turn.specs.Common.{joined_of, own_by}
 use Rattle.bus_turn.proofs.Rows.{drop_front}
 use Rattle.board_live.specs.declared.cpu.Cpu.{Cpu}
 use Rattle.shared_board.specs.declared.shared.Shared.{Shared}
 use Rattle.shared_board.specs.declared.shared.Origin.{Origin}
-use Rattle.board_live.specs.Common.{origin_in, opened_with, Extends, SharedPass, IsSameCaller, ClosesBoard, setup_of, seen_of, known_of, AddsNone, HasOwn, IsJoined}
+use Rattle.board_live.specs.Common.{origin_in, opened_with, Extends, SharedPass, IsSameCaller, ClosesBoard, setup_of}
+use Rattle.board_live.specs.Common.{seen_of, known_of, AddsNone, HasOwn, IsJoined}
 use Rattle.shared_board.proofs.Histories.{extends_trans, extends_prefix, writes_extend, entries_reversed}
 use Rattle.board_live.proofs.Turns.{by_actor, own_in, own_same}
 

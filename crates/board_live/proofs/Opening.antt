@@ -1,6 +1,8 @@
 -- Callers of a board that was just opened.
-use Rattle.std.proofs.Common.{◌≡◌, ℕ, zero, suc, ◌+◌, ◌<◌, Option, Some, List, [], ◌∷◌, ◌++◌, length, get_or, map, refl, sym, ap, ◌∙◌, subst, arith, Any, reverse}
-use Rattle.board_prelude.proofs.Common.{range_with_len, map-append, reverse-reverse, get_or_default, Entry, Setup, map_writes_of}
+use Rattle.std.proofs.Common.{◌≡◌, ℕ, zero, suc, ◌+◌, ◌<◌, Option, Some, List, [], ◌∷◌, ◌++◌, length, get_or, map, refl}
+use Rattle.std.proofs.Common.{sym, ap, ◌∙◌, subst, arith, Any, reverse}
+use Rattle.board_prelude.proofs.Common.{range_with_len, map-append, reverse-reverse, get_or_default, Entry, Setup}
+use Rattle.board_prelude.proofs.Common.{map_writes_of}
 use Rattle.bus_turn.specs.Passes.{opened_of as opened_by, part_of}
 use Rattle.map_publish.specs.declared.viewer.Viewer.{Viewer}
 use Rattle.map_publish.specs.Lists.{opened_of, changes_of}
@@ -8,7 +10,8 @@ use Rattle.map_publish.specs.declared.front.Front.{Front}
 use Rattle.board_live.specs.declared.cpu.Cpu.{Cpu}
 use Rattle.board_live.specs.declared.live.Live.{Live}
 use Rattle.shared_board.specs.declared.shared.Origin.{Origin}
-use Rattle.board_live.specs.Common.{IsMapOpened, oldest, origin, origin_in, SharedPass, IsViewerFor, setup_in, callers_in, opened_in, opened_with, IsCallerOf, IsSameCaller, AreAllOf, IsNewOf}
+use Rattle.board_live.specs.Common.{IsMapOpened, oldest, origin, origin_in, SharedPass, IsViewerFor, setup_in}
+use Rattle.board_live.specs.Common.{callers_in, opened_in, opened_with, IsCallerOf, IsSameCaller, AreAllOf, IsNewOf}
 use Rattle.shared_board.specs.declared.shared.Shared.{Shared}
 use Rattle.shared_board.proofs.Histories.{oldest_whole}
 

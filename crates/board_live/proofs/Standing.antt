@@ -1,6 +1,9 @@
 -- The opened map stands for the registers after the map writes of the history.
-use Rattle.std.proofs.Common.{◌≡◌, ℕ, ◌+◌, true, ◌&&◌, ◌||◌, List, Option, Some, None, refl, sym, ap, ◌∙◌, arith, ◌==◌, is_some}
-use Rattle.board_prelude.proofs.Common.{nat_tests, Entry, is_within, Setup, card_at, Bytes, SameMapBytes, has_rom, map_writes_of, registers_after, bridge, smram, xbcs, card_register, base_register, expansion_rom, byte_of, map_writes_decide, third, fourth}
+use Rattle.std.proofs.Common.{◌≡◌, ℕ, ◌+◌, true, ◌&&◌, ◌||◌, List, Option, Some, None, refl, sym, ap, ◌∙◌, arith, ◌==◌}
+use Rattle.std.proofs.Common.{is_some}
+use Rattle.board_prelude.proofs.Common.{nat_tests, Entry, is_within, Setup, card_at, Bytes, SameMapBytes, has_rom}
+use Rattle.board_prelude.proofs.Common.{map_writes_of, registers_after, bridge, smram, xbcs, card_register}
+use Rattle.board_prelude.proofs.Common.{base_register, expansion_rom, byte_of, map_writes_decide, third, fourth}
 use Rattle.pci_bars.specs.Cards.{CardBytes, DecodesAs, HoldsRom}
 use Rattle.pci_bars.proofs.CardLemmas.{holds-same}
 use Rattle.addr_decode.specs.MapRegs.{MapBytes, StandsFor}

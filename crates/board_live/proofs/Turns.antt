@@ -1,9 +1,12 @@
 -- A caller's pass, before and after a turn.
-use Rattle.std.proofs.Common.{◌≡◌, ℕ, ◌+◌, ◌<◌, ◌==◌, Bool, cond, Option, Some, List, [], ◌∷◌, ◌++◌, length, drop, sym, ap, ◌∙◌, subst, append_assoc, eq-eqb, reverse}
-use Rattle.board_prelude.proofs.Common.{reverse-reverse, filter-append, Entry, MapChange, Setup, entries_by, map_writes_of}
+use Rattle.std.proofs.Common.{◌≡◌, ℕ, ◌+◌, ◌<◌, ◌==◌, Bool, cond, Option, Some, List, [], ◌∷◌, ◌++◌, length, drop, sym}
+use Rattle.std.proofs.Common.{ap, ◌∙◌, subst, append_assoc, eq-eqb, reverse}
+use Rattle.board_prelude.proofs.Common.{reverse-reverse, filter-append, Entry, MapChange, Setup, entries_by}
+use Rattle.board_prelude.proofs.Common.{map_writes_of}
 use mathlib.Core.List.{IsPrefix}
 use Rattle.logbook.specs.Pages.{Book}
-use Rattle.bus_turn.specs.Common.{IsSameCaller as IsSamePass, HasSameJoined, number_of, opened_of as opened_by, part_of, seen_of as seen_in, mine_of as mine_in, own_by}
+use Rattle.bus_turn.specs.Common.{IsSameCaller as IsSamePass, HasSameJoined, number_of, opened_of as opened_by, part_of}
+use Rattle.bus_turn.specs.Common.{seen_of as seen_in, mine_of as mine_in, own_by}
 use Rattle.bus_turn.proofs.Rows.{drop_front, own_more}
 use Rattle.map_builder.specs.Map.{Mapped}
 use Rattle.map_publish.specs.declared.mark.Mark.{Mark}
@@ -11,7 +14,9 @@ use Rattle.map_publish.specs.Lists.{opened_of}
 use Rattle.board_live.specs.declared.cpu.Cpu.{Cpu}
 use Rattle.shared_board.specs.declared.shared.Shared.{Shared}
 use Rattle.shared_board.specs.declared.shared.Origin.{Origin}
-use Rattle.board_live.specs.Common.{Extends, IsMapOpened, oldest, known_after, origin, origin_in, opened_with, SharedPass, IsPassOf, setup_in, callers_in, opened_in, setup_of, seen_of, mine_of, known_of}
+use Rattle.board_live.specs.Common.{Extends, IsMapOpened, oldest, known_after, origin, origin_in, opened_with}
+use Rattle.board_live.specs.Common.{SharedPass, IsPassOf, setup_in, callers_in, opened_in, setup_of, seen_of, mine_of}
+use Rattle.board_live.specs.Common.{known_of}
 use Rattle.shared_board.proofs.Histories.{extends_prefix, entries_reversed, known_extend}
 
 abbrev pub by_actor : Entry → ℕ

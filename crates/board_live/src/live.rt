@@ -1,9 +1,11 @@
 //! The board while it is shared.
-ghost use Rattle.std.specs.Prelude.{◌≡◌, ◌+◌, ◌<◌, ◌≤◌, [], length, map, slice_index_or, vec_capacity, All, IfOk, IfErr};
+ghost use Rattle.std.specs.Prelude.{◌≡◌, ◌+◌, ◌<◌, ◌≤◌, [], length, map, slice_index_or, vec_capacity, All, IfOk};
+ghost use Rattle.std.specs.Prelude.{IfErr};
 ghost use Rattle.std.specs.List.{Any, range_with_len};
 ghost use Rattle.board_live.specs.declared.cpu.Cpu.{Cpu};
 ghost use mathlib.Core.List.{IsPrefix};
-ghost use Rattle.bus_turn.specs.Common.{IsIdle, IsSameCaller as IsSamePass, number_of, splits_of, seen_of as seen_in, mine_of as mine_in, joined_of, IsOf};
+ghost use Rattle.bus_turn.specs.Common.{IsIdle, IsSameCaller as IsSamePass, number_of, splits_of, seen_of as seen_in};
+ghost use Rattle.bus_turn.specs.Common.{mine_of as mine_in, joined_of, IsOf};
 ghost use Rattle.shared_board.specs.Known.{AreFew};
 ghost use Rattle.shared_board.specs.Passes.{IsFresh, IsViewerFor, callers_in};
 

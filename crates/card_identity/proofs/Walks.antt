@@ -1,5 +1,6 @@
 -- One step along a list, and bytes past a number.
-use Rattle.std.proofs.Common.{◌≡◌, ℕ, ◌+◌, ◌-◌, ◌/◌, ◌^◌, ◌<◌, ◌≤◌, Bool, arith, lit<, if◌then◌else◌, List, length, drop, get_or, find, Some, refl, ap}
+use Rattle.std.proofs.Common.{◌≡◌, ℕ, ◌+◌, ◌-◌, ◌/◌, ◌^◌, ◌<◌, ◌≤◌, Bool, arith, lit<, if◌then◌else◌, List, length}
+use Rattle.std.proofs.Common.{drop, get_or, find, Some, refl, ap}
 use Rattle.std.proofs.lemmas.List.{drop_more}
 use Rattle.std.proofs.Math.Nat.{div-eq_of_lt, pow-le-pow_right}
 use Rattle.board_prelude.proofs.Common.{byte}
@@ -8,7 +9,8 @@ use Rattle.card_identity.specs.Header.{byte_said, says}
 
 pub byte_next : (fields : List Field) (index off old : ℕ) (last : Field) → index < length fields →
     byte_said (drop index fields) off old
-    ≡ (if says (get_or fields index last) off then byte (get_or fields index last).value (off - (get_or fields index last).first)
+    ≡ (if says (get_or fields index last) off
+    then byte (get_or fields index last).value (off - (get_or fields index last).first)
     else byte_said (drop (index + 1) fields) off old)
 byte_next fields index off old last within = ap (λ rest. byte_said rest off old) (drop_more fields index last within)
 

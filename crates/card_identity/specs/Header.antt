@@ -21,7 +21,8 @@ fields_of identity =
 -- no field says anything
 abbrev pub is_blank : Identity → Bool
 is_blank identity =
-    (identity.vendor_id == 0) && (identity.device_id == 0) && (identity.revision_id == 0) && (identity.class_code == 0) &&
+    (identity.vendor_id == 0) && (identity.device_id == 0) && (identity.revision_id == 0) && (identity.class_code == 0)
+    &&
     (identity.subsystem_vendor_id == 0) && (identity.subsystem_id == 0) && (identity.interrupt_pin == 0)
 
 -- a field of 0 says nothing

@@ -20,9 +20,10 @@ const SUBSYSTEM_ID: u8 = 0x2E;
 
 const INTERRUPT_PIN: u8 = 0x3D;
 
-/// What a card says that it is, in its configuration header: the vendor (00h) and its device (02h), the revision (08h), the
-/// class with subclass and programming interface (09h, 24 bits), the subsystem's vendor (2Ch) and its number (2Eh), and the
-/// interrupt pin (3Dh, 1 for INTA#). A field of 0 says nothing, and the card's bytes there stay those of the board.
+/// What a card says that it is, in its configuration header: the vendor (00h) and its device (02h), the revision (08h),
+/// the class with subclass and programming interface (09h, 24 bits), the subsystem's vendor (2Ch) and its number (2Eh),
+/// and the interrupt pin (3Dh, 1 for INTA#). A field of 0 says nothing, and the card's bytes there stay those of the
+/// board.
 #[derive(Clone, Copy, PartialEq, Eq, Debug, Default)]
 pub struct Identity {
     pub vendor_id: u16,

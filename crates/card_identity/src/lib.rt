@@ -1,5 +1,5 @@
-//! What PCI cards say that they are: the bytes of their configuration headers by which software finds a driver (PCI Local
-//! Bus 2.1, section 6.2), over the replies of a board that gives every card the same.
+//! What PCI cards say that they are: the bytes of their configuration headers by which software finds a driver (PCI
+//! Local Bus 2.1, section 6.2), over the replies of a board that gives every card the same.
 #![tactic(auto)]
 
 mod field;

@@ -41,8 +41,8 @@ fn identified_read(identities: &[FittedIdentity], access: &PortAccess, reply: &R
     }
 }
 
-/// The bytes from a register on, as many as the width has, that a board read with this value, where its cards have these
-/// identities.
+/// The bytes from a register on, as many as the width has, that a board read with this value, where its cards have
+/// these identities.
 #[tactic(auto, unfolding(crate::specs::Replies::with_identity))]
 pub fn identified_value(identities: &[FittedIdentity], reg: Reg, width: Width, value: u32) -> u32
     ensures value { result ≡ identified_value identities.now reg width value }
@@ -67,8 +67,8 @@ pub fn identity_at(identities: &[FittedIdentity], dev: u8) -> Option<&Identity>
 }
 
 impl Identity {
-    /// The bytes from an offset of the header on, as many as the width has, that a board read with this value, with those
-    /// of the identity in their places.
+    /// The bytes from an offset of the header on, as many as the width has, that a board read with this value, with
+    /// those of the identity in their places.
     #[tactic(auto, unfolding(crate::specs::Replies::with_identity))]
     pub fn over(&self, off: u8, width: Width, value: u32) -> u32
         ensures value { result ≡ with_identity (Some self.now) off width value }

@@ -1,6 +1,8 @@
 -- The numbers of a report are those of changes.
-use Rattle.std.proofs.Common.{◌≡◌, ℕ, ◌-◌, ◌≤◌, true, List, length, get_or, sym, subst, arith, refl, All, ◌==◌, ◌++◌, flat_map, Result, Ok, Err, IfOk}
-use Rattle.board_prelude.proofs.Common.{eq-eqb, length-map, list_any_at, MapChange, Setup, Entry, IsReplayOf, map_writes_of, registers_after, MapRange, IsRight}
+use Rattle.std.proofs.Common.{◌≡◌, ℕ, ◌-◌, ◌≤◌, true, List, length, get_or, sym, subst, arith, refl, All, ◌==◌, ◌++◌}
+use Rattle.std.proofs.Common.{flat_map, Result, Ok, Err, IfOk}
+use Rattle.board_prelude.proofs.Common.{eq-eqb, length-map, list_any_at, MapChange, Setup, Entry, IsReplayOf}
+use Rattle.board_prelude.proofs.Common.{map_writes_of, registers_after, MapRange, IsRight}
 use Rattle.std.proofs.Math.ListN.{get_or-map}
 use Rattle.map_blame.specs.declared.blamed.Blamed.{Blamed}
 use Rattle.map_blame.specs.Common.{IsSince, is_among, IsKeep, map_range_of, AreBlamed, IsBlame}

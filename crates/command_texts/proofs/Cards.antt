@@ -1,6 +1,8 @@
 -- What `==` says of the bases of cards.
-use Rattle.std.proofs.Common.{◌≡◌, inl, inr, ℕ, Bool, true, false, List, [], ◌∷◌, Decides, refl, sym, ap, ◌∙◌, subst, map, not, nat_eq, Option, Some, None}
-use Rattle.board_prelude.proofs.Common.{option_eq, cases_Bool, false≢true, eqb-true, eq-eqb, Base, MemoryBase, IoBase, OutsideBase, FittedCard}
+use Rattle.std.proofs.Common.{◌≡◌, inl, inr, ℕ, Bool, true, false, List, [], ◌∷◌, Decides, refl, sym, ap, ◌∙◌, subst}
+use Rattle.std.proofs.Common.{map, not, nat_eq, Option, Some, None}
+use Rattle.board_prelude.proofs.Common.{option_eq, cases_Bool, false≢true, eqb-true, eq-eqb, Base, MemoryBase, IoBase}
+use Rattle.board_prelude.proofs.Common.{OutsideBase, FittedCard}
 use Rattle.std.specs.Cmp.Lexicographic.{pointwise}
 use Rattle.std.proofs.lemmas.Bool.Decides.{Decides-like}
 use Rattle.std.proofs.lemmas.Slice.Eq.{slice_eq-Decides}

@@ -1,6 +1,9 @@
 -- What a board did, put together.
-use Rattle.std.proofs.Common.{◌≡◌, ℕ, List, [], ◌∷◌, ◌++◌, refl, sym, ap, ◌∙◌, subst, reverse, length, Result, Ok, Err, OnOk, OnErr}
-use Rattle.board_prelude.proofs.Common.{append-nil, length-map, length-reverse, Entry, Reply, Statement, Setup, IsAnswer, next_entry, IsLegal, statement_of, statements_of, IsReplayOf, statements-newest}
+use Rattle.std.proofs.Common.{◌≡◌, ℕ, List, [], ◌∷◌, ◌++◌, refl, sym, ap, ◌∙◌, subst, reverse, length, Result, Ok, Err}
+use Rattle.std.proofs.Common.{OnOk, OnErr}
+use Rattle.board_prelude.proofs.Common.{append-nil, length-map, length-reverse, Entry, Reply, Statement, Setup}
+use Rattle.board_prelude.proofs.Common.{IsAnswer, next_entry, IsLegal, statement_of, statements_of, IsReplayOf}
+use Rattle.board_prelude.proofs.Common.{statements-newest}
 use Rattle.std.proofs.lemmas.List.{append_assoc}
 use Rattle.board_core.specs.Kept.{Standing}
 use Rattle.command_texts.specs.Done.{DidStatements}

@@ -1,6 +1,8 @@
 -- The entry of a version is the first after which the map had it.
-use Rattle.std.proofs.Common.{◌≡◌, ℕ, zero, suc, ◌+◌, ◌-◌, ◌≤◌, inl, inr, List, [], ◌∷◌, length, drop, refl, sym, ap, ◌∙◌, subst, arith, Option, Some, None}
-use Rattle.board_prelude.proofs.Common.{option_to_list, cases_lt, length-append, Entry, MapChange, Setup, map_change_of, map_writes_of, version_of}
+use Rattle.std.proofs.Common.{◌≡◌, ℕ, zero, suc, ◌+◌, ◌-◌, ◌≤◌, inl, inr, List, [], ◌∷◌, length, drop, refl, sym, ap}
+use Rattle.std.proofs.Common.{◌∙◌, subst, arith, Option, Some, None}
+use Rattle.board_prelude.proofs.Common.{option_to_list, cases_lt, length-append, Entry, MapChange, Setup, map_change_of}
+use Rattle.board_prelude.proofs.Common.{map_writes_of, version_of}
 use Rattle.command_texts.specs.Common.{entry_of_version, first_entries, IsFirstWith, EntryOfVersionIsFirst}
 use Rattle.command_texts.proofs.MapWrites.{entry_before, entry_now}
 

@@ -1,8 +1,10 @@
 -- The script that is made, and its images.
-use Rattle.std.proofs.Common.{◌≡◌, ℕ, zero, suc, ◌+◌, ◌*◌, ◌<◌, ◌≤◌, List, [], ◌∷◌, ◌++◌, length, refl, sym, ap, ◌∙◌, subst, length-append, arith, Some, Result, Ok, Err, IfOk}
+use Rattle.std.proofs.Common.{◌≡◌, ℕ, zero, suc, ◌+◌, ◌*◌, ◌<◌, ◌≤◌, List, [], ◌∷◌, ◌++◌, length, refl, sym, ap, ◌∙◌}
+use Rattle.std.proofs.Common.{subst, length-append, arith, Some, Result, Ok, Err, IfOk}
 use Rattle.board_prelude.proofs.Common.{Entry, IsReplayOf, Setup, IsRomSize, IsDisk, IsSetup, line_feed}
 use Rattle.script_spec.specs.Common.{statements_in, text_of_lines, Script as Said, IsScriptText}
-use Rattle.make_script.specs.Common.{setup_lines, opening_lines, round_lines, lines_of_rounds, make_lines, make_text, rom_image, disk_image, made_setup}
+use Rattle.make_script.specs.Common.{setup_lines, opening_lines, round_lines, lines_of_rounds, make_lines, make_text}
+use Rattle.make_script.specs.Common.{rom_image, disk_image, made_setup}
 use Rattle.board_chipset.specs.declared.setup.BoardOpen.{BoardOpen}
 use Rattle.board_chipset.specs.declared.setup.BoardOpen.TheVariants.{BadRom, BadDisk}
 use Rattle.command_texts.specs.Common.{HasSummary, IsMakeText, made_setup_of, IsNotOpened}

@@ -1,6 +1,8 @@
 -- The text of a map, one range after another.
-use Rattle.std.proofs.Common.{◌≡◌, ℕ, ◌+◌, ◌<◌, List, [], ◌∷◌, ◌++◌, take, length, get_or, sym, ◌∙◌, ap, append_assoc, map}
-use Rattle.board_prelude.proofs.Common.{take_more, map-append, append-nil, flat_map-append, line_feed, MapRange, range_text, map_text}
+use Rattle.std.proofs.Common.{◌≡◌, ℕ, ◌+◌, ◌<◌, List, [], ◌∷◌, ◌++◌, take, length, get_or, sym, ◌∙◌, ap, append_assoc}
+use Rattle.std.proofs.Common.{map}
+use Rattle.board_prelude.proofs.Common.{take_more, map-append, append-nil, flat_map-append, line_feed, MapRange}
+use Rattle.board_prelude.proofs.Common.{range_text, map_text}
 use Rattle.map_builder.specs.declared.range.Range.{Range}
 use Rattle.map_builder.specs.Map.{range_of}
 

@@ -1,6 +1,8 @@
 -- The map writes of a history as they are noted.
-use Rattle.std.proofs.Common.{◌≡◌, ℕ, ◌+◌, ◌-◌, ◌<◌, ◌≤◌, inl, inr, true, false, List, [], ◌∷◌, ◌++◌, length, get_or, reverse, refl, sym, ap, ◌∙◌, subst, arith, length-append, Some, None, slice_index, nat_lt}
-use Rattle.board_prelude.proofs.Common.{cases_lt, lt-ltb, le-ltb, length-reverse, reverse-append, get_or_append_left, Entry, MapChange, Setup, map_change_of, map_writes_of, version_of}
+use Rattle.std.proofs.Common.{◌≡◌, ℕ, ◌+◌, ◌-◌, ◌<◌, ◌≤◌, inl, inr, true, false, List, [], ◌∷◌, ◌++◌, length, get_or}
+use Rattle.std.proofs.Common.{reverse, refl, sym, ap, ◌∙◌, subst, arith, length-append, Some, None, slice_index, nat_lt}
+use Rattle.board_prelude.proofs.Common.{cases_lt, lt-ltb, le-ltb, length-reverse, reverse-append, get_or_append_left}
+use Rattle.board_prelude.proofs.Common.{Entry, MapChange, Setup, map_change_of, map_writes_of, version_of}
 use Rattle.std.proofs.lemmas.List.{get_or-append-add}
 use Rattle.board_core.specs.Kept.{Standing}
 use Rattle.command_texts.specs.declared.writes.MapWrites.{MapWrites}

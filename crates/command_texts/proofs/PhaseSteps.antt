@@ -1,5 +1,6 @@
 -- A phase of a script that is done after those before it.
-use Rattle.std.proofs.Common.{◌≡◌, ℕ, ◌+◌, ◌<◌, List, [], ◌++◌, take, drop, length, get_or, sym, ap, ◌∙◌, subst, append-nil, length-append}
+use Rattle.std.proofs.Common.{◌≡◌, ℕ, ◌+◌, ◌<◌, List, [], ◌++◌, take, drop, length, get_or, sym, ap, ◌∙◌, subst}
+use Rattle.std.proofs.Common.{append-nil, length-append}
 use Rattle.board_prelude.proofs.Common.{Vec, Global, Statement, IsInRange, Setup, in_file_order}
 use Rattle.board_core.specs.Common.{Standing, AreInRange}
 use Rattle.script_spec.specs.Phases.{lists_of}

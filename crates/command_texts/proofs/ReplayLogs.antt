@@ -1,7 +1,9 @@
 -- One entry more in the log of a replay.
-use Rattle.std.proofs.Common.{ℕ, ◌≡◌, ◌+◌, ◌<◌, List, [], ◌∷◌, ◌++◌, length, take, get_or, refl, sym, ap, ◌∙◌, subst, append_assoc, append-nil, add-one, slice_index}
+use Rattle.std.proofs.Common.{ℕ, ◌≡◌, ◌+◌, ◌<◌, List, [], ◌∷◌, ◌++◌, length, take, get_or, refl, sym, ap, ◌∙◌, subst}
+use Rattle.std.proofs.Common.{append_assoc, append-nil, add-one, slice_index}
 use Rattle.std.proofs.lemmas.List.{take_more}
-use Rattle.board_prelude.proofs.Common.{Entry, Statement, line_feed, line_text, lines_text, log_text, statement_of, statements-newest}
+use Rattle.board_prelude.proofs.Common.{Entry, Statement, line_feed, line_text, lines_text, log_text, statement_of}
+use Rattle.board_prelude.proofs.Common.{statements-newest}
 use Rattle.board_spec.specs.declared.event.Reply.{Reply}
 use Rattle.board_core.specs.Kept.{Playing, HasPlayed, entry_of}
 use Rattle.logs_and_maps.specs.LinesFrom.{entry_with}

@@ -1,13 +1,16 @@
 -- A replay on a board with a serial port, one statement after another.
-use Rattle.std.proofs.Common.{◌≡◌, ℕ, ◌+◌, ◌*◌, ◌<◌, ◌≤◌, List, [], ◌∷◌, ◌++◌, length, map, take, drop, get_or, All, refl, sym, ap, subst, ◌∙◌, append-nil, append_assoc, length-append, arith}
-use Rattle.board_prelude.proofs.Common.{Vec, Global, take_more, length-take-le, Statement, in_file_order, statements_of, Setup}
+use Rattle.std.proofs.Common.{◌≡◌, ℕ, ◌+◌, ◌*◌, ◌<◌, ◌≤◌, List, [], ◌∷◌, ◌++◌, length, map, take, drop, get_or, All}
+use Rattle.std.proofs.Common.{refl, sym, ap, subst, ◌∙◌, append-nil, append_assoc, length-append, arith}
+use Rattle.board_prelude.proofs.Common.{Vec, Global, take_more, length-take-le, Statement, in_file_order, statements_of}
+use Rattle.board_prelude.proofs.Common.{Setup}
 use Rattle.std.proofs.Math.Nat.{le-add_right}
 use Rattle.board_core.specs.Kept.{Standing}
 use Rattle.uart_16550.specs.declared.com1.Happening.TheVariants.{Comes, Happens}
 use Rattle.uart_16550.specs.Common.{Serial, Sending, sent_by, bytes_sent, after_all}
 use Rattle.script_spec.specs.Phases.{lists_of}
 use Rattle.log_check.proofs.PhaseLists.{all_of_phase, few_so_far, phases_cut, phases_more, statements_cut}
-use Rattle.command_texts.specs.Common.{bytes_before, left_after, happenings_of, happenings_in, steps_for_all, steps_in, sent_in, IsForPort, IsStanding, Happened, SerialPlace, WentOn, port_of}
+use Rattle.command_texts.specs.Common.{bytes_before, left_after, happenings_of, happenings_in, steps_for_all, steps_in}
+use Rattle.command_texts.specs.Common.{sent_in, IsForPort, IsStanding, Happened, SerialPlace, WentOn, port_of}
 use Rattle.command_texts.proofs.Happenings.{sent-append, none_sent, happened_twice}
 
 -- the first statement and those after it

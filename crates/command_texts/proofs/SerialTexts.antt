@@ -1,10 +1,12 @@
 -- What a board with a serial port sent in a whole replay.
-use Rattle.std.proofs.Common.{◌≡◌, ℕ, ◌+◌, ◌≤◌, true, List, [], ◌∷◌, ◌++◌, length, All, refl, sym, ap, subst, ◌∙◌, append-nil, arith, slice_index}
+use Rattle.std.proofs.Common.{◌≡◌, ℕ, ◌≤◌, true, List, [], ◌∷◌, ◌++◌, length, All, refl, sym, ap, subst, ◌∙◌}
+use Rattle.std.proofs.Common.{append-nil, arith, slice_index}
 use Rattle.board_prelude.proofs.Common.{Entry, Statement, Setup, reset_control, IsLegal, LegalKeepsLock, statements_of}
 use Rattle.board_core.specs.Kept.{Standing}
 use Rattle.script_spec.specs.Common.{Script as Said, IsInRangeScript, statements_in}
 use Rattle.uart_16550.specs.Common.{Uart, has_room, com1_at_reset, Serial, Sending, sending_at_reset}
-use Rattle.command_texts.specs.Common.{bytes_before, happenings_in, steps_in, sent_in, IsSerialText, IsForPort, WentOn, port_of}
+use Rattle.command_texts.specs.Common.{bytes_before, happenings_in, steps_in, sent_in, IsSerialText, IsForPort, WentOn}
+use Rattle.command_texts.specs.Common.{port_of}
 use Rattle.command_texts.proofs.Happenings.{port_is}
 
 -- ---- the byte that comes

@@ -1,5 +1,6 @@
 -- Lines of a text.
-use Rattle.std.proofs.Common.{◌≡◌, ℕ, ◌+◌, ◌-◌, ◌<◌, List, ◌∷◌, ◌++◌, [], take, length, get_or, sym, ap, ◌∙◌, append_assoc, length-append, arith, flat_map, slice_index}
+use Rattle.std.proofs.Common.{◌≡◌, ℕ, ◌+◌, ◌-◌, ◌<◌, List, ◌∷◌, ◌++◌, [], take, length, get_or, sym, ap, ◌∙◌}
+use Rattle.std.proofs.Common.{append_assoc, length-append, arith, flat_map, slice_index}
 use Rattle.board_prelude.proofs.Common.{take-append_seam, get_or-append_seam, take_more}
 use Rattle.std.proofs.lemmas.List.{flat_map_more}
 

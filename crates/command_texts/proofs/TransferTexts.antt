@@ -1,15 +1,19 @@
 -- What a transfer tells is that of the definition over what the history left.
-use Rattle.std.proofs.Common.{◌≡◌, ℕ, ◌+◌, ◌<◌, List, [], ◌∷◌, ◌++◌, length, append_assoc, refl, ap, ◌∙◌, slice_index, Option, Result, Ok, Err, IfOk, OnOk}
-use Rattle.board_prelude.proofs.Common.{lt-ltb, One, Disk, Entry, Setup, installed, byte_of, disk_of, space, Cell, DramCell}
+use Rattle.std.proofs.Common.{◌≡◌, ℕ, ◌<◌, List, [], ◌∷◌, ◌++◌, length, append_assoc, refl, ap, ◌∙◌, slice_index}
+use Rattle.std.proofs.Common.{Option, Result, Ok, Err, IfOk, OnOk}
+use Rattle.board_prelude.proofs.Common.{lt-ltb, One, Disk, Entry, Setup, installed, byte_of, disk_of, space, Cell}
+use Rattle.board_prelude.proofs.Common.{DramCell}
 use Rattle.dram_store.specs.Dram.{dram_at, IsDramOf}
 use Rattle.dram_store.proofs.DramLemmas.{read_stored}
 use Rattle.pci_bars.specs.Contents.{IsContentsOf}
 use Rattle.board_chipset.specs.declared.store.Store.{Store}
 use Rattle.bus_master.specs.declared.done.Done.{Done}
-use Rattle.bus_master.specs.Common.{Master, register_of, Moving, transferred, done_of, master_after, medium_of, with_medium, cells_of, transfer_of, IsCell}
+use Rattle.bus_master.specs.Common.{Master, register_of, Moving, transferred, done_of, master_after, medium_of}
+use Rattle.bus_master.specs.Common.{with_medium, cells_of, transfer_of, IsCell}
 use Rattle.command_words.specs.declared.transfer.Transfer.{Transfer}
 use Rattle.command_texts.specs.Laws.{RomsAreRead}
-use Rattle.command_texts.specs.Transfers.{AreCellsAfter, HasTransferText, started, sum_below, dram_sum, disk_sum, ended_line, sums_line, transfer_text}
+use Rattle.command_texts.specs.Transfers.{AreCellsAfter, HasTransferText, started, sum_below, dram_sum, disk_sum}
+use Rattle.command_texts.specs.Transfers.{ended_line, sums_line, transfer_text}
 use Rattle.command_texts.proofs.Sums.{sum_below-same}
 
 pub cells_left : (setup : Setup) (history : List Entry) (store : Store) → IsDramOf setup history store.dram →

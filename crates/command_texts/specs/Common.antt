@@ -6,7 +6,8 @@ pub use Rattle.command_texts.specs.Fitted.{IsNotOpened}
 pub use Rattle.command_texts.specs.Images.{IsResumeText, IsSaveText}
 pub use Rattle.command_texts.specs.Laws.{EntryOfVersionIsFirst, IsFirstWith, RomsAreRead, first_entries}
 pub use Rattle.command_texts.specs.Replays.{HasSummary, IsLegalText, IsMakeText, IsMapText, IsReplayText, made_setup_of}
-pub use Rattle.command_texts.specs.Serial.{IsSerialText, bytes_before, happenings_of, left_after, sent_in, steps_for_all}
+pub use Rattle.command_texts.specs.Serial.{IsSerialText, bytes_before, happenings_of, left_after, sent_in}
+pub use Rattle.command_texts.specs.Serial.{steps_for_all}
 unfoldable pub use Rattle.command_texts.specs.Serial.{happenings_in, steps_in}
 pub use Rattle.command_texts.specs.SerialSteps.{Happened, IsForPort, IsStanding, SerialPlace, WentOn, port_of}
 pub use Rattle.command_texts.specs.Transfers.{IsTransferText}

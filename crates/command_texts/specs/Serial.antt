@@ -3,7 +3,8 @@ use Rattle.std.specs.Prelude.{ℕ, ◌≡◌, ◌++◌, ◌∷◌, [], List, len
 use Rattle.board_prelude.specs.Common.{Entry, Statement, Setup, IsReplayOf, LockLaw}
 use Rattle.uart_16550.specs.declared.com1.Happening.{Happening}
 use Rattle.uart_16550.specs.declared.com1.Happening.TheVariants.{Comes, Happens}
-use Rattle.uart_16550.specs.Common.{Uart, has_room, Sending, sending_at_reset, sending_after, steps_for, bytes_sent, after_all}
+use Rattle.uart_16550.specs.Common.{Uart, has_room, Sending, sending_at_reset, sending_after, steps_for, bytes_sent}
+use Rattle.uart_16550.specs.Common.{after_all}
 use Rattle.script_spec.specs.Common.{Script as Said, statements_in}
 
 -- ---- what happens

@@ -1,6 +1,9 @@
 -- What `dma` asks of a bus master after a replay, and the text of the transfer.
-use Rattle.std.specs.Prelude.{ℕ, zero, suc, ◌≡◌, ◌+◌, ◌*◌, ◌<◌, ◌++◌, ◌∷◌, [], List, slice_index, codes, decimal, Option, Some, None, if◌then◌else◌}
-use Rattle.board_prelude.specs.Common.{Disk, sectors_of, Entry, Setup, installed, byte_of, DramCell, CardCell, dram_byte, card_byte, expansion_byte, rom_base, disk_of, IsReplayOf, space, line_feed, hex_byte, hex_long, denial_text}
+use Rattle.std.specs.Prelude.{ℕ, zero, suc, ◌≡◌, ◌+◌, ◌*◌, ◌++◌, ◌∷◌, [], List, slice_index, codes, decimal, Option}
+use Rattle.std.specs.Prelude.{Some, None, if◌then◌else◌}
+use Rattle.board_prelude.specs.Common.{Disk, sectors_of, Entry, Setup, installed, byte_of, DramCell, CardCell}
+use Rattle.board_prelude.specs.Common.{dram_byte, card_byte, expansion_byte, rom_base, disk_of, IsReplayOf, space}
+use Rattle.board_prelude.specs.Common.{line_feed, hex_byte, hex_long, denial_text}
 use Rattle.pci_bars.specs.Contents.{IsBaseNumber}
 use Rattle.bus_master.specs.declared.done.Done.{Done}
 use Rattle.bus_master.specs.declared.done.End.{End}

@@ -25,8 +25,8 @@ fn copies(alloc: Global, cards: &[CardSpec]) -> Result<Vec<CardSpec>, NoMemory>
     Ok(copies)
 }
 
-/// The board of a script with these images, as after power-on. The ROM has 64, 128, 256 or 512 KiB. Refused where the disk
-/// is not of 1 to 65,536 whole sectors, and for want of memory.
+/// The board of a script with these images, as after power-on. The ROM has 64, 128, 256 or 512 KiB. Refused where the
+/// disk is not of 1 to 65,536 whole sectors, and for want of memory.
 pub fn open_board(
     alloc: Global,
     script: &Script,

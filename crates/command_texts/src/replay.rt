@@ -1,7 +1,9 @@
 //! Replays of a script on its board, and the texts of `map` and `check`.
 
-ghost use Rattle.std.specs.Prelude.{◌≡◌, ◌∷◌, ◌++◌, ◌≤◌, ◌⊎◌, ℕ, [], Ok, Err, length, map, string_bytes, codes, decimal, IfOk, IfErr, OnOk, OnErr};
-ghost use Rattle.board_prelude.specs.Common.{IsLegal, most_statements, log_text, IsReplayOf, IsBegunFor, line_feed, map_text};
+ghost use Rattle.std.specs.Prelude.{◌≡◌, ◌∷◌, ◌++◌, ◌≤◌, ◌⊎◌, ℕ, [], Ok, Err, length, map, string_bytes, codes};
+ghost use Rattle.std.specs.Prelude.{decimal, IfOk, IfErr, OnOk, OnErr};
+ghost use Rattle.board_prelude.specs.Common.{IsLegal, most_statements, log_text, IsReplayOf, IsBegunFor, line_feed};
+ghost use Rattle.board_prelude.specs.Common.{map_text};
 ghost use Rattle.map_builder.specs.Map.{range_of};
 ghost use Rattle.script_spec.specs.Common.{IsInRangeScript, statements_in, IsLogOf, DiffersAt};
 ghost use Rattle.script_text.specs.Script.{said_of};

@@ -6,7 +6,8 @@ ghost use Rattle.dram_store.specs.Bank.{bank_size};
 ghost use Rattle.logs_and_maps.specs.Adds.{AddsWords};
 ghost use Rattle.command_words.specs.Words.{IsTransfer};
 ghost use Rattle.command_texts.specs.Fresh.{IsFreshFor};
-ghost use Rattle.command_texts.specs.Transfers.{HasTransferText, IsTransferText, started, sum_below, disk_sum, end_text, ended_line, sums_line};
+ghost use Rattle.command_texts.specs.Transfers.{HasTransferText, IsTransferText, started, sum_below, disk_sum};
+ghost use Rattle.command_texts.specs.Transfers.{end_text, ended_line, sums_line};
 
 use crate::replay::replay_script;
 use ata_pio::Ata;

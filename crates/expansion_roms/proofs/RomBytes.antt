@@ -1,7 +1,9 @@
 -- The bytes of a ROM after some were written, and those of the others beside it.
-use Rattle.std.proofs.Common.{◌≡◌, ◌≢◌, ℕ, ◌+◌, ◌<◌, ◌≤◌, false, List, [], replicate, length, get_or, set, inl, inr, refl, sym, arith, nat_le, nat_lt, slice_index}
+use Rattle.std.proofs.Common.{◌≡◌, ◌≢◌, ℕ, ◌+◌, ◌<◌, ◌≤◌, false, List, [], replicate, length, get_or, set, inl, inr}
+use Rattle.std.proofs.Common.{refl, sym, arith, nat_le, nat_lt, slice_index}
 use Rattle.std.proofs.lemmas.List.{get_or-set_same, get_or-set_other, get_or_read}
-use Rattle.board_prelude.proofs.Common.{and_right, cases_eq, cases_lt, eq-eqb, ne_eqb, lt-ltb, le-ltb, get_or-replicate, get_or_past, length-replicate}
+use Rattle.board_prelude.proofs.Common.{and_right, cases_eq, cases_lt, eq-eqb, ne_eqb, lt-ltb, le-ltb, get_or-replicate}
+use Rattle.board_prelude.proofs.Common.{get_or_past, length-replicate}
 use Rattle.board_prelude.specs.Common.{expansion_byte}
 use Rattle.expansion_roms.specs.Roms.{byte_after, byte_in, given, put_byte, rom_byte}
 
@@ -23,8 +25,14 @@ module _ (rom new : List ℕ) (at fixed : ℕ) where
   written_in bytes off within size put = elim (cases_lt at (length rom)) [
     | inl below ↦ rw (lt-ltb at (length new) (omega (arith, below, size)), lt-ltb at (length rom) below) (put at)
     | inr past ↦
-        let beyond : nat_lt at (off + length bytes) ≡ false = le-ltb at (off + length bytes) (omega (arith, past, within)) in
-        rw (le-ltb at (length new) (omega (arith, past, size)), le-ltb at (length rom) past, beyond, and_right (nat_le off at) false refl)
+        let beyond : nat_lt at (off + length bytes) ≡ false =
+        le-ltb at (off + length bytes) (omega (arith, past, within)) in
+        rw (
+          le-ltb at (length new) (omega (arith, past, size)),
+          le-ltb at (length rom) past,
+          beyond,
+          and_right (nat_le off at) false refl,
+        )
         refl
   ]
 
@@ -34,7 +42,8 @@ module _ (rom new : List ℕ) (at fixed : ℕ) where
   grown_in size longer long same = elim (cases_lt at size) [
     | inl below ↦ rw (lt-ltb at (length new) (omega (arith, below, long))) (same below)
     | inr past ↦
-        rw (le-ltb at (length new) (omega (arith, past, long)), le-ltb at (length rom) (omega (arith, past, longer))) refl
+        rw (le-ltb at (length new) (omega (arith, past, long)), le-ltb at (length rom) (omega (arith, past, longer)))
+        refl
   ]
 
 -- ---- all of them

@@ -1,5 +1,6 @@
 -- The bytes that expansion ROMs were given, by the device numbers of their cards.
-use Rattle.std.specs.Prelude.{ℕ, ◌+◌, ◌-◌, ◌≤◌, ◌==◌, ◌&&◌, nat_le, nat_lt, if◌then◌else◌, List, [], get_or, length, slice_index}
+use Rattle.std.specs.Prelude.{ℕ, ◌+◌, ◌-◌, ◌≤◌, ◌==◌, ◌&&◌, nat_le, nat_lt, if◌then◌else◌, List, [], get_or, length}
+use Rattle.std.specs.Prelude.{slice_index}
 use Rattle.board_prelude.specs.Common.{expansion_byte}
 
 -- those of the card at a device, from the ROM's first on

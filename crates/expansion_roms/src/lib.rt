@@ -1,5 +1,5 @@
-//! The bytes that expansion ROMs of cards were given (PCI Local Bus 2.1, section 6.3), in the place of those that a board
-//! gives them itself.
+//! The bytes that expansion ROMs of cards were given (PCI Local Bus 2.1, section 6.3), in the place of those that a
+//! board gives them itself.
 #![tactic(auto)]
 
 mod rom;

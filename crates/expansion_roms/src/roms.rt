@@ -11,7 +11,8 @@ use std::marker::Model;
 /// How many device numbers there are up to the last that a card can have.
 const DEVICES: usize = 10;
 
-/// What expansion ROMs were given: of each device number the bytes from the ROM's first on, none where it was given none.
+/// What expansion ROMs were given: of each device number the bytes from the ROM's first on, none where it was given
+/// none.
 #[derive(Drop)]
 pub struct Roms {
     all: Vec<Rom>,
@@ -75,8 +76,9 @@ impl Roms {
         }
     }
 
-    /// Gives the ROM of the card at a device, which has so many bytes, these from an offset on; from then on all its bytes
-    /// are kept. It takes memory only where they were not, and is refused where there is none; then nothing has changed.
+    /// Gives the ROM of the card at a device, which has so many bytes, these from an offset on; from then on all its
+    /// bytes are kept. It takes memory only where they were not, and is refused where there is none; then nothing has
+    /// changed.
     pub fn put(
         &mut self,
         alloc: Global,

@@ -1,7 +1,11 @@
 -- A board image: what a board is fitted with, and then who asked what of it, in order. The replies follow from these.
 -- Numbers have their low byte first.
-use Rattle.std.specs.Prelude.{ℕ, ◌≤◌, ◌<◌, ◌+◌, ◌^◌, ◌++◌, Bool, true, false, List, [], ◌∷◌, length, map, flat_map, All, Option, is_some, unwrap_or, codes}
-use Rattle.board_prelude.specs.Common.{w16, w32, w64, to_le_bytes, Kind, Fetch, Read, Write, PortAccess, WideAccess, Moment, bytes_of, Event, Memory, Wide, Port, Ack, Pulses, Time, Wire, Line, BadSector, Statement, Base, MemoryBase, IoBase, OutsideBase, FittedCard, Setup, IsSetup, IsInRange, IsScriptSector, most_statements}
+use Rattle.std.specs.Prelude.{ℕ, ◌≤◌, ◌<◌, ◌+◌, ◌^◌, ◌++◌, Bool, List, [], ◌∷◌, length, map, flat_map, All, is_some}
+use Rattle.std.specs.Prelude.{unwrap_or, codes}
+use Rattle.board_prelude.specs.Common.{w16, w32, w64, to_le_bytes, Kind, Fetch, Read, Write, PortAccess, WideAccess}
+use Rattle.board_prelude.specs.Common.{Moment, bytes_of, Event, Memory, Wide, Port, Ack, Pulses, Time, Wire, Line}
+use Rattle.board_prelude.specs.Common.{BadSector, Statement, Base, MemoryBase, IoBase, OutsideBase, FittedCard, Setup}
+use Rattle.board_prelude.specs.Common.{IsSetup, IsInRange, IsScriptSector, most_statements}
 use Rattle.board_base.specs.declared.access.Access.{Access}
 pub use Rattle.byte_fields.specs.Fields.{flag_byte}
 use Rattle.board_spec.specs.declared.event.Event.TheVariants.{Look as LookAt}

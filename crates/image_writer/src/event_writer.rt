@@ -2,7 +2,8 @@
 
 ghost use Rattle.std.specs.Prelude.{◌≡◌, ◌++◌, ◌∷◌, [], map, flat_map, IfOk, OnOk};
 ghost use Rattle.board_prelude.specs.Common.{w32, to_le_bytes, bytes_of, statement_of};
-ghost use Rattle.image_writer.specs.ImageBytes.{flag_byte, kind_byte, memory_bytes, wide_bytes, port_bytes, look_bytes, moment_bytes, field_bytes, step_bytes};
+ghost use Rattle.image_writer.specs.ImageBytes.{flag_byte, kind_byte, memory_bytes, wide_bytes, port_bytes, look_bytes};
+ghost use Rattle.image_writer.specs.ImageBytes.{moment_bytes, field_bytes, step_bytes};
 
 use crate::tag::Tag;
 use access_history::Entries;

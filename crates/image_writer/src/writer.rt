@@ -3,7 +3,8 @@
 ghost use Rattle.std.specs.Prelude.{◌≡◌, ◌≤◌, ◌++◌, ◌∷◌, [], length, is_some, flat_map, map, All, IfOk, OnOk};
 ghost use Rattle.board_prelude.specs.Common.{IsBase, IsCard, IsSetup, statements_of};
 ghost use Rattle.pci_bars.specs.Bases.{base_of};
-ghost use Rattle.image_writer.specs.ImageBytes.{flag_byte, base_byte, card_bytes, disk_bytes, head_bytes, size_bytes, image_bytes};
+ghost use Rattle.image_writer.specs.ImageBytes.{flag_byte, base_byte, card_bytes, disk_bytes, head_bytes, size_bytes};
+ghost use Rattle.image_writer.specs.ImageBytes.{image_bytes};
 
 use crate::event_writer::{push_word, steps_piece};
 use crate::format::{IO_BASE, MAGIC, OUTSIDE_BASE, VERSION};

@@ -1,11 +1,15 @@
 -- Where a walk stops, the bytes leave the logs of the script.
-use Rattle.std.proofs.Common.{ℕ, ◌≡◌, ◌≢◌, ◌+◌, List, [], ◌∷◌, ◌++◌, length, reverse, All, refl, sym, ap, ◌∙◌, subst, append_assoc, append-nil, arith}
-use Rattle.board_prelude.proofs.Common.{All-nil, Entry, Statement, Setup, IsLegal, IsBegunFor, IsCompleteFor, in_file_order, IsAddressed, OneReplay, line_feed, line_text, lines_text, log_text, complete_is_begun, none_so_far}
+use Rattle.std.proofs.Common.{ℕ, ◌≡◌, ◌≢◌, ◌+◌, List, [], ◌∷◌, ◌++◌, length, reverse, All, refl, sym, ap, ◌∙◌, subst}
+use Rattle.std.proofs.Common.{append_assoc, append-nil, arith}
+use Rattle.board_prelude.proofs.Common.{All-nil, Entry, Statement, Setup, IsLegal, IsBegunFor, IsCompleteFor}
+use Rattle.board_prelude.proofs.Common.{in_file_order, IsAddressed, OneReplay, line_feed, line_text, lines_text}
+use Rattle.board_prelude.proofs.Common.{log_text, complete_is_begun, none_so_far}
 use Rattle.script_spec.specs.Common.{text_of_lines, IsOneLine, AreBegun, IsLogOf, DiffersAt}
 use Rattle.script_spec.proofs.LogLaws.{line_whole}
 use Rattle.log_check.specs.Common.{IsTyped, GoesOnWithNone, StopsAt}
 use Rattle.log_check.proofs.TextCuts.{cut_line}
-use Rattle.log_check.proofs.LogLines.{heading_whole, heading-log, log_parts, lines_from, newest_last, lines_left, log_joined, lined, one_line_more}
+use Rattle.log_check.proofs.LogLines.{heading_whole, heading-log, log_parts, lines_from, newest_last, lines_left}
+use Rattle.log_check.proofs.LogLines.{log_joined, lined, one_line_more}
 use Rattle.log_check.proofs.Histories.{no_line, legal_front, begun_front, Extends, extends, completed}
 use Rattle.logs_and_maps.specs.Reading.{heading}
 

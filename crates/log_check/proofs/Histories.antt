@@ -1,7 +1,12 @@
 -- A history that begins with the lines of another goes on from it, and a begun history can be completed.
-use Rattle.std.proofs.Common.{ℕ, zero, suc, ◌≡◌, ◌+◌, ◌-◌, ◌<◌, List, [], ◌∷◌, ◌++◌, length, reverse, All, refl, sym, ap, ◌∙◌, subst, inl, append-nil, add-one, arith, decimal}
-use Rattle.board_prelude.proofs.Common.{reverse-reverse, Entry, Statement, Setup, IsLegal, IsBegunFor, IsCompleteFor, in_file_order, IsAddressed, OneReplay, space, line_feed, line_text, lines_text, front_is_begun, begun_is_bounded, whole_is_complete, complete_is_whole, begun_goes_on, digits_value}
-use Rattle.script_spec.proofs.Common.{value_of_decimal, front, back, front-field, back-field, lacks-decimal, lacks-word, decimal_word, line_whole}
+use Rattle.std.proofs.Common.{ℕ, zero, suc, ◌≡◌, ◌+◌, ◌-◌, ◌<◌, List, [], ◌∷◌, ◌++◌, length, reverse, All, refl, sym}
+use Rattle.std.proofs.Common.{ap, ◌∙◌, subst, inl, append-nil, add-one, arith, decimal}
+use Rattle.board_prelude.proofs.Common.{reverse-reverse, Entry, Statement, Setup, IsLegal, IsBegunFor, IsCompleteFor}
+use Rattle.board_prelude.proofs.Common.{in_file_order, IsAddressed, OneReplay, space, line_feed, line_text, lines_text}
+use Rattle.board_prelude.proofs.Common.{front_is_begun, begun_is_bounded, whole_is_complete, complete_is_whole}
+use Rattle.board_prelude.proofs.Common.{begun_goes_on, digits_value}
+use Rattle.script_spec.proofs.Common.{value_of_decimal, front, back, front-field, back-field, lacks-decimal, lacks-word}
+use Rattle.script_spec.proofs.Common.{decimal_word, line_whole}
 use Rattle.log_check.specs.Phases.{IsTyped}
 use Rattle.log_check.proofs.TextCuts.{cut_line, named}
 use Rattle.log_check.proofs.NextStatements.{same_next, known_actor}

@@ -1,11 +1,14 @@
 -- A line of a log: past it, or where the walk stops.
-use Rattle.std.proofs.Common.{ℕ, ◌≡◌, ◌≢◌, ◌+◌, ◌<◌, List, [], ◌∷◌, ◌++◌, length, All, refl, sym, ap, ◌∙◌, subst, inl, inr, append_assoc, arith, Result, Ok, Err, MatchResult}
+use Rattle.std.proofs.Common.{ℕ, ◌≡◌, ◌≢◌, ◌+◌, ◌<◌, List, [], ◌∷◌, ◌++◌, length, All, refl, sym, ap, ◌∙◌, subst, inl}
+use Rattle.std.proofs.Common.{inr, append_assoc, arith, Result, Ok, Err, MatchResult}
 use Rattle.std.specs.Borrow.{Bor}
 use Rattle.std.specs.Result.{IsErrAnd}
-use Rattle.board_prelude.proofs.Common.{Event, Entry, Statement, Setup, IsNext, IsLegal, IsBegunFor, OneReplay, line_feed, line_text, log_text}
+use Rattle.board_prelude.proofs.Common.{Event, Entry, Statement, Setup, IsNext, IsLegal, IsBegunFor, OneReplay}
+use Rattle.board_prelude.proofs.Common.{line_feed, line_text, log_text}
 use Rattle.log_check.specs.declared.fault.CheckFault.{CheckFault}
 use Rattle.log_check.specs.declared.fault.CheckFault.TheVariants.{Differs, NoMemory}
-use Rattle.log_check.specs.Common.{IsTyped, IsAtMostNext, IsAtLine, WalkPlace, IsWithin, IsPast, GoesOnWithNone, StoppedCheck}
+use Rattle.log_check.specs.Common.{IsTyped, IsAtMostNext, IsAtLine, WalkPlace, IsWithin, IsPast, GoesOnWithNone}
+use Rattle.log_check.specs.Common.{StoppedCheck}
 use Rattle.log_check.proofs.NextStatements.{same_next}
 use Rattle.log_check.proofs.LogLines.{log-newest}
 use Rattle.log_check.proofs.Steps.{within_begun, within_unfinished, within_next, small_actor, none_left}
@@ -151,7 +154,8 @@ pub past_line :
     (entry : Entry) (rest printed : List ℕ) (line : ℕ) (result : Result (Bor (List ℕ)) CheckFault) → OneReplay →
     Walk setup place phase left history rest → Made setup place phase left after history entry →
     ((other : Entry) (remaining : List ℕ) → other.actor < 256 →
-    rest ≡ line_text (length history + 1) other ++ remaining → entry.actor ≡ other.actor) → printed ≡ line_text (length history + 1) entry ++ line_feed ∷ [] →
+    rest ≡ line_text (length history + 1) other ++ remaining → entry.actor ≡ other.actor) →
+    printed ≡ line_text (length history + 1) entry ++ line_feed ∷ [] →
     line ≡ length history + 2 →
     MatchResult result (λ remaining. rest ≡ printed ++ remaining.now)
     (λ fault. (fault ≡ Differs line) × ((remaining : List ℕ) → rest ≢ printed ++ remaining)) →

@@ -1,6 +1,8 @@
 -- The lines of a log: those of a history, and those of the entries that follow it.
-use Rattle.std.proofs.Common.{ℕ, ◌≡◌, ◌+◌, List, [], ◌∷◌, ◌++◌, length, reverse, All, refl, sym, ap, ◌∙◌, append_assoc, append-nil, length-append, add-one, codes, decimal}
-use Rattle.board_prelude.proofs.Common.{flat_map-append, reverse-append, reverse-reverse, append_cancel_left, All-nil, All-cons, All-push, Entry, line_feed, line_text, lines_text, log_text}
+use Rattle.std.proofs.Common.{ℕ, ◌≡◌, ◌+◌, List, [], ◌∷◌, ◌++◌, length, reverse, All, refl, sym, ap, ◌∙◌, append_assoc}
+use Rattle.std.proofs.Common.{append-nil, length-append, add-one, codes, decimal}
+use Rattle.board_prelude.proofs.Common.{flat_map-append, reverse-append, reverse-reverse, append_cancel_left, All-nil}
+use Rattle.board_prelude.proofs.Common.{All-cons, All-push, Entry, line_feed, line_text, lines_text, log_text}
 use Rattle.script_spec.specs.Lines.{text_of_lines, IsOneLine}
 use Rattle.script_spec.proofs.Common.{lacks-append, one_line, lacks-word, decimal_word, line_whole}
 use Rattle.logs_and_maps.specs.Reading.{heading}

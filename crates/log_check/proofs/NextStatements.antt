@@ -1,6 +1,11 @@
 -- A processor has one statement that may come next.
-use Rattle.std.proofs.Common.{ℕ, ◌≡◌, ◌≢◌, ◌+◌, ◌<◌, ◌≤◌, List, [], ◌∷◌, ◌++◌, length, drop, All, refl, sym, ap, ◌∙◌, subst, inl, inr, append_assoc, length-append, add-one, arith, map, filter, ◌==◌}
-use Rattle.board_prelude.proofs.Common.{take-append_seam, drop-append_seam, cases_lt, cond-true, cond-false, eq-eqb, ne_eqb, append_cancel_left, map-append, append-nil, filter-append, All-head, All-tail, All-drop, Event, Entry, Statement, Setup, IsNext, IsLegal, statement_of, statements_of, entries_by, events_by, BeginsWith, IsFrontOfPhase, HasPhasesSoFar, IsBegunFor, in_file_order, OneReplay, statements-newest}
+use Rattle.std.proofs.Common.{ℕ, ◌≡◌, ◌≢◌, ◌+◌, ◌<◌, ◌≤◌, List, [], ◌∷◌, ◌++◌, length, drop, All, refl, sym, ap, ◌∙◌}
+use Rattle.std.proofs.Common.{subst, inl, inr, append_assoc, length-append, add-one, arith, map, filter, ◌==◌}
+use Rattle.board_prelude.proofs.Common.{take-append_seam, drop-append_seam, cases_lt, cond-true, cond-false, eq-eqb}
+use Rattle.board_prelude.proofs.Common.{ne_eqb, append_cancel_left, map-append, append-nil, filter-append, All-head}
+use Rattle.board_prelude.proofs.Common.{All-tail, All-drop, Event, Entry, Statement, Setup, IsNext, IsLegal}
+use Rattle.board_prelude.proofs.Common.{statement_of, statements_of, entries_by, events_by, BeginsWith, IsFrontOfPhase}
+use Rattle.board_prelude.proofs.Common.{HasPhasesSoFar, IsBegunFor, in_file_order, OneReplay, statements-newest}
 use Rattle.std.proofs.lemmas.List.Elements.{All-take}
 use Rattle.log_check.specs.Phases.{IsTyped}
 use Rattle.log_check.proofs.PhaseCuts.{in_first_phase, past_first_phase}

@@ -1,6 +1,9 @@
 -- Phases that are done, and what follows them.
-use Rattle.std.proofs.Common.{◌≡◌, ◌+◌, ◌<◌, ◌≤◌, List, [], ◌∷◌, ◌++◌, length, take, drop, min, sym, subst, inl, inr, length-append, arith}
-use Rattle.board_prelude.proofs.Common.{take-append-le, drop-append-le, length-take, take_all, Statement, IsWholePhase, IsFrontOfPhase, HasPhases, HasPhasesSoFar, whole_front, nothing_left, whole_is_front}
+use Rattle.std.proofs.Common.{◌≡◌, ◌+◌, ◌<◌, ◌≤◌, List, [], ◌∷◌, ◌++◌, length, take, drop, min, sym, subst, inl, inr}
+use Rattle.std.proofs.Common.{length-append, arith}
+use Rattle.board_prelude.proofs.Common.{take-append-le, drop-append-le, length-take, take_all, Statement, IsWholePhase}
+use Rattle.board_prelude.proofs.Common.{IsFrontOfPhase, HasPhases, HasPhasesSoFar, whole_front, nothing_left}
+use Rattle.board_prelude.proofs.Common.{whole_is_front}
 
 pub phase_fits :
     (phase statements : List Statement) → IsWholePhase phase (take (length phase) statements) →

@@ -1,6 +1,8 @@
 -- The phases of a script as lists.
-use Rattle.std.proofs.Common.{ℕ, suc, ◌≡◌, ◌+◌, ◌<◌, ◌≤◌, List, [], ◌∷◌, ◌++◌, length, take, drop, get_or, All, sym, ap, ◌∙◌, subst, length-append, add-one, arith}
-use Rattle.board_prelude.proofs.Common.{Vec, Global, drop-cons, flat_map-append, map-append, take-append-drop, take_more, Statement, in_file_order}
+use Rattle.std.proofs.Common.{ℕ, suc, ◌≡◌, ◌+◌, ◌<◌, ◌≤◌, List, [], ◌∷◌, ◌++◌, length, take, drop, get_or, All, sym, ap}
+use Rattle.std.proofs.Common.{◌∙◌, subst, length-append, add-one, arith}
+use Rattle.board_prelude.proofs.Common.{Vec, Global, drop-cons, flat_map-append, map-append, take-append-drop}
+use Rattle.board_prelude.proofs.Common.{take_more, Statement, in_file_order}
 use Rattle.script_spec.specs.Phases.{lists_of}
 use Rattle.log_check.proofs.NextStatements.{all_parts}
 

@@ -1,8 +1,12 @@
 -- The steps of a walk within a phase.
-use Rattle.std.proofs.Common.{ℕ, ◌≡◌, ◌≢◌, ◌+◌, ◌<◌, ◌≤◌, List, [], ◌∷◌, ◌++◌, length, All, sym, ap, ◌∙◌, subst, inl, inr, append_assoc, append-nil, length-append, arith}
-use Rattle.board_prelude.proofs.Common.{cases_eq, append_cancel_left, Event, Entry, Statement, statement_of, statements_of, events_by, IsFrontOfPhase, HasPhases, HasPhasesSoFar, IsBegunFor, IsCompleteFor, statements-newest}
+use Rattle.std.proofs.Common.{ℕ, ◌≡◌, ◌≢◌, ◌+◌, ◌<◌, ◌≤◌, List, [], ◌∷◌, ◌++◌, length, All, sym, ap, ◌∙◌, subst, inl}
+use Rattle.std.proofs.Common.{inr, append_assoc, append-nil, length-append, arith}
+use Rattle.board_prelude.proofs.Common.{cases_eq, append_cancel_left, Event, Entry, Statement, statement_of}
+use Rattle.board_prelude.proofs.Common.{statements_of, events_by, IsFrontOfPhase, HasPhases, HasPhasesSoFar, IsBegunFor}
+use Rattle.board_prelude.proofs.Common.{IsCompleteFor, statements-newest}
 use Rattle.log_check.specs.Common.{IsTyped, WalkPlace, IsWithin}
-use Rattle.log_check.proofs.PhaseCuts.{begun_joined, whole_joined, whole_left, begun_left, in_first_phase, full_phase, phase_fits}
+use Rattle.log_check.proofs.PhaseCuts.{begun_joined, whole_joined, whole_left, begun_left, in_first_phase, full_phase}
+use Rattle.log_check.proofs.PhaseCuts.{phase_fits}
 use Rattle.log_check.proofs.NextStatements.{events-last, events-last_other, GoesFirst, goes_first, known_first}
 
 front_of :

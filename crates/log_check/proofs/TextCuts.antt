@@ -1,12 +1,19 @@
 -- A text is cut at a byte, and a line of a log names its processor.
-use Rattle.std.proofs.Common.{ℕ, ◌≡◌, ◌≢◌, ◌+◌, ◌-◌, ◌<◌, ◌≤◌, IfSome, slice_index_or, true, cond, ltb, List, [], ◌∷◌, ◌++◌, length, take, drop, All, Option, Some, None, Result, Ok, Err, refl, sym, ap, ◌∙◌, inl, append_assoc, subst, MatchOption, length-append, length-drop, arith, decimal, codes, MatchResult, ◌==◌}
-use Rattle.board_prelude.proofs.Common.{position, position_or_len, result_ok, IsUtf8-from_ascii, take-append_seam, eq-eqb, ne_eqb, eqb-false, lt-ltb, cond-true, take_all, All-nil, All-cons, All-head, All-tail, Entry, space, line_feed, event_text, value_bytes, reply_text, line_text}
+use Rattle.std.proofs.Common.{ℕ, ◌≡◌, ◌≢◌, ◌+◌, ◌-◌, ◌<◌, ◌≤◌, IfSome, slice_index_or, true, cond, ltb, List, [], ◌∷◌}
+use Rattle.std.proofs.Common.{◌++◌, length, take, drop, All, Option, Some, None, Result, Ok, Err, refl, sym, ap, ◌∙◌}
+use Rattle.std.proofs.Common.{inl, append_assoc, subst, MatchOption, length-append, length-drop, arith, decimal, codes}
+use Rattle.std.proofs.Common.{MatchResult, ◌==◌}
+use Rattle.board_prelude.proofs.Common.{position, position_or_len, result_ok, IsUtf8-from_ascii, take-append_seam}
+use Rattle.board_prelude.proofs.Common.{eq-eqb, ne_eqb, eqb-false, lt-ltb, cond-true, take_all, All-nil, All-cons}
+use Rattle.board_prelude.proofs.Common.{All-head, All-tail, Entry, space, line_feed, event_text, value_bytes}
+use Rattle.board_prelude.proofs.Common.{reply_text, line_text}
 use Rattle.std.specs.Option.{ok_or}
 use Rattle.std.specs.Str.{IsUtf8}
 use Rattle.std.proofs.lemmas.Fmt.{IsAscii-decimal, decimal_injective}
 use Rattle.std.proofs.Math.Seq.{drop-append-add}
 use Rattle.script_spec.specs.Lines.{IsOneLine}
-use Rattle.script_spec.proofs.Common.{lacks, front, back, front-field, back-field, lacks-first, lacks-later, lacks-decimal, lacks-line}
+use Rattle.script_spec.proofs.Common.{lacks, front, back, front-field, back-field, lacks-first, lacks-later}
+use Rattle.script_spec.proofs.Common.{lacks-decimal, lacks-line}
 
 -- ---- the first byte of a kind
 

@@ -1,7 +1,9 @@
 //! The walk over a log, line by line, phase by phase.
 
-ghost use Rattle.std.specs.Prelude.{◌≡◌, ◌+◌, ◌<◌, ◌≤◌, ◌++◌, ◌∷◌, ◌⊎◌, ℕ, [], List, All, length, Ok, Err, IfOk, IfErr, OnOk, MatchResult};
-ghost use Rattle.board_prelude.specs.Common.{most_statements, IsLegal, log_text, IsBegunFor, IsCompleteFor, in_file_order};
+ghost use Rattle.std.specs.Prelude.{◌≡◌, ◌+◌, ◌<◌, ◌≤◌, ◌++◌, ◌∷◌, ◌⊎◌, ℕ, [], List, All, length, Ok, Err, IfOk, IfErr};
+ghost use Rattle.std.specs.Prelude.{OnOk, MatchResult};
+ghost use Rattle.board_prelude.specs.Common.{most_statements, IsLegal, log_text, IsBegunFor, IsCompleteFor};
+ghost use Rattle.board_prelude.specs.Common.{in_file_order};
 ghost use Rattle.board_core.specs.Steps.{AreInRange};
 ghost use Rattle.script_spec.specs.Common.{IsLogOf, DiffersAt, lists_of};
 ghost use Rattle.log_check.specs.declared.fault.CheckFault.{CheckFault};
@@ -38,7 +40,8 @@ fn check_line<'a>(
         → MatchResult result
         (λ after. IsWithin (record place { count = place.count + 1 }) front.old.phase.now (left_of front.new)
         board.new.entries × IsPast place board.new.entries after.now)
-        (λ fault. StoppedCheck board.old.setup place.version (place.done ++ front.old.phase.now ∷ place.later) place.bytes
+        (λ fault. StoppedCheck board.old.setup place.version (place.done ++ front.old.phase.now ∷ place.later)
+        place.bytes
         board.new.entries fault) }
 {
     let line = board.history().len() + 2;

@@ -1,6 +1,7 @@
 //! The processor of a line.
 
-ghost use Rattle.std.specs.Prelude.{◌≡◌, ◌≢◌, ◌<◌, ◌++◌, ◌∷◌, [], ◌==◌, ℕ, List, Some, All, IfSome, MatchOption, decimal, length};
+ghost use Rattle.std.specs.Prelude.{◌≡◌, ◌≢◌, ◌<◌, ◌++◌, ◌∷◌, [], ◌==◌, ℕ, List, Some, All, IfSome, MatchOption};
+ghost use Rattle.std.specs.Prelude.{decimal, length};
 ghost use Rattle.board_prelude.specs.Common.{position, Entry, space, line_text};
 
 /// The place of the first byte that is `mark`.

@@ -7,8 +7,8 @@ ghost use Rattle.log_check.specs.Phases.{IsTyped};
 
 use board_spec::{Event, Statement};
 
-/// The processor of a statement and the address of a look fit their types. A contract has the range of a number behind a
-/// reference only where the body reads it, so this reads both, for the proof alone.
+/// The processor of a statement and the address of a look fit their types. A contract has the range of a number behind
+/// a reference only where the body reads it, so this reads both, for the proof alone.
 fn fits(statement: &Statement)
     ensures typed { IsTyped statement.now }
 {

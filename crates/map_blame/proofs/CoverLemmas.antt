@@ -1,6 +1,12 @@
 -- The last covers of a store, register by register.
-use Rattle.std.proofs.Common.{◌≡◌, ℕ, zero, suc, ◌+◌, ◌<◌, ◌≤◌, inl, inr, Bool, true, false, ◌||◌, ◌&&◌, List, [], ◌∷◌, length, get_or, take, refl, sym, ap, ◌∙◌, arith, ◌==◌, nat_le, nat_lt, Option, Some, None, is_some, find, slice_index_or, replicate, option_and_then, if◌then◌else◌}
-use Rattle.board_prelude.proofs.Common.{option_or, AllByRecursion, list_any, cases_Bool, eqb-true, false≢true, nat_tests, get_or-take, length-take, recursion_from_All, list_any_at, Width, One, Reg, MapChange, Store, Reset, FittedCard, Setup, IsCard, IsCardList, card_at, is_within, is_same, covers, has_rom, is_map_byte, reg_after, touches_map}
+use Rattle.std.proofs.Common.{◌≡◌, ℕ, zero, suc, ◌+◌, ◌<◌, ◌≤◌, inl, inr, Bool, true, false, ◌||◌, ◌&&◌, List, [], ◌∷◌}
+use Rattle.std.proofs.Common.{length, get_or, take, refl, sym, ap, ◌∙◌, arith, ◌==◌, nat_le, nat_lt, Option, Some, None}
+use Rattle.std.proofs.Common.{is_some, find, slice_index_or, replicate, option_and_then, if◌then◌else◌}
+use Rattle.board_prelude.proofs.Common.{option_or, AllByRecursion, list_any, cases_Bool, eqb-true, false≢true}
+use Rattle.board_prelude.proofs.Common.{nat_tests, get_or-take, length-take, recursion_from_All, list_any_at, Width}
+use Rattle.board_prelude.proofs.Common.{One, Reg, MapChange, Store, Reset, FittedCard, Setup, IsCard, IsCardList}
+use Rattle.board_prelude.proofs.Common.{card_at, is_within, is_same, covers, has_rom, is_map_byte, reg_after}
+use Rattle.board_prelude.proofs.Common.{touches_map}
 use Rattle.std.specs.Bool.{then_some}
 use Rattle.std.proofs.lemmas.List.Folds.{list_any_more}
 use Rattle.map_blame.specs.declared.covers.Covers.{Covers}
@@ -8,7 +14,8 @@ use Rattle.map_blame.specs.Common.{last_cover, first_lock, locks, AreCoversOf, i
 
 -- the first bytes of a store, so many, cover a register
 abbrev pub covers_first : (at : Reg) (count : ℕ) (reg : Reg) → Bool
-covers_first at count reg = at.dev == reg.dev && at.fun == reg.fun && nat_le at.off reg.off && nat_lt reg.off (at.off + count)
+covers_first at count reg =
+    at.dev == reg.dev && at.fun == reg.fun && nat_le at.off reg.off && nat_lt reg.off (at.off + count)
 
 covers_none : (at reg : Reg) → covers_first at 0 reg ≡ false
 covers_none at reg = grind (arith, nat_tests)
@@ -21,7 +28,8 @@ either_test : (a b : Bool) (x y : Option ℕ) → (if a then x else if b then x 
 either_test true b x y = refl
 either_test false b x y = refl
 
-pub cover_none : (at reg : Reg) (number : ℕ) (old : Option ℕ) → old ≡ (if covers_first at 0 reg then Some number else old)
+pub cover_none : (at reg : Reg) (number : ℕ) (old : Option ℕ) →
+    old ≡ (if covers_first at 0 reg then Some number else old)
 cover_none at reg number old = rw (covers_none at reg) refl
 
 pub cover_next : (at : Reg) (count : ℕ) (reg : Reg) (number : ℕ) (old now next : Option ℕ) →
@@ -55,7 +63,8 @@ covers_of_none count = record {
 
 -- ---- of one change more
 
-pub covers_of_reset : (changes : List MapChange) (covers : Covers) → AreCoversOf [] covers → AreCoversOf (Reset ∷ changes) covers
+pub covers_of_reset : (changes : List MapChange) (covers : Covers) → AreCoversOf [] covers →
+    AreCoversOf (Reset ∷ changes) covers
 unfolding last_cover first_lock
 covers_of_reset changes covers none = record { last = none.last; lock = none.lock }
 
@@ -106,10 +115,12 @@ rom_fitted : (card : Option FittedCard) → has_rom card ≡ true → is_some ca
 rom_fitted None is = is
 rom_fitted (Some card) is = refl
 
-pub map_byte_placed : (setup : Setup) (reg : Reg) → IsCardList setup.cards → is_map_byte setup reg ≡ true → is_placed reg ≡ true
+pub map_byte_placed : (setup : Setup) (reg : Reg) → IsCardList setup.cards → is_map_byte setup reg ≡ true →
+    is_placed reg ≡ true
 map_byte_placed setup reg cards is =
     placed_by reg.dev reg.fun reg.off (is_some (card_at setup reg.dev)) (has_rom (card_at setup reg.dev))
-    (found_below setup.cards reg.dev (recursion_from_All IsCard setup.cards cards.each)) (rom_fitted (card_at setup reg.dev)) is
+    (found_below setup.cards reg.dev (recursion_from_All IsCard setup.cards cards.each))
+    (rom_fitted (card_at setup reg.dev)) is
 
 -- ---- the bytes of a store
 
@@ -120,7 +131,8 @@ or_nothing false = refl
 pub touches_one : (setup : Setup) (reg : Reg) → touches_map setup (Store reg One 0) ≡ is_map_byte setup reg
 touches_one setup reg =
     let same : reg.off + 0 ≡ reg.off = omega arith in
-    or_nothing (is_map_byte setup (reg_after reg 0)) ∙ ap (λ (off : ℕ). is_map_byte setup (record reg { off = off })) same
+    or_nothing (is_map_byte setup (reg_after reg 0)) ∙ ap (λ (off : ℕ). is_map_byte setup (record reg { off = off }))
+    same
 
 abbrev pub offsets : List ℕ
 offsets = 0 ∷ 1 ∷ 2 ∷ 3 ∷ []

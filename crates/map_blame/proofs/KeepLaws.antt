@@ -1,10 +1,15 @@
 -- The kept changes alone leave each map byte as all changes do.
-use Rattle.std.proofs.Common.{◌≡◌, ℕ, zero, suc, max, ◌+◌, ◌-◌, ◌*◌, ◌/◌, ◌%◌, ◌<◌, ◌≤◌, ◌⊎◌, inl, inr, Bool, true, false, ◌||◌, ◌&&◌, List, [], ◌∷◌, length, refl, sym, ap, ◌∙◌, subst, arith, ◌==◌, Option, Some, None, bit_and, bit_or, if◌then◌else◌}
-use Rattle.board_prelude.proofs.Common.{option_or, and_zero_r, cases_Bool, cases_lt, eqb-true, and_parts, false≢true, nat_tests, Width, Reg, MapChange, Store, Reset, Setup, bit, is_bit, byte, merged, smram, is_same, writable_bits, covers, smram_after, changed_byte, is_map_byte, registers_after}
+use Rattle.std.proofs.Common.{◌≡◌, ℕ, zero, suc, max, ◌+◌, ◌-◌, ◌*◌, ◌/◌, ◌%◌, ◌<◌, ◌≤◌, ◌⊎◌, inl, inr, Bool, true}
+use Rattle.std.proofs.Common.{false, ◌||◌, ◌&&◌, List, [], ◌∷◌, length, refl, sym, ap, ◌∙◌, subst, arith, ◌==◌, Option}
+use Rattle.std.proofs.Common.{Some, None, bit_and, bit_or, if◌then◌else◌}
+use Rattle.board_prelude.proofs.Common.{option_or, and_zero_r, cases_Bool, cases_lt, eqb-true, and_parts, false≢true}
+use Rattle.board_prelude.proofs.Common.{nat_tests, Width, Reg, MapChange, Store, Reset, Setup, bit, is_bit, byte}
+use Rattle.board_prelude.proofs.Common.{merged, smram, is_same, writable_bits, covers, smram_after, changed_byte}
+use Rattle.board_prelude.proofs.Common.{is_map_byte, registers_after}
 use Rattle.std.specs.Int.Bits.{and_self}
 use Rattle.std.proofs.lemmas.Nat.{or_comm, and_assoc, and_or_apart}
 use Rattle.std.proofs.lemmas.Grind.{and-not_self}
-use Rattle.map_blame.specs.Common.{last_cover, first_lock, locks, is_among, IsKeep, chosen, KeptSuffice}
+use Rattle.map_blame.specs.Common.{last_cover, first_lock, locks, is_among, chosen, KeptSuffice}
 
 -- ---- what a mask leaves
 
@@ -47,9 +52,11 @@ lock_of_write old written =
     grind (arith, nat_tests, stays)
 
 bit_of_test : (a b k : ℕ) → is_bit a k ≡ is_bit b k → bit a k ≡ bit b k
-bit_of_test a b k same = let x : bit a k < 2 = omega arith in let y : bit b k < 2 = omega arith in grind (arith, nat_tests)
+bit_of_test a b k same = let x : bit a k < 2 = omega arith in let y : bit b k < 2 = omega arith in
+    grind (arith, nat_tests)
 
-write_same : (old other written : ℕ) → is_bit old 4 ≡ is_bit other 4 → smram_after old written ≡ smram_after other written
+write_same : (old other written : ℕ) → is_bit old 4 ≡ is_bit other 4 →
+    smram_after old written ≡ smram_after other written
 write_same old other written same =
     ap (λ (lock : ℕ). (1 - max lock (bit written 4)) * bit written 6 * 0x40 + bit written 5 * 0x20
     + max lock (bit written 4) * 0x10 + bit written 3 * 0x08 + 0x02) (bit_of_test old other 4 same)
@@ -95,11 +102,13 @@ pub or_cases : (earlier later : Option ℕ) (number : ℕ) → option_or earlier
 or_cases None later number is = inr (refl, is)
 or_cases (Some earlier) later number is = inl is
 
-pub where_true : (b : Bool) (number other : ℕ) → (if b then Some number else None) ≡ Some other → (b ≡ true) × (number ≡ other)
+pub where_true : (b : Bool) (number other : ℕ) → (if b then Some number else None) ≡ Some other →
+    (b ≡ true) × (number ≡ other)
 where_true true number other is = (refl, some_is number other is)
 where_true false number other is = cc
 
-lock_after_reset : (changes : List MapChange) (number : ℕ) → first_lock changes ≡ Some number → reset_number changes < number
+lock_after_reset : (changes : List MapChange) (number : ℕ) → first_lock changes ≡ Some number →
+    reset_number changes < number
 unfolding first_lock
 lock_after_reset [] number is = cc
 lock_after_reset (Reset ∷ before) number is = cc
@@ -186,7 +195,8 @@ module _ (setup : Setup) (keep : List ℕ) where
         let change : MapChange = Store at width value in
         let rest = left_same before since in
         either (is_among (length before + 1) keep)
-        (λ changes. left mask (value_after changes reg) ≡ left mask (changed_byte setup change reg (value_after before reg)))
+        (λ changes. left mask (value_after changes reg)
+        ≡ left mask (changed_byte setup change reg (value_after before reg)))
         (change ∷ chosen keep before) (chosen keep before)
         (left_stays at width value (value_after (chosen keep before) reg) ∙ rest
         ∙ sym (left_stays at width value (value_after before reg)))
@@ -252,13 +262,15 @@ module _ (setup : Setup) (keep : List ℕ) where
   has_earlier_lock at width value before has number is = has number (rw is refl)
 
   first_chosen : (at : Reg) (width : Width) (value : ℕ) (before : List MapChange) → first_lock before ≡ None →
-      locks (Store at width value) ≡ true → HasLock (Store at width value ∷ before) → is_among (length before + 1) keep ≡ true
+      locks (Store at width value) ≡ true → HasLock (Store at width value ∷ before) →
+      is_among (length before + 1) keep ≡ true
   unfolding first_lock
   first_chosen at width value before none sets has = has (length before + 1) (rw (none, sets) refl)
 
   -- a change that is not chosen leaves the lock
   lock_stays : (at : Reg) (width : Width) (value : ℕ) (before : List MapChange) (earlier : Option ℕ) →
-      first_lock before ≡ earlier → HasLock (Store at width value ∷ before) → is_among (length before + 1) keep ≡ false →
+      first_lock before ≡ earlier → HasLock (Store at width value ∷ before) →
+      is_among (length before + 1) keep ≡ false →
       is_locked (value_after before smram)
       ≡ is_locked (changed_byte setup (Store at width value) smram (value_after before smram))
   lock_stays at width value before (Some number) e has none =
@@ -332,6 +344,7 @@ kept_suffice setup changes keep is reg map_byte =
           let e : reg ≡ smram = smram_is reg same in
           subst (λ (reg' : Reg). registers_after setup (chosen keep changes) reg' ≡ registers_after setup changes reg')
           (sym e)
-          (smram_same setup keep changes since (last smram (rw e at map_byte)) (λ number found. is.each number (inr found)))
+          (smram_same setup keep changes since (last smram (rw e at map_byte))
+          (λ number found. is.each number (inr found)))
       | inr plain ↦ plain_same setup keep reg plain changes since (last reg map_byte)
     ]

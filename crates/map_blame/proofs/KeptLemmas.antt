@@ -1,11 +1,17 @@
 -- The kept changes as they are found, one after another.
-use Rattle.std.proofs.Common.{◌≡◌, ℕ, suc, ◌+◌, ◌-◌, ◌<◌, ◌≤◌, ◌⊎◌, inl, inr, Bool, true, false, ◌&&◌, ◌||◌, List, [], ◌∷◌, ◌++◌, length, get_or, reverse, take, refl, sym, ap, ◌∙◌, subst, arith, ◌==◌, Option, Some, None, if◌then◌else◌}
-use Rattle.board_prelude.proofs.Common.{list_any, AllPairs, option_eq, option_or, cases_Bool, cases_lt, eq-eqb, eqb-true, and_parts, and_from, false≢true, nat_tests, get_or_default, length-reverse, list_any_at, Width, One, Reg, bytes_of, bytes_few, MapChange, Store, Reset, Setup, IsCardList, bridge, covers, is_map_byte, reg_after}
+use Rattle.std.proofs.Common.{◌≡◌, ℕ, suc, ◌+◌, ◌-◌, ◌<◌, ◌≤◌, ◌⊎◌, inl, inr, Bool, true, false, ◌||◌, List, [], ◌∷◌}
+use Rattle.std.proofs.Common.{◌++◌, length, get_or, reverse, take, refl, sym, ap, ◌∙◌, subst, arith, ◌==◌, Option, Some}
+use Rattle.std.proofs.Common.{None}
+use Rattle.board_prelude.proofs.Common.{list_any, AllPairs, cases_Bool, cases_lt, eq-eqb, eqb-true, and_parts, and_from}
+use Rattle.board_prelude.proofs.Common.{false≢true, nat_tests, get_or_default, length-reverse, list_any_at, Width, One}
+use Rattle.board_prelude.proofs.Common.{Reg, bytes_of, bytes_few, MapChange, Store, Reset, Setup, IsCardList, bridge}
+use Rattle.board_prelude.proofs.Common.{covers, is_map_byte, reg_after}
 use Rattle.std.proofs.lemmas.List.{get_or-reverse}
 use Rattle.std.proofs.lemmas.List.Folds.{list_any-append}
 use Rattle.std.proofs.lemmas.List.Quantifiers.{all_pairs_push}
 use Rattle.map_blame.specs.declared.covers.Covers.{Covers}
-use Rattle.map_blame.specs.Common.{last_cover, first_lock, locks, is_among, IsLastCover, RestsOn, IsKeep, AreCoversOf, is_placed, is_number, number_at, is_last_at, is_last_of, is_kept_of}
+use Rattle.map_blame.specs.Common.{last_cover, first_lock, locks, is_among, IsLastCover, RestsOn, IsKeep, AreCoversOf}
+use Rattle.map_blame.specs.Common.{is_number, number_at, is_last_at, is_last_of, is_kept_of}
 use Rattle.map_blame.proofs.CoverLemmas.{map_byte_placed, or_nothing, offsets, any_at}
 use Rattle.map_blame.proofs.KeepLaws.{some_is, or_cases, where_true}
 
@@ -28,7 +34,8 @@ pub record IsNumber (changes : List MapChange) (number : ℕ) : Type 0 where
   pub some : 1 ≤ number
   pub most : number ≤ length changes
 
-cover_number : (changes : List MapChange) (reg : Reg) (number : ℕ) → last_cover changes reg ≡ Some number → IsNumber changes number
+cover_number : (changes : List MapChange) (reg : Reg) (number : ℕ) → last_cover changes reg ≡ Some number →
+    IsNumber changes number
 unfolding last_cover
 cover_number [] reg number is = cc
 cover_number (Reset ∷ before) reg number is = cc
@@ -53,7 +60,8 @@ lock_number (Store at width value ∷ before) number is = elim (or_cases (first_
       record { some = omega (arith, last); most = omega (arith, last) }
 ]
 
-pub kept_number : (setup : Setup) (changes : List MapChange) (number : ℕ) → RestsOn setup changes number → IsNumber changes number
+pub kept_number : (setup : Setup) (changes : List MapChange) (number : ℕ) → RestsOn setup changes number →
+    IsNumber changes number
 kept_number setup changes number (inl cover) = cover_number changes cover.reg number cover.last
 kept_number setup changes number (inr lock) = lock_number changes number lock
 
@@ -121,7 +129,8 @@ covers_at : (at : Reg) (width : Width) (reg : Reg) → covers at width reg ≡ t
 covers_at at width reg is = record {
   k = reg.off - at.off;
   below = grind (arith, nat_tests);
-  is = reg_is at reg (reg.off - at.off) (grind (arith, nat_tests)) (grind (arith, nat_tests)) (grind (arith, nat_tests));
+  is = reg_is at reg (reg.off - at.off) (grind (arith, nat_tests)) (grind (arith, nat_tests))
+      (grind (arith, nat_tests));
 }
 
 record SomeOf (test : ℕ → Bool) : Type 0 where
@@ -135,7 +144,8 @@ any_found test (k ∷ later) is = elim (cases_Bool (test k)) [
   | inr other ↦ any_found test later (rw other at is)
 ]
 
-module _ (setup : Setup) (changes : List MapChange) (covers : Covers) (cards : IsCardList setup.cards) (are : AreCoversOf changes covers) where
+module _ (setup : Setup) (changes : List MapChange) (covers : Covers) (cards : IsCardList setup.cards)
+    (are : AreCoversOf changes covers) where
   last_found : (number : ℕ) (reg : Reg) → is_last_at setup covers number reg ≡ true → IsLastCover setup changes number
   last_found number reg is =
       let both = and_parts (is_map_byte setup reg) (is_number number (number_at covers.last reg)) is in
@@ -163,10 +173,12 @@ module _ (setup : Setup) (changes : List MapChange) (covers : Covers) (cards : I
   last_change_is number Reset reg covered is = absurd (false≢true covered)
   last_change_is number (Store at width value) reg covered is =
       let place = covers_at at width reg covered in
-      any_at (λ k. is_last_at setup covers number (reg_after at k)) (bytes_of width) place.k (bytes_few width) place.below
+      any_at (λ k. is_last_at setup covers number (reg_after at k)) (bytes_of width) place.k (bytes_few width)
+      place.below
       (ap (λ other. is_last_at setup covers number other) place.is ∙ is)
 
-  pub kept_found : (number : ℕ) (change : MapChange) → is_kept_of setup covers number change ≡ true → RestsOn setup changes number
+  pub kept_found : (number : ℕ) (change : MapChange) → is_kept_of setup covers number change ≡ true →
+      RestsOn setup changes number
   kept_found number change is = elim (cases_Bool (is_number number covers.lock)) [
     | inl lock ↦ inr (sym are.lock ∙ is_number_true number covers.lock lock)
     | inr other ↦ inl (last_change_found number change (rw other at is))
@@ -194,7 +206,8 @@ pub record AreKept (setup : Setup) (changes : List MapChange) (count : ℕ) (kee
   pub only : (number : ℕ) → is_among number keep ≡ true → RestsOn setup changes number
   pub each : (number : ℕ) → number ≤ count → RestsOn setup changes number → is_among number keep ≡ true
 
-among_pushed : (number next : ℕ) (keep : List ℕ) → is_among number (keep ++ next ∷ []) ≡ (is_among number keep || next == number)
+among_pushed : (number next : ℕ) (keep : List ℕ) →
+    is_among number (keep ++ next ∷ []) ≡ (is_among number keep || next == number)
 among_pushed number next keep =
     list_any-append (λ other. other == number) keep (next ∷ [])
     ∙ ap (λ b. is_among number keep || b) (or_nothing (next == number))
@@ -241,7 +254,8 @@ kept_on setup changes count keep other are = record {
       ];
 }
 
-pub kept_pushed : (setup : Setup) (changes : List MapChange) (count : ℕ) (keep : List ℕ) → RestsOn setup changes (count + 1) →
+pub kept_pushed : (setup : Setup) (changes : List MapChange) (count : ℕ) (keep : List ℕ) →
+    RestsOn setup changes (count + 1) →
     AreKept setup changes count keep → AreKept setup changes (count + 1) (keep ++ (count + 1) ∷ [])
 kept_pushed setup changes count keep kept are = record {
   only =
@@ -276,5 +290,6 @@ none_rise = record {
 pub none_kept : (setup : Setup) (changes : List MapChange) → AreKept setup changes 0 []
 none_kept setup changes = record {
   only = λ number among. absurd (false≢true among);
-  each = λ number most kept. let found = kept_number setup changes number kept in absurd (omega (arith, most, found.some));
+  each = λ number most kept. let found = kept_number setup changes number kept in
+      absurd (omega (arith, most, found.some));
 }

@@ -1,6 +1,8 @@
 -- There is only one report of a list of changes.
-use Rattle.std.proofs.Common.{◌≡◌, ℕ, zero, suc, ◌+◌, ◌<◌, ◌≤◌, ◌⊎◌, inl, inr, true, false, ◌||◌, List, [], ◌∷◌, length, get_or, map, refl, sym, ap, ◌∙◌, subst, arith, ◌==◌, All}
-use Rattle.board_prelude.proofs.Common.{AllPairs, AllByRecursion, cases_eq, cases_Bool, eq-eqb, eqb-true, false≢true, nat_tests, recursion_from_All, MapChange, Setup, registers_after, MapRange, OneFlatMap}
+use Rattle.std.proofs.Common.{◌≡◌, ℕ, suc, ◌<◌, ◌≤◌, ◌⊎◌, inl, inr, true, ◌||◌, List, [], ◌∷◌, length, get_or, map}
+use Rattle.std.proofs.Common.{refl, sym, ap, ◌∙◌, subst, arith, ◌==◌}
+use Rattle.board_prelude.proofs.Common.{AllPairs, AllByRecursion, cases_Bool, eq-eqb, eqb-true, false≢true}
+use Rattle.board_prelude.proofs.Common.{recursion_from_All, MapChange, Setup, registers_after, MapRange, OneFlatMap}
 use Rattle.map_blame.specs.declared.blamed.Blamed.{Blamed}
 use Rattle.map_blame.specs.Common.{IsSince, is_among, IsKeep, map_range_of, OneReport}
 
@@ -34,7 +36,8 @@ rise_is [] rises = tt
 rise_is (number ∷ later) rises = (
   (λ other among.
       let place = place_of other later among in
-      let below : number < get_or later place.k 0 = rises 0 (suc place.k) 0 (omega arith) (omega (arith, place.within)) in
+      let below : number < get_or later place.k 0 =
+      rises 0 (suc place.k) 0 (omega arith) (omega (arith, place.within)) in
       omega (arith, below, place.is)),
   rise_is later (rise_later number later rises),
 )
@@ -42,7 +45,8 @@ rise_is (number ∷ later) rises = (
 among_first : (number : ℕ) (later : List ℕ) → is_among number (number ∷ later) ≡ true
 among_first number later = let same : (number == number) ≡ true = eq-eqb number number refl in rw same refl
 
-among_later : (number first : ℕ) (later : List ℕ) → is_among number later ≡ true → is_among number (first ∷ later) ≡ true
+among_later : (number first : ℕ) (later : List ℕ) → is_among number later ≡ true →
+    is_among number (first ∷ later) ≡ true
 among_later number first later is = elim (cases_Bool (first == number)) [
   | inl here ↦ rw here refl
   | inr other ↦ rw other is
@@ -120,12 +124,14 @@ one_since setup changes (one ∷ later) (one' ∷ later') each each' same =
 pub one_report : OneFlatMap → OneReport
 one_report one_map setup changes blamed blamed' kept kept' is is' =
     let ranges : map map_range_of blamed ≡ map map_range_of blamed' =
-    one_map setup (registers_after setup changes) (map map_range_of blamed) (map map_range_of blamed') is.ranges.map is'.ranges.map in
+    one_map setup (registers_after setup changes) (map map_range_of blamed) (map map_range_of blamed') is.ranges.map
+    is'.ranges.map in
     record {
       ranges = ranges;
       since =
           one_since setup changes blamed blamed'
           (recursion_from_All (λ one. IsSince setup changes (map_range_of one) one.since) blamed is.ranges.since)
-          (recursion_from_All (λ one. IsSince setup changes (map_range_of one) one.since) blamed' is'.ranges.since) ranges;
+          (recursion_from_All (λ one. IsSince setup changes (map_range_of one) one.since) blamed' is'.ranges.since)
+          ranges;
       keep = one_keep setup changes kept kept' is.keep is'.keep;
     }

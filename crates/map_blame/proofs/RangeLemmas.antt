@@ -1,6 +1,9 @@
 -- Lists of ranges that are watched.
-use Rattle.std.proofs.Common.{◌≡◌, ℕ, ◌+◌, ◌<◌, ◌≤◌, inl, inr, false, List, [], ◌∷◌, length, get_or, set, map, reverse, refl, sym, ap, ◌∙◌, subst, arith, All}
-use Rattle.board_prelude.proofs.Common.{cases_lt, get_or-set_same, get_or-set_other, get_or_default, get_or-map, length-map, ext_get_or, All-nil, All-cons, MapChange, Setup, registers_after, address_count, Tiles, IsRight, IsFlatMapOf}
+use Rattle.std.proofs.Common.{◌≡◌, ℕ, ◌+◌, ◌<◌, ◌≤◌, inl, inr, false, List, [], ◌∷◌, length, get_or, set, map, sym, ap}
+use Rattle.std.proofs.Common.{◌∙◌, subst, arith, All}
+use Rattle.board_prelude.proofs.Common.{cases_lt, get_or-set_same, get_or-set_other, get_or_default, get_or-map}
+use Rattle.board_prelude.proofs.Common.{length-map, ext_get_or, All-nil, All-cons, MapChange, Setup, registers_after}
+use Rattle.board_prelude.proofs.Common.{Tiles, IsRight, IsFlatMapOf}
 use Rattle.std.proofs.lemmas.Simd.{map-map}
 use Rattle.map_builder.specs.declared.range.Range.{Range}
 use Rattle.map_builder.specs.Common.{range_of, no_range}
@@ -22,7 +25,8 @@ all_set P old now index new d₀ long within done rest here k d below = elim (ca
   | inr last ↦
       let same : k ≡ index = omega (arith, below, last) in
       let there : get_or now index d₀ ≡ get_or old k d =
-      rest index d₀ (omega arith) ∙ get_or_default old index d₀ d (omega (arith, within, long)) ∙ ap (λ (j : ℕ). get_or old j d) (sym same) in
+      rest index d₀ (omega arith) ∙ get_or_default old index d₀ d (omega (arith, within, long))
+      ∙ ap (λ (j : ℕ). get_or old j d) (sym same) in
       let put : get_or (set now index new) k d ≡ new =
       ap (λ (j : ℕ). get_or (set now index new) j d) same ∙ get_or-set_same now index new d within in
       subst (P (get_or old k d)) (sym put) (subst (λ x. P x new) there here)
@@ -50,7 +54,8 @@ no_watched = record { blamed = record { range = no_range; since = 0 }; stands = 
 abbrev pub watched_range : Watched → Range
 watched_range watched = watched.blamed.range
 
-pub are_watchable : (watched : List Watched) (ranges : List Range) → map watched_range watched ≡ ranges → All IsInterval ranges →
+pub are_watchable : (watched : List Watched) (ranges : List Range) → map watched_range watched ≡ ranges →
+    All IsInterval ranges →
     All IsWatchable watched
 are_watchable watched ranges same are k d within =
     let long : length (map watched_range watched) ≡ length watched = length-map watched watched_range in

@@ -1,53 +1,56 @@
 -- Whether a range stands in a map, by the range of the map that holds its first address.
-use Rattle.std.proofs.Common.{◌≡◌, ◌≢◌, ℕ, ◌+◌, ◌-◌, ◌<◌, ◌≤◌, inl, inr, List, length, map, sym, ◌∙◌, subst, arith}
-use Rattle.board_prelude.proofs.Common.{cases_lt, get_or-map, length-map, Setup, Bytes, address_count, six_areas, IsRight, IsFlatMapOf}
+use Rattle.std.proofs.Common.{◌≡◌, ◌≢◌, ℕ, ◌+◌, ◌<◌, ◌≤◌, inl, inr, List, length, map, sym, ◌∙◌, subst, arith}
+use Rattle.board_prelude.proofs.Common.{cases_lt, get_or-map, length-map, Setup, Bytes, six_areas, IsRight, IsFlatMapOf}
 use Rattle.map_builder.specs.declared.range.Range.{Range}
 use Rattle.map_builder.specs.Common.{range_of, no_range, range_at, Holds}
 use Rattle.map_builder.proofs.Common.{Placed, placed, row_at, differ_at}
 use Rattle.map_blame.specs.Watch.{IsInterval}
 
-module _ (setup : Setup) (bytes : Bytes) (ranges : List Range) (is_map : IsFlatMapOf setup bytes (map range_of ranges)) where
-  is_placed : Placed 0 ranges
-  is_placed = placed 0 ranges (omega arith) is_map.tiles
+module _ (setup : Setup) (bytes : Bytes) (ranges : List Range) (is_map : IsFlatMapOf setup bytes (map range_of ranges))
+  where
+    is_placed : Placed 0 ranges
+    is_placed = placed 0 ranges (omega arith) is_map.tiles
 
-  areas_held : (k addr : ℕ) → Holds ranges k addr → six_areas setup bytes addr ≡ row_at ranges k
-  areas_held k addr holds =
-      let long : length (map range_of ranges) ≡ length ranges = length-map ranges range_of in
-      let right : IsRight setup bytes (range_of (range_at ranges k)) =
-      subst (IsRight setup bytes) (get_or-map range_of ranges k no_range (range_of no_range) holds.within)
-      (is_map.right k (range_of no_range) (omega (arith, holds.within))) in
-      right.at_each addr holds.above holds.below
+    areas_held : (k addr : ℕ) → Holds ranges k addr → six_areas setup bytes addr ≡ row_at ranges k
+    areas_held k addr holds =
+        let long : length (map range_of ranges) ≡ length ranges = length-map ranges range_of in
+        let right : IsRight setup bytes (range_of (range_at ranges k)) =
+        subst (IsRight setup bytes) (get_or-map range_of ranges k no_range (range_of no_range) holds.within)
+        (is_map.right k (range_of no_range) (omega (arith, holds.within))) in
+        right.at_each addr holds.above holds.below
 
-  module _ (range : Range) (is : IsInterval range) (k : ℕ) (holds : Holds ranges k range.lo) where
-    pub all_right : row_at ranges k ≡ range.row.areas → range.hi ≤ (range_at ranges k).hi → IsRight setup bytes (range_of range)
-    all_right same ends = record {
-      at_each = λ addr low high.
-          areas_held k addr (record {
-            within = holds.within;
-            above = omega (arith, holds.above, low);
-            below = omega (arith, ends, high);
-          })
-          ∙ same;
-    }
+    module _ (range : Range) (is : IsInterval range) (k : ℕ) (holds : Holds ranges k range.lo) where
+      pub all_right : row_at ranges k ≡ range.row.areas → range.hi ≤ (range_at ranges k).hi →
+          IsRight setup bytes (range_of range)
+      all_right same ends = record {
+        at_each = λ addr low high.
+            areas_held k addr (record {
+              within = holds.within;
+              above = omega (arith, holds.above, low);
+              below = omega (arith, ends, high);
+            })
+            ∙ same;
+      }
 
-    first_same : IsRight setup bytes (range_of range) → row_at ranges k ≡ range.row.areas
-    first_same right = sym (areas_held k range.lo holds) ∙ right.at_each range.lo (omega arith) is.order
+      first_same : IsRight setup bytes (range_of range) → row_at ranges k ≡ range.row.areas
+      first_same right = sym (areas_held k range.lo holds) ∙ right.at_each range.lo (omega arith) is.order
 
-    pub other_row : row_at ranges k ≢ range.row.areas → IsRight setup bytes (range_of range) → ⊥
-    other_row other right = other (first_same right)
+      pub other_row : row_at ranges k ≢ range.row.areas → IsRight setup bytes (range_of range) → ⊥
+      other_row other right = other (first_same right)
 
-    pub ends_below : (range_at ranges k).hi < range.hi → IsRight setup bytes (range_of range) → ⊥
-    ends_below ends right = elim (cases_lt (k + 1) (length ranges)) [
-      | inr last ↦ absurd (omega (arith, is_placed.last k (omega (arith, last, holds.within)), ends, is.last))
-      | inl more ↦
-          let next : ℕ = (range_at ranges k).hi + 1 in
-          let joined : (range_at ranges (k + 1)).lo ≡ next = is_placed.next k more in
-          let there : Holds ranges (k + 1) next = record {
-            within = more;
-            above = omega (arith, joined);
-            below = omega (arith, joined, is_placed.whole (k + 1) more);
-          } in
-          let inside : range.lo ≤ next = omega (arith, holds.below) in
-          differ_at ranges k is_map.least more
-          (sym (areas_held (k + 1) next there) ∙ right.at_each next inside (omega (arith, ends)) ∙ sym (first_same right))
-    ]
+      pub ends_below : (range_at ranges k).hi < range.hi → IsRight setup bytes (range_of range) → ⊥
+      ends_below ends right = elim (cases_lt (k + 1) (length ranges)) [
+        | inr last ↦ absurd (omega (arith, is_placed.last k (omega (arith, last, holds.within)), ends, is.last))
+        | inl more ↦
+            let next : ℕ = (range_at ranges k).hi + 1 in
+            let joined : (range_at ranges (k + 1)).lo ≡ next = is_placed.next k more in
+            let there : Holds ranges (k + 1) next = record {
+              within = more;
+              above = omega (arith, joined);
+              below = omega (arith, joined, is_placed.whole (k + 1) more);
+            } in
+            let inside : range.lo ≤ next = omega (arith, holds.below) in
+            differ_at ranges k is_map.least more
+            (sym (areas_held (k + 1) next there) ∙ right.at_each next inside (omega (arith, ends))
+            ∙ sym (first_same right))
+      ]

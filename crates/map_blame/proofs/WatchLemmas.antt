@@ -1,13 +1,17 @@
 -- What is known of a range that is watched, before and after a change.
-use Rattle.std.proofs.Common.{◌≡◌, ◌≢◌, ℕ, zero, suc, ◌+◌, ◌-◌, ◌<◌, ◌≤◌, ◌⊎◌, inl, inr, Bool, true, false, List, [], ◌∷◌, length, get_or, take, drop, reverse, refl, sym, ap, ◌∙◌, subst, arith}
-use Rattle.board_prelude.proofs.Common.{cases_Bool, cases_lt, false≢true, take_more, reverse-append, length-reverse, length-take-le, MapChange, Setup, IsCardList, Bytes, top_of, reset_byte, host_bridge, registers_after, MapRange, IsRight}
+use Rattle.std.proofs.Common.{◌≡◌, ℕ, suc, ◌+◌, ◌-◌, ◌<◌, ◌≤◌, ◌⊎◌, inl, inr, Bool, true, false, List, [], ◌∷◌, length}
+use Rattle.std.proofs.Common.{get_or, take, reverse, refl, sym, ap, ◌∙◌, subst, arith}
+use Rattle.board_prelude.proofs.Common.{cases_Bool, cases_lt, false≢true, take_more, reverse-append, length-reverse}
+use Rattle.board_prelude.proofs.Common.{length-take-le, MapChange, Setup, IsCardList, Bytes, top_of, reset_byte}
+use Rattle.board_prelude.proofs.Common.{host_bridge, registers_after, MapRange, IsRight}
 use Rattle.map_builder.specs.declared.range.Changed.{Changed}
 use Rattle.map_builder.specs.declared.range.Range.{Range}
 use Rattle.addr_decode.specs.MapRegs.{StandsFor}
 use Rattle.map_builder.specs.Common.{Mapped, range_of, IsOutside, changed_windows, bounds_or_zero, IsApplied}
 use Rattle.map_builder.proofs.KeptStores.{top_after, bounds_hold_changes}
 use Rattle.map_blame.specs.declared.watch.Watched.{Watched}
-use Rattle.map_blame.specs.Common.{first_changes, IsRightAfter, StandsFrom, IsSince, map_range_of, IsInterval, IsAfter, IsWatched, HoldChange, IsWatchedOn}
+use Rattle.map_blame.specs.Common.{first_changes, IsRightAfter, StandsFrom, IsSince, map_range_of, IsInterval, IsAfter}
+use Rattle.map_blame.specs.Common.{IsWatched, HoldChange, IsWatchedOn}
 
 -- ---- the first changes
 
@@ -54,17 +58,21 @@ pub taken_more : (changes : List MapChange) (index : ℕ) (d : MapChange) → in
 taken_more changes index d within =
     ap reverse (take_more changes index d within) ∙ reverse-append (take index changes) (get_or changes index d ∷ [])
 
-pub taken_count : (changes : List MapChange) (index : ℕ) → index ≤ length changes → length (reverse (take index changes)) ≡ index
+pub taken_count : (changes : List MapChange) (index : ℕ) → index ≤ length changes →
+    length (reverse (take index changes)) ≡ index
 taken_count changes index within = length-reverse (take index changes) ∙ length-take-le index changes within
 
-pub after_change : (setup : Setup) (before : List MapChange) (change : MapChange) (old new : Mapped) (bounds : Changed) →
+pub after_change : (setup : Setup) (before : List MapChange) (change : MapChange) (old new : Mapped)
+    (bounds : Changed) →
     IsApplied old new change bounds → IsAfter setup before old → IsAfter setup (change ∷ before) new
 unfolding registers_after
-after_change setup before change old new bounds applied after = applied.stands setup (registers_after setup before) after
+after_change setup before change old new bounds applied after =
+    applied.stands setup (registers_after setup before) after
 
 -- ---- a range of which nothing changes
 
-module _ (setup : Setup) (range : Range) (is : IsInterval range) (bounds : Changed) (change : MapChange) (before : List MapChange)
+module _ (setup : Setup) (range : Range) (is : IsInterval range) (bounds : Changed) (change : MapChange)
+    (before : List MapChange)
     (hold : HoldChange bounds setup before change) (beside : (range.hi < bounds.lo) ⊎ (bounds.hi < range.lo)) where
   outside : (addr : ℕ) → range.lo ≤ addr → addr ≤ range.hi → IsOutside addr bounds
   outside addr low high = elim beside [
@@ -74,12 +82,14 @@ module _ (setup : Setup) (range : Range) (is : IsInterval range) (bounds : Chang
 
   same_after : RightNow setup (range_of range) before → RightNow setup (range_of range) (change ∷ before)
   same_after right = record {
-    at_each = λ addr low high. hold addr (omega (arith, high, is.last)) (outside addr low high) ∙ right.at_each addr low high;
+    at_each = λ addr low high. hold addr (omega (arith, high, is.last)) (outside addr low high)
+        ∙ right.at_each addr low high;
   }
 
   same_before : RightNow setup (range_of range) (change ∷ before) → RightNow setup (range_of range) before
   same_before right = record {
-    at_each = λ addr low high. sym (hold addr (omega (arith, high, is.last)) (outside addr low high)) ∙ right.at_each addr low high;
+    at_each = λ addr low high. sym (hold addr (omega (arith, high, is.last)) (outside addr low high))
+        ∙ right.at_each addr low high;
   }
 
   pub watched_beside : (since : ℕ) (stands : Bool) →
@@ -95,18 +105,21 @@ module _ (setup : Setup) (range : Range) (is : IsInterval range) (bounds : Chang
         (now_right setup (range_of range) before (length before) refl
         (same_before (right_now setup (range_of range) (change ∷ before) right)));
     before = λ some right.
-        watched.before some (right_before setup (range_of range) change before (since - 1) (omega (arith, watched.most)) right);
+        watched.before some (right_before setup (range_of range) change before (since - 1) (omega (arith, watched.most))
+        right);
     most = omega (arith, watched.most);
   }
 
 -- ---- a range before and after a change, by the map after it
 
 module _ (map : Mapped) (bounds : Changed) (number : ℕ) (self : Watched) (is : IsInterval self.blamed.range) where
-  pub next_beside : (self.blamed.range.hi < bounds.lo) ⊎ (bounds.hi < self.blamed.range.lo) → IsWatchedOn map bounds number self self
+  pub next_beside : (self.blamed.range.hi < bounds.lo) ⊎ (bounds.hi < self.blamed.range.lo) →
+      IsWatchedOn map bounds number self self
   next_beside beside = record {
     range = refl;
     watched = λ setup before change count after hold watched.
-        watched_beside setup self.blamed.range is bounds change before hold beside self.blamed.since self.stands watched;
+        watched_beside setup self.blamed.range is bounds change before hold beside self.blamed.since self.stands
+        watched;
   }
 
   module _ (stands : Bool)
@@ -116,7 +129,10 @@ module _ (map : Mapped) (bounds : Changed) (number : ℕ) (self : Watched) (is :
       IsRight setup bytes (range_of self.blamed.range) → ⊥) where
     -- it stands anew
     pub next_again : stands ≡ true → self.stands ≡ false →
-        IsWatchedOn map bounds number self (record { blamed = record { range = self.blamed.range; since = number }; stands = stands })
+        IsWatchedOn map bounds number self (record {
+          blamed = record { range = self.blamed.range; since = number };
+          stands = stands;
+        })
     next_again stands_now fell = record {
       range = refl;
       watched =
@@ -193,10 +209,13 @@ since_is setup changes watched is right =
 top_after_changes : (setup : Setup) (changes : List MapChange) → top_of (registers_after setup changes) ≤ 0x7F80_0000
 unfolding registers_after reset_byte host_bridge
 top_after_changes setup [] = omega arith
-top_after_changes setup (change ∷ before) = top_after setup (registers_after setup before) change (top_after_changes setup before)
+top_after_changes setup (change ∷ before) =
+    top_after setup (registers_after setup before) change (top_after_changes setup before)
 
-pub holds_change : (setup : Setup) (before : List MapChange) (change : MapChange) (bounds : Changed) → IsCardList setup.cards →
-    bounds ≡ bounds_or_zero (changed_windows setup (registers_after setup before) change) → HoldChange bounds setup before change
+pub holds_change : (setup : Setup) (before : List MapChange) (change : MapChange) (bounds : Changed) →
+    IsCardList setup.cards →
+    bounds ≡ bounds_or_zero (changed_windows setup (registers_after setup before) change) →
+    HoldChange bounds setup before change
 unfolding registers_after
 holds_change setup before change bounds cards is addr address outside =
     bounds_hold_changes setup (registers_after setup before) change addr cards (top_after_changes setup before) address

@@ -1,7 +1,9 @@
 -- The changes on which the memory map rests. Changes of the registers are a list with the newest first; the number of a
 -- change counts from 1, which the oldest has.
-use Rattle.std.specs.Prelude.{ℕ, ◌≡◌, ◌+◌, ◌-◌, ◌<◌, ◌⊎◌, ◌==◌, Bool, true, false, ◌&&◌, if◌then◌else◌, List, [], ◌∷◌, length, Option, Some, None}
-use Rattle.board_prelude.specs.Common.{list_any, AllPairs, option_or, Reg, MapChange, Store, Reset, Setup, is_bit, byte, smram, covers, is_map_byte}
+use Rattle.std.specs.Prelude.{ℕ, ◌≡◌, ◌+◌, ◌-◌, ◌<◌, ◌⊎◌, ◌==◌, Bool, true, false, ◌&&◌, if◌then◌else◌, List, [], ◌∷◌}
+use Rattle.std.specs.Prelude.{length, Option, Some, None}
+use Rattle.board_prelude.specs.Common.{list_any, AllPairs, option_or, Reg, MapChange, Store, Reset, Setup, is_bit, byte}
+use Rattle.board_prelude.specs.Common.{smram, covers, is_map_byte}
 
 -- the number of the last change since the last reset that covers a register, whether or not it changes it
 unfoldable pub last_cover : List MapChange → Reg → Option ℕ

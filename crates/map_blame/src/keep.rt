@@ -81,8 +81,8 @@ fn is_last_store(covers: &Covers, regs: &MapRegs, number: u32, reg: Reg, width: 
     false
 }
 
-/// Whether this is the number of the last change that covers the register `k` offsets after another, and the map depends
-/// on it. There is none past offset FFh.
+/// Whether this is the number of the last change that covers the register `k` offsets after another, and the map
+/// depends on it. There is none past offset FFh.
 fn is_last_after(covers: &Covers, regs: &MapRegs, number: u32, reg: Reg, k: u8) -> bool
     requires cards { AreFitted regs.now.cards.items }
     ensures last { (setup : Setup) (bytes : Bytes) → StandsFor setup bytes (map_bytes regs.now)

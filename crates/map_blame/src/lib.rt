@@ -1,5 +1,5 @@
-//! Which changes of the registers made the memory map what it is: since when each of its ranges stands, and which changes
-//! it rests on. The others may be dropped, and the map stays.
+//! Which changes of the registers made the memory map what it is: since when each of its ranges stands, and which
+//! changes it rests on. The others may be dropped, and the map stays.
 #![tactic(auto)]
 
 mod blamed;

@@ -20,8 +20,8 @@ pub struct Watched {
     pub stands: bool,
 }
 
-/// The ranges of a map after some changes, each with the number of changes from which on it stands. The map is that after
-/// a reset.
+/// The ranges of a map after some changes, each with the number of changes from which on it stands. The map is that
+/// after a reset.
 pub fn blamed_ranges(
     alloc: Global,
     map: FlatMap,

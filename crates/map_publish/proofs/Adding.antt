@@ -1,5 +1,6 @@
 -- The steps on the length of the list keep the rule.
-use Rattle.std.proofs.Common.{◌≡◌, ℕ, ◌+◌, ◌<◌, ◌==◌, Bool, true, false, List, [], ◌∷◌, ◌++◌, length, refl, ap, sym, subst, arith, inl, length-append, None}
+use Rattle.std.proofs.Common.{◌≡◌, ℕ, ◌+◌, ◌<◌, ◌==◌, Bool, true, false, List, [], ◌∷◌, ◌++◌, length, refl, ap, sym}
+use Rattle.std.proofs.Common.{subst, arith, inl, length-append, None}
 use Rattle.board_prelude.proofs.Common.{append-nil, nat_tests}
 use mathlib.Core.List.{IsPrefix}
 use prog.Atomic.{either}

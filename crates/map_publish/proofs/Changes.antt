@@ -1,11 +1,14 @@
 -- Maps after changes, and the changes of lists.
-use Rattle.std.proofs.Common.{◌≡◌, ◌+◌, ◌<◌, ◌≤◌, List, [], ◌∷◌, ◌++◌, length, refl, sym, ap, ◌∙◌, arith, length-append, flat_map, reverse}
-use Rattle.board_prelude.proofs.Common.{nat_tests, flat_map-append, reverse-append, MapChange, Setup, Bytes, registers_after}
+use Rattle.std.proofs.Common.{◌≡◌, ◌+◌, ◌<◌, ◌≤◌, List, [], ◌∷◌, ◌++◌, length, refl, sym, ap, ◌∙◌, arith, length-append}
+use Rattle.std.proofs.Common.{flat_map, reverse}
+use Rattle.board_prelude.proofs.Common.{nat_tests, flat_map-append, reverse-append, MapChange, Setup, Bytes}
+use Rattle.board_prelude.proofs.Common.{registers_after}
 use mathlib.Core.List.{IsPrefix}
 use Rattle.pci_bars.specs.Cards.{cards_of}
 use Rattle.addr_decode.specs.MapRegs.{StandsFor}
 use Rattle.map_builder.specs.Common.{Mapped, after}
-use Rattle.map_publish.specs.Common.{bytes_after, IsMapAfter, changes_in, changes_of, opened_of, version_after, with_change, IsMapOfLog}
+use Rattle.map_publish.specs.Common.{bytes_after, IsMapAfter, changes_in, changes_of, opened_of, version_after}
+use Rattle.map_publish.specs.Common.{with_change, IsMapOfLog}
 use Rattle.map_publish.specs.declared.mark.Mark.{Mark}
 use Rattle.map_publish.specs.declared.mark.Mark.TheVariants.{Changed}
 

@@ -12,7 +12,8 @@ use Rattle.map_publish.specs.declared.mark.Mark.TheVariants.{Changed}
 use Rattle.map_publish.specs.declared.shown.Next.{Next}
 use Rattle.map_publish.specs.declared.shown.Next.TheVariants.{Same, Change}
 use Rattle.board_spec.specs.declared.map_change.MapChange.{MapChange}
-use Rattle.map_publish.specs.Common.{version_after, with_change, IsMapOfLog, applied, nobody, name, KnowsBook, AllKnow, LearnsName, Stays}
+use Rattle.map_publish.specs.Common.{version_after, with_change, IsMapOfLog, applied, nobody, name, KnowsBook, AllKnow}
+use Rattle.map_publish.specs.Common.{LearnsName, Stays}
 use Rattle.map_publish.proofs.Changes.{with_change_below}
 
 nobody_knows : (shown : Shown) → KnowsBook shown nobody

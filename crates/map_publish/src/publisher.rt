@@ -22,8 +22,8 @@ use std::sync::Wait;
 
 pub(crate) type Copies = Writer<Shown, Next, Name, Published>;
 
-/// A map, of which two copies are kept so that viewers can look at one while the other is changed. It is not `Drop`: end
-/// it by `close`.
+/// A map, of which two copies are kept so that viewers can look at one while the other is changed. It is not `Drop`:
+/// end it by `close`.
 pub struct Publisher {
     writer: Copies,
     head: Head,
@@ -70,8 +70,10 @@ fn published<R: Wait>(
     requires room { version_after writer.desk.shown.value.front.seen.log < entry_limit }
     requires own { what.2.seen.book ≡ writer.desk.shown.value.front.seen.book }
     requires added { what.2.seen.log ≡ writer.desk.shown.value.front.seen.log ++ Changed what.1 ∷ [] }
-    ensures list { MatchResult result.1 (λ _. result.0.desk.shown.value.list.log ≡ what.entry.2.seen.log) (λ _. result.0.desk.shown.value.list.log ≡ writer.desk.shown.value.list.log) }
-    ensures front { MatchResult result.1 (λ _. result.0.desk.shown.value.front ≡ what.entry.2) (λ _. result.0.desk.shown.value.front ≡ writer.desk.shown.value.front) }
+    ensures list { MatchResult result.1 (λ _. result.0.desk.shown.value.list.log ≡ what.entry.2.seen.log)
+        (λ _. result.0.desk.shown.value.list.log ≡ writer.desk.shown.value.list.log) }
+    ensures front { MatchResult result.1 (λ _. result.0.desk.shown.value.front ≡ what.entry.2)
+        (λ _. result.0.desk.shown.value.front ≡ writer.desk.shown.value.front) }
     ensures quiet { drop result.0.behind result.0.log.items ≡ [] }
     ensures named { view result.0.desk.place ≡ view writer.desk.place }
 {
@@ -88,13 +90,14 @@ fn published<R: Wait>(
 }
 
 impl Publisher {
-    /// Publishes one change at a version below 4,000,000. It may wait for viewers to leave the old copy. Refused for want
-    /// of memory; then what is published is as before.
+    /// Publishes one change at a version below 4,000,000. It may wait for viewers to leave the old copy. Refused for
+    /// want of memory; then what is published is as before.
     #[inline(never)]
     pub fn change<R: Wait>(&mut self, rt: &R, change: &MapChange) -> Result<(), NoMemory>
         requires room { version_after self.old.front.seen.log < entry_limit }
         ensures own { self.new.front.seen.book ≡ self.old.front.seen.book }
-        ensures list { MatchResult result (λ _. self.new.front.seen.log ≡ self.old.front.seen.log ++ Changed change.now ∷ []) (λ _. self.new.front.seen.log ≡ self.old.front.seen.log) }
+        ensures list { MatchResult result (λ _. self.new.front.seen.log ≡ self.old.front.seen.log ++ Changed change.now
+            ∷ []) (λ _. self.new.front.seen.log ≡ self.old.front.seen.log) }
         ensures refused { OnErr result (self.new.front ≡ self.old.front) }
     {
         let front = self.front.add(&self.head, change).ok_or(NoMemory)?;
@@ -129,8 +132,8 @@ impl Publisher {
         self.map().version()
     }
 
-    /// Ends the published copies, and gives the map that was published last. It may wait for viewers that look. They go on
-    /// with copies of their own.
+    /// Ends the published copies, and gives the map that was published last. It may wait for viewers that look. They go
+    /// on with copies of their own.
     pub fn close<R: Wait>(self, rt: &R) -> FlatMap
         ensures map { IsMapOfLog self.front.seen.log result }
     {
@@ -162,8 +165,8 @@ impl Publisher {
     }
 }
 
-/// The copies of a map, and as many viewers of them as `readers` says, 1 to 8, each with a place of its own. It may wait.
-/// Refused for want of memory.
+/// The copies of a map, and as many viewers of them as `readers` says, 1 to 8, each with a place of its own. It may
+/// wait. Refused for want of memory.
 pub fn open<R: Wait>(
     rt: &R,
     alloc: Global,

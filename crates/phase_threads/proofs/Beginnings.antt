@@ -1,6 +1,8 @@
 -- A phase that an order takes in, and an order that begins.
-use Rattle.std.proofs.Common.{◌≡◌, ℕ, ◌≤◌, List, [], ◌∷◌, ◌++◌, length, take, drop, All, Some, Result, Ok, Err, OnOk, sym, ◌∙◌, ap, subst, reverse}
-use Rattle.board_prelude.proofs.Common.{reverse-append, reverse-reverse, take-append-drop, length-reverse, length-take-le, Entry, Setup, IsLegal}
+use Rattle.std.proofs.Common.{◌≡◌, ℕ, ◌≤◌, List, [], ◌∷◌, ◌++◌, length, take, drop, All, Some, Result, Ok, Err, OnOk}
+use Rattle.std.proofs.Common.{sym, ◌∙◌, ap, subst, reverse}
+use Rattle.board_prelude.proofs.Common.{reverse-append, reverse-reverse, take-append-drop, length-reverse}
+use Rattle.board_prelude.proofs.Common.{length-take-le, Entry, Setup, IsLegal}
 use Rattle.run_order.specs.declared.done.Done.{Done}
 use Rattle.run_order.specs.Common.{IsPlacedBelow, over, placed, Order}
 use Rattle.run_order.proofs.Over.{over_front}

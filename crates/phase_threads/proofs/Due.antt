@@ -1,8 +1,12 @@
 -- How many statements each processor has in a phase.
-use Rattle.std.proofs.Common.{◌≡◌, ℕ, ◌+◌, ◌<◌, ◌≤◌, ◌==◌, Bool, true, false, cond, List, [], ◌∷◌, ◌++◌, length, map, take, get_or, set, filter, All, sym, ◌∙◌, ap, arith, inl, inr, slice_index, slice_index_or, reverse}
+use Rattle.std.proofs.Common.{◌≡◌, ℕ, ◌+◌, ◌<◌, ◌≤◌, ◌==◌, Bool, true, false, cond, List, [], ◌∷◌, ◌++◌, length, map}
+use Rattle.std.proofs.Common.{take, get_or, set, filter, All, sym, ◌∙◌, ap, arith, inl, inr, slice_index}
+use Rattle.std.proofs.Common.{slice_index_or, reverse}
 use Rattle.std.proofs.lemmas.List.Filters.{length-filter_more}
 use Rattle.std.proofs.lemmas.List.FromFn.{map-range_with_len_more}
-use Rattle.board_prelude.proofs.Common.{cases_Bool, cases_eq, nat_tests, get_or-map, get_or-set_at, get_or-set_other, length-append, length-map, map-append, range_with_len, Event, Statement, events_by}
+use Rattle.board_prelude.proofs.Common.{cases_Bool, cases_eq, nat_tests, get_or-map, get_or-set_at, get_or-set_other}
+use Rattle.board_prelude.proofs.Common.{length-append, length-map, map-append, range_with_len, Event, Statement}
+use Rattle.board_prelude.proofs.Common.{events_by}
 use Rattle.run_order.proofs.Common.{all_turned}
 use Rattle.phase_work.specs.declared.worker.Work.{Work}
 use Rattle.phase_threads.specs.declared.jobs.Job.{Job}

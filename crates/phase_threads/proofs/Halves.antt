@@ -1,7 +1,8 @@
 -- What the halves of a phase's workers do.
 use Rattle.std.proofs.Common.{◌≡◌, ℕ, List, [], ◌∷◌, ◌++◌, length, map, All, Option, refl, sym, ◌∙◌, ap, subst, arith}
 use Rattle.std.specs.List.{AllZip}
-use Rattle.board_prelude.proofs.Common.{All-cons, All-head, All-tail, Entry, Event, Statement, MapChange, Setup, entries_by, events_by, map_writes_of}
+use Rattle.board_prelude.proofs.Common.{All-cons, All-head, All-tail, Entry, Event, Statement, MapChange, Setup}
+use Rattle.board_prelude.proofs.Common.{entries_by, events_by, map_writes_of}
 use Rattle.board_core.specs.Kept.{Standing}
 use Rattle.board_live.specs.declared.live.Live.{Live}
 use Rattle.shared_board.specs.declared.shared.Origin.{Origin}

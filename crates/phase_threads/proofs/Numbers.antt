@@ -1,6 +1,9 @@
 -- Lists of jobs and of callers, by the numbers of their processors.
-use Rattle.std.proofs.Common.{◌≡◌, ℕ, ◌+◌, ◌<◌, ◌≤◌, ◌==◌, List, [], ◌∷◌, ◌++◌, map, length, take, drop, All, refl, sym, ◌∙◌, ap, subst, arith, inl, inr, reverse, slice_index_or}
-use Rattle.board_prelude.proofs.Common.{Any, range_with_len, cases_Bool, nat_tests, get_or-map, get_or_default, reverse-append, append-nil, take_all, drop_all, map-append, length-map, length-reverse, All-head, All-tail}
+use Rattle.std.proofs.Common.{◌≡◌, ℕ, ◌+◌, ◌<◌, ◌≤◌, ◌==◌, List, [], ◌∷◌, ◌++◌, map, length, take, drop, All, refl, sym}
+use Rattle.std.proofs.Common.{◌∙◌, ap, subst, arith, inl, inr, reverse, slice_index_or}
+use Rattle.board_prelude.proofs.Common.{Any, range_with_len, cases_Bool, nat_tests, get_or-map, get_or_default}
+use Rattle.board_prelude.proofs.Common.{reverse-append, append-nil, take_all, drop_all, map-append, length-map}
+use Rattle.board_prelude.proofs.Common.{length-reverse, All-head, All-tail}
 use Rattle.std.proofs.lemmas.List.FromFn.{get_or-range_with_len, length-range_with_len}
 use Rattle.std.proofs.lemmas.List.Elements.{All-map}
 use Rattle.run_order.specs.declared.done.Done.{Done}

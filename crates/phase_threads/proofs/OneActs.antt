@@ -1,6 +1,11 @@
 -- A phase in which one processor acts.
-use Rattle.std.proofs.Common.{set, Result, Ok, Err, OnOk, ◌≡◌, ◌≢◌, ℕ, ◌+◌, ◌<◌, ◌≤◌, ◌==◌, Bool, true, false, not, List, [], ◌∷◌, length, All, get_or, slice_index_or, refl, sym, ◌∙◌, ap, subst, arith, inl, inr}
-use Rattle.board_prelude.proofs.Common.{cases_Bool, nat_tests, get_or-map, All-head, All-tail, All-cons, Entry, Statement, MapChange, Setup, Event, Reply, Look, Kind, IsInRange, IsSpan, next_entry, registers_after, entries_by, events_by, map_writes_of, most_statements}
+use Rattle.std.proofs.Common.{set, Result, Ok, Err, OnOk, ◌≡◌, ◌≢◌, ℕ, ◌+◌, ◌<◌, ◌≤◌, ◌==◌, Bool, true, false, not}
+use Rattle.std.proofs.Common.{List, [], ◌∷◌, length, All, get_or, slice_index_or, refl, sym, ◌∙◌, ap, subst, arith, inl}
+use Rattle.std.proofs.Common.{inr}
+use Rattle.board_prelude.proofs.Common.{cases_Bool, nat_tests, get_or-map, All-head, All-tail, All-cons, Entry}
+use Rattle.board_prelude.proofs.Common.{Statement, MapChange, Setup, Event, Reply, Look, Kind, IsInRange, IsSpan}
+use Rattle.board_prelude.proofs.Common.{next_entry, registers_after, entries_by, events_by, map_writes_of}
+use Rattle.board_prelude.proofs.Common.{most_statements}
 use Rattle.std.proofs.lemmas.List.{length-set, get_or-set_same, get_or-set_other}
 use Rattle.std.proofs.lemmas.List.Filters.{length-filter_both}
 use Rattle.board_core.specs.Kept.{Standing}

@@ -1,9 +1,14 @@
 -- A phase, as the history of the run takes it in.
-use Rattle.std.proofs.Common.{◌≡◌, ℕ, ◌+◌, ◌<◌, ◌≤◌, List, [], ◌∷◌, ◌++◌, map, length, take, drop, get_or, flat_map, All, Option, Vec, Global, sym, ◌∙◌, ap, subst, arith, reverse}
-use Rattle.board_prelude.proofs.Common.{reverse-append, reverse-reverse, length-append, length-reverse, map-append, append-nil, take-append-drop, drop_more, flat_map-append, drop-append_seam, take-append_seam, All-drop, Entry, Statement, Setup, IsCardList, version_of, IsLegal}
+use Rattle.std.proofs.Common.{◌≡◌, ℕ, ◌+◌, ◌<◌, ◌≤◌, List, [], ◌∷◌, ◌++◌, map, length, take, drop, get_or, flat_map}
+use Rattle.std.proofs.Common.{All, Option, Vec, Global, sym, ◌∙◌, ap, subst, arith, reverse}
+use Rattle.board_prelude.proofs.Common.{reverse-append, reverse-reverse, length-append, length-reverse, map-append}
+use Rattle.board_prelude.proofs.Common.{append-nil, take-append-drop, drop_more, flat_map-append, drop-append_seam}
+use Rattle.board_prelude.proofs.Common.{take-append_seam, All-drop, Entry, Statement, Setup, IsCardList, version_of}
+use Rattle.board_prelude.proofs.Common.{IsLegal}
 use Rattle.board_core.specs.Kept.{Standing}
 use Rattle.run_order.specs.declared.done.Done.{Done}
-use Rattle.run_order.specs.Common.{done_by, placed, Order, bare, IsWork, IsPhaseRun, IsPlaced, PhaseRuns, AreInPlace, AreAllInPlace, Begins}
+use Rattle.run_order.specs.Common.{done_by, placed, Order, bare, IsWork, IsPhaseRun, IsPlaced, PhaseRuns, AreInPlace}
+use Rattle.run_order.specs.Common.{AreAllInPlace, Begins}
 use Rattle.phase_work.specs.declared.worker.Work.{Work}
 use Rattle.phase_threads.specs.Common.{IsStatement, TakesIn, entries_of}
 use Rattle.phase_threads.specs.Unseen.{HasRunSo}

@@ -1,11 +1,17 @@
 -- A phase of which what was done is not kept, since none of it is a look.
-use Rattle.std.proofs.Common.{◌≡◌, ℕ, zero, suc, ◌+◌, ◌<◌, ◌≤◌, ◌==◌, true, false, List, [], ◌∷◌, ◌++◌, length, map, take, get_or, set, All, slice_index_or, inl, inr, refl, sym, ◌∙◌, ap, subst, arith, reverse}
-use Rattle.board_prelude.proofs.Common.{cases_Bool, nat_tests, get_or-map, get_or-set_at, get_or-set_other, length-map, length-reverse, length-set, map-append, reverse-append, reverse-reverse, take_more, All-nil, All-cons, All-head, All-tail, Entry, Event, Statement, Setup, entries_by, events_by, map_writes_of, next_entry}
+use Rattle.std.proofs.Common.{◌≡◌, ℕ, zero, suc, ◌+◌, ◌<◌, ◌≤◌, ◌==◌, true, false, List, [], ◌∷◌, ◌++◌, length, map}
+use Rattle.std.proofs.Common.{take, get_or, set, All, slice_index_or, inl, inr, refl, sym, ◌∙◌, ap, subst, arith}
+use Rattle.std.proofs.Common.{reverse}
+use Rattle.board_prelude.proofs.Common.{cases_Bool, nat_tests, get_or-map, get_or-set_at, get_or-set_other, length-map}
+use Rattle.board_prelude.proofs.Common.{length-reverse, length-set, map-append, reverse-append, reverse-reverse}
+use Rattle.board_prelude.proofs.Common.{take_more, All-nil, All-cons, All-head, All-tail, Entry, Event, Statement}
+use Rattle.board_prelude.proofs.Common.{Setup, entries_by, events_by, map_writes_of, next_entry}
 use Rattle.std.proofs.lemmas.List.Elements.{All-map, All-set}
 use Rattle.board_core.specs.Kept.{Standing}
 use Rattle.run_order.specs.declared.done.Done.{Done}
 use Rattle.run_order.specs.declared.done.Done.TheVariants.{Went, Looked}
-use Rattle.run_order.specs.Common.{event_of, is_look, with_all_looks, all_left, done_by, without_first, passed, noted, placed, IsNotDue, IsSettled, IsDone, IsWork, Begins}
+use Rattle.run_order.specs.Common.{event_of, is_look, with_all_looks, all_left, done_by, without_first, passed, noted}
+use Rattle.run_order.specs.Common.{placed, IsNotDue, IsSettled, IsDone, IsWork, Begins}
 use Rattle.run_order.proofs.Settled.{settled_placed, settled_left}
 use Rattle.run_order.proofs.Common.{all_reverse}
 use Rattle.phase_work.specs.declared.worker.Work.{Work}
@@ -14,7 +20,8 @@ use Rattle.phase_threads.specs.Others.{others}
 use Rattle.phase_threads.specs.Jobs.{HasRun, done_in}
 use Rattle.phase_threads.specs.Unseen.{HasAdded, HasRunSo, HasStepped}
 use Rattle.phase_threads.proofs.Numbers.{map_reverse}
-use Rattle.phase_threads.proofs.OneActs.{listed_at, others_same, no_events, active, idle, theirs, is_number, is_other, has_grown}
+use Rattle.phase_threads.proofs.OneActs.{listed_at, others_same, no_events, active, idle, theirs, is_number, is_other}
+use Rattle.phase_threads.proofs.OneActs.{has_grown}
 
 -- ---- lists without looks
 

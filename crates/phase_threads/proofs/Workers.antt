@@ -1,6 +1,9 @@
 -- What the workers of a phase leave, put together.
-use Rattle.std.proofs.Common.{◌≡◌, ℕ, ◌+◌, ◌<◌, ◌≤◌, ◌==◌, false, List, [], ◌∷◌, map, length, All, Option, Some, refl, sym, ◌∙◌, ap, subst, arith, inl, inr, reverse}
-use Rattle.board_prelude.proofs.Common.{Any, range_with_len, cases_lt, nat_tests, length-map, length-reverse, All-head, All-tail, Entry, Statement, MapChange, Setup, IsInRange, entries_by, map_writes_of, most_statements}
+use Rattle.std.proofs.Common.{◌≡◌, ℕ, ◌+◌, ◌<◌, ◌≤◌, ◌==◌, false, List, [], ◌∷◌, map, length, All, Option, Some, refl}
+use Rattle.std.proofs.Common.{sym, ◌∙◌, ap, subst, arith, inl, inr, reverse}
+use Rattle.board_prelude.proofs.Common.{Any, range_with_len, cases_lt, nat_tests, length-map, length-reverse, All-head}
+use Rattle.board_prelude.proofs.Common.{All-tail, Entry, Statement, MapChange, Setup, IsInRange, entries_by}
+use Rattle.board_prelude.proofs.Common.{map_writes_of, most_statements}
 use Rattle.std.proofs.lemmas.List.Elements.{All-map}
 use Rattle.bus_turn.specs.Passes.{part_of}
 use Rattle.board_core.specs.Kept.{Standing}
@@ -16,7 +19,8 @@ use Rattle.phase_work.specs.declared.worker.Work.{Work}
 use Rattle.phase_threads.specs.declared.jobs.Job.{Job}
 use Rattle.phase_threads.specs.Jobs.{IsReadyToWork, IsRun, AreAsked, AreDue, HasRun, done_in}
 use Rattle.phase_threads.proofs.Due.{due_by_number}
-use Rattle.phase_threads.proofs.Numbers.{map_reverse, all_mapped, map_twice, same_lengths, numbered_length, numbers_below, same_numbers, by_number}
+use Rattle.phase_threads.proofs.Numbers.{map_reverse, all_mapped, map_twice, same_lengths, numbered_length}
+use Rattle.phase_threads.proofs.Numbers.{numbers_below, same_numbers, by_number}
 
 abbrev cpu_in : Job → Cpu
 cpu_in job = job.cpu

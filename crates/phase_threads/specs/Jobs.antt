@@ -1,7 +1,8 @@
 -- The workers of a phase, and what they leave. Histories have the newest entry first.
 use Rattle.std.specs.Prelude.{ℕ, ◌≡◌, ◌+◌, ◌<◌, ◌≤◌, false, List, [], ◌∷◌, ◌++◌, length, map, All, Option}
 use Rattle.bus_turn.specs.Passes.{part_of}
-use Rattle.board_prelude.specs.Common.{Entry, Statement, Setup, IsInRange, IsLegal, entries_by, events_by, range_with_len, statements_of, HasPhases, most_statements}
+use Rattle.board_prelude.specs.Common.{Entry, Statement, Setup, IsInRange, IsLegal, entries_by, events_by}
+use Rattle.board_prelude.specs.Common.{range_with_len, statements_of, HasPhases, most_statements}
 use Rattle.board_core.specs.Kept.{Standing}
 use Rattle.shared_board.specs.declared.shared.Origin.{Origin}
 use Rattle.board_live.specs.declared.live.Live.{Live}

@@ -1,5 +1,5 @@
-//! A phase in which one processor acts. It does its statements at the board itself: there is no turn to wait for, and no
-//! map to publish.
+//! A phase in which one processor acts. It does its statements at the board itself: there is no turn to wait for, and
+//! no map to publish.
 
 ghost use Rattle.std.specs.Prelude.{◌≡◌, ◌<◌, ℕ, All, length, IfOk, IfSome, OnOk};
 ghost use Rattle.phase_threads.specs.Acts.{CanAct, HasActed};
@@ -98,7 +98,8 @@ fn do_all<R: Wait, G: Gate>(
     gate: &G,
 ) -> Result<(), NoMemory>
     requires can { CanAct alone.old.number alone.old.board works.old.items phase.now }
-    ensures acted { OnOk result (HasActed alone.old.number alone.old.board alone.new.board phase.now works.old.items works.new.items) }
+    ensures acted { OnOk result (HasActed alone.old.number alone.old.board alone.new.board phase.now works.old.items
+        works.new.items) }
 {
     works[usize::from(alone.number)].run(alone, &(), rt, phase, gate)
 }

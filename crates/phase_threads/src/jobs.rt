@@ -1,6 +1,7 @@
 //! The workers of a phase: each has a caller of the shared board.
 
-ghost use Rattle.std.specs.Prelude.{◌≡◌, ◌<◌, ◌≤◌, ℕ, [], All, false, length, map, reverse, slice_index, vec_capacity, IfOk, IsTrue, IsFalse};
+ghost use Rattle.std.specs.Prelude.{◌≡◌, ◌<◌, ◌≤◌, ℕ, [], All, false, length, map, reverse, slice_index, vec_capacity};
+ghost use Rattle.std.specs.Prelude.{IfOk, IsTrue, IsFalse};
 ghost use Rattle.std.specs.List.{AllZip};
 ghost use Rattle.std.specs.Thread.{IsSync};
 ghost use Rattle.board_prelude.specs.Common.{events_by};

@@ -1,5 +1,5 @@
-//! A phase in which one processor acts, and does not look. Its statements are told by the board's own history, so nothing
-//! else is kept of them.
+//! A phase in which one processor acts, and does not look. Its statements are told by the board's own history, so
+//! nothing else is kept of them.
 
 ghost use Rattle.std.specs.Prelude.{◌≡◌, ◌+◌, ◌<◌, ◌≤◌, All, false, length, IfOk, IsFalse, OnOk};
 ghost use Rattle.board_prelude.specs.Common.{IsInRange, entry_limit, most_statements};

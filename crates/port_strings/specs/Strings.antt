@@ -1,5 +1,6 @@
 -- Accesses to one port, one after another, as a string instruction makes them.
-use Rattle.std.specs.Prelude.{ℕ, zero, suc, ◌≡◌, ◌≢◌, ◌<◌, ◌%◌, ◌^◌, ◌==◌, ◌⊎◌, Bool, true, false, not, ◌||◌, List, length, drop, slice_index, Option, IsSomeAnd}
+use Rattle.std.specs.Prelude.{ℕ, zero, suc, ◌≡◌, ◌≢◌, ◌<◌, ◌%◌, ◌^◌, ◌==◌, ◌⊎◌, Bool, true, false, not, ◌||◌, List}
+use Rattle.std.specs.Prelude.{length, drop, slice_index, Option, IsSomeAnd}
 use Rattle.board_records.specs.declared.event.EventRecord.{EventRecord}
 use Rattle.board_records.specs.declared.reply.ReplyRecord.{ReplyRecord}
 use Rattle.board_records.specs.Common.{Held, asked_said, IsDoorStep, IsEventRefusal, OnBoard, ok}

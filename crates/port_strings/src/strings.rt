@@ -2,7 +2,8 @@
 
 ghost use Rattle.std.specs.Prelude.{◌≡◌, ◌≢◌, ◌<◌, length, drop, Ok, Err, IfOk, IfErr, OnErr};
 ghost use Rattle.board_records.specs.Common.{ok, closed};
-ghost use Rattle.port_strings.specs.Strings.{AreDone, AreRead, AreWritten, IsRefused, IsValue, asks_back, port_record, reads, writes};
+ghost use Rattle.port_strings.specs.Strings.{AreDone, AreRead, AreWritten, IsRefused, IsValue, asks_back, port_record};
+ghost use Rattle.port_strings.specs.Strings.{reads, writes};
 
 use board_records::numbers::{NO_RESET, PORT_EVENT, READ_KIND, WRITE_KIND};
 use board_records::status::OK;

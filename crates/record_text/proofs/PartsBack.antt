@@ -7,7 +7,8 @@ use Rattle.board_base.specs.declared.target.Target.TheVariants as targets
 use Rattle.script_spec.specs.WellFormed.{FitsDevice, FitsTarget, FitsPart}
 use Rattle.board_records.specs.declared.reply.PartRecord.{PartRecord}
 use Rattle.board_records.specs.Common.{device_number, target_said, area_said, with_denial, part_said, of_part}
-use Rattle.record_text.specs.Parts.{device_recorded, config_recorded, target_recorded, denial_recorded, part_recorded, area_recorded}
+use Rattle.record_text.specs.Parts.{device_recorded, config_recorded, target_recorded, denial_recorded, part_recorded}
+use Rattle.record_text.specs.Parts.{area_recorded}
 
 device_back : (dev : Dev) → FitsDevice dev → device_recorded (device_number dev) ≡ Some dev
 unfolding device_recorded

@@ -1,13 +1,19 @@
 -- What the record of a reply says is this reply.
-use Rattle.std.proofs.Common.{◌≡◌, ℕ, ◌<◌, ◌≤◌, ◌^◌, Bool, false, Option, Some, None, [], ◌∷◌, length, All, refl, arith, IfSome}
-use Rattle.board_prelude.proofs.Common.{lt-ltb, All-head, All-tail, Dev, Pit, Wires, Ata, Target, Device, Denial, bytes_of, Event, Memory, Wide, Port, Ack, Pulses, Time, Wire, Line, BadSector, Parts, Two, Three, Four, Look, Reply, Bus, Saw, is_write, outside_answer, parts_list, parts_of as cut_of, bytes_few}
+use Rattle.std.proofs.Common.{◌≡◌, ℕ, ◌<◌, ◌≤◌, ◌^◌, Bool, false, Option, Some, None, [], ◌∷◌, length, All, refl, arith}
+use Rattle.std.proofs.Common.{IfSome}
+use Rattle.board_prelude.proofs.Common.{lt-ltb, All-head, All-tail, Dev, Pit, Wires, Ata, Target, Device, Denial}
+use Rattle.board_prelude.proofs.Common.{bytes_of, Event, Memory, Wide, Port, Ack, Pulses, Time, Wire, Line, BadSector}
+use Rattle.board_prelude.proofs.Common.{Parts, Two, Three, Four, Look, Reply, Bus, Saw, is_write, outside_answer}
+use Rattle.board_prelude.proofs.Common.{parts_list, parts_of as cut_of, bytes_few}
 use Rattle.board_base.specs.declared.target.Dev.TheVariants.{Clock}
 use Rattle.board_spec.specs.declared.event.Event.TheVariants.{Look as LookAt}
 use Rattle.board_spec.specs.declared.event.Reply.TheVariants.{Parts as InParts}
 use Rattle.script_spec.specs.WellFormed.{FitsPart, FitsTarget, IsBusReply, IsWideReply, IsLookReply, HasShape}
 use Rattle.board_records.specs.declared.reply.AfterStep.{AfterStep}
 use Rattle.board_records.specs.Replies.{record_said, bus_said, wide_said, look_said, blank}
-use Rattle.record_text.specs.Common.{bus_recorded, two_parts_recorded, three_parts_recorded, four_parts_recorded, parts_recorded, wide_recorded, look_recorded, cycle_value_recorded, form_recorded, reply_recorded, RecordSaysReply}
+use Rattle.record_text.specs.Common.{bus_recorded, two_parts_recorded, three_parts_recorded, four_parts_recorded}
+use Rattle.record_text.specs.Common.{parts_recorded, wide_recorded, look_recorded, cycle_value_recorded, form_recorded}
+use Rattle.record_text.specs.Common.{reply_recorded, RecordSaysReply}
 use Rattle.record_text.proofs.PartsBack.{part_back, area_back}
 use Rattle.script_spec.proofs.ReplyBack.{narrow_value}
 

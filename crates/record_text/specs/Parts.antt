@@ -6,7 +6,9 @@ use Rattle.board_base.specs.declared.target.Area.TheVariants as areas
 use Rattle.board_base.specs.declared.target.Target.TheVariants as targets
 use Rattle.script_spec.specs.Numbers.{◌>>=◌}
 use Rattle.board_records.specs.declared.reply.PartRecord.{PartRecord}
-use Rattle.board_records.specs.Numbers.{dram_target, shadow_target, smram_target, rom_target, card_target, device_target, config_target, abort_target, register_denial, confadd_denial, no_register_denial}
+use Rattle.board_records.specs.Numbers.{dram_target, shadow_target, smram_target, rom_target, card_target}
+use Rattle.board_records.specs.Numbers.{device_target, config_target, abort_target, register_denial, confadd_denial}
+use Rattle.board_records.specs.Numbers.{no_register_denial}
 
 -- the devices in the order of their numbers, from 1 on
 unfoldable pub device_recorded : (number : ℕ) → Option Dev

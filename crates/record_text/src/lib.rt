@@ -1,4 +1,5 @@
-//! The log's line of an event and its reply, both as records of numbers: so that who asks a board by records writes a log.
+//! The log's line of an event and its reply, both as records of numbers: so that who asks a board by records writes a
+//! log.
 #![tactic(auto)]
 
 pub mod laws;

@@ -23,9 +23,10 @@ fn line_of(alloc: Global, number: u64, entry: &Entry) -> Result<String, NoMemory
     Ok(line)
 }
 
-/// Writes line `number` of a log, with its line feed, of the entry of a processor, the number of its statement, an event and
-/// its reply, and tells how many bytes the line has. Refused with `NO_EVENT` or `NO_REPLY` where a record says none, and
-/// with `NO_ROOM` where the line does not fit: then its count of bytes is told. `NO_MEMORY` may come where both say something.
+/// Writes line `number` of a log, with its line feed, of the entry of a processor, the number of its statement, an
+/// event and its reply, and tells how many bytes the line has. Refused with `NO_EVENT` or `NO_REPLY` where a record
+/// says none, and with `NO_ROOM` where the line does not fit: then its count of bytes is told. `NO_MEMORY` may come
+/// where both say something.
 #[tactic(auto, unfolding(crate::specs::Lines::entry_recorded))]
 pub fn tell_line(
     alloc: Global,
@@ -42,7 +43,8 @@ pub fn tell_line(
     ensures refused { result ≢ ok → IsLineRefusal (entry_recorded processor statement event.now reply.now)
         event.now number (length into.old) result }
     ensures unwritten { result ≢ ok → into.new ≡ into.old }
-    ensures counted { ((result ≡ ok) ⊎ (result ≡ no_room)) → IsSomeAnd (entry_recorded processor statement event.now reply.now)
+    ensures counted { ((result ≡ ok) ⊎ (result ≡ no_room)) →
+        IsSomeAnd (entry_recorded processor statement event.now reply.now)
         (λ entry. bytes.new ≡ length (whole_line number entry)) }
     ensures uncounted { result ≢ ok → result ≢ no_room → bytes.new ≡ bytes.old }
 {

@@ -1,7 +1,8 @@
 //! What one part of a reply's record names.
 
 ghost use Rattle.std.specs.Prelude.{◌≡◌};
-ghost use Rattle.record_text.specs.Parts.{device_recorded, config_recorded, target_recorded, denial_recorded, part_recorded, area_recorded};
+ghost use Rattle.record_text.specs.Parts.{device_recorded, config_recorded, target_recorded, denial_recorded};
+ghost use Rattle.record_text.specs.Parts.{part_recorded, area_recorded};
 
 use board_base::{Area, Denial, Dev, Reg, Target};
 use board_records::PartRecord;

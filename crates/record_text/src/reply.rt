@@ -1,7 +1,9 @@
 //! Which reply a record says.
 
 ghost use Rattle.std.specs.Prelude.{◌≡◌};
-ghost use Rattle.record_text.specs.Replies.{value_recorded, cycle_value_recorded, bus_recorded, two_parts_recorded, three_parts_recorded, four_parts_recorded, parts_recorded, wide_recorded, look_recorded, form_recorded, reply_recorded};
+ghost use Rattle.record_text.specs.Replies.{value_recorded, cycle_value_recorded, bus_recorded, two_parts_recorded};
+ghost use Rattle.record_text.specs.Replies.{three_parts_recorded, four_parts_recorded, parts_recorded, wide_recorded};
+ghost use Rattle.record_text.specs.Replies.{look_recorded, form_recorded, reply_recorded};
 
 use crate::part::{area_recorded, part_recorded};
 use board_records::ReplyRecord;

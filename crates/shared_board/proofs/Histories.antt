@@ -1,6 +1,9 @@
 -- Histories that go on, and their map writes.
-use Rattle.std.proofs.Common.{◌≡◌, ℕ, suc, ◌+◌, ◌-◌, ◌≤◌, ◌==◌, Bool, cond, Option, Some, None, List, [], ◌∷◌, ◌++◌, length, drop, filter, inl, inr, refl, sym, ap, ◌∙◌, subst, append_assoc, append-nil, arith, reverse}
-use Rattle.board_prelude.proofs.Common.{option_to_list, cases_Bool, reverse-append, filter-append, Entry, MapChange, Setup, entries_by, map_change_of, map_writes_of}
+use Rattle.std.proofs.Common.{◌≡◌, ℕ, suc, ◌+◌, ◌-◌, ◌≤◌, ◌==◌, Bool, cond, Option, Some, None, List, [], ◌∷◌, ◌++◌}
+use Rattle.std.proofs.Common.{length, drop, filter, inl, inr, refl, sym, ap, ◌∙◌, subst, append_assoc, append-nil}
+use Rattle.std.proofs.Common.{arith, reverse}
+use Rattle.board_prelude.proofs.Common.{option_to_list, cases_Bool, reverse-append, filter-append, Entry, MapChange}
+use Rattle.board_prelude.proofs.Common.{Setup, entries_by, map_change_of, map_writes_of}
 use mathlib.Core.List.{IsPrefix}
 use Rattle.map_publish.specs.declared.mark.Mark.{Mark}
 use Rattle.map_publish.specs.Lists.{changes_of}

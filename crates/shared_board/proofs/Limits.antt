@@ -1,5 +1,6 @@
 -- How many entries a board of few callers has.
-use Rattle.std.proofs.Common.{◌≡◌, ℕ, zero, suc, ◌+◌, ◌*◌, ◌<◌, ◌≤◌, ◌==◌, true, false, List, [], ◌∷◌, length, All, inl, inr, refl, subst, arith}
+use Rattle.std.proofs.Common.{◌≡◌, ℕ, zero, suc, ◌+◌, ◌*◌, ◌<◌, ◌≤◌, ◌==◌, true, false, List, [], ◌∷◌, length, All, inl}
+use Rattle.std.proofs.Common.{inr, refl, subst, arith}
 use Rattle.board_prelude.proofs.Common.{cases_Bool, nat_tests, All-head, All-tail, All-cons, Entry, entries_by}
 use Rattle.shared_board.specs.Known.{AreFew, most_each}
 

@@ -1,6 +1,8 @@
 -- What is published, when an entry is added.
-use Rattle.std.proofs.Common.{◌≡◌, ℕ, ◌+◌, ◌≤◌, List, ◌∷◌, ◌++◌, length, sym, ap, ◌∙◌, append_assoc, length-append, arith}
-use Rattle.board_prelude.proofs.Common.{option_to_list, Event, Reply, Entry, MapChange, Setup, next_entry, map_change_of, map_writes_of, version_of}
+use Rattle.std.proofs.Common.{◌≡◌, ℕ, ◌+◌, ◌≤◌, List, ◌∷◌, ◌++◌, length, sym, ap, ◌∙◌, append_assoc, length-append}
+use Rattle.std.proofs.Common.{arith}
+use Rattle.board_prelude.proofs.Common.{option_to_list, Event, Reply, Entry, MapChange, Setup, next_entry}
+use Rattle.board_prelude.proofs.Common.{map_change_of, map_writes_of, version_of}
 use Rattle.board_core.specs.Kept.{Standing}
 use Rattle.map_publish.specs.declared.mark.Mark.{Mark}
 use Rattle.map_publish.specs.Lists.{opened_of, changes_of, version_after}

@@ -45,7 +45,9 @@ pub struct Shared {
     pub ghost within: { opened ≤ length board.value.entries },
     pub ghost few: { AreFew callers board.value.entries } by { AreFew-prop callers board.value.entries },
     pub ghost published: { ArePublished board.value.setup opened board.value.entries publisher.value.front.seen.log },
-    pub ghost opens: { IsMapOpened board.value.setup (oldest opened board.value.entries) (opened_of publisher.value.front.seen.log) } by { Opens-prop board.value.setup (oldest opened board.value.entries) (opened_of publisher.value.front.seen.log) },
+    pub ghost opens: { IsMapOpened board.value.setup (oldest opened board.value.entries)
+        (opened_of publisher.value.front.seen.log) } by { Opens-prop board.value.setup
+            (oldest opened board.value.entries) (opened_of publisher.value.front.seen.log) },
 }
 
 impl Kept for Shared {
@@ -99,7 +101,8 @@ impl Shared {
             AddsEntry number event.now answered self.old.board.value self.new.board.value) }
         ensures refused { OnErr result (self.new.board.value.entries ≡ self.old.board.value.entries) }
         ensures later { IsPrefix self.old.publisher.value.front.seen.log self.new.publisher.value.front.seen.log }
-        ensures unpublished { OnErr result (self.new.publisher.value.front.seen.log ≡ self.old.publisher.value.front.seen.log) }
+        ensures unpublished { OnErr result
+            (self.new.publisher.value.front.seen.log ≡ self.old.publisher.value.front.seen.log) }
     {
         let place = self.board.history().len();
         self.board.reserve(1)?;

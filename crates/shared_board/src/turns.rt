@@ -2,7 +2,9 @@
 
 ghost use Rattle.std.specs.Prelude.{◌≡◌, length, drop, reverse, Some};
 ghost use mathlib.Core.List.{IsPrefix};
-ghost use Rattle.bus_turn.specs.Common.{IsIdle, IsHolding, IsSameCaller as IsSamePass, HasSameJoined, number_of, opened_of as opened_by, part_of, seen_of as seen_in, mine_of as mine_in, IsOf, own_by};
+ghost use Rattle.bus_turn.specs.Common.{IsIdle, IsHolding, IsSameCaller as IsSamePass, HasSameJoined, number_of};
+ghost use Rattle.bus_turn.specs.Common.{opened_of as opened_by, part_of, seen_of as seen_in, mine_of as mine_in, IsOf};
+ghost use Rattle.bus_turn.specs.Common.{own_by};
 ghost use Rattle.map_publish.specs.Lists.{opened_of};
 ghost use Rattle.shared_board.specs.Passes.{callers_in, setup_in, opened_in};
 ghost use Rattle.shared_board.specs.Origins.{origin};

@@ -1,6 +1,11 @@
 -- Memory is spelled page by page, and of each page the front is kept.
-use Rattle.std.proofs.Common.{◌≡◌, ℕ, ◌+◌, ◌-◌, ◌*◌, ◌/◌, ◌%◌, ◌≤◌, ◌<◌, inl, inr, min, true, false, Bool, List, [], ◌∷◌, ◌++◌, length, take, drop, get_or, replicate, slice_index, bytes_eq, cond, refl, sym, ap, ◌∙◌, arith}
-use Rattle.board_prelude.proofs.Common.{bytes_eq-Decides, cases_lt, length-append, length-replicate, length-take, length-drop, take_at, take_all, drop_all, take-append-drop, append-nil, get_or-take, get_or-drop, get_or_append_left, get_or-append_right, get_or-replicate, get_or_past}
+use Rattle.std.proofs.Common.{◌≡◌, ℕ, ◌+◌, ◌-◌, ◌*◌, ◌/◌, ◌%◌, ◌≤◌, ◌<◌, inl, inr, min, true, false, Bool, List, []}
+use Rattle.std.proofs.Common.{◌∷◌, ◌++◌, length, take, drop, get_or, replicate, slice_index, bytes_eq, cond, refl, sym}
+use Rattle.std.proofs.Common.{ap, ◌∙◌, arith}
+use Rattle.board_prelude.proofs.Common.{bytes_eq-Decides, cases_lt, length-append, length-replicate, length-take}
+use Rattle.board_prelude.proofs.Common.{length-drop, take_at, take_all, drop_all, take-append-drop, append-nil}
+use Rattle.board_prelude.proofs.Common.{get_or-take, get_or-drop, get_or_append_left, get_or-append_right}
+use Rattle.board_prelude.proofs.Common.{get_or-replicate, get_or_past}
 use Rattle.std.proofs.lemmas.Grind.{same_number_lists}
 use Rattle.std.proofs.lemmas.List.{take-replicate, drop-replicate, replicate-append-replicate, take_min, take_rest}
 use Rattle.std.specs.Cmp.{both_ways}
@@ -40,7 +45,8 @@ pub zero_page : (kept : List ℕ) → length kept ≤ memory_page →
     bytes_eq kept (take (length kept) (replicate memory_page 0)) ≡ bytes_eq (page_of kept) (replicate memory_page 0)
 zero_page kept within =
     let n = length kept in
-    let front : take n (replicate {A = ℕ} memory_page 0) ≡ replicate n 0 = take-replicate {X = ℕ} n memory_page 0 within in
+    let front : take n (replicate {A = ℕ} memory_page 0) ≡ replicate n 0 =
+    take-replicate {X = ℕ} n memory_page 0 within in
     let all : n + (memory_page - n) ≡ memory_page = omega (arith, within) in
     both_ways (bytes_eq kept (take n (replicate memory_page 0))) (bytes_eq (page_of kept) (replicate memory_page 0))
     (λ is. (bytes_eq-Decides (page_of kept) (replicate memory_page 0)).1
@@ -163,7 +169,12 @@ module _ (dram kept part : List ℕ) (page place : ℕ) (at : place ≡ page % 2
   kept_page there same =
       let front : List ℕ = take memory_page (drop (page * memory_page) dram) in
       let size : length front ≡ memory_page =
-      omega (arith, there, length-take memory_page (drop (page * memory_page) dram), length-drop (page * memory_page) dram) in
+      omega (
+        arith,
+        there,
+        length-take memory_page (drop (page * memory_page) dram),
+        length-drop (page * memory_page) dram,
+      ) in
       same_number_lists front (page_of part) (size ∙ sym (page_length part (omega (arith, long)))) (λ k below.
       let within : k < memory_page = omega (arith, below, size) in
       let same_place : page * memory_page + k ≡ page / 256 * bank_size + (place + k) = omega (arith, at) in

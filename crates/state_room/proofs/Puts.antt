@@ -1,6 +1,8 @@
 -- Bytes that are put behind others, and those of a room before and after.
-use Rattle.std.proofs.Common.{◌≡◌, ℕ, ◌+◌, ◌-◌, ◌≤◌, List, [], ◌∷◌, ◌++◌, length, take, drop, refl, sym, ap, ◌∙◌, append_assoc, arith}
-use Rattle.board_prelude.proofs.Common.{length-append, length-take, length-drop, take_at, drop_at, drop-drop, take-append-drop}
+use Rattle.std.proofs.Common.{◌≡◌, ℕ, ◌+◌, ◌≤◌, List, [], ◌∷◌, ◌++◌, length, take, drop, refl, sym, ap, ◌∙◌}
+use Rattle.std.proofs.Common.{append_assoc, arith}
+use Rattle.board_prelude.proofs.Common.{length-append, length-take, length-drop, take_at, drop_at, drop-drop}
+use Rattle.board_prelude.proofs.Common.{take-append-drop}
 use Rattle.state_room.specs.Room.{IsPutAt}
 
 pub put_length : (at : ℕ) (bytes before after : List ℕ) → IsPutAt at bytes before after → length after ≡ length before

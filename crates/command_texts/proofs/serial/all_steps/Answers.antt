@@ -1,5 +1,6 @@
 use Rattle.std.proofs.Common.{◌≡◌, length, ap, arith}
-use Rattle.command_texts.proofs.SerialReplays.{all_for_port_as, phase_for_port, went_nowhere, went_on_as, went_on_phase, room_for_phase}
+use Rattle.command_texts.proofs.SerialReplays.{all_for_port_as, phase_for_port, went_nowhere, went_on_as, went_on_phase}
+use Rattle.command_texts.proofs.SerialReplays.{room_for_phase}
 use Rattle.command_texts.proofs.serial.all_steps.Goals as goal
 
 pub loop-phase-init : goal.loop-phase-init

@@ -14,7 +14,8 @@ loop-i-preserved c =
     let front : List Entry = take l.i entries in
     let less : l.i < length entries = omega (arith, c.loop-i-test.true, c.len-i-end.ensures.length) in
     let own = c.entry.ensures.entry entry in
-    let more : take (l.i + 1) entries ≡ front ++ entry ∷ [] = take_more entries l.i entry less ∙ (λ t. front ++ own t ∷ []) in
+    let more : take (l.i + 1) entries ≡ front ++ entry ∷ [] =
+    take_more entries l.i entry less ∙ (λ t. front ++ own t ∷ []) in
     let bytes = ap (flat_map step_bytes) (map-append statement_of front (entry ∷ []))
     ∙ flat_map-append step_bytes (map statement_of front) (statement_of entry ∷ [])
     ∙ ap (λ b. flat_map step_bytes (map statement_of front) ++ b) (append-nil (step_bytes (statement_of entry))) in

@@ -1,4 +1,4 @@
-use Rattle.std.proofs.Common.{◌≡◌, ℕ, List, ◌++◌, refl, ap, ◌∙◌, subst, append_assoc, OnOk}
+use Rattle.std.proofs.Common.{◌≡◌, ℕ, List, ◌++◌, ap, ◌∙◌, subst, append_assoc, OnOk}
 use Rattle.image_writer.specs.ImageBytes.{head_bytes, magic}
 use Rattle.image_writer.proofs.writer.push_head.Goals as goal
 

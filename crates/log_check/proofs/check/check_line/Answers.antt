@@ -1,8 +1,11 @@
-use Rattle.std.proofs.Common.{ℕ, ◌≡◌, ◌+◌, ◌-◌, List, [], ◌∷◌, ◌++◌, Some, None, length, refl, sym, ap, ◌∙◌, subst, arith, MatchResult}
-use Rattle.board_prelude.proofs.Common.{All-head, Entry, line_feed, line_text, Statement, IsInRange, entries_by, next_entry}
+use Rattle.std.proofs.Common.{ℕ, ◌≡◌, ◌+◌, ◌-◌, List, [], ◌∷◌, ◌++◌, Some, None, length, refl, sym, ap, ◌∙◌, subst}
+use Rattle.std.proofs.Common.{arith, MatchResult}
+use Rattle.board_prelude.proofs.Common.{All-head, Entry, line_feed, line_text, Statement, IsInRange, entries_by}
+use Rattle.board_prelude.proofs.Common.{next_entry}
 use Rattle.log_check.specs.Common.{left_of, IsWithin, IsPast, StoppedCheck}
 use Rattle.log_check.proofs.NextStatements.{last_number}
-use Rattle.log_check.proofs.LineSteps.{stops_unnamed, stops_idle, stops_without_memory, past_line, handed_on, phases_of, next_place, walking, made}
+use Rattle.log_check.proofs.LineSteps.{stops_unnamed, stops_idle, stops_without_memory, past_line, handed_on, phases_of}
+use Rattle.log_check.proofs.LineSteps.{next_place, walking, made}
 use Rattle.log_check.specs.declared.fault.CheckFault.TheVariants.{NoMemory}
 use Rattle.log_check.proofs.check.check_line.Goals as goal
 
@@ -38,14 +41,16 @@ returns-in_default-next-clause-walked c = λ place within past short.
 
 pub step-reply-requires-clause-in_range : goal.step-reply-requires-clause-in_range
 step-reply-requires-clause-in_range c =
-    All-head (λ (statement : Statement). IsInRange c.args.board.now.setup statement.event) c.in-Some-next.statement.now []
+    All-head (λ (statement : Statement). IsInRange c.args.board.now.setup statement.event) c.in-Some-next.statement.now
+    []
     (c.in-Some-next.ensures.in_range c.args.board.now.setup c.requires.in_range)
 
 pub returns-in_err-print_line-clause-walked : goal.returns-in_err-print_line-clause-walked
 returns-in_err-print_line-clause-walked c = λ place within past short.
     let taken = c.in-Some-next.ensures.taken in
     let entry : Entry =
-    next_entry c.args.board.now.entries c.in-Some-next.statement.now.actor c.in-Some-next.statement.now.event c.step-reply.result in
+    next_entry c.args.board.now.entries c.in-Some-next.statement.now.actor c.in-Some-next.statement.now.event
+    c.step-reply.result in
     let grown : c.step-reply.new.self.entries ≡ entry ∷ c.args.board.now.entries =
     ap (λ board. board.entries) c.step-reply.ensures.entry in
     let stopped =
@@ -63,7 +68,8 @@ pub returns-clause-walked : goal.returns-clause-walked
 returns-clause-walked c = λ place within past short.
     let taken = c.in-Some-next.ensures.taken in
     let entry : Entry =
-    next_entry c.args.board.now.entries c.in-Some-next.statement.now.actor c.in-Some-next.statement.now.event c.step-reply.result in
+    next_entry c.args.board.now.entries c.in-Some-next.statement.now.actor c.in-Some-next.statement.now.event
+    c.step-reply.result in
     let grown : c.step-reply.new.self.entries ≡ entry ∷ c.args.board.now.entries =
     ap (λ board. board.entries) c.step-reply.ensures.entry in
     let last : c.last_of-seq.result ≡ entry.seq =

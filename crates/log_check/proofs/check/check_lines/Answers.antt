@@ -4,7 +4,8 @@ use Rattle.log_check.specs.declared.fault.CheckFault.TheVariants.{NoMemory}
 use Rattle.script_spec.specs.Phases.{lists_of}
 use Rattle.log_check.specs.Walks.{FailedCheck}
 use Rattle.log_check.proofs.LineSteps.{handed_on}
-use Rattle.log_check.proofs.LogChecks.{known, failed_first, failed_heading, failed_within, passed, failed_end, nothing_left, something_left}
+use Rattle.log_check.proofs.LogChecks.{known, failed_first, failed_heading, failed_within, passed, failed_end}
+use Rattle.log_check.proofs.LogChecks.{nothing_left, something_left}
 use Rattle.log_check.proofs.check.check_lines.Goals as goal
 
 pub returns-in_err-print_heading-clause-checked : goal.returns-in_err-print_heading-clause-checked

@@ -1,5 +1,7 @@
-use Rattle.std.proofs.Common.{ℕ, ◌≡◌, ◌+◌, ◌++◌, [], ◌∷◌, List, All, length, take, drop, refl, sym, ap, ◌∙◌, subst, arith}
-use Rattle.board_prelude.proofs.Common.{take_all, Statement, Setup, IsInRange, log_text, statements_of, IsCompleteFor, in_file_order}
+use Rattle.std.proofs.Common.{ℕ, ◌≡◌, ◌+◌, ◌++◌, [], ◌∷◌, List, All, length, take, drop, refl, sym, ap, ◌∙◌, subst}
+use Rattle.std.proofs.Common.{arith}
+use Rattle.board_prelude.proofs.Common.{take_all, Statement, Setup, IsInRange, log_text, statements_of, IsCompleteFor}
+use Rattle.board_prelude.proofs.Common.{in_file_order}
 use Rattle.board_core.specs.Steps.{AreInRange}
 use Rattle.script_spec.specs.Phases.{lists_of}
 use Rattle.log_check.specs.Common.{IsTyped, WalkPlace, StoppedCheck}

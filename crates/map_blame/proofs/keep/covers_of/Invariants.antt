@@ -1,4 +1,4 @@
-use Rattle.std.proofs.Common.{◌≡◌, length, reverse, take}
+use Rattle.std.proofs.Common.{reverse, take}
 use Rattle.map_blame.specs.Covers.{AreCoversOf}
 use Rattle.map_blame.proofs.keep.covers_of.Given as goal
 

@@ -1,4 +1,4 @@
-use Rattle.std.proofs.Common.{◌≡◌, false, sym, ◌∙◌, ap}
+use Rattle.std.proofs.Common.{◌≡◌, false, sym, ◌∙◌}
 use Rattle.map_blame.specs.Covers.{is_number}
 use Rattle.map_blame.proofs.keep.is_kept.Goals as goal
 

@@ -6,5 +6,6 @@ pub returns-in-Some : goal.returns-in-Some
 returns-in-Some c = record {
   last = λ setup bytes stands cards.
       c.is_last.ensures.last setup bytes stands
-      ∙ ap (λ (off : ℕ). is_last_at setup c.args.covers.now c.args.number (record c.args.reg { off = off })) c.in-Some.ensures.1;
+      ∙ ap (λ (off : ℕ). is_last_at setup c.args.covers.now c.args.number (record c.args.reg { off = off }))
+      c.in-Some.ensures.1;
 }

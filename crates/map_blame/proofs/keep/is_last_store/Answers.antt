@@ -1,4 +1,4 @@
-use Rattle.std.proofs.Common.{◌≡◌, ℕ, false, sym, ◌∙◌, ap, subst, arith, take}
+use Rattle.std.proofs.Common.{◌≡◌, ℕ, false, sym, ◌∙◌, subst, arith, take}
 use Rattle.board_prelude.proofs.Common.{list_any, bytes_of, bytes_few, reg_after}
 use Rattle.map_blame.specs.Covers.{is_last_at}
 use Rattle.map_blame.proofs.CoverLemmas.{offsets, any_next, any_at}
@@ -25,6 +25,7 @@ returns c = record {
   last = λ setup bytes stands cards.
       let all : c.loop-k.k ≡ bytes_of c.args.width = omega arith in
       sym (subst
-      (λ (n : ℕ). list_any (λ k. is_last_at setup c.args.covers.now c.args.number (reg_after c.args.reg k)) (take n offsets) ≡ false)
+      (λ (n : ℕ). list_any (λ k. is_last_at setup c.args.covers.now c.args.number (reg_after c.args.reg k))
+      (take n offsets) ≡ false)
       all (c.loop-k.invariant.none setup bytes stands cards));
 }

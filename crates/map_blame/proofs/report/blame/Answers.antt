@@ -1,6 +1,6 @@
-use Rattle.std.proofs.Common.{◌≡◌, [], subst, sym, ◌∙◌, reverse}
+use Rattle.std.proofs.Common.{[], subst, sym, ◌∙◌, reverse}
 use Rattle.board_prelude.proofs.Common.{IsCardList, reset_byte, registers_after}
-use Rattle.addr_decode.specs.MapRegs.{StandsFor, map_bytes}
+use Rattle.addr_decode.specs.MapRegs.{StandsFor}
 use Rattle.map_blame.specs.Watch.{IsAfter}
 use Rattle.map_blame.proofs.KeepLaws.{kept_suffice}
 use Rattle.map_blame.proofs.report.blame.Goals as goal
@@ -16,7 +16,8 @@ returns-clause-blame c = λ setup same.
       ranges = c.in_ok-ranges.ensures.ranges setup cards first;
       keep =
           c.in_ok-keep.ensures.keep setup (reset_byte setup)
-          (subst (StandsFor setup (reset_byte setup)) (sym (c.regs.ensures.regs ∙ c.from_scratch-map.ensures.regs)) at_reset) cards;
+          (subst (StandsFor setup (reset_byte setup)) (sym (c.regs.ensures.regs ∙ c.from_scratch-map.ensures.regs))
+          at_reset) cards;
     }
 
 pub returns-clause-suffice : goal.returns-clause-suffice

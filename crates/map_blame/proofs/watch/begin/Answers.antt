@@ -1,4 +1,4 @@
-use Rattle.std.proofs.Common.{◌≡◌, ◌∷◌, [], get_or, map, sym, ◌∙◌, ap, arith, ◌++◌}
+use Rattle.std.proofs.Common.{◌∷◌, [], get_or, sym, ◌∙◌, ap, ◌++◌}
 use Rattle.board_prelude.proofs.Common.{map-append, take_more, All-push, registers_after}
 use Rattle.map_builder.specs.declared.range.Range.{Range}
 use Rattle.map_builder.specs.Find.{no_range}
@@ -17,6 +17,7 @@ loop-range-preserved c =
           ∙ sym (take_more c.args.ranges.now c.loop-range.range-index no_range c.loop-range-test.true);
       watched = λ setup start.
           All-push (IsWatched setup []) c.loop-range.watched.items _ (c.loop-range.invariant.watched setup start)
-          (watched_at_reset setup range c.stands.result (λ is. c.stands.ensures.yes is setup (registers_after setup []) start)
+          (watched_at_reset setup range c.stands.result
+          (λ is. c.stands.ensures.yes is setup (registers_after setup []) start)
           (λ is. c.stands.ensures.no is setup (registers_after setup []) start));
     })

@@ -1,4 +1,4 @@
-use Rattle.std.proofs.Common.{◌≡◌, [], length, map, take, All}
+use Rattle.std.proofs.Common.{◌≡◌, [], map, take, All}
 use Rattle.board_spec.specs.Setup.{Setup}
 use Rattle.map_blame.specs.Watch.{IsAfter, IsWatched}
 use Rattle.map_blame.proofs.watch.begin.Given as goal

@@ -7,7 +7,8 @@ use Rattle.map_blame.proofs.watch.blamed_ranges.Goals as goal
 
 pub begin-requires : goal.begin-requires
 begin-requires c = record {
-  ranges = are_intervals 0 c.ranges-2.result.now (subst (Tiles 0) (sym c.ranges-2.ensures.ranges) c.ranges-2.ensures.tiles);
+  ranges =
+      are_intervals 0 c.ranges-2.result.now (subst (Tiles 0) (sym c.ranges-2.ensures.ranges) c.ranges-2.ensures.tiles);
 }
 
 pub watch-requires-clause-ranges : goal.watch-requires-clause-ranges

@@ -1,4 +1,4 @@
-use Rattle.std.proofs.Common.{subst, sym, arith, List, take, reverse}
+use Rattle.std.proofs.Common.{subst, sym, List, take, reverse}
 use Rattle.board_spec.specs.declared.map_change.MapChange.{MapChange}
 use Rattle.map_blame.specs.Watch.{IsAfter}
 use Rattle.map_blame.proofs.KeptLemmas.{no_change}
@@ -10,6 +10,7 @@ loop-change-preserved c = record {
   after = λ setup start.
       subst (λ (changes : List MapChange). IsAfter setup changes c.apply.new.self)
       (sym (taken_more c.args.changes.now c.loop-change.change-index no_change c.loop-change-test.true))
-      (after_change setup (reverse (take c.loop-change.change-index c.args.changes.now)) _ c.loop-change.map c.apply.new.self
+      (after_change setup (reverse (take c.loop-change.change-index c.args.changes.now)) _ c.loop-change.map
+      c.apply.new.self
       c.apply.result c.apply.ensures.applied (c.loop-change.invariant.after setup start));
 }

@@ -1,4 +1,4 @@
-use Rattle.std.proofs.Common.{◌≡◌, [], take, reverse}
+use Rattle.std.proofs.Common.{[], take, reverse}
 use Rattle.board_spec.specs.Setup.{Setup}
 use Rattle.map_blame.specs.Watch.{IsAfter}
 use Rattle.map_blame.proofs.watch.changed_map.Given as goal

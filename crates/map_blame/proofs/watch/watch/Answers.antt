@@ -1,4 +1,4 @@
-use Rattle.std.proofs.Common.{◌≡◌, ◌+◌, ◌<◌, ◌≤◌, List, length, get_or, refl, subst, sym, ◌∙◌, arith, take, reverse, All}
+use Rattle.std.proofs.Common.{◌≡◌, ◌<◌, List, length, get_or, refl, subst, sym, ◌∙◌, arith, take, reverse, All}
 use Rattle.board_prelude.proofs.Common.{take_all, MapChange, registers_after}
 use Rattle.map_blame.specs.Watch.{IsInterval, IsAfter, IsWatched}
 use Rattle.map_blame.proofs.KeptLemmas.{no_change}

@@ -6,7 +6,8 @@ use Rattle.run_order.specs.Common.{placed}
 use Rattle.phase_work.specs.declared.worker.Work.{Work}
 use Rattle.phase_threads.specs.Common.{IsStatement, GrowsBy, done_in, IsUpTo, entries_of}
 use Rattle.phase_threads.specs.Unseen.{HasRunSo}
-use Rattle.phase_threads.proofs.Phases.{gained, gained_all, gained_within, front_is, front_all, back_is, phase_is_run, takes_in}
+use Rattle.phase_threads.proofs.Phases.{gained, gained_all, gained_within, front_is, front_all, back_is, phase_is_run}
+use Rattle.phase_threads.proofs.Phases.{takes_in}
 use Rattle.phase_threads.proofs.run.run_phase.Goals as goal
 
 pub add-requires : goal.add-requires

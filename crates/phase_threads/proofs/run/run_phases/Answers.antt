@@ -1,5 +1,7 @@
-use Rattle.std.proofs.Common.{rules, ◌≡◌, ℕ, ◌+◌, ◌<◌, ◌≤◌, List, [], ◌∷◌, ◌++◌, length, flat_map, All, Vec, Global, sym, ◌∙◌, ap, subst, arith, append_assoc}
-use Rattle.board_prelude.proofs.Common.{into_iter_items, length-append, get_or-append_seam, Statement, Setup, IsLegal, statements_of, HasPhases, most_statements}
+use Rattle.std.proofs.Common.{rules, ◌≡◌, ℕ, ◌+◌, ◌<◌, ◌≤◌, List, [], ◌∷◌, ◌++◌, length, flat_map, All, Vec, Global}
+use Rattle.std.proofs.Common.{sym, ◌∙◌, ap, subst, arith, append_assoc}
+use Rattle.board_prelude.proofs.Common.{into_iter_items, length-append, get_or-append_seam, Statement, Setup, IsLegal}
+use Rattle.board_prelude.proofs.Common.{statements_of, HasPhases, most_statements}
 use Rattle.run_order.specs.Places.{AreInPlace, AreAllInPlace}
 use Rattle.phase_threads.specs.Common.{AreAsked, IsStatement, entries_of}
 use Rattle.phase_threads.proofs.Phases.{phases_more, newest_first, all_in_place, statements_more, statements_within}

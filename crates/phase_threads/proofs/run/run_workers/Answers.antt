@@ -1,4 +1,5 @@
-use Rattle.std.proofs.Common.{rules, ◌≡◌, ℕ, ◌<◌, List, All, length, map, sym, ◌∙◌, ap, subst, arith, false, Some, reverse}
+use Rattle.std.proofs.Common.{rules, ◌≡◌, ℕ, ◌<◌, List, All, length, map, sym, ◌∙◌, ap, subst, arith, false, Some}
+use Rattle.std.proofs.Common.{reverse}
 use Rattle.board_spec.specs.declared.event.Entry.{Entry}
 use Rattle.board_live.specs.declared.cpu.Cpu.{Cpu}
 use Rattle.phase_work.specs.declared.worker.Work.{Work}

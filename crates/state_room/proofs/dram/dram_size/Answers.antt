@@ -9,7 +9,8 @@ loop-kept-init c = record { size = sym (ap length no_memory); within = omega ari
 
 pub overflow_add-size : goal.overflow_add-size
 overflow_add-size c =
-    let next = size_on c.args.dram.now c.in-Some.kept.now c.loop-kept.page c.in-Some.ensures.some c.in-Some.ensures.bytes in
+    let next =
+    size_on c.args.dram.now c.in-Some.kept.now c.loop-kept.page c.in-Some.ensures.some c.in-Some.ensures.bytes in
     omega (
       arith,
       next,
@@ -22,7 +23,8 @@ overflow_add-size c =
 
 pub loop-kept-preserved : goal.loop-kept-preserved
 loop-kept-preserved c =
-    let next = size_on c.args.dram.now c.in-Some.kept.now c.loop-kept.page c.in-Some.ensures.some c.in-Some.ensures.bytes in
+    let next =
+    size_on c.args.dram.now c.in-Some.kept.now c.loop-kept.page c.in-Some.ensures.some c.in-Some.ensures.bytes in
     record {
       size = omega (arith, next, c.loop-kept.invariant.size, c.page_size-size.ensures.size);
       within = c.in-Some.ensures.some;

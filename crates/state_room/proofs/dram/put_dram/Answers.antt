@@ -1,4 +1,4 @@
-use Rattle.std.proofs.Common.{◌+◌, ◌*◌, take, length, arith}
+use Rattle.std.proofs.Common.{◌+◌, ◌*◌, take, arith}
 use Rattle.byte_fields.specs.Pages.{memory_page, memory_bytes}
 use Rattle.state_room.specs.Room.{page_of}
 use Rattle.state_room.proofs.Puts.{put_length, put_none, put_then}
@@ -14,7 +14,8 @@ loop-kept-init c = record {
 
 pub put_page-end-requires-clause-room : goal.put_page-end-requires-clause-room
 put_page-end-requires-clause-room c =
-    let next = size_on c.args.dram.now c.in-Some.kept.now c.loop-kept.page c.in-Some.ensures.some c.in-Some.ensures.bytes in
+    let next =
+    size_on c.args.dram.now c.in-Some.kept.now c.loop-kept.page c.in-Some.ensures.some c.in-Some.ensures.bytes in
     omega (
       arith,
       next,
@@ -26,7 +27,8 @@ put_page-end-requires-clause-room c =
 
 pub loop-kept-preserved : goal.loop-kept-preserved
 loop-kept-preserved c =
-    let next = size_on c.args.dram.now c.in-Some.kept.now c.loop-kept.page c.in-Some.ensures.some c.in-Some.ensures.bytes in
+    let next =
+    size_on c.args.dram.now c.in-Some.kept.now c.loop-kept.page c.in-Some.ensures.some c.in-Some.ensures.bytes in
     record {
       put =
           put_then c.args.at c.loop-kept.end (memory_bytes (take (c.loop-kept.page * memory_page) c.args.dram.now))

@@ -1,4 +1,5 @@
-use Rattle.std.proofs.Common.{ℕ, ◌≡◌, ◌+◌, ◌<◌, ◌^◌, ◌∷◌, sym, refl, subst, arith, get_or-set_same, slice_index, slice_set}
+use Rattle.std.proofs.Common.{ℕ, ◌≡◌, ◌+◌, ◌<◌, ◌^◌, ◌∷◌, sym, refl, subst, arith, get_or-set_same, slice_index}
+use Rattle.std.proofs.Common.{slice_set}
 use Rattle.board_prelude.proofs.Common.{Entry, entry_limit}
 use Rattle.board_core.specs.Kept.{Playing, HasPlayed}
 use Rattle.board_core.proofs.Boards.{few_versions, count_fits, stepped}
@@ -28,7 +29,8 @@ invariant_of-self c =
     } in (
       entry ∷ history,
       rw (c.from-2.ensures)
-          (stepped replay history entry c.step-reply.new.self c.self.told (omega arith) few (rw (c.from.ensures) refl) played
+          (stepped replay history entry c.step-reply.new.self c.self.told (omega arith) few (rw (c.from.ensures) refl)
+          played
           c.step-reply.ensures.setup (c.step-reply.ensures.exact history played.left (few_versions played))
           (c.step-reply.ensures.left history entry played.left refl refl)),
     )

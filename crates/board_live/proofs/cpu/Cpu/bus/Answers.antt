@@ -1,12 +1,15 @@
 use Rattle.std.proofs.Common.{rules, ◌≡◌, ◌<◌, ◌∷◌, [], ◌++◌, List, drop, reverse, length, sym, ap, ◌∙◌, subst, refl}
-use Rattle.board_prelude.proofs.Common.{reverse-append, reverse-reverse, Entry, Setup, IsAnswer, entries_by, next_entry, map_writes_of}
+use Rattle.board_prelude.proofs.Common.{reverse-append, reverse-reverse, Entry, Setup, IsAnswer, entries_by, next_entry}
+use Rattle.board_prelude.proofs.Common.{map_writes_of}
 use mathlib.Core.List.{IsPrefix}
-use Rattle.bus_turn.specs.Common.{opened_of as opened_by, seen_of as seen_in, mine_of as mine_in, IsSameCaller as IsSamePass, own_by}
+use Rattle.bus_turn.specs.Common.{opened_of as opened_by, seen_of as seen_in, mine_of as mine_in}
+use Rattle.bus_turn.specs.Common.{IsSameCaller as IsSamePass, own_by}
 use Rattle.bus_turn.proofs.Rows.{prefix_trans}
 use Rattle.map_publish.specs.declared.mark.Mark.{Mark}
 use Rattle.map_publish.specs.Lists.{opened_of}
 use Rattle.board_live.specs.Common.{known_after, most_each, IsSameBoard, setup_in, opened_in}
-use Rattle.board_live.proofs.Turns.{Finds, finds, known_left, passed_again, opens_again, own_pushed, own_first, passed_idly, HasLearnt, has_learnt}
+use Rattle.board_live.proofs.Turns.{Finds, finds, known_left, passed_again, opens_again, own_pushed, own_first}
+use Rattle.board_live.proofs.Turns.{passed_idly, HasLearnt, has_learnt}
 use Rattle.board_live.proofs.cpu.Cpu.bus.Goals as goal
 
 pub step-requires-clause-few : goal.step-requires-clause-few

@@ -1,4 +1,5 @@
-use Rattle.std.proofs.Common.{rules, ◌≡◌, ℕ, ◌+◌, List, Some, [], ◌∷◌, ◌++◌, length, map, sym, ap, ◌∙◌, subst, refl, arith, length-append}
+use Rattle.std.proofs.Common.{rules, ◌≡◌, ℕ, ◌+◌, List, Some, [], ◌∷◌, ◌++◌, length, map, sym, ap, ◌∙◌, subst, refl}
+use Rattle.std.proofs.Common.{arith, length-append}
 use Rattle.board_prelude.proofs.Common.{range_with_len, All-nil, All-push}
 use Rattle.std.proofs.lemmas.List.Elements.{All-same, All-pop}
 use Rattle.board_live.specs.declared.cpu.Cpu.{Cpu}

@@ -1,8 +1,10 @@
-use Rattle.std.proofs.Common.{rules, ◌≡◌, ℕ, ◌<◌, List, ◌∷◌, length, drop, get_or, remove, reverse, All, Some, sym, ◌∙◌, subst}
+use Rattle.std.proofs.Common.{rules, ◌≡◌, ℕ, ◌<◌, List, ◌∷◌, length, drop, get_or, remove, reverse, All, Some, sym, ◌∙◌}
+use Rattle.std.proofs.Common.{subst}
 use Rattle.board_prelude.proofs.Common.{Any, All-cons, All-get_or, IsPermutation-sym, All-permutation, Entry}
 use Rattle.std.proofs.lemmas.List.Sorted.{IsPermutation-remove}
 use mathlib.Core.List.{IsPrefix}
-use Rattle.bus_turn.specs.Common.{IsSameCaller as IsSamePass, number_of, opened_of as opened_by, part_of, seen_of as seen_in, mine_of as mine_in, own_by}
+use Rattle.bus_turn.specs.Common.{IsSameCaller as IsSamePass, number_of, opened_of as opened_by, part_of}
+use Rattle.bus_turn.specs.Common.{seen_of as seen_in, mine_of as mine_in, own_by}
 use Rattle.board_core.specs.Kept.{Standing}
 use Rattle.board_live.specs.declared.cpu.Cpu.{Cpu}
 use Rattle.board_live.specs.Common.{opened_with, ClosesBoard}

@@ -1,4 +1,5 @@
-use Rattle.std.proofs.Common.{rules, ◌≡◌, ℕ, ◌+◌, ◌≤◌, Option, Some, [], length, map, reverse, All, sym, ap, ◌∙◌, subst, arith}
+use Rattle.std.proofs.Common.{rules, ◌≡◌, ℕ, ◌+◌, ◌≤◌, Option, Some, [], length, map, reverse, All, sym, ap, ◌∙◌, subst}
+use Rattle.std.proofs.Common.{arith}
 use Rattle.board_prelude.proofs.Common.{Any, range_with_len, reverse-reverse, length-map, map_writes_of}
 use Rattle.std.proofs.lemmas.List.FromFn.{length-range_with_len}
 use Rattle.std.proofs.lemmas.List.Elements.{All-weaker}
@@ -9,7 +10,8 @@ use Rattle.map_publish.specs.declared.viewer.Viewer.{Viewer}
 use Rattle.map_publish.specs.Lists.{opened_of, changes_of}
 use Rattle.board_live.specs.declared.cpu.Cpu.{Cpu}
 use Rattle.shared_board.specs.declared.shared.Origin.{Origin}
-use Rattle.board_live.specs.Common.{IsMapOpened, origin_in, opened_with, callers_in, opened_in, setup_in, IsViewerFor, IsNew, IsNewOf}
+use Rattle.board_live.specs.Common.{IsMapOpened, origin_in, opened_with, callers_in, opened_in, setup_in, IsViewerFor}
+use Rattle.board_live.specs.Common.{IsNew, IsNewOf}
 use Rattle.board_live.proofs.Standing.{stands_after}
 use Rattle.board_live.proofs.Opening.{opened_viewer, any_numbered}
 use Rattle.board_live.proofs.live.Live.open.Goals as goal

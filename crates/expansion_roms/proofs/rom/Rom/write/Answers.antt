@@ -11,7 +11,8 @@ returns c =
     let fits : c.args.off + length bytes ≤ length now =
     subst (λ (all : List ℕ). c.args.off + length bytes ≤ length all) (sym same) c.requires.within in
     let stretch : List ℕ =
-    take c.args.off now ++ (c.copy_from_slice.new.self ++ drop (c.args.off + length bytes - c.args.off) (drop c.args.off now)) in
+    take c.args.off now
+    ++ (c.copy_from_slice.new.self ++ drop (c.args.off + length bytes - c.args.off) (drop c.args.off now)) in
     let long = length_same now bytes c.copy_from_slice.new.self c.args.off fits c.copy_from_slice.ensures.after in
     let whole : (with_items c.self.inside.bytes stretch).items ≡ stretch =
     with_items_is c.self.inside.bytes stretch (long ∙ c.deref_mut.ensures.len) in

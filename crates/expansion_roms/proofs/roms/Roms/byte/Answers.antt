@@ -6,5 +6,6 @@ pub returns-then-at-count : goal.returns-then-at-count
 returns-then-at-count c =
     let past : length c.self.inside.all.items ≤ c.args.dev = omega arith in
     record {
-      byte = rw (← c.self.view_is, none_past c.self.inside.all.items c.args.dev past) (sym (none_in c.args.off c.args.old));
+      byte = rw (← c.self.view_is, none_past c.self.inside.all.items c.args.dev past)
+          (sym (none_in c.args.off c.args.old));
     }

@@ -1,4 +1,5 @@
-use Rattle.std.proofs.Common.{rules, ◌≡◌, List, length, map, take, drop, reverse, Option, None, Some, sym, ◌∙◌, ap, subst}
+use Rattle.std.proofs.Common.{rules, ◌≡◌, List, length, map, take, drop, reverse, Option, None, Some, sym, ◌∙◌, ap}
+use Rattle.std.proofs.Common.{subst}
 use Rattle.board_prelude.proofs.Common.{reverse-reverse, length-take-le, Entry, Setup, IsLegal}
 use Rattle.run_order.specs.declared.done.Done.{Done}
 use Rattle.run_order.specs.Common.{over, placed, Order, all_looks_in}
