@@ -1,6 +1,6 @@
 -- No answer depends on the looks and the numbers before it: each definition over histories gives the same without them.
 use Rattle.std.proofs.Common.{◌≡◌, ℕ, zero, suc, ◌+◌, ◌==◌, nat_lt, Bool, true, List, [], ◌∷◌, ◌++◌, length, refl, sym, ◌∙◌, ap, inl, inr, Option, Some, None, unwrap_or, option_map, option_and_then, if◌then◌else◌}
-use Rattle.board_prelude.proofs.Common.{option_to_list, option_map_or, cases_Bool, WideAccess, PortAccess, Kind, Width, Reg, Target, Dram, Shadow, Smram, Rom, Card, Device, Config, Abort, Dev, Pic0, Pic1, Pit, System, Keyboard, Elcr, Ata, Wires, Vector, Spurious, largest_of, Triggers, triggers_at_reset, trigger_byte, PitState, out_of, pulses, port_read, reset as timer_at_reset, Clock, after_reset as clock_after_reset, read_value, Disk, read_of, Pair, pair_at_reset, pair_after_lines, port_byte, answer_of, Event, Memory, Wide, Port, Ack, Pulses, Time, Wire, Line, BadSector, Look, Parts as PartList, Reply, Bus, Saw, Entry, MapChange, Setup, installed, wide, pirq, control_written, control_after, resets_hard, reset_control, is_hard_reset, address_written, kept_address, config_address, config_store, register_change, byte_with, byte_of, touches_map, map_change_of, map_writes_of, Cell, DramCell, CardCell, entry_put, stored_of, dram_byte, expansion_byte, parts_of, wire_set, wire_of, line_set, irq_of, triggers_after, triggers_of, SystemPort, system_at_reset, system_after, system_of, timer_after, timer_of, clock_after, clock_of, disk_after, disk_with, disk_of, pirqs, levels_with, levels_of, elcr_of, pair_after, pair_pulsed, pair_reset_or_after, pair_stepped, pair_of, device_value, system_value, who_answered, IsOfMemory, SameDevices, MemoryLeavesDevices, IsAnswer, memory_answer, part_answer, wide_value, IsWideAnswer, port_answer, port_value, value_at, IsLookAnswer, map-same, SameDrivers, levels-same, disk_of-same, elcr-same}
+use Rattle.board_prelude.proofs.Common.{option_to_list, option_map_or, cases_Bool, WideAccess, PortAccess, Kind, Width, Reg, Target, Dram, Shadow, Smram, Rom, Card, Device, Config, Abort, Dev, Pic0, Pic1, Pit, System, Keyboard, Elcr, Ata, Wires, Vector, Spurious, largest_of, Triggers, triggers_at_reset, trigger_byte, PitState, out_of, pulses, port_read, reset as timer_at_reset, Clock, after_reset as clock_after_reset, read_value, Disk, read_of, Pair, pair_at_reset, pair_after_lines, port_byte, answer_of, Event, Memory, Wide, Port, Ack, Pulses, Time, Wire, Line, BadSector, Look, Parts as PartList, Reply, Bus, Saw, Entry, MapChange, Setup, installed, wide, pirq, control_written, control_after, resets_hard, reset_control, is_hard_reset, address_written, kept_address, config_address, config_store, register_change, byte_with, byte_of, touches_map, map_change_of, map_writes_of, Cell, DramCell, CardCell, entry_put, stored_of, dram_byte, expansion_byte, parts_of, wire_set, wire_of, line_set, irq_of, triggers_after, triggers_of, SystemPort, system_at_reset, system_after, system_of, timer_after, timer_of, clock_after, clock_of, disk_after, disk_with, disk_of, pirqs, levels_with, levels_of, elcr_of, pair_after, pair_pulsed, pair_reset_or_after, pair_stepped, pair_of, device_value, system_value, who_answered, IsOfMemory, SameDevices, MemoryLeavesDevices, IsAnswer, memory_answer, part_answer, wide_value, IsWideAnswer, port_answer, port_value, value_at, IsLookAnswer, map-same, SameDrivers, levels-same, disk_of-same, elcr-same, card_at, card_byte, kept_size}
 use Rattle.board_base.specs.declared.access.Access.{Access}
 use Rattle.board_base.specs.declared.target.Dev.TheVariants.{Confadd, Reset, Clock as ClockChip}
 use Rattle.device_spec.specs.Ata.Steps.{after_reset as disk_after_reset}
@@ -369,15 +369,18 @@ module _ (leaves : MemoryLeavesDevices) (setup : Setup) (final before : List Ent
     dram_same : dram_byte setup final ≡ dram_byte setup before
     dram_same = λ i addr. if nat_lt addr (installed setup) then cells_same i (DramCell addr) else 0xFF
 
+    card_same : (dev base : ℕ) → card_byte setup final dev base ≡ card_byte setup before dev base
+    card_same dev base = λ i off.
+        if base == 6 then expansion_byte dev off else
+        if nat_lt off (kept_size (card_at setup dev) base) then cells_same i (CardCell dev base off) else 0xFF
+
     value_same : (target : Target) (addr : ℕ) (width : Width)
         → value_at setup final target addr width ≡ value_at setup before target addr width
     value_same (Dram row) addr width = ap (λ (f : ℕ → ℕ). wide f addr width) dram_same
     value_same (Shadow row) addr width = ap (λ (f : ℕ → ℕ). wide f addr width) dram_same
     value_same Smram addr width = ap (λ (f : ℕ → ℕ). wide f addr width) dram_same
     value_same (Rom off) addr width = refl
-    value_same (Card dev base off) addr width =
-        ap (λ (f : Cell → ℕ). wide (λ at. if base == 6 then expansion_byte dev at else f (CardCell dev base at)) off
-        width) cells_same
+    value_same (Card dev base off) addr width = ap (λ (f : ℕ → ℕ). wide f off width) (card_same dev base)
     value_same (Config reg) addr width = ap (λ (f : Reg → ℕ). wide (λ off. f (record reg { off = off })) reg.off width)
         bytes_same
     value_same (Device dev) addr width = port_same dev addr width
