@@ -1,6 +1,6 @@
 //! Which call of a chipset, or of what stands over it, a line is, by its word.
 
-use crate::{image, master, parts, pieces, ports, range, serial, setup, state, uart};
+use crate::{image, master, parts, pieces, ports, range, serial, setup, state};
 use board_base::NoMemory;
 use std::alloc::Global;
 
@@ -30,7 +30,6 @@ pub fn answer(
     text: &mut String,
 ) -> Result<(), NoMemory> {
     match call {
-        "uart" => uart::tell(words, text),
         "serial" => serial::tell(alloc, words, text),
         "master" => master::tell(alloc, words, text),
         "pieces" => pieces::tell(alloc, words, text),

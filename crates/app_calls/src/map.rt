@@ -1,7 +1,7 @@
 //! The address map without a board. `edges` and cards, then `dev.off.bytes=value` stores and `addr?` asks for the next edge
 //! above an address; `touches` and cards, then `dev.off.bytes` asks whether the map depends on a byte of such a store;
-//! `changes` and cards, then stores, each told with the first and last address of what it may have changed; `windows` the
-//! same, each told with the windows that the last map write changed; `reset` is a hard reset.
+//! `changes` and cards, then stores, each told with the first and last address of what it may have changed; `reset` is a hard
+//! reset.
 
 ghost use Rattle.std.specs.Prelude.{◌≡◌, ◌<◌, ◌≤◌, IfSome};
 ghost use Rattle.board_spec.specs.Setup.{IsCard};
@@ -185,15 +185,16 @@ fn is_other(map: &FlatMap, copy: &mut FlatMap, change: &MapChange, changed: Chan
     again != changed || copy.ranges() != map.ranges()
 }
 
-/// Makes a change by both calls, and tells the first and last address of what it may have changed.
+/// Makes a change by both calls, by one of them on a copy, and tells the first and last address of what it may have changed.
 fn tell_change(map: &mut FlatMap, change: &MapChange, text: &mut String) -> Result<(), AllocError> {
     let mut copy = map.copy();
+    let has_windows = copy.changed() == map.changed();
     let changed = map.apply(change);
     push_interval(text, &changed)?;
-    if is_other(map, &mut copy, change, changed) {
-        return text.push_str(" counted as another change");
+    if has_windows && !is_other(map, &mut copy, change, changed) {
+        return Ok(());
     }
-    Ok(())
+    text.push_str(" copied or counted as another")
 }
 
 /// A change of a map, on a line of its own.
@@ -215,69 +216,6 @@ pub fn tell_changes(words: &[&str], text: &mut String) -> Result<(), NoMemory> {
     let mut map = FlatMap::from_scratch(registers(cards));
     for step in steps {
         push_change(&mut map, step, text)?;
-    }
-    Ok(())
-}
-
-/// Makes a change, a store by the call that tells nothing.
-fn make(map: &mut FlatMap, change: &MapChange) {
-    match change {
-        MapChange::Store { reg, width, value } => map.store(*reg, *width, *value),
-        MapChange::Reset => {
-            map.apply(change);
-        }
-    }
-}
-
-/// Tells the windows that the last change changed.
-fn push_windows(text: &mut String, map: &FlatMap) -> Result<(), AllocError> {
-    for window in map.changed() {
-        text.push(' ')?;
-        push_interval(text, window)?;
-    }
-    Ok(())
-}
-
-/// Whether a copy of a map has its windows.
-fn is_copied(map: &FlatMap) -> bool {
-    let copy = map.copy();
-    copy.changed() == map.changed()
-}
-
-/// Makes a change, and tells the windows that it changed.
-fn tell_windows_of(
-    map: &mut FlatMap,
-    change: &MapChange,
-    text: &mut String,
-) -> Result<(), AllocError> {
-    make(map, change);
-    push_windows(text, map)?;
-    if is_copied(map) {
-        return Ok(());
-    }
-    text.push_str(" copied as other windows")
-}
-
-/// The windows of a change, on a line of their own.
-fn push_step(map: &mut FlatMap, step: &str, text: &mut String) -> Result<(), AllocError> {
-    match change(step) {
-        Some(change) => {
-            write!(text, "\n  {step}:")?;
-            tell_windows_of(map, &change, text)
-        }
-        None => Ok(()),
-    }
-}
-
-/// Changes of a map, one after another, with the windows that stand after each.
-pub fn tell_windows(words: &[&str], text: &mut String) -> Result<(), NoMemory> {
-    let Some((cards, steps)) = words.split_first() else {
-        return Ok(text.push_str("no cards")?);
-    };
-    let mut map = FlatMap::from_scratch(registers(cards));
-    write!(text, "{} windows", map.changed().len())?;
-    for step in steps {
-        push_step(&mut map, step, text)?;
     }
     Ok(())
 }

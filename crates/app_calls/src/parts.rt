@@ -1,6 +1,6 @@
 //! Which part of the board a call asks, by its word.
 
-use crate::{bridge, disk_state, map, media, pair, plain, south, stretches, timer};
+use crate::{bridge, disk_state, map, media, plain, south, stretches, timer};
 use board_base::NoMemory;
 use std::alloc::Global;
 
@@ -9,9 +9,11 @@ fn word<'a>(words: &[&'a str], at: usize) -> &'a str {
     words.get(at).copied().unwrap_or("")
 }
 
-/// Appends what the BIOS ranges and ports of the south bridge answer.
-fn answer_of_select(call: &str, words: &[&str], text: &mut String) -> Result<(), NoMemory> {
+/// Appends what the south bridge answers.
+fn answer_of_south(call: &str, words: &[&str], text: &mut String) -> Result<(), NoMemory> {
     match call {
+        "ide" => south::tell_ide(words, text),
+        "isa" => south::tell_isa(words, text),
         "selects" => south::tell_selects(words, text),
         "bios" => south::tell_bios(word(words, 0), word(words, 1), word(words, 2), text),
         "xbcs" => south::tell_xbcs(word(words, 0), word(words, 1), text),
@@ -19,25 +21,16 @@ fn answer_of_select(call: &str, words: &[&str], text: &mut String) -> Result<(),
     }
 }
 
-/// Appends what the registers of the south bridge answer.
-fn answer_of_south(call: &str, words: &[&str], text: &mut String) -> Result<(), NoMemory> {
-    match call {
-        "elcr" => south::tell_elcr(words, text),
-        "routes" => south::tell_routes(words, text),
-        "ide" => south::tell_ide(words, text),
-        "isa" => south::tell_isa(words, text),
-        _ => answer_of_select(call, words, text),
-    }
-}
-
-/// Appends what the host bridge answers of shadow windows, rows, hole and SMRAM.
-fn answer_of_rows(
+/// Appends what the host bridge answers.
+fn answer_of_north(
     alloc: Global,
     call: &str,
     words: &[&str],
     text: &mut String,
 ) -> Result<(), NoMemory> {
     match call {
+        "space" => bridge::tell_space(words, text),
+        "confadd" => bridge::tell_address(words, text),
         "window" => bridge::tell_window(word(words, 0), text),
         "pam" => bridge::tell_pam(words, text),
         "pmc" => bridge::tell_pmc(words, text),
@@ -48,23 +41,7 @@ fn answer_of_rows(
     }
 }
 
-/// Appends what stretches of bytes answer, and the host bridge's address.
-fn answer_of_bytes(
-    alloc: Global,
-    call: &str,
-    words: &[&str],
-    text: &mut String,
-) -> Result<(), NoMemory> {
-    match call {
-        "dram" => stretches::tell_dram(alloc, words, text),
-        "card-bytes" => stretches::tell_card(alloc, words, text),
-        "space" => bridge::tell_space(words, text),
-        "confadd" => bridge::tell_address(words, text),
-        _ => answer_of_rows(alloc, call, words, text),
-    }
-}
-
-/// Appends what the address map answers.
+/// Appends what the address map, stretches of bytes and widths answer.
 fn answer_of_map(
     alloc: Global,
     call: &str,
@@ -75,24 +52,10 @@ fn answer_of_map(
         "edges" => map::tell_edges(words, text),
         "touches" => map::tell_touches(words, text),
         "changes" => map::tell_changes(words, text),
-        "windows" => map::tell_windows(words, text),
         "cycles" => stretches::tell_cycles(words, text),
-        _ => answer_of_bytes(alloc, call, words, text),
-    }
-}
-
-/// Appends what the pair of 8259As answers, and the plain words.
-fn answer_of_words(
-    alloc: Global,
-    call: &str,
-    words: &[&str],
-    text: &mut String,
-) -> Result<(), NoMemory> {
-    match call {
-        "pair" => pair::tell(words, text),
+        "dram" => stretches::tell_dram(alloc, words, text),
         "width" => plain::tell_width(words, text),
-        "moment" => plain::tell_moment(words, text),
-        _ => answer_of_map(alloc, call, words, text),
+        _ => answer_of_north(alloc, call, words, text),
     }
 }
 
@@ -110,6 +73,6 @@ pub fn answer(
         "disk" => media::tell_disk(alloc, words, text),
         "disk-state" => disk_state::tell_state(alloc, words, text),
         "disk-load" => disk_state::tell_load(alloc, word(words, 0), word(words, 1), text),
-        _ => answer_of_words(alloc, call, words, text),
+        _ => answer_of_map(alloc, call, words, text),
     }
 }

@@ -1,92 +1,13 @@
 //! The south bridge's parts by themselves, each line a new one.
 
-use crate::told::{push_byte, push_register, push_some};
+use crate::told::{push_register, push_some};
 use board_base::NoMemory;
 use call_words::{byte, number, port};
-use device_spec::LINE_COUNT;
-use pirq_router::{Elcr, Pirq};
 use std::alloc::AllocError;
 use xbus_select::{Ide, Piix, rom_offset, rom_selected, xbcs_after};
 
-/// The registers of function 0 have these offsets below the routes.
+/// The registers of function 0 have these offsets below the routes of the PCI interrupts.
 const ISA_END: u8 = 0x60;
-
-/// A step at the edge and level control registers.
-fn act_elcr(elcr: &mut Elcr, step: &str, text: &mut String) -> Result<(), AllocError> {
-    match step.split_once('=') {
-        Some((which, value)) => {
-            elcr.write(which == "high", byte(value));
-            Ok(())
-        }
-        None => push_byte(text, elcr.read(step == "high?")),
-    }
-}
-
-/// The edge and level control registers: `low=FF` writes one, `high?` reads one, `reset` is one.
-pub fn tell_elcr(steps: &[&str], text: &mut String) -> Result<(), NoMemory> {
-    let mut elcr = Elcr::new();
-    for step in steps {
-        if *step == "reset" {
-            elcr.reset();
-        } else {
-            act_elcr(&mut elcr, step, text)?;
-        }
-    }
-    Ok(())
-}
-
-/// The levels that digits say.
-fn levels_of(pins: &str) -> [bool; 4] {
-    let digits = pins.as_bytes();
-    let mut levels = [false; 4];
-    for pin in 0..digits.len().min(4) {
-        levels[pin] = digits[pin] == b'1';
-    }
-    levels
-}
-
-/// The lines that pins drive.
-fn push_route(text: &mut String, pirq: &Pirq, pins: &str) -> Result<(), AllocError> {
-    let lines = pirq.route(levels_of(pins));
-    let mut is_any = false;
-    for line in 0..LINE_COUNT as u8 {
-        if lines.level(line) {
-            is_any = true;
-            write!(text, "line {line} ")?;
-        }
-    }
-    if !is_any {
-        text.push_str("no line ")?;
-    }
-    Ok(())
-}
-
-/// A step at the routes that is no reset.
-fn act_routes(pirq: &mut Pirq, step: &str, text: &mut String) -> Result<(), AllocError> {
-    if let Some(pins) = step.strip_prefix('@') {
-        return push_route(text, pirq, pins);
-    }
-    match step.split_once('=') {
-        Some((off, value)) => {
-            pirq.write(byte(off), byte(value));
-            Ok(())
-        }
-        None => push_byte(text, pirq.read(byte(step.trim_end_matches('?')))),
-    }
-}
-
-/// The routes: `60=0B` writes PIRQRCA, `60?` reads it, `@1101` tells the lines that these pins drive, `reset` is one.
-pub fn tell_routes(steps: &[&str], text: &mut String) -> Result<(), NoMemory> {
-    let mut pirq = Pirq::new();
-    for step in steps {
-        if *step == "reset" {
-            pirq.reset();
-        } else {
-            act_routes(&mut pirq, step, text)?;
-        }
-    }
-    Ok(())
-}
 
 /// A register of the IDE function after a reset, after ones, and after a reset again.
 pub fn tell_ide(offsets: &[&str], text: &mut String) -> Result<(), NoMemory> {

@@ -1,16 +1,13 @@
-//! Stretches of bytes in DRAM and in a card's base, and the cycles of accesses to ports.
+//! Stretches of bytes in DRAM, and the cycles of accesses to ports.
 
 ghost use Rattle.std.specs.Prelude.{◌≡◌, ◌%◌};
-ghost use Rattle.board_spec.specs.Setup.{IsCard};
 ghost use Rattle.board_base.specs.Access.{bytes_of};
 
 use crate::told::{push_bytes, push_hex, space};
-use arrayvec::ArrayVec;
 use board_base::{NoMemory, PortAccess, Width};
 use board_stores::port_cycles;
 use call_words::{byte, bytes_of, number, port_access, width};
 use dram_store::Dram;
-use pci_bars::{BaseSpec, CardSpec, Contents};
 use std::alloc::{AllocError, Global};
 
 /// How many bytes a read of a stretch asks for.
@@ -175,78 +172,4 @@ pub fn tell_dram(alloc: Global, words: &[&str], text: &mut String) -> Result<(),
     };
     let mut dram = Dram::open(alloc, 1 + number(mib).wrapping_sub(1) % 3)?;
     Ok(act_all(alloc, &mut dram, steps, text)?)
-}
-
-/// The device of the card, whose base 0 has 1 MiB of memory and whose base 1 has 16 ports.
-const CARD: u8 = 2;
-
-fn card() -> CardSpec
-    ensures card { IsCard result }
-    ensures dev { result.dev ≡ 2 }
-{
-    let mut bases = ArrayVec::new();
-    bases.push(BaseSpec::Memory(20));
-    bases.push(BaseSpec::Io(4));
-    CardSpec {
-        dev: CARD,
-        vga: true,
-        bases,
-        rom: None,
-    }
-}
-
-/// Writes a stretch of a base, where it is within.
-fn write_card(contents: &mut Contents, base: u8, off: u32, bytes: &[u8]) {
-    if base < 8 && (off as usize).saturating_add(bytes.len()) <= contents.size(CARD, base) {
-        contents.write_bytes(CARD, base, off, bytes);
-    }
-}
-
-/// Reads eight bytes of a base, where they are within.
-fn read_card(contents: &Contents, base: u8, off: u32, text: &mut String) -> Result<(), AllocError> {
-    if base >= 8 || (off as usize).saturating_add(READ_BYTES) > contents.size(CARD, base) {
-        return text.push_str("past the end");
-    }
-    let mut found = [0xEE; READ_BYTES];
-    contents.read_bytes(CARD, base, off, &mut found);
-    push_bytes(text, &found)
-}
-
-/// A step at the card: `0.FFFF8=0102` writes a stretch of a base, and `0.FFFF8?` reads eight bytes.
-fn act_card(
-    alloc: Global,
-    contents: &mut Contents,
-    step: &str,
-    text: &mut String,
-) -> Result<(), AllocError> {
-    let Some((base, rest)) = step.split_once('.') else {
-        return text.push_str("no step");
-    };
-    let (off, digits) = cut_at(rest);
-    match digits {
-        Some(digits) => {
-            write_card(contents, byte(base), off, &bytes_of(alloc, digits)?);
-            text.push('-')
-        }
-        None => read_card(contents, byte(base), off, text),
-    }
-}
-
-fn act_on_card(
-    alloc: Global,
-    contents: &mut Contents,
-    steps: &[&str],
-    text: &mut String,
-) -> Result<(), AllocError> {
-    for step in steps {
-        space(text)?;
-        act_card(alloc, contents, step, text)?;
-    }
-    Ok(())
-}
-
-/// Does all steps at the bytes of a card.
-pub fn tell_card(alloc: Global, steps: &[&str], text: &mut String) -> Result<(), NoMemory> {
-    let mut contents = Contents::open(alloc, &[card()])?;
-    Ok(act_on_card(alloc, &mut contents, steps, text)?)
 }
