@@ -4,6 +4,7 @@
 #![tactic(auto)]
 
 mod com1;
+mod given;
 mod interrupt;
 pub mod laws;
 mod line;
