@@ -16,9 +16,16 @@
  *     in PORT BYTES COUNT, out PORT BYTES VALUE..        accesses to a port in turn
  *     put ADDR BYTE.., set ADDR BYTE                     bytes into the DRAM and into the clock
  *     fill ADDR BYTES BYTE                               as many bytes of one value into the DRAM
- *     save ROOM, load                                    the board as bytes, and the board of these bytes
+ *     save ROOM [DRAM] [DISK], load                      the board as bytes, without those of the DRAM or of the disk where
+ *                                                        a number is not 0, and the board of these bytes
+ *     keep DRAM SECTORS                                  keeps so many bytes of the DRAM, and so many sectors
+ *     with DRAM FITTED SECTORS                           the board of the bytes that were saved, with so many of those that
+ *                                                        are kept, and of a disk as it is fitted
  *     turn AT BITS, cut COUNT                            turns bits of a byte that was saved; keeps so many
  *     master ADDR BYTES WRITE                            where an access of a bus master would land
+ *     begin TABLE LBA SECTORS READABLE TO_MEMORY         a transfer of the bus master
+ *     stand TABLE ADDR LEFT MOVED WORDS LBA READABLE LAST TO_MEMORY RESERVED   one with these numbers
+ *     next, region BASE COUNT                            its next piece; the region of a descriptor
  *     told DEVICE BASE OFFSET BYTES                      bytes of a card, out
  *     give DEVICE BASE OFFSET BYTE..                     and in
  *
@@ -40,7 +47,7 @@
 #include <stdlib.h>
 #include <string.h>
 
-enum { MOST_CARDS = 10, MOST_NUMBERS = 64, LINE = 1024, WEEKDAY = 6 };
+enum { MOST_CARDS = 10, MOST_NUMBERS = 64, LINE = 1024, WEEKDAY = 6, SECTOR = 512 };
 
 /* The numbers after the first word of a line; those that are left out are 0. */
 static uint64_t numbers[MOST_NUMBERS];
@@ -55,6 +62,10 @@ static board_event event;
 static board_reply reply;
 static uint8_t *image;
 static size_t image_bytes;
+
+/* Bytes that are kept beside what was saved, and the bus master's transfer. */
+static uint8_t *kept_dram, *kept_sectors;
+static board_transfer transfer;
 
 static board *open_board(void) {
     return &boards[current];
@@ -154,11 +165,16 @@ static void take_place(uint32_t status) {
     current ^= 1;
 }
 
+static uint8_t *disk_of(size_t bytes) {
+    uint8_t *disk = room_for(bytes, 1);
+    for (size_t k = 0; k < bytes; k++) disk[k] = (uint8_t)(k / 0x100);
+    return disk;
+}
+
 static void opened(void) {
     size_t rom_bytes = (size_t)numbers[1], disk_bytes = (size_t)numbers[2];
-    uint8_t *rom = room_for(rom_bytes, 1), *disk = room_for(disk_bytes, 1);
+    uint8_t *rom = room_for(rom_bytes, 1), *disk = disk_of(disk_bytes);
     for (size_t k = 0; k < rom_bytes; k++) rom[k] = (uint8_t)k;
-    for (size_t k = 0; k < disk_bytes; k++) disk[k] = (uint8_t)(k / 0x100);
     take_place(board_open(&boards[current ^ 1], (uint32_t)numbers[0], cards, card_count, rom, rom_bytes, disk,
                           disk_bytes));
     card_count = 0;
@@ -172,7 +188,10 @@ static void closed(void) {
 static void save(void) {
     size_t room = (size_t)numbers[0], bytes = 0;
     uint8_t *into = room_for(room, 1);
-    uint32_t status = tell_status(board_save(open_board(), into, room, &bytes));
+    bool dram_out = numbers[1] != 0, disk_out = numbers[2] != 0;
+    uint32_t status = tell_status(dram_out || disk_out
+                                      ? board_save_without(open_board(), dram_out, disk_out, into, room, &bytes)
+                                      : board_save(open_board(), into, room, &bytes));
     printf(" bytes=%zX", bytes);
     if (status == BOARD_OK) {
         free(image);
@@ -182,11 +201,33 @@ static void save(void) {
     }
 }
 
-static void load(void) {
+/* What was saved, in a room of just its size. */
+static uint8_t *saved_bytes(void) {
     uint8_t *from = room_for(image_bytes, 1);
     if (image_bytes) memcpy(from, image, image_bytes);
+    return from;
+}
+
+static void load(void) {
+    uint8_t *from = saved_bytes();
     take_place(board_load(&boards[current ^ 1], from, image_bytes));
     free(from);
+}
+
+static void keep(void) {
+    size_t sectors = (size_t)numbers[1];
+    free(kept_dram), free(kept_sectors);
+    kept_dram = room_for((size_t)numbers[0], 1), kept_sectors = room_for(sectors, SECTOR);
+    tell_status(board_dram_read(open_board(), 0, kept_dram, (size_t)numbers[0]));
+    for (size_t k = 0; k < sectors; k++)
+        tell_status(board_disk_read(open_board(), (uint32_t)k, kept_sectors + SECTOR * k, SECTOR));
+}
+
+static void load_with(void) {
+    uint8_t *from = saved_bytes(), *fitted = disk_of((size_t)numbers[1]);
+    take_place(board_load_with(&boards[current ^ 1], from, image_bytes, kept_dram, (size_t)numbers[0], fitted,
+                               (size_t)numbers[1], kept_sectors, (size_t)numbers[2]));
+    free(from), free(fitted);
 }
 
 static void turn(void) {
@@ -264,6 +305,41 @@ static void master(void) {
     board_part part = {0};
     tell_status(board_decode_master(open_board(), (uint32_t)numbers[0], (uint8_t)numbers[1], numbers[2] != 0, &part));
     tell_part("", &part);
+}
+
+static void tell_transfer(void) {
+    const board_transfer *t = &transfer;
+    printf(" |");
+    TELL("", t, table), TELL("", t, addr), TELL("", t, left), TELL("", t, moved), TELL("", t, words), TELL("", t, lba);
+    TELL("", t, readable), TELL("", t, is_last), TELL("", t, to_memory), TELL("", t, reserved);
+}
+
+static void begin(void) {
+    tell_status(board_transfer_begin(&transfer, (uint32_t)numbers[0], (uint32_t)numbers[1], (uint32_t)numbers[2],
+                                     (uint32_t)numbers[3], numbers[4] != 0));
+    tell_transfer();
+}
+
+static void stand(void) {
+    transfer = (board_transfer){.table = (uint32_t)numbers[0], .addr = (uint32_t)numbers[1], .left = (uint32_t)numbers[2],
+                                .moved = (uint32_t)numbers[3], .words = (uint32_t)numbers[4], .lba = (uint32_t)numbers[5],
+                                .readable = (uint32_t)numbers[6], .is_last = (uint8_t)numbers[7],
+                                .to_memory = (uint8_t)numbers[8], .reserved = (uint16_t)numbers[9]};
+    tell_transfer();
+}
+
+static void next(void) {
+    board_piece piece = {0}, *p = &piece;
+    tell_status(board_transfer_next(open_board(), &transfer, p));
+    TELL("", p, what), TELL("", p, end), TELL("", p, status), TELL("", p, addr), TELL("", p, bytes), TELL("", p, disk);
+    TELL("", p, sector), TELL("", p, reserved);
+    tell_part("0.", &p->part[0]), tell_part("1.", &p->part[1]);
+    tell_transfer();
+}
+
+static void region(void) {
+    tell_status(board_transfer_region(&transfer, (uint32_t)numbers[0], (uint32_t)numbers[1]));
+    tell_transfer();
 }
 
 static void map(void) {
@@ -495,7 +571,8 @@ static const struct { const char *word; void (*call)(void); } calls[] = {
     {"text", text}, {"map", map}, {"rise", rise}, {"dram", dram}, {"sector", sector}, {"clock", clock_byte},
     {"lines", lines}, {"serial", serial}, {"second", second}, {"in", in}, {"out", out}, {"put", put}, {"set", set},
     {"fill", fill}, {"save", save}, {"load", load}, {"turn", turn}, {"cut", cut}, {"master", master}, {"told", told},
-    {"give", give},
+    {"give", give}, {"keep", keep}, {"with", load_with}, {"begin", begin}, {"stand", stand}, {"next", next},
+    {"region", region},
 };
 
 static void read_numbers(char *words) {
@@ -531,6 +608,6 @@ int main(void) {
         printf("\n");
     }
     board_close(open_board());
-    free(image);
+    free(image), free(kept_dram), free(kept_sectors);
     return 0;
 }
