@@ -177,9 +177,10 @@ module _ (chipset : Running) (history : List Entry) (left : IsLeftBy chipset his
       let told = all_told next later (round_readable first next round readable) rounds.1 in
       record {
         pieces = round.told.piece ∷ told.pieces;
-        next =
-            (round.told.next history first.cells first.medium left readable,
-            subst (λ (p : Point). AreNext chipset.setup bytes told.pieces p) (sym done) told.next);
+        next = (
+          round.told.next history first.cells first.medium left readable,
+          subst (λ (p : Point). AreNext chipset.setup bytes told.pieces p) (sym done) told.next,
+        );
         done = ap (all_done chipset.setup bytes told.pieces) done ∙ told.done;
         readable = told.readable;
       }

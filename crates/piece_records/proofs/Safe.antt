@@ -67,10 +67,11 @@ pub safe_so : (setup : Setup) (bytes : Bytes) (going : Going) (piece : Piece) �
     IfMove piece (λ stretch. stretch.addr < 2 ^ 32) → IfMove piece (IsInArea setup bytes going) →
     IfMove piece (IsStretch going) → IfMove piece IsOutsideSmramRange →
     AreSafe piece (piece_said (master_part setup bytes) going piece)
-safe_so setup bytes going (Descriptor addr) low aligned fits area is outside =
-    (doubleword_safe setup bytes going.place.table low aligned,
-    doubleword_safe setup bytes (address_after going.place.table 4) (omega arith)
-    (next_doubleword going.place.table aligned))
+safe_so setup bytes going (Descriptor addr) low aligned fits area is outside = (
+  doubleword_safe setup bytes going.place.table low aligned,
+  doubleword_safe setup bytes (address_after going.place.table 4) (omega arith)
+      (next_doubleword going.place.table aligned),
+)
 safe_so setup bytes going (Move stretch) low aligned fits area is outside =
     words_safe setup bytes (kind_of going.direction) stretch
     (ap (λ (at : ℕ). master_area setup bytes at (kind_of going.direction)) (sym (first_word stretch.addr fits))

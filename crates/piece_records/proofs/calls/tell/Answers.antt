@@ -17,14 +17,14 @@ returns-clause-done c =
     let piece = c.next_by-next.result in
     let next = c.next_by-next.ensures in
     let stands : (history : List Entry) → IsLeftBy c.args.chipset.now history →
-        StandsFor c.args.chipset.now.setup (byte_of c.args.chipset.now.setup history) (map_bytes c.regs.result.now)
-        = λ history left. rw c.regs.ensures.regs (c.map.ensures.stands history left) in
+    StandsFor c.args.chipset.now.setup (byte_of c.args.chipset.now.setup history) (map_bytes c.regs.result.now)
+    = λ history left. rw c.regs.ensures.regs (c.map.ensures.stands history left) in
     let tells = λ (history : List Entry) (left : IsLeftBy c.args.chipset.now history).
-        subst
-        (λ (g : Going). c.piece_record.result
-        ≡ piece_said (master_part c.args.chipset.now.setup (byte_of c.args.chipset.now.setup history)) g
-        c.next_by-next.result)
-        going (c.piece_record.ensures.said history left) in
+    subst
+    (λ (g : Going). c.piece_record.result
+    ≡ piece_said (master_part c.args.chipset.now.setup (byte_of c.args.chipset.now.setup history)) g
+    c.next_by-next.result)
+    going (c.piece_record.ensures.said history left) in
     record {
       is = c.requires.sound;
       piece = piece;
