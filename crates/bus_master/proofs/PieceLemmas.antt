@@ -14,7 +14,7 @@ use Rattle.bus_master.specs.declared.piece.Piece.TheVariants.{Descriptor, Move, 
 use Rattle.bus_master.specs.declared.piece.Stretch.{Stretch}
 use Rattle.bus_master.specs.Common.{Cells, Master, Moving, TransferPlace, ◌and_then◌, abort_in, address_after, answered, end_of, ended, even, is_used_up, kind_of, master_value, moved_on, next_moved, next_sector, next_word, ready_for, region_found, region_taken, sector_tested, table_tested, transferred, with_region, word_moved, words_moved}
 use Rattle.bus_master.specs.Transfer.{size_of}
-use Rattle.bus_master.specs.Pieces.{AreNext, ComesToTheTransfer, Going, HasPassed, IsDescriptor, IsEnd, IsInArea, IsMemory, IsMove, IsNext, IsOutsideSmramRange, IsStretch, Point, abort_at, all_done, copied, described, going_at_start, gone_on, is_missing, once_done, outcome, standing, went_on}
+use Rattle.bus_master.specs.Pieces.{AreNext, ComesToTheTransfer, Going, HasPassed, IfMove, IsDescriptor, IsEnd, IsInArea, IsMemory, IsMove, IsNext, IsOutsideSmramRange, IsStretch, Point, abort_at, all_done, copied, described, going_at_start, gone_on, is_missing, once_done, outcome, standing, went_on}
 use Rattle.bus_master.proofs.WordLemmas.{next_word_is, region_left, same_answers, sector_left, table_left, words_add, words_stay}
 
 -- a region has bytes
@@ -203,6 +203,17 @@ module _ (setup : Setup) (bytes : Bytes) (going : Going) (cells : Cells) (medium
               passed.over passed.sector (rw used refl) first second)
               ∙ sym (first_word setup bytes (described base count going) cells medium passed.some);
         }
+
+-- ---- words that begin a sector are moved only where it can be read
+
+pub of_any_move : (P : Type 0) (piece : Piece) → P → IfMove piece (λ stretch. P)
+of_any_move P (Descriptor addr) holds = tt
+of_any_move P (Move stretch) holds = holds
+of_any_move P (Ended end) holds = tt
+
+pub begins_readable : (word : ℕ) (readable : Bool) → (word == 0 && not readable) ≡ false → word ≡ 0 → readable ≡ true
+begins_readable word true passed first = refl
+begins_readable word false passed first = absurd (cc (rw first at passed))
 
 -- ---- words of a stretch
 

@@ -4,4 +4,5 @@ pub mod Transfer
 pub mod Stores
 pub mod UnderWay
 pub mod Pieces
+pub mod States
 pub mod Common

@@ -43,6 +43,11 @@ going_at_start master lba count = record {
 abbrev pub is_missing : (lba : ℕ) → TransferPlace → Medium → Bool
 is_missing lba place medium = next_word place == 0 && not (is_readable medium (next_sector lba place))
 
+-- of the sector of the next word, where there is one, it is said whether it is there and not bad
+abbrev pub IsSaid : Going → Medium → (readable : Bool) → Type 0
+IsSaid going medium readable =
+    1 ≤ going.words → is_readable medium (next_sector going.lba going.place) ≡ readable
+
 -- ---- what the definition comes to
 
 abbrev pub standing : Going → Cells → Medium → Moving

@@ -7,6 +7,7 @@ mod memory;
 mod piece;
 mod pieces;
 mod registers;
+mod state;
 mod transfer;
 mod under_way;
 
@@ -14,3 +15,4 @@ pub use done::{Done, End};
 pub use piece::{Piece, Stretch};
 pub use pieces::{Transfer, law_pieces};
 pub use registers::{BusMaster, COMMAND, DIRECTION, START, STATUS, TABLE};
+pub use state::TransferState;

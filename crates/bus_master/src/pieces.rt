@@ -1,14 +1,14 @@
 //! A transfer in pieces: a caller is told what comes next, and does it to a memory that it keeps itself.
 
-ghost use Rattle.std.specs.Prelude.{ℕ, ◌≡◌, ◌≢◌, ◌<◌, ◌≤◌, ◌+◌, ◌*◌, ◌^◌, true, false, None, IfSome, option_map};
+ghost use Rattle.std.specs.Prelude.{ℕ, ◌≡◌, ◌≢◌, ◌<◌, ◌≤◌, ◌+◌, ◌*◌, ◌^◌, ◌==◌, ◌&&◌, true, not, option_map};
 ghost use Rattle.board_prelude.specs.Common.{Setup, Bytes, Medium};
 ghost use Rattle.ata_pio.specs.Words.{is_readable};
 ghost use Rattle.pci_bars.specs.Cards.{AreFitted};
 ghost use Rattle.addr_decode.specs.Common.{StandsFor, map_bytes};
 ghost use Rattle.bus_master.specs.Cells.{Cells};
 ghost use Rattle.bus_master.specs.Registers.{is_started};
-ghost use Rattle.bus_master.specs.Transfer.{Moving, done_of, master_after, medium_of, next_sector};
-ghost use Rattle.bus_master.specs.Pieces.{ComesToTheTransfer, HasPassed, IfMove, IsEnd, IsNext, IsOutsideSmramRange, IsStretch, abort_at, described, going_at_start, going_from, gone_on, is_missing, went_on};
+ghost use Rattle.bus_master.specs.Transfer.{Moving, done_of, kind_of, master_after, medium_of, next_sector, next_word};
+ghost use Rattle.bus_master.specs.Pieces.{ComesToTheTransfer, HasPassed, IfMove, IsEnd, IsInArea, IsNext, IsOutsideSmramRange, IsSaid, IsStretch, abort_at, described, going_at_start, going_from, gone_on, went_on};
 
 use crate::direction::Direction;
 use crate::done::{Done, End};
@@ -25,10 +25,10 @@ use std::marker::Model;
 /// see how far it has come, and what it still has to move.
 #[derive(Drop)]
 pub struct Transfer {
-    way: UnderWay,
-    direction: Direction,
-    lba: u32,
-    words: u32,
+    pub(crate) way: UnderWay,
+    pub(crate) direction: Direction,
+    pub(crate) lba: u32,
+    pub(crate) words: u32,
 }
 
 impl Model for Transfer {
@@ -85,8 +85,39 @@ impl Transfer {
         ensures smram { (setup : Setup) (bytes : Bytes) → StandsFor setup bytes (map_bytes regs.now)
             → IfMove result IsOutsideSmramRange }
     {
+        self.next_by(regs, is_readable(disk, self.sector()))
+    }
+
+    /// What comes next, as `next` tells it, over any disk: its caller says whether the sector of the next word (`sector`)
+    /// is there and not bad.
+    pub fn next_by(&self, regs: &MapRegs, readable: bool) -> Piece
+        requires cards { AreFitted regs.now.cards.items }
+        ensures next { (setup : Setup) (bytes : Bytes) (cells : Cells) (medium : Medium)
+            → StandsFor setup bytes (map_bytes regs.now) → IsSaid self.now medium readable
+            → IsNext setup bytes self.now cells medium result }
+        ensures stretch { IfMove result (IsStretch self.now) }
+        ensures area { (setup : Setup) (bytes : Bytes) → StandsFor setup bytes (map_bytes regs.now)
+            → IfMove result (IsInArea setup bytes self.now) }
+        ensures there { IfMove result (λ stretch. next_word self.now.place ≡ 0 → readable ≡ true) }
+        ensures smram { (setup : Setup) (bytes : Bytes) → StandsFor setup bytes (map_bytes regs.now)
+            → IfMove result IsOutsideSmramRange }
+    {
         self.way
-            .next_piece(regs, disk, self.direction, self.lba, self.words)
+            .next_piece(regs, readable, self.direction, self.lba, self.words)
+    }
+
+    /// What it does with memory: writes it where words go from the disk.
+    pub fn kind(&self) -> Kind
+        ensures kind { result ≡ kind_of self.now.direction }
+    {
+        self.direction.kind()
+    }
+
+    /// The sector of the next word.
+    pub fn sector(&self) -> u32
+        ensures sector { result ≡ next_sector self.now.lba self.now.place }
+    {
+        self.way.sector(self.lba)
     }
 
     /// Takes the two doublewords of a descriptor that was wanted.
@@ -122,7 +153,7 @@ impl UnderWay {
     fn next_piece(
         &self,
         regs: &MapRegs,
-        disk: Option<&Ata>,
+        readable: bool,
         direction: Direction,
         lba: u32,
         words: u32,
@@ -130,10 +161,14 @@ impl UnderWay {
         requires cards { AreFitted regs.now.cards.items }
         requires lba { lba < 2 ^ 28 }
         requires moved { self.now.moved + 2 * words ≤ 0x2_0000 }
-        ensures next { (setup : Setup) (bytes : Bytes) (cells : Cells) → StandsFor setup bytes (map_bytes regs.now)
-            → IsNext setup bytes (going_from self.now direction lba words) cells
-            (medium_of (option_map (λ ata. ata.now) disk.entry)) result }
+        ensures next { (setup : Setup) (bytes : Bytes) (cells : Cells) (medium : Medium)
+            → StandsFor setup bytes (map_bytes regs.now)
+            → IsSaid (going_from self.now direction lba words) medium readable
+            → IsNext setup bytes (going_from self.now direction lba words) cells medium result }
         ensures stretch { IfMove result (IsStretch (going_from self.now direction lba words)) }
+        ensures area { (setup : Setup) (bytes : Bytes) → StandsFor setup bytes (map_bytes regs.now)
+            → IfMove result (IsInArea setup bytes (going_from self.now direction lba words)) }
+        ensures there { IfMove result (λ stretch. next_word self.now ≡ 0 → readable ≡ true) }
         ensures smram { (setup : Setup) (bytes : Bytes) → StandsFor setup bytes (map_bytes regs.now)
             → IfMove result IsOutsideSmramRange }
     {
@@ -143,30 +178,28 @@ impl UnderWay {
         if self.is_over() {
             return Piece::Ended(End::Shorter);
         }
-        match self.missing_sector(disk, lba) {
-            Some(sector) => Piece::Ended(End::Sector { lba: sector }),
-            None => self.next_access(regs, direction, lba, words),
+        if self.is_missing(readable) {
+            return Piece::Ended(End::Sector {
+                lba: self.sector(lba),
+            });
         }
+        self.next_access(regs, direction, lba, words)
     }
 
-    /// The sector of the next word, where that is its first and it does not exist or is bad.
-    fn missing_sector(&self, disk: Option<&Ata>, lba: u32) -> Option<u32>
+    /// Whether the next word is the first of a sector that is not readable.
+    fn is_missing(&self, readable: bool) -> bool
+        ensures missing { result ≡ (next_word self.now == 0 && not readable) }
+    {
+        self.moved % SECTOR_BYTES == 0 && !readable
+    }
+
+    /// The sector of the next word.
+    fn sector(&self, lba: u32) -> u32
         requires lba { lba < 2 ^ 28 }
         requires moved { self.now.moved ≤ 0x2_0000 }
-        ensures missing { IfSome result (λ sector. (sector ≡ next_sector lba self.now)
-            × (is_missing lba self.now (medium_of (option_map (λ ata. ata.now) disk.entry)) ≡ true)) }
-        ensures there { result ≡ None
-            → is_missing lba self.now (medium_of (option_map (λ ata. ata.now) disk.entry)) ≡ false }
+        ensures sector { result ≡ next_sector lba self.now }
     {
-        let sector = lba + self.moved / SECTOR_BYTES;
-        if self.moved % SECTOR_BYTES != 0 {
-            return None;
-        }
-        if is_readable(disk, sector) {
-            None
-        } else {
-            Some(sector)
-        }
+        lba + self.moved / SECTOR_BYTES
     }
 
     /// The access that comes next: to the table, where the region is used up.
@@ -180,6 +213,8 @@ impl UnderWay {
             → HasPassed (going_from self.now direction lba words) medium
             → IsNext setup bytes (going_from self.now direction lba words) cells medium result }
         ensures stretch { IfMove result (IsStretch (going_from self.now direction lba words)) }
+        ensures area { (setup : Setup) (bytes : Bytes) → StandsFor setup bytes (map_bytes regs.now)
+            → IfMove result (IsInArea setup bytes (going_from self.now direction lba words)) }
         ensures smram { (setup : Setup) (bytes : Bytes) → StandsFor setup bytes (map_bytes regs.now)
             → IfMove result IsOutsideSmramRange }
     {
@@ -235,6 +270,8 @@ impl UnderWay {
             → HasPassed (going_from self.now direction lba most) medium
             → IsNext setup bytes (going_from self.now direction lba most) cells medium result }
         ensures stretch { IfMove result (IsStretch (going_from self.now direction lba most)) }
+        ensures area { (setup : Setup) (bytes : Bytes) → StandsFor setup bytes (map_bytes regs.now)
+            → IfMove result (IsInArea setup bytes (going_from self.now direction lba most)) }
         ensures smram { (setup : Setup) (bytes : Bytes) → StandsFor setup bytes (map_bytes regs.now)
             → IfMove result IsOutsideSmramRange }
     {

@@ -4,7 +4,7 @@ ghost use Rattle.std.specs.Prelude.{ℕ, ◌≡◌, ◌<◌, ◌≤◌, ◌^◌,
 ghost use Rattle.board_prelude.specs.Common.{Setup, Bytes, is_smram_range, Cell};
 ghost use Rattle.dram_store.specs.Dram.{dram_at};
 ghost use Rattle.bus_master.specs.Registers.{is_started, is_to_memory};
-ghost use Rattle.bus_master.specs.Transfer.{direction_of, done_of, end_of, master_after, Moving, status_bits, with_medium};
+ghost use Rattle.bus_master.specs.Transfer.{direction_of, done_of, end_of, master_after, Moving, with_medium};
 ghost use Rattle.board_chipset.specs.Stores.{IsOfBoard, IsStoreOf};
 ghost use Rattle.bus_master.specs.Stores.{cells_of, DiffersInSmramAlone, HasSameShape, IsCell, transfer_of};
 
@@ -80,19 +80,7 @@ impl BusMaster {
             → self.new ≡ master_after self.old moving }
     {
         self.command = self.command / 2 * 2;
-        self.status = self.status / 8 * 8 + status_bits(end);
+        self.status = self.status / 8 * 8 + end.status_bits();
         self.table = table;
-    }
-}
-
-/// How bits 2 to 0 of the status show an end: interrupt, error, active.
-fn status_bits(end: End) -> u8
-    ensures bits { result ≡ status_bits end }
-{
-    match end {
-        End::Exact => 0b100,
-        End::Longer => 0b101,
-        End::Shorter => 0b000,
-        End::Abort { .. } | End::Sector { .. } => 0b010,
     }
 }
