@@ -5,7 +5,7 @@ use Rattle.board_chipset.specs.Common.{IsOutsideSmram}
 use Rattle.board_records.specs.Numbers.{dram_target, shadow_target, smram_target}
 use Rattle.board_records.specs.Replies.{part_said, target_said}
 
-said_target : (target : Target) (denial : Option Denial) →
+pub said_target : (target : Target) (denial : Option Denial) →
     (part_said target denial).target ≡ (target_said target).target
 unfolding part_said
 said_target target None = refl
@@ -27,10 +27,10 @@ pub no_smram_said : (target : Target) (denial : Option Denial) → target ≢ Sm
     (part_said target denial).target ≢ smram_target
 no_smram_said target denial other = λ is. no_smram_target target other (sym (said_target target denial) ∙ is)
 
-abbrev IsMemory : ℕ → Type 0
+abbrev pub IsMemory : ℕ → Type 0
 IsMemory target = (target ≡ dram_target) ⊎ (target ≡ shadow_target)
 
-no_memory : (target : ℕ) → 3 ≤ target → IsMemory target → ⊥
+pub no_memory : (target : ℕ) → 3 ≤ target → IsMemory target → ⊥
 no_memory target past (inl is) = omega (arith, past, is)
 no_memory target past (inr is) = omega (arith, past, is)
 

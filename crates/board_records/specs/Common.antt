@@ -14,5 +14,5 @@ pub use Rattle.board_records.specs.Replies.{area_said, of_part, target_said, wit
 unfoldable pub use Rattle.board_records.specs.Replies.{part_said, serial_said}
 pub use Rattle.board_records.specs.Seconds.{HasNoSecond, IsSecondStep}
 pub use Rattle.board_records.specs.Standing.{AreLinesTold, serial_state_said}
-pub use Rattle.board_records.specs.Statuses.{IsEventRefusal, closed, no_byte, no_cycle, no_event, no_memory, no_reply, no_room, no_time, ok, past_end}
+pub use Rattle.board_records.specs.Statuses.{IsEventRefusal, closed, no_byte, no_cycle, no_event, no_memory, no_reply, no_room, no_time, no_transfer, ok, past_end}
 pub use Rattle.board_records.specs.Steps.{IsAskedStep, IsHistoryOf, after_step}

@@ -79,6 +79,10 @@ bad_image = 26
 abbrev pub other_version : ℕ
 other_version = 27
 
+-- the numbers are those of no transfer of a bus master
+abbrev pub no_transfer : ℕ
+no_transfer = 28
+
 -- why a setup opens no board
 abbrev pub setup_status : SetupFault → ℕ
 setup_status Memory = bad_size

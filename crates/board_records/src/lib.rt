@@ -31,5 +31,5 @@ pub use door::Door;
 pub use event::{EventRecord, event_of};
 pub use image::write_front;
 pub use map::{AreaRecord, MapRecord, RangeRecord, WindowRecord};
-pub use reply::{AfterStep, PartRecord, ReplyRecord, tell};
+pub use reply::{AfterStep, PartRecord, ReplyRecord, of_part, tell};
 pub use standing::SerialRecord;

@@ -14,9 +14,17 @@ use crate::door::Door;
 use crate::master::tell_master_place;
 use crate::reply::PartRecord;
 use crate::status::{NO_MEMORY, OK, PAST_END};
+use board_chipset::Chipset;
 use std::alloc::Global;
 
 impl Door {
+    /// The chipset behind it.
+    pub fn chipset(&self) -> &Chipset
+        ensures chipset { OnBoard self.now (λ serial. result.now ≡ serial.board) }
+    {
+        self.serial.board()
+    }
+
     /// Tells where an access of a bus master would land, and what would deny it: never SMRAM, nor memory at A0000h to
     /// BFFFFh. Refused with `NO_CYCLE` where it is not of 1, 2 or 4 bytes at a multiple of them.
     pub fn tell_master_place(

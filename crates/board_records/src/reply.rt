@@ -429,7 +429,7 @@ fn no_part() -> PartRecord
 
 /// A part, in few steps where a row of DRAM answers it.
 #[tactic(auto, unfolding(crate::specs::Replies::part_said))]
-pub(crate) fn of_part(part: Part) -> PartRecord
+pub fn of_part(part: Part) -> PartRecord
     ensures part { result ≡ of_part part }
 {
     match (part.target, part.denial) {

@@ -61,6 +61,8 @@ pub const NO_TIME: u32 = 25;
 pub const BAD_IMAGE: u32 = 26;
 /// The bytes are those of a board as another version saved it.
 pub const OTHER_VERSION: u32 = 27;
+/// The numbers are those of no transfer of a bus master.
+pub const NO_TRANSFER: u32 = 28;
 
 /// The status of an event that is out of range.
 pub fn fault_status(fault: OutOfRange) -> u32

@@ -1,0 +1,61 @@
+-- What the numbers of a transfer say, and what a piece changes of it.
+use Rattle.std.proofs.Common.{◌≡◌, ℕ, zero, suc, ◌+◌, ◌-◌, ◌*◌, ◌/◌, ◌==◌, nat_lt, Bool, true, false, refl, ◌∙◌, arith}
+use Rattle.board_prelude.proofs.Common.{Medium, Setup, Bytes}
+use Rattle.ata_pio.specs.Words.{is_readable}
+use Rattle.bus_master.specs.declared.direction.Direction.{Direction}
+use Rattle.bus_master.specs.declared.direction.Direction.TheVariants.{ToMemory, ToDisk}
+use Rattle.bus_master.specs.Pieces.{Going, IsSaid}
+use Rattle.bus_master.specs.Pieces.{copied}
+use Rattle.bus_master.specs.States.{direction_to}
+use Rattle.bus_master.specs.Transfer.{Moving, next_sector}
+use Rattle.bus_master.specs.Transfer.{word_moved}
+use Rattle.piece_records.specs.declared.transfer.TransferRecord.{TransferRecord}
+use Rattle.piece_records.specs.Transfers.{AreReadable, IsTransfer, flag, going_in, memory_flag, recorded}
+
+-- ---- the numbers of a transfer say it
+
+flag_is : (b : Bool) → (flag b == 1) ≡ b
+flag_is true = refl
+flag_is false = refl
+
+direction_is : (direction : Direction) → direction_to (memory_flag direction == 1) ≡ direction
+direction_is ToMemory = refl
+direction_is ToDisk = refl
+
+pub going_recorded : (going : Going) (readable : ℕ) → going_in (recorded going readable) ≡ going
+going_recorded going readable = rw (flag_is going.place.is_last, direction_is going.direction) refl
+
+-- ---- the disk
+
+-- of the sector of the next word it is told whether it can be read
+pub said_by_count : (transfer : TransferRecord) (medium : Medium) → IsTransfer transfer → AreReadable transfer medium →
+    IsSaid (going_in transfer) medium
+    (nat_lt (next_sector transfer.lba (going_in transfer).place - transfer.lba) transfer.readable)
+said_by_count transfer medium is readable some =
+    rw (count transfer.lba transfer.moved)
+    (readable (transfer.moved / 512) (omega (arith, is.begun)) (omega (arith, some)))
+  where
+    count : (lba moved : ℕ) → lba + moved / 512 - lba ≡ moved / 512
+    count lba moved = omega arith
+
+module _ (setup : Setup) (bytes : Bytes) (lba sector : ℕ) where
+  word_readable : (direction : Direction) (moving : Moving) →
+      is_readable (word_moved setup bytes direction lba moving).medium sector ≡ is_readable moving.medium sector
+  unfolding word_moved
+  word_readable ToMemory moving = refl
+  word_readable ToDisk moving = refl
+
+  pub copied_readable : (direction : Direction) (words : ℕ) (moving : Moving) →
+      is_readable (copied setup bytes direction lba words moving).medium sector ≡ is_readable moving.medium sector
+  unfolding copied
+  copied_readable direction zero moving = refl
+  copied_readable direction (suc words) moving =
+      word_readable direction (copied setup bytes direction lba words moving) ∙ copied_readable direction words moving
+
+pub still_readable : (old new : TransferRecord) (medium later : Medium) → new.lba ≡ old.lba →
+    new.readable ≡ old.readable → new.moved + 2 * new.words ≡ old.moved + 2 * old.words →
+    ((sector : ℕ) → is_readable later sector ≡ is_readable medium sector) → AreReadable old medium →
+    AreReadable new later
+still_readable old new medium later lba readable whole same are k below within =
+    rw (lba, readable)
+    (same (old.lba + k) ∙ are k (rw readable at below) (rw whole at within))

@@ -1,0 +1,80 @@
+-- No part of a piece is SMRAM, nor memory at A0000h to BFFFFh.
+use Rattle.std.proofs.Common.{◌≡◌, ℕ, ◌*◌, ◌%◌, ◌<◌, ◌^◌, false, Option, sym, ap, subst, ◌∙◌, arith}
+use Rattle.board_prelude.proofs.Common.{nat_tests, Area, Denial, Kind, Read, Setup, Bytes, is_smram_range, target_at}
+use Rattle.board_base.specs.declared.target.Area.TheVariants.{Dram as DramArea, Shadow as ShadowArea, Smram as SmramArea, Rom as RomArea, Card as CardArea, Abort as NobodysArea}
+use Rattle.addr_decode.specs.Common.{master_area}
+use Rattle.board_chipset.specs.Common.{master_part}
+use Rattle.board_records.specs.Replies.{of_part, part_said}
+use Rattle.board_records.proofs.Masters.{IsMemory as IsMemoryTarget, no_memory, no_smram_said, outside_said, said_target}
+use Rattle.board_chipset.proofs.MasterSteps.{no_smram, outside_smram}
+use Rattle.bus_master.specs.declared.piece.Piece.{Piece}
+use Rattle.bus_master.specs.declared.piece.Piece.TheVariants.{Descriptor, Move, Ended}
+use Rattle.bus_master.specs.declared.piece.Stretch.{Stretch}
+use Rattle.bus_master.specs.Pieces.{Going, IfMove, IsInArea, IsMemory, IsOutsideSmramRange, IsStretch}
+use Rattle.bus_master.specs.Transfer.{address_after, kind_of}
+use Rattle.piece_records.specs.Pieces.{AreSafe, IsSafe, piece_said}
+
+-- ---- a doubleword
+
+beside : (addr i : ℕ) → addr < 2 ^ 32 → addr % 4 ≡ 0 → i < 4 → is_smram_range addr ≡ false → is_smram_range (address_after addr i) ≡ false
+beside addr i fits aligned below outside = grind (arith, nat_tests)
+
+doubleword_safe : (setup : Setup) (bytes : Bytes) (addr : ℕ) → addr < 2 ^ 32 → addr % 4 ≡ 0 →
+    IsSafe (of_part (master_part setup bytes Read addr)) addr 4
+doubleword_safe setup bytes addr fits aligned =
+    let part = master_part setup bytes Read addr in
+    record {
+      no_smram = no_smram_said part.target part.denial (no_smram setup bytes Read addr);
+      outside = λ memory i below.
+          beside addr i fits aligned below
+          (outside_said part.target part.denial addr (outside_smram setup bytes Read addr) memory);
+    }
+
+-- ---- words in one area
+
+memory_area : (setup : Setup) (area : Area) (addr : ℕ) (denial : Option Denial) →
+    IsMemoryTarget (part_said (target_at setup area addr) denial).target → IsMemory area
+memory_area setup (DramArea row) addr denial is = tt
+memory_area setup (ShadowArea row) addr denial is = tt
+memory_area setup SmramArea addr denial is = absurd (no_memory _ (omega arith) (rw (said_target _ denial) at is))
+memory_area setup RomArea addr denial is = absurd (no_memory _ (omega arith) (rw (said_target _ denial) at is))
+memory_area setup (CardArea dev base) addr denial is = absurd (no_memory _ (omega arith) (rw (said_target _ denial) at is))
+memory_area setup NobodysArea addr denial is = absurd (no_memory _ (omega arith) (rw (said_target _ denial) at is))
+
+words_safe : (setup : Setup) (bytes : Bytes) (kind : Kind) (stretch : Stretch) →
+    master_area setup bytes stretch.addr kind ≡ stretch.area → IsOutsideSmramRange stretch →
+    IsSafe (of_part (master_part setup bytes kind stretch.addr)) stretch.addr (2 * stretch.words)
+words_safe setup bytes kind stretch area outside =
+    let part = master_part setup bytes kind stretch.addr in
+    record {
+      no_smram = no_smram_said part.target part.denial (no_smram setup bytes kind stretch.addr);
+      outside = λ memory.
+          outside
+          (subst IsMemory area
+          (memory_area setup (master_area setup bytes stretch.addr kind) stretch.addr part.denial memory));
+    }
+
+-- ---- a piece
+
+next_doubleword : (addr : ℕ) → addr % 4 ≡ 0 → address_after addr 4 % 4 ≡ 0
+next_doubleword addr aligned = omega (arith, aligned)
+
+first_word : (addr : ℕ) → addr < 2 ^ 32 → address_after addr (2 * 0) ≡ addr
+first_word addr fits = omega (arith, fits)
+
+pub safe_so : (setup : Setup) (bytes : Bytes) (going : Going) (piece : Piece) → going.place.table < 2 ^ 32 →
+    going.place.table % 4 ≡ 0 →
+    IfMove piece (λ stretch. stretch.addr < 2 ^ 32) → IfMove piece (IsInArea setup bytes going) →
+    IfMove piece (IsStretch going) → IfMove piece IsOutsideSmramRange →
+    AreSafe piece (piece_said (master_part setup bytes) going piece)
+safe_so setup bytes going (Descriptor addr) low aligned fits area is outside = (
+  doubleword_safe setup bytes going.place.table low aligned,
+  doubleword_safe setup bytes (address_after going.place.table 4) (omega arith)
+      (next_doubleword going.place.table aligned),
+)
+safe_so setup bytes going (Move stretch) low aligned fits area is outside =
+    words_safe setup bytes (kind_of going.direction) stretch
+    (ap (λ (at : ℕ). master_area setup bytes at (kind_of going.direction)) (sym (first_word stretch.addr fits))
+    ∙ area 0 is.some)
+    outside
+safe_so setup bytes going (Ended end) low aligned fits area is outside = tt

@@ -1,0 +1,4 @@
+pub mod Transfers
+pub mod Pieces
+pub mod Driven
+pub mod Common
