@@ -19,7 +19,7 @@ extern "C" {
 #endif
 
 /* The version of this interface: the records and numbers of this file, and the calls. */
-#define BOARD_INTERFACE 6u
+#define BOARD_INTERFACE 7u
 /* That of the library: BOARD_INTERFACE where this file is its own. No handle, no refusal. */
 uint32_t board_version(void);
 
@@ -55,7 +55,8 @@ enum board_status {
     BOARD_SERIAL_FULL = 24, /* COM1 can receive no byte: its queue is full, or loopback is on */
     BOARD_NO_TIME = 25,    /* the clock stands: SET is 1, or its registers say no date or time */
     BOARD_BAD_IMAGE = 26,  /* the bytes are no saved board */
-    BOARD_OTHER_VERSION = 27 /* they are those of a board as another version saved it */
+    BOARD_OTHER_VERSION = 27, /* they are those of a board as another version saved it */
+    BOARD_NO_TRANSFER = 28 /* the numbers are those of no transfer of a bus master */
 };
 
 /* What a status says, in a line without a line feed. */
@@ -86,6 +87,7 @@ static inline const char *board_status_text(uint32_t status) {
     case BOARD_NO_TIME: return "the clock stands, or shows no date and time";
     case BOARD_BAD_IMAGE: return "the bytes are no saved board";
     case BOARD_OTHER_VERSION: return "another version saved these bytes";
+    case BOARD_NO_TRANSFER: return "the numbers are those of no transfer";
     default: return "no status of this library";
     }
 }
@@ -385,6 +387,70 @@ uint32_t board_cmos_write(board *handle, uint8_t address, uint8_t byte);
  * CLOSED, PAST_END; NO_MEMORY only of a ROM into which no bytes were put yet. */
 uint32_t board_card_write(board *handle, uint8_t device, uint8_t base, uint32_t offset,
                           const uint8_t *from, size_t bytes);
+
+/* ---- a transfer of the bus master, over memory and a disk that the caller keeps (82371SB, 2.7;
+ * Programming Interface for Bus Master IDE Controller). The caller has the three registers of the
+ * channel, and the board only its memory map, which stays as it is. */
+
+/* A transfer, as far as it has come. board_transfer_begin fills it; it holds no pointer and owns
+ * nothing, so it may be copied, kept and dropped. reserved is 0. */
+typedef struct board_transfer {
+    uint32_t table;    /* the address of the next descriptor: at the end, what the table pointer reads */
+    uint32_t addr;     /* where the region in use goes on, and how many bytes it has left */
+    uint32_t left;
+    uint32_t moved;    /* how many bytes were moved, and how many words are still to be */
+    uint32_t words;
+    uint32_t lba;      /* the first sector, and how many from it on are there and can be read */
+    uint32_t readable;
+    uint8_t is_last;   /* 1 where the region is the last of the table */
+    uint8_t to_memory; /* 1 from the disk to memory */
+    uint16_t reserved;
+} board_transfer;
+
+enum board_piece_what {
+    BOARD_DESCRIPTOR = 1, /* a descriptor is to be read */
+    BOARD_WORDS = 2,      /* words are to be moved */
+    BOARD_ENDED = 3       /* the transfer has ended */
+};
+
+enum board_end {
+    BOARD_EXACT = 1,   /* the last word was also the end of the last region */
+    BOARD_LONGER = 2,  /* the table goes on after the last word */
+    BOARD_SHORTER = 3, /* the last region ended, and words remain */
+    BOARD_ABORTED = 4, /* nobody answers at addr; part[0] says what denies it */
+    BOARD_MISSING = 5  /* sector is not there, or cannot be read */
+};
+
+/* What comes next. A part whose target is BOARD_DRAM or BOARD_SHADOW is of memory, at the addresses
+ * themselves, and none of its bytes lies at A0000h to BFFFFh; none is SMRAM. One of BOARD_CARD or
+ * BOARD_ROM has the offset of the first byte; past the end of the ROM it is the ROM's first again,
+ * and a write to the ROM is lost. Past the installed memory a read gives FFh, and a write is lost. */
+typedef struct board_piece {
+    uint64_t disk;     /* BOARD_WORDS: their first byte on the disk, counted from sector 0 on */
+    uint32_t addr;     /* of the descriptor; of the first word in memory; at BOARD_ABORTED */
+    uint32_t bytes;    /* 8; of the words; BOARD_ENDED: how many were moved */
+    uint32_t sector;   /* of the words, which lie in one; at BOARD_MISSING */
+    board_part part[2]; /* of the descriptor's two doublewords; part[0] of all the words */
+    uint8_t what;      /* board_piece_what */
+    uint8_t end;       /* BOARD_ENDED: board_end */
+    uint8_t status;    /* BOARD_ENDED: bits 2 to 0 of the status: interrupt, error, active */
+    uint8_t reserved;
+} board_piece;
+
+/* Begins a transfer of 1 to 256 sectors from lba on, below 2^28, by the table of descriptors at an
+ * address that is a multiple of 4. readable is how many of the sectors, from the first on, are there
+ * and can be read: then one comes that is not, or the last. No handle.
+ * NO_TRANSFER of other numbers. */
+uint32_t board_transfer_begin(board_transfer *transfer, uint32_t table, uint32_t lba,
+                              uint32_t sectors, uint32_t readable, bool to_memory);
+/* Tells the next piece, and takes words as moved. A descriptor stays wanted until
+ * board_transfer_region has its two doublewords. A caller that does each piece before it asks for the
+ * next moves what the bus master would, and ends as it would.
+ * CLOSED, NO_TRANSFER. */
+uint32_t board_transfer_next(board *handle, board_transfer *transfer, board_piece *piece);
+/* Goes on with the region that a descriptor names: its doublewords, the base and the count. No handle.
+ * NO_TRANSFER also where a region is in use. */
+uint32_t board_transfer_region(board_transfer *transfer, uint32_t base, uint32_t count);
 
 /* ---- over board_step, with its statuses */
 

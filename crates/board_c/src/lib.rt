@@ -10,6 +10,7 @@ mod image;
 mod many;
 mod standing;
 mod text;
+mod transfer;
 mod version;
 
 pub use asks::{board_decode, board_pulses_to_rise, board_ranges};
@@ -23,4 +24,5 @@ pub use image::{board_load, board_save};
 pub use many::{board_in_many, board_out_many};
 pub use standing::{board_lines, board_second, board_serial_state};
 pub use text::board_text;
+pub use transfer::{board_transfer_begin, board_transfer_next, board_transfer_region};
 pub use version::board_version;

@@ -1,0 +1,71 @@
+//! A transfer of the bus master in pieces, over memory and a disk that the caller keeps.
+
+ghost use Rattle.std.specs.Prelude.{◌≡◌, ◌≢◌, true, false};
+ghost use Rattle.board_records.specs.Common.{OnBoard, closed, no_transfer, ok};
+ghost use Rattle.piece_records.specs.Common.{IsBeginning, IsPieceTold, IsRegionFree, IsTransfer, begun_at, described_by};
+
+use crate::handle::Handle;
+use board_records::status::CLOSED;
+use piece_records::{PieceRecord, TransferRecord, begin_transfer, next_piece, take_region};
+use std::alloc::Global;
+
+/// Begins a transfer of sectors, 1 to 256, from `lba` on, which is below 2^28, by the table at an address that is a
+/// multiple of 4; the first `readable` of them are there and can be read. `NO_TRANSFER` exactly where one of these is out of
+/// range.
+#[unsafe(no_mangle)]
+pub extern "C" fn board_transfer_begin(
+    transfer: &mut TransferRecord,
+    table: u32,
+    lba: u32,
+    sectors: u32,
+    readable: u32,
+    to_memory: bool,
+) -> u32
+    ensures done { result ≡ ok → transfer.new ≡ begun_at table lba sectors readable to_memory }
+    ensures sound { result ≡ ok → IsTransfer transfer.new }
+    ensures refused { result ≢ ok → (result ≡ no_transfer) × ¬ IsBeginning table lba sectors }
+    ensures unchanged { result ≢ ok → transfer.new ≡ transfer.old }
+{
+    begin_transfer(transfer, table, lba, sectors, readable, to_memory)
+}
+
+/// Tells the next piece of a transfer: a descriptor that is to be read, words that are to be moved, or its end. Words are
+/// taken as moved. `CLOSED` exactly where the handle is closed, and `NO_TRANSFER` exactly where it is open and the
+/// transfer's numbers are those of none.
+#[unsafe(no_mangle)]
+pub extern "C" fn board_transfer_next(
+    alloc: Global,
+    handle: &mut Handle,
+    transfer: &mut TransferRecord,
+    piece: &mut PieceRecord,
+) -> u32
+    ensures kept { handle.new.full ≡ handle.old.full }
+    ensures same { handle.old.full ≡ true → handle.new.held ≡ handle.old.held }
+    ensures closed { handle.old.full ≡ false → result ≡ closed }
+    ensures open { handle.old.full ≡ true → result ≢ closed }
+    ensures done { result ≡ ok → OnBoard handle.old.held
+        (λ serial. IsPieceTold serial.board transfer.old transfer.new piece.new) }
+    ensures sound { result ≡ ok → IsTransfer transfer.new }
+    ensures refused { handle.old.full ≡ true → result ≢ ok → (result ≡ no_transfer) × ¬ IsTransfer transfer.old }
+    ensures unchanged { result ≢ ok → transfer.new ≡ transfer.old }
+    ensures untold { result ≢ ok → piece.new ≡ piece.old }
+{
+    let Some(board) = handle.take(alloc) else {
+        return CLOSED;
+    };
+    let status = next_piece(&board, transfer, piece);
+    handle.put(board);
+    status
+}
+
+/// Goes on in the region that a descriptor names, whose two doublewords are its base and its count. `NO_TRANSFER` exactly
+/// where the transfer's numbers are those of none, or of one that has a region in use.
+#[unsafe(no_mangle)]
+pub extern "C" fn board_transfer_region(transfer: &mut TransferRecord, base: u32, count: u32) -> u32
+    ensures done { result ≡ ok → transfer.new ≡ described_by base count transfer.old }
+    ensures sound { result ≡ ok → IsTransfer transfer.new }
+    ensures refused { result ≢ ok → (result ≡ no_transfer) × ¬ IsRegionFree transfer.old }
+    ensures unchanged { result ≢ ok → transfer.new ≡ transfer.old }
+{
+    take_region(transfer, base, count)
+}
