@@ -53,6 +53,19 @@ static void serial(void) {
     FIELD(board_com1, reserved);
 }
 
+static void transferred(void) {
+    RECORD(board_transfer);
+    FIELD(board_transfer, table), FIELD(board_transfer, addr), FIELD(board_transfer, left), FIELD(board_transfer, moved);
+    FIELD(board_transfer, words), FIELD(board_transfer, lba), FIELD(board_transfer, readable);
+    FIELD(board_transfer, is_last), FIELD(board_transfer, to_memory), FIELD(board_transfer, reserved);
+    RECORD(board_piece);
+    FIELD(board_piece, disk), FIELD(board_piece, addr), FIELD(board_piece, bytes), FIELD(board_piece, sector);
+    FIELD(board_piece, part), FIELD(board_piece, what), FIELD(board_piece, end), FIELD(board_piece, status);
+    FIELD(board_piece, reserved);
+    NUMBER(BOARD_DESCRIPTOR), NUMBER(BOARD_WORDS), NUMBER(BOARD_ENDED);
+    NUMBER(BOARD_EXACT), NUMBER(BOARD_LONGER), NUMBER(BOARD_SHORTER), NUMBER(BOARD_ABORTED), NUMBER(BOARD_MISSING);
+}
+
 static void numbered(void) {
     NUMBER(BOARD_INTERFACE);
     NUMBER(BOARD_MEMORY), NUMBER(BOARD_PORT), NUMBER(BOARD_LOOK), NUMBER(BOARD_ACK), NUMBER(BOARD_PULSE);
@@ -80,6 +93,7 @@ int main(void) {
     replied();
     mapped();
     serial();
+    transferred();
     numbered();
     devices();
     return 0;

@@ -11,13 +11,14 @@ SIZES = {"u8": 1, "bool": 1, "u16": 2, "u32": 4, "u64": 8, "usize": 8, "*mut u8"
 # what a record is called in board.h
 STRUCTS = {"Handle": "board", "EventRecord": "board_event", "PartRecord": "board_part", "ReplyRecord": "board_reply",
            "AreaRecord": "board_area", "RangeRecord": "board_range", "WindowRecord": "board_window", "MapRecord": "board_map",
-           "BaseRecord": "board_base", "CardRecord": "board_card", "SerialRecord": "board_com1"}
+           "BaseRecord": "board_base", "CardRecord": "board_card", "SerialRecord": "board_com1",
+           "TransferRecord": "board_transfer", "PieceRecord": "board_piece"}
 # fields that have another name there
 FIELDS = {("Handle", "full"): "open", ("RangeRecord", "areas"): "area", ("ReplyRecord", "part0"): "part[0]",
-          ("ReplyRecord", "part1"): "part[1]", ("ReplyRecord", "part2"): "part[2]", ("ReplyRecord", "part3"): "part[3]"}
+          ("PieceRecord", "part0"): "part[0]", ("PieceRecord", "part1"): "part[1]", ("ReplyRecord", "part1"): "part[1]", ("ReplyRecord", "part2"): "part[2]", ("ReplyRecord", "part3"): "part[3]"}
 # numbers that have a name of their own there
 NUMBERS = {"PULSES_EVENT": "BOARD_PULSE", "LINE_EVENT": "BOARD_IRQ", "DEVICE_TARGET": "BOARD_IS_DEVICE",
-           "RESET_DEVICE": "BOARD_RESET_CONTROL"}
+           "RESET_DEVICE": "BOARD_RESET_CONTROL", "ABORT_END": "BOARD_ABORTED", "SECTOR_END": "BOARD_MISSING"}
 # statuses of events that no record says, which have no name there
 NOT_GIVEN = {"BYTES", "ALIGNED", "DATE"}
 
@@ -64,12 +65,15 @@ def in_c(constant, is_status):
         return "BOARD_" + constant
     if constant.endswith("_DENIAL"):
         return "BOARD_BY_" + constant.removesuffix("_DENIAL")
-    return "BOARD_" + re.sub(r"_(EVENT|KIND|TARGET|DEVICE)$", "", constant)
+    return "BOARD_" + re.sub(r"_(EVENT|KIND|TARGET|DEVICE|PIECE|END)$", "", constant)
 
 
 def main():
     root = pathlib.Path(sys.argv[1])
-    sources = sorted((root / "crates/board_records/src").glob("*.rt")) + [root / "crates/board_c/src/handle.rt"]
+    crates = root / "crates"
+    sources = [crates / "board_c/src/handle.rt"]
+    for crate in ("board_records", "piece_records"):
+        sources += sorted((crates / crate / "src").glob("*.rt"))
     texts = [source.read_text() for source in sources]
     records = {name: fields for text in texts for name, fields in structs(text)}
     if set(records) != set(STRUCTS):
@@ -84,15 +88,15 @@ def main():
                 c = FIELDS.get((name, field), field)
                 print(f'_Static_assert(offsetof({struct}, {c}) == {at} && sizeof((({struct} *)0)->{c}) == {size}, "{struct}.{c}");')
     count = 0
-    for name in ("numbers", "status"):
-        text = (root / f"crates/board_records/src/{name}.rt").read_text()
-        for constant, value in re.findall(r"^pub const (\w+): u\d+ = (\d+);", text, re.M):
-            if name == "status" and constant in NOT_GIVEN:
+    for source in ("board_records/src/numbers.rt", "board_records/src/status.rt", "piece_records/src/piece.rt"):
+        is_status = source.endswith("status.rt")
+        for constant, value in re.findall(r"^pub const (\w+): u\d+ = (\d+);", (crates / source).read_text(), re.M):
+            if is_status and constant in NOT_GIVEN:
                 continue
-            c = in_c(constant, name == "status")
+            c = in_c(constant, is_status)
             print(f'_Static_assert({c} == {value}, "{constant}");')
             count += 1
-    if count < 65:
+    if count < 74:
         sys.exit(f"layout: only {count} numbers were found")
     print("int main(void) { return 0; }")
 

@@ -129,6 +129,8 @@ static void each_call(void) {
     board_reply r;
     board_map map;
     board_part part;
+    board_transfer transfer;
+    board_piece piece;
     board_event event = {.what = BOARD_MEMORY, .kind = BOARD_READ, .bytes = 4, .addr = 0x1000};
     uint32_t pulses;
     uint8_t byte, line[BOARD_LONGEST_LINE];
@@ -155,6 +157,8 @@ static void each_call(void) {
     board_cmos_write(&b, 0x30, 1), board_cmos_read(&b, 0x30, &byte);
     must("bytes of a card", !board_card_write(&b, 2, 0, 0, bytes, 16) && !board_card_read(&b, 2, 0, 0, bytes, 16));
     must("a bus master's place", !board_decode_master(&b, 0xA0000, 4, true, &part));
+    must("a transfer", !board_transfer_begin(&transfer, 0x1000, 0, 1, 1, true) && !board_transfer_next(&b, &transfer, &piece) &&
+         !board_transfer_region(&transfer, 0x2000, 0) && !board_transfer_next(&b, &transfer, &piece));
     board_out(&b, 0xCF9, 1, 2, &r), board_out(&b, 0xCF9, 1, 6, &r);
     must("a call took memory", allocations == 0);
     must("a hard reset", r.reset == BOARD_HARD_RESET && !board_read(&b, 0x1000, 4, false, &r));

@@ -242,7 +242,7 @@ static void inline_calls(board *b, board *closed) {
 
 static void versions(void) {
     must("the version", board_version() == BOARD_INTERFACE);
-    for (uint32_t status = 0; status <= BOARD_NO_TIME; status++) {
+    for (uint32_t status = 0; status <= BOARD_NO_TRANSFER; status++) {
         int none = status == 10 || status == 11 || status == 14;
         must("the text of a status", (strcmp(board_status_text(status), board_status_text(UINT32_MAX)) == 0) == none);
     }

@@ -16,8 +16,10 @@ from .library import INTERFACE
 from .maps import Map, Range, Window
 from .replies import Answer, Denial, Look, Part, Register, Reset, Target, Value
 from .script import Line, Script, ScriptError, replay
+from .transfers import Descriptor, Ended, Transfer, Words
 
 __all__ = [
-    "INTERFACE", "Answer", "Board", "BoardError", "Card", "Denial", "Event", "Identity", "LibraryError", "Line", "Look", "Map",
-    "Part", "Range", "Register", "Reset", "Script", "ScriptError", "Target", "Value", "Window", "errors", "replay",
+    "INTERFACE", "Answer", "Board", "BoardError", "Card", "Denial", "Descriptor", "Ended", "Event", "Identity", "LibraryError",
+    "Line", "Look", "Map", "Part", "Range", "Register", "Reset", "Script", "ScriptError", "Target", "Transfer", "Value", "Window",
+    "Words", "errors", "replay",
 ]

@@ -12,6 +12,7 @@ from .events import Event, Kind
 from .library import library
 from .maps import Map, Window, range_of
 from .replies import Answer, Denial, Look, Part, Reset, Value, answer_of, part_of
+from .transfers import Transfer
 
 PORTS = 0x10000
 U32 = 1 << 32
@@ -311,6 +312,11 @@ class Board:
         into = (records.U8 * max(count, 1))()
         self._ask("board_card_read", _byte(device, PastEnd), _byte(base, PastEnd), offset, into, count)
         return bytes(into[:count])
+
+    def transfer(self, table: int, lba: int, sectors: int, *, readable: int | None = None, to_memory: bool) -> Transfer:
+        """A transfer of the bus master in pieces, by the table of descriptors at an address, over memory and a disk that the
+        caller keeps; the first `readable` of the sectors are there and can be read, all where nothing is said."""
+        return Transfer(self._ask, self._library, (table, lba, sectors, sectors if readable is None else readable), to_memory)
 
     # ---- bytes that the guest did not write; no reply, and nothing else changes
 

@@ -113,6 +113,10 @@ class OtherVersion(BoardError, status=27):
     """another version saved these bytes"""
 
 
+class NoTransfer(BoardError, status=28):
+    """the numbers are those of no transfer"""
+
+
 class OtherStatus(BoardError, status=-1):
     """a status that this module has no name for"""
 

@@ -15,7 +15,7 @@ import tempfile
 from .errors import LibraryError
 from .records import CALLS
 
-INTERFACE = 6
+INTERFACE = 7
 LIBRARY = "libboard.so"
 HEADER = "board.h"
 RELEASE = pathlib.Path(__file__).resolve().parents[3] / "release"

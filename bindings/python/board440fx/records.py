@@ -83,6 +83,20 @@ class BaseNumber(IntEnum):
     IO_BASE = 2
 
 
+class PieceNumber(IntEnum):
+    DESCRIPTOR = 1
+    WORDS = 2
+    ENDED = 3
+
+
+class EndNumber(IntEnum):
+    EXACT = 1
+    LONGER = 2
+    SHORTER = 3
+    ABORTED = 4
+    MISSING = 5
+
+
 class HandleRecord(c.Structure):
     _fields_ = [("at", c.c_void_p), ("open", c.c_bool)]
 
@@ -134,14 +148,25 @@ class CardRecord(c.Structure):
                 ("subsystem_id", U16), ("revision_id", U8), ("interrupt_pin", U8), ("reserved", U16)]
 
 
+class TransferRecord(c.Structure):
+    _fields_ = [("table", U32), ("addr", U32), ("left", U32), ("moved", U32), ("words", U32), ("lba", U32), ("readable", U32),
+                ("is_last", U8), ("to_memory", U8), ("reserved", U16)]
+
+
+class PieceRecord(c.Structure):
+    _fields_ = [("disk", U64), ("addr", U32), ("bytes", U32), ("sector", U32), ("part", PartRecord * 2), ("what", U8),
+                ("end", U8), ("status", U8), ("reserved", U8)]
+
+
 RECORDS: dict[str, type[c.Structure]] = {
     "board": HandleRecord, "board_event": EventRecord, "board_part": PartRecord, "board_reply": ReplyRecord,
     "board_area": AreaRecord, "board_range": RangeRecord, "board_window": WindowRecord, "board_map": MapRecord,
     "board_com1": Com1Record, "board_base": BaseRecord, "board_card": CardRecord,
+    "board_transfer": TransferRecord, "board_piece": PieceRecord,
 }
 
 NUMBERS: list[type[IntEnum]] = [
-    What, KindNumber, TargetNumber, DeviceNumber, DenialNumber, Form, ResetNumber, BaseNumber,
+    What, KindNumber, TargetNumber, DeviceNumber, DenialNumber, Form, ResetNumber, BaseNumber, PieceNumber, EndNumber,
 ]
 
 _HANDLE, _BYTES, _SIZE = c.POINTER(HandleRecord), c.POINTER(U8), c.c_size_t
@@ -169,4 +194,7 @@ CALLS: dict[str, list[type]] = {
     "board_dram_write": [_HANDLE, U32, c.c_char_p, _SIZE],
     "board_cmos_write": [_HANDLE, U8, U8],
     "board_card_write": [_HANDLE, U8, U8, U32, c.c_char_p, _SIZE],
+    "board_transfer_begin": [c.POINTER(TransferRecord), U32, U32, U32, U32, c.c_bool],
+    "board_transfer_next": [_HANDLE, c.POINTER(TransferRecord), c.POINTER(PieceRecord)],
+    "board_transfer_region": [c.POINTER(TransferRecord), U32, U32],
 }

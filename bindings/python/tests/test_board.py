@@ -6,7 +6,7 @@ import threading
 
 import pytest
 
-from board440fx import Board, Card, Event, Reset, errors
+from board440fx import Board, Card, Descriptor, Ended, Event, Reset, Words, errors
 
 CONFIG_ADDRESS, CONFIG_DATA, RESET_CONTROL = 0xCF8, 0xCFC, 0xCF9
 AFTER_RESET = """\
@@ -101,6 +101,24 @@ def test_an_expansion_rom_has_bytes():
         board.write(0x00F00001, 1, 0)
         assert board.read(0x00F00001) == 0xAA
         assert board.card_read(3, 6, 1, 3) == b"\xAA\x40\x06"
+
+
+def test_a_transfer_in_pieces(board):
+    memory = {0x1000: (0x2000, 0x200), 0x1008: (0x9FFFE, 0x80000200)}
+    transfer = board.transfer(0x1000, 5, 2, to_memory=True)
+    pieces = []
+    for piece in transfer:
+        pieces.append(piece)
+        if isinstance(piece, Descriptor):
+            transfer.region(*memory[piece.addr])
+    dram = board.decode_master(0x2000, 2, True)
+    assert str(dram.target) == "dram:0"
+    assert pieces == [
+        Descriptor(0x1000, dram, dram), Words(0x2000, 5 * 512, 512, dram),
+        Descriptor(0x1008, dram, dram), Words(0x9FFFE, 6 * 512, 2, dram),
+        Ended("aborted", 2, 514, 0xA0000, 0, board.decode_master(0xA0000, 2, True).denied_by),
+    ]
+    assert transfer.table == 0x1010
 
 
 def test_what_is_read_is_a_number_and_a_line(board):

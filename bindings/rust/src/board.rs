@@ -2,7 +2,9 @@
 
 use crate::error::check;
 use crate::raw;
-use crate::{Answer, Builder, Card, Com1, Error, Event, Kind, Look, Map, Moment, Part, Ranges, Reply, Value, Width};
+use crate::{
+    Answer, Builder, Card, Com1, Error, Event, Kind, Look, Map, Moment, Part, Piece, Ranges, Reply, Transfer, Value, Width,
+};
 use std::cell::UnsafeCell;
 use std::fmt;
 use std::ptr;
@@ -440,6 +442,14 @@ impl Board {
         // SAFETY: as of `decode`.
         check(unsafe { raw::board_decode_master(self.handle.get(), addr, width.bytes(), is_write, &mut part) })?;
         Part::of(&part).ok_or(Error::NoReply)
+    }
+
+    /// The next piece of a transfer of the bus master. Words are taken as moved.
+    pub fn next_piece(&self, transfer: &mut Transfer) -> Result<Piece, Error> {
+        let mut piece = raw::Piece::default();
+        // SAFETY: as of `decode`.
+        check(unsafe { raw::board_transfer_next(self.handle.get(), &mut transfer.record, &mut piece) })?;
+        Piece::of(&piece).ok_or(Error::NoReply)
     }
 
     /// Bytes of a card from an offset in one of its bases on: base 0 to 5, 6 for its expansion ROM, or 7 for the window

@@ -81,6 +81,7 @@ statuses! {
     25 NoTime "the clock stands, or shows no date and time"
     26 BadImage "the bytes are no saved board"
     27 OtherVersion "another version saved these bytes"
+    28 NoTransfer "the numbers are those of no transfer"
 }
 
 impl std::error::Error for Error {}

@@ -49,6 +49,8 @@ fn records() -> Vec<String> {
         record!("board_window" Window: lo hi),
         record!("board_map" Map: ranges windows version mib),
         record!("board_com1" Com1: received count ier iir lcr mcr lsr msr scr dll dlm emptied irq4 reserved),
+        record!("board_transfer" Transfer: table addr left moved words lba readable is_last to_memory reserved),
+        record!("board_piece" Piece: disk addr bytes sector part what end status reserved),
     ]
     .concat()
 }
@@ -81,6 +83,7 @@ fn here() -> BTreeSet<String> {
         MEMORY PORT LOOK ACK PULSE TIME WIRE IRQ BAD_SECTOR SERIAL FETCH READ WRITE
         DRAM SHADOW SMRAM ROM CARD IS_DEVICE CONFIG ABORT NOT_DENIED BY_REGISTER BY_CONFADD BY_NO_REGISTER
         BUS_REPLY PARTS_REPLY LOOK_REPLY NO_RESET SOFT_RESET HARD_RESET MEMORY_BASE IO_BASE MOST_RANGES MOST_WINDOWS
+        DESCRIPTOR WORDS ENDED EXACT LONGER SHORTER ABORTED MISSING
     );
     [interface, records(), same, devices()].concat().into_iter().collect()
 }

@@ -35,6 +35,7 @@ mod map;
 mod raw;
 mod reply;
 mod target;
+mod transfer;
 
 pub use access::{Kind, Moment, Value, Width};
 pub use board::Board;
@@ -47,6 +48,7 @@ pub use log::Line;
 pub use map::{Area, Map, Range, Ranges, Window};
 pub use reply::{Answer, Look, Parts, Reply, Reset};
 pub use target::{Denial, Device, Part, Register, Target};
+pub use transfer::{End, Piece, Transfer};
 
 /// The version of `board.h` that this crate is for: `build.rs` refuses a library of another.
-pub const INTERFACE: u32 = 6;
+pub const INTERFACE: u32 = 7;

@@ -42,6 +42,16 @@ pub(crate) const HARD_RESET: u32 = 2;
 pub(crate) const MEMORY_BASE: u8 = 1;
 pub(crate) const IO_BASE: u8 = 2;
 
+pub(crate) const DESCRIPTOR: u8 = 1;
+pub(crate) const WORDS: u8 = 2;
+pub(crate) const ENDED: u8 = 3;
+
+pub(crate) const EXACT: u8 = 1;
+pub(crate) const LONGER: u8 = 2;
+pub(crate) const SHORTER: u8 = 3;
+pub(crate) const ABORTED: u8 = 4;
+pub(crate) const MISSING: u8 = 5;
+
 pub(crate) const MOST_RANGES: usize = 142;
 pub(crate) const MOST_WINDOWS: usize = 64;
 pub(crate) const MOST_BASES: usize = 6;
@@ -180,6 +190,35 @@ pub(crate) struct Card {
     pub(crate) reserved: u16,
 }
 
+#[repr(C)]
+#[derive(Clone, Copy, Debug, Default, PartialEq, Eq)]
+pub(crate) struct Transfer {
+    pub(crate) table: u32,
+    pub(crate) addr: u32,
+    pub(crate) left: u32,
+    pub(crate) moved: u32,
+    pub(crate) words: u32,
+    pub(crate) lba: u32,
+    pub(crate) readable: u32,
+    pub(crate) is_last: u8,
+    pub(crate) to_memory: u8,
+    pub(crate) reserved: u16,
+}
+
+#[repr(C)]
+#[derive(Clone, Copy, Default)]
+pub(crate) struct Piece {
+    pub(crate) disk: u64,
+    pub(crate) addr: u32,
+    pub(crate) bytes: u32,
+    pub(crate) sector: u32,
+    pub(crate) part: [Part; 2],
+    pub(crate) what: u8,
+    pub(crate) end: u8,
+    pub(crate) status: u8,
+    pub(crate) reserved: u8,
+}
+
 extern "C" {
     pub(crate) fn board_open(
         handle: *mut Handle,
@@ -248,4 +287,14 @@ extern "C" {
         from: *const u8,
         bytes: usize,
     ) -> u32;
+    pub(crate) fn board_transfer_begin(
+        transfer: *mut Transfer,
+        table: u32,
+        lba: u32,
+        sectors: u32,
+        readable: u32,
+        to_memory: bool,
+    ) -> u32;
+    pub(crate) fn board_transfer_next(handle: *mut Handle, transfer: *mut Transfer, piece: *mut Piece) -> u32;
+    pub(crate) fn board_transfer_region(transfer: *mut Transfer, base: u32, count: u32) -> u32;
 }

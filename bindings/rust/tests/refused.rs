@@ -1,6 +1,6 @@
 //! Each refusal, and that the board is as it was after it.
 
-use board_440fx::{Board, Card, Error, Event, Moment, Width};
+use board_440fx::{Board, Card, Error, Event, Moment, Transfer, Width};
 
 const ROM: &[u8] = &[0; 65536];
 
@@ -92,6 +92,11 @@ fn questions_that_cannot_be() {
     assert_eq!(board.card_read(2, 0, 0, &mut [0]), Err(Error::PastEnd));
     assert_eq!(board.card_write(2, 0, 0, &[0]), Err(Error::PastEnd));
     assert_eq!(board.card_write(2, 6, 0, &[0]), Err(Error::PastEnd));
+    assert_eq!(Transfer::begin(0x1002, 0, 1, 1, true).err(), Some(Error::NoTransfer));
+    assert_eq!(Transfer::begin(0x1000, 0, 257, 257, true).err(), Some(Error::NoTransfer));
+    let mut transfer = Transfer::begin(0x1000, 0, 1, 1, true).unwrap();
+    transfer.region(0x2000, 0x200).unwrap();
+    assert_eq!(transfer.region(0x2000, 0x200), Err(Error::NoTransfer));
     assert_eq!(board.disk_read(0), Err(Error::NoSector));
     assert_eq!(board.cmos_read(128), Err(Error::NoByte));
     assert_eq!(board.cmos_write(128, 0), Err(Error::NoByte));

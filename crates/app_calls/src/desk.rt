@@ -1,10 +1,11 @@
 //! The board that is open, the cards for the next one, and the last event with its reply.
 
 use crate::words::{Numbers, card_of, event_of, identify};
-use crate::{calls, cards, tell};
+use crate::{calls, cards, tell, transfer};
 use board_base::NoMemory;
 use board_records::status::OK;
 use board_records::{CardRecord, Door, EventRecord, ReplyRecord};
+use piece_records::TransferRecord;
 use record_text::tell_line;
 use std::alloc::{AllocError, Global};
 use std::io::Write;
@@ -18,6 +19,7 @@ pub struct Desk {
     event: EventRecord,
     reply: ReplyRecord,
     image: Vec<u8>,
+    transfer: TransferRecord,
 }
 
 impl Desk {
@@ -30,13 +32,15 @@ impl Desk {
             event: EventRecord::default(),
             reply: ReplyRecord::default(),
             image: Vec::new(alloc),
+            transfer: TransferRecord::default(),
         }
     }
 
     /// Makes the call of a line, and writes its status and what it tells.
     pub fn call<W: Write>(&mut self, out: &mut W, line: &str) -> Result<(), NoMemory> {
         let numbers = Numbers::of(self.alloc, line)?;
-        match line.split(' ').next().unwrap_or("") {
+        let verb = line.split(' ').next().unwrap_or("");
+        match verb {
             "card" => self.cards.push(card_of(&numbers))?,
             "is" => self.identify(&numbers),
             "open" => self.open(out, &numbers)?,
@@ -46,7 +50,10 @@ impl Desk {
             "load" => self.load(out),
             "turn" => self.turn(&numbers),
             "cut" => self.image.truncate(numbers.long(0) as usize),
-            verb => self.ask(out, verb, &numbers)?,
+            "begin" | "region" | "stand" => {
+                transfer::call(out, &mut self.transfer, verb, &numbers);
+            }
+            _ => self.ask(out, verb, &numbers)?,
         }
         Ok(())
     }
@@ -134,6 +141,7 @@ impl Desk {
             "fill" => calls::fill(out, self.alloc, door, numbers)?,
             "second" => calls::second(out, door, &mut self.event, &mut self.reply),
             "lines" => calls::lines(out, door),
+            "next" => transfer::next(out, door, &mut self.transfer),
             "serial" => calls::serial(out, door),
             "in" => calls::reads(out, self.alloc, door, numbers, &mut self.reply)?,
             "out" => calls::writes(out, self.alloc, door, numbers, &mut self.reply)?,

@@ -35,6 +35,9 @@
 //!     save ROOM · load                                       the board as bytes, and the board of these bytes
 //!     turn AT BITS · cut COUNT                               turns bits of a byte that was saved; keeps so many
 //!     master ADDR BYTES WRITE                                where an access of a bus master would land
+//!     begin TABLE LBA SECTORS READABLE TO_MEMORY             a transfer of the bus master
+//!     stand TABLE ADDR LEFT MOVED WORDS LBA READABLE LAST TO_MEMORY RESERVED   one with these numbers
+//!     next · region BASE COUNT                               its next piece; the region of a descriptor
 //!     told DEVICE BASE OFFSET BYTES · give DEVICE BASE OFFSET BYTE..   bytes of a card, out and in
 //!
 //! What is left out at the end of a line is 0. Byte K of a ROM is K modulo 256, and byte K of a disk K / 256 modulo 256. Of a
@@ -65,6 +68,7 @@ mod stretches;
 mod tell;
 mod timer;
 mod told;
+mod transfer;
 mod uart;
 mod words;
 

@@ -3,6 +3,7 @@
 use board_records::{
     AreaRecord, MapRecord, PartRecord, RangeRecord, ReplyRecord, SerialRecord, WindowRecord,
 };
+use piece_records::{PieceRecord, TransferRecord};
 use std::io::Write;
 
 /// Writes how a call ended.
@@ -122,6 +123,41 @@ pub fn serial<W: Write>(out: &mut W, state: &SerialRecord) {
         ("reserved", u64::from(state.reserved)),
     ];
     fields(out, "", &all);
+}
+
+/// Writes the numbers of a transfer of the bus master.
+pub fn transfer<W: Write>(out: &mut W, transfer: &TransferRecord) {
+    let all = [
+        ("table", u64::from(transfer.table)),
+        ("addr", u64::from(transfer.addr)),
+        ("left", u64::from(transfer.left)),
+        ("moved", u64::from(transfer.moved)),
+        ("words", u64::from(transfer.words)),
+        ("lba", u64::from(transfer.lba)),
+        ("readable", u64::from(transfer.readable)),
+        ("is_last", u64::from(transfer.is_last)),
+        ("to_memory", u64::from(transfer.to_memory)),
+        ("reserved", u64::from(transfer.reserved)),
+    ];
+    let _ = write!(out, " |");
+    fields(out, "", &all);
+}
+
+/// Writes a piece of one.
+pub fn piece<W: Write>(out: &mut W, piece: &PieceRecord) {
+    let all = [
+        ("what", u64::from(piece.what)),
+        ("end", u64::from(piece.end)),
+        ("status", u64::from(piece.status)),
+        ("addr", u64::from(piece.addr)),
+        ("bytes", u64::from(piece.bytes)),
+        ("disk", piece.disk),
+        ("sector", u64::from(piece.sector)),
+        ("reserved", u64::from(piece.reserved)),
+    ];
+    fields(out, "", &all);
+    part(out, "0.", &piece.part0);
+    part(out, "1.", &piece.part1);
 }
 
 /// Writes how many accesses were made, and values.
