@@ -4,6 +4,7 @@ use Rattle.board_prelude.specs.Common.{w8, w32, to_le_bytes, most_mib, most_card
 use Rattle.byte_fields.specs.Fields.{Reading, gives, ◌>>=◌, within, number_where}
 use Rattle.byte_fields.specs.Pages.{memory_bytes, memory_fields}
 use Rattle.image_writer.specs.ImageBytes.{card_bytes}
+use Rattle.board_chipset.specs.Given.{fitted_with, unless_left}
 use Rattle.board_image.specs.ImageFields.{cards_fields}
 
 -- how many bytes, and these
@@ -47,3 +48,8 @@ setup_bytes setup =
     to_le_bytes w32 setup.mib
     ++ length setup.cards
     ∷ (flat_map card_bytes setup.cards ++ (counted_bytes setup.rom ++ counted_bytes (bytes_on setup.disk)))
+
+-- ---- a setup, with the bytes of its disk left out or not
+
+abbrev pub disk_unless_left : (left : Bool) → Setup → Setup
+disk_unless_left left setup = fitted_with (unless_left left (bytes_on setup.disk)) setup

@@ -5,6 +5,7 @@ ghost use Rattle.board_prelude.specs.Common.{IsSetup};
 ghost use Rattle.byte_fields.specs.Fields.{Filled, Took};
 ghost use Rattle.byte_fields.specs.Loads.{LoadsWith, OneSpelling};
 ghost use Rattle.fitted_bytes.specs.Fitted.{IsFitting, IsOtherVersion, fitting_bytes, fitting_fields, version_field};
+ghost use Rattle.fitted_bytes.specs.Setups.{disk_unless_left};
 
 use crate::identities::{MOST_CARDS, are_identities, push_identities, read_identities};
 use crate::setup_reader::setup;
@@ -38,22 +39,24 @@ impl Model for Fitted {
     ghost view = { λ fitted. record { setup = fitted.setup; identities = fitted.identities.items } };
 }
 
-/// Adds the mark, the version, the setup, and what the cards say.
+/// Adds the mark, the version, the setup, and what the cards say. Where the bytes of the disk are left out, zeros stand in
+/// their place.
 pub fn push_fitted(
     into: &mut Vec<u8>,
     setup: &Setup,
     identities: &[FittedIdentity],
+    left: bool,
 ) -> Result<(), NoMemory>
     requires fits { IsSetup setup.now }
     requires few { length identities.now ≤ 8 }
-    ensures added { OnOk result (into.new.items
-        ≡ into.old.items ++ fitting_bytes (record { setup = setup.now; identities = identities.now })) }
+    ensures added { OnOk result (into.new.items ≡ into.old.items
+        ++ fitting_bytes (record { setup = disk_unless_left left setup.now; identities = identities.now })) }
     ensures sound { IsFitting (record { setup = setup.now; identities = identities.now }) }
 {
     are_identities(identities);
     push_bytes(into, &MAGIC)?;
     push_half(into, VERSION)?;
-    push_setup(into, setup)?;
+    push_setup(into, setup, left)?;
     push_identities(into, identities)
 }
 
