@@ -1,5 +1,6 @@
 //! The board that is open, the cards for the next one, and the last event with its reply.
 
+use crate::left::{self, Kept};
 use crate::words::{Numbers, card_of, event_of, identify};
 use crate::{calls, cards, tell};
 use board_base::NoMemory;
@@ -18,6 +19,7 @@ pub struct Desk {
     event: EventRecord,
     reply: ReplyRecord,
     image: Vec<u8>,
+    kept: Kept,
 }
 
 impl Desk {
@@ -30,6 +32,7 @@ impl Desk {
             event: EventRecord::default(),
             reply: ReplyRecord::default(),
             image: Vec::new(alloc),
+            kept: Kept::new(alloc),
         }
     }
 
@@ -44,6 +47,8 @@ impl Desk {
             "text" => self.text(out, &numbers)?,
             "save" => self.save(out, &numbers)?,
             "load" => self.load(out),
+            "keep" => self.keep(&numbers)?,
+            "with" => self.load_with(out, &numbers)?,
             "turn" => self.turn(&numbers),
             "cut" => self.image.truncate(numbers.long(0) as usize),
             verb => self.ask(out, verb, &numbers)?,
@@ -73,19 +78,33 @@ impl Desk {
         Ok(())
     }
 
-    /// Saves the board into so much room.
+    /// Saves the board into so much room, without its memory or its disk where a line says so.
     fn save<W: Write>(&mut self, out: &mut W, numbers: &Numbers) -> Result<(), AllocError> {
         let Some(door) = &self.door else {
             return Ok(());
         };
-        let mut image = vec![in self.alloc; 0; numbers.number(0) as usize]?;
-        let mut bytes = 0;
-        let status = door.save(self.alloc, &mut image, &mut bytes);
-        tell::status(out, status);
-        let _ = write!(out, " bytes={bytes:X}");
-        if status == OK {
-            image.truncate(bytes);
+        if let Some(image) = left::save(out, self.alloc, door, numbers)? {
             self.image = image;
+        }
+        Ok(())
+    }
+
+    /// Keeps bytes of the board beside the image.
+    fn keep(&mut self, numbers: &Numbers) -> Result<(), AllocError> {
+        match &self.door {
+            Some(door) => self.kept.keep(self.alloc, door, numbers),
+            None => Ok(()),
+        }
+    }
+
+    /// Opens the board of the bytes that were saved last, with bytes that were kept, in the place of the one before.
+    fn load_with<W: Write>(&mut self, out: &mut W, numbers: &Numbers) -> Result<(), AllocError> {
+        let fitted = disk_of(self.alloc, numbers.long(1))?;
+        if let Some(door) = self
+            .kept
+            .load(out, self.alloc, &self.image, &fitted, numbers)
+        {
+            self.door = Some(door);
         }
         Ok(())
     }

@@ -32,7 +32,10 @@
 //!     in PORT BYTES COUNT · out PORT BYTES VALUE..           accesses to a port in turn
 //!     put ADDR BYTE.. · set ADDR BYTE                        bytes into the DRAM and into the clock
 //!     fill ADDR BYTES BYTE                                   as many bytes of one value into the DRAM
-//!     save ROOM · load                                       the board as bytes, and the board of these bytes
+//!     save ROOM DRAM DISK · load                             the board as bytes, and the board of these bytes; without its
+//!                                                            memory or its disk where a number is not 0
+//!     keep DRAM SECTORS · with DRAM FITTED SECTORS           keeps so many bytes of the memory and so many sectors; the board
+//!                                                            of the bytes with so many of them, and of the disk as fitted
 //!     turn AT BITS · cut COUNT                               turns bits of a byte that was saved; keeps so many
 //!     master ADDR BYTES WRITE                                where an access of a bus master would land
 //!     told DEVICE BASE OFFSET BYTES · give DEVICE BASE OFFSET BYTE..   bytes of a card, out and in
@@ -48,6 +51,7 @@ mod chipset;
 mod desk;
 mod disk_state;
 mod image;
+mod left;
 mod map;
 mod master;
 mod media;

@@ -16,14 +16,17 @@ use Rattle.board_records.specs.Images.{IsBehind, fitting_of, image_bytes}
 
 -- ---- results
 
-never_err : {A E : Type 0} (x : A) (y : E) → ◌≡◌ {A = Result A E} (Ok x) (Err y) → ⊥
+pub never_err : {A E : Type 0} (x : A) (y : E) → ◌≡◌ {A = Result A E} (Ok x) (Err y) → ⊥
 never_err x y is = absurd cc
 
-ok_same : {A E : Type 0} (x y : A) → ◌≡◌ {A = Result A E} (Ok x) (Ok y) → x ≡ y
+pub ok_same : {A E : Type 0} (x y : A) → ◌≡◌ {A = Result A E} (Ok x) (Ok y) → x ≡ y
 ok_same x y is = cc
 
 err_same : {A E : Type 0} (x y : E) → ◌≡◌ {A = Result A E} (Err x) (Err y) → x ≡ y
 err_same x y is = cc
+
+abbrev pub ok_of : Behind → Result Behind ℕ
+ok_of behind = Ok behind
 
 -- a value is given, or there was no memory
 abbrev pub Gives : Result Behind Fault → Behind → Type 0

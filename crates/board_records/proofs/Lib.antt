@@ -7,6 +7,8 @@ pub mod Openings
 pub mod Lines
 pub mod Images
 pub mod SavedParts
+pub mod LeftSteps
+pub mod GivenParts
 pub mod Digits
 pub mod RomParts
 pub mod Identities

@@ -1,10 +1,18 @@
 -- The bytes of a board in three: those before the DRAM's, these, and those after them.
-use Rattle.std.proofs.Common.{◌≡◌, ℕ, ◌+◌, ◌≤◌, Bool, List, [], ◌∷◌, ◌++◌, length, take, drop, Result, OnOk, refl, sym, ap, subst, ◌∙◌, append_assoc, arith}
+use Rattle.std.proofs.Common.{◌≡◌, ℕ, ◌+◌, ◌≤◌, Bool, List, [], ◌∷◌, ◌++◌, length, take, drop, replicate, Result, Ok, Err, OnOk, true, ◌*◌, refl, sym, ap, subst, ◌∙◌, append_assoc, arith}
 use Rattle.board_prelude.proofs.Common.{length-append, length-take, length-drop, take_at, drop_at}
 use Rattle.pit_8254.proofs.Saved.{joined}
 use Rattle.byte_fields.specs.Fields.{flag_byte}
-use Rattle.dram_store.specs.State.{dram_bytes}
+use Rattle.byte_fields.specs.Pages.{memory_bytes, memory_page}
+use Rattle.byte_fields.proofs.PageFormats.{memory_zeros}
+use Rattle.dram_store.specs.State.{HasMib, dram_bytes}
 use Rattle.fitted_bytes.specs.Fitted.{fitting_bytes}
+use Rattle.fitted_bytes.specs.Setups.{disk_unless_left}
+use Rattle.board_prelude.specs.Common.{Setup}
+use Rattle.board_chipset.specs.ChipsetState.{registers_bytes}
+use Rattle.board_chipset.specs.Given.{disk_left, zeros}
+use Rattle.board_chipset.proofs.LeftBytes.{left_head}
+use Rattle.board_records.specs.Given.{on_board, without}
 use Rattle.board_chipset.specs.Around.{after_dram, before_dram}
 use Rattle.board_chipset.specs.Common.{Running}
 use Rattle.board_chipset.proofs.AroundDram.{between}
@@ -36,6 +44,17 @@ image_with behind bytes at is whole =
     ∙ sym (append_assoc before (dram ++ after) com1)
     ∙ ap (λ (state : List ℕ). state ++ com1) (sym (between behind.serial.board)))
 
+-- the bytes in three
+pub image_split : (behind : Behind) →
+    image_bytes behind
+    ≡ before_bytes behind ++ (dram_bytes behind.serial.board.state.stores.dram ++ after_bytes behind)
+image_split behind =
+    let front : List ℕ = before_bytes behind in
+    let rest : List ℕ = after_bytes behind in
+    let dram : List ℕ = behind.serial.board.state.stores.dram in
+    sym (image_with behind (front ++ rest) (length front) refl refl)
+    ∙ rw (take_at front rest (length front) refl, drop_at front rest (length front) refl) refl
+
 -- the same of what was added to no bytes
 pub image_around : (behind : Behind) (none front bytes : List ℕ) (at : ℕ) → none ≡ [] →
     front ≡ none ++ before_bytes behind → at ≡ length front → bytes ≡ front ++ after_bytes behind →
@@ -48,16 +67,53 @@ image_around behind none front bytes at empty first is second =
 -- what was added after the DRAM
 pub after_added :
     {T E : Type 0} (result : Result T E) (serial : Serial Running) (board : Running) (level : Bool) (uart : Uart)
-    (old one two new : List ℕ) → board ≡ serial.board → one ≡ old ++ after_dram board →
+    (left : Bool) (old one two new : List ℕ) → board ≡ serial.board → one ≡ old ++ after_dram (disk_left left board) →
     level ≡ serial.com1.script_level → two ≡ one ++ flag_byte level ∷ [] → uart ≡ serial.com1.uart →
     OnOk result (new ≡ two ++ uart_bytes uart) →
-    OnOk result (new ≡ old ++ (after_dram serial.board ++ com1_bytes serial.com1))
-after_added result serial board level uart old one two new of_board first of_level second of_uart third =
-    joined result old one new (after_dram serial.board) (com1_bytes serial.com1)
-    (first ∙ ap (λ (b : Running). old ++ after_dram b) of_board)
+    OnOk result (new ≡ old ++ (after_dram (disk_left left serial.board) ++ com1_bytes serial.com1))
+after_added result serial board level uart left old one two new of_board first of_level second of_uart third =
+    joined result old one new (after_dram (disk_left left serial.board)) (com1_bytes serial.com1)
+    (first ∙ ap (λ (b : Running). old ++ after_dram (disk_left left b)) of_board)
     (joined result one two new (flag_byte serial.com1.script_level ∷ []) (uart_bytes serial.com1.uart)
     (second ∙ ap (λ (l : Bool). one ++ flag_byte l ∷ []) of_level)
     (subst (λ (u : Uart). OnOk result (new ≡ two ++ uart_bytes u)) of_uart third))
+
+-- what was added before the DRAM
+pub before_added :
+    {T E : Type 0} (result : Result T E) (left : Bool) (behind : Behind) (board : Running) (setup : Setup)
+    (old mid new : List ℕ) → board ≡ behind.serial.board → setup ≡ behind.serial.board.setup →
+    mid ≡ old ++ fitting_bytes (record { setup = disk_unless_left left setup; identities = behind.identities }) →
+    OnOk result (new ≡ mid ++ before_dram board) →
+    OnOk result (new ≡ old ++ before_bytes (on_board (disk_left left) behind))
+before_added (Ok value) left behind board setup old mid new of_board of_setup first second =
+    let fitting : List ℕ =
+    fitting_bytes (record { setup = disk_unless_left left behind.serial.board.setup; identities = behind.identities }) in
+    let registers : List ℕ = registers_bytes behind.serial.board.state.registers in
+    second
+    ∙ rw (first, of_setup, of_board)
+    (append_assoc old fitting (before_dram behind.serial.board)
+    ∙ ap (λ (head : List ℕ). old ++ (fitting ++ (head ++ registers))) (sym (left_head left behind.serial.board.setup)))
+before_added (Err fault) left behind board setup old mid new of_board of_setup first second = tt
+
+-- zeros were added in the place of the DRAM's bytes
+pub blank_image :
+    (disk : Bool) (behind : Behind) (none one two three : List ℕ) → HasMib behind.serial.board.setup.mib behind.serial.board.state.stores.dram → none ≡ [] →
+    one ≡ none ++ before_bytes (on_board (disk_left disk) behind) →
+    two ≡ one ++ replicate (behind.serial.board.setup.mib * 256) 0 →
+    three ≡ two ++ after_bytes (on_board (disk_left disk) behind) →
+    three ≡ image_bytes (without (record { dram = true; disk = disk }) behind)
+blank_image disk behind none one two three mib empty first second third =
+    let dram : List ℕ = behind.serial.board.state.stores.dram in
+    let pages : ℕ = behind.serial.board.setup.mib * 256 in
+    let whole : length dram ≡ pages * memory_page = omega (arith, mib) in
+    let blank : dram_bytes (zeros dram) ≡ replicate pages 0 =
+    ap (λ (n : ℕ). memory_bytes (replicate {A = ℕ} n 0)) whole ∙ memory_zeros pages in
+    let front : List ℕ = before_bytes (on_board (disk_left disk) behind) in
+    let rest : List ℕ = after_bytes (on_board (disk_left disk) behind) in
+    rw (third, second, first, empty)
+    (append_assoc front (replicate pages 0) rest
+    ∙ ap (λ (bytes : List ℕ). front ++ (bytes ++ rest)) (sym blank)
+    ∙ sym (image_split (without (record { dram = true; disk = disk }) behind)))
 
 -- the bytes of a board, by what holds them
 pub same_image : (bytes held dram store image : List ℕ) (at : ℕ) → bytes ≡ held → dram ≡ store →

@@ -5,6 +5,7 @@ pub use Rattle.board_records.specs.CardRoms.{AreRomsWritten, IsRomKept, IsRomRef
 pub use Rattle.board_records.specs.Cards.{identities_said}
 pub use Rattle.board_records.specs.Doors.{Behind, Held, IsDoorStep, IsOpenRefusal, IsOpenedWith, IsSetupRefusal, OnBoard, OnBoth, SameRoms, setup_said, without_roms}
 unfoldable pub use Rattle.board_records.specs.Events.{asked_said, event_said}
+pub use Rattle.board_records.specs.Given.{AreAsMany, Given, HasOtherLength, IsAsMany, IsGivenBoard, IsGivenRefusal, left_of, on_board, with_given, without}
 pub use Rattle.board_records.specs.Images.{IsBehind, IsLoadRefusal, IsSaveRefusal, IsWritten, image_bytes}
 pub use Rattle.board_records.specs.Maps.{AreRangesTold, AreWindowsTold, IsVersionSaid}
 pub use Rattle.board_records.specs.Masters.{IsMasterCycle, IsMasterPlaced}
@@ -14,5 +15,5 @@ pub use Rattle.board_records.specs.Replies.{area_said, of_part, target_said, wit
 unfoldable pub use Rattle.board_records.specs.Replies.{part_said, serial_said}
 pub use Rattle.board_records.specs.Seconds.{HasNoSecond, IsSecondStep}
 pub use Rattle.board_records.specs.Standing.{AreLinesTold, serial_state_said}
-pub use Rattle.board_records.specs.Statuses.{IsEventRefusal, closed, no_byte, no_cycle, no_event, no_memory, no_reply, no_room, no_time, ok, past_end}
+pub use Rattle.board_records.specs.Statuses.{IsEventRefusal, bad_length, closed, no_byte, no_cycle, no_event, no_memory, no_reply, no_room, no_time, ok, past_end}
 pub use Rattle.board_records.specs.Steps.{IsAskedStep, IsHistoryOf, after_step}

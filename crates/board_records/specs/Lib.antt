@@ -16,4 +16,5 @@ pub mod Standing
 pub mod Masters
 pub mod CardBytes
 pub mod Images
+pub mod Given
 pub mod Common

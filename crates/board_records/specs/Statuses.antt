@@ -51,7 +51,7 @@ past_end = 19
 abbrev pub no_byte : ℕ
 no_byte = 20
 
--- a sector has 512 bytes
+-- not as many bytes as the sector, the memory or the disk has
 abbrev pub bad_length : ℕ
 bad_length = 21
 

@@ -40,7 +40,7 @@ use uart_16550::SerialBoard;
 #[derive(Drop)]
 pub struct Door {
     pub(crate) serial: SerialBoard<Chipset>,
-    identities: ArrayVec<FittedIdentity, 8>,
+    pub(crate) identities: ArrayVec<FittedIdentity, 8>,
     pub(crate) roms: Option<Roms>,
 }
 
@@ -100,7 +100,7 @@ impl Door {
         ensures uncounted { result ≢ ok → result ≢ no_room → bytes.new ≡ bytes.old }
         ensures open { result ≢ closed }
     {
-        save(alloc, &self.serial, &self.identities, into, bytes)
+        save(alloc, false, &self.serial, &self.identities, into, bytes)
     }
 
     /// The board whose bytes these are: equal to the one that was saved, so that all which holds of that one holds of it;

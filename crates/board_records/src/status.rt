@@ -47,7 +47,7 @@ pub const NO_SECTOR: u32 = 18;
 pub const PAST_END: u32 = 19;
 /// The clock has no byte at this address.
 pub const NO_BYTE: u32 = 20;
-/// A sector has 512 bytes.
+/// Not as many bytes as the sector, the memory or the disk has.
 pub const BAD_LENGTH: u32 = 21;
 /// The record is that of no reply.
 pub const NO_REPLY: u32 = 22;

@@ -1,9 +1,6 @@
-use Rattle.std.proofs.Common.{◌≡◌, ◌⊎◌, Bool, true, false, Option, Some, None, IsSomeAnd, refl}
+use Rattle.std.proofs.Common.{◌≡◌, ◌⊎◌, IsSomeAnd}
+use Rattle.board_c.proofs.Full.{is_full}
 use Rattle.board_c.proofs.image.board_save.Goals as goal
-
-is_full : {A : Type 0} (full : Bool) (x : A) → (full ≡ false → ◌≡◌ {A = Option A} (Some x) None) → full ≡ true
-is_full true x none = refl
-is_full false x none = absurd (let never = none refl in cc)
 
 pub returns-clause-done : goal.returns-clause-done
 returns-clause-done c ok =

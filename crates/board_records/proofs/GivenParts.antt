@@ -1,0 +1,61 @@
+-- A board that was loaded, with the bytes that are given.
+use Rattle.std.proofs.Common.{◌≡◌, ℕ, ◌⊎◌, inl, inr, List, Result, Ok, Err, IfOk, IfErr, sym, ap, subst, ◌∙◌}
+use Rattle.board_records.specs.Doors.{Behind}
+use Rattle.board_records.specs.Given.{AreAsMany, Given, IsGivenBoard, IsGivenRefusal, on_board, with_given}
+use Rattle.board_records.specs.Images.{IsBehind, image_bytes}
+use Rattle.board_records.specs.Statuses.{bad_length, no_memory}
+use Rattle.board_records.proofs.Images.{never_err, ok_of, ok_same}
+
+-- what a call says that puts them in
+abbrev pub Puts : Given → Behind → Result Behind ℕ → Type 0
+Puts given loaded result =
+    IfOk result (λ it. (it ≡ on_board (with_given given) loaded) × AreAsMany given loaded.serial.board.setup)
+    × IfErr result (λ status. (status ≡ bad_length) × ¬ AreAsMany given loaded.serial.board.setup)
+
+pub given_loaded :
+    (result : Result Behind ℕ) (given : Given) (loaded : Behind) (bytes : List ℕ) → Puts given loaded result →
+    IsBehind loaded → bytes ≡ image_bytes loaded → IfOk result (IsGivenBoard bytes given)
+given_loaded (Ok it) given loaded bytes puts sound image = record {
+  behind = loaded;
+  sound = sound;
+  image = image;
+  as_many = puts.0.1;
+  same = puts.0.0;
+}
+given_loaded (Err status) given loaded bytes puts sound image = tt
+
+pub given_refused :
+    (result : Result Behind ℕ) (given : Given) (loaded : Behind) (bytes : List ℕ) → Puts given loaded result →
+    IsBehind loaded → bytes ≡ image_bytes loaded → IfErr result (IsGivenRefusal bytes given)
+given_refused (Ok it) given loaded bytes puts sound image = tt
+given_refused (Err status) given loaded bytes puts sound image =
+    inr (puts.1.0, record { behind = loaded; sound = sound; image = image; other = puts.1.1 })
+
+pub given_exact :
+    (result : Result Behind ℕ) (given : Given) (loaded behind : Behind) → Puts given loaded result →
+    let read : Result Behind ℕ = Ok loaded in
+    (read ≡ Err no_memory) ⊎ (read ≡ Ok behind) → AreAsMany given behind.serial.board.setup →
+    (result ≡ Err no_memory) ⊎ (result ≡ Ok (on_board (with_given given) behind))
+given_exact (Ok it) given loaded behind puts read as_many =
+    elim read [
+      | inl never ↦ absurd (never_err loaded no_memory never)
+      | inr is ↦
+          inr (ap ok_of (puts.0.0 ∙ ap (on_board (with_given given)) (ok_same loaded behind is)))
+    ]
+given_exact (Err status) given loaded behind puts read as_many =
+    elim read [
+      | inl never ↦ absurd (never_err loaded no_memory never)
+      | inr is ↦
+          absurd (puts.1.1 (subst (λ (b : Behind). AreAsMany given b.serial.board.setup)
+          (sym (ok_same loaded behind is)) as_many))
+    ]
+
+-- nothing was loaded
+pub exact_refused : (status : ℕ) (behind other : Behind) →
+    let read : Result Behind ℕ = Err status in
+    (read ≡ Err no_memory) ⊎ (read ≡ Ok behind) → (read ≡ Err no_memory) ⊎ (read ≡ Ok other)
+exact_refused status behind other read =
+    elim read [
+      | inl wanted ↦ inl wanted
+      | inr never ↦ absurd (never_err behind status (sym never))
+    ]

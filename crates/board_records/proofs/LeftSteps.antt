@@ -1,0 +1,228 @@
+-- A board that is saved without bytes of its own, and loaded with them.
+use Rattle.std.proofs.Common.{◌≡◌, ◌≢◌, ℕ, ◌/◌, true, false, Bool, if◌then◌else◌, List, [], ◌∷◌, length, option_map, unwrap_or, Option, Some, None, Result, Ok, Err, ◌⊎◌, inl, inr, refl, sym, ap, subst, ◌∙◌}
+use Rattle.board_prelude.specs.Common.{Disk, IsDisk, IsDiskSize}
+use Rattle.ata_pio.specs.State.{IsDisk as IsDiskOver}
+use Rattle.board_devices.specs.Common.{holding, sectors_in}
+use Rattle.board_devices.specs.State.{IsFittedDisk}
+use Rattle.board_chipset.specs.ChipsetState.{IsChipset}
+use Rattle.board_chipset.specs.Common.{Running}
+use Rattle.board_chipset.specs.Given.{dram_left, dram_on, disk_left, fitted_on, sectors_on, unless_left, with_dram, with_fitted, with_sectors, zeros}
+use Rattle.board_chipset.proofs.LeftBytes.{left_length, left_on, zeros_length}
+use Rattle.board_spec.specs.Setup.{installed}
+use Rattle.board_records.specs.declared.left.LeftOut.{LeftOut}
+use Rattle.board_records.specs.Doors.{Behind}
+use Rattle.board_records.specs.Given.{AreAsMany, Given, given_or, left_of, on_board, with_given, without}
+use Rattle.board_records.specs.Images.{IsBehind, image_bytes}
+use Rattle.board_records.proofs.Images.{ok_of}
+use Rattle.board_records.specs.Statuses.{no_memory}
+
+-- ---- other bytes, as many, in the place of a board's own
+
+disk_refitted : (bytes : List ℕ) (disk : Option (List ℕ)) → length bytes ≡ length (unwrap_or disk []) → IsDisk disk →
+    IsDisk (option_map {T = List ℕ} (λ _. bytes) disk)
+disk_refitted bytes None same is = tt
+disk_refitted bytes (Some own) same is = subst IsDiskSize (sym same) is
+
+over_other : (fitted sectors own : List ℕ) (disk : Disk) → length fitted ≡ length own →
+    length sectors ≡ length disk.medium.bytes → IsDiskOver own disk → IsDiskOver fitted (holding sectors disk)
+over_other fitted sectors own disk fits same is = record {
+  size = rw fits is.size;
+  drive = rw fits is.drive;
+  medium = record {
+    bytes = same ∙ is.medium.bytes ∙ sym fits;
+    bad = is.medium.bad ∙ ap (λ (n : ℕ). n / 512) (sym fits);
+  };
+}
+
+disk_over_other : (fitted sectors : List ℕ) (own : Option (List ℕ)) (disk : Option Disk) →
+    length fitted ≡ length (unwrap_or own []) → length sectors ≡ length (unwrap_or (sectors_in disk) []) →
+    IsFittedDisk own disk →
+    IsFittedDisk (option_map {T = List ℕ} (λ _. fitted) own) (option_map (holding sectors) disk)
+disk_over_other fitted sectors None None fits same is = tt
+disk_over_other fitted sectors None (Some disk) fits same is = is
+disk_over_other fitted sectors (Some own) None fits same is = is
+disk_over_other fitted sectors (Some own) (Some disk) fits same is = over_other fitted sectors own disk fits same is
+
+pub whole_with : (dram fitted sectors : List ℕ) (chipset : Running) → length dram ≡ length (dram_on chipset) →
+    length fitted ≡ length (fitted_on chipset) → length sectors ≡ length (sectors_on chipset) → IsChipset chipset →
+    IsChipset (with_dram dram (with_fitted fitted (with_sectors sectors chipset)))
+whole_with dram fitted sectors chipset of_dram of_fitted of_sectors is = record {
+  fits = record {
+    some_memory = is.fits.some_memory;
+    most_memory = is.fits.most_memory;
+    cards = is.fits.cards;
+    windows = is.fits.windows;
+    rom = is.fits.rom;
+    disk = disk_refitted fitted chipset.setup.disk of_fitted is.fits.disk;
+  };
+  whole = record {
+    registers = is.whole.registers;
+    stores = record { dram = of_dram ∙ is.whole.stores.dram; contents = is.whole.stores.contents };
+    devices = record {
+      machines = record {
+        pair = is.whole.devices.machines.pair;
+        timer = is.whole.devices.machines.timer;
+        clock = is.whole.devices.machines.clock;
+        triggers = is.whole.devices.machines.triggers;
+        system = is.whole.devices.machines.system;
+        wires = is.whole.devices.machines.wires;
+        irqs = is.whole.devices.machines.irqs;
+      };
+      disk =
+          disk_over_other fitted sectors chipset.setup.disk chipset.state.devices.disk of_fitted of_sectors
+          is.whole.devices.disk;
+    };
+  };
+}
+
+pub sound_without : (left : LeftOut) (behind : Behind) → IsBehind behind → IsBehind (without left behind)
+sound_without left behind is = record {
+  state = record {
+    chipset =
+        whole_with (unless_left left.dram (dram_on behind.serial.board))
+        (unless_left left.disk (fitted_on behind.serial.board))
+        (unless_left left.disk (sectors_on behind.serial.board)) behind.serial.board
+        (left_length left.dram (dram_on behind.serial.board)) (left_length left.disk (fitted_on behind.serial.board))
+        (left_length left.disk (sectors_on behind.serial.board)) is.state.chipset;
+    port = is.state.port;
+  };
+  say = is.say;
+}
+
+-- ---- its own put in again
+
+given_back : (left : Bool) (bytes : List ℕ) → given_or (if left then bytes else []) (unless_left left bytes) ≡ bytes
+given_back true [] = refl
+given_back true (byte ∷ later) = refl
+given_back false bytes = refl
+
+refitted : (left : Bool) (disk : Option (List ℕ)) →
+    let blank : Option (List ℕ) = option_map {T = List ℕ} (λ _. unless_left left (unwrap_or disk [])) disk in
+    option_map {T = List ℕ} (λ _. given_or (if left then unwrap_or disk [] else []) (unwrap_or blank [])) blank ≡ disk
+refitted left None = refl
+refitted left (Some bytes) = ap (λ (b : List ℕ). Some b) (given_back left bytes)
+
+resectored : (left : Bool) (disk : Option Disk) →
+    let own : List ℕ = unwrap_or (sectors_in disk) [] in
+    let blank : Option Disk = option_map (holding (unless_left left own)) disk in
+    option_map (holding (given_or (if left then own else []) (unwrap_or (sectors_in blank) []))) blank ≡ disk
+resectored left None = refl
+resectored left (Some disk) = ap (λ (b : List ℕ). Some (holding b disk)) (given_back left disk.medium.bytes)
+
+-- a chipset of these parts
+abbrev rebuilt : Running → List ℕ → Option (List ℕ) → Option Disk → Running
+rebuilt chipset dram fitted disk = record {
+  setup = record chipset.setup { disk = fitted };
+  state = record chipset.state {
+    stores = record chipset.state.stores { dram = dram };
+    devices = record chipset.state.devices { disk = disk };
+  };
+}
+
+chipset_restored : (left : LeftOut) (chipset : Running) →
+    with_given (left_of left chipset) (dram_left left.dram (disk_left left.disk chipset)) ≡ chipset
+chipset_restored left chipset =
+    let dram : List ℕ = dram_on chipset in
+    let fitted : Option (List ℕ) = chipset.setup.disk in
+    let disk : Option Disk = chipset.state.devices.disk in
+    let sectors : List ℕ = sectors_on chipset in
+    let blank : Option (List ℕ) = option_map {T = List ℕ} (λ _. unless_left left.disk (unwrap_or fitted [])) fitted in
+    let empty : Option Disk = option_map (holding (unless_left left.disk sectors)) disk in
+    let refit : Option (List ℕ) =
+    option_map {T = List ℕ} (λ _. given_or (if left.disk then unwrap_or fitted [] else []) (unwrap_or blank [])) blank in
+    let full : Option Disk =
+    option_map (holding (given_or (if left.disk then sectors else []) (unwrap_or (sectors_in empty) []))) empty in
+    ap (λ (bytes : List ℕ). rebuilt chipset bytes refit full) (given_back left.dram dram)
+    ∙ ap (λ (bytes : Option (List ℕ)). rebuilt chipset dram bytes full) (refitted left.disk fitted)
+    ∙ ap (λ (it : Option Disk). rebuilt chipset dram fitted it) (resectored left.disk disk)
+
+pub restored : (left : LeftOut) (behind : Behind) →
+    on_board (with_given (left_of left behind.serial.board)) (without left behind) ≡ behind
+restored left behind =
+    ap (λ (chipset : Running). record behind { serial = record behind.serial { board = chipset } })
+    (chipset_restored left behind.serial.board)
+
+-- they are as many
+
+as_many : (left : Bool) (bytes : List ℕ) (size : ℕ) → length bytes ≡ size → (if left then bytes else []) ≢ [] →
+    length (if left then bytes else []) ≡ size
+as_many true bytes size same some = same
+as_many false bytes size same some = absurd (some refl)
+
+sectors_long : (fitted : Option (List ℕ)) (disk : Option Disk) → IsFittedDisk fitted disk →
+    length (unwrap_or (sectors_in disk) []) ≡ length (unwrap_or fitted [])
+sectors_long None None is = refl
+sectors_long None (Some disk) is = absurd is
+sectors_long (Some bytes) None is = absurd is
+sectors_long (Some bytes) (Some disk) is = is.medium.bytes
+
+pub own_as_many : (left : LeftOut) (behind : Behind) → IsBehind behind →
+    AreAsMany (left_of left behind.serial.board) (without left behind).serial.board.setup
+own_as_many left behind is =
+    let chipset : Running = behind.serial.board in
+    let size : length (unwrap_or (option_map {T = List ℕ} (λ _. unless_left left.disk (fitted_on chipset)) chipset.setup.disk) [])
+    ≡ length (fitted_on chipset) =
+    ap length (left_on left.disk chipset.setup.disk) ∙ left_length left.disk (fitted_on chipset) in
+    record {
+      dram = as_many left.dram (dram_on chipset) (installed chipset.setup) is.state.chipset.whole.stores.dram;
+      fitted = as_many left.disk (fitted_on chipset) _ (sym size);
+      sectors =
+          as_many left.disk (sectors_on chipset) _
+          (sectors_long chipset.setup.disk chipset.state.devices.disk is.state.chipset.whole.devices.disk ∙ sym size);
+    }
+
+-- so a load with them gives the board that was saved
+pub loaded_back :
+    (result : Result Behind ℕ) (bytes : List ℕ) (given : Given) (left : LeftOut) (behind : Behind) →
+    ((any : Behind) → IsBehind any → bytes ≡ image_bytes any → AreAsMany given any.serial.board.setup →
+    (result ≡ Err no_memory) ⊎ (result ≡ Ok (on_board (with_given given) any))) →
+    IsBehind behind → bytes ≡ image_bytes (without left behind) → given ≡ left_of left behind.serial.board →
+    (result ≡ Err no_memory) ⊎ (result ≡ Ok behind)
+loaded_back result bytes given left behind exact is image own =
+    let fits : AreAsMany given (without left behind).serial.board.setup = rw own (own_as_many left behind is) in
+    let same : on_board (with_given given) (without left behind) ≡ behind = rw own (restored left behind) in
+    elim (exact (without left behind) (sound_without left behind is) image fits) [
+      | inl wanted ↦ inl wanted
+      | inr loaded ↦ inr (loaded ∙ ap ok_of same)
+    ]
+
+-- ---- nothing is left out
+
+refitted_own : (disk : Option (List ℕ)) → option_map {T = List ℕ} (λ _. unwrap_or disk []) disk ≡ disk
+refitted_own None = refl
+refitted_own (Some bytes) = refl
+
+resectored_own : (disk : Option Disk) → option_map (holding (unwrap_or (sectors_in disk) [])) disk ≡ disk
+resectored_own None = refl
+resectored_own (Some disk) = refl
+
+pub own_fitted : (chipset : Running) → with_fitted (fitted_on chipset) chipset ≡ chipset
+own_fitted chipset =
+    ap (λ (disk : Option (List ℕ)). rebuilt chipset (dram_on chipset) disk chipset.state.devices.disk)
+    (refitted_own chipset.setup.disk)
+
+pub own_sectors : (chipset : Running) → with_sectors (sectors_on chipset) chipset ≡ chipset
+own_sectors chipset =
+    ap (λ (disk : Option Disk). rebuilt chipset (dram_on chipset) chipset.setup.disk disk)
+    (resectored_own chipset.state.devices.disk)
+
+pub none_left : (chipset : Running) → disk_left false chipset ≡ chipset
+none_left chipset =
+    ap (λ (disk : Option (List ℕ)). rebuilt chipset (dram_on chipset) disk
+    (option_map (holding (sectors_on chipset)) chipset.state.devices.disk)) (refitted_own chipset.setup.disk)
+    ∙ own_sectors chipset
+
+pub none_left_behind : (behind : Behind) → on_board (disk_left false) behind ≡ behind
+none_left_behind behind =
+    ap (λ (chipset : Running). record behind { serial = record behind.serial { board = chipset } })
+    (none_left behind.serial.board)
+
+pub dram_kept : (left : LeftOut) (behind : Behind) → left.dram ≡ false →
+    on_board (disk_left left.disk) behind ≡ without left behind
+dram_kept left behind kept =
+    ap (λ (d : Bool). without (record { dram = d; disk = left.disk }) behind) (sym kept)
+
+pub dram_gone : (left : LeftOut) (behind : Behind) → left.dram ≡ true →
+    without (record { dram = true; disk = left.disk }) behind ≡ without left behind
+dram_gone left behind gone =
+    ap (λ (d : Bool). without (record { dram = d; disk = left.disk }) behind) (sym gone)
