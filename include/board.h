@@ -49,7 +49,7 @@ enum board_status {
     BOARD_NO_SECTOR = 18,  /* there is no disk, or it has no such sector */
     BOARD_PAST_END = 19,   /* the bytes do not all lie in the installed memory, or in the card's base */
     BOARD_NO_BYTE = 20,    /* the clock has 128 bytes */
-    BOARD_BAD_LENGTH = 21, /* a sector has 512 bytes */
+    BOARD_BAD_LENGTH = 21, /* not as many bytes as the sector, the memory or the disk has */
     BOARD_NO_REPLY = 22,   /* the record is that of no reply */
     BOARD_NO_ROOM = 23,    /* the text, or the saved board, does not fit */
     BOARD_SERIAL_FULL = 24, /* COM1 can receive no byte: its queue is full, or loopback is on */
@@ -79,7 +79,7 @@ static inline const char *board_status_text(uint32_t status) {
     case BOARD_NO_SECTOR: return "there is no disk, or it has no such sector";
     case BOARD_PAST_END: return "the bytes do not all lie in the memory or the base";
     case BOARD_NO_BYTE: return "the clock has no byte at this address";
-    case BOARD_BAD_LENGTH: return "the room is not the 512 bytes of a sector";
+    case BOARD_BAD_LENGTH: return "not as many bytes as the sector, the memory or the disk has";
     case BOARD_NO_REPLY: return "the record is that of no reply";
     case BOARD_NO_ROOM: return "what is told does not fit";
     case BOARD_SERIAL_FULL: return "COM1 has no room for a byte";
@@ -320,6 +320,22 @@ uint32_t board_save(board *handle, uint8_t *into, size_t room, size_t *bytes);
  * are those of another state that is in range: then that board is opened, and is as safe as any.
  * CLOSED where the handle is open already, OTHER_VERSION, BAD_IMAGE, NO_MEMORY. */
 uint32_t board_load(board *handle, const uint8_t *from, size_t bytes);
+/* Writes the board as board_save does, without bytes that a monitor keeps itself: with dram those of
+ * the DRAM, and with disk those of the disk, as it was fitted and as its sectors stand. Zeros stand in
+ * the place of what is left out, of which a page takes a byte.
+ * CLOSED, NO_ROOM, NO_MEMORY. */
+uint32_t board_save_without(board *handle, bool dram, bool disk, uint8_t *into, size_t room,
+                            size_t *bytes);
+/* Opens the board that was saved as these bytes, as board_load does, with a monitor's bytes in the
+ * place of its own: those of the DRAM, of the disk as it was fitted, and of its sectors as they stand;
+ * of what is not given the count is 0. Which sectors are bad stays. With what board_save_without left
+ * out it is the board that was saved. Where the disk as it was fitted is not kept, its sectors do for
+ * both: no reply depends on it.
+ * CLOSED where the handle is open already, OTHER_VERSION, BAD_IMAGE, NO_MEMORY; BAD_LENGTH where what
+ * is given has not as many bytes as the board. */
+uint32_t board_load_with(board *handle, const uint8_t *from, size_t bytes, const uint8_t *dram,
+                         size_t dram_bytes, const uint8_t *fitted, size_t fitted_bytes,
+                         const uint8_t *sectors, size_t sectors_bytes);
 
 /* ---- what is asked between two steps: the board stays as it is */
 

@@ -4,7 +4,8 @@
  *
  * Of each list one board is never saved, one is saved at ten random places and goes on, and each of the ten is loaded and
  * goes on: all replies are the same, byte for byte. A changed image is refused, or gives a board that is saved as these very
- * bytes and then does 1,000 random events. Images end where a page begins that cannot be read. */
+ * bytes and then does 1,000 random events. At each place the board is also saved without its memory, its disk or both, and
+ * loaded with them, and goes on alike. Images end where a page begins that cannot be read. */
 #define _DEFAULT_SOURCE
 #include "board.h"
 #include <stdio.h>
@@ -99,8 +100,10 @@ static board_event list[EVENTS];
 static board_reply said[EVENTS];
 static uint32_t status_of[EVENTS];
 
+static uint8_t disk[SECTORS * SECTOR]; /* as it was fitted */
+
 static void open_board(board *b) {
-    static uint8_t rom[ROM], disk[SECTORS * SECTOR];
+    static uint8_t rom[ROM];
     static board_card cards[MOST_CARDS + 1];
     size_t count = 0;
     memset(cards, 0, sizeof cards);
@@ -179,6 +182,49 @@ static void go_on(image it, size_t from, image end, unsigned long which) {
     free(back.at), free(last.at);
 }
 
+/* ---- images without the memory or the disk, which the caller keeps */
+
+enum { MIB = 1 << 20, MOST_MIB = 2 };
+
+typedef struct kept { uint8_t dram[MOST_MIB * MIB], sectors[SECTORS * SECTOR]; size_t dram_bytes, disk_bytes; } kept;
+
+static void keep(board *b, kept *own, unsigned long which) {
+    board_map map;
+    uint32_t status = board_ranges(b, &map, NULL, 0, NULL, 0);
+    if (status || map.mib > MOST_MIB) fail("the size of the memory", which, status);
+    own->dram_bytes = map.mib * MIB, own->disk_bytes = 0;
+    status = board_dram_read(b, 0, own->dram, own->dram_bytes);
+    if (status) fail("the memory", which, status);
+    for (uint32_t k = 0; k < SECTORS && !board_disk_read(b, k, own->sectors + SECTOR * k, SECTOR); k++) own->disk_bytes += SECTOR;
+}
+
+/* a board that is saved without them, and loaded with them, is saved as the same bytes and goes on as before */
+static void without(board *b, bool dram, bool disk_too, image whole, size_t from, image end, unsigned long which) {
+    static kept own;
+    board other = {0};
+    uint8_t none = 0;
+    size_t size = 0, told = 0;
+    keep(b, &own, which);
+    uint32_t status = board_save_without(b, dram, disk_too, &none, 0, &size);
+    if (status != BOARD_NO_ROOM || size > whole.bytes) fail("the size of an image without bytes", which, status);
+    uint8_t *at = fenced(size);
+    status = board_save_without(b, dram, disk_too, at, size, &told);
+    if (status || told != size) fail("save without bytes", which, status);
+    size_t dram_bytes = dram ? own.dram_bytes : 0, disk_bytes = disk_too ? own.disk_bytes : 0;
+    if (dram && board_load_with(&other, at, size, own.dram, dram_bytes - 1, NULL, 0, NULL, 0) != BOARD_BAD_LENGTH) fail("less memory", which, 0);
+    if (disk_bytes && board_load_with(&other, at, size, NULL, 0, disk, disk_bytes - SECTOR, NULL, 0) != BOARD_BAD_LENGTH) fail("a smaller disk", which, 0);
+    if (other.open) fail("a refused load leaves an open board", which, 0);
+    status = board_load_with(&other, at, size, own.dram, dram_bytes, disk, disk_bytes, own.sectors, disk_bytes);
+    if (status) fail("load with bytes", which, status);
+    image back = saved(&other, which);
+    if (!is_same(whole, back)) fail("a board without bytes is loaded as another", which, 0);
+    for (size_t k = from; k < EVENTS; k++) again(&other, k, which, "another reply of a board that was loaded with bytes");
+    image last = saved(&other, which);
+    if (!is_same(last, end)) fail("a board that was loaded with bytes ends as another", which, 0);
+    board_close(&other);
+    free(back.at), free(last.at);
+}
+
 static void one_list(unsigned long which) {
     board never = {0}, b = {0};
     image at[PLACES];
@@ -198,6 +244,7 @@ static void one_list(unsigned long which) {
         place[p] = p * EVENTS / PLACES + next(EVENTS / PLACES);
         for (; done < place[p]; done++) again(&b, done, which, "another reply of a board that was saved");
         at[p] = saved(&b, which);
+        without(&b, p % 3 != 1, p % 3 != 2, at[p], place[p], end, which);
     }
     for (; done < EVENTS; done++) again(&b, done, which, "another reply of a board that was saved");
     for (size_t p = 0; p < PLACES; p++) go_on(at[p], place[p], end, which), free(at[p].at);

@@ -60,12 +60,15 @@ class Board:
         self._library = library()
 
     @classmethod
-    def load(cls, image: bytes) -> "Board":
-        """The board that save gave these bytes of: it goes on as that one would. `last` is not in them."""
+    def load(cls, image: bytes, *, dram: bytes = b"", fitted: bytes = b"", sectors: bytes = b"") -> "Board":
+        """The board that save gave these bytes of: it goes on as that one would. `last` is not in them.
+
+        Bytes that save left out are given here: those of the DRAM, of the disk as it was fitted, and of its sectors as they
+        stand. BadLength where they are not as many as the board has."""
         board = cls.__new__(cls)
         board._begin()
-        image = bytes(image)
-        check(board._library.board_load(board._handle, image, len(image)))
+        given = [bytes(each) for each in (image, dram, fitted, sectors)]
+        check(board._library.board_load_with(board._handle, *(word for each in given for word in (each, len(each)))))
         return board
 
     # ---- its end
@@ -284,15 +287,17 @@ class Board:
         self._ask("board_cmos_read", _byte(address, NoByte), byte)
         return byte.value
 
-    def save(self) -> bytes:
-        """The running board as bytes: what it was opened with, and all that it holds."""
+    def save(self, *, dram: bool = True, disk: bool = True) -> bytes:
+        """The running board as bytes: what it was opened with, and all that it holds; without dram or disk all but the
+        bytes of the DRAM, or those of the disk, as it was fitted and as its sectors stand, which load is then given."""
         count = records.c.c_size_t()
+        save = self._library.board_save_without
         with self._lock:
-            status = self._library.board_save(self._handle, (records.U8 * 1)(), 0, count)
+            status = save(self._handle, not dram, not disk, (records.U8 * 1)(), 0, count)
             if status != NoRoom.status:
                 check(status)
             into = (records.U8 * count.value)()
-            check(self._library.board_save(self._handle, into, len(into), count))
+            check(save(self._handle, not dram, not disk, into, len(into), count))
         return bytes(into)
 
     def decode_master(self, addr: int, width: int, is_write: bool) -> Part:

@@ -86,7 +86,7 @@ class NoByte(BoardError, status=20):
 
 
 class BadLength(BoardError, status=21):
-    """a sector has 512 bytes"""
+    """not as many bytes as the sector, the memory or the disk has"""
 
 
 class NoReply(BoardError, status=22):

@@ -156,6 +156,8 @@ CALLS: dict[str, list[type]] = {
     "board_close": [_HANDLE],
     "board_save": [_HANDLE, _BYTES, _SIZE, c.POINTER(_SIZE)],
     "board_load": [_HANDLE, c.c_char_p, _SIZE],
+    "board_save_without": [_HANDLE, c.c_bool, c.c_bool, _BYTES, _SIZE, c.POINTER(_SIZE)],
+    "board_load_with": [_HANDLE, *(c.c_char_p, _SIZE) * 4],
     "board_ranges": [_HANDLE, c.POINTER(MapRecord), c.POINTER(RangeRecord), _SIZE, c.POINTER(WindowRecord), _SIZE],
     "board_decode": [_HANDLE, c.POINTER(EventRecord), c.POINTER(PartRecord)],
     "board_pulses_to_rise": [_HANDLE, c.POINTER(U32)],

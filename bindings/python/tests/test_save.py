@@ -28,6 +28,26 @@ def test_pages_of_zeros_take_a_byte():
         assert len(board.save()) < 64 * 256 + 2 * 4096
 
 
+def test_bytes_that_are_left_out_are_given():
+    fitted = bytes(range(256)) * 4
+    with Board(memory=1, disk=fitted) as board:
+        board.write(0x1234, 4, 0x89ABCDEF)
+        for port, value in ((0x1F2, 1), (0x1F3, 1), (0x1F7, 0x30)):
+            board.out(port, 1, value)
+        for word in range(256):
+            board.out(0x1F0, 2, word)
+        whole, image = board.save(), board.save(dram=False, disk=False)
+        own = {"dram": board.dram_read(0, 1 << 20), "fitted": fitted, "sectors": board.disk_read(0) + board.disk_read(1)}
+    assert own["sectors"] != fitted and len(image) < len(whole) - 2 * 512
+    with Board.load(image, **own) as other:
+        assert other.save() == whole
+    with Board.load(image) as other:
+        assert other.read(0x1234, 4) == 0 and other.disk_read(1) == bytes(512)
+    for name, given in own.items():
+        with pytest.raises(errors.BadLength):
+            Board.load(image, **{name: given[:-1]})
+
+
 @pytest.mark.parametrize("image, refusal", [
     (b"", errors.BadImage),
     (b"BOARDRUN", errors.BadImage),

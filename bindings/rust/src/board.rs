@@ -98,6 +98,40 @@ impl Board {
         Ok(board)
     }
 
+    /// The board that [`Board::save_without`] gave these bytes of, with those that it left out: of the DRAM, of the disk
+    /// as it was fitted, and of its sectors as they stand. No bytes are none given: the image's own stay.
+    ///
+    /// ```
+    /// use board_440fx::{Board, Error};
+    ///
+    /// let mut board = Board::builder().memory_mib(1).rom(&[0; 65536]).disk(&[7; 512]).open()?;
+    /// board.write_u32(0x1000, 7)?;
+    /// let (image, mut dram) = (board.save_without(true, true)?, vec![0; 1 << 20]);
+    /// board.dram_read(0, &mut dram)?;
+    /// let other = Board::load_with(&image, &dram, &[7; 512], &board.disk_read(0)?)?;
+    /// assert_eq!(other.save()?, board.save()?);
+    /// assert_eq!(Board::load_with(&image, &dram[1..], &[], &[]).err(), Some(Error::BadLength));
+    /// # Ok::<(), Error>(())
+    /// ```
+    pub fn load_with(image: &[u8], dram: &[u8], fitted: &[u8], sectors: &[u8]) -> Result<Board, Error> {
+        let board = Board::closed();
+        // SAFETY: as of `load`.
+        check(unsafe {
+            raw::board_load_with(
+                board.handle.get(),
+                image.as_ptr(),
+                image.len(),
+                dram.as_ptr(),
+                dram.len(),
+                fitted.as_ptr(),
+                fitted.len(),
+                sectors.as_ptr(),
+                sectors.len(),
+            )
+        })?;
+        Ok(board)
+    }
+
     /// A board that is to be opened.
     fn closed() -> Board {
         let closed = raw::Handle { at: ptr::null_mut(), open: false };
@@ -369,15 +403,24 @@ impl Board {
 
     /// The running board as bytes: what it was opened with, and all that it holds.
     pub fn save(&self) -> Result<Vec<u8>, Error> {
+        self.save_without(false, false)
+    }
+
+    /// As [`Board::save`], without the bytes of the DRAM, or those of the disk, as it was fitted and as its sectors stand:
+    /// zeros stand in the place of what is left out.
+    pub fn save_without(&self, dram: bool, disk: bool) -> Result<Vec<u8>, Error> {
         let (mut bytes, mut none) = (0, [0; 1]);
         // SAFETY: as of `decode`; of no room nothing is written.
-        let status = unsafe { raw::board_save(self.handle.get(), none.as_mut_ptr(), 0, &mut bytes) };
+        let status =
+            unsafe { raw::board_save_without(self.handle.get(), dram, disk, none.as_mut_ptr(), 0, &mut bytes) };
         if status != Error::NoRoom.status() {
             check(status)?;
         }
-        let mut image = vec![0; bytes];
+        let (mut image, handle) = (vec![0; bytes], self.handle.get());
         // SAFETY: as of `decode`; the pointer is good for as many bytes.
-        check(unsafe { raw::board_save(self.handle.get(), image.as_mut_ptr(), image.len(), &mut bytes) })?;
+        check(unsafe {
+            raw::board_save_without(handle, dram, disk, image.as_mut_ptr(), image.len(), &mut bytes)
+        })?;
         Ok(image)
     }
 

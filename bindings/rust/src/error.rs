@@ -74,7 +74,7 @@ statuses! {
     18 NoSector "there is no disk, or it has no such sector"
     19 PastEnd "the bytes do not all lie in the memory or the base"
     20 NoByte "the clock has 128 bytes"
-    21 BadLength "a sector has 512 bytes"
+    21 BadLength "not as many bytes as the sector, the memory or the disk has"
     22 NoReply "that is no reply"
     23 NoRoom "what is told does not fit"
     24 SerialFull "COM1 can receive no byte: its queue is full, or loopback is on"

@@ -212,8 +212,26 @@ extern "C" {
         reply: *mut Reply,
     ) -> u32;
     pub(crate) fn board_close(handle: *mut Handle);
-    pub(crate) fn board_save(handle: *mut Handle, into: *mut u8, room: usize, bytes: *mut usize) -> u32;
     pub(crate) fn board_load(handle: *mut Handle, from: *const u8, bytes: usize) -> u32;
+    pub(crate) fn board_save_without(
+        handle: *mut Handle,
+        dram: bool,
+        disk: bool,
+        into: *mut u8,
+        room: usize,
+        bytes: *mut usize,
+    ) -> u32;
+    pub(crate) fn board_load_with(
+        handle: *mut Handle,
+        from: *const u8,
+        bytes: usize,
+        dram: *const u8,
+        dram_bytes: usize,
+        fitted: *const u8,
+        fitted_bytes: usize,
+        sectors: *const u8,
+        sectors_bytes: usize,
+    ) -> u32;
     pub(crate) fn board_ranges(
         handle: *mut Handle,
         map: *mut Map,
