@@ -18,6 +18,7 @@ mod bridge;
 mod chipset;
 mod disk_state;
 mod image;
+mod left;
 mod map;
 mod master;
 mod media;
