@@ -98,20 +98,6 @@ class EndNumber(IntEnum):
     MISSING = 5
 
 
-class PieceNumber(IntEnum):
-    DESCRIPTOR = 1
-    WORDS = 2
-    ENDED = 3
-
-
-class EndNumber(IntEnum):
-    EXACT = 1
-    LONGER = 2
-    SHORTER = 3
-    ABORTED = 4
-    MISSING = 5
-
-
 class HandleRecord(c.Structure):
     _fields_ = [("at", c.c_void_p), ("open", c.c_bool)]
 

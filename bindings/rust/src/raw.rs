@@ -53,16 +53,6 @@ pub(crate) const SHORTER: u8 = 3;
 pub(crate) const ABORTED: u8 = 4;
 pub(crate) const MISSING: u8 = 5;
 
-pub(crate) const DESCRIPTOR: u8 = 1;
-pub(crate) const WORDS: u8 = 2;
-pub(crate) const ENDED: u8 = 3;
-
-pub(crate) const EXACT: u8 = 1;
-pub(crate) const LONGER: u8 = 2;
-pub(crate) const SHORTER: u8 = 3;
-pub(crate) const ABORTED: u8 = 4;
-pub(crate) const MISSING: u8 = 5;
-
 pub(crate) const MOST_RANGES: usize = 142;
 pub(crate) const MOST_WINDOWS: usize = 64;
 pub(crate) const MOST_BASES: usize = 6;

@@ -18,7 +18,6 @@ mod bridge;
 mod chipset;
 mod disk_state;
 mod image;
-mod left;
 mod map;
 mod master;
 mod media;
