@@ -3,7 +3,8 @@
 use crate::error::check;
 use crate::raw;
 use crate::{
-    Answer, Builder, Card, Com1, Error, Event, Kind, Look, Map, Moment, Part, Piece, Ranges, Reply, Transfer, Value, Width,
+    Answer, Builder, Card, Com1, Error, Event, Kind, Look, Map, Moment, Part, Piece, Ranges, Reply, Transfer, Value,
+    Width,
 };
 use std::cell::UnsafeCell;
 use std::fmt;
