@@ -1,18 +1,22 @@
 //! The shelves and sinks of these tests: when they fail, and what they move.
 
+use crate::commands::{Files, add_file};
 use arrayvec::ArrayVec;
 use board_outside::{
     Failed, Gate, PutFault, QuietGate, SafeShelf, SafeSink, Shelf, Sink, keep_name,
 };
 use outside_doubles::{MemShelf, MemSink, SlowShelf, SlowSink};
 use std::alloc::Global;
-use std::test::Fail;
+use std::process::Abort;
 
 // 260 bytes: ten times the alphabet.
 const LONG: &str = "abcdefghijklmnopqrstuvwxyzabcdefghijklmnopqrstuvwxyzabcdefghijklmnopqrstuvwxyz\
 abcdefghijklmnopqrstuvwxyzabcdefghijklmnopqrstuvwxyzabcdefghijklmnopqrstuvwxyz\
 abcdefghijklmnopqrstuvwxyzabcdefghijklmnopqrstuvwxyzabcdefghijklmnopqrstuvwxyz\
 abcdefghijklmnopqrstuvwxyz";
+
+// The bytes of a file.
+const SCRIPT: &str = "0 r b 0";
 
 // 32 bytes, no two alike.
 const DIGITS: &str = "0123456789abcdefghijklmnopqrstuv";
@@ -32,8 +36,8 @@ fn reads_so(
 }
 
 #[test]
-fn a_shelf_fails_by_its_list_and_at_missing_names(rt: HostRuntime) -> Result<(), Fail> {
-    let mut shelf = MemShelf::new(files(rt.alloc())?, [1].to_vec(rt.alloc())?);
+fn a_shelf_fails_by_its_list_and_at_missing_names(rt: HostRuntime) {
+    let mut shelf = shelf_of(&rt, rt.alloc(), "script", SCRIPT, 1);
     let shelf = &mut shelf;
     assert!(rt; reads_so(shelf, "script", 0, None, 1, "script"));
     assert!(rt; reads_so(shelf, "script", 0, Some("0 r "), 1, "script"));
@@ -42,17 +46,15 @@ fn a_shelf_fails_by_its_list_and_at_missing_names(rt: HostRuntime) -> Result<(),
     assert!(rt; reads_so(shelf, "script", u64::MAX, Some(""), 1, "script"));
     assert!(rt; reads_so(shelf, "rom", 0, None, 2, "rom"));
     assert!(rt; reads_so(shelf, "script", 6, Some("0"), 2, "rom"));
-    Ok(())
 }
 
 #[test]
-fn a_safe_shelf_reads_a_missing_name_as_empty(rt: HostRuntime) -> Result<(), Fail> {
+fn a_safe_shelf_reads_a_missing_name_as_empty(rt: HostRuntime) {
     let mut shelf = SafeShelf {
-        files: files(rt.alloc())?,
+        files: files(&rt, rt.alloc(), "script", SCRIPT),
     };
     assert!(rt; reads(&mut shelf, "script", 4, Some("b 0")));
     assert!(rt; reads(&mut shelf, "rom", 0, Some("")));
-    Ok(())
 }
 
 // Whether one put answers so, and the sink then has these bytes and so many faults.
@@ -61,26 +63,24 @@ fn puts_so(sink: &mut MemSink, want: Result<usize, PutFault>, bytes: &str, fault
 }
 
 #[test]
-fn a_sink_fails_by_its_list(rt: HostRuntime) -> Result<(), Fail> {
-    let mut sink = MemSink::new(rt.alloc(), [2].to_vec(rt.alloc())?);
+fn a_sink_fails_by_its_list(rt: HostRuntime) {
+    let mut sink = sink_of(&rt, rt.alloc(), 2);
     assert!(rt; puts_so(&mut sink, Ok(3), "log", 0));
     assert!(rt; puts_so(&mut sink, Err(PutFault::Failed), "log", 1));
     assert!(rt; puts_so(&mut sink, Ok(3), "loglog", 1));
     let mut safe = SafeSink::new(rt.alloc());
     assert!(rt; puts(&mut safe, b"log") == Ok(3));
     assert!(rt; safe.bytes.as_slice() == b"log".as_slice());
-    Ok(())
 }
 
-// The shelf and the sink of a copy: of each this call fails, or none where it is 0.
-fn shelf_of(alloc: Global, fetch: u32) -> Result<SlowShelf, Fail> {
-    let digits = file(alloc, "digits", DIGITS)?;
-    let inner = MemShelf::new(digits, [fetch].to_vec(alloc)?);
-    Ok(SlowShelf::new(inner, 1))
+// A shelf with one file, and a sink, of which this call fails, or none where it is 0.
+fn shelf_of(rt: &impl Abort, alloc: Global, name: &str, text: &str, fetch: u32) -> MemShelf {
+    let failing = [fetch].to_vec(alloc).expect(rt, "a list");
+    MemShelf::new(files(rt, alloc, name, text), failing)
 }
 
-fn sink_of(alloc: Global, put: u32) -> Result<SlowSink, Fail> {
-    Ok(SlowSink::new(MemSink::new(alloc, [put].to_vec(alloc)?), 1))
+fn sink_of(rt: &impl Abort, alloc: Global, put: u32) -> MemSink {
+    MemSink::new(alloc, [put].to_vec(alloc).expect(rt, "a list"))
 }
 
 // Whether so many bytes came over, and shelf and sink have so many faults.
@@ -95,38 +95,38 @@ fn have_moved(shelf: &SlowShelf, sink: &SlowSink, count: usize, faults: (u64, u6
 
 // Whether a slow copy ends so, where this fetch or this put fails.
 fn copies_so(
+    rt: &impl Abort,
     alloc: Global,
     fetch: u32,
     put: u32,
     count: usize,
     faults: (u64, u64),
-) -> Result<bool, Fail> {
-    let mut shelf = shelf_of(alloc, fetch)?;
-    let mut sink = sink_of(alloc, put)?;
+) -> bool {
+    let mut shelf = SlowShelf::new(shelf_of(rt, alloc, "digits", DIGITS, fetch), 1);
+    let mut sink = SlowSink::new(sink_of(rt, alloc, put), 1);
     copy(&mut shelf, &mut sink, "digits");
-    Ok(have_moved(&shelf, &sink, count, faults))
+    have_moved(&shelf, &sink, count, faults)
 }
 
 #[test]
-fn a_slow_copy_ends_at_its_fault(rt: HostRuntime) -> Result<(), Fail> {
+fn a_slow_copy_ends_at_its_fault(rt: HostRuntime) {
     let alloc = rt.alloc();
-    assert!(rt; copies_so(alloc, 0, 0, 32, (0, 0))?);
-    assert!(rt; copies_so(alloc, 1, 0, 0, (1, 0))?);
-    assert!(rt; copies_so(alloc, 2, 0, 1, (1, 0))?);
-    assert!(rt; copies_so(alloc, 32, 0, 31, (1, 0))?);
-    assert!(rt; copies_so(alloc, 33, 0, 32, (1, 0))?);
-    assert!(rt; copies_so(alloc, 34, 0, 32, (0, 0))?);
-    assert!(rt; copies_so(alloc, 0, 1, 0, (0, 1))?);
-    assert!(rt; copies_so(alloc, 0, 17, 16, (0, 1))?);
-    assert!(rt; copies_so(alloc, 0, 32, 31, (0, 1))?);
-    assert!(rt; copies_so(alloc, 0, 33, 32, (0, 0))?);
-    Ok(())
+    assert!(rt; copies_so(&rt, alloc, 0, 0, 32, (0, 0)));
+    assert!(rt; copies_so(&rt, alloc, 1, 0, 0, (1, 0)));
+    assert!(rt; copies_so(&rt, alloc, 2, 0, 1, (1, 0)));
+    assert!(rt; copies_so(&rt, alloc, 32, 0, 31, (1, 0)));
+    assert!(rt; copies_so(&rt, alloc, 33, 0, 32, (1, 0)));
+    assert!(rt; copies_so(&rt, alloc, 34, 0, 32, (0, 0)));
+    assert!(rt; copies_so(&rt, alloc, 0, 1, 0, (0, 1)));
+    assert!(rt; copies_so(&rt, alloc, 0, 17, 16, (0, 1)));
+    assert!(rt; copies_so(&rt, alloc, 0, 32, 31, (0, 1)));
+    assert!(rt; copies_so(&rt, alloc, 0, 33, 32, (0, 0)));
 }
 
 #[test]
-fn counts_stand_still_at_their_last_values(rt: HostRuntime) -> Result<(), Fail> {
-    let mut shelf = MemShelf::new(files(rt.alloc())?, [u32::MAX].to_vec(rt.alloc())?);
-    let mut sink = MemSink::new(rt.alloc(), [u32::MAX].to_vec(rt.alloc())?);
+fn counts_stand_still_at_their_last_values(rt: HostRuntime) {
+    let mut shelf = shelf_of(&rt, rt.alloc(), "script", SCRIPT, u32::MAX);
+    let mut sink = sink_of(&rt, rt.alloc(), u32::MAX);
     shelf.calls = u32::MAX - 1;
     sink.calls = u32::MAX - 1;
     shelf.faults = u64::MAX - 1;
@@ -137,7 +137,6 @@ fn counts_stand_still_at_their_last_values(rt: HostRuntime) -> Result<(), Fail> 
         assert!(rt; shelf.calls == u32::MAX && shelf.faults == u64::MAX);
         assert!(rt; sink.calls == u32::MAX && sink.faults == u64::MAX);
     }
-    Ok(())
 }
 
 // Whether so many bytes of a name are kept, the first ones.
@@ -168,17 +167,11 @@ fn a_quiet_gate_holds_nobody() {
     QuietGate.after(0, 1);
 }
 
-fn files(alloc: Global) -> Result<Vec<(String, Vec<u8>)>, Fail> {
-    file(alloc, "script", "0 r b 0")
-}
-
-fn file(alloc: Global, name: &str, text: &str) -> Result<Vec<(String, Vec<u8>)>, Fail> {
+// One file.
+fn files(rt: &impl Abort, alloc: Global, name: &str, text: &str) -> Files {
     let mut files = Vec::new(alloc);
-    files.push((
-        String::from_str(alloc, name)?,
-        text.as_bytes().to_vec(alloc)?,
-    ))?;
-    Ok(files)
+    add_file(rt, alloc, &mut files, name, text.as_bytes());
+    files
 }
 
 // Copies a file of at most 32 bytes, piece by piece, up to its end or the first fault.

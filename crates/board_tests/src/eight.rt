@@ -4,9 +4,9 @@ use crate::commands::{answer, files_of, status_of};
 use crate::counting_gate::CountingGate;
 use board_commands::Status;
 use board_outside::{SafeShelf, SafeSink};
-use std::alloc::Global;
+use std::alloc::{AllocError, Global};
+use std::process::Abort;
 use std::sync::Wait;
-use std::test::Fail;
 use std::thread::Threads;
 
 /// The setup of eight processors.
@@ -29,7 +29,7 @@ const ROUNDS: [usize; 2] = [3, 1];
 const EACH: u32 = 14;
 
 /// The script.
-fn script(alloc: Global) -> Result<String, Fail> {
+fn script(alloc: Global) -> Result<String, AllocError> {
     let mut text = String::from_str(alloc, SETUP)?;
     for rounds in ROUNDS {
         text.push_str("phase\n")?;
@@ -42,7 +42,7 @@ fn script(alloc: Global) -> Result<String, Fail> {
 }
 
 /// Adds each statement once for each processor.
-fn push_round(text: &mut String) -> Result<(), Fail> {
+fn push_round(text: &mut String) -> Result<(), AllocError> {
     for statement in STATEMENTS {
         for actor in ACTORS {
             text.push_str(actor)?;
@@ -53,7 +53,7 @@ fn push_round(text: &mut String) -> Result<(), Fail> {
 }
 
 /// Adds two phases for each processor, in which it acts alone: it reads in one and looks in the other.
-fn push_phases_of_one(text: &mut String) -> Result<(), Fail> {
+fn push_phases_of_one(text: &mut String) -> Result<(), AllocError> {
     for statement in [" r b 00000010\n", " look r 000F0000\n"] {
         for actor in ACTORS {
             text.push_str("phase\n")?;
@@ -64,33 +64,25 @@ fn push_phases_of_one(text: &mut String) -> Result<(), Fail> {
     Ok(())
 }
 
-/// Runs the script, and gives its log, if each processor's statements were counted.
-fn counted<R: Threads + Wait + Sync>(
-    rt: &R,
-    alloc: Global,
-    script: &[u8],
-) -> Result<Option<Vec<u8>>, Fail> {
+/// Runs the script, where each processor's statements are counted, and gives its log.
+fn counted<R: Threads + Wait + Sync + Abort>(rt: &R, alloc: Global, script: &[u8]) -> Vec<u8> {
     let gate = CountingGate::new();
     let mut shelf = SafeShelf {
-        files: files_of(alloc, script, &[])?,
+        files: files_of(rt, alloc, script, &[]),
     };
     let mut out = SafeSink::new(alloc);
-    let status = status_of(rt, alloc, &["run", "s"], &mut shelf, &mut out, &gate)?;
-    if status == Status::Done && gate.has_counted(EACH) {
-        return Ok(Some(out.bytes));
-    }
-    Ok(None)
+    let status = status_of(rt, alloc, &["run", "s"], &mut shelf, &mut out, &gate);
+    assert!(rt; status == Status::Done);
+    assert!(rt; gate.has_counted(EACH));
+    out.bytes
 }
 
 #[test]
-fn eight_processors_together_and_each_alone(rt: HostRuntime) -> Result<(), Fail> {
+fn eight_processors_together_and_each_alone(rt: HostRuntime) {
     let alloc = rt.alloc();
-    let script = script(alloc)?;
+    let script = script(alloc).expect(&rt, "a script");
     let script = script.as_bytes();
-    let Some(log) = counted(&rt, alloc, script)? else {
-        return Err("another end, or another count".into());
-    };
-    let (status, text) = answer(&rt, alloc, &["check", "s", "i"], script, &log)?;
+    let log = counted(&rt, alloc, script);
+    let (status, text) = answer(&rt, alloc, &["check", "s", "i"], script, &log);
     assert!(rt; status == Status::Done && text.as_slice() == "legal 112\n".as_bytes());
-    Ok(())
 }

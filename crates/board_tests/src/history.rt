@@ -6,7 +6,6 @@ use access_history::{Entries, Entry, Event, History, Reply};
 use board_base::{Denial, Kind, NoMemory, Reg, Target, WideAccess};
 use board_spec::{Part, Parts};
 use std::alloc::Global;
-use std::test::Fail;
 
 /// What is done with a history: it gets room for so many entries, or one comes, of a processor and with a vector.
 #[derive(Clone, Copy)]
@@ -74,17 +73,16 @@ fn are(kept: &Entries<'_>, entries: &[Entry]) -> bool {
 }
 
 #[test]
-fn entries_stand_in_the_order_in_which_they_came(rt: HostRuntime) -> Result<(), Fail> {
+fn entries_stand_in_the_order_in_which_they_came(rt: HostRuntime) {
     let mut history = History::new(rt.alloc());
     assert!(rt; has(&history, 0, 0));
     for (step, len, spare) in STEPS {
-        act(&mut history, step)?;
+        act(&mut history, step).expect(&rt, "room");
         assert!(rt; has(&history, len, spare));
     }
     assert!(rt; has_at(&history, 0, &acknowledged(0, 0x08)));
     assert!(rt; has_at(&history, 1, &acknowledged(1, 0x0B)));
     assert!(rt; history.entries().len() == 2);
-    Ok(())
 }
 
 /// A part in main memory, that no register denied.
@@ -160,13 +158,12 @@ fn history_of(alloc: Global, entries: &[Entry]) -> Result<History, NoMemory> {
 }
 
 #[test]
-fn wide_accesses_keep_their_parts(rt: HostRuntime) -> Result<(), Fail> {
+fn wide_accesses_keep_their_parts(rt: HostRuntime) {
     let entries = entries();
-    let history = history_of(rt.alloc(), &entries)?;
+    let history = history_of(rt.alloc(), &entries).expect(&rt, "room");
     let kept = history.entries();
     assert!(rt; kept.len() == 4);
     assert!(rt; are(&kept, &entries));
     assert!(rt; are(&kept.from(2), &entries[2..]));
     assert!(rt; are(&kept.before(1), &entries[..1]));
-    Ok(())
 }

@@ -11,7 +11,6 @@ use board_spec::{Entry, Event, Look, Reply};
 use run_order::{Done, RunEntry, RunOrder, Works};
 use std::alloc::{AllocError, Global};
 use std::process::Abort;
-use std::test::Fail;
 
 /// A run a line, of phases with `;` between them. A phase has four words: the version of the map before it; the calls that the
 /// bus's history gained; what each processor did, with `/` between the processors; and the entries that come of it. A call is
@@ -200,10 +199,10 @@ fn placed(
 }
 
 /// Runs phases one after another, and compares what each added.
-fn run(rt: &impl Abort, alloc: Global, phases: &str) -> Result<(), Fail> {
+fn run(rt: &impl Abort, alloc: Global, phases: &str) {
     let mut order = RunOrder::new(alloc);
     let mut history = History::new(alloc);
-    history.reserve(MOST_CALLS)?;
+    history.reserve(MOST_CALLS).expect(rt, "room");
     for phase in phases.split(';') {
         let (version, rest) = phase.split_once(' ').unwrap_or(("", ""));
         let (calls, rest) = rest.split_once(' ').unwrap_or(("", ""));
@@ -211,22 +210,22 @@ fn run(rt: &impl Abort, alloc: Global, phases: &str) -> Result<(), Fail> {
         let before = order.entries().len();
         add_calls(&mut history, calls);
         let bus = history.entries();
-        let lists = lists_of(alloc, works)?;
+        let lists = lists_of(alloc, works).expect(rt, "lists");
         let works = works_of(rt, &lists);
         if !have_callers(&bus, &works) {
             panic!(rt; "a call of no processor");
         }
-        order.place(u32::from(version == "1"), &bus, works)?;
-        let added = placed(alloc, &bus, order.entries(), before)?;
+        order
+            .place(u32::from(version == "1"), &bus, works)
+            .expect(rt, "places");
+        let added = placed(alloc, &bus, order.entries(), before).expect(rt, "a text");
         assert!(rt; added.as_str() == due, "{due}");
     }
-    Ok(())
 }
 
 #[test]
-fn looks_stand_at_their_places(rt: HostRuntime) -> Result<(), Fail> {
+fn looks_stand_at_their_places(rt: HostRuntime) {
     for phases in RUNS.lines() {
-        run(&rt, rt.alloc(), phases)?;
+        run(&rt, rt.alloc(), phases);
     }
-    Ok(())
 }

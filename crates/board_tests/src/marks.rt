@@ -2,21 +2,19 @@
 
 use bus_turn::Turn;
 use bus_turn::example::{Sheet, mark_by_two, mark_once};
-use std::test::Fail;
 
 #[test]
-fn each_mark_of_two_threads_stands_once(rt: HostRuntime) -> Result<(), Fail> {
+fn each_mark_of_two_threads_stands_once(rt: HostRuntime) {
     let Some(tally) = mark_by_two(&rt, rt.alloc(), 250) else {
         panic!(rt; "there was no memory")
     };
     assert!(rt; tally.first == 250 && tally.second == 250);
     let firsts = tally.sheet.marks.iter().filter(|mark| **mark == 0).count();
     assert!(rt; tally.sheet.marks.len() == 500 && firsts == 250);
-    Ok(())
 }
 
 #[test]
-fn marks_stand_in_the_order_of_the_turns(rt: HostRuntime) -> Result<(), Fail> {
+fn marks_stand_in_the_order_of_the_turns(rt: HostRuntime) {
     let mut sheet = Sheet::new(rt.alloc());
     sheet.mark(3);
     let Ok((turn, mut pass)) = Turn::open(rt.alloc(), sheet) else {
@@ -31,5 +29,4 @@ fn marks_stand_in_the_order_of_the_turns(rt: HostRuntime) -> Result<(), Fail> {
     turn.join(&mut pass, other);
     let sheet = turn.close(pass);
     assert!(rt; made == [true, true, true] && &*sheet.marks == [3, 1, 0, 1].as_slice());
-    Ok(())
 }

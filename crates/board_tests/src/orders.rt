@@ -7,8 +7,8 @@ use board_commands::Status;
 use board_outside::{QuietGate, SafeShelf, SafeSink};
 use outside_doubles::{MemShelf, SlowShelf};
 use std::alloc::Global;
+use std::process::Abort;
 use std::sync::Wait;
-use std::test::Fail;
 use std::thread::Threads;
 
 /// Two processors, of which one looks while the other opens a window.
@@ -63,20 +63,20 @@ phase
 
 /// Runs a script with a gate that holds moments, of which none must be held in vain, and tells whether the log is this one, where
 /// only one may come.
-fn is_forced<R: Threads + Wait + Sync>(
+fn is_forced<R: Threads + Wait + Sync + Abort>(
     rt: &R,
     alloc: Global,
     script: &str,
     holds: &'static [(Moment, Moment)],
     log: Option<&str>,
-) -> Result<bool, Fail> {
+) -> bool {
     let gate = HoldingGate::new(holds);
     let mut shelf = SafeShelf {
-        files: files_of(alloc, script.as_bytes(), &[])?,
+        files: files_of(rt, alloc, script.as_bytes(), &[]),
     };
     let mut out = SafeSink::new(alloc);
-    let status = status_of(rt, alloc, &["run", "s"], &mut shelf, &mut out, &gate)?;
-    Ok(status == Status::Done && gate.is_passed() && is_log(&out.bytes, log))
+    let status = status_of(rt, alloc, &["run", "s"], &mut shelf, &mut out, &gate);
+    status == Status::Done && gate.is_passed() && is_log(&out.bytes, log)
 }
 
 /// Whether a text is this log, where one is due.
@@ -101,7 +101,7 @@ const TOGETHER: [(Moment, Moment); 2] = [
 ];
 
 #[test]
-fn a_gate_forces_each_order(rt: HostRuntime) -> Result<(), Fail> {
+fn a_gate_forces_each_order(rt: HostRuntime) {
     let alloc = rt.alloc();
     assert!(rt;
         is_forced(
@@ -110,47 +110,44 @@ fn a_gate_forces_each_order(rt: HostRuntime) -> Result<(), Fail> {
             TWO_PROCESSORS,
             &WRITE_FIRST,
             Some(IN_FILE_ORDER)
-        )?
+        )
     );
-    assert!(rt; is_forced(&rt, alloc, TWO_PROCESSORS, &LOOK_FIRST, Some(LOOKED_FIRST))?);
-    assert!(rt; is_forced(&rt, alloc, SIDE_BY_SIDE, &TOGETHER, None)?);
-    assert!(rt; is_forced(&rt, alloc, SIDE_BY_SIDE, &OTHER_FIRST, None)?);
-    Ok(())
+    assert!(rt; is_forced(&rt, alloc, TWO_PROCESSORS, &LOOK_FIRST, Some(LOOKED_FIRST)));
+    assert!(rt; is_forced(&rt, alloc, SIDE_BY_SIDE, &TOGETHER, None));
+    assert!(rt; is_forced(&rt, alloc, SIDE_BY_SIDE, &OTHER_FIRST, None));
 }
 
 #[test]
-fn a_run_has_one_of_the_two_logs(rt: HostRuntime) -> Result<(), Fail> {
+fn a_run_has_one_of_the_two_logs(rt: HostRuntime) {
     let script = TWO_PROCESSORS.as_bytes();
-    let (status, log) = answer(&rt, rt.alloc(), &["run", "s"], script, &[])?;
+    let (status, log) = answer(&rt, rt.alloc(), &["run", "s"], script, &[]);
     let log = log.as_slice();
     assert!(rt; status == Status::Done);
     assert!(rt; log == IN_FILE_ORDER.as_bytes() || log == LOOKED_FIRST.as_bytes());
-    Ok(())
 }
 
 /// Whether the check of a log that comes byte by byte ends so, and puts this.
-fn checks_so<R: Threads + Wait + Sync>(
+fn checks_so<R: Threads + Wait + Sync + Abort>(
     rt: &R,
     alloc: Global,
     log: &str,
     due: Status,
     text: &str,
-) -> Result<bool, Fail> {
-    let files = files_of(alloc, TWO_PROCESSORS.as_bytes(), log.as_bytes())?;
+) -> bool {
+    let files = files_of(rt, alloc, TWO_PROCESSORS.as_bytes(), log.as_bytes());
     let mut shelf = SlowShelf::new(MemShelf::new(files, Vec::new(alloc)), 1);
     let mut out = SafeSink::new(alloc);
     let words = ["check", "s", "i"];
-    let status = status_of(rt, alloc, &words, &mut shelf, &mut out, &QuietGate)?;
-    Ok(status == due && out.bytes.as_slice() == text.as_bytes())
+    let status = status_of(rt, alloc, &words, &mut shelf, &mut out, &QuietGate);
+    status == due && out.bytes.as_slice() == text.as_bytes()
 }
 
 #[test]
-fn logs_that_come_byte_by_byte(rt: HostRuntime) -> Result<(), Fail> {
+fn logs_that_come_byte_by_byte(rt: HostRuntime) {
     let alloc = rt.alloc();
     let (third, first) = (Status::Differs { line: 3 }, Status::Differs { line: 1 });
-    assert!(rt; checks_so(&rt, alloc, IN_FILE_ORDER, Status::Done, "legal 3\n")?);
-    assert!(rt; checks_so(&rt, alloc, LOOKED_FIRST, Status::Done, "legal 3\n")?);
-    assert!(rt; checks_so(&rt, alloc, LOOKED_AHEAD, third, "")?);
-    assert!(rt; checks_so(&rt, alloc, "", first, "")?);
-    Ok(())
+    assert!(rt; checks_so(&rt, alloc, IN_FILE_ORDER, Status::Done, "legal 3\n"));
+    assert!(rt; checks_so(&rt, alloc, LOOKED_FIRST, Status::Done, "legal 3\n"));
+    assert!(rt; checks_so(&rt, alloc, LOOKED_AHEAD, third, ""));
+    assert!(rt; checks_so(&rt, alloc, "", first, ""));
 }

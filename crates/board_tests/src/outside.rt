@@ -6,8 +6,8 @@ use board_commands::{Status, Which};
 use board_outside::QuietGate;
 use outside_doubles::{MemShelf, MemSink, SlowShelf, SlowSink};
 use std::alloc::{AllocError, Global};
+use std::process::Abort;
 use std::sync::Wait;
-use std::test::Fail;
 use std::thread::Threads;
 
 /// The words of each command here.
@@ -30,15 +30,16 @@ struct FaultCase<'a> {
 }
 
 /// The shelf of a case.
-fn shelf_of(alloc: Global, case: &FaultCase<'_>) -> Result<SlowShelf, Fail> {
-    let files = files_of(alloc, case.script, &[])?;
-    let inner = MemShelf::new(files, [case.fetch].to_vec(alloc)?);
-    Ok(SlowShelf::new(inner, case.piece.max(1)))
+fn shelf_of(rt: &impl Abort, alloc: Global, case: &FaultCase<'_>) -> SlowShelf {
+    let files = files_of(rt, alloc, case.script, &[]);
+    let failing = [case.fetch].to_vec(alloc).expect(rt, "a list");
+    SlowShelf::new(MemShelf::new(files, failing), case.piece.max(1))
 }
 
 /// The sink of a case, which takes a byte a call.
-fn sink_of(alloc: Global, case: &FaultCase<'_>) -> Result<SlowSink, Fail> {
-    Ok(SlowSink::new(MemSink::new(alloc, [case.put].to_vec(alloc)?), 1))
+fn sink_of(rt: &impl Abort, alloc: Global, case: &FaultCase<'_>) -> SlowSink {
+    let failing = [case.put].to_vec(alloc).expect(rt, "a list");
+    SlowSink::new(MemSink::new(alloc, failing), 1)
 }
 
 /// Whether the shelf kept the name of a case, and the sink took so many bytes of the log.
@@ -50,15 +51,11 @@ fn have_kept(shelf: &SlowShelf, out: &SlowSink, case: &FaultCase<'_>) -> bool {
 }
 
 /// Replays the script of a case, and tells whether it ends as it must.
-fn ends_so<R: Threads + Wait + Sync>(
-    rt: &R,
-    alloc: Global,
-    case: &FaultCase<'_>,
-) -> Result<bool, Fail> {
-    let mut shelf = shelf_of(alloc, case)?;
-    let mut out = sink_of(alloc, case)?;
-    let status = status_of(rt, alloc, &REPLAY, &mut shelf, &mut out, &QuietGate)?;
-    Ok(status == case.status && have_kept(&shelf, &out, case))
+fn ends_so<R: Threads + Wait + Sync + Abort>(rt: &R, alloc: Global, case: &FaultCase<'_>) -> bool {
+    let mut shelf = shelf_of(rt, alloc, case);
+    let mut out = sink_of(rt, alloc, case);
+    let status = status_of(rt, alloc, &REPLAY, &mut shelf, &mut out, &QuietGate);
+    status == case.status && have_kept(&shelf, &out, case)
 }
 
 /// A replay in which nothing fails.
@@ -102,15 +99,14 @@ fn put_case(put: u32) -> FaultCase<'static> {
 }
 
 #[test]
-fn each_call_of_the_outside_fails(rt: HostRuntime) -> Result<(), Fail> {
+fn each_call_of_the_outside_fails(rt: HostRuntime) {
     for fetch in 1..=34 {
-        assert!(rt; ends_so(&rt, rt.alloc(), &fetch_case(fetch))?);
+        assert!(rt; ends_so(&rt, rt.alloc(), &fetch_case(fetch)));
     }
     for put in 1..=13 {
-        assert!(rt; ends_so(&rt, rt.alloc(), &put_case(put))?);
+        assert!(rt; ends_so(&rt, rt.alloc(), &put_case(put)));
     }
-    assert!(rt; ends_so(&rt, rt.alloc(), &FaultCase { put: 14, ..done() })?);
-    Ok(())
+    assert!(rt; ends_so(&rt, rt.alloc(), &FaultCase { put: 14, ..done() }));
 }
 
 /// A replay of a script that is cut short, and is refused.
@@ -135,38 +131,37 @@ fn other_rom() -> FaultCase<'static> {
 }
 
 /// Whether a script is bad at this line, for this reason.
-fn is_bad<R: Threads + Wait + Sync>(
+fn is_bad<R: Threads + Wait + Sync + Abort>(
     rt: &R,
     alloc: Global,
     script: &str,
     line: u32,
     why: u8,
-) -> Result<bool, Fail> {
+) -> bool {
     let status = Status::BadScript { line, why };
     ends_so(rt, alloc, &cut_case(script.as_bytes(), status))
 }
 
 #[test]
-fn scripts_of_other_lengths(rt: HostRuntime) -> Result<(), Fail> {
+fn scripts_of_other_lengths(rt: HostRuntime) {
     let alloc = rt.alloc();
-    let too_long = vec![in alloc; 0; 0x100_0001]?;
+    let too_long = vec![in alloc; 0; 0x100_0001].expect(&rt, "a script");
     assert!(rt;
         ends_so(
             &rt,
             alloc,
             &cut_case(&too_long, Status::TooLong(Which::Script))
-        )?
+        )
     );
     let without_line_feed = FaultCase {
         script: "board 1\ncpus 1\nmemory 8\nrom r64".as_bytes(),
         ..done()
     };
-    assert!(rt; ends_so(&rt, alloc, &without_line_feed)?);
-    assert!(rt; ends_so(&rt, alloc, &other_rom())?);
-    assert!(rt; is_bad(&rt, alloc, "board 1\ncpus 1\nmemory 8\nrom ", 4, 3)?);
-    assert!(rt; is_bad(&rt, alloc, "board 1\ncpus 1\nmemory 8", 4, 6)?);
-    assert!(rt; is_bad(&rt, alloc, "boar", 1, 1)?);
-    Ok(())
+    assert!(rt; ends_so(&rt, alloc, &without_line_feed));
+    assert!(rt; ends_so(&rt, alloc, &other_rom()));
+    assert!(rt; is_bad(&rt, alloc, "board 1\ncpus 1\nmemory 8\nrom ", 4, 3));
+    assert!(rt; is_bad(&rt, alloc, "board 1\ncpus 1\nmemory 8", 4, 6));
+    assert!(rt; is_bad(&rt, alloc, "boar", 1, 1));
 }
 
 /// The fetches of a replay in pieces of 24 KiB: the file, the place, and how many bytes came. The latest comes first.
@@ -195,14 +190,14 @@ fn in_words(alloc: Global, made: &[MadeFetch]) -> Result<String, AllocError> {
 }
 
 #[test]
-fn the_calls_of_a_replay(rt: HostRuntime) -> Result<(), Fail> {
+fn the_calls_of_a_replay(rt: HostRuntime) {
     let alloc = rt.alloc();
     let case = FaultCase {
         piece: 0x6000,
         ..done()
     };
     let mut shelf = ToldShelf {
-        inner: shelf_of(alloc, &case)?,
+        inner: shelf_of(&rt, alloc, &case),
         made: Vec::new(alloc),
         rt: &rt,
         alloc,
@@ -212,9 +207,9 @@ fn the_calls_of_a_replay(rt: HostRuntime) -> Result<(), Fail> {
         made: Vec::new(alloc),
         rt: &rt,
     };
-    let status = status_of(&rt, alloc, &REPLAY, &mut shelf, &mut out, &QuietGate)?;
+    let status = status_of(&rt, alloc, &REPLAY, &mut shelf, &mut out, &QuietGate);
+    let fetches = in_words(alloc, &shelf.made).expect(&rt, "a text");
     assert!(rt; status == Status::Done);
-    assert!(rt; in_words(alloc, &shelf.made)?.as_str() == FETCHES);
+    assert!(rt; fetches.as_str() == FETCHES);
     assert!(rt; out.made.as_slice() == [Some(3), Some(5), Some(5)].as_slice());
-    Ok(())
 }

@@ -9,17 +9,16 @@ use board_spec::{Entry, Event, Look, Reply};
 use log_pieces::{Text, log_by, run_log_by};
 use logs_and_maps::push_log;
 use run_order::RunEntry;
-use std::alloc::Global;
+use std::alloc::{AllocError, Global};
 use std::process::Abort;
-use std::test::Fail;
 
 /// How many entries a history has at most.
 const MOST: u32 = 10_000;
 
 /// A history of reads, by three processors in turn.
-fn reads(alloc: Global, count: u32) -> Result<History, Fail> {
+fn reads(rt: &impl Abort, alloc: Global, count: u32) -> History {
     let mut history = History::new(alloc);
-    history.reserve(MOST)?;
+    history.reserve(MOST).expect(rt, "room");
     for i in 0..count {
         let access = Access {
             kind: Kind::Read,
@@ -42,7 +41,7 @@ fn reads(alloc: Global, count: u32) -> Result<History, Fail> {
             });
         }
     }
-    Ok(history)
+    history
 }
 
 /// A look at an address where nobody answers.
@@ -61,7 +60,11 @@ const LOOK: RunEntry = RunEntry::Look {
 };
 
 /// The order of a run in which a look comes after each entry of the bus.
-fn with_looks<R: Abort>(rt: &R, alloc: Global, bus: &Entries<'_>) -> Result<Vec<RunEntry>, Fail>
+fn with_looks<R: Abort>(
+    rt: &R,
+    alloc: Global,
+    bus: &Entries<'_>,
+) -> Result<Vec<RunEntry>, AllocError>
     ensures within { IfOk result (λ order. All (IsPlacedBelow (length bus.now)) order.items) }
 {
     let mut order = Vec::new(alloc);
@@ -78,7 +81,7 @@ fn with_looks<R: Abort>(rt: &R, alloc: Global, bus: &Entries<'_>) -> Result<Vec<
 }
 
 /// The entries of a history.
-fn entries_of(alloc: Global, history: &Entries<'_>) -> Result<Vec<Entry>, Fail> {
+fn entries_of(alloc: Global, history: &Entries<'_>) -> Result<Vec<Entry>, AllocError> {
     let mut entries = Vec::new(alloc);
     for i in 0..history.len() {
         entries.push(history.entry(i))?;
@@ -87,7 +90,7 @@ fn entries_of(alloc: Global, history: &Entries<'_>) -> Result<Vec<Entry>, Fail> 
 }
 
 /// The whole entries of that run.
-fn whole_entries(alloc: Global, bus: &Entries<'_>) -> Result<Vec<Entry>, Fail> {
+fn whole_entries(alloc: Global, bus: &Entries<'_>) -> Result<Vec<Entry>, AllocError> {
     let mut entries = Vec::new(alloc);
     for i in 0..bus.len() {
         entries.push(bus.entry(i))?;
@@ -97,28 +100,21 @@ fn whole_entries(alloc: Global, bus: &Entries<'_>) -> Result<Vec<Entry>, Fail> {
 }
 
 /// Expects the log of entries in so many pieces.
-fn expect_log<R: Abort>(
-    rt: &R,
-    alloc: Global,
-    text: &Text,
-    entries: &[Entry],
-    pieces: usize,
-) -> Result<(), Fail> {
+fn expect_log<R: Abort>(rt: &R, alloc: Global, text: &Text, entries: &[Entry], pieces: usize) {
     let mut whole = String::new(alloc);
-    push_log(&mut whole, 2, entries)?;
+    push_log(&mut whole, 2, entries).expect(rt, "a log");
     let mut joined = Vec::new(alloc);
     for piece in text.pieces() {
-        joined.extend_from_slice(piece)?;
+        joined.extend_from_slice(piece).expect(rt, "a log");
     }
     assert!(rt; joined.as_slice() == whole.as_bytes());
     assert!(rt; text.pieces().len() == pieces);
-    Ok(())
 }
 
 // Of 10,000 entries 3 workers have pieces of 3,334, 3,334 and 3,332, after the heading. One worker and few entries are
 // not cut.
 #[test]
-fn a_log_in_pieces_is_the_log(rt: HostRuntime) -> Result<(), Fail> {
+fn a_log_in_pieces_is_the_log(rt: HostRuntime) {
     let alloc = rt.alloc();
     for (count, workers, pieces) in [
         (10_000, 1, 1),
@@ -129,24 +125,24 @@ fn a_log_in_pieces_is_the_log(rt: HostRuntime) -> Result<(), Fail> {
         (100, 8, 1),
         (0, 8, 1),
     ] {
-        let history = reads(alloc, count)?;
+        let history = reads(&rt, alloc, count);
         let entries = history.entries();
-        let text = log_by(&rt, alloc, workers, 2, &entries)?;
-        expect_log(&rt, alloc, &text, &entries_of(alloc, &entries)?, pieces)?;
+        let text = log_by(&rt, alloc, workers, 2, &entries).expect(&rt, "a log");
+        let entries = entries_of(alloc, &entries).expect(&rt, "entries");
+        expect_log(&rt, alloc, &text, &entries, pieces);
     }
-    Ok(())
 }
 
 // Twice as many entries as the bus has.
 #[test]
-fn the_log_of_a_run_has_the_looks(rt: HostRuntime) -> Result<(), Fail> {
+fn the_log_of_a_run_has_the_looks(rt: HostRuntime) {
     let alloc = rt.alloc();
     for (count, workers, pieces) in [(5_000, 1, 1), (5_000, 3, 4), (4_500, 255, 251), (50, 8, 1)] {
-        let history = reads(alloc, count)?;
+        let history = reads(&rt, alloc, count);
         let bus = history.entries();
-        let order = with_looks(&rt, alloc, &bus)?;
-        let text = run_log_by(&rt, alloc, workers, 2, &bus, &order)?;
-        expect_log(&rt, alloc, &text, &whole_entries(alloc, &bus)?, pieces)?;
+        let order = with_looks(&rt, alloc, &bus).expect(&rt, "an order");
+        let text = run_log_by(&rt, alloc, workers, 2, &bus, &order).expect(&rt, "a log");
+        let entries = whole_entries(alloc, &bus).expect(&rt, "entries");
+        expect_log(&rt, alloc, &text, &entries, pieces);
     }
-    Ok(())
 }

@@ -1,6 +1,6 @@
-//! Readers and writers that take a byte at once, are interrupted, and fail late.
+//! Readers and writers that move a byte a call, are interrupted, and fail late.
 
-ghost use Rattle.std.specs.Prelude.{◌≡◌, None, IfOk};
+ghost use Rattle.std.specs.Prelude.{None};
 
 use board_files::{FileShelf, Folder, OutSink, Patient};
 use board_outside::{Failed, PutFault, Shelf, Sink};
@@ -12,43 +12,57 @@ use std::time::Clock;
 /// What is read and written.
 const BYTES: [u8; 5] = *b"bytes";
 
-/// How often each call is interrupted, and after how many bytes one fails; more than there are: never.
+/// By which error each call is refused first, and how often, and after how many bytes one fails; more than there are: never.
 #[derive(Clone, Copy)]
 struct Habit {
-    interruptions: u32,
+    kind: ErrorKind,
+    refusals: u32,
     lasts: usize,
 }
 
 /// Nothing goes wrong.
 const QUIET: Habit = Habit {
-    interruptions: 0,
+    kind: ErrorKind::Interrupted,
+    refusals: 0,
     lasts: 6,
 };
 
-/// How many bytes went through, and how often the next call is still interrupted.
-#[derive(Clone, Copy)]
-struct Course {
-    habit: Habit,
-    count: usize,
-    left: u32,
+/// Signals interrupt each call so often.
+fn interrupted(times: u32) -> Habit {
+    Habit {
+        refusals: times,
+        ..QUIET
+    }
 }
 
-impl Course {
-    fn new(habit: Habit) -> Course {
-        Course {
+/// A file that gives a byte a read, and a writer that takes a byte a write.
+#[derive(Drop)]
+struct Drip {
+    habit: Habit,
+    /// How many bytes went through.
+    count: usize,
+    /// How often the next call is still refused.
+    left: u32,
+    taken: [u8; 5],
+}
+
+impl Drip {
+    fn new(habit: Habit) -> Drip {
+        Drip {
             habit,
             count: 0,
-            left: habit.interruptions,
+            left: habit.refusals,
+            taken: [0; 5],
         }
     }
 
-    /// Refuses a call that is interrupted, or the one that comes too late.
+    /// Refuses a call at first, and the one that comes too late.
     fn pass(&mut self) -> io::Result<()> {
         if self.left > 0 {
             self.left -= 1;
-            return Err(io::Error::from(ErrorKind::Interrupted));
+            return Err(io::Error::from(self.habit.kind));
         }
-        self.left = self.habit.interruptions;
+        self.left = self.habit.refusals;
         if self.count == self.habit.lasts {
             return Err(io::Error::from(ErrorKind::Other));
         }
@@ -56,23 +70,35 @@ impl Course {
     }
 }
 
-/// A file that gives a byte a read.
-#[derive(Drop)]
-struct Drip {
-    course: Course,
-}
-
 impl Read for Drip {
     fn read(&mut self, into: &mut [u8]) -> io::Result<usize> {
-        self.course.pass()?;
-        match (BYTES.get(self.course.count), into.first_mut()) {
+        self.pass()?;
+        match (BYTES.get(self.count), into.first_mut()) {
             (Some(byte), Some(place)) => {
                 *place = *byte;
-                self.course.count = self.course.count.wrapping_add(1);
+                self.count = self.count.wrapping_add(1);
                 Ok(1)
             }
             _ => Ok(0),
         }
+    }
+}
+
+impl Write for Drip {
+    fn write(&mut self, bytes: &[u8]) -> io::Result<usize> {
+        self.pass()?;
+        match (bytes.first(), self.taken.get_mut(self.count)) {
+            (Some(byte), Some(place)) => {
+                *place = *byte;
+                self.count = self.count.wrapping_add(1);
+                Ok(1)
+            }
+            _ => Ok(0),
+        }
+    }
+
+    fn flush(&mut self) -> io::Result<()> {
+        Ok(())
     }
 }
 
@@ -93,9 +119,7 @@ impl Folder for Drips {
             return Err(io::Error::from(ErrorKind::NotFound));
         }
         self.opens.fetch_sub(1, Ordering::SeqCst);
-        Ok(Drip {
-            course: Course::new(self.habit),
-        })
+        Ok(Drip::new(self.habit))
     }
 }
 
@@ -125,13 +149,7 @@ fn gives(shelf: &mut FileShelf<Drips>, at: usize) -> bool {
 
 /// Whether a file that is opened once comes byte by byte, and no other is there.
 fn comes_whole(interruptions: u32) -> bool {
-    let mut shelf = shelf_of(
-        Habit {
-            interruptions,
-            ..QUIET
-        },
-        1,
-    );
+    let mut shelf = shelf_of(interrupted(interruptions), 1);
     for at in 0..=BYTES.len() {
         if !gives(&mut shelf, at) {
             return false;
@@ -170,11 +188,7 @@ fn a_read_that_fails_is_no_end(rt: HostRuntime) {
     for lasts in 0..=BYTES.len() {
         assert!(rt; fails_after(lasts));
     }
-    let habit = Habit {
-        interruptions: 64,
-        ..QUIET
-    };
-    assert!(rt; fetched(&mut shelf_of(habit, 1), "f", 0) == Err(Failed));
+    assert!(rt; fetched(&mut shelf_of(interrupted(64), 1), "f", 0) == Err(Failed));
 }
 
 /// Whether a file is read from a place at which no handle stands, and not past an error on the way.
@@ -195,44 +209,16 @@ fn a_file_is_read_from_a_place_within(rt: HostRuntime) {
     }
 }
 
-/// A writer that takes a byte a write.
-#[derive(Drop)]
-struct Miser {
-    course: Course,
-    taken: [u8; 5],
-}
-
-impl Write for Miser {
-    fn write(&mut self, bytes: &[u8]) -> io::Result<usize> {
-        self.course.pass()?;
-        match (bytes.first(), self.taken.get_mut(self.course.count)) {
-            (Some(byte), Some(place)) => {
-                *place = *byte;
-                self.course.count = self.course.count.wrapping_add(1);
-                Ok(1)
-            }
-            _ => Ok(0),
-        }
-    }
-
-    fn flush(&mut self) -> io::Result<()> {
-        Ok(())
-    }
-}
-
 /// The sink of a writer with habits.
-fn sink_of(interruptions: u32, lasts: usize) -> OutSink<Miser> {
-    OutSink::new(Miser {
-        course: Course::new(Habit {
-            interruptions,
-            lasts,
-        }),
-        taken: [0; 5],
-    })
+fn sink_of(interruptions: u32, lasts: usize) -> OutSink<Drip> {
+    OutSink::new(Drip::new(Habit {
+        lasts,
+        ..interrupted(interruptions)
+    }))
 }
 
 /// Whether so many bytes are taken, one a put.
-fn takes(sink: &mut OutSink<Miser>, count: usize) -> bool {
+fn takes(sink: &mut OutSink<Drip>, count: usize) -> bool {
     for at in 0..count.min(BYTES.len()) {
         if sink.put(&BYTES[at..]) != Ok(1) {
             return false;
@@ -248,7 +234,7 @@ fn takes_little(interruptions: u32, lasts: usize) -> bool {
     if !takes(&mut sink, count) || sink.put(b"more") != Err(PutFault::Failed) {
         return false;
     }
-    let Miser { taken, .. } = sink.into_inner();
+    let Drip { taken, .. } = sink.into_inner();
     taken[..count] == BYTES[..count]
 }
 
@@ -262,72 +248,16 @@ fn a_writer_takes_little_and_fails_late(rt: HostRuntime) {
     assert!(rt; sink_of(64, 6).put(&BYTES) == Err(PutFault::Failed));
 }
 
-/// A file and a writer whose first call fails, and which then moves a byte a call.
-#[derive(Drop)]
-struct Stumbler {
-    kind: Option<ErrorKind>,
-}
-
-impl Stumbler {
-    fn new(kind: ErrorKind) -> Stumbler {
-        Stumbler { kind: Some(kind) }
-    }
-
-    fn step(&mut self) -> io::Result<usize>
-        ensures one { IfOk result (λ count. count ≡ 1) }
-    {
-        match self.kind.take() {
-            Some(kind) => Err(io::Error::from(kind)),
-            None => Ok(1),
-        }
-    }
-}
-
-impl Read for Stumbler {
-    fn read(&mut self, into: &mut [u8]) -> io::Result<usize> {
-        if into.is_empty() {
-            return Ok(0);
-        }
-        self.step()
-    }
-}
-
-impl Write for Stumbler {
-    fn write(&mut self, bytes: &[u8]) -> io::Result<usize> {
-        if bytes.is_empty() {
-            return Ok(0);
-        }
-        self.step()
-    }
-
-    fn flush(&mut self) -> io::Result<()> {
-        Ok(())
-    }
-}
-
-/// A folder in which each file stumbles.
-#[derive(Drop)]
-struct Stumblers {
-    kind: ErrorKind,
-}
-
-impl Folder for Stumblers {
-    type File = Stumbler;
-
-    ghost files = { λ _. None };
-
-    fn open(&self, _name: &str) -> io::Result<Stumbler> {
-        Ok(Stumbler::new(self.kind))
-    }
-}
-
 /// Whether a read and a write are made again after an error, and whether a patient writer goes on.
 fn ends_so<C: Clock>(clock: &C, kind: ErrorKind, again: bool, patient: bool) -> bool {
-    let mut into = [0; 8];
-    let mut shelf = FileShelf::new(Stumblers { kind });
-    let mut sink = OutSink::new(Stumbler::new(kind));
-    let mut waits = Patient::new(clock, Stumbler::new(kind));
-    shelf.fetch("f", 0, &mut into).is_ok() == again
+    let habit = Habit {
+        kind,
+        refusals: 1,
+        ..QUIET
+    };
+    let mut sink = OutSink::new(Drip::new(habit));
+    let mut waits = Patient::new(clock, Drip::new(habit));
+    fetched(&mut shelf_of(habit, 1), "f", 0).is_ok() == again
         && sink.put(b"bytes").is_ok() == again
         && waits.write(b"bytes").is_ok() == patient
 }

@@ -7,7 +7,6 @@ use crate::plain::acknowledged;
 use access_history::{Entries, Entry, History};
 use bus_turn::{Pass, Turn};
 use std::sync::Wait;
-use std::test::Fail;
 use std::thread;
 
 /// One turn, in which the caller adds its entry of this number where there is room.
@@ -65,9 +64,9 @@ fn are_numbered(entries: &Entries<'_>, actor: u8, last: u32) -> bool {
 }
 
 #[test]
-fn entries_of_two_threads_stand_in_their_order(rt: HostRuntime) -> Result<(), Fail> {
+fn entries_of_two_threads_stand_in_their_order(rt: HostRuntime) {
     let mut history = History::new(rt.alloc());
-    history.reserve(200)?;
+    history.reserve(200).expect(&rt, "room");
     let Ok((turn, mut first)) = Turn::open(rt.alloc(), history) else {
         panic!(rt; "there was no memory")
     };
@@ -84,5 +83,4 @@ fn entries_of_two_threads_stand_in_their_order(rt: HostRuntime) -> Result<(), Fa
         assert!(rt; are_numbered(&history.entries(), actor, 100));
     }
     assert!(rt; history.len() == 200);
-    Ok(())
 }

@@ -1,6 +1,6 @@
 //! What viewers of the published map see of each change.
 
-ghost use Rattle.std.specs.Prelude.{◌≡◌, All, IfOk};
+ghost use Rattle.std.specs.Prelude.{◌≡◌, All};
 
 use crate::plain::PAM0;
 use addr_decode::MapRegs;
@@ -11,7 +11,6 @@ use map_builder::FlatMap;
 use map_publish::{Publisher, Viewer, open};
 use std::process::Abort;
 use std::sync::Wait;
-use std::test::Fail;
 use std::thread;
 use std::thread::Threads;
 
@@ -59,18 +58,15 @@ fn publish<R: Wait>(rt: &R, publisher: &mut Publisher, change: &MapChange) -> bo
     publisher.count() < ENTRY_LIMIT && publisher.change(rt, change).is_ok()
 }
 
-fn two(mut viewers: Vec<Viewer>) -> Result<(Viewer, Viewer), Fail> {
-    let second = viewers.pop().ok_or("a second viewer")?;
-    let first = viewers.pop().ok_or("a first viewer")?;
-    Ok((first, second))
+fn two(rt: &impl Abort, mut viewers: Vec<Viewer>) -> (Viewer, Viewer) {
+    let (Some(second), Some(first)) = (viewers.pop(), viewers.pop()) else {
+        panic!(rt; "fewer than two viewers")
+    };
+    (first, second)
 }
 
-fn changes_are_seen<R: Wait + Abort>(
-    rt: &R,
-    publisher: &mut Publisher,
-    viewers: Vec<Viewer>,
-) -> Result<(), Fail> {
-    let (mut first, mut second) = two(viewers)?;
+fn changes_are_seen<R: Wait + Abort>(rt: &R, publisher: &mut Publisher, viewers: Vec<Viewer>) {
+    let (mut first, mut second) = two(rt, viewers);
     assert!(rt; sees(&mut first, 0, Area::Rom));
     assert!(rt; publish(rt, publisher, &pam0(0x10)));
     assert!(rt; sees(&mut second, 1, Area::Shadow(0)));
@@ -79,15 +75,15 @@ fn changes_are_seen<R: Wait + Abort>(
     assert!(rt; sees(&mut second, 3, Area::Rom));
     assert!(rt; sees(&mut first, 3, Area::Rom));
     assert!(rt; publisher.count() == 3);
-    Ok(())
 }
 
 #[test]
-fn a_viewer_that_learnt_nothing_sees_each_change(rt: HostRuntime) -> Result<(), Fail> {
-    let (mut publisher, viewers) = open(&rt, rt.alloc(), reset_map(), 2).map_err(|_| "open")?;
-    let seen = changes_are_seen(&rt, &mut publisher, viewers);
+fn a_viewer_that_learnt_nothing_sees_each_change(rt: HostRuntime) {
+    let Ok((mut publisher, viewers)) = open(&rt, rt.alloc(), reset_map(), 2) else {
+        panic!(rt; "there was no memory")
+    };
+    changes_are_seen(&rt, &mut publisher, viewers);
     publisher.close(&rt);
-    seen
 }
 
 /// How many changes are published one after another.
@@ -114,26 +110,26 @@ fn each_is_seen<R: Wait + Abort>(rt: &R, publisher: &mut Publisher, mut viewers:
 }
 
 #[test]
-fn eight_viewers_see_each_change(rt: HostRuntime) -> Result<(), Fail> {
-    let (mut publisher, viewers) = open(&rt, rt.alloc(), reset_map(), 8).map_err(|_| "open")?;
+fn eight_viewers_see_each_change(rt: HostRuntime) {
+    let Ok((mut publisher, viewers)) = open(&rt, rt.alloc(), reset_map(), 8) else {
+        panic!(rt; "there was no memory")
+    };
     each_is_seen(&rt, &mut publisher, viewers);
     publisher.close(&rt);
-    Ok(())
 }
 
 /// The last viewer of those that were opened with a publisher.
-fn last(publisher: &Publisher, mut viewers: Vec<Viewer>) -> Result<Viewer, Fail>
+fn last(rt: &impl Abort, publisher: &Publisher, mut viewers: Vec<Viewer>) -> Viewer
     requires own { All (λ viewer. viewer.front ≡ publisher.now.front) viewers.items }
-    ensures own { IfOk result (λ viewer. viewer.front ≡ publisher.now.front) }
+    ensures own { result.front ≡ publisher.now.front }
 {
-    Ok(viewers.pop().ok_or("a viewer")?)
+    match viewers.pop() {
+        Some(viewer) => viewer,
+        None => panic!(rt; "no viewer"),
+    }
 }
 
-fn notes_are_met_or_short<R: Wait + Abort>(
-    rt: &R,
-    publisher: &mut Publisher,
-    mut viewer: Viewer,
-) -> Result<(), Fail>
+fn notes_are_met_or_short<R: Wait + Abort>(rt: &R, publisher: &mut Publisher, mut viewer: Viewer)
     requires own { viewer.front.seen.book ≡ publisher.old.front.seen.book }
 {
     let (first, again) = (publisher.tell(), publisher.tell());
@@ -142,25 +138,19 @@ fn notes_are_met_or_short<R: Wait + Abort>(
     assert!(rt; sees(&mut viewer, 1, Area::Shadow(0)));
     assert!(rt; !viewer.meets(again));
     assert!(rt; viewer.meets(publisher.tell()));
-    Ok(())
 }
 
 #[test]
-fn a_viewer_meets_no_shorter_note(rt: HostRuntime) -> Result<(), Fail> {
-    let (mut publisher, viewers) = open(&rt, rt.alloc(), reset_map(), 1).map_err(|_| "open")?;
-    let seen = match last(&publisher, viewers) {
-        Ok(viewer) => notes_are_met_or_short(&rt, &mut publisher, viewer),
-        Err(fail) => Err(fail),
+fn a_viewer_meets_no_shorter_note(rt: HostRuntime) {
+    let Ok((mut publisher, viewers)) = open(&rt, rt.alloc(), reset_map(), 1) else {
+        panic!(rt; "there was no memory")
     };
+    let viewer = last(&rt, &publisher, viewers);
+    notes_are_met_or_short(&rt, &mut publisher, viewer);
     publisher.close(&rt);
-    seen
 }
 
-fn learns_alone<R: Wait + Abort>(
-    rt: &R,
-    mut publisher: Publisher,
-    mut viewer: Viewer,
-) -> Result<(), Fail>
+fn learns_alone<R: Wait + Abort>(rt: &R, mut publisher: Publisher, mut viewer: Viewer)
     requires own { viewer.front.seen.book ≡ publisher.front.seen.book }
 {
     let done = publish(rt, &mut publisher, &pam0(0x10));
@@ -169,24 +159,20 @@ fn learns_alone<R: Wait + Abort>(
     assert!(rt; done);
     assert!(rt; sees(&mut viewer, 0, Area::Rom));
     if !viewer.meets(first) {
-        return Err("the note is shorter".into());
+        panic!(rt; "the note is shorter");
     }
     viewer.learn(again, &map);
     assert!(rt; sees(&mut viewer, 1, Area::Shadow(0)));
-    Ok(())
 }
 
 // Its place goes with the publisher.
 #[test]
-fn a_viewer_without_a_place_sees_what_it_learns(rt: HostRuntime) -> Result<(), Fail> {
-    let (publisher, viewers) = open(&rt, rt.alloc(), reset_map(), 1).map_err(|_| "open")?;
-    match last(&publisher, viewers) {
-        Ok(viewer) => learns_alone(&rt, publisher, viewer),
-        Err(fail) => {
-            publisher.close(&rt);
-            Err(fail)
-        }
-    }
+fn a_viewer_without_a_place_sees_what_it_learns(rt: HostRuntime) {
+    let Ok((publisher, viewers)) = open(&rt, rt.alloc(), reset_map(), 1) else {
+        panic!(rt; "there was no memory")
+    };
+    let viewer = last(&rt, &publisher, viewers);
+    learns_alone(&rt, publisher, viewer);
 }
 
 /// How many viewers there are, and the sum of the versions at which they look.
@@ -200,21 +186,24 @@ fn versions_of(viewers: Vec<Viewer>) -> (usize, u32) {
 }
 
 #[test]
-fn copies_open_again_with_the_map_that_was_closed(rt: HostRuntime) -> Result<(), Fail> {
-    let (mut publisher, viewers) = open(&rt, rt.alloc(), reset_map(), 2).map_err(|_| "open")?;
+fn copies_open_again_with_the_map_that_was_closed(rt: HostRuntime) {
+    let Ok((mut publisher, viewers)) = open(&rt, rt.alloc(), reset_map(), 2) else {
+        panic!(rt; "there was no memory")
+    };
     let done = publish(&rt, &mut publisher, &pam0(0x10));
     let map = publisher.close(&rt);
-    let (mut again, later) = open(&rt, rt.alloc(), map, 8).map_err(|_| "open")?;
+    let Ok((mut again, later)) = open(&rt, rt.alloc(), map, 8) else {
+        panic!(rt; "there was no memory")
+    };
     let versions = versions_of(later);
     let done_again = publish(&rt, &mut again, &pam0(0x00));
     let map = again.close(&rt);
     assert!(rt; done && done_again);
     assert!(rt; versions == (8, 8));
     assert!(rt; map.version() == 2);
-    let (mut first, mut second) = two(viewers)?;
+    let (mut first, mut second) = two(&rt, viewers);
     assert!(rt; sees(&mut first, 0, Area::Rom));
     assert!(rt; sees(&mut second, 0, Area::Rom));
-    Ok(())
 }
 
 /// Looks some times, and gives the last look.
@@ -230,19 +219,19 @@ fn look_by_two<R: Threads + Wait + Abort + Sync>(
     rt: &R,
     publisher: &mut Publisher,
     viewers: Vec<Viewer>,
-) -> Result<(), Fail> {
-    let (first, second) = two(viewers)?;
+) {
+    let (first, second) = two(rt, viewers);
     assert!(rt; publish(rt, publisher, &pam0(0x10)));
     let saw = thread::join(rt, move || looks(first, 1000), move || looks(second, 1000));
     assert!(rt; saw.0 == at_pam0(1, Area::Shadow(0)));
     assert!(rt; saw.1 == at_pam0(1, Area::Shadow(0)));
-    Ok(())
 }
 
 #[test]
-fn viewers_look_in_threads_of_their_own(rt: HostRuntime) -> Result<(), Fail> {
-    let (mut publisher, viewers) = open(&rt, rt.alloc(), reset_map(), 2).map_err(|_| "open")?;
-    let seen = look_by_two(&rt, &mut publisher, viewers);
+fn viewers_look_in_threads_of_their_own(rt: HostRuntime) {
+    let Ok((mut publisher, viewers)) = open(&rt, rt.alloc(), reset_map(), 2) else {
+        panic!(rt; "there was no memory")
+    };
+    look_by_two(&rt, &mut publisher, viewers);
     publisher.close(&rt);
-    seen
 }
