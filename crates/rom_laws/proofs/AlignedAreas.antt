@@ -1,10 +1,15 @@
 -- All bytes of an aligned access lie in one area: the edges of the memory map are multiples of 4.
-use Rattle.std.proofs.Common.{◌≡◌, ℕ, zero, suc, ◌+◌, ◌-◌, ◌*◌, ◌/◌, ◌%◌, ◌^◌, ◌<◌, ◌≤◌, Bool, true, false, List, [], ◌∷◌, ◌++◌, Option, Some, None, inl, inr, refl, sym, ap, subst, ◌∙◌, arith, All, get_or, length, flat_map, map}
+use Rattle.std.proofs.Common.{◌≡◌, ℕ, ◌+◌, ◌-◌, ◌*◌, ◌/◌, ◌%◌, ◌^◌, ◌<◌, ◌≤◌, Bool, true, false, List, [], ◌∷◌, ◌++◌}
+use Rattle.std.proofs.Common.{Option, Some, None, refl, sym, ap, ◌∙◌, arith, All, flat_map}
 use Rattle.std.proofs.lemmas.List.Elements.{All-contains, All-from_recursion}
 use Rattle.std.proofs.Math.Nat.{mul_assoc}
-use Rattle.board_prelude.proofs.Common.{AllByRecursion, All-nil, All-cons, All-append, All-head, All-tail, pow-add, enumerate_from, Contains, Kind, Fetch, Read, Write, Width, One, bytes_of, Base, MemoryBase, IoBase, OutsideBase, FittedCard, Setup, IsBase, IsExpansionRom, IsCard, Bytes, Window, boundary, base_value, rom_value, memory_window, rom_window_of, rom_window, area_of, address_count, six_areas}
+use Rattle.board_prelude.proofs.Common.{AllByRecursion, All-nil, All-append, All-head, All-tail, pow-add}
+use Rattle.board_prelude.proofs.Common.{enumerate_from, Kind, Fetch, Read, Write, Width, One, bytes_of, Base}
+use Rattle.board_prelude.proofs.Common.{MemoryBase, IoBase, OutsideBase, FittedCard, Setup, IsBase, IsExpansionRom}
+use Rattle.board_prelude.proofs.Common.{IsCard, Bytes, Window, boundary, base_value, rom_value, memory_window}
+use Rattle.board_prelude.proofs.Common.{rom_window_of, rom_window, area_of, address_count, six_areas}
 use Rattle.board_base.specs.declared.access.Width.TheVariants.{Two, Four}
-use Rattle.addr_decode.specs.Edges.{fixed_edges, row_edges, first_address, window_edges, card_edges, edges_of, IsEdge}
+use Rattle.addr_decode.specs.Edges.{fixed_edges, row_edges, first_address, window_edges, card_edges, edges_of}
 use Rattle.addr_decode.proofs.EdgeLaws.{areas_change_at_edges}
 
 abbrev IsEven : ℕ → Type 0
@@ -38,16 +43,56 @@ window_all window above = All-from_recursion IsEven (window_edges window) (windo
 fixed_even : All IsEven fixed_edges
 unfolding fixed_edges
 fixed_even =
-    All-from_recursion IsEven fixed_edges
-    (refl, (refl, (refl, (refl, (refl, (refl, (refl, (refl, (refl, (refl, (refl, (refl, (refl, (refl, (refl, (refl, (refl, (refl, (refl, (refl, (refl, tt)))))))))))))))))))))
+    All-from_recursion IsEven fixed_edges (
+      refl,
+      (
+        refl,
+        (
+          refl,
+          (
+            refl,
+            (
+              refl,
+              (
+                refl,
+                (
+                  refl,
+                  (
+                    refl,
+                    (
+                      refl,
+                      (
+                        refl,
+                        (refl, (refl, (refl, (refl, (refl, (refl, (refl, (refl, (refl, (refl, (refl, tt))))))))))),
+                      ),
+                    ),
+                  ),
+                ),
+              ),
+            ),
+          ),
+        ),
+      ),
+    )
 
 boundary_even : (bytes : Bytes) (row : ℕ) → boundary bytes row % 4 ≡ 0
 boundary_even bytes row = omega arith
 
 rows_even : (bytes : Bytes) → All IsEven (row_edges bytes)
 rows_even bytes =
-    All-from_recursion IsEven (row_edges bytes)
-    (boundary_even bytes 0, (boundary_even bytes 1, (boundary_even bytes 2, (boundary_even bytes 3, (boundary_even bytes 4, (boundary_even bytes 5, (boundary_even bytes 6, (boundary_even bytes 7, tt))))))))
+    All-from_recursion IsEven (row_edges bytes) (
+      boundary_even bytes 0,
+      (
+        boundary_even bytes 1,
+        (
+          boundary_even bytes 2,
+          (
+            boundary_even bytes 3,
+            (boundary_even bytes 4, (boundary_even bytes 5, (boundary_even bytes 6, (boundary_even bytes 7, tt)))),
+          ),
+        ),
+      ),
+    )
 
 base_even : (bytes : Bytes) (dev k : ℕ) (base : Base) → IsBase base →
     All IsEven (flat_map window_edges (memory_window bytes dev k base))

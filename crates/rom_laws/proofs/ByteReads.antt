@@ -1,9 +1,14 @@
 -- Each byte that an aligned read gives is the one that a read of that byte alone gives.
-use Rattle.std.proofs.Common.{◌≡◌, ℕ, zero, suc, ◌+◌, ◌-◌, ◌*◌, ◌/◌, ◌%◌, ◌^◌, ◌<◌, ◌≤◌, List, [], length, get_or, inl, inr, refl, sym, ap, subst, ◌∙◌, arith, ◌==◌, slice_index}
+use Rattle.std.proofs.Common.{◌≡◌, ℕ, zero, suc, ◌+◌, ◌-◌, ◌*◌, ◌/◌, ◌%◌, ◌^◌, ◌<◌, ◌≤◌, List, [], length, inl, inr}
+use Rattle.std.proofs.Common.{refl, ap, ◌∙◌, arith, ◌==◌, slice_index}
 use Rattle.std.proofs.lemmas.Nat.{mod-pow-add}
-use Rattle.board_prelude.proofs.Common.{cases_Bool, get_or_past, Kind, Width, One, bytes_of, largest_of, Entry, Setup, IsRomSize, IsCardList, Area, Target, Dram, Shadow, Smram, Rom, Card, Device, Config, Abort, Bytes, byte, wide, area_of, memory_claim, window_bits, target_at, dram_byte, card_byte, value_at, address_count}
+use Rattle.board_prelude.proofs.Common.{get_or_past, Width, One, bytes_of, largest_of, Entry, Setup, IsRomSize, Area}
+use Rattle.board_prelude.proofs.Common.{Target, Dram, Shadow, Smram, Rom, Card, Device, Config, Abort, byte, wide}
+use Rattle.board_prelude.proofs.Common.{window_bits, target_at, dram_byte, card_byte, value_at}
 use Rattle.board_base.specs.declared.access.Width.TheVariants.{Two, Four}
-use Rattle.board_base.specs.declared.target.Area.TheVariants.{Dram as DramArea, Shadow as ShadowArea, Smram as SmramArea, Rom as RomArea, Card as CardArea, Abort as AbortArea}
+use Rattle.board_base.specs.declared.target.Area.TheVariants.{Dram as DramArea, Shadow as ShadowArea}
+use Rattle.board_base.specs.declared.target.Area.TheVariants.{Smram as SmramArea, Rom as RomArea, Card as CardArea}
+use Rattle.board_base.specs.declared.target.Area.TheVariants.{Abort as AbortArea}
 use Rattle.pci_bars.specs.Common.{IsBaseNumber}
 use Rattle.pci_bars.specs.Contents.{slot_number}
 use Rattle.board_stores.proofs.ValueLemmas.{value_below}

@@ -1,6 +1,14 @@
 -- The window of a card that claims an address has the size of its base, of 4 bytes or more.
-use Rattle.std.proofs.Common.{◌≡◌, ℕ, zero, suc, ◌+◌, ◌<◌, ◌≤◌, Bool, true, false, ◌&&◌, List, [], ◌∷◌, ◌++◌, length, get_or, Option, Some, None, inl, inr, refl, sym, ap, subst, ◌∙◌, arith, lit<, lit≤, ◌==◌, All, find, flat_map, slice_get, if◌then◌else◌, is_some, not, unwrap_or}
-use Rattle.board_prelude.proofs.Common.{cases_Bool, cond-true, cond-false, eq-eqb, ne_eqb, All-nil, All-cons, All-head, All-tail, All-append, enumerate_from, Base, MemoryBase, IoBase, OutsideBase, FittedCard, Setup, IsBase, IsCard, IsCardList, Rises, IsExpansionRom, card_at, window_bits, bits_of_base, Bytes, Window, is_covered, is_enabled_for, is_rom_on, memory_window, memory_windows, rom_window, rom_window_of, vga_window, memory_claim, Kind, fdhc, smram, xbcs, lies_in, upper_memory, row_of, hole_of, is_in, is_smram_range, is_shadowed, smram_answers, is_rom_selected, area_of}
+use Rattle.std.proofs.Common.{◌≡◌, ℕ, zero, suc, ◌+◌, ◌<◌, ◌≤◌, Bool, false, ◌&&◌, List, [], ◌∷◌, ◌++◌, length, get_or}
+use Rattle.std.proofs.Common.{Option, Some, None, inl, inr, refl, ap, subst, ◌∙◌, arith, lit<, lit≤, ◌==◌, All, find}
+use Rattle.std.proofs.Common.{flat_map, slice_get, if◌then◌else◌, is_some, not, unwrap_or}
+use Rattle.board_prelude.proofs.Common.{cases_Bool, cond-true, cond-false, eq-eqb, ne_eqb, All-nil, All-cons, All-head}
+use Rattle.board_prelude.proofs.Common.{All-tail, All-append, enumerate_from, Base, MemoryBase, IoBase, OutsideBase}
+use Rattle.board_prelude.proofs.Common.{FittedCard, Setup, IsBase, IsCard, IsCardList, Rises, IsExpansionRom, card_at}
+use Rattle.board_prelude.proofs.Common.{window_bits, bits_of_base, Bytes, Window, is_covered, is_enabled_for, is_rom_on}
+use Rattle.board_prelude.proofs.Common.{memory_window, memory_windows, rom_window, rom_window_of, vga_window}
+use Rattle.board_prelude.proofs.Common.{memory_claim, Kind, fdhc, smram, xbcs, lies_in, upper_memory, row_of, hole_of}
+use Rattle.board_prelude.proofs.Common.{is_in, is_smram_range, is_shadowed, smram_answers, is_rom_selected, area_of}
 use Rattle.board_base.specs.declared.target.Area.TheVariants.{Card as CardArea}
 use Rattle.board_chipset.proofs.HeldTargets.{IsClaim, claim_line}
 use Rattle.pci_bars.specs.Common.{IsBaseNumber}

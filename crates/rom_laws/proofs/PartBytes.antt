@@ -1,6 +1,9 @@
 -- Which part of a read moves a byte of it, and that this byte is one of that part's value.
-use Rattle.std.proofs.Common.{◌≡◌, ◌≢◌, ℕ, zero, suc, ◌+◌, ◌-◌, ◌*◌, ◌/◌, ◌%◌, ◌^◌, ◌<◌, ◌≤◌, false, List, [], ◌∷◌, ◌++◌, Option, Some, None, inl, inr, refl, sym, ap, subst, ◌∙◌, arith, ◌==◌, nat_lt, if◌then◌else◌, All, map}
-use Rattle.board_prelude.proofs.Common.{cases_lt, cond-true, cond-false, ne_eqb, lt-ltb, le-ltb, All-head, All-tail, further, Width, One, WideAccess, bytes_of, byte, longest_at, part_at, joined, Covers}
+use Rattle.std.proofs.Common.{◌≡◌, ℕ, zero, suc, ◌+◌, ◌-◌, ◌*◌, ◌/◌, ◌%◌, ◌^◌, ◌<◌, ◌≤◌, false, List, [], ◌∷◌, ◌++◌}
+use Rattle.std.proofs.Common.{Some, inl, inr, ap, subst, ◌∙◌, arith, ◌==◌, nat_lt, All, map}
+use Rattle.board_prelude.proofs.Common.{cases_lt, cond-true, cond-false, ne_eqb, lt-ltb, le-ltb, All-head, All-tail}
+use Rattle.board_prelude.proofs.Common.{further, Width, One, WideAccess, bytes_of, byte, longest_at, part_at, joined}
+use Rattle.board_prelude.proofs.Common.{Covers}
 use Rattle.board_spec.specs.Common.{parts_from}
 use Rattle.board_base.specs.declared.access.Width.TheVariants.{Two, Four}
 use Rattle.board_base.specs.declared.access.Access.{Access}
@@ -47,7 +50,8 @@ pub record Moves (access : WideAccess) (said : Access → PartRecord) (value : A
   pub is : P part
   pub value_is : byte (joined value parts) (k - before) ≡ byte (value part) place
 
-module _ (access : WideAccess) (said : Access → PartRecord) (value : Access → ℕ) (rest : List PartRecord) (P : Access → Type 0) (fits : (part : Access) → P part → value part < 256 ^ bytes_of part.width) where
+module _ (access : WideAccess) (said : Access → PartRecord) (value : Access → ℕ) (rest : List PartRecord) (P : Access →
+    Type 0) (fits : (part : Access) → P part → value part < 256 ^ bytes_of part.width) where
   pub moves : (most before k : ℕ) (parts : List Access) →
       parts ≡ parts_from access most (access.addr + before) (access.bytes - before) → All P parts →
       Covers (access.addr + before) (access.addr + access.bytes) parts → before ≤ k → k < access.bytes →
@@ -65,7 +69,8 @@ module _ (access : WideAccess) (said : Access → PartRecord) (value : Access �
       ∷ parts_from access most (access.addr + before + bytes_of width) (left - bytes_of width) =
       are ∙ cond-false (left == 0) [] _ some in
       let first : part ≡ part_at access (access.addr + before) width = cc in
-      let others : later ≡ parts_from access most (access.addr + before + bytes_of width) (left - bytes_of width) = cc in
+      let others : later ≡ parts_from access most (access.addr + before + bytes_of width) (left - bytes_of width) =
+      cc in
       let wide : part.width ≡ width = ap (λ (it : Access). it.width) first in
       let start : part.addr ≡ access.addr + before = covers.0 in
       let count : bytes_of part.width ≡ bytes_of width = ap bytes_of wide in
@@ -83,11 +88,13 @@ module _ (access : WideAccess) (said : Access → PartRecord) (value : Access �
         | inr past ↦
             let from' : access.addr + before + bytes_of width ≡ access.addr + (before + bytes_of width) = omega arith in
             let left' : left - bytes_of width ≡ access.bytes - (before + bytes_of width) = omega arith in
-            let rest_is : later ≡ parts_from access most (access.addr + (before + bytes_of width)) (access.bytes - (before + bytes_of width)) =
+            let rest_is : later ≡ parts_from access most (access.addr + (before + bytes_of width))
+            (access.bytes - (before + bytes_of width)) =
             others
             ∙ ap (λ n. parts_from access most n (left - bytes_of width)) from'
             ∙ ap (λ n. parts_from access most (access.addr + (before + bytes_of width)) n) left' in
-            let end' : access.addr + before + bytes_of part.width ≡ access.addr + (before + bytes_of width) = omega arith in
+            let end' : access.addr + before + bytes_of part.width ≡ access.addr + (before + bytes_of width) =
+            omega arith in
             let next : Moves access said value rest P later (before + bytes_of width) k =
             moves most (before + bytes_of width) k later rest_is (All-tail P part later each)
             (subst (λ (n : ℕ). Covers n (access.addr + access.bytes) later) end' covers.1) past below in
@@ -95,7 +102,8 @@ module _ (access : WideAccess) (said : Access → PartRecord) (value : Access �
             record {
               part = next.part;
               place = next.place;
-              found = cond-false (nat_lt k (before + bytes_of width)) _ _ (le-ltb k (before + bytes_of width) past) ∙ next.found;
+              found = cond-false (nat_lt k (before + bytes_of width)) _ _ (le-ltb k (before + bytes_of width) past)
+                  ∙ next.found;
               address = next.address;
               within = next.within;
               is = next.is;

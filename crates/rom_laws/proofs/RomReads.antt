@@ -1,6 +1,15 @@
 -- Each byte of a read is the one that a read of that byte alone gives.
-use Rattle.std.proofs.Common.{◌≡◌, ◌≢◌, ℕ, zero, suc, ◌+◌, ◌-◌, ◌%◌, ◌^◌, ◌<◌, ◌≤◌, ◌⊎◌, Bool, true, false, ◌&&◌, not, List, [], ◌∷◌, ◌++◌, length, Option, Some, None, inl, inr, refl, sym, ap, subst, ◌∙◌, arith, ◌==◌, nat_le, nat_lt, if◌then◌else◌, All, map, slice_index}
-use Rattle.board_prelude.proofs.Common.{AllByRecursion, recursion_from_All, and_parts, and_right, eqb-true, cases_Bool, cond-true, cond-false, eq-eqb, le-ltb, lt-ltb, Width, One, Kind, WideAccess, bytes_of, Area, Target, Dram, Shadow, Smram, Rom, Card, Device, Config, Abort, Denial, Register, Confadd, NoRegister, Entry, Setup, IsSetup, IsInRange, Event, Memory, Wide, Port, Ack, Pulses, Time, Wire, Line, BadSector, Part, Parts, Reply, Bus, Saw, Bytes, byte, is_write, memory_claim, memory_target, memory_denial, parts_of, parts_list, joined, value_at, target_at, longest_at, address_count, expansion_byte, IsPart, AreParts, Covers, IsAnswer, IsWideAnswer}
+use Rattle.std.proofs.Common.{◌≡◌, ◌≢◌, ℕ, ◌+◌, ◌-◌, ◌%◌, ◌^◌, ◌<◌, ◌⊎◌, Bool, true, false, ◌&&◌, not, List, [], ◌∷◌}
+use Rattle.std.proofs.Common.{◌++◌, length, Option, Some, None, inl, inr, refl, sym, ap, subst, ◌∙◌, arith, ◌==◌}
+use Rattle.std.proofs.Common.{nat_lt, map}
+use Rattle.board_prelude.proofs.Common.{and_parts, and_right, eqb-true, cases_Bool, cond-true, cond-false, eq-eqb}
+use Rattle.board_prelude.proofs.Common.{le-ltb, lt-ltb, Width, One, Kind, WideAccess, bytes_of, Area, Target, Dram}
+use Rattle.board_prelude.proofs.Common.{Shadow, Smram, Rom, Card, Device, Config, Abort, Denial, Register, Confadd}
+use Rattle.board_prelude.proofs.Common.{NoRegister, Entry, Setup, IsSetup, IsInRange, Memory, Wide, Port, Ack, Pulses}
+use Rattle.board_prelude.proofs.Common.{Time, Wire, Line, BadSector, Part, Parts, Reply, Bus, Saw, Bytes, byte}
+use Rattle.board_prelude.proofs.Common.{is_write, memory_target, memory_denial, parts_of, parts_list, joined, value_at}
+use Rattle.board_prelude.proofs.Common.{target_at, longest_at, address_count, expansion_byte, IsPart, AreParts, Covers}
+use Rattle.board_prelude.proofs.Common.{IsAnswer, IsWideAnswer}
 use Rattle.board_spec.specs.Common.{area_of, memory_answer, part_answer, parts_from, wide_value}
 use Rattle.board_spec.specs.Registers.{byte_of as register_byte}
 use Rattle.board_spec.specs.declared.event.Event.TheVariants.{Look as LookAt}
@@ -15,14 +24,16 @@ use Rattle.board_records.specs.declared.event.EventRecord.{EventRecord}
 use Rattle.board_records.specs.declared.reply.AfterStep.{AfterStep}
 use Rattle.board_records.specs.declared.reply.PartRecord.{PartRecord}
 use Rattle.board_records.specs.declared.reply.ReplyRecord.{ReplyRecord}
-use Rattle.board_records.specs.Replies.{no_part, of_part, target_said, with_denial, part_said, blank, bus_said, wide_said, record_said}
+use Rattle.board_records.specs.Replies.{no_part, of_part, target_said, with_denial, part_said, blank, bus_said}
+use Rattle.board_records.specs.Replies.{wide_said, record_said}
 use Rattle.board_records.specs.RomReplies.{byte_by, byte_told, is_given, part_of, parts_said, reads_given, with_roms}
-use Rattle.rom_laws.specs.RomReads.{AreBytes, IsOfGivenRom, OnlyValueChanges, OtherRepliesStay, ReadsByteByByte, SaysRead, byte_access, byte_of, byte_read, read_by}
+use Rattle.rom_laws.specs.RomReads.{AreBytes, IsOfGivenRom, OnlyValueChanges, OtherRepliesStay, ReadsByteByByte}
+use Rattle.rom_laws.specs.RomReads.{byte_access, byte_of, byte_read}
 use Rattle.rom_laws.proofs.AlignedAreas.{same_area}
 use Rattle.rom_laws.proofs.CardWindows.{IsWindow, card_window}
 use Rattle.rom_laws.proofs.ByteReads.{InMemory, byte_alone, moved, reaches_memory, target_moved, value_fits}
 use Rattle.rom_laws.proofs.PartBytes.{Moves, moves}
-use Rattle.rom_laws.proofs.ToldBytes.{AreOthers, by_others, value_told}
+use Rattle.rom_laws.proofs.ToldBytes.{value_told}
 
 -- ---- the byte of a part, by its target
 
@@ -62,7 +73,8 @@ by_target roms setup before Abort i place old is alone = alone
 
 -- ---- the byte of a part alone
 
-module _ (setup : Setup) (before : List Entry) (roms : List (List ℕ)) (fits : IsSetup setup) (bytes : AreBytes setup roms) where
+module _ (setup : Setup) (before : List Entry) (roms : List (List ℕ)) (fits : IsSetup setup)
+    (bytes : AreBytes setup roms) where
   window_of : (part : Access) (dev base : ℕ) →
       area_of setup (register_byte setup before) part.addr part.kind part.smm ≡ CardArea dev base →
       IsWindow setup dev base
@@ -114,7 +126,8 @@ module _ (setup : Setup) (before : List Entry) (roms : List (List ℕ)) (fits : 
       let start : addr + 0 ≡ addr = omega arith in
       let all : bytes_of width - 0 ≡ bytes_of width = omega arith in
       let cycle : longest_at (addr + 0) (bytes_of width - 0) ≡ width =
-      ap (λ n. longest_at n (bytes_of width - 0)) start ∙ ap (λ n. longest_at addr n) all ∙ one_cycle width addr aligned in
+      ap (λ n. longest_at n (bytes_of width - 0)) start ∙ ap (λ n. longest_at addr n) all
+      ∙ one_cycle width addr aligned in
       let count : bytes_of (longest_at (addr + 0) (bytes_of width - 0)) ≡ bytes_of width = ap bytes_of cycle in
       let place : k - 0 ≡ k = omega arith in
       cond-true (nat_lt k (0 + bytes_of (longest_at (addr + 0) (bytes_of width - 0)))) _ _
@@ -222,7 +235,8 @@ module _ (setup : Setup) (before : List Entry) (roms : List (List ℕ)) (fits : 
       ∙ same_byte by.part.kind access.kind by.part.smm access.smm (by.part.addr + by.place) (access.addr + k) by.is.kind
       by.is.smm by.address
 
-  moved_by : (access : WideAccess) (rest : List PartRecord) (k : ℕ) → AreParts access (parts_of access) → k < access.bytes →
+  moved_by : (access : WideAccess) (rest : List PartRecord) (k : ℕ) → AreParts access (parts_of access) →
+      k < access.bytes →
       Moves access of_access value_of rest (IsPart access) (parts_of access) 0 k
   moved_by access rest k cut within =
       let start : access.addr ≡ access.addr + 0 = omega arith in
@@ -232,10 +246,12 @@ module _ (setup : Setup) (before : List Entry) (roms : List (List ℕ)) (fits : 
       value_fits setup before bytes.rom (memory_target setup before part) part.addr part.width (in_memory part) in
       moves access of_access value_of rest (IsPart access) fit 4 0 k (parts_of access)
       (ap (λ n. parts_from access 4 n access.bytes) start ∙ ap (λ n. parts_from access 4 (access.addr + 0) n) all)
-      cut.each (subst (λ (n : ℕ). Covers n (access.addr + access.bytes) (parts_of access)) start cut.covers) (omega arith)
+      cut.each (subst (λ (n : ℕ). Covers n (access.addr + access.bytes) (parts_of access)) start cut.covers)
+      (omega arith)
       within
 
-  read_in_parts : (said : EventRecord) (access : WideAccess) (value : Option ℕ) (they : Parts) (after : AfterStep) (k : ℕ) →
+  read_in_parts : (said : EventRecord) (access : WideAccess) (value : Option ℕ) (they : Parts) (after : AfterStep)
+      (k : ℕ) →
       is_write access.kind ≡ false → said.addr ≡ access.addr → said.bytes ≡ access.bytes →
       IsInRange setup (Wide access) → IsWideAnswer setup before access value they → k < access.bytes →
       byte (with_roms roms said (record_said (replies.Parts they value) after)).value k
@@ -260,10 +276,13 @@ read_in_wide :
     IsInRange setup (Wide access) → IsAnswer setup before (Wide access) reply → k < access.bytes →
     byte (with_roms roms said (record_said reply after)).value k
     ≡ byte_read roms setup before access.kind access.smm (access.addr + k)
-read_in_wide setup before roms fits bytes said access (Bus value target denial) after k reads addr count legal answer within =
+read_in_wide setup before roms fits bytes said access (Bus value target denial) after k reads addr count legal answer
+    within =
     absurd answer
-read_in_wide setup before roms fits bytes said access (Saw look) after k reads addr count legal answer within = absurd answer
-read_in_wide setup before roms fits bytes said access (replies.Parts they value) after k reads addr count legal answer within =
+read_in_wide setup before roms fits bytes said access (Saw look) after k reads addr count legal answer within =
+    absurd answer
+read_in_wide setup before roms fits bytes said access (replies.Parts they value) after k reads addr count legal answer
+    within =
     read_in_parts setup before roms fits bytes said access value they after k reads addr count legal answer within
 
 -- the bytes that are read are those that the record says
@@ -278,13 +297,20 @@ reads_byte_by_byte setup before roms said (Memory access) read reply after k fit
       | inl writes ↦ let none : ◌≡◌ {A = Option WideAccess} None (Some read) = rw writes at says.reads in absurd (cc)
       | inr reads ↦
           let whole : WideAccess =
-          record { kind = access.kind; bytes = bytes_of access.width; smm = access.smm; addr = access.addr; value = 0 } in
+          record {
+            kind = access.kind;
+            bytes = bytes_of access.width;
+            smm = access.smm;
+            addr = access.addr;
+            value = 0;
+          } in
           let some : Some whole ≡ Some read = rw reads at says.reads in
           let same : whole ≡ read = cc in
           subst (λ (it : WideAccess). Reads it said setup before roms (record_said reply after) k) same
           (λ addr count address below.
           ap (λ (it : Reply). byte (with_roms roms said (record_said it after)).value k) answer
-          ∙ read_whole setup before roms fits bytes said access after k reads addr count says.range.aligned address below)
+          ∙ read_whole setup before roms fits bytes said access after k reads addr count says.range.aligned address
+          below)
           says.addr says.bytes says.address within
     ]
 reads_byte_by_byte setup before roms said (Wide access) read reply after k fits bytes says answer within =

@@ -1,13 +1,19 @@
 -- The bytes of memory that a record asks for are those at its address, as many as it says.
-use Rattle.std.proofs.Common.{◌≡◌, ℕ, ◌%◌, ◌^◌, ◌==◌, Bool, true, false, ◌&&◌, nat_lt, nat_le, if◌then◌else◌, Option, Some, None, option_map, option_and_then, inl, inr, refl, sym, ap, ◌∙◌}
-use Rattle.board_prelude.proofs.Common.{cases_Bool, eqb-true, Kind, Width, One, WideAccess, bytes_of, is_moment, moment_of, is_write, Event, Memory, Wide, Port, Ack, Time}
+use Rattle.std.proofs.Common.{◌≡◌, ℕ, ◌%◌, ◌^◌, ◌==◌, Bool, true, false, ◌&&◌, nat_lt, if◌then◌else◌, ◌/◌, Option, Some}
+use Rattle.std.proofs.Common.{None, option_map, option_and_then, inl, inr, refl, sym, ap, ◌∙◌}
+use Rattle.board_prelude.proofs.Common.{cases_Bool, eqb-true, Kind, Width, One, WideAccess, bytes_of, is_write, Event}
+use Rattle.board_prelude.proofs.Common.{Memory, Wide, Ack}
 use Rattle.board_spec.specs.declared.event.Event.TheVariants.{Look as LookAt, Wire, Line, Pulses, BadSector}
 use Rattle.board_base.specs.declared.access.Width.TheVariants.{Two, Four}
 use Rattle.board_base.specs.declared.access.Access.{Access}
 use Rattle.uart_16550.specs.declared.com1.Happening.{Happening}
 use Rattle.uart_16550.specs.declared.com1.Happening.TheVariants.{Comes, Happens}
 use Rattle.board_records.specs.declared.event.EventRecord.{EventRecord}
-use Rattle.board_records.specs.Events.{access_said, asked_by, asked_said, byte_said, cycle_said, digits_said, direction_said, event_said, is_plain, kind_said, level_said, moment_said, port_said, pulses_said, width_said}
+use Rattle.board_records.specs.Events.{access_said, asked_by, asked_said, byte_said, cycle_said, digits_said}
+use Rattle.board_records.specs.Events.{direction_said, event_said, is_plain, kind_said, level_said, moment_said}
+use Rattle.board_records.specs.Events.{port_said, pulses_said, two_digits, width_said}
+use Rattle.board_records.specs.Numbers.{ack_event, bad_sector_event, line_event, look_event, memory_event, port_event}
+use Rattle.board_records.specs.Numbers.{pulses_event, serial_event, time_event, wire_event}
 use Rattle.rom_laws.specs.RomReads.{read_by}
 
 -- these bytes are those that a record says
@@ -49,7 +55,7 @@ module _ (said : EventRecord) where
   by_read : (writes : Bool) (event : Event) (access : WideAccess) → IsReadSaid said access →
       read_by event ≡ (if writes then None else Some access) → ReadsSaid said (Some event)
   by_read true event access is none = reads_none event none
-  by_read false event access is some other read same reads =
+  by_read false event access is some = λ other read same reads.
       let it : event ≡ other = cc in
       let both : Some access ≡ Some read = sym some ∙ ap read_by it ∙ reads in
       let whole : access ≡ read = cc in
@@ -58,7 +64,7 @@ module _ (said : EventRecord) where
         bytes = is.bytes ∙ ap (λ (w : WideAccess). w.bytes) whole;
       }
 
-  whole_access : Kind → WideAccess
+  abbrev whole_access : Kind → WideAccess
   whole_access kind =
       record { kind = kind; bytes = said.bytes; smm = said.smm == 1; addr = said.addr; value = said.value }
 
@@ -132,19 +138,30 @@ module _ (said : EventRecord) where
   unfolding level_said
   of_level event none = either _ _ _ (reads_none _ (none said.addr (said.value == 1))) no_event
 
+  of_pulses : ReadsSaid said (pulses_said said.value)
+  unfolding pulses_said
+  of_pulses = either (nat_lt said.value (2 ^ 32)) _ _ (reads_none (Pulses said.value) refl) no_event
+
+  of_digits : ReadsSaid said (digits_said said.value)
+  unfolding digits_said
+  of_digits =
+      of_moment (said.value / 10 ^ 10) (two_digits said.value 8) (two_digits said.value 6) (two_digits said.value 4)
+      (two_digits said.value 2) (two_digits said.value 0)
+
   of_all : ReadsSaid said (asked_by said)
-  unfolding asked_by pulses_said digits_said
+  unfolding asked_by
   of_all =
-      either _ _ _ (followed (access_said said) (kind_said said.kind) of_memory)
-      (either _ _ _
-      (followed _ (width_said said.bytes) of_ports)
-      (either _ _ _ (mapped (λ (kind : Kind). LookAt kind said.addr (said.smm == 1)) (kind_said said.kind) (λ kind. reads_none _ refl))
-      (either _ _ _ (reads_none Ack refl)
-      (either _ _ _ (either _ _ _ (reads_none _ refl) no_event)
-      (either _ _ _ (of_moment _ _ _ _ _ _)
-      (either _ _ _ (of_level Wire (λ number on. refl))
-      (either _ _ _ (of_level Line (λ number on. refl))
-      (either _ _ _ (reads_none _ refl) no_event))))))))
+      either (said.what == memory_event) _ _ (followed (access_said said) (kind_said said.kind) of_memory)
+      (either (said.what == port_event) _ _ (followed _ (width_said said.bytes) of_ports)
+      (either (said.what == look_event) _ _
+      (mapped (λ (kind : Kind). LookAt kind said.addr (said.smm == 1)) (kind_said said.kind)
+      (λ kind. reads_none _ refl))
+      (either (said.what == ack_event) _ _ (reads_none Ack refl)
+      (either (said.what == pulses_event) _ _ of_pulses
+      (either (said.what == time_event) _ _ of_digits
+      (either (said.what == wire_event) _ _ (of_level Wire (λ number on. refl))
+      (either (said.what == line_event) _ _ (of_level Line (λ number on. refl))
+      (either (said.what == bad_sector_event) _ _ (reads_none (BadSector said.addr) refl) no_event))))))))
 
   of_event : ReadsSaid said (event_said said)
   unfolding event_said
@@ -156,11 +173,12 @@ module _ (said : EventRecord) where
   unfolding byte_said
   comes event is =
       elim (cases_Bool (is_plain said && nat_lt said.value 256)) [
-        | inl yes ↦ let some : Some (Comes said.value) ≡ Some (Happens event) = rw yes at is in absurd (cc)
-        | inr no ↦ let none : ◌≡◌ {A = Option Happening} None (Some (Happens event)) = rw no at is in absurd (cc)
+        | inl fits ↦ let some : Some (Comes said.value) ≡ Some (Happens event) = rw fits at is in absurd (cc)
+        | inr other ↦ let none : ◌≡◌ {A = Option Happening} None (Some (Happens event)) = rw other at is in absurd (cc)
       ]
 
-  happens : (it : Option Event) (event : Event) → option_map (λ e. Happens e) it ≡ Some (Happens event) → it ≡ Some event
+  happens : (it : Option Event) (event : Event) → option_map (λ e. Happens e) it ≡ Some (Happens event) →
+      it ≡ Some event
   happens None event is = absurd (cc)
   happens (Some other) event is = cc
 
@@ -168,7 +186,7 @@ module _ (said : EventRecord) where
       read_by event ≡ Some read → IsReadSaid said read
   unfolding asked_said
   read_said event read asked reads =
-      elim (cases_Bool (said.what == 10)) [
+      elim (cases_Bool (said.what == serial_event)) [
         | inl serial ↦ absurd (comes event (rw serial at asked))
         | inr other ↦ of_event event read (happens (event_said said) event (rw other at asked)) reads
       ]

@@ -1,6 +1,9 @@
 -- Each byte that a step reads of memory is the one that a read of that byte alone gives.
-use Rattle.std.proofs.Common.{◌≡◌, ℕ, ◌+◌, ◌<◌, ◌==◌, Bool, true, false, ◌&&◌, List, Option, Some, None, refl, sym, ap, subst, ◌∙◌, arith}
-use Rattle.board_prelude.proofs.Common.{and_right, WideAccess, Target, Dram, Shadow, Smram, Rom, Card, Device, Config, Abort, Denial, Register, Confadd, NoRegister, Entry, Setup, IsSetup, IsInRange, IsAnswer, Event, Memory, Wide, Port, Ack, Pulses, Time, Wire, Line, BadSector, Parts, Reply, Bus, Saw, byte, memory_target, memory_denial, address_count}
+use Rattle.std.proofs.Common.{◌≡◌, ℕ, ◌+◌, ◌<◌, ◌==◌, false, List, Option, Some, None, refl, sym, ap, subst, ◌∙◌, arith}
+use Rattle.board_prelude.proofs.Common.{WideAccess, Target, Dram, Shadow, Smram, Rom, Card, Device, Config, Abort}
+use Rattle.board_prelude.proofs.Common.{Denial, Register, Confadd, NoRegister, Entry, Setup, IsSetup, IsAnswer, Event}
+use Rattle.board_prelude.proofs.Common.{Memory, Wide, Port, Ack, Pulses, Time, Wire, Line, BadSector, Parts, Reply, Bus}
+use Rattle.board_prelude.proofs.Common.{Saw, byte, memory_target, memory_denial}
 use Rattle.board_base.specs.declared.access.Access.{Access}
 use Rattle.board_spec.specs.Common.{memory_answer}
 use Rattle.board_spec.specs.declared.event.Event.TheVariants.{Look as LookAt}
@@ -15,20 +18,21 @@ use Rattle.card_identity.specs.declared.identity.FittedIdentity.{FittedIdentity}
 use Rattle.board_records.specs.declared.event.EventRecord.{EventRecord}
 use Rattle.board_records.specs.declared.reply.AfterStep.{AfterStep}
 use Rattle.board_records.specs.declared.reply.ReplyRecord.{ReplyRecord}
-use Rattle.board_records.specs.Doors.{Held, IsDoorStep}
 use Rattle.board_records.specs.Identified.{fitted_record, identified_record, is_config_read}
 use Rattle.board_records.specs.RomReplies.{with_roms}
-use Rattle.board_records.specs.Replies.{blank, bus_said, part_said, record_said, serial_said, target_said, wide_said, with_denial}
-use Rattle.board_records.specs.Steps.{AnswersAsked, IsEventReply, IsHistoryOf, after_step, reset_by}
+use Rattle.board_records.specs.Replies.{blank, bus_said, part_said, record_said, serial_said, target_said, wide_said}
+use Rattle.board_records.specs.Replies.{with_denial}
+use Rattle.board_records.specs.Steps.{IsEventReply, after_step, reset_by}
 use Rattle.rom_laws.specs.RomReads.{AreBytes, SaysRead, byte_read, read_by}
-use Rattle.rom_laws.specs.StepReads.{AsksRead, StepReadsByteByByte}
+use Rattle.rom_laws.specs.StepReads.{StepReadsByteByByte}
 use Rattle.rom_laws.proofs.ByteReads.{InMemory}
 use Rattle.rom_laws.proofs.RomReads.{in_memory, reads_byte_by_byte}
 use Rattle.rom_laws.proofs.SaidReads.{IsReadSaid, read_said}
 
 -- ---- a reply to a read of memory is no reply to one of configuration data
 
-same_target : (target : Target) (denial : Option Denial) → (with_denial (target_said target) denial).target ≡ (target_said target).target
+same_target : (target : Target) (denial : Option Denial) →
+    (with_denial (target_said target) denial).target ≡ (target_said target).target
 same_target target None = refl
 same_target target (Some (Register reg)) = refl
 same_target target (Some Confadd) = refl
@@ -64,23 +68,27 @@ of_parts (parts.Three a b c) (Some value) after = refl
 of_parts (parts.Four a b c d) None after = refl
 of_parts (parts.Four a b c d) (Some value) after = refl
 
-unidentified : (identities : List FittedIdentity) (said : EventRecord) (told : ReplyRecord) → is_config_read told ≡ false →
+unidentified : (identities : List FittedIdentity) (said : EventRecord) (told : ReplyRecord) →
+    is_config_read told ≡ false →
     identified_record identities said told ≡ told
 unidentified identities said told none = rw none refl
 
 -- ---- the step
 
-module _ (setup : Setup) (before : List Entry) (roms : List (List ℕ)) (fits : IsSetup setup) (bytes : AreBytes setup roms)
+module _ (setup : Setup) (before : List Entry) (roms : List (List ℕ)) (fits : IsSetup setup)
+    (bytes : AreBytes setup roms)
     (identities : List FittedIdentity) (said : EventRecord) (read : WideAccess) (after : AfterStep) (k : ℕ)
     (within : k < read.bytes) where
   abbrev IsTold : ReplyRecord → Type 0
   IsTold told =
-      byte (fitted_record identities roms said told).value k ≡ byte_read roms setup before read.kind read.smm (read.addr + k)
+      byte (fitted_record identities roms said told).value k
+      ≡ byte_read roms setup before read.kind read.smm (read.addr + k)
 
   by_chipset : (event : Event) (reply : Reply) → SaysRead setup said event read → IsAnswer setup before event reply →
       is_config_read (record_said reply after) ≡ false → IsTold (record_said reply after)
   by_chipset event reply says answer none =
-      ap (λ (it : ReplyRecord). byte (with_roms roms said it).value k) (unidentified identities said (record_said reply after) none)
+      ap (λ (it : ReplyRecord). byte (with_roms roms said it).value k)
+      (unidentified identities said (record_said reply after) none)
       ∙ reads_byte_by_byte setup before roms said event read reply after k fits bytes says answer within
 
   by_parts : (access : WideAccess) (reply : Reply) → SaysRead setup said (Wide access) read →
@@ -141,5 +149,6 @@ step_reads old new said reply event read history k asks step left within =
     after_step serial.board.setup answered.goes_on.after (reset_by history (Happens event)) new.behind.serial.com1 in
     ap (λ (it : ReplyRecord). byte it.value k) fitted.told
     ∙ ap (λ (it : ReplyRecord). byte (fitted_record old.behind.identities old.roms said it).value k) answered.told
-    ∙ by_reply serial.board.setup history old.roms asks.fits asks.bytes old.behind.identities said read after k within serial refl
+    ∙ by_reply serial.board.setup history old.roms asks.fits asks.bytes old.behind.identities said read after k within
+    serial refl
     event fitted.step.reply says answered.answer

@@ -1,12 +1,14 @@
 -- The bytes of the value that is told, one by one: each by the part that moved it.
-use Rattle.std.proofs.Common.{◌≡◌, ◌≢◌, ℕ, zero, suc, ◌+◌, ◌-◌, ◌/◌, ◌%◌, ◌^◌, ◌<◌, Bool, true, false, ◌&&◌, ◌||◌, not, List, [], ◌∷◌, length, get_or, All, Option, Some, None, inl, inr, refl, sym, ap, subst, ◌∙◌, arith, ◌==◌, nat_lt, if◌then◌else◌, slice_index}
+use Rattle.std.proofs.Common.{◌≡◌, ℕ, zero, suc, ◌+◌, ◌-◌, ◌<◌, Bool, true, false, ◌||◌, List, [], ◌∷◌, length, get_or}
+use Rattle.std.proofs.Common.{Option, Some, None, inl, inr, refl, sym, ap, ◌∙◌, arith, ◌==◌, nat_lt, slice_index}
 use Rattle.std.proofs.lemmas.Nat.{le_bytes_8}
-use Rattle.board_prelude.proofs.Common.{AllByRecursion, recursion_from_All, and_from, and_left, and_right, cases_Bool, cond-true, cond-false, eq-eqb, ne_eqb, false≢true, w64, to_le_bytes, from_le_bytes, byte, bytes_of, longest_at}
+use Rattle.board_prelude.proofs.Common.{AllByRecursion, cases_Bool, eq-eqb, w64, to_le_bytes, from_le_bytes, byte}
+use Rattle.board_prelude.proofs.Common.{bytes_of, longest_at}
 use Rattle.expansion_roms.specs.Roms.{given, byte_over}
 use Rattle.board_records.specs.declared.event.EventRecord.{EventRecord}
 use Rattle.board_records.specs.declared.reply.PartRecord.{PartRecord}
 use Rattle.board_records.specs.declared.reply.ReplyRecord.{ReplyRecord}
-use Rattle.board_records.specs.RomReplies.{byte_by, byte_told, bytes_told, is_given, part_of, parts_said, reads_given, with_roms}
+use Rattle.board_records.specs.RomReplies.{byte_by, byte_told, is_given, part_of, parts_said, reads_given, with_roms}
 
 -- ---- a number of eight bytes
 

@@ -1,6 +1,9 @@
 -- What a guest reads of memory where expansion ROMs were given bytes.
-use Rattle.std.specs.Prelude.{ℕ, ◌≡◌, ◌≢◌, ◌+◌, ◌<◌, ◌==◌, Bool, if◌then◌else◌, List, [], All, Option, Some, None, slice_index}
-use Rattle.board_prelude.specs.Common.{Kind, Width, One, WideAccess, bytes_of, Target, Dram, Shadow, Smram, Rom, Card, Device, Config, Abort, Entry, Setup, Event, Memory, Wide, IsSetup, IsInRange, IsAnswer, byte, is_write, memory_target, value_at, rom_base, address_count}
+use Rattle.std.specs.Prelude.{ℕ, ◌≡◌, ◌≢◌, ◌+◌, ◌<◌, ◌==◌, Bool, if◌then◌else◌, List, [], All, Option, Some, None}
+use Rattle.std.specs.Prelude.{slice_index}
+use Rattle.board_prelude.specs.Common.{Kind, One, WideAccess, bytes_of, Target, Card, Entry, Setup, Event, Memory, Wide}
+use Rattle.board_prelude.specs.Common.{IsSetup, IsInRange, IsAnswer, byte, is_write, memory_target, value_at, rom_base}
+use Rattle.board_prelude.specs.Common.{address_count}
 use Rattle.board_base.specs.declared.access.Access.{Access}
 use Rattle.board_spec.specs.declared.event.Reply.{Reply}
 use Rattle.expansion_roms.specs.Roms.{given, rom_byte}
@@ -14,8 +17,8 @@ use Rattle.board_records.specs.RomReplies.{parts_said, with_roms}
 
 -- ---- one byte
 
--- what a read of one byte gives that has this target, at this address: of an expansion ROM the byte that it was given, or
--- where it was given none its fixed one, and of all else what the chipset gives
+-- what a read of one byte gives that has this target, at this address: of an expansion ROM the byte that it was given,
+-- or where it was given none its fixed one, and of all else what the chipset gives
 abbrev pub byte_of : (roms : List (List ℕ)) → Setup → List Entry → Target → (addr : ℕ) → ℕ
 byte_of roms setup before (Card dev base off) addr =
     if base == rom_base then rom_byte roms dev off else value_at setup before (Card dev base off) addr One
@@ -40,7 +43,13 @@ pub record AreBytes (setup : Setup) (roms : List (List ℕ)) : Type 0 where
 abbrev pub read_by : Event → Option WideAccess
 read_by (Memory access) =
     if is_write access.kind then None
-    else Some (record { kind = access.kind; bytes = bytes_of access.width; smm = access.smm; addr = access.addr; value = 0 })
+    else Some (record {
+      kind = access.kind;
+      bytes = bytes_of access.width;
+      smm = access.smm;
+      addr = access.addr;
+      value = 0;
+    })
 read_by (Wide access) = if is_write access.kind then None else Some access
 read_by _ = None
 
@@ -55,7 +64,8 @@ pub record SaysRead (setup : Setup) (said : EventRecord) (event : Event) (read :
 -- each byte of the value is what a read of that byte alone gives at its address
 abbrev pub ReadsByteByByte : Type 0
 ReadsByteByByte =
-    (setup : Setup) (before : List Entry) (roms : List (List ℕ)) (said : EventRecord) (event : Event) (read : WideAccess)
+    (setup : Setup) (before : List Entry) (roms : List (List ℕ)) (said : EventRecord) (event : Event)
+    (read : WideAccess)
     (reply : Reply) (after : AfterStep) (k : ℕ) →
     IsSetup setup → AreBytes setup roms → SaysRead setup said event read → IsAnswer setup before event reply →
     k < read.bytes →

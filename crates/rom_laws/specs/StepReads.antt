@@ -20,7 +20,8 @@ pub record AsksRead (held : Held) (said : EventRecord) (event : Event) (read : W
 -- each byte that a step tells is what a read of that byte alone gives at its address
 abbrev pub StepReadsByteByByte : Type 0
 StepReadsByteByByte =
-    (old new : Held) (said : EventRecord) (reply : ReplyRecord) (event : Event) (read : WideAccess) (history : List Entry)
+    (old new : Held) (said : EventRecord) (reply : ReplyRecord) (event : Event) (read : WideAccess)
+    (history : List Entry)
     (k : ℕ) →
     AsksRead old said event read → IsDoorStep (Some old) (Some new) said reply (Happens event) →
     IsHistoryOf old.behind.serial history → k < read.bytes →

@@ -1,13 +1,13 @@
-//! What one may expect of reads where expansion ROMs of cards were given bytes. Each function does nothing: its clauses are
-//! laws.
+//! What one may expect of reads where expansion ROMs of cards were given bytes. Each function does nothing: its clauses
+//! are laws.
 #![tactic(auto)]
 
 ghost use Rattle.rom_laws.specs.RomReads.{OnlyValueChanges, OtherRepliesStay, ReadsByteByByte};
 ghost use Rattle.rom_laws.specs.StepReads.{StepReadsByteByByte};
 
-/// Where expansion ROMs were given bytes, each byte of a read is the one that a read of that byte alone gives: of such a
-/// ROM the byte that it was given. A reply of which no such ROM answered a part is the chipset's own, and of every other
-/// all but the value.
+/// Where expansion ROMs were given bytes, each byte of a read is the one that a read of that byte alone gives: of such
+/// a ROM the byte that it was given. A reply of which no such ROM answered a part is the chipset's own, and of every
+/// other all but the value.
 pub fn law_rom_reads()
     ensures bytes { ReadsByteByByte }
     ensures others { OtherRepliesStay }
