@@ -14,11 +14,12 @@ STRUCTS = {"Handle": "board", "EventRecord": "board_event", "PartRecord": "board
            "BaseRecord": "board_base", "CardRecord": "board_card", "SerialRecord": "board_com1",
            "TransferRecord": "board_transfer", "PieceRecord": "board_piece"}
 # fields that have another name there
-FIELDS = {("Handle", "full"): "open", ("RangeRecord", "areas"): "area", ("ReplyRecord", "part0"): "part[0]",
-          ("PieceRecord", "part0"): "part[0]", ("PieceRecord", "part1"): "part[1]", ("ReplyRecord", "part1"): "part[1]", ("ReplyRecord", "part2"): "part[2]", ("ReplyRecord", "part3"): "part[3]"}
+FIELDS = {("Handle", "full"): "open", ("RangeRecord", "areas"): "area",
+          **{(record, f"part{k}"): f"part[{k}]" for record in ("ReplyRecord", "PieceRecord") for k in range(4)}}
 # numbers that have a name of their own there
 NUMBERS = {"PULSES_EVENT": "BOARD_PULSE", "LINE_EVENT": "BOARD_IRQ", "DEVICE_TARGET": "BOARD_IS_DEVICE",
-           "RESET_DEVICE": "BOARD_RESET_CONTROL", "ABORT_END": "BOARD_ABORTED", "SECTOR_END": "BOARD_MISSING"}
+           "RESET_DEVICE": "BOARD_RESET_CONTROL", "OUTSIDE_BASE": "BOARD_OUTSIDE",
+           "ABORT_END": "BOARD_ABORTED", "SECTOR_END": "BOARD_MISSING"}
 # statuses of events that no record says, which have no name there
 NOT_GIVEN = {"BYTES", "ALIGNED", "DATE"}
 
