@@ -100,8 +100,8 @@ exit "$(cat status)"
 RELEASE = layout(ROOT, PROGRAM.encode(), {
     "include/board.h": Member((ROOT / "include/board.h").read_bytes()),
     "lib/libboard.a": Member(b"static\n"),
-    "lib/libboard.so.6": Member(b"shared\n", is_run=True),
-    "lib/libboard.so": Member(link="libboard.so.6"),
+    "lib/libboard.so.7": Member(b"shared\n", is_run=True),
+    "lib/libboard.so": Member(link="libboard.so.7"),
     "lib/pkgconfig/board.pc": Member(b"Name: board\n"),
 })
 
