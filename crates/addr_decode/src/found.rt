@@ -9,7 +9,7 @@ use board_spec::offset::{HOST_BRIDGE, IDE, SOUTH_BRIDGE};
 use pci_bars::{CardRegs, card_index};
 
 /// A function of bus 0 with registers in configuration space.
-#[derive(Clone, Copy, PartialEq, Eq, Debug)]
+#[derive(Clone, Copy, PartialEq, Eq)]
 pub enum Function {
     /// 00.0, the host bridge.
     HostBridge,
@@ -22,7 +22,7 @@ pub enum Function {
 }
 
 /// A register in configuration space, with the function that has it.
-#[derive(Clone, Copy, PartialEq, Eq, Debug)]
+#[derive(Clone, Copy)]
 pub struct ConfigRegister {
     pub reg: Reg,
     pub function: Function,
@@ -30,7 +30,7 @@ pub struct ConfigRegister {
 
 /// What an access at a port reaches: a device of the board, a register in configuration space, a base of a card (its
 /// device, its base and the offset there), or nobody, with what denies the access.
-#[derive(Clone, Copy, PartialEq, Eq, Debug)]
+#[derive(Clone, Copy)]
 pub enum Found {
     Device(Dev),
     Register(ConfigRegister),

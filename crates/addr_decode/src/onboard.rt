@@ -11,7 +11,7 @@ use device_spec::port::{Select, device_at, select_of};
 use xbus_select::{decodes_ide_channel, enables_ide_ports, selects_clock, selects_keyboard};
 
 /// How the board's own devices respond to a port access.
-#[derive(Clone, Copy, PartialEq, Eq, Debug)]
+#[derive(Clone, Copy, PartialEq, Eq)]
 pub enum Onboard {
     /// This device answers.
     Answers(Dev),

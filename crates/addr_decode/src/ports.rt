@@ -18,7 +18,7 @@ use pci_bars::{CardRegs, claim_io, offset_in, shut_io};
 /// What the ports depend on beside the registers of the address map: the configuration address, of which the
 /// bits that it does not keep do not count, the command and the timing of the IDE function, and whether a
 /// disk is fitted.
-#[derive(Clone, Copy, PartialEq, Eq, Debug)]
+#[derive(Clone, Copy)]
 pub struct PortRegs {
     pub confadd: u32,
     pub ide_command: u8,

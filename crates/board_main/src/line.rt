@@ -9,7 +9,7 @@ use std::env::Env;
 use std::io::{Error, ErrorKind};
 
 /// Why the words could not be read.
-#[derive(Clone, Copy, PartialEq, Eq, Debug)]
+#[derive(Clone, Copy)]
 pub enum WordFault {
     /// One of them is not UTF-8.
     NoText,

@@ -13,7 +13,7 @@ use std::alloc::{AllocError, Global};
 /// A base of a card: for memory or for I/O ports (`MEMORY_BASE`, `IO_BASE`), or for memory whose bytes the monitor keeps
 /// (`OUTSIDE_BASE`), and log2 of its size in bytes or ports.
 #[repr(C)]
-#[derive(Clone, Copy, PartialEq, Eq, Debug, Default)]
+#[derive(Clone, Copy, Default)]
 pub struct BaseRecord {
     pub kind: u8,
     pub bits: u8,
@@ -29,7 +29,7 @@ const LAST_PIN: u8 = 4;
 /// bases it has, and these, of which those past that count are not read; and what it says that it is, as `Identity` has it,
 /// the class in 24 bits and the pin 0 to 4. `reserved` is 0.
 #[repr(C)]
-#[derive(Clone, Copy, PartialEq, Eq, Debug, Default)]
+#[derive(Clone, Copy, Default)]
 pub struct CardRecord {
     pub device: u8,
     pub vga: u8,

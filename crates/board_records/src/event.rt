@@ -17,7 +17,7 @@ use board_spec::Event;
 /// its count of bytes, an address, port, device, line or sector, and a value, count, moment or level. What an event
 /// has no use for is not read. `reserved` is 0.
 #[repr(C)]
-#[derive(Clone, Copy, PartialEq, Eq, Debug, Default)]
+#[derive(Clone, Copy, Default)]
 pub struct EventRecord {
     pub value: u64,
     pub addr: u32,

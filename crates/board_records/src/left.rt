@@ -17,7 +17,7 @@ use std::alloc::Global;
 use uart_16550::SerialBoard;
 
 /// Which bytes of a board an image leaves out.
-#[derive(Clone, Copy, PartialEq, Eq, Debug)]
+#[derive(Clone, Copy)]
 pub struct LeftOut {
     /// Those of the DRAM.
     pub dram: bool,

@@ -11,7 +11,7 @@ use map_builder::{Changed, Range};
 
 /// What one kind of access reaches in a range, by the same numbers as in a part of a reply.
 #[repr(C)]
-#[derive(Clone, Copy, PartialEq, Eq, Debug, Default)]
+#[derive(Clone, Copy, Default)]
 pub struct AreaRecord {
     pub target: u8,
     pub unit: u8,
@@ -22,7 +22,7 @@ pub struct AreaRecord {
 /// A range of the memory map: first and last address, and what a fetch, a read and a write reach outside SMM, and then
 /// in SMM.
 #[repr(C)]
-#[derive(Clone, Copy, PartialEq, Eq, Debug, Default)]
+#[derive(Clone, Copy, Default)]
 pub struct RangeRecord {
     pub lo: u32,
     pub hi: u32,
@@ -31,7 +31,7 @@ pub struct RangeRecord {
 
 /// A window of addresses in which a change of the map may have changed what answers: the first and the last address.
 #[repr(C)]
-#[derive(Clone, Copy, PartialEq, Eq, Debug, Default)]
+#[derive(Clone, Copy, Default)]
 pub struct WindowRecord {
     pub lo: u32,
     pub hi: u32,
@@ -40,7 +40,7 @@ pub struct WindowRecord {
 /// The memory map: how many ranges it has, how many windows its last change has, its version, modulo 2^32, and how
 /// many MiB of memory are installed: rows may be decoded further, without bytes.
 #[repr(C)]
-#[derive(Clone, Copy, PartialEq, Eq, Debug, Default)]
+#[derive(Clone, Copy, Default)]
 pub struct MapRecord {
     pub ranges: u64,
     pub windows: u64,

@@ -26,7 +26,7 @@ use uart_16550::{SerialBoard, SerialReply};
 /// device (a PCI device of a card or register, `PIT_DEVICE` .. of the board), the base of a card or function of a
 /// register, and the offset in it; a denial (`REGISTER_DENIAL` ..) and of a register where it lies.
 #[repr(C)]
-#[derive(Clone, Copy, PartialEq, Eq, Debug, Default)]
+#[derive(Clone, Copy, Default)]
 pub struct PartRecord {
     pub offset: u32,
     pub target: u8,
@@ -43,7 +43,7 @@ pub struct PartRecord {
 /// are filled; of a look the version of the map before it and the interval; the byte that COM1 sent, where it sent one; and
 /// what stands after the step, as `AfterStep` has it.
 #[repr(C)]
-#[derive(Clone, Copy, PartialEq, Eq, Debug, Default)]
+#[derive(Clone, Copy, Default)]
 pub struct ReplyRecord {
     pub value: u64,
     pub version: u32,
@@ -68,7 +68,7 @@ pub struct ReplyRecord {
 
 /// What stands after a step: the version of the map, whether INT is asserted, the reset that the step made, the level of
 /// interrupt line 4, and whether COM1 has room for a byte.
-#[derive(Clone, Copy, PartialEq, Eq, Debug)]
+#[derive(Clone, Copy)]
 pub struct AfterStep {
     pub version: u32,
     pub interrupt: bool,

@@ -19,7 +19,7 @@ const MOST_RECEIVED: usize = 16;
 /// of its registers would give; 1 where THR became empty and IIR was not read with that cause since; and the level that
 /// line 4 was given from outside.
 #[repr(C)]
-#[derive(Clone, Copy, PartialEq, Eq, Debug, Default)]
+#[derive(Clone, Copy, Default)]
 pub struct SerialRecord {
     pub received: [u8; 16],
     pub count: u8,

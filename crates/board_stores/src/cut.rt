@@ -16,7 +16,7 @@ use board_spec::Part;
 pub const MOST_CYCLES: usize = 4;
 
 /// One aligned part of a wide access, with what it reaches and what denies it.
-#[derive(Clone, Copy, PartialEq, Eq, Debug)]
+#[derive(Clone, Copy)]
 pub struct Cycle {
     pub access: Access,
     pub answer: Part,

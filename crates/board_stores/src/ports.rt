@@ -8,7 +8,7 @@ use arrayvec::ArrayVec;
 use board_base::{Access, Kind, PortAccess, WideAccess, Width};
 
 /// One aligned part of an access to ports.
-#[derive(Clone, Copy, PartialEq, Eq, Debug)]
+#[derive(Clone, Copy)]
 pub struct PortCycle {
     pub access: PortAccess,
 }

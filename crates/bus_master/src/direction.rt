@@ -7,7 +7,7 @@ ghost use Rattle.bus_master.specs.Transfer.{kind_of};
 use board_base::Kind;
 
 /// From the disk to memory, or from memory to the disk.
-#[derive(Clone, Copy, PartialEq, Eq, Debug)]
+#[derive(Clone, Copy, PartialEq, Eq)]
 pub(crate) enum Direction {
     ToMemory,
     ToDisk,

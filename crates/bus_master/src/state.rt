@@ -15,7 +15,7 @@ const SECTOR_NUMBERS: u32 = 0x1000_0000;
 const DOUBLEWORD_BYTES: u32 = 4;
 
 /// How far a transfer has come, for a caller that keeps it between two pieces.
-#[derive(Clone, Copy, PartialEq, Eq, Debug)]
+#[derive(Clone, Copy)]
 pub struct TransferState {
     /// The address of the next descriptor, a multiple of 4.
     pub table: u32,

@@ -13,7 +13,7 @@ const KEPT: u32 = 0x80FF_FFFC;
 const ENABLE: u32 = 31;
 
 /// What the configuration address selects at a configuration data port: a bus, and a register there.
-#[derive(Clone, Copy, PartialEq, Eq, Debug)]
+#[derive(Clone, Copy)]
 pub struct Selected {
     pub bus: u8,
     pub reg: Reg,

@@ -68,7 +68,7 @@ pub const DISK_STATUS: u16 = 0x1F7;
 pub const DISK_CONTROL: u16 = 0x3F6;
 
 /// What selects a device at its ports.
-#[derive(Clone, Copy, PartialEq, Eq, Debug)]
+#[derive(Clone, Copy)]
 pub enum Select {
     /// Nothing: it always answers.
     Always,

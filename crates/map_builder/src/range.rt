@@ -23,7 +23,7 @@ pub struct Span {
 }
 
 /// The bounds of the addresses whose areas a change of the registers may change. Both are 0 where there are none.
-#[derive(Clone, Copy, PartialEq, Eq, Debug, Default)]
+#[derive(Clone, Copy, PartialEq, Eq, Default)]
 pub struct Changed {
     pub lo: u32,
     pub hi: u32,

@@ -24,7 +24,7 @@ const WRITE_ENABLE: u32 = 1;
 
 /// A window: its number, its first and last address, and the offset of its PAM register. Numbers 0 to
 /// 11 have 16 KiB each from C0000h on, and number 12 is F0000h to FFFFFh.
-#[derive(Clone, Copy, PartialEq, Eq, Debug)]
+#[derive(Clone, Copy)]
 pub struct Window {
     pub index: u8,
     pub lo: u32,

@@ -14,7 +14,7 @@ use board_spec::range::SMRAM_RANGE;
 
 /// Which windows of a card are looked at: those in memory, an expansion ROM that is not selected, or those among the
 /// I/O ports.
-#[derive(Clone, Copy, PartialEq, Eq, Debug)]
+#[derive(Clone, Copy)]
 enum Windows {
     Memory,
     UnselectedRom,
@@ -22,7 +22,7 @@ enum Windows {
 }
 
 /// Whether a card's command register lets it decode.
-#[derive(Clone, Copy, PartialEq, Eq, Debug)]
+#[derive(Clone, Copy)]
 enum Gate {
     Open,
     Shut,

@@ -1,5 +1,5 @@
 //! The configuration registers of a card (PCI Local Bus 2.1, section 6.2).
-ghost use Rattle.std.specs.Prelude.{◌≡◌, ◌≢◌, ◌<◌, ◌/◌, ◌%◌, ℕ, true, Some, slice_index};
+ghost use Rattle.std.specs.Prelude.{◌≡◌, ◌≢◌, ◌≤◌, ◌<◌, ◌/◌, ◌%◌, ℕ, true, Some, slice_index};
 ghost use Rattle.board_prelude.specs.Common.{One, Store, Setup, IsCard, card_at, byte, merged, reset_byte, is_map_byte, changed_byte, Bytes, card_register};
 ghost use Rattle.pci_bars.specs.Cards.{DecodesAs, IsCardOf, header_of};
 
@@ -20,7 +20,7 @@ const INTA: u8 = 0x01;
 
 /// A card's registers: its command, 0 to 7, its interrupt line, its six base address registers, and that of its
 /// expansion ROM. Those that the card does not have are 0.
-#[derive(Drop, Debug)]
+#[derive(Drop)]
 pub struct CardRegs {
     pub spec: CardSpec,
     pub command: u8,
@@ -120,23 +120,48 @@ impl CardRegs {
     {
         match off {
             COMMAND => self.command = merged(COMMAND_WRITABLE, self.command, byte),
-            BASE0..=BASE5_END => {
-                let index = usize::from((off - BASE0) / 4);
-                let writable = self.spec.writable(index);
-                self.bases[index] = with_byte(
-                    self.bases[index],
-                    writable,
-                    usize::from(off % 4),
-                    byte,
-                );
-            }
-            EXPANSION_ROM..=EXPANSION_ROM_END => {
-                let writable = self.spec.rom_writable();
-                self.rom = with_byte(self.rom, writable, usize::from(off % 4), byte);
-            }
+            BASE0..=BASE5_END => self.write_base(off, byte),
+            EXPANSION_ROM..=EXPANSION_ROM_END => self.write_rom(off, byte),
             INTERRUPT_LINE => self.line = byte,
             _ => {}
         }
+    }
+
+    /// Writes a byte of a base address register.
+    fn write_base(&mut self, off: u8, byte: u8)
+        requires card { IsCard self.old.card }
+        requires base { (0x10 ≤ off) × (off < 0x28) }
+        ensures written { (setup : Setup) (bytes : Bytes) → IsCardOf setup bytes self.old
+            → IsCardOf setup
+            (λ reg. changed_byte setup (Store (card_register self.old.card.dev off) One byte) reg (bytes reg))
+            self.new }
+        ensures decodes { (setup : Setup) (bytes : Bytes) → DecodesAs setup bytes self.old
+            → DecodesAs setup
+            (λ reg. changed_byte setup (Store (card_register self.old.card.dev off) One byte) reg (bytes reg))
+            self.new }
+        ensures same_card { self.new.card ≡ self.old.card }
+    {
+        let index = usize::from((off - BASE0) / 4);
+        let writable = self.spec.writable(index);
+        self.bases[index] = with_byte(self.bases[index], writable, usize::from(off % 4), byte);
+    }
+
+    /// Writes a byte of the expansion ROM's register.
+    fn write_rom(&mut self, off: u8, byte: u8)
+        requires card { IsCard self.old.card }
+        requires rom { (0x30 ≤ off) × (off < 0x34) }
+        ensures written { (setup : Setup) (bytes : Bytes) → IsCardOf setup bytes self.old
+            → IsCardOf setup
+            (λ reg. changed_byte setup (Store (card_register self.old.card.dev off) One byte) reg (bytes reg))
+            self.new }
+        ensures decodes { (setup : Setup) (bytes : Bytes) → DecodesAs setup bytes self.old
+            → DecodesAs setup
+            (λ reg. changed_byte setup (Store (card_register self.old.card.dev off) One byte) reg (bytes reg))
+            self.new }
+        ensures same_card { self.new.card ≡ self.old.card }
+    {
+        let writable = self.spec.rom_writable();
+        self.rom = with_byte(self.rom, writable, usize::from(off % 4), byte);
     }
 
     /// Gives each register its value after a reset.

@@ -44,7 +44,7 @@ const COUNT_OFFSET: u32 = 4;
 /// disk and its sector. Of an end which one it is (`EXACT_END` ..), bits 2 to 0 of the status register, how many bytes were
 /// moved, and where nobody answers or which sector cannot be read.
 #[repr(C)]
-#[derive(Clone, Copy, PartialEq, Eq, Debug, Default)]
+#[derive(Clone, Copy, Default)]
 pub struct PieceRecord {
     pub disk: u64,
     pub addr: u32,

@@ -17,7 +17,7 @@ const MOST_SECTORS: u32 = 256;
 /// bytes it has left; how many bytes were moved, and how many words are still to be; the first sector, and how many from
 /// it on are there and can be read; 1 where the region is the last of the table, and 1 where words go to memory.
 #[repr(C)]
-#[derive(Clone, Copy, PartialEq, Eq, Debug, Default)]
+#[derive(Clone, Copy, Default)]
 pub struct TransferRecord {
     pub table: u32,
     pub addr: u32,

@@ -19,7 +19,7 @@ pub const COM1_IRQ: u8 = 4;
 pub const COM1_ACTOR: u8 = 8;
 
 /// What happens to a board with a serial port.
-#[derive(Clone, Copy, PartialEq, Eq, Debug)]
+#[derive(Clone, Copy)]
 pub enum Happening {
     /// The port receives a byte from outside.
     Comes(u8),

@@ -43,7 +43,7 @@ impl ModemLines {
 }
 
 /// What the lines did since MSR was read: which changed, and whether a ring ended.
-#[derive(Clone, Copy, PartialEq, Eq, Debug)]
+#[derive(Clone, Copy)]
 pub struct ModemChanges {
     pub dcts: bool,
     pub ddsr: bool,

@@ -78,7 +78,7 @@ pub const RI: u32 = 6;
 pub const DCD: u32 = 7;
 
 /// A register as a read reaches it.
-#[derive(Clone, Copy, PartialEq, Eq, Debug)]
+#[derive(Clone, Copy)]
 pub enum ReadRegister {
     /// Receiver buffer.
     Rbr,
@@ -124,7 +124,7 @@ impl ReadRegister {
 }
 
 /// What reads of the registers would give: of the divisor latch, whether it stands at offsets 0 and 1 or not.
-#[derive(Clone, Copy, PartialEq, Eq, Debug)]
+#[derive(Clone, Copy)]
 pub struct UartRegisters {
     pub ier: u8,
     pub iir: u8,
@@ -138,7 +138,7 @@ pub struct UartRegisters {
 }
 
 /// A register as a write reaches it.
-#[derive(Clone, Copy, PartialEq, Eq, Debug)]
+#[derive(Clone, Copy)]
 pub enum WriteRegister {
     /// Transmitter holding.
     Thr,

@@ -23,44 +23,6 @@ returns-then-off-lt16-clause-written c =
     λ setup bytes is. card-apart setup bytes c.args.self.now c.args.off c.args.byte c.requires.card c.ranges.byte.fits
     (record { command = λ e. omega arith; bases = inl (omega arith); rom = inl (omega arith) }) (λ e. omega arith) is
 
-pub returns-in-16-to-39-clause-written : goal.returns-in-16-to-39-clause-written
-returns-in-16-to-39-clause-written c =
-    let fit = rw (← c.self.view_is) at c.requires.card in
-    let write : IsByteWrite (of_base base_writable c.self.inside.spec.bases c.from-index.result)
-    (slice_index c.self.inside.bases c.from-index.result) c.from.result c.args.byte c.with_byte.result =
-    record {
-      fits = c.with_byte.type_inv;
-      here = rw c.writable-writable.ensures.writable at c.with_byte.ensures.here;
-      others = c.with_byte.ensures.others;
-    } in
-    let in_bases : c.from-index.result < 6 = omega arith in
-    let in_long : c.from.result < 4 = omega arith in
-    let place : c.args.off ≡ 0x10 + 4 * c.from-index.result + c.from.result = omega arith in
-    rw (← c.self.view_is)
-    (λ setup bytes is.
-    card-base_stored setup bytes _ c.args.off c.from-index.result c.from.result c.args.byte c.with_byte.result fit
-    c.ranges.byte.fits c.self.told
-    (record { in_bases = in_bases; in_long = in_long; place = place; write = write }) is)
-
-pub returns-in-16-to-39-clause-decodes : goal.returns-in-16-to-39-clause-decodes
-returns-in-16-to-39-clause-decodes c =
-    let fit = rw (← c.self.view_is) at c.requires.card in
-    let write : IsByteWrite (of_base base_writable c.self.inside.spec.bases c.from-index.result)
-    (slice_index c.self.inside.bases c.from-index.result) c.from.result c.args.byte c.with_byte.result =
-    record {
-      fits = c.with_byte.type_inv;
-      here = rw c.writable-writable.ensures.writable at c.with_byte.ensures.here;
-      others = c.with_byte.ensures.others;
-    } in
-    let in_bases : c.from-index.result < 6 = omega arith in
-    let in_long : c.from.result < 4 = omega arith in
-    let place : c.args.off ≡ 0x10 + 4 * c.from-index.result + c.from.result = omega arith in
-    rw (← c.self.view_is)
-    (λ setup bytes is.
-    decodes-base_stored setup bytes _ c.args.off c.from-index.result c.from.result c.args.byte c.with_byte.result
-    fit c.ranges.byte.fits c.self.told
-    (record { in_bases = in_bases; in_long = in_long; place = place; write = write }) is)
-
 pub returns-else-off-lt52-clause-written : goal.returns-else-off-lt52-clause-written
 returns-else-off-lt52-clause-written c =
     λ setup bytes is. card-apart setup bytes c.args.self.now c.args.off c.args.byte c.requires.card c.ranges.byte.fits
@@ -77,38 +39,6 @@ returns-in-60-clause-decodes c =
     (λ setup bytes is.
     decodes-apart setup bytes _ c.args.byte 0x3C c.args.byte
     (record { command = λ e. omega arith; bases = inr (omega arith); rom = inr (omega arith) }) is)
-
-pub returns-in-48-to-51-clause-written : goal.returns-in-48-to-51-clause-written
-returns-in-48-to-51-clause-written c =
-    let fit = rw (← c.self.view_is) at c.requires.card in
-    let write : IsByteWrite (rom_writable c.self.inside.spec.rom) c.self.inside.rom c.from-in-48-to-51.result
-    c.args.byte c.with_byte-self-inside.result =
-    record {
-      fits = c.with_byte-self-inside.type_inv;
-      here = rw c.rom_writable-writable.ensures.writable at c.with_byte-self-inside.ensures.here;
-      others = c.with_byte-self-inside.ensures.others;
-    } in
-    rw (← c.self.view_is)
-    (λ setup bytes is.
-    card-rom_stored setup bytes _ c.args.off c.from-in-48-to-51.result c.args.byte c.with_byte-self-inside.result
-    fit c.ranges.byte.fits
-    (record { in_long = omega arith; place = omega arith; write = write }) is)
-
-pub returns-in-48-to-51-clause-decodes : goal.returns-in-48-to-51-clause-decodes
-returns-in-48-to-51-clause-decodes c =
-    let fit = rw (← c.self.view_is) at c.requires.card in
-    let write : IsByteWrite (rom_writable c.self.inside.spec.rom) c.self.inside.rom c.from-in-48-to-51.result
-    c.args.byte c.with_byte-self-inside.result =
-    record {
-      fits = c.with_byte-self-inside.type_inv;
-      here = rw c.rom_writable-writable.ensures.writable at c.with_byte-self-inside.ensures.here;
-      others = c.with_byte-self-inside.ensures.others;
-    } in
-    rw (← c.self.view_is)
-    (λ setup bytes is.
-    decodes-rom_stored setup bytes _ c.args.off c.from-in-48-to-51.result c.args.byte
-    c.with_byte-self-inside.result fit c.ranges.byte.fits
-    (record { in_long = omega arith; place = omega arith; write = write }) is)
 
 pub returns-in-60-clause-written : goal.returns-in-60-clause-written
 returns-in-60-clause-written c =
