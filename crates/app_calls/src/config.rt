@@ -2,20 +2,16 @@
 
 use board_base::NoMemory;
 use board_spec::port::CONFIG_DATA;
-use call_words::{byte, number, port};
+use call_words::{byte, number, port, word};
 use cfg_ports::{ConfAdd, Space};
 use std::alloc::AllocError;
 
 /// `59=FF` writes a byte of 256 that all have this value after a reset and this mask; told are that byte before, after and
 /// after a reset, and the one beside it.
 pub fn tell_space(words: &[&str], text: &mut String) -> Result<(), NoMemory> {
-    match words {
-        [off, reset, mask, written] => {
-            let mut space = Space::new([byte(reset); 256], [byte(mask); 256]);
-            Ok(push_space(text, &mut space, byte(off), byte(written))?)
-        }
-        _ => Ok(text.push_str("no space")?),
-    }
+    let (reset, mask) = (byte(word(words, 1)), byte(word(words, 2)));
+    let mut space = Space::new([reset; 256], [mask; 256]);
+    Ok(push_space(text, &mut space, byte(word(words, 0)), byte(word(words, 3)))?)
 }
 
 /// Writes a byte, and tells it before, after and after a reset, and the one beside it.

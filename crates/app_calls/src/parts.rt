@@ -2,12 +2,8 @@
 
 use crate::{config, disk_state, map, media, plain, stretches, timer};
 use board_base::NoMemory;
+use call_words::word;
 use std::alloc::Global;
-
-/// The word at a place; the empty word where there is none.
-fn word<'a>(words: &[&'a str], at: usize) -> &'a str {
-    words.get(at).copied().unwrap_or("")
-}
 
 /// Appends what the address map, stretches of bytes, widths and configuration space answer.
 fn answer_of_map(

@@ -4,7 +4,7 @@
 use arrayvec::ArrayVec;
 use board_base::NoMemory;
 use board_chipset::{Chipset, Setup};
-use call_words::{byte, number};
+use call_words::{byte, number, word};
 use pci_bars::{BaseSpec, CardSpec};
 use std::alloc::{AllocError, Global};
 
@@ -41,7 +41,7 @@ fn card_of(alloc: Global, word: &str) -> Result<Option<CardSpec>, AllocError> {
     }
 }
 
-/// The cards of words.
+/// The cards of words; a word that has not four numbers is none.
 pub fn cards_of(alloc: Global, words: &[&str]) -> Result<Vec<CardSpec>, AllocError> {
     let mut cards = Vec::new(alloc);
     for word in words {
@@ -93,10 +93,8 @@ fn push_opened(alloc: Global, setup: Setup, text: &mut String) -> Result<(), All
 
 /// Tells whether the setup of words opens a chipset, and why not.
 pub fn tell(alloc: Global, words: &[&str], text: &mut String) -> Result<(), NoMemory> {
-    let [mib, rom, disk, cards @ ..] = words else {
-        return Ok(text.push_str("no setup")?);
-    };
-    let cards = cards_of(alloc, cards)?;
-    let setup = setup(alloc, number(mib), number(rom), number(disk), cards)?;
+    let cards = cards_of(alloc, words)?;
+    let (mib, rom) = (number(word(words, 0)), number(word(words, 1)));
+    let setup = setup(alloc, mib, rom, number(word(words, 2)), cards)?;
     Ok(push_opened(alloc, setup, text)?)
 }
