@@ -30,9 +30,13 @@ fn wide(kind: Kind, bytes: &str, place: &str, value: &str) -> Event {
     })
 }
 
-/// An event that comes from outside.
-fn event_from_outside(word: &str, place: &str, value: &str) -> Event {
+/// An event that is no access to memory in one cycle.
+fn other_event(word: &str, bytes: &str, place: &str, value: &str) -> Event {
     match word {
+        "in" => Event::Port(port_access(false, bytes, place, value)),
+        "out" => Event::Port(port_access(true, bytes, place, value)),
+        "wide-read" => wide(Kind::Read, bytes, place, value),
+        "wide-write" => wide(Kind::Write, bytes, place, value),
         "wire" => Event::Wire {
             dev: byte(place),
             on: true,
@@ -42,17 +46,6 @@ fn event_from_outside(word: &str, place: &str, value: &str) -> Event {
             on: true,
         },
         _ => Event::Pulses(number(value)),
-    }
-}
-
-/// An event that is no access to memory in one cycle.
-fn other_event(word: &str, bytes: &str, place: &str, value: &str) -> Event {
-    match word {
-        "in" => Event::Port(port_access(false, bytes, place, value)),
-        "out" => Event::Port(port_access(true, bytes, place, value)),
-        "wide-read" => wide(Kind::Read, bytes, place, value),
-        "wide-write" => wide(Kind::Write, bytes, place, value),
-        _ => event_from_outside(word, place, value),
     }
 }
 

@@ -23,29 +23,26 @@ pub fn card(dev: u8, base: BaseSpec, rom: u8) -> CardSpec {
     }
 }
 
-/// The base of a kind.
-fn base(kind: &str, bits: u8) -> BaseSpec {
-    if kind == "1" {
+/// The card of a text, if it has four numbers.
+fn card_of(alloc: Global, text: &str) -> Result<Option<CardSpec>, AllocError> {
+    let fields: Vec<&str> = text.split(':').collect(alloc)?;
+    if fields.len() != 4 {
+        return Ok(None);
+    }
+    let bits = byte(word(&fields, 2));
+    let base = if word(&fields, 1) == "1" {
         BaseSpec::Memory(bits)
     } else {
         BaseSpec::Io(bits)
-    }
-}
-
-/// The card of a word, if it has four numbers.
-fn card_of(alloc: Global, word: &str) -> Result<Option<CardSpec>, AllocError> {
-    let fields: Vec<&str> = word.split(':').collect(alloc)?;
-    match fields.as_slice() {
-        [dev, kind, bits, rom] => Ok(Some(card(byte(dev), base(kind, byte(bits)), byte(rom)))),
-        _ => Ok(None),
-    }
+    };
+    Ok(Some(card(byte(word(&fields, 0)), base, byte(word(&fields, 3)))))
 }
 
 /// The cards of words; a word that has not four numbers is none.
 pub fn cards_of(alloc: Global, words: &[&str]) -> Result<Vec<CardSpec>, AllocError> {
     let mut cards = Vec::new(alloc);
-    for word in words {
-        if let Some(card) = card_of(alloc, word)? {
+    for text in words {
+        if let Some(card) = card_of(alloc, text)? {
             cards.push(card)?;
         }
     }

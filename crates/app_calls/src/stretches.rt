@@ -35,20 +35,16 @@ fn push_cycle(text: &mut String, part: &PortAccess) -> Result<(), AllocError> {
     Ok(())
 }
 
-/// Tells the cycles of an access that ends at the last port or before.
-fn push_cycles(text: &mut String, access: &PortAccess) -> Result<(), AllocError> {
+/// Tells the cycles of an access to ports, which ends at the last port or before.
+pub fn tell_cycles(words: &[&str], text: &mut String) -> Result<(), NoMemory> {
+    let access = access_of(words);
     if u32::from(access.port) + access.width.bytes() > PORTS {
-        return text.push_str("past the last port");
+        return Ok(text.push_str("past the last port")?);
     }
-    for cycle in &port_cycles(access) {
+    for cycle in &port_cycles(&access) {
         push_cycle(text, &cycle.access)?;
     }
     Ok(())
-}
-
-/// Tells the cycles of an access to ports.
-pub fn tell_cycles(words: &[&str], text: &mut String) -> Result<(), NoMemory> {
-    Ok(push_cycles(text, &access_of(words))?)
 }
 
 /// Writes a value that an access of this width can have.
