@@ -123,12 +123,13 @@ fn sectors_of(word: &str) -> (u32, u32) {
 fn transfer(
     bus: &mut BusMaster,
     store: &mut Store,
-    (lba, count): (u32, u32),
+    sectors: (u32, u32),
     text: &mut String,
 ) -> Result<(), AllocError>
     requires sound { IsOfBoard store.old }
     ensures sound { IsOfBoard store.new }
 {
+    let (lba, count) = sectors;
     if !bus.is_started() || lba > LAST_SECTOR || count == 0 || count > SECTOR_WORDS {
         return text.push_str("not started ");
     }
