@@ -26,6 +26,10 @@
  *     begin TABLE LBA SECTORS READABLE TO_MEMORY         a transfer of the bus master
  *     stand TABLE ADDR LEFT MOVED WORDS LBA READABLE LAST TO_MEMORY RESERVED   one with these numbers
  *     next, region BASE COUNT                            its next piece; the region of a descriptor
+ *     memory [ADDR DOUBLEWORD]..                         8 MiB of zeros of the caller's own, with these doublewords, and a
+ *                                                        disk of four sectors, whose bytes are their number and 1
+ *     move TABLE LBA SECTORS TO_MEMORY                   a transfer over these: each piece, which is done as it is told
+ *     doublewords ADDR.., words SECTOR INDEX..           what that memory and that disk then have
  *     told DEVICE BASE OFFSET BYTES                      bytes of a card, out
  *     give DEVICE BASE OFFSET BYTE..                     and in
  *
@@ -40,6 +44,9 @@
  *                     INT, `ack` the vector and the chip of an acknowledge, and whether it is spurious; `reset` is one
  *     routes STEP..   the routes of PIRQA to PIRQD: `60=0B` writes a register, `60?` reads it; `@1101` tells the lines
  *                     to which these levels of the four are routed
+ *     config STEP..   registers in configuration space: `00.0.59=30` writes a byte of one, `00.0.59?` reads it; `@CC000`
+ *                     tells where a fetch, a read and a write of a byte of memory land, `!A0000` the same in SMM, and
+ *                     `:60` where a read of a port does, `:1F0/2` of two; `reset` is one
  *     moment YEAR MONTH DAY HOUR MINUTE SECOND   in decimal numbers: the weekday that the clock then shows, 1 for
  *                     Sunday, or that it takes no such moment */
 #include "board.h"
@@ -48,6 +55,7 @@
 #include <string.h>
 
 enum { MOST_CARDS = 10, MOST_NUMBERS = 64, LINE = 1024, WEEKDAY = 6, SECTOR = 512 };
+enum { OWN_MEMORY = 0x800000, OWN_SECTORS = 4 };
 
 /* The numbers after the first word of a line; those that are left out are 0. */
 static uint64_t numbers[MOST_NUMBERS];
@@ -63,12 +71,18 @@ static board_reply reply;
 static uint8_t *image;
 static size_t image_bytes;
 
-/* Bytes that are kept beside what was saved, and the bus master's transfer. */
+/* Bytes that are kept beside what was saved; the bus master's transfer, and the memory and the disk that it moves
+ * between. */
 static uint8_t *kept_dram, *kept_sectors;
 static board_transfer transfer;
+static uint8_t *own_memory, own_disk[OWN_SECTORS * SECTOR];
 
 static board *open_board(void) {
     return &boards[current];
+}
+
+static void must(uint32_t status) {
+    if (status != BOARD_OK) exit(8);
 }
 
 /* As many bytes as a call is given room for, and never none at all. */
@@ -328,18 +342,76 @@ static void stand(void) {
     tell_transfer();
 }
 
-static void next(void) {
-    board_piece piece = {0}, *p = &piece;
-    tell_status(board_transfer_next(open_board(), &transfer, p));
+static void tell_piece(const board_piece *p) {
     TELL("", p, what), TELL("", p, end), TELL("", p, status), TELL("", p, addr), TELL("", p, bytes), TELL("", p, disk);
     TELL("", p, sector), TELL("", p, reserved);
     tell_part("0.", &p->part[0]), tell_part("1.", &p->part[1]);
+}
+
+static void next(void) {
+    board_piece piece = {0};
+    tell_status(board_transfer_next(open_board(), &transfer, &piece));
+    tell_piece(&piece);
     tell_transfer();
 }
 
 static void region(void) {
     tell_status(board_transfer_region(&transfer, (uint32_t)numbers[0], (uint32_t)numbers[1]));
     tell_transfer();
+}
+
+static uint32_t doubleword(const uint8_t *at) {
+    return at[0] | (uint32_t)at[1] << 8 | (uint32_t)at[2] << 16 | (uint32_t)at[3] << 24;
+}
+
+static void own(void) {
+    free(own_memory);
+    own_memory = room_for(OWN_MEMORY, 1);
+    for (size_t k = 0; k + 1 < count; k += 2)
+        for (int b = 0; b < 4; b++) own_memory[numbers[k] + b] = (uint8_t)(numbers[k + 1] >> 8 * b);
+    for (size_t k = 0; k < sizeof own_disk; k++) own_disk[k] = (uint8_t)(k / SECTOR + 1);
+}
+
+/* Moves bytes to where a part says that they lie, or from there. */
+static void move_bytes(const board_part *part, uint32_t addr, uint8_t *bytes, size_t how_many, bool to_memory) {
+    if (part->target == BOARD_DRAM || part->target == BOARD_SHADOW)
+        memcpy(to_memory ? own_memory + addr : bytes, to_memory ? bytes : own_memory + addr, how_many);
+    else if (part->target == BOARD_CARD && to_memory)
+        must(board_card_write(open_board(), part->unit, part->base, part->offset, bytes, how_many));
+    else if (part->target == BOARD_CARD)
+        must(board_card_read(open_board(), part->unit, part->base, part->offset, bytes, how_many));
+}
+
+static void take_descriptor(const board_piece *p) {
+    uint8_t bytes[8] = {0};
+    for (int k = 0; k < 2; k++) move_bytes(&p->part[k], p->addr + 4 * k, bytes + 4 * k, 4, false);
+    must(board_transfer_region(&transfer, doubleword(bytes), doubleword(bytes + 4)));
+}
+
+static void move(void) {
+    uint32_t lba = (uint32_t)numbers[1], sectors = (uint32_t)numbers[2];
+    uint32_t left = lba < OWN_SECTORS ? OWN_SECTORS - lba : 0, readable = sectors < left ? sectors : left;
+    board_piece piece = {0};
+    must(board_transfer_begin(&transfer, (uint32_t)numbers[0], lba, sectors, readable, numbers[3] != 0));
+    while (piece.what != BOARD_ENDED) {
+        must(board_transfer_next(open_board(), &transfer, &piece));
+        printf("\n ");
+        tell_piece(&piece);
+        if (piece.what == BOARD_DESCRIPTOR) take_descriptor(&piece);
+        if (piece.what == BOARD_WORDS)
+            move_bytes(&piece.part[0], piece.addr, own_disk + piece.disk, piece.bytes, transfer.to_memory);
+    }
+}
+
+static void doublewords(void) {
+    for (size_t k = 0; k < count; k++) printf(" %X", doubleword(own_memory + numbers[k]));
+}
+
+static void words(void) {
+    for (size_t k = 1; k < count; k++) {
+        const uint8_t *at = own_disk + numbers[0] * SECTOR + 2 * numbers[k];
+        printf(" %X", at[0] | at[1] << 8);
+    }
 }
 
 static void map(void) {
@@ -432,15 +504,11 @@ enum { COM1 = 0x3F8, ELCR = 0x4D0, CONFADD = 0xCF8, CONFDATA = 0xCFC, RESET = 0x
 static board fresh;
 static board_reply after;
 
-static void must(uint32_t status) {
-    if (status != BOARD_OK) exit(8);
-}
-
 /* Opens it with cards at devices 2 to 5, whose INTA# drive PIRQB, PIRQC, PIRQD and PIRQA. */
 static void open_fresh(void) {
     static const uint8_t rom[0x10000];
     static const board_card four[4] = {{.device = 2}, {.device = 3}, {.device = 4}, {.device = 5}};
-    must(board_open(&fresh, 1, four, 4, rom, sizeof rom, rom, 0));
+    must(board_open(&fresh, 1, four, 4, rom, sizeof rom, rom, SECTOR));
     must(board_look(&fresh, BOARD_READ, 0, false, &after));
 }
 
@@ -546,6 +614,37 @@ static void routes(const char *step, const char *sign) {
     }
 }
 
+/* Where an access lands, of one byte or of as many as stand behind a `/`, and what denies it. */
+static void tell_landing(uint8_t what, uint8_t kind, const char *addr, bool smm) {
+    static const char *const names[] = {"nothing", "dram", "shadow", "smram", "rom",
+                                        "card", "device", "config", "abort"};
+    char *after_addr;
+    board_event asked = {.what = what, .kind = kind, .addr = (uint32_t)strtoul(addr, &after_addr, 16), .smm = smm};
+    board_part p = {0};
+    asked.bytes = *after_addr == '/' ? hex_byte(after_addr + 1) : 1;
+    must(board_decode(&fresh, &asked, &p));
+    printf(" %s", names[p.target]);
+    if (p.target == BOARD_DRAM || p.target == BOARD_SHADOW || p.target == BOARD_IS_DEVICE) printf(":%u", p.unit);
+    if (p.target == BOARD_ROM) printf(":%X", p.offset);
+    if (p.denial == BOARD_BY_REGISTER) printf("/%02X.%u.%02X", p.denial_dev, p.denial_fun, p.denial_off);
+}
+
+static void config(const char *step, const char *sign) {
+    unsigned dev, fun, off;
+    if (*step == '@' || *step == '!') {
+        for (uint8_t kind = BOARD_FETCH; kind <= BOARD_WRITE; kind++)
+            tell_landing(BOARD_MEMORY, kind, step + 1, *step == '!');
+    } else if (*step == ':') {
+        tell_landing(BOARD_PORT, BOARD_READ, step + 1, false);
+    } else if (sscanf(step, "%x.%x.%x", &dev, &fun, &off) == 3 && sign) {
+        must(board_out(&fresh, CONFADD, 4, 0x80000000 | dev << 11 | fun << 8 | (off & 0xFC), &after));
+        at_port((uint16_t)(CONFDATA + off % 4), sign);
+        if (after.has_value) printf(" %02X", (unsigned)after.value);
+    } else {
+        reset();
+    }
+}
+
 /* The steps of a line, each with the place of its sign. */
 static void steps(char *words, void (*step_of)(const char *, const char *)) {
     open_fresh();
@@ -572,7 +671,7 @@ static const struct { const char *word; void (*call)(void); } calls[] = {
     {"lines", lines}, {"serial", serial}, {"second", second}, {"in", in}, {"out", out}, {"put", put}, {"set", set},
     {"fill", fill}, {"save", save}, {"load", load}, {"turn", turn}, {"cut", cut}, {"master", master}, {"told", told},
     {"give", give}, {"keep", keep}, {"with", load_with}, {"begin", begin}, {"stand", stand}, {"next", next},
-    {"region", region},
+    {"region", region}, {"memory", own}, {"move", move}, {"doublewords", doublewords}, {"words", words},
 };
 
 static void read_numbers(char *words) {
@@ -587,6 +686,7 @@ static void call(const char *word, char *rest) {
     if (!strcmp(word, "uart")) { steps(rest, uart); return; }
     if (!strcmp(word, "pair")) { steps(rest, pair); return; }
     if (!strcmp(word, "routes")) { steps(rest, routes); return; }
+    if (!strcmp(word, "config")) { steps(rest, config); return; }
     if (!strcmp(word, "moment")) { moment(rest); return; }
     read_numbers(rest);
     for (size_t k = 0; k < sizeof calls / sizeof *calls; k++)
@@ -608,6 +708,6 @@ int main(void) {
         printf("\n");
     }
     board_close(open_board());
-    free(image), free(kept_dram), free(kept_sectors);
+    free(image), free(kept_dram), free(kept_sectors), free(own_memory);
     return 0;
 }

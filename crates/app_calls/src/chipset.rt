@@ -1,6 +1,6 @@
 //! Which call of a chipset, or of what stands over it, a line is, by its word.
 
-use crate::{image, master, parts, pieces, ports, range, serial, setup, state};
+use crate::{image, master, parts, ports, range, serial, setup, state};
 use board_base::NoMemory;
 use std::alloc::Global;
 
@@ -32,7 +32,6 @@ pub fn answer(
     match call {
         "serial" => serial::tell(alloc, words, text),
         "master" => master::tell(alloc, words, text),
-        "pieces" => pieces::tell(alloc, words, text),
         "image" => image::tell(alloc, words, text),
         _ => answer_of_chipset(alloc, call, words, text),
     }

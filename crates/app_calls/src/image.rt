@@ -8,7 +8,7 @@ ghost use Rattle.board_spec.specs.Setup.{IsSetup};
 use board_base::NoMemory;
 use board_core::Board;
 use board_image::{ImageFault, load, read_image, save};
-use call_words::bytes_of;
+use call_words::{bytes_of, word};
 use std::alloc::{AllocError, Global};
 
 /// The head of an image of a board of 8 MiB with a ROM of 64 KiB and two cards, without disk and steps.
@@ -98,11 +98,8 @@ fn push_image(
 
 /// Tells what the image of words is.
 pub fn tell(alloc: Global, words: &[&str], text: &mut String) -> Result<(), NoMemory> {
-    let [what, digits] = words else {
-        return Ok(text.push_str("no image")?);
-    };
-    let mut bytes = before(alloc, what)?;
+    let mut bytes = before(alloc, word(words, 0))?;
     let before = bytes.len();
-    bytes.extend_from_slice(&bytes_of(alloc, digits)?)?;
+    bytes.extend_from_slice(&bytes_of(alloc, word(words, 1))?)?;
     push_image(alloc, &bytes, before, text)
 }

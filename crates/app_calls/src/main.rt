@@ -4,7 +4,6 @@
 //!
 //!     serial REQUEST..                a board with a UART on COM1, and the log of what the board itself was asked
 //!     master PRESET STEP..            the bus master and its transfers, over a board on which doublewords were written
-//!     pieces PRESET STEP..            the same in pieces, over a memory of this program's own
 //!     image bare|cards|step BYTES     where an image is bad, beyond what stands before its bytes
 //!     event WORD BYTES PLACE VALUE    whether an event is in range, and which field is not
 //!     time YEAR MONTH DAY WEEKDAY HOUR   the same of a moment
@@ -14,21 +13,19 @@
 //!     serial-state DISK BYTES CARD..  the same with a serial port
 #![tactic(auto)]
 
-mod bridge;
 mod chipset;
+mod config;
 mod disk_state;
 mod image;
 mod map;
 mod master;
 mod media;
 mod parts;
-mod pieces;
 mod plain;
 mod ports;
 mod range;
 mod serial;
 mod setup;
-mod south;
 mod state;
 mod stretches;
 mod timer;

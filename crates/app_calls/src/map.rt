@@ -8,7 +8,7 @@ ghost use Rattle.board_spec.specs.Setup.{IsCard};
 ghost use Rattle.pci_bars.specs.Cards.{AreFitted};
 ghost use Rattle.map_builder.specs.Map.{next_version};
 
-use crate::told::{push_some, space};
+use crate::told::{push_hex, space};
 use addr_decode::{MapChange, MapRegs, next_edge, touches};
 use arrayvec::ArrayVec;
 use board_base::{NoMemory, Reg, Steps, Width};
@@ -120,7 +120,10 @@ fn act(regs: &mut MapRegs, step: &str, text: &mut String) -> Result<(), AllocErr
             regs.apply(&change);
             text.push('-')
         }
-        None => push_some(text, next_edge(regs, number(step.trim_end_matches('?')))),
+        None => match next_edge(regs, number(step.trim_end_matches('?'))) {
+            Some(edge) => push_hex(text, edge),
+            None => text.push_str("none"),
+        },
     }
 }
 

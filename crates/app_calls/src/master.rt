@@ -1,15 +1,14 @@
 //! The bus master over a board of 8 MiB with a VGA card at device 2, which is enabled, and a disk of four sectors, whose bytes
 //! are the number of their sector and 1. The first word has doublewords that are written on the board before, as
 //! `1000:2000,1004:80000200`. Then `0=FF` writes a register, `2?` reads one, and `all` reads all eight; `go1` moves sector 1,
-//! and tells how the transfer ends and how many bytes moved; `dram2000` and `window0` tell a doubleword of DRAM and of the
-//! card's window, and `disk1.FF` a word of the disk.
+//! `go1.2` two sectors from it on, and tells how the transfer ends and how many bytes moved; `dram2000` and `window0` tell a
+//! doubleword of DRAM and of the card's window, and `disk1.FF` a word of the disk.
 
 ghost use Rattle.std.specs.Prelude.{IfOk};
 ghost use Rattle.board_chipset.specs.Stores.{IsOfBoard};
 
 use crate::told::{push_byte, push_number};
 use arrayvec::ArrayVec;
-use ata_pio::Ata;
 use board_base::Width::{self, Four, One};
 use board_base::{Access, Kind, NoMemory, PortAccess};
 use board_chipset::{Chipset, Setup, Store};
@@ -20,21 +19,21 @@ use pci_bars::CardSpec;
 use std::alloc::{AllocError, Global};
 
 /// How many registers there are.
-pub const REGISTERS: u8 = 8;
+const REGISTERS: u8 = 8;
 
 /// The largest number of a sector.
-pub const LAST_SECTOR: u32 = 0xFFFF;
+const LAST_SECTOR: u32 = 0xFFFF;
 
 /// How many words a sector has.
-pub const SECTOR_WORDS: u32 = 256;
+const SECTOR_WORDS: u32 = 256;
 
 /// The card, and the number of the base behind which its window lies.
-pub const CARD: u8 = 2;
+const CARD: u8 = 2;
 
-pub const WINDOW: u8 = 7;
+const WINDOW: u8 = 7;
 
 /// The disk.
-pub fn disk(alloc: Global) -> Result<Vec<u8>, AllocError> {
+fn disk(alloc: Global) -> Result<Vec<u8>, AllocError> {
     let mut disk = vec![in alloc; 1; 512]?;
     for byte in 2..=4 {
         disk.extend_from_slice(&[byte; 512])?;
@@ -85,7 +84,7 @@ fn output(port: u16, width: Width, value: u32) -> Event {
 }
 
 /// The board, with its card enabled.
-pub fn chipset(alloc: Global) -> Result<Chipset, NoMemory> {
+fn chipset(alloc: Global) -> Result<Chipset, NoMemory> {
     let Ok(mut chipset) = Chipset::open_checked(alloc, setup(alloc)?) else {
         return Err(NoMemory);
     };
@@ -112,20 +111,29 @@ fn store(alloc: Global, presets: &str) -> Result<Store, NoMemory>
     Ok(chipset.into_store())
 }
 
-/// Moves a sector, where the transfer is started.
+/// The first sector of a word, and how many.
+fn sectors_of(word: &str) -> (u32, u32) {
+    match word.split_once('.') {
+        Some((lba, count)) => (number(lba), number(count)),
+        None => (number(word), 1),
+    }
+}
+
+/// Moves sectors, where the transfer is started.
 fn transfer(
     bus: &mut BusMaster,
     store: &mut Store,
-    lba: u32,
+    sectors: (u32, u32),
     text: &mut String,
 ) -> Result<(), AllocError>
     requires sound { IsOfBoard store.old }
     ensures sound { IsOfBoard store.new }
 {
-    if !bus.is_started() || lba > LAST_SECTOR {
+    let (lba, count) = sectors;
+    if !bus.is_started() || lba > LAST_SECTOR || count == 0 || count > SECTOR_WORDS {
         return text.push_str("not started ");
     }
-    let Done { end, moved } = bus.transfer(store, lba, 1);
+    let Done { end, moved } = bus.transfer(store, lba, count);
     write!(text, "{end:?} {moved} ")
 }
 
@@ -145,14 +153,9 @@ fn push_window(text: &mut String, store: &Store, off: u32) -> Result<(), AllocEr
     push_number(text, store.contents.read(CARD, WINDOW, off, Four))
 }
 
-/// Tells a word of a disk.
-pub fn push_word(
-    text: &mut String,
-    disk: Option<&Ata>,
-    sector: u32,
-    index: u32,
-) -> Result<(), AllocError> {
-    match disk {
+/// Tells a word of the disk.
+fn push_word(text: &mut String, store: &Store, sector: u32, index: u32) -> Result<(), AllocError> {
+    match &store.disk {
         Some(disk) if sector < disk.sectors() && index < SECTOR_WORDS => {
             push_number(text, disk.word(sector, index).into())
         }
@@ -169,18 +172,13 @@ fn push_place(text: &mut String, store: &Store, step: &str) -> Result<(), AllocE
         return push_window(text, store, number(off));
     }
     match step.trim_start_matches("disk").split_once('.') {
-        Some((sector, index)) => push_word(
-            text,
-            store.disk.as_ref(),
-            number(sector),
-            number(index),
-        ),
+        Some((sector, index)) => push_word(text, store, number(sector), number(index)),
         None => text.push_str("no step "),
     }
 }
 
 /// Tells all registers.
-pub fn push_all(text: &mut String, bus: &BusMaster) -> Result<(), AllocError> {
+fn push_all(text: &mut String, bus: &BusMaster) -> Result<(), AllocError> {
     for off in 0..REGISTERS {
         push_byte(text, bus.port_read(off))?;
     }
@@ -226,7 +224,7 @@ fn act_all(store: &mut Store, steps: &[&str], text: &mut String) -> Result<(), A
     let mut bus = BusMaster::new();
     for step in steps {
         match step.strip_prefix("go") {
-            Some(lba) => transfer(&mut bus, store, number(lba), text)?,
+            Some(word) => transfer(&mut bus, store, sectors_of(word), text)?,
             None => act(&mut bus, store, step, text)?,
         }
     }

@@ -1,47 +1,11 @@
 //! Which part of the board a call asks, by its word.
 
-use crate::{bridge, disk_state, map, media, plain, south, stretches, timer};
+use crate::{config, disk_state, map, media, plain, stretches, timer};
 use board_base::NoMemory;
+use call_words::word;
 use std::alloc::Global;
 
-/// The word at a place; the empty word where there is none.
-fn word<'a>(words: &[&'a str], at: usize) -> &'a str {
-    words.get(at).copied().unwrap_or("")
-}
-
-/// Appends what the south bridge answers.
-fn answer_of_south(call: &str, words: &[&str], text: &mut String) -> Result<(), NoMemory> {
-    match call {
-        "ide" => south::tell_ide(words, text),
-        "isa" => south::tell_isa(words, text),
-        "selects" => south::tell_selects(words, text),
-        "bios" => south::tell_bios(word(words, 0), word(words, 1), word(words, 2), text),
-        "xbcs" => south::tell_xbcs(word(words, 0), word(words, 1), text),
-        _ => Ok(text.push_str("no such call")?),
-    }
-}
-
-/// Appends what the host bridge answers.
-fn answer_of_north(
-    alloc: Global,
-    call: &str,
-    words: &[&str],
-    text: &mut String,
-) -> Result<(), NoMemory> {
-    match call {
-        "space" => bridge::tell_space(words, text),
-        "confadd" => bridge::tell_address(words, text),
-        "window" => bridge::tell_window(word(words, 0), text),
-        "pam" => bridge::tell_pam(words, text),
-        "pmc" => bridge::tell_pmc(words, text),
-        "rows" => bridge::tell_rows(alloc, words, text),
-        "hole" => bridge::tell_hole(word(words, 0), word(words, 1), text),
-        "smram" => bridge::tell_smram(words, text),
-        _ => answer_of_south(call, words, text),
-    }
-}
-
-/// Appends what the address map, stretches of bytes and widths answer.
+/// Appends what the address map, stretches of bytes, widths and configuration space answer.
 fn answer_of_map(
     alloc: Global,
     call: &str,
@@ -55,7 +19,9 @@ fn answer_of_map(
         "cycles" => stretches::tell_cycles(words, text),
         "dram" => stretches::tell_dram(alloc, words, text),
         "width" => plain::tell_width(words, text),
-        _ => answer_of_north(alloc, call, words, text),
+        "space" => config::tell_space(words, text),
+        "confadd" => config::tell_address(words, text),
+        _ => Ok(text.push_str("no such call")?),
     }
 }
 

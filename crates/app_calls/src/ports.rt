@@ -8,29 +8,12 @@ use board_chipset::{Chipset, PortReply, ResetKind};
 use call_words::port_access;
 use std::alloc::{AllocError, Global};
 
-/// The access of a word, whose place is cut off.
-fn access_at(write: bool, place: &str, value: &str) -> Option<PortAccess> {
-    let (port, bytes) = place.split_once('.')?;
-    Some(port_access(write, bytes, port, value))
-}
-
 /// The access of a word.
 fn access_of(word: &str) -> Option<PortAccess> {
-    match word.split_once('=') {
-        Some((place, value)) => access_at(true, place, value),
-        None => {
-            let (place, value) = word.split_once('?')?;
-            access_at(false, place, value)
-        }
-    }
-}
-
-/// Tells a value that was read.
-fn push_value(text: &mut String, value: Option<u32>) -> Result<(), AllocError> {
-    match value {
-        Some(value) => push_number(text, value),
-        None => text.push_str("- "),
-    }
+    let sign = if word.contains('=') { '=' } else { '?' };
+    let (place, value) = word.split_once(sign)?;
+    let (port, bytes) = place.split_once('.')?;
+    Some(port_access(sign == '=', bytes, port, value))
 }
 
 /// Tells a reset.
@@ -44,7 +27,10 @@ fn push_reset(text: &mut String, reset: ResetKind) -> Result<(), AllocError> {
 
 /// Tells a reply.
 fn push_reply(text: &mut String, reply: PortReply) -> Result<(), AllocError> {
-    push_value(text, reply.value)?;
+    match reply.value {
+        Some(value) => push_number(text, value)?,
+        None => text.push_str("- ")?,
+    }
     push_reset(text, reply.reset)
 }
 

@@ -5,7 +5,7 @@ use crate::setup::chipset;
 use board_base::{Access, Kind, Moment, NoMemory, WideAccess};
 use board_chipset::Chipset;
 use board_spec::Event;
-use call_words::{byte, decimal, long, number, port_access, width};
+use call_words::{byte, decimal, long, number, port_access, width, word};
 use std::alloc::{AllocError, Global};
 
 /// An access to memory outside SMM.
@@ -30,9 +30,13 @@ fn wide(kind: Kind, bytes: &str, place: &str, value: &str) -> Event {
     })
 }
 
-/// An event that comes from outside.
-fn event_from_outside(word: &str, place: &str, value: &str) -> Event {
+/// An event that is no access to memory in one cycle.
+fn other_event(word: &str, bytes: &str, place: &str, value: &str) -> Event {
     match word {
+        "in" => Event::Port(port_access(false, bytes, place, value)),
+        "out" => Event::Port(port_access(true, bytes, place, value)),
+        "wide-read" => wide(Kind::Read, bytes, place, value),
+        "wide-write" => wide(Kind::Write, bytes, place, value),
         "wire" => Event::Wire {
             dev: byte(place),
             on: true,
@@ -42,17 +46,6 @@ fn event_from_outside(word: &str, place: &str, value: &str) -> Event {
             on: true,
         },
         _ => Event::Pulses(number(value)),
-    }
-}
-
-/// An event that is no access to memory in one cycle.
-fn other_event(word: &str, bytes: &str, place: &str, value: &str) -> Event {
-    match word {
-        "in" => Event::Port(port_access(false, bytes, place, value)),
-        "out" => Event::Port(port_access(true, bytes, place, value)),
-        "wide-read" => wide(Kind::Read, bytes, place, value),
-        "wide-write" => wide(Kind::Write, bytes, place, value),
-        _ => event_from_outside(word, place, value),
     }
 }
 
@@ -81,10 +74,12 @@ fn push_asked(text: &mut String, chipset: &mut Chipset, event: &Event) -> Result
 
 /// The same of words, at a new chipset.
 pub fn tell_event(alloc: Global, words: &[&str], text: &mut String) -> Result<(), NoMemory> {
-    let [word, bytes, place, value] = words else {
-        return Ok(text.push_str("no event")?);
-    };
-    let event = event_of(word, bytes, place, value);
+    let event = event_of(
+        word(words, 0),
+        word(words, 1),
+        word(words, 2),
+        word(words, 3),
+    );
     Ok(push_asked(text, &mut chipset(alloc)?, &event)?)
 }
 
@@ -94,13 +89,13 @@ fn small(digits: &str) -> u8 {
 }
 
 /// A date, and an hour; the weekday is from 1 for Sunday.
-fn moment(year: &str, month: &str, day: &str, weekday: &str, hour: &str) -> Event {
+fn moment(words: &[&str]) -> Event {
     Event::Time(Moment {
-        year: (decimal(year) % 0x1_0000) as u16,
-        month: small(month),
-        day: small(day),
-        weekday: small(weekday),
-        hour: small(hour),
+        year: (decimal(word(words, 0)) % 0x1_0000) as u16,
+        month: small(word(words, 1)),
+        day: small(word(words, 2)),
+        weekday: small(word(words, 3)),
+        hour: small(word(words, 4)),
         minute: 0,
         second: 0,
     })
@@ -108,9 +103,5 @@ fn moment(year: &str, month: &str, day: &str, weekday: &str, hour: &str) -> Even
 
 /// The same of a moment, in decimal numbers.
 pub fn tell_time(alloc: Global, words: &[&str], text: &mut String) -> Result<(), NoMemory> {
-    let [year, month, day, weekday, hour] = words else {
-        return Ok(text.push_str("no moment")?);
-    };
-    let event = moment(year, month, day, weekday, hour);
-    Ok(push_asked(text, &mut chipset(alloc)?, &event)?)
+    Ok(push_asked(text, &mut chipset(alloc)?, &moment(words))?)
 }

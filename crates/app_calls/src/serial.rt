@@ -5,7 +5,7 @@
 ghost use Rattle.std.specs.Prelude.{◌≡◌, false, [], IfOk};
 ghost use Rattle.board_prelude.specs.Common.{Setup as Fitting, IsInRange};
 
-use crate::told::{push_byte, push_sent};
+use crate::told::push_byte;
 use board_base::{NoMemory, PortAccess, Width};
 use board_core::{Board, Setup};
 use board_spec::Event;
@@ -73,7 +73,14 @@ fn push_reply(text: &mut String, reply: &SerialReply) -> Result<(), AllocError> 
             value: Some(byte),
             ..
         } => push_byte(text, *byte),
-        SerialReply::Uart { value: None, sent } => push_sent(text, *sent),
+        SerialReply::Uart {
+            value: None,
+            sent: Some(byte),
+        } => write!(text, "sent:{byte:02X} "),
+        SerialReply::Uart {
+            value: None,
+            sent: None,
+        } => text.push_str("- "),
     }
 }
 

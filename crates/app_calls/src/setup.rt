@@ -4,7 +4,7 @@
 use arrayvec::ArrayVec;
 use board_base::NoMemory;
 use board_chipset::{Chipset, Setup};
-use call_words::{byte, number};
+use call_words::{byte, number, word};
 use pci_bars::{BaseSpec, CardSpec};
 use std::alloc::{AllocError, Global};
 
@@ -23,29 +23,26 @@ pub fn card(dev: u8, base: BaseSpec, rom: u8) -> CardSpec {
     }
 }
 
-/// The base of a kind.
-fn base(kind: &str, bits: u8) -> BaseSpec {
-    if kind == "1" {
+/// The card of a text, if it has four numbers.
+fn card_of(alloc: Global, text: &str) -> Result<Option<CardSpec>, AllocError> {
+    let fields: Vec<&str> = text.split(':').collect(alloc)?;
+    if fields.len() != 4 {
+        return Ok(None);
+    }
+    let bits = byte(word(&fields, 2));
+    let base = if word(&fields, 1) == "1" {
         BaseSpec::Memory(bits)
     } else {
         BaseSpec::Io(bits)
-    }
+    };
+    Ok(Some(card(byte(word(&fields, 0)), base, byte(word(&fields, 3)))))
 }
 
-/// The card of a word, if it has four numbers.
-fn card_of(alloc: Global, word: &str) -> Result<Option<CardSpec>, AllocError> {
-    let fields: Vec<&str> = word.split(':').collect(alloc)?;
-    match fields.as_slice() {
-        [dev, kind, bits, rom] => Ok(Some(card(byte(dev), base(kind, byte(bits)), byte(rom)))),
-        _ => Ok(None),
-    }
-}
-
-/// The cards of words.
+/// The cards of words; a word that has not four numbers is none.
 pub fn cards_of(alloc: Global, words: &[&str]) -> Result<Vec<CardSpec>, AllocError> {
     let mut cards = Vec::new(alloc);
-    for word in words {
-        if let Some(card) = card_of(alloc, word)? {
+    for text in words {
+        if let Some(card) = card_of(alloc, text)? {
             cards.push(card)?;
         }
     }
@@ -93,10 +90,8 @@ fn push_opened(alloc: Global, setup: Setup, text: &mut String) -> Result<(), All
 
 /// Tells whether the setup of words opens a chipset, and why not.
 pub fn tell(alloc: Global, words: &[&str], text: &mut String) -> Result<(), NoMemory> {
-    let [mib, rom, disk, cards @ ..] = words else {
-        return Ok(text.push_str("no setup")?);
-    };
-    let cards = cards_of(alloc, cards)?;
-    let setup = setup(alloc, number(mib), number(rom), number(disk), cards)?;
+    let cards = cards_of(alloc, words)?;
+    let (mib, rom) = (number(word(words, 0)), number(word(words, 1)));
+    let setup = setup(alloc, mib, rom, number(word(words, 2)), cards)?;
     Ok(push_opened(alloc, setup, text)?)
 }

@@ -5,7 +5,7 @@
 use crate::setup::{cards_of, setup};
 use board_base::NoMemory;
 use board_chipset::{Chipset, Setup, StateFault};
-use call_words::{byte, bytes_of, number};
+use call_words::{byte, bytes_of, number, word};
 use std::alloc::{AllocError, Global};
 use uart_16550::SerialBoard;
 
@@ -35,16 +35,17 @@ fn joined(alloc: Global, pieces: &str) -> Result<Vec<u8>, AllocError> {
 }
 
 /// What the chipset of a line is fitted with.
-fn fitted(alloc: Global, disk: u32, cards: &[&str]) -> Result<Setup, AllocError> {
-    let mut fitted = setup(alloc, 1, ROM, disk, cards_of(alloc, cards)?)?;
+fn fitted(alloc: Global, words: &[&str]) -> Result<Setup, AllocError> {
+    let disk = number(word(words, 0));
+    let mut fitted = setup(alloc, 1, ROM, disk, cards_of(alloc, words)?)?;
     if disk == 0 {
         fitted.disk = None;
     }
     Ok(fitted)
 }
 
-/// Tells whether a state is saved as the same bytes.
-fn push_saved(saved: &[u8], bytes: &[u8], text: &mut String) -> Result<(), AllocError> {
+/// Tells whether what was saved are the same bytes.
+fn push_same(saved: &[u8], bytes: &[u8], text: &mut String) -> Result<(), AllocError> {
     text.push_str(if saved == bytes {
         "saved as the same"
     } else {
@@ -62,35 +63,44 @@ fn push_fault(fault: StateFault, text: &mut String) -> Result<(), NoMemory> {
     }
 }
 
+/// Tells whether a chipset is saved as these bytes.
+fn push_chipset(
+    alloc: Global,
+    chipset: &Chipset,
+    bytes: &[u8],
+    text: &mut String,
+) -> Result<(), NoMemory> {
+    let mut saved = Vec::new(alloc);
+    chipset.save_state(&mut saved)?;
+    Ok(push_same(&saved, bytes, text)?)
+}
+
 /// Tells the state of a chipset.
 pub fn tell_chipset(alloc: Global, words: &[&str], text: &mut String) -> Result<(), NoMemory> {
-    let [disk, pieces, cards @ ..] = words else {
-        return Ok(text.push_str("no state")?);
-    };
-    let bytes = joined(alloc, pieces)?;
-    match Chipset::load_state(alloc, fitted(alloc, number(disk), cards)?, &bytes) {
-        Ok(chipset) => {
-            let mut saved = Vec::new(alloc);
-            chipset.save_state(&mut saved)?;
-            Ok(push_saved(&saved, &bytes, text)?)
-        }
+    let bytes = joined(alloc, word(words, 1))?;
+    match Chipset::load_state(alloc, fitted(alloc, words)?, &bytes) {
+        Ok(chipset) => push_chipset(alloc, &chipset, &bytes, text),
         Err(fault) => push_fault(fault, text),
     }
 }
 
+/// Tells whether a chipset with a serial port is saved as these bytes.
+fn push_serial(
+    alloc: Global,
+    serial: &SerialBoard<Chipset>,
+    bytes: &[u8],
+    text: &mut String,
+) -> Result<(), NoMemory> {
+    let mut saved = Vec::new(alloc);
+    serial.save_state(&mut saved)?;
+    Ok(push_same(&saved, bytes, text)?)
+}
+
 /// Tells the state of a chipset with a serial port.
 pub fn tell_serial(alloc: Global, words: &[&str], text: &mut String) -> Result<(), NoMemory> {
-    let [disk, pieces, cards @ ..] = words else {
-        return Ok(text.push_str("no state")?);
-    };
-    let bytes = joined(alloc, pieces)?;
-    let fitted = fitted(alloc, number(disk), cards)?;
-    match SerialBoard::<Chipset>::load_state(alloc, fitted, &bytes) {
-        Ok(serial) => {
-            let mut saved = Vec::new(alloc);
-            serial.save_state(&mut saved)?;
-            Ok(push_saved(&saved, &bytes, text)?)
-        }
+    let bytes = joined(alloc, word(words, 1))?;
+    match SerialBoard::<Chipset>::load_state(alloc, fitted(alloc, words)?, &bytes) {
+        Ok(serial) => push_serial(alloc, &serial, &bytes, text),
         Err(fault) => push_fault(fault, text),
     }
 }

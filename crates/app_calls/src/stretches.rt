@@ -6,7 +6,7 @@ ghost use Rattle.board_base.specs.Access.{bytes_of};
 use crate::told::{push_bytes, push_hex, space};
 use board_base::{NoMemory, PortAccess, Width};
 use board_stores::port_cycles;
-use call_words::{byte, bytes_of, number, port_access, width};
+use call_words::{byte, bytes_of, number, port_access, width, word};
 use dram_store::Dram;
 use std::alloc::{AllocError, Global};
 
@@ -17,12 +17,13 @@ const READ_BYTES: usize = 8;
 const PORTS: u32 = 0x1_0000;
 
 /// The access that words ask for.
-fn access_of(words: &[&str]) -> Option<PortAccess> {
-    match words {
-        ["write", at, bytes, value] => Some(port_access(true, bytes, at, value)),
-        ["read", at, bytes] => Some(port_access(false, bytes, at, "0")),
-        _ => None,
-    }
+fn access_of(words: &[&str]) -> PortAccess {
+    port_access(
+        word(words, 0) == "write",
+        word(words, 2),
+        word(words, 1),
+        word(words, 3),
+    )
 }
 
 /// Tells a cycle: its port, bytes and value.
@@ -34,23 +35,16 @@ fn push_cycle(text: &mut String, part: &PortAccess) -> Result<(), AllocError> {
     Ok(())
 }
 
-/// Tells the cycles of an access that ends at the last port or before.
-fn push_cycles(text: &mut String, access: &PortAccess) -> Result<(), AllocError> {
+/// Tells the cycles of an access to ports, which ends at the last port or before.
+pub fn tell_cycles(words: &[&str], text: &mut String) -> Result<(), NoMemory> {
+    let access = access_of(words);
     if u32::from(access.port) + access.width.bytes() > PORTS {
-        return text.push_str("past the last port");
+        return Ok(text.push_str("past the last port")?);
     }
-    for cycle in &port_cycles(access) {
+    for cycle in &port_cycles(&access) {
         push_cycle(text, &cycle.access)?;
     }
     Ok(())
-}
-
-/// Tells the cycles of an access to ports.
-pub fn tell_cycles(words: &[&str], text: &mut String) -> Result<(), NoMemory> {
-    match access_of(words) {
-        Some(access) => Ok(push_cycles(text, &access)?),
-        None => Ok(text.push_str("no access")?),
-    }
 }
 
 /// Writes a value that an access of this width can have.

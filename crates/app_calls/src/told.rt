@@ -28,14 +28,6 @@ pub fn push_bytes(text: &mut String, bytes: &[u8]) -> Result<(), AllocError> {
     Ok(())
 }
 
-/// Appends a number, or `none`.
-pub fn push_some(text: &mut String, number: Option<u32>) -> Result<(), AllocError> {
-    match number {
-        Some(number) => push_hex(text, number),
-        None => text.push_str("none"),
-    }
-}
-
 /// Appends a register's byte before a write of ones, after it, and after a reset.
 pub fn push_register(
     text: &mut String,
@@ -50,12 +42,4 @@ pub fn push_register(
 /// Appends the digits of a number, and a space.
 pub fn push_number(text: &mut String, number: u32) -> Result<(), AllocError> {
     write!(text, "{number:X} ")
-}
-
-/// Appends a byte that was sent, if one was, and a space.
-pub fn push_sent(text: &mut String, sent: Option<u8>) -> Result<(), AllocError> {
-    match sent {
-        Some(byte) => write!(text, "sent:{byte:02X} "),
-        None => text.push_str("- "),
-    }
 }

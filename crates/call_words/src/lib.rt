@@ -1,6 +1,6 @@
-//! Numbers in the words of a line, for the programs of the gate that read rows.
+//! The words of a line and the numbers in them, for the programs of the gate that read rows.
 #![tactic(auto)]
 
 mod numbers;
 
-pub use numbers::{byte, bytes_of, decimal, long, number, port, port_access, width};
+pub use numbers::{byte, bytes_of, decimal, long, number, port, port_access, width, word};

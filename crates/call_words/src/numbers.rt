@@ -1,7 +1,12 @@
-//! Numbers in the words of a line.
+//! The words of a line, and the numbers in them.
 
 use board_base::{PortAccess, Width};
 use std::alloc::{AllocError, Global};
+
+/// The word at a place; the empty word where there is none.
+pub fn word<'a>(words: &[&'a str], at: usize) -> &'a str {
+    words.get(at).copied().unwrap_or("")
+}
 
 /// The number that hexadecimal digits say.
 pub fn long(digits: &str) -> u64 {
