@@ -1,4 +1,5 @@
--- What an entry makes of the devices. All are stepped at once: the machines that an event leaves are the same by computing.
+-- What an entry makes of the devices. All are stepped at once: the machines that an event leaves are the same by
+-- computing, so that no lemma about an entry has a column for each device.
 use Rattle.std.proofs.Common.{◌≡◌, ℕ, ◌<◌, ◌≤◌, Bool, true, false, ◌||◌, ◌&&◌, List, [], ◌∷◌, Option, Some, None, length, get_or, refl, sym, ◌∙◌, ap, subst, arith, inl, inr, ◌*◌, ◌/◌, ◌%◌, replicate, eq-eqb, ne_eqb, get_or-set_same, get_or-set_other, length-set, ◌↔◌, is_some, Result, Err, ◌==◌, unwrap_or, map, option_map, slice_index_or, slice_set, if◌then◌else◌}
 use Rattle.board_prelude.proofs.Common.{or-false, and-false, nat_tests, cases_eq, cases_Bool, lt-ltb, le-leb, get_or-replicate, ext_get_or, length-map, get_or-map, each_below, same-levels, pair_has_seen, PortAccess, Dev, Pic0, Pic1, Pit, System, Keyboard, Elcr, Ata, Wires, Vector, Spurious, PitState, out_of, reset as timer_at_reset, after_reset as clock_after_reset, triggers_at_reset, reserved-rest, Pair, levels_at_power_on, port_byte, pair_after_lines, pair_at_reset, port_read, read_value, trigger_byte, Disk, option_map_or, is_disk_length, power_on as disk_at_power_on, Event, Memory, Wide, Port, Pulses, Wire, Line, BadSector, Reply, Entry, Setup, IsDisk, IsDiskSize, is_free_line, reset_control, control_written, resets_hard, is_hard_reset, system_at_reset, device_reached, wire_set, wire_of, line_set, irq_of, triggers_after, triggers_of, system_after, system_of, timer_after, timer_of, clock_after, clock_of, disk_accessed, disk_after, disk_with, disk_of, routes_of, pirq_levels, own_level, level_with, all_lines, levels_with, levels_of, elcr_of, device_value, pair_after, pair_reset_or_after, pair_stepped, pair_of, after_bad, byte_of, config_store, elcr-same, is_line_driven, list_any, map-same, true≢false}
 use Rattle.board_prelude.specs.Common.{is_interrupt}
@@ -146,7 +147,8 @@ devices_after event reply devices = record {
 
 module _ (setup : Setup) (history : List Entry) (entry : Entry) (soft : is_hard_reset history entry.event ≡ false) where
   disk_soft : (fitted : Option (List ℕ)) →
-      option_map (λ disk. disk_after entry.event entry.reply disk) (option_map (λ bytes. disk_with bytes history) fitted)
+      option_map (λ disk. disk_after entry.event entry.reply disk)
+      (option_map (λ bytes. disk_with bytes history) fitted)
       ≡ option_map (λ bytes. disk_with bytes (entry ∷ history)) fitted
   unfolding disk_with
   disk_soft None = refl
@@ -204,8 +206,9 @@ module _ (setup : Setup) (history : List Entry) (entry : Entry) (event : Event) 
       asks.event_is (λ not. pair_soft setup history entry asks.soft not) not
 
   -- the lines then reach the pair: the devices are those of the history with the entry
-  pub lined_as : NotPulses event → (old between after : DevicesValue) → HasRoom event old → AreDevicesOf setup history old →
-      between ≡ devices_after event entry.reply old → after ≡ record between { pair = after.pair } →
+  pub lined_as : NotPulses event → (old between after : DevicesValue) → HasRoom event old →
+      AreDevicesOf setup history old → between ≡ devices_after event entry.reply old →
+      after ≡ record between { pair = after.pair } →
       (AreAfter setup (entry ∷ history) between → after.pair ≡ lined setup (entry ∷ history) between.pair) →
       AreDevicesOf setup (entry ∷ history) after
   lined_as not old between after room is made kept seen =
@@ -344,8 +347,8 @@ they_are setup history = record {
 }
 
 -- the level that a device drives is that after the history
-pub driven_is : (setup : Setup) (history : List Entry) (devices : DevicesValue) → AreAfter setup history devices → (dev : Dev) →
-    driven dev devices ≡ level_driven dev setup history
+pub driven_is : (setup : Setup) (history : List Entry) (devices : DevicesValue) → AreAfter setup history devices →
+    (dev : Dev) → driven dev devices ≡ level_driven dev setup history
 driven_is setup history devices are Pit = ap (λ t. out_of 0 t) are.timer
 driven_is setup history devices are Clock = ap interrupt_line are.clock
 driven_is setup history devices are Ata =
@@ -416,8 +419,8 @@ module _ (setup : Setup) (history : List Entry) (entry : Entry) (sets : SetsNoLe
       rw (timer, clock, disk, free, driven) refl
 
   -- the lines reach the pair as they did before it
-  pub lines_stand : Stays setup history entry → routes_of setup (entry ∷ history) ≡ routes_of setup history → (pair : Pair) →
-      lined setup (entry ∷ history) pair ≡ lined setup history pair
+  pub lines_stand : Stays setup history entry → routes_of setup (entry ∷ history) ≡ routes_of setup history →
+      (pair : Pair) → lined setup (entry ∷ history) pair ≡ lined setup history pair
   unfolding levels_with
   lines_stand stays routes pair =
       ap (λ (levels : List Bool). pair_after_lines pair levels (elcr_of (entry ∷ history)))

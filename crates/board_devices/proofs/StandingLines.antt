@@ -183,7 +183,8 @@ gate_out on timer = refl
 
 -- it is as the event itself made it
 pair_stands : (setup : Setup) (history : List Entry) (entry : Entry) → is_hard_reset history entry.event ≡ false →
-    SetsNoLevel entry.event → config_store setup (config_address history) entry.event ≡ None → Stays setup history entry →
+    SetsNoLevel entry.event → config_store setup (config_address history) entry.event ≡ None →
+    Stays setup history entry →
     pair_of setup (entry ∷ history) ≡ pair_after entry.event entry.reply (pair_of setup history)
 pair_stands setup history entry soft sets none stays =
     pair_soft setup history entry soft sets.still
@@ -237,7 +238,8 @@ no_store : (setup : Setup) (address : ℕ) (access : PortAccess) → is_config_p
     config_store setup address (Port access) ≡ None
 no_store setup address access other = rw (other, and-false access.write) refl
 
-module _ (setup : Setup) (history : List Entry) (entry : Entry) (dev : Dev) (access : PortAccess) (reaches : ReachesDevice history entry dev access) where
+module _ (setup : Setup) (history : List Entry) (entry : Entry) (dev : Dev) (access : PortAccess)
+    (reaches : ReachesDevice history entry dev access) where
   abbrev old : DevicesValue
   old = devices_of setup history
 
@@ -271,14 +273,17 @@ module _ (setup : Setup) (history : List Entry) (entry : Entry) (dev : Dev) (acc
       sym (driven_is setup (entry ∷ history) next are dev)
       ∙ (own_stands dev access old none ∙ driven_is setup history old were dev)
 
-  still_stands : is_chip_port dev access.port (bytes_of access.width) ≡ true → (access.write && sets_triggers dev) ≡ false →
+  still_stands : is_chip_port dev access.port (bytes_of access.width) ≡ true →
+      (access.write && sets_triggers dev) ≡ false →
       level_driven dev setup (entry ∷ history) ≡ level_driven dev setup history →
       pair_of setup (entry ∷ history) ≡ pair_after (Port access) entry.reply (pair_of setup history)
   still_stands port none level =
       let sets : SetsNoLevel entry.event =
       subst (λ (e : Event). SetsNoLevel e) (sym reaches.event) (passing (Port access) None refl) in
+      let none_there : is_config_port access.port ≡ false =
+      no_config_port dev access.port (bytes_of access.width) port in
       let store : config_store setup (config_address history) entry.event ≡ None =
-      rw reaches.event (no_store setup (config_address history) access (no_config_port dev access.port (bytes_of access.width) port)) in
+      rw reaches.event (no_store setup (config_address history) access none_there) in
       pair_stands setup history entry reaches.soft sets store (stays_by none level)
       ∙ ap (λ (e : Event). pair_after e entry.reply (pair_of setup history)) reaches.event
 
@@ -305,8 +310,8 @@ still_as setup history entry dev access port reaches none old after is made same
     (others_asked setup history entry (Port access) asks old tt is.others) in
     let level : level_driven dev setup (entry ∷ history) ≡ level_driven dev setup history =
     sym (driven_is setup (entry ∷ history) after are dev) ∙ (same ∙ driven_is setup history old is.others dev) in
-    stood_as setup history entry (Port access) asks (still_stands setup history entry dev access reaches port none level)
-    old after tt is made
+    stood_as setup history entry (Port access) asks
+    (still_stands setup history entry dev access reaches port none level) old after tt is made
 
 -- ---- acknowledges
 

@@ -17,8 +17,9 @@ returns-else-moved-clause-value c = λ setup history is.
 pub returns-then-moved-clause-devices : goal.returns-then-moved-clause-devices
 returns-then-moved-clause-devices c = λ setup history entry is reaches reads routes.
     let old = c.args.self.now in
-    lined_as setup history entry (Port c.args.access.now) (port_asked reaches) tt old c.read_port-value.new.self c.settle.new.self tt is
-    (c.read_port-value.ensures.after ∙ read_as reaches reads old) c.settle.ensures.others (λ others. c.settle.ensures.pair setup (entry ∷ history) others routes)
+    lined_as setup history entry (Port c.args.access.now) (port_asked reaches) tt old c.read_port-value.new.self
+    c.settle.new.self tt is (c.read_port-value.ensures.after ∙ read_as reaches reads old)
+    c.settle.ensures.others (λ others. c.settle.ensures.pair setup (entry ∷ history) others routes)
 
 -- no line moved
 pub returns-else-moved-clause-devices : goal.returns-else-moved-clause-devices

@@ -7,4 +7,5 @@ returns-clause-devices c = λ setup history entry is leaves routes.
     let old = c.args.self.now in
     let sets = left_levels leaves in
     lined_as setup history entry entry.event (left_asks leaves) sets.still old old c.settle.new.self (sets.room old) is
-    (left_as leaves old) c.settle.ensures.others (λ others. c.settle.ensures.pair setup (entry ∷ history) others routes)
+    (left_as leaves old)
+    c.settle.ensures.others (λ others. c.settle.ensures.pair setup (entry ∷ history) others routes)

@@ -9,8 +9,9 @@ use Rattle.board_devices.proofs.devices.Devices.write.Goals as goal
 pub returns-then-moved-clause-devices : goal.returns-then-moved-clause-devices
 returns-then-moved-clause-devices c = λ setup history entry is reaches writes routes.
     let old = c.args.self.now in
-    lined_as setup history entry (Port c.args.access.now) (port_asked reaches) tt old c.write_port.new.self c.settle.new.self tt is
-    (c.write_port.ensures.after ∙ write_as reaches writes old) c.settle.ensures.others (λ others. c.settle.ensures.pair setup (entry ∷ history) others routes)
+    lined_as setup history entry (Port c.args.access.now) (port_asked reaches) tt old c.write_port.new.self
+    c.settle.new.self tt is (c.write_port.ensures.after ∙ write_as reaches writes old)
+    c.settle.ensures.others (λ others. c.settle.ensures.pair setup (entry ∷ history) others routes)
 
 -- no line moved
 pub returns-else-moved-clause-devices : goal.returns-else-moved-clause-devices

@@ -33,5 +33,6 @@ returns-clause-devices c = λ setup history entry is writes.
     let value : c.from.result ≡ c.args.byte = search rules in
     let after : c.write_port.new.self ≡ after_write Clock access old =
     c.write_port.ensures.after ∙ ap (λ (v : ℕ). after_write Clock (byte_out c.args.port v) old) value in
-    lined_as setup history entry (Port access) (port_asked writes.reaches) tt old c.write_port.new.self c.settle.new.self tt is
-    (after ∙ write_as writes.reaches refl old) c.settle.ensures.others (λ others. c.settle.ensures.pair setup (entry ∷ history) others writes.routes_are)
+    lined_as setup history entry (Port access) (port_asked writes.reaches) tt old c.write_port.new.self
+    c.settle.new.self tt is (after ∙ write_as writes.reaches refl old)
+    c.settle.ensures.others (λ others. c.settle.ensures.pair setup (entry ∷ history) others writes.routes_are)
