@@ -1,14 +1,14 @@
 -- What an access at a port reaches, and what that tells of the access.
-use Rattle.std.proofs.Common.{◌≡◌, ℕ, ◌%◌, ◌^◌, Bool, true, false, ◌&&◌, not, List, [], ◌∷◌, Option, Some, None, refl}
+use Rattle.std.proofs.Common.{◌≡◌, ℕ, ◌%◌, ◌^◌, Bool, true, false, ◌&&◌, not, List, [], ◌∷◌, drop, Option, Some, None, refl}
 use Rattle.std.proofs.Common.{sym, ◌∙◌, arith, ◌==◌, unwrap_or, option_map}
-use Rattle.board_prelude.proofs.Common.{false≢true, cond_both, nat_tests, Width, Reg, Dev, Pic0, Pic1, Pit, System}
-use Rattle.board_prelude.proofs.Common.{Keyboard, Elcr, Ata, Target, Card, Device, Config, Abort, Denial, bytes_of}
+use Rattle.board_prelude.proofs.Common.{false≢true, cond_both, nat_tests, Width, Reg, Dev, Wires, Vector, Spurious}
+use Rattle.board_prelude.proofs.Common.{Keyboard, Ata, Target, Card, Device, Config, Abort, Denial, bytes_of}
 use Rattle.board_prelude.proofs.Common.{is_port_of, device_at, Setup, is_bit, config_address_port, reset_control_port}
 use Rattle.board_prelude.proofs.Common.{xbcs, ide_command, idetim_high, is_config_port, config_register, Bytes, Window}
 use Rattle.board_prelude.proofs.Common.{io_claim, Decoded, nobody, card_port, config_port, unselected, by_channel}
 use Rattle.board_prelude.proofs.Common.{device_port, port_target_of}
 use Rattle.board_base.specs.declared.target.Dev.TheVariants.{Confadd as AddressPort, Reset, Clock}
-use Rattle.device_spec.specs.PortTable.{first_with}
+use Rattle.device_spec.specs.PortTable.{first_with, port_devices}
 use Rattle.board_devices.specs.Events.{is_chip_port}
 
 -- no register is written at the port
@@ -96,34 +96,30 @@ module _ (setup : Setup) (bytes : Bytes) (address : ℕ) (disk : Bool) (port : �
   abbrev Finds : Option Dev → Type 0
   Finds found = Lands (device_port found disk setup bytes port)
 
-  first : (dev : Dev) (later : List Dev) → (is_port_of dev port (bytes_of width) ≡ true → Finds (Some dev)) →
-      (is_port_of dev port (bytes_of width) ≡ false → Finds (first_with later port (bytes_of width))) →
-      Finds (first_with (dev ∷ later) port (bytes_of width))
-  first dev later here after =
-      cond_both (is_port_of dev port (bytes_of width)) (Some dev) (first_with later port (bytes_of width)) Finds here
-      after
+  at_device : (dev : Dev) → IsBeside setup address port width → is_port_of dev port (bytes_of width) ≡ true →
+      Finds (Some dev)
+  at_device AddressPort by is = address_line port width is
+  at_device Reset by is = control_line port width is
+  at_device Keyboard by is = cond_both (is_bit (bytes xbcs) 1) _ _ Lands (λ _. by) (λ _. others _ by)
+  at_device Clock by is = cond_both (is_bit (bytes xbcs) 0) _ _ Lands (λ _. (by, is)) (λ _. others _ by)
+  at_device Ata by is = at_disk disk by is
+  at_device Wires by is = absurd (false≢true is)
+  at_device (Vector chip) by is = absurd (false≢true is)
+  at_device (Spurious chip) by is = absurd (false≢true is)
+  at_device _ by is = (by, is)
 
-  abbrev all_chips : List Dev
-  all_chips = Pic0 ∷ Pic1 ∷ Pit ∷ System ∷ Elcr ∷ Keyboard ∷ Clock ∷ Ata ∷ []
-
-  chips : IsBeside setup address port width → Finds (first_with all_chips port (bytes_of width))
-  chips by =
-      first Pic0 (Pic1 ∷ Pit ∷ System ∷ Elcr ∷ Keyboard ∷ Clock ∷ Ata ∷ []) (λ is. (by, is))
-      (λ _. first Pic1 (Pit ∷ System ∷ Elcr ∷ Keyboard ∷ Clock ∷ Ata ∷ []) (λ is. (by, is))
-      (λ _. first Pit (System ∷ Elcr ∷ Keyboard ∷ Clock ∷ Ata ∷ []) (λ is. (by, is))
-      (λ _. first System (Elcr ∷ Keyboard ∷ Clock ∷ Ata ∷ []) (λ is. (by, is))
-      (λ _. first Elcr (Keyboard ∷ Clock ∷ Ata ∷ []) (λ is. (by, is))
-      (λ _. first Keyboard (Clock ∷ Ata ∷ [])
-      (λ _. cond_both (is_bit (bytes xbcs) 1) _ _ Lands (λ _. by) (λ _. others _ by))
-      (λ _. first Clock (Ata ∷ []) (λ is. cond_both (is_bit (bytes xbcs) 0) _ _ Lands (λ _. (by, is))
-      (λ _. others _ by))
-      (λ _. first Ata [] (λ is. at_disk disk by is) (λ _. others _ by))))))))
+  in_table : (devices : List Dev) → IsBeside setup address port width →
+      Finds (first_with devices port (bytes_of width))
+  in_table [] by = others _ by
+  in_table (dev ∷ later) by =
+      cond_both (is_port_of dev port (bytes_of width)) (Some dev) (first_with later port (bytes_of width)) Finds
+      (at_device dev by) (λ _. in_table later by)
 
   past_config : is_config_port port ≡ false → Finds (device_at port (bytes_of width))
   past_config not_config =
-      first AddressPort (Reset ∷ all_chips) (λ is. address_line port width is)
-      (λ other. first Reset all_chips (λ is. control_line port width is)
-      (λ not_reset. chips (record {
+      cond_both (is_port_of AddressPort port (bytes_of width)) _ _ Finds (λ is. address_line port width is)
+      (λ other. cond_both (is_port_of Reset port (bytes_of width)) _ _ Finds (λ is. control_line port width is)
+      (λ not_reset. in_table (drop 2 port_devices) (record {
         control = no_control port width not_reset;
         address_port = no_address port width other;
         config = λ is. absurd (false≢true (sym not_config ∙ is));

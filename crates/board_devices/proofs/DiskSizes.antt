@@ -1,12 +1,11 @@
 -- No access, reset or bad sector changes how many sectors a disk has.
 use Rattle.std.proofs.Common.{◌≡◌, ℕ, ◌*◌, ◌/◌, ◌%◌, Bool, true, false, cond, eqb, List, [], ◌∷◌, ◌++◌, length, Option, Some, None, refl, sym, ◌∙◌, ap, arith, option_map, length-set}
-use Rattle.board_prelude.proofs.Common.{PortAccess, Dev, Pic0, Pic1, Pit, System, Keyboard, Elcr, Ata, Wires, Vector, Spurious, Width, One, Setup, Disk, IsDisk, IsDiskSize, disk_with, disk_of}
+use Rattle.board_prelude.proofs.Common.{PortAccess, Dev, Ata, Width, One, Setup, Disk, IsDisk, IsDiskSize, disk_with, disk_of}
 use Rattle.board_base.specs.declared.access.Width.TheVariants.{Two, Four}
-use Rattle.board_base.specs.declared.target.Dev.TheVariants.{Confadd, Reset, Clock}
 use Rattle.device_spec.proofs.Common.{length-replicate, Activity, Ready, Failed, Reading, Writing, Identifying, sectors_of, is_drq, bytes_written, activity_written, word_written, byte_written, disk_status_port, disk_control_port}
 use Rattle.device_spec.specs.Ata.Steps.{after_read as disk_after_read, after_write as disk_after_write, after_reset as disk_after_reset, after_bad}
 use Rattle.board_devices.specs.Devices.{DevicesValue, HasDisk, sectors_fitted}
-use Rattle.board_devices.specs.Steps.{after_read, after_write}
+use Rattle.board_devices.specs.Steps.{after_read, after_write, devices_accessed, fitted_accessed}
 
 -- ---- the disk
 
@@ -55,16 +54,6 @@ read_has port Four disk = refl
 
 -- ---- where one is fitted
 
-pub fitted_read : (port : ℕ) (width : Width) (disk : Option Disk) →
-    sectors_fitted (option_map (λ disk. disk_after_read port width disk) disk) ≡ sectors_fitted disk
-fitted_read port width None = refl
-fitted_read port width (Some disk) = ap (λ (count : ℕ). Some count) (read_has port width disk)
-
-pub fitted_written : (port : ℕ) (width : Width) (value : ℕ) (disk : Option Disk) →
-    sectors_fitted (option_map (λ disk. disk_after_write port width value disk) disk) ≡ sectors_fitted disk
-fitted_written port width value None = refl
-fitted_written port width value (Some disk) = ap (λ (count : ℕ). Some count) (written_has port width value disk)
-
 pub fitted_reset : (disk : Option Disk) →
     sectors_fitted (option_map (λ disk. disk_after_reset disk) disk) ≡ sectors_fitted disk
 fitted_reset None = refl
@@ -77,43 +66,24 @@ fitted_spoiled sector (Some disk) = ap (λ (count : ℕ). Some count) (length-se
 
 -- ---- an access
 
+access_fitted : (reached : Option Dev) (access : PortAccess) (disk : Option Disk) →
+    sectors_fitted (fitted_accessed reached access disk) ≡ sectors_fitted disk
+access_fitted (Some Ata) access None = refl
+access_fitted (Some Ata) access (Some disk) =
+    ap (λ (count : ℕ). Some count)
+    (either_has (sectors_of disk.medium) access.write _ _ (written_has access.port access.width access.value disk)
+    (read_has access.port access.width disk))
+access_fitted _ access disk = refl
+
 pub read_fitted : (dev : Dev) (access : PortAccess) (devices : DevicesValue) →
     sectors_fitted (after_read dev access devices).disk ≡ sectors_fitted devices.disk
-unfolding after_read
-read_fitted Confadd access devices = refl
-read_fitted Reset access devices = refl
-read_fitted Pic0 access devices = refl
-read_fitted Pic1 access devices = refl
-read_fitted Pit access devices = refl
-read_fitted System access devices = refl
-read_fitted Keyboard access devices = refl
-read_fitted Clock access devices = refl
-read_fitted Elcr access devices = refl
-read_fitted Ata access devices = fitted_read access.port access.width devices.disk
-read_fitted Wires access devices = refl
-read_fitted (Vector chip) access devices = refl
-read_fitted (Spurious chip) access devices = refl
+unfolding after_read devices_accessed
+read_fitted dev access devices = access_fitted (Some dev) (record access { write = false }) devices.disk
 
 pub write_fitted : (dev : Dev) (access : PortAccess) (devices : DevicesValue) →
     sectors_fitted (after_write dev access devices).disk ≡ sectors_fitted devices.disk
-unfolding after_write
-write_fitted Confadd access devices = refl
-write_fitted Reset access devices = refl
-write_fitted Pic0 access devices = refl
-write_fitted Pic1 access devices = refl
-write_fitted Pit access devices = refl
-write_fitted System access devices = refl
-write_fitted Keyboard access devices = refl
-write_fitted Clock access devices = refl
-write_fitted Elcr access devices = refl
-write_fitted Ata access devices = fitted_written access.port access.width access.value devices.disk
-write_fitted Wires access devices = refl
-write_fitted (Vector chip) access devices = refl
-write_fitted (Spurious chip) access devices = refl
-
--- devices of which some have changed, and the disk not
-pub fitted_as : (old new : DevicesValue) → new.disk ≡ old.disk → sectors_fitted new.disk ≡ sectors_fitted old.disk
-fitted_as old new same = ap (λ (disk : Option Disk). sectors_fitted disk) same
+unfolding after_write devices_accessed
+write_fitted dev access devices = access_fitted (Some dev) (record access { write = true }) devices.disk
 
 -- ---- at power-on
 

@@ -2,7 +2,7 @@
 use Rattle.std.proofs.Common.{◌≡◌, ◌∙◌, ℕ, ◌==◌, Bool, false, Option, Some, None, refl, sym, ap, inl, inr, ◌↔◌, is_some}
 use Rattle.board_prelude.proofs.Common.{cases_Bool, true≢false, PortAccess, Dev, Spurious, cascade, Chip, interrupt, Pair, chip_answer, answer_at, answer_of, after_write as clock_after_write, who_answered}
 use Rattle.board_base.specs.declared.target.Dev.TheVariants.{Clock}
-use Rattle.board_devices.specs.Common.{DevicesValue, after_write}
+use Rattle.board_devices.specs.Common.{DevicesValue, after_write, devices_accessed}
 
 -- ---- INT, and the spurious answer of the master
 
@@ -33,5 +33,5 @@ spurious_is pair = spurious_at pair (interrupt pair.master)
 
 pub clock_written : (access : PortAccess) (devices : DevicesValue) →
     after_write Clock access devices ≡ record devices { clock = clock_after_write devices.clock access.port access.value }
-unfolding after_write
+unfolding after_write devices_accessed
 clock_written access devices = refl

@@ -1,10 +1,9 @@
 -- Many pulses of the timer leave the pair as two sets of levels do.
 use Rattle.std.proofs.Common.{◌≡◌, ℕ, zero, suc, ◌+◌, ◌/◌, ◌%◌, ◌<◌, ◌==◌, nat_lt, ◌&&◌, ◌||◌, not, Bool, true, false, cond, List, [], ◌∷◌, Option, Some, None, is_some, take, drop, inl, inr, refl, ap, sym, subst, ◌∙◌, arith, lit<, slice_set}
-use Rattle.board_prelude.proofs.Common.{cases_Bool, or_parts, true≢false, nat_tests, Levels, has, levels_where, no_levels, with_level, levels_of_byte, Chip, interrupt, latches_after, chip_after_inputs, acknowledged, chip_after_write, chip_after_read, Pair, settled, master_inputs, pair_at_reset, levels_at_power_on, pair_after_lines, pair_after_write, pair_after_read, pair_acknowledged, pair_acknowledged_at, pair_after_acknowledge, is_slave_port, is_odd_port, PitState, out_of, pulses, rises, PortAccess, Dev, Pic0, Pic1, Event, Port, Ack, Pulses, Reply, Entry, Setup, is_hard_reset, device_reached, timer_of, config_store, byte_of, routes_of, levels_with, levels_of, elcr_of, elcr-same, timer-pulsed, triggers-pulsed, levels-pulsed, pair_pulsed, pair_accessed, pair_after, pair_reset_or_after, pair_stepped, pair_of, pair_has_seen, levels_where-same, has-levels_where, same-levels, inputs-again, settled-asks, settled-quiet, latched}
-use Rattle.board_spec.specs.Registers.{config_address}
+use Rattle.board_prelude.proofs.Common.{cases_Bool, or_parts, true≢false, nat_tests, Levels, has, levels_where, no_levels, with_level, levels_of_byte, Chip, interrupt, latches_after, chip_after_inputs, acknowledged, chip_after_write, chip_after_read, Pair, settled, master_inputs, pair_at_reset, levels_at_power_on, pair_after_lines, pair_after_write, pair_after_read, pair_acknowledged, pair_acknowledged_at, pair_after_acknowledge, is_slave_port, is_odd_port, PitState, out_of, pulses, rises, PortAccess, Dev, Pic0, Pic1, Event, Port, Ack, Pulses, Reply, Entry, Setup, is_hard_reset, device_reached, timer_of, routes_of, levels_with, levels_of, elcr_of, elcr-same, timer-pulsed, triggers-pulsed, levels-pulsed, pair_pulsed, pair_accessed, pair_after, pair_reset_or_after, pair_stepped, pair_of, pair_has_seen, levels_where-same, has-levels_where, same-levels, inputs-again, settled-asks, settled-quiet, latched, pair-pulsed}
 use Rattle.board_devices.specs.Common.{DevicesValue, AreAfter, AreDevicesOf, Asks, lines_at, pair_after_run}
 use Rattle.board_devices.proofs.ChipSteps.{Keeps, write_keeps, acknowledged_keeps, read_keeps}
-use Rattle.board_devices.proofs.DeviceLemmas.{levels_pulsed, other_pair, others_pulsed, all_pulses}
+use Rattle.board_devices.proofs.DeviceLemmas.{with_pair, routes_stand, others_asked, levels_pulsed}
 
 -- ---- the latch of line 0 at the master
 
@@ -304,10 +303,7 @@ same_run levels lines elcr bits n m out level pair same a b c d e = rw (a, b, c,
 -- no route moves
 pub routes_pulsed : (setup : Setup) (history : List Entry) (entry : Entry) (count : ℕ) → Asks history entry (Pulses count) →
     routes_of setup (entry ∷ history) ≡ routes_of setup history
-unfolding byte_of
-routes_pulsed setup history entry count asks =
-    let none : config_store setup (config_address history) entry.event ≡ None = rw asks.event_is refl in
-    rw (asks.soft, none) refl
+routes_pulsed setup history entry count asks = routes_stand setup history entry asks.soft (rw asks.event_is refl)
 
 -- `run` are the devices whose timer alone ran
 module _ (setup : Setup) (history : List Entry) (entry : Entry) (old run : DevicesValue) (count : ℕ) (are : AreDevicesOf setup history old) (asks : Asks history entry (Pulses count)) (is : run ≡ record old { timer = pulses count old.timer }) where
@@ -342,17 +338,16 @@ module _ (setup : Setup) (history : List Entry) (entry : Entry) (old run : Devic
   pub after_run : AreAfter setup (entry ∷ history) run
   after_run =
       subst (λ (d : DevicesValue). AreAfter setup (entry ∷ history) d) (sym is)
-      (others_pulsed setup history entry old (pulses count old.timer) old.pair count are.others asks refl)
+      (others_asked setup history entry (Pulses count) asks old tt are.others)
 
   whole : (devices : DevicesValue) → devices ≡ record run { pair = devices.pair } → devices.pair ≡ pair_pulsed setup history count saw →
       AreDevicesOf setup (entry ∷ history) devices
-  whole devices others pair =
-      all_pulses setup history entry old devices count are asks
-      (record {
-        timer = ap (λ (d : DevicesValue). d.timer) others ∙ ap (λ (d : DevicesValue). d.timer) is;
-        pair = pair;
-        others = other_pair old devices (pulses count old.timer) devices.pair (others ∙ ap (λ (d : DevicesValue). record d { pair = devices.pair }) is);
-      })
+  whole devices others pair = record {
+    others =
+        subst (λ (d : DevicesValue). AreAfter setup (entry ∷ history) d) (sym others)
+        (with_pair setup (entry ∷ history) run devices.pair after_run);
+    pair = pair ∙ sym (pair-pulsed setup history entry count asks.event_is);
+  }
 
   -- the lines then reach the pair
   pub gave : (devices : DevicesValue) (rose : ℕ) (out : Bool) → rose ≡ rises count old.timer → out ≡ out_of 0 (pulses count old.timer) →

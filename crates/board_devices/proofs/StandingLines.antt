@@ -1,17 +1,14 @@
 -- Events that move no line: the lines reach the pair as it saw them, and leave it.
 use Rattle.std.proofs.Common.{◌≡◌, ℕ, ◌/◌, ◌%◌, ◌==◌, ◌&&◌, ◌||◌, not, Bool, true, false, cond, List, [], ◌∷◌, Option, Some, None, length, take, drop, refl, sym, ap, subst, ◌∙◌, inl, inr, is_some, arith}
-use Rattle.board_prelude.proofs.Common.{cases_Bool, and-true, and-false, nat_tests, true≢false, is_bit, Levels, has, levels_of_byte, levels_where-same, Chip, interrupt, latches_after, chip_after_inputs, acknowledged, acknowledged_if, chip_after_write, chip_after_read, Pair, settled, master_inputs, pair_after_lines, pair_written, pair_read, pair_after_write, pair_after_read, pair_acknowledged, pair_acknowledged_at, pair_after_acknowledge, is_slave_port, is_odd_port, same-levels, settled-asks, settled-quiet, latched, PairHasSeen, PortAccess, Dev, Pic0, Pic1, Pit, System, Keyboard, Elcr, Ata, Wires, Vector, Spurious, bytes_of, list_any, option_map_or, PitState, out_of, set_gate2, port_read, Disk, Event, Port, Ack, Reply, Entry, Setup, is_free_line, is_hard_reset, is_config_port, device_reached, timer_accessed, timer_of, clock_of, triggers_of, disk_of, wire_set, line_set, irq_of, pirq_levels, level_with, all_lines, levels_with, is_line_driven, config_store, byte_of, routes_of, levels_of, elcr_of, pair_accessed, pair_after, pair_of, map-same, elcr-same, pair_has_seen}
-use Rattle.board_prelude.specs.Common.{is_interrupt}
-use Rattle.device_spec.specs.Clock.{interrupt_line}
-use Rattle.board_spec.specs.Interrupts.{card_devices, pirq_level, pirq_of_card, pirqs}
+use Rattle.board_prelude.proofs.Common.{cases_Bool, and-true, and-false, nat_tests, true≢false, is_bit, Levels, has, levels_of_byte, levels_where-same, Chip, interrupt, latches_after, chip_after_inputs, acknowledged, acknowledged_if, chip_after_write, chip_after_read, Pair, settled, master_inputs, pair_after_lines, pair_written, pair_read, pair_after_write, pair_after_read, pair_acknowledged, pair_acknowledged_at, pair_after_acknowledge, is_slave_port, is_odd_port, same-levels, settled-asks, settled-quiet, latched, PortAccess, Dev, Pic0, Pic1, Pit, System, Elcr, Ata, bytes_of, PitState, out_of, set_gate2, port_read, Event, Port, Ack, Reply, Entry, Setup, is_hard_reset, is_config_port, device_reached, timer_accessed, triggers_of, config_store, levels_of, elcr_of, pair_accessed, pair_after, pair_of, pair_has_seen, Triggers, triggers_accessed}
 use Rattle.device_spec.specs.Pit.{Access, LowByte, HighByte, LowThenHigh, CounterState, read, read_live}
 use Rattle.device_spec.specs.PortNames.{counter0_port, counter1_port, counter2_port}
 use Rattle.device_spec.proofs.Common.{levels_where-has}
 use Rattle.board_spec.specs.Registers.{config_address}
-use Rattle.board_base.specs.declared.target.Dev.TheVariants.{Confadd, Reset, Clock}
-use Rattle.board_devices.specs.Common.{DevicesValue, AreAfter, AreDevicesOf, driven, level_driven, sets_triggers, AccessLeavesLines, StillLeavesLines, AcknowledgeLeavesLines, is_chip_port, moves_lines, ReachesDevice, Asks}
+use Rattle.board_base.specs.declared.target.Dev.TheVariants.{Clock}
+use Rattle.board_devices.specs.Common.{DevicesValue, AreAfter, AreDevicesOf, driven, level_driven, sets_triggers, AccessLeavesLines, StillLeavesLines, AcknowledgeLeavesLines, is_chip_port, moves_lines, ReachesDevice, devices_accessed}
 use Rattle.board_devices.proofs.ChipSteps.{Keeps, eight, unmoved, write_keeps, read_keeps, acknowledged_keeps, acknowledged_if_keeps}
-use Rattle.board_devices.proofs.DeviceLemmas.{at_port, same_disk, stood_as, timer_at, clock_at, disk_at, triggers_at, timer_soft, clock_soft, triggers_soft, disk_soft, wire_step, irq_step, pair_soft, NotPulses}
+use Rattle.board_devices.proofs.DeviceLemmas.{stood_as, pair_soft, with_pair, SetsNoLevel, Stays, stays_as, passing, lines_stand, routes_stand, others_asked, port_asked, reached_as, devices_after, devices_of, they_are, driven_is}
 
 -- ---- a chip whose inputs stand
 
@@ -182,66 +179,19 @@ gate_out : (on : Bool) (timer : PitState) → out_of 0 (set_gate2 on timer) ≡ 
 unfolding set_gate2 out_of
 gate_out on timer = refl
 
--- ---- the lines after an event that moves none
+-- ---- the pair after an event that moves no line
 
-any-same : (p q : ℕ → Bool) (xs : List ℕ) → ((x : ℕ) → p x ≡ q x) → list_any p xs ≡ list_any q xs
-any-same p q [] same = refl
-any-same p q (x ∷ xs) same =
-    ap (λ (b : Bool). b || list_any p xs) (same x) ∙ ap (λ (b : Bool). q x || b) (any-same p q xs same)
-
-abbrev disk_level : Option Disk → Bool
-disk_level disk = option_map_or (λ disk. is_interrupt disk.drive) disk false
-
--- what drives the lines after an entry is at the levels from before it, and the same ones are level triggered
-record Stays (setup : Setup) (history : List Entry) (entry : Entry) : Type 0 where
-  out : out_of 0 (timer_of (entry ∷ history)) ≡ out_of 0 (timer_of history)
-  clock : interrupt_line (clock_of (entry ∷ history)) ≡ interrupt_line (clock_of history)
-  disk : disk_level (disk_of setup (entry ∷ history)) ≡ disk_level (disk_of setup history)
-  triggers : triggers_of (entry ∷ history) ≡ triggers_of history
-
--- what an event does to the levels set from outside and to the routes: nothing
-record Stills (event : Event) : Type 0 where
-  wire : (dev : ℕ) → wire_set dev event ≡ None
-  line : (line : ℕ) → line_set line event ≡ None
-  store : (setup : Setup) (address : ℕ) → config_store setup address event ≡ None
-  still : NotPulses event
-
-module _ (setup : Setup) (history : List Entry) (entry : Entry) (soft : is_hard_reset history entry.event ≡ false) (stills : Stills entry.event) (stays : Stays setup history entry) where
-  routes_stand : routes_of setup (entry ∷ history) ≡ routes_of setup history
-  unfolding byte_of
-  routes_stand = rw (soft, stills.store setup (config_address history)) refl
-
-  pins_stand : pirq_levels (entry ∷ history) ≡ pirq_levels history
-  pins_stand =
-      map-same (pirq_level (entry ∷ history)) (pirq_level history) pirqs
-      (λ k. any-same _ _ card_devices (λ dev. ap (λ (b : Bool). pirq_of_card dev == k && b) (wire_step setup history entry soft dev (stills.wire dev))))
-
-  level_stands : (line : ℕ) → level_with setup (entry ∷ history) (timer_of (entry ∷ history)) line ≡ level_with setup history (timer_of history) line
-  level_stands line =
-      let out = stays.out in
-      let clock = stays.clock in
-      let disk = stays.disk in
-      let free : (is_free_line line && irq_of (entry ∷ history) line) ≡ (is_free_line line && irq_of history line) =
-      ap (λ (b : Bool). is_free_line line && b) (irq_step setup history entry soft line (stills.line line)) in
-      let driven : is_line_driven (routes_of setup (entry ∷ history)) (pirq_levels (entry ∷ history)) line ≡ is_line_driven (routes_of setup history) (pirq_levels history) line =
-      ap (λ (routes : List ℕ). is_line_driven routes (pirq_levels (entry ∷ history)) line) routes_stand
-      ∙ ap (λ (levels : List Bool). is_line_driven (routes_of setup history) levels line) pins_stand in
-      rw (out, clock, disk, free, driven) refl
-
-  levels_stand : levels_of setup (entry ∷ history) ≡ levels_of setup history
-  unfolding levels_with
-  levels_stand = map-same _ _ all_lines level_stands
-
-  elcr_stands : elcr_of (entry ∷ history) ≡ elcr_of history
-  elcr_stands = elcr-same (entry ∷ history) history stays.triggers
-
-  -- the pair is then as the event itself made it
-  pair_stands : PairHasSeen → pair_of setup (entry ∷ history) ≡ pair_after entry.event entry.reply (pair_of setup history)
-  pair_stands seen =
-      pair_soft setup history entry soft stills.still
-      ∙ (ap (λ (l : List Bool). pair_after_lines (pair_after entry.event entry.reply (pair_of setup history)) l (elcr_of (entry ∷ history))) levels_stand
-      ∙ (ap (λ (e : ℕ). pair_after_lines (pair_after entry.event entry.reply (pair_of setup history)) (levels_of setup history) e) elcr_stands
-      ∙ event_again (levels_of setup history) (elcr_of history) entry.event entry.reply (pair_of setup history) (seen setup history)))
+-- it is as the event itself made it
+pair_stands : (setup : Setup) (history : List Entry) (entry : Entry) → is_hard_reset history entry.event ≡ false →
+    SetsNoLevel entry.event → config_store setup (config_address history) entry.event ≡ None →
+    Stays setup history entry →
+    pair_of setup (entry ∷ history) ≡ pair_after entry.event entry.reply (pair_of setup history)
+pair_stands setup history entry soft sets none stays =
+    pair_soft setup history entry soft sets.still
+    ∙ (lines_stand setup history entry sets stays (routes_stand setup history entry soft none)
+    (pair_after entry.event entry.reply (pair_of setup history))
+    ∙ event_again (levels_of setup history) (elcr_of history) entry.event entry.reply (pair_of setup history)
+    (pair_has_seen same-levels setup history))
 
 -- ---- accesses
 
@@ -249,171 +199,131 @@ system_out : (access : PortAccess) (t : PitState) → out_of 0 (timer_accessed (
 system_out access t =
     elim (cases_Bool access.write) [ inl writes ↦ rw writes (gate_out (is_bit access.value 0) t) | inr reads ↦ rw reads refl ]
 
--- an access leaves all but the level that its device drives
-module _ (setup : Setup) (history : List Entry) (entry : Entry) (access : PortAccess) where
-  abbrev At : Dev → Type 0
-  At dev = ReachesDevice history entry dev access
+-- an access leaves the level that every other device drives
+others_drive : (other dev : Dev) (access : PortAccess) (devices : DevicesValue) →
+    driven dev (devices_accessed (Some dev) access devices) ≡ driven dev devices →
+    driven other (devices_accessed (Some dev) access devices) ≡ driven other devices
+unfolding devices_accessed
+others_drive Pit Pit access devices level = level
+others_drive Pit System access devices level = system_out access devices.timer
+others_drive Clock Clock access devices level = level
+others_drive Ata Ata access devices level = level
+others_drive _ _ access devices level = refl
 
-  abbrev LevelStands : Dev → Type 0
-  LevelStands dev = level_driven dev setup (entry ∷ history) ≡ level_driven dev setup history
+-- one that can move no line leaves the level of its own device
+own_stands : (dev : Dev) (access : PortAccess) (devices : DevicesValue) → moves_lines dev access.write ≡ false →
+    driven dev (devices_accessed (Some dev) access devices) ≡ driven dev devices
+unfolding devices_accessed
+own_stands Pit access devices reads = rw reads (port_read_out access.port devices.timer)
+own_stands Clock access devices moves = absurd (true≢false moves)
+own_stands Ata access devices moves = absurd (true≢false moves)
+own_stands _ access devices none = refl
 
-  abbrev StaysBy : Dev → Type 0
-  StaysBy dev = At dev → (access.write && sets_triggers dev) ≡ false → LevelStands dev → Stays setup history entry
+triggers_stay : (dev : Dev) (access : PortAccess) (triggers : Triggers) → (access.write && sets_triggers dev) ≡ false →
+    triggers_accessed (Some dev) access triggers ≡ triggers
+triggers_stay Elcr access triggers none =
+    let reads : access.write ≡ false = sym (and-true access.write) ∙ none in rw reads refl
+triggers_stay _ access triggers none = refl
 
-  stays_by : (dev : Dev) → is_chip_port dev access.port (bytes_of access.width) ≡ true → StaysBy dev
-  stays_by dev port =
-      at_port StaysBy dev access port
-      (λ at none level. record {
-        out = ap (λ t. out_of 0 t) (timer_at setup history entry Pic0 access at);
-        clock = ap interrupt_line (clock_at setup history entry Pic0 access at);
-        disk = ap disk_level (disk_at setup history entry Pic0 access at ∙ sym (same_disk (disk_of setup history)));
-        triggers = triggers_at setup history entry Pic0 access at;
-      })
-      (λ at none level. record {
-        out = ap (λ t. out_of 0 t) (timer_at setup history entry Pic1 access at);
-        clock = ap interrupt_line (clock_at setup history entry Pic1 access at);
-        disk = ap disk_level (disk_at setup history entry Pic1 access at ∙ sym (same_disk (disk_of setup history)));
-        triggers = triggers_at setup history entry Pic1 access at;
-      })
-      (λ at none level. record {
-        out = level;
-        clock = ap interrupt_line (clock_at setup history entry Pit access at);
-        disk = ap disk_level (disk_at setup history entry Pit access at ∙ sym (same_disk (disk_of setup history)));
-        triggers = triggers_at setup history entry Pit access at;
-      })
-      (λ at none level. record {
-        out = ap (λ t. out_of 0 t) (timer_at setup history entry System access at) ∙ system_out access (timer_of history);
-        clock = ap interrupt_line (clock_at setup history entry System access at);
-        disk = ap disk_level (disk_at setup history entry System access at ∙ sym (same_disk (disk_of setup history)));
-        triggers = triggers_at setup history entry System access at;
-      })
-      (λ at none level. record {
-        out = ap (λ t. out_of 0 t) (timer_at setup history entry Clock access at);
-        clock = level;
-        disk = ap disk_level (disk_at setup history entry Clock access at ∙ sym (same_disk (disk_of setup history)));
-        triggers = triggers_at setup history entry Clock access at;
-      })
-      (λ at none level. record {
-        out = ap (λ t. out_of 0 t) (timer_at setup history entry Elcr access at);
-        clock = ap interrupt_line (clock_at setup history entry Elcr access at);
-        disk = ap disk_level (disk_at setup history entry Elcr access at ∙ sym (same_disk (disk_of setup history)));
-        triggers = let reads : access.write ≡ false = sym (and-true access.write) ∙ none in triggers_at setup history entry Elcr access at ∙ rw reads refl;
-      })
-      (λ at none level. record {
-        out = ap (λ t. out_of 0 t) (timer_at setup history entry Ata access at);
-        clock = ap interrupt_line (clock_at setup history entry Ata access at);
-        disk = level;
-        triggers = triggers_at setup history entry Ata access at;
-      })
-
-  -- one that can move no line moves none
-  moves_none : (dev : Dev) → is_chip_port dev access.port (bytes_of access.width) ≡ true → At dev → moves_lines dev access.write ≡ false → LevelStands dev
-  moves_none dev port =
-      at_port (λ d. At d → moves_lines d access.write ≡ false → LevelStands d) dev access port
-      (λ at none. refl) (λ at none. refl)
-      (λ at reads.
-      ap (λ t. out_of 0 t) (timer_at setup history entry Pit access at)
-      ∙ rw reads (port_read_out access.port (timer_of history)))
-      (λ at none. refl) (λ at moves. absurd (true≢false moves)) (λ at none. refl) (λ at moves. absurd (true≢false moves))
-
-  triggers_none : (dev : Dev) → is_chip_port dev access.port (bytes_of access.width) ≡ true → moves_lines dev access.write ≡ false → (access.write && sets_triggers dev) ≡ false
-  triggers_none dev port =
-      at_port (λ d. moves_lines d access.write ≡ false → (access.write && sets_triggers d) ≡ false) dev access port
-      (λ none. and-false access.write) (λ none. and-false access.write) (λ none. and-false access.write) (λ none. and-false access.write)
-      (λ none. and-false access.write) (λ reads. and-true access.write ∙ reads) (λ none. and-false access.write)
+triggers_none : (dev : Dev) (write : Bool) → moves_lines dev write ≡ false → (write && sets_triggers dev) ≡ false
+triggers_none Elcr write reads = and-true write ∙ reads
+triggers_none _ write none = and-false write
 
 -- a port of a device is none of configuration data
 no_config_port : (dev : Dev) (port bytes : ℕ) → is_chip_port dev port bytes ≡ true → is_config_port port ≡ false
 no_config_port Pic0 port bytes is = grind (arith, nat_tests)
-no_config_port Pic1 port bytes is = grind (arith, nat_tests)
-no_config_port Pit port bytes is = grind (arith, nat_tests)
-no_config_port System port bytes is = grind (arith, nat_tests)
-no_config_port Clock port bytes is = grind (arith, nat_tests)
-no_config_port Elcr port bytes is = grind (arith, nat_tests)
-no_config_port Ata port bytes is = grind (arith, nat_tests)
-no_config_port Confadd port bytes is = absurd (true≢false (sym is))
-no_config_port Reset port bytes is = absurd (true≢false (sym is))
-no_config_port Keyboard port bytes is = absurd (true≢false (sym is))
-no_config_port Wires port bytes is = absurd (true≢false (sym is))
-no_config_port (Vector chip) port bytes is = absurd (true≢false (sym is))
-no_config_port (Spurious chip) port bytes is = absurd (true≢false (sym is))
+no_config_port _ port bytes is = grind (arith, nat_tests)
 
-no_store : (setup : Setup) (address : ℕ) (access : PortAccess) → is_config_port access.port ≡ false → config_store setup address (Port access) ≡ None
+no_store : (setup : Setup) (address : ℕ) (access : PortAccess) → is_config_port access.port ≡ false →
+    config_store setup address (Port access) ≡ None
 no_store setup address access other = rw (other, and-false access.write) refl
 
-access_stills : (event : Event) (dev : Dev) (access : PortAccess) → event ≡ Port access → is_chip_port dev access.port (bytes_of access.width) ≡ true → Stills event
-access_stills event dev access is port =
-    subst (λ (e : Event). Stills e) (sym is)
-    (record {
-      wire = λ n. refl;
-      line = λ n. refl;
-      store = λ setup address. no_store setup address access (no_config_port dev access.port (bytes_of access.width) port);
-      still = tt;
-    })
+module _ (setup : Setup) (history : List Entry) (entry : Entry) (dev : Dev) (access : PortAccess)
+    (reaches : ReachesDevice history entry dev access) where
+  abbrev old : DevicesValue
+  old = devices_of setup history
 
-pub still_leaves_lines : PairHasSeen → StillLeavesLines
-still_leaves_lines seen setup history entry dev access port reaches none level =
-    let reached : pair_after entry.event entry.reply (pair_of setup history) ≡ pair_accessed (Some dev) access (pair_of setup history) =
-    rw (reaches.event, reaches.device) refl in
-    pair_stands setup history entry reaches.soft (access_stills entry.event dev access reaches.event port)
-    (stays_by setup history entry access dev port reaches none level) seen
-    ∙ reached
+  abbrev next : DevicesValue
+  next = devices_accessed (Some dev) access old
 
-pub access_leaves_lines : PairHasSeen → AccessLeavesLines
-access_leaves_lines seen setup history entry dev access port reaches none =
-    still_leaves_lines seen setup history entry dev access port reaches
-    (triggers_none setup history entry access dev port none) (moves_none setup history entry access dev port reaches none)
+  were : AreAfter setup history old
+  were = they_are setup history
+
+  are : AreAfter setup (entry ∷ history) next
+  are =
+      subst (λ (d : DevicesValue). AreAfter setup (entry ∷ history) d) (sym (reached_as reaches old))
+      (others_asked setup history entry (Port access) (port_asked reaches) old tt were)
+
+  stays_by : (access.write && sets_triggers dev) ≡ false →
+      level_driven dev setup (entry ∷ history) ≡ level_driven dev setup history → Stays setup history entry
+  unfolding devices_accessed
+  stays_by none level =
+      let still : driven dev next ≡ driven dev old =
+      driven_is setup (entry ∷ history) next are dev ∙ (level ∙ sym (driven_is setup history old were dev)) in
+      record {
+        level = λ other.
+            sym (driven_is setup (entry ∷ history) next are other)
+            ∙ (others_drive other dev access old still ∙ driven_is setup history old were other);
+        triggers = sym are.triggers ∙ triggers_stay dev access (triggers_of history) none;
+      }
+
+  own_level_stands : moves_lines dev access.write ≡ false →
+      level_driven dev setup (entry ∷ history) ≡ level_driven dev setup history
+  own_level_stands none =
+      sym (driven_is setup (entry ∷ history) next are dev)
+      ∙ (own_stands dev access old none ∙ driven_is setup history old were dev)
+
+  still_stands : is_chip_port dev access.port (bytes_of access.width) ≡ true →
+      (access.write && sets_triggers dev) ≡ false →
+      level_driven dev setup (entry ∷ history) ≡ level_driven dev setup history →
+      pair_of setup (entry ∷ history) ≡ pair_after (Port access) entry.reply (pair_of setup history)
+  still_stands port none level =
+      let sets : SetsNoLevel entry.event =
+      subst (λ (e : Event). SetsNoLevel e) (sym reaches.event) (passing (Port access) None refl) in
+      let none_there : is_config_port access.port ≡ false =
+      no_config_port dev access.port (bytes_of access.width) port in
+      let store : config_store setup (config_address history) entry.event ≡ None =
+      rw reaches.event (no_store setup (config_address history) access none_there) in
+      pair_stands setup history entry reaches.soft sets store (stays_by none level)
+      ∙ ap (λ (e : Event). pair_after e entry.reply (pair_of setup history)) reaches.event
+
+pub still_leaves_lines : StillLeavesLines
+still_leaves_lines setup history entry dev access port reaches none level =
+    still_stands setup history entry dev access reaches port none level
+    ∙ ap (λ (reached : Option Dev). pair_accessed reached access (pair_of setup history)) reaches.device
+
+pub access_leaves_lines : AccessLeavesLines
+access_leaves_lines setup history entry dev access port reaches none =
+    still_leaves_lines setup history entry dev access port reaches (triggers_none dev access.write none)
+    (own_level_stands setup history entry dev access reaches none)
+
+-- the devices after an access that moved no line
+pub still_as : (setup : Setup) (history : List Entry) (entry : Entry) (dev : Dev) (access : PortAccess) →
+    is_chip_port dev access.port (bytes_of access.width) ≡ true → ReachesDevice history entry dev access →
+    (access.write && sets_triggers dev) ≡ false → (old after : DevicesValue) → AreDevicesOf setup history old →
+    after ≡ devices_after (Port access) entry.reply old → driven dev after ≡ driven dev old →
+    AreDevicesOf setup (entry ∷ history) after
+still_as setup history entry dev access port reaches none old after is made same =
+    let asks = port_asked reaches in
+    let are : AreAfter setup (entry ∷ history) after =
+    subst (λ (d : DevicesValue). AreAfter setup (entry ∷ history) d) (sym made)
+    (others_asked setup history entry (Port access) asks old tt is.others) in
+    let level : level_driven dev setup (entry ∷ history) ≡ level_driven dev setup history =
+    sym (driven_is setup (entry ∷ history) after are dev) ∙ (same ∙ driven_is setup history old is.others dev) in
+    stood_as setup history entry (Port access) asks
+    (still_stands setup history entry dev access reaches port none level) old after tt is made
 
 -- ---- acknowledges
 
-acknowledge_stills : (event : Event) → event ≡ Ack → Stills event
-acknowledge_stills event is =
-    subst (λ (e : Event). Stills e) (sym is)
-    (record { wire = λ n. refl; line = λ n. refl; store = λ setup address. refl; still = tt })
-
-acknowledge_stays : (setup : Setup) (history : List Entry) (entry : Entry) → Asks history entry Ack → Stays setup history entry
-acknowledge_stays setup history entry asks = record {
-  out = ap (λ t. out_of 0 t) (timer_soft setup history entry asks.soft) ∙ rw asks.event_is refl;
-  clock = ap interrupt_line (clock_soft setup history entry asks.soft) ∙ rw asks.event_is refl;
-  disk =
-      let stands : disk_of setup (entry ∷ history) ≡ disk_of setup history =
-      disk_soft setup history entry asks.soft ∙ rw asks.event_is (sym (same_disk (disk_of setup history))) in
-      ap disk_level stands;
-  triggers = triggers_soft setup history entry asks.soft ∙ rw asks.event_is refl;
-}
-
-pub acknowledge_leaves_lines : PairHasSeen → AcknowledgeLeavesLines
-acknowledge_leaves_lines seen setup history entry asks =
-    let asked : pair_after entry.event entry.reply (pair_of setup history) ≡ pair_after_acknowledge (pair_of setup history) = rw asks.event_is refl in
-    pair_stands setup history entry asks.soft (acknowledge_stills entry.event asks.event_is) (acknowledge_stays setup history entry asks) seen ∙ asked
-
--- ---- the devices after an access that moved no line
-
--- the level that a device drives is that after the history
-driven_is : (setup : Setup) (history : List Entry) (devices : DevicesValue) → AreAfter setup history devices → (dev : Dev) →
-    driven dev devices ≡ level_driven dev setup history
-driven_is setup history devices are Pit = ap (λ t. out_of 0 t) are.timer
-driven_is setup history devices are Clock = ap interrupt_line are.clock
-driven_is setup history devices are Ata = ap disk_level are.disk
-driven_is setup history devices are Pic0 = refl
-driven_is setup history devices are Pic1 = refl
-driven_is setup history devices are System = refl
-driven_is setup history devices are Elcr = refl
-driven_is setup history devices are Confadd = refl
-driven_is setup history devices are Reset = refl
-driven_is setup history devices are Keyboard = refl
-driven_is setup history devices are Wires = refl
-driven_is setup history devices are (Vector chip) = refl
-driven_is setup history devices are (Spurious chip) = refl
-
-pub still_as : (setup : Setup) (history : List Entry) (entry : Entry) (dev : Dev) (access : PortAccess) → is_chip_port dev access.port (bytes_of access.width) ≡ true →
-    ReachesDevice history entry dev access → (access.write && sets_triggers dev) ≡ false →
-    (old next after : DevicesValue) → AreDevicesOf setup history old → after ≡ next → AreAfter setup (entry ∷ history) next →
-    next.pair ≡ pair_accessed (Some dev) access old.pair → driven dev after ≡ driven dev old → AreDevicesOf setup (entry ∷ history) after
-still_as setup history entry dev access port reaches none old next after is made others pair same =
-    let are : AreAfter setup (entry ∷ history) after = subst (λ (d : DevicesValue). AreAfter setup (entry ∷ history) d) (sym made) others in
-    let level : level_driven dev setup (entry ∷ history) ≡ level_driven dev setup history =
-    sym (driven_is setup (entry ∷ history) after are dev) ∙ (same ∙ driven_is setup history old is.others dev) in
-    stood_as setup history entry (λ p. pair_accessed (Some dev) access p)
-    (still_leaves_lines (pair_has_seen same-levels) setup history entry dev access port reaches none level)
-    old next after is made others pair
+pub acknowledge_leaves_lines : AcknowledgeLeavesLines
+acknowledge_leaves_lines setup history entry asks =
+    let old = devices_of setup history in
+    let were = they_are setup history in
+    let are : AreAfter setup (entry ∷ history) old =
+    with_pair setup (entry ∷ history) (devices_after Ack entry.reply old) old.pair
+    (others_asked setup history entry Ack asks old tt were) in
+    let sets : SetsNoLevel entry.event =
+    subst (λ (e : Event). SetsNoLevel e) (sym asks.event_is)
+    (record { wire = λ n. refl; line = λ n. refl; room = λ d. tt; still = tt }) in
+    pair_stands setup history entry asks.soft sets (rw asks.event_is refl) (stays_as setup history entry old were are)
+    ∙ ap (λ (e : Event). pair_after e entry.reply (pair_of setup history)) asks.event_is

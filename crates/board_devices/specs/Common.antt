@@ -4,5 +4,5 @@ pub use Rattle.board_devices.specs.Events.{Asks, Leaves, PassesBy, ReachesDevice
 pub use Rattle.board_devices.specs.Laws.{AccessLeavesLines, AcknowledgeLeavesLines, LeavesDevices, StillLeavesLines}
 pub use Rattle.board_devices.specs.Outside.{PutsClockByte, WritesClock, byte_out}
 pub use Rattle.board_devices.specs.PulsedPair.{lines_at, pair_after_run}
-unfoldable pub use Rattle.board_devices.specs.Steps.{after_read, after_write, value_read}
-pub use Rattle.board_devices.specs.Steps.{driven}
+unfoldable pub use Rattle.board_devices.specs.Steps.{after_read, after_write, devices_accessed, value_read}
+pub use Rattle.board_devices.specs.Steps.{driven, fitted_accessed}

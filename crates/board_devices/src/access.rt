@@ -87,7 +87,7 @@ impl Devices {
     }
 
     /// Reads a port of a device.
-    #[tactic(auto, unfolding(crate::specs::Steps::value_read, crate::specs::Steps::after_read))]
+    #[tactic(auto, unfolding(crate::specs::Steps::value_read, crate::specs::Steps::after_read, crate::specs::Steps::devices_accessed))]
     fn read_port(&mut self, dev: Dev, access: &PortAccess) -> u32
         requires port { is_chip_port dev access.now.port (bytes_of access.now.width) ≡ true }
         ensures value { result ≡ value_read dev access.now self.old }
@@ -121,7 +121,7 @@ impl Devices {
     }
 
     /// Writes a port of a device.
-    #[tactic(auto, unfolding(crate::specs::Steps::after_write))]
+    #[tactic(auto, unfolding(crate::specs::Steps::after_write, crate::specs::Steps::devices_accessed))]
     pub(crate) fn write_port(&mut self, dev: Dev, access: &PortAccess)
         requires port { is_chip_port dev access.now.port (bytes_of access.now.width) ≡ true }
         requires fits { access.now.value ≤ largest_of access.now.width }

@@ -9,7 +9,6 @@ ghost use Rattle.board_devices.specs.Laws.{AccessLeavesLines, StillLeavesLines, 
 
 use crate::devices::Devices;
 use board_base::Dev;
-use board_spec::laws::devices::law_pair;
 use pic_pair::Lines;
 use pirq_router::Pirq;
 
@@ -129,15 +128,11 @@ impl Devices {
 /// pair last saw them.
 pub fn law_left_alone()
     ensures left { LeavesDevices }
-{
-    law_pair();
-}
+{}
 
 /// An access that can move no line, one that moved none, and an acknowledge leave the pair as they themselves made it.
 pub fn law_lines_stand()
     ensures access { AccessLeavesLines }
     ensures still { StillLeavesLines }
     ensures acknowledge { AcknowledgeLeavesLines }
-{
-    law_pair();
-}
+{}

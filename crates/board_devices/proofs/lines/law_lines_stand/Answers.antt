@@ -2,4 +2,4 @@ use Rattle.board_devices.proofs.StandingLines.{access_leaves_lines, still_leaves
 use Rattle.board_devices.proofs.lines.law_lines_stand.Goals as goal
 
 pub returns : goal.returns
-returns c = record { access = access_leaves_lines c.law_pair.ensures.seen; still = still_leaves_lines c.law_pair.ensures.seen; acknowledge = acknowledge_leaves_lines c.law_pair.ensures.seen }
+returns c = record { access = access_leaves_lines; still = still_leaves_lines; acknowledge = acknowledge_leaves_lines }

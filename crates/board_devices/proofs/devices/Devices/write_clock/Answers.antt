@@ -1,8 +1,8 @@
-use Rattle.std.proofs.Common.{rules, ◌≡◌, ◌∙◌, ◌∷◌, ℕ, Some, refl, ap, sym}
+use Rattle.std.proofs.Common.{rules, ◌≡◌, ◌∙◌, ◌∷◌, ℕ, refl, ap, sym}
 use Rattle.board_base.specs.declared.target.Dev.TheVariants.{Clock}
-use Rattle.board_prelude.proofs.Common.{Clock as ClockState, pair_accessed}
+use Rattle.board_prelude.proofs.Common.{Clock as ClockState, Port}
 use Rattle.board_devices.specs.Common.{DevicesValue, after_write, byte_out}
-use Rattle.board_devices.proofs.DeviceLemmas.{write_at, write_pair, pair_at, lined_as}
+use Rattle.board_devices.proofs.DeviceLemmas.{port_asked, write_as, lined_as}
 use Rattle.board_devices.proofs.OutsideLemmas.{clock_written}
 use Rattle.board_devices.proofs.devices.Devices.write_clock.Goals as goal
 
@@ -33,7 +33,6 @@ returns-clause-devices c = λ setup history entry is writes.
     let value : c.from.result ≡ c.args.byte = search rules in
     let after : c.write_port.new.self ≡ after_write Clock access old =
     c.write_port.ensures.after ∙ ap (λ (v : ℕ). after_write Clock (byte_out c.args.port v) old) value in
-    lined_as setup history entry (λ pair. pair_accessed (Some Clock) access pair) (pair_at setup history entry Clock access writes.reaches)
-    old (after_write Clock access old) c.write_port.new.self c.settle.new.self is after
-    (write_at setup history entry Clock access old c.requires.port refl writes.reaches is.others) (write_pair Clock access old refl c.requires.port)
+    lined_as setup history entry (Port access) (port_asked writes.reaches) tt old c.write_port.new.self
+    c.settle.new.self tt is (after ∙ write_as writes.reaches refl old)
     c.settle.ensures.others (λ others. c.settle.ensures.pair setup (entry ∷ history) others writes.routes_are)
