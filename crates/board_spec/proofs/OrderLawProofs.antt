@@ -1,10 +1,14 @@
 -- The orders in which a script may run: complete, begun, and how a begun history goes on.
-use Rattle.std.proofs.Common.{◌≡◌, ◌≢◌, ℕ, ◌+◌, inl, inr, List, [], ◌∷◌, ◌++◌, length, take, drop, refl, sym, ◌∙◌, ap, subst, arith, append_assoc, map, reverse, filter, ◌==◌}
-use Rattle.device_spec.proofs.Common.{take-append_seam, drop-append_seam, take-append-le, drop-append-le, length-append, take_all, map-append, append-nil, reverse-append, filter-append, cases_lt}
+use Rattle.std.proofs.Common.{◌≡◌, ◌≢◌, ℕ, ◌+◌, inl, inr, List, [], ◌∷◌, ◌++◌, length, take, drop, refl, sym, ◌∙◌, ap}
+use Rattle.std.proofs.Common.{subst, arith, append_assoc, map, reverse, filter, ◌==◌}
+use Rattle.device_spec.proofs.Common.{take-append_seam, drop-append_seam, take-append-le, drop-append-le, length-append}
+use Rattle.device_spec.proofs.Common.{take_all, map-append, append-nil, reverse-append, filter-append, cases_lt}
 use Rattle.board_spec.specs.declared.event.Event.{Event}
 use Rattle.board_spec.specs.declared.event.Entry.{Entry}
 use Rattle.board_spec.specs.declared.event.Statement.{Statement}
-use Rattle.board_spec.specs.Common.{statement_of, statements_of, events_by, BeginsWith, IsWholePhase, IsFrontOfPhase, HasPhases, HasPhasesSoFar, in_file_order, ReplayIsComplete, CompleteIsBegun, FrontIsBegun}
+use Rattle.board_spec.specs.Common.{statement_of, statements_of, events_by, BeginsWith, IsWholePhase, IsFrontOfPhase}
+use Rattle.board_spec.specs.Common.{HasPhases, HasPhasesSoFar, in_file_order, ReplayIsComplete, CompleteIsBegun}
+use Rattle.board_spec.specs.Common.{FrontIsBegun}
 
 -- ---- complete
 
@@ -64,7 +68,8 @@ shorter_phase phase first later front = record {
       (subst (BeginsWith (events_by actor phase)) (events-append actor first later) (front.each actor));
 }
 
-pub whole_is_front : (phase : List Statement) (part : List Statement) → IsWholePhase phase part → IsFrontOfPhase phase part
+pub whole_is_front : (phase : List Statement) (part : List Statement) → IsWholePhase phase part →
+    IsFrontOfPhase phase part
 whole_is_front phase part whole = record {
   size = let s = whole.size in omega arith;
   each = λ actor. record { rest = []; whole = sym (whole.each actor) ∙ sym (append-nil (events_by actor part)) };

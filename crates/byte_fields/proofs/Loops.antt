@@ -1,5 +1,6 @@
 -- Reading one value after another, as a loop does.
-use Rattle.std.proofs.Common.{◌≡◌, ℕ, suc, ◌+◌, ◌-◌, ◌<◌, ◌≤◌, List, [], ◌∷◌, ◌++◌, Result, Ok, Err, refl, sym, ap, ◌∙◌, append_assoc, arith}
+use Rattle.std.proofs.Common.{◌≡◌, ℕ, suc, ◌+◌, ◌-◌, ◌<◌, ◌≤◌, List, [], ◌∷◌, ◌++◌, Result, Ok, Err, refl, sym, ap, ◌∙◌}
+use Rattle.std.proofs.Common.{append_assoc, arith}
 use Rattle.std.proofs.lemmas.List.{append-nil}
 use Rattle.byte_fields.specs.Fields.{Reading, then_read, gives}
 
@@ -8,7 +9,8 @@ abbrev pub with_later : {A : Type 0} → (A → Reading (List A)) → A → Read
 with_later later value bytes = then_read (later value bytes) (λ values. gives (value ∷ values))
 
 -- so many values are read one after another. How each is read may depend on those before it
-pub record IsLoop {S A : Type 0} (one : S → Reading A) (next : S → A → S) (many : S → ℕ → Reading (List A)) : Type 0 where
+pub record IsLoop {S A : Type 0} (one : S → Reading A) (next : S → A → S) (many : S → ℕ →
+  Reading (List A)) : Type 0 where
   pub none : (s : S) (bytes : List ℕ) → many s 0 bytes ≡ Ok ([], bytes)
   pub more : (s : S) (n : ℕ) (bytes : List ℕ) →
       many s (suc n) bytes ≡ then_read (one s bytes) (with_later (λ value. many (next s value) n))
