@@ -1,6 +1,8 @@
 -- The bytes of a bank that are kept, and the zeros above them.
-use Rattle.std.proofs.Common.{◌≡◌, ℕ, ◌+◌, ◌-◌, ◌&&◌, List, ◌++◌, length, replicate, inl, inr, ◌∙◌, refl, sym, ap, arith, slice_index, nat_le, nat_lt, if◌then◌else◌}
-use Rattle.board_prelude.proofs.Common.{length-replicate, get_or_append_left, get_or-append_right, get_or_past, get_or-replicate, cases_lt}
+use Rattle.std.proofs.Common.{◌≡◌, ℕ, ◌+◌, ◌-◌, ◌&&◌, List, ◌++◌, length, replicate, inl, inr, ◌∙◌, refl, sym, ap}
+use Rattle.std.proofs.Common.{arith, slice_index, nat_le, nat_lt, if◌then◌else◌}
+use Rattle.board_prelude.proofs.Common.{length-replicate, get_or_append_left, get_or-append_right, get_or_past}
+use Rattle.board_prelude.proofs.Common.{get_or-replicate, cases_lt}
 use Rattle.dram_store.specs.Bank.{bank_size, bank_of, IsPut}
 
 pub zero_at : (count at : ℕ) → slice_index (replicate count 0) at ≡ 0
