@@ -268,7 +268,7 @@ unfolding nearest
 nearest_swap addr found [] ys = refl
 nearest_swap addr found (x ∷ xs) ys =
     nearest_swap addr (nearer addr found x) xs ys ∙ ap (λ (least : Option ℕ). nearest addr least xs)
-        (nearer_past addr x found ys)
+    (nearer_past addr x found ys)
 
 pub in_parts :
     (addr addr' : ℕ) (fixed cards_found all : Option ℕ) (drb : List ℕ) (cards : List CardBytes) → addr' ≡ addr →

@@ -87,7 +87,7 @@ unfolding nearest
 rows_are_far addr least [] near = refl
 rows_are_far addr least (boundary ∷ later) near =
     ap (λ (found : Option ℕ). nearest addr found (map (λ boundary. boundary * boundary_unit) later))
-        (row_is_far addr least boundary near)
+    (row_is_far addr least boundary near)
     ∙ rows_are_far addr least later near
 
 -- ---- the least of the fixed edges

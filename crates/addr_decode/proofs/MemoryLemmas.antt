@@ -125,7 +125,7 @@ either_answers setup bytes addr kind smm dram beside is_dram is_beside =
     ap (λ (other : Area). unwrap_or dram other) is_beside
     ∙ or_beside dram (is_rom_selected (bytes select_register) addr) (memory_claim setup bytes addr)
     ∙ ap (λ (found : Option Area). above_dram found (is_rom_selected (bytes select_register) addr)
-        (memory_claim setup bytes addr)) is_dram
+    (memory_claim setup bytes addr)) is_dram
     ∙ sym (by_parts setup bytes addr kind smm)
 
 -- where DRAM answers nothing denies
@@ -221,7 +221,7 @@ pub no_row_answers : (setup : Setup) (bytes : Bytes) (addr : ℕ) (kind : Kind) 
 no_row_answers setup bytes addr kind smm beside is_row is_beside =
     either_answers setup bytes addr kind smm None beside
     (ap (λ (found : Option ℕ). dram_area found (smram_answers (bytes smram_register) kind smm)
-        (is_shadowed bytes addr kind)
+    (is_shadowed bytes addr kind)
     (is_in (hole_of (bytes hole_register)) addr) addr) is_row)
     is_beside
 
@@ -229,14 +229,14 @@ no_row_answers setup bytes addr kind smm beside is_row is_beside =
 pub master_answers :
     (setup : Setup) (bytes : Bytes) (addr : ℕ) (kind : Kind) (dram : Option Area) (beside : Area) →
     dram ≡ dram_area (row_of bytes addr) false (is_shadowed bytes addr kind)
-        (is_in (hole_of (bytes hole_register)) addr) addr →
+    (is_in (hole_of (bytes hole_register)) addr) addr →
     beside ≡ beside_dram setup bytes addr → unwrap_or dram beside ≡ master_area setup bytes addr kind
 unfolding master_area
 master_answers setup bytes addr kind dram beside is_dram is_beside =
     ap (λ (other : Area). unwrap_or dram other) is_beside
     ∙ or_beside dram (is_rom_selected (bytes select_register) addr) (memory_claim setup bytes addr)
     ∙ ap (λ (found : Option Area). above_dram found (is_rom_selected (bytes select_register) addr)
-        (memory_claim setup bytes addr)) is_dram
+    (memory_claim setup bytes addr)) is_dram
     ∙ sym
     (area_in_order (row_of bytes addr) false (is_open (nibble (bytes (pam_register addr)) (is_high_window addr)) kind)
     (is_in (hole_of (bytes hole_register)) addr) (is_rom_selected (bytes select_register) addr)

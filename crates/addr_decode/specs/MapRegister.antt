@@ -67,7 +67,7 @@ abbrev pub in_card : (off : ℕ) → FittedCard → Option CardRegister
 in_card off card =
     if off == (card_command 0).off then Some Command else
     if is_within (base_register 0 0).off ((base_register 0 5).off + 3) off
-        then Some (Base (off - (base_register 0 0).off)) else
+    then Some (Base (off - (base_register 0 0).off)) else
     if is_some card.rom && is_within (expansion_rom 0).off ((expansion_rom 0).off + 3) off
     then Some (ExpansionRom (off - (expansion_rom 0).off)) else None
 

@@ -58,14 +58,14 @@ pub sector_read-under_way : (m : Medium) (s : ℕ) (d : Drive) → IsUnderWay (s
 unfolding sector_read
 sector_read-under_way m s d =
     either (sectors_of m) (eqb (left_of d.registers) 0) _ _ tt
-        (begin_read-under_way m (moved_to (s + 1) (counted_down d)))
+    (begin_read-under_way m (moved_to (s + 1) (counted_down d)))
 
 pub sector_written-under_way : (m : Medium) (s : ℕ) (d : Drive) →
     IsUnderWay (sectors_of m) (sector_written m s d).activity
 unfolding sector_written
 sector_written-under_way m s d =
     either (sectors_of m) (eqb (left_of d.registers) 0) _ _ tt
-        (begin_write-under_way m true (moved_to (s + 1) (counted_down d)))
+    (begin_write-under_way m true (moved_to (s + 1) (counted_down d)))
 
 abbrev IsOver : Activity → Type 0
 IsOver Ready = Unit {0}
@@ -97,7 +97,7 @@ verified-over : (m : Medium) (left : ℕ) (d : Drive) → IsOver (verified m lef
 verified-over m zero d = end_over m d (readable m (named d.registers)) refl
 verified-over m (suc left) d =
     next_over m left d (λ s. verified-over m left (moved_to (s + 1) (counted_down d)))
-        (readable m (named d.registers)) refl
+    (readable m (named d.registers)) refl
 
 obeyed-under_way : (m : Medium) (code : ℕ) (d : Drive) → IsUnderWay (sectors_of m) (obeyed m code d).activity
 unfolding obeyed
@@ -106,10 +106,10 @@ obeyed-under_way m code d =
     either n (eqb code read_sectors) _ _ (begin_read-under_way m d)
     (either n (eqb code write_sectors) _ _ (begin_write-under_way m false d)
     (either n (eqb code read_verify_sectors) _ _ (over-under_way n (verified m (left_of d.registers) d).activity
-        (verified-over m (left_of d.registers) d))
+    (verified-over m (left_of d.registers) d))
     (either n (eqb code execute_device_diagnostic) _ _ tt
     (either n (eqb code initialize_device_parameters) _ _
-        (either n ((d.registers.count == 63) && (head_of d.registers == 15)) _ _ tt tt)
+    (either n ((d.registers.count == 63) && (head_of d.registers == 15)) _ _ tt tt)
     (either n (eqb code flush_cache) _ _ tt
     (either n (eqb code identify_device) _ _ tt
     (either n (eqb code set_features) _ _ (either n (is_feature d.registers.features) _ _ tt tt) tt)))))))

@@ -27,11 +27,11 @@ length-store xs bytes s h e =
 pub stored_items : {Z : Type 0} (v : Vec ℕ Z) (s : ℕ) (xs ys bytes : List ℕ) → xs ≡ v.items → ys ≡ bytes →
     512 * s + 512 ≤ length v.items → length bytes ≡ 512
     → (with_items v (put_mid (s * 512) (s * 512 + 512 - s * 512) xs ys)).items
-        ≡ take (512 * s) v.items ++ (bytes ++ drop (512 * s + 512) v.items)
+    ≡ take (512 * s) v.items ++ (bytes ++ drop (512 * s + 512) v.items)
 stored_items v s xs ys bytes e f h g =
     let is : put_mid (s * 512) (s * 512 + 512 - s * 512) xs ys
-        ≡ take (512 * s) v.items ++ (bytes ++ drop (512 * s + 512) v.items)
+    ≡ take (512 * s) v.items ++ (bytes ++ drop (512 * s + 512) v.items)
     = rw (e, f, part_put v.items bytes s) refl in
     let fits : length (put_mid (s * 512) (s * 512 + 512 - s * 512) xs ys) ≡ v.len = ap length is
-        ∙ length-store v.items bytes s h g ∙ sym v.ok.0 in
+    ∙ length-store v.items bytes s h g ∙ sym v.ok.0 in
     with_items_is v (put_mid (s * 512) (s * 512 + 512 - s * 512) xs ys) fits ∙ is

@@ -38,9 +38,9 @@ verified-next m s left d h = rw (h, verified) refl
 
 pub verified-more : (m : Medium) (s : ℕ) (d : Drive) → readable m (named d.registers) ≡ Ok s → left_of d.registers ≢ 0
     → verified m (left_of d.registers) d ≡ verified m (left_of (naming (counted d.registers) (s + 1)))
-        (moved_to (s + 1) (counted_down d))
+    (moved_to (s + 1) (counted_down d))
 verified-more m s d h e =
     ap (λ left. verified m left d) (more_left (d.registers.count + 255) e)
     ∙ verified-next m s ((left_of d.registers + 255) % 256) d h
     ∙ ap (λ count. verified m ((count + 255) % 256) (moved_to (s + 1) (counted_down d)))
-        (sym (naming-count (counted d.registers) (s + 1)))
+    (sym (naming-count (counted d.registers) (s + 1)))

@@ -71,7 +71,7 @@ words_rest (suc n) disk s w h e =
     let next : w + 1 ≡ suc w = omega arith in
     ap (λ x. x ∷ words_read (suc n) (word_read (disk_acting disk (Reading s w)))) (word_of-reading disk s w h)
     ∙ ap (λ (x : Disk). word_at disk.medium s w ∷ words_read (suc n) x) (word_read-more disk s w h (omega arith)
-        ∙ ap (λ v. disk_acting disk (Reading s v)) next)
+    ∙ ap (λ v. disk_acting disk (Reading s v)) next)
     ∙ ap (λ xs. word_at disk.medium s w ∷ xs) (words_rest n disk s (suc w) h (omega arith))
 
 after_rest : (n : ℕ) (disk : Disk) (s w : ℕ) → IsChosen disk.drive → w + n ≡ 255
@@ -92,7 +92,7 @@ sector_is_read disk s h e =
 -- one word of a sector that is written
 word_written-bytes : (disk : Disk) (s word : ℕ) (bytes : List ℕ) → IsChosen disk.drive
     → word_written word (disk_acting disk (Writing s bytes))
-        ≡ bytes_written s (bytes ++ word % 256 ∷ word / 256 ∷ []) disk
+    ≡ bytes_written s (bytes ++ word % 256 ∷ word / 256 ∷ []) disk
 unfolding word_written
 word_written-bytes disk s word bytes h = cond-true (is_drq (acting disk.drive (Writing s bytes))) _ _
     (drq-writing disk.drive s bytes h)
@@ -103,19 +103,19 @@ joined bytes rest a b = append_assoc bytes (a ∷ b ∷ []) rest
 words_fill : (words : List ℕ) (word : ℕ) (disk : Disk) (s : ℕ) (bytes : List ℕ) → IsChosen disk.drive →
     length bytes + 2 * length words ≡ 510
     → after_words_written (word ∷ words) (disk_acting disk (Writing s bytes))
-        ≡ written_disk disk s (bytes ++ bytes_of_words (word ∷ words))
+    ≡ written_disk disk s (bytes ++ bytes_of_words (word ∷ words))
 unfolding after_words_written
 words_fill [] word disk s bytes h e =
     word_written-bytes disk s word bytes h
     ∙ cond-true (eqb (length (bytes ++ word % 256 ∷ word / 256 ∷ [])) 512) _ _
-        (eq-eqb (length (bytes ++ word % 256 ∷ word / 256 ∷ [])) 512
-            (omega (arith, length-append bytes (word % 256 ∷ word / 256 ∷ []))))
+    (eq-eqb (length (bytes ++ word % 256 ∷ word / 256 ∷ [])) 512
+    (omega (arith, length-append bytes (word % 256 ∷ word / 256 ∷ []))))
 words_fill (next ∷ words) word disk s bytes h e =
     let more = bytes ++ word % 256 ∷ word / 256 ∷ [] in
     ap (after_words_written (next ∷ words))
     (word_written-bytes disk s word bytes h
     ∙ cond-false (eqb (length more) 512) _ _
-        (ne_eqb (length more) 512 (λ q. omega (arith, length-append bytes (word % 256 ∷ word / 256 ∷ []), q))))
+    (ne_eqb (length more) 512 (λ q. omega (arith, length-append bytes (word % 256 ∷ word / 256 ∷ []), q))))
     ∙ words_fill words next disk s more h (omega (arith, length-append bytes (word % 256 ∷ word / 256 ∷ [])))
     ∙ ap (written_disk disk s) (joined bytes (bytes_of_words (next ∷ words)) (word % 256) (word / 256))
 
@@ -140,14 +140,14 @@ words_known [] m s from h a e = refl
 words_known (word ∷ words) m s from h a e =
     let low : get_or (sector_bytes m s) (2 * from) 0 ≡ word % 256 =
     ap (λ i. get_or (sector_bytes m s) i 0) (omega arith) ∙ sym (get_or-drop (2 * from) (sector_bytes m s) 0 0)
-        ∙ ap (λ xs. get_or xs 0 0) e in
+    ∙ ap (λ xs. get_or xs 0 0) e in
     let high : get_or (sector_bytes m s) (2 * from + 1) 0 ≡ word / 256 =
     sym (get_or-drop (2 * from) (sector_bytes m s) 1 0) ∙ ap (λ xs. get_or xs 1 0) e in
     let first : word_at m s from ≡ word =
     word_at-bytes m s from (omega arith) ∙ omega (arith, low, high) in
     let next : drop (2 * suc from) (sector_bytes m s) ≡ bytes_of_words words =
     ap (λ n. drop n (sector_bytes m s)) (omega arith) ∙ sym (drop-drop 2 (2 * from) (sector_bytes m s))
-        ∙ ap (drop 2) e in
+    ∙ ap (drop 2) e in
     ap (λ w. w ∷ sector_words m s (suc from) (length words)) first
     ∙ ap (λ ws. word ∷ ws) (words_known words m s (suc from) (omega arith) a.1 next)
 
@@ -162,13 +162,13 @@ reads_back disk s words accesses sound chosen writing l words_fit none later_cho
     let after = after_words_written words disk in
     let later = after_all accesses after in
     let there : s < sectors_of disk.medium = subst (λ (a : Activity). IsUnderWay (sectors_of disk.medium) a) writing
-        sound.under_way in
+    sound.under_way in
     let whole : length (bytes_of_words words) ≡ 512 = omega (arith, length-bytes_of_words words) in
     let stored_is : sector_bytes after.medium s ≡ bytes_of_words words =
     ap (λ (x : Disk). sector_bytes x.medium s) (sector_is_written disk s words chosen writing l)
     ∙ stored-same disk.medium s (bytes_of_words words) sound.whole there whole in
     let kept : sector_bytes later.medium s ≡ sector_bytes after.medium s =
-        (run_keeps accesses after s (words_written-sound words disk sound) none).1 in
+    (run_keeps accesses after s (words_written-sound words disk sound) none).1 in
     (sector_is_read later s later_chosen reading).words
     ∙ ap (sector_words later.medium s 0) (sym l)
     ∙ words_known words later.medium s 0 (omega arith) words_fit (kept ∙ stored_is)

@@ -17,7 +17,7 @@ pub word_put : (xs ys : List ℕ) (w v : ℕ) → v < 65536 → 2 * w + 2 ≤ le
 word_put xs ys w v h n e =
     let part = take (2 * w + 2 - 2 * w) (drop (2 * w) xs) in
     let rest : drop 2 part ≡ [] = nil_from_length (drop 2 part)
-        (omega (arith, length-drop 2 part, length-take (2 * w + 2 - 2 * w) (drop (2 * w) xs))) in
+    (omega (arith, length-drop 2 part, length-take (2 * w + 2 - 2 * w) (drop (2 * w) xs))) in
     let is : ys ≡ v % 256 ∷ v / 256 ∷ [] = e ∙ ap (λ zs. little_bytes 2 v ++ zs) rest
-        ∙ ap (λ zs. zs ++ []) (two_bytes v h) in
+    ∙ ap (λ zs. zs ++ []) (two_bytes v h) in
     rw is (take-put_mid (2 * w) (2 * w + 2 - 2 * w) xs (v % 256 ∷ v / 256 ∷ []) (2 * w + 2) refl (omega arith))

@@ -18,7 +18,7 @@ merged_bits mask old written k below_mask below_old below_written below_k =
     ∙ ap (λ n. max n (bit (bit_and old (255 - mask)) k)) (bit_at_and written mask k)
     ∙ ap (λ n. max (min (bit written k) (bit mask k)) n) (bit_at_and old (255 - mask) k)
     ∙ chosen_bit (bit mask k) (bit (255 - mask) k) (bit old k) (bit written k) (bit_at_not w8 mask k below_mask below_k)
-        (bit_at-lt mask k) (bit_at-lt old k) (bit_at-lt written k)
+    (bit_at-lt mask k) (bit_at-lt old k) (bit_at-lt written k)
 
 pub merged-all : (old written : ℕ) → written < 256 → merged 0xFF old written ≡ written
 merged-all old written below =

@@ -186,7 +186,7 @@ windows : WindowBorders
 windows = record {
   most = fits 8 full_cards (omega arith) (omega arith)
       (two (replicate 3 (MemoryBase 24)) (MemoryBase 24 ∷ IoBase 8 ∷ OutsideBase 28 ∷ []) (leb-true _ _ refl)
-          (leb-true _ _ refl)
+      (leb-true _ _ refl)
       (all_large 3)
       (All-cons IsBase (MemoryBase 24) (IoBase 8 ∷ OutsideBase 28 ∷ []) large_base
       (All-cons IsBase (IoBase 8) (OutsideBase 28 ∷ []) many_ports

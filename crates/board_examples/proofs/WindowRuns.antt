@@ -21,7 +21,7 @@ smram_span-inside x from to = rw (lt-ltb x 0x80_0000 (omega arith), le-leb 0xA_0
 
 smram_span :
     IsSpan small_board (byte_of small_board (from_reset (take 2 look_in_smm))) 0xA_0010 Fetch true 0xA_0000
-        0xB_FFFF SmramArea
+    0xB_FFFF SmramArea
 unfolding byte_of config_address reset_control reset_byte writable_bits host_bridge isa_bridge row_of area_of
     memory_claim
 smram_span = record {

@@ -53,7 +53,7 @@ byte_said (IoBase bits) is =
 byte_said (OutsideBase bits) is =
     let same : outside_base + bits - outside_base ≡ bits = omega arith in
     let low : nat_le io_base (outside_base + bits) ≡ false =
-        lt-leb io_base (outside_base + bits) (omega (arith, is.1)) in
+    lt-leb io_base (outside_base + bits) (omega (arith, is.1)) in
     (omega (arith, is.1), rw (low, le-leb outside_base (outside_base + bits) (omega arith), same) refl)
 
 byte_told : (n : ℕ) → n ≡ base_byte (base_of_byte n)

@@ -112,7 +112,7 @@ read_back-held word c b bs h =
     let d = cond (is_bit word 5) c (latch_count c) in
     let f : SameLatch c d = search (cond_same, untouched, e) in
     let g : SameLatch c (latch_status d) = untouched c (latch_status d)
-        (latch_status-by d.status_latch d refl ∙ f.same) in
+    (latch_status-by d.status_latch d refl ∙ f.same) in
     (cond_same (is_bit word 4) c d (latch_status d) f g).same
 
 step_of-held : (s : Step) (c : CounterState) (b : ℕ) (bs : List ℕ) → c.count_latch ≡ b ∷ bs →

@@ -42,7 +42,7 @@ latches-commute (b ∷ bs) (Some status) c h s =
 
 chip_equal : {a b c d e f : CounterState} {g : Bool} → a ≡ d → b ≡ e → c ≡ f →
     ◌≡◌ {A = PitState} (record { counter0 = a; counter1 = b; counter2 = c; gate2 = g })
-        (record { counter0 = d; counter1 = e; counter2 = f; gate2 = g })
+    (record { counter0 = d; counter1 = e; counter2 = f; gate2 = g })
 chip_equal p q r = rw (p, q, r) refl
 
 chosen-commute : (chosen : Bool) (c : CounterState) →

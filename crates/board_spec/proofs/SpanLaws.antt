@@ -94,8 +94,10 @@ low_end f (suc n) =
                   | inl less ↦ below.same x h (omega arith) ∙ equal
                   | inr not_less ↦ only_here f (suc n) x not_less k
                 ];
-            begins = elim below.begins [ inl at_zero ↦ inl at_zero
-                | inr other ↦ inr (subst (λ (area : Area). f (below.lo - 1) ≢ area) equal other) ];
+            begins = elim below.begins [
+              | inl at_zero ↦ inl at_zero
+              | inr other ↦ inr (subst (λ (area : Area). f (below.lo - 1) ≢ area) equal other)
+            ];
           }
     ]
 
@@ -124,8 +126,10 @@ high_end f (suc gap) place last e =
                   | inl more ↦ above.same x (omega arith) k ∙ equal
                   | inr not_more ↦ only_here f place x h not_more
                 ];
-            ends = elim above.ends [ inl at_last ↦ inl at_last
-                | inr other ↦ inr (subst (λ (area : Area). f (above.hi + 1) ≢ area) equal other) ];
+            ends = elim above.ends [
+              | inl at_last ↦ inl at_last
+              | inr other ↦ inr (subst (λ (area : Area). f (above.hi + 1) ≢ area) equal other)
+            ];
           }
     ]
 

@@ -10,14 +10,14 @@ pub listed-past :
     listed column (entry ∷ later) off ≡ listed column later off
 listed-past column entry later off past =
     cond-false (nat_le entry.first off && nat_lt off (entry.first + length entry.reset)) _ _
-        (and_right _ _ (le-ltb _ _ past))
+    (and_right _ _ (le-ltb _ _ past))
 
 pub listed-before :
     (column : Line → List ℕ) (entry : Line) (later : List Line) (off : ℕ) → off < entry.first →
     listed column (entry ∷ later) off ≡ listed column later off
 listed-before column entry later off before =
     cond-false (nat_le entry.first off && nat_lt off (entry.first + length entry.reset)) _ _
-        (and_left _ _ (lt-leb _ _ before))
+    (and_left _ _ (lt-leb _ _ before))
 
 pub listed-here :
     (column : Line → List ℕ) (entry : Line) (later : List Line) (off : ℕ) → entry.first ≤ off →
@@ -25,7 +25,7 @@ pub listed-here :
     listed column (entry ∷ later) off ≡ get_or (column entry) (off - entry.first) 0
 listed-here column entry later off from below =
     cond-true (nat_le entry.first off && nat_lt off (entry.first + length entry.reset)) _ _
-        (and_from _ _ (le-leb _ _ from) (lt-ltb _ _ below))
+    (and_from _ _ (le-leb _ _ from) (lt-ltb _ _ below))
 
 -- what holds at an offset and after it
 at_or_above : (P : ℕ → Type 0) (first off : ℕ) → first ≤ off → P first → (first + 1 ≤ off → P off) → P off

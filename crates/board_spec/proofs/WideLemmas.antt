@@ -16,7 +16,7 @@ put_part : (xs bs : List ℕ) (at count : ℕ) → at + count ≤ length xs →
     put_mid at (length xs - at) xs (bs ++ drop count (drop at xs)) ≡ take at xs ++ (bs ++ drop (at + count) xs)
 put_part xs bs at count fits =
     let none : post_of at (length xs - at) xs ≡ [] = drop_all (length xs - at) (drop at xs)
-        (omega (arith, length-drop at xs)) in
+    (omega (arith, length-drop at xs)) in
     ap (λ rest. take at xs ++ ((bs ++ drop count (drop at xs)) ++ rest)) none
     ∙ ap (λ rest. take at xs ++ rest) (append-nil (bs ++ drop count (drop at xs)))
     ∙ ap (λ rest. take at xs ++ (bs ++ rest)) (drop-drop count at xs)
@@ -39,7 +39,7 @@ put_bytes xs bs at count value k fits long each =
                 get_or_append_left bs (drop (at + count) xs) 0 (k - at) (omega arith)
                 ∙ each (k - at) (omega arith)
                 ∙ sym (cond-true (nat_le at k && nat_lt k (at + count)) _ _
-                    (and_from _ _ (le-leb _ _ from) (lt-ltb _ _ within)))
+                (and_from _ _ (le-leb _ _ from) (lt-ltb _ _ within)))
             | inr past ↦
                 get_or-append_right bs (drop (at + count) xs) count (k - at) 0 long (omega arith)
                 ∙ get_or-drop (at + count) xs (k - at - count) 0
@@ -67,7 +67,7 @@ put_two xs buf at value k fits is =
 pub put_four :
     (xs buf : List ℕ) (at value k : ℕ) → at + 4 ≤ length xs →
     buf ≡ value % 256 ∷ (value / 256 % 256) ∷ (value / 65536 % 256) ∷ (value / 16777216 % 256) ∷ drop 4
-        (take (length xs - at) (drop at xs)) →
+    (take (length xs - at) (drop at xs)) →
     slice_index (put_mid at (length xs - at) xs buf) k ≡ put_byte xs at 4 value k
 put_four xs buf at value k fits is =
     let bs : List ℕ = value % 256 ∷ (value / 256 % 256) ∷ (value / 65536 % 256) ∷ (value / 16777216 % 256) ∷ [] in
@@ -78,7 +78,7 @@ put_four xs buf at value k fits is =
   where
     each : (value j : ℕ) → j < 4 →
         get_or (value % 256 ∷ (value / 256 % 256) ∷ (value / 65536 % 256) ∷ (value / 16777216 % 256) ∷ []) j 0
-            ≡ byte value j
+        ≡ byte value j
     each value zero below = omega arith
     each value (suc zero) below = omega arith
     each value (suc (suc zero)) below = omega arith

@@ -116,7 +116,7 @@ wide_value setup before access =
     (joined (λ part. value_at setup before (memory_target setup before part) part.addr part.width) (parts_of access))
 
 pub record IsWideAnswer (setup : Setup) (before : List Entry) (access : WideAccess) (value : Option ℕ)
-  (parts : Parts) : Type 0 where
+    (parts : Parts) : Type 0 where
   pub value_is : value ≡ wide_value setup before access
   pub each : parts_list parts ≡ map (part_answer setup before) (parts_of access)
 
@@ -132,7 +132,7 @@ outside_answer dev = Bus None (Device dev) None
 
 -- a look gives the version and the span of the map of the registers as they stand
 pub record IsLookAnswer (setup : Setup) (before : List Entry) (kind : Kind) (addr : ℕ) (smm : Bool)
-  (look : Look) : Type 0 where
+    (look : Look) : Type 0 where
   pub version : look.version ≡ version_of setup before
   pub span : IsSpan setup (byte_of setup before) addr kind smm look.lo look.hi look.area
 

@@ -51,7 +51,7 @@ pub record IsFlatMapOf (setup : Setup) (bytes : Bytes) (ranges : List MapRange) 
 
 -- the longest interval of addresses round one in which this kind of access has one area
 pub record IsSpan (setup : Setup) (bytes : Bytes) (addr : ℕ) (kind : Kind) (smm : Bool) (lo hi : ℕ)
-  (area : Area) : Type 0 where
+    (area : Area) : Type 0 where
   pub above : lo ≤ addr
   pub below : addr ≤ hi
   pub last : hi < address_count

@@ -68,7 +68,7 @@ two_digits n = (0x30 + n / 10 % 10) ∷ (0x30 + n % 10) ∷ []
 abbrev pub moment_text : Moment → List ℕ
 moment_text moment =
     two_digits (moment.year / 100) ++ two_digits (moment.year % 100) ++ codes "-"
-        ++ two_digits moment.month ++ codes "-"
+    ++ two_digits moment.month ++ codes "-"
     ++ two_digits moment.day ++ codes "T" ++ two_digits moment.hour ++ codes ":"
     ++ two_digits moment.minute ++ codes ":"
     ++ two_digits moment.second

@@ -111,7 +111,7 @@ pub record IsDescriptor (setup : Setup) (bytes : Bytes) (going : Going) (cells :
       outcome setup bytes going cells medium
       ≡ outcome setup bytes
       (described (master_value setup bytes cells addr Four)
-          (master_value setup bytes cells (address_after addr 4) Four) going)
+      (master_value setup bytes cells (address_after addr 4) Four) going)
       cells medium
 
 -- words that lie in one area, one region and one sector

@@ -11,4 +11,4 @@ peeked clock address = read_value (after_write clock clock_index_port address) c
 abbrev pub with_byte : Clock → (address byte : ℕ) → Clock
 with_byte clock address byte =
     after_write (after_write (after_write clock clock_index_port address) clock_data_port byte)
-        clock_index_port clock.index
+    clock_index_port clock.index

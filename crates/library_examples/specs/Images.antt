@@ -109,7 +109,7 @@ card_from above room bytes = left_of (card_fields above room bytes)
 pub record CardFieldBorders : Type 0 where
   pub devices :
       map (λ dev. card_from 1 0x400_0000 (dev ∷ 0 ∷ 0 ∷ 0 ∷ [])) (1 ∷ 2 ∷ 9 ∷ 10 ∷ [])
-          ≡ Some 4 ∷ None ∷ None ∷ Some 4 ∷ []
+      ≡ Some 4 ∷ None ∷ None ∷ Some 4 ∷ []
   pub rising : map (λ above. card_from above 0x400_0000 (5 ∷ 0 ∷ 0 ∷ 0 ∷ [])) (4 ∷ 5 ∷ []) ≡ None ∷ Some 4 ∷ []
   pub roms :
       map (λ rom. card_from 1 0x400_0000 (5 ∷ 0 ∷ rom ∷ 0 ∷ [])) (0 ∷ 10 ∷ 11 ∷ 24 ∷ 25 ∷ [])

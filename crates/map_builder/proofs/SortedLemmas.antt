@@ -156,7 +156,7 @@ inside_with addr window (other ∷ later) is =
             | inl here ↦ or_right (is_above_first addr window) _ (or_left (is_above_first addr other) _ here)
             | inr rest ↦
                 elim (or_cases (is_above_first addr window) (is_inside later addr)
-                    (inside_with addr window later rest)) [
+                (inside_with addr window later rest)) [
                   | inl there ↦ or_left (is_above_first addr window) _ there
                   | inr more ↦ or_right (is_above_first addr window) _ (or_right (is_above_first addr other) _ more)
                 ]

@@ -53,8 +53,11 @@ abbrev new_card : FittedCard → List ℕ → CardBytes
 new_card card values = record { card = card; command = 0; line = 0; bases = values; rom = 0 }
 
 small_reset : (base : Base) → base_reset base < 2 ^ 32
-small_reset base = elim base as (λ b. base_reset b < 2 ^ 32) [ MemoryBase bits ↦ lit< tt | IoBase bits ↦ lit< tt
-    | OutsideBase bits ↦ lit< tt ]
+small_reset base = elim base as (λ b. base_reset b < 2 ^ 32) [
+  | MemoryBase bits ↦ lit< tt
+  | IoBase bits ↦ lit< tt
+  | OutsideBase bits ↦ lit< tt
+]
 
 small_reset_of : (bases : List Base) (k : ℕ) → of_base base_reset bases k < 2 ^ 32
 small_reset_of [] k = lit< tt
@@ -505,7 +508,7 @@ pub card-command :
     (record card { command = merged (command_writable card.card) card.command written })
 card-command setup bytes card written fit below is =
     card-stored setup bytes card (record card { command = merged (command_writable card.card) card.command written })
-        0x04 written fit below
+    0x04 written fit below
     is (λ e. grind arith) refl refl is.no_rom
     (decodes-command setup bytes card written fit below is.decodes)
 

@@ -27,7 +27,7 @@ abbrev pub covering : Windows → (values : List ℕ) → (place : ℕ) → ℕ 
 covering windows values place k [] = None
 covering windows values place k (base ∷ later) =
     if base_covers windows base (slice_index values k) place then Some k
-        else covering windows values place (k + 1) later
+    else covering windows values place (k + 1) later
 
 -- an expansion ROM base_covers the places that agree with its register
 abbrev pub rom_covers : Option ℕ → (register place : ℕ) → Bool

@@ -67,31 +67,31 @@ pub levels-union : (a b : ℕ) → levels_of_byte (bit_or a b)
     ≡ levels_where (λ l. has (levels_of_byte a) l || has (levels_of_byte b) l)
 levels-union a b =
     levels_where-same _ (λ l. has (levels_of_byte a) l || has (levels_of_byte b) l)
-        (λ l h. rw (has-levels_where (is_bit a) l h, has-levels_where (is_bit b) l h) (is_bit-or a b l))
+    (λ l h. rw (has-levels_where (is_bit a) l h, has-levels_where (is_bit b) l h) (is_bit-or a b l))
 
 pub levels-both : (a b : ℕ) → levels_of_byte (bit_and a b)
     ≡ levels_where (λ l. has (levels_of_byte a) l && has (levels_of_byte b) l)
 levels-both a b =
     levels_where-same _ (λ l. has (levels_of_byte a) l && has (levels_of_byte b) l)
-        (λ l h. rw (has-levels_where (is_bit a) l h, has-levels_where (is_bit b) l h) (is_bit-and a b l))
+    (λ l h. rw (has-levels_where (is_bit a) l h, has-levels_where (is_bit b) l h) (is_bit-and a b l))
 
 pub levels-rest : (a b : ℕ) → b < 256 → levels_of_byte (bit_and a (255 - b))
     ≡ levels_where (λ l. has (levels_of_byte a) l && not (has (levels_of_byte b) l))
 levels-rest a b small =
     levels_where-same _ (λ l. has (levels_of_byte a) l && not (has (levels_of_byte b) l))
-        (λ l h. rw (has-levels_where (is_bit a) l h, has-levels_where (is_bit b) l h) (is_bit-and a (255 - b) l
-            ∙ ap (λ x. is_bit a l && x) (is_bit-not b l small h)))
+    (λ l h. rw (has-levels_where (is_bit a) l h, has-levels_where (is_bit b) l h) (is_bit-and a (255 - b) l
+    ∙ ap (λ x. is_bit a l && x) (is_bit-not b l small h)))
 
 pub levels-set : (n k : ℕ) → k < 8 → levels_of_byte (bit_or n (1 * 2 ^ k % 256)) ≡ with_level (levels_of_byte n) k
 levels-set n k hk =
     levels_where-same _ (λ l. eqb l k || has (levels_of_byte n) l)
-        (λ l h. rw (has-levels_where (is_bit n) l h) (is_bit-set w8 n k l hk))
+    (λ l h. rw (has-levels_where (is_bit n) l h) (is_bit-set w8 n k l hk))
 
 pub levels-cleared : (n k : ℕ) → k < 8 → levels_of_byte (bit_and n (255 - 1 * 2 ^ k % 256))
     ≡ without_level (levels_of_byte n) k
 levels-cleared n k hk =
     levels_where-same _ (λ l. not (eqb l k) && has (levels_of_byte n) l)
-        (λ l h. rw (has-levels_where (is_bit n) l h) (is_bit-clear w8 n k l hk h))
+    (λ l h. rw (has-levels_where (is_bit n) l h) (is_bit-clear w8 n k l hk h))
 
 -- the byte of a byte's set
 is_own_byte : ℕ → Bool

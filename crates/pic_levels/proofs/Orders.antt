@@ -19,7 +19,7 @@ unfolding stands_at stand_so
 level-at lowest place small within =
     let here = agree_below_at stand_so (λ _. true) 8 lowest refl small in
     eqb-true ((lowest + 1 + place) % 8) (get_or (priority_order lowest) place 0)
-        (agree_below_at (stands_at lowest) (λ _. true) 8 place here within)
+    (agree_below_at (stands_at lowest) (λ _. true) 8 place here within)
 
 pub order-length : (lowest : ℕ) → length (priority_order lowest) ≡ 8
 order-length lowest =

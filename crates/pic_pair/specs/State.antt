@@ -115,7 +115,7 @@ pub record IsChip (has_slave : Bool) (chip : Chip) : Type 0 where
 abbrev pub chip_bytes : Chip → List ℕ
 chip_bytes chip =
     chip.base ∷ (sets_bytes (sets_of chip) ++ awaited_byte chip.awaited
-        ∷ (modes_bytes (modes_of chip) ++ chip.lowest ∷ []))
+    ∷ (modes_bytes (modes_of chip) ++ chip.lowest ∷ []))
 
 unfoldable pub chip_fields : (has_slave : Bool) → Reading Chip
 chip_fields has_slave = do

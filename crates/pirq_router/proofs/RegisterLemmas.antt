@@ -55,7 +55,7 @@ elsewhere setup bytes byte off a b c d none =
 pub stored_byte : (setup : Setup) (bytes : Bytes) (routes : Routes) (off byte : ℕ) → byte < 256 →
     AreRoutesIn bytes routes →
     AreRoutesIn (λ reg. changed_byte setup (Store (isa off) One byte) reg (bytes reg))
-        (routes_after_write routes off byte)
+    (routes_after_write routes off byte)
 stored_byte setup bytes routes off byte small are =
     ap (λ now. routes_after_write now off byte) are
     ∙ elim (cases_Bool (is_route_offset off)) [

@@ -34,7 +34,7 @@ drives_among-none routes pins line = refl
 -- the next pin adds the line that it is routed to
 pub drives_among-more : (k : ℕ) (routes : Routes) (pins : List Bool) (line : ℕ) →
     drives_among (k + 1) routes pins line
-        ≡ (drives_among k routes pins line || drives (line_of_route (get_or routes k 0)) (get_or pins k false) line)
+    ≡ (drives_among k routes pins line || drives (line_of_route (get_or routes k 0)) (get_or pins k false) line)
 unfolding drives_among
 drives_among-more k routes pins line = rw (add-one k) refl
 

@@ -136,13 +136,13 @@ lowers c j d is = is ∙ ap (with_element c) (lowered_more c.notation j c.elemen
 not_last : (notation : Notation) (e j : ℕ) → j < e - 1 → (low notation (lowered notation j e) == 0) ≡ false
 not_last notation e j h =
     let is : low notation (lowered notation j e) ≡ e - suc j = lowered_more notation j e
-        ∙ lowered_few notation (suc j) e (omega arith) in
+    ∙ lowered_few notation (suc j) e (omega arith) in
     let more : 0 < e - suc j = omega arith in
     rw is (grind (arith, nat_tests))
 
 step_end : (c : CounterState) (j : ℕ) → j < cond c.out every_pulse (c.element - 1) →
     count_to_end (with_element c (lowered c.notation j c.element))
-        ≡ with_element c (lowered c.notation (suc j) c.element)
+    ≡ with_element c (lowered c.notation (suc j) c.element)
 step_end c j h = lowers c j _ (elim (cases_Bool c.out) [
   | inl out ↦ end_out c _ out
   | inr low_out ↦ let sooner : j < c.element - 1 = rw low_out at h in
@@ -151,7 +151,7 @@ step_end c j h = lowers c j _ (elim (cases_Bool c.out) [
 
 step_strobe : (c : CounterState) (j : ℕ) → j < cond c.expired every_pulse (c.element - 1) →
     count_to_strobe (with_element c (lowered c.notation j c.element))
-        ≡ with_element c (lowered c.notation (suc j) c.element)
+    ≡ with_element c (lowered c.notation (suc j) c.element)
 step_strobe c j h = lowers c j _ (elim (cases_Bool c.expired) [
   | inl past ↦ strobe_past c _ past
   | inr still ↦ let sooner : j < c.element - 1 = rw still at h in
@@ -160,7 +160,7 @@ step_strobe c j h = lowers c j _ (elim (cases_Bool c.expired) [
 
 step_rate : (c : CounterState) (j : ℕ) → j < c.element - 2 →
     count_to_reload (with_element c (lowered c.notation j c.element))
-        ≡ with_element c (lowered c.notation (suc j) c.element)
+    ≡ with_element c (lowered c.notation (suc j) c.element)
 step_rate c j h =
     rw (lowered_few c.notation j c.element (omega arith), lowered_few c.notation (suc j) c.element (omega arith))
     (reload_counts c (c.element - j) (omega arith) ∙ ap (with_element c) (omega arith))
@@ -169,11 +169,11 @@ step_half : (c : CounterState) (j : ℕ) → j < pulses_in_half (half_end c) c.e
     count_half (with_element c (c.element - 2 * j)) ≡ with_element c (c.element - 2 * suc j)
 step_half c j h =
     half_counts c (c.element - 2 * j) (before_half (c.out && c.in_use % 2 == 1) c.element j h)
-        ∙ ap (with_element c) (omega arith)
+    ∙ ap (with_element c) (omega arith)
 
 quiet_step : (mode : Mode) (c : CounterState) (j : ℕ) → j < counted_quietly mode c →
     counted mode (with_element c (element_after mode c.notation j c.element))
-        ≡ with_element c (element_after mode c.notation (suc j) c.element)
+    ≡ with_element c (element_after mode c.notation (suc j) c.element)
 quiet_step TerminalCount c j h = step_end c j h
 quiet_step OneShot c j h = step_end c j h
 quiet_step RateGenerator c j h = step_rate c j h
@@ -230,13 +230,13 @@ quietly gate c n h = elim (cases_Bool (c.trigger || is_due c.mode c)) [
         | inl on ↦
             let few : n ≤ counted_quietly c.mode c = rw (free, on) at h in
             rw on (runs_quiet gate c (λ j. element_after c.mode c.notation j c.element) (counted_quietly c.mode c)
-                (first_element_after c.mode c.notation c.element)
+            (first_element_after c.mode c.notation c.element)
             (λ j sooner.
-                (rw on at (settled_pulse c.mode gate c (element_after c.mode c.notation j c.element) refl both.0
-                    both.1)) ∙ quiet_step c.mode c j sooner) n few)
+            (rw on at (settled_pulse c.mode gate c (element_after c.mode c.notation j c.element) refl both.0
+            both.1)) ∙ quiet_step c.mode c j sooner) n few)
         | inr off ↦
             rw off (runs_quiet gate c (λ j. c.element) n refl
-                (λ j sooner. rw off at (settled_pulse c.mode gate c c.element refl both.0 both.1)) n (omega arith))
+            (λ j sooner. rw off at (settled_pulse c.mode gate c c.element refl both.0 both.1)) n (omega arith))
       ]
 ]
 

@@ -33,7 +33,7 @@ rises_later gate n m c d p =
     let all = rises_of-add gate n m c in
     let none = p.none in
     let there : rises_of gate m d ≡ rises_of gate m (pulses_of gate n c) =
-        ap (λ (e : CounterState). rises_of gate m e) p.state in
+    ap (λ (e : CounterState). rises_of gate m e) p.state in
     omega arith
 
 pub never_later : (gate : Bool) (n : ℕ) (c d : CounterState) → NoRiseIn gate n c d → IsFirstRise gate d None →
@@ -100,9 +100,9 @@ edge_rise gate c d is =
     let same : (pulses_of gate q c).out ≡ c.out = ap (λ (x : CounterState). x.out) quiet.state ∙ out_stays gate q c in
     let now : rise (pulses_of gate q c).out (pulse gate (pulses_of gate q c)).out ≡ rise c.out d.out =
     ap (λ (before : Bool). rise before (pulse gate (pulses_of gate q c)).out) same
-        ∙ ap (λ (x : CounterState). rise c.out x.out) (sym is) in
+    ∙ ap (λ (x : CounterState). rise c.out x.out) (sym is) in
     sum_is (rises_of gate q c) (rise (pulses_of gate q c).out (pulse gate (pulses_of gate q c)).out)
-        (rise c.out d.out) quiet.rose now
+    (rise c.out d.out) quiet.rose now
 
 next_number : (q : ℕ) → q + 1 ≡ suc q
 next_number q = omega arith
@@ -139,7 +139,7 @@ edge_passes gate c d e is rises =
     let both : (d.out && not c.out) ≡ false = sym is.rises ∙ rises in
     let there : rises_of gate (suc q) c ≡ 0 = edge_rise gate c d (is_edge gate c d e is) ∙ rw both refl in
     subst (λ (n : ℕ). NoRiseIn gate n c d) (sym (is.pulses ∙ next_number q))
-        (record { state = is_edge gate c d e is; none = there })
+    (record { state = is_edge gate c d e is; none = there })
 
 -- ---- where all pulses that come are quiet
 
@@ -153,7 +153,7 @@ never_half false e j small all = elim (cases_Bool (e % 2 == 0 && nat_lt 0 e)) [
 
 always : (mode : Mode) (c : CounterState) (j : ℕ) → c.element ≤ most_count → counted_quietly mode c ≡ every_pulse →
     counted mode (with_element c (element_after mode c.notation j c.element))
-        ≡ with_element c (element_after mode c.notation (suc j) c.element)
+    ≡ with_element c (element_after mode c.notation (suc j) c.element)
 always TerminalCount c j small all = lowers c j _ (elim (cases_Bool c.out) [
   | inl out ↦ end_out c _ out
   | inr low ↦ let is : c.element - 1 ≡ every_pulse = rw low at all in absurd (omega arith)
@@ -165,7 +165,7 @@ always OneShot c j small all = lowers c j _ (elim (cases_Bool c.out) [
 always RateGenerator c j small all = absurd (omega arith)
 always SquareWave c j small all =
     half_counts c (c.element - 2 * j) (never_half (c.out && c.in_use % 2 == 1) c.element j small all)
-        ∙ ap (with_element c) (omega arith)
+    ∙ ap (with_element c) (omega arith)
 always SoftwareStrobe c j small all = lowers c j _ (elim (cases_Bool c.expired) [
   | inl past ↦ strobe_past c _ past
   | inr still ↦ let is : c.element - 1 ≡ every_pulse = rw still at all in absurd (omega arith)
@@ -186,13 +186,13 @@ never gate c small all = elim (cases_Bool (c.trigger || is_due c.mode c)) [
         | inl on ↦
             let is : counted_quietly c.mode c ≡ every_pulse = rw (free, on) at all in
             λ n. (runs_quiet gate c (λ j. element_after c.mode c.notation j c.element) n
-                (first_element_after c.mode c.notation c.element)
+            (first_element_after c.mode c.notation c.element)
             (λ j sooner.
-                (rw on at (settled_pulse c.mode gate c (element_after c.mode c.notation j c.element) refl both.0
-                    both.1)) ∙ always c.mode c j small is) n (omega arith)).rose
+            (rw on at (settled_pulse c.mode gate c (element_after c.mode c.notation j c.element) refl both.0
+            both.1)) ∙ always c.mode c j small is) n (omega arith)).rose
         | inr off ↦
             λ n. (runs_quiet gate c (λ j. c.element) n refl
-                (λ j sooner. rw off at (settled_pulse c.mode gate c c.element refl both.0 both.1)) n (omega arith)).rose
+            (λ j sooner. rw off at (settled_pulse c.mode gate c c.element refl both.0 both.1)) n (omega arith)).rose
       ]
 ]
 
@@ -232,7 +232,7 @@ pub few_quiet : (gate : Bool) (c : CounterState) → c.element ≤ most_count �
 unfolding quiet_pulses
 few_quiet gate c small h =
     few_in (c.trigger || is_due c.mode c) (counts c.mode gate c) (counted_quietly c.mode c)
-        (few_counted c.mode c small) h
+    (few_counted c.mode c small) h
 
 -- ---- after edges at which OUT does not rise
 
@@ -253,7 +253,7 @@ pub begins_period : (gate : Bool) (a b : CounterState) (e : Edge) → IsPulseEdg
 begins_period gate a b e is periodic s out = begins_in gate a b e is out (comes gate a periodic s)
 
 module _ (gate : Bool) (a b d : CounterState) (e f : Edge) (one : IsPulseEdge gate a b e) (two : IsPulseEdge gate b d f)
-  (quiet : f.rises ≡ false) where
+    (quiet : f.rises ≡ false) where
   after_1 : AreQuietBy1 gate a → quiet_pulses gate d ≡ every_pulse
   after_1 (inl now) = absurd (one.some now)
   after_1 (inr then_all) = absurd (two.some (ap (quiet_pulses gate) (is_edge gate a b e one) ∙ then_all))

@@ -20,7 +20,7 @@ rises_of-add gate n zero c = rw (add-zero n) (sym (add-zero (rises_of gate n c))
 rises_of-add gate n (suc m) c =
     rw (add-suc n m) (rw (rises_of-add gate n m c, pulses_of-add gate n m c)
     (add_assoc (rises_of gate n c) (rises_of gate m (pulses_of gate n c))
-        (rise (pulses_of gate m (pulses_of gate n c)).out (pulse gate (pulses_of gate m (pulses_of gate n c))).out)))
+    (rise (pulses_of gate m (pulses_of gate n c)).out (pulse gate (pulses_of gate m (pulses_of gate n c))).out)))
 
 one_at_most : (b : Bool) → cond b 1 0 ≤ 1
 one_at_most true = omega arith
@@ -87,7 +87,7 @@ part_join gate a b c p q r one two =
           (two.rose ∙ (ap (λ (d : CounterState). q.rose + rises_of gate (q.left - r.left) d) one.state
           ∙ (ap (λ (n : ℕ). n + rises_of gate (q.left - r.left) (pulses_of gate (p.left - q.left) a)) one.rose
           ∙ add_assoc p.rose (rises_of gate (p.left - q.left) a)
-              (rises_of gate (q.left - r.left) (pulses_of gate (p.left - q.left) a)))));
+          (rises_of gate (q.left - r.left) (pulses_of gate (p.left - q.left) a)))));
     }
 
 pub room_kept : (gate : Bool) (a b : CounterState) (p q : Run) → IsPart gate a b p q → HasRoom p → HasRoom q

@@ -118,7 +118,7 @@ pub record Flags : Type 0 where
 abbrev pub flags_bytes : Flags → List ℕ
 flags_bytes flags =
     flag_byte flags.null_count ∷ flag_byte flags.out ∷ flag_byte flags.load_asked ∷ flag_byte flags.started
-        ∷ flag_byte flags.stopped
+    ∷ flag_byte flags.stopped
     ∷ flag_byte flags.expired ∷ flag_byte flags.trigger ∷ []
 
 unfoldable pub flags_fields : (has_count : Bool) → Reading Flags

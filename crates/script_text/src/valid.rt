@@ -162,7 +162,7 @@ fn is_free_line(irq: u32) -> bool
 fn is_moment(moment: &Moment) -> bool
     ensures moment { result
         ≡ is_moment moment.now.year moment.now.month moment.now.day moment.now.hour moment.now.minute
-            moment.now.second }
+        moment.now.second }
 {
     let Moment {
         year,

@@ -255,7 +255,7 @@ request_of (words ∷ rest) request = true
 -- them, without the words of which it stops where that one is not found. Where none is left after it,
 -- its words are the last. No other sector changes.
 pub record WritesSectors (medium : Medium) (sector : ℕ) (sectors : List (List ℕ)) (request : Bool)
-  (drive : Drive) : Type 0 where
+    (drive : Drive) : Type 0 where
   pub rest :
       after_words_written (all_words sectors) (writing_disk medium request drive)
       ≡ writing_disk (all_stored medium sector sectors) (request_of sectors request)

@@ -7,7 +7,7 @@ pub returns-in-Some : goal.returns-in-Some
 returns-in-Some c = record {
   area = λ setup bytes stands.
       either_answers setup bytes c.args.addr c.args.kind c.args.smm (Some c.in-Some.area)
-          (beside_dram setup bytes c.args.addr)
+      (beside_dram setup bytes c.args.addr)
       (c.in-Some.ensures.dram setup bytes stands) refl;
 }
 

@@ -6,7 +6,7 @@ abbrev pub invariant-loop-left : goal.invariant-loop-left
 invariant-loop-left g l = record {
   below : l.left ≤ l.count;
   passed : (bytes : List ℕ) → g.R.Read.remaining l.fn.file ≡ Some bytes →
-  g.R.Read.remaining l.file ≡ Some (drop (l.count - l.left) bytes);
+      g.R.Read.remaining l.file ≡ Some (drop (l.count - l.left) bytes);
 }
 
 abbrev pub decreases-loop-left : goal.decreases-loop-left

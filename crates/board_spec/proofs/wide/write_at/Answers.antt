@@ -10,4 +10,4 @@ pub returns-in-Four-clause-bytes : goal.returns-in-Four-clause-bytes
 returns-in-Four-clause-bytes c =
     let fits = rw c.in-Four.is at c.requires.within in
     rw c.in-Four.is (λ k. put_four c.args.bytes.now c.write_u32.new.buf c.args.at c.args.value k fits
-        c.write_u32.ensures)
+    c.write_u32.ensures)

@@ -7,7 +7,7 @@ returns-in_default c = record {
   stands =
       c.read.ensures.stands
       ∙ beside_rom c.args.stores.now c.args.rom.now c.args.answer.now.target c.args.access.now.addr
-          c.args.access.now.width
+      c.args.access.now.width
       c.in_default.not-Rom;
   value = λ setup history kept image. c.read.ensures.value setup history kept;
 }

@@ -35,7 +35,7 @@ loop-preserved c =
                 (map-append (λ (it : PortCycle). it.access) cycles (cycle ∷ [])
                 ∙ ap (λ (front : List PortAccess). front ++ cycle.access ∷ []) c.loop.invariant.are
                 ∙ ap (λ (last : PortAccess). map (cycle_of c.args.access.now.write) c.loop.invariant.parts ++ last ∷ [])
-                    w.cycle_of.ensures.cycle
+                w.cycle_of.ensures.cycle
                 ∙ sym (map-append (cycle_of c.args.access.now.write) c.loop.invariant.parts (part ∷ [])));
             on =
                 rw done_is
@@ -59,14 +59,14 @@ pub returns-clause-cycles : goal.returns-clause-cycles
 returns-clause-cycles c =
     whole c.args.access.now c.as_wide-wide.result c.loop.invariant.parts c.loop.counter c.loop.done
     (port_accesses c.loop.cycles.items) c.as_wide-wide.ensures.wide c.loop.invariant.are
-        (omega arith) c.loop.invariant.on
+    (omega arith) c.loop.invariant.on
 
 pub returns-clause-covers : goal.returns-clause-covers
 returns-clause-covers c =
     are_cycles_as c.args.access.now (port_accesses c.loop.cycles.items)
     (whole c.args.access.now c.as_wide-wide.result c.loop.invariant.parts c.loop.counter c.loop.done
     (port_accesses c.loop.cycles.items) c.as_wide-wide.ensures.wide c.loop.invariant.are
-        (omega arith) c.loop.invariant.on)
+    (omega arith) c.loop.invariant.on)
 
 pub returns-clause-bus : goal.returns-clause-bus
 returns-clause-bus c = λ fits.
@@ -74,4 +74,4 @@ returns-clause-bus c = λ fits.
     (are_cycles_as c.args.access.now (port_accesses c.loop.cycles.items)
     (whole c.args.access.now c.as_wide-wide.result c.loop.invariant.parts c.loop.counter c.loop.done
     (port_accesses c.loop.cycles.items) c.as_wide-wide.ensures.wide c.loop.invariant.are
-        (omega arith) c.loop.invariant.on)).each
+    (omega arith) c.loop.invariant.on)).each

@@ -14,8 +14,8 @@ pub returns-in-Some : goal.returns-in-Some
 returns-in-Some c = record {
   rows = λ near.
       let low : c.in-Some.edge ≤ (c.args.self.now.addr / boundary_unit + 1) * boundary_unit =
-          grind (arith, nat_tests) in
+      grind (arith, nat_tests) in
       subst (λ (found : Option ℕ). nearest c.args.self.now.addr found
-          (map (λ boundary. boundary * boundary_unit) c.args.drb.now) ≡ found)
+      (map (λ boundary. boundary * boundary_unit) c.args.drb.now) ≡ found)
       (sym c.in-Some.is) (rows_are_far c.args.self.now.addr c.in-Some.edge c.args.drb.now low);
 }

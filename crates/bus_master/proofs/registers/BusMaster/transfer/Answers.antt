@@ -65,7 +65,7 @@ returns-clause-to_disk c = λ way cell there.
     let store = c.args.store.now in
     (moved c sound.0 sound.1 sound.2).cells cell there
     ∙ memory_kept sound.0 sound.1 c.args.self.now c.args.lba c.args.count (cells_of store)
-        (medium_of store.disk) way cell
+    (medium_of store.disk) way cell
 
 pub returns-clause-hidden : goal.returns-clause-hidden
 returns-clause-hidden c = λ setup bytes other of differs.
@@ -77,7 +77,7 @@ returns-clause-hidden c = λ setup bytes other of differs.
       c.end_transfer.ensures.ended (of_other c setup bytes other)
           (ap end_of hidden ∙ sym is.ends)
           (ap (λ (moving : Moving). moving.place.table) hidden
-              ∙ ap (λ (place : TransferPlace). place.table) (sym is.come)
+          ∙ ap (λ (place : TransferPlace). place.table) (sym is.come)
           ∙ sym c.table.ensures.table),
       disk_is is c.transfer-end.ensures.shape
           ∙ ap (λ (m : Medium). with_medium c.args.store.now.disk m) (sym medium)

@@ -16,7 +16,7 @@ same_three p q same = let three : p ≡ q = cc in (ap (λ r. r.0) three, ap (λ 
 
 date_said : (clock : Clock) (shown : Moment) → IsShown clock shown →
     AreDateBytes (control_of clock) (byte_at clock year_at) (byte_at clock month_at) (byte_at clock day_at) shown.year
-        shown.month shown.day
+    shown.month shown.day
 date_said clock shown is = record {
   first = is.moment.date.year_low;
   last = is.last_year;
@@ -29,7 +29,7 @@ date_said clock shown is = record {
 
 time_said : (clock : Clock) (shown : Moment) → IsShown clock shown →
     AreTimeBytes (control_of clock) (byte_at clock hour_at) (byte_at clock minute_at) (byte_at clock second_at)
-        shown.hour shown.minute shown.second
+    shown.hour shown.minute shown.second
 time_said clock shown is = record {
   hour_small = omega (arith, is.moment.time.hour_high);
   minute_small = omega (arith, is.moment.time.minute_high);

@@ -11,7 +11,7 @@ use Rattle.dram_store.proofs.dram.Dram.write.Goals.{in-Some, in_default}
 written :
     (c : goal.Joined-get_mut) →
     IsWritten c.args.self.now c.args.addr (bytes_of c.args.width) (byte c.args.value)
-        (concat c.match-get_mut.self-inside.banks.items)
+    (concat c.match-get_mut.self-inside.banks.items)
     × (length (concat c.match-get_mut.self-inside.banks.items) ≡ length c.args.self.now)
 written c =
     let banks = c.self.inside.banks.items in

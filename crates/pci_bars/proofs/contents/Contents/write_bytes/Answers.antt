@@ -21,7 +21,7 @@ old c =
 new : (c : After-copy_from_slice) →
     lists (set c.self.inside.buffers.items c.slot_of.result
     (with_items c.index_mut.result.now (stretch c.deref_mut.result.now c.copy_from_slice.new.self c.args.off
-        (length c.args.bytes.now))))
+    (length c.args.bytes.now))))
     ≡ set c.args.self.now (slot_number c.args.dev c.args.base)
     (stretch c.deref_mut.result.now c.copy_from_slice.new.self c.args.off (length c.args.bytes.now))
 new c =
@@ -32,7 +32,7 @@ new c =
     subst (λ (all : List ℕ). c.args.off + length bytes ≤ length all) (old c) c.requires.within in
     lists-set c.self.inside.buffers.items c.slot_of.result c.index_mut.result.now written
     (stretch_length now bytes c.copy_from_slice.new.self c.args.off fits c.copy_from_slice.ensures.after
-        ∙ c.deref_mut.ensures.len)
+    ∙ c.deref_mut.ensures.len)
     ∙ ap (λ contents. set contents c.slot_of.result written) c.self.view_is
     ∙ ap (λ at. set c.args.self.now at written) c.slot_of.ensures.slot
 

@@ -17,7 +17,7 @@ loop-pin-preserved c = λ line small.
     let pins = c.args.pins in
     c.joined-lines.ensures.lines line small
     ∙ ap (λ (on : Bool). on || drives (line_of_route (get_or bytes pin 0)) (get_or pins pin false) line)
-        (c.loop-pin.invariant line small)
+    (c.loop-pin.invariant line small)
     ∙ sym (drives_among-more pin bytes pins line)
 
 pub returns : goal.returns
@@ -27,6 +27,6 @@ returns c =
       lines = λ line small.
           c.loop-pin.invariant line small
           ∙ (ap (λ k. drives_among k c.self.inside.bytes c.args.pins line) all
-              ∙ drives_among-all c.self.inside.bytes c.args.pins line
+          ∙ drives_among-all c.self.inside.bytes c.args.pins line
           ∙ ap (λ bytes. is_line_driven bytes c.args.pins line) c.self.view_is);
     }

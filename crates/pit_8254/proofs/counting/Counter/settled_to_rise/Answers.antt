@@ -17,16 +17,16 @@ returns-in_err-far-clause-rise g c =
     subst (λ (answer : Option ℕ). IsFirstRise c.args.gate c.args.self.now answer) (sym none)
     (never_later c.args.gate c.in_ok-near.near.pulses c.args.self.now c.next_edge.new.self
     (edge_passes c.args.gate c.args.self.now c.next_edge.new.self c.in_ok-near.near c.in_ok-near.ensures.edge
-        c.if-near.false)
+    c.if-near.false)
     c.in_err-far.ensures.edge)
 
 pub returns-then-far-clause-rise : goal.returns-then-far-clause-rise
 returns-then-far-clause-rise g c =
     rises_after c.args.gate c.in_ok-near.near.pulses c.in_ok-far.far.pulses c.args.self.now c.next_edge.new.self
     (edge_passes c.args.gate c.args.self.now c.next_edge.new.self c.in_ok-near.near c.in_ok-near.ensures.edge
-        c.if-near.false)
+    c.if-near.false)
     (edge_rises c.args.gate c.next_edge.new.self c.next_edge-2.new.self c.in_ok-far.far
-        c.in_ok-far.ensures.edge c.if-far.true)
+    c.in_ok-far.ensures.edge c.if-far.true)
 
 pub returns-then-self-clause-rise : goal.returns-then-self-clause-rise
 returns-then-self-clause-rise g c =
@@ -35,7 +35,7 @@ returns-then-self-clause-rise g c =
     let periodic : is_periodic old.mode ≡ true = search rules in
     let out : new.out ≡ true = search rules in
     let begins = begins_period c.args.gate old new c.in_ok-near.near c.in_ok-near.ensures.edge periodic
-        c.requires.settled out in
+    c.requires.settled out in
     let value : c.self-2.inside.in_use ≡ new.in_use = search rules in
     subst (λ (n : ℕ). IsFirstRise c.args.gate old (Some (c.in_ok-near.near.pulses + n))) (sym value)
     (rises_after c.args.gate c.in_ok-near.near.pulses new.in_use old new
@@ -59,4 +59,4 @@ returns-clause-rise g c =
     (edge_passes c.args.gate mid new c.in_ok-far.far c.in_ok-far.ensures.edge c.if-far.false)
     (never c.args.gate new c.next_edge-2.ensures.element
     (all_quiet c.args.gate old mid new c.in_ok-near.near c.in_ok-far.far c.in_ok-near.ensures.edge
-        c.in_ok-far.ensures.edge c.if-far.false low c.requires.settled)))
+    c.in_ok-far.ensures.edge c.if-far.false low c.requires.settled)))

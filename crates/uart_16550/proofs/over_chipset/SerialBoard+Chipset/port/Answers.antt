@@ -10,11 +10,11 @@ returns-then-not-resets-clause-history c =
     rw (← c.self.view_is)
     (λ history actor below left_at.
     accessed_alone IsAnswerModulo (λ (chipset : Running). chipset.setup) IsLeftBy c.self.inside.board
-        c.port-reply.new.self
+    c.port-reply.new.self
     c.self.inside.com1 history actor c.args.access.now reply left_at c.port-reply.ensures.setup
     (c.port-reply.ensures.answer history left_at.left)
     (c.port-reply.ensures.left history (next_entry history actor (Port c.args.access.now) reply) left_at.left refl refl)
-        below)
+    below)
 
 pub returns-clause-history : goal.returns-clause-history
 returns-clause-history c =
@@ -22,9 +22,9 @@ returns-clause-history c =
     rw (← c.self.view_is)
     (λ history actor below left_at.
     accessed_and_moved IsAnswerModulo (λ (chipset : Running). chipset.setup) IsLeftBy c.self.inside.board
-        c.port-reply.new.self
+    c.port-reply.new.self
     c.self.inside.com1 history actor c.args.access.now reply left_at c.port-reply.ensures.setup
     (c.port-reply.ensures.answer history left_at.left)
     (c.port-reply.ensures.left history (next_entry history actor (Port c.args.access.now) reply) left_at.left refl refl)
-        below
+    below
     c.renew.new.self.board c.renew.new.self.com1 c.renew.ensures.setup c.renew.ensures.history)
