@@ -28,7 +28,7 @@ unfolding days_of_years
 first_of_year zero = first_of_1980
 first_of_year (suc n) =
     let more = day_count-next_year (pos (1980 + n)) (pos (1980 + suc n)) (omega (arith, signed_arith))
-        (omega (arith, signed_arith)) in
+    (omega (arith, signed_arith)) in
     omega (arith, more, first_of_year n)
 
 -- a date's day count
@@ -37,16 +37,25 @@ day_counts_agree : (year month day : ℕ) → 1980 ≤ year → 1 ≤ day →
 unfolding days_since_1980
 day_counts_agree year month day h low =
     let back : 1980 + (year - 1980) ≡ year = omega arith in
-    omega (arith, rw back at (first_of_year (year - 1980)), day_count-day_of_year (pos year) month day low,
-        months_agree year (month - 1))
+    omega (
+      arith,
+      rw back at (first_of_year (year - 1980)),
+      day_count-day_of_year (pos year) month day low,
+      months_agree year (month - 1),
+    )
 
 -- and its weekday
 pub weekdays_agree : (year month day : ℕ) → 1980 ≤ year → 1 ≤ day →
     (weekday_number (days_from_civil (pos year) month day) + 1) % 7 + 1 ≡ weekday_of year month day
 unfolding weekday_of
 weekdays_agree year month day h low =
-    omega (arith, signed_arith, weekday_number-parts (days_from_civil (pos year) month day),
-        days_from_civil-day_count (pos year) month day, day_counts_agree year month day h low)
+    omega (
+      arith,
+      signed_arith,
+      weekday_number-parts (days_from_civil (pos year) month day),
+      days_from_civil-day_count (pos year) month day,
+      day_counts_agree year month day h low,
+    )
 
 -- a date that `jiff` has, in these years, is one of the calendar
 pub dates_agree : (year month day : ℕ) (y : ℤ) (m d : ℕ) → y ≡ pos year → m ≡ month → d ≡ day → 1980 ≤ year →
@@ -126,18 +135,18 @@ weekdays_follow =
 
 -- ---- which moments there are
 
-six : (a b c d e f : Bool) → (a && b && c && d && e && f) ≡ true →
+pub six_parts : (a b c d e f : Bool) → (a && b && c && d && e && f) ≡ true →
     (a ≡ true) × (b ≡ true) × (c ≡ true) × (d ≡ true) × (e ≡ true) × (f ≡ true)
-six false b c d e f test = absurd (false≢true test)
-six true false c d e f test = absurd (false≢true test)
-six true true false d e f test = absurd (false≢true test)
-six true true true false e f test = absurd (false≢true test)
-six true true true true false f test = absurd (false≢true test)
-six true true true true true false test = absurd (false≢true test)
-six true true true true true true test = (refl, refl, refl, refl, refl, refl)
+six_parts false b c d e f test = absurd (false≢true test)
+six_parts true false c d e f test = absurd (false≢true test)
+six_parts true true false d e f test = absurd (false≢true test)
+six_parts true true true false e f test = absurd (false≢true test)
+six_parts true true true true false f test = absurd (false≢true test)
+six_parts true true true true true false test = absurd (false≢true test)
+six_parts true true true true true true test = (refl, refl, refl, refl, refl, refl)
 
-inside : (low high n : ℕ) → is_within low high n ≡ true → (low ≤ n) × (n ≤ high)
-inside low high n test =
+pub is_within_parts : (low high n : ℕ) → is_within low high n ≡ true → (low ≤ n) × (n ≤ high)
+is_within_parts low high n test =
     let both = and_parts (leb low n) (leb n high) test in
     (leb-true low n both.0, leb-true n high both.1)
 
@@ -147,10 +156,10 @@ is_inside low high n first last = and_from (leb low n) (leb n high) (le-leb low 
 moment_decides : (year month day hour minute second : ℕ) →
     is_moment year month day hour minute second ≡ true → IsDate year month day × IsTime hour minute second
 moment_decides year month day hour minute second test =
-    let parts = six _ _ _ _ _ _ test in
-    let years = inside _ _ year parts.0 in
-    let months = inside _ _ month parts.1 in
-    let days = inside _ _ day parts.2 in (
+    let parts = six_parts _ _ _ _ _ _ test in
+    let years = is_within_parts _ _ year parts.0 in
+    let months = is_within_parts _ _ month parts.1 in
+    let days = is_within_parts _ _ day parts.2 in (
       record {
         year_low = years.0;
         year_high = years.1;

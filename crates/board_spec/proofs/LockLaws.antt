@@ -47,10 +47,12 @@ locked_after old written =
     let w : bit written 4 < 2 = bit_below written 4 in
     let below : lock < 2 = omega arith in
     let w6 : bit written 6 < 2 = bit_below written 6 in
-    let first : (1 - lock) * bit written 6 < 2 = elim (cases_eq lock 1) [ inl e ↦ rw e (omega arith)
-        | inr ne ↦ let z : lock ≡ 0 = omega arith in rw z (omega arith) ] in
+    let first : (1 - lock) * bit written 6 < 2 = elim (cases_eq lock 1) [
+      | inl e ↦ rw e (omega arith)
+      | inr ne ↦ let z : lock ≡ 0 = omega arith in rw z (omega arith)
+    ] in
     (smram_bits ((1 - lock) * bit written 6) (bit written 5) lock (bit written 3) first (bit_below written 5) below
-        (bit_below written 3)).0
+    (bit_below written 3)).0
 
 shut_after : (old written : ℕ) → Kept (smram_after old written)
 shut_after old written = record {
@@ -60,7 +62,7 @@ shut_after old written = record {
       let none : (1 - lock) * bit written 6 ≡ 0 = rw is (omega arith) in
       let below : lock < 2 = omega arith in
       (smram_bits ((1 - lock) * bit written 6) (bit written 5) lock (bit written 3) (omega arith)
-          (bit_below written 5) below (bit_below written 3)).1 ∙ none;
+      (bit_below written 5) below (bit_below written 3)).1 ∙ none;
 }
 
 reset_kept : (setup : Setup) → Kept (reset_byte setup smram)
@@ -131,7 +133,7 @@ stays_locked : (setup : Setup) (before : List Entry) (entry : Entry) → is_hard
 unfolding byte_of IsLocked
 stays_locked setup before entry soft locked =
     stored_stays setup (register_change setup before entry.event) (byte_of setup before smram)
-        (no_reset_change setup before entry.event soft) locked
+    (no_reset_change setup before entry.event soft) locked
 
 set_locks : (setup : Setup) (change : Option MapChange) (old : ℕ) → SetsLock change →
     bit (byte_with setup change smram old) 4 ≡ 1
@@ -201,7 +203,7 @@ no_smram_under row shadowed hole rom claim addr =
     (never_line IsNotSmram (is_smram_range addr) (is_some row) SmramArea)
     (where_holds IsNotSmram (is_some row && shadowed) (ShadowArea (unwrap_or row 0)) (λ e. cc))
     (where_holds IsNotSmram (not (lies_in upper_memory addr) && is_some row && not hole)
-        (DramArea (unwrap_or row 0)) (λ e. cc))
+    (DramArea (unwrap_or row 0)) (λ e. cc))
     (where_holds IsNotSmram rom RomArea (λ e. cc))
     (claim_holds claim)
     (λ e. cc)
@@ -253,10 +255,10 @@ no_smram_parts setup before shut (part ∷ parts) outside (reply ∷ replies) sa
     elim has [
       | inl here ↦
           let named : target_at setup (area_of setup (byte_of setup before) part.addr part.kind part.smm) part.addr
-              ≡ Smram =
+          ≡ Smram =
           sym (ap (λ (p : Part). p.target) head) ∙ here in
           let area : area_of setup (byte_of setup before) part.addr part.kind part.smm ≡ SmramArea =
-              target_names setup _ part.addr named in
+          target_names setup _ part.addr named in
           no_smram setup (byte_of setup before) part.addr part.kind shut (rw outside.0 at area)
       | inr later ↦ no_smram_parts setup before shut parts outside.1 replies rest later
     ]
@@ -269,8 +271,11 @@ parts_smm access smm is zero addr left = tt
 parts_smm access smm is (suc most) addr left =
     elim (cases_Bool (left == 0)) [
       | inl none ↦ rw none tt
-      | inr some ↦ rw some (is, parts_smm access smm is most (addr + bytes_of (longest_at addr left))
-          (left - bytes_of (longest_at addr left)))
+      | inr some ↦ rw some (
+        is,
+        parts_smm access smm is most (addr + bytes_of (longest_at addr left))
+            (left - bytes_of (longest_at addr left)),
+      )
     ]
 
 -- the answer to an access or a look outside SMM, with DOPEN at 0, does not name SMRAM
@@ -280,7 +285,7 @@ no_smram_answer :
 unfolding memory_answer
 no_smram_answer setup before (Memory access) reply shut answer outside names =
     let named : target_at setup (area_of setup (byte_of setup before) access.addr access.kind access.smm) access.addr
-        ≡ Smram =
+    ≡ Smram =
     reply_names _ _ _ reply answer names in
     let area : area_of setup (byte_of setup before) access.addr access.kind access.smm ≡ SmramArea =
     target_names setup _ access.addr named in
@@ -315,10 +320,10 @@ unfolding IsLocked
 legal_keeps_lock setup history legal = record {
   locked = λ after between before later lock is sets soft outside.
       let next : IsNext setup (between ++ lock ∷ before) later = next_in setup after (between ++ lock ∷ before) later
-          (rw is at legal) in
+      (rw is at legal) in
       let locked : IsLocked setup (between ++ lock ∷ before) =
       locked_since setup between (lock ∷ before) soft (is_locked_by setup before lock sets) in
       let shut : bit (byte_of setup (between ++ lock ∷ before) smram) 6 ≡ 0 =
-          (kept_of setup (between ++ lock ∷ before)).shut locked in
+      (kept_of setup (between ++ lock ∷ before)).shut locked in
       no_smram_answer setup (between ++ lock ∷ before) later.event later.reply shut next.answer outside;
 }

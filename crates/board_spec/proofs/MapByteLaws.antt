@@ -12,6 +12,7 @@ use Rattle.board_spec.specs.Common.{memory_claim, memory_shut, area_of, denial_o
 use Rattle.board_spec.specs.Common.{card_register, card_command, base_register, expansion_rom, is_same, smram_range}
 use Rattle.board_spec.specs.Common.{system_bios, boundary_unit, SameMapBytes, MapBytesDecide}
 use Rattle.device_spec.proofs.Common.{cases_Bool, eq-eqb, nat_tests, All-nil, All-cons, All-append, recursion_from_All}
+use Rattle.device_spec.proofs.Common.{or_right}
 
 -- ---- searches in lists
 
@@ -29,10 +30,6 @@ found (card ∷ later) (suc k) d below =
       | inl here ↦ rw here refl
       | inr not ↦ rw not (found later k d (omega arith))
     ]
-
-or_right : (a b : Bool) → b ≡ true → (a || b) ≡ true
-or_right true b h = refl
-or_right false b h = h
 
 pub third : (a b fitted is d : Bool) → fitted ≡ true → is ≡ true → (a || b || fitted && true && is || d) ≡ true
 third true b fitted is d h k = refl
@@ -78,8 +75,16 @@ module _ (setup : Setup) (bytes other : Bytes) (same : SameMapBytes setup bytes 
   row_same addr =
       let below : (row : ℕ) → row < 8 → nat_lt addr (boundary bytes row) ≡ nat_lt addr (boundary other row) =
       λ row within. ap (λ end. nat_lt addr end) (boundary_same row within) in
-      rw (below 0 (lit< tt), below 1 (lit< tt), below 2 (lit< tt), below 3 (lit< tt), below 4 (lit< tt),
-          below 5 (lit< tt), below 6 (lit< tt), below 7 (lit< tt)) refl
+      rw (
+        below 0 (lit< tt),
+        below 1 (lit< tt),
+        below 2 (lit< tt),
+        below 3 (lit< tt),
+        below 4 (lit< tt),
+        below 5 (lit< tt),
+        below 6 (lit< tt),
+        below 7 (lit< tt),
+      ) refl
 
   pam_same : (addr : ℕ) → is_shadow_range addr ≡ true → bytes (pam_register addr) ≡ other (pam_register addr)
   pam_same addr within =
@@ -148,20 +153,34 @@ module _ (setup : Setup) (bytes other : Bytes) (same : SameMapBytes setup bytes 
       let fitted : HasRom card.dev = has refl in
       let first : ℕ = (expansion_rom card.dev).off in
       record {
-        selected = rw (is, rom_same card.dev first fitted refl, rom_same card.dev (first + 1) fitted refl,
-            rom_same card.dev (first + 2) fitted refl, rom_same card.dev (first + 3) fitted refl) refl;
-        unselected = rw (is, rom_same card.dev first fitted refl, rom_same card.dev (first + 1) fitted refl,
-            rom_same card.dev (first + 2) fitted refl, rom_same card.dev (first + 3) fitted refl) refl;
+        selected = rw (
+          is,
+          rom_same card.dev first fitted refl,
+          rom_same card.dev (first + 1) fitted refl,
+          rom_same card.dev (first + 2) fitted refl,
+          rom_same card.dev (first + 3) fitted refl,
+        ) refl;
+        unselected = rw (
+          is,
+          rom_same card.dev first fitted refl,
+          rom_same card.dev (first + 1) fitted refl,
+          rom_same card.dev (first + 2) fitted refl,
+          rom_same card.dev (first + 3) fitted refl,
+        ) refl;
       }
 
   base_same : (dev k : ℕ) → IsFitted dev → k < 6 → base_value bytes dev k ≡ base_value other dev k
   base_same dev k fitted below =
       let first : ℕ = (base_register dev k).off in
       let byte : (off : ℕ) → is_within (base_register dev 0).off ((base_register dev 5).off + 3) off ≡ true →
-          bytes (card_register dev off) ≡ other (card_register dev off) =
+      bytes (card_register dev off) ≡ other (card_register dev off) =
       λ off within. card_same dev off fitted (or_right (off == (card_command dev).off) _ within) in
-      rw (byte first (grind (arith, nat_tests)), byte (first + 1) (grind (arith, nat_tests)),
-          byte (first + 2) (grind (arith, nat_tests)), byte (first + 3) (grind (arith, nat_tests))) refl
+      rw (
+        byte first (grind (arith, nat_tests)),
+        byte (first + 1) (grind (arith, nat_tests)),
+        byte (first + 2) (grind (arith, nat_tests)),
+        byte (first + 3) (grind (arith, nat_tests)),
+      ) refl
 
   window_same : (dev k : ℕ) (base : Base) → IsFitted dev → k < 6 →
       memory_window bytes dev k base ≡ memory_window other dev k base
@@ -180,9 +199,9 @@ module _ (setup : Setup) (bytes other : Bytes) (same : SameMapBytes setup bytes 
   bases_same dev first [] fitted count = refl
   bases_same dev first (base ∷ later) fitted count =
       ap (λ windows. windows ++ windows_from bytes dev (first + 1) later)
-          (window_same dev first base fitted (omega arith))
+      (window_same dev first base fitted (omega arith))
       ∙ ap (λ windows. memory_window other dev first base ++ windows)
-          (bases_same dev (first + 1) later fitted (omega arith))
+      (bases_same dev (first + 1) later fitted (omega arith))
 
   card_windows_same : (card : FittedCard) → IsFitted card.dev → SameRom card → length card.bases ≤ 6 →
       memory_windows bytes card ≡ memory_windows other card
@@ -195,7 +214,7 @@ module _ (setup : Setup) (bytes other : Bytes) (same : SameMapBytes setup bytes 
   windows_same [] fitted roms each = refl
   windows_same (card ∷ later) fitted roms each =
       ap (λ windows. windows ++ flat_map (memory_windows bytes) later)
-          (card_windows_same card fitted.0 roms.0 each.0.count)
+      (card_windows_same card fitted.0 roms.0 each.0.count)
       ∙ ap (λ windows. memory_windows other card ++ windows) (windows_same later fitted.1 roms.1 each.1)
 
   unselected_same :
@@ -214,18 +233,18 @@ module _ (setup : Setup) (bytes other : Bytes) (same : SameMapBytes setup bytes 
   of_bases dev first [] fitted = All-nil IsOfCard
   of_bases dev first (MemoryBase bits ∷ later) fitted =
       All-cons IsOfCard (record { dev = dev; base = first; inside = base_value other dev first; bits = bits })
-          (windows_from other dev (first + 1) later) fitted (of_bases dev (first + 1) later fitted)
+      (windows_from other dev (first + 1) later) fitted (of_bases dev (first + 1) later fitted)
   of_bases dev first (IoBase bits ∷ later) fitted = of_bases dev (first + 1) later fitted
   of_bases dev first (OutsideBase bits ∷ later) fitted =
       All-cons IsOfCard (record { dev = dev; base = first; inside = base_value other dev first; bits = bits })
-          (windows_from other dev (first + 1) later) fitted (of_bases dev (first + 1) later fitted)
+      (windows_from other dev (first + 1) later) fitted (of_bases dev (first + 1) later fitted)
 
   of_vga : (card : FittedCard) → IsFitted card.dev → All IsOfCard (vga_window card)
   of_vga card fitted =
       elim (cases_Bool card.vga) [
         | inl vga ↦ rw vga
             (All-cons IsOfCard (record { dev = card.dev; base = vga_base; inside = smram_range.0; bits = vga_bits }) []
-                fitted (All-nil IsOfCard))
+            fitted (All-nil IsOfCard))
         | inr plain ↦ rw plain (All-nil IsOfCard)
       ]
 
@@ -233,7 +252,7 @@ module _ (setup : Setup) (bytes other : Bytes) (same : SameMapBytes setup bytes 
   of_rom dev None fitted = All-nil IsOfCard
   of_rom dev (Some bits) fitted =
       All-cons IsOfCard (record { dev = dev; base = rom_base; inside = rom_value other dev; bits = bits }) [] fitted
-          (All-nil IsOfCard)
+      (All-nil IsOfCard)
 
   of_choice : (on : Bool) (left right : List Window) → All IsOfCard left → All IsOfCard right →
       All IsOfCard (if on then left else right)
@@ -246,13 +265,13 @@ module _ (setup : Setup) (bytes other : Bytes) (same : SameMapBytes setup bytes 
       All-append IsOfCard (windows_from other card.dev 0 card.bases ++ rom) (vga_window card)
       (All-append IsOfCard (windows_from other card.dev 0 card.bases) rom (of_bases card.dev 0 card.bases fitted)
       (of_choice (is_rom_on other card.dev) (rom_window other card) [] (of_rom card.dev card.rom fitted)
-          (All-nil IsOfCard)))
+      (All-nil IsOfCard)))
       (of_vga card fitted)
 
   of_unselected : (card : FittedCard) → IsFitted card.dev → All IsOfCard (unselected_windows other card)
   of_unselected card fitted =
       of_choice (is_rom_on other card.dev) [] (rom_window other card) (All-nil IsOfCard)
-          (of_rom card.dev card.rom fitted)
+      (of_rom card.dev card.rom fitted)
 
   of_all :
       (windows : FittedCard → List Window) → ((card : FittedCard) → IsFitted card.dev → All IsOfCard (windows card)) →
@@ -261,7 +280,7 @@ module _ (setup : Setup) (bytes other : Bytes) (same : SameMapBytes setup bytes 
   of_all windows each [] fitted = All-nil IsOfCard
   of_all windows each (card ∷ later) fitted =
       All-append IsOfCard (windows card) (flat_map windows later) (each card fitted.0)
-          (of_all windows each later fitted.1)
+      (of_all windows each later fitted.1)
 
   enabled_same : (dev : ℕ) → IsFitted dev → is_enabled_for 1 bytes dev ≡ is_enabled_for 1 other dev
   enabled_same dev fitted = ap (λ command. is_bit command 1) (card_same dev (card_command dev).off fitted refl)
@@ -285,9 +304,9 @@ module _ (setup : Setup) (bytes other : Bytes) (same : SameMapBytes setup bytes 
       first_window left addr windows ≡ first_window right addr windows
   first_same left right addr windows each counted =
       find_same (λ window. left window.dev && is_covered addr window)
-          (λ window. right window.dev && is_covered addr window) windows
+      (λ window. right window.dev && is_covered addr window) windows
       (recursion_from_All (λ window. (left window.dev && is_covered addr window)
-          ≡ (right window.dev && is_covered addr window)) windows
+      ≡ (right window.dev && is_covered addr window)) windows
       (λ k d below.
       let window : Window = get_or windows k d in
       ap (λ counts. counts && is_covered addr window) (counted window.dev (each k d below))))
@@ -295,7 +314,7 @@ module _ (setup : Setup) (bytes other : Bytes) (same : SameMapBytes setup bytes 
   memory_same :
       (left right : ℕ → Bool) (addr : ℕ) → ((dev : ℕ) → IsFitted dev → left dev ≡ right dev) → IsCardList setup.cards →
       first_window left addr (flat_map (memory_windows bytes) setup.cards) ≡ first_window right addr
-          (flat_map (memory_windows other) setup.cards)
+      (flat_map (memory_windows other) setup.cards)
   memory_same left right addr counted list =
       ap (λ windows. first_window left addr windows)
       (windows_same setup.cards fitted_cards (rom_cards list) (recursion_from_All IsCard setup.cards list.each))
@@ -325,15 +344,26 @@ module _ (setup : Setup) (bytes other : Bytes) (same : SameMapBytes setup bytes 
       area_of setup bytes addr kind smm ≡ area_of setup other addr kind smm
   unfolding area_of
   area_same addr kind smm list =
-      rw (row_same addr, same smram refl, shadow_same addr kind, same fdhc refl, same xbcs refl,
-          claim_same addr list) refl
+      rw (
+        row_same addr,
+        same smram refl,
+        shadow_same addr kind,
+        same fdhc refl,
+        same xbcs refl,
+        claim_same addr list,
+      ) refl
 
   denial_same : (addr : ℕ) (kind : Kind) (smm : Bool) → IsCardList setup.cards →
       denial_of setup bytes addr kind smm ≡ denial_of setup other addr kind smm
   unfolding denial_of
   denial_same addr kind smm list =
-      rw (area_same addr kind smm list, boundary_same 7 (lit< tt), shut_same addr list, not_selected_same addr list,
-          same xbcs refl) refl
+      rw (
+        area_same addr kind smm list,
+        boundary_same 7 (lit< tt),
+        shut_same addr list,
+        not_selected_same addr list,
+        same xbcs refl,
+      ) refl
 
 pub map_bytes_decide : MapBytesDecide
 map_bytes_decide setup bytes other list same addr kind smm =

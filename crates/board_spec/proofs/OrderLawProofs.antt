@@ -38,7 +38,7 @@ complete_is_begun phases history complete = so_far phases (statements_of history
 
 -- ---- one statement more
 
-events-append :
+pub events-append :
     (actor : ℕ) (first later : List Statement) →
     events_by actor (first ++ later) ≡ events_by actor first ++ events_by actor later
 events-append actor first later =
@@ -48,11 +48,15 @@ events-append actor first later =
     (filter (λ (statement : Statement). statement.actor == actor) first)
     (filter (λ (statement : Statement). statement.actor == actor) later)
 
+pub statements-append :
+    (more before : List Entry) → statements_of (more ++ before) ≡ statements_of before ++ statements_of more
+statements-append more before =
+    ap (map statement_of) (reverse-append more before) ∙ map-append statement_of (reverse before) (reverse more)
+
 pub statements-newest :
     (entry : Entry) (before : List Entry) →
     statements_of (entry ∷ before) ≡ statements_of before ++ statement_of entry ∷ []
-statements-newest entry before =
-    ap (map statement_of) (reverse-append (entry ∷ []) before) ∙ map-append statement_of (reverse before) (entry ∷ [])
+statements-newest entry before = statements-append (entry ∷ []) before
 
 shorter_front : (longer first later : List Event) → BeginsWith longer (first ++ later) → BeginsWith longer first
 shorter_front longer first later begins =

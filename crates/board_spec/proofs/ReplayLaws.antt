@@ -2,7 +2,7 @@
 use Rattle.std.proofs.Common.{◌≡◌, ℕ, ◌+◌, Bool, List, [], ◌∷◌, ◌++◌, refl, sym, ◌∙◌, ap, length, append_assoc, ◌≢◌}
 use Rattle.std.proofs.Common.{zero, suc, ◌-◌, ◌<◌, ◌≤◌, ◌==◌, Option, map, reverse, arith, inl, inr, ne_eqb}
 use Rattle.device_spec.proofs.Common.{cases_Bool, nat_tests, length-map, append-nil, reverse-reverse, reverse-append}
-use Rattle.device_spec.proofs.Common.{map-append, recursion_from_All}
+use Rattle.device_spec.proofs.Common.{recursion_from_All}
 use Rattle.board_spec.specs.Common.{AllByRecursion, Width, Kind, WideAccess, bytes_of, Area, Setup, byte_of, version_of}
 use Rattle.board_spec.specs.Common.{longest_at, parts_from, parts_of, parts_list, IsWideAccess, part_answer, wide_value}
 use Rattle.board_spec.specs.Common.{IsLookAnswer, IsAnswer, entries_by, IsNext, IsLegal, statement_of, statements_of}
@@ -19,6 +19,7 @@ use Rattle.board_spec.specs.declared.event.Reply.TheVariants.{Bus, Parts as InPa
 use Rattle.board_spec.specs.declared.event.Entry.{Entry}
 use Rattle.board_spec.specs.declared.event.Statement.{Statement}
 use Rattle.board_spec.proofs.SpanLaws.{some_span, one_span}
+use Rattle.board_spec.proofs.OrderLawProofs.{statements-newest}
 
 -- ---- the parts of a wide access
 
@@ -77,13 +78,13 @@ two_parts access wide =
     let shorter : bytes_of width < access.bytes = shorter_part access wide in
     let later : 1 ≤ length (parts_from access 3 (access.addr + bytes_of width) (access.bytes - bytes_of width)) =
     some_part access 2 (access.addr + bytes_of width) (access.bytes - bytes_of width)
-        (λ e. omega (arith, e, shorter)) in
+    (λ e. omega (arith, e, shorter)) in
     rw (ne_eqb access.bytes 0 (λ e. omega (arith, e, shorter))) (omega (arith, later))
 
 parts_counted :
     (setup : Setup) (before : List Entry) (access : WideAccess) → IsWideAccess access →
     (2 ≤ length (map (part_answer setup before) (parts_of access)))
-        × (length (map (part_answer setup before) (parts_of access)) ≤ 4)
+    × (length (map (part_answer setup before) (parts_of access)) ≤ 4)
 parts_counted setup before access wide =
     let same : length (map (part_answer setup before) (parts_of access)) ≡ length (parts_of access) =
     length-map (parts_of access) (part_answer setup before) in
@@ -95,7 +96,7 @@ pub some_answer : SomeAnswer
 some_answer setup before (Memory access) addressed = record { reply = _; answer = refl }
 some_answer setup before (Wide access) addressed =
     let some = some_parts (map (part_answer setup before) (parts_of access))
-        (parts_counted setup before access addressed) in
+    (parts_counted setup before access addressed) in
     record {
       reply = InParts some.parts (wide_value setup before access);
       answer = record { value_is = refl; each = some.same };
@@ -122,7 +123,7 @@ same_look : (left right : Look) → left.version ≡ right.version → left.lo �
 unfolding look_made
 same_look left right v l h a =
     let same : look_made left.version left.lo left.hi left.area ≡ look_made right.version right.lo right.hi right.area =
-        cc in
+    cc in
     ap Saw same
 
 one_look :
@@ -130,7 +131,7 @@ one_look :
     IsLookAnswer setup before kind addr smm left → IsLookAnswer setup before kind addr smm right → Saw left ≡ Saw right
 one_look setup before kind addr smm left right l r =
     let same = one_span setup (byte_of setup before) addr kind smm left.lo left.hi right.lo right.hi left.area
-        right.area l.span r.span in
+    right.area l.span r.span in
     same_look left right (l.version ∙ sym r.version) same.0 same.1 same.2
 
 pub one_answer : OneAnswer
@@ -157,13 +158,12 @@ one_answer setup before (BadSector sector) left right l r = l ∙ sym r
 
 -- ---- replays
 
-entry_made : ℕ → ℕ → Event → Reply → Entry
+unfoldable pub entry_made : ℕ → ℕ → Event → Reply → Entry
 entry_made actor seq event reply = record { actor = actor; seq = seq; event = event; reply = reply }
 
-statements-newest : (entry : Entry) (before : List Entry) →
-    statements_of (entry ∷ before) ≡ statements_of before ++ statement_of entry ∷ []
-statements-newest entry before =
-    ap (map statement_of) (reverse-append (entry ∷ []) before) ∙ map-append statement_of (reverse before) (entry ∷ [])
+pub legal_before : (setup : Setup) (more before : List Entry) → IsLegal setup (more ++ before) → IsLegal setup before
+legal_before setup [] before legal = legal
+legal_before setup (entry ∷ more) before legal = legal_before setup more before legal.1
 
 record Extended (setup : Setup) (before : List Entry) (statements : List Statement) : Type 0 where
   pub history : List Entry
@@ -174,8 +174,11 @@ extended :
     (setup : Setup) (before : List Entry) (statements : List Statement) → IsLegal setup before →
     AllByRecursion (λ statement. IsAddressed statement.event) statements → Extended setup before statements
 unfolding entry_made
-extended setup before [] legal addressed = record { history = before; legal = legal;
-    same = sym (append-nil (statements_of before)) }
+extended setup before [] legal addressed = record {
+  history = before;
+  legal = legal;
+  same = sym (append-nil (statements_of before));
+}
 extended setup before (statement ∷ later) legal addressed =
     let answered = some_answer setup before statement.event addressed.0 in
     let seq : ℕ = length (entries_by statement.actor before) + 1 in
@@ -194,7 +197,7 @@ extended setup before (statement ∷ later) legal addressed =
 pub some_replay : SomeReplay
 some_replay setup statements addressed =
     let more = extended setup [] statements tt (recursion_from_All (λ statement. IsAddressed statement.event)
-        statements addressed) in
+    statements addressed) in
     record { history = more.history; replay = record { legal = more.legal; same = more.same } }
 
 same_entry :
@@ -205,11 +208,11 @@ same_entry setup before left right l r same =
     let actor : left.actor ≡ right.actor = ap (λ (s : Statement). s.actor) same in
     let event : left.event ≡ right.event = ap (λ (s : Statement). s.event) same in
     let number : left.seq ≡ right.seq = l.number ∙ ap (λ (a : ℕ). length (entries_by a before) + 1) actor
-        ∙ sym r.number in
+    ∙ sym r.number in
     let answer : IsAnswer setup before left.event right.reply = rw event r.answer in
     let reply : left.reply ≡ right.reply = one_answer setup before left.event left.reply right.reply l.answer answer in
     let whole : entry_made left.actor left.seq left.event left.reply ≡ entry_made right.actor right.seq right.event
-        right.reply = cc in
+    right.reply = cc in
     whole
 
 same_history :

@@ -152,8 +152,12 @@ io_window bytes dev k (OutsideBase bits) = []
 -- the window of a card's expansion ROM, where it has one
 abbrev pub rom_window_of : Bytes → ℕ → Option ℕ → List Window
 rom_window_of bytes dev None = []
-rom_window_of bytes dev (Some bits) = record { dev = dev; base = rom_base; inside = rom_value bytes dev;
-    bits = bits } ∷ []
+rom_window_of bytes dev (Some bits) = record {
+  dev = dev;
+  base = rom_base;
+  inside = rom_value bytes dev;
+  bits = bits;
+} ∷ []
 
 abbrev pub rom_window : Bytes → FittedCard → List Window
 rom_window bytes card = rom_window_of bytes card.dev card.rom

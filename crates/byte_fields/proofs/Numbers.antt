@@ -236,6 +236,10 @@ flag_again allowed (suc zero) few = refl
 flag_again true (suc (suc n)) few = absurd (omega arith)
 flag_again false (suc (suc n)) few = absurd (omega arith)
 
+pub bound_where-small : (there : Bool) → bound_where there 255 < 2 ^ 8
+bound_where-small true = omega arith
+bound_where-small false = omega arith
+
 flag_small : (flag : Bool) → flag_byte flag < 2 ^ 8
 flag_small false = omega arith
 flag_small true = omega arith
