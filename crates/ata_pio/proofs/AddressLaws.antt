@@ -22,22 +22,30 @@ lba_is d s h = omega arith
 
 chs_is : (d s : ℕ) → s ≤ 65536
     → ((s / 1008 % 256 + 256 * (s / 1008 / 256 % 256)) * 16 + (d / 16 * 16 + s / 63 % 16) % 16) * 63 + (s % 63 + 1) - 1
-        ≡ s
+    ≡ s
 chs_is d s h = omega arith
 
 sector_in_track : (s : ℕ) → (eqb (s % 63 + 1) 0 || ltb 63 (s % 63 + 1)) ≡ false
 sector_in_track s = grind (arith, nat_tests)
 
 lba_named : (r : Registers) (s : ℕ) → is_lba r ≡ true → s ≤ 65536
-    → named (record r { low = s % 256; mid = s / 256 % 256; high = s / 65536 % 256;
-        device = with_head r.device (s / 16777216) }) ≡ Some s
+    → named (record r {
+      low = s % 256;
+      mid = s / 256 % 256;
+      high = s / 65536 % 256;
+      device = with_head r.device (s / 16777216);
+    }) ≡ Some s
 lba_named r s e h =
     cond-true (is_bit (with_head r.device (s / 16777216)) 6) _ _ (with_head-lba r.device (s / 16777216) ∙ e)
-        ∙ ap Some (lba_is r.device s h)
+    ∙ ap Some (lba_is r.device s h)
 
 chs_named : (r : Registers) (s : ℕ) → is_lba r ≡ false → s ≤ 65536
-    → named (record r { low = s % 63 + 1; mid = s / 1008 % 256; high = s / 1008 / 256 % 256;
-        device = with_head r.device (s / 63) }) ≡ Some s
+    → named (record r {
+      low = s % 63 + 1;
+      mid = s / 1008 % 256;
+      high = s / 1008 / 256 % 256;
+      device = with_head r.device (s / 63);
+    }) ≡ Some s
 chs_named r s e h =
     cond-false (is_bit (with_head r.device (s / 63)) 6) _ _ (with_head-lba r.device (s / 63) ∙ e)
     ∙ cond-false (eqb (s % 63 + 1) 0 || ltb 63 (s % 63 + 1)) _ _ (sector_in_track s)

@@ -130,7 +130,7 @@ sector_passes : (disk : Disk) (sector : ℕ) (d : Drive) → IsChosen d → name
 sector_passes disk sector d h e r =
     let begun = begins disk sector d e r in
     let moved = sector_is_read (with_drive disk (reading sector d)) sector
-        (record { drive_zero = h.drive_zero; free = h.free }) refl in
+    (record { drive_zero = h.drive_zero; free = h.free }) refl in
     (ap (words_read 256) begun ∙ moved.words, ap (after_words_read 256) begun ∙ moved.rest)
 
 times : (n : ℕ) → suc n * 256 ≡ 256 + n * 256
@@ -153,8 +153,8 @@ reads_words (suc n) disk sector d h e more l r =
     ∙ ap (λ ws. ws ++ words_read (n * 256) (after_words_read 256 (reading_disk disk d))) passes.0
     ∙ ap (λ (x : Disk). sector_words disk.medium sector 0 256 ++ words_read (n * 256) x) after
     ∙ ap (λ ws. sector_words disk.medium sector 0 256 ++ ws)
-        (reads_words n disk (sector + 1) (next sector d) first.chosen first.names fits (omega arith)
-            (later_readable disk.medium sector n r))
+    (reads_words n disk (sector + 1) (next sector d) first.chosen first.names fits (omega arith)
+    (later_readable disk.medium sector n r))
 
 reads_on : (n : ℕ) (disk : Disk) (sector : ℕ) (d : Drive) → IsChosen d → named d.registers ≡ Some sector →
     n ≤ left_of d.registers → sector + n ≤ 65536 → AllReadable disk.medium sector n
@@ -169,9 +169,9 @@ reads_on (suc n) disk sector d h e more l r =
     ap (λ k. after_words_read k (reading_disk disk d)) (times n)
     ∙ after_words_read-add 256 (n * 256) (reading_disk disk d)
     ∙ ap (after_words_read (n * 256))
-        (passes.1 ∙ ap (with_drive disk) (sector_read-more disk.medium sector d (omega arith)))
+    (passes.1 ∙ ap (with_drive disk) (sector_read-more disk.medium sector d (omega arith)))
     ∙ reads_on n disk (sector + 1) (next sector d) first.chosen first.names fits (omega arith)
-        (later_readable disk.medium sector n r)
+    (later_readable disk.medium sector n r)
 
 times_end : (n : ℕ) → suc n * 256 ≡ n * 256 + 256
 times_end n = omega arith
@@ -186,7 +186,7 @@ read_moves_its_sectors disk sector n h e more l r =
       rest = on;
       fails = λ error bad.
           on ∙ ap (with_drive disk) (begin_read-is disk.medium d (Err error)
-              (ap (readable disk.medium) stands.names ∙ bad));
+          (ap (readable disk.medium) stands.names ∙ bad));
       ends = λ good last.
           let none : left_of d.registers ≡ 0 = omega (arith, stands.left) in
           ap (λ k. after_words_read k (reading_disk disk disk.drive)) (times_end n)
@@ -207,7 +207,7 @@ verifies_on (suc n) m sector d h e more l r =
     let fits : n ≤ left_of (next sector d).registers = omega (arith, first.left) in
     verified-more m sector d (ap (readable m) e ∙ first_readable m sector n r) (λ z. omega arith)
     ∙ verifies_on n m (sector + 1) (next sector d) first.chosen first.names fits (omega arith)
-        (later_readable m sector n r)
+    (later_readable m sector n r)
 
 pub verify_looks_at_its_sectors : VerifyLooksAtItsSectors
 verify_looks_at_its_sectors m sector n drive h e more l r =
@@ -246,7 +246,7 @@ begin_write-there : (m : Medium) (sector : ℕ) (q : Bool) (d : Drive) → named
 unfolding begin_write
 begin_write-there m sector q d e h =
     ap (λ (x : Result ℕ ℕ). writes_found x q d) (ap (found m) e
-        ∙ cond-true (ltb sector (sectors_of m)) _ _ (lt-ltb sector (sectors_of m) h))
+    ∙ cond-true (ltb sector (sectors_of m)) _ _ (lt-ltb sector (sectors_of m) h))
 
 sector_written-more : (m : Medium) (sector : ℕ) (q : Bool) (d : Drive) → 0 < left_of d.registers →
     sector_written m sector (ended (writing sector q d)) ≡ begin_write m true (next sector d)
@@ -264,14 +264,16 @@ sector_written-last m sector q d h = cond-true (eqb (left_of d.registers) 0) _ _
 sector_comes : (m : Medium) (sector : ℕ) (q : Bool) (d : Drive) (words : List ℕ) → IsChosen d →
     named d.registers ≡ Some sector → sector < sectors_of m → length words ≡ 256
     → after_words_written words (writing_disk m q d)
-    ≡ record { medium = stored m sector (bytes_of_words words);
-        drive = sector_written (stored m sector (bytes_of_words words)) sector (ended (writing sector q d)) }
+    ≡ record {
+      medium = stored m sector (bytes_of_words words);
+      drive = sector_written (stored m sector (bytes_of_words words)) sector (ended (writing sector q d));
+    }
 sector_comes m sector q d words h e there l =
     let begun : writing_disk m q d ≡ record { medium = m; drive = writing sector q d } =
     ap (λ (x : Drive). record { medium = m; drive = x }) (begin_write-there m sector q d e there) in
     ap (after_words_written words) begun
     ∙ sector_is_written (record { medium = m; drive = writing sector q d }) sector words
-        (record { drive_zero = h.drive_zero; free = h.free }) refl l
+    (record { drive_zero = h.drive_zero; free = h.free }) refl l
 
 abbrev storing : Medium → ℕ → List ℕ → Medium
 storing m sector words = stored m sector (bytes_of_words words)
@@ -302,9 +304,9 @@ writes_on (words ∷ rest) m sector q d h e more l few a =
     (sector_comes m sector q d words h e (omega arith) a.0
     ∙ ap (λ (x : Drive). record { medium = m2; drive = x }) (sector_written-more m2 sector q d (omega arith)))
     ∙ writes_on rest m2 (sector + 1) true (next sector d) first.chosen first.names fits (omega (arith, same))
-        (omega (arith, same)) a.1
+    (omega (arith, same)) a.1
     ∙ ap (λ (b : Bool). writing_disk (all_stored m2 (sector + 1) rest) b
-        (moved_on (sector + 1) (length rest) (next sector d))) (still rest)
+    (moved_on (sector + 1) (length rest) (next sector d))) (still rest)
 
 pub others_stay : (sectors : List (List ℕ)) (m : Medium) (sector other : ℕ) → IsWhole m →
     sector + length sectors ≤ sectors_of m → AreSectors sectors
@@ -315,10 +317,12 @@ others_stay (words ∷ rest) m sector other w l a o =
     let m2 = storing m sector words in
     let same : sectors_of m2 ≡ sectors_of m = length-set m.bad sector false in
     let apart : sector ≢ other = λ e. elim o [ inl p ↦ omega arith | inr p ↦ omega arith ] in
-    let later : (other < sector + 1) ⊎ (sector + 1 + length rest ≤ other) = elim o [ inl p ↦ inl (omega arith)
-        | inr p ↦ inr (omega arith) ] in
+    let later : (other < sector + 1) ⊎ (sector + 1 + length rest ≤ other) = elim o [
+      | inl p ↦ inl (omega arith)
+      | inr p ↦ inr (omega arith)
+    ] in
     others_stay rest m2 (sector + 1) other (stored-whole m sector (bytes_of_words words) w (omega arith)
-        (full words a.0)) (omega (arith, same)) a.1 later
+    (full words a.0)) (omega (arith, same)) a.1 later
     ∙ stored-other m sector other (bytes_of_words words) w (omega arith) (full words a.0) apart
 
 sectors_of-all_stored : (sectors : List (List ℕ)) (m : Medium) (sector : ℕ) →
@@ -345,5 +349,5 @@ write_moves_its_sectors m sector sectors q drive h w e more l few a =
           ∙ ap (after_words_written last) on
           ∙ sector_comes now (sector + length sectors) p d last stands.chosen stands.names room whole
           ∙ ap (λ (x : Drive). record { medium = then; drive = x }) (sector_written-last
-              then (sector + length sectors) p d left);
+          then (sector + length sectors) p d left);
     }

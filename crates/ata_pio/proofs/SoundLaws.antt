@@ -35,14 +35,15 @@ bytes_written-keeps disk s bytes h l = elim (cases_Bool (eqb (length bytes) 512)
       let m = stored disk.medium s bytes in
       let same : sectors_of m ≡ sectors_of disk.medium = length-set disk.medium.bad s false in
       let under : IsUnderWay (sectors_of m) (sector_written m s (ended disk.drive)).activity =
-          sector_written-under_way m s (ended disk.drive) in
-      let kept : Keeps disk (record { medium = m; drive = sector_written m s (ended disk.drive) }) =
-      (record { whole = stored-whole disk.medium s bytes h.whole l (eqb-true (length bytes) 512 e); under_way = under },
-          same) in
+      sector_written-under_way m s (ended disk.drive) in
+      let kept : Keeps disk (record { medium = m; drive = sector_written m s (ended disk.drive) }) = (
+        record { whole = stored-whole disk.medium s bytes h.whole l (eqb-true (length bytes) 512 e); under_way = under },
+        same,
+      ) in
       subst (λ (x : Disk). Keeps disk x) (sym (cond-true (eqb (length bytes) 512) _ _ e)) kept
   | inr e ↦
       let kept : Keeps disk (record disk { drive = record disk.drive { activity = Writing s bytes } }) =
-          same_medium disk (record disk.drive { activity = Writing s bytes }) h l in
+      same_medium disk (record disk.drive { activity = Writing s bytes }) h l in
       subst (λ (x : Disk). Keeps disk x) (sym (cond-false (eqb (length bytes) 512) _ _ e)) kept
 ]
 
@@ -59,7 +60,7 @@ word_written-keeps : (word : ℕ) (disk : Disk) → IsSound disk → Keeps disk 
 unfolding word_written
 word_written-keeps word disk h =
     either_keeps disk (is_drq disk.drive) _ _ (activity_written-keeps disk.drive.activity word disk h h.under_way)
-        (h, refl)
+    (h, refl)
 
 pub word_written-sound : (word : ℕ) (disk : Disk) → IsSound disk → IsSound (word_written word disk)
 word_written-sound word disk h = (word_written-keeps word disk h).0
@@ -72,12 +73,12 @@ byte_written-keeps : (port byte : ℕ) (disk : Disk) → IsSound disk → Keeps 
 byte_written-keeps port byte disk h =
     let n = sectors_of disk.medium in
     either_keeps disk (eqb port disk_status_port) _ _
-        (same_medium disk (commanded disk.medium byte disk.drive) h
-            (commanded-under_way disk.medium byte disk.drive h.under_way))
+    (same_medium disk (commanded disk.medium byte disk.drive) h
+    (commanded-under_way disk.medium byte disk.drive h.under_way))
     (either_keeps disk (eqb port disk_control_port) _ _
-        (same_medium disk (control_written byte disk.drive) h (control_written-under_way n byte disk.drive h.under_way))
+    (same_medium disk (control_written byte disk.drive) h (control_written-under_way n byte disk.drive h.under_way))
     (same_medium disk (register_written port byte disk.drive) h
-        (register_written-under_way n port byte disk.drive h.under_way)))
+    (register_written-under_way n port byte disk.drive h.under_way)))
 
 then_keeps : (a b c : Disk) → Keeps a b → Keeps b c → Keeps a c
 then_keeps a b c p q = (q.0, q.1 ∙ p.1)
@@ -94,10 +95,10 @@ step_keeps (Write port Two value) disk h = word_written-keeps (value % 65536) di
 step_keeps (Write port Four value) disk h =
     let first = word_written-keeps (value % 65536) disk h in
     then_keeps disk (word_written (value % 65536) disk) _ first
-        (word_written-keeps (value / 65536) (word_written (value % 65536) disk) first.0)
+    (word_written-keeps (value / 65536) (word_written (value % 65536) disk) first.0)
 step_keeps (Spoil s) disk h =
     let same : sectors_of (stepped (Spoil s) disk).medium ≡ sectors_of disk.medium =
-        length-set disk.medium.bad s true in (
+    length-set disk.medium.bad s true in (
       record {
         whole = h.whole ∙ ap (λ n. 512 * n) (sym same);
         under_way = subst (λ n. IsUnderWay n disk.drive.activity) (sym same) h.under_way;
@@ -124,7 +125,7 @@ bytes_written-same t s bytes disk h l ne = elim (cases_Bool (eqb (length bytes) 
   | inl e ↦
       subst (λ (x : Disk). SameBytes t disk x) (sym (cond-true (eqb (length bytes) 512) _ _ e))
       (stored-other disk.medium s t bytes h.whole l (eqb-true (length bytes) 512 e)
-          (ne (eqb-true (length bytes) 512 e)))
+      (ne (eqb-true (length bytes) 512 e)))
   | inr e ↦ subst (λ (x : Disk). SameBytes t disk x) (sym (cond-false (eqb (length bytes) 512) _ _ e)) refl
 ]
 
@@ -167,7 +168,7 @@ step_same (Write port Two value) disk t h n = word_written-same t (value % 65536
 step_same (Write port Four value) disk t h n =
     let parts = or_parts (word_stores disk t) _ n in
     word_written-same t (value / 65536) (word_written (value % 65536) disk)
-        (word_written-keeps (value % 65536) disk h).0 parts.1
+    (word_written-keeps (value % 65536) disk h).0 parts.1
     ∙ word_written-same t (value % 65536) disk h parts.0
 step_same (Spoil s) disk t h n = refl
 step_same Restart disk t h n = refl

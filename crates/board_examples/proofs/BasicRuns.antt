@@ -135,8 +135,13 @@ unfolding RomAfterReset port_answer memory_answer port_target_of area_of row_of 
     denial_of io_claim io_shut byte_of config_address reset_control reset_byte writable_bits host_bridge isa_bridge
     ide_function card_function stored_of
 rom_after_reset =
-    next refl (rw (rom_size, rom_byte 16 (omega arith), rom_byte 17 (omega arith), rom_byte 18 (omega arith),
-        rom_byte 19 (omega arith)) refl) after
+    next refl (rw (
+      rom_size,
+      rom_byte 16 (omega arith),
+      rom_byte 17 (omega arith),
+      rom_byte 18 (omega arith),
+      rom_byte 19 (omega arith),
+    ) refl) after
     next refl (rw (rom_size, rom_byte 18 (omega arith)) refl) after next refl (rw rom_size refl) after reset
 
 pub card_moved_under_the_rom : CardMovedUnderTheRom

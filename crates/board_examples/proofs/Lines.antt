@@ -101,10 +101,15 @@ rest (first ∷ later) = later
 pub legal : (setup : Setup) (history : List Entry) → said_in history ≡ computed_in setup history → IsLegal setup history
 legal setup [] is = tt
 legal setup (entry ∷ before) is =
-    let first : (entry.seq, told entry.reply) ≡ (length (entries_by entry.actor before) + 1,
-        computed setup before entry.event) =
+    let first : (entry.seq, told entry.reply) ≡ (
+      length (entries_by entry.actor before) + 1,
+      computed setup before entry.event,
+    ) =
     ap (head_or (entry.seq, told entry.reply)) is in (
-      record { number = ap (λ p. p.0) first; answer = answer setup before entry.event entry.reply
-          (ap (λ p. p.1) first) },
+      record {
+        number = ap (λ p. p.0) first;
+        answer = answer setup before entry.event entry.reply
+            (ap (λ p. p.1) first);
+      },
       legal setup before (ap rest is),
     )

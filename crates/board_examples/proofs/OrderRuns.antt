@@ -97,13 +97,17 @@ unfolding LookFirst port_answer memory_answer port_target_of byte_of config_addr
 look_first = (
   (
     record { number = refl; answer = refl },
-    (record { number = refl; answer = record { version = refl; span = rom_span } },
-        (record { number = refl; answer = refl }, tt)),
+    (
+      record { number = refl; answer = record { version = refl; span = rom_span } },
+      (record { number = refl; answer = refl }, tt),
+    ),
   ),
   (
     record { size = refl; each = λ actor. refl },
-    (record { size = refl; each = λ actor. either_order (statement_of opened) (statement_of sees_rom) actor refl refl },
-        refl),
+    (
+      record { size = refl; each = λ actor. either_order (statement_of opened) (statement_of sees_rom) actor refl refl },
+      refl,
+    ),
   ),
 )
 
@@ -111,12 +115,17 @@ pub look_alone : LookAlone
 unfolding LookAlone port_answer memory_answer port_target_of byte_of config_address reset_control reset_byte
     writable_bits host_bridge isa_bridge ide_function card_function map_change_of map_writes_of io_claim io_shut
 look_alone = (
-  (record { number = refl; answer = record { version = refl; span = rom_span } },
-      (record { number = refl; answer = refl }, tt)),
+  (
+    record { number = refl; answer = record { version = refl; span = rom_span } },
+    (record { number = refl; answer = refl }, tt),
+  ),
   inr (
     record { size = refl; each = λ actor. refl },
-    inl (record { size = omega arith; each = λ actor. second_alone (statement_of opened) (statement_of sees_rom)
-        actor refl refl }),
+    inl (record {
+      size = omega arith;
+      each = λ actor. second_alone (statement_of opened) (statement_of sees_rom)
+          actor refl refl;
+    }),
   ),
 )
 

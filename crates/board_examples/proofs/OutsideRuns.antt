@@ -14,7 +14,7 @@ use Rattle.board_examples.proofs.Lines.{legal}
 
 frame_span :
     IsSpan frame_board (byte_of frame_board (from_reset (take 17 outside_base))) 0xC123_4567 Read false 0xC000_0000
-        0xCFFF_FFFF (CardArea 4 0)
+    0xCFFF_FFFF (CardArea 4 0)
 unfolding reset_byte writable_bits host_bridge isa_bridge card_function byte_of config_address reset_control row_of
     area_of memory_claim
 frame_span = record {
@@ -25,8 +25,13 @@ frame_span = record {
       let end : x < 0xD000_0000 = omega arith in
       let window : Window = record { dev = 4; base = 0; inside = 0xC000_0000; bits = 28 } in
       let covered : is_covered x window ≡ true = covers-yes x 0xC window refl from end in
-      rw (le-ltb x 0x80_0000 (omega arith), above 0xA_0000 0xB_FFFF x (omega arith),
-          above 0xA_0000 0xF_FFFF x (omega arith), no_rom x (omega arith) (omega arith), covered) refl;
+      rw (
+        le-ltb x 0x80_0000 (omega arith),
+        above 0xA_0000 0xB_FFFF x (omega arith),
+        above 0xA_0000 0xF_FFFF x (omega arith),
+        no_rom x (omega arith) (omega arith),
+        covered,
+      ) refl;
   begins = inr (λ e. grind (arith, e));
   ends = inr (λ e. grind (arith, e));
 }

@@ -13,7 +13,7 @@ use Rattle.board_examples.proofs.Lines.{legal}
 
 rom_span :
     IsSpan rom_card_board (byte_of rom_card_board (from_reset (take 11 expansion_rom))) 0xD000_0004 Read false
-        0xD000_0000 0xD000_FFFF (CardArea 2 6)
+    0xD000_0000 0xD000_FFFF (CardArea 2 6)
 unfolding reset_byte writable_bits host_bridge isa_bridge card_function byte_of config_address reset_control row_of
     area_of memory_claim
 rom_span = record {
@@ -24,15 +24,20 @@ rom_span = record {
       let end : x < 0xD001_0000 = omega arith in
       let window : Window = record { dev = 2; base = 6; inside = 0xD000_0001; bits = 16 } in
       let covered : is_covered x window ≡ true = covers-yes x 0xD000 window refl from end in
-      rw (le-ltb x 0x80_0000 (omega arith), above 0xA_0000 0xB_FFFF x (omega arith),
-          above 0xA_0000 0xF_FFFF x (omega arith), no_rom x (omega arith) (omega arith), covered) refl;
+      rw (
+        le-ltb x 0x80_0000 (omega arith),
+        above 0xA_0000 0xB_FFFF x (omega arith),
+        above 0xA_0000 0xF_FFFF x (omega arith),
+        no_rom x (omega arith) (omega arith),
+        covered,
+      ) refl;
   begins = inr (λ e. grind (arith, e));
   ends = inr (λ e. grind (arith, e));
 }
 
 gap_span :
     IsSpan rom_card_board (byte_of rom_card_board (from_reset (take 15 expansion_rom))) 0xD000_0004 Read false 0x80_0000
-        0xFFFE_FFFF AbortArea
+    0xFFFE_FFFF AbortArea
 unfolding reset_byte writable_bits host_bridge isa_bridge card_function byte_of config_address reset_control row_of
     area_of memory_claim
 gap_span = record {
@@ -40,8 +45,12 @@ gap_span = record {
   below = omega arith;
   last = omega arith;
   same = λ x from to.
-      rw (le-ltb x 0x80_0000 (omega arith), above 0xA_0000 0xB_FFFF x (omega arith),
-          above 0xA_0000 0xF_FFFF x (omega arith), no_rom x (omega arith) (omega arith)) refl;
+      rw (
+        le-ltb x 0x80_0000 (omega arith),
+        above 0xA_0000 0xB_FFFF x (omega arith),
+        above 0xA_0000 0xF_FFFF x (omega arith),
+        no_rom x (omega arith) (omega arith),
+      ) refl;
   begins = inr (λ e. grind (arith, e));
   ends = inr (λ e. grind (arith, e));
 }

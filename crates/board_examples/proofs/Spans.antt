@@ -32,11 +32,11 @@ covers-no : (x k : ℕ) (window : Window) → 0 < 2 ^ window.bits →
     window.inside / 2 ^ window.bits ≡ k → x < k * 2 ^ window.bits → is_covered x window ≡ false
 covers-no x k window positive is before =
     ne_eqb _ _ (less_differs (window.inside / 2 ^ window.bits) (x / 2 ^ window.bits) k is
-        ((div-lt_iff_lt-mul {k = 2 ^ window.bits} {x = x} {y = k} positive).1 before))
+    ((div-lt_iff_lt-mul {k = 2 ^ window.bits} {x = x} {y = k} positive).1 before))
 
 pub two_cards_span :
     IsSpan two_cards (byte_of two_cards (from_reset (take 11 two_cards_at_one_address))) 0xC000_0000 Read false
-        0xC000_0000 0xC000_0FFF (CardArea 2 0)
+    0xC000_0000 0xC000_0FFF (CardArea 2 0)
 unfolding byte_of config_address reset_control reset_byte writable_bits host_bridge isa_bridge ide_function
     card_function row_of area_of memory_claim
 two_cards_span = record {
@@ -47,15 +47,20 @@ two_cards_span = record {
       let end : x < 0xC000_1000 = omega arith in
       let window : Window = record { dev = 2; base = 0; inside = 0xC000_0000; bits = 12 } in
       let covered : is_covered x window ≡ true = covers-yes x 0xC_0000 window refl from end in
-      rw (le-ltb x 0x80_0000 (omega arith), above 0xA_0000 0xB_FFFF x (omega arith),
-          above 0xA_0000 0xF_FFFF x (omega arith), no_rom x (omega arith) (omega arith), covered) refl;
+      rw (
+        le-ltb x 0x80_0000 (omega arith),
+        above 0xA_0000 0xB_FFFF x (omega arith),
+        above 0xA_0000 0xF_FFFF x (omega arith),
+        no_rom x (omega arith) (omega arith),
+        covered,
+      ) refl;
   begins = inr (λ e. grind (arith, e));
   ends = inr (λ e. grind (arith, e));
 }
 
 pub low_card_span :
     IsSpan moved_card (byte_of moved_card (from_reset (take 4 card_moved_under_the_rom))) 0xE000_0000 Read false
-        0xE000_0000 0xE00F_FFFF (CardArea 2 0)
+    0xE000_0000 0xE00F_FFFF (CardArea 2 0)
 unfolding byte_of config_address reset_control reset_byte writable_bits host_bridge isa_bridge ide_function
     card_function row_of area_of memory_claim
 low_card_span = record {
@@ -66,15 +71,20 @@ low_card_span = record {
       let end : x < 0xE010_0000 = omega arith in
       let window : Window = record { dev = 2; base = 0; inside = 0xE000_0000; bits = 20 } in
       let covered : is_covered x window ≡ true = covers-yes x 0xE00 window refl from end in
-      rw (le-ltb x 0x80_0000 (omega arith), above 0xA_0000 0xB_FFFF x (omega arith),
-          above 0xA_0000 0xF_FFFF x (omega arith), no_rom x (omega arith) (omega arith), covered) refl;
+      rw (
+        le-ltb x 0x80_0000 (omega arith),
+        above 0xA_0000 0xB_FFFF x (omega arith),
+        above 0xA_0000 0xF_FFFF x (omega arith),
+        no_rom x (omega arith) (omega arith),
+        covered,
+      ) refl;
   begins = inr (λ e. grind (arith, e));
   ends = inr (λ e. grind (arith, e));
 }
 
 pub gap_span :
     IsSpan moved_card (byte_of moved_card (from_reset (take 8 card_moved_under_the_rom))) 0xE000_0000 Read false
-        0x80_0000 0xFFEF_FFFF AbortArea
+    0x80_0000 0xFFEF_FFFF AbortArea
 unfolding byte_of config_address reset_control reset_byte writable_bits host_bridge isa_bridge ide_function
     card_function row_of area_of memory_claim
 gap_span = record {
@@ -85,15 +95,20 @@ gap_span = record {
       let before : x < 0xFFF0_0000 = omega arith in
       let window : Window = record { dev = 2; base = 0; inside = 0xFFF0_0000; bits = 20 } in
       let covered : is_covered x window ≡ false = covers-no x 0xFFF window (omega arith) refl before in
-      rw (le-ltb x 0x80_0000 (omega arith), above 0xA_0000 0xB_FFFF x (omega arith),
-          above 0xA_0000 0xF_FFFF x (omega arith), no_rom x (omega arith) (omega arith), covered) refl;
+      rw (
+        le-ltb x 0x80_0000 (omega arith),
+        above 0xA_0000 0xB_FFFF x (omega arith),
+        above 0xA_0000 0xF_FFFF x (omega arith),
+        no_rom x (omega arith) (omega arith),
+        covered,
+      ) refl;
   begins = inr (λ e. grind (arith, e));
   ends = inr (λ e. grind (arith, e));
 }
 
 pub high_card_span :
     IsSpan moved_card (byte_of moved_card (from_reset (take 9 card_moved_under_the_rom))) 0xFFFE_0000 Read false
-        0xFFF0_0000 0xFFFE_FFFF (CardArea 2 0)
+    0xFFF0_0000 0xFFFE_FFFF (CardArea 2 0)
 unfolding byte_of config_address reset_control reset_byte writable_bits host_bridge isa_bridge ide_function
     card_function row_of area_of memory_claim
 high_card_span = record {
@@ -104,8 +119,13 @@ high_card_span = record {
       let end : x < 0x1_0000_0000 = omega arith in
       let window : Window = record { dev = 2; base = 0; inside = 0xFFF0_0000; bits = 20 } in
       let covered : is_covered x window ≡ true = covers-yes x 0xFFF window refl from end in
-      rw (le-ltb x 0x80_0000 (omega arith), above 0xA_0000 0xB_FFFF x (omega arith),
-          above 0xA_0000 0xF_FFFF x (omega arith), no_rom x (omega arith) (omega arith), covered) refl;
+      rw (
+        le-ltb x 0x80_0000 (omega arith),
+        above 0xA_0000 0xB_FFFF x (omega arith),
+        above 0xA_0000 0xF_FFFF x (omega arith),
+        no_rom x (omega arith) (omega arith),
+        covered,
+      ) refl;
   begins = inr (λ e. grind (arith, e));
   ends = inr (λ e. grind (arith, e));
 }

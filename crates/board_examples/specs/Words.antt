@@ -27,8 +27,10 @@ from_reset lines = continued [] lines
 
 abbrev pub memory_access : Kind → Bool → Width → ℕ → ℕ → Reply → Said
 memory_access kind smm width addr value reply =
-    record { asked = Memory (record { kind = kind; addr = addr; width = width; smm = smm; value = value });
-        replied = reply }
+    record {
+      asked = Memory (record { kind = kind; addr = addr; width = width; smm = smm; value = value });
+      replied = reply;
+    }
 
 abbrev pub reads : Width → ℕ → Reply → Said
 reads width addr reply = memory_access Read false width addr 0 reply
@@ -104,8 +106,10 @@ sees version lo hi area = Saw (record { version = version; lo = lo; hi = hi; are
 
 abbrev pub wide_access : Kind → Bool → (bytes addr value : ℕ) → Reply → Said
 wide_access kind smm bytes addr value reply =
-    record { asked = Wide (record { kind = kind; addr = addr; bytes = bytes; smm = smm; value = value });
-        replied = reply }
+    record {
+      asked = Wide (record { kind = kind; addr = addr; bytes = bytes; smm = smm; value = value });
+      replied = reply;
+    }
 
 abbrev pub reads_wide : (bytes addr : ℕ) → Reply → Said
 reads_wide bytes addr reply = wide_access Read false bytes addr 0 reply

@@ -87,7 +87,7 @@ shows clock time size showable =
     let n = number_byte c time.month in
     let y = number_byte c (time.year % 100) in
     let same = timed-other b s m h w d n y 11 size (omega arith) (omega arith) (omega arith) (omega arith) (omega arith)
-        (omega arith) (omega arith) in
+    (omega arith) (omega arith) in
     record {
       seconds = read_as _ _ c time.second same (timed-second b s m h w d n y size) (omega (arith, showable.seconds));
       minutes = read_as _ _ c time.minute same (timed-minute b s m h w d n y size) (omega (arith, showable.minutes));
@@ -127,7 +127,7 @@ all_three p q r p' q' r' e f h = rw (e, f, h) refl
 
 rings : (clock : Clock) (time alarm : CivilTime) → length clock.bytes ≡ 128 → IsShowable time → IsShowable alarm →
     HasAlarm clock alarm → alarm_rings (put (time_bytes (control_of clock) time) clock.bytes)
-        ≡ same_time_of_day alarm time
+    ≡ same_time_of_day alarm time
 rings clock time alarm size now due set_to =
     let c = control_of clock in
     let b = clock.bytes in
@@ -139,22 +139,22 @@ rings clock time alarm size now due set_to =
     let n = number_byte c time.month in
     let y = number_byte c (time.year % 100) in
     let second_alarm = timed-other b s m h w d n y 1 size (omega arith) (omega arith) (omega arith) (omega arith)
-        (omega arith) (omega arith) (omega arith) ∙ set_to.seconds in
+    (omega arith) (omega arith) (omega arith) ∙ set_to.seconds in
     let minute_alarm = timed-other b s m h w d n y 3 size (omega arith) (omega arith) (omega arith) (omega arith)
-        (omega arith) (omega arith) (omega arith) ∙ set_to.minutes in
+    (omega arith) (omega arith) (omega arith) ∙ set_to.minutes in
     let hour_alarm = timed-other b s m h w d n y 5 size (omega arith) (omega arith) (omega arith) (omega arith)
-        (omega arith) (omega arith) (omega arith) ∙ set_to.hours in
+    (omega arith) (omega arith) (omega arith) ∙ set_to.hours in
     all_three _ _ _ _ _ _
     (fits_its_own (number_byte c) (number_read c) alarm.second time.second _ _ second_alarm
-        (timed-second b s m h w d n y size) (number_byte_low c alarm.second (omega (arith, due.seconds)))
-        (number_back c alarm.second (omega (arith, due.seconds)))
-        (number_back c time.second (omega (arith, now.seconds))))
+    (timed-second b s m h w d n y size) (number_byte_low c alarm.second (omega (arith, due.seconds)))
+    (number_back c alarm.second (omega (arith, due.seconds)))
+    (number_back c time.second (omega (arith, now.seconds))))
     (fits_its_own (number_byte c) (number_read c) alarm.minute time.minute _ _ minute_alarm
-        (timed-minute b s m h w d n y size) (number_byte_low c alarm.minute (omega (arith, due.minutes)))
-        (number_back c alarm.minute (omega (arith, due.minutes)))
-        (number_back c time.minute (omega (arith, now.minutes))))
+    (timed-minute b s m h w d n y size) (number_byte_low c alarm.minute (omega (arith, due.minutes)))
+    (number_back c alarm.minute (omega (arith, due.minutes)))
+    (number_back c time.minute (omega (arith, now.minutes))))
     (fits_its_own (hour_byte c) (hour_read c) alarm.hour time.hour _ _ hour_alarm (timed-hour b s m h w d n y size)
-        (hour_byte_low c alarm.hour due.hours) (hour_back c alarm.hour due.hours) (hour_back c time.hour now.hours))
+    (hour_byte_low c alarm.hour due.hours) (hour_back c alarm.hour due.hours) (hour_back c time.hour now.hours))
 
 pub rings_at_its_time : RingsAtItsTime
 rings_at_its_time clock time alarm size let_in now due set_to =
@@ -247,8 +247,12 @@ sound_read clock port was =
 sound_write : (clock : Clock) (port byte : ℕ) → IsSound clock → IsSound (after_write clock port byte)
 sound_write clock port byte was =
     elim (cases_Bool (port == clock_index_port)) [
-      | inl e ↦ rw e (record { size = was.size; within = omega arith; no_update = was.no_update;
-          stopped = was.stopped })
+      | inl e ↦ rw e (record {
+        size = was.size;
+        within = omega arith;
+        no_update = was.no_update;
+        stopped = was.stopped;
+      })
       | inr e ↦ elim (cases_Bool (port == clock_data_port)) [
         | inl f ↦ rw (e, f) (record {
           size = size_kept clock.bytes clock.index _ was.size;
@@ -272,9 +276,9 @@ sound_moment clock time was =
     let n = number_byte c time.month in
     let y = number_byte c (time.year % 100) in
     let a_same = timed-other b s m h w d n y 10 was.size (omega arith) (omega arith) (omega arith) (omega arith)
-        (omega arith) (omega arith) (omega arith) in
+    (omega arith) (omega arith) (omega arith) in
     let b_same = timed-other b s m h w d n y 11 was.size (omega arith) (omega arith) (omega arith) (omega arith)
-        (omega arith) (omega arith) (omega arith) in
+    (omega arith) (omega arith) (omega arith) in
     elim (cases_Bool (holds_time c)) [
       | inl e ↦ rw e was
       | inr e ↦ rw e (record {

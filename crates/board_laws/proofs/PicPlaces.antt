@@ -49,9 +49,9 @@ found : (d i : ℕ) (chip : Chip) (level : ℕ) → chip.lowest < 8 → CanBeSel
 found zero i chip level h can at_place =
     let here : i ≡ place_of chip.lowest level = omega arith in
     let is : get_or (priority_order chip.lowest) i 0 ≡ level = ap (λ k. get_or (priority_order chip.lowest) k 0) here
-        ∙ level_at chip.lowest level h can.inside in
+    ∙ level_at chip.lowest level h can.inside in
     let inside : i < length (priority_order chip.lowest) =
-        rw (eight chip.lowest h) (omega (arith, place-small chip.lowest level)) in
+    rw (eight chip.lowest h) (omega (arith, place-small chip.lowest level)) in
     rw (scan-found chip (priority_order chip.lowest) i inside (rw is (can-asks chip level can))) refl
 found (suc d) i chip level h can at_place =
     let order = priority_order chip.lowest in
@@ -74,7 +74,7 @@ pub selected-interrupts : SelectedInterrupts
 selected-interrupts chip level h ready can =
     ap (λ b. is_some (cond b (request chip) None)) ready
     ∙ (ap is_some (request-is chip (priority_order chip.lowest) refl)
-        ∙ found (place_of chip.lowest level) 0 chip level h can (omega arith))
+    ∙ found (place_of chip.lowest level) 0 chip level h can (omega arith))
 
 -- a level at an earlier place of the order neither asks nor blocks
 pub record IsQuiet (chip : Chip) (level : ℕ) : Type 0 where
@@ -100,20 +100,22 @@ earlier-quiet chip level other first h inside early =
     let at_place : get_or first.higher (place_of chip.lowest other) 0 ≡ other =
     sym (get_or_append_left first.higher (level ∷ first.lower) 0 (place_of chip.lowest other) early)
     ∙ (sym (ap (λ order. get_or order (place_of chip.lowest other) 0) first.place)
-        ∙ level_at chip.lowest other h inside) in
+    ∙ level_at chip.lowest other h inside) in
     let quiet = quiet-before chip first.higher (place_of chip.lowest other) first.first early in
-    record { silent = ap (is_requested chip) (sym at_place) ∙ quiet.silent;
-        idle = ap (is_blocking chip) (sym at_place) ∙ quiet.idle }
+    record {
+      silent = ap (is_requested chip) (sym at_place) ∙ quiet.silent;
+      idle = ap (is_blocking chip) (sym at_place) ∙ quiet.idle;
+    }
 
 first-place : (chip : Chip) (level : ℕ) (first : IsFirstInOrder chip (priority_order chip.lowest) level) →
     chip.lowest < 8 → place_of chip.lowest level ≡ length first.higher
 first-place chip level first h =
     let here : length first.higher < length (priority_order chip.lowest) =
-        rw (first.place) (rw (length-append first.higher (level ∷ first.lower)) (omega arith)) in
+    rw (first.place) (rw (length-append first.higher (level ∷ first.lower)) (omega arith)) in
     let before : length first.higher < 8 = (let e = eight chip.lowest h in omega (arith, e, here)) in
     let is : get_or (priority_order chip.lowest) (length first.higher) 0 ≡ level =
-        ap (λ order. get_or order (length first.higher) 0) first.place
-            ∙ get_or-append_seam first.higher level first.lower 0 in
+    ap (λ order. get_or order (length first.higher) 0) first.place
+    ∙ get_or-append_seam first.higher level first.lower 0 in
     ap (place_of chip.lowest) (sym is) ∙ place_at chip.lowest (length first.higher) h before
 
 ready-interrupt : (chip : Chip) (level : ℕ) → interrupt chip ≡ Some level → chip.is_ready ≡ true
@@ -139,8 +141,8 @@ interrupt-selected chip level h e =
           | inr not_after ↦ elim (cases_eq (place_of chip.lowest other) (length first.higher)) [
             | inl same ↦
                 absurd (apart (sym (level_at chip.lowest other h inside)
-                    ∙ (ap (λ k. get_or (priority_order chip.lowest) k 0) (same ∙ sym place)
-                        ∙ level_at chip.lowest level h small)))
+                ∙ (ap (λ k. get_or (priority_order chip.lowest) k 0) (same ∙ sym place)
+                ∙ level_at chip.lowest level h small)))
             | inr other_place ↦
                 absurd (false≢true (sym (earlier-quiet chip level other first h inside (omega arith)).idle ∙ blocks))
           ]
@@ -177,7 +179,7 @@ served (suc d) i chip level h first at_place =
       | inl blocks ↦
           let apart : other ≢ level = λ e. (let e' = ap (place_of chip.lowest) e in omega (arith, e', place)) in
           absurd (let late = first.first other (priority_order-small chip.lowest i h before) apart blocks in
-              omega (arith, late, place))
+          omega (arith, late, place))
       | inr idle ↦ find-past (is_blocking chip) order i inside idle ∙ served d (i + 1) chip level h first (omega arith)
     ]
 
@@ -189,9 +191,9 @@ non-specific chip byte b4 b3 command = rw (b4, b3, command) refl
 pub non-specific-first : NonSpecificEndEndsFirst
 non-specific-first chip byte level h b4 b3 command first =
     let is : first_blocking chip ≡ Some level = first_blocking-is chip (priority_order chip.lowest) refl
-        ∙ served (place_of chip.lowest level) 0 chip level h first (omega arith) in
+    ∙ served (place_of chip.lowest level) 0 chip level h first (omega arith) in
     let after : chip_after_write chip false byte ≡ record chip { in_service = without_level chip.in_service level } =
-        non-specific chip byte b4 b3 command ∙ ap (ended false chip) is in
+    non-specific chip byte b4 b3 command ∙ ap (ended false chip) is in
     rw after (without-one chip level first.inside)
 
 none-served : (d i : ℕ) (chip : Chip) → chip.lowest < 8 → ((level : ℕ) → level < 8 → is_blocking chip level ≡ false) →
@@ -203,11 +205,11 @@ none-served zero i chip h none at_place =
 none-served (suc d) i chip h none at_place =
     let inside : i < length (priority_order chip.lowest) = rw (eight chip.lowest h) (omega arith) in
     find-past (is_blocking chip) (priority_order chip.lowest) i inside
-        (none _ (priority_order-small chip.lowest i h (omega arith)))
+    (none _ (priority_order-small chip.lowest i h (omega arith)))
     ∙ none-served d (i + 1) chip h none (omega arith)
 
 pub non-specific-none : NonSpecificEndOfNone
 non-specific-none chip byte h b4 b3 command none =
     non-specific chip byte b4 b3 command
     ∙ ap (ended false chip) (first_blocking-is chip (priority_order chip.lowest) refl
-        ∙ none-served 8 0 chip h none refl)
+    ∙ none-served 8 0 chip h none refl)

@@ -15,8 +15,10 @@ number notation low high = byte_value notation low + byte_values notation * byte
 made_of : (notation : Notation) (low high : ℕ) → IsByteOf notation low → IsByteOf notation high →
     IsMadeOf notation (number notation low high) low high
 made_of Binary low high l h = record { first = omega arith; second = omega arith }
-made_of Decimal low high l h = record { first = omega (arith, l.0, l.1, h.0, h.1);
-    second = omega (arith, l.0, l.1, h.0, h.1) }
+made_of Decimal low high l h = record {
+  first = omega (arith, l.0, l.1, h.0, h.1);
+  second = omega (arith, l.0, l.1, h.0, h.1);
+}
 
 -- a count is the number written, or M for 0
 count_is : (mode : Mode) (notation : Notation) (n : ℕ) → is_periodic mode ≡ false →

@@ -18,25 +18,85 @@ pub pulse_loads : PulseLoads
 unfolding pulse pulse_by_mode load
 pulse_loads TerminalCount gate n c m e h =
     let both = and_parts c.load_asked (not c.stopped) h in
-    rw (m, not-true c.stopped both.1, both.0, e) (record { mode = refl; element = refl; count = e; in_use = refl;
-        out = refl; null_count = refl; load_asked = refl; trigger = refl; started = refl; expired = refl })
+    rw (m, not-true c.stopped both.1, both.0, e) (record {
+      mode = refl;
+      element = refl;
+      count = e;
+      in_use = refl;
+      out = refl;
+      null_count = refl;
+      load_asked = refl;
+      trigger = refl;
+      started = refl;
+      expired = refl;
+    })
 pulse_loads OneShot gate n c m e h =
-    rw (m, h, e) (record { mode = refl; element = refl; count = refl; in_use = refl; out = refl; null_count = refl;
-        load_asked = refl; trigger = refl; started = refl; expired = refl })
+    rw (m, h, e) (record {
+      mode = refl;
+      element = refl;
+      count = refl;
+      in_use = refl;
+      out = refl;
+      null_count = refl;
+      load_asked = refl;
+      trigger = refl;
+      started = refl;
+      expired = refl;
+    })
 pulse_loads RateGenerator gate n c m e h =
     rw (m, e, either c.load_asked c.trigger true h)
-        (record { mode = refl; element = refl; count = refl; in_use = refl; out = refl; null_count = refl;
-            load_asked = refl; trigger = refl; started = refl; expired = refl })
+    (record {
+      mode = refl;
+      element = refl;
+      count = refl;
+      in_use = refl;
+      out = refl;
+      null_count = refl;
+      load_asked = refl;
+      trigger = refl;
+      started = refl;
+      expired = refl;
+    })
 pulse_loads SquareWave gate n c m e h =
     rw (m, e, either c.load_asked c.trigger true h)
-        (record { mode = refl; element = refl; count = refl; in_use = refl; out = refl; null_count = refl;
-            load_asked = refl; trigger = refl; started = refl; expired = refl })
+    (record {
+      mode = refl;
+      element = refl;
+      count = refl;
+      in_use = refl;
+      out = refl;
+      null_count = refl;
+      load_asked = refl;
+      trigger = refl;
+      started = refl;
+      expired = refl;
+    })
 pulse_loads SoftwareStrobe gate n c m e h =
-    rw (m, h, e) (record { mode = refl; element = refl; count = e; in_use = refl; out = refl; null_count = refl;
-        load_asked = refl; trigger = refl; started = refl; expired = refl })
+    rw (m, h, e) (record {
+      mode = refl;
+      element = refl;
+      count = e;
+      in_use = refl;
+      out = refl;
+      null_count = refl;
+      load_asked = refl;
+      trigger = refl;
+      started = refl;
+      expired = refl;
+    })
 pulse_loads HardwareStrobe gate n c m e h =
-    rw (m, h, e) (record { mode = refl; element = refl; count = e; in_use = refl; out = refl; null_count = refl;
-        load_asked = refl; trigger = refl; started = refl; expired = refl })
+    rw (m, h, e) (record {
+      mode = refl;
+      element = refl;
+      count = e;
+      in_use = refl;
+      out = refl;
+      null_count = refl;
+      load_asked = refl;
+      trigger = refl;
+      started = refl;
+      expired = refl;
+    })
 
 -- MODES 0 AND 1
 
@@ -111,7 +171,7 @@ comes_to_end : (gate : Bool) (j : ℕ) (level : Bool) (c : CounterState) → c.e
 unfolding pulses_of
 comes_to_end gate j level c is out counts =
     ap (pulse gate) (runs_down gate (suc j) level c is out counts j (omega arith)
-        ∙ ap (λ e. phase c e level) (omega arith))
+    ∙ ap (λ e. phase c e level) (omega arith))
 
 -- a property that a pulse keeps is kept by more of them
 stays_on : (P : CounterState → Type 0) (gate : Bool) (c : CounterState) (n : ℕ) →
@@ -139,11 +199,11 @@ counts_end_once = record {
   terminal_count = λ n c least s stopped.
       let is : n ≡ suc (n - 1) = omega arith in
       subst (λ m. EndsOnce true m c) (sym is) (ends_once TerminalCount true (n - 1) c (s.element ∙ is) s.out
-          (λ e h. terminal_counts n e c s stopped h) (terminal_ends n c s stopped) (terminal_stays true));
+      (λ e h. terminal_counts n e c s stopped h) (terminal_ends n c s stopped) (terminal_stays true));
   one_shot = λ gate n c least s.
       let is : n ≡ suc (n - 1) = omega arith in
       subst (λ m. EndsOnce gate m c) (sym is) (ends_once OneShot gate (n - 1) c (s.element ∙ is) s.out
-          (λ e h. one_shot_counts gate n e c s h) (one_shot_ends gate n c s) (one_shot_stays gate));
+      (λ e h. one_shot_counts gate n e c s h) (one_shot_ends gate n c s) (one_shot_stays gate));
 }
 
 -- MODES 4 AND 5
@@ -181,15 +241,17 @@ software_strobes : (n : ℕ) (c : CounterState) → IsAtLoad SoftwareStrobe n tr
 unfolding pulse pulse_by_mode count_to_strobe count_down
 software_strobes n c s =
     rw (s.mode, s.load_asked, s.started, s.expired)
-        (record { given = record { mode = refl; load_asked = refl; trigger = refl; expired = refl }; low = refl })
+    (record { given = record { mode = refl; load_asked = refl; trigger = refl; expired = refl }; low = refl })
 
 hardware_strobes : (gate : Bool) (n : ℕ) (c : CounterState) → IsAtLoad HardwareStrobe n true c →
     IsStrobe HardwareStrobe (pulse gate (phase c 1 true))
 unfolding pulse pulse_by_mode count_to_strobe count_down
 hardware_strobes gate n c s =
     rw (s.mode, s.trigger, s.started, s.expired)
-        (record { given = record { mode = refl; load_asked = s.load_asked; trigger = refl; expired = refl };
-            low = refl })
+    (record {
+      given = record { mode = refl; load_asked = s.load_asked; trigger = refl; expired = refl };
+      low = refl;
+    })
 
 -- after it a pulse counts on, and OUT is 1
 record IsPastStrobe (of_mode : Mode) (c : CounterState) : Type 0 where
@@ -207,8 +269,10 @@ past_if of_mode false x y p q = q
 
 past_now : (of_mode : Mode) (c : CounterState) → c.mode ≡ of_mode → c.load_asked ≡ false → c.trigger ≡ false →
     c.expired ≡ true → c.out ≡ true → IsPastStrobe of_mode c
-past_now of_mode c m l t x o = record { given = record { mode = m; load_asked = l; trigger = t; expired = x };
-    high = o }
+past_now of_mode c m l t x o = record {
+  given = record { mode = m; load_asked = l; trigger = t; expired = x };
+  high = o;
+}
 
 software_past : (gate : Bool) (c : CounterState) → HasStrobed SoftwareStrobe c →
     IsPastStrobe SoftwareStrobe (pulse gate c)
@@ -216,10 +280,10 @@ unfolding pulse pulse_by_mode count_down
 software_past gate c s =
     let d = record c { mode = SoftwareStrobe; load_asked = false; trigger = false; out = true } in
     let counted : IsPastStrobe SoftwareStrobe (count_to_strobe d) =
-        subst (IsPastStrobe SoftwareStrobe) (sym (counts_on d s.expired))
-            (past_now SoftwareStrobe (count_down d) refl refl refl s.expired refl) in
+    subst (IsPastStrobe SoftwareStrobe) (sym (counts_on d s.expired))
+    (past_now SoftwareStrobe (count_down d) refl refl refl s.expired refl) in
     rw (s.mode, s.load_asked) (past_if SoftwareStrobe (c.started && gate) (count_to_strobe d) d counted
-        (past_now SoftwareStrobe d refl refl refl s.expired refl))
+    (past_now SoftwareStrobe d refl refl refl s.expired refl))
 
 hardware_past : (gate : Bool) (c : CounterState) → HasStrobed HardwareStrobe c →
     IsPastStrobe HardwareStrobe (pulse gate c)
@@ -227,10 +291,10 @@ unfolding pulse pulse_by_mode count_down
 hardware_past gate c s =
     let d = record c { mode = HardwareStrobe; trigger = false; out = true } in
     let counted : IsPastStrobe HardwareStrobe (count_to_strobe d) =
-        subst (IsPastStrobe HardwareStrobe) (sym (counts_on d s.expired))
-            (past_now HardwareStrobe (count_down d) refl s.load_asked refl s.expired refl) in
+    subst (IsPastStrobe HardwareStrobe) (sym (counts_on d s.expired))
+    (past_now HardwareStrobe (count_down d) refl s.load_asked refl s.expired refl) in
     rw (s.mode, s.trigger) (past_if HardwareStrobe c.started (count_to_strobe d) d counted
-        (past_now HardwareStrobe d refl s.load_asked refl s.expired refl))
+    (past_now HardwareStrobe d refl s.load_asked refl s.expired refl))
 
 strobes_once : (of_mode : Mode) (gate : Bool) (j : ℕ) (c : CounterState) → c.element ≡ suc j → c.out ≡ true
     → ((e : ℕ) → 2 ≤ e → pulse gate (phase c e true) ≡ phase c (e - 1) true)
@@ -246,9 +310,9 @@ strobes_once of_mode gate j c is out counts strobe past =
         | inl before ↦ ap (λ d. d.out) (runs_down gate (suc j) true c is out counts k before)
         | inr not_before ↦
             let later = stays_on (HasStrobed of_mode) gate c (suc j) (λ d given. (past d given).given) at_end.given
-                (k - suc (suc j)) in
+            (k - suc (suc j)) in
             ap (λ i. (pulses_of gate i c).out) (let e : k ≡ suc (suc j + (k - suc (suc j))) = omega arith in e)
-                ∙ (past _ later).high
+            ∙ (past _ later).high
       ];
     }
 
@@ -257,9 +321,9 @@ counts_strobe_once = record {
   software = λ n c least s.
       let is : n ≡ suc (n - 1) = omega arith in
       subst (λ m. StrobesOnce true m c) (sym is) (strobes_once SoftwareStrobe true (n - 1) c (s.element ∙ is) s.out
-          (λ e h. software_counts n e c s h) (software_strobes n c s) (software_past true));
+      (λ e h. software_counts n e c s h) (software_strobes n c s) (software_past true));
   hardware = λ gate n c least s.
       let is : n ≡ suc (n - 1) = omega arith in
       subst (λ m. StrobesOnce gate m c) (sym is) (strobes_once HardwareStrobe gate (n - 1) c (s.element ∙ is) s.out
-          (λ e h. hardware_counts gate n e c s h) (hardware_strobes gate n c s) (hardware_past gate));
+      (λ e h. hardware_counts gate n e c s h) (hardware_strobes gate n c s) (hardware_past gate));
 }

@@ -108,16 +108,28 @@ waits_by : (a : Access) (low : Option ℕ) (byte n : ℕ) (c : CounterState) →
     → c.started ≡ true → c.count ≡ Some n → c.access ≡ a → c.low_written ≡ low → IsWaiting c (write byte c)
 unfolding write take_byte take_low complete
 waits_by LowByte low byte n c ends asks started count a l =
-    record { m = count_of_bytes c.mode c.notation byte 0; null = true; low = None;
-        is = rw (a, ends, started, asks, and-true c.out, or-false c.load_asked) (rw a refl) }
+    record {
+      m = count_of_bytes c.mode c.notation byte 0;
+      null = true;
+      low = None;
+      is = rw (a, ends, started, asks, and-true c.out, or-false c.load_asked) (rw a refl);
+    }
 waits_by HighByte low byte n c ends asks started count a l =
-    record { m = count_of_bytes c.mode c.notation 0 byte; null = true; low = None;
-        is = rw (a, ends, started, asks, and-true c.out, or-false c.load_asked) (rw a refl) }
+    record {
+      m = count_of_bytes c.mode c.notation 0 byte;
+      null = true;
+      low = None;
+      is = rw (a, ends, started, asks, and-true c.out, or-false c.load_asked) (rw a refl);
+    }
 waits_by LowThenHigh None byte n c ends asks started count a l =
     record { m = n; null = c.null_count; low = Some byte; is = rw (a, l, ends, count, and-true c.out) (rw a refl) }
 waits_by LowThenHigh (Some low) byte n c ends asks started count a l =
-    record { m = count_of_bytes c.mode c.notation low byte; null = true; low = None;
-        is = rw (a, l, ends, started, asks, and-true c.out, or-false c.load_asked) (rw a refl) }
+    record {
+      m = count_of_bytes c.mode c.notation low byte;
+      null = true;
+      low = None;
+      is = rw (a, l, ends, started, asks, and-true c.out, or-false c.load_asked) (rw a refl);
+    }
 
 -- ---- any number of pulses
 
@@ -141,7 +153,7 @@ runs_on of_mode gate periodic n c r (suc k) = periodic.runs n _ (runs_on of_mode
 goes_on : (of_mode : Mode) (gate : Bool) → IsPeriodic of_mode gate →
     (n m : ℕ) (null : Bool) (low : Option ℕ) (c : CounterState) → Runs of_mode n c → (k : ℕ)
     → (pulses_of gate k (waiting c m null low) ≡ waiting (pulses_of gate k c) m null low)
-        ⊎ HasLoaded of_mode m (pulses_of gate k (waiting c m null low))
+    ⊎ HasLoaded of_mode m (pulses_of gate k (waiting c m null low))
 unfolding pulses_of
 goes_on of_mode gate periodic n m null low c r zero = inl refl
 goes_on of_mode gate periodic n m null low c r (suc k) =
@@ -150,12 +162,17 @@ goes_on of_mode gate periodic n m null low c r (suc k) =
       | inl e ↦ elim (periodic.next (pulses_of gate k c) n m null low now.mode now.count) [
         | inl on ↦ inl (ap (pulse gate) e ∙ on)
         | inr taken ↦
-            inr (rw e (record { taken = taken; runs = periodic.runs m (waiting (pulses_of gate k c) m null low)
-                (record { mode = now.mode; count = refl }) }))
+            inr (rw e (record {
+              taken = taken;
+              runs = periodic.runs m (waiting (pulses_of gate k c) m null low)
+                  (record { mode = now.mode; count = refl });
+            }))
       ]
       | inr loaded ↦
-          inr (record { taken = periodic.taken m _ loaded.runs.mode loaded.taken;
-              runs = periodic.runs m _ loaded.runs })
+          inr (record {
+            taken = periodic.taken m _ loaded.runs.mode loaded.taken;
+            runs = periodic.runs m _ loaded.runs;
+          })
     ]
 
 rate_goes : (gate : Bool) → IsPeriodic RateGenerator gate
@@ -168,21 +185,25 @@ square_goes gate = record { next = next_square gate; runs = runs_square gate; ta
 after_write : (mode : Mode) (gate : Bool) (byte n k : ℕ) (c : CounterState) → c.mode ≡ mode → is_periodic mode ≡ true →
     c.started ≡ true → c.count ≡ Some n
     → (w : IsWaiting c (write byte c))
-        × ((pulses_of gate k (write byte c) ≡ waiting (pulses_of gate k c) w.m w.null w.low)
-            ⊎ HasLoaded mode w.m (pulses_of gate k (write byte c)))
+    × ((pulses_of gate k (write byte c) ≡ waiting (pulses_of gate k c) w.m w.null w.low)
+    ⊎ HasLoaded mode w.m (pulses_of gate k (write byte c)))
 unfolding asks_for_load
 after_write TerminalCount gate byte n k c e p started count = absurd (false≢true p)
 after_write OneShot gate byte n k c e p started count = absurd (false≢true p)
 after_write RateGenerator gate byte n k c e p started count =
     let w = waits_by c.access c.low_written byte n c (ap is_terminal_count e) (ap (λ mode. asks_for_load mode true) e)
-        started count refl refl in
-    (w, rw (w.is) (goes_on RateGenerator gate (rate_goes gate) n w.m w.null w.low c
-        (record { mode = e; count = count }) k))
+    started count refl refl in (
+      w,
+      rw (w.is) (goes_on RateGenerator gate (rate_goes gate) n w.m w.null w.low c
+          (record { mode = e; count = count }) k),
+    )
 after_write SquareWave gate byte n k c e p started count =
     let w = waits_by c.access c.low_written byte n c (ap is_terminal_count e) (ap (λ mode. asks_for_load mode true) e)
-        started count refl refl in
-    (w, rw (w.is) (goes_on SquareWave gate (square_goes gate) n w.m w.null w.low c
-        (record { mode = e; count = count }) k))
+    started count refl refl in (
+      w,
+      rw (w.is) (goes_on SquareWave gate (square_goes gate) n w.m w.null w.low c
+          (record { mode = e; count = count }) k),
+    )
 after_write SoftwareStrobe gate byte n k c e p started count = absurd (false≢true p)
 after_write HardwareStrobe gate byte n k c e p started count = absurd (false≢true p)
 
@@ -190,8 +211,11 @@ pub count_waits : CountWaits
 count_waits c gate byte n k p started count waits =
     let after = after_write c.mode gate byte n k c refl p started count in
     elim (after.1) [
-      | inl e ↦ record { element = sym (ap (λ d. d.element) e); in_use = sym (ap (λ d. d.in_use) e);
-          out = sym (ap (λ d. d.out) e) }
+      | inl e ↦ record {
+        element = sym (ap (λ d. d.element) e);
+        in_use = sym (ap (λ d. d.in_use) e);
+        out = sym (ap (λ d. d.out) e);
+      }
       | inr loaded ↦ absurd (false≢true (sym loaded.taken.null ∙ waits))
     ]
 

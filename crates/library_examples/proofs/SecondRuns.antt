@@ -89,5 +89,12 @@ moments_shown = record {
 
 pub seconds_pass : SecondsPass
 unfolding weekday_of days_since_1980 days_of_years days_of_months
-seconds_pass = record { second = refl; minute = refl; hour = refl; day = refl; leap_day = refl;
-    no_leap_day = refl; year = refl }
+seconds_pass = record {
+  second = refl;
+  minute = refl;
+  hour = refl;
+  day = refl;
+  leap_day = refl;
+  no_leap_day = refl;
+  year = refl;
+}

@@ -26,24 +26,28 @@ either-of false false false = refl
 -- the high ones of the level triggered inputs, and the latched ones of the others
 pub pending-is : (chip : Chip) →
     levels_where (λ l. has (levels_where (λ l. has chip.inputs l && has chip.triggers l)) l || has
-        (levels_where (λ l. has chip.latches l && not (has chip.triggers l))) l) ≡ pending chip
+    (levels_where (λ l. has chip.latches l && not (has chip.triggers l))) l) ≡ pending chip
 unfolding pending
 pending-is chip =
     levels_where-same _ (λ l. cond (has chip.triggers l) (has chip.inputs l) (has chip.latches l))
-        (λ l h. rw (has-levels_where (λ l. has chip.inputs l && has chip.triggers l) l h,
-            has-levels_where (λ l. has chip.latches l && not (has chip.triggers l)) l h) (either-of
-                (has chip.triggers l) (has chip.inputs l) (has chip.latches l)))
+    (λ l h. rw (
+      has-levels_where (λ l. has chip.inputs l && has chip.triggers l) l h,
+      has-levels_where (λ l. has chip.latches l && not (has chip.triggers l)) l h,
+    ) (either-of
+    (has chip.triggers l) (has chip.inputs l) (has chip.latches l)))
 
 -- the latches with the rises, without the falls
 pub latches-are : (latches before now : Levels) →
     levels_where
-        (λ l. has (levels_where (λ l. has latches l || has (levels_where (λ l. has now l && not (has before l))) l)) l
-            && not (has (levels_where (λ l. has before l && not (has now l))) l)) ≡ latches_after latches before now
+    (λ l. has (levels_where (λ l. has latches l || has (levels_where (λ l. has now l && not (has before l))) l)) l
+    && not (has (levels_where (λ l. has before l && not (has now l))) l)) ≡ latches_after latches before now
 latches-are latches before now =
     levels_where-same _ (λ l. (has latches l || (has now l && not (has before l))) && not
-        (has before l && not (has now l))) (λ l h. rw (has-levels_where (λ l. has before l && not (has now l)) l h,
-            has-levels_where (λ l. has latches l || has (levels_where (λ l. has now l && not (has before l))) l) l h,
-            has-levels_where (λ l. has now l && not (has before l)) l h) refl)
+    (has before l && not (has now l))) (λ l h. rw (
+      has-levels_where (λ l. has before l && not (has now l)) l h,
+      has-levels_where (λ l. has latches l || has (levels_where (λ l. has now l && not (has before l))) l) l h,
+      has-levels_where (λ l. has now l && not (has before l)) l h,
+    ) refl)
 
 -- ---- no request
 
@@ -111,7 +115,7 @@ first-is chip set small is =
     (λ i h.
     let below : i < 8 = omega (arith, h, order-length chip.lowest) in
     has-levels_where (is_blocking chip) (get_or (priority_order chip.lowest) i 0)
-        (priority_order-small chip.lowest i small below))
+    (priority_order-small chip.lowest i small below))
 
 -- ---- the search for a level, which a chip finds at a place of its order
 
@@ -133,13 +137,13 @@ module _ (chip : Chip) (place level : ℕ) (here : level ≡ get_or (priority_or
   pub blocked-here : place < 8 → asks level ≡ false → is_blocking chip level ≡ true → scan chip rest ≡ None
   blocked-here small passes blocks =
       scan-blocked chip (priority_order chip.lowest) place (within small) (sym (ap asks here) ∙ passes)
-          (sym (ap (is_blocking chip) here) ∙ blocks)
+      (sym (ap (is_blocking chip) here) ∙ blocks)
 
   pub past-here : place < 8 → asks level ≡ false → is_blocking chip level ≡ false →
       scan chip rest ≡ scan chip (drop (place + 1) (priority_order chip.lowest))
   past-here small passes none =
       scan-past chip (priority_order chip.lowest) place (within small) (sym (ap asks here) ∙ passes)
-          (sym (ap (is_blocking chip) here) ∙ none)
+      (sym (ap (is_blocking chip) here) ∙ none)
 
 pub none-left : (chip : Chip) (place : ℕ) → 8 ≤ place → scan chip (drop place (priority_order chip.lowest)) ≡ None
 none-left chip place past = scan-end chip (priority_order chip.lowest) place (omega (arith, order-length chip.lowest))

@@ -48,7 +48,7 @@ set-lines_where p k on within =
     elim (cases_eq l k) [
       | inl same ↦
           rw (same, eq-eqb k k refl) (get_or-set_same (lines_where p) k on false
-              (subst (λ (n : ℕ). k < n) (sym size) within))
+          (subst (λ (n : ℕ). k < n) (sym size) within))
       | inr other ↦
           rw (ne_eqb l k other) (get_or-set_other (lines_where p) k l on false other ∙ has-lines_where p l small)
     ])
@@ -66,20 +66,23 @@ and-cond false b = refl
 pub lines-raised : (n k : ℕ) → k < 16 → lines_of (bit_or n (1 * 2 ^ k % 65536)) ≡ set (lines_of n) k true
 lines-raised n k small =
     lines_where-same _ (λ l. cond (eqb l k) true (is_bit n l)) (λ l h. is_bit-set w16 n k l small
-        ∙ or-cond (eqb l k) (is_bit n l))
+    ∙ or-cond (eqb l k) (is_bit n l))
     ∙ sym (set-lines_where (is_bit n) k true small)
 
 pub lines-lowered : (n k : ℕ) → k < 16 → lines_of (bit_and n (65535 - 1 * 2 ^ k % 65536)) ≡ set (lines_of n) k false
 lines-lowered n k small =
     lines_where-same _ (λ l. cond (eqb l k) false (is_bit n l)) (λ l h. is_bit-clear w16 n k l small h
-        ∙ and-cond (eqb l k) (is_bit n l))
+    ∙ and-cond (eqb l k) (is_bit n l))
     ∙ sym (set-lines_where (is_bit n) k false small)
 
 pub lines-either : (a b l : ℕ) → l < 16 → get_or (lines_of (bit_or a b)) l false
     ≡ (get_or (lines_of a) l false || get_or (lines_of b) l false)
 lines-either a b l small =
-    rw (has-lines_where (is_bit (bit_or a b)) l small, has-lines_where (is_bit a) l small,
-        has-lines_where (is_bit b) l small) (is_bit-or a b l)
+    rw (
+      has-lines_where (is_bit (bit_or a b)) l small,
+      has-lines_where (is_bit a) l small,
+      has-lines_where (is_bit b) l small,
+    ) (is_bit-or a b l)
 
 pub lines-low : lines_of 0 ≡ replicate 16 false
 unfolding lines_where

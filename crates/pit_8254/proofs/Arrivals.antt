@@ -31,7 +31,7 @@ load_with_is : (mode : Mode) (gate level : Bool) (e : ℕ) (c : CounterState) (s
     load_with level (with_element c e) ≡ at_load mode s.number level c
 load_with_is mode gate level e c s =
     ap (λ (d : CounterState). record d { out = level })
-        (load_is mode (with_element c e) s.number s.free.mode_is s.count)
+    (load_is mode (with_element c e) s.number s.free.mode_is s.count)
 
 begins : (mode : Mode) (gate : Bool) (c : CounterState) (s : CanLoad mode gate c) →
     IsAtPeriod gate (at_load mode s.number true c)
@@ -75,7 +75,7 @@ rate_one gate c s one =
     let stays : lowered c.notation 0 c.element ≡ 1 = lowered_few c.notation 0 c.element (omega arith) ∙ omega arith in
     let is : edge gate c ≡ at_load RateGenerator s.number true c =
     edge_on RateGenerator gate c 0 1 s.free s.on none stays
-        ∙ (reload_is c ∙ load_with_is RateGenerator gate true 1 c s) in
+    ∙ (reload_is c ∙ load_with_is RateGenerator gate true 1 c s) in
     inr (subst (IsAtPeriod gate) (sym is) (begins RateGenerator gate c s))
 
 abbrev fallen : CounterState → CounterState
@@ -90,9 +90,9 @@ rate_comes gate c s some = elim (cases_lt 1 c.element) [
   | inr least ↦ inl (rate_one gate c s (omega arith))
   | inl more ↦
       let two : lowered c.notation (c.element - 2) c.element ≡ 2 = lowered_few c.notation (c.element - 2) c.element
-          (omega arith) ∙ omega arith in
+      (omega arith) ∙ omega arith in
       let is : edge gate c ≡ fallen c = edge_on RateGenerator gate c (c.element - 2) 2 s.free s.on refl two
-          ∙ falls_is c in
+      ∙ falls_is c in
       let t : CanLoad RateGenerator gate (fallen c) = record {
         free = record { mode_is = s.free.mode_is; trigger = s.free.trigger; due = s.free.due };
         on = s.on;
@@ -103,7 +103,7 @@ rate_comes gate c s some = elim (cases_lt 1 c.element) [
         least = s.least;
       } in
       inr (subst (λ (d : CounterState). (d.out ≡ false) × Reaches gate d) (sym is)
-          (refl, rate_one gate (fallen c) t refl))
+      (refl, rate_one gate (fallen c) t refl))
 ]
 
 -- the square wave
@@ -185,8 +185,15 @@ can_load : (mode : Mode) (gate : Bool) (c : CounterState) → IsFree mode c → 
 can_load mode gate c f periodic kept on both least =
     let parts = and_parts c.started gate both in
     let w = started_count mode c.count c.load_asked c.started kept parts.0 in
-    record { free = f; on = on; gate_on = parts.1; periodic = periodic; number = w.number; count = w.is;
-        least = least w }
+    record {
+      free = f;
+      on = on;
+      gate_on = parts.1;
+      periodic = periodic;
+      number = w.number;
+      count = w.is;
+      least = least w;
+    }
 
 rate_settled : (gate : Bool) (c : CounterState) → IsSettled RateGenerator gate c → ComesTo gate c
 rate_settled gate c s =
@@ -241,7 +248,7 @@ arrives_low gate a b d p q r one left two left_then few out (inl reaches) some =
     absurd (true≢false (sym there.load.out ∙ out))
 arrives_low gate a b d p q r one left two left_then few out (inr later) some =
     reaches_then gate b d q r two left_then (omega arith) some
-        (subst (Reaches gate) (sym (at_edge gate a b p q one left (omega arith))) later.1)
+    (subst (Reaches gate) (sym (at_edge gate a b p q one left (omega arith))) later.1)
 
 -- ---- in a period
 
@@ -290,16 +297,16 @@ square_ends : (gate : Bool) (c : CounterState) → c.mode ≡ SquareWave → IsA
 square_ends gate c m is =
     let s = to_load SquareWave gate c m is refl refl in
     let e : c.element ≡ c.in_use - c.in_use % 2 = subst (λ (k : Mode). c.element ≡ first_element k c.in_use) m
-        is.load.element in
+    is.load.element in
     let half : half_end c ≡ cond (c.in_use % 2 == 1) 0 2 = rw is.load.out refl in
     let n : pulses_in_half (half_end c) c.element ≡ c.in_use - c.in_use / 2 - 1 =
-        rw (half, e) (first_half c.in_use is.least) in
+    rw (half, e) (first_half c.in_use is.least) in
     elim (cases_Bool (pulses_in_half (half_end c) c.element == every_pulse)) [
       | inl all ↦ inl (stands gate c s all)
       | inr some ↦
           let d = at_load SquareWave c.in_use false c in
           let next : edge gate c ≡ d = square_edge gate c s some
-              ∙ ap (λ (level : Bool). at_load SquareWave c.in_use (not level) c) is.load.out in
+          ∙ ap (λ (level : Bool). at_load SquareWave c.in_use (not level) c) is.load.out in
           let t = half_load gate c s in
           let r : quiet_pulses gate (edge gate c) ≡ c.in_use / 2 - 1 =
           ap (quiet_pulses gate) next ∙ (quiet_on SquareWave gate d t.free t.on ∙ second_half c.in_use is.least) in

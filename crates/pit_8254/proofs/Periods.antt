@@ -21,8 +21,11 @@ none_yet : (gate : Bool) (n a : ℕ) (c : CounterState) → IsPeriod gate n a c 
 unfolding rises_of pulses_of
 none_yet gate n a c is zero h = refl
 none_yet gate n a c is (suc k) h = elim (cases_lt (suc k) a) [
-  | inl still ↦ rw (none_yet gate n a c is k (omega arith), is.high k (omega arith),
-      and-false (pulse gate (pulses_of gate k c)).out) refl
+  | inl still ↦ rw (
+    none_yet gate n a c is k (omega arith),
+    is.high k (omega arith),
+    and-false (pulse gate (pulses_of gate k c)).out,
+  ) refl
   | inr past ↦ rw (none_yet gate n a c is k (omega arith), is.low (suc k) past h) refl
 ]
 
@@ -100,8 +103,13 @@ many gate (suc m) c is =
     let before = many gate m c is in
     record {
       again = rw (suc-mul m c.in_use, pulses_of-add gate (m * c.in_use) c.in_use c, before.again) is.again;
-      rose = rw (suc-mul m c.in_use, rises_of-add gate (m * c.in_use) c.in_use c, before.again, before.rose,
-          is.once) (omega arith);
+      rose = rw (
+        suc-mul m c.in_use,
+        rises_of-add gate (m * c.in_use) c.in_use c,
+        before.again,
+        before.rose,
+        is.once,
+      ) (omega arith);
     }
 
 pub part_periods : (gate : Bool) (c : CounterState) (before after : Run) → IsAtPeriod gate c →

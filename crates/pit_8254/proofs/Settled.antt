@@ -100,8 +100,12 @@ unfolding count_to_end count_down
 end_settles_terminal gate c m t kept due =
     by_cond (IsSettled TerminalCount gate) (low c.notation c.element == 0) _ _
     (λ at_end. record { mode = m; trigger = t; kept = kept; by_mode = (due, λ on out. absurd (true≢false out)) })
-    (λ before. record { mode = m; trigger = t; kept = kept;
-        by_mode = (due, λ on out. low_more c.notation c.element before) })
+    (λ before. record {
+      mode = m;
+      trigger = t;
+      kept = kept;
+      by_mode = (due, λ on out. low_more c.notation c.element before);
+    })
 
 end_settles_one_shot : (gate : Bool) (c : CounterState) → c.mode ≡ OneShot → c.trigger ≡ false →
     HasCount OneShot c.count c.load_asked c.started →
@@ -110,8 +114,12 @@ unfolding count_to_end count_down
 end_settles_one_shot gate c m t kept =
     by_cond (IsSettled OneShot gate) (low c.notation c.element == 0) _ _
     (λ at_end. record { mode = m; trigger = t; kept = kept; by_mode = (refl, λ on out. absurd (true≢false out)) })
-    (λ before. record { mode = m; trigger = t; kept = kept;
-        by_mode = (refl, λ on out. low_more c.notation c.element before) })
+    (λ before. record {
+      mode = m;
+      trigger = t;
+      kept = kept;
+      by_mode = (refl, λ on out. low_more c.notation c.element before);
+    })
 
 reload_settles : (gate : Bool) (c : CounterState) → c.mode ≡ RateGenerator → c.trigger ≡ false → c.load_asked ≡ false →
     Written RateGenerator c.count →
@@ -126,10 +134,18 @@ reload_settles gate c m t asked w =
       by_mode = (refl, λ on. let least = w.least in omega arith);
     }))
     (λ before. by_cond (IsSettled RateGenerator gate) (low c.notation c.element == 1) _ _
-    (λ last. record { mode = m; trigger = t; kept = kept_written RateGenerator c.count c.load_asked c.started w;
-        by_mode = (asked, λ on. low_not_one c.notation c.element before) })
-    (λ more. record { mode = m; trigger = t; kept = kept_written RateGenerator c.count c.load_asked c.started w;
-        by_mode = (asked, λ on. low_not_one c.notation c.element before) }))
+    (λ last. record {
+      mode = m;
+      trigger = t;
+      kept = kept_written RateGenerator c.count c.load_asked c.started w;
+      by_mode = (asked, λ on. low_not_one c.notation c.element before);
+    })
+    (λ more. record {
+      mode = m;
+      trigger = t;
+      kept = kept_written RateGenerator c.count c.load_asked c.started w;
+      by_mode = (asked, λ on. low_not_one c.notation c.element before);
+    }))
 
 half_settles : (gate : Bool) (c : CounterState) → c.mode ≡ SquareWave → c.trigger ≡ false → c.load_asked ≡ false →
     Written SquareWave c.count →
@@ -138,9 +154,13 @@ unfolding count_half
 half_settles gate c m t asked w =
     by_cond (IsSettled SquareWave gate) (c.element == half_end c) _ _
     (λ at_end. rw (load_is SquareWave c w.number m w.is)
-        (record { mode = m; trigger = t; kept = kept_written SquareWave c.count false true w; by_mode = refl }))
-    (λ before. record { mode = m; trigger = t; kept = kept_written SquareWave c.count c.load_asked c.started w;
-        by_mode = asked })
+    (record { mode = m; trigger = t; kept = kept_written SquareWave c.count false true w; by_mode = refl }))
+    (λ before. record {
+      mode = m;
+      trigger = t;
+      kept = kept_written SquareWave c.count c.load_asked c.started w;
+      by_mode = asked;
+    })
 
 -- a count that has not ended is above 0
 still_more : (notation : Notation) (e : ℕ) (expired : Bool) → (low notation e == 0 && not expired) ≡ false →
@@ -157,10 +177,18 @@ strobe_settles_software : (gate : Bool) (c : CounterState) → c.mode ≡ Softwa
 unfolding count_to_strobe count_down
 strobe_settles_software gate c m t kept asked out =
     by_cond (IsSettled SoftwareStrobe gate) (low c.notation c.element == 0 && not c.expired) _ _
-    (λ at_end. record { mode = m; trigger = t; kept = kept;
-        by_mode = (asked, λ new. absurd (true≢false new), λ new on. absurd (true≢false new)) })
-    (λ before. record { mode = m; trigger = t; kept = kept;
-        by_mode = (asked, λ new. out, λ new on. still_more c.notation c.element c.expired before new) })
+    (λ at_end. record {
+      mode = m;
+      trigger = t;
+      kept = kept;
+      by_mode = (asked, λ new. absurd (true≢false new), λ new on. absurd (true≢false new));
+    })
+    (λ before. record {
+      mode = m;
+      trigger = t;
+      kept = kept;
+      by_mode = (asked, λ new. out, λ new on. still_more c.notation c.element c.expired before new);
+    })
 
 strobe_settles_hardware : (gate : Bool) (c : CounterState) → c.mode ≡ HardwareStrobe → c.trigger ≡ false →
     HasCount HardwareStrobe c.count c.load_asked c.started →
@@ -168,10 +196,18 @@ strobe_settles_hardware : (gate : Bool) (c : CounterState) → c.mode ≡ Hardwa
 unfolding count_to_strobe count_down
 strobe_settles_hardware gate c m t kept out =
     by_cond (IsSettled HardwareStrobe gate) (low c.notation c.element == 0 && not c.expired) _ _
-    (λ at_end. record { mode = m; trigger = t; kept = kept;
-        by_mode = (λ new. absurd (true≢false new), λ new on. absurd (true≢false new)) })
-    (λ before. record { mode = m; trigger = t; kept = kept;
-        by_mode = (λ new. out, λ new on. still_more c.notation c.element c.expired before new) })
+    (λ at_end. record {
+      mode = m;
+      trigger = t;
+      kept = kept;
+      by_mode = (λ new. absurd (true≢false new), λ new on. absurd (true≢false new));
+    })
+    (λ before. record {
+      mode = m;
+      trigger = t;
+      kept = kept;
+      by_mode = (λ new. out, λ new on. still_more c.notation c.element c.expired before new);
+    })
 
 -- ---- a pulse
 
@@ -194,18 +230,26 @@ settle TerminalCount gate triggered c m t kept some =
     })
     (λ going. by_cond (IsSettled TerminalCount gate) c.load_asked _ _
     (λ asked. load_settles TerminalCount gate c m t (λ is. absurd (cc)) (λ is. absurd (cc))
-        (asked_count TerminalCount c.count c.load_asked c.started kept asked))
+    (asked_count TerminalCount c.count c.load_asked c.started kept asked))
     (λ not_asked. by_cond (IsSettled TerminalCount gate) (c.started && gate) _ _
     (λ on. end_settles_terminal gate c m t kept (rw not_asked refl))
-    (λ off. record { mode = m; trigger = t; kept = kept;
-        by_mode = (rw not_asked refl, λ on. absurd (true≢false (sym (off_counts c.started gate c.stopped off on)))) })))
+    (λ off. record {
+      mode = m;
+      trigger = t;
+      kept = kept;
+      by_mode = (rw not_asked refl, λ on. absurd (true≢false (sym (off_counts c.started gate c.stopped off on))));
+    })))
 settle OneShot gate triggered c m t kept some =
     by_cond (IsSettled OneShot gate) triggered _ _
     (λ yes_triggered.
     let w = some_count OneShot c.count c.load_asked c.started kept (some yes_triggered) in
     rw (load_is OneShot c w.number m w.is)
-        (record { mode = m; trigger = t; kept = kept_written OneShot c.count false true w;
-            by_mode = (refl, λ on out. w.least) }))
+    (record {
+      mode = m;
+      trigger = t;
+      kept = kept_written OneShot c.count false true w;
+      by_mode = (refl, λ on out. w.least);
+    }))
     (λ not_triggered. by_cond (IsSettled OneShot gate) c.started _ _
     (λ on. end_settles_one_shot gate c m t kept)
     (λ off. record { mode = m; trigger = t; kept = kept; by_mode = (refl, λ on. absurd (true≢false (sym on ∙ off))) }))
@@ -214,44 +258,56 @@ settle RateGenerator gate triggered c m t kept some =
     (λ due.
     let w = due_count RateGenerator c.count c.load_asked c.started triggered kept some due in
     rw (load_is RateGenerator c w.number m w.is)
-        (record { mode = m; trigger = t; kept = kept_written RateGenerator c.count false true w;
-            by_mode = (refl, λ on. let least = w.least in omega arith) }))
+    (record {
+      mode = m;
+      trigger = t;
+      kept = kept_written RateGenerator c.count false true w;
+      by_mode = (refl, λ on. let least = w.least in omega arith);
+    }))
     (λ free.
     let asked = (or_parts c.load_asked triggered free).0 in
     by_cond (IsSettled RateGenerator gate) (c.started && gate) _ _
     (λ on. reload_settles gate c m t asked (started_count RateGenerator c.count c.load_asked c.started kept
-        (and_parts c.started gate on).0))
+    (and_parts c.started gate on).0))
     (λ off. record { mode = m; trigger = t; kept = kept; by_mode = (asked, λ on. absurd (true≢false (sym on ∙ off))) }))
 settle SquareWave gate triggered c m t kept some =
     by_cond (IsSettled SquareWave gate) (c.load_asked || triggered) _ _
     (λ due.
     let w = due_count SquareWave c.count c.load_asked c.started triggered kept some due in
     rw (load_is SquareWave c w.number m w.is)
-        (record { mode = m; trigger = t; kept = kept_written SquareWave c.count false true w; by_mode = refl }))
+    (record { mode = m; trigger = t; kept = kept_written SquareWave c.count false true w; by_mode = refl }))
     (λ free.
     let asked = (or_parts c.load_asked triggered free).0 in
     by_cond (IsSettled SquareWave gate) (c.started && gate) _ _
     (λ on. half_settles gate c m t asked (started_count SquareWave c.count c.load_asked c.started kept
-        (and_parts c.started gate on).0))
+    (and_parts c.started gate on).0))
     (λ off. record { mode = m; trigger = t; kept = kept; by_mode = asked }))
 settle SoftwareStrobe gate triggered c m t kept some =
     let d = record c { out = true } in
     by_cond (IsSettled SoftwareStrobe gate) c.load_asked _ _
     (λ asked. load_settles SoftwareStrobe gate d m t (λ is. refl) (λ is. refl)
-        (asked_count SoftwareStrobe c.count c.load_asked c.started kept asked))
+    (asked_count SoftwareStrobe c.count c.load_asked c.started kept asked))
     (λ not_asked. by_cond (IsSettled SoftwareStrobe gate) (c.started && gate) _ _
     (λ on. strobe_settles_software gate d m t kept not_asked refl)
-    (λ off. record { mode = m; trigger = t; kept = kept;
-        by_mode = (not_asked, λ new. refl, λ new on. absurd (true≢false (sym on ∙ off))) }))
+    (λ off. record {
+      mode = m;
+      trigger = t;
+      kept = kept;
+      by_mode = (not_asked, λ new. refl, λ new on. absurd (true≢false (sym on ∙ off)));
+    }))
 settle HardwareStrobe gate triggered c m t kept some =
     let d = record c { out = true } in
     by_cond (IsSettled HardwareStrobe gate) triggered _ _
     (λ yes_triggered. load_settles HardwareStrobe gate d m t (λ is. refl) (λ is. refl)
-        (some_count HardwareStrobe c.count c.load_asked c.started kept (some yes_triggered)))
+    (some_count HardwareStrobe c.count c.load_asked c.started kept (some yes_triggered)))
     (λ not_triggered. by_cond (IsSettled HardwareStrobe gate) c.started _ _
     (λ on. strobe_settles_hardware gate d m t kept refl)
-    (λ off. record { mode = m; trigger = t; kept = kept;
-        by_mode = (λ new. refl, λ new on. absurd (true≢false (sym on ∙ off))) }))
+    (λ off. record {
+      mode = m;
+      trigger = t;
+      kept = kept;
+      by_mode = (λ new. refl, λ new on. absurd (true≢false (sym on ∙ off)));
+    }))
 
 pub pulse_settles : (gate : Bool) (c d : CounterState) → HasCount c.mode c.count c.load_asked c.started →
     d ≡ pulse gate c → IsSettled d.mode gate d
@@ -259,6 +315,6 @@ unfolding pulse
 pulse_settles gate c d kept is =
     let settled : IsSettled c.mode gate (pulse gate c) =
     settle c.mode gate (c.trigger && is_some c.count) (record c { trigger = false }) refl refl kept
-        (λ both. (and_parts c.trigger (is_some c.count) both).1) in
+    (λ both. (and_parts c.trigger (is_some c.count) both).1) in
     subst (λ (e : CounterState). IsSettled e.mode gate e) (sym is)
-        (subst (λ (mode : Mode). IsSettled mode gate (pulse gate c)) (sym settled.mode) settled)
+    (subst (λ (mode : Mode). IsSettled mode gate (pulse gate c)) (sym settled.mode) settled)

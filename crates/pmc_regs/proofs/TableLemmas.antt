@@ -68,31 +68,58 @@ outside off fixed from =
     elim fixed.1 [
       | inl below_rows ↦
           elim fixed.0.1 [
-            | inl below_pam ↦
-                (inr (omega arith),
-                    (inr (omega arith),
-                        (inr (omega arith),
-                            (inl (omega arith),
-                                (inl (omega arith),
-                                    (inl (omega arith), (inl (omega arith), (inl (omega arith), tt))))))))
+            | inl below_pam ↦ (
+              inr (omega arith),
+              (
+                inr (omega arith),
+                (
+                  inr (omega arith),
+                  (
+                    inl (omega arith),
+                    (
+                      inl (omega arith),
+                      (inl (omega arith), (inl (omega arith), (inl (omega arith), tt))),
+                    ),
+                  ),
+                ),
+              ),
+            )
             | inr above_pam ↦ absurd (omega arith)
           ]
       | inr above_hole ↦
           elim fixed.0.2 [
-            | inl below_smram ↦
-                (inr (omega arith),
-                    (inr (omega arith),
-                        (inr (omega arith),
-                            (inr (omega arith),
-                                (inr (omega arith),
-                                    (inr (omega arith), (inr (omega arith), (inl (omega arith), tt))))))))
-            | inr above_smram ↦
-                (inr (omega arith),
-                    (inr (omega arith),
-                        (inr (omega arith),
-                            (inr (omega arith),
-                                (inr (omega arith),
-                                    (inr (omega arith), (inr (omega arith), (inr (omega arith), tt))))))))
+            | inl below_smram ↦ (
+              inr (omega arith),
+              (
+                inr (omega arith),
+                (
+                  inr (omega arith),
+                  (
+                    inr (omega arith),
+                    (
+                      inr (omega arith),
+                      (inr (omega arith), (inr (omega arith), (inl (omega arith), tt))),
+                    ),
+                  ),
+                ),
+              ),
+            )
+            | inr above_smram ↦ (
+              inr (omega arith),
+              (
+                inr (omega arith),
+                (
+                  inr (omega arith),
+                  (
+                    inr (omega arith),
+                    (
+                      inr (omega arith),
+                      (inr (omega arith), (inr (omega arith), (inr (omega arith), tt))),
+                    ),
+                  ),
+                ),
+              ),
+            )
           ]
     ]
 

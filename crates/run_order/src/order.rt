@@ -170,8 +170,11 @@ impl RunOrder {
         requires least { self.old.bus ≤ bus }
         requires next { bus ≤ self.old.bus + 1 }
         requires room { 1 ≤ self.old.spare }
-        ensures pushed { self.new ≡ record { entries = entry ∷ self.old.entries;
-            spare = self.old.spare - 1; bus = bus } }
+        ensures pushed { self.new ≡ record {
+          entries = entry ∷ self.old.entries;
+          spare = self.old.spare - 1;
+          bus = bus;
+        } }
     {
         self.entries.push(entry).unwrap();
         self.spare -= 1;

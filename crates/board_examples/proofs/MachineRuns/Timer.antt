@@ -104,5 +104,9 @@ pub bytes_and_latches : BytesAndLatches
 bytes_and_latches = all_run.bytes_and_latches_runs
 
 pub ports : Ports
-ports = record { first = (omega arith, omega arith); last = (omega arith, omega arith);
-    before = λ h. omega (arith, h.0); past = λ h. omega (arith, h.1) }
+ports = record {
+  first = (omega arith, omega arith);
+  last = (omega arith, omega arith);
+  before = λ h. omega (arith, h.0);
+  past = λ h. omega (arith, h.1);
+}
