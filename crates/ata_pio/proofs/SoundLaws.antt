@@ -37,7 +37,10 @@ bytes_written-keeps disk s bytes h l = elim (cases_Bool (eqb (length bytes) 512)
       let under : IsUnderWay (sectors_of m) (sector_written m s (ended disk.drive)).activity =
       sector_written-under_way m s (ended disk.drive) in
       let kept : Keeps disk (record { medium = m; drive = sector_written m s (ended disk.drive) }) = (
-        record { whole = stored-whole disk.medium s bytes h.whole l (eqb-true (length bytes) 512 e); under_way = under },
+        record {
+          whole = stored-whole disk.medium s bytes h.whole l (eqb-true (length bytes) 512 e);
+          under_way = under;
+        },
         same,
       ) in
       subst (λ (x : Disk). Keeps disk x) (sym (cond-true (eqb (length bytes) 512) _ _ e)) kept

@@ -105,7 +105,10 @@ look_first = (
   (
     record { size = refl; each = λ actor. refl },
     (
-      record { size = refl; each = λ actor. either_order (statement_of opened) (statement_of sees_rom) actor refl refl },
+      record {
+        size = refl;
+        each = λ actor. either_order (statement_of opened) (statement_of sees_rom) actor refl refl;
+      },
       refl,
     ),
   ),
