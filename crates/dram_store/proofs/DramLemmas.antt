@@ -36,7 +36,7 @@ put_as put other old new same has = record {
       λ at within. has.each at within ∙ ap (λ (byte : Option ℕ). unwrap_or byte (slice_index old at)) (sym (same at));
 }
 
-later_first :
+pub later_first :
     (later first : Option ℕ) (old : ℕ) → unwrap_or later (unwrap_or first old) ≡ unwrap_or (option_or later first) old
 later_first None first old = refl
 later_first (Some byte) first old = refl
