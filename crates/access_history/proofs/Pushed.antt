@@ -1,14 +1,17 @@
 -- A history that got an entry.
 use Rattle.std.specs.Prelude.{Some, option_map, slice_get}
 use Rattle.std.proofs.lemmas.Option.{slice_get-map, slice_get_read}
-use Rattle.std.proofs.Common.{◌≡◌, ℕ, ◌+◌, ◌-◌, ◌<◌, ◌≤◌, List, [], ◌∷◌, ◌++◌, length, reverse, slice_index_or, refl, sym, ◌∙◌, ap, subst, arith}
-use Rattle.board_prelude.proofs.Common.{reverse-append, length-append, map-append, get_or_append_left, All-nil, All-push, All-head, All-tail, All-cons, Entry, Part}
+use Rattle.std.proofs.Common.{◌≡◌, ℕ, ◌+◌, ◌-◌, ◌<◌, ◌≤◌, List, [], ◌∷◌, ◌++◌, length, reverse, slice_index_or, refl}
+use Rattle.std.proofs.Common.{sym, ◌∙◌, ap, subst, arith}
+use Rattle.board_prelude.proofs.Common.{reverse-append, length-append, map-append, get_or_append_left, All-nil}
+use Rattle.board_prelude.proofs.Common.{All-push, All-head, All-tail, All-cons, Entry, Part}
 use Rattle.access_history.specs.declared.packed.Count.{Count}
 use Rattle.access_history.specs.declared.packed.Count.TheVariants.{Two, Three, Four}
 use Rattle.access_history.specs.declared.packed.PackedReply.{PackedReply}
 use Rattle.access_history.specs.declared.packed.PackedReply.TheVariants.{Read, Wrote, ReadParts, WroteParts, Saw}
 use Rattle.access_history.specs.declared.packed.PackedEntry.{PackedEntry}
-use Rattle.access_history.specs.Packed.{IsHistory, IsWithin, AreWithin, KeepsParts, entry_in, entries_in, nothing, number_in, parts_at, reply_in}
+use Rattle.access_history.specs.Packed.{IsHistory, IsWithin, AreWithin, KeepsParts, entry_in, entries_in, nothing}
+use Rattle.access_history.specs.Packed.{number_in, parts_at, reply_in}
 
 within_more : (n m : ℕ) → n ≤ m → (reply : PackedReply) → IsWithin n reply → IsWithin m reply
 within_more n m more (Read denial target value) within = tt

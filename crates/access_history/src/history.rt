@@ -1,6 +1,7 @@
 //! A list of entries with room that was reserved for more.
 
-ghost use Rattle.std.specs.Prelude.{◌≡◌, ◌+◌, ◌-◌, ◌<◌, ◌≤◌, [], ◌∷◌, length, max, reverse, slice_get, Some, OnOk, OnErr};
+ghost use Rattle.std.specs.Prelude.{◌≡◌, ◌+◌, ◌-◌, ◌<◌, ◌≤◌, [], ◌∷◌, length, max, reverse, slice_get, Some, OnOk};
+ghost use Rattle.std.specs.Prelude.{OnErr};
 
 use crate::entries::Entries;
 use crate::packed::PackedEntry;

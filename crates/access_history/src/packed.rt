@@ -3,7 +3,8 @@
 
 ghost use Rattle.std.specs.Prelude.{◌≡◌, ◌≤◌, ◌+◌, ◌++◌, ◌^◌, ◌<◌, length, vec_capacity};
 ghost use Rattle.board_spec.specs.declared.event.Reply.TheVariants.{Parts as InParts};
-ghost use Rattle.access_history.specs.Packed.{IsWithin, KeepsParts, count_of, entry_in, list_of, number_in, parts_at, reply_in};
+ghost use Rattle.access_history.specs.Packed.{IsWithin, KeepsParts, count_of, entry_in, list_of, number_in, parts_at};
+ghost use Rattle.access_history.specs.Packed.{reply_in};
 
 use board_base::{Area, Denial, Target};
 use board_spec::{Entry, Event, Look, Part, Parts, Reply};

@@ -11,7 +11,8 @@ unfolding area_of
 areas_beside_smram setup bytes addr beside = rw beside refl
 
 -- and outside the shadow windows too that of a read
-pub areas_beside_windows : (setup : Setup) (bytes : Bytes) (addr : ℕ) → is_smram_range addr ≡ false → is_shadow_range addr ≡ false →
+pub areas_beside_windows : (setup : Setup) (bytes : Bytes) (addr : ℕ) → is_smram_range addr ≡ false →
+    is_shadow_range addr ≡ false →
     six_areas setup bytes addr
     ≡ area_of setup bytes addr Read false ∷ area_of setup bytes addr Read false ∷ area_of setup bytes addr Read false
     ∷ area_of setup bytes addr Read false ∷ area_of setup bytes addr Read false ∷ area_of setup bytes addr Read false

@@ -1,11 +1,17 @@
 -- The cards in a list by their device numbers, and the bytes of their registers.
-use Rattle.std.proofs.Common.{◌≡◌, ◌≢◌, ℕ, zero, suc, ◌+◌, ◌*◌, ◌<◌, ◌≤◌, ◌⊎◌, inl, inr, true, false, List, [], ◌∷◌, ◌++◌, take, length, get_or, set, Option, Some, None, refl, sym, ◌∙◌, ap, subst, arith, get_or-set_same, get_or-set_other, length-set, ◌==◌, All, is_some, find, slice_index}
-use Rattle.board_prelude.proofs.Common.{position, cases_Bool, cases_eq, cases_lt, cond-true, cond-false, eq-eqb, ne_eqb, eqb-true, true≢false, get_or-map, length-map, take_all, take_more, Setup, FittedCard, IsCard, IsCardList, Rises, card_at, Reg, reset_byte, Bytes, card_register, base_register, expansion_rom}
+use Rattle.std.proofs.Common.{◌≡◌, ◌≢◌, ℕ, zero, suc, ◌+◌, ◌*◌, ◌<◌, ◌≤◌, ◌⊎◌, inl, inr, true, false, List, [], ◌∷◌}
+use Rattle.std.proofs.Common.{◌++◌, take, length, get_or, set, Option, Some, None, refl, sym, ◌∙◌, ap, subst, arith}
+use Rattle.std.proofs.Common.{get_or-set_same, get_or-set_other, length-set, ◌==◌, All, is_some, find, slice_index}
+use Rattle.board_prelude.proofs.Common.{position, cases_Bool, cases_eq, cases_lt, cond-true, cond-false, eq-eqb, ne_eqb}
+use Rattle.board_prelude.proofs.Common.{eqb-true, true≢false, get_or-map, length-map, take_all, take_more, Setup}
+use Rattle.board_prelude.proofs.Common.{FittedCard, IsCard, IsCardList, Rises, card_at, Reg, reset_byte, Bytes}
+use Rattle.board_prelude.proofs.Common.{card_register, base_register, expansion_rom}
 use Rattle.std.specs.List.{position_from}
 use Rattle.std.proofs.Math.Seq.{map-set_same}
 use Rattle.std.proofs.lemmas.List.Quantifiers.{position-Some}
 use Rattle.std.proofs.lemmas.Iterator.Adapters.{position_from-zero}
-use Rattle.pci_bars.specs.Cards.{CardBytes, HoldsRom, DecodesAs, IsCardOf, AreCards, AreCardsOf, AreDecoded, cards_of, AreFitted, AreReset}
+use Rattle.pci_bars.specs.Cards.{CardBytes, HoldsRom, DecodesAs, IsCardOf, AreCards, AreCardsOf, AreDecoded, cards_of}
+use Rattle.pci_bars.specs.Cards.{AreFitted, AreReset}
 use Rattle.addr_decode.specs.MapRegs.{stored}
 use Rattle.pci_bars.proofs.CardLemmas.{holds-same, card-apart}
 use Rattle.addr_decode.proofs.StoreLemmas.{stored-elsewhere, in_function_0}
@@ -312,7 +318,8 @@ reset_cards setup cards fitted reset same = (
       (ap (λ (list : List FittedCard). find (λ card. card.dev == (get_or cards k d).card.dev) list) same
       ∙ subst (λ (card : FittedCard). find (λ other. other.dev == card.dev) (cards_of cards) ≡ Some card)
       (get_or-map (λ (it : CardBytes). it.card) cards k d d.card within)
-      (find_at (cards_of cards) fitted.rises k d.card (omega (arith, length-map cards (λ (it : CardBytes). it.card)))))),
+      (find_at (cards_of cards) fitted.rises k d.card
+          (omega (arith, length-map cards (λ (it : CardBytes). it.card)))))),
 )
 
 pub reset_decoded :
@@ -396,7 +403,8 @@ fitted_list cards specs same list = record {
 
 -- nor has one of a list of cards as a board can be fitted with
 no_low_spec :
-    (cards : List FittedCard) (dev : ℕ) → dev < 2 → All IsCard cards → is_some (find (λ card. card.dev == dev) cards) ≡ false
+    (cards : List FittedCard) (dev : ℕ) → dev < 2 → All IsCard cards →
+    is_some (find (λ card. card.dev == dev) cards) ≡ false
 no_low_spec [] dev low each = refl
 no_low_spec (card ∷ later) dev low each =
     let here : IsCard card = each 0 card (omega arith) in

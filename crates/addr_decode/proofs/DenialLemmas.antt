@@ -1,6 +1,10 @@
 -- The denials in the order of the code are those of the definitions.
-use Rattle.std.proofs.Common.{◌≡◌, ℕ, Bool, true, false, not, ◌&&◌, Option, Some, None, refl, sym, ◌∙◌, ap, arith, [], ◌∷◌, ◌==◌, nat_lt, option_map, if◌then◌else◌}
-use Rattle.board_prelude.proofs.Common.{nat_tests, Reg, Denial, Register, NoRegister, lies_in, selectable_bios, expansion_range, largest_top, Window, first_of, line_where, is_smram_range, command_of, rom_register_of, pam_register, abort_denial, drb, xbcs as select_register, smram as smram_register, fdhc as hole_register}
+use Rattle.std.proofs.Common.{◌≡◌, ℕ, Bool, true, false, not, ◌&&◌, Option, Some, None, refl, sym, ◌∙◌, ap, arith, []}
+use Rattle.std.proofs.Common.{◌∷◌, ◌==◌, nat_lt, option_map, if◌then◌else◌}
+use Rattle.board_prelude.proofs.Common.{nat_tests, Reg, Denial, Register, NoRegister, lies_in, selectable_bios}
+use Rattle.board_prelude.proofs.Common.{expansion_range, largest_top, Window, first_of, line_where, is_smram_range}
+use Rattle.board_prelude.proofs.Common.{command_of, rom_register_of, pam_register, abort_denial, drb}
+use Rattle.board_prelude.proofs.Common.{xbcs as select_register, smram as smram_register, fdhc as hole_register}
 use Rattle.addr_decode.specs.Memory.{board_denial, card_denial}
 
 abbrev pub after_board : Option Denial → (shut rom : Option Window) → ℕ → Denial

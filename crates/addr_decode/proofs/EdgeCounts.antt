@@ -1,6 +1,9 @@
 -- How many edges a board has, and how many of them lie above an address.
-use Rattle.std.proofs.Common.{◌≡◌, ℕ, ◌+◌, ◌*◌, ◌<◌, ◌≤◌, inl, inr, true, false, List, [], ◌∷◌, ◌++◌, length, Option, Some, None, arith, nat_lt, All, filter, flat_map, IfSome}
-use Rattle.board_prelude.proofs.Common.{Contains, enumerate_from, cases_Bool, nat_tests, length-append, All-head, All-tail, Base, MemoryBase, IoBase, OutsideBase, FittedCard, Setup, IsCard, IsCardList, Bytes, memory_window, rom_window, rom_window_of}
+use Rattle.std.proofs.Common.{◌≡◌, ℕ, ◌+◌, ◌*◌, ◌<◌, ◌≤◌, inl, inr, true, false, List, [], ◌∷◌, ◌++◌, length, Option}
+use Rattle.std.proofs.Common.{Some, None, arith, nat_lt, All, filter, flat_map, IfSome}
+use Rattle.board_prelude.proofs.Common.{Contains, enumerate_from, cases_Bool, nat_tests, length-append, All-head}
+use Rattle.board_prelude.proofs.Common.{All-tail, Base, MemoryBase, IoBase, OutsideBase, FittedCard, Setup, IsCard}
+use Rattle.board_prelude.proofs.Common.{IsCardList, Bytes, memory_window, rom_window, rom_window_of}
 use Rattle.addr_decode.specs.Edges.{fixed_edges, window_edges, card_edges, edges_of, edges_after, IsNextEdge, FewEdges}
 use Rattle.addr_decode.proofs.EdgeSearchLemmas.{contains_cases}
 

@@ -1,10 +1,23 @@
 -- Between two edges all addresses have the same areas.
-use Rattle.std.proofs.Common.{◌≡◌, ℕ, zero, suc, ◌+◌, ◌-◌, ◌*◌, ◌/◌, ◌^◌, ◌<◌, ◌≤◌, inl, inr, Bool, true, false, List, [], ◌∷◌, ◌++◌, Option, Some, None, refl, arith, ◌==◌, nat_lt, nat_le, All, flat_map, unwrap_or, if◌then◌else◌, slice_index_or, IfSome, IsNone}
-use Rattle.board_prelude.proofs.Common.{Contains, AllByRecursion, enumerate_from, cases_Bool, cases_lt, nat_tests, pow_pos, recursion_from_All, Kind, Fetch, Read, Write, Reg, Base, MemoryBase, IoBase, OutsideBase, FittedCard, Setup, lies_in, smram_range, upper_memory, shadow_range, hole_at_512_kib, hole_at_15_mib, system_bios, high_bios, lower_bios, lower_high_bios, extended_bios, is_within, Bytes, Window, boundary, row_of, is_in, hole_of, pam_register, is_high_window, nibble, is_open, is_shadow_range, is_shadowed, smram_answers, is_smram_range, is_rom_selected, is_covered, base_value, rom_value, memory_window, rom_window, rom_window_of, is_rom_on, vga_window, memory_windows, is_enabled_for, first_window, memory_claim, area_of, xbcs as select_register, smram as smram_register, fdhc as hole_register, address_count, six_areas}
+use Rattle.std.proofs.Common.{◌≡◌, ℕ, zero, suc, ◌+◌, ◌-◌, ◌*◌, ◌/◌, ◌^◌, ◌<◌, ◌≤◌, inl, inr, Bool, true, false, List}
+use Rattle.std.proofs.Common.{[], ◌∷◌, ◌++◌, Option, Some, None, refl, arith, ◌==◌, nat_lt, nat_le, All, flat_map}
+use Rattle.std.proofs.Common.{unwrap_or, if◌then◌else◌, slice_index_or, IfSome, IsNone}
+use Rattle.board_prelude.proofs.Common.{Contains, AllByRecursion, enumerate_from, cases_Bool, cases_lt, nat_tests}
+use Rattle.board_prelude.proofs.Common.{pow_pos, recursion_from_All, Kind, Fetch, Read, Write, Reg, Base, MemoryBase}
+use Rattle.board_prelude.proofs.Common.{IoBase, OutsideBase, FittedCard, Setup, lies_in, smram_range, upper_memory}
+use Rattle.board_prelude.proofs.Common.{shadow_range, hole_at_512_kib, hole_at_15_mib, system_bios, high_bios}
+use Rattle.board_prelude.proofs.Common.{lower_bios, lower_high_bios, extended_bios, is_within, Bytes, Window, boundary}
+use Rattle.board_prelude.proofs.Common.{row_of, is_in, hole_of, pam_register, is_high_window, nibble, is_open}
+use Rattle.board_prelude.proofs.Common.{is_shadow_range, is_shadowed, smram_answers, is_smram_range, is_rom_selected}
+use Rattle.board_prelude.proofs.Common.{is_covered, base_value, rom_value, memory_window, rom_window, rom_window_of}
+use Rattle.board_prelude.proofs.Common.{is_rom_on, vga_window, memory_windows, is_enabled_for, first_window}
+use Rattle.board_prelude.proofs.Common.{memory_claim, area_of, xbcs as select_register, smram as smram_register}
+use Rattle.board_prelude.proofs.Common.{fdhc as hole_register, address_count, six_areas}
 use Rattle.std.proofs.lemmas.Nat.{div_below, le-div}
 use Rattle.std.proofs.lemmas.List.Elements.{All-contains_itself, Contains-append_left, Contains-append_right}
 use Rattle.addr_decode.proofs.MemoryLemmas.{table}
-use Rattle.addr_decode.specs.Edges.{fixed_edges, row_edges, first_address, window_edges, card_edges, edges_of, IsNextEdge, NoEdgeAbove, SameAreas, AreasChangeAtEdges}
+use Rattle.addr_decode.specs.Edges.{fixed_edges, row_edges, first_address, window_edges, card_edges, edges_of}
+use Rattle.addr_decode.specs.Edges.{IsNextEdge, NoEdgeAbove, SameAreas, AreasChangeAtEdges}
 
 -- an edge above the first address lies above the other too
 abbrev pub Clear : ℕ → ℕ → ℕ → Type 0

@@ -1,12 +1,18 @@
 -- The edges that the code looks through are those of the board, and what it finds is the next one.
-use Rattle.std.proofs.Common.{◌≡◌, ℕ, zero, suc, ◌+◌, ◌*◌, ◌<◌, ◌≤◌, ◌⊎◌, inl, inr, ◌&&◌, List, [], ◌∷◌, ◌++◌, length, map, Option, Some, None, refl, sym, ◌∙◌, ap, subst, arith, nat_lt, min, All, flat_map, slice_index, unwrap_or, IfSome, IsNone, ◌↔◌}
-use Rattle.board_prelude.proofs.Common.{Contains, enumerate_from, cases_Bool, cases_lt, nat_tests, All-head, All-tail, none-some, Base, MemoryBase, IoBase, OutsideBase, Setup, IsCard, boundary_unit, Bytes, boundary, base_value, memory_window, rom_window_of, bridge, address_count}
+use Rattle.std.proofs.Common.{◌≡◌, ℕ, zero, suc, ◌+◌, ◌*◌, ◌<◌, ◌≤◌, ◌⊎◌, inl, inr, ◌&&◌, List, [], ◌∷◌, ◌++◌, length}
+use Rattle.std.proofs.Common.{map, Option, Some, None, refl, sym, ◌∙◌, ap, subst, arith, nat_lt, min, All, flat_map}
+use Rattle.std.proofs.Common.{slice_index, unwrap_or, IfSome, IsNone, ◌↔◌}
+use Rattle.board_prelude.proofs.Common.{Contains, enumerate_from, cases_Bool, cases_lt, nat_tests, All-head, All-tail}
+use Rattle.board_prelude.proofs.Common.{none-some, Base, MemoryBase, IoBase, OutsideBase, Setup, IsCard, boundary_unit}
+use Rattle.board_prelude.proofs.Common.{Bytes, boundary, base_value, memory_window, rom_window_of, bridge}
+use Rattle.board_prelude.proofs.Common.{address_count}
 use Rattle.std.proofs.lemmas.List.Sums.{fold-append}
 use Rattle.std.proofs.lemmas.Option.{same_Some}
 use Rattle.pmc_regs.specs.Pmc.{IsRowsOf}
 use Rattle.pmc_regs.proofs.RowLemmas.{rows_from}
 use Rattle.pci_bars.specs.Cards.{CardBytes, HoldsRom, DecodesAs, AreCards, AreDecoded, cards_of}
-use Rattle.addr_decode.specs.Common.{fixed_edges, row_edges, window_edges, card_edges, edges_of, IsEdge, IsNextEdge, NoEdgeAbove, nearer, nearest, ends_from, ends_of_rom, ends_of_card}
+use Rattle.addr_decode.specs.Common.{fixed_edges, row_edges, window_edges, card_edges, edges_of, IsEdge, IsNextEdge}
+use Rattle.addr_decode.specs.Common.{NoEdgeAbove, nearer, nearest, ends_from, ends_of_rom, ends_of_card}
 
 -- ---- the edges, as the code keeps them
 
@@ -233,7 +239,8 @@ in_two addr addr' found first all xs ys same is_first is_all =
     rw (is_all, same, is_first, fold-append (nearer addr) found xs ys) refl
 
 -- two edges, and two lists, in the other order
-nearer_swap : (addr a b : ℕ) (found : Option ℕ) → nearer addr (nearer addr found a) b ≡ nearer addr (nearer addr found b) a
+nearer_swap : (addr a b : ℕ) (found : Option ℕ) →
+    nearer addr (nearer addr found a) b ≡ nearer addr (nearer addr found b) a
 nearer_swap addr a b found =
     elim (cases_Bool (nat_lt addr a && nat_lt a address_count)) [
       | inr not_a ↦ rw not_a refl
@@ -248,16 +255,20 @@ nearer_swap addr a b found =
     least_swap a b None = grind (arith, nat_tests)
     least_swap a b (Some least) = grind (arith, nat_tests)
 
-nearer_past : (addr edge : ℕ) (found : Option ℕ) (ys : List ℕ) → nearest addr (nearer addr found edge) ys ≡ nearer addr (nearest addr found ys) edge
+nearer_past : (addr edge : ℕ) (found : Option ℕ) (ys : List ℕ) →
+    nearest addr (nearer addr found edge) ys ≡ nearer addr (nearest addr found ys) edge
 unfolding nearest
 nearer_past addr edge found [] = refl
-nearer_past addr edge found (y ∷ ys) = rw (nearer_swap addr edge y found) (nearer_past addr edge (nearer addr found y) ys)
+nearer_past addr edge found (y ∷ ys) = rw (nearer_swap addr edge y found)
+    (nearer_past addr edge (nearer addr found y) ys)
 
-nearest_swap : (addr : ℕ) (found : Option ℕ) (xs ys : List ℕ) → nearest addr (nearest addr found xs) ys ≡ nearest addr (nearest addr found ys) xs
+nearest_swap : (addr : ℕ) (found : Option ℕ) (xs ys : List ℕ) →
+    nearest addr (nearest addr found xs) ys ≡ nearest addr (nearest addr found ys) xs
 unfolding nearest
 nearest_swap addr found [] ys = refl
 nearest_swap addr found (x ∷ xs) ys =
-    nearest_swap addr (nearer addr found x) xs ys ∙ ap (λ (least : Option ℕ). nearest addr least xs) (nearer_past addr x found ys)
+    nearest_swap addr (nearer addr found x) xs ys ∙ ap (λ (least : Option ℕ). nearest addr least xs)
+    (nearer_past addr x found ys)
 
 pub in_parts :
     (addr addr' : ℕ) (fixed cards_found all : Option ℕ) (drb : List ℕ) (cards : List CardBytes) → addr' ≡ addr →

@@ -1,5 +1,7 @@
 -- In a rising list of edges the first above an address is the least above it.
-use Rattle.std.proofs.Common.{◌≡◌, ℕ, zero, suc, ◌+◌, ◌*◌, ◌/◌, ◌^◌, ◌<◌, ◌≤◌, true, false, List, [], ◌∷◌, map, take, drop, Option, Some, None, refl, sym, ◌∙◌, ap, inl, inr, arith, nat_lt, min, find, slice_index}
+use Rattle.std.proofs.Common.{◌≡◌, ℕ, zero, suc, ◌+◌, ◌*◌, ◌/◌, ◌^◌, ◌<◌, ◌≤◌, true, false, List, [], ◌∷◌, map, take}
+use Rattle.std.proofs.Common.{drop, Option, Some, None, refl, sym, ◌∙◌, ap, inl, inr, arith, nat_lt, min, find}
+use Rattle.std.proofs.Common.{slice_index}
 use Rattle.board_prelude.proofs.Common.{AllByRecursion, cases_Bool, nat_tests, address_count, boundary_unit}
 use Rattle.addr_decode.specs.Common.{fixed_edges, nearer, nearest}
 
@@ -43,18 +45,21 @@ skip_first addr (suc count) (edge ∷ later) low =
     let not_above : nat_lt addr edge ≡ false = grind (arith, nat_tests) in
     rw not_above (skip_first addr count later low.1)
 
-pub skip_to_expansion : (addr : ℕ) → 0xC_0000 ≤ addr → find (nat_lt addr) (drop 3 fixed_edges) ≡ find (nat_lt addr) fixed_edges
+pub skip_to_expansion : (addr : ℕ) → 0xC_0000 ≤ addr →
+    find (nat_lt addr) (drop 3 fixed_edges) ≡ find (nat_lt addr) fixed_edges
 unfolding fixed_edges
 skip_to_expansion addr from = skip_first addr 3 fixed_edges (search arith)
 
-pub skip_to_system_bios : (addr : ℕ) → 0x10_0000 ≤ addr → find (nat_lt addr) (drop 16 fixed_edges) ≡ find (nat_lt addr) fixed_edges
+pub skip_to_system_bios : (addr : ℕ) → 0x10_0000 ≤ addr →
+    find (nat_lt addr) (drop 16 fixed_edges) ≡ find (nat_lt addr) fixed_edges
 unfolding fixed_edges
 skip_to_system_bios addr from = skip_first addr 16 fixed_edges (search arith)
 
 -- ---- the ends of rows
 
 -- at or above the largest top none lies above
-pub rows_below : (addr : ℕ) (found : Option ℕ) (drb : List ℕ) → 0x7F80_0000 ≤ addr → ((k : ℕ) → slice_index drb k < 2 ^ 8) →
+pub rows_below : (addr : ℕ) (found : Option ℕ) (drb : List ℕ) → 0x7F80_0000 ≤ addr →
+    ((k : ℕ) → slice_index drb k < 2 ^ 8) →
     nearest addr found (map (λ boundary. boundary * boundary_unit) drb) ≡ found
 unfolding nearest
 rows_below addr found [] high bytes = refl
@@ -81,7 +86,8 @@ pub rows_are_far : (addr least : ℕ) (drb : List ℕ) → least ≤ (addr / bou
 unfolding nearest
 rows_are_far addr least [] near = refl
 rows_are_far addr least (boundary ∷ later) near =
-    ap (λ (found : Option ℕ). nearest addr found (map (λ boundary. boundary * boundary_unit) later)) (row_is_far addr least boundary near)
+    ap (λ (found : Option ℕ). nearest addr found (map (λ boundary. boundary * boundary_unit) later))
+    (row_is_far addr least boundary near)
     ∙ rows_are_far addr least later near
 
 -- ---- the least of the fixed edges

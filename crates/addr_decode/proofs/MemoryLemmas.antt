@@ -1,9 +1,16 @@
 -- The memory map in the order of the code is that of the definitions.
-use Rattle.std.proofs.Common.{◌≡◌, ℕ, Bool, true, false, not, ◌&&◌, Option, Some, None, IfSome, refl, sym, ◌∙◌, ap, arith, is_some, unwrap_or, [], ◌∷◌, option_map, if◌then◌else◌}
-use Rattle.board_prelude.proofs.Common.{nat_tests, Area, Denial, Kind, top_of, memory_shut, rom_unselected, abort_denial, rom_denial, denial_in, denial_of, Setup, lies_in, upper_memory, Window, first_of, line_where, is_smram_range, is_shadow_range, card_area, area_under, Bytes, row_of, is_in, hole_of, pam_register, is_high_window, nibble, is_open, is_shadowed, smram_answers, is_rom_selected, memory_claim, area_of, xbcs as select_register, smram as smram_register, fdhc as hole_register}
+use Rattle.std.proofs.Common.{◌≡◌, ℕ, Bool, true, false, not, ◌&&◌, Option, Some, None, IfSome, refl, sym, ◌∙◌, ap}
+use Rattle.std.proofs.Common.{arith, is_some, unwrap_or, [], ◌∷◌, option_map, if◌then◌else◌}
+use Rattle.board_prelude.proofs.Common.{nat_tests, Area, Denial, Kind, top_of, memory_shut, rom_unselected}
+use Rattle.board_prelude.proofs.Common.{abort_denial, rom_denial, denial_in, denial_of, Setup, lies_in, upper_memory}
+use Rattle.board_prelude.proofs.Common.{Window, first_of, line_where, is_smram_range, is_shadow_range, card_area}
+use Rattle.board_prelude.proofs.Common.{area_under, Bytes, row_of, is_in, hole_of, pam_register, is_high_window, nibble}
+use Rattle.board_prelude.proofs.Common.{is_open, is_shadowed, smram_answers, is_rom_selected, memory_claim, area_of}
+use Rattle.board_prelude.proofs.Common.{xbcs as select_register, smram as smram_register, fdhc as hole_register}
 use Rattle.board_base.specs.declared.target.Area.TheVariants.{Dram, Shadow, Smram, Rom, Abort}
 use Rattle.pmc_regs.specs.Pmc.{IsRowsOf}
-use Rattle.addr_decode.specs.Common.{MapBytes, StandsFor, dram_area, row_area, above_dram, beside_dram, area_by, master_area}
+use Rattle.addr_decode.specs.Common.{MapBytes, StandsFor, dram_area, row_area, above_dram, beside_dram, area_by}
+use Rattle.addr_decode.specs.Common.{master_area}
 
 -- the table of the memory map over the ranges that the address lies in, SMRAM's and all of upper memory, and over what
 -- the registers say of it
@@ -110,12 +117,15 @@ or_beside : (dram : Option Area) (rom : Bool) (claim : Option Window) →
 or_beside None rom claim = refl
 or_beside (Some area) rom claim = refl
 
-pub either_answers : (setup : Setup) (bytes : Bytes) (addr : ℕ) (kind : Kind) (smm : Bool) (dram : Option Area) (beside : Area) →
-    dram ≡ dram_by bytes addr kind smm → beside ≡ beside_dram setup bytes addr → unwrap_or dram beside ≡ area_of setup bytes addr kind smm
+pub either_answers : (setup : Setup) (bytes : Bytes) (addr : ℕ) (kind : Kind) (smm : Bool) (dram : Option Area)
+    (beside : Area) →
+    dram ≡ dram_by bytes addr kind smm → beside ≡ beside_dram setup bytes addr →
+    unwrap_or dram beside ≡ area_of setup bytes addr kind smm
 either_answers setup bytes addr kind smm dram beside is_dram is_beside =
     ap (λ (other : Area). unwrap_or dram other) is_beside
     ∙ or_beside dram (is_rom_selected (bytes select_register) addr) (memory_claim setup bytes addr)
-    ∙ ap (λ (found : Option Area). above_dram found (is_rom_selected (bytes select_register) addr) (memory_claim setup bytes addr)) is_dram
+    ∙ ap (λ (found : Option Area). above_dram found (is_rom_selected (bytes select_register) addr)
+    (memory_claim setup bytes addr)) is_dram
     ∙ sym (by_parts setup bytes addr kind smm)
 
 -- where DRAM answers nothing denies
@@ -186,11 +196,13 @@ if_plain_undenied regs addr (Some row) outside no_hole is = λ setup bytes kind 
     (plain_dram bytes addr row regs.fdhc kind smm outside no_hole stands.hole (is bytes stands.rows)))
 
 -- at an address of a shadow window
-row_shadow : (row : ℕ) (opened shadowed hole : Bool) (addr : ℕ) → is_smram_range addr ≡ false → is_shadow_range addr ≡ true →
+row_shadow : (row : ℕ) (opened shadowed hole : Bool) (addr : ℕ) → is_smram_range addr ≡ false →
+    is_shadow_range addr ≡ true →
     row_area row opened shadowed hole addr ≡ line_where shadowed (Shadow row)
 row_shadow row opened shadowed hole addr beside window = rw (beside, window) refl
 
-pub shadow_answers : (setup : Setup) (bytes : Bytes) (addr row : ℕ) (kind : Kind) (smm open' : Bool) (beside : Area) → is_shadow_range addr ≡ true →
+pub shadow_answers : (setup : Setup) (bytes : Bytes) (addr row : ℕ) (kind : Kind) (smm open' : Bool) (beside : Area) →
+    is_shadow_range addr ≡ true →
     Some row ≡ row_of bytes addr → open' ≡ is_shadowed bytes addr kind → beside ≡ beside_dram setup bytes addr →
     unwrap_or (line_where open' (Shadow row)) beside ≡ area_of setup bytes addr kind smm
 shadow_answers setup bytes addr row kind smm open' beside window is_row is_open' is_beside =
@@ -203,24 +215,28 @@ shadow_answers setup bytes addr row kind smm open' beside window is_row is_open'
     ∙ ap (λ (shadowed : Bool). dram_area (row_of bytes addr) answers shadowed hole addr) is_open' in
     either_answers setup bytes addr kind smm (line_where open' (Shadow row)) beside dram is_beside
 
-pub no_row_answers : (setup : Setup) (bytes : Bytes) (addr : ℕ) (kind : Kind) (smm : Bool) (beside : Area) → None ≡ row_of bytes addr →
+pub no_row_answers : (setup : Setup) (bytes : Bytes) (addr : ℕ) (kind : Kind) (smm : Bool) (beside : Area) →
+    None ≡ row_of bytes addr →
     beside ≡ beside_dram setup bytes addr → beside ≡ area_of setup bytes addr kind smm
 no_row_answers setup bytes addr kind smm beside is_row is_beside =
     either_answers setup bytes addr kind smm None beside
-    (ap (λ (found : Option ℕ). dram_area found (smram_answers (bytes smram_register) kind smm) (is_shadowed bytes addr kind)
+    (ap (λ (found : Option ℕ). dram_area found (smram_answers (bytes smram_register) kind smm)
+    (is_shadowed bytes addr kind)
     (is_in (hole_of (bytes hole_register)) addr) addr) is_row)
     is_beside
 
 -- the same of a bus master
 pub master_answers :
     (setup : Setup) (bytes : Bytes) (addr : ℕ) (kind : Kind) (dram : Option Area) (beside : Area) →
-    dram ≡ dram_area (row_of bytes addr) false (is_shadowed bytes addr kind) (is_in (hole_of (bytes hole_register)) addr) addr →
+    dram ≡ dram_area (row_of bytes addr) false (is_shadowed bytes addr kind)
+    (is_in (hole_of (bytes hole_register)) addr) addr →
     beside ≡ beside_dram setup bytes addr → unwrap_or dram beside ≡ master_area setup bytes addr kind
 unfolding master_area
 master_answers setup bytes addr kind dram beside is_dram is_beside =
     ap (λ (other : Area). unwrap_or dram other) is_beside
     ∙ or_beside dram (is_rom_selected (bytes select_register) addr) (memory_claim setup bytes addr)
-    ∙ ap (λ (found : Option Area). above_dram found (is_rom_selected (bytes select_register) addr) (memory_claim setup bytes addr)) is_dram
+    ∙ ap (λ (found : Option Area). above_dram found (is_rom_selected (bytes select_register) addr)
+    (memory_claim setup bytes addr)) is_dram
     ∙ sym
     (area_in_order (row_of bytes addr) false (is_open (nibble (bytes (pam_register addr)) (is_high_window addr)) kind)
     (is_in (hole_of (bytes hole_register)) addr) (is_rom_selected (bytes select_register) addr)

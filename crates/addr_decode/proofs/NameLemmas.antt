@@ -1,16 +1,24 @@
 -- The names of the registers: exactly the map bytes have one, and each stands for one register.
-use Rattle.std.proofs.Common.{◌≡◌, ◌≢◌, ℕ, zero, suc, ◌+◌, ◌-◌, ◌<◌, ◌≤◌, Bool, true, false, ◌&&◌, ◌||◌, Option, Some, None, List, [], ◌∷◌, ◌++◌, length, get_or, inl, inr, refl, sym, ◌∙◌, ap, subst, arith, take, lit<, ◌==◌, map, find, is_some, unwrap_or, option_map, option_and_then, if◌then◌else◌}
-use Rattle.board_prelude.proofs.Common.{position, AllByRecursion, list_any, and-true, and-false, cases_Bool, cases_eq, ne_eqb, eqb-true, nat_tests, get_or-map, Width, One, Reg, bytes_of, MapChange, Store, Reset, FittedCard, Setup, card_at, is_within, bridge, isa, card_register, has_rom, is_map_byte, reg_after, touches_map}
+use Rattle.std.proofs.Common.{◌≡◌, ◌≢◌, ℕ, zero, suc, ◌+◌, ◌-◌, ◌<◌, ◌≤◌, Bool, true, false, ◌&&◌, ◌||◌, Option, Some}
+use Rattle.std.proofs.Common.{None, List, [], ◌∷◌, ◌++◌, length, get_or, inl, inr, refl, sym, ◌∙◌, ap, subst, arith}
+use Rattle.std.proofs.Common.{take, lit<, ◌==◌, map, find, is_some, unwrap_or, option_map, option_and_then}
+use Rattle.std.proofs.Common.{if◌then◌else◌}
+use Rattle.board_prelude.proofs.Common.{position, AllByRecursion, list_any, and-true, and-false, cases_Bool, cases_eq}
+use Rattle.board_prelude.proofs.Common.{ne_eqb, eqb-true, nat_tests, get_or-map, Width, One, Reg, bytes_of, MapChange}
+use Rattle.board_prelude.proofs.Common.{Store, Reset, FittedCard, Setup, card_at, is_within, bridge, isa, card_register}
+use Rattle.board_prelude.proofs.Common.{has_rom, is_map_byte, reg_after, touches_map}
 use Rattle.std.proofs.lemmas.List.{map_more}
 use Rattle.std.proofs.lemmas.List.Quantifiers.{position-Some}
 use Rattle.std.proofs.lemmas.Option.{slice_get-get_or}
 use Rattle.pci_bars.proofs.CardListLemmas.{find-cards, at_position}
 use Rattle.board_base.specs.declared.access.Width.TheVariants.{Two, Four}
 use Rattle.addr_decode.specs.declared.register.MapRegister.{MapRegister}
-use Rattle.addr_decode.specs.declared.register.MapRegister.TheVariants.{Pam, RowBoundary, Hole, Smram, ChipSelects, Card}
+use Rattle.addr_decode.specs.declared.register.MapRegister.TheVariants.{Pam, RowBoundary, Hole, Smram, ChipSelects}
+use Rattle.addr_decode.specs.declared.register.MapRegister.TheVariants.{Card}
 use Rattle.addr_decode.specs.declared.register.CardRegister.{CardRegister}
 use Rattle.addr_decode.specs.declared.register.CardRegister.TheVariants.{Command, Base, ExpansionRom}
-use Rattle.addr_decode.specs.MapRegister.{place_of, IsNumbered, IsNumberedName, AreNumbered, in_bridge, in_isa_bridge, in_card, in_device, map_register, names_from, names_of}
+use Rattle.addr_decode.specs.MapRegister.{place_of, IsNumbered, IsNumberedName, AreNumbered, in_bridge, in_isa_bridge}
+use Rattle.addr_decode.specs.MapRegister.{in_card, in_device, map_register, names_from, names_of}
 use Rattle.pci_bars.specs.Cards.{CardBytes, AreFitted, cards_of}
 use Rattle.addr_decode.proofs.StoreLemmas.{in_function_0, few_bytes}
 use Rattle.addr_decode.proofs.CardLemmas.{no_low_card}
@@ -71,7 +79,8 @@ bridge_named off =
         | inl row ↦ let all : is_within 0x59 0x68 off ≡ true = grind (arith, nat_tests) in rw (not_pam, row, all) refl
         | inr not_row ↦ elim (cases_Bool (off == 0x68)) [
           | inl hole ↦
-              let all : is_within 0x59 0x68 off ≡ true = grind (arith, nat_tests) in rw (not_pam, not_row, hole, all) refl
+              let all : is_within 0x59 0x68 off ≡ true = grind (arith, nat_tests) in
+              rw (not_pam, not_row, hole, all) refl
           | inr not_hole ↦
               let none : is_within 0x59 0x68 off ≡ false = grind (arith, nat_tests) in
               elim (cases_Bool (off == 0x72)) [
@@ -86,7 +95,8 @@ isa_named : (off : ℕ) → is_some (in_isa_bridge off) ≡ (off == 0x4E)
 isa_named off = elim (cases_Bool (off == 0x4E)) [ inl here ↦ rw here refl | inr beside ↦ rw beside refl ]
 
 named_by : (command base rom within : Bool) (dev : ℕ) (x y z : CardRegister) →
-    is_some (option_map (Card dev) (if command then Some x else if base then Some y else if rom && within then Some z else None))
+    is_some (option_map (Card dev) (if command then Some x else if base then Some y else if rom && within
+        then Some z else None))
     ≡ (command || base || rom && within)
 named_by true base rom within dev x y z = refl
 named_by false true rom within dev x y z = refl
@@ -223,7 +233,8 @@ unfolding map_register
 is_name cards reg register is =
     elim (cases_eq reg.fun 0) [
       | inr other ↦
-          let none : ◌≡◌ {A = Option MapRegister} None (Some register) = rw (ne_eqb reg.fun 0 other) at is in absurd (cc)
+          let none : ◌≡◌ {A = Option MapRegister} None (Some register) = rw (ne_eqb reg.fun 0 other) at is in
+          absurd (cc)
       | inl function ↦ elim (cases_eq reg.dev 0) [
         | inl first ↦
             subst (IsNameAt register) (in_function_0 reg 0 first function)
@@ -265,12 +276,14 @@ covered_offset Four (suc (suc zero)) below = (omega arith, refl)
 covered_offset Four (suc (suc (suc zero))) below = (omega arith, refl)
 covered_offset Four (suc (suc (suc (suc k)))) below = absurd (omega arith)
 
-pub count_names : (cards : List FittedCard) (reg : Reg) (width : Width) → length (names_from cards reg width) ≡ bytes_of width
+pub count_names : (cards : List FittedCard) (reg : Reg) (width : Width) →
+    length (names_from cards reg width) ≡ bytes_of width
 count_names cards reg One = refl
 count_names cards reg Two = refl
 count_names cards reg Four = refl
 
-pub name_at : (cards : List FittedCard) (reg : Reg) (width : Width) (k : ℕ) (d : Option MapRegister) → k < bytes_of width →
+pub name_at : (cards : List FittedCard) (reg : Reg) (width : Width) (k : ℕ) (d : Option MapRegister) →
+    k < bytes_of width →
     get_or (names_from cards reg width) k d ≡ map_register cards (reg_after reg k)
 name_at cards reg width k d below =
     let at = covered_offset width k below in
@@ -298,12 +311,14 @@ pub named_byte : (setup : Setup) (cards : List CardBytes) (reg : Reg) (register 
     is_map_byte setup (place_of register) ≡ true
 named_byte setup cards reg register fitted same is =
     ap (λ (at : Reg). is_map_byte setup at) (is_name (cards_of cards) reg register is).place
-    ∙ sym (named setup reg (no_low_card setup cards 0 (lit< tt) fitted.each same) (no_low_card setup cards 1 (lit< tt) fitted.each same))
+    ∙ sym (named setup reg (no_low_card setup cards 0 (lit< tt) fitted.each same)
+        (no_low_card setup cards 1 (lit< tt) fitted.each same))
     ∙ ap (λ (list : List FittedCard). is_some (map_register list reg)) same
     ∙ ap (λ (name : Option MapRegister). is_some name) is
 
 -- the name of a register among those of a store, where the cards are still the same
-pub named_so_far : (cards cards' : List CardBytes) (reg : Reg) (width : Width) (k : ℕ) (names : List (Option MapRegister))
+pub named_so_far : (cards cards' : List CardBytes) (reg : Reg) (width : Width) (k : ℕ)
+    (names : List (Option MapRegister))
     (d : Option MapRegister) → k < bytes_of width → cards_of cards' ≡ cards_of cards →
     names ≡ names_from (cards_of cards) reg width →
     get_or names k d ≡ map_register (cards_of cards') (reg_after reg k)

@@ -1,12 +1,19 @@
 -- The ports in the order of the code are those of the definitions.
-use Rattle.std.proofs.Common.{◌≡◌, ◌≢◌, ℕ, List, ◌/◌, Bool, true, false, Option, Some, None, refl, inl, inr, ◌∙◌, sym, ap, is_some, option_map, if◌then◌else◌}
-use Rattle.board_prelude.proofs.Common.{cases_Bool, cond-false, ne_eqb, Width, Dev, Reg, Decoded, nobody, Register, NoRegister, bytes_of, Select, Always, XbcsBit0, XbcsBit1, IdeChannel, device_at, select_of, Setup, FittedCard, card_at, is_bit, is_enabled, is_config_port, config_register, Bytes, ide_command as command_register, idetim_high, xbcs as select_register, config_port, by_xbcs, by_channel, selected_by, device_port, port_target_of, card_function, function_at, function_exists}
+use Rattle.std.proofs.Common.{◌≡◌, ◌≢◌, ℕ, List, ◌/◌, Bool, true, false, Option, Some, None, refl, inl, inr, ◌∙◌, sym}
+use Rattle.std.proofs.Common.{ap, is_some, option_map, if◌then◌else◌}
+use Rattle.board_prelude.proofs.Common.{cases_Bool, cond-false, ne_eqb, Width, Dev, Reg, Decoded, nobody, Register}
+use Rattle.board_prelude.proofs.Common.{NoRegister, bytes_of, Select, Always, XbcsBit0, XbcsBit1, IdeChannel, device_at}
+use Rattle.board_prelude.proofs.Common.{select_of, Setup, FittedCard, card_at, is_bit, is_enabled, is_config_port}
+use Rattle.board_prelude.proofs.Common.{config_register, Bytes, ide_command as command_register, idetim_high}
+use Rattle.board_prelude.proofs.Common.{xbcs as select_register, config_port, by_xbcs, by_channel, selected_by}
+use Rattle.board_prelude.proofs.Common.{device_port, port_target_of, card_function, function_at, function_exists}
 use Rattle.std.proofs.lemmas.Bool.{true_from_ne_false}
 use Rattle.board_spec.specs.RegisterTable.{Line}
 use Rattle.cfg_ports.specs.declared.conf_add.Selected.{Selected}
 use Rattle.cfg_ports.specs.Selection.{existing}
 use Rattle.addr_decode.specs.declared.onboard.Onboard.{Onboard}
-use Rattle.addr_decode.specs.Common.{if_selected, if_decoded, by_select, response_of, IsChannelOf, register_answers, after_onboard}
+use Rattle.addr_decode.specs.Common.{if_selected, if_decoded, by_select, response_of, IsChannelOf, register_answers}
+use Rattle.addr_decode.specs.Common.{after_onboard}
 
 xbcs_in_order :
     (setup : Setup) (bytes : Bytes) (bit : ℕ) (dev : Dev) (port : ℕ) →

@@ -1,6 +1,11 @@
 -- The registers of the address map among those of a board: after a reset, and where a byte is stored.
-use Rattle.std.proofs.Common.{◌≡◌, ◌≢◌, ℕ, ◌+◌, ◌-◌, ◌<◌, ◌≤◌, ◌⊎◌, inl, inr, Option, Some, None, true, false, List, length, get_or, set, refl, sym, ◌∙◌, ap, subst, arith, add-one, ◌==◌}
-use Rattle.board_prelude.proofs.Common.{cases_Bool, cases_eq, cases_lt, eq-eqb, eqb-false, nat_tests, Width, bytes_of, Reg, Store, FittedCard, Setup, merged, byte, is_within, reset_byte, writable_bits, changed_byte, smram_after, Bytes, bridge, isa, drb, fdhc, smram, xbcs, card_register, reg_after, after_stores, changed_byte-one_same, byte_by_byte}
+use Rattle.std.proofs.Common.{◌≡◌, ◌≢◌, ℕ, ◌+◌, ◌-◌, ◌<◌, ◌≤◌, ◌⊎◌, inl, inr, Option, Some, None, true, false, List}
+use Rattle.std.proofs.Common.{length, get_or, set, refl, sym, ◌∙◌, ap, subst, arith, add-one, ◌==◌}
+use Rattle.board_prelude.proofs.Common.{cases_Bool, cases_eq, cases_lt, eq-eqb, eqb-false, nat_tests, Width, bytes_of}
+use Rattle.board_prelude.proofs.Common.{Reg, Store, FittedCard, Setup, merged, byte, is_within, reset_byte}
+use Rattle.board_prelude.proofs.Common.{writable_bits, changed_byte, smram_after, Bytes, bridge, isa, drb, fdhc, smram}
+use Rattle.board_prelude.proofs.Common.{xbcs, card_register, reg_after, after_stores, changed_byte-one_same}
+use Rattle.board_prelude.proofs.Common.{byte_by_byte}
 use Rattle.pmc_regs.specs.Pmc.{IsRowsOf}
 use Rattle.pmc_regs.proofs.Common.{row_bytes, rows_are, there, rows_after_store}
 use Rattle.pam_windows.specs.Pam.{IsPamOffset, IsPamOf}
@@ -129,7 +134,8 @@ pub window_stored :
 window_stored setup bytes regs pam off written fitted within is stands =
     let new : Bytes = stored setup bytes (bridge off) written in
     record {
-      rows = rows-same bytes new regs.drb (rows_stay setup bytes off written (inl (omega (arith, within.1)))) stands.rows;
+      rows = rows-same bytes new regs.drb (rows_stay setup bytes off written (inl (omega (arith, within.1))))
+          stands.rows;
       hole = stands.hole ∙ sym (one_stays setup bytes off written 0x68 (omega (arith, within.1)));
       windows = is;
       smram = stands.smram ∙ sym (one_stays setup bytes off written 0x72 (omega (arith, within.1)));

@@ -1,16 +1,21 @@
 -- The state of the registers is spelled and read back.
-use Rattle.std.proofs.Common.{◌≡◌, ℕ, zero, suc, ◌+◌, ◌*◌, ◌^◌, ◌<◌, ◌≤◌, List, [], ◌∷◌, ◌++◌, length, Option, Some, None, Result, Ok, refl, sym, ap, subst, ◌∙◌, append_assoc, arith, slice_index, flat_map, get_or, drop, Err, false}
+use Rattle.std.proofs.Common.{◌≡◌, ℕ, zero, suc, ◌+◌, ◌*◌, ◌^◌, ◌<◌, ◌≤◌, List, [], ◌∷◌, ◌++◌, length, Option, Some}
+use Rattle.std.proofs.Common.{None, Result, Ok, refl, sym, ap, subst, ◌∙◌, append_assoc, arith, slice_index, flat_map}
+use Rattle.std.proofs.Common.{get_or, drop, Err, false}
 use Rattle.std.proofs.lemmas.List.{drop_more}
 use Rattle.std.proofs.lemmas.List.Concat.{flat_map-cons}
 use Rattle.std.proofs.lemmas.List.Elements.{All-from_recursion}
-use Rattle.board_prelude.proofs.Common.{AllByRecursion, append-nil, get_or_past, recursion_from_All, drop_all, w32, to_le_bytes, FittedCard}
+use Rattle.board_prelude.proofs.Common.{AllByRecursion, append-nil, get_or_past, recursion_from_All, drop_all, w32}
+use Rattle.board_prelude.proofs.Common.{to_le_bytes, FittedCard}
 use Rattle.byte_fields.specs.Fields.{then_read, gives}
 use Rattle.byte_fields.proofs.Formats.{IsFormat, format_as, then_format, last_format, done_format, plain_format}
 use Rattle.byte_fields.proofs.Loops.{with_later, with_front}
 use Rattle.byte_fields.proofs.Numbers.{Ranges, byte_within, within_format, wide32}
 use Rattle.pci_bars.specs.Cards.{CardBytes, cards_of}
 use Rattle.addr_decode.specs.declared.regs.MapRegs.{MapRegs}
-use Rattle.addr_decode.specs.State.{any_byte, any_long, AreBases, bases_bytes, bases_fields, IsCardRegs, most_rom, card_bytes, card_fields, AreCardRegs, cards_fields, AreMapRegs, regs_bytes, regs_fields}
+use Rattle.addr_decode.specs.State.{any_byte, any_long, AreBases, bases_bytes, bases_fields, IsCardRegs, most_rom}
+use Rattle.addr_decode.specs.State.{card_bytes, card_fields, AreCardRegs, cards_fields, AreMapRegs, regs_bytes}
+use Rattle.addr_decode.specs.State.{regs_fields}
 
 byte_format : IsFormat 1 any_byte (λ n. n ∷ []) (Ranges 0 255)
 byte_format = byte_within 0 255 (omega arith)
@@ -27,7 +32,8 @@ IsLong : ℕ → Type 0
 IsLong n = n < 2 ^ 32
 
 six : (bases : List ℕ) → length bases ≡ 6 →
-    bases ≡ base_at 0 bases ∷ base_at 1 bases ∷ base_at 2 bases ∷ base_at 3 bases ∷ base_at 4 bases ∷ base_at 5 bases ∷ []
+    bases ≡ base_at 0 bases ∷ base_at 1 bases ∷ base_at 2 bases ∷ base_at 3 bases ∷ base_at 4 bases
+        ∷ base_at 5 bases ∷ []
 six [] long = absurd (omega (arith, long))
 six (a ∷ []) long = absurd (omega (arith, long))
 six (a ∷ b ∷ []) long = absurd (omega (arith, long))

@@ -1,6 +1,7 @@
 -- A byte that is stored in one register leaves all others, and a register takes it under its mask.
 use Rattle.std.proofs.Common.{◌≡◌, ◌≢◌, ◌≤◌, ℕ, List, ◌<◌, false, ◌⊎◌, inl, inr, sym, ◌∙◌, ap, arith, slice_index}
-use Rattle.board_prelude.proofs.Common.{w32, to_le_bytes, cond-false, nat_tests, Width, One, bytes_of, Reg, Setup, byte, covers, Bytes, card_register}
+use Rattle.board_prelude.proofs.Common.{w32, to_le_bytes, cond-false, nat_tests, Width, One, bytes_of, Reg, Setup, byte}
+use Rattle.board_prelude.proofs.Common.{covers, Bytes, card_register}
 use Rattle.board_base.specs.declared.access.Width.TheVariants.{Two, Four}
 use Rattle.pci_bars.proofs.BaseLemmas.{long_byte}
 use Rattle.addr_decode.specs.MapRegs.{stored}

@@ -1,5 +1,6 @@
 -- The next edge as the code looks for it: it keeps the least edge above an address.
-use Rattle.std.specs.Prelude.{ℕ, ◌+◌, ◌*◌, ◌/◌, ◌^◌, nat_lt, min, ◌&&◌, if◌then◌else◌, List, [], ◌∷◌, ◌++◌, Option, Some, None, unwrap_or, slice_index}
+use Rattle.std.specs.Prelude.{ℕ, ◌+◌, ◌*◌, ◌/◌, ◌^◌, nat_lt, min, ◌&&◌, if◌then◌else◌, List, [], ◌∷◌, ◌++◌, Option}
+use Rattle.std.specs.Prelude.{Some, None, unwrap_or, slice_index}
 use Rattle.std.specs.List.{fold}
 use Rattle.board_prelude.specs.Common.{Base, MemoryBase, IoBase, OutsideBase, address_count}
 use Rattle.pci_bars.specs.Cards.{CardBytes}

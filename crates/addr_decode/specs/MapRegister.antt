@@ -1,8 +1,12 @@
 -- The registers that the address map depends on, each by its one name.
-use Rattle.std.specs.Prelude.{ℕ, ◌≡◌, ◌+◌, ◌-◌, ◌<◌, ◌≤◌, ◌==◌, Bool, true, false, not, ◌&&◌, if◌then◌else◌, List, [], ◌∷◌, length, take, map, find, Option, Some, None, is_some, option_map, option_and_then}
-use Rattle.board_prelude.specs.Common.{AllByRecursion, Width, Reg, bytes_of, MapChange, Store, Reset, FittedCard, Setup, IsCardList, is_within, is_map_byte, reg_after, pam, drb, fdhc, smram, xbcs, card_register, card_command, base_register, expansion_rom}
+use Rattle.std.specs.Prelude.{ℕ, ◌≡◌, ◌+◌, ◌-◌, ◌<◌, ◌≤◌, ◌==◌, Bool, true, false, not, ◌&&◌, if◌then◌else◌, List, []}
+use Rattle.std.specs.Prelude.{◌∷◌, length, take, map, find, Option, Some, None, is_some, option_map, option_and_then}
+use Rattle.board_prelude.specs.Common.{AllByRecursion, Width, Reg, bytes_of, MapChange, Store, Reset, FittedCard, Setup}
+use Rattle.board_prelude.specs.Common.{IsCardList, is_within, is_map_byte, reg_after, pam, drb, fdhc, smram, xbcs}
+use Rattle.board_prelude.specs.Common.{card_register, card_command, base_register, expansion_rom}
 use Rattle.addr_decode.specs.declared.register.MapRegister.{MapRegister}
-use Rattle.addr_decode.specs.declared.register.MapRegister.TheVariants.{Pam, RowBoundary, Hole, Smram, ChipSelects, Card}
+use Rattle.addr_decode.specs.declared.register.MapRegister.TheVariants.{Pam, RowBoundary, Hole, Smram, ChipSelects}
+use Rattle.addr_decode.specs.declared.register.MapRegister.TheVariants.{Card}
 use Rattle.addr_decode.specs.declared.register.CardRegister.{CardRegister}
 use Rattle.addr_decode.specs.declared.register.CardRegister.TheVariants.{Command, Base, ExpansionRom}
 
@@ -62,7 +66,8 @@ in_isa_bridge off = if off == xbcs.off then Some ChipSelects else None
 abbrev pub in_card : (off : ℕ) → FittedCard → Option CardRegister
 in_card off card =
     if off == (card_command 0).off then Some Command else
-    if is_within (base_register 0 0).off ((base_register 0 5).off + 3) off then Some (Base (off - (base_register 0 0).off)) else
+    if is_within (base_register 0 0).off ((base_register 0 5).off + 3) off
+    then Some (Base (off - (base_register 0 0).off)) else
     if is_some card.rom && is_within (expansion_rom 0).off ((expansion_rom 0).off + 3) off
     then Some (ExpansionRom (off - (expansion_rom 0).off)) else None
 
@@ -78,7 +83,8 @@ map_register cards reg =
 
 -- the names of the registers that a store covers from one on, and of those that a change does
 abbrev pub names_from : List FittedCard → Reg → Width → List (Option MapRegister)
-names_from cards reg width = map (λ k. map_register cards (reg_after reg k)) (take (bytes_of width) (0 ∷ 1 ∷ 2 ∷ 3 ∷ []))
+names_from cards reg width = map (λ k. map_register cards (reg_after reg k))
+    (take (bytes_of width) (0 ∷ 1 ∷ 2 ∷ 3 ∷ []))
 
 abbrev pub names_of : List FittedCard → MapChange → List (Option MapRegister)
 names_of cards Reset = []
@@ -89,7 +95,8 @@ names_of cards (Store reg width value) = names_from cards reg width
 -- exactly the map bytes have a name
 abbrev pub MapBytesAreNamed : Type 0
 MapBytesAreNamed =
-    (setup : Setup) (reg : Reg) → IsCardList setup.cards → is_some (map_register setup.cards reg) ≡ is_map_byte setup reg
+    (setup : Setup) (reg : Reg) → IsCardList setup.cards →
+    is_some (map_register setup.cards reg) ≡ is_map_byte setup reg
 
 -- and each name stands for one register
 abbrev pub NamesStandForOne : Type 0

@@ -1,6 +1,7 @@
 -- The registers that the address map depends on.
 use Rattle.std.specs.Prelude.{◌≡◌, ℕ, ◌/◌, List}
-use Rattle.board_prelude.specs.Common.{One, Reg, Store, changed_byte, Setup, Bytes, fdhc, smram, xbcs, ide_command as command_register, idetim_high}
+use Rattle.board_prelude.specs.Common.{One, Reg, Store, changed_byte, Setup, Bytes, fdhc, smram, xbcs}
+use Rattle.board_prelude.specs.Common.{ide_command as command_register, idetim_high}
 use Rattle.pmc_regs.specs.Pmc.{IsRowsOf}
 use Rattle.pam_windows.specs.Pam.{IsPamOf}
 use Rattle.pci_bars.specs.Cards.{CardBytes, AreDecoded}

@@ -1,5 +1,6 @@
 -- The state of the registers that the address map depends on as bytes. The cards of the board are not in them.
-use Rattle.std.specs.Prelude.{ℕ, ◌≡◌, ◌<◌, ◌^◌, List, [], ◌∷◌, ◌++◌, length, slice_index, All, flat_map, Option, None, Some}
+use Rattle.std.specs.Prelude.{ℕ, ◌≡◌, ◌<◌, ◌^◌, List, [], ◌∷◌, ◌++◌, length, slice_index, All, flat_map, Option, None}
+use Rattle.std.specs.Prelude.{Some}
 use Rattle.board_base.specs.Common.{w8, w32, to_le_bytes}
 use Rattle.board_spec.specs.Setup.{FittedCard}
 use Rattle.byte_fields.specs.Fields.{Reading, gives, ◌>>=◌, within, plain}

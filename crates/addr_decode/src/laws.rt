@@ -1,4 +1,5 @@
-//! Laws of the names of the registers, and of the edges of the memory map. Each function does nothing: its clause is the law.
+//! Laws of the names of the registers, and of the edges of the memory map. Each function does nothing: its clause is
+//! the law.
 
 ghost use Rattle.addr_decode.specs.MapRegister.{MapBytesAreNamed, NamesStandForOne};
 ghost use Rattle.addr_decode.specs.Edges.{AreasChangeAtEdges, FewEdges};

@@ -1,6 +1,7 @@
 //! The memory map as a bus master sees it, to which SMRAM never answers.
 ghost use Rattle.std.specs.Prelude.{◌≡◌, false};
-ghost use Rattle.board_prelude.specs.Common.{Setup, Bytes, is_in, hole_of as hole_by, row_of as row_by, is_shadowed, fdhc};
+ghost use Rattle.board_prelude.specs.Common.{Setup, Bytes, is_in, hole_of as hole_by, row_of as row_by, is_shadowed};
+ghost use Rattle.board_prelude.specs.Common.{fdhc};
 ghost use Rattle.pci_bars.specs.Cards.{AreFitted};
 ghost use Rattle.addr_decode.specs.MapRegs.{StandsFor, map_bytes};
 ghost use Rattle.addr_decode.specs.Memory.{dram_area, row_area};

@@ -1,6 +1,9 @@
 //! The memory map of the 82441FX and the 82371SB: which area an access reaches, and what denies it.
 ghost use Rattle.std.specs.Prelude.{◌≡◌, Bool, true, false, Some, None, IfSome, unwrap_or};
-ghost use Rattle.board_prelude.specs.Common.{Kind, Read, Write, Setup, Bytes, line_where, is_in, hole_of as hole_by, row_of as row_by, is_shadow_range, is_shadowed, smram_answers, area_of, denial_of, denial_in as denial_by, abort_denial, rom_denial, top_of, memory_shut, rom_unselected, fdhc, smram, xbcs as select_register};
+ghost use Rattle.board_prelude.specs.Common.{Kind, Read, Write, Setup, Bytes, line_where, is_in, hole_of as hole_by};
+ghost use Rattle.board_prelude.specs.Common.{row_of as row_by, is_shadow_range, is_shadowed, smram_answers, area_of};
+ghost use Rattle.board_prelude.specs.Common.{denial_of, denial_in as denial_by, abort_denial, rom_denial, top_of};
+ghost use Rattle.board_prelude.specs.Common.{memory_shut, rom_unselected, fdhc, smram, xbcs as select_register};
 ghost use Rattle.board_base.specs.declared.target.Area.TheVariants.{Dram, Shadow};
 ghost use Rattle.pam_windows.specs.Pam.{IsPamOf};
 ghost use Rattle.pci_bars.specs.Cards.{AreFitted};
@@ -40,8 +43,8 @@ pub fn decode(regs: &MapRegs, addr: u32, kind: Kind, smm: bool) -> (Area, Option
     }
 }
 
-/// The row of ordinary DRAM at an address, which every kind of access reaches: outside SMRAM, the shadow windows and the
-/// hole. None where there is none.
+/// The row of ordinary DRAM at an address, which every kind of access reaches: outside SMRAM, the shadow windows and
+/// the hole. None where there is none.
 #[inline(always)]
 pub fn plain_row(regs: &MapRegs, addr: u32) -> Option<u8>
     ensures area { IfSome result (λ row. (setup : Setup) (bytes : Bytes) (kind : Kind) (smm : Bool)

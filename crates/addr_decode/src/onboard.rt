@@ -34,7 +34,8 @@ pub fn onboard_at(xbcs: u8, ports: &PortRegs, port: u16, width: Width) -> Onboar
 
 /// How a device responds at its port, by what selects it.
 fn at_its_port(dev: Dev, xbcs: u8, ports: &PortRegs) -> Onboard
-    ensures response { result ≡ by_select (select_of dev) dev xbcs ports.now.disk ports.now.ide_command ports.now.idetim }
+    ensures response { result ≡ by_select (select_of dev) dev xbcs ports.now.disk ports.now.ide_command
+        ports.now.idetim }
 {
     match select_of(dev) {
         Select::Always => Onboard::Answers(dev),

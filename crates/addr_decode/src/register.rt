@@ -5,7 +5,8 @@ ghost use Rattle.pci_bars.specs.Cards.{cards_of};
 ghost use Rattle.addr_decode.specs.declared.register.CardRegister.TheVariants.{ExpansionRom};
 ghost use Rattle.addr_decode.specs.declared.register.MapRegister.TheVariants.{Card};
 ghost use Rattle.addr_decode.specs.Found.{HasRegister};
-ghost use Rattle.addr_decode.specs.MapRegister.{IsCardNumber, offset_of, is_of_card, in_bridge, in_isa_bridge, in_card, in_device, map_register, names_from, names_of};
+ghost use Rattle.addr_decode.specs.MapRegister.{IsCardNumber, offset_of, is_of_card, in_bridge, in_isa_bridge, in_card};
+ghost use Rattle.addr_decode.specs.MapRegister.{in_device, map_register, names_from, names_of};
 
 use crate::found::{ConfigRegister, Function};
 use crate::regs::MapRegs;

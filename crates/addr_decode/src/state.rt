@@ -6,7 +6,8 @@ ghost use Rattle.board_prelude.specs.Common.{FittedCard, Setup, IsCardList, Byte
 ghost use Rattle.byte_fields.specs.Fields.{Took};
 ghost use Rattle.byte_fields.specs.Loads.{Loads, OneSpelling};
 ghost use Rattle.pci_bars.specs.Cards.{AreCardsOf, AreFitted};
-ghost use Rattle.addr_decode.specs.State.{AreBases, bases_bytes, bases_fields, IsWideCard, most_rom, card_bytes, card_fields, cards_fields, AreMapRegs, regs_bytes, regs_fields};
+ghost use Rattle.addr_decode.specs.State.{AreBases, bases_bytes, bases_fields, IsWideCard, most_rom, card_bytes};
+ghost use Rattle.addr_decode.specs.State.{card_fields, cards_fields, AreMapRegs, regs_bytes, regs_fields};
 
 use crate::regs::MapRegs;
 use arrayvec::ArrayVec;
@@ -160,9 +161,9 @@ impl MapRegs {
         push_cards(into, self.cards.as_slice())
     }
 
-    /// The registers of a board with these cards, whose state is at the front of the bytes. Refused where a field is not
-    /// whole, or a card without an expansion ROM has a register of that which is not 0: the bytes left then begin with
-    /// the first such field.
+    /// The registers of a board with these cards, whose state is at the front of the bytes. Refused where a field is
+    /// not whole, or a card without an expansion ROM has a register of that which is not 0: the bytes left then begin
+    /// with the first such field.
     pub fn load_state(specs: &[CardSpec], fields: &mut Fields) -> Result<MapRegs, Bad>
         requires cards { IsCardList specs.now }
         ensures loaded { Loads (regs_fields specs.now) regs_bytes (AreMapRegs specs.now) fields.old fields.new result }

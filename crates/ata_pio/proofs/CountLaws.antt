@@ -1,7 +1,16 @@
 -- A command moves exactly its count of sectors, or stops at the first that fails.
-use Rattle.std.proofs.Common.{◌≡◌, ◌≢◌, ℕ, zero, suc, ◌+◌, ◌*◌, ◌%◌, ◌<◌, ◌≤◌, ◌⊎◌, Bool, true, false, eqb, ltb, List, [], ◌∷◌, ◌++◌, length, Some, Result, Ok, Err, inl, inr, refl, ap, subst, ◌∙◌, arith, length-set}
-use Rattle.device_spec.proofs.Common.{cond-true, cond-false, eq-eqb, ne_eqb, lt-ltb, Medium, Activity, Reading, Writing, Drive, Disk, sectors_of, sector_bytes, stored, named, naming, counted, left_of, readable, found, reads_found, writes_found, finished, ended, begin_read, begin_write, sector_read, sector_written, verified, counted_down, moved_to, word_of, word_read, word_written, with_drive}
-use Rattle.ata_pio.specs.Ata.Laws.{IsWhole, IsChosen, words_read, after_words_read, after_words_written, sector_words, bytes_of_words, moved_on, AllReadable, MovesOn, words_of_sectors, reading_disk, ReadMovesItsSectors, VerifyLooksAtItsSectors, writing_disk, all_stored, AreSectors, all_words, request_of, WriteMovesItsSectors}
+use Rattle.std.proofs.Common.{◌≡◌, ◌≢◌, ℕ, zero, suc, ◌+◌, ◌*◌, ◌%◌, ◌<◌, ◌≤◌, ◌⊎◌, Bool, true, false, eqb, ltb, List}
+use Rattle.std.proofs.Common.{[], ◌∷◌, ◌++◌, length, Some, Result, Ok, Err, inl, inr, refl, ap, subst, ◌∙◌, arith}
+use Rattle.std.proofs.Common.{length-set}
+use Rattle.device_spec.proofs.Common.{cond-true, cond-false, eq-eqb, ne_eqb, lt-ltb, Medium, Activity, Reading, Writing}
+use Rattle.device_spec.proofs.Common.{Drive, Disk, sectors_of, sector_bytes, stored, named, naming, counted, left_of}
+use Rattle.device_spec.proofs.Common.{readable, found, reads_found, writes_found, finished, ended, begin_read}
+use Rattle.device_spec.proofs.Common.{begin_write, sector_read, sector_written, verified, counted_down, moved_to}
+use Rattle.device_spec.proofs.Common.{word_of, word_read, word_written, with_drive}
+use Rattle.ata_pio.specs.Ata.Laws.{IsWhole, IsChosen, words_read, after_words_read, after_words_written, sector_words}
+use Rattle.ata_pio.specs.Ata.Laws.{bytes_of_words, moved_on, AllReadable, MovesOn, words_of_sectors, reading_disk}
+use Rattle.ata_pio.specs.Ata.Laws.{ReadMovesItsSectors, VerifyLooksAtItsSectors, writing_disk, all_stored, AreSectors}
+use Rattle.ata_pio.specs.Ata.Laws.{all_words, request_of, WriteMovesItsSectors}
 use Rattle.ata_pio.proofs.AddressLaws.{written_back_names, naming-drive_one, naming-srst}
 use Rattle.ata_pio.proofs.StoreLaws.{stored-other, stored-whole}
 use Rattle.ata_pio.proofs.Verifies.{naming-count, verified-fails, verified-last, verified-more}
@@ -20,7 +29,8 @@ record IsNext (sector : ℕ) (before now : Drive) : Type 0 where
 one_less : (n m : ℕ) → m ≡ n % 256 → 0 < n % 256 → (m + 255) % 256 + 1 ≡ n % 256
 one_less n m e h = omega arith
 
-goes_on : (drive : Drive) (sector : ℕ) → IsChosen drive → 0 < left_of drive.registers → sector + 1 ≤ 65536 → IsNext sector drive (next sector drive)
+goes_on : (drive : Drive) (sector : ℕ) → IsChosen drive → 0 < left_of drive.registers → sector + 1 ≤ 65536 →
+    IsNext sector drive (next sector drive)
 goes_on drive sector h more l =
     let r = counted drive.registers in
     record {
@@ -58,14 +68,16 @@ later_readable m sector n h = λ k l.
     subst (λ s. readable m (Some s) ≡ Ok s) same (h (suc k) (omega arith))
 
 -- reads of the data port, one run after another
-words_read-add : (a b : ℕ) (disk : Disk) → words_read (a + b) disk ≡ words_read a disk ++ words_read b (after_words_read a disk)
+words_read-add : (a b : ℕ) (disk : Disk) → words_read (a + b) disk ≡ words_read a disk ++ words_read b
+    (after_words_read a disk)
 unfolding words_read after_words_read
 words_read-add zero b disk = let none : zero + b ≡ b = omega arith in ap (λ n. words_read n disk) none
 words_read-add (suc a) b disk =
     let next_is : suc a + b ≡ suc (a + b) = omega arith in
     ap (λ n. words_read n disk) next_is ∙ ap (λ ws. word_of disk ∷ ws) (words_read-add a b (word_read disk))
 
-after_words_read-add : (a b : ℕ) (disk : Disk) → after_words_read (a + b) disk ≡ after_words_read b (after_words_read a disk)
+after_words_read-add : (a b : ℕ) (disk : Disk) →
+    after_words_read (a + b) disk ≡ after_words_read b (after_words_read a disk)
 unfolding after_words_read
 after_words_read-add zero b disk = let none : zero + b ≡ b = omega arith in ap (λ n. after_words_read n disk) none
 after_words_read-add (suc a) b disk =
@@ -73,15 +85,18 @@ after_words_read-add (suc a) b disk =
     ap (λ n. after_words_read n disk) next_is ∙ after_words_read-add a b (word_read disk)
 
 -- a read looks at its sector whatever was under way
-reads_found-other : (x : Result ℕ ℕ) (d : Drive) (a : Activity) (q : Bool) → reads_found x (record d { activity = a; request = q }) ≡ reads_found x d
+reads_found-other : (x : Result ℕ ℕ) (d : Drive) (a : Activity) (q : Bool) →
+    reads_found x (record d { activity = a; request = q }) ≡ reads_found x d
 reads_found-other (Ok s) d a q = refl
 reads_found-other (Err e) d a q = refl
 
-begin_read-other : (m : Medium) (d : Drive) (a : Activity) (q : Bool) → begin_read m (record d { activity = a; request = q }) ≡ begin_read m d
+begin_read-other : (m : Medium) (d : Drive) (a : Activity) (q : Bool) →
+    begin_read m (record d { activity = a; request = q }) ≡ begin_read m d
 unfolding begin_read
 begin_read-other m d a q = reads_found-other (readable m (named d.registers)) d a q
 
-begin_read-is : (m : Medium) (d : Drive) (x : Result ℕ ℕ) → readable m (named d.registers) ≡ x → begin_read m d ≡ reads_found x d
+begin_read-is : (m : Medium) (d : Drive) (x : Result ℕ ℕ) → readable m (named d.registers) ≡ x →
+    begin_read m d ≡ reads_found x d
 unfolding begin_read
 begin_read-is m d x e = ap (λ y. reads_found y d) e
 
@@ -89,33 +104,40 @@ begin_read-is m d x e = ap (λ y. reads_found y d) e
 abbrev reading : ℕ → Drive → Drive
 reading sector d = record d { activity = Reading sector 0; request = true }
 
-begins : (disk : Disk) (sector : ℕ) (d : Drive) → named d.registers ≡ Some sector → readable disk.medium (Some sector) ≡ Ok sector
+begins : (disk : Disk) (sector : ℕ) (d : Drive) → named d.registers ≡ Some sector →
+    readable disk.medium (Some sector) ≡ Ok sector
     → reading_disk disk d ≡ with_drive disk (reading sector d)
-begins disk sector d e h = ap (with_drive disk) (begin_read-is disk.medium d (Ok sector) (ap (readable disk.medium) e ∙ h))
+begins disk sector d e h =
+    ap (with_drive disk) (begin_read-is disk.medium d (Ok sector) (ap (readable disk.medium) e ∙ h))
 
-sector_read-more : (m : Medium) (sector : ℕ) (d : Drive) → 0 < left_of d.registers → sector_read m sector (reading sector d) ≡ begin_read m (next sector d)
+sector_read-more : (m : Medium) (sector : ℕ) (d : Drive) → 0 < left_of d.registers →
+    sector_read m sector (reading sector d) ≡ begin_read m (next sector d)
 unfolding sector_read
 sector_read-more m sector d h =
     cond-false (eqb (left_of d.registers) 0) _ _ (ne_eqb (left_of d.registers) 0 (λ e. omega arith))
     ∙ begin_read-other m (next sector d) (Reading sector 0) true
 
-sector_read-last : (m : Medium) (sector : ℕ) (d : Drive) → left_of d.registers ≡ 0 → sector_read m sector (reading sector d) ≡ finished (counted_down d)
+sector_read-last : (m : Medium) (sector : ℕ) (d : Drive) → left_of d.registers ≡ 0 →
+    sector_read m sector (reading sector d) ≡ finished (counted_down d)
 unfolding sector_read
 sector_read-last m sector d h = cond-true (eqb (left_of d.registers) 0) _ _ (eq-eqb (left_of d.registers) 0 h)
 
 -- one whole sector of a read
-sector_passes : (disk : Disk) (sector : ℕ) (d : Drive) → IsChosen d → named d.registers ≡ Some sector → readable disk.medium (Some sector) ≡ Ok sector
+sector_passes : (disk : Disk) (sector : ℕ) (d : Drive) → IsChosen d → named d.registers ≡ Some sector →
+    readable disk.medium (Some sector) ≡ Ok sector
     → (words_read 256 (reading_disk disk d) ≡ sector_words disk.medium sector 0 256)
     × (after_words_read 256 (reading_disk disk d) ≡ with_drive disk (sector_read disk.medium sector (reading sector d)))
 sector_passes disk sector d h e r =
     let begun = begins disk sector d e r in
-    let moved = sector_is_read (with_drive disk (reading sector d)) sector (record { drive_zero = h.drive_zero; free = h.free }) refl in
+    let moved = sector_is_read (with_drive disk (reading sector d)) sector
+    (record { drive_zero = h.drive_zero; free = h.free }) refl in
     (ap (words_read 256) begun ∙ moved.words, ap (after_words_read 256) begun ∙ moved.rest)
 
 times : (n : ℕ) → suc n * 256 ≡ 256 + n * 256
 times n = omega arith
 
-reads_words : (n : ℕ) (disk : Disk) (sector : ℕ) (d : Drive) → IsChosen d → named d.registers ≡ Some sector → n ≤ left_of d.registers → sector + n ≤ 65536 → AllReadable disk.medium sector n
+reads_words : (n : ℕ) (disk : Disk) (sector : ℕ) (d : Drive) → IsChosen d → named d.registers ≡ Some sector →
+    n ≤ left_of d.registers → sector + n ≤ 65536 → AllReadable disk.medium sector n
     → words_read (n * 256) (reading_disk disk d) ≡ words_of_sectors disk.medium sector n
 unfolding words_read
 reads_words zero disk sector d h e n l r = refl
@@ -130,9 +152,12 @@ reads_words (suc n) disk sector d h e more l r =
     ∙ words_read-add 256 (n * 256) (reading_disk disk d)
     ∙ ap (λ ws. ws ++ words_read (n * 256) (after_words_read 256 (reading_disk disk d))) passes.0
     ∙ ap (λ (x : Disk). sector_words disk.medium sector 0 256 ++ words_read (n * 256) x) after
-    ∙ ap (λ ws. sector_words disk.medium sector 0 256 ++ ws) (reads_words n disk (sector + 1) (next sector d) first.chosen first.names fits (omega arith) (later_readable disk.medium sector n r))
+    ∙ ap (λ ws. sector_words disk.medium sector 0 256 ++ ws)
+    (reads_words n disk (sector + 1) (next sector d) first.chosen first.names fits (omega arith)
+    (later_readable disk.medium sector n r))
 
-reads_on : (n : ℕ) (disk : Disk) (sector : ℕ) (d : Drive) → IsChosen d → named d.registers ≡ Some sector → n ≤ left_of d.registers → sector + n ≤ 65536 → AllReadable disk.medium sector n
+reads_on : (n : ℕ) (disk : Disk) (sector : ℕ) (d : Drive) → IsChosen d → named d.registers ≡ Some sector →
+    n ≤ left_of d.registers → sector + n ≤ 65536 → AllReadable disk.medium sector n
     → after_words_read (n * 256) (reading_disk disk d) ≡ reading_disk disk (moved_on sector n d)
 unfolding after_words_read moved_on
 reads_on zero disk sector d h e n l r = refl
@@ -143,8 +168,10 @@ reads_on (suc n) disk sector d h e more l r =
     let fits : n ≤ left_of (next sector d).registers = omega (arith, first.left) in
     ap (λ k. after_words_read k (reading_disk disk d)) (times n)
     ∙ after_words_read-add 256 (n * 256) (reading_disk disk d)
-    ∙ ap (after_words_read (n * 256)) (passes.1 ∙ ap (with_drive disk) (sector_read-more disk.medium sector d (omega arith)))
-    ∙ reads_on n disk (sector + 1) (next sector d) first.chosen first.names fits (omega arith) (later_readable disk.medium sector n r)
+    ∙ ap (after_words_read (n * 256))
+    (passes.1 ∙ ap (with_drive disk) (sector_read-more disk.medium sector d (omega arith)))
+    ∙ reads_on n disk (sector + 1) (next sector d) first.chosen first.names fits (omega arith)
+    (later_readable disk.medium sector n r)
 
 times_end : (n : ℕ) → suc n * 256 ≡ n * 256 + 256
 times_end n = omega arith
@@ -158,7 +185,8 @@ read_moves_its_sectors disk sector n h e more l r =
       words = reads_words n disk sector disk.drive h e more l r;
       rest = on;
       fails = λ error bad.
-          on ∙ ap (with_drive disk) (begin_read-is disk.medium d (Err error) (ap (readable disk.medium) stands.names ∙ bad));
+          on ∙ ap (with_drive disk) (begin_read-is disk.medium d (Err error)
+          (ap (readable disk.medium) stands.names ∙ bad));
       ends = λ good last.
           let none : left_of d.registers ≡ 0 = omega (arith, stands.left) in
           ap (λ k. after_words_read k (reading_disk disk disk.drive)) (times_end n)
@@ -169,7 +197,8 @@ read_moves_its_sectors disk sector n h e more l r =
     }
 
 -- verify looks at its sectors in turn
-verifies_on : (n : ℕ) (m : Medium) (sector : ℕ) (d : Drive) → IsChosen d → named d.registers ≡ Some sector → n ≤ left_of d.registers → sector + n ≤ 65536 → AllReadable m sector n
+verifies_on : (n : ℕ) (m : Medium) (sector : ℕ) (d : Drive) → IsChosen d → named d.registers ≡ Some sector →
+    n ≤ left_of d.registers → sector + n ≤ 65536 → AllReadable m sector n
     → verified m (left_of d.registers) d ≡ verified m (left_of (moved_on sector n d).registers) (moved_on sector n d)
 unfolding moved_on
 verifies_on zero m sector d h e n l r = refl
@@ -177,7 +206,8 @@ verifies_on (suc n) m sector d h e more l r =
     let first = goes_on d sector h (omega arith) (omega arith) in
     let fits : n ≤ left_of (next sector d).registers = omega (arith, first.left) in
     verified-more m sector d (ap (readable m) e ∙ first_readable m sector n r) (λ z. omega arith)
-    ∙ verifies_on n m (sector + 1) (next sector d) first.chosen first.names fits (omega arith) (later_readable m sector n r)
+    ∙ verifies_on n m (sector + 1) (next sector d) first.chosen first.names fits (omega arith)
+    (later_readable m sector n r)
 
 pub verify_looks_at_its_sectors : VerifyLooksAtItsSectors
 verify_looks_at_its_sectors m sector n drive h e more l r =
@@ -192,46 +222,58 @@ verify_looks_at_its_sectors m sector n drive h e more l r =
     }
 
 -- words that are written, one run after another
-after_words_written-append : (xs ys : List ℕ) (disk : Disk) → after_words_written (xs ++ ys) disk ≡ after_words_written ys (after_words_written xs disk)
+after_words_written-append : (xs ys : List ℕ) (disk : Disk) →
+    after_words_written (xs ++ ys) disk ≡ after_words_written ys (after_words_written xs disk)
 unfolding after_words_written
 after_words_written-append [] ys disk = refl
 after_words_written-append (x ∷ xs) ys disk = after_words_written-append xs ys (word_written x disk)
 
-writes_found-other : (x : Result ℕ ℕ) (q p : Bool) (d : Drive) (a : Activity) → writes_found x q (record d { activity = a; request = p }) ≡ writes_found x q d
+writes_found-other : (x : Result ℕ ℕ) (q p : Bool) (d : Drive) (a : Activity) →
+    writes_found x q (record d { activity = a; request = p }) ≡ writes_found x q d
 writes_found-other (Ok s) q p d a = refl
 writes_found-other (Err e) q p d a = refl
 
-begin_write-other : (m : Medium) (q p : Bool) (d : Drive) (a : Activity) → begin_write m q (record d { activity = a; request = p }) ≡ begin_write m q d
+begin_write-other : (m : Medium) (q p : Bool) (d : Drive) (a : Activity) →
+    begin_write m q (record d { activity = a; request = p }) ≡ begin_write m q d
 unfolding begin_write
 begin_write-other m q p d a = writes_found-other (found m (named d.registers)) q p d a
 
 abbrev writing : ℕ → Bool → Drive → Drive
 writing sector q d = record d { activity = Writing sector []; request = q }
 
-begin_write-there : (m : Medium) (sector : ℕ) (q : Bool) (d : Drive) → named d.registers ≡ Some sector → sector < sectors_of m → begin_write m q d ≡ writing sector q d
+begin_write-there : (m : Medium) (sector : ℕ) (q : Bool) (d : Drive) → named d.registers ≡ Some sector →
+    sector < sectors_of m → begin_write m q d ≡ writing sector q d
 unfolding begin_write
 begin_write-there m sector q d e h =
-    ap (λ (x : Result ℕ ℕ). writes_found x q d) (ap (found m) e ∙ cond-true (ltb sector (sectors_of m)) _ _ (lt-ltb sector (sectors_of m) h))
+    ap (λ (x : Result ℕ ℕ). writes_found x q d) (ap (found m) e
+    ∙ cond-true (ltb sector (sectors_of m)) _ _ (lt-ltb sector (sectors_of m) h))
 
-sector_written-more : (m : Medium) (sector : ℕ) (q : Bool) (d : Drive) → 0 < left_of d.registers → sector_written m sector (ended (writing sector q d)) ≡ begin_write m true (next sector d)
+sector_written-more : (m : Medium) (sector : ℕ) (q : Bool) (d : Drive) → 0 < left_of d.registers →
+    sector_written m sector (ended (writing sector q d)) ≡ begin_write m true (next sector d)
 unfolding sector_written
 sector_written-more m sector q d h =
     cond-false (eqb (left_of d.registers) 0) _ _ (ne_eqb (left_of d.registers) 0 (λ e. omega arith))
     ∙ begin_write-other m true q (next sector d) (ended (writing sector q d)).activity
 
-sector_written-last : (m : Medium) (sector : ℕ) (q : Bool) (d : Drive) → left_of d.registers ≡ 0 → sector_written m sector (ended (writing sector q d)) ≡ finished (counted_down d)
+sector_written-last : (m : Medium) (sector : ℕ) (q : Bool) (d : Drive) → left_of d.registers ≡ 0 →
+    sector_written m sector (ended (writing sector q d)) ≡ finished (counted_down d)
 unfolding sector_written
 sector_written-last m sector q d h = cond-true (eqb (left_of d.registers) 0) _ _ (eq-eqb (left_of d.registers) 0 h)
 
 -- one whole sector of a write
-sector_comes : (m : Medium) (sector : ℕ) (q : Bool) (d : Drive) (words : List ℕ) → IsChosen d → named d.registers ≡ Some sector → sector < sectors_of m → length words ≡ 256
+sector_comes : (m : Medium) (sector : ℕ) (q : Bool) (d : Drive) (words : List ℕ) → IsChosen d →
+    named d.registers ≡ Some sector → sector < sectors_of m → length words ≡ 256
     → after_words_written words (writing_disk m q d)
-    ≡ record { medium = stored m sector (bytes_of_words words); drive = sector_written (stored m sector (bytes_of_words words)) sector (ended (writing sector q d)) }
+    ≡ record {
+      medium = stored m sector (bytes_of_words words);
+      drive = sector_written (stored m sector (bytes_of_words words)) sector (ended (writing sector q d));
+    }
 sector_comes m sector q d words h e there l =
     let begun : writing_disk m q d ≡ record { medium = m; drive = writing sector q d } =
     ap (λ (x : Drive). record { medium = m; drive = x }) (begin_write-there m sector q d e there) in
     ap (after_words_written words) begun
-    ∙ sector_is_written (record { medium = m; drive = writing sector q d }) sector words (record { drive_zero = h.drive_zero; free = h.free }) refl l
+    ∙ sector_is_written (record { medium = m; drive = writing sector q d }) sector words
+    (record { drive_zero = h.drive_zero; free = h.free }) refl l
 
 abbrev storing : Medium → ℕ → List ℕ → Medium
 storing m sector words = stored m sector (bytes_of_words words)
@@ -244,8 +286,10 @@ still : (rest : List (List ℕ)) → request_of rest true ≡ true
 still [] = refl
 still (words ∷ rest) = refl
 
-writes_on : (sectors : List (List ℕ)) (m : Medium) (sector : ℕ) (q : Bool) (d : Drive) → IsChosen d → named d.registers ≡ Some sector
-    → length sectors ≤ left_of d.registers → sector + length sectors ≤ sectors_of m → sectors_of m ≤ 65536 → AreSectors sectors
+writes_on : (sectors : List (List ℕ)) (m : Medium) (sector : ℕ) (q : Bool) (d : Drive) → IsChosen d →
+    named d.registers ≡ Some sector
+    → length sectors ≤ left_of d.registers → sector + length sectors ≤ sectors_of m → sectors_of m ≤ 65536 →
+    AreSectors sectors
     → after_words_written (all_words sectors) (writing_disk m q d)
     ≡ writing_disk (all_stored m sector sectors) (request_of sectors q) (moved_on sector (length sectors) d)
 unfolding after_words_written moved_on
@@ -259,23 +303,33 @@ writes_on (words ∷ rest) m sector q d h e more l few a =
     ∙ ap (after_words_written (all_words rest))
     (sector_comes m sector q d words h e (omega arith) a.0
     ∙ ap (λ (x : Drive). record { medium = m2; drive = x }) (sector_written-more m2 sector q d (omega arith)))
-    ∙ writes_on rest m2 (sector + 1) true (next sector d) first.chosen first.names fits (omega (arith, same)) (omega (arith, same)) a.1
-    ∙ ap (λ (b : Bool). writing_disk (all_stored m2 (sector + 1) rest) b (moved_on (sector + 1) (length rest) (next sector d))) (still rest)
+    ∙ writes_on rest m2 (sector + 1) true (next sector d) first.chosen first.names fits (omega (arith, same))
+    (omega (arith, same)) a.1
+    ∙ ap (λ (b : Bool). writing_disk (all_stored m2 (sector + 1) rest) b
+    (moved_on (sector + 1) (length rest) (next sector d))) (still rest)
 
-pub others_stay : (sectors : List (List ℕ)) (m : Medium) (sector other : ℕ) → IsWhole m → sector + length sectors ≤ sectors_of m → AreSectors sectors
-    → ((other < sector) ⊎ (sector + length sectors ≤ other)) → sector_bytes (all_stored m sector sectors) other ≡ sector_bytes m other
+pub others_stay : (sectors : List (List ℕ)) (m : Medium) (sector other : ℕ) → IsWhole m →
+    sector + length sectors ≤ sectors_of m → AreSectors sectors
+    → ((other < sector) ⊎ (sector + length sectors ≤ other)) →
+    sector_bytes (all_stored m sector sectors) other ≡ sector_bytes m other
 others_stay [] m sector other w l a o = refl
 others_stay (words ∷ rest) m sector other w l a o =
     let m2 = storing m sector words in
     let same : sectors_of m2 ≡ sectors_of m = length-set m.bad sector false in
     let apart : sector ≢ other = λ e. elim o [ inl p ↦ omega arith | inr p ↦ omega arith ] in
-    let later : (other < sector + 1) ⊎ (sector + 1 + length rest ≤ other) = elim o [ inl p ↦ inl (omega arith) | inr p ↦ inr (omega arith) ] in
-    others_stay rest m2 (sector + 1) other (stored-whole m sector (bytes_of_words words) w (omega arith) (full words a.0)) (omega (arith, same)) a.1 later
+    let later : (other < sector + 1) ⊎ (sector + 1 + length rest ≤ other) = elim o [
+      | inl p ↦ inl (omega arith)
+      | inr p ↦ inr (omega arith)
+    ] in
+    others_stay rest m2 (sector + 1) other (stored-whole m sector (bytes_of_words words) w (omega arith)
+    (full words a.0)) (omega (arith, same)) a.1 later
     ∙ stored-other m sector other (bytes_of_words words) w (omega arith) (full words a.0) apart
 
-sectors_of-all_stored : (sectors : List (List ℕ)) (m : Medium) (sector : ℕ) → sectors_of (all_stored m sector sectors) ≡ sectors_of m
+sectors_of-all_stored : (sectors : List (List ℕ)) (m : Medium) (sector : ℕ) →
+    sectors_of (all_stored m sector sectors) ≡ sectors_of m
 sectors_of-all_stored [] m sector = refl
-sectors_of-all_stored (words ∷ rest) m sector = sectors_of-all_stored rest (storing m sector words) (sector + 1) ∙ length-set m.bad sector false
+sectors_of-all_stored (words ∷ rest) m sector = sectors_of-all_stored rest (storing m sector words) (sector + 1)
+    ∙ length-set m.bad sector false
 
 pub write_moves_its_sectors : WriteMovesItsSectors
 write_moves_its_sectors m sector sectors q drive h w e more l few a =
@@ -294,5 +348,6 @@ write_moves_its_sectors m sector sectors q drive h w e more l few a =
           after_words_written-append (all_words sectors) last (writing_disk m q drive)
           ∙ ap (after_words_written last) on
           ∙ sector_comes now (sector + length sectors) p d last stands.chosen stands.names room whole
-          ∙ ap (λ (x : Drive). record { medium = then; drive = x }) (sector_written-last then (sector + length sectors) p d left);
+          ∙ ap (λ (x : Drive). record { medium = then; drive = x }) (sector_written-last
+          then (sector + length sectors) p d left);
     }

@@ -1,10 +1,13 @@
 -- The state of the drive is spelled and read back.
-use Rattle.std.proofs.Common.{◌≡◌, ℕ, zero, suc, ◌-◌, ◌^◌, ◌<◌, ◌≤◌, Bool, true, false, List, [], ◌∷◌, length, refl, ap, ◌∙◌, arith, nat_lt}
+use Rattle.std.proofs.Common.{◌≡◌, ℕ, zero, suc, ◌-◌, ◌^◌, ◌<◌, ◌≤◌, Bool, true, false, List, [], ◌∷◌, length, refl, ap}
+use Rattle.std.proofs.Common.{◌∙◌, arith, nat_lt}
 use Rattle.device_spec.specs.Common.{Registers, Activity, Ready, Failed, Reading, Writing, Identifying, Drive}
 use Rattle.byte_fields.specs.Fields.{plain, bound_where}
 use Rattle.byte_fields.proofs.Formats.{IsFormat, format_as, then_format, last_format, plain_format}
 use Rattle.byte_fields.proofs.Numbers.{byte_within, within_format, wide32, flag_format}
-use Rattle.ata_pio.specs.DriveState.{AreRegisters, registers_bytes, registers_fields, IsActivity, number_of, sector_of, next_word_of, came_of, came_size, activity_bytes, activity_with, activity_fields, IsDrive, drive_bytes, drive_fields}
+use Rattle.ata_pio.specs.DriveState.{AreRegisters, registers_bytes, registers_fields, IsActivity, number_of, sector_of}
+use Rattle.ata_pio.specs.DriveState.{next_word_of, came_of, came_size, activity_bytes, activity_with, activity_fields}
+use Rattle.ata_pio.specs.DriveState.{IsDrive, drive_bytes, drive_fields}
 
 -- ---- the registers
 
@@ -206,7 +209,8 @@ activity_format sectors some few =
     (sector_small (nat_lt 2 number) (sectors - 1) (omega (arith, few)))) (λ sector good_sector.
     then_format next_word_of
     (byte_within 0 (bound_where (nat_lt 1 number) 255) (word_small (nat_lt 1 number))) (λ word good_word.
-    last_format came_of (λ came. activity_with number sector word came) (came_format number word good_number.1 good_word.1)
+    last_format came_of (λ came. activity_with number sector word came)
+        (came_format number word good_number.1 good_word.1)
     (λ came good. came_again number sector word came good_number.1 good))
     (λ word a any good.
     ap next_word_of good.1 ∙ word_again number sector word (came_of a) good_number.1 any.1 good.0))

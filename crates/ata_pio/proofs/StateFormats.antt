@@ -1,5 +1,6 @@
 -- The state of a disk is spelled and read back.
-use Rattle.std.proofs.Common.{◌≡◌, ℕ, ◌+◌, ◌*◌, ◌%◌, ◌<◌, ◌≤◌, Bool, true, eqb, ltb, leb, ◌&&◌, List, [], ◌∷◌, length, map, flat_map, refl, ap, ◌∙◌, arith}
+use Rattle.std.proofs.Common.{◌≡◌, ℕ, ◌+◌, ◌*◌, ◌%◌, ◌<◌, ◌≤◌, Bool, true, eqb, ltb, leb, ◌&&◌, List, [], ◌∷◌, length}
+use Rattle.std.proofs.Common.{map, flat_map, refl, ap, ◌∙◌, arith}
 use Rattle.device_spec.proofs.Common.{and_parts, ltb-true, leb-true, eqb-true, flat_map-cons}
 use Rattle.device_spec.specs.Common.{Medium, Disk, is_disk_length}
 use Rattle.byte_fields.specs.Fields.{Reading as Reader, flag_byte, flag_field}
@@ -9,7 +10,8 @@ use Rattle.byte_fields.proofs.Formats.{IsFormat, format_as, then_format, last_fo
 use Rattle.byte_fields.proofs.Numbers.{Any, flag_format}
 use Rattle.byte_fields.proofs.PageFormats.{pages_format}
 use Rattle.byte_fields.proofs.Loaded.{one_spelling}
-use Rattle.ata_pio.specs.State.{sector_size, count_of, IsMedium, medium_bytes, flags_fields, medium_fields, IsDisk, disk_bytes, disk_fields}
+use Rattle.ata_pio.specs.State.{sector_size, count_of, IsMedium, medium_bytes, flags_fields, medium_fields, IsDisk}
+use Rattle.ata_pio.specs.State.{disk_bytes, disk_fields}
 use Rattle.ata_pio.proofs.DriveFormats.{drive_format}
 
 -- ---- flags
@@ -34,7 +36,8 @@ one_each : (flags : List Bool) → flat_map one_byte flags ≡ map flag_byte fla
 one_each [] = refl
 one_each (flag ∷ later) = flat_map-cons one_byte flag later ∙ ap (λ bytes. flag_byte flag ∷ bytes) (one_each later)
 
-all_good : (state : Unit {0}) (flags : List Bool) → AreGood past_flag (λ (s : Unit {0}) (flag : Bool). Any flag) state flags
+all_good : (state : Unit {0}) (flags : List Bool) →
+    AreGood past_flag (λ (s : Unit {0}) (flag : Bool). Any flag) state flags
 all_good state [] = tt
 all_good state (flag ∷ later) = (tt, all_good state later)
 

@@ -1,5 +1,6 @@
 -- A sector that is stored, and the other ones.
-use Rattle.std.proofs.Common.{◌≡◌, ◌≢◌, ℕ, ◌+◌, ◌-◌, ◌*◌, ◌<◌, ◌≤◌, List, ◌++◌, length, take, drop, get_or, inl, inr, ap, sym, ◌∙◌, arith, length-set, get_or-take, get_or-drop}
+use Rattle.std.proofs.Common.{◌≡◌, ◌≢◌, ℕ, ◌+◌, ◌-◌, ◌*◌, ◌<◌, ◌≤◌, List, ◌++◌, length, take, drop, get_or, inl, inr}
+use Rattle.std.proofs.Common.{ap, sym, ◌∙◌, arith, length-set, get_or-take, get_or-drop}
 use Rattle.device_spec.proofs.Common.{cases_lt, drop-drop, Medium, sectors_of, sector_bytes, stored, word_at}
 use Rattle.std.proofs.lemmas.Slice.{take-put_mid_below, drop-put_mid, between-put_mid, between_is}
 use borrow.Rule.Slice.PartMut.{put_mid}
@@ -13,14 +14,16 @@ as_put xs ys s = ap (λ zs. take (512 * s) xs ++ (ys ++ zs)) (sym (drop-drop 512
 room : (m : Medium) (s : ℕ) → IsWhole m → s < sectors_of m → 512 * s + 512 ≤ length m.bytes
 room m s w h = omega arith
 
-pub stored-same : (m : Medium) (s : ℕ) (ys : List ℕ) → IsWhole m → s < sectors_of m → length ys ≡ 512 → sector_bytes (stored m s ys) s ≡ ys
+pub stored-same : (m : Medium) (s : ℕ) (ys : List ℕ) → IsWhole m → s < sectors_of m → length ys ≡ 512 →
+    sector_bytes (stored m s ys) s ≡ ys
 stored-same m s ys w h e =
     let width : 512 * s + 512 - 512 * s ≡ 512 = omega arith in
     ap (λ xs. take 512 (drop (512 * s) xs)) (as_put m.bytes ys s)
     ∙ ap (λ n. take n (drop (512 * s) (put_mid (512 * s) 512 m.bytes ys))) (sym width)
     ∙ between-put_mid (512 * s) 512 m.bytes ys (512 * s + 512) (omega arith) (e ∙ sym width)
 
-above : (m : Medium) (s t : ℕ) (ys : List ℕ) → 512 * s + 512 ≤ length m.bytes → length ys ≡ 512 → s < t → sector_bytes (stored m s ys) t ≡ sector_bytes m t
+above : (m : Medium) (s t : ℕ) (ys : List ℕ) → 512 * s + 512 ≤ length m.bytes → length ys ≡ 512 → s < t →
+    sector_bytes (stored m s ys) t ≡ sector_bytes m t
 above m s t ys h e l =
     ap (λ xs. take 512 (drop (512 * t) xs)) (as_put m.bytes ys s)
     ∙ ap (take 512) (drop-put_mid (512 * s) 512 m.bytes ys (512 * t) (omega arith) (omega arith) e)
@@ -31,20 +34,23 @@ cut xs b =
     let width : b + 512 - b ≡ 512 = omega arith in
     ap (λ n. take n (drop b xs)) (sym width) ∙ between_is xs b (b + 512)
 
-below : (m : Medium) (s t : ℕ) (ys : List ℕ) → 512 * s + 512 ≤ length m.bytes → t < s → sector_bytes (stored m s ys) t ≡ sector_bytes m t
+below : (m : Medium) (s t : ℕ) (ys : List ℕ) → 512 * s + 512 ≤ length m.bytes → t < s →
+    sector_bytes (stored m s ys) t ≡ sector_bytes m t
 below m s t ys h l =
     ap (λ xs. take 512 (drop (512 * t) xs)) (as_put m.bytes ys s)
     ∙ cut (put_mid (512 * s) 512 m.bytes ys) (512 * t)
     ∙ ap (drop (512 * t)) (take-put_mid_below (512 * s) 512 m.bytes ys (512 * t + 512) (omega arith) (omega arith))
     ∙ sym (cut m.bytes (512 * t))
 
-pub stored-other : (m : Medium) (s t : ℕ) (ys : List ℕ) → IsWhole m → s < sectors_of m → length ys ≡ 512 → s ≢ t → sector_bytes (stored m s ys) t ≡ sector_bytes m t
+pub stored-other : (m : Medium) (s t : ℕ) (ys : List ℕ) → IsWhole m → s < sectors_of m → length ys ≡ 512 → s ≢ t →
+    sector_bytes (stored m s ys) t ≡ sector_bytes m t
 stored-other m s t ys w h e ne = elim (cases_lt s t) [
   | inl l ↦ above m s t ys (room m s w h) e l
   | inr g ↦ below m s t ys (room m s w h) (omega arith)
 ]
 
-pub stored-whole : (m : Medium) (s : ℕ) (ys : List ℕ) → IsWhole m → s < sectors_of m → length ys ≡ 512 → IsWhole (stored m s ys)
+pub stored-whole : (m : Medium) (s : ℕ) (ys : List ℕ) → IsWhole m → s < sectors_of m → length ys ≡ 512 →
+    IsWhole (stored m s ys)
 stored-whole m s ys w h e =
     length-store m.bytes ys s (room m s w h) e ∙ w ∙ ap (λ n. 512 * n) (sym (length-set m.bad s _))
 
@@ -53,7 +59,8 @@ byte_of : (m : Medium) (s i : ℕ) → i < 512 → get_or m.bytes (512 * s + i) 
 byte_of m s i h = sym (get_or-take 512 (drop (512 * s) m.bytes) i 0 h ∙ get_or-drop (512 * s) m.bytes i 0)
 
 -- a word of a sector, by the sector's bytes
-pub word_at-bytes : (m : Medium) (s w : ℕ) → w < 256 → word_at m s w ≡ get_or (sector_bytes m s) (2 * w) 0 + 256 * get_or (sector_bytes m s) (2 * w + 1) 0
+pub word_at-bytes : (m : Medium) (s w : ℕ) → w < 256 →
+    word_at m s w ≡ get_or (sector_bytes m s) (2 * w) 0 + 256 * get_or (sector_bytes m s) (2 * w + 1) 0
 word_at-bytes m s w h =
     let place : 512 * s + 2 * w + 1 ≡ 512 * s + (2 * w + 1) = omega arith in
     ap (λ n. get_or m.bytes (512 * s + 2 * w) 0 + 256 * get_or m.bytes n 0) place

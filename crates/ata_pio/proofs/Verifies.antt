@@ -1,6 +1,8 @@
 -- One turn of verify: it fails, it was the last sector, or it goes on.
-use Rattle.std.proofs.Common.{◌≡◌, ◌≢◌, ℕ, zero, suc, ◌+◌, ◌%◌, cond, Bool, true, false, Ok, Err, refl, ap, sym, ◌∙◌, arith}
-use Rattle.device_spec.proofs.Common.{Medium, Registers, Drive, is_lba, named, naming, counted, left_of, readable, failed, finished, counted_down, moved_to, verified}
+use Rattle.std.proofs.Common.{◌≡◌, ◌≢◌, ℕ, zero, suc, ◌+◌, ◌%◌, cond, Bool, true, false, Ok, Err, refl, ap, sym, ◌∙◌}
+use Rattle.std.proofs.Common.{arith}
+use Rattle.device_spec.proofs.Common.{Medium, Registers, Drive, is_lba, named, naming, counted, left_of, readable}
+use Rattle.device_spec.proofs.Common.{failed, finished, counted_down, moved_to, verified}
 
 -- the sectors that are left, but for the next
 more_left : (n : ℕ) → n % 256 ≢ 0 → n % 256 ≡ suc ((n % 256 + 255) % 256)
@@ -14,12 +16,14 @@ cond-count false x y n e f = f
 pub naming-count : (r : Registers) (s : ℕ) → (naming r s).count ≡ r.count
 naming-count r s = cond-count (is_lba r) _ _ r.count refl refl
 
-pub verified-fails : (m : Medium) (left e : ℕ) (d : Drive) → readable m (named d.registers) ≡ Err e → verified m left d ≡ failed e d
+pub verified-fails : (m : Medium) (left e : ℕ) (d : Drive) → readable m (named d.registers) ≡ Err e →
+    verified m left d ≡ failed e d
 unfolding verified
 verified-fails m zero e d h = rw (h, verified) refl
 verified-fails m (suc left) e d h = rw (h, verified) refl
 
-pub verified-end : (m : Medium) (s : ℕ) (d : Drive) → readable m (named d.registers) ≡ Ok s → verified m 0 d ≡ finished (counted_down d)
+pub verified-end : (m : Medium) (s : ℕ) (d : Drive) → readable m (named d.registers) ≡ Ok s →
+    verified m 0 d ≡ finished (counted_down d)
 unfolding verified
 verified-end m s d h = rw (h, verified) refl
 
@@ -33,8 +37,10 @@ unfolding verified
 verified-next m s left d h = rw (h, verified) refl
 
 pub verified-more : (m : Medium) (s : ℕ) (d : Drive) → readable m (named d.registers) ≡ Ok s → left_of d.registers ≢ 0
-    → verified m (left_of d.registers) d ≡ verified m (left_of (naming (counted d.registers) (s + 1))) (moved_to (s + 1) (counted_down d))
+    → verified m (left_of d.registers) d ≡ verified m (left_of (naming (counted d.registers) (s + 1)))
+    (moved_to (s + 1) (counted_down d))
 verified-more m s d h e =
     ap (λ left. verified m left d) (more_left (d.registers.count + 255) e)
     ∙ verified-next m s ((left_of d.registers + 255) % 256) d h
-    ∙ ap (λ count. verified m ((count + 255) % 256) (moved_to (s + 1) (counted_down d))) (sym (naming-count (counted d.registers) (s + 1)))
+    ∙ ap (λ count. verified m ((count + 255) % 256) (moved_to (s + 1) (counted_down d)))
+    (sym (naming-count (counted d.registers) (s + 1)))

@@ -1,7 +1,14 @@
 -- A sector moves as 256 words.
-use Rattle.std.proofs.Common.{◌≡◌, ◌≢◌, ℕ, zero, suc, ◌+◌, ◌*◌, ◌/◌, ◌%◌, ◌<◌, ◌≤◌, true, cond, eqb, List, [], ◌∷◌, ◌++◌, length, drop, get_or, Result, Ok, Err, refl, ap, sym, subst, ◌∙◌, arith, length-append, get_or-drop, append_assoc}
-use Rattle.device_spec.proofs.Common.{cond-true, cond-false, eq-eqb, ne_eqb, drop-drop, Medium, Activity, Reading, Writing, Drive, Disk, sectors_of, sector_bytes, word_at, is_drq, named, left_of, counted, naming, readable, reads_found, begin_read, sector_read, ended, word_of, word_read, word_written, after_word, with_drive, bytes_written}
-use Rattle.ata_pio.specs.Ata.Laws.{IsChosen, words_read, after_words_read, after_words_written, sector_words, bytes_of_words, AreWords, SectorIsRead, SectorIsWritten, written_disk, ReadsBack, IsSound, IsUnderWay, after_all}
+use Rattle.std.proofs.Common.{◌≡◌, ◌≢◌, ℕ, zero, suc, ◌+◌, ◌*◌, ◌/◌, ◌%◌, ◌<◌, ◌≤◌, true, cond, eqb, List, [], ◌∷◌}
+use Rattle.std.proofs.Common.{◌++◌, length, drop, get_or, Result, Ok, Err, refl, ap, sym, subst, ◌∙◌, arith}
+use Rattle.std.proofs.Common.{length-append, get_or-drop, append_assoc}
+use Rattle.device_spec.proofs.Common.{cond-true, cond-false, eq-eqb, ne_eqb, drop-drop, Medium, Activity, Reading}
+use Rattle.device_spec.proofs.Common.{Writing, Drive, Disk, sectors_of, sector_bytes, word_at, is_drq, named, left_of}
+use Rattle.device_spec.proofs.Common.{counted, naming, readable, reads_found, begin_read, sector_read, ended, word_of}
+use Rattle.device_spec.proofs.Common.{word_read, word_written, after_word, with_drive, bytes_written}
+use Rattle.ata_pio.specs.Ata.Laws.{IsChosen, words_read, after_words_read, after_words_written, sector_words}
+use Rattle.ata_pio.specs.Ata.Laws.{bytes_of_words, AreWords, SectorIsRead, SectorIsWritten, written_disk, ReadsBack}
+use Rattle.ata_pio.specs.Ata.Laws.{IsSound, IsUnderWay, after_all}
 use Rattle.ata_pio.proofs.StoreLaws.{word_at-bytes, stored-same}
 use Rattle.ata_pio.proofs.SoundLaws.{run_keeps, word_written-sound}
 
@@ -34,17 +41,20 @@ sector_read-acting m s d a =
     (begin_read-acting m (record d { registers = naming (counted d.registers) (s + 1) }) a)
 
 -- one word of a sector that is read
-word_of-reading : (disk : Disk) (s w : ℕ) → IsChosen disk.drive → word_of (disk_acting disk (Reading s w)) ≡ word_at disk.medium s w
+word_of-reading : (disk : Disk) (s w : ℕ) → IsChosen disk.drive →
+    word_of (disk_acting disk (Reading s w)) ≡ word_at disk.medium s w
 word_of-reading disk s w h = cond-true (is_drq (acting disk.drive (Reading s w))) _ _ (drq-reading disk.drive s w h)
 
-word_read-more : (disk : Disk) (s w : ℕ) → IsChosen disk.drive → w ≢ 255 → word_read (disk_acting disk (Reading s w)) ≡ disk_acting disk (Reading s (w + 1))
+word_read-more : (disk : Disk) (s w : ℕ) → IsChosen disk.drive → w ≢ 255 →
+    word_read (disk_acting disk (Reading s w)) ≡ disk_acting disk (Reading s (w + 1))
 unfolding after_word
 word_read-more disk s w h n =
     ap (with_drive disk)
     (cond-true (is_drq (acting disk.drive (Reading s w))) _ _ (drq-reading disk.drive s w h)
     ∙ cond-false (eqb w 255) _ _ (ne_eqb w 255 n))
 
-word_read-last : (disk : Disk) (s w : ℕ) → IsChosen disk.drive → w ≡ 255 → word_read (disk_acting disk (Reading s w)) ≡ with_drive disk (sector_read disk.medium s disk.drive)
+word_read-last : (disk : Disk) (s w : ℕ) → IsChosen disk.drive → w ≡ 255 →
+    word_read (disk_acting disk (Reading s w)) ≡ with_drive disk (sector_read disk.medium s disk.drive)
 unfolding after_word
 word_read-last disk s w h e =
     ap (with_drive disk)
@@ -53,13 +63,15 @@ word_read-last disk s w h e =
     ∙ sector_read-acting disk.medium s disk.drive (Reading s w))
 
 -- the rest of a sector that is read, from a word on
-words_rest : (n : ℕ) (disk : Disk) (s w : ℕ) → IsChosen disk.drive → w + n ≡ 255 → words_read (suc n) (disk_acting disk (Reading s w)) ≡ sector_words disk.medium s w (suc n)
+words_rest : (n : ℕ) (disk : Disk) (s w : ℕ) → IsChosen disk.drive → w + n ≡ 255 →
+    words_read (suc n) (disk_acting disk (Reading s w)) ≡ sector_words disk.medium s w (suc n)
 unfolding words_read sector_words
 words_rest zero disk s w h e = ap (λ x. x ∷ []) (word_of-reading disk s w h)
 words_rest (suc n) disk s w h e =
     let next : w + 1 ≡ suc w = omega arith in
     ap (λ x. x ∷ words_read (suc n) (word_read (disk_acting disk (Reading s w)))) (word_of-reading disk s w h)
-    ∙ ap (λ (x : Disk). word_at disk.medium s w ∷ words_read (suc n) x) (word_read-more disk s w h (omega arith) ∙ ap (λ v. disk_acting disk (Reading s v)) next)
+    ∙ ap (λ (x : Disk). word_at disk.medium s w ∷ words_read (suc n) x) (word_read-more disk s w h (omega arith)
+    ∙ ap (λ v. disk_acting disk (Reading s v)) next)
     ∙ ap (λ xs. word_at disk.medium s w ∷ xs) (words_rest n disk s (suc w) h (omega arith))
 
 after_rest : (n : ℕ) (disk : Disk) (s w : ℕ) → IsChosen disk.drive → w + n ≡ 255
@@ -79,24 +91,31 @@ sector_is_read disk s h e =
 
 -- one word of a sector that is written
 word_written-bytes : (disk : Disk) (s word : ℕ) (bytes : List ℕ) → IsChosen disk.drive
-    → word_written word (disk_acting disk (Writing s bytes)) ≡ bytes_written s (bytes ++ word % 256 ∷ word / 256 ∷ []) disk
+    → word_written word (disk_acting disk (Writing s bytes))
+    ≡ bytes_written s (bytes ++ word % 256 ∷ word / 256 ∷ []) disk
 unfolding word_written
-word_written-bytes disk s word bytes h = cond-true (is_drq (acting disk.drive (Writing s bytes))) _ _ (drq-writing disk.drive s bytes h)
+word_written-bytes disk s word bytes h = cond-true (is_drq (acting disk.drive (Writing s bytes))) _ _
+    (drq-writing disk.drive s bytes h)
 
 joined : (bytes rest : List ℕ) (a b : ℕ) → (bytes ++ a ∷ b ∷ []) ++ rest ≡ bytes ++ a ∷ (b ∷ rest)
 joined bytes rest a b = append_assoc bytes (a ∷ b ∷ []) rest
 
-words_fill : (words : List ℕ) (word : ℕ) (disk : Disk) (s : ℕ) (bytes : List ℕ) → IsChosen disk.drive → length bytes + 2 * length words ≡ 510
-    → after_words_written (word ∷ words) (disk_acting disk (Writing s bytes)) ≡ written_disk disk s (bytes ++ bytes_of_words (word ∷ words))
+words_fill : (words : List ℕ) (word : ℕ) (disk : Disk) (s : ℕ) (bytes : List ℕ) → IsChosen disk.drive →
+    length bytes + 2 * length words ≡ 510
+    → after_words_written (word ∷ words) (disk_acting disk (Writing s bytes))
+    ≡ written_disk disk s (bytes ++ bytes_of_words (word ∷ words))
 unfolding after_words_written
 words_fill [] word disk s bytes h e =
     word_written-bytes disk s word bytes h
-    ∙ cond-true (eqb (length (bytes ++ word % 256 ∷ word / 256 ∷ [])) 512) _ _ (eq-eqb (length (bytes ++ word % 256 ∷ word / 256 ∷ [])) 512 (omega (arith, length-append bytes (word % 256 ∷ word / 256 ∷ []))))
+    ∙ cond-true (eqb (length (bytes ++ word % 256 ∷ word / 256 ∷ [])) 512) _ _
+    (eq-eqb (length (bytes ++ word % 256 ∷ word / 256 ∷ [])) 512
+    (omega (arith, length-append bytes (word % 256 ∷ word / 256 ∷ []))))
 words_fill (next ∷ words) word disk s bytes h e =
     let more = bytes ++ word % 256 ∷ word / 256 ∷ [] in
     ap (after_words_written (next ∷ words))
     (word_written-bytes disk s word bytes h
-    ∙ cond-false (eqb (length more) 512) _ _ (ne_eqb (length more) 512 (λ q. omega (arith, length-append bytes (word % 256 ∷ word / 256 ∷ []), q))))
+    ∙ cond-false (eqb (length more) 512) _ _
+    (ne_eqb (length more) 512 (λ q. omega (arith, length-append bytes (word % 256 ∷ word / 256 ∷ []), q))))
     ∙ words_fill words next disk s more h (omega (arith, length-append bytes (word % 256 ∷ word / 256 ∷ [])))
     ∙ ap (written_disk disk s) (joined bytes (bytes_of_words (next ∷ words)) (word % 256) (word / 256))
 
@@ -106,7 +125,8 @@ fill_all [] disk s h e = absurd (omega arith)
 fill_all (word ∷ words) disk s h e = words_fill words word disk s [] h (omega arith)
 
 pub sector_is_written : SectorIsWritten
-sector_is_written disk s words h e l = ap (λ a. after_words_written words (disk_acting disk a)) e ∙ fill_all words disk s h l
+sector_is_written disk s words h e l = ap (λ a. after_words_written words (disk_acting disk a)) e
+    ∙ fill_all words disk s h l
 
 pub length-bytes_of_words : (words : List ℕ) → length (bytes_of_words words) ≡ 2 * length words
 length-bytes_of_words [] = refl
@@ -119,31 +139,36 @@ unfolding sector_words
 words_known [] m s from h a e = refl
 words_known (word ∷ words) m s from h a e =
     let low : get_or (sector_bytes m s) (2 * from) 0 ≡ word % 256 =
-    ap (λ i. get_or (sector_bytes m s) i 0) (omega arith) ∙ sym (get_or-drop (2 * from) (sector_bytes m s) 0 0) ∙ ap (λ xs. get_or xs 0 0) e in
+    ap (λ i. get_or (sector_bytes m s) i 0) (omega arith) ∙ sym (get_or-drop (2 * from) (sector_bytes m s) 0 0)
+    ∙ ap (λ xs. get_or xs 0 0) e in
     let high : get_or (sector_bytes m s) (2 * from + 1) 0 ≡ word / 256 =
     sym (get_or-drop (2 * from) (sector_bytes m s) 1 0) ∙ ap (λ xs. get_or xs 1 0) e in
     let first : word_at m s from ≡ word =
     word_at-bytes m s from (omega arith) ∙ omega (arith, low, high) in
     let next : drop (2 * suc from) (sector_bytes m s) ≡ bytes_of_words words =
-    ap (λ n. drop n (sector_bytes m s)) (omega arith) ∙ sym (drop-drop 2 (2 * from) (sector_bytes m s)) ∙ ap (drop 2) e in
+    ap (λ n. drop n (sector_bytes m s)) (omega arith) ∙ sym (drop-drop 2 (2 * from) (sector_bytes m s))
+    ∙ ap (drop 2) e in
     ap (λ w. w ∷ sector_words m s (suc from) (length words)) first
     ∙ ap (λ ws. word ∷ ws) (words_known words m s (suc from) (omega arith) a.1 next)
 
 words_written-sound : (words : List ℕ) (disk : Disk) → IsSound disk → IsSound (after_words_written words disk)
 unfolding after_words_written
 words_written-sound [] disk h = h
-words_written-sound (word ∷ words) disk h = words_written-sound words (word_written word disk) (word_written-sound word disk h)
+words_written-sound (word ∷ words) disk h = words_written-sound words (word_written word disk)
+    (word_written-sound word disk h)
 
 pub reads_back : ReadsBack
 reads_back disk s words accesses sound chosen writing l words_fit none later_chosen reading =
     let after = after_words_written words disk in
     let later = after_all accesses after in
-    let there : s < sectors_of disk.medium = subst (λ (a : Activity). IsUnderWay (sectors_of disk.medium) a) writing sound.under_way in
+    let there : s < sectors_of disk.medium = subst (λ (a : Activity). IsUnderWay (sectors_of disk.medium) a) writing
+    sound.under_way in
     let whole : length (bytes_of_words words) ≡ 512 = omega (arith, length-bytes_of_words words) in
     let stored_is : sector_bytes after.medium s ≡ bytes_of_words words =
     ap (λ (x : Disk). sector_bytes x.medium s) (sector_is_written disk s words chosen writing l)
     ∙ stored-same disk.medium s (bytes_of_words words) sound.whole there whole in
-    let kept : sector_bytes later.medium s ≡ sector_bytes after.medium s = (run_keeps accesses after s (words_written-sound words disk sound) none).1 in
+    let kept : sector_bytes later.medium s ≡ sector_bytes after.medium s =
+    (run_keeps accesses after s (words_written-sound words disk sound) none).1 in
     (sector_is_read later s later_chosen reading).words
     ∙ ap (sector_words later.medium s 0) (sym l)
     ∙ words_known words later.medium s 0 (omega arith) words_fit (kept ∙ stored_is)

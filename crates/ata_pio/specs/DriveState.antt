@@ -44,8 +44,8 @@ registers_fields = do
     nien = nien;
   })
 
--- ---- what is under way: its number, its sector, its word, and the bytes of the sector that came. From `moves_words` on
--- it has a word that comes next, above that a sector too, and above that the bytes that came
+-- ---- what is under way: its number, its sector, its word, and the bytes of the sector that came. From `moves_words`
+-- on it has a word that comes next, above that a sector too, and above that the bytes that came
 
 -- the sector is one of the disk's, and one of its 256 words comes next
 abbrev pub IsActivity : (sectors : ℕ) → Activity → Type 0

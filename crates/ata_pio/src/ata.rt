@@ -1,7 +1,9 @@
 //! The disk as its ports show it.
 
 ghost use Rattle.std.specs.Prelude.{◌≡◌, ◌+◌, ◌*◌, ◌<◌, ◌≤◌, ◌↔◌, length, false, IsTrue, IfOk};
-ghost use Rattle.device_spec.specs.Common.{is_disk_length, power_on, is_interrupt, sectors_of, word_at, sector_bytes, is_ata_port, read_of, after_bad, word_of, word_read, word_written, register_of, register_read, byte_written};
+ghost use Rattle.device_spec.specs.Common.{is_disk_length, power_on, is_interrupt, sectors_of, word_at, sector_bytes};
+ghost use Rattle.device_spec.specs.Common.{is_ata_port, read_of, after_bad, word_of, word_read, word_written};
+ghost use Rattle.device_spec.specs.Common.{register_of, register_read, byte_written};
 ghost use Rattle.ata_pio.specs.Words.{is_readable, with_word, with_bytes, with_all};
 ghost use Rattle.device_spec.specs.Ata.Steps.{after_read, after_write, after_reset};
 

@@ -3,7 +3,9 @@
 ghost use Rattle.std.specs.Prelude.{◌≡◌, ◌++◌, ◌<◌, ◌≤◌, OnOk, IfOk, take, length, ℕ, List};
 ghost use Rattle.byte_fields.specs.Fields.{Took, plain};
 ghost use Rattle.ata_pio.specs.View.{registers_of, activity_of, drive_of, IsOnDisk};
-ghost use Rattle.ata_pio.specs.DriveState.{AreRegisters, registers_bytes, registers_fields, IsActivity, number_of, sector_of, next_word_of, came_of, came_size, activity_bytes, activity_with, activity_fields, under_way_view, IsDrive, drive_bytes, drive_fields};
+ghost use Rattle.ata_pio.specs.DriveState.{AreRegisters, registers_bytes, registers_fields, IsActivity, number_of};
+ghost use Rattle.ata_pio.specs.DriveState.{sector_of, next_word_of, came_of, came_size, activity_bytes, activity_with};
+ghost use Rattle.ata_pio.specs.DriveState.{activity_fields, under_way_view, IsDrive, drive_bytes, drive_fields};
 
 use crate::controller::{Controller, Progress};
 use crate::sectors::SECTOR_BYTES;

@@ -1,6 +1,8 @@
 //! What holds of the disk beyond its rules: each law is the contract of a function that does nothing.
 
-ghost use Rattle.ata_pio.specs.Ata.Laws.{AlternateStatusReads, MovesOn, OnlyStoresChange, PowerOnIsSound, ReadMovesItsSectors, ReadsBack, SectorIsRead, SectorIsWritten, StaysSound, VerifyLooksAtItsSectors, WriteMovesItsSectors, WrittenBackNames};
+ghost use Rattle.ata_pio.specs.Ata.Laws.{AlternateStatusReads, MovesOn, OnlyStoresChange, PowerOnIsSound};
+ghost use Rattle.ata_pio.specs.Ata.Laws.{ReadMovesItsSectors, ReadsBack, SectorIsRead, SectorIsWritten, StaysSound};
+ghost use Rattle.ata_pio.specs.Ata.Laws.{VerifyLooksAtItsSectors, WriteMovesItsSectors, WrittenBackNames};
 
 /// A read of the alternate status changes nothing.
 pub fn alternate_status_reads()

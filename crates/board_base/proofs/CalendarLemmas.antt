@@ -3,11 +3,14 @@ use Rattle.std.proofs.Common.{◌≡◌, ℕ, zero, suc, ◌+◌, ◌-◌, ◌%�
 use Rattle.std.proofs.lemmas.Bool.Decides.{nat_tests}
 use Rattle.std.proofs.lemmas.Bool.{and_from, and_parts, false≢true, le-leb, leb-true}
 use Rattle.std.specs.Int.{IsInRange}
-use Rattle.jiff_core.specs.Calendar.{days_in_month as jiff_days_in_month, days_of_months as jiff_days_of_months, day_count, days_from_civil, weekday_number}
-use Rattle.jiff_core.proofs.CalendarLemmas.{days_from_civil-day_count, day_count-day_of_year, day_count-next_year, weekday_number-parts}
+use Rattle.jiff_core.specs.Calendar.{days_in_month as jiff_days_in_month, days_of_months as jiff_days_of_months}
+use Rattle.jiff_core.specs.Calendar.{day_count, days_from_civil, weekday_number}
+use Rattle.jiff_core.proofs.CalendarLemmas.{days_from_civil-day_count, day_count-day_of_year, day_count-next_year}
+use Rattle.jiff_core.proofs.CalendarLemmas.{weekday_number-parts}
 use Rattle.jiff_core.proofs.MarchLemmas.{day_count-early}
 use Rattle.jiff_core.proofs.SignedLemmas.{signed_arith}
-use Rattle.board_base.specs.Calendar.{days_in_month, days_in_year, days_of_months, days_of_years, days_since_1980, weekday_of, is_moment, IsDate, IsTime, MomentsDecided, WeekdaysFollow}
+use Rattle.board_base.specs.Calendar.{days_in_month, days_in_year, days_of_months, days_of_years, days_since_1980}
+use Rattle.board_base.specs.Calendar.{weekday_of, is_moment, IsDate, IsTime, MomentsDecided, WeekdaysFollow}
 use Rattle.board_base.specs.Bits.{is_within}
 
 -- the months of a year have as many days
@@ -24,24 +27,39 @@ first_of_year : (n : ℕ) → day_count (pos (1980 + n)) 1 1 ≡ 4_375_605 + day
 unfolding days_of_years
 first_of_year zero = first_of_1980
 first_of_year (suc n) =
-    let more = day_count-next_year (pos (1980 + n)) (pos (1980 + suc n)) (omega (arith, signed_arith)) (omega (arith, signed_arith)) in
+    let more = day_count-next_year (pos (1980 + n)) (pos (1980 + suc n)) (omega (arith, signed_arith))
+    (omega (arith, signed_arith)) in
     omega (arith, more, first_of_year n)
 
 -- a date's day count
-day_counts_agree : (year month day : ℕ) → 1980 ≤ year → 1 ≤ day → day_count (pos year) month day ≡ 4_375_605 + days_since_1980 year month day
+day_counts_agree : (year month day : ℕ) → 1980 ≤ year → 1 ≤ day →
+    day_count (pos year) month day ≡ 4_375_605 + days_since_1980 year month day
 unfolding days_since_1980
 day_counts_agree year month day h low =
     let back : 1980 + (year - 1980) ≡ year = omega arith in
-    omega (arith, rw back at (first_of_year (year - 1980)), day_count-day_of_year (pos year) month day low, months_agree year (month - 1))
+    omega (
+      arith,
+      rw back at (first_of_year (year - 1980)),
+      day_count-day_of_year (pos year) month day low,
+      months_agree year (month - 1),
+    )
 
 -- and its weekday
-pub weekdays_agree : (year month day : ℕ) → 1980 ≤ year → 1 ≤ day → (weekday_number (days_from_civil (pos year) month day) + 1) % 7 + 1 ≡ weekday_of year month day
+pub weekdays_agree : (year month day : ℕ) → 1980 ≤ year → 1 ≤ day →
+    (weekday_number (days_from_civil (pos year) month day) + 1) % 7 + 1 ≡ weekday_of year month day
 unfolding weekday_of
 weekdays_agree year month day h low =
-    omega (arith, signed_arith, weekday_number-parts (days_from_civil (pos year) month day), days_from_civil-day_count (pos year) month day, day_counts_agree year month day h low)
+    omega (
+      arith,
+      signed_arith,
+      weekday_number-parts (days_from_civil (pos year) month day),
+      days_from_civil-day_count (pos year) month day,
+      day_counts_agree year month day h low,
+    )
 
 -- a date that `jiff` has, in these years, is one of the calendar
-pub dates_agree : (year month day : ℕ) (y : ℤ) (m d : ℕ) → y ≡ pos year → m ≡ month → d ≡ day → 1980 ≤ year → year ≤ 2099 → IsInRange 1 12 m → IsInRange 1 (jiff_days_in_month y m) d → IsDate year month day
+pub dates_agree : (year month day : ℕ) (y : ℤ) (m d : ℕ) → y ≡ pos year → m ≡ month → d ≡ day → 1980 ≤ year →
+    year ≤ 2099 → IsInRange 1 12 m → IsInRange 1 (jiff_days_in_month y m) d → IsDate year month day
 dates_agree year month day y m d same_year same_month same_day first last in_year in_month =
     let months = rw same_month at in_year in
     let days = rw (same_year, same_month, same_day) at in_month in
@@ -63,7 +81,8 @@ weekday_of_bound year month day = omega arith
 pub days_in_month_bound : (year month : ℕ) → days_in_month year month ≤ 31
 days_in_month_bound year month = grind (arith, nat_tests)
 
-months_add : (year months : ℕ) → 1 ≤ months → days_of_months year months ≡ days_of_months year (months - 1) + days_in_month year months
+months_add : (year months : ℕ) → 1 ≤ months → days_of_months year months
+    ≡ days_of_months year (months - 1) + days_in_month year months
 unfolding days_of_months
 months_add year zero h = absurd (omega arith)
 months_add year (suc months) h = let back : suc months - 1 ≡ months = omega arith in rw back
@@ -87,11 +106,13 @@ no_months : (year : ℕ) → days_of_months year 0 ≡ 0
 unfolding days_of_months
 no_months year = refl
 
-pub next_day : (year month day : ℕ) → 1 ≤ day → days_since_1980 year month (day + 1) ≡ days_since_1980 year month day + 1
+pub next_day : (year month day : ℕ) → 1 ≤ day → days_since_1980 year month (day + 1)
+    ≡ days_since_1980 year month day + 1
 unfolding days_since_1980
 next_day year month day h = omega arith
 
-pub next_month : (year month : ℕ) → 1 ≤ month → days_since_1980 year (month + 1) 1 ≡ days_since_1980 year month (days_in_month year month) + 1
+pub next_month : (year month : ℕ) → 1 ≤ month → days_since_1980 year (month + 1) 1 ≡ days_since_1980 year month
+    (days_in_month year month) + 1
 unfolding days_since_1980
 next_month year month h =
     let same : month + 1 - 1 ≡ month = omega arith in
@@ -114,18 +135,18 @@ weekdays_follow =
 
 -- ---- which moments there are
 
-six : (a b c d e f : Bool) → (a && b && c && d && e && f) ≡ true →
+pub six_parts : (a b c d e f : Bool) → (a && b && c && d && e && f) ≡ true →
     (a ≡ true) × (b ≡ true) × (c ≡ true) × (d ≡ true) × (e ≡ true) × (f ≡ true)
-six false b c d e f test = absurd (false≢true test)
-six true false c d e f test = absurd (false≢true test)
-six true true false d e f test = absurd (false≢true test)
-six true true true false e f test = absurd (false≢true test)
-six true true true true false f test = absurd (false≢true test)
-six true true true true true false test = absurd (false≢true test)
-six true true true true true true test = (refl, refl, refl, refl, refl, refl)
+six_parts false b c d e f test = absurd (false≢true test)
+six_parts true false c d e f test = absurd (false≢true test)
+six_parts true true false d e f test = absurd (false≢true test)
+six_parts true true true false e f test = absurd (false≢true test)
+six_parts true true true true false f test = absurd (false≢true test)
+six_parts true true true true true false test = absurd (false≢true test)
+six_parts true true true true true true test = (refl, refl, refl, refl, refl, refl)
 
-inside : (low high n : ℕ) → is_within low high n ≡ true → (low ≤ n) × (n ≤ high)
-inside low high n test =
+pub is_within_parts : (low high n : ℕ) → is_within low high n ≡ true → (low ≤ n) × (n ≤ high)
+is_within_parts low high n test =
     let both = and_parts (leb low n) (leb n high) test in
     (leb-true low n both.0, leb-true n high both.1)
 
@@ -135,10 +156,10 @@ is_inside low high n first last = and_from (leb low n) (leb n high) (le-leb low 
 moment_decides : (year month day hour minute second : ℕ) →
     is_moment year month day hour minute second ≡ true → IsDate year month day × IsTime hour minute second
 moment_decides year month day hour minute second test =
-    let parts = six _ _ _ _ _ _ test in
-    let years = inside _ _ year parts.0 in
-    let months = inside _ _ month parts.1 in
-    let days = inside _ _ day parts.2 in (
+    let parts = six_parts _ _ _ _ _ _ test in
+    let years = is_within_parts _ _ year parts.0 in
+    let months = is_within_parts _ _ month parts.1 in
+    let days = is_within_parts _ _ day parts.2 in (
       record {
         year_low = years.0;
         year_high = years.1;

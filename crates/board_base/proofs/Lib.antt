@@ -1,4 +1,5 @@
 pub mod CalendarLemmas
 pub mod WidthLemmas
+pub mod ZeroLemmas
 pub mod MergedLemmas
 pub mod Common

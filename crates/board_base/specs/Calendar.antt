@@ -1,6 +1,7 @@
 -- The Gregorian calendar in the years 1980 to 2099, with the days of the week counted on from
 -- Tuesday, 1 January 1980.
-use Rattle.std.specs.Prelude.{◌≡◌, ℕ, zero, suc, ◌+◌, ◌-◌, ◌%◌, ◌≤◌, ◌↔◌, Bool, true, not, ◌&&◌, ◌||◌, ◌==◌, nat_le, if◌then◌else◌}
+use Rattle.std.specs.Prelude.{◌≡◌, ℕ, zero, suc, ◌+◌, ◌-◌, ◌%◌, ◌≤◌, ◌↔◌, Bool, true, not, ◌&&◌, ◌||◌, ◌==◌, nat_le}
+use Rattle.std.specs.Prelude.{if◌then◌else◌}
 use Rattle.board_base.specs.declared.moment.Moment.{Moment}
 use Rattle.board_base.specs.Bits.{is_within}
 
@@ -32,8 +33,8 @@ pub record IsTime (hour minute second : ℕ) : Type 0 where
   pub minute_high : minute ≤ 59
   pub second_high : second ≤ 59
 
--- whether the calendar has this day, in a year from 1980 to 2099, and the day this second: what a reader of numbers asks
--- (`moments_decided`)
+-- whether the calendar has this day, in a year from 1980 to 2099, and the day this second: what a reader of numbers
+-- asks (`moments_decided`)
 abbrev pub is_moment : (year month day hour minute second : ℕ) → Bool
 is_moment year month day hour minute second =
     is_within 1980 2099 year && is_within 1 12 month && is_within 1 (days_in_month year month) day

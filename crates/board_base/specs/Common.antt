@@ -4,7 +4,9 @@ pub use Rattle.std.specs.Global.{Global}
 pub use Rattle.std.specs.Int.{from_le_bytes, to_le_bytes, w16, w32, w64, w8}
 pub use Rattle.std.specs.Int.Bits.{and_zero_r}
 pub use Rattle.std.specs.Io.KnownBytes.{Appends, Keeps, ReadConsumes}
-pub use Rattle.std.specs.List.{AllByRecursion, AllPairs, AllZip, Any, Contains, concat, enumerate_from, find, join_with_byte, list_all, list_any, onto_first, position, position_or_len, range_with_len}
+pub use Rattle.std.specs.List.{AllByRecursion, AllPairs, AllZip, Any, Contains, concat, enumerate_from, find}
+pub use Rattle.std.specs.List.{join_with_byte, list_all, list_any, onto_first, position, position_or_len}
+pub use Rattle.std.specs.List.{range_with_len}
 pub use Rattle.std.specs.List.Sorted.{IsPermutation}
 pub use Rattle.std.specs.Option.{option_and_then, option_eq, option_map, option_map_or, option_or, option_to_list}
 pub use Rattle.std.specs.Result.{result_ok}

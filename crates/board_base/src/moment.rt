@@ -1,7 +1,8 @@
 //! A date and a time of day, as the clock keeps it.
 ghost use Rattle.std.specs.Prelude.{◌↔◌, IfSome, IsTrue};
 ghost use Rattle.std.specs.Option.{SomeIff};
-ghost use Rattle.board_base.specs.Calendar.{IsDate, IsMoment, IsTime, moment_of, weekday_of, MomentsDecided, WeekdaysFollow};
+ghost use Rattle.board_base.specs.Calendar.{IsDate, IsMoment, IsTime, moment_of, weekday_of, MomentsDecided};
+ghost use Rattle.board_base.specs.Calendar.{WeekdaysFollow};
 
 use jiff::civil::Date;
 

@@ -3,13 +3,17 @@ use Rattle.std.proofs.Common.{◌≡◌, ◌≢◌, ℕ, [], ◌∷◌, List, So
 use Rattle.board_spec.specs.Setup.{Setup}
 use Rattle.script_spec.specs.Common.{Script as Said, DiffersAt}
 use Rattle.log_check.specs.declared.fault.CheckFault.{CheckFault}
-use Rattle.log_check.specs.declared.fault.CheckFault.TheVariants.{Differs as DiffersAtLine, NoMemory as NoMemoryForCheck}
+use Rattle.log_check.specs.declared.fault.CheckFault.TheVariants.{Differs as DiffersAtLine}
+use Rattle.log_check.specs.declared.fault.CheckFault.TheVariants.{NoMemory as NoMemoryForCheck}
 use Rattle.command_words.specs.Words.{Command, Replay, Run, Map, Check, Make, Dma, Save, Resume, Serial, Blame}
 use Rattle.command_files.specs.declared.status.Which.{Which}
 use Rattle.command_files.specs.declared.status.Which.TheVariants.{Script, Rom, Disk}
 use Rattle.command_files.specs.declared.status.Status.{Status}
-use Rattle.command_files.specs.declared.status.Status.TheVariants.{Done, Usage, ReadFault, WriteFault, TooLong, BadScript, BadImage, Differs, OtherBoard, NoMemory}
-use Rattle.command_files.specs.Common.{status_of_check_fault, Files, Known, AllRead, board_of, CanBeDone, OfCheck, OfResume, LogDiffers, BoardsDiffer, AsksFor, ShelfCall, OfFiles, CanEnd, CompareBoards, IsRefused}
+use Rattle.command_files.specs.declared.status.Status.TheVariants.{Done, Usage, ReadFault, WriteFault, TooLong}
+use Rattle.command_files.specs.declared.status.Status.TheVariants.{BadScript, BadImage, Differs, OtherBoard, NoMemory}
+use Rattle.command_files.specs.Common.{status_of_check_fault, Files, Known, AllRead, board_of, CanBeDone, OfCheck}
+use Rattle.command_files.specs.Common.{OfResume, LogDiffers, BoardsDiffer, AsksFor, ShelfCall, OfFiles, CanEnd}
+use Rattle.command_files.specs.Common.{CompareBoards, IsRefused}
 use Rattle.command_files.proofs.Refusals.{of_files, at_files}
 use Rattle.board_commands.specs.Common.{IsTextFor, IsCommandText, HasNoText, IsAnswered}
 

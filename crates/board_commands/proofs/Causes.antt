@@ -6,9 +6,11 @@ use Rattle.board_outside.specs.declared.fault.PutFault.{PutFault}
 use Rattle.board_outside.specs.declared.fault.PutFault.TheVariants.{Failed, NoMemory as NoMemoryForPut}
 use Rattle.command_files.specs.declared.status.Which.{Which}
 use Rattle.command_files.specs.declared.status.Status.{Status}
-use Rattle.command_files.specs.declared.status.Status.TheVariants.{Done, Usage, ReadFault, WriteFault, TooLong, BadScript, BadImage, Differs, OtherBoard, NoMemory}
+use Rattle.command_files.specs.declared.status.Status.TheVariants.{Done, Usage, ReadFault, WriteFault, TooLong}
+use Rattle.command_files.specs.declared.status.Status.TheVariants.{BadScript, BadImage, Differs, OtherBoard, NoMemory}
 use Rattle.command_words.specs.Words.{Command}
-use Rattle.board_commands.specs.Common.{IsCommandText, AppendsFront, SinkCall, OfCommand, PutsText, PutsTextFront, Stopped, WordsCanEnd, HasCause, IsCaused}
+use Rattle.board_commands.specs.Common.{IsCommandText, AppendsFront, SinkCall, OfCommand, PutsText, PutsTextFront}
+use Rattle.board_commands.specs.Common.{Stopped, WordsCanEnd, HasCause, IsCaused}
 use Rattle.command_files.specs.Common.{ShelfCall, OfFiles, CanEnd, status_of_put_fault, IsRefusal, IsRefused}
 use Rattle.command_files.proofs.Refusals.{of_files, at_files}
 

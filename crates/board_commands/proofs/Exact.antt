@@ -2,10 +2,12 @@
 use Rattle.std.proofs.Common.{◌≡◌, ℕ, List, inl, inr, Option, Some, None, refl, sym, subst, arith}
 use Rattle.board_outside.specs.Outside.{Rose}
 use Rattle.command_files.specs.declared.status.Status.{Status}
-use Rattle.command_files.specs.declared.status.Status.TheVariants.{Done, Usage, ReadFault, WriteFault, TooLong, BadScript, BadImage, Differs, OtherBoard, NoMemory}
+use Rattle.command_files.specs.declared.status.Status.TheVariants.{Done, Usage, ReadFault, WriteFault, TooLong}
+use Rattle.command_files.specs.declared.status.Status.TheVariants.{BadScript, BadImage, Differs, OtherBoard, NoMemory}
 use Rattle.command_words.specs.Words.{Command}
 use Rattle.command_files.specs.Common.{Files, AsksFor, ShelfCall, OfFiles, OneStatus}
-use Rattle.board_commands.specs.Common.{SinkCall, PutsText, PutsTextFront, IsCaused, IsOrNoMemory, IsQuietFor, IsExact, IsCommandText}
+use Rattle.board_commands.specs.Common.{SinkCall, PutsText, PutsTextFront, IsCaused, IsOrNoMemory, IsQuietFor, IsExact}
+use Rattle.board_commands.specs.Common.{IsCommandText}
 use Rattle.command_files.proofs.Refusals.{at_files}
 
 -- the shelf is quiet wherever a status is to come

@@ -1,12 +1,14 @@
 -- The puts that were made, one part of a text after another.
-use Rattle.std.proofs.Common.{ℕ, inl, inr, List, [], ◌∷◌, ◌++◌, Option, Some, None, refl, sym, subst, Result, Ok, Err, IsErr}
+use Rattle.std.proofs.Common.{ℕ, inl, inr, List, [], ◌∷◌, ◌++◌, Option, Some, None, refl, sym, subst, Result, Ok, Err}
+use Rattle.std.proofs.Common.{IsErr}
 use Rattle.board_prelude.proofs.Common.{result_ok}
 use Rattle.board_outside.specs.Outside.{Put, Made}
 use Rattle.board_outside.specs.declared.fault.PutFault.{PutFault}
 use Rattle.board_outside.specs.declared.fault.PutFault.TheVariants.{Failed, NoMemory as NoMemoryForPut}
 use Rattle.command_words.specs.Words.{Command}
 use Rattle.command_files.specs.declared.status.Status.{Status}
-use Rattle.command_files.specs.declared.status.Status.TheVariants.{Done, Usage, ReadFault, WriteFault, TooLong, BadScript, BadImage, Differs, OtherBoard, NoMemory}
+use Rattle.command_files.specs.declared.status.Status.TheVariants.{Done, Usage, ReadFault, WriteFault, TooLong}
+use Rattle.command_files.specs.declared.status.Status.TheVariants.{BadScript, BadImage, Differs, OtherBoard, NoMemory}
 use Rattle.command_files.specs.Common.{status_of_put_fault, ShelfCall, IsRefused, OfCalls}
 use Rattle.command_files.proofs.CallLemmas.{none_told, calls_hold, call_more, Both, calls_both}
 use Rattle.board_commands.specs.Puts.{AllTook, LatestRefused, ArePutsOf, PutsBy}

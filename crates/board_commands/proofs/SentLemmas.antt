@@ -1,5 +1,6 @@
 -- What a sink took of a text, piece after piece.
-use Rattle.std.proofs.Common.{◌≡◌, ℕ, ◌+◌, ◌<◌, List, [], ◌++◌, Option, Some, None, length, get_or, take, drop, sym, ◌∙◌, ap, subst, refl, append_assoc, append-nil, Vec, Result, Ok, Err, OnErr}
+use Rattle.std.proofs.Common.{◌≡◌, ℕ, ◌+◌, ◌<◌, List, [], ◌++◌, Option, Some, None, length, get_or, take, drop, sym}
+use Rattle.std.proofs.Common.{◌∙◌, ap, subst, refl, append_assoc, append-nil, Vec, Result, Ok, Err, OnErr}
 use Rattle.board_prelude.proofs.Common.{Global, take-append-drop, flat_map-cons, Appends, Keeps}
 use Rattle.std.proofs.lemmas.List.{at_drop_more}
 use Rattle.log_pieces.specs.Text.{bytes_in, joined}

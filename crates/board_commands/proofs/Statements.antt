@@ -1,5 +1,6 @@
 -- The statements of a script in the order of its file.
-use Rattle.std.proofs.Common.{◌≡◌, ℕ, ◌+◌, ◌++◌, List, [], ◌∷◌, take, drop, get_or, refl, ap, subst, All, slice_index_or, flat_map}
+use Rattle.std.proofs.Common.{◌≡◌, ℕ, ◌+◌, ◌++◌, List, [], ◌∷◌, take, drop, get_or, refl, ap, subst, All}
+use Rattle.std.proofs.Common.{slice_index_or, flat_map}
 use Rattle.board_prelude.proofs.Common.{Vec, Global, get_or_default, Statement, IsScripted, in_file_order, Setup}
 use Rattle.phase_threads.specs.Jobs.{IsStatement}
 use Rattle.script_spec.specs.Phases.{lists_of}

@@ -3,7 +3,8 @@ use Rattle.std.specs.Prelude.{ℕ, ◌≡◌, List, reverse}
 use Rattle.board_prelude.specs.Common.{Entry, Setup, IsLegal, IsCompleteFor, LockLaw, log_text}
 use Rattle.run_order.specs.Places.{AreAllInPlace}
 use Rattle.script_spec.specs.ScriptText.{Script as Said}
-use Rattle.command_texts.specs.Common.{IsReplayText, IsMapText, IsLegalText, IsMakeText, IsTransferText, IsSaveText, IsResumeText, IsSerialText, IsBlameText}
+use Rattle.command_texts.specs.Common.{IsReplayText, IsMapText, IsLegalText, IsMakeText, IsTransferText, IsSaveText}
+use Rattle.command_texts.specs.Common.{IsResumeText, IsSerialText, IsBlameText}
 use Rattle.command_words.specs.Words.{Command, Replay, Run, Map, Check, Make, Dma, Save, Resume, Serial, Blame}
 use Rattle.command_files.specs.Common.{Files, Known, AllRead, board_of, OfScript, OfImage, CanBeDone}
 

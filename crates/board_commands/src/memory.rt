@@ -38,7 +38,8 @@ pub fn board_in_memory<R: Threads + Wait + Sync, G: Gate>(
         }) }
     ensures no_read_fault { (which : Which) → result ≢ Status.ReadFault which }
     ensures no_write_fault { result ≢ Status.WriteFault }
-    ensures exact { IsExact result (command_said words.now) (Some (file_named shelf.old.files.items)) (Unit {0}) (Unit {0}) }
+    ensures exact { IsExact result (command_said words.now) (Some (file_named shelf.old.files.items))
+        (Unit {0}) (Unit {0}) }
     ensures same_files { file_named shelf.new.files.items ≡ file_named shelf.old.files.items }
 {
     board(rt, alloc, words, shelf, out, gate)

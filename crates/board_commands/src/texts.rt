@@ -1,7 +1,8 @@
 //! The text of each command, from what it read.
 
 ghost use Rattle.std.specs.Prelude.{ℕ, List, IfOk, IfErr};
-ghost use Rattle.command_texts.specs.Common.{IsReplayText, IsMapText, IsLegalText, IsTransferText, IsSaveText, IsSerialText, IsBlameText};
+ghost use Rattle.command_texts.specs.Common.{IsReplayText, IsMapText, IsLegalText, IsTransferText, IsSaveText};
+ghost use Rattle.command_texts.specs.Common.{IsSerialText, IsBlameText};
 ghost use Rattle.command_words.specs.Common.{IsTransfer, IsCommand, Check, Resume, said_alone, said_by};
 ghost use Rattle.command_files.specs.Common.{HasBoard, HasImage, HasRead, CanBeDone};
 ghost use Rattle.board_commands.specs.Texts.{OnBoard, IsRunText, IsTextFor};

@@ -1,7 +1,15 @@
 -- Each example is computed from the definitions: the number and the reply of each line, the last line first.
 use Rattle.std.proofs.Common.{ℕ, ◌≡◌, ◌+◌, ◌%◌, ◌<◌, List, length, slice_index, refl, arith}
-use Rattle.board_prelude.proofs.Common.{length-map-range_with_len, get_or-map-range_with_len, Entry, Setup, reset_byte, writable_bits, host_bridge, isa_bridge, ide_function, card_function, byte_of, config_address, reset_control, map_change_of, map_writes_of, row_of, area_of, denial_of, memory_claim, memory_shut, rom_unselected, io_claim, io_shut, port_target_of, stored_of, IsAnswer, port_answer, memory_answer, entries_by, IsNext}
-use Rattle.board_examples.specs.Basics.{counting_rom, ShadowingTheBios, OneWindowForWrites, MemoryAfterReset, ConfigurationPorts, SmramLockedUntilReset, VgaBesideSmram, NoRowOfDram, CardInTheHole, HoleAt512Kib, TwoCardsAtOneAddress, XbcsOverASoftReset, RomAfterReset, CardMovedUnderTheRom}
+use Rattle.board_prelude.proofs.Common.{length-map-range_with_len, get_or-map-range_with_len, Entry, Setup, reset_byte}
+use Rattle.board_prelude.proofs.Common.{writable_bits, host_bridge, isa_bridge, ide_function, card_function, byte_of}
+use Rattle.board_prelude.proofs.Common.{config_address, reset_control, map_change_of, map_writes_of, row_of, area_of}
+use Rattle.board_prelude.proofs.Common.{denial_of, memory_claim, memory_shut, rom_unselected, io_claim, io_shut}
+use Rattle.board_prelude.proofs.Common.{port_target_of, stored_of, IsAnswer, port_answer, memory_answer, entries_by}
+use Rattle.board_prelude.proofs.Common.{IsNext}
+use Rattle.board_examples.specs.Basics.{counting_rom, ShadowingTheBios, OneWindowForWrites, MemoryAfterReset}
+use Rattle.board_examples.specs.Basics.{ConfigurationPorts, SmramLockedUntilReset, VgaBesideSmram, NoRowOfDram}
+use Rattle.board_examples.specs.Basics.{CardInTheHole, HoleAt512Kib, TwoCardsAtOneAddress, XbcsOverASoftReset}
+use Rattle.board_examples.specs.Basics.{RomAfterReset, CardMovedUnderTheRom}
 use Rattle.board_examples.proofs.Spans.{two_cards_span, low_card_span, gap_span, high_card_span}
 
 pub rom_size : length counting_rom ≡ 0x1_0000
@@ -27,7 +35,9 @@ abbrev reset : Unit {0}
 reset = tt
 
 pub shadowing_the_bios : ShadowingTheBios
-unfolding ShadowingTheBios port_answer memory_answer port_target_of area_of row_of memory_claim memory_shut rom_unselected denial_of io_claim io_shut byte_of config_address reset_control reset_byte writable_bits host_bridge isa_bridge ide_function card_function stored_of
+unfolding ShadowingTheBios port_answer memory_answer port_target_of area_of row_of memory_claim memory_shut
+    rom_unselected denial_of io_claim io_shut byte_of config_address reset_control reset_byte writable_bits host_bridge
+    isa_bridge ide_function card_function stored_of
 shadowing_the_bios =
     next refl refl after next refl refl after next refl (rw rom_size refl) after next refl refl after
     next refl refl after next refl refl after
@@ -35,25 +45,33 @@ shadowing_the_bios =
     next refl refl after next refl refl after reset
 
 pub one_window_for_writes : OneWindowForWrites
-unfolding OneWindowForWrites port_answer memory_answer port_target_of area_of row_of memory_claim memory_shut rom_unselected denial_of io_claim io_shut byte_of config_address reset_control reset_byte writable_bits host_bridge isa_bridge ide_function card_function stored_of
+unfolding OneWindowForWrites port_answer memory_answer port_target_of area_of row_of memory_claim memory_shut
+    rom_unselected denial_of io_claim io_shut byte_of config_address reset_control reset_byte writable_bits host_bridge
+    isa_bridge ide_function card_function stored_of
 one_window_for_writes =
     next refl refl after next refl refl after next refl refl after next refl refl after next refl refl after
     next refl refl after next refl refl after reset
 
 pub memory_after_reset : MemoryAfterReset
-unfolding MemoryAfterReset port_answer memory_answer port_target_of area_of row_of memory_claim memory_shut rom_unselected denial_of io_claim io_shut byte_of config_address reset_control reset_byte writable_bits host_bridge isa_bridge ide_function card_function stored_of
+unfolding MemoryAfterReset port_answer memory_answer port_target_of area_of row_of memory_claim memory_shut
+    rom_unselected denial_of io_claim io_shut byte_of config_address reset_control reset_byte writable_bits host_bridge
+    isa_bridge ide_function card_function stored_of
 memory_after_reset =
     next refl refl after next refl refl after next refl refl after next refl refl after next refl refl after
     next refl refl after next refl refl after reset
 
 pub configuration_ports : ConfigurationPorts
-unfolding ConfigurationPorts port_answer memory_answer port_target_of area_of row_of memory_claim memory_shut rom_unselected denial_of io_claim io_shut byte_of config_address reset_control reset_byte writable_bits host_bridge isa_bridge ide_function card_function stored_of
+unfolding ConfigurationPorts port_answer memory_answer port_target_of area_of row_of memory_claim memory_shut
+    rom_unselected denial_of io_claim io_shut byte_of config_address reset_control reset_byte writable_bits host_bridge
+    isa_bridge ide_function card_function stored_of
 configuration_ports =
     next refl refl after next refl refl after next refl refl after next refl refl after next refl refl after
     next refl refl after next refl refl after next refl refl after next refl refl after reset
 
 pub smram_locked_until_reset : SmramLockedUntilReset
-unfolding SmramLockedUntilReset port_answer memory_answer port_target_of area_of row_of memory_claim memory_shut rom_unselected denial_of io_claim io_shut byte_of config_address reset_control reset_byte writable_bits host_bridge isa_bridge ide_function card_function stored_of
+unfolding SmramLockedUntilReset port_answer memory_answer port_target_of area_of row_of memory_claim memory_shut
+    rom_unselected denial_of io_claim io_shut byte_of config_address reset_control reset_byte writable_bits host_bridge
+    isa_bridge ide_function card_function stored_of
 smram_locked_until_reset =
     next refl refl after next refl refl after next refl refl after next refl refl after next refl refl after
     next refl refl after next refl refl after next refl refl after next refl refl after next refl refl after
@@ -61,53 +79,75 @@ smram_locked_until_reset =
     next refl refl after reset
 
 pub vga_beside_smram : VgaBesideSmram
-unfolding VgaBesideSmram port_answer memory_answer port_target_of area_of row_of memory_claim memory_shut rom_unselected denial_of io_claim io_shut byte_of config_address reset_control reset_byte writable_bits host_bridge isa_bridge ide_function card_function stored_of
+unfolding VgaBesideSmram port_answer memory_answer port_target_of area_of row_of memory_claim memory_shut rom_unselected
+    denial_of io_claim io_shut byte_of config_address reset_control reset_byte writable_bits host_bridge isa_bridge
+    ide_function card_function stored_of
 vga_beside_smram =
     next refl refl after next refl refl after next refl refl after next refl refl after next refl refl after
     next refl refl after next refl refl after next refl refl after reset
 
 pub no_row_of_dram : NoRowOfDram
-unfolding NoRowOfDram port_answer memory_answer port_target_of area_of row_of memory_claim memory_shut rom_unselected denial_of io_claim io_shut byte_of config_address reset_control reset_byte writable_bits host_bridge isa_bridge ide_function card_function stored_of
+unfolding NoRowOfDram port_answer memory_answer port_target_of area_of row_of memory_claim memory_shut rom_unselected
+    denial_of io_claim io_shut byte_of config_address reset_control reset_byte writable_bits host_bridge isa_bridge
+    ide_function card_function stored_of
 no_row_of_dram =
     next refl (rw (rom_size, rom_byte 1 (omega arith)) refl) after next refl refl after next refl refl after
     next refl refl after next refl refl after next refl refl after next refl refl after next refl refl after
     next refl refl after reset
 
 pub card_in_the_hole : CardInTheHole
-unfolding CardInTheHole port_answer memory_answer port_target_of area_of row_of memory_claim memory_shut rom_unselected denial_of io_claim io_shut byte_of config_address reset_control reset_byte writable_bits host_bridge isa_bridge ide_function card_function stored_of
+unfolding CardInTheHole port_answer memory_answer port_target_of area_of row_of memory_claim memory_shut rom_unselected
+    denial_of io_claim io_shut byte_of config_address reset_control reset_byte writable_bits host_bridge isa_bridge
+    ide_function card_function stored_of
 card_in_the_hole =
     next refl refl after next refl refl after next refl refl after next refl refl after next refl refl after
     next refl refl after next refl refl after next refl refl after next refl refl after next refl refl after
     next refl refl after next refl refl after next refl refl after next refl refl after next refl refl after reset
 
 pub hole_at_512_kib : HoleAt512Kib
-unfolding HoleAt512Kib port_answer memory_answer port_target_of area_of row_of memory_claim memory_shut rom_unselected denial_of io_claim io_shut byte_of config_address reset_control reset_byte writable_bits host_bridge isa_bridge ide_function card_function stored_of
+unfolding HoleAt512Kib port_answer memory_answer port_target_of area_of row_of memory_claim memory_shut rom_unselected
+    denial_of io_claim io_shut byte_of config_address reset_control reset_byte writable_bits host_bridge isa_bridge
+    ide_function card_function stored_of
 hole_at_512_kib =
     next refl refl after next refl refl after next refl refl after next refl refl after next refl refl after
     next refl refl after next refl refl after reset
 
 pub two_cards_at_one_address : TwoCardsAtOneAddress
-unfolding TwoCardsAtOneAddress port_answer memory_answer port_target_of area_of row_of memory_claim memory_shut rom_unselected denial_of io_claim io_shut byte_of config_address reset_control reset_byte writable_bits host_bridge isa_bridge ide_function card_function stored_of map_change_of map_writes_of
+unfolding TwoCardsAtOneAddress port_answer memory_answer port_target_of area_of row_of memory_claim memory_shut
+    rom_unselected denial_of io_claim io_shut byte_of config_address reset_control reset_byte writable_bits host_bridge
+    isa_bridge ide_function card_function stored_of map_change_of map_writes_of
 two_cards_at_one_address =
     next refl (record { version = refl; span = two_cards_span }) after next refl refl after
     next refl refl after next refl refl after next refl refl after next refl refl after next refl refl after
     next refl refl after next refl refl after next refl refl after next refl refl after next refl refl after reset
 
 pub xbcs_over_a_soft_reset : XbcsOverASoftReset
-unfolding XbcsOverASoftReset port_answer memory_answer port_target_of area_of row_of memory_claim memory_shut rom_unselected denial_of io_claim io_shut byte_of config_address reset_control reset_byte writable_bits host_bridge isa_bridge ide_function card_function stored_of
+unfolding XbcsOverASoftReset port_answer memory_answer port_target_of area_of row_of memory_claim memory_shut
+    rom_unselected denial_of io_claim io_shut byte_of config_address reset_control reset_byte writable_bits host_bridge
+    isa_bridge ide_function card_function stored_of
 xbcs_over_a_soft_reset =
     next refl refl after next refl refl after next refl refl after
     next refl (rw (rom_size, rom_byte 5 (omega arith)) refl) after next refl (rw rom_size refl) after
     next refl refl after next refl refl after reset
 
 pub rom_after_reset : RomAfterReset
-unfolding RomAfterReset port_answer memory_answer port_target_of area_of row_of memory_claim memory_shut rom_unselected denial_of io_claim io_shut byte_of config_address reset_control reset_byte writable_bits host_bridge isa_bridge ide_function card_function stored_of
+unfolding RomAfterReset port_answer memory_answer port_target_of area_of row_of memory_claim memory_shut rom_unselected
+    denial_of io_claim io_shut byte_of config_address reset_control reset_byte writable_bits host_bridge isa_bridge
+    ide_function card_function stored_of
 rom_after_reset =
-    next refl (rw (rom_size, rom_byte 16 (omega arith), rom_byte 17 (omega arith), rom_byte 18 (omega arith), rom_byte 19 (omega arith)) refl) after
+    next refl (rw (
+      rom_size,
+      rom_byte 16 (omega arith),
+      rom_byte 17 (omega arith),
+      rom_byte 18 (omega arith),
+      rom_byte 19 (omega arith),
+    ) refl) after
     next refl (rw (rom_size, rom_byte 18 (omega arith)) refl) after next refl (rw rom_size refl) after reset
 
 pub card_moved_under_the_rom : CardMovedUnderTheRom
-unfolding CardMovedUnderTheRom port_answer memory_answer port_target_of area_of row_of memory_claim memory_shut rom_unselected denial_of io_claim io_shut byte_of config_address reset_control reset_byte writable_bits host_bridge isa_bridge ide_function card_function stored_of map_change_of map_writes_of
+unfolding CardMovedUnderTheRom port_answer memory_answer port_target_of area_of row_of memory_claim memory_shut
+    rom_unselected denial_of io_claim io_shut byte_of config_address reset_control reset_byte writable_bits host_bridge
+    isa_bridge ide_function card_function stored_of map_change_of map_writes_of
 card_moved_under_the_rom =
     next refl (record { version = refl; span = high_card_span }) after
     next refl (record { version = refl; span = gap_span }) after next refl refl after next refl refl after

@@ -1,9 +1,15 @@
 -- The worked texts of logs.
-use Rattle.std.proofs.Common.{ℕ, suc, ◌≡◌, ◌+◌, ◌≤◌, ◌==◌, true, List, [], ◌∷◌, ◌++◌, length, All, codes, decimal, refl, if◌then◌else◌, get_or, take, drop, add-one, append-nil, arith, inl, inr, sym, ap, ◌∙◌}
-use Rattle.board_prelude.proofs.Common.{digits, common_steps, flat_map-append, All-nil, All-cons, All-push, Entry, line_feed, event_text, reply_text, line_text, lines_text, log_text, Statement, statements_of, IsCompleteFor}
-use Rattle.board_examples.specs.Common.{small_board, phases, look_last, LookLast, NoEntries, NoSuchVersion, EmptyLog, EmptyLogDiffers, CutLogDiffers, OpenLogDiffers, LongLogDiffers, order_lines, last_line}
+use Rattle.std.proofs.Common.{ℕ, suc, ◌≡◌, ◌+◌, ◌≤◌, ◌==◌, true, List, [], ◌∷◌, ◌++◌, length, All, codes, decimal, refl}
+use Rattle.std.proofs.Common.{if◌then◌else◌, get_or, take, drop, add-one, append-nil, arith, inl, inr, sym, ap, ◌∙◌}
+use Rattle.board_prelude.proofs.Common.{digits, common_steps, flat_map-append, All-nil, All-cons, All-push, Entry}
+use Rattle.board_prelude.proofs.Common.{line_feed, event_text, reply_text, line_text, lines_text, log_text, Statement}
+use Rattle.board_prelude.proofs.Common.{statements_of, IsCompleteFor}
+use Rattle.board_examples.specs.Common.{small_board, phases, look_last, LookLast, NoEntries, NoSuchVersion, EmptyLog}
+use Rattle.board_examples.specs.Common.{EmptyLogDiffers, CutLogDiffers, OpenLogDiffers, LongLogDiffers, order_lines}
+use Rattle.board_examples.specs.Common.{last_line}
 use Rattle.script_spec.specs.Common.{text_of_lines, IsOneLine, IsVersion, IsWellFormed, AreBegun, IsSomeLog, IsLogOf}
-use Rattle.script_spec.proofs.Common.{lacks, front, front-field, lacks-first, lacks-later, line_whole, lacks-line, one_line}
+use Rattle.script_spec.proofs.Common.{lacks, front, front-field, lacks-first, lacks-later, line_whole, lacks-line}
+use Rattle.script_spec.proofs.Common.{one_line}
 
 pub no_entries : NoEntries
 unfolding NoEntries digits lines_text

@@ -40,11 +40,21 @@ wide_borders = record {
   ];
   last_long = λ asked. grind (arith, asked.ends);
   last_word = λ asked. grind (arith, asked.ends);
-  largest_word = record { bytes = inl refl; wide = inr (λ e. grind (arith, e)); ends = omega arith; fits = omega arith };
+  largest_word = record {
+    bytes = inl refl;
+    wide = inr (λ e. grind (arith, e));
+    ends = omega arith;
+    fits = omega arith;
+  };
   too_large_word = λ asked. grind (arith, asked.fits);
   largest_of_all = record { bytes = inr (inr refl); wide = inl refl; ends = omega arith; fits = omega arith };
   too_large_of_all = λ asked. grind (arith, asked.fits);
-  largest = record { bytes = inr (inl refl); wide = inr (λ e. grind (arith, e)); ends = omega arith; fits = omega arith };
+  largest = record {
+    bytes = inr (inl refl);
+    wide = inr (λ e. grind (arith, e));
+    ends = omega arith;
+    fits = omega arith;
+  };
   too_large = λ asked. grind (arith, asked.fits);
   no_value = λ asked. grind (arith, asked.fits);
 }

@@ -1,9 +1,14 @@
 -- What a script may ask for at most. No list of so many items is computed: what is counted in one is counted for each
 -- length.
-use Rattle.std.proofs.Common.{ℕ, zero, suc, ◌≡◌, ◌+◌, ◌*◌, ◌<◌, ◌≤◌, Bool, true, false, not, ◌&&◌, ◌||◌, nat_lt, Option, Some, None, List, [], ◌∷◌, ◌++◌, length, filter, sum_by, replicate, refl, ap, ◌∙◌, arith, option_map, find}
-use Rattle.board_prelude.proofs.Common.{list_any, and_from, sum_by-cons, Ack, Pulses, memory_of_cards, most_statements, most_phases, most_pulses, most_card_memory}
-use Rattle.script_spec.specs.Common.{Item, BeginPhase, reason, is_phase, is_statement, is_cpus_above, cards_of, is_misplaced, is_repeated, lacks_setup, is_in_range, is_placed, is_there, pulses_of, passes_limits, least_reason}
-use Rattle.board_examples.specs.Limits.{begun, asks, after_so_many, after_statements, after_phases, after_millions, AmountBorders, AreaBorders}
+use Rattle.std.proofs.Common.{ℕ, zero, suc, ◌≡◌, ◌+◌, ◌*◌, Bool, true, false, not, ◌&&◌, ◌||◌, nat_lt, Option, List, []}
+use Rattle.std.proofs.Common.{◌∷◌, length, filter, sum_by, refl, ap, ◌∙◌, arith, option_map, find}
+use Rattle.board_prelude.proofs.Common.{list_any, and_from, sum_by-cons, Ack, Pulses, memory_of_cards, most_statements}
+use Rattle.board_prelude.proofs.Common.{most_phases, most_pulses, most_card_memory}
+use Rattle.script_spec.specs.Common.{Item, BeginPhase, reason, is_phase, is_statement, is_cpus_above, cards_of}
+use Rattle.script_spec.specs.Common.{is_misplaced, is_repeated, lacks_setup, is_in_range, is_placed, is_there}
+use Rattle.script_spec.specs.Common.{pulses_of, passes_limits, least_reason}
+use Rattle.board_examples.specs.Limits.{asks, after_so_many, after_statements, after_phases, after_millions}
+use Rattle.board_examples.specs.Limits.{AmountBorders, AreaBorders}
 
 -- ---- what is counted
 

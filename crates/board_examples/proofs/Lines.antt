@@ -1,7 +1,11 @@
 -- A history without looks is legal where the numbers and the replies of its lines are those that the definitions
 -- compute: one equation of two lists.
 use Rattle.std.proofs.Common.{ℕ, ◌≡◌, ◌+◌, List, [], ◌∷◌, length, map, Option, Some, None, ap, sym, subst}
-use Rattle.board_prelude.proofs.Common.{Pit, Ata, Wires, Device, Event, Memory, Wide, Port, Ack, Pulses, Time, Wire, Line, BadSector, Part, Two as TwoParts, Three as ThreeParts, Four as FourParts, Reply, Bus, Saw, Entry, Setup, parts_of, parts_list, vector_of, acknowledged_by, IsAnswer, memory_answer, part_answer, wide_value, port_answer, outside_answer, entries_by, IsLegal}
+use Rattle.board_prelude.proofs.Common.{Pit, Ata, Wires, Device, Event, Memory, Wide, Port, Ack, Pulses, Time, Wire}
+use Rattle.board_prelude.proofs.Common.{Line, BadSector, Part, Two as TwoParts, Three as ThreeParts, Four as FourParts}
+use Rattle.board_prelude.proofs.Common.{Reply, Bus, Saw, Entry, Setup, parts_of, parts_list, vector_of, acknowledged_by}
+use Rattle.board_prelude.proofs.Common.{IsAnswer, memory_answer, part_answer, wide_value, port_answer, outside_answer}
+use Rattle.board_prelude.proofs.Common.{entries_by, IsLegal}
 use Rattle.board_base.specs.declared.target.Dev.TheVariants.{Clock}
 use Rattle.board_spec.specs.declared.event.Event.TheVariants.{Look as LookAt}
 use Rattle.board_spec.specs.declared.event.Reply.TheVariants.{Parts as InParts}
@@ -19,7 +23,8 @@ told (Saw look) = Whole (Saw look)
 -- the reply to an event. That to a look is not computed, and nothing tells it
 abbrev computed : Setup → List Entry → Event → Told
 computed setup before (Memory access) = Whole (memory_answer setup before access)
-computed setup before (Wide access) = InPieces (wide_value setup before access) (map (part_answer setup before) (parts_of access))
+computed setup before (Wide access) = InPieces (wide_value setup before access)
+    (map (part_answer setup before) (parts_of access))
 computed setup before (Port access) = Whole (port_answer setup before access)
 computed setup before (LookAt kind addr smm) = InPieces None []
 computed setup before Ack = Whole (Bus (Some (vector_of setup before)) (Device (acknowledged_by setup before)) None)
@@ -64,7 +69,8 @@ answer setup before (Wide access) (Saw look) is = absurd (subst IsWhole is tt)
 answer setup before (Port access) reply is = whole reply _ is
 answer setup before (LookAt kind addr smm) (InParts (TwoParts a b) value) is = absurd (subst IsPartless (sym is) tt)
 answer setup before (LookAt kind addr smm) (InParts (ThreeParts a b c) value) is = absurd (subst IsPartless (sym is) tt)
-answer setup before (LookAt kind addr smm) (InParts (FourParts a b c d) value) is = absurd (subst IsPartless (sym is) tt)
+answer setup before (LookAt kind addr smm) (InParts (FourParts a b c d) value) is =
+    absurd (subst IsPartless (sym is) tt)
 answer setup before (LookAt kind addr smm) (Bus value target denial) is = absurd (subst IsWhole is tt)
 answer setup before (LookAt kind addr smm) (Saw look) is = absurd (subst IsWhole is tt)
 answer setup before Ack reply is = whole reply _ is
@@ -95,8 +101,15 @@ rest (first ∷ later) = later
 pub legal : (setup : Setup) (history : List Entry) → said_in history ≡ computed_in setup history → IsLegal setup history
 legal setup [] is = tt
 legal setup (entry ∷ before) is =
-    let first : (entry.seq, told entry.reply) ≡ (length (entries_by entry.actor before) + 1, computed setup before entry.event) =
+    let first : (entry.seq, told entry.reply) ≡ (
+      length (entries_by entry.actor before) + 1,
+      computed setup before entry.event,
+    ) =
     ap (head_or (entry.seq, told entry.reply)) is in (
-      record { number = ap (λ p. p.0) first; answer = answer setup before entry.event entry.reply (ap (λ p. p.1) first) },
+      record {
+        number = ap (λ p. p.0) first;
+        answer = answer setup before entry.event entry.reply
+            (ap (λ p. p.1) first);
+      },
       legal setup before (ap rest is),
     )

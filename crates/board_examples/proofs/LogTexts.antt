@@ -1,7 +1,8 @@
 -- The logs of the worked examples are computed from the definitions of the text.
 use Rattle.std.specs.Prelude.{refl}
 use Rattle.board_prelude.proofs.Common.{digits, event_text, reply_text, line_text, lines_text}
-use Rattle.board_examples.specs.Logs.{VgaBesideSmramLogged, ConfigurationPortsLogged, TwoCardsLogged, XbcsLogged, OutsideLogged}
+use Rattle.board_examples.specs.Logs.{VgaBesideSmramLogged, ConfigurationPortsLogged, TwoCardsLogged, XbcsLogged}
+use Rattle.board_examples.specs.Logs.{OutsideLogged}
 
 pub vga_beside_smram_logged : VgaBesideSmramLogged
 unfolding VgaBesideSmramLogged digits event_text reply_text line_text lines_text

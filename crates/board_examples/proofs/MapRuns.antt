@@ -1,6 +1,9 @@
 -- The flat map after reset, range by range.
-use Rattle.std.proofs.Common.{ℕ, zero, suc, ◌≡◌, ◌<◌, ◌≤◌, ◌+◌, ◌-◌, ◌/◌, ◌%◌, ◌==◌, Bool, true, false, [], get_or, refl, arith, inl, inr}
-use Rattle.board_prelude.proofs.Common.{digits, le-leb, lt-leb, lt-ltb, le-ltb, cases_lt, div-lt_iff_lt-mul, reset_byte, host_bridge, isa_bridge, byte_of, nibble, pam_register, row_of, area_of, memory_claim, bridge, MapRange, IsRight}
+use Rattle.std.proofs.Common.{ℕ, zero, suc, ◌≡◌, ◌<◌, ◌≤◌, ◌+◌, ◌-◌, ◌/◌, ◌%◌, ◌==◌, Bool, true, false, [], get_or}
+use Rattle.std.proofs.Common.{refl, arith, inl, inr}
+use Rattle.board_prelude.proofs.Common.{digits, le-leb, lt-leb, lt-ltb, le-ltb, cases_lt, div-lt_iff_lt-mul, reset_byte}
+use Rattle.board_prelude.proofs.Common.{host_bridge, isa_bridge, byte_of, nibble, pam_register, row_of, area_of}
+use Rattle.board_prelude.proofs.Common.{memory_claim, bridge, MapRange, IsRight}
 use Rattle.board_base.specs.declared.target.Area.TheVariants.{Dram as DramArea, Rom as RomArea, Abort as AbortArea}
 use Rattle.board_examples.specs.Common.{small_board, range, MapAfterReset, MapAfterResetWritten}
 use Rattle.board_examples.specs.Maps.{map_after_reset as ranges}
@@ -30,7 +33,8 @@ pam_byte (suc (suc (suc (suc (suc (suc k)))))) less = absurd (omega arith)
 
 pam_closed : (x : ℕ) → 0xC_0000 ≤ x → x ≤ 0xE_FFFF → byte_of small_board [] (pam_register x) ≡ 0
 pam_closed x from to =
-    let less : (x - 0xC_0000) / 0x8000 < 6 = (div-lt_iff_lt-mul {k = 0x8000} {x = x - 0xC_0000} {y = 6} (omega arith)).1 (omega arith) in
+    let less : (x - 0xC_0000) / 0x8000 < 6 = (div-lt_iff_lt-mul {k = 0x8000} {x = x - 0xC_0000} {y = 6} (omega arith)).1
+        (omega arith) in
     rw (lt-leb 0xF_0000 x (omega arith)) (pam_byte ((x - 0xC_0000) / 0x8000) less)
 
 closed_nibble : (high : Bool) → nibble 0 high ≡ 0
@@ -120,7 +124,8 @@ top_rom = record {
       ) refl;
 }
 
-all_right : (k : ℕ) (otherwise : MapRange) → k < 6 → IsRight small_board (byte_of small_board []) (get_or ranges k otherwise)
+all_right : (k : ℕ) (otherwise : MapRange) → k < 6 →
+    IsRight small_board (byte_of small_board []) (get_or ranges k otherwise)
 all_right zero otherwise less = low_dram
 all_right (suc zero) otherwise less = video
 all_right (suc (suc zero)) otherwise less = high_rom
@@ -132,9 +137,11 @@ all_right (suc (suc (suc (suc (suc (suc k)))))) otherwise less = absurd (omega a
 pub map_after_reset : MapAfterReset
 unfolding MapAfterReset
 map_after_reset = record {
-  tiles = (refl, omega arith, (refl, omega arith, (refl, omega arith, (refl, omega arith, (refl, omega arith, (refl, omega arith, refl))))));
+  tiles = (refl, omega arith,
+      (refl, omega arith, (refl, omega arith, (refl, omega arith, (refl, omega arith, (refl, omega arith, refl))))));
   right = all_right;
-  least = (λ e. grind (arith, e), (λ e. grind (arith, e), (λ e. grind (arith, e), (λ e. grind (arith, e), (λ e. grind (arith, e), (tt, tt))))));
+  least = (λ e. grind (arith, e),
+      (λ e. grind (arith, e), (λ e. grind (arith, e), (λ e. grind (arith, e), (λ e. grind (arith, e), (tt, tt))))));
 }
 
 pub map_after_reset_written : MapAfterResetWritten

@@ -1,12 +1,20 @@
 -- Both orders of the script for two processors.
 use Rattle.std.proofs.Common.{ℕ, ◌≡◌, false, [], ◌∷◌, refl, arith, inl, inr, ne_eqb}
-use Rattle.board_prelude.proofs.Common.{digits, le-leb, lt-ltb, cases_eq, Read, Statement, reset_byte, writable_bits, host_bridge, isa_bridge, ide_function, card_function, byte_of, config_address, reset_control, map_change_of, map_writes_of, row_of, area_of, memory_claim, io_claim, io_shut, port_target_of, IsSpan, memory_answer, port_answer, events_by, statement_of, BeginsWith, event_text, reply_text, line_text, lines_text}
+use Rattle.board_prelude.proofs.Common.{digits, le-leb, lt-ltb, cases_eq, Read, Statement, reset_byte, writable_bits}
+use Rattle.board_prelude.proofs.Common.{host_bridge, isa_bridge, ide_function, card_function, byte_of, config_address}
+use Rattle.board_prelude.proofs.Common.{reset_control, map_change_of, map_writes_of, row_of, area_of, memory_claim}
+use Rattle.board_prelude.proofs.Common.{io_claim, io_shut, port_target_of, IsSpan, memory_answer, port_answer}
+use Rattle.board_prelude.proofs.Common.{events_by, statement_of, BeginsWith, event_text, reply_text, line_text}
+use Rattle.board_prelude.proofs.Common.{lines_text}
 use Rattle.board_base.specs.declared.target.Area.TheVariants.{Rom as RomArea, Shadow as ShadowArea}
-use Rattle.board_examples.specs.Common.{small_board, addressed, opened, sees_rom, LookLast, LookFirst, LookAlone, LookTooEarly, LookLastLogged, LookFirstLogged}
+use Rattle.board_examples.specs.Common.{small_board, addressed, opened, sees_rom, LookLast, LookFirst, LookAlone}
+use Rattle.board_examples.specs.Common.{LookTooEarly, LookLastLogged, LookFirstLogged}
 use Rattle.board_examples.proofs.Spans.{above}
 
-shadow_span : IsSpan small_board (byte_of small_board (opened ∷ addressed ∷ [])) 0xF_0000 Read false 0xF_0000 0xF_FFFF (ShadowArea 0)
-unfolding byte_of config_address reset_control reset_byte writable_bits host_bridge isa_bridge ide_function card_function row_of area_of memory_claim
+shadow_span : IsSpan small_board (byte_of small_board (opened ∷ addressed ∷ [])) 0xF_0000 Read false 0xF_0000
+    0xF_FFFF (ShadowArea 0)
+unfolding byte_of config_address reset_control reset_byte writable_bits host_bridge isa_bridge ide_function
+    card_function row_of area_of memory_claim
 shadow_span = record {
   above = omega arith;
   below = omega arith;
@@ -24,7 +32,8 @@ shadow_span = record {
 }
 
 rom_span : IsSpan small_board (byte_of small_board (addressed ∷ [])) 0xF_0000 Read false 0xF_0000 0xF_FFFF RomArea
-unfolding byte_of config_address reset_control reset_byte writable_bits host_bridge isa_bridge ide_function card_function row_of area_of memory_claim
+unfolding byte_of config_address reset_control reset_byte writable_bits host_bridge isa_bridge ide_function
+    card_function row_of area_of memory_claim
 rom_span = record {
   above = omega arith;
   below = omega arith;
@@ -69,7 +78,8 @@ second_alone first second actor zeroth one = record {
 }
 
 pub look_last : LookLast
-unfolding LookLast port_answer memory_answer port_target_of byte_of config_address reset_control reset_byte writable_bits host_bridge isa_bridge ide_function card_function map_change_of map_writes_of io_claim io_shut
+unfolding LookLast port_answer memory_answer port_target_of byte_of config_address reset_control reset_byte
+    writable_bits host_bridge isa_bridge ide_function card_function map_change_of map_writes_of io_claim io_shut
 look_last = (
   record {
     legal = (
@@ -82,25 +92,43 @@ look_last = (
 )
 
 pub look_first : LookFirst
-unfolding LookFirst port_answer memory_answer port_target_of byte_of config_address reset_control reset_byte writable_bits host_bridge isa_bridge ide_function card_function map_change_of map_writes_of io_claim io_shut
+unfolding LookFirst port_answer memory_answer port_target_of byte_of config_address reset_control reset_byte
+    writable_bits host_bridge isa_bridge ide_function card_function map_change_of map_writes_of io_claim io_shut
 look_first = (
   (
     record { number = refl; answer = refl },
-    (record { number = refl; answer = record { version = refl; span = rom_span } }, (record { number = refl; answer = refl }, tt)),
+    (
+      record { number = refl; answer = record { version = refl; span = rom_span } },
+      (record { number = refl; answer = refl }, tt),
+    ),
   ),
   (
     record { size = refl; each = λ actor. refl },
-    (record { size = refl; each = λ actor. either_order (statement_of opened) (statement_of sees_rom) actor refl refl }, refl),
+    (
+      record {
+        size = refl;
+        each = λ actor. either_order (statement_of opened) (statement_of sees_rom) actor refl refl;
+      },
+      refl,
+    ),
   ),
 )
 
 pub look_alone : LookAlone
-unfolding LookAlone port_answer memory_answer port_target_of byte_of config_address reset_control reset_byte writable_bits host_bridge isa_bridge ide_function card_function map_change_of map_writes_of io_claim io_shut
+unfolding LookAlone port_answer memory_answer port_target_of byte_of config_address reset_control reset_byte
+    writable_bits host_bridge isa_bridge ide_function card_function map_change_of map_writes_of io_claim io_shut
 look_alone = (
-  (record { number = refl; answer = record { version = refl; span = rom_span } }, (record { number = refl; answer = refl }, tt)),
+  (
+    record { number = refl; answer = record { version = refl; span = rom_span } },
+    (record { number = refl; answer = refl }, tt),
+  ),
   inr (
     record { size = refl; each = λ actor. refl },
-    inl (record { size = omega arith; each = λ actor. second_alone (statement_of opened) (statement_of sees_rom) actor refl refl }),
+    inl (record {
+      size = omega arith;
+      each = λ actor. second_alone (statement_of opened) (statement_of sees_rom)
+          actor refl refl;
+    }),
   ),
 )
 

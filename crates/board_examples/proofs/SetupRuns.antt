@@ -1,11 +1,15 @@
 -- The borders of a setup, from the definitions.
 use Rattle.std.proofs.Common.{ℕ, zero, suc, ◌≡◌, ◌≤◌, ◌<◌, ◌+◌, List, [], ◌∷◌, All, refl, arith, inl, inr, length}
 use Rattle.std.specs.Prelude.{replicate}
-use Rattle.board_prelude.proofs.Common.{All-nil, All-cons, All-head, leb-true, Base, FittedCard, IoBase, MemoryBase, OutsideBase, IsBase, IsCard, IsCardList, IsRomSize, IsDiskSize, Rises, memory_of_cards, most_card_memory}
-use Rattle.board_examples.specs.Setups.{Fits, card_with, eight_cards, full_cards, more_cards, MemoryBorders, RomBorders, DiskBorders, BaseBorders, CardBorders, CardListBorders, WindowBorders, Amounts, SetupBorders}
+use Rattle.board_prelude.proofs.Common.{All-nil, All-cons, All-head, leb-true, Base, FittedCard, IoBase, MemoryBase}
+use Rattle.board_prelude.proofs.Common.{OutsideBase, IsBase, IsCard, IsCardList, IsRomSize, IsDiskSize, Rises}
+use Rattle.board_prelude.proofs.Common.{memory_of_cards, most_card_memory}
+use Rattle.board_examples.specs.Setups.{Fits, card_with, full_cards, MemoryBorders, RomBorders, DiskBorders}
+use Rattle.board_examples.specs.Setups.{BaseBorders, CardBorders, CardListBorders, WindowBorders, Amounts, SetupBorders}
 use Rattle.board_examples.proofs.BasicRuns.{rom_size}
 
-fits : (mib : ℕ) (cards : List FittedCard) → 1 ≤ mib → mib ≤ 512 → IsCardList cards → memory_of_cards cards ≤ most_card_memory →
+fits : (mib : ℕ) (cards : List FittedCard) → 1 ≤ mib → mib ≤ 512 → IsCardList cards →
+    memory_of_cards cards ≤ most_card_memory →
     Fits mib cards
 fits mib cards some few are room = record {
   some_memory = some;
@@ -27,7 +31,8 @@ memory = record {
   more = λ is. grind (arith, is.most_memory);
 }
 
-no_rom : (size : ℕ) → ¬ (size ≡ 65_536) → ¬ (size ≡ 131_072) → ¬ (size ≡ 262_144) → ¬ (size ≡ 524_288) → ¬ IsRomSize size
+no_rom : (size : ℕ) → ¬ (size ≡ 65_536) → ¬ (size ≡ 131_072) → ¬ (size ≡ 262_144) → ¬ (size ≡ 524_288) →
+    ¬ IsRomSize size
 no_rom size a b c d (inl is) = a is
 no_rom size a b c d (inr (inl is)) = b is
 no_rom size a b c d (inr (inr (inl is))) = c is
@@ -39,9 +44,11 @@ rom = record {
   half = no_rom 32_768 (λ e. grind (arith, e)) (λ e. grind (arith, e)) (λ e. grind (arith, e)) (λ e. grind (arith, e));
   short = no_rom 65_535 (λ e. grind (arith, e)) (λ e. grind (arith, e)) (λ e. grind (arith, e)) (λ e. grind (arith, e));
   long = no_rom 65_537 (λ e. grind (arith, e)) (λ e. grind (arith, e)) (λ e. grind (arith, e)) (λ e. grind (arith, e));
-  between = no_rom 196_608 (λ e. grind (arith, e)) (λ e. grind (arith, e)) (λ e. grind (arith, e)) (λ e. grind (arith, e));
+  between = no_rom 196_608 (λ e. grind (arith, e)) (λ e. grind (arith, e)) (λ e. grind (arith, e))
+      (λ e. grind (arith, e));
   last = no_rom 524_289 (λ e. grind (arith, e)) (λ e. grind (arith, e)) (λ e. grind (arith, e)) (λ e. grind (arith, e));
-  twice = no_rom 1_048_576 (λ e. grind (arith, e)) (λ e. grind (arith, e)) (λ e. grind (arith, e)) (λ e. grind (arith, e));
+  twice = no_rom 1_048_576 (λ e. grind (arith, e)) (λ e. grind (arith, e)) (λ e. grind (arith, e))
+      (λ e. grind (arith, e));
   read = refl;
 }
 
@@ -159,7 +166,8 @@ two first second few fewer one other = record {
       (All-cons IsCard (card_with 3 second) []
       (record { first = omega arith; last = omega arith; count = fewer; each = other; rom = tt }) (All-nil IsCard));
   rises = (
-    All-cons (λ (o : FittedCard). 2 < o.dev) (card_with 3 second) [] (omega arith) (All-nil (λ (o : FittedCard). 2 < o.dev)),
+    All-cons (λ (o : FittedCard). 2 < o.dev) (card_with 3 second) [] (omega arith)
+        (All-nil (λ (o : FittedCard). 2 < o.dev)),
     (All-nil (λ (o : FittedCard). 3 < o.dev), tt),
   );
 }
@@ -177,7 +185,8 @@ far_base = (omega arith, omega arith)
 windows : WindowBorders
 windows = record {
   most = fits 8 full_cards (omega arith) (omega arith)
-      (two (replicate 3 (MemoryBase 24)) (MemoryBase 24 ∷ IoBase 8 ∷ OutsideBase 28 ∷ []) (leb-true _ _ refl) (leb-true _ _ refl)
+      (two (replicate 3 (MemoryBase 24)) (MemoryBase 24 ∷ IoBase 8 ∷ OutsideBase 28 ∷ []) (leb-true _ _ refl)
+      (leb-true _ _ refl)
       (all_large 3)
       (All-cons IsBase (MemoryBase 24) (IoBase 8 ∷ OutsideBase 28 ∷ []) large_base
       (All-cons IsBase (IoBase 8) (OutsideBase 28 ∷ []) many_ports

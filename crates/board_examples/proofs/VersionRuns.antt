@@ -1,7 +1,8 @@
 -- The versions are computed from the definitions, and so is what the lock law says of a history that breaks it.
 use Rattle.std.proofs.Common.{[], ◌∷◌, refl, inl, inr}
 use Rattle.board_prelude.proofs.Common.{config_address, reset_control, map_change_of, map_writes_of}
-use Rattle.board_examples.specs.Versions.{UnseenWrites, SeenWrites, AccessBreaksLock, PartBreaksLock, LookBreaksLock, WordBreaksLock}
+use Rattle.board_examples.specs.Versions.{UnseenWrites, SeenWrites, AccessBreaksLock, PartBreaksLock, LookBreaksLock}
+use Rattle.board_examples.specs.Versions.{WordBreaksLock}
 
 pub unseen_writes_counted : UnseenWrites
 unfolding UnseenWrites map_change_of map_writes_of config_address reset_control

@@ -1,11 +1,14 @@
 -- Worked examples: what is asked of a board from reset on, line by line, and what it replies. Each is a
 -- legal history of its board, computed from the definitions alone.
 use Rattle.std.specs.Prelude.{ℕ, ◌%◌, List, [], ◌∷◌, map, true, false, None}
-use Rattle.board_prelude.specs.Common.{range_with_len, One, Read, Dram, Shadow, Smram, Rom, Card, Device, Confadd, NoRegister, FittedCard, MemoryBase, Setup, IsLegal}
+use Rattle.board_prelude.specs.Common.{range_with_len, One, Read, Dram, Shadow, Smram, Rom, Card, Device, Confadd}
+use Rattle.board_prelude.specs.Common.{NoRegister, FittedCard, MemoryBase, Setup, IsLegal}
 use Rattle.board_base.specs.declared.access.Width.TheVariants.{Two, Four}
 use Rattle.board_base.specs.declared.target.Area.TheVariants.{Card as CardArea, Abort as AbortArea}
 use Rattle.board_base.specs.declared.target.Dev.TheVariants.{Confadd as AddressPort, Reset}
-use Rattle.board_examples.specs.Words.{Said, from_reset, selects, inputs, outputs, reads, fetches, writes, looks, sees, reads_in_smm, fetches_in_smm, writes_in_smm, gives, goes_to, floats, lost, lost_in, host, register, denied_by, denied_by_host}
+use Rattle.board_examples.specs.Words.{Said, from_reset, selects, inputs, outputs, reads, fetches, writes, looks, sees}
+use Rattle.board_examples.specs.Words.{reads_in_smm, fetches_in_smm, writes_in_smm, gives, goes_to, floats, lost}
+use Rattle.board_examples.specs.Words.{lost_in, host, register, denied_by, denied_by_host}
 
 -- ---- the boards
 

@@ -2,7 +2,8 @@
 use Rattle.std.specs.Prelude.{List, [], ◌∷◌, ◌++◌, true, false, None}
 use Rattle.board_prelude.specs.Common.{One, Moment, Pic0, Pic1, Pit, System, Elcr, Vector, Spurious, Setup, IsLegal}
 use Rattle.board_base.specs.declared.target.Dev.TheVariants.{Clock}
-use Rattle.board_examples.specs.Words.{Said, from_reset, selects, outputs, goes_to, register, puts, gets, acknowledges, pulses, wire, line, tells}
+use Rattle.board_examples.specs.Words.{Said, from_reset, selects, outputs, goes_to, register, puts, gets, acknowledges}
+use Rattle.board_examples.specs.Words.{pulses, wire, line, tells}
 use Rattle.board_examples.specs.Basics.{board_of, small_board}
 
 -- ---- the 8254

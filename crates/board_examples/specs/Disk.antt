@@ -2,7 +2,8 @@
 use Rattle.std.specs.Prelude.{ℕ, List, [], ◌∷◌, ◌++◌, replicate, Some}
 use Rattle.board_prelude.specs.Common.{One, Ata, Device, NoRegister, Setup, IsLegal}
 use Rattle.board_base.specs.declared.access.Width.TheVariants.{Two, Four}
-use Rattle.board_examples.specs.Words.{Said, from_reset, selects, inputs, outputs, gives, goes_to, lost, floats, register, denied_by, puts, gets, spoils}
+use Rattle.board_examples.specs.Words.{Said, from_reset, selects, inputs, outputs, gives, goes_to, lost, floats}
+use Rattle.board_examples.specs.Words.{register, denied_by, puts, gets, spoils}
 use Rattle.board_examples.specs.Basics.{small_board}
 
 -- four sectors, each byte of sector s is s + 1

@@ -1,6 +1,7 @@
 -- Events at the borders of what a board can be asked: the last that is in range, and the first that is not.
 use Rattle.std.specs.Prelude.{ℕ, true, false}
-use Rattle.board_prelude.specs.Common.{Width, One, Kind, Read, Write, Event, Memory, Wide, Port, Ack, Pulses, Time, Wire, Line, BadSector, IsInRange, IsScripted, moment_of}
+use Rattle.board_prelude.specs.Common.{Width, One, Kind, Read, Write, Event, Memory, Wide, Port, Ack, Pulses, Time}
+use Rattle.board_prelude.specs.Common.{Wire, Line, BadSector, IsInRange, IsScripted, moment_of}
 use Rattle.board_base.specs.declared.access.Width.TheVariants.{Two, Four}
 use Rattle.board_examples.specs.Devices.{plain_card_board}
 
@@ -96,7 +97,8 @@ pub record MomentBorders : Type 0 where
 -- ---- statements of a script
 
 abbrev pub IsStatement : (version cpus actor : ℕ) → Event → Type 0
-IsStatement version cpus actor event = IsScripted plain_card_board version cpus (record { actor = actor; event = event })
+IsStatement version cpus actor event = IsScripted plain_card_board version cpus
+    (record { actor = actor; event = event })
 
 pub record StatementBorders : Type 0 where
   pub last_actor : IsStatement 1 8 7 Ack

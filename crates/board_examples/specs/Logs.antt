@@ -1,9 +1,11 @@
 -- The logs of some worked examples, as they are written.
 use Rattle.std.specs.Prelude.{ℕ, ◌≡◌, ◌++◌, List, [], ◌∷◌, codes, flat_map, true}
-use Rattle.board_prelude.specs.Common.{Pit, Ata, Wires, Vector, Spurious, Device, Ack, Pulses, Time, Wire, Line, BadSector, Entry, log_text, line_feed}
+use Rattle.board_prelude.specs.Common.{Pit, Ata, Wires, Vector, Spurious, Device, Ack, Pulses, Time, Wire, Line}
+use Rattle.board_prelude.specs.Common.{BadSector, Entry, log_text, line_feed}
 use Rattle.board_base.specs.declared.target.Dev.TheVariants.{Clock}
 use Rattle.board_examples.specs.Words.{Said, from_reset, gives, goes_to}
-use Rattle.board_examples.specs.Basics.{vga_beside_smram, configuration_ports, two_cards_at_one_address, xbcs_over_a_soft_reset}
+use Rattle.board_examples.specs.Basics.{vga_beside_smram, configuration_ports, two_cards_at_one_address}
+use Rattle.board_examples.specs.Basics.{xbcs_over_a_soft_reset}
 
 -- lines of text, each with its line feed
 abbrev pub text_of : List (List ℕ) → List ℕ

@@ -3,7 +3,8 @@
 use Rattle.std.specs.Prelude.{ℕ, ◌+◌, ◌*◌, List, [], ◌∷◌, ◌++◌, true, false, None, Some}
 use Rattle.board_prelude.specs.Common.{One, Confadd, NoRegister, FittedCard, MemoryBase, IoBase, Setup, IsLegal}
 use Rattle.board_base.specs.declared.access.Width.TheVariants.{Two, Four}
-use Rattle.board_examples.specs.Words.{Said, from_reset, selects, inputs, outputs, gives, goes_to, floats, lost, register}
+use Rattle.board_examples.specs.Words.{Said, from_reset, selects, inputs, outputs, gives, goes_to, floats, lost}
+use Rattle.board_examples.specs.Words.{register}
 use Rattle.board_examples.specs.Basics.{board_of, small_board}
 
 -- the doubleword of a function at an offset is written, and reads this afterwards

@@ -4,7 +4,8 @@ use Rattle.std.specs.Prelude.{List, [], ◌∷◌, false, None}
 use Rattle.board_prelude.specs.Common.{One, Read, Card, NoRegister, Setup, FittedCard, MemoryBase, OutsideBase, IsLegal}
 use Rattle.board_base.specs.declared.access.Width.TheVariants.{Two, Four}
 use Rattle.board_base.specs.declared.target.Area.TheVariants.{Card as CardArea}
-use Rattle.board_examples.specs.Words.{Said, from_reset, selects, inputs, outputs, reads, writes, looks, sees, gives, goes_to, floats, register, denied_by}
+use Rattle.board_examples.specs.Words.{Said, from_reset, selects, inputs, outputs, reads, writes, looks, sees, gives}
+use Rattle.board_examples.specs.Words.{goes_to, floats, register, denied_by}
 use Rattle.board_examples.specs.Basics.{board_of}
 
 -- a frame buffer of 256 MiB, and 4 KiB of registers

@@ -1,10 +1,12 @@
 -- Worked examples of accesses to ports that reach nobody: by what the configuration address selects, by their width,
 -- and by where a card's ports lie.
 use Rattle.std.specs.Prelude.{List, [], ◌∷◌, ◌++◌, false, None}
-use Rattle.board_prelude.specs.Common.{One, Pic0, Pic1, Pit, System, Elcr, Ata, Card, Device, NoRegister, MemoryBase, IoBase, FittedCard, Setup, IsLegal}
+use Rattle.board_prelude.specs.Common.{One, Pic0, Pic1, Pit, System, Elcr, Ata, Card, Device, NoRegister, MemoryBase}
+use Rattle.board_prelude.specs.Common.{IoBase, FittedCard, Setup, IsLegal}
 use Rattle.board_base.specs.declared.access.Width.TheVariants.{Two, Four}
 use Rattle.board_base.specs.declared.target.Dev.TheVariants.{Confadd as AddressPort, Clock}
-use Rattle.board_examples.specs.Words.{Said, from_reset, selects, inputs, outputs, gives, goes_to, floats, lost, register, denied_by, puts, gets}
+use Rattle.board_examples.specs.Words.{Said, from_reset, selects, inputs, outputs, gives, goes_to, floats, lost}
+use Rattle.board_examples.specs.Words.{register, denied_by, puts, gets}
 use Rattle.board_examples.specs.Disk.{disk_board, enabled}
 use Rattle.board_examples.specs.Basics.{board_of, small_board}
 use Rattle.board_examples.specs.Stories.{port_card_board}

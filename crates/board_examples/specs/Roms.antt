@@ -3,7 +3,8 @@ use Rattle.std.specs.Prelude.{List, [], ◌∷◌, codes, false, Some}
 use Rattle.board_prelude.specs.Common.{One, Read, Card, NoRegister, Setup, FittedCard, IsLegal}
 use Rattle.board_base.specs.declared.access.Width.TheVariants.{Four}
 use Rattle.board_base.specs.declared.target.Area.TheVariants.{Card as CardArea, Abort as AbortArea}
-use Rattle.board_examples.specs.Words.{Said, from_reset, selects, inputs, outputs, reads, writes, looks, sees, gives, goes_to, floats, lost, register, denied_by}
+use Rattle.board_examples.specs.Words.{Said, from_reset, selects, inputs, outputs, reads, writes, looks, sees, gives}
+use Rattle.board_examples.specs.Words.{goes_to, floats, lost, register, denied_by}
 use Rattle.board_examples.specs.Basics.{board_of, memory_card}
 use Rattle.board_examples.specs.Wide.{IsLoggedWide}
 

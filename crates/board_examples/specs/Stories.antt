@@ -1,10 +1,13 @@
 -- Stories of whole boards: the BIOS ranges, the borders of the holes and of the rows, SMRAM with every bit set,
 -- reset control, and the ports of a card.
 use Rattle.std.specs.Prelude.{ℕ, ◌/◌, List, [], ◌∷◌, map, true, false, None, Some}
-use Rattle.board_prelude.specs.Common.{range_with_len, One, System, Keyboard, Dram, Smram, Rom, Card, Device, NoRegister, FittedCard, MemoryBase, IoBase, Setup, IsLegal}
+use Rattle.board_prelude.specs.Common.{range_with_len, One, System, Keyboard, Dram, Smram, Rom, Card, Device}
+use Rattle.board_prelude.specs.Common.{NoRegister, FittedCard, MemoryBase, IoBase, Setup, IsLegal}
 use Rattle.board_base.specs.declared.access.Width.TheVariants.{Two, Four}
 use Rattle.board_base.specs.declared.target.Dev.TheVariants.{Confadd as AddressPort, Reset, Clock}
-use Rattle.board_examples.specs.Words.{Said, from_reset, selects, inputs, outputs, reads, fetches, writes, reads_in_smm, fetches_in_smm, writes_in_smm, gives, goes_to, floats, lost, host, register, denied_by, denied_by_host, puts, gets}
+use Rattle.board_examples.specs.Words.{Said, from_reset, selects, inputs, outputs, reads, fetches, writes, reads_in_smm}
+use Rattle.board_examples.specs.Words.{fetches_in_smm, writes_in_smm, gives, goes_to, floats, lost, host, register}
+use Rattle.board_examples.specs.Words.{denied_by, denied_by_host, puts, gets}
 use Rattle.board_examples.specs.Basics.{board_of, small_board, vga_card}
 
 -- ---- the BIOS ranges

@@ -1,11 +1,16 @@
 -- The log's text of every kind of target, denial, width and event. These entries are no history of a board.
 use Rattle.std.specs.Prelude.{List, [], ◌∷◌, codes, true, false}
-use Rattle.board_prelude.specs.Common.{One, Fetch, Read, Write, Pic0, Pic1, Pit, System, Keyboard, Elcr, Ata, Dram, Shadow, Smram, Rom, Card, Confadd, NoRegister, Two as TwoParts, Three as ThreeParts}
+use Rattle.board_prelude.specs.Common.{One, Fetch, Read, Write, Pic0, Pic1, Pit, System, Keyboard, Elcr, Ata, Dram}
+use Rattle.board_prelude.specs.Common.{Shadow, Smram, Rom, Card, Confadd, NoRegister, Two as TwoParts}
+use Rattle.board_prelude.specs.Common.{Three as ThreeParts}
 use Rattle.board_base.specs.declared.access.Width.TheVariants.{Two, Four}
-use Rattle.board_base.specs.declared.target.Area.TheVariants.{Dram as DramArea, Shadow as ShadowArea, Smram as SmramArea, Rom as RomArea}
+use Rattle.board_base.specs.declared.target.Area.TheVariants.{Dram as DramArea, Shadow as ShadowArea}
+use Rattle.board_base.specs.declared.target.Area.TheVariants.{Smram as SmramArea, Rom as RomArea}
 use Rattle.board_base.specs.declared.target.Dev.TheVariants.{Reset, Clock}
 use Rattle.board_spec.specs.declared.event.Event.TheVariants.{Look as LookAt}
-use Rattle.board_examples.specs.Words.{Said, inputs, reads, fetches, writes, fetches_in_smm, writes_in_smm, looks, sees, gives, goes_to, floats, lost_in, register, denied_by, wide_access, reads_wide, part, denied_part, gives_parts, goes_in_parts, puts, gets, wire, line, tells}
+use Rattle.board_examples.specs.Words.{Said, inputs, reads, fetches, writes, fetches_in_smm, writes_in_smm, looks, sees}
+use Rattle.board_examples.specs.Words.{gives, goes_to, floats, lost_in, register, denied_by, wide_access, reads_wide}
+use Rattle.board_examples.specs.Words.{part, denied_part, gives_parts, goes_in_parts, puts, gets, wire, line, tells}
 use Rattle.board_examples.specs.Wide.{IsLoggedWide}
 
 abbrev pub device_lines : List Said

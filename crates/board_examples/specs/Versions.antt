@@ -1,10 +1,12 @@
 -- Which writes raise the version of the map, and which histories break the lock law.
 use Rattle.std.specs.Prelude.{ℕ, ◌≡◌, ◌+◌, ◌*◌, List, [], ◌∷◌, ◌++◌, true, false, None, Some}
-use Rattle.board_prelude.specs.Common.{One, Read, Dram, Smram, Confadd, FittedCard, MemoryBase, Setup, version_of, LockLaw, Two as TwoParts}
+use Rattle.board_prelude.specs.Common.{One, Read, Dram, Smram, Confadd, FittedCard, MemoryBase, Setup, version_of}
+use Rattle.board_prelude.specs.Common.{LockLaw, Two as TwoParts}
 use Rattle.board_base.specs.declared.access.Width.TheVariants.{Two, Four}
 use Rattle.board_base.specs.declared.target.Dev.TheVariants.{Reset}
 use Rattle.board_base.specs.declared.target.Area.TheVariants.{Smram as SmramArea}
-use Rattle.board_examples.specs.Words.{Said, from_reset, selects, inputs, outputs, reads, reads_wide, looks, sees, gives, goes_to, lost, host, register, puts, part, gives_parts}
+use Rattle.board_examples.specs.Words.{Said, from_reset, selects, inputs, outputs, reads, reads_wide, looks, sees}
+use Rattle.board_examples.specs.Words.{gives, goes_to, lost, host, register, puts, part, gives_parts}
 use Rattle.board_examples.specs.Basics.{board_of, small_board}
 
 -- ---- map writes

@@ -3,7 +3,8 @@ use Rattle.std.specs.Prelude.{List, [], ◌∷◌, true}
 use Rattle.board_prelude.specs.Common.{One, Fetch, Shadow, IsLegal}
 use Rattle.board_base.specs.declared.target.Area.TheVariants.{Smram as SmramArea}
 use Rattle.board_spec.specs.declared.event.Event.TheVariants.{Look as LookAt}
-use Rattle.board_examples.specs.Words.{Said, from_reset, selects, outputs, reads, fetches, writes, sees, gives, goes_to, floats, lost, host, denied_by_host}
+use Rattle.board_examples.specs.Words.{Said, from_reset, selects, outputs, reads, fetches, writes, sees, gives, goes_to}
+use Rattle.board_examples.specs.Words.{floats, lost, host, denied_by_host}
 use Rattle.board_examples.specs.Basics.{small_board}
 
 -- of the first two windows one is open for reads and fetches, the other for writes; of the last two the other way

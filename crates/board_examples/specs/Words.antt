@@ -1,6 +1,8 @@
 -- Words of the worked examples: what is asked of a board, and what it replies, line by line.
 use Rattle.std.specs.Prelude.{ℕ, ◌+◌, List, [], ◌∷◌, length, Bool, true, false, Some, None}
-use Rattle.board_prelude.specs.Common.{Width, One, Kind, Fetch, Read, Write, Dev, Pit, Wires, Ata, Moment, Area, Target, Config, Device, Abort, Denial, Register, Event, Memory, Wide, Port, Ack, Pulses, Time, Wire, Line, BadSector, Part, Parts, Reply, Bus, Saw, Entry}
+use Rattle.board_prelude.specs.Common.{Width, One, Kind, Fetch, Read, Write, Dev, Pit, Wires, Ata, Moment, Area, Target}
+use Rattle.board_prelude.specs.Common.{Config, Device, Abort, Denial, Register, Event, Memory, Wide, Port, Ack, Pulses}
+use Rattle.board_prelude.specs.Common.{Time, Wire, Line, BadSector, Part, Parts, Reply, Bus, Saw, Entry}
 use Rattle.board_base.specs.declared.access.Width.TheVariants.{Four}
 use Rattle.board_base.specs.declared.target.Dev.TheVariants.{Confadd as AddressPort, Clock}
 use Rattle.board_spec.specs.declared.event.Event.TheVariants.{Look as LookAt}
@@ -25,7 +27,10 @@ from_reset lines = continued [] lines
 
 abbrev pub memory_access : Kind → Bool → Width → ℕ → ℕ → Reply → Said
 memory_access kind smm width addr value reply =
-    record { asked = Memory (record { kind = kind; addr = addr; width = width; smm = smm; value = value }); replied = reply }
+    record {
+      asked = Memory (record { kind = kind; addr = addr; width = width; smm = smm; value = value });
+      replied = reply;
+    }
 
 abbrev pub reads : Width → ℕ → Reply → Said
 reads width addr reply = memory_access Read false width addr 0 reply
@@ -101,7 +106,10 @@ sees version lo hi area = Saw (record { version = version; lo = lo; hi = hi; are
 
 abbrev pub wide_access : Kind → Bool → (bytes addr value : ℕ) → Reply → Said
 wide_access kind smm bytes addr value reply =
-    record { asked = Wide (record { kind = kind; addr = addr; bytes = bytes; smm = smm; value = value }); replied = reply }
+    record {
+      asked = Wide (record { kind = kind; addr = addr; bytes = bytes; smm = smm; value = value });
+      replied = reply;
+    }
 
 abbrev pub reads_wide : (bytes addr : ℕ) → Reply → Said
 reads_wide bytes addr reply = wide_access Read false bytes addr 0 reply

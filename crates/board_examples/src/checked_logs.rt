@@ -1,6 +1,7 @@
 //! Texts of logs, and texts that are none.
 
-ghost use Rattle.board_examples.specs.CheckedLogs.{NoEntries, NoSuchVersion, EmptyLog, EmptyLogDiffers, CutLogDiffers, OpenLogDiffers, LongLogDiffers};
+ghost use Rattle.board_examples.specs.CheckedLogs.{NoEntries, NoSuchVersion, EmptyLog, EmptyLogDiffers, CutLogDiffers};
+ghost use Rattle.board_examples.specs.CheckedLogs.{OpenLogDiffers, LongLogDiffers};
 
 use crate::look_last;
 

@@ -1,6 +1,7 @@
 //! The 8259A pair, the 8254, port 61h and the clock.
 
-ghost use Rattle.board_examples.specs.Devices.{TimerLatched, SystemPort, FallenLine, NestedInterrupts, Polled, RoutedWire, ClockTold};
+ghost use Rattle.board_examples.specs.Devices.{TimerLatched, SystemPort, FallenLine, NestedInterrupts, Polled};
+ghost use Rattle.board_examples.specs.Devices.{RoutedWire, ClockTold};
 
 /// Status and count of a counter are latched and read, and the counter goes on.
 #[tactic(auto, using(crate::proofs::DeviceRuns::timer_runs))]

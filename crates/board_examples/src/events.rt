@@ -1,6 +1,7 @@
 //! Events at the borders of what a board can be asked, and setups at those of what it can be fitted with.
 
-ghost use Rattle.board_examples.specs.Events.{AccessBorders, WideBorders, OutsideBorders, MomentBorders, StatementBorders};
+ghost use Rattle.board_examples.specs.Events.{AccessBorders, WideBorders, OutsideBorders, MomentBorders};
+ghost use Rattle.board_examples.specs.Events.{StatementBorders};
 ghost use Rattle.board_examples.specs.Limits.{AmountBorders, AreaBorders};
 ghost use Rattle.board_examples.specs.Setups.{SetupBorders};
 

@@ -1,6 +1,8 @@
 //! The interrupt lines, and what a hard reset leaves of the devices.
 
-ghost use Rattle.board_examples.specs.Interrupts.{EachPulse, GatedCounter, ClockInterrupts, DiskInterrupts, SharedWires, FreeLines, DevicesOverReset, MaskBeforeIcw1, DiskOverReset};
+ghost use Rattle.board_examples.specs.Interrupts.{EachPulse, GatedCounter, ClockInterrupts, DiskInterrupts};
+ghost use Rattle.board_examples.specs.Interrupts.{SharedWires, FreeLines, DevicesOverReset, MaskBeforeIcw1};
+ghost use Rattle.board_examples.specs.Interrupts.{DiskOverReset};
 
 /// The levels after each single pulse reach the pair.
 #[tactic(auto, using(crate::proofs::DeviceRuns::each_pulse_runs))]

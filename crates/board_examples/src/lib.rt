@@ -19,10 +19,16 @@ pub mod versions;
 pub mod wide;
 pub mod windows;
 
-ghost use Rattle.board_examples.specs.Basics.{ShadowingTheBios, OneWindowForWrites, MemoryAfterReset, ConfigurationPorts, SmramLockedUntilReset, VgaBesideSmram, NoRowOfDram, CardInTheHole, HoleAt512Kib, TwoCardsAtOneAddress, XbcsOverASoftReset, RomAfterReset, CardMovedUnderTheRom};
-ghost use Rattle.board_examples.specs.Logs.{VgaBesideSmramLogged, ConfigurationPortsLogged, TwoCardsLogged, XbcsLogged, OutsideLogged};
-ghost use Rattle.board_examples.specs.Maps.{MapAfterReset, MapAfterResetWritten, MapOpenAndClosed, MapClosedToData, MapOfSmm};
-ghost use Rattle.board_examples.specs.Orders.{LookLast, LookFirst, LookAlone, LookTooEarly, LookLastLogged, LookFirstLogged};
+ghost use Rattle.board_examples.specs.Basics.{ShadowingTheBios, OneWindowForWrites, MemoryAfterReset};
+ghost use Rattle.board_examples.specs.Basics.{ConfigurationPorts, SmramLockedUntilReset, VgaBesideSmram, NoRowOfDram};
+ghost use Rattle.board_examples.specs.Basics.{CardInTheHole, HoleAt512Kib, TwoCardsAtOneAddress, XbcsOverASoftReset};
+ghost use Rattle.board_examples.specs.Basics.{RomAfterReset, CardMovedUnderTheRom};
+ghost use Rattle.board_examples.specs.Logs.{VgaBesideSmramLogged, ConfigurationPortsLogged, TwoCardsLogged, XbcsLogged};
+ghost use Rattle.board_examples.specs.Logs.{OutsideLogged};
+ghost use Rattle.board_examples.specs.Maps.{MapAfterReset, MapAfterResetWritten, MapOpenAndClosed, MapClosedToData};
+ghost use Rattle.board_examples.specs.Maps.{MapOfSmm};
+ghost use Rattle.board_examples.specs.Orders.{LookLast, LookFirst, LookAlone, LookTooEarly, LookLastLogged};
+ghost use Rattle.board_examples.specs.Orders.{LookFirstLogged};
 
 /// The ROM is copied into the DRAM under it.
 #[tactic(auto, using(crate::proofs::BasicRuns::shadowing_the_bios))]

@@ -1,11 +1,19 @@
 //! Worked examples of the machines, each computed from the definitions alone. Each function does nothing:
 //! its clause is the example.
 
-ghost use Rattle.board_examples.specs.Machines.Pair.{NobodyIsReady, SpuriousAnswers, ALevelStays, AnEdgeIsKept, TheHigherEndsFirst, ANewBeginning, AShortSequence, SpecialMask, ChosenRegisters, Polls, PollsOfOne, ResetAtLevels, EachCommand, AutomaticEnd, ModesEnd, FullyNested, Cascaded};
-ghost use Rattle.board_examples.specs.Machines.Timer.{Ports, AfterReset, ReadBackOf0, Counters1And2, OnePeriod, EachMode, EachCount, EachGate, BytesAndLatches};
-ghost use Rattle.board_examples.specs.Machines.Clock.{AnAlarmStays, AHardReset, AMoment, HourForms, Alarms, Interrupts, EachByte};
+ghost use Rattle.board_examples.specs.Machines.Pair.{NobodyIsReady, SpuriousAnswers, ALevelStays, AnEdgeIsKept};
+ghost use Rattle.board_examples.specs.Machines.Pair.{TheHigherEndsFirst, ANewBeginning, AShortSequence, SpecialMask};
+ghost use Rattle.board_examples.specs.Machines.Pair.{ChosenRegisters, Polls, PollsOfOne, ResetAtLevels, EachCommand};
+ghost use Rattle.board_examples.specs.Machines.Pair.{AutomaticEnd, ModesEnd, FullyNested, Cascaded};
+ghost use Rattle.board_examples.specs.Machines.Timer.{Ports, AfterReset, ReadBackOf0, Counters1And2, OnePeriod};
+ghost use Rattle.board_examples.specs.Machines.Timer.{EachMode, EachCount, EachGate, BytesAndLatches};
+ghost use Rattle.board_examples.specs.Machines.Clock.{AnAlarmStays, AHardReset, AMoment, HourForms, Alarms, Interrupts};
+ghost use Rattle.board_examples.specs.Machines.Clock.{EachByte};
 ghost use Rattle.board_examples.specs.Machines.Routing.{RouteBytes, LinesDriven, TriggerBytes};
-ghost use Rattle.board_examples.specs.Machines.Disk.{PastTheEnd, BadInTheMiddle, ReadToItsEnd, BadIsWritten, WrittenIsGood, WordsOfSector3, LowByteFirst, CommandEnds, WordsTheWrongWay, Writes, Resets, Commands, Addresses, Identify, Lengths, DiskPorts};
+ghost use Rattle.board_examples.specs.Machines.Disk.{PastTheEnd, BadInTheMiddle, ReadToItsEnd, BadIsWritten};
+ghost use Rattle.board_examples.specs.Machines.Disk.{WrittenIsGood, WordsOfSector3, LowByteFirst, CommandEnds};
+ghost use Rattle.board_examples.specs.Machines.Disk.{WordsTheWrongWay, Writes, Resets, Commands, Addresses, Identify};
+ghost use Rattle.board_examples.specs.Machines.Disk.{Lengths, DiskPorts};
 
 // The 8259A pair
 

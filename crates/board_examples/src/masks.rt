@@ -1,6 +1,7 @@
 //! The registers of each function, written with ones and read back.
 
-ghost use Rattle.board_examples.specs.Masks.{HostWritten, IsaWritten, IdeWritten, CardWritten, VgaWritten, FunctionsToldApart};
+ghost use Rattle.board_examples.specs.Masks.{HostWritten, IsaWritten, IdeWritten, CardWritten, VgaWritten};
+ghost use Rattle.board_examples.specs.Masks.{FunctionsToldApart};
 
 /// The 82441FX.
 #[tactic(auto, using(crate::proofs::MaskRuns::host_read_back))]

@@ -1,6 +1,7 @@
 //! Accesses to ports that reach nobody.
 
-ghost use Rattle.board_examples.specs.Ports.{NobodySelected, WordsAtBytePorts, WordsAtChips, BasePastThePorts, ShutOverDevices, BasesByNumber};
+ghost use Rattle.board_examples.specs.Ports.{NobodySelected, WordsAtBytePorts, WordsAtChips, BasePastThePorts};
+ghost use Rattle.board_examples.specs.Ports.{ShutOverDevices, BasesByNumber};
 
 /// Functions, devices and buses that are not there.
 #[tactic(auto, using(crate::proofs::PortRuns::nobody_selected_runs))]

@@ -1,6 +1,8 @@
 //! Stories of whole boards.
 
-ghost use Rattle.board_examples.specs.Stories.{ExtendedBios, LowerBios, HoleBorders, RowBorders, OpenAndClosed, ResetControlWritten, AddressInWords, CardPorts, PortsUnderXbcs, BasesInOrder};
+ghost use Rattle.board_examples.specs.Stories.{ExtendedBios, LowerBios, HoleBorders, RowBorders, OpenAndClosed};
+ghost use Rattle.board_examples.specs.Stories.{ResetControlWritten, AddressInWords, CardPorts, PortsUnderXbcs};
+ghost use Rattle.board_examples.specs.Stories.{BasesInOrder};
 
 /// The ranges of the BIOS ROM, each at its borders.
 #[tactic(auto, using(crate::proofs::StoryRuns::extended_bios_runs, crate::proofs::StoryRuns::lower_bios_runs))]

@@ -1,6 +1,7 @@
 //! Map writes, and histories that break the lock law.
 
-ghost use Rattle.board_examples.specs.Versions.{UnseenWrites, SeenWrites, AccessBreaksLock, PartBreaksLock, LookBreaksLock, WordBreaksLock};
+ghost use Rattle.board_examples.specs.Versions.{UnseenWrites, SeenWrites, AccessBreaksLock, PartBreaksLock};
+ghost use Rattle.board_examples.specs.Versions.{LookBreaksLock, WordBreaksLock};
 
 /// Which writes raise the version of the map.
 #[tactic(auto, using(crate::proofs::VersionRuns::unseen_writes_counted, crate::proofs::VersionRuns::seen_writes_counted))]

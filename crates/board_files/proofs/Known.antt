@@ -1,5 +1,6 @@
 -- A read or a write after tries that left the known bytes as they were.
-use Rattle.std.proofs.Common.{◌≡◌, ℕ, zero, suc, ◌+◌, ◌-◌, ◌≤◌, List, [], ◌++◌, length, take, drop, Option, None, Some, Result, Ok, Err, refl, sym, ap, subst, ◌∙◌, arith}
+use Rattle.std.proofs.Common.{◌≡◌, ℕ, zero, suc, ◌+◌, ◌-◌, ◌≤◌, List, [], ◌++◌, length, take, drop, Option, None, Some}
+use Rattle.std.proofs.Common.{Result, Ok, Err, refl, sym, ap, ◌∙◌, arith}
 use Rattle.board_base.proofs.Common.{Keeps, Appends, ReadConsumes, drop-drop, drop_at, take_at, length-drop}
 use Rattle.board_outside.specs.Outside.{OfFile}
 use Rattle.std.specs.Io.KnownBytes.{Consumes, IsAtEnd, WriteAppends}
@@ -10,13 +11,15 @@ kept (Some xs) None new first then = absurd first
 kept (Some xs) (Some ys) None first then = absurd then
 kept (Some xs) (Some ys) (Some zs) first then = then ∙ first
 
-consumed : (old mid new : Option (List ℕ)) (bytes : List ℕ) → Keeps old mid → Consumes mid new bytes → Consumes old new bytes
+consumed : (old mid new : Option (List ℕ)) (bytes : List ℕ) → Keeps old mid → Consumes mid new bytes →
+    Consumes old new bytes
 consumed None mid new bytes first then = tt
 consumed (Some xs) None new bytes first then = absurd first
 consumed (Some xs) (Some ys) None bytes first then = absurd then
 consumed (Some xs) (Some ys) (Some zs) bytes first then = sym first ∙ then
 
-appended : (old mid new : Option (List ℕ)) (bytes : List ℕ) → Keeps old mid → Appends mid new bytes → Appends old new bytes
+appended : (old mid new : Option (List ℕ)) (bytes : List ℕ) → Keeps old mid → Appends mid new bytes →
+    Appends old new bytes
 appended None mid new bytes first then = tt
 appended (Some xs) None new bytes first then = absurd first
 appended (Some xs) (Some ys) None bytes first then = absurd then

@@ -1,12 +1,18 @@
 -- The fields of cards.
-use Rattle.std.proofs.Common.{◌≡◌, ℕ, zero, suc, ◌+◌, ◌-◌, ◌*◌, ◌^◌, ◌<◌, ◌≤◌, inl, inr, Bool, true, false, List, [], ◌∷◌, ◌++◌, length, Option, Some, None, refl, sym, ap, subst, ◌∙◌, arith, nat_le, ◌==◌, ◌&&◌, map, flat_map, sum_by, All, unwrap_or}
-use Rattle.board_prelude.proofs.Common.{AllByRecursion, w8, and_from, and_parts, cases_Bool, cases_eq, eq-eqb, ne_eqb, leb-true, le-leb, lt-leb, append-nil, flat_map-cons, recursion_from_All, sum_by-cons, sum_by-append, Base, MemoryBase, IoBase, OutsideBase, FittedCard, IsBase, is_base_in_range, IsCard, IsExpansionRom, Rises, memory_of_cards, memory_size}
-use Rattle.std.proofs.lemmas.Bool.{leb-false}
+use Rattle.std.proofs.Common.{◌≡◌, ℕ, ◌+◌, ◌-◌, ◌*◌, ◌^◌, ◌<◌, ◌≤◌, inl, inr, Bool, true, false, List, [], ◌∷◌, length}
+use Rattle.std.proofs.Common.{Option, Some, None, refl, ap, subst, ◌∙◌, arith, nat_le, ◌&&◌, map, flat_map, sum_by, All}
+use Rattle.std.proofs.Common.{unwrap_or}
+use Rattle.board_prelude.proofs.Common.{AllByRecursion, w8, and_from, and_parts, cases_Bool, cases_eq, eq-eqb, ne_eqb}
+use Rattle.board_prelude.proofs.Common.{leb-true, le-leb, lt-leb, append-nil, flat_map-cons, recursion_from_All}
+use Rattle.board_prelude.proofs.Common.{sum_by-cons, sum_by-append, Base, MemoryBase, IoBase, OutsideBase, FittedCard}
+use Rattle.board_prelude.proofs.Common.{IsBase, is_base_in_range, IsCard, IsExpansionRom, Rises, memory_of_cards}
+use Rattle.board_prelude.proofs.Common.{memory_size}
 use Rattle.std.proofs.lemmas.List.Elements.{All-from_recursion}
-use Rattle.board_image.specs.Common.{io_base, outside_base, base_byte, flag_byte, card_bytes, number, where_true, flag_field, base_of_byte, has_room, base_in, rom_of, bases_fields, card_fields, cards_fields}
-use Rattle.byte_fields.proofs.Formats.{IsFormat, format_as, then_format, last_format, many_format, AreGood, AreMany}
+use Rattle.board_image.specs.Common.{io_base, outside_base, base_byte, card_bytes, number, where_true, base_of_byte}
+use Rattle.board_image.specs.Common.{has_room, base_in, rom_of, bases_fields, card_fields, cards_fields}
+use Rattle.byte_fields.proofs.Formats.{IsFormat, format_as, then_format, last_format, many_format, AreGood}
 use Rattle.byte_fields.proofs.Numbers.{flag_format, byte_format, byte_within, Ranges, where_ok, some_is}
-use Rattle.board_image.proofs.ImageLoops.{base_field, room_after, bases_in, bases_loop, card_after, past_card, cards_after, cards_loop}
+use Rattle.board_image.proofs.ImageLoops.{base_field, room_after, bases_loop, card_after, past_card, cards_loop}
 
 -- ---- bases
 
@@ -46,7 +52,8 @@ byte_said (IoBase bits) is =
     (omega (arith, is.1), rw (le-leb io_base (io_base + bits) (omega arith), same) refl)
 byte_said (OutsideBase bits) is =
     let same : outside_base + bits - outside_base ≡ bits = omega arith in
-    let low : nat_le io_base (outside_base + bits) ≡ false = lt-leb io_base (outside_base + bits) (omega (arith, is.1)) in
+    let low : nat_le io_base (outside_base + bits) ≡ false =
+    lt-leb io_base (outside_base + bits) (omega (arith, is.1)) in
     (omega (arith, is.1), rw (low, le-leb outside_base (outside_base + bits) (omega arith), same) refl)
 
 byte_told : (n : ℕ) → n ≡ base_byte (base_of_byte n)

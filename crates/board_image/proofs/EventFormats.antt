@@ -1,15 +1,21 @@
 -- The fields of steps.
-use Rattle.std.proofs.Common.{◌≡◌, ℕ, zero, suc, ◌+◌, ◌-◌, ◌*◌, ◌/◌, ◌%◌, ◌^◌, ◌<◌, ◌≤◌, inl, inr, Bool, true, false, List, [], ◌∷◌, ◌++◌, length, Option, Some, None, ◌⊎◌, refl, sym, ap, subst, ◌∙◌, arith, ◌≢◌, not, nat_le, ◌==◌, ◌||◌, ◌&&◌, if◌then◌else◌}
-use Rattle.board_prelude.proofs.Common.{w8, w16, w32, w64, to_le_bytes, and_from, and_parts, eq-eqb, ne_eqb, eqb-true, leb-true, le-leb, Kind, Fetch, Read, Write, Width, One, PortAccess, WideAccess, bytes_of, largest_of, is_write, IsBusAccess, IsWideAccess, FitsBytes}
+use Rattle.std.proofs.Common.{◌≡◌, ℕ, ◌+◌, ◌%◌, ◌^◌, ◌<◌, ◌≤◌, inl, inr, Bool, true, false, [], ◌∷◌, Some, ◌⊎◌, refl}
+use Rattle.std.proofs.Common.{ap, arith, ◌≢◌, not, nat_le, ◌==◌, ◌||◌}
+use Rattle.board_prelude.proofs.Common.{and_from, and_parts, eq-eqb, ne_eqb, eqb-true, leb-true, le-leb, Kind, Fetch}
+use Rattle.board_prelude.proofs.Common.{Read, Write, Width, One, PortAccess, WideAccess, bytes_of, is_write}
+use Rattle.board_prelude.proofs.Common.{IsBusAccess, IsWideAccess, FitsBytes}
 use Rattle.std.proofs.Math.Bool.{or-true}
 use Rattle.std.proofs.Math.Nat.{one-le-pow}
 use Rattle.board_base.specs.declared.access.Width.TheVariants.{Two, Four}
 use Rattle.board_base.specs.declared.access.Access.{Access}
-use Rattle.board_image.specs.Common.{kind_byte, tag_byte, memory_bytes, port_bytes, wide_bytes, Reading, number_where, within, kind_of, kind_field, width_of, width_field, tag_of, tag_field, most_value, is_wide_size, is_wide_place, memory_fields, port_fields, wide_fields}
+use Rattle.board_image.specs.Common.{kind_byte, tag_byte, memory_bytes, port_bytes, wide_bytes, kind_of, kind_field}
+use Rattle.board_image.specs.Common.{width_of, width_field, tag_of, tag_field, most_value, is_wide_size, is_wide_place}
+use Rattle.board_image.specs.Common.{memory_fields, port_fields, wide_fields}
 use Rattle.image_writer.specs.declared.tag.Tag.{Tag}
 use Rattle.image_writer.specs.declared.tag.Tag.TheVariants as tags
 use Rattle.byte_fields.proofs.Formats.{IsFormat, format_as, then_format, last_format}
-use Rattle.byte_fields.proofs.Numbers.{Any, flag_format, wide16, wide32, wide64, byte_format, byte_where, Tells, no_row, row, where_format, within_format, Ranges}
+use Rattle.byte_fields.proofs.Numbers.{Any, flag_format, wide16, wide32, wide64, byte_format, byte_where, Tells, no_row}
+use Rattle.byte_fields.proofs.Numbers.{row, where_format, within_format, Ranges}
 
 kind_tells : Tells kind_of kind_byte
 kind_tells = row kind_byte 0 Fetch refl (row kind_byte 1 Read refl (row kind_byte 2 Write refl (no_row kind_byte)))
@@ -191,7 +197,8 @@ place_from bytes addr is =
     let both = and_parts (bytes == 8 || not (addr % bytes == 0)) (nat_le (addr + bytes) 0x1_0000_0000) is in (
       elim (either_true (bytes == 8) (not (addr % bytes == 0)) both.0) [
         | inl eight ↦ inl (eqb-true bytes 8 eight)
-        | inr other ↦ inr (λ same. let no : not (addr % bytes == 0) ≡ false = rw (eq-eqb (addr % bytes) 0 same) refl in cc)
+        | inr other ↦ inr (λ same. let no : not (addr % bytes == 0) ≡ false = rw (eq-eqb (addr % bytes) 0 same) refl in
+            cc)
       ],
       leb-true (addr + bytes) 0x1_0000_0000 both.1,
     )

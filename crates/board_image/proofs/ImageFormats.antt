@@ -1,12 +1,24 @@
 -- The fields of a whole image.
-use Rattle.std.proofs.Common.{◌≡◌, ℕ, zero, suc, ◌+◌, ◌-◌, ◌*◌, ◌%◌, ◌/◌, ◌^◌, ◌<◌, ◌≤◌, ◌⊎◌, ◌↔◌, IsTrue, inl, inr, Bool, true, false, cond, List, [], ◌∷◌, ◌++◌, length, take, drop, Option, Some, None, Result, Ok, Err, refl, sym, ap, subst, ◌∙◌, append_assoc, arith, nat_le, nat_lt, ◌==◌, ◌&&◌, ◌||◌, flat_map, All, is_some, unwrap_or, bytes_eq}
-use Rattle.board_prelude.proofs.Common.{AllByRecursion, w8, w16, w32, to_le_bytes, and_from, and_parts, eq-eqb, eqb-true, leb-true, le-leb, ltb-true, lt-ltb, cases_Bool, false≢true, take_at, drop_at, take-append-drop, length-append, nil_from_length, append-nil, recursion_from_All, bytes_eq-Decides, Statement, Setup, FittedCard, IsSetup, IsRomSize, is_rom_size, IsDisk, IsDiskSize, is_disk_length, most_statements, most_card_memory}
+use Rattle.std.proofs.Common.{◌≡◌, ℕ, zero, ◌+◌, ◌%◌, ◌/◌, ◌^◌, ◌<◌, ◌≤◌, ◌↔◌, IsTrue, inl, inr, Bool, true, false}
+use Rattle.std.proofs.Common.{cond, List, [], ◌∷◌, ◌++◌, length, take, drop, Option, Some, None, Ok, Err, refl, sym, ap}
+use Rattle.std.proofs.Common.{subst, ◌∙◌, append_assoc, arith, nat_le, nat_lt, ◌==◌, ◌&&◌, ◌||◌, flat_map, All, is_some}
+use Rattle.std.proofs.Common.{unwrap_or, bytes_eq}
+use Rattle.board_prelude.proofs.Common.{AllByRecursion, w16, w32, to_le_bytes, and_from, and_parts, eq-eqb, eqb-true}
+use Rattle.board_prelude.proofs.Common.{leb-true, le-leb, ltb-true, lt-ltb, cases_Bool, false≢true, take_at, drop_at}
+use Rattle.board_prelude.proofs.Common.{take-append-drop, length-append, nil_from_length, append-nil}
+use Rattle.board_prelude.proofs.Common.{recursion_from_All, bytes_eq-Decides, Statement, Setup, IsRomSize, is_rom_size}
+use Rattle.board_prelude.proofs.Common.{IsDisk, IsDiskSize, is_disk_length, most_statements, most_card_memory}
 use Rattle.std.proofs.lemmas.List.Elements.{All-from_recursion}
 use Rattle.board_image.specs.declared.head.Head.{Head}
-use Rattle.board_image.specs.Common.{Saved, magic, image_version, flag_byte, card_bytes, disk_bytes, size_bytes, head_bytes, step_bytes, image_bytes, IsImageStep, IsImage, Reading, then_read, gives, exactly, ended, has_disk_size, disk_where, head_fields, setup_fields, steps_fields, saved_fields, image_fields}
+use Rattle.board_image.specs.Common.{Saved, magic, image_version, flag_byte, card_bytes, disk_bytes, size_bytes}
+use Rattle.board_image.specs.Common.{head_bytes, step_bytes, image_bytes, IsImageStep, IsImage, then_read, gives}
+use Rattle.board_image.specs.Common.{exactly, ended, has_disk_size, disk_where, head_fields, setup_fields, steps_fields}
+use Rattle.board_image.specs.Common.{saved_fields, image_fields}
 use Rattle.byte_fields.specs.Fields.{AreBytes}
-use Rattle.byte_fields.proofs.Formats.{rest_of, ok_is, not_err, err_is, then_ok, then_err, IsFormat, format_as, then_format, last_format, many_format, plain_format, AreGood}
-use Rattle.byte_fields.proofs.Numbers.{Any, flag_format, wide16, wide32, byte_within, within_format, where_format, Ranges}
+use Rattle.byte_fields.proofs.Formats.{ok_is, not_err, err_is, then_ok, then_err, IsFormat, format_as, then_format}
+use Rattle.byte_fields.proofs.Formats.{last_format, many_format, plain_format, AreGood}
+use Rattle.byte_fields.proofs.Numbers.{Any, flag_format, wide16, wide32, byte_within, within_format, where_format}
+use Rattle.byte_fields.proofs.Numbers.{Ranges}
 use Rattle.board_image.proofs.EventFormats.{either_true}
 use Rattle.board_image.proofs.StepFormats.{step_format}
 use Rattle.board_image.proofs.CardFormats.{AreCardsOf, cards_format}

@@ -1,14 +1,20 @@
 -- The fields of steps, by their tags.
-use Rattle.std.proofs.Common.{◌≡◌, ℕ, zero, suc, ◌+◌, ◌-◌, ◌*◌, ◌/◌, ◌%◌, ◌^◌, ◌<◌, ◌≤◌, inl, inr, Bool, true, false, cond, List, [], ◌∷◌, ◌++◌, length, Option, Some, None, refl, sym, ap, subst, ◌∙◌, arith, is_some}
-use Rattle.board_prelude.proofs.Common.{w8, w16, w32, to_le_bytes, Kind, Fetch, PortAccess, WideAccess, Moment, IsMoment, days_in_month, is_leap, moment_of, Event, Memory, Wide, Port, Ack, Pulses, Time, Wire, Line, BadSector, Statement, Setup, card_at, IsWideAccess, is_free_line, IsInRange, IsScriptSector}
+use Rattle.std.proofs.Common.{◌≡◌, ℕ, ◌^◌, ◌<◌, ◌≤◌, Bool, true, false, cond, refl, sym, ap, subst, arith, is_some}
+use Rattle.board_prelude.proofs.Common.{Kind, Fetch, PortAccess, WideAccess, Moment, IsMoment, days_in_month, is_leap}
+use Rattle.board_prelude.proofs.Common.{moment_of, Event, Memory, Wide, Port, Ack, Pulses, Time, Wire, Line, BadSector}
+use Rattle.board_prelude.proofs.Common.{Statement, Setup, card_at, IsWideAccess, is_free_line, IsInRange}
+use Rattle.board_prelude.proofs.Common.{IsScriptSector}
 use Rattle.board_base.specs.declared.access.Access.{Access}
 use Rattle.board_spec.specs.declared.event.Event.TheVariants.{Look as LookAt}
 use Rattle.image_writer.specs.declared.tag.Tag.{Tag}
 use Rattle.image_writer.specs.declared.tag.Tag.TheVariants as tags
-use Rattle.board_image.specs.Common.{flag_byte, kind_byte, tag_byte, tag_of_event, look_bytes, moment_bytes, field_bytes, step_bytes, FitsField, IsImageStep, Reading, look_fields, moment_fields, wire_fields, line_fields, event_fields, step_fields}
+use Rattle.board_image.specs.Common.{tag_of_event, look_bytes, moment_bytes, field_bytes, step_bytes, FitsField}
+use Rattle.board_image.specs.Common.{IsImageStep, Reading, look_fields, moment_fields, wire_fields, line_fields}
+use Rattle.board_image.specs.Common.{event_fields, step_fields}
 use Rattle.byte_fields.proofs.Formats.{IsFormat, format_as, then_format, last_format, made_format, done_format}
-use Rattle.byte_fields.proofs.Numbers.{Any, flag_format, wide16, wide32, byte_where, byte_within, within_format, Ranges}
-use Rattle.board_image.proofs.EventFormats.{kind_format, tag_format, CanSpellMemory, CanSpellPort, memory_format, port_format, wide_format}
+use Rattle.byte_fields.proofs.Numbers.{flag_format, wide16, wide32, byte_where, byte_within, within_format, Ranges}
+use Rattle.board_image.proofs.EventFormats.{kind_format, tag_format, CanSpellMemory, CanSpellPort, memory_format}
+use Rattle.board_image.proofs.EventFormats.{port_format, wide_format}
 
 -- ---- moments
 

@@ -1,9 +1,18 @@
 -- The definitions that files above cite, passed on from one place. Declares nothing.
-pub use Rattle.board_image.specs.EventFields.{is_wide_place, is_wide_size, kind_field, kind_of, most_value, tag_field, tag_of, width_field, width_of}
-unfoldable pub use Rattle.board_image.specs.EventFields.{event_fields, line_fields, look_fields, memory_fields, moment_fields, port_fields, step_fields, wide_fields, wire_fields}
-pub use Rattle.byte_fields.specs.Fields.{AreBytes, Reading, ended, exactly, flag_field, flag_of, gives, number, number_where, then_read, where_true, within}
-pub use Rattle.image_writer.specs.ImageBytes.{FitsField, IsImage, IsImageStep, Saved, base_byte, disk_bytes, flag_byte, image_version, io_base, kind_byte, magic, outside_base, step_bytes, tag_byte, tag_of_event}
-unfoldable pub use Rattle.image_writer.specs.ImageBytes.{card_bytes, field_bytes, head_bytes, image_bytes, look_bytes, memory_bytes, moment_bytes, port_bytes, size_bytes, wide_bytes}
-pub use Rattle.board_image.specs.ImageFields.{IsBadAt, base_in, base_of_byte, disk_where, has_disk_size, has_room, rom_of}
-unfoldable pub use Rattle.board_image.specs.ImageFields.{bases_fields, card_fields, cards_fields, head_fields, image_fields, saved_fields, setup_fields, steps_fields}
+pub use Rattle.board_image.specs.EventFields.{is_wide_place, is_wide_size, kind_field, kind_of, most_value, tag_field}
+pub use Rattle.board_image.specs.EventFields.{tag_of, width_field, width_of}
+unfoldable pub use Rattle.board_image.specs.EventFields.{event_fields, line_fields, look_fields, memory_fields}
+unfoldable pub use Rattle.board_image.specs.EventFields.{moment_fields, port_fields, step_fields, wide_fields}
+unfoldable pub use Rattle.board_image.specs.EventFields.{wire_fields}
+pub use Rattle.byte_fields.specs.Fields.{AreBytes, Reading, ended, exactly, flag_field, flag_of, gives, number}
+pub use Rattle.byte_fields.specs.Fields.{number_where, then_read, where_true, within}
+pub use Rattle.image_writer.specs.ImageBytes.{FitsField, IsImage, IsImageStep, Saved, base_byte, disk_bytes, flag_byte}
+pub use Rattle.image_writer.specs.ImageBytes.{image_version, io_base, kind_byte, magic, outside_base, step_bytes}
+pub use Rattle.image_writer.specs.ImageBytes.{tag_byte, tag_of_event}
+unfoldable pub use Rattle.image_writer.specs.ImageBytes.{card_bytes, field_bytes, head_bytes, image_bytes, look_bytes}
+unfoldable pub use Rattle.image_writer.specs.ImageBytes.{memory_bytes, moment_bytes, port_bytes, size_bytes, wide_bytes}
+pub use Rattle.board_image.specs.ImageFields.{IsBadAt, base_in, base_of_byte, disk_where, has_disk_size, has_room}
+pub use Rattle.board_image.specs.ImageFields.{rom_of}
+unfoldable pub use Rattle.board_image.specs.ImageFields.{bases_fields, card_fields, cards_fields, head_fields}
+unfoldable pub use Rattle.board_image.specs.ImageFields.{image_fields, saved_fields, setup_fields, steps_fields}
 pub use Rattle.board_image.specs.Laws.{IsImageOf, OneSpelling}

@@ -1,6 +1,10 @@
 -- The fields of a step, each with the values that it can have after those before it.
-use Rattle.std.specs.Prelude.{ℕ, ◌-◌, ◌+◌, ◌%◌, ◌^◌, ◌==◌, Bool, true, false, not, nat_le, nat_lt, ◌&&◌, ◌||◌, if◌then◌else◌, List, Option, Some, None, is_some}
-use Rattle.board_prelude.specs.Common.{w8, w16, w32, w64, Kind, Fetch, Read, Write, Width, One, PortAccess, WideAccess, Moment, bytes_of, largest_of, days_in_month, moment_of, Event, Memory, Wide, Port, Ack, Pulses, Time, Wire, Line, BadSector, Statement, Setup, card_at, is_write, is_free_line}
+use Rattle.std.specs.Prelude.{ℕ, ◌-◌, ◌+◌, ◌%◌, ◌^◌, ◌==◌, Bool, true, false, not, nat_le, ◌&&◌, ◌||◌, if◌then◌else◌}
+use Rattle.std.specs.Prelude.{Option, Some, None, is_some}
+use Rattle.board_prelude.specs.Common.{w8, w16, w32, w64, Kind, Fetch, Read, Write, Width, One, PortAccess, WideAccess}
+use Rattle.board_prelude.specs.Common.{Moment, bytes_of, days_in_month, moment_of, Event, Memory, Wide, Port, Ack}
+use Rattle.board_prelude.specs.Common.{Pulses, Time, Wire, Line, BadSector, Statement, Setup, card_at, is_write}
+use Rattle.board_prelude.specs.Common.{is_free_line}
 use Rattle.board_base.specs.declared.access.Width.TheVariants.{Two, Four}
 use Rattle.board_base.specs.declared.access.Access.{Access}
 use Rattle.board_spec.specs.declared.event.Event.TheVariants.{Look as LookAt}

@@ -3,7 +3,10 @@
 ghost use Rattle.std.specs.Prelude.{◌≡◌, ◌≤◌, ◌-◌, ◌^◌, ◌%◌, ◌==◌, true, find, is_some, IfOk};
 ghost use Rattle.board_prelude.specs.Common.{w8, w16, w32, w64, bytes_of, Setup, is_free_line, days_in_month};
 ghost use Rattle.byte_fields.specs.Fields.{Took, number_where, within};
-ghost use Rattle.board_image.specs.EventFields.{kind_of, kind_field, width_of, width_field, tag_of, tag_field, is_wide_size, is_wide_place, most_value, memory_fields, port_fields, wide_fields, look_fields, moment_fields, wire_fields, line_fields, event_fields, step_fields};
+ghost use Rattle.board_image.specs.EventFields.{kind_of, kind_field, width_of, width_field, tag_of, tag_field};
+ghost use Rattle.board_image.specs.EventFields.{is_wide_size, is_wide_place, most_value, memory_fields, port_fields};
+ghost use Rattle.board_image.specs.EventFields.{wide_fields, look_fields, moment_fields, wire_fields, line_fields};
+ghost use Rattle.board_image.specs.EventFields.{event_fields, step_fields};
 
 use board_base::{Access, Kind, Moment, PortAccess, WideAccess, Width};
 use board_spec::{Event, Statement};

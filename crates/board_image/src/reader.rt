@@ -5,7 +5,8 @@ ghost use Rattle.board_prelude.specs.Common.{w32, is_rom_size, Statement, Setup 
 ghost use Rattle.board_image.specs.declared.fault.ImageFault.{ImageFault};
 ghost use Rattle.image_writer.specs.ImageBytes.{Saved, image_bytes, IsImage};
 ghost use Rattle.byte_fields.specs.Fields.{Took, Filled, number_where, plain};
-ghost use Rattle.board_image.specs.ImageFields.{has_disk_size, head_fields, setup_fields, steps_fields, saved_fields, image_fields, IsBadAt};
+ghost use Rattle.board_image.specs.ImageFields.{has_disk_size, head_fields, setup_fields, steps_fields, saved_fields};
+ghost use Rattle.board_image.specs.ImageFields.{image_fields, IsBadAt};
 
 use crate::card_reader::cards;
 use crate::event_reader::step;

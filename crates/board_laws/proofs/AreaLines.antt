@@ -1,9 +1,15 @@
 -- Each line of the memory map, and what follows where the lines before it do not hold.
-use Rattle.std.proofs.Common.{◌≡◌, ℕ, ◌<◌, Bool, true, false, not, ◌&&◌, List, [], ◌∷◌, ◌++◌, Option, Some, None, is_some, refl, ◌∙◌, ap, inl, inr, find, unwrap_or, All}
-use Rattle.board_prelude.proofs.Common.{cases_Bool, cond-true, cond-false, and_from, and_left, and_right, and_parts, not-true, All-head, All-tail, Kind, Setup, fdhc, smram, xbcs, lies_in, smram_range, shadow_range, upper_memory, Bytes, top_of, hole_of, is_in, row_of, smram_answers, is_shadowed, is_rom_selected, Window, memory_claim, area_of}
+use Rattle.std.proofs.Common.{◌≡◌, ℕ, ◌<◌, Bool, true, false, not, ◌&&◌, List, [], ◌∷◌, ◌++◌, Option, Some, None}
+use Rattle.std.proofs.Common.{is_some, refl, ◌∙◌, ap, inl, inr, find, unwrap_or, All}
+use Rattle.board_prelude.proofs.Common.{cases_Bool, cond-true, cond-false, and_from, and_left, and_right, and_parts}
+use Rattle.board_prelude.proofs.Common.{not-true, All-head, All-tail, Kind, Setup, fdhc, smram, xbcs, lies_in}
+use Rattle.board_prelude.proofs.Common.{smram_range, shadow_range, upper_memory, Bytes, top_of, hole_of, is_in, row_of}
+use Rattle.board_prelude.proofs.Common.{smram_answers, is_shadowed, is_rom_selected, Window, memory_claim, area_of}
 use Rattle.std.proofs.lemmas.Bool.{not_from_false}
-use Rattle.board_laws.specs.AreaLaws.{IsRow, IsInSmram, IsInShadow, IsInDram, IsPastDram, claims, memory_windows_of, NoneClaims, WhoAnswers}
-use Rattle.board_laws.proofs.AreaProofs.{row-is, row_below_top, is_some-row, table, smram_line, shadow_line, dram_line, area-table, table-is, shadow_apart, smram_in_upper, shadow_in_upper}
+use Rattle.board_laws.specs.AreaLaws.{IsRow, IsInSmram, IsInShadow, IsInDram, IsPastDram, claims, memory_windows_of}
+use Rattle.board_laws.specs.AreaLaws.{NoneClaims, WhoAnswers}
+use Rattle.board_laws.proofs.AreaProofs.{row-is, row_below_top, is_some-row, table, smram_line, shadow_line, dram_line}
+use Rattle.board_laws.proofs.AreaProofs.{area-table, table-is, shadow_apart, smram_in_upper, shadow_in_upper}
 
 -- ---- the lines that hold
 

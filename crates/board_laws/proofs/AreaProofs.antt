@@ -1,6 +1,11 @@
 -- Who answers at an address of memory.
-use Rattle.std.proofs.Common.{◌≡◌, ℕ, zero, suc, ◌+◌, ◌≤◌, ◌<◌, Bool, true, false, not, ◌&&◌, [], ◌∷◌, Option, Some, None, is_some, refl, sym, ◌∙◌, ap, subst, inl, inr, arith, nat_lt, unwrap_or, option_map}
-use Rattle.board_prelude.proofs.Common.{cases_eq, cases_lt, cond-true, cond-false, lt-ltb, le-ltb, false≢true, nat_tests, Kind, Area, Setup, fdhc, smram, xbcs, lies_in, smram_range, shadow_range, upper_memory, Bytes, first_of, line_where, boundary, top_of, row_of, hole_of, is_in, smram_answers, is_smram_range, is_shadowed, is_rom_selected, Window, card_area, memory_claim, area_of}
+use Rattle.std.proofs.Common.{◌≡◌, ℕ, zero, suc, ◌+◌, ◌≤◌, ◌<◌, Bool, true, false, not, ◌&&◌, [], ◌∷◌, Option, Some}
+use Rattle.std.proofs.Common.{None, is_some, refl, sym, ◌∙◌, ap, subst, inl, inr, arith, nat_lt, unwrap_or, option_map}
+use Rattle.board_prelude.proofs.Common.{cases_eq, cases_lt, cond-true, cond-false, lt-ltb, le-ltb, false≢true}
+use Rattle.board_prelude.proofs.Common.{nat_tests, Kind, Area, Setup, fdhc, smram, xbcs, lies_in, smram_range}
+use Rattle.board_prelude.proofs.Common.{shadow_range, upper_memory, Bytes, first_of, line_where, boundary, top_of}
+use Rattle.board_prelude.proofs.Common.{row_of, hole_of, is_in, smram_answers, is_smram_range, is_shadowed}
+use Rattle.board_prelude.proofs.Common.{is_rom_selected, Window, card_area, memory_claim, area_of}
 use Rattle.board_base.specs.declared.target.Area.TheVariants.{Dram, Shadow, Smram, Rom, Abort}
 use Rattle.board_laws.proofs.Numbers.{numbers_from, find-number}
 use Rattle.board_laws.specs.AreaLaws.{IsRow, HasRow, RowBelowTop}

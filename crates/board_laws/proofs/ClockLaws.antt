@@ -1,9 +1,17 @@
 -- The laws of the clock's machine.
-use Rattle.std.proofs.Common.{◌≡◌, ◌≢◌, ℕ, ◌+◌, ◌*◌, ◌/◌, ◌%◌, ◌<◌, ◌≤◌, inl, inr, Bool, true, false, ◌&&◌, ◌||◌, List, nat_le, ◌==◌, if◌then◌else◌, zero, suc, length, get_or, set, refl, sym, ap, ◌∙◌, arith, get_or-set_other, get_or-set_same}
-use Rattle.board_prelude.proofs.Common.{cases_Bool, cases_eq, eq-eqb, ne_eqb, nat_tests, get_or-set_at, length-set, CivilTime, Clock, bcd, number_byte, hour_byte, control_of, holds_time, is_binary, is_24_hour, time_bytes, put, tell, byte_at, alarm_fits, alarm_rings, control_reset, written, data_byte, update_interrupts, after_write, after_reset, after_moment, register_c, after_read, clock_index_port, clock_data_port}
+use Rattle.std.proofs.Common.{◌≡◌, ◌≢◌, ℕ, ◌+◌, ◌*◌, ◌/◌, ◌%◌, ◌<◌, ◌≤◌, inl, inr, Bool, true, false, ◌&&◌, ◌||◌, List}
+use Rattle.std.proofs.Common.{nat_le, ◌==◌, if◌then◌else◌, zero, suc, length, get_or, set, refl, sym, ap, ◌∙◌, arith}
+use Rattle.std.proofs.Common.{get_or-set_other, get_or-set_same}
+use Rattle.board_prelude.proofs.Common.{cases_Bool, cases_eq, eq-eqb, ne_eqb, nat_tests, get_or-set_at, length-set}
+use Rattle.board_prelude.proofs.Common.{CivilTime, Clock, bcd, number_byte, hour_byte, control_of, holds_time}
+use Rattle.board_prelude.proofs.Common.{is_binary, is_24_hour, time_bytes, put, tell, byte_at, alarm_fits, alarm_rings}
+use Rattle.board_prelude.proofs.Common.{control_reset, written, data_byte, update_interrupts, after_write, after_reset}
+use Rattle.board_prelude.proofs.Common.{after_moment, register_c, after_read, clock_index_port, clock_data_port}
 use Rattle.board_base.specs.Bits.{is_bit}
 use Rattle.device_spec.specs.Clock.{control_written, power_on}
-use Rattle.board_laws.specs.ClockLaws.{number_read, hour_read, Shows, IsShowable, ShowsTheMoment, HasAlarm, same_time_of_day, RingsAtItsTime, ReadingQuiets, ResetKeepsTheTime, MemoryKeeps, IsSound, StaysSound}
+use Rattle.board_laws.specs.ClockLaws.{number_read, hour_read, Shows, IsShowable, ShowsTheMoment, HasAlarm}
+use Rattle.board_laws.specs.ClockLaws.{same_time_of_day, RingsAtItsTime, ReadingQuiets, ResetKeepsTheTime, MemoryKeeps}
+use Rattle.board_laws.specs.ClockLaws.{IsSound, StaysSound}
 
 -- two digits are read as they were written
 bcd_back : (n : ℕ) → n < 100 → bcd n / 16 * 10 + bcd n % 16 ≡ n
@@ -52,7 +60,8 @@ timed-month bytes s m h w d n y size = grind (arith, get_or-set_at, get_or-set_o
 timed-year : (bytes : List ℕ) (s m h w d n y : ℕ) → length bytes ≡ 128 → get_or (timed bytes s m h w d n y) 9 0 ≡ y
 timed-year bytes s m h w d n y size = grind (arith, get_or-set_at, get_or-set_other, length-set)
 
-timed-other : (bytes : List ℕ) (s m h w d n y k : ℕ) → length bytes ≡ 128 → k ≢ 0 → k ≢ 2 → k ≢ 4 → k ≢ 6 → k ≢ 7 → k ≢ 8 → k ≢ 9 → get_or (timed bytes s m h w d n y) k 0 ≡ get_or bytes k 0
+timed-other : (bytes : List ℕ) (s m h w d n y k : ℕ) → length bytes ≡ 128 → k ≢ 0 → k ≢ 2 → k ≢ 4 → k ≢ 6 → k ≢ 7 →
+    k ≢ 8 → k ≢ 9 → get_or (timed bytes s m h w d n y) k 0 ≡ get_or bytes k 0
 timed-other bytes s m h w d n y k size a b c e f g i = grind (arith, get_or-set_at, get_or-set_other, length-set)
 
 pub reading_quiets : ReadingQuiets
@@ -65,7 +74,8 @@ read_as control byte c n e f h = rw (e, f) (number_back c n h)
 hour_read_as : (control byte c n : ℕ) → control ≡ c → byte ≡ hour_byte c n → n < 24 → hour_read control byte ≡ n
 hour_read_as control byte c n e f h = rw (e, f) (hour_back c n h)
 
-shows : (clock : Clock) (time : CivilTime) → length clock.bytes ≡ 128 → IsShowable time → Shows (tell clock (put (time_bytes (control_of clock) time) clock.bytes)) time
+shows : (clock : Clock) (time : CivilTime) → length clock.bytes ≡ 128 → IsShowable time →
+    Shows (tell clock (put (time_bytes (control_of clock) time) clock.bytes)) time
 shows clock time size showable =
     let c = control_of clock in
     let b = clock.bytes in
@@ -76,7 +86,8 @@ shows clock time size showable =
     let d = number_byte c time.day in
     let n = number_byte c time.month in
     let y = number_byte c (time.year % 100) in
-    let same = timed-other b s m h w d n y 11 size (omega arith) (omega arith) (omega arith) (omega arith) (omega arith) (omega arith) (omega arith) in
+    let same = timed-other b s m h w d n y 11 size (omega arith) (omega arith) (omega arith) (omega arith) (omega arith)
+    (omega arith) (omega arith) in
     record {
       seconds = read_as _ _ c time.second same (timed-second b s m h w d n y size) (omega (arith, showable.seconds));
       minutes = read_as _ _ c time.minute same (timed-minute b s m h w d n y size) (omega (arith, showable.minutes));
@@ -99,7 +110,8 @@ same_bytes f g a n back_a back_n =
     ]
 
 -- an alarm byte below C0h fits the bytes of its own time
-fits_its_own : (f g : ℕ → ℕ) (a n alarm time : ℕ) → alarm ≡ f a → time ≡ f n → f a < 192 → g (f a) ≡ a → g (f n) ≡ n → alarm_fits alarm time ≡ (a == n)
+fits_its_own : (f g : ℕ → ℕ) (a n alarm time : ℕ) → alarm ≡ f a → time ≡ f n → f a < 192 → g (f a) ≡ a → g (f n) ≡ n →
+    alarm_fits alarm time ≡ (a == n)
 fits_its_own f g a n alarm time is_alarm is_time low back_a back_n =
     let never : nat_le 192 (f a) ≡ false = grind (arith, nat_tests) in
     rw (is_alarm, is_time, never) (same_bytes f g a n back_a back_n)
@@ -113,7 +125,9 @@ hour_byte_low control hour h = grind (arith, nat_tests)
 all_three : (p q r p' q' r' : Bool) → p ≡ p' → q ≡ q' → r ≡ r' → (p && q && r) ≡ (p' && q' && r')
 all_three p q r p' q' r' e f h = rw (e, f, h) refl
 
-rings : (clock : Clock) (time alarm : CivilTime) → length clock.bytes ≡ 128 → IsShowable time → IsShowable alarm → HasAlarm clock alarm → alarm_rings (put (time_bytes (control_of clock) time) clock.bytes) ≡ same_time_of_day alarm time
+rings : (clock : Clock) (time alarm : CivilTime) → length clock.bytes ≡ 128 → IsShowable time → IsShowable alarm →
+    HasAlarm clock alarm → alarm_rings (put (time_bytes (control_of clock) time) clock.bytes)
+    ≡ same_time_of_day alarm time
 rings clock time alarm size now due set_to =
     let c = control_of clock in
     let b = clock.bytes in
@@ -124,13 +138,23 @@ rings clock time alarm size now due set_to =
     let d = number_byte c time.day in
     let n = number_byte c time.month in
     let y = number_byte c (time.year % 100) in
-    let second_alarm = timed-other b s m h w d n y 1 size (omega arith) (omega arith) (omega arith) (omega arith) (omega arith) (omega arith) (omega arith) ∙ set_to.seconds in
-    let minute_alarm = timed-other b s m h w d n y 3 size (omega arith) (omega arith) (omega arith) (omega arith) (omega arith) (omega arith) (omega arith) ∙ set_to.minutes in
-    let hour_alarm = timed-other b s m h w d n y 5 size (omega arith) (omega arith) (omega arith) (omega arith) (omega arith) (omega arith) (omega arith) ∙ set_to.hours in
+    let second_alarm = timed-other b s m h w d n y 1 size (omega arith) (omega arith) (omega arith) (omega arith)
+    (omega arith) (omega arith) (omega arith) ∙ set_to.seconds in
+    let minute_alarm = timed-other b s m h w d n y 3 size (omega arith) (omega arith) (omega arith) (omega arith)
+    (omega arith) (omega arith) (omega arith) ∙ set_to.minutes in
+    let hour_alarm = timed-other b s m h w d n y 5 size (omega arith) (omega arith) (omega arith) (omega arith)
+    (omega arith) (omega arith) (omega arith) ∙ set_to.hours in
     all_three _ _ _ _ _ _
-    (fits_its_own (number_byte c) (number_read c) alarm.second time.second _ _ second_alarm (timed-second b s m h w d n y size) (number_byte_low c alarm.second (omega (arith, due.seconds))) (number_back c alarm.second (omega (arith, due.seconds))) (number_back c time.second (omega (arith, now.seconds))))
-    (fits_its_own (number_byte c) (number_read c) alarm.minute time.minute _ _ minute_alarm (timed-minute b s m h w d n y size) (number_byte_low c alarm.minute (omega (arith, due.minutes))) (number_back c alarm.minute (omega (arith, due.minutes))) (number_back c time.minute (omega (arith, now.minutes))))
-    (fits_its_own (hour_byte c) (hour_read c) alarm.hour time.hour _ _ hour_alarm (timed-hour b s m h w d n y size) (hour_byte_low c alarm.hour due.hours) (hour_back c alarm.hour due.hours) (hour_back c time.hour now.hours))
+    (fits_its_own (number_byte c) (number_read c) alarm.second time.second _ _ second_alarm
+    (timed-second b s m h w d n y size) (number_byte_low c alarm.second (omega (arith, due.seconds)))
+    (number_back c alarm.second (omega (arith, due.seconds)))
+    (number_back c time.second (omega (arith, now.seconds))))
+    (fits_its_own (number_byte c) (number_read c) alarm.minute time.minute _ _ minute_alarm
+    (timed-minute b s m h w d n y size) (number_byte_low c alarm.minute (omega (arith, due.minutes)))
+    (number_back c alarm.minute (omega (arith, due.minutes)))
+    (number_back c time.minute (omega (arith, now.minutes))))
+    (fits_its_own (hour_byte c) (hour_read c) alarm.hour time.hour _ _ hour_alarm (timed-hour b s m h w d n y size)
+    (hour_byte_low c alarm.hour due.hours) (hour_back c alarm.hour due.hours) (hour_back c time.hour now.hours))
 
 pub rings_at_its_time : RingsAtItsTime
 rings_at_its_time clock time alarm size let_in now due set_to =
@@ -153,7 +177,8 @@ reset_keeps_the_time clock size =
     let b = control_of clock in
     record {
       bytes = λ address other. get_or-set_other clock.bytes 11 address _ 0 other;
-      switches = λ k h. ap (λ byte. is_bit byte k) (get_or-set_same clock.bytes 11 (control_reset b) 0 there) ∙ reset_bit b k h;
+      switches = λ k h. ap (λ byte. is_bit byte k) (get_or-set_same clock.bytes 11 (control_reset b) 0 there)
+          ∙ reset_bit b k h;
       index = refl;
       line = refl;
     }
@@ -178,7 +203,8 @@ memory_keeps clock address byte size past_registers within =
       others = λ other apart. get_or-set_other clock.bytes address other _ 0 apart;
     })
 
-written_stopped : (byte : ℕ) → holds_time (control_written byte) ≡ true → update_interrupts (control_written byte) ≡ false
+written_stopped : (byte : ℕ) → holds_time (control_written byte) ≡ true →
+    update_interrupts (control_written byte) ≡ false
 written_stopped byte set_now = grind (arith, nat_tests)
 
 size_kept : (bytes : List ℕ) (k byte : ℕ) → length bytes ≡ 128 → length (set bytes k byte) ≡ 128
@@ -192,7 +218,8 @@ unfolding power_on
 sound_power_on = record { size = refl; within = omega arith; no_update = omega arith; stopped = λ never. refl }
 
 -- a byte of register A or B as written, and any other byte
-written_no_update : (bytes : List ℕ) (k byte : ℕ) → length bytes ≡ 128 → get_or bytes 10 0 < 128 → get_or (set bytes k (written k (get_or bytes k 0) byte)) 10 0 < 128
+written_no_update : (bytes : List ℕ) (k byte : ℕ) → length bytes ≡ 128 → get_or bytes 10 0 < 128 →
+    get_or (set bytes k (written k (get_or bytes k 0) byte)) 10 0 < 128
 written_no_update bytes k byte size was =
     elim (cases_eq 10 k) [
       | inl e ↦ rw (← e, get_or-set_same bytes 10 (byte % 128) 0 (omega arith)) (omega arith)
@@ -202,7 +229,8 @@ written_no_update bytes k byte size was =
 abbrev stops : ℕ → Type 0
 stops control = holds_time control ≡ true → update_interrupts control ≡ false
 
-written_stops : (bytes : List ℕ) (k byte : ℕ) → length bytes ≡ 128 → stops (get_or bytes 11 0) → stops (get_or (set bytes k (written k (get_or bytes k 0) byte)) 11 0)
+written_stops : (bytes : List ℕ) (k byte : ℕ) → length bytes ≡ 128 → stops (get_or bytes 11 0) →
+    stops (get_or (set bytes k (written k (get_or bytes k 0) byte)) 11 0)
 written_stops bytes k byte size was =
     elim (cases_eq 11 k) [
       | inl e ↦ rw (← e, get_or-set_same bytes 11 (control_written byte) 0 (omega arith)) (written_stopped byte)
@@ -219,7 +247,12 @@ sound_read clock port was =
 sound_write : (clock : Clock) (port byte : ℕ) → IsSound clock → IsSound (after_write clock port byte)
 sound_write clock port byte was =
     elim (cases_Bool (port == clock_index_port)) [
-      | inl e ↦ rw e (record { size = was.size; within = omega arith; no_update = was.no_update; stopped = was.stopped })
+      | inl e ↦ rw e (record {
+        size = was.size;
+        within = omega arith;
+        no_update = was.no_update;
+        stopped = was.stopped;
+      })
       | inr e ↦ elim (cases_Bool (port == clock_data_port)) [
         | inl f ↦ rw (e, f) (record {
           size = size_kept clock.bytes clock.index _ was.size;
@@ -242,8 +275,10 @@ sound_moment clock time was =
     let d = number_byte c time.day in
     let n = number_byte c time.month in
     let y = number_byte c (time.year % 100) in
-    let a_same = timed-other b s m h w d n y 10 was.size (omega arith) (omega arith) (omega arith) (omega arith) (omega arith) (omega arith) (omega arith) in
-    let b_same = timed-other b s m h w d n y 11 was.size (omega arith) (omega arith) (omega arith) (omega arith) (omega arith) (omega arith) (omega arith) in
+    let a_same = timed-other b s m h w d n y 10 was.size (omega arith) (omega arith) (omega arith) (omega arith)
+    (omega arith) (omega arith) (omega arith) in
+    let b_same = timed-other b s m h w d n y 11 was.size (omega arith) (omega arith) (omega arith) (omega arith)
+    (omega arith) (omega arith) (omega arith) in
     elim (cases_Bool (holds_time c)) [
       | inl e ↦ rw e was
       | inr e ↦ rw e (record {

@@ -1,8 +1,20 @@
 -- A denial is given exactly where nobody answers, and where the ROM is written.
-use Rattle.std.proofs.Common.{◌≡◌, ℕ, zero, suc, ◌+◌, ◌-◌, Bool, true, false, not, List, [], ◌∷◌, Option, Some, None, is_some, refl, sym, subst, inl, inr, ◌==◌, if◌then◌else◌, map, option_map, unwrap_or, All}
-use Rattle.board_prelude.proofs.Common.{cases_Bool, cond-false, false≢true, All-nil, All-cons, Width, Kind, Fetch, Read, Write, WideAccess, Reg, Area, Dev, Target, Device, Denial, Register, NoRegister, bytes_of, Select, Always, XbcsBit0, XbcsBit1, IdeChannel, device_at, select_of, Memory, Wide, Port, Ack, Pulses, Time, Wire, Line, BadSector, Part, Reply, Bus, Entry, Setup, is_bit, xbcs, ide_command, idetim, idetim_high, is_config_port, config_address, config_register, byte_of, Bytes, Window, denial_in, denial_of, io_claim, io_shut, command_of, Decoded, device, nobody, card_port, config_port, by_xbcs, by_channel, selected_by, device_port, port_target_of, is_write, longest_at, part_at, parts_from, target_at, memory_target, memory_denial, memory_answer, part_answer, port_answer}
+use Rattle.std.proofs.Common.{◌≡◌, ℕ, zero, suc, ◌+◌, ◌-◌, Bool, true, false, not, List, [], ◌∷◌, Option, Some, None}
+use Rattle.std.proofs.Common.{is_some, refl, sym, subst, inl, inr, ◌==◌, if◌then◌else◌, map, option_map, unwrap_or, All}
+use Rattle.board_prelude.proofs.Common.{cases_Bool, cond-false, false≢true, All-nil, All-cons, Width, Kind, Fetch, Read}
+use Rattle.board_prelude.proofs.Common.{Write, WideAccess, Reg, Area, Dev, Target, Device, Denial, Register, NoRegister}
+use Rattle.board_prelude.proofs.Common.{bytes_of, Select, Always, XbcsBit0, XbcsBit1, IdeChannel, device_at, select_of}
+use Rattle.board_prelude.proofs.Common.{Memory, Wide, Port, Ack, Pulses, Time, Wire, Line, BadSector, Part, Reply, Bus}
+use Rattle.board_prelude.proofs.Common.{Entry, Setup, is_bit, xbcs, ide_command, idetim, idetim_high, is_config_port}
+use Rattle.board_prelude.proofs.Common.{config_address, config_register, byte_of, Bytes, Window, denial_in, denial_of}
+use Rattle.board_prelude.proofs.Common.{io_claim, io_shut, command_of, Decoded, device, nobody, card_port, config_port}
+use Rattle.board_prelude.proofs.Common.{by_xbcs, by_channel, selected_by, device_port, port_target_of, is_write}
+use Rattle.board_prelude.proofs.Common.{longest_at, part_at, parts_from, target_at, memory_target, memory_denial}
+use Rattle.board_prelude.proofs.Common.{memory_answer, part_answer, port_answer}
 use Rattle.board_base.specs.declared.access.Access.{Access}
-use Rattle.board_base.specs.declared.target.Area.TheVariants.{Dram as DramArea, Shadow as ShadowArea, Smram as SmramArea, Rom as RomArea, Card as CardArea, Abort as AbortArea}
+use Rattle.board_base.specs.declared.target.Area.TheVariants.{Dram as DramArea, Shadow as ShadowArea}
+use Rattle.board_base.specs.declared.target.Area.TheVariants.{Smram as SmramArea, Rom as RomArea, Card as CardArea}
+use Rattle.board_base.specs.declared.target.Area.TheVariants.{Abort as AbortArea}
 use Rattle.board_spec.specs.declared.event.Event.TheVariants.{Look as LookAt}
 use Rattle.board_laws.specs.DenialLaws.{ReachesNothing, IsDeniedExactly, DeniedOnBus, DeniedInParts}
 

@@ -1,6 +1,8 @@
 -- Histories with the same map writes have the same map.
 use Rattle.std.proofs.Common.{◌≡◌, ℕ, ◌+◌, ◌-◌, ◌∙◌, Bool, true, false, List, sym, ap, inl, inr}
-use Rattle.board_prelude.proofs.Common.{Kind, Fetch, Read, Write, Area, MapChange, Setup, byte_of, registers_after, Bytes, area_of, MapRange, IsFlatMapOf, IsSpan, six_areas, SameMapBytes, map_writes_decide, map_bytes_decide}
+use Rattle.board_prelude.proofs.Common.{Kind, Fetch, Read, Write, Area, MapChange, Setup, byte_of, registers_after}
+use Rattle.board_prelude.proofs.Common.{Bytes, area_of, MapRange, IsFlatMapOf, IsSpan, six_areas, SameMapBytes}
+use Rattle.board_prelude.proofs.Common.{map_writes_decide, map_bytes_decide}
 use Rattle.board_laws.specs.MapLaws.{MapWritesDecideMap}
 
 -- two states of the registers under which the same areas answer

@@ -1,12 +1,16 @@
 -- A read of one chip of the pair.
-use Rattle.std.proofs.Common.{◌≡◌, ℕ, Bool, true, false, cond, Option, Some, None, List, [], ◌∷◌, ◌++◌, refl, sym, ap, ◌∙◌, inl, inr, is_some}
-use Rattle.board_prelude.proofs.Common.{cases_Bool, Chip, pending, first_selectable, request, interrupt, acknowledged_if, chip_after_read, Pair, settled, pair_read, latched, settled-asks, settled-quiet}
+use Rattle.std.proofs.Common.{◌≡◌, ℕ, Bool, true, false, cond, Option, Some, None, List, [], ◌∷◌, ◌++◌, refl, sym, ap}
+use Rattle.std.proofs.Common.{◌∙◌, inl, inr, is_some}
+use Rattle.board_prelude.proofs.Common.{cases_Bool, Chip, pending, first_selectable, request, interrupt}
+use Rattle.board_prelude.proofs.Common.{acknowledged_if, chip_after_read, Pair, settled, pair_read, latched}
+use Rattle.board_prelude.proofs.Common.{settled-asks, settled-quiet}
 use Rattle.board_laws.specs.PicLaws.{ReadsLeaveTheOther}
 
 -- ---- a read of one chip
 
 -- polling has no part in what INT stands for
-first-unpolled : (chip : Chip) (higher order : List ℕ) → first_selectable (record chip { polls = false }) higher order ≡ first_selectable chip higher order
+first-unpolled : (chip : Chip) (higher order : List ℕ) → first_selectable (record chip { polls = false }) higher order
+    ≡ first_selectable chip higher order
 unfolding first_selectable pending
 first-unpolled chip higher [] = refl
 first-unpolled chip higher (level ∷ lower) = rw (first-unpolled chip (higher ++ level ∷ []) lower) refl
@@ -21,7 +25,8 @@ unfolding chip_after_read
 still-quiet chip quiet =
     let after : Bool → Option ℕ → Chip = λ b o. cond b (record (acknowledged_if chip o) { polls = false }) chip in
     elim (cases_Bool chip.polls) [
-      | inl polls ↦ ap (λ b. interrupt (after b (interrupt chip))) polls ∙ (ap (λ o. interrupt (after true o)) quiet ∙ (interrupt-unpolled chip ∙ quiet))
+      | inl polls ↦ ap (λ b. interrupt (after b (interrupt chip))) polls
+          ∙ (ap (λ o. interrupt (after true o)) quiet ∙ (interrupt-unpolled chip ∙ quiet))
       | inr not_polls ↦ ap (λ b. interrupt (after b (interrupt chip))) not_polls ∙ quiet
     ]
 
@@ -32,7 +37,9 @@ settled-slave-is pair = elim (cases_Bool (is_some (interrupt pair.slave))) [
 ]
 
 -- another slave leaves a master alone that has latched the request of the one before, or had none to latch
-other-slave : (pair : Pair) (slave : Chip) (o : Option ℕ) → interrupt pair.slave ≡ o → settled pair ≡ pair → (interrupt pair.slave ≡ None → interrupt slave ≡ None) → (settled (record pair { slave = slave })).master ≡ pair.master
+other-slave : (pair : Pair) (slave : Chip) (o : Option ℕ) → interrupt pair.slave ≡ o → settled pair ≡ pair →
+    (interrupt pair.slave ≡ None → interrupt slave ≡ None) →
+    (settled (record pair { slave = slave })).master ≡ pair.master
 other-slave pair slave None e is quiet =
     ap (λ p. p.master) (settled-quiet (record pair { slave = slave }) (ap is_some (quiet e)))
 other-slave pair slave (Some level) e is quiet =
@@ -44,8 +51,11 @@ other-slave pair slave (Some level) e is quiet =
 
 pub reads-leave : ReadsLeaveTheOther
 reads-leave pair port = record {
-  slave = λ e. settled-slave-is (pair_read pair port) ∙ ap (λ b. (cond b (record pair { slave = chip_after_read pair.slave }) (record pair { master = chip_after_read pair.master })).slave) e;
+  slave = λ e. settled-slave-is (pair_read pair port)
+      ∙ ap (λ b. (cond b (record pair { slave = chip_after_read pair.slave })
+          (record pair { master = chip_after_read pair.master })).slave) e;
   master = λ e is.
-      ap (λ b. (settled (cond b (record pair { slave = chip_after_read pair.slave }) (record pair { master = chip_after_read pair.master }))).master) e
+      ap (λ b. (settled (cond b (record pair { slave = chip_after_read pair.slave })
+          (record pair { master = chip_after_read pair.master }))).master) e
       ∙ other-slave pair (chip_after_read pair.slave) (interrupt pair.slave) refl is (still-quiet pair.slave);
 }

@@ -1,9 +1,17 @@
 -- What INT stands for, and what a non-specific end of interrupt ends, by places in the order of priorities.
-use Rattle.std.proofs.Common.{◌≡◌, ◌≢◌, ℕ, zero, suc, ◌+◌, ◌/◌, ◌<◌, ◌≤◌, Bool, true, false, not, cond, eqb, ◌&&◌, Some, None, List, [], ◌∷◌, length, get_or, drop, refl, sym, ap, ◌∙◌, inl, inr, arith, is_some, length-append}
-use Rattle.board_prelude.proofs.Common.{find, list_all, cases_Bool, cases_lt, cases_eq, agree_below_at, eqb-true, and_parts, and_from, not-true, false≢true, drop_of_length-le, get_or-append_seam, get_or_append_left, has, without_level, Chip, pending, priority_order, is_blocking, blocks_itself, is_requested, request, interrupt, first_blocking, chip_after_write, scan, request-is, scan-found, scan-past, find-past, find-here, first_blocking-is, priority_order-small}
+use Rattle.std.proofs.Common.{◌≡◌, ◌≢◌, ℕ, zero, suc, ◌+◌, ◌/◌, ◌<◌, ◌≤◌, Bool, true, false, not, cond, eqb, ◌&&◌, Some}
+use Rattle.std.proofs.Common.{None, List, [], ◌∷◌, length, get_or, drop, refl, sym, ap, ◌∙◌, inl, inr, arith, is_some}
+use Rattle.std.proofs.Common.{length-append}
+use Rattle.board_prelude.proofs.Common.{find, list_all, cases_Bool, cases_lt, cases_eq, agree_below_at, eqb-true}
+use Rattle.board_prelude.proofs.Common.{and_parts, and_from, not-true, false≢true, drop_of_length-le}
+use Rattle.board_prelude.proofs.Common.{get_or-append_seam, get_or_append_left, has, without_level, Chip, pending}
+use Rattle.board_prelude.proofs.Common.{priority_order, is_blocking, blocks_itself, is_requested, request, interrupt}
+use Rattle.board_prelude.proofs.Common.{first_blocking, chip_after_write, scan, request-is, scan-found, scan-past}
+use Rattle.board_prelude.proofs.Common.{find-past, find-here, first_blocking-is, priority_order-small}
 use Rattle.board_base.specs.Bits.{is_bit}
 use Rattle.device_spec.specs.Pic.{ended}
-use Rattle.board_laws.specs.PicLaws.{place_of, CanBeSelected, InterruptIsSelected, SelectedInterrupts, IsServedFirst, NonSpecificEndEndsFirst, NonSpecificEndOfNone, IsFirstInOrder}
+use Rattle.board_laws.specs.PicLaws.{place_of, CanBeSelected, InterruptIsSelected, SelectedInterrupts, IsServedFirst}
+use Rattle.board_laws.specs.PicLaws.{NonSpecificEndEndsFirst, NonSpecificEndOfNone, IsFirstInOrder}
 use Rattle.board_laws.proofs.PicLaws.{priorities, interrupt-first, interrupt-unmasked, interrupt-small, without-one}
 
 -- ---- the order by places
@@ -18,26 +26,32 @@ eight lowest h = eqb-true _ 8 (agree_below_at has_eight (λ _. true) 8 lowest re
 place-small : (lowest level : ℕ) → place_of lowest level < 8
 place-small lowest level = omega arith
 
-level_at : (lowest level : ℕ) → lowest < 8 → level < 8 → get_or (priority_order lowest) (place_of lowest level) 0 ≡ level
+level_at : (lowest level : ℕ) → lowest < 8 → level < 8 →
+    get_or (priority_order lowest) (place_of lowest level) 0 ≡ level
 level_at lowest level h g = priorities lowest (place_of lowest level) h (place-small lowest level) ∙ omega arith
 
-place_at : (lowest place : ℕ) → lowest < 8 → place < 8 → place_of lowest (get_or (priority_order lowest) place 0) ≡ place
+place_at : (lowest place : ℕ) → lowest < 8 → place < 8 →
+    place_of lowest (get_or (priority_order lowest) place 0) ≡ place
 place_at lowest place h g = ap (place_of lowest) (priorities lowest place h g) ∙ omega arith
 
 -- ---- what INT stands for
 
-can-asks : (chip : Chip) (level : ℕ) → CanBeSelected chip level → (is_requested chip level && not (blocks_itself chip level)) ≡ true
+can-asks : (chip : Chip) (level : ℕ) → CanBeSelected chip level →
+    (is_requested chip level && not (blocks_itself chip level)) ≡ true
 can-asks chip level can =
     let requested : is_requested chip level ≡ true = rw (can.asks, can.unmasked) refl in
     and_from _ _ requested (ap not can.free)
 
 -- the search from a place on finds a level, where one that can be selected is still to come
-found : (d i : ℕ) (chip : Chip) (level : ℕ) → chip.lowest < 8 → CanBeSelected chip level → i + d ≡ place_of chip.lowest level
+found : (d i : ℕ) (chip : Chip) (level : ℕ) → chip.lowest < 8 → CanBeSelected chip level →
+    i + d ≡ place_of chip.lowest level
     → is_some (scan chip (drop i (priority_order chip.lowest))) ≡ true
 found zero i chip level h can at_place =
     let here : i ≡ place_of chip.lowest level = omega arith in
-    let is : get_or (priority_order chip.lowest) i 0 ≡ level = ap (λ k. get_or (priority_order chip.lowest) k 0) here ∙ level_at chip.lowest level h can.inside in
-    let inside : i < length (priority_order chip.lowest) = rw (eight chip.lowest h) (omega (arith, place-small chip.lowest level)) in
+    let is : get_or (priority_order chip.lowest) i 0 ≡ level = ap (λ k. get_or (priority_order chip.lowest) k 0) here
+    ∙ level_at chip.lowest level h can.inside in
+    let inside : i < length (priority_order chip.lowest) =
+    rw (eight chip.lowest h) (omega (arith, place-small chip.lowest level)) in
     rw (scan-found chip (priority_order chip.lowest) i inside (rw is (can-asks chip level can))) refl
 found (suc d) i chip level h can at_place =
     let order = priority_order chip.lowest in
@@ -59,14 +73,17 @@ found (suc d) i chip level h can at_place =
 pub selected-interrupts : SelectedInterrupts
 selected-interrupts chip level h ready can =
     ap (λ b. is_some (cond b (request chip) None)) ready
-    ∙ (ap is_some (request-is chip (priority_order chip.lowest) refl) ∙ found (place_of chip.lowest level) 0 chip level h can (omega arith))
+    ∙ (ap is_some (request-is chip (priority_order chip.lowest) refl)
+    ∙ found (place_of chip.lowest level) 0 chip level h can (omega arith))
 
 -- a level at an earlier place of the order neither asks nor blocks
 pub record IsQuiet (chip : Chip) (level : ℕ) : Type 0 where
   pub silent : is_requested chip level ≡ false
   pub idle : is_blocking chip level ≡ false
 
-quiet-before : (chip : Chip) (higher : List ℕ) (i : ℕ) → list_all (λ other. not (is_requested chip other) && not (is_blocking chip other)) higher ≡ true → i < length higher → IsQuiet chip (get_or higher i 0)
+quiet-before : (chip : Chip) (higher : List ℕ) (i : ℕ) →
+    list_all (λ other. not (is_requested chip other) && not (is_blocking chip other)) higher ≡ true →
+    i < length higher → IsQuiet chip (get_or higher i 0)
 quiet-before chip [] i all h = absurd (omega arith)
 quiet-before chip (x ∷ xs) zero all h =
     let both = and_parts (not (is_requested chip x) && not (is_blocking chip x)) _ all in
@@ -77,19 +94,28 @@ quiet-before chip (x ∷ xs) (suc i) all h =
     quiet-before chip xs i both.1 (omega arith)
 
 -- a level before the one that INT stands for is quiet
-earlier-quiet : (chip : Chip) (level other : ℕ) (first : IsFirstInOrder chip (priority_order chip.lowest) level) → chip.lowest < 8 → other < 8 → place_of chip.lowest other < length first.higher → IsQuiet chip other
+earlier-quiet : (chip : Chip) (level other : ℕ) (first : IsFirstInOrder chip (priority_order chip.lowest) level) →
+    chip.lowest < 8 → other < 8 → place_of chip.lowest other < length first.higher → IsQuiet chip other
 earlier-quiet chip level other first h inside early =
     let at_place : get_or first.higher (place_of chip.lowest other) 0 ≡ other =
     sym (get_or_append_left first.higher (level ∷ first.lower) 0 (place_of chip.lowest other) early)
-    ∙ (sym (ap (λ order. get_or order (place_of chip.lowest other) 0) first.place) ∙ level_at chip.lowest other h inside) in
+    ∙ (sym (ap (λ order. get_or order (place_of chip.lowest other) 0) first.place)
+    ∙ level_at chip.lowest other h inside) in
     let quiet = quiet-before chip first.higher (place_of chip.lowest other) first.first early in
-    record { silent = ap (is_requested chip) (sym at_place) ∙ quiet.silent; idle = ap (is_blocking chip) (sym at_place) ∙ quiet.idle }
+    record {
+      silent = ap (is_requested chip) (sym at_place) ∙ quiet.silent;
+      idle = ap (is_blocking chip) (sym at_place) ∙ quiet.idle;
+    }
 
-first-place : (chip : Chip) (level : ℕ) (first : IsFirstInOrder chip (priority_order chip.lowest) level) → chip.lowest < 8 → place_of chip.lowest level ≡ length first.higher
+first-place : (chip : Chip) (level : ℕ) (first : IsFirstInOrder chip (priority_order chip.lowest) level) →
+    chip.lowest < 8 → place_of chip.lowest level ≡ length first.higher
 first-place chip level first h =
-    let here : length first.higher < length (priority_order chip.lowest) = rw (first.place) (rw (length-append first.higher (level ∷ first.lower)) (omega arith)) in
+    let here : length first.higher < length (priority_order chip.lowest) =
+    rw (first.place) (rw (length-append first.higher (level ∷ first.lower)) (omega arith)) in
     let before : length first.higher < 8 = (let e = eight chip.lowest h in omega (arith, e, here)) in
-    let is : get_or (priority_order chip.lowest) (length first.higher) 0 ≡ level = ap (λ order. get_or order (length first.higher) 0) first.place ∙ get_or-append_seam first.higher level first.lower 0 in
+    let is : get_or (priority_order chip.lowest) (length first.higher) 0 ≡ level =
+    ap (λ order. get_or order (length first.higher) 0) first.place
+    ∙ get_or-append_seam first.higher level first.lower 0 in
     ap (place_of chip.lowest) (sym is) ∙ place_at chip.lowest (length first.higher) h before
 
 ready-interrupt : (chip : Chip) (level : ℕ) → interrupt chip ≡ Some level → chip.is_ready ≡ true
@@ -113,8 +139,12 @@ interrupt-selected chip level h e =
         first = λ other inside apart blocks. elim (cases_lt (place_of chip.lowest level) (place_of chip.lowest other)) [
           | inl after ↦ after
           | inr not_after ↦ elim (cases_eq (place_of chip.lowest other) (length first.higher)) [
-            | inl same ↦ absurd (apart (sym (level_at chip.lowest other h inside) ∙ (ap (λ k. get_or (priority_order chip.lowest) k 0) (same ∙ sym place) ∙ level_at chip.lowest level h small)))
-            | inr other_place ↦ absurd (false≢true (sym (earlier-quiet chip level other first h inside (omega arith)).idle ∙ blocks))
+            | inl same ↦
+                absurd (apart (sym (level_at chip.lowest other h inside)
+                ∙ (ap (λ k. get_or (priority_order chip.lowest) k 0) (same ∙ sym place)
+                ∙ level_at chip.lowest level h small)))
+            | inr other_place ↦
+                absurd (false≢true (sym (earlier-quiet chip level other first h inside (omega arith)).idle ∙ blocks))
           ]
         ];
       };
@@ -130,7 +160,8 @@ interrupt-selected chip level h e =
 -- ---- what a non-specific end of interrupt ends
 
 -- the search from a place on finds the level that is served first
-served : (d i : ℕ) (chip : Chip) (level : ℕ) → chip.lowest < 8 → IsServedFirst chip level → i + d ≡ place_of chip.lowest level
+served : (d i : ℕ) (chip : Chip) (level : ℕ) → chip.lowest < 8 → IsServedFirst chip level →
+    i + d ≡ place_of chip.lowest level
     → find (is_blocking chip) (drop i (priority_order chip.lowest)) ≡ Some level
 served zero i chip level h first at_place =
     let order = priority_order chip.lowest in
@@ -147,31 +178,38 @@ served (suc d) i chip level h first at_place =
     elim (cases_Bool (is_blocking chip other)) [
       | inl blocks ↦
           let apart : other ≢ level = λ e. (let e' = ap (place_of chip.lowest) e in omega (arith, e', place)) in
-          absurd (let late = first.first other (priority_order-small chip.lowest i h before) apart blocks in omega (arith, late, place))
+          absurd (let late = first.first other (priority_order-small chip.lowest i h before) apart blocks in
+          omega (arith, late, place))
       | inr idle ↦ find-past (is_blocking chip) order i inside idle ∙ served d (i + 1) chip level h first (omega arith)
     ]
 
-non-specific : (chip : Chip) (byte : ℕ) → is_bit byte 4 ≡ false → is_bit byte 3 ≡ false → byte / 32 ≡ 1 → chip_after_write chip false byte ≡ ended false chip (first_blocking chip)
+non-specific : (chip : Chip) (byte : ℕ) → is_bit byte 4 ≡ false → is_bit byte 3 ≡ false → byte / 32 ≡ 1 →
+    chip_after_write chip false byte ≡ ended false chip (first_blocking chip)
 unfolding chip_after_write
 non-specific chip byte b4 b3 command = rw (b4, b3, command) refl
 
 pub non-specific-first : NonSpecificEndEndsFirst
 non-specific-first chip byte level h b4 b3 command first =
-    let is : first_blocking chip ≡ Some level = first_blocking-is chip (priority_order chip.lowest) refl ∙ served (place_of chip.lowest level) 0 chip level h first (omega arith) in
-    let after : chip_after_write chip false byte ≡ record chip { in_service = without_level chip.in_service level } = non-specific chip byte b4 b3 command ∙ ap (ended false chip) is in
+    let is : first_blocking chip ≡ Some level = first_blocking-is chip (priority_order chip.lowest) refl
+    ∙ served (place_of chip.lowest level) 0 chip level h first (omega arith) in
+    let after : chip_after_write chip false byte ≡ record chip { in_service = without_level chip.in_service level } =
+    non-specific chip byte b4 b3 command ∙ ap (ended false chip) is in
     rw after (without-one chip level first.inside)
 
-none-served : (d i : ℕ) (chip : Chip) → chip.lowest < 8 → ((level : ℕ) → level < 8 → is_blocking chip level ≡ false) → i + d ≡ 8
+none-served : (d i : ℕ) (chip : Chip) → chip.lowest < 8 → ((level : ℕ) → level < 8 → is_blocking chip level ≡ false) →
+    i + d ≡ 8
     → find (is_blocking chip) (drop i (priority_order chip.lowest)) ≡ None
 none-served zero i chip h none at_place =
     let past : length (priority_order chip.lowest) ≤ i = rw (eight chip.lowest h) (omega arith) in
     ap (find (is_blocking chip)) (drop_of_length-le (priority_order chip.lowest) past)
 none-served (suc d) i chip h none at_place =
     let inside : i < length (priority_order chip.lowest) = rw (eight chip.lowest h) (omega arith) in
-    find-past (is_blocking chip) (priority_order chip.lowest) i inside (none _ (priority_order-small chip.lowest i h (omega arith)))
+    find-past (is_blocking chip) (priority_order chip.lowest) i inside
+    (none _ (priority_order-small chip.lowest i h (omega arith)))
     ∙ none-served d (i + 1) chip h none (omega arith)
 
 pub non-specific-none : NonSpecificEndOfNone
 non-specific-none chip byte h b4 b3 command none =
     non-specific chip byte b4 b3 command
-    ∙ ap (ended false chip) (first_blocking-is chip (priority_order chip.lowest) refl ∙ none-served 8 0 chip h none refl)
+    ∙ ap (ended false chip) (first_blocking-is chip (priority_order chip.lowest) refl
+    ∙ none-served 8 0 chip h none refl)

@@ -1,6 +1,8 @@
 -- Pulses and then more leave what all of them at once leave.
 use Rattle.std.proofs.Common.{◌≡◌, ℕ, zero, suc, ◌+◌, Bool, List, ◌∷◌, refl, sym, ◌∙◌, ap, add-zero, add-suc}
-use Rattle.board_prelude.proofs.Common.{pulses, Pair, pair_after_lines, PulsesAddUp, Pulses, Entry, Setup, timer_of, levels_with, elcr_of, pair_pulsed, pair_of, timer-pulsed, triggers-pulsed, levels-pulsed, elcr-same, pair-pulsed}
+use Rattle.board_prelude.proofs.Common.{pulses, Pair, pair_after_lines, PulsesAddUp, Pulses, Entry, Setup, timer_of}
+use Rattle.board_prelude.proofs.Common.{levels_with, elcr_of, pair_pulsed, pair_of, timer-pulsed, triggers-pulsed}
+use Rattle.board_prelude.proofs.Common.{levels-pulsed, elcr-same, pair-pulsed}
 use Rattle.board_laws.specs.DeviceLaws.{PulsesAdd}
 
 -- ---- pulses

@@ -1,6 +1,17 @@
 -- A hard reset puts registers and devices in their reset state, and keeps what is stored.
-use Rattle.std.proofs.Common.{◌≡◌, ℕ, ◌+◌, ◌*◌, Bool, true, false, not, ◌||◌, ◌&&◌, List, ◌∷◌, Option, Some, None, is_some, take, drop, refl, sym, ◌∙◌, ap, inl, inr, ◌==◌, unwrap_or}
-use Rattle.board_prelude.proofs.Common.{cases_Bool, cond-true, cond-false, and_parts, eqb-true, false≢true, Width, PortAccess, Target, Device, bytes_of, Triggers, triggers_at_reset, Levels, has, no_levels, levels_where, Chip, chip_at_reset, chip_after_inputs, latches_after, Pair, pair_at_reset, master_inputs, pair_after_lines, levels_where-same, has-levels_where, Event, Port, Wire, Line, Pulses, Reply, Entry, MapChange, Reset, Setup, reset_control_port, control_written, is_hard_value, resets_hard, control_after, is_hard_reset, reset_control, config_address, byte_with, byte_of, Cell, port_put, entry_put, Bytes, Decoded, device, port_target_of, wire_set, line_set, wire_of, irq_of, triggers_of, system_of, timer_of, clock_of, disk_with, levels_of, elcr_of, pair_stepped, pair_reset_or_after, pair_of, port_answer, IsAnswer}
+use Rattle.std.proofs.Common.{◌≡◌, ℕ, ◌+◌, ◌*◌, Bool, true, false, not, ◌||◌, ◌&&◌, List, ◌∷◌, Option, Some, None}
+use Rattle.std.proofs.Common.{is_some, take, drop, refl, sym, ◌∙◌, ap, inl, inr, ◌==◌, unwrap_or}
+use Rattle.board_prelude.proofs.Common.{cases_Bool, cond-true, cond-false, and_parts, eqb-true, false≢true, Width}
+use Rattle.board_prelude.proofs.Common.{PortAccess, Target, Device, bytes_of, Triggers, triggers_at_reset, Levels, has}
+use Rattle.board_prelude.proofs.Common.{no_levels, levels_where, Chip, chip_at_reset, chip_after_inputs, latches_after}
+use Rattle.board_prelude.proofs.Common.{Pair, pair_at_reset, master_inputs, pair_after_lines, levels_where-same}
+use Rattle.board_prelude.proofs.Common.{has-levels_where, Event, Port, Wire, Line, Pulses, Reply, Entry, MapChange}
+use Rattle.board_prelude.proofs.Common.{Reset, Setup, reset_control_port, control_written, is_hard_value, resets_hard}
+use Rattle.board_prelude.proofs.Common.{control_after, is_hard_reset, reset_control, config_address, byte_with, byte_of}
+use Rattle.board_prelude.proofs.Common.{Cell, port_put, entry_put, Bytes, Decoded, device, port_target_of, wire_set}
+use Rattle.board_prelude.proofs.Common.{line_set, wire_of, irq_of, triggers_of, system_of, timer_of, clock_of}
+use Rattle.board_prelude.proofs.Common.{disk_with, levels_of, elcr_of, pair_stepped, pair_reset_or_after, pair_of}
+use Rattle.board_prelude.proofs.Common.{port_answer, IsAnswer}
 use Rattle.board_base.specs.declared.target.Dev.TheVariants.{Reset as ResetPort}
 use Rattle.board_laws.specs.ResetLaws.{HardResetResets, HardResetKeeps}
 use Rattle.board_laws.proofs.StoredLaws.{stored-left}

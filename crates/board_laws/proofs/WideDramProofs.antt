@@ -1,6 +1,14 @@
 -- A wide access to DRAM reads and writes the bytes from its address on.
-use Rattle.std.proofs.Common.{◌≡◌, ℕ, suc, ◌+◌, ◌-◌, ◌*◌, ◌/◌, ◌%◌, ◌^◌, ◌≤◌, ◌<◌, ◌⊎◌, inl, inr, true, List, [], ◌∷◌, Option, Some, None, refl, sym, ◌∙◌, ap, subst, arith, ◌==◌, nat_le, nat_lt, if◌then◌else◌, All, map, option_and_then}
-use Rattle.board_prelude.proofs.Common.{option_or, cases_Bool, cases_eq, cases_lt, cond-true, cond-false, le-leb, lt-leb, lt-ltb, le-ltb, All-head, All-tail, Width, One, WideAccess, Target, Dram, Shadow, Smram, Rom, Card, Device, Config, Abort, bytes_of, Event, Wide, Part, Reply, Bus, Saw, Entry, Setup, byte, wide, part_at, parts_of, joined, Cell, DramCell, CardCell, first_cell, distance, memory_put, parts_put, entry_put, is_write, dram_byte, memory_target, part_answer, value_at, wide_value, IsAnswer, made, total, is_cut, further}
+use Rattle.std.proofs.Common.{◌≡◌, ℕ, suc, ◌+◌, ◌-◌, ◌*◌, ◌/◌, ◌%◌, ◌^◌, ◌≤◌, ◌<◌, ◌⊎◌, inl, inr, true, List, [], ◌∷◌}
+use Rattle.std.proofs.Common.{Option, Some, None, refl, sym, ◌∙◌, ap, subst, arith, ◌==◌, nat_le, nat_lt, if◌then◌else◌}
+use Rattle.std.proofs.Common.{All, map, option_and_then}
+use Rattle.board_prelude.proofs.Common.{option_or, cases_Bool, cases_eq, cases_lt, cond-true, cond-false, le-leb}
+use Rattle.board_prelude.proofs.Common.{lt-leb, lt-ltb, le-ltb, All-head, All-tail, Width, One, WideAccess, Target}
+use Rattle.board_prelude.proofs.Common.{Dram, Shadow, Smram, Rom, Card, Device, Config, Abort, bytes_of, Event, Wide}
+use Rattle.board_prelude.proofs.Common.{Part, Reply, Bus, Saw, Entry, Setup, byte, wide, part_at, parts_of, joined}
+use Rattle.board_prelude.proofs.Common.{Cell, DramCell, CardCell, first_cell, distance, memory_put, parts_put}
+use Rattle.board_prelude.proofs.Common.{entry_put, is_write, dram_byte, memory_target, part_answer, value_at}
+use Rattle.board_prelude.proofs.Common.{wide_value, IsAnswer, made, total, is_cut, further}
 use Rattle.board_base.specs.declared.access.Width.TheVariants.{Two, Four}
 use Rattle.board_base.specs.declared.access.Access.{Access}
 use Rattle.board_spec.specs.declared.event.Reply.TheVariants.{Parts}

@@ -1,6 +1,9 @@
 -- What leaves a device alone, which lines are driven and by whom, and that pulses add up.
 use Rattle.std.specs.Prelude.{ℕ, ◌≡◌, ◌+◌, ◌-◌, ◌%◌, ◌<◌, ◌≤◌, ◌⊎◌, true, false, List, ◌∷◌, slice_index_or, Some}
-use Rattle.board_prelude.specs.Common.{Pit, System, Elcr, Ata, Wires, line_of_route, Pulses, Reply, Entry, Setup, pirq, is_hard_reset, byte_of, wire_of, irq_of, triggers_of, system_of, timer_of, clock_of, disk_with, own_level, routes_of, levels_of, pair_of, IsNext, NamesDevice}
+use Rattle.board_prelude.specs.Common.{Pit, System, Elcr, Ata, Wires, line_of_route, Pulses, Reply, Entry, Setup, pirq}
+use Rattle.board_prelude.specs.Common.{is_hard_reset, byte_of, wire_of, irq_of, triggers_of, system_of, timer_of}
+use Rattle.board_prelude.specs.Common.{clock_of, disk_with, own_level, routes_of, levels_of, pair_of, IsNext}
+use Rattle.board_prelude.specs.Common.{NamesDevice}
 use Rattle.board_base.specs.declared.target.Dev.TheVariants.{Clock}
 
 -- ---- one device
@@ -8,11 +11,13 @@ use Rattle.board_base.specs.declared.target.Dev.TheVariants.{Clock}
 -- an entry changes only the device that its reply names. The one exception is port 61h, whose bit 0 is the
 -- gate of counter 2
 pub record LeavesOthers (setup : Setup) (before : List Entry) (entry : Entry) : Type 0 where
-  pub timer : ¬ NamesDevice entry.reply Pit → ¬ NamesDevice entry.reply System → timer_of (entry ∷ before) ≡ timer_of before
+  pub timer : ¬ NamesDevice entry.reply Pit → ¬ NamesDevice entry.reply System →
+      timer_of (entry ∷ before) ≡ timer_of before
   pub system : ¬ NamesDevice entry.reply System → system_of (entry ∷ before) ≡ system_of before
   pub triggers : ¬ NamesDevice entry.reply Elcr → triggers_of (entry ∷ before) ≡ triggers_of before
   pub clock : ¬ NamesDevice entry.reply Clock → clock_of (entry ∷ before) ≡ clock_of before
-  pub disk : ¬ NamesDevice entry.reply Ata → (bytes : List ℕ) → disk_with bytes (entry ∷ before) ≡ disk_with bytes before
+  pub disk : ¬ NamesDevice entry.reply Ata → (bytes : List ℕ) →
+      disk_with bytes (entry ∷ before) ≡ disk_with bytes before
   pub wires : ¬ NamesDevice entry.reply Wires → (dev : ℕ) → wire_of (entry ∷ before) dev ≡ wire_of before dev
   pub lines : ¬ NamesDevice entry.reply Wires → (line : ℕ) → irq_of (entry ∷ before) line ≡ irq_of before line
 

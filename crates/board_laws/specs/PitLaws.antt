@@ -1,6 +1,9 @@
 -- Latches, read-back and the bytes of a count of the 8254.
-use Rattle.std.specs.Prelude.{◌≡◌, ℕ, zero, suc, ◌+◌, ◌<◌, ◌/◌, ◌%◌, Bool, true, false, if◌then◌else◌, List, [], ◌∷◌, None, length}
-use Rattle.device_spec.specs.Pit.{Mode, Notation, Binary, Decimal, is_periodic, count_of_bytes, low_byte, high_byte, CounterState, PitState, element_bytes, latch_count, read_back, read, write, gate_rises, gate_falls, pulse, write_control}
+use Rattle.std.specs.Prelude.{◌≡◌, ℕ, zero, suc, ◌+◌, ◌<◌, ◌/◌, ◌%◌, Bool, true, false, if◌then◌else◌, List, [], ◌∷◌}
+use Rattle.std.specs.Prelude.{None, length}
+use Rattle.device_spec.specs.Pit.{Mode, Notation, Binary, Decimal, is_periodic, count_of_bytes, low_byte, high_byte}
+use Rattle.device_spec.specs.Pit.{CounterState, PitState, element_bytes, latch_count, read_back, read, write}
+use Rattle.device_spec.specs.Pit.{gate_rises, gate_falls, pulse, write_control}
 
 -- A LATCHED COUNT
 

@@ -1,7 +1,8 @@
 //! Laws of the devices, the interrupt lines and the 8259A pair after a history.
 
 ghost use Rattle.board_spec.specs.DeviceLaws.{FirstLevels};
-ghost use Rattle.board_laws.specs.DeviceLaws.{LineHasDriver, LinesStay, OthersStay, PulsesAdd, UndrivenLines, WireReachesLine};
+ghost use Rattle.board_laws.specs.DeviceLaws.{LineHasDriver, LinesStay, OthersStay, PulsesAdd, UndrivenLines};
+ghost use Rattle.board_laws.specs.DeviceLaws.{WireReachesLine};
 ghost use Rattle.board_laws.specs.ResetLaws.{HardResetKeeps, HardResetResets};
 ghost use Rattle.board_laws.specs.SystemPortLaw.{SystemPortByBits};
 

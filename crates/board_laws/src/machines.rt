@@ -1,8 +1,13 @@
 //! Laws of the machines. Each function does nothing: its clauses are the laws.
-ghost use Rattle.board_laws.specs.ClockLaws.{MemoryKeeps, ReadingQuiets, ResetKeepsTheTime, RingsAtItsTime, ShowsTheMoment, StaysSound};
-ghost use Rattle.board_laws.specs.PicLaws.{PrioritiesGoRound, InterruptIsFirst, MaskedLevelsWait, InterruptIsSelected, SelectedInterrupts, NonSpecificEndEndsFirst, NonSpecificEndOfNone, ReadsLeaveTheOther, AcknowledgedIsInService, AcknowledgedSlaveIsInService, SpecificEndEndsOne, SpuriousLeavesAlone, StaysLatched};
+ghost use Rattle.board_laws.specs.ClockLaws.{MemoryKeeps, ReadingQuiets, ResetKeepsTheTime, RingsAtItsTime};
+ghost use Rattle.board_laws.specs.ClockLaws.{ShowsTheMoment, StaysSound};
+ghost use Rattle.board_laws.specs.PicLaws.{PrioritiesGoRound, InterruptIsFirst, MaskedLevelsWait, InterruptIsSelected};
+ghost use Rattle.board_laws.specs.PicLaws.{SelectedInterrupts, NonSpecificEndEndsFirst, NonSpecificEndOfNone};
+ghost use Rattle.board_laws.specs.PicLaws.{ReadsLeaveTheOther, AcknowledgedIsInService, AcknowledgedSlaveIsInService};
+ghost use Rattle.board_laws.specs.PicLaws.{SpecificEndEndsOne, SpuriousLeavesAlone, StaysLatched};
 ghost use Rattle.board_prelude.specs.Common.{CountersAreApart, RateRepeats, SquareRepeats};
-ghost use Rattle.board_laws.specs.PitLaws.{LatchedCountStays, LatchedCountIsRead, ReadBackIsOneByOne, ReadBackIsLatch, ReadBackOfBoth, CountReadsAsWritten};
+ghost use Rattle.board_laws.specs.PitLaws.{LatchedCountStays, LatchedCountIsRead, ReadBackIsOneByOne, ReadBackIsLatch};
+ghost use Rattle.board_laws.specs.PitLaws.{ReadBackOfBoth, CountReadsAsWritten};
 ghost use Rattle.board_laws.specs.PitCounts.{CountIsTaken, CountWaits, CountsEndOnce, CountsStrobeOnce, PulseLoads};
 ghost use Rattle.board_laws.specs.RoutingLaws.{RoutesOneLine};
 

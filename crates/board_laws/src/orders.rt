@@ -1,6 +1,7 @@
 //! Laws of the orders in which a script may run.
 
-ghost use Rattle.board_spec.specs.OrderLaws.{BegunGoesOn, BegunIsBounded, CompleteIsBegun, CompleteIsWhole, FrontIsBegun, ReplayIsComplete, WholeIsComplete};
+ghost use Rattle.board_spec.specs.OrderLaws.{BegunGoesOn, BegunIsBounded, CompleteIsBegun, CompleteIsWhole};
+ghost use Rattle.board_spec.specs.OrderLaws.{FrontIsBegun, ReplayIsComplete, WholeIsComplete};
 
 /// The replay of a script is one of its complete histories.
 pub fn law_replay_is_complete()

@@ -3,12 +3,14 @@ use Rattle.std.proofs.Common.{◌≡◌, ◌≢◌, ◌↔◌, ◌⊎◌, ℕ, L
 use Rattle.board_prelude.proofs.Common.{Keeps}
 use Rattle.command_words.specs.Words.{Command, command_of}
 use Rattle.command_files.specs.declared.status.Status.{Status}
-use Rattle.command_files.specs.declared.status.Status.TheVariants.{Done, Usage, ReadFault, WriteFault, TooLong, BadScript, BadImage, Differs, NoMemory, OtherBoard}
+use Rattle.command_files.specs.declared.status.Status.TheVariants.{Done, Usage, ReadFault, WriteFault, TooLong}
+use Rattle.command_files.specs.declared.status.Status.TheVariants.{BadScript, BadImage, Differs, NoMemory, OtherBoard}
 use Rattle.command_files.specs.Common.{Files, ShelfCall}
 use Rattle.command_files.specs.FaultText.{text_of}
 use Rattle.board_commands.specs.Outcomes.{SinkCall}
 use Rattle.board_main.specs.declared.answers.OwnAnswer.{OwnAnswer}
-use Rattle.board_main.specs.Common.{Ends, EndsCommand, EndsOwn, IsWritten, IsIdle, IsTold, TookAll, TookFront, own_of, own_text}
+use Rattle.board_main.specs.Common.{Ends, EndsCommand, EndsOwn, IsWritten, IsIdle, IsTold, TookAll, TookFront, own_of}
+use Rattle.board_main.specs.Common.{own_text}
 use Rattle.board_main.specs.Ends.{AreFetchesFor}
 
 -- an answer of the program's own is no faulty command line

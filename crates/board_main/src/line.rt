@@ -47,8 +47,8 @@ impl<R: Env + AllocGlobal> CommandLine for SystemLine<'_, R> {
     }
 }
 
-/// Why `env::args` refused the words: where one is not UTF-8 it says that they are invalid data, and else that memory ran
-/// out.
+/// Why `env::args` refused the words: where one is not UTF-8 it says that they are invalid data, and else that memory
+/// ran out.
 fn fault_of(error: &Error) -> WordFault
     ensures fault { result ≡ fault_of (error_kind error.now) }
 {

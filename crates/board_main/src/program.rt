@@ -84,8 +84,9 @@ fn refuse<E: Write>(alloc: Global, fault: WordFault, errors: &mut OutSink<E>) ->
     status
 }
 
-/// Does what these words ask for, with files of a shelf, and writes to `out`. Where it is not done, the text of the status
-/// goes to `errors`. The status is Usage exactly where the words are neither a command nor `--help` or `--version`.
+/// Does what these words ask for, with files of a shelf, and writes to `out`. Where it is not done, the text of the
+/// status goes to `errors`. The status is Usage exactly where the words are neither a command nor `--help` or
+/// `--version`.
 pub fn run_words<R, S, W, E>(
     rt: &R,
     words: &[String],

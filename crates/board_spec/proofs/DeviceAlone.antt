@@ -1,6 +1,14 @@
 -- What an event leaves of each device, and the levels of lines whose drivers stayed.
-use Rattle.std.proofs.Common.{◌≡◌, ◌≢◌, ℕ, Bool, false, ◌||◌, ◌&&◌, List, [], ◌∷◌, Option, Some, None, refl, ◌∙◌, ap, inl, inr, ◌==◌, map, option_map}
-use Rattle.board_spec.specs.Common.{list_any, option_map_or, PortAccess, Dev, Pic0, Pic1, Pit, System, Elcr, Ata, Wires, Triggers, PitState, out_of, set_gate2, Clock, Disk, is_interrupt, Pair, is_line_driven, Setup, is_free_line, device_reached, wire_set, line_set, wire_of, irq_of, triggers_accessed, triggers_after, SystemPort, system_accessed, system_after, timer_accessed, timer_after, clock_accessed, clock_after, clock_of, disk_accessed, disk_after, disk_with, disk_of, pirq_of_card, card_devices, pirq_level, pirqs, routes_of, pirq_levels, level_with, all_lines, levels_with, pair_accessed, pair_after, IsAnswer, NamesDevice, ActsOnPair}
+use Rattle.std.proofs.Common.{◌≡◌, ◌≢◌, ℕ, Bool, false, ◌||◌, ◌&&◌, List, [], ◌∷◌, Option, Some, None, refl, ◌∙◌, ap}
+use Rattle.std.proofs.Common.{inl, inr, ◌==◌, map, option_map}
+use Rattle.board_spec.specs.Common.{list_any, option_map_or, PortAccess, Dev, Pic0, Pic1, Pit, System, Elcr, Ata, Wires}
+use Rattle.board_spec.specs.Common.{Triggers, PitState, out_of, set_gate2, Clock, Disk, is_interrupt, Pair}
+use Rattle.board_spec.specs.Common.{is_line_driven, Setup, is_free_line, device_reached, wire_set, line_set, wire_of}
+use Rattle.board_spec.specs.Common.{irq_of, triggers_accessed, triggers_after, SystemPort, system_accessed}
+use Rattle.board_spec.specs.Common.{system_after, timer_accessed, timer_after, clock_accessed, clock_after, clock_of}
+use Rattle.board_spec.specs.Common.{disk_accessed, disk_after, disk_with, disk_of, pirq_of_card, card_devices}
+use Rattle.board_spec.specs.Common.{pirq_level, pirqs, routes_of, pirq_levels, level_with, all_lines, levels_with}
+use Rattle.board_spec.specs.Common.{pair_accessed, pair_after, IsAnswer, NamesDevice, ActsOnPair}
 use Rattle.device_spec.proofs.Common.{cases_Bool, interrupt_line}
 use Rattle.board_base.specs.declared.target.Dev.TheVariants.{Clock as ClockChip}
 use Rattle.board_spec.specs.declared.event.Event.{Event}

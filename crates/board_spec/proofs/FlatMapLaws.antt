@@ -1,11 +1,13 @@
 -- Two flat maps of the same registers are one list, and every address has one span.
 use Rattle.std.proofs.Common.{◌≡◌, ℕ, ◌+◌, ◌<◌, ◌≤◌, inl, inr, List, [], ◌∷◌, refl, sym, ◌∙◌, subst, arith}
-use Rattle.board_spec.specs.Common.{AllByRecursion, Area, Setup, Bytes, address_count, six_areas, MapRange, Tiles, Differs, NeighboursDiffer, IsRight, OneFlatMap}
+use Rattle.board_spec.specs.Common.{AllByRecursion, Area, Setup, Bytes, address_count, six_areas, MapRange, Tiles}
+use Rattle.board_spec.specs.Common.{Differs, NeighboursDiffer, IsRight, OneFlatMap}
 use Rattle.device_spec.proofs.Common.{recursion_from_All, cases_lt}
 
-tiles_below : (from : ℕ) (ranges : List MapRange) → Tiles from ranges → from ≤ address_count
+pub tiles_below : (from : ℕ) (ranges : List MapRange) → Tiles from ranges → from ≤ address_count
 tiles_below from [] h = omega arith
-tiles_below from (range ∷ later) h = let after : range.hi + 1 ≤ address_count = tiles_below (range.hi + 1) later h.2 in omega arith
+tiles_below from (range ∷ later) h = let after : range.hi + 1 ≤ address_count = tiles_below (range.hi + 1) later h.2 in
+    omega arith
 
 -- a range that ends before another that begins at the same address has a next one with the other's areas
 ends_no_sooner :
@@ -16,10 +18,14 @@ ends_no_sooner :
 ends_no_sooner setup bytes from x y [] ys tx ty rx rxs ry dx lt =
     let below : y.hi + 1 ≤ address_count = tiles_below (y.hi + 1) ys ty.2 in omega (arith, tx.2)
 ends_no_sooner setup bytes from x y (x' ∷ xs) ys tx ty rx rxs ry dx lt =
-    let here : six_areas setup bytes (x.hi + 1) ≡ x'.areas = rxs.0.at_each (x.hi + 1) (omega (arith, tx.2.0)) (omega (arith, tx.2.0, tx.2.1)) in
-    let there : six_areas setup bytes (x.hi + 1) ≡ y.areas = ry.at_each (x.hi + 1) (omega (arith, tx.0, tx.1, ty.0)) (omega arith) in
-    let first : six_areas setup bytes from ≡ x.areas = rx.at_each from (omega (arith, tx.0)) (omega (arith, tx.0, tx.1)) in
-    let first' : six_areas setup bytes from ≡ y.areas = ry.at_each from (omega (arith, ty.0)) (omega (arith, ty.0, ty.1)) in
+    let here : six_areas setup bytes (x.hi + 1) ≡ x'.areas = rxs.0.at_each (x.hi + 1) (omega (arith, tx.2.0))
+    (omega (arith, tx.2.0, tx.2.1)) in
+    let there : six_areas setup bytes (x.hi + 1) ≡ y.areas = ry.at_each (x.hi + 1) (omega (arith, tx.0, tx.1, ty.0))
+    (omega arith) in
+    let first : six_areas setup bytes from ≡ x.areas =
+    rx.at_each from (omega (arith, tx.0)) (omega (arith, tx.0, tx.1)) in
+    let first' : six_areas setup bytes from ≡ y.areas =
+    ry.at_each from (omega (arith, ty.0)) (omega (arith, ty.0, ty.1)) in
     dx (sym first ∙ first' ∙ sym there ∙ here)
 
 same_end :
@@ -58,8 +64,10 @@ one_tiling setup bytes from (x ∷ xs) [] tx ty rx ry dx dy =
     let below : x.hi + 1 ≤ address_count = tiles_below (x.hi + 1) xs tx.2 in absurd (omega (arith, tx.0, tx.1))
 one_tiling setup bytes from (x ∷ xs) (y ∷ ys) tx ty rx ry dx dy =
     let ends : x.hi ≡ y.hi = same_end setup bytes from x y xs ys tx ty rx.0 rx.1 ry.0 ry.1 dx.0 dy.0 in
-    let first : six_areas setup bytes from ≡ x.areas = rx.0.at_each from (omega (arith, tx.0)) (omega (arith, tx.0, tx.1)) in
-    let first' : six_areas setup bytes from ≡ y.areas = ry.0.at_each from (omega (arith, ty.0)) (omega (arith, ty.0, ty.1)) in
+    let first : six_areas setup bytes from ≡ x.areas = rx.0.at_each from (omega (arith, tx.0))
+    (omega (arith, tx.0, tx.1)) in
+    let first' : six_areas setup bytes from ≡ y.areas = ry.0.at_each from (omega (arith, ty.0))
+    (omega (arith, ty.0, ty.1)) in
     let head : x ≡ y = same_range x y (tx.0 ∙ sym ty.0) ends (sym first ∙ first') in
     let there : Tiles (x.hi + 1) ys = subst (λ (hi : ℕ). Tiles (hi + 1) ys) (sym ends) ty.2 in
     let tail : xs ≡ ys = one_tiling setup bytes (x.hi + 1) xs ys tx.2 there rx.1 ry.1 dx.1 dy.1 in

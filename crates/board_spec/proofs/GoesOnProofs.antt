@@ -1,25 +1,29 @@
 -- A begun history that is not complete goes on by a statement of the phase where it stands.
-use Rattle.std.proofs.Common.{◌≡◌, ◌≢◌, ℕ, suc, ◌+◌, ◌≤◌, ◌<◌, inl, inr, List, [], ◌∷◌, ◌++◌, length, take, drop, min, refl, sym, ◌∙◌, ap, subst, arith, ◌==◌, map}
-use Rattle.board_spec.specs.Common.{AllByRecursion, entries_by, statements_of, events_by, BeginsWith, IsWholePhase, IsFrontOfPhase, HasPhases, HasPhasesSoFar, IsAddressed, in_file_order, BegunGoesOn}
-use Rattle.device_spec.proofs.Common.{drop_of_length-le, take-append-le, drop-append-le, length-append, length-take, take_all, recursion_from_All, cases_eq, cases_lt, cond-true, cond-false, eq-eqb, ne_eqb}
+use Rattle.std.proofs.Common.{◌≡◌, ◌≢◌, ℕ, suc, ◌+◌, ◌≤◌, ◌<◌, inl, inr, List, [], ◌∷◌, ◌++◌, length, take, drop, min}
+use Rattle.std.proofs.Common.{refl, sym, ◌∙◌, ap, subst, arith, ◌==◌, map}
+use Rattle.board_spec.specs.Common.{AllByRecursion, entries_by, statements_of, events_by, BeginsWith, IsWholePhase}
+use Rattle.board_spec.specs.Common.{IsFrontOfPhase, HasPhases, HasPhasesSoFar, IsAddressed, in_file_order, BegunGoesOn}
+use Rattle.device_spec.proofs.Common.{drop_of_length-le, take-append-le, drop-append-le, length-append, length-take}
+use Rattle.device_spec.proofs.Common.{take_all, recursion_from_All, cases_eq, cases_lt, cond-true, cond-false, eq-eqb}
+use Rattle.device_spec.proofs.Common.{ne_eqb}
 use Rattle.board_spec.specs.declared.event.Event.{Event}
 use Rattle.board_spec.specs.declared.event.Entry.{Entry}
 use Rattle.board_spec.specs.declared.event.Reply.{Reply}
 use Rattle.board_spec.specs.declared.event.Statement.{Statement}
-use Rattle.board_spec.proofs.ReplayLaws.{some_answer}
+use Rattle.board_spec.proofs.ReplayLaws.{some_answer, entry_made}
 use Rattle.board_spec.proofs.OrderLawProofs.{statements-newest}
 
 abbrev AllAddressed : List Statement → Type 0
 AllAddressed statements = AllByRecursion (λ (statement : Statement). IsAddressed statement.event) statements
 
-events-own :
+pub events-own :
     (actor : ℕ) (first : Statement) (later : List Statement) → first.actor ≡ actor →
     events_by actor (first ∷ later) ≡ first.event ∷ events_by actor later
 events-own actor first later own =
     ap (map (λ (statement : Statement). statement.event))
     (cond-true (first.actor == actor) _ _ (eq-eqb first.actor actor own))
 
-events-other :
+pub events-other :
     (actor : ℕ) (first : Statement) (later : List Statement) → first.actor ≢ actor →
     events_by actor (first ∷ later) ≡ events_by actor later
 events-other actor first later other =
@@ -279,9 +283,6 @@ next_so_far (phase ∷ later) statements addressed (inr whole) open_still =
     past_phase phase later statements full whole.0
     (next_so_far later (drop (length phase) statements) (all_right phase (in_file_order later) addressed) whole.1
     (λ complete. open_still (whole.0, complete)))
-
-entry_made : ℕ → ℕ → Event → Reply → Entry
-entry_made actor seq event reply = record { actor = actor; seq = seq; event = event; reply = reply }
 
 pub begun_goes_on : BegunGoesOn
 unfolding entry_made

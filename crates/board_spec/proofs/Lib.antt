@@ -1,9 +1,9 @@
 pub mod StoreLemmas
 pub mod TableLemmas
-mod WideLemmas
+pub mod WideLemmas
 pub mod MapByteLaws
 pub mod MapWriteLaws
-mod FlatMapLaws
+pub mod FlatMapLaws
 pub mod SpanLaws
 mod LockLaws
 pub mod ReplayLaws

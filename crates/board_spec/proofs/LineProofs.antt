@@ -1,6 +1,8 @@
 -- The lines at power-on.
 use Rattle.std.proofs.Common.{◌≡◌, ℕ, false, List, [], Option, Some, None, refl, option_map}
-use Rattle.board_spec.specs.Common.{option_map_or, is_line_driven, reset as timer_at_reset, out_of, programmed, is_interrupt, Setup, isa_bridge, reset_byte, byte_of, wire_of, irq_of, timer_of, clock_of, disk_with, disk_of, levels_with, FirstLevels}
+use Rattle.board_spec.specs.Common.{option_map_or, is_line_driven, reset as timer_at_reset, out_of, programmed}
+use Rattle.board_spec.specs.Common.{is_interrupt, Setup, isa_bridge, reset_byte, byte_of, wire_of, irq_of, timer_of}
+use Rattle.board_spec.specs.Common.{clock_of, disk_with, disk_of, levels_with, FirstLevels}
 use Rattle.device_spec.specs.Clock.{power_on as clock_at_power_on}
 
 -- a disk at power-on asks for no interrupt

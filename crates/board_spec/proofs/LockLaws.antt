@@ -1,11 +1,24 @@
 -- The lock law holds of every legal history.
-use Rattle.std.proofs.Common.{◌≡◌, ◌≢◌, ℕ, ◌+◌, ◌-◌, ◌*◌, ◌/◌, ◌%◌, ◌<◌, inl, inr, max, Bool, true, false, not, ◌&&◌, List, [], ◌∷◌, ◌++◌, Option, Some, None, refl, sym, ◌∙◌, arith, ap, zero, suc, ◌==◌, map, if◌then◌else◌, option_map, IfSome, is_some, unwrap_or}
-use Rattle.board_spec.specs.Common.{AllByRecursion, Kind, WideAccess, bytes_of, Denial, Reg, Area, Target, Smram, Setup, bit, is_bit, byte, reset_byte, host_bridge, is_hard_reset, config_address, config_register, config_store, register_change, covers, smram_after, byte_with, byte_of, is_config_port, Bytes, Window, first_of, line_where, card_area, row_of, hole_of, is_in, is_shadowed, is_rom_selected, memory_claim, reaches_smram, smram_answers, is_smram_range, area_under, area_of, fdhc, smram, xbcs, lies_in, upper_memory, target_at, memory_answer, part_answer, IsAnswer, IsNext, IsLegal, SetsLock, NoHardReset, IsOutsideSmm, HasSmram, NamesSmram, longest_at, parts_from, parts_of, parts_list, LegalKeepsLock}
+use Rattle.std.proofs.Common.{◌≡◌, ◌≢◌, ℕ, ◌+◌, ◌-◌, ◌*◌, ◌/◌, ◌%◌, ◌<◌, inl, inr, max, Bool, true, false, not, ◌&&◌}
+use Rattle.std.proofs.Common.{List, [], ◌∷◌, ◌++◌, Option, Some, None, refl, sym, ◌∙◌, arith, ap, zero, suc, ◌==◌, map}
+use Rattle.std.proofs.Common.{if◌then◌else◌, option_map, IfSome, is_some, unwrap_or}
+use Rattle.board_spec.specs.Common.{AllByRecursion, Kind, WideAccess, bytes_of, Denial, Reg, Area, Target, Smram, Setup}
+use Rattle.board_spec.specs.Common.{bit, is_bit, byte, reset_byte, host_bridge, is_hard_reset, config_address}
+use Rattle.board_spec.specs.Common.{config_register, config_store, register_change, covers, smram_after, byte_with}
+use Rattle.board_spec.specs.Common.{byte_of, is_config_port, Bytes, Window, first_of, line_where, card_area, row_of}
+use Rattle.board_spec.specs.Common.{hole_of, is_in, is_shadowed, is_rom_selected, memory_claim, reaches_smram}
+use Rattle.board_spec.specs.Common.{smram_answers, is_smram_range, area_under, area_of, fdhc, smram, xbcs, lies_in}
+use Rattle.board_spec.specs.Common.{upper_memory, target_at, memory_answer, part_answer, IsAnswer, IsNext, IsLegal}
+use Rattle.board_spec.specs.Common.{SetsLock, NoHardReset, IsOutsideSmm, HasSmram, NamesSmram, longest_at, parts_from}
+use Rattle.board_spec.specs.Common.{parts_of, parts_list, LegalKeepsLock}
 use Rattle.std.proofs.lemmas.Bool.{cases_eq, cases_Bool}
 use Rattle.board_base.specs.declared.access.Access.{Access}
-use Rattle.board_base.specs.declared.target.Area.TheVariants.{Dram as DramArea, Shadow as ShadowArea, Smram as SmramArea, Rom as RomArea, Card as CardArea, Abort as AbortArea}
+use Rattle.board_base.specs.declared.target.Area.TheVariants.{Dram as DramArea, Shadow as ShadowArea}
+use Rattle.board_base.specs.declared.target.Area.TheVariants.{Smram as SmramArea, Rom as RomArea, Card as CardArea}
+use Rattle.board_base.specs.declared.target.Area.TheVariants.{Abort as AbortArea}
 use Rattle.board_spec.specs.declared.event.Event.{Event}
-use Rattle.board_spec.specs.declared.event.Event.TheVariants.{Memory, Wide, Port, Look as LookAt, Ack, Pulses, Time, Wire, Line, BadSector}
+use Rattle.board_spec.specs.declared.event.Event.TheVariants.{Memory, Wide, Port, Look as LookAt, Ack, Pulses, Time}
+use Rattle.board_spec.specs.declared.event.Event.TheVariants.{Wire, Line, BadSector}
 use Rattle.board_spec.specs.declared.event.Reply.{Reply}
 use Rattle.board_spec.specs.declared.event.Part.{Part}
 use Rattle.board_spec.specs.declared.event.Reply.TheVariants.{Bus, Parts, Saw}
@@ -34,8 +47,12 @@ locked_after old written =
     let w : bit written 4 < 2 = bit_below written 4 in
     let below : lock < 2 = omega arith in
     let w6 : bit written 6 < 2 = bit_below written 6 in
-    let first : (1 - lock) * bit written 6 < 2 = elim (cases_eq lock 1) [ inl e ↦ rw e (omega arith) | inr ne ↦ let z : lock ≡ 0 = omega arith in rw z (omega arith) ] in
-    (smram_bits ((1 - lock) * bit written 6) (bit written 5) lock (bit written 3) first (bit_below written 5) below (bit_below written 3)).0
+    let first : (1 - lock) * bit written 6 < 2 = elim (cases_eq lock 1) [
+      | inl e ↦ rw e (omega arith)
+      | inr ne ↦ let z : lock ≡ 0 = omega arith in rw z (omega arith)
+    ] in
+    (smram_bits ((1 - lock) * bit written 6) (bit written 5) lock (bit written 3) first (bit_below written 5) below
+    (bit_below written 3)).0
 
 shut_after : (old written : ℕ) → Kept (smram_after old written)
 shut_after old written = record {
@@ -44,14 +61,16 @@ shut_after old written = record {
       let is : lock ≡ 1 = sym (locked_after old written) ∙ locked in
       let none : (1 - lock) * bit written 6 ≡ 0 = rw is (omega arith) in
       let below : lock < 2 = omega arith in
-      (smram_bits ((1 - lock) * bit written 6) (bit written 5) lock (bit written 3) (omega arith) (bit_below written 5) below (bit_below written 3)).1 ∙ none;
+      (smram_bits ((1 - lock) * bit written 6) (bit written 5) lock (bit written 3) (omega arith)
+      (bit_below written 5) below (bit_below written 3)).1 ∙ none;
 }
 
 reset_kept : (setup : Setup) → Kept (reset_byte setup smram)
 unfolding reset_byte host_bridge
 reset_kept setup = record { shut = λ locked. absurd (omega (arith, locked)) }
 
-changed_kept : (setup : Setup) (change : Option MapChange) (old : ℕ) → Kept old → Kept (byte_with setup change smram old)
+changed_kept : (setup : Setup) (change : Option MapChange) (old : ℕ) → Kept old →
+    Kept (byte_with setup change smram old)
 changed_kept setup None old kept = kept
 changed_kept setup (Some Reset) old kept = reset_kept setup
 changed_kept setup (Some (Store at width value)) old kept =
@@ -71,7 +90,8 @@ kept_of setup (entry ∷ before) =
 IsLocked : Setup → List Entry → Type 0
 IsLocked setup history = bit (byte_of setup history smram) 4 ≡ 1
 
-stored_stays : (setup : Setup) (change : Option MapChange) (old : ℕ) → change ≢ Some Reset → bit old 4 ≡ 1 → bit (byte_with setup change smram old) 4 ≡ 1
+stored_stays : (setup : Setup) (change : Option MapChange) (old : ℕ) → change ≢ Some Reset → bit old 4 ≡ 1 →
+    bit (byte_with setup change smram old) 4 ≡ 1
 stored_stays setup None old other locked = locked
 stored_stays setup (Some Reset) old other locked = absurd (other refl)
 stored_stays setup (Some (Store at width value)) old other locked =
@@ -104,26 +124,33 @@ store_is_no_reset setup address (Wire dev on) = λ e. cc
 store_is_no_reset setup address (Line irq on) = λ e. cc
 store_is_no_reset setup address (BadSector sector) = λ e. cc
 
-no_reset_change : (setup : Setup) (before : List Entry) (event : Event) → is_hard_reset before event ≡ false → register_change setup before event ≢ Some Reset
+no_reset_change : (setup : Setup) (before : List Entry) (event : Event) → is_hard_reset before event ≡ false →
+    register_change setup before event ≢ Some Reset
 no_reset_change setup before event soft = rw soft (store_is_no_reset setup (config_address before) event)
 
-stays_locked : (setup : Setup) (before : List Entry) (entry : Entry) → is_hard_reset before entry.event ≡ false → IsLocked setup before → IsLocked setup (entry ∷ before)
+stays_locked : (setup : Setup) (before : List Entry) (entry : Entry) → is_hard_reset before entry.event ≡ false →
+    IsLocked setup before → IsLocked setup (entry ∷ before)
 unfolding byte_of IsLocked
 stays_locked setup before entry soft locked =
-    stored_stays setup (register_change setup before entry.event) (byte_of setup before smram) (no_reset_change setup before entry.event soft) locked
+    stored_stays setup (register_change setup before entry.event) (byte_of setup before smram)
+    (no_reset_change setup before entry.event soft) locked
 
-set_locks : (setup : Setup) (change : Option MapChange) (old : ℕ) → SetsLock change → bit (byte_with setup change smram old) 4 ≡ 1
+set_locks : (setup : Setup) (change : Option MapChange) (old : ℕ) → SetsLock change →
+    bit (byte_with setup change smram old) 4 ≡ 1
 set_locks setup None old sets = absurd sets
 set_locks setup (Some Reset) old sets = absurd sets
 set_locks setup (Some (Store at width value)) old sets =
     let o : bit old 4 < 2 = bit_below old 4 in
     rw (sets.0) (locked_after old (byte value (smram.off - at.off)) ∙ omega (arith, sets.1))
 
-is_locked_by : (setup : Setup) (before : List Entry) (lock : Entry) → SetsLock (register_change setup before lock.event) → IsLocked setup (lock ∷ before)
+is_locked_by : (setup : Setup) (before : List Entry) (lock : Entry) →
+    SetsLock (register_change setup before lock.event) → IsLocked setup (lock ∷ before)
 unfolding byte_of IsLocked
-is_locked_by setup before lock sets = set_locks setup (register_change setup before lock.event) (byte_of setup before smram) sets
+is_locked_by setup before lock sets = set_locks setup (register_change setup before lock.event)
+    (byte_of setup before smram) sets
 
-locked_since : (setup : Setup) (between older : List Entry) → NoHardReset between older → IsLocked setup older → IsLocked setup (between ++ older)
+locked_since : (setup : Setup) (between older : List Entry) → NoHardReset between older → IsLocked setup older →
+    IsLocked setup (between ++ older)
 locked_since setup [] older soft locked = locked
 locked_since setup (entry ∷ between) older soft locked =
     stays_locked setup (between ++ older) entry soft.0 (locked_since setup between older soft.1 locked)
@@ -134,7 +161,8 @@ AllLines : (Area → Type 0) → List (Option Area) → Type 0
 AllLines P [] = Unit {0}
 AllLines P (line ∷ later) = IfSome line P × AllLines P later
 
-first_holds : (P : Area → Type 0) (lines : List (Option Area)) (otherwise : Area) → AllLines P lines → P otherwise → P (first_of lines otherwise)
+first_holds : (P : Area → Type 0) (lines : List (Option Area)) (otherwise : Area) → AllLines P lines → P otherwise →
+    P (first_of lines otherwise)
 unfolding AllLines
 first_holds P [] otherwise each last = last
 first_holds P (None ∷ later) otherwise each last = first_holds P later otherwise each.1 last
@@ -174,7 +202,8 @@ no_smram_under row shadowed hole rom claim addr =
     five_hold IsNotSmram _ _ _ _ _ AbortArea
     (never_line IsNotSmram (is_smram_range addr) (is_some row) SmramArea)
     (where_holds IsNotSmram (is_some row && shadowed) (ShadowArea (unwrap_or row 0)) (λ e. cc))
-    (where_holds IsNotSmram (not (lies_in upper_memory addr) && is_some row && not hole) (DramArea (unwrap_or row 0)) (λ e. cc))
+    (where_holds IsNotSmram (not (lies_in upper_memory addr) && is_some row && not hole)
+    (DramArea (unwrap_or row 0)) (λ e. cc))
     (where_holds IsNotSmram rom RomArea (λ e. cc))
     (claim_holds claim)
     (λ e. cc)
@@ -184,7 +213,8 @@ shut_answers false closed kind = refl
 shut_answers true false kind = refl
 shut_answers true true kind = grind arith
 
-no_smram : (setup : Setup) (bytes : Bytes) (addr : ℕ) (kind : Kind) → bit (bytes smram) 6 ≡ 0 → area_of setup bytes addr kind false ≢ SmramArea
+no_smram : (setup : Setup) (bytes : Bytes) (addr : ℕ) (kind : Kind) → bit (bytes smram) 6 ≡ 0 →
+    area_of setup bytes addr kind false ≢ SmramArea
 unfolding area_of IsNotSmram
 no_smram setup bytes addr kind shut =
     let answers : smram_answers (bytes smram) kind false ≡ false =
@@ -224,21 +254,28 @@ no_smram_parts setup before shut (part ∷ parts) outside (reply ∷ replies) sa
     let rest : replies ≡ map (part_answer setup before) parts = cc in
     elim has [
       | inl here ↦
-          let named : target_at setup (area_of setup (byte_of setup before) part.addr part.kind part.smm) part.addr ≡ Smram =
+          let named : target_at setup (area_of setup (byte_of setup before) part.addr part.kind part.smm) part.addr
+          ≡ Smram =
           sym (ap (λ (p : Part). p.target) head) ∙ here in
-          let area : area_of setup (byte_of setup before) part.addr part.kind part.smm ≡ SmramArea = target_names setup _ part.addr named in
+          let area : area_of setup (byte_of setup before) part.addr part.kind part.smm ≡ SmramArea =
+          target_names setup _ part.addr named in
           no_smram setup (byte_of setup before) part.addr part.kind shut (rw outside.0 at area)
       | inr later ↦ no_smram_parts setup before shut parts outside.1 replies rest later
     ]
 
 -- each part is made in SMM where the whole is
-parts_smm : (access : WideAccess) (smm : Bool) → access.smm ≡ smm → (most addr left : ℕ) → AllByRecursion (λ part. part.smm ≡ smm) (parts_from access most addr left)
+parts_smm : (access : WideAccess) (smm : Bool) → access.smm ≡ smm → (most addr left : ℕ) →
+    AllByRecursion (λ part. part.smm ≡ smm) (parts_from access most addr left)
 unfolding parts_from
 parts_smm access smm is zero addr left = tt
 parts_smm access smm is (suc most) addr left =
     elim (cases_Bool (left == 0)) [
       | inl none ↦ rw none tt
-      | inr some ↦ rw some (is, parts_smm access smm is most (addr + bytes_of (longest_at addr left)) (left - bytes_of (longest_at addr left)))
+      | inr some ↦ rw some (
+        is,
+        parts_smm access smm is most (addr + bytes_of (longest_at addr left))
+            (left - bytes_of (longest_at addr left)),
+      )
     ]
 
 -- the answer to an access or a look outside SMM, with DOPEN at 0, does not name SMRAM
@@ -247,7 +284,8 @@ no_smram_answer :
     bit (byte_of setup before smram) 6 ≡ 0 → IsAnswer setup before event reply → IsOutsideSmm event → ¬ NamesSmram reply
 unfolding memory_answer
 no_smram_answer setup before (Memory access) reply shut answer outside names =
-    let named : target_at setup (area_of setup (byte_of setup before) access.addr access.kind access.smm) access.addr ≡ Smram =
+    let named : target_at setup (area_of setup (byte_of setup before) access.addr access.kind access.smm) access.addr
+    ≡ Smram =
     reply_names _ _ _ reply answer names in
     let area : area_of setup (byte_of setup before) access.addr access.kind access.smm ≡ SmramArea =
     target_names setup _ access.addr named in
@@ -272,7 +310,8 @@ no_smram_answer setup before (Line irq on) reply shut answer outside names = abs
 no_smram_answer setup before (BadSector sector) reply shut answer outside names = absurd outside
 
 -- an entry of a legal history is the next of those before it
-next_in : (setup : Setup) (after before : List Entry) (entry : Entry) → IsLegal setup (after ++ entry ∷ before) → IsNext setup before entry
+next_in : (setup : Setup) (after before : List Entry) (entry : Entry) → IsLegal setup (after ++ entry ∷ before) →
+    IsNext setup before entry
 next_in setup [] before entry legal = legal.0
 next_in setup (newer ∷ after) before entry legal = next_in setup after before entry legal.1
 
@@ -280,9 +319,11 @@ pub legal_keeps_lock : LegalKeepsLock
 unfolding IsLocked
 legal_keeps_lock setup history legal = record {
   locked = λ after between before later lock is sets soft outside.
-      let next : IsNext setup (between ++ lock ∷ before) later = next_in setup after (between ++ lock ∷ before) later (rw is at legal) in
+      let next : IsNext setup (between ++ lock ∷ before) later = next_in setup after (between ++ lock ∷ before) later
+      (rw is at legal) in
       let locked : IsLocked setup (between ++ lock ∷ before) =
       locked_since setup between (lock ∷ before) soft (is_locked_by setup before lock sets) in
-      let shut : bit (byte_of setup (between ++ lock ∷ before) smram) 6 ≡ 0 = (kept_of setup (between ++ lock ∷ before)).shut locked in
+      let shut : bit (byte_of setup (between ++ lock ∷ before) smram) 6 ≡ 0 =
+      (kept_of setup (between ++ lock ∷ before)).shut locked in
       no_smram_answer setup (between ++ lock ∷ before) later.event later.reply shut next.answer outside;
 }

@@ -1,7 +1,18 @@
 -- Areas and denials depend on the map bytes alone.
-use Rattle.std.proofs.Common.{◌≡◌, ℕ, zero, suc, ◌+◌, ◌*◌, ◌<◌, ◌≤◌, inl, inr, Bool, true, false, cond, ◌&&◌, ◌||◌, not, List, [], ◌∷◌, ◌++◌, length, get_or, Option, Some, None, refl, ◌∙◌, ap, arith, lit<, ◌==◌, nat_le, nat_lt, is_some, find, flat_map, All, if◌then◌else◌}
-use Rattle.board_spec.specs.Common.{AllByRecursion, enumerate_from, Kind, Reg, Base, MemoryBase, IoBase, OutsideBase, FittedCard, Setup, IsCard, IsCardList, Rises, card_at, rom_base, vga_base, vga_bits, has_rom, is_bit, is_within, Bytes, boundary, row_of, is_high_window, is_open, nibble, is_shadow_range, is_shadowed, Window, is_covered, base_value, memory_window, vga_window, memory_windows, rom_value, rom_window, rom_window_of, is_rom_on, unselected_windows, rom_unselected, pam_register, is_enabled_for, first_window, memory_claim, memory_shut, area_of, denial_of, bridge, pam, fdhc, smram, xbcs, card_register, card_command, base_register, expansion_rom, is_same, smram_range, system_bios, boundary_unit, SameMapBytes, MapBytesDecide}
+use Rattle.std.proofs.Common.{◌≡◌, ℕ, zero, suc, ◌+◌, ◌*◌, ◌<◌, ◌≤◌, inl, inr, Bool, true, false, cond, ◌&&◌, ◌||◌, not}
+use Rattle.std.proofs.Common.{List, [], ◌∷◌, ◌++◌, length, get_or, Option, Some, None, refl, ◌∙◌, ap, arith, lit<, ◌==◌}
+use Rattle.std.proofs.Common.{nat_le, nat_lt, is_some, find, flat_map, All, if◌then◌else◌}
+use Rattle.board_spec.specs.Common.{AllByRecursion, enumerate_from, Kind, Reg, Base, MemoryBase, IoBase, OutsideBase}
+use Rattle.board_spec.specs.Common.{FittedCard, Setup, IsCard, IsCardList, Rises, card_at, rom_base, vga_base, vga_bits}
+use Rattle.board_spec.specs.Common.{has_rom, is_bit, is_within, Bytes, boundary, row_of, is_high_window, is_open}
+use Rattle.board_spec.specs.Common.{nibble, is_shadow_range, is_shadowed, Window, is_covered, base_value, memory_window}
+use Rattle.board_spec.specs.Common.{vga_window, memory_windows, rom_value, rom_window, rom_window_of, is_rom_on}
+use Rattle.board_spec.specs.Common.{unselected_windows, rom_unselected, pam_register, is_enabled_for, first_window}
+use Rattle.board_spec.specs.Common.{memory_claim, memory_shut, area_of, denial_of, bridge, pam, fdhc, smram, xbcs}
+use Rattle.board_spec.specs.Common.{card_register, card_command, base_register, expansion_rom, is_same, smram_range}
+use Rattle.board_spec.specs.Common.{system_bios, boundary_unit, SameMapBytes, MapBytesDecide}
 use Rattle.device_spec.proofs.Common.{cases_Bool, eq-eqb, nat_tests, All-nil, All-cons, All-append, recursion_from_All}
+use Rattle.device_spec.proofs.Common.{or_right}
 
 -- ---- searches in lists
 
@@ -10,7 +21,8 @@ find_same p q [] same = refl
 find_same p q (x ∷ xs) (here, later) = rw here (ap (λ rest. cond (q x) (Some x) rest) (find_same p q xs later))
 
 -- each card of a list is found by its device number
-found : (cards : List FittedCard) (k : ℕ) (d : FittedCard) → k < length cards → is_some (find (λ card. card.dev == (get_or cards k d).dev) cards) ≡ true
+found : (cards : List FittedCard) (k : ℕ) (d : FittedCard) → k < length cards →
+    is_some (find (λ card. card.dev == (get_or cards k d).dev) cards) ≡ true
 found [] k d below = absurd (omega arith)
 found (card ∷ later) zero d below = rw (eq-eqb card.dev card.dev refl) refl
 found (card ∷ later) (suc k) d below =
@@ -18,10 +30,6 @@ found (card ∷ later) (suc k) d below =
       | inl here ↦ rw here refl
       | inr not ↦ rw not (found later k d (omega arith))
     ]
-
-or_right : (a b : Bool) → b ≡ true → (a || b) ≡ true
-or_right true b h = refl
-or_right false b h = h
 
 pub third : (a b fitted is d : Bool) → fitted ≡ true → is ≡ true → (a || b || fitted && true && is || d) ≡ true
 third true b fitted is d h k = refl
@@ -67,7 +75,16 @@ module _ (setup : Setup) (bytes other : Bytes) (same : SameMapBytes setup bytes 
   row_same addr =
       let below : (row : ℕ) → row < 8 → nat_lt addr (boundary bytes row) ≡ nat_lt addr (boundary other row) =
       λ row within. ap (λ end. nat_lt addr end) (boundary_same row within) in
-      rw (below 0 (lit< tt), below 1 (lit< tt), below 2 (lit< tt), below 3 (lit< tt), below 4 (lit< tt), below 5 (lit< tt), below 6 (lit< tt), below 7 (lit< tt)) refl
+      rw (
+        below 0 (lit< tt),
+        below 1 (lit< tt),
+        below 2 (lit< tt),
+        below 3 (lit< tt),
+        below 4 (lit< tt),
+        below 5 (lit< tt),
+        below 6 (lit< tt),
+        below 7 (lit< tt),
+      ) refl
 
   pam_same : (addr : ℕ) → is_shadow_range addr ≡ true → bytes (pam_register addr) ≡ other (pam_register addr)
   pam_same addr within =
@@ -90,7 +107,8 @@ module _ (setup : Setup) (bytes other : Bytes) (same : SameMapBytes setup bytes 
 
   -- the command of a card and its bases
   abbrev is_command_or_base : (dev off : ℕ) → Bool
-  is_command_or_base dev off = off == (card_command dev).off || is_within (base_register dev 0).off ((base_register dev 5).off + 3) off
+  is_command_or_base dev off = off == (card_command dev).off || is_within (base_register dev 0).off
+      ((base_register dev 5).off + 3) off
 
   abbrev is_in_rom : (dev off : ℕ) → Bool
   is_in_rom dev off = is_within (expansion_rom dev).off ((expansion_rom dev).off + 3) off
@@ -99,7 +117,8 @@ module _ (setup : Setup) (bytes other : Bytes) (same : SameMapBytes setup bytes 
   abbrev is_of_bridge : Reg → Bool
   is_of_bridge reg = reg.dev == 0 && reg.fun == 0 && (is_within (pam 0).off fdhc.off reg.off || reg.off == smram.off)
 
-  card_same : (dev off : ℕ) → IsFitted dev → is_command_or_base dev off ≡ true → bytes (card_register dev off) ≡ other (card_register dev off)
+  card_same : (dev off : ℕ) → IsFitted dev → is_command_or_base dev off ≡ true →
+      bytes (card_register dev off) ≡ other (card_register dev off)
   card_same dev off fitted is =
       same (card_register dev off)
       (third (is_of_bridge (card_register dev off)) (is_same (card_register dev off) xbcs)
@@ -109,7 +128,8 @@ module _ (setup : Setup) (bytes other : Bytes) (same : SameMapBytes setup bytes 
   abbrev HasRom : ℕ → Type 0
   HasRom dev = has_rom (card_at setup dev) ≡ true
 
-  rom_same : (dev off : ℕ) → HasRom dev → is_in_rom dev off ≡ true → bytes (card_register dev off) ≡ other (card_register dev off)
+  rom_same : (dev off : ℕ) → HasRom dev → is_in_rom dev off ≡ true →
+      bytes (card_register dev off) ≡ other (card_register dev off)
   rom_same dev off fitted is =
       same (card_register dev off)
       (fourth (is_of_bridge (card_register dev off)) (is_same (card_register dev off) xbcs)
@@ -123,7 +143,8 @@ module _ (setup : Setup) (bytes other : Bytes) (same : SameMapBytes setup bytes 
         ≡ (if is_rom_on other card.dev then rom_window other card else [])
     pub unselected : unselected_windows bytes card ≡ unselected_windows other card
 
-  rom_windows_with : (card : FittedCard) (rom : Option ℕ) → card.rom ≡ rom → (is_some rom ≡ true → HasRom card.dev) → SameRom card
+  rom_windows_with : (card : FittedCard) (rom : Option ℕ) → card.rom ≡ rom →
+      (is_some rom ≡ true → HasRom card.dev) → SameRom card
   rom_windows_with card None is has = record {
     selected = rw is (both_empty (is_rom_on bytes card.dev) (is_rom_on other card.dev));
     unselected = rw is (both_empty (is_rom_on bytes card.dev) (is_rom_on other card.dev));
@@ -132,18 +153,37 @@ module _ (setup : Setup) (bytes other : Bytes) (same : SameMapBytes setup bytes 
       let fitted : HasRom card.dev = has refl in
       let first : ℕ = (expansion_rom card.dev).off in
       record {
-        selected = rw (is, rom_same card.dev first fitted refl, rom_same card.dev (first + 1) fitted refl, rom_same card.dev (first + 2) fitted refl, rom_same card.dev (first + 3) fitted refl) refl;
-        unselected = rw (is, rom_same card.dev first fitted refl, rom_same card.dev (first + 1) fitted refl, rom_same card.dev (first + 2) fitted refl, rom_same card.dev (first + 3) fitted refl) refl;
+        selected = rw (
+          is,
+          rom_same card.dev first fitted refl,
+          rom_same card.dev (first + 1) fitted refl,
+          rom_same card.dev (first + 2) fitted refl,
+          rom_same card.dev (first + 3) fitted refl,
+        ) refl;
+        unselected = rw (
+          is,
+          rom_same card.dev first fitted refl,
+          rom_same card.dev (first + 1) fitted refl,
+          rom_same card.dev (first + 2) fitted refl,
+          rom_same card.dev (first + 3) fitted refl,
+        ) refl;
       }
 
   base_same : (dev k : ℕ) → IsFitted dev → k < 6 → base_value bytes dev k ≡ base_value other dev k
   base_same dev k fitted below =
       let first : ℕ = (base_register dev k).off in
-      let byte : (off : ℕ) → is_within (base_register dev 0).off ((base_register dev 5).off + 3) off ≡ true → bytes (card_register dev off) ≡ other (card_register dev off) =
+      let byte : (off : ℕ) → is_within (base_register dev 0).off ((base_register dev 5).off + 3) off ≡ true →
+      bytes (card_register dev off) ≡ other (card_register dev off) =
       λ off within. card_same dev off fitted (or_right (off == (card_command dev).off) _ within) in
-      rw (byte first (grind (arith, nat_tests)), byte (first + 1) (grind (arith, nat_tests)), byte (first + 2) (grind (arith, nat_tests)), byte (first + 3) (grind (arith, nat_tests))) refl
+      rw (
+        byte first (grind (arith, nat_tests)),
+        byte (first + 1) (grind (arith, nat_tests)),
+        byte (first + 2) (grind (arith, nat_tests)),
+        byte (first + 3) (grind (arith, nat_tests)),
+      ) refl
 
-  window_same : (dev k : ℕ) (base : Base) → IsFitted dev → k < 6 → memory_window bytes dev k base ≡ memory_window other dev k base
+  window_same : (dev k : ℕ) (base : Base) → IsFitted dev → k < 6 →
+      memory_window bytes dev k base ≡ memory_window other dev k base
   window_same dev k (MemoryBase bits) fitted below =
       ap (λ inside. record { dev = dev; base = k; inside = inside; bits = bits } ∷ []) (base_same dev k fitted below)
   window_same dev k (IoBase bits) fitted below = refl
@@ -151,15 +191,20 @@ module _ (setup : Setup) (bytes other : Bytes) (same : SameMapBytes setup bytes 
       ap (λ inside. record { dev = dev; base = k; inside = inside; bits = bits } ∷ []) (base_same dev k fitted below)
 
   abbrev windows_from : Bytes → (dev first : ℕ) → List Base → List Window
-  windows_from registers dev first bases = flat_map (λ numbered. memory_window registers dev numbered.0 numbered.1) (enumerate_from first bases)
+  windows_from registers dev first bases = flat_map (λ numbered. memory_window registers dev numbered.0 numbered.1)
+      (enumerate_from first bases)
 
-  bases_same : (dev first : ℕ) (bases : List Base) → IsFitted dev → first + length bases ≤ 6 → windows_from bytes dev first bases ≡ windows_from other dev first bases
+  bases_same : (dev first : ℕ) (bases : List Base) → IsFitted dev → first + length bases ≤ 6 →
+      windows_from bytes dev first bases ≡ windows_from other dev first bases
   bases_same dev first [] fitted count = refl
   bases_same dev first (base ∷ later) fitted count =
-      ap (λ windows. windows ++ windows_from bytes dev (first + 1) later) (window_same dev first base fitted (omega arith))
-      ∙ ap (λ windows. memory_window other dev first base ++ windows) (bases_same dev (first + 1) later fitted (omega arith))
+      ap (λ windows. windows ++ windows_from bytes dev (first + 1) later)
+      (window_same dev first base fitted (omega arith))
+      ∙ ap (λ windows. memory_window other dev first base ++ windows)
+      (bases_same dev (first + 1) later fitted (omega arith))
 
-  card_windows_same : (card : FittedCard) → IsFitted card.dev → SameRom card → length card.bases ≤ 6 → memory_windows bytes card ≡ memory_windows other card
+  card_windows_same : (card : FittedCard) → IsFitted card.dev → SameRom card → length card.bases ≤ 6 →
+      memory_windows bytes card ≡ memory_windows other card
   card_windows_same card fitted rom count =
       rw (bases_same card.dev 0 card.bases fitted (omega arith), rom.selected) refl
 
@@ -168,7 +213,8 @@ module _ (setup : Setup) (bytes other : Bytes) (same : SameMapBytes setup bytes 
       AllByRecursion IsCard cards → flat_map (memory_windows bytes) cards ≡ flat_map (memory_windows other) cards
   windows_same [] fitted roms each = refl
   windows_same (card ∷ later) fitted roms each =
-      ap (λ windows. windows ++ flat_map (memory_windows bytes) later) (card_windows_same card fitted.0 roms.0 each.0.count)
+      ap (λ windows. windows ++ flat_map (memory_windows bytes) later)
+      (card_windows_same card fitted.0 roms.0 each.0.count)
       ∙ ap (λ windows. memory_windows other card ++ windows) (windows_same later fitted.1 roms.1 each.1)
 
   unselected_same :
@@ -186,24 +232,30 @@ module _ (setup : Setup) (bytes other : Bytes) (same : SameMapBytes setup bytes 
   of_bases : (dev first : ℕ) (bases : List Base) → IsFitted dev → All IsOfCard (windows_from other dev first bases)
   of_bases dev first [] fitted = All-nil IsOfCard
   of_bases dev first (MemoryBase bits ∷ later) fitted =
-      All-cons IsOfCard (record { dev = dev; base = first; inside = base_value other dev first; bits = bits }) (windows_from other dev (first + 1) later) fitted (of_bases dev (first + 1) later fitted)
+      All-cons IsOfCard (record { dev = dev; base = first; inside = base_value other dev first; bits = bits })
+      (windows_from other dev (first + 1) later) fitted (of_bases dev (first + 1) later fitted)
   of_bases dev first (IoBase bits ∷ later) fitted = of_bases dev (first + 1) later fitted
   of_bases dev first (OutsideBase bits ∷ later) fitted =
-      All-cons IsOfCard (record { dev = dev; base = first; inside = base_value other dev first; bits = bits }) (windows_from other dev (first + 1) later) fitted (of_bases dev (first + 1) later fitted)
+      All-cons IsOfCard (record { dev = dev; base = first; inside = base_value other dev first; bits = bits })
+      (windows_from other dev (first + 1) later) fitted (of_bases dev (first + 1) later fitted)
 
   of_vga : (card : FittedCard) → IsFitted card.dev → All IsOfCard (vga_window card)
   of_vga card fitted =
       elim (cases_Bool card.vga) [
-        | inl vga ↦ rw vga (All-cons IsOfCard (record { dev = card.dev; base = vga_base; inside = smram_range.0; bits = vga_bits }) [] fitted (All-nil IsOfCard))
+        | inl vga ↦ rw vga
+            (All-cons IsOfCard (record { dev = card.dev; base = vga_base; inside = smram_range.0; bits = vga_bits }) []
+            fitted (All-nil IsOfCard))
         | inr plain ↦ rw plain (All-nil IsOfCard)
       ]
 
   of_rom : (dev : ℕ) (rom : Option ℕ) → IsFitted dev → All IsOfCard (rom_window_of other dev rom)
   of_rom dev None fitted = All-nil IsOfCard
   of_rom dev (Some bits) fitted =
-      All-cons IsOfCard (record { dev = dev; base = rom_base; inside = rom_value other dev; bits = bits }) [] fitted (All-nil IsOfCard)
+      All-cons IsOfCard (record { dev = dev; base = rom_base; inside = rom_value other dev; bits = bits }) [] fitted
+      (All-nil IsOfCard)
 
-  of_choice : (on : Bool) (left right : List Window) → All IsOfCard left → All IsOfCard right → All IsOfCard (if on then left else right)
+  of_choice : (on : Bool) (left right : List Window) → All IsOfCard left → All IsOfCard right →
+      All IsOfCard (if on then left else right)
   of_choice true left right l r = l
   of_choice false left right l r = r
 
@@ -212,19 +264,23 @@ module _ (setup : Setup) (bytes other : Bytes) (same : SameMapBytes setup bytes 
       let rom : List Window = if is_rom_on other card.dev then rom_window other card else [] in
       All-append IsOfCard (windows_from other card.dev 0 card.bases ++ rom) (vga_window card)
       (All-append IsOfCard (windows_from other card.dev 0 card.bases) rom (of_bases card.dev 0 card.bases fitted)
-      (of_choice (is_rom_on other card.dev) (rom_window other card) [] (of_rom card.dev card.rom fitted) (All-nil IsOfCard)))
+      (of_choice (is_rom_on other card.dev) (rom_window other card) [] (of_rom card.dev card.rom fitted)
+      (All-nil IsOfCard)))
       (of_vga card fitted)
 
   of_unselected : (card : FittedCard) → IsFitted card.dev → All IsOfCard (unselected_windows other card)
   of_unselected card fitted =
-      of_choice (is_rom_on other card.dev) [] (rom_window other card) (All-nil IsOfCard) (of_rom card.dev card.rom fitted)
+      of_choice (is_rom_on other card.dev) [] (rom_window other card) (All-nil IsOfCard)
+      (of_rom card.dev card.rom fitted)
 
   of_all :
       (windows : FittedCard → List Window) → ((card : FittedCard) → IsFitted card.dev → All IsOfCard (windows card)) →
-      (cards : List FittedCard) → AllByRecursion (λ card. IsFitted card.dev) cards → All IsOfCard (flat_map windows cards)
+      (cards : List FittedCard) → AllByRecursion (λ card. IsFitted card.dev) cards →
+      All IsOfCard (flat_map windows cards)
   of_all windows each [] fitted = All-nil IsOfCard
   of_all windows each (card ∷ later) fitted =
-      All-append IsOfCard (windows card) (flat_map windows later) (each card fitted.0) (of_all windows each later fitted.1)
+      All-append IsOfCard (windows card) (flat_map windows later) (each card fitted.0)
+      (of_all windows each later fitted.1)
 
   enabled_same : (dev : ℕ) → IsFitted dev → is_enabled_for 1 bytes dev ≡ is_enabled_for 1 other dev
   enabled_same dev fitted = ap (λ command. is_bit command 1) (card_same dev (card_command dev).off fitted refl)
@@ -244,17 +300,21 @@ module _ (setup : Setup) (bytes other : Bytes) (same : SameMapBytes setup bytes 
   -- two searches in the same windows of cards agree where they count the same cards
   first_same :
       (left right : ℕ → Bool) (addr : ℕ) (windows : List Window) → All IsOfCard windows →
-      ((dev : ℕ) → IsFitted dev → left dev ≡ right dev) → first_window left addr windows ≡ first_window right addr windows
+      ((dev : ℕ) → IsFitted dev → left dev ≡ right dev) →
+      first_window left addr windows ≡ first_window right addr windows
   first_same left right addr windows each counted =
-      find_same (λ window. left window.dev && is_covered addr window) (λ window. right window.dev && is_covered addr window) windows
-      (recursion_from_All (λ window. (left window.dev && is_covered addr window) ≡ (right window.dev && is_covered addr window)) windows
+      find_same (λ window. left window.dev && is_covered addr window)
+      (λ window. right window.dev && is_covered addr window) windows
+      (recursion_from_All (λ window. (left window.dev && is_covered addr window)
+      ≡ (right window.dev && is_covered addr window)) windows
       (λ k d below.
       let window : Window = get_or windows k d in
       ap (λ counts. counts && is_covered addr window) (counted window.dev (each k d below))))
 
   memory_same :
       (left right : ℕ → Bool) (addr : ℕ) → ((dev : ℕ) → IsFitted dev → left dev ≡ right dev) → IsCardList setup.cards →
-      first_window left addr (flat_map (memory_windows bytes) setup.cards) ≡ first_window right addr (flat_map (memory_windows other) setup.cards)
+      first_window left addr (flat_map (memory_windows bytes) setup.cards) ≡ first_window right addr
+      (flat_map (memory_windows other) setup.cards)
   memory_same left right addr counted list =
       ap (λ windows. first_window left addr windows)
       (windows_same setup.cards fitted_cards (rom_cards list) (recursion_from_All IsCard setup.cards list.each))
@@ -270,7 +330,8 @@ module _ (setup : Setup) (bytes other : Bytes) (same : SameMapBytes setup bytes 
       memory_same (λ dev. not (is_enabled_for 1 bytes dev)) (λ dev. not (is_enabled_for 1 other dev)) addr
       (λ dev fitted. ap (λ enabled. not enabled) (enabled_same dev fitted)) list
 
-  not_selected_same : (addr : ℕ) → IsCardList setup.cards → rom_unselected setup bytes addr ≡ rom_unselected setup other addr
+  not_selected_same : (addr : ℕ) → IsCardList setup.cards →
+      rom_unselected setup bytes addr ≡ rom_unselected setup other addr
   unfolding rom_unselected
   not_selected_same addr list =
       ap (λ windows. first_window (is_enabled_for 1 bytes) addr windows) (unselected_same setup.cards (rom_cards list))
@@ -279,15 +340,30 @@ module _ (setup : Setup) (bytes other : Bytes) (same : SameMapBytes setup bytes 
 
   -- ---- areas and denials
 
-  area_same : (addr : ℕ) (kind : Kind) (smm : Bool) → IsCardList setup.cards → area_of setup bytes addr kind smm ≡ area_of setup other addr kind smm
+  area_same : (addr : ℕ) (kind : Kind) (smm : Bool) → IsCardList setup.cards →
+      area_of setup bytes addr kind smm ≡ area_of setup other addr kind smm
   unfolding area_of
   area_same addr kind smm list =
-      rw (row_same addr, same smram refl, shadow_same addr kind, same fdhc refl, same xbcs refl, claim_same addr list) refl
+      rw (
+        row_same addr,
+        same smram refl,
+        shadow_same addr kind,
+        same fdhc refl,
+        same xbcs refl,
+        claim_same addr list,
+      ) refl
 
-  denial_same : (addr : ℕ) (kind : Kind) (smm : Bool) → IsCardList setup.cards → denial_of setup bytes addr kind smm ≡ denial_of setup other addr kind smm
+  denial_same : (addr : ℕ) (kind : Kind) (smm : Bool) → IsCardList setup.cards →
+      denial_of setup bytes addr kind smm ≡ denial_of setup other addr kind smm
   unfolding denial_of
   denial_same addr kind smm list =
-      rw (area_same addr kind smm list, boundary_same 7 (lit< tt), shut_same addr list, not_selected_same addr list, same xbcs refl) refl
+      rw (
+        area_same addr kind smm list,
+        boundary_same 7 (lit< tt),
+        shut_same addr list,
+        not_selected_same addr list,
+        same xbcs refl,
+      ) refl
 
 pub map_bytes_decide : MapBytesDecide
 map_bytes_decide setup bytes other list same addr kind smm =

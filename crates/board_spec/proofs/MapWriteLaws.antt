@@ -1,7 +1,11 @@
 -- The map registers depend on the map writes alone.
-use Rattle.std.proofs.Common.{◌≡◌, ℕ, ◌+◌, ◌-◌, ◌<◌, ◌≤◌, inl, inr, Bool, true, false, ◌||◌, List, [], ◌∷◌, ◌++◌, Option, Some, None, refl, sym, ◌∙◌, ap, subst, arith, take, if◌then◌else◌, option_and_then}
-use Rattle.board_spec.specs.Common.{list_any, option_to_list, Width, One, Two, Four, Reg, bytes_of, Setup, covers, changed_byte, byte_with, byte_of, register_change, is_map_byte, reg_after, touches_map, map_change_of, map_writes_of, registers_after, MapWritesDecide}
-use Rattle.device_spec.proofs.Common.{cases_eq, cases_Bool, nat_tests}
+use Rattle.std.proofs.Common.{◌≡◌, ℕ, ◌+◌, ◌-◌, ◌<◌, ◌≤◌, inl, inr, Bool, true, false, List, [], ◌∷◌, ◌++◌}
+use Rattle.std.proofs.Common.{Option, Some, None, refl, sym, ◌∙◌, ap, subst, arith, take, if◌then◌else◌}
+use Rattle.std.proofs.Common.{option_and_then}
+use Rattle.board_spec.specs.Common.{list_any, option_to_list, Width, One, Two, Four, Reg, bytes_of, Setup, covers}
+use Rattle.board_spec.specs.Common.{changed_byte, byte_with, byte_of, register_change, is_map_byte, reg_after}
+use Rattle.board_spec.specs.Common.{touches_map, map_change_of, map_writes_of, registers_after, MapWritesDecide}
+use Rattle.device_spec.proofs.Common.{cases_eq, cases_Bool, nat_tests, or_right, or_left}
 use Rattle.board_spec.specs.declared.map_change.MapChange.{MapChange}
 use Rattle.board_spec.specs.declared.map_change.MapChange.TheVariants.{Store, Reset}
 
@@ -29,13 +33,6 @@ same_reg at reg width h =
     let dev : at.dev ≡ reg.dev = h.dev in
     let fun : at.fun ≡ reg.fun = h.fun in
     let same : reg_made at.dev at.fun (at.off + (reg.off - at.off)) ≡ reg_made reg.dev reg.fun reg.off = cc in same
-
-or_left : (a b : Bool) → a ≡ true → (a || b) ≡ true
-or_left a b h = rw h refl
-
-or_right : (a b : Bool) → b ≡ true → (a || b) ≡ true
-or_right true b h = refl
-or_right false b h = h
 
 -- a test that holds at a place below four, or below two, holds of some place
 any_of_four : (p : ℕ → Bool) (k : ℕ) → k < 4 → p k ≡ true → list_any p (0 ∷ 1 ∷ 2 ∷ 3 ∷ []) ≡ true
@@ -107,5 +104,6 @@ pub map_writes_decide : MapWritesDecide
 unfolding byte_of map_change_of map_writes_of registers_after
 map_writes_decide setup [] reg is = refl
 map_writes_decide setup (entry ∷ before) reg is =
-    changed_step setup (register_change setup before entry.event) (map_writes_of setup before) reg (byte_of setup before reg) is
+    changed_step setup (register_change setup before entry.event) (map_writes_of setup before) reg
+    (byte_of setup before reg) is
     (map_writes_decide setup before reg is)

@@ -1,7 +1,11 @@
 -- Memory accesses and looks leave the devices, the lines and the pair.
 use Rattle.std.proofs.Common.{◌≡◌, ℕ, Bool, false, List, ◌∷◌, refl, ◌∙◌, ap, unwrap_or, Option, None}
 use Rattle.std.proofs.lemmas.Bool.{cond-false}
-use Rattle.board_spec.specs.Common.{SameLevelsAgain, Triggers, Clock, Disk, PitState, out_of, Reg, Setup, is_hard_reset, byte_with, register_change, byte_of, pirq, SystemPort, wire_set, wire_of, line_set, irq_of, triggers_of, triggers_after, system_of, system_after, timer_of, timer_after, clock_of, clock_after, disk_with, disk_after, pirqs, levels_of, ActsOnPair, IsOfMemory, MemoryLeavesDevices}
+use Rattle.board_spec.specs.Common.{SameLevelsAgain, Triggers, Clock, Disk, PitState, out_of, Reg, Setup, is_hard_reset}
+use Rattle.board_spec.specs.Common.{byte_with, register_change, byte_of, pirq, SystemPort, wire_set, wire_of, line_set}
+use Rattle.board_spec.specs.Common.{irq_of, triggers_of, triggers_after, system_of, system_after, timer_of, timer_after}
+use Rattle.board_spec.specs.Common.{clock_of, clock_after, disk_with, disk_after, pirqs, levels_of, ActsOnPair}
+use Rattle.board_spec.specs.Common.{IsOfMemory, MemoryLeavesDevices}
 use Rattle.board_spec.specs.declared.event.Event.{Event}
 use Rattle.board_spec.specs.declared.event.Event.TheVariants.{Port, Ack, Pulses, Time, Wire, Line, BadSector}
 use Rattle.board_spec.specs.declared.event.Reply.{Reply}

@@ -1,10 +1,14 @@
 -- The orders in which a script may run: complete, begun, and how a begun history goes on.
-use Rattle.std.proofs.Common.{◌≡◌, ◌≢◌, ℕ, ◌+◌, inl, inr, List, [], ◌∷◌, ◌++◌, length, take, drop, refl, sym, ◌∙◌, ap, subst, arith, append_assoc, map, reverse, filter, ◌==◌}
-use Rattle.device_spec.proofs.Common.{take-append_seam, drop-append_seam, take-append-le, drop-append-le, length-append, take_all, map-append, append-nil, reverse-append, filter-append, cases_lt}
+use Rattle.std.proofs.Common.{◌≡◌, ◌≢◌, ℕ, ◌+◌, inl, inr, List, [], ◌∷◌, ◌++◌, length, take, drop, refl, sym, ◌∙◌, ap}
+use Rattle.std.proofs.Common.{subst, arith, append_assoc, map, reverse, filter, ◌==◌}
+use Rattle.device_spec.proofs.Common.{take-append_seam, drop-append_seam, take-append-le, drop-append-le, length-append}
+use Rattle.device_spec.proofs.Common.{take_all, map-append, append-nil, reverse-append, filter-append, cases_lt}
 use Rattle.board_spec.specs.declared.event.Event.{Event}
 use Rattle.board_spec.specs.declared.event.Entry.{Entry}
 use Rattle.board_spec.specs.declared.event.Statement.{Statement}
-use Rattle.board_spec.specs.Common.{statement_of, statements_of, events_by, BeginsWith, IsWholePhase, IsFrontOfPhase, HasPhases, HasPhasesSoFar, in_file_order, ReplayIsComplete, CompleteIsBegun, FrontIsBegun}
+use Rattle.board_spec.specs.Common.{statement_of, statements_of, events_by, BeginsWith, IsWholePhase, IsFrontOfPhase}
+use Rattle.board_spec.specs.Common.{HasPhases, HasPhasesSoFar, in_file_order, ReplayIsComplete, CompleteIsBegun}
+use Rattle.board_spec.specs.Common.{FrontIsBegun}
 
 -- ---- complete
 
@@ -34,7 +38,7 @@ complete_is_begun phases history complete = so_far phases (statements_of history
 
 -- ---- one statement more
 
-events-append :
+pub events-append :
     (actor : ℕ) (first later : List Statement) →
     events_by actor (first ++ later) ≡ events_by actor first ++ events_by actor later
 events-append actor first later =
@@ -44,11 +48,15 @@ events-append actor first later =
     (filter (λ (statement : Statement). statement.actor == actor) first)
     (filter (λ (statement : Statement). statement.actor == actor) later)
 
+pub statements-append :
+    (more before : List Entry) → statements_of (more ++ before) ≡ statements_of before ++ statements_of more
+statements-append more before =
+    ap (map statement_of) (reverse-append more before) ∙ map-append statement_of (reverse before) (reverse more)
+
 pub statements-newest :
     (entry : Entry) (before : List Entry) →
     statements_of (entry ∷ before) ≡ statements_of before ++ statement_of entry ∷ []
-statements-newest entry before =
-    ap (map statement_of) (reverse-append (entry ∷ []) before) ∙ map-append statement_of (reverse before) (entry ∷ [])
+statements-newest entry before = statements-append (entry ∷ []) before
 
 shorter_front : (longer first later : List Event) → BeginsWith longer (first ++ later) → BeginsWith longer first
 shorter_front longer first later begins =
@@ -64,7 +72,8 @@ shorter_phase phase first later front = record {
       (subst (BeginsWith (events_by actor phase)) (events-append actor first later) (front.each actor));
 }
 
-pub whole_is_front : (phase : List Statement) (part : List Statement) → IsWholePhase phase part → IsFrontOfPhase phase part
+pub whole_is_front : (phase : List Statement) (part : List Statement) → IsWholePhase phase part →
+    IsFrontOfPhase phase part
 whole_is_front phase part whole = record {
   size = let s = whole.size in omega arith;
   each = λ actor. record { rest = []; whole = sym (whole.each actor) ∙ sym (append-nil (events_by actor part)) };

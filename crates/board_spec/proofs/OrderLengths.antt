@@ -1,9 +1,11 @@
 -- How long a history is that a script's phases may make.
-use Rattle.std.proofs.Common.{◌≡◌, ℕ, ◌+◌, ◌-◌, ◌≤◌, List, [], ◌∷◌, ◌++◌, length, take, drop, min, sym, ◌∙◌, ap, subst, inl, inr, arith, reverse}
+use Rattle.std.proofs.Common.{◌≡◌, ℕ, ◌+◌, ◌-◌, ◌≤◌, List, [], ◌∷◌, ◌++◌, length, take, drop, min, sym, ◌∙◌, ap, subst}
+use Rattle.std.proofs.Common.{inl, inr, arith, reverse}
 use Rattle.std.proofs.lemmas.List.{length-append, length-take, length-drop, length-map, length-reverse}
 use Rattle.board_spec.specs.declared.event.Entry.{Entry}
 use Rattle.board_spec.specs.declared.event.Statement.{Statement}
-use Rattle.board_spec.specs.Common.{statement_of, statements_of, IsWholePhase, HasPhases, HasPhasesSoFar, in_file_order, BegunIsBounded, WholeIsComplete, CompleteIsWhole}
+use Rattle.board_spec.specs.Common.{statement_of, statements_of, IsWholePhase, HasPhases, HasPhasesSoFar, in_file_order}
+use Rattle.board_spec.specs.Common.{BegunIsBounded, WholeIsComplete, CompleteIsWhole}
 use Rattle.board_spec.proofs.GoesOnProofs.{none_so_far, whole_front, nothing_left}
 
 -- a whole phase and what follows it

@@ -1,7 +1,15 @@
 -- The pair has seen the lines as they stand.
-use Rattle.std.proofs.Common.{◌≡◌, ℕ, zero, suc, ◌+◌, ◌*◌, Bool, false, List, [], ◌∷◌, refl, ◌∙◌, ap, inr, if◌then◌else◌, unwrap_or, map}
+use Rattle.std.proofs.Common.{◌≡◌, ℕ, zero, suc, ◌+◌, ◌*◌, Bool, false, List, [], ◌∷◌, refl, ◌∙◌, ap, inr}
+use Rattle.std.proofs.Common.{if◌then◌else◌, unwrap_or, map}
 use Rattle.std.proofs.lemmas.Bool.{cond-false}
-use Rattle.board_spec.specs.Common.{Triggers, PitState, pulses, reset as timer_at_reset, Pair, pair_at_reset, pair_after_lines, levels_at_power_on, levels_where, SameLevelsAgain, Setup, is_hard_reset, byte_with, register_change, byte_of, pirq, wire_set, wire_of, line_set, irq_of, triggers_of, triggers_after, timer_of, timer_after, clock_of, clock_after, disk_with, disk_after, triggers_at_reset, after_reset as clock_after_reset, routes_of, levels_with, levels_of, elcr_of, pair_pulsed, pair_stepped, pair_reset_or_after, pair_of, ActsOnPair, PairHasSeen, PairStays}
+use Rattle.board_spec.specs.Common.{Triggers, PitState, pulses, reset as timer_at_reset, Pair, pair_at_reset}
+use Rattle.board_spec.specs.Common.{pair_after_lines, levels_at_power_on, levels_where, SameLevelsAgain, Setup}
+use Rattle.board_spec.specs.Common.{is_hard_reset, byte_with, register_change, byte_of, pirq, wire_set, wire_of}
+use Rattle.board_spec.specs.Common.{line_set, irq_of, triggers_of, triggers_after, timer_of, timer_after, clock_of}
+use Rattle.board_spec.specs.Common.{clock_after, disk_with, disk_after, triggers_at_reset}
+use Rattle.board_spec.specs.Common.{after_reset as clock_after_reset, routes_of, levels_with, levels_of, elcr_of}
+use Rattle.board_spec.specs.Common.{pair_pulsed, pair_stepped, pair_reset_or_after, pair_of, ActsOnPair, PairHasSeen}
+use Rattle.board_spec.specs.Common.{PairStays}
 use Rattle.board_spec.specs.declared.event.Event.{Event}
 use Rattle.board_spec.specs.declared.event.Event.TheVariants.{Port, Pulses}
 use Rattle.board_spec.specs.declared.event.Reply.{Reply}

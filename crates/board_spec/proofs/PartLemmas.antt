@@ -1,7 +1,10 @@
 -- A wide access is cut by widths, and its parts are those of the widths, one after the other.
-use Rattle.std.proofs.Common.{◌≡◌, ◌≢◌, ℕ, zero, suc, ◌+◌, ◌-◌, ◌%◌, ◌≤◌, ◌<◌, ◌⊎◌, inl, inr, false, ◌&&◌, List, [], ◌∷◌, length, refl, sym, ◌∙◌, ap, subst, arith, ◌==◌, nat_le}
-use Rattle.std.proofs.lemmas.Bool.{cases_eq, cond-true, cond-false, eq-eqb, ne_eqb, and_from, and_left, and_right, le-leb, lt-leb}
-use Rattle.board_spec.specs.Common.{Width, One, Two, Four, WideAccess, bytes_of, IsWideAccess, longest_at, part_at, parts_from, parts_of}
+use Rattle.std.proofs.Common.{◌≡◌, ◌≢◌, ℕ, zero, suc, ◌+◌, ◌-◌, ◌%◌, ◌≤◌, ◌<◌, ◌⊎◌, inl, inr, false, ◌&&◌, List, []}
+use Rattle.std.proofs.Common.{◌∷◌, length, refl, sym, ◌∙◌, ap, subst, arith, ◌==◌, nat_le}
+use Rattle.std.proofs.lemmas.Bool.{cases_eq, cond-true, cond-false, eq-eqb, ne_eqb, and_from, and_left, and_right}
+use Rattle.std.proofs.lemmas.Bool.{le-leb, lt-leb}
+use Rattle.board_spec.specs.Common.{Width, One, Two, Four, WideAccess, bytes_of, IsWideAccess, longest_at, part_at}
+use Rattle.board_spec.specs.Common.{parts_from, parts_of}
 use Rattle.board_base.specs.declared.access.Access.{Access}
 
 -- ---- the next part

@@ -1,9 +1,15 @@
 -- Every event has one answer, and every list of statements one replay.
-use Rattle.std.proofs.Common.{◌≡◌, ℕ, ◌+◌, Bool, List, [], ◌∷◌, ◌++◌, refl, sym, ◌∙◌, ap, length, append_assoc, ◌≢◌, zero, suc, ◌-◌, ◌<◌, ◌≤◌, ◌==◌, Option, map, reverse, arith, inl, inr, ne_eqb}
-use Rattle.device_spec.proofs.Common.{cases_Bool, nat_tests, length-map, append-nil, reverse-reverse, reverse-append, map-append, recursion_from_All}
-use Rattle.board_spec.specs.Common.{AllByRecursion, Width, Kind, WideAccess, bytes_of, Area, Setup, byte_of, version_of, longest_at, parts_from, parts_of, parts_list, IsWideAccess, part_answer, wide_value, IsLookAnswer, IsAnswer, entries_by, IsNext, IsLegal, statement_of, statements_of, IsAddressed, SomeAnswer, OneAnswer, SomeReplay, OneReplay}
+use Rattle.std.proofs.Common.{◌≡◌, ℕ, ◌+◌, Bool, List, [], ◌∷◌, ◌++◌, refl, sym, ◌∙◌, ap, length, append_assoc, ◌≢◌}
+use Rattle.std.proofs.Common.{zero, suc, ◌-◌, ◌<◌, ◌≤◌, ◌==◌, Option, map, reverse, arith, inl, inr, ne_eqb}
+use Rattle.device_spec.proofs.Common.{cases_Bool, nat_tests, length-map, append-nil, reverse-reverse, reverse-append}
+use Rattle.device_spec.proofs.Common.{recursion_from_All}
+use Rattle.board_spec.specs.Common.{AllByRecursion, Width, Kind, WideAccess, bytes_of, Area, Setup, byte_of, version_of}
+use Rattle.board_spec.specs.Common.{longest_at, parts_from, parts_of, parts_list, IsWideAccess, part_answer, wide_value}
+use Rattle.board_spec.specs.Common.{IsLookAnswer, IsAnswer, entries_by, IsNext, IsLegal, statement_of, statements_of}
+use Rattle.board_spec.specs.Common.{IsAddressed, SomeAnswer, OneAnswer, SomeReplay, OneReplay}
 use Rattle.board_spec.specs.declared.event.Event.{Event}
-use Rattle.board_spec.specs.declared.event.Event.TheVariants.{Memory, Wide, Port, Look as LookAt, Ack, Pulses, Time, Wire, Line, BadSector}
+use Rattle.board_spec.specs.declared.event.Event.TheVariants.{Memory, Wide, Port, Look as LookAt, Ack, Pulses, Time}
+use Rattle.board_spec.specs.declared.event.Event.TheVariants.{Wire, Line, BadSector}
 use Rattle.board_spec.specs.declared.event.Look.{Look}
 use Rattle.board_spec.specs.declared.event.Reply.{Reply}
 use Rattle.board_spec.specs.declared.event.Part.{Part}
@@ -13,6 +19,7 @@ use Rattle.board_spec.specs.declared.event.Reply.TheVariants.{Bus, Parts as InPa
 use Rattle.board_spec.specs.declared.event.Entry.{Entry}
 use Rattle.board_spec.specs.declared.event.Statement.{Statement}
 use Rattle.board_spec.proofs.SpanLaws.{some_span, one_span}
+use Rattle.board_spec.proofs.OrderLawProofs.{statements-newest}
 
 -- ---- the parts of a wide access
 
@@ -60,7 +67,8 @@ some_part : (access : WideAccess) (most addr left : ℕ) → left ≢ 0 → 1 �
 unfolding parts_from
 some_part access most addr left some = rw (ne_eqb left 0 some) (omega arith)
 
-shorter_part : (access : WideAccess) → IsWideAccess access → bytes_of (longest_at access.addr access.bytes) < access.bytes
+shorter_part : (access : WideAccess) → IsWideAccess access →
+    bytes_of (longest_at access.addr access.bytes) < access.bytes
 shorter_part access wide = grind (arith, nat_tests)
 
 two_parts : (access : WideAccess) → IsWideAccess access → 2 ≤ length (parts_of access)
@@ -69,12 +77,14 @@ two_parts access wide =
     let width : Width = longest_at access.addr access.bytes in
     let shorter : bytes_of width < access.bytes = shorter_part access wide in
     let later : 1 ≤ length (parts_from access 3 (access.addr + bytes_of width) (access.bytes - bytes_of width)) =
-    some_part access 2 (access.addr + bytes_of width) (access.bytes - bytes_of width) (λ e. omega (arith, e, shorter)) in
+    some_part access 2 (access.addr + bytes_of width) (access.bytes - bytes_of width)
+    (λ e. omega (arith, e, shorter)) in
     rw (ne_eqb access.bytes 0 (λ e. omega (arith, e, shorter))) (omega (arith, later))
 
 parts_counted :
     (setup : Setup) (before : List Entry) (access : WideAccess) → IsWideAccess access →
-    (2 ≤ length (map (part_answer setup before) (parts_of access))) × (length (map (part_answer setup before) (parts_of access)) ≤ 4)
+    (2 ≤ length (map (part_answer setup before) (parts_of access)))
+    × (length (map (part_answer setup before) (parts_of access)) ≤ 4)
 parts_counted setup before access wide =
     let same : length (map (part_answer setup before) (parts_of access)) ≡ length (parts_of access) =
     length-map (parts_of access) (part_answer setup before) in
@@ -85,7 +95,8 @@ parts_counted setup before access wide =
 pub some_answer : SomeAnswer
 some_answer setup before (Memory access) addressed = record { reply = _; answer = refl }
 some_answer setup before (Wide access) addressed =
-    let some = some_parts (map (part_answer setup before) (parts_of access)) (parts_counted setup before access addressed) in
+    let some = some_parts (map (part_answer setup before) (parts_of access))
+    (parts_counted setup before access addressed) in
     record {
       reply = InParts some.parts (wide_value setup before access);
       answer = record { value_is = refl; each = some.same };
@@ -107,17 +118,20 @@ some_answer setup before (BadSector sector) addressed = record { reply = _; answ
 look_made : ℕ → ℕ → ℕ → Area → Look
 look_made version lo hi area = record { version = version; lo = lo; hi = hi; area = area }
 
-same_look : (left right : Look) → left.version ≡ right.version → left.lo ≡ right.lo → left.hi ≡ right.hi → left.area ≡ right.area → Saw left ≡ Saw right
+same_look : (left right : Look) → left.version ≡ right.version → left.lo ≡ right.lo → left.hi ≡ right.hi →
+    left.area ≡ right.area → Saw left ≡ Saw right
 unfolding look_made
 same_look left right v l h a =
-    let same : look_made left.version left.lo left.hi left.area ≡ look_made right.version right.lo right.hi right.area = cc in
+    let same : look_made left.version left.lo left.hi left.area ≡ look_made right.version right.lo right.hi right.area =
+    cc in
     ap Saw same
 
 one_look :
     (setup : Setup) (before : List Entry) (kind : Kind) (addr : ℕ) (smm : Bool) (left right : Look) →
     IsLookAnswer setup before kind addr smm left → IsLookAnswer setup before kind addr smm right → Saw left ≡ Saw right
 one_look setup before kind addr smm left right l r =
-    let same = one_span setup (byte_of setup before) addr kind smm left.lo left.hi right.lo right.hi left.area right.area l.span r.span in
+    let same = one_span setup (byte_of setup before) addr kind smm left.lo left.hi right.lo right.hi left.area
+    right.area l.span r.span in
     same_look left right (l.version ∙ sym r.version) same.0 same.1 same.2
 
 pub one_answer : OneAnswer
@@ -131,7 +145,8 @@ one_answer setup before (Wide access) (InParts parts value) (Saw look) l r = abs
 one_answer setup before (LookAt kind addr smm) (InParts parts value) right l r = absurd l
 one_answer setup before (LookAt kind addr smm) (Saw left) (InParts parts value) l r = absurd r
 one_answer setup before (Port access) left right l r = l ∙ sym r
-one_answer setup before (LookAt kind addr smm) (Saw left) (Saw right) l r = one_look setup before kind addr smm left right l r
+one_answer setup before (LookAt kind addr smm) (Saw left) (Saw right) l r =
+    one_look setup before kind addr smm left right l r
 one_answer setup before (LookAt kind addr smm) (Bus value target denial) right l r = absurd l
 one_answer setup before (LookAt kind addr smm) (Saw left) (Bus value target denial) l r = absurd r
 one_answer setup before Ack left right l r = l ∙ sym r
@@ -143,12 +158,12 @@ one_answer setup before (BadSector sector) left right l r = l ∙ sym r
 
 -- ---- replays
 
-entry_made : ℕ → ℕ → Event → Reply → Entry
+unfoldable pub entry_made : ℕ → ℕ → Event → Reply → Entry
 entry_made actor seq event reply = record { actor = actor; seq = seq; event = event; reply = reply }
 
-statements-newest : (entry : Entry) (before : List Entry) → statements_of (entry ∷ before) ≡ statements_of before ++ statement_of entry ∷ []
-statements-newest entry before =
-    ap (map statement_of) (reverse-append (entry ∷ []) before) ∙ map-append statement_of (reverse before) (entry ∷ [])
+pub legal_before : (setup : Setup) (more before : List Entry) → IsLegal setup (more ++ before) → IsLegal setup before
+legal_before setup [] before legal = legal
+legal_before setup (entry ∷ more) before legal = legal_before setup more before legal.1
 
 record Extended (setup : Setup) (before : List Entry) (statements : List Statement) : Type 0 where
   pub history : List Entry
@@ -159,7 +174,11 @@ extended :
     (setup : Setup) (before : List Entry) (statements : List Statement) → IsLegal setup before →
     AllByRecursion (λ statement. IsAddressed statement.event) statements → Extended setup before statements
 unfolding entry_made
-extended setup before [] legal addressed = record { history = before; legal = legal; same = sym (append-nil (statements_of before)) }
+extended setup before [] legal addressed = record {
+  history = before;
+  legal = legal;
+  same = sym (append-nil (statements_of before));
+}
 extended setup before (statement ∷ later) legal addressed =
     let answered = some_answer setup before statement.event addressed.0 in
     let seq : ℕ = length (entries_by statement.actor before) + 1 in
@@ -177,7 +196,8 @@ extended setup before (statement ∷ later) legal addressed =
 
 pub some_replay : SomeReplay
 some_replay setup statements addressed =
-    let more = extended setup [] statements tt (recursion_from_All (λ statement. IsAddressed statement.event) statements addressed) in
+    let more = extended setup [] statements tt (recursion_from_All (λ statement. IsAddressed statement.event)
+    statements addressed) in
     record { history = more.history; replay = record { legal = more.legal; same = more.same } }
 
 same_entry :
@@ -187,10 +207,12 @@ unfolding entry_made
 same_entry setup before left right l r same =
     let actor : left.actor ≡ right.actor = ap (λ (s : Statement). s.actor) same in
     let event : left.event ≡ right.event = ap (λ (s : Statement). s.event) same in
-    let number : left.seq ≡ right.seq = l.number ∙ ap (λ (a : ℕ). length (entries_by a before) + 1) actor ∙ sym r.number in
+    let number : left.seq ≡ right.seq = l.number ∙ ap (λ (a : ℕ). length (entries_by a before) + 1) actor
+    ∙ sym r.number in
     let answer : IsAnswer setup before left.event right.reply = rw event r.answer in
     let reply : left.reply ≡ right.reply = one_answer setup before left.event left.reply right.reply l.answer answer in
-    let whole : entry_made left.actor left.seq left.event left.reply ≡ entry_made right.actor right.seq right.event right.reply = cc in
+    let whole : entry_made left.actor left.seq left.event left.reply ≡ entry_made right.actor right.seq right.event
+    right.reply = cc in
     whole
 
 same_history :

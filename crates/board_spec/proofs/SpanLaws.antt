@@ -1,5 +1,6 @@
 -- Every address lies in exactly one span of a column.
-use Rattle.std.proofs.Common.{◌≡◌, ◌≢◌, ℕ, zero, suc, ◌+◌, ◌-◌, ◌≤◌, ◌⊎◌, inl, inr, Bool, refl, sym, ◌∙◌, ap, subst, arith, ◌==◌, if◌then◌else◌}
+use Rattle.std.proofs.Common.{◌≡◌, ◌≢◌, ℕ, zero, suc, ◌+◌, ◌-◌, ◌≤◌, ◌⊎◌, inl, inr, Bool, refl, sym, ◌∙◌, ap, subst}
+use Rattle.std.proofs.Common.{arith, ◌==◌, if◌then◌else◌}
 use Rattle.std.proofs.lemmas.Bool.{cases_lt, cases_eq}
 use Rattle.board_spec.specs.Common.{Kind, Area, Setup, Bytes, area_of, address_count, IsSpan, SomeSpan, OneSpan}
 use Rattle.board_base.specs.declared.target.Area.TheVariants.{Dram, Shadow, Smram, Rom, Card, Abort}
@@ -93,7 +94,10 @@ low_end f (suc n) =
                   | inl less ↦ below.same x h (omega arith) ∙ equal
                   | inr not_less ↦ only_here f (suc n) x not_less k
                 ];
-            begins = elim below.begins [ inl at_zero ↦ inl at_zero | inr other ↦ inr (subst (λ (area : Area). f (below.lo - 1) ≢ area) equal other) ];
+            begins = elim below.begins [
+              | inl at_zero ↦ inl at_zero
+              | inr other ↦ inr (subst (λ (area : Area). f (below.lo - 1) ≢ area) equal other)
+            ];
           }
     ]
 
@@ -122,7 +126,10 @@ high_end f (suc gap) place last e =
                   | inl more ↦ above.same x (omega arith) k ∙ equal
                   | inr not_more ↦ only_here f place x h not_more
                 ];
-            ends = elim above.ends [ inl at_last ↦ inl at_last | inr other ↦ inr (subst (λ (area : Area). f (above.hi + 1) ≢ area) equal other) ];
+            ends = elim above.ends [
+              | inl at_last ↦ inl at_last
+              | inr other ↦ inr (subst (λ (area : Area). f (above.hi + 1) ≢ area) equal other)
+            ];
           }
     ]
 

@@ -1,18 +1,24 @@
 -- The answer to an event after a history.
-use Rattle.std.specs.Prelude.{ℕ, ◌≡◌, ◌%◌, ◌^◌, ◌==◌, Bool, if◌then◌else◌, List, length, slice_get, slice_index, Option, Some, None, is_some, unwrap_or, map}
-use Rattle.device_spec.specs.Common.{Width, Kind, PortAccess, WideAccess, Area, Dev, Reset, Pit, Keyboard, Ata, Wires, Target, Dram, Shadow, Smram, Rom, Card, Device, Config, Abort, Denial, largest_of}
+use Rattle.std.specs.Prelude.{ℕ, ◌≡◌, ◌%◌, ◌^◌, ◌==◌, Bool, if◌then◌else◌, List, length, slice_get, slice_index, Option}
+use Rattle.std.specs.Prelude.{Some, None, is_some, unwrap_or, map}
+use Rattle.device_spec.specs.Common.{Width, Kind, PortAccess, WideAccess, Area, Dev, Reset, Pit, Keyboard, Ata, Wires}
+use Rattle.device_spec.specs.Common.{Target, Dram, Shadow, Smram, Rom, Card, Device, Config, Abort, Denial, largest_of}
 use Rattle.board_base.specs.declared.access.Access.{Access}
-use Rattle.board_base.specs.declared.target.Area.TheVariants.{Dram as DramArea, Shadow as ShadowArea, Smram as SmramArea, Rom as RomArea, Card as CardArea, Abort as AbortArea}
+use Rattle.board_base.specs.declared.target.Area.TheVariants.{Dram as DramArea, Shadow as ShadowArea}
+use Rattle.board_base.specs.declared.target.Area.TheVariants.{Smram as SmramArea, Rom as RomArea, Card as CardArea}
+use Rattle.board_base.specs.declared.target.Area.TheVariants.{Abort as AbortArea}
 use Rattle.board_base.specs.declared.target.Dev.TheVariants.{Confadd, Clock}
 use Rattle.board_spec.specs.declared.event.Event.{Event}
-use Rattle.board_spec.specs.declared.event.Event.TheVariants.{Memory, Wide, Port, Look as LookAt, Ack, Pulses, Time, Wire, Line, BadSector}
+use Rattle.board_spec.specs.declared.event.Event.TheVariants.{Memory, Wide, Port, Look as LookAt, Ack, Pulses, Time}
+use Rattle.board_spec.specs.declared.event.Event.TheVariants.{Wire, Line, BadSector}
 use Rattle.board_spec.specs.declared.event.Look.{Look}
 use Rattle.board_spec.specs.declared.event.Reply.{Reply}
 use Rattle.board_spec.specs.declared.event.Part.{Part}
 use Rattle.board_spec.specs.declared.event.Parts.{Parts}
 use Rattle.board_spec.specs.declared.event.Reply.TheVariants.{Bus, Parts as InParts, Saw}
 use Rattle.board_spec.specs.declared.event.Entry.{Entry}
-use Rattle.board_spec.specs.Setup.{Base, MemoryBase, IoBase, OutsideBase, FittedCard, Setup, card_at, rom_base, vga_base, vga_bits}
+use Rattle.board_spec.specs.Setup.{Base, MemoryBase, IoBase, OutsideBase, FittedCard, Setup, card_at, rom_base}
+use Rattle.board_spec.specs.Setup.{vga_base, vga_bits}
 use Rattle.board_spec.specs.Bits.{wide}
 use Rattle.board_spec.specs.Registers.{reset_control, config_address, byte_of}
 use Rattle.board_spec.specs.MapWrites.{version_of}
@@ -109,7 +115,8 @@ wide_value setup before access =
     else Some
     (joined (λ part. value_at setup before (memory_target setup before part) part.addr part.width) (parts_of access))
 
-pub record IsWideAnswer (setup : Setup) (before : List Entry) (access : WideAccess) (value : Option ℕ) (parts : Parts) : Type 0 where
+pub record IsWideAnswer (setup : Setup) (before : List Entry) (access : WideAccess) (value : Option ℕ)
+    (parts : Parts) : Type 0 where
   pub value_is : value ≡ wide_value setup before access
   pub each : parts_list parts ≡ map (part_answer setup before) (parts_of access)
 
@@ -124,7 +131,8 @@ abbrev pub outside_answer : Dev → Reply
 outside_answer dev = Bus None (Device dev) None
 
 -- a look gives the version and the span of the map of the registers as they stand
-pub record IsLookAnswer (setup : Setup) (before : List Entry) (kind : Kind) (addr : ℕ) (smm : Bool) (look : Look) : Type 0 where
+pub record IsLookAnswer (setup : Setup) (before : List Entry) (kind : Kind) (addr : ℕ) (smm : Bool)
+    (look : Look) : Type 0 where
   pub version : look.version ≡ version_of setup before
   pub span : IsSpan setup (byte_of setup before) addr kind smm look.lo look.hi look.area
 

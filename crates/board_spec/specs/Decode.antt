@@ -1,11 +1,18 @@
 -- Where a memory access lands, and which register denied it: over the register bytes alone.
-use Rattle.std.specs.Prelude.{ℕ, ◌+◌, ◌-◌, ◌*◌, ◌/◌, ◌%◌, ◌^◌, ◌==◌, Bool, true, false, not, ◌&&◌, ◌||◌, nat_lt, nat_le, if◌then◌else◌, List, [], ◌∷◌, ◌++◌, Option, Some, None, is_some, unwrap_or, option_map, find, flat_map}
-use Rattle.device_spec.specs.Common.{enumerate_from, Kind, Fetch, Read, Write, Reg, Area, Denial, Register, NoRegister, Four}
+use Rattle.std.specs.Prelude.{ℕ, ◌+◌, ◌-◌, ◌*◌, ◌/◌, ◌%◌, ◌^◌, ◌==◌, Bool, true, false, not, ◌&&◌, ◌||◌, nat_lt, nat_le}
+use Rattle.std.specs.Prelude.{if◌then◌else◌, List, [], ◌∷◌, ◌++◌, Option, Some, None, is_some, unwrap_or, option_map}
+use Rattle.std.specs.Prelude.{find, flat_map}
+use Rattle.device_spec.specs.Common.{enumerate_from, Kind, Fetch, Read, Write, Reg, Area, Denial, Register, NoRegister}
+use Rattle.device_spec.specs.Common.{Four}
 use Rattle.board_base.specs.declared.target.Area.TheVariants.{Dram, Shadow, Smram, Rom, Card, Abort}
-use Rattle.board_spec.specs.Setup.{Base, MemoryBase, IoBase, OutsideBase, FittedCard, Setup, rom_base, vga_base, vga_bits}
+use Rattle.board_spec.specs.Setup.{Base, MemoryBase, IoBase, OutsideBase, FittedCard, Setup, rom_base, vga_base}
+use Rattle.board_spec.specs.Setup.{vga_bits}
 use Rattle.board_spec.specs.Bits.{is_bit, wide}
-use Rattle.board_spec.specs.RegisterNames.{bridge, pam, drb, fdhc, smram, xbcs, card_register, card_command, base_register, expansion_rom}
-use Rattle.board_spec.specs.Ranges.{lies_in, smram_range, expansion_range, system_bios, shadow_range, upper_memory, hole_at_512_kib, hole_at_15_mib, high_bios, lower_bios, lower_high_bios, extended_bios, selectable_bios, largest_top, boundary_unit}
+use Rattle.board_spec.specs.RegisterNames.{bridge, pam, drb, fdhc, smram, xbcs, card_register, card_command}
+use Rattle.board_spec.specs.RegisterNames.{base_register, expansion_rom}
+use Rattle.board_spec.specs.Ranges.{lies_in, smram_range, expansion_range, system_bios, shadow_range, upper_memory}
+use Rattle.board_spec.specs.Ranges.{hole_at_512_kib, hole_at_15_mib, high_bios, lower_bios, lower_high_bios}
+use Rattle.board_spec.specs.Ranges.{extended_bios, selectable_bios, largest_top, boundary_unit}
 
 -- what the registers hold
 abbrev pub Bytes : Type 0
@@ -145,7 +152,12 @@ io_window bytes dev k (OutsideBase bits) = []
 -- the window of a card's expansion ROM, where it has one
 abbrev pub rom_window_of : Bytes → ℕ → Option ℕ → List Window
 rom_window_of bytes dev None = []
-rom_window_of bytes dev (Some bits) = record { dev = dev; base = rom_base; inside = rom_value bytes dev; bits = bits } ∷ []
+rom_window_of bytes dev (Some bits) = record {
+  dev = dev;
+  base = rom_base;
+  inside = rom_value bytes dev;
+  bits = bits;
+} ∷ []
 
 abbrev pub rom_window : Bytes → FittedCard → List Window
 rom_window bytes card = rom_window_of bytes card.dev card.rom

@@ -7,7 +7,8 @@ use Rattle.board_spec.specs.declared.event.Reply.{Reply}
 use Rattle.board_spec.specs.declared.event.Entry.{Entry}
 use Rattle.board_spec.specs.Setup.{Setup}
 use Rattle.board_spec.specs.Registers.{is_hard_reset, byte_of}
-use Rattle.board_spec.specs.Devices.{device_reached, wire_of, irq_of, triggers_of, system_of, timer_of, clock_of, disk_with}
+use Rattle.board_spec.specs.Devices.{device_reached, wire_of, irq_of, triggers_of, system_of, timer_of, clock_of}
+use Rattle.board_spec.specs.Devices.{disk_with}
 use Rattle.board_spec.specs.Interrupts.{levels_of, elcr_of, pair_of}
 
 -- ---- one device

@@ -50,7 +50,8 @@ pub record IsFlatMapOf (setup : Setup) (bytes : Bytes) (ranges : List MapRange) 
   pub least : NeighboursDiffer ranges
 
 -- the longest interval of addresses round one in which this kind of access has one area
-pub record IsSpan (setup : Setup) (bytes : Bytes) (addr : ℕ) (kind : Kind) (smm : Bool) (lo hi : ℕ) (area : Area) : Type 0 where
+pub record IsSpan (setup : Setup) (bytes : Bytes) (addr : ℕ) (kind : Kind) (smm : Bool) (lo hi : ℕ)
+    (area : Area) : Type 0 where
   pub above : lo ≤ addr
   pub below : addr ≤ hi
   pub last : hi < address_count

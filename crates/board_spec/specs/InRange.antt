@@ -2,7 +2,8 @@
 use Rattle.std.specs.Prelude.{ℕ, ◌≡◌, ◌≢◌, ◌+◌, ◌%◌, ◌^◌, ◌<◌, ◌≤◌, ◌⊎◌, ◌==◌, Bool, true, false, ◌||◌, is_some}
 use Rattle.device_spec.specs.Common.{Width, WideAccess, bytes_of, largest_of, IsMoment}
 use Rattle.board_spec.specs.declared.event.Event.{Event}
-use Rattle.board_spec.specs.declared.event.Event.TheVariants.{Memory, Wide, Port, Look as LookAt, Ack, Pulses, Time, Wire, Line, BadSector}
+use Rattle.board_spec.specs.declared.event.Event.TheVariants.{Memory, Wide, Port, Look as LookAt, Ack, Pulses, Time}
+use Rattle.board_spec.specs.declared.event.Event.TheVariants.{Wire, Line, BadSector}
 use Rattle.board_spec.specs.declared.event.Statement.{Statement}
 use Rattle.board_spec.specs.Setup.{Setup, card_at}
 use Rattle.board_spec.specs.Bits.{is_within}

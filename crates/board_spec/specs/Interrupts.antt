@@ -1,6 +1,11 @@
 -- The sixteen interrupt lines and the 8259A pair after a history, and what the devices' ports read.
-use Rattle.std.specs.Prelude.{ℕ, zero, suc, ◌+◌, ◌-◌, ◌*◌, ◌%◌, ◌==◌, Bool, false, ◌&&◌, ◌||◌, if◌then◌else◌, List, [], ◌∷◌, map, Option, Some}
-use Rattle.device_spec.specs.Common.{list_any, option_map_or, Width, PortAccess, Dev, Pic0, Pic1, Pit, System, Elcr, Ata, Vector, Spurious, largest_of, Pair, Answer, pair_at_reset, levels_at_power_on, pair_after_lines, pair_after_read, pair_after_write, pair_after_acknowledge, port_byte, answer_of, trigger_byte, is_line_driven, PitState, out_of, port_read, pulses, interrupt_line, read_value, is_interrupt, read_of}
+use Rattle.std.specs.Prelude.{ℕ, zero, suc, ◌+◌, ◌-◌, ◌*◌, ◌%◌, ◌==◌, Bool, false, ◌&&◌, ◌||◌, if◌then◌else◌, List, []}
+use Rattle.std.specs.Prelude.{◌∷◌, map, Option, Some}
+use Rattle.device_spec.specs.Common.{list_any, option_map_or, Width, PortAccess, Dev, Pic0, Pic1, Pit, System, Elcr}
+use Rattle.device_spec.specs.Common.{Ata, Vector, Spurious, largest_of, Pair, Answer, pair_at_reset, levels_at_power_on}
+use Rattle.device_spec.specs.Common.{pair_after_lines, pair_after_read, pair_after_write, pair_after_acknowledge}
+use Rattle.device_spec.specs.Common.{port_byte, answer_of, trigger_byte, is_line_driven, PitState, out_of, port_read}
+use Rattle.device_spec.specs.Common.{pulses, interrupt_line, read_value, is_interrupt, read_of}
 use Rattle.board_base.specs.declared.target.Dev.TheVariants.{Clock as ClockChip}
 use Rattle.board_spec.specs.declared.event.Event.{Event}
 use Rattle.board_spec.specs.declared.event.Event.TheVariants.{Port, Ack, Pulses}
@@ -11,7 +16,8 @@ use Rattle.board_spec.specs.InRange.{is_free_line}
 use Rattle.board_spec.specs.RegisterNames.{pirq}
 use Rattle.board_spec.specs.PortNames.{elcr_ports}
 use Rattle.board_spec.specs.Registers.{is_hard_reset, byte_of}
-use Rattle.board_spec.specs.Devices.{device_reached, wire_of, irq_of, triggers_of, SystemPort, system_of, timer_of, clock_of, disk_of}
+use Rattle.board_spec.specs.Devices.{device_reached, wire_of, irq_of, triggers_of, SystemPort, system_of, timer_of}
+use Rattle.board_spec.specs.Devices.{clock_of, disk_of}
 
 -- ---- the lines
 

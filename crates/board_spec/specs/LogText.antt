@@ -1,9 +1,12 @@
 -- The access log of a version, 1 or 2: a heading, and a line for each entry of a history.
-use Rattle.std.specs.Prelude.{ℕ, ◌+◌, ◌/◌, ◌%◌, ◌==◌, ◌++◌, Bool, true, false, List, [], ◌∷◌, length, flat_map, if◌then◌else◌, Option, Some, None, codes, decimal}
-use Rattle.device_spec.specs.Common.{Width, bytes_of, Kind, Fetch, Read, Write, WideAccess, PortAccess, Moment, Target, Denial}
+use Rattle.std.specs.Prelude.{ℕ, ◌+◌, ◌/◌, ◌%◌, ◌==◌, ◌++◌, Bool, true, false, List, [], ◌∷◌, length, flat_map}
+use Rattle.std.specs.Prelude.{if◌then◌else◌, Option, Some, None, codes, decimal}
+use Rattle.device_spec.specs.Common.{Width, bytes_of, Kind, Fetch, Read, Write, WideAccess, PortAccess, Moment, Target}
+use Rattle.device_spec.specs.Common.{Denial}
 use Rattle.board_base.specs.declared.access.Access.{Access}
 use Rattle.board_spec.specs.declared.event.Event.{Event}
-use Rattle.board_spec.specs.declared.event.Event.TheVariants.{Memory, Wide, Port, Look as LookAt, Ack, Pulses, Time, Wire, Line, BadSector}
+use Rattle.board_spec.specs.declared.event.Event.TheVariants.{Memory, Wide, Port, Look as LookAt, Ack, Pulses, Time}
+use Rattle.board_spec.specs.declared.event.Event.TheVariants.{Wire, Line, BadSector}
 use Rattle.board_spec.specs.declared.event.Look.{Look}
 use Rattle.board_spec.specs.declared.event.Reply.{Reply}
 use Rattle.board_spec.specs.declared.event.Reply.TheVariants.{Bus, Parts, Saw}
@@ -64,8 +67,10 @@ two_digits n = (0x30 + n / 10 % 10) ∷ (0x30 + n % 10) ∷ []
 
 abbrev pub moment_text : Moment → List ℕ
 moment_text moment =
-    two_digits (moment.year / 100) ++ two_digits (moment.year % 100) ++ codes "-" ++ two_digits moment.month ++ codes "-"
-    ++ two_digits moment.day ++ codes "T" ++ two_digits moment.hour ++ codes ":" ++ two_digits moment.minute ++ codes ":"
+    two_digits (moment.year / 100) ++ two_digits (moment.year % 100) ++ codes "-"
+    ++ two_digits moment.month ++ codes "-"
+    ++ two_digits moment.day ++ codes "T" ++ two_digits moment.hour ++ codes ":"
+    ++ two_digits moment.minute ++ codes ":"
     ++ two_digits moment.second
 
 unfoldable pub event_text : Event → List ℕ

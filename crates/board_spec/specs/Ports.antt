@@ -1,6 +1,8 @@
 -- Where a port access lands, and what denied it.
-use Rattle.std.specs.Prelude.{ℕ, ◌%◌, ◌^◌, Bool, true, false, not, if◌then◌else◌, Option, Some, None, option_map, unwrap_or}
-use Rattle.device_spec.specs.Common.{Width, Reg, Dev, Target, Card, Device, Config, Abort, Denial, Register, Confadd, NoRegister, bytes_of, device_at, select_of}
+use Rattle.std.specs.Prelude.{ℕ, ◌%◌, ◌^◌, Bool, true, false, not, if◌then◌else◌, Option, Some, None, option_map}
+use Rattle.std.specs.Prelude.{unwrap_or}
+use Rattle.device_spec.specs.Common.{Width, Reg, Dev, Target, Card, Device, Config, Abort, Denial, Register, Confadd}
+use Rattle.device_spec.specs.Common.{NoRegister, bytes_of, device_at, select_of}
 use Rattle.device_spec.specs.declared.port.Select.{Select}
 use Rattle.device_spec.specs.declared.port.Select.TheVariants.{Always, XbcsBit0, XbcsBit1, IdeChannel}
 use Rattle.board_spec.specs.Setup.{Setup}

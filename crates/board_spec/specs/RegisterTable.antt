@@ -1,11 +1,13 @@
 -- The registers in PCI configuration space, one line a register or a run of them, as the datasheets
 -- of the 82441FX (00.0) and the 82371SB (01.0 and 01.1) list them, and the cards' by PCI Local Bus
 -- 2.1, section 6.2. What no line lists reads 00 and ignores writes.
-use Rattle.std.specs.Prelude.{ℕ, ◌+◌, ◌-◌, ◌^◌, ◌==◌, Bool, ◌&&◌, nat_lt, nat_le, if◌then◌else◌, List, [], ◌∷◌, get_or, length, replicate, flat_map, Option, Some, None, is_some, option_map, unwrap_or}
+use Rattle.std.specs.Prelude.{ℕ, ◌+◌, ◌-◌, ◌^◌, ◌==◌, Bool, ◌&&◌, nat_lt, nat_le, if◌then◌else◌, List, [], ◌∷◌, get_or}
+use Rattle.std.specs.Prelude.{length, replicate, flat_map, Option, Some, None, is_some, option_map, unwrap_or}
 use Rattle.device_spec.specs.Common.{Reg, route_mask, route_reset}
 use Rattle.board_spec.specs.Setup.{Base, MemoryBase, IoBase, OutsideBase, FittedCard, Setup, card_at}
 use Rattle.board_spec.specs.Bits.{long_bytes}
-use Rattle.board_spec.specs.RegisterNames.{pam, drb, fdhc, smram, xbcs, pirq, ide_command, idetim, card_command, base_register, expansion_rom, interrupt_line}
+use Rattle.board_spec.specs.RegisterNames.{pam, drb, fdhc, smram, xbcs, pirq, ide_command, idetim, card_command}
+use Rattle.board_spec.specs.RegisterNames.{base_register, expansion_rom, interrupt_line}
 
 -- one line: the first offset, the bytes from there on after a reset, and their writable bits.
 -- Where the list of writable bits is shorter, the rest is read-only

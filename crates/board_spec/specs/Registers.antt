@@ -1,7 +1,8 @@
 -- The registers after a history: configuration mechanism one of PCI Local Bus 2.1, the reset control
 -- port of the 82371SB, and the SMRAM register of the 82441FX. Histories are lists of entries with the
 -- newest first, so each definition looks back from the last entry.
-use Rattle.std.specs.Prelude.{ℕ, ◌+◌, ◌-◌, ◌*◌, ◌/◌, ◌%◌, ◌==◌, max, Bool, false, not, ◌&&◌, nat_le, nat_lt, if◌then◌else◌, List, [], ◌∷◌, Option, Some, None, unwrap_or, option_map, bit_and}
+use Rattle.std.specs.Prelude.{ℕ, ◌+◌, ◌-◌, ◌*◌, ◌/◌, ◌%◌, ◌==◌, max, Bool, false, not, ◌&&◌, nat_le, nat_lt}
+use Rattle.std.specs.Prelude.{if◌then◌else◌, List, [], ◌∷◌, Option, Some, None, unwrap_or, option_map, bit_and}
 use Rattle.device_spec.specs.Common.{Width, Reg, bytes_of}
 use Rattle.board_spec.specs.declared.event.Event.{Event}
 use Rattle.board_spec.specs.declared.event.Event.TheVariants.{Port}

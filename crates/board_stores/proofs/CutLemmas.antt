@@ -1,6 +1,9 @@
 -- A wide access is cut part by part.
-use Rattle.std.proofs.Common.{◌≡◌, ℕ, zero, suc, ◌+◌, ◌-◌, ◌*◌, ◌/◌, ◌%◌, ◌^◌, ◌<◌, ◌≤◌, true, ◌&&◌, inl, inr, List, [], ◌∷◌, ◌++◌, bit_and, refl, sym, ◌∙◌, ap, arith, ◌==◌, nat_le, map}
-use Rattle.board_prelude.proofs.Common.{and_mask, pow-add, cases_Bool, cond-true, cond-false, eq-eqb, ne_eqb, append-nil, map-append, nat_tests, Width, One, WideAccess, bytes_of, largest_of, Part, Setup, Bytes, longest_at, part_at, parts_from, parts_of}
+use Rattle.std.proofs.Common.{◌≡◌, ℕ, zero, suc, ◌+◌, ◌-◌, ◌*◌, ◌/◌, ◌%◌, ◌^◌, ◌<◌, ◌≤◌, true, ◌&&◌, inl, inr, List, []}
+use Rattle.std.proofs.Common.{◌∷◌, ◌++◌, bit_and, refl, sym, ◌∙◌, ap, arith, ◌==◌, nat_le, map}
+use Rattle.board_prelude.proofs.Common.{and_mask, pow-add, cases_Bool, cond-true, cond-false, eq-eqb, ne_eqb}
+use Rattle.board_prelude.proofs.Common.{append-nil, map-append, nat_tests, Width, One, WideAccess, bytes_of, largest_of}
+use Rattle.board_prelude.proofs.Common.{Part, Setup, Bytes, longest_at, part_at, parts_from, parts_of}
 use Rattle.std.proofs.lemmas.List.{append_assoc}
 use Rattle.board_base.specs.declared.access.Width.TheVariants.{Two, Four}
 use Rattle.board_base.specs.declared.access.Access.{Access}

@@ -1,6 +1,8 @@
 -- The values of cycles, one after the other, make the value of the whole.
-use Rattle.std.proofs.Common.{◌≡◌, ℕ, suc, ◌+◌, ◌*◌, ◌%◌, ◌^◌, ◌<◌, ◌≤◌, List, [], ◌∷◌, length, get_or, drop, bit_or, refl, sym, ◌∙◌, ap, arith, map}
-use Rattle.board_prelude.proofs.Common.{drop-cons, mod-eq_of_lt, pow-le-pow_right, pow-add, bytes_of, some_bytes, Entry, Part, Setup, joined, Covers, value_at, memory_target, part_answer}
+use Rattle.std.proofs.Common.{◌≡◌, ℕ, suc, ◌+◌, ◌*◌, ◌%◌, ◌^◌, ◌<◌, ◌≤◌, List, [], ◌∷◌, length, get_or, drop, bit_or}
+use Rattle.std.proofs.Common.{refl, sym, ◌∙◌, ap, arith, map}
+use Rattle.board_prelude.proofs.Common.{drop-cons, mod-eq_of_lt, pow-le-pow_right, pow-add, bytes_of, some_bytes, Entry}
+use Rattle.board_prelude.proofs.Common.{Part, Setup, joined, Covers, value_at, memory_target, part_answer}
 use Rattle.std.proofs.Math.Nat.{mul_comm, mul_assoc, add_assoc, mul-one, mul-add, mul-le-mul_left}
 use Rattle.std.specs.Int.Bits.{or_shifted_r}
 use Rattle.board_stores.specs.declared.cut.Cycle.{Cycle}

@@ -1,6 +1,7 @@
 -- What an access to memory reaches.
 use Rattle.std.proofs.Common.{◌≡◌, ℕ, List, ◌∙◌, refl, map}
-use Rattle.board_prelude.proofs.Common.{Width, Target, Dram, Shadow, Smram, Rom, Card, Device, Config, Abort, Entry, Part, Setup, byte_of, part_answer}
+use Rattle.board_prelude.proofs.Common.{Width, Target, Dram, Shadow, Smram, Rom, Card, Device, Config, Abort, Entry}
+use Rattle.board_prelude.proofs.Common.{Part, Setup, byte_of, part_answer}
 use Rattle.board_base.specs.declared.access.Access.{Access}
 use Rattle.board_stores.specs.Common.{part_in, value_in, value_with}
 use Rattle.board_stores.specs.declared.stores.Stores.{Stores}

@@ -1,7 +1,10 @@
 -- The cycles of an access to ports cover it, and each is aligned and has its own bytes.
-use Rattle.std.proofs.Common.{◌≡◌, ℕ, zero, suc, ◌+◌, ◌-◌, ◌/◌, ◌%◌, ◌^◌, ◌≤◌, ◌<◌, Bool, true, false, ◌&&◌, List, [], ◌∷◌, map, inl, inr, refl, sym, ◌∙◌, ap, subst, arith, ◌==◌, nat_le, All}
+use Rattle.std.proofs.Common.{◌≡◌, ℕ, zero, suc, ◌+◌, ◌-◌, ◌/◌, ◌%◌, ◌^◌, ◌≤◌, Bool, true, false, ◌&&◌, List, [], ◌∷◌}
+use Rattle.std.proofs.Common.{map, inl, inr, refl, sym, ◌∙◌, ap, subst, arith, ◌==◌, nat_le, All}
 use Rattle.std.proofs.Math.Nat.{zero-div, zero-mod}
-use Rattle.board_prelude.proofs.Common.{cases_Bool, cases_eq, cond-true, cond-false, eq-eqb, ne_eqb, nat_tests, All-nil, All-cons, All-head, All-tail, Width, One, PortAccess, WideAccess, bytes_of, largest_of, some_bytes, FitsAccess, IsBusAccess, longest_at, part_at, parts_from, parts_of}
+use Rattle.board_prelude.proofs.Common.{cases_Bool, cases_eq, ne_eqb, nat_tests, All-nil, All-cons, All-head, All-tail}
+use Rattle.board_prelude.proofs.Common.{Width, One, PortAccess, WideAccess, bytes_of, some_bytes, FitsAccess}
+use Rattle.board_prelude.proofs.Common.{IsBusAccess, longest_at, part_at, parts_from, parts_of}
 use Rattle.board_base.specs.declared.access.Width.TheVariants.{Two, Four}
 use Rattle.board_base.specs.declared.access.Access.{Access}
 use Rattle.board_stores.specs.PortCycles.{as_wide, cycle_of, port_cycles, Follow, IsCycleOf, AreCyclesOf, AreBusCycles}
@@ -42,9 +45,11 @@ follow_from access (suc most) addr left few =
             refl,
             subst
                 (λ (end : ℕ). Follow (addr + bytes_of width) end
-                (map (cycle_of access.write) (parts_from (as_wide access) most (addr + bytes_of width) (left - bytes_of width))))
+                (map (cycle_of access.write) (parts_from (as_wide access) most (addr + bytes_of width)
+                    (left - bytes_of width))))
                 more
-                (follow_from access most (addr + bytes_of width) (left - bytes_of width) (omega (arith, few, fits, some_bytes width))),
+                (follow_from access most (addr + bytes_of width) (left - bytes_of width)
+                    (omega (arith, few, fits, some_bytes width))),
           )
     ]
 
@@ -60,7 +65,8 @@ each_from access (suc most) addr left =
           let width = longest_at addr left in
           rw some
           (All-cons (IsCycleOf access) (cycle_of access.write (part_at (as_wide access) addr width))
-          (map (cycle_of access.write) (parts_from (as_wide access) most (addr + bytes_of width) (left - bytes_of width)))
+          (map (cycle_of access.write) (parts_from (as_wide access) most (addr + bytes_of width)
+              (left - bytes_of width)))
           (record { write = refl; aligned = longest_aligned addr left; value = refl })
           (each_from access most (addr + bytes_of width) (left - bytes_of width)))
     ]
@@ -76,7 +82,8 @@ are_cycles access = record {
   each = each_from access 4 access.port (bytes_of access.width);
 }
 
-pub are_cycles_as : (access : PortAccess) (cycles : List PortAccess) → cycles ≡ port_cycles access → AreCyclesOf access cycles
+pub are_cycles_as : (access : PortAccess) (cycles : List PortAccess) → cycles ≡ port_cycles access →
+    AreCyclesOf access cycles
 are_cycles_as access cycles is = subst (AreCyclesOf access) (sym is) (are_cycles access)
 
 -- where all parts were made they are those of the access
@@ -103,7 +110,8 @@ cycle_fits false whole width value places fits =
 pub bus_cycles :
     (access : PortAccess) (cycles : List PortAccess) → FitsAccess access.write access.width access.value →
     All (IsCycleOf access) cycles → AreBusCycles cycles
-bus_cycles access [] fits each = All-nil (λ (cycle : PortAccess). IsBusAccess cycle.write cycle.port cycle.width cycle.value)
+bus_cycles access [] fits each =
+    All-nil (λ (cycle : PortAccess). IsBusAccess cycle.write cycle.port cycle.width cycle.value)
 bus_cycles access (cycle ∷ later) fits each =
     let is : IsCycleOf access cycle = All-head (IsCycleOf access) cycle later each in
     All-cons (λ (cycle : PortAccess). IsBusAccess cycle.write cycle.port cycle.width cycle.value) cycle later

@@ -1,6 +1,8 @@
 -- Bytes that are put into the stores one after the other.
-use Rattle.std.proofs.Common.{◌≡◌, ℕ, suc, ◌+◌, ◌<◌, List, [], ◌∷◌, length, get_or, drop, Option, Some, None, inl, inr, refl, ◌∙◌, ap, arith, unwrap_or}
-use Rattle.board_prelude.proofs.Common.{drop-cons, nil_from_length, option_or, Width, Target, Dram, Shadow, Smram, Rom, Card, Device, Config, Abort, Cell, DramCell, CardCell, memory_put, parts_put}
+use Rattle.std.proofs.Common.{◌≡◌, ℕ, suc, ◌+◌, ◌<◌, List, [], ◌∷◌, length, get_or, drop, Option, Some, None, inl, inr}
+use Rattle.std.proofs.Common.{refl, ◌∙◌, ap, arith, unwrap_or}
+use Rattle.board_prelude.proofs.Common.{drop-cons, nil_from_length, option_or, Width, Target, Dram, Shadow, Smram, Rom}
+use Rattle.board_prelude.proofs.Common.{Card, Device, Config, Abort, Cell, DramCell, CardCell, memory_put, parts_put}
 use Rattle.pci_bars.specs.Contents.{held, held_byte}
 use Rattle.dram_store.proofs.DramLemmas.{HasPut, put_then as dram_then}
 use Rattle.board_stores.specs.declared.stores.Stores.{Stores}

@@ -1,6 +1,12 @@
 -- What is read of memory fits the width of the access: each byte that is stored is below 256.
-use Rattle.std.proofs.Common.{◌≡◌, ℕ, ◌+◌, ◌^◌, ◌<◌, Bool, true, false, List, [], ◌∷◌, Option, Some, None, inl, inr, arith, ◌==◌, nat_lt, if◌then◌else◌, unwrap_or, option_and_then, slice_index}
-use Rattle.board_prelude.proofs.Common.{option_or, cases_Bool, Width, One, Target, Dram, Shadow, Smram, Rom, Card, Device, Config, Abort, bytes_of, Event, Memory, Wide, Port, Ack, Pulses, Time, Wire, Line, BadSector, Reply, Bus, Saw, Part, Entry, Setup, card_at, installed, kept_size, byte, wide, parts_of, parts_list, Cell, DramCell, CardCell, first_cell, distance, is_write, byte_put, memory_put, parts_put, entry_put, stored_of, dram_byte, card_byte, value_at}
+use Rattle.std.proofs.Common.{◌≡◌, ℕ, ◌+◌, ◌^◌, ◌<◌, Bool, true, false, List, [], ◌∷◌, Option, Some, None, inl, inr}
+use Rattle.std.proofs.Common.{arith, ◌==◌, nat_lt, if◌then◌else◌, unwrap_or, option_and_then, slice_index}
+use Rattle.board_prelude.proofs.Common.{option_or, cases_Bool, Width, One, Target, Dram, Shadow, Smram, Rom, Card}
+use Rattle.board_prelude.proofs.Common.{Device, Config, Abort, bytes_of, Event, Memory, Wide, Port, Ack, Pulses, Time}
+use Rattle.board_prelude.proofs.Common.{Wire, Line, BadSector, Reply, Bus, Saw, Part, Entry, Setup, card_at, installed}
+use Rattle.board_prelude.proofs.Common.{kept_size, byte, wide, parts_of, parts_list, Cell, DramCell, CardCell}
+use Rattle.board_prelude.proofs.Common.{first_cell, distance, is_write, byte_put, memory_put, parts_put, entry_put}
+use Rattle.board_prelude.proofs.Common.{stored_of, dram_byte, card_byte, value_at}
 use Rattle.board_base.specs.declared.access.Width.TheVariants.{Two, Four}
 use Rattle.board_base.specs.declared.access.Access.{Access}
 use Rattle.board_spec.specs.declared.event.Event.TheVariants.{Look}

@@ -1,7 +1,8 @@
 //! An access to ports that need not be aligned, cut into aligned bus cycles.
 ghost use Rattle.std.specs.Prelude.{◌≡◌, ◌≤◌, ◌+◌, All};
 ghost use Rattle.board_prelude.specs.Common.{bytes_of, FitsAccess};
-ghost use Rattle.board_stores.specs.PortCycles.{as_wide as wide_of, cycle_of as cycle_by, port_cycles as cycles_by, port_accesses, AreCyclesOf, AreBusCycles};
+ghost use Rattle.board_stores.specs.PortCycles.{as_wide as wide_of, cycle_of as cycle_by, port_cycles as cycles_by};
+ghost use Rattle.board_stores.specs.PortCycles.{port_accesses, AreCyclesOf, AreBusCycles};
 
 use crate::cut::{MOST_CYCLES, part_at};
 use arrayvec::ArrayVec;
@@ -33,7 +34,8 @@ pub fn port_cycles(access: &PortAccess) -> ArrayVec<PortCycle, MOST_CYCLES>
     requires ends { access.now.port + bytes_of access.now.width ≤ 0x1_0000 }
     ensures cycles { port_accesses result.items ≡ cycles_by access.now }
     ensures covers { AreCyclesOf access.now (port_accesses result.items) }
-    ensures bus { FitsAccess access.now.write access.now.width access.now.value → AreBusCycles (port_accesses result.items) }
+    ensures bus { FitsAccess access.now.write access.now.width access.now.value
+        → AreBusCycles (port_accesses result.items) }
 {
     let wide = as_wide(access);
     let mut cycles = ArrayVec::new();

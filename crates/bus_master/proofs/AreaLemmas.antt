@@ -1,9 +1,13 @@
 -- Words that lie in one area.
-use Rattle.std.proofs.Common.{◌≡◌, ℕ, zero, suc, ◌+◌, ◌-◌, ◌*◌, ◌/◌, ◌%◌, ◌<◌, ◌≤◌, max, true, false, ◌&&◌, List, ◌++◌, Option, Some, None, inl, inr, refl, sym, ap, ◌∙◌, arith, lit<, IfSome, IsNone, unwrap_or, flat_map, slice_index_or}
-use Rattle.board_prelude.proofs.Common.{cases_Bool, cases_lt, nat_tests, Kind, Fetch, Read, Write, Area, Setup, smram_range, Bytes, area_of, is_smram_range, address_count, six_areas}
+use Rattle.std.proofs.Common.{◌≡◌, ℕ, zero, suc, ◌+◌, ◌-◌, ◌*◌, ◌/◌, ◌<◌, ◌≤◌, max, false, List, ◌++◌, Option, Some}
+use Rattle.std.proofs.Common.{None, inl, inr, refl, sym, ap, ◌∙◌, arith, lit<, IfSome, IsNone, unwrap_or, flat_map}
+use Rattle.std.proofs.Common.{slice_index_or}
+use Rattle.board_prelude.proofs.Common.{cases_lt, nat_tests, Kind, Fetch, Read, Write, Area, Setup, smram_range, Bytes}
+use Rattle.board_prelude.proofs.Common.{area_of, is_smram_range, address_count, six_areas}
 use Rattle.std.proofs.lemmas.List.Elements.{Contains-append_left}
 use Rattle.board_base.specs.declared.target.Area.TheVariants.{Abort}
-use Rattle.addr_decode.specs.Common.{IsEdge, IsNextEdge, NoEdgeAbove, SameAreas, card_edges, edges_of, fixed_edges, row_edges, master_area}
+use Rattle.addr_decode.specs.Common.{IsEdge, IsNextEdge, NoEdgeAbove, SameAreas, card_edges, edges_of, fixed_edges}
+use Rattle.addr_decode.specs.Common.{row_edges, master_area}
 use Rattle.bus_master.specs.Transfer.{address_after}
 
 -- outside the range of SMRAM a bus master reaches what a processor does

@@ -1,8 +1,12 @@
 -- What a bus master reaches has the bytes that it asks for.
-use Rattle.std.proofs.Common.{◌≡◌, ◌≢◌, ℕ, ◌+◌, ◌%◌, ◌≤◌, ◌<◌, false, not, ◌&&◌, List, length, sym, refl, arith, Bool, ap, is_some, unwrap_or}
-use Rattle.board_prelude.proofs.Common.{bytes_of, Kind, Width, One, Area, Target, Dram, Shadow, Smram, Rom, Card, Device, Config, Abort, Setup, wide, lies_in, upper_memory, fdhc, xbcs, Bytes, row_of, hole_of, is_in, is_smram_range, is_shadowed, is_rom_selected, memory_claim, target_at, Cell, DramCell, CardCell}
+use Rattle.std.proofs.Common.{◌≡◌, ℕ, ◌+◌, ◌%◌, ◌≤◌, ◌<◌, false, not, ◌&&◌, List, length, sym, refl, arith, is_some}
+use Rattle.std.proofs.Common.{unwrap_or}
+use Rattle.board_prelude.proofs.Common.{bytes_of, Kind, Width, One, Area, Target, Dram, Shadow, Smram, Rom, Card}
+use Rattle.board_prelude.proofs.Common.{Device, Config, Abort, Setup, wide, lies_in, upper_memory, fdhc, xbcs, Bytes}
+use Rattle.board_prelude.proofs.Common.{row_of, hole_of, is_in, is_smram_range, is_shadowed, is_rom_selected}
+use Rattle.board_prelude.proofs.Common.{memory_claim, target_at, Cell, DramCell, CardCell}
 use Rattle.board_base.specs.declared.access.Width.TheVariants.{Two, Four}
-use Rattle.board_base.specs.declared.target.Area.TheVariants.{Dram as DramArea, Shadow as ShadowArea, Smram as SmramArea, Rom as RomArea, Card as CardArea, Abort as AbortArea}
+use Rattle.board_base.specs.declared.target.Area.TheVariants.{Rom as RomArea, Card as CardArea}
 use Rattle.pci_bars.specs.Cards.{AreFitted}
 use Rattle.pci_bars.proofs.WindowLemmas.{IsSized, memory_claim_sized, lies_in_window}
 use Rattle.addr_decode.specs.Master.{master_area}

@@ -1,6 +1,9 @@
 -- What the definition comes to is the same before and after each piece.
-use Rattle.std.proofs.Common.{◌≡◌, ◌≢◌, ℕ, zero, suc, ◌+◌, ◌-◌, ◌*◌, ◌/◌, ◌%◌, ◌≤◌, ◌<◌, Bool, true, false, not, ◌&&◌, List, [], ◌∷◌, Option, Some, None, inl, inr, refl, sym, ap, subst, ◌∙◌, arith, ◌==◌, if◌then◌else◌}
-use Rattle.board_prelude.proofs.Common.{cases_Bool, cases_lt, ne_eqb, and_left, nat_tests, Kind, Read, Area, Medium, Setup, Bytes, is_smram_range}
+use Rattle.std.proofs.Common.{◌≡◌, ◌≢◌, ℕ, zero, suc, ◌+◌, ◌-◌, ◌*◌, ◌/◌, ◌%◌, ◌≤◌, ◌<◌, Bool, true, false, not, ◌&&◌}
+use Rattle.std.proofs.Common.{List, [], ◌∷◌, Option, Some, None, inl, inr, refl, sym, ap, subst, ◌∙◌, arith, ◌==◌}
+use Rattle.std.proofs.Common.{if◌then◌else◌}
+use Rattle.board_prelude.proofs.Common.{cases_Bool, ne_eqb, and_left, nat_tests, Read, Area, Medium, Setup, Bytes}
+use Rattle.board_prelude.proofs.Common.{is_smram_range}
 use Rattle.board_base.specs.declared.access.Width.TheVariants.{Four}
 use Rattle.board_base.specs.declared.target.Area.TheVariants.{Dram, Shadow, Smram, Rom, Card, Abort as NobodysArea}
 use Rattle.addr_decode.specs.Common.{master_area, master_denial}
@@ -12,10 +15,17 @@ use Rattle.bus_master.specs.declared.direction.Direction.TheVariants.{ToMemory, 
 use Rattle.bus_master.specs.declared.piece.Piece.{Piece}
 use Rattle.bus_master.specs.declared.piece.Piece.TheVariants.{Descriptor, Move, Ended}
 use Rattle.bus_master.specs.declared.piece.Stretch.{Stretch}
-use Rattle.bus_master.specs.Common.{Cells, Master, Moving, TransferPlace, ◌and_then◌, abort_in, address_after, answered, end_of, ended, even, is_used_up, kind_of, master_value, moved_on, next_moved, next_sector, next_word, ready_for, region_found, region_taken, sector_tested, table_tested, transferred, with_region, word_moved, words_moved}
+use Rattle.bus_master.specs.Common.{Cells, Master, Moving, TransferPlace, ◌and_then◌, address_after, answered, ended}
+use Rattle.bus_master.specs.Common.{even, is_used_up, kind_of, master_value, moved_on, next_moved, next_sector}
+use Rattle.bus_master.specs.Common.{next_word, ready_for, region_found, region_taken, sector_tested, table_tested}
+use Rattle.bus_master.specs.Common.{transferred, with_region, word_moved, words_moved}
 use Rattle.bus_master.specs.Transfer.{size_of}
-use Rattle.bus_master.specs.Pieces.{AreNext, ComesToTheTransfer, Going, HasPassed, IfMove, IsDescriptor, IsEnd, IsInArea, IsMemory, IsMove, IsNext, IsOutsideSmramRange, IsStretch, Point, abort_at, all_done, copied, described, going_at_start, gone_on, is_missing, once_done, outcome, standing, went_on}
-use Rattle.bus_master.proofs.WordLemmas.{next_word_is, region_left, same_answers, sector_left, table_left, words_add, words_stay}
+use Rattle.bus_master.specs.Pieces.{AreNext, ComesToTheTransfer, Going, HasPassed, IfMove, IsDescriptor, IsEnd}
+use Rattle.bus_master.specs.Pieces.{IsInArea, IsMemory, IsMove, IsNext, IsOutsideSmramRange, IsStretch, Point, abort_at}
+use Rattle.bus_master.specs.Pieces.{all_done, copied, described, going_at_start, gone_on, is_missing, once_done}
+use Rattle.bus_master.specs.Pieces.{outcome, standing, went_on}
+use Rattle.bus_master.proofs.WordLemmas.{next_word_is, region_left, same_answers, sector_left, table_left, words_add}
+use Rattle.bus_master.proofs.WordLemmas.{words_stay}
 
 -- a region has bytes
 size_left : (count : ℕ) → (size_of count == 0) ≡ false
@@ -37,7 +47,8 @@ module _ (setup : Setup) (bytes : Bytes) (direction : Direction) (lba : ℕ) (ce
   abbrev here : Moving
   here = record { cells = cells; medium = medium; place = place; end = None }
 
-  next_over : (is_used_up place && place.is_last) ≡ true → next_moved setup bytes direction lba here ≡ ended Shorter here
+  next_over : (is_used_up place && place.is_last) ≡ true →
+      next_moved setup bytes direction lba here ≡ ended Shorter here
   unfolding next_moved ready_for table_tested
   next_over over = rw over refl
 
@@ -89,7 +100,8 @@ module _ (setup : Setup) (bytes : Bytes) (direction : Direction) (lba : ℕ) (ce
       unfolding region_found answered
       region_is used first second = rw (used, sym first, sym second) refl
 
-      unanswered : (end : End) → is_used_up place ≡ false → Some end ≡ abort_at setup bytes (kind_of direction) place.addr →
+      unanswered : (end : End) → is_used_up place ≡ false →
+          Some end ≡ abort_at setup bytes (kind_of direction) place.addr →
           next_moved setup bytes direction lba here ≡ ended end here
       unfolding next_moved ready_for table_tested sector_tested region_found answered
       unanswered end left ends = rw (over, there, left, sym ends) refl

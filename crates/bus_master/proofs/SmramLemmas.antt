@@ -1,15 +1,25 @@
 -- A bus master never reaches SMRAM: it changes no byte of it, and does the same whatever stands there.
-use Rattle.std.proofs.Common.{◌≡◌, ℕ, zero, suc, ◌+◌, ◌-◌, ◌*◌, ◌%◌, ◌<◌, ◌≤◌, ◌⊎◌, inl, inr, Bool, true, false, not, ◌&&◌, Option, Some, None, is_some, refl, sym, subst, ◌∙◌, arith, ◌==◌, unwrap_or, if◌then◌else◌}
-use Rattle.board_prelude.proofs.Common.{cases_Bool, cases_lt, le-ltb, lt-leb, le-leb, nat_tests, Width, One, Kind, Read, Write, Area, Target, Smram, Card, bytes_of, Medium, word_at, Setup, rom_base, wide, Bytes, is_smram_range, target_at, Cell, DramCell, CardCell, byte_put}
+use Rattle.std.proofs.Common.{◌≡◌, ℕ, zero, suc, ◌+◌, ◌-◌, ◌*◌, ◌%◌, ◌<◌, ◌≤◌, ◌⊎◌, inl, inr, Bool, true, false, not}
+use Rattle.std.proofs.Common.{◌&&◌, Option, Some, None, is_some, refl, sym, subst, ◌∙◌, arith, ◌==◌, unwrap_or}
+use Rattle.std.proofs.Common.{if◌then◌else◌}
+use Rattle.board_prelude.proofs.Common.{cases_Bool, cases_lt, le-ltb, lt-leb, le-leb, nat_tests, Width, One, Kind, Read}
+use Rattle.board_prelude.proofs.Common.{Write, Area, Target, Smram, Card, bytes_of, Medium, word_at, Setup, rom_base}
+use Rattle.board_prelude.proofs.Common.{wide, Bytes, is_smram_range, target_at, Cell, DramCell, CardCell, byte_put}
 use Rattle.board_base.specs.declared.access.Width.TheVariants.{Two, Four}
-use Rattle.board_base.specs.declared.target.Area.TheVariants.{Dram as DramArea, Shadow as ShadowArea, Smram as SmramArea, Rom as RomArea, Card as CardArea, Abort as AbortArea}
+use Rattle.board_base.specs.declared.target.Area.TheVariants.{Dram as DramArea, Shadow as ShadowArea}
+use Rattle.board_base.specs.declared.target.Area.TheVariants.{Smram as SmramArea, Rom as RomArea, Card as CardArea}
+use Rattle.board_base.specs.declared.target.Area.TheVariants.{Abort as AbortArea}
 use Rattle.ata_pio.specs.Words.{is_readable}
 use Rattle.addr_decode.specs.Master.{master_area}
 use Rattle.bus_master.specs.declared.done.End.{End}
 use Rattle.bus_master.specs.declared.done.End.TheVariants.{Shorter, Sector}
 use Rattle.bus_master.specs.declared.direction.Direction.{Direction}
 use Rattle.bus_master.specs.declared.direction.Direction.TheVariants.{ToMemory, ToDisk}
-use Rattle.bus_master.specs.Common.{Cells, is_kept, put_in, value_in, Master, Moving, TransferPlace, ◌and_then◌, address_after, answered, begun, descriptor_read, direction_of, ended, even, is_used_up, kind_of, master_target, master_value, next_moved, next_sector, next_word, ready_for, region_found, region_taken, sector_tested, table_tested, transferred, word_moved, words_moved, is_in_smram}
+use Rattle.bus_master.specs.Common.{Cells, is_kept, put_in, value_in, Master, Moving, ◌and_then◌, address_after}
+use Rattle.bus_master.specs.Common.{answered, begun, descriptor_read, direction_of, even, is_used_up, kind_of}
+use Rattle.bus_master.specs.Common.{master_target, master_value, next_moved, next_sector, next_word, ready_for}
+use Rattle.bus_master.specs.Common.{region_found, region_taken, sector_tested, table_tested, transferred, word_moved}
+use Rattle.bus_master.specs.Common.{words_moved, is_in_smram}
 use Rattle.board_chipset.proofs.MasterSteps.{IsOffDram, off_dram}
 use Rattle.bus_master.proofs.HeldTargets.{wide_same}
 

@@ -1,13 +1,17 @@
 -- The steps of a transfer under way, one after another.
-use Rattle.std.proofs.Common.{◌≡◌, ◌≢◌, ℕ, zero, suc, ◌+◌, ◌*◌, ◌%◌, ◌/◌, ◌≤◌, ◌<◌, Bool, true, false, not, ◌&&◌, List, Option, Some, None, is_some, inl, inr, refl, sym, ap, subst, ◌∙◌, arith, ◌==◌, if◌then◌else◌}
-use Rattle.board_prelude.proofs.Common.{cases_Bool, ne_eqb, and_right, nat_tests, Kind, Width, Area, Medium, sectors_of, Setup, Bytes, Cell}
+use Rattle.std.proofs.Common.{◌≡◌, ◌≢◌, ℕ, ◌%◌, Bool, true, false, not, ◌&&◌, Option, Some, None, refl, sym, ap, subst}
+use Rattle.std.proofs.Common.{◌∙◌, arith, ◌==◌, if◌then◌else◌}
+use Rattle.board_prelude.proofs.Common.{ne_eqb, and_right, Kind, Width, Setup, Bytes}
 use Rattle.ata_pio.specs.Words.{is_readable}
 use Rattle.addr_decode.specs.Master.{master_area, master_denial}
 use Rattle.board_chipset.specs.declared.store.Store.{Store}
 use Rattle.bus_master.specs.declared.done.End.{End}
 use Rattle.bus_master.specs.declared.done.End.TheVariants.{Shorter, Sector}
 use Rattle.bus_master.specs.declared.direction.Direction.{Direction}
-use Rattle.bus_master.specs.Common.{Cells, Moving, TransferPlace, ◌and_then◌, abort_in, address_after, answered, descriptor_read, ended, is_used_up, kind_of, master_value, medium_of, next_moved, next_sector, next_word, ready_for, region_found, region_taken, sector_tested, table_tested, with_region, word_moved, words_moved, cells_of, IsCell, StandsAt}
+use Rattle.bus_master.specs.Common.{Moving, TransferPlace, ◌and_then◌, abort_in, address_after, answered}
+use Rattle.bus_master.specs.Common.{descriptor_read, is_used_up, master_value, medium_of, next_sector, next_word}
+use Rattle.bus_master.specs.Common.{ready_for, region_found, region_taken, sector_tested, table_tested, with_region}
+use Rattle.bus_master.specs.Common.{cells_of, StandsAt}
 use Rattle.board_chipset.specs.Stores.{IsStoreOf}
 use Rattle.bus_master.proofs.HeldTargets.{master_value_same}
 
@@ -92,7 +96,8 @@ module _ {store : Store} {place : TransferPlace} {moving : Moving} (is : StandsA
 
   -- ---- a descriptor
 
-  pub region_stands : {setup : Setup} {bytes : Bytes} (after : TransferPlace) (base count : ℕ) → IsStoreOf setup bytes store →
+  pub region_stands : {setup : Setup} {bytes : Bytes} (after : TransferPlace) (base count : ℕ) →
+      IsStoreOf setup bytes store →
       place.table % 4 ≡ 0 → after ≡ with_region base count place →
       base ≡ master_value setup bytes (cells_of store) place.table Width.Four →
       count ≡ master_value setup bytes (cells_of store) (address_after place.table 4) Width.Four →
@@ -128,7 +133,8 @@ module _ {store : Store} {place : TransferPlace} {moving : Moving} (is : StandsA
 
 -- ---- the two halves of a descriptor
 
-module _ {store : Store} {place : TransferPlace} {moving : Moving} (is : StandsAt moving store place None) (setup : Setup)
+module _ {store : Store} {place : TransferPlace} {moving : Moving} (is : StandsAt moving store place None)
+    (setup : Setup)
     (bytes : Bytes) where
   abbrev abort_at : (addr : ℕ) → Option End
   abort_at addr = abort_in (master_area setup bytes addr Kind.Read) addr (master_denial setup bytes addr Kind.Read)
@@ -173,7 +179,8 @@ module _ {store : Store} {place : TransferPlace} {moving : Moving} (is : StandsA
 
 -- ---- the three tests one after another
 
-module _ {store : Store} {place : TransferPlace} {moving : Moving} (is : StandsAt moving store place None) (setup : Setup)
+module _ {store : Store} {place : TransferPlace} {moving : Moving} (is : StandsAt moving store place None)
+    (setup : Setup)
     (bytes : Bytes) (lba : ℕ) where
   pub ready_over : (is_used_up place && place.is_last) ≡ true →
       StandsAt (ready_for setup bytes lba moving) store place (Some Shorter)

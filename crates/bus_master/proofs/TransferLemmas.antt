@@ -1,13 +1,14 @@
 -- A whole transfer.
-use Rattle.std.proofs.Common.{◌≡◌, ℕ, ◌*◌, ◌%◌, true, false, Option, None, refl, sym, ap, subst, ◌∙◌}
-use Rattle.board_prelude.proofs.Common.{Disk, Medium, Setup, Bytes, is_smram_range, Cell, DramCell, CardCell}
+use Rattle.std.proofs.Common.{◌≡◌, ℕ, ◌*◌, ◌%◌, true, None, refl, sym, ap, ◌∙◌}
+use Rattle.board_prelude.proofs.Common.{Medium, Setup, Bytes, is_smram_range, DramCell, CardCell}
 use Rattle.dram_store.specs.Dram.{dram_at}
 use Rattle.board_chipset.specs.declared.store.Store.{Store}
 use Rattle.bus_master.specs.declared.done.End.{End}
 use Rattle.bus_master.specs.declared.done.Done.{Done}
 use Rattle.bus_master.specs.declared.direction.Direction.{Direction}
-use Rattle.bus_master.specs.Common.{Master, Moving, TransferPlace, begun, direction_of, done_of, end_of, first_place, medium_of, transferred, with_medium, words_moved, cells_of, DiffersInSmramAlone, HasSameShape, is_in_smram, transfer_of, EndedSo, StandsAt}
-use Rattle.board_chipset.specs.Stores.{IsStoreOf}
+use Rattle.bus_master.specs.Common.{Master, Moving, TransferPlace, begun, direction_of, done_of, first_place, medium_of}
+use Rattle.bus_master.specs.Common.{transferred, with_medium, words_moved, cells_of, DiffersInSmramAlone, HasSameShape}
+use Rattle.bus_master.specs.Common.{transfer_of, EndedSo, StandsAt}
 use Rattle.bus_master.proofs.SmramLemmas.{AreAlike, hides_smram}
 
 module _ (setup : Setup) (bytes : Bytes) (master : Master) (lba count : ℕ) (direction : Direction) {store new : Store}
@@ -22,7 +23,8 @@ module _ (setup : Setup) (bytes : Bytes) (master : Master) (lba count : ℕ) (di
       (moved (begun (cells_of store) (medium_of store.disk) master.table)
       (record { cells = λ cell there. refl; medium = refl; come = first; ends = refl }))
 
-pub done_is : {moving : Moving} {new : Store} {after : TransferPlace} {end : End} {moved : ℕ} → EndedSo moving new after end →
+pub done_is : {moving : Moving} {new : Store} {after : TransferPlace} {end : End} {moved : ℕ} →
+    EndedSo moving new after end →
     moved ≡ after.moved → record { end = end; moved = moved } ≡ done_of moving
 done_is is moved = rw (moved, is.ends, is.come) refl
 

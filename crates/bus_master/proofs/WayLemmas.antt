@@ -1,12 +1,16 @@
 -- A transfer to memory changes no sector, and one to the disk no byte of memory.
-use Rattle.std.proofs.Common.{◌≡◌, ℕ, zero, suc, ◌*◌, Bool, true, false, not, ◌&&◌, Option, Some, is_some, refl, ◌∙◌, ◌==◌, if◌then◌else◌}
+use Rattle.std.proofs.Common.{◌≡◌, ℕ, zero, suc, ◌*◌, Bool, true, false, not, ◌&&◌, Option, Some, is_some, refl, ◌∙◌}
+use Rattle.std.proofs.Common.{◌==◌, if◌then◌else◌}
 use Rattle.board_prelude.proofs.Common.{Kind, Read, Medium, Setup, Bytes, Cell}
 use Rattle.ata_pio.specs.Words.{is_readable}
 use Rattle.bus_master.specs.declared.done.End.{End}
 use Rattle.bus_master.specs.declared.done.End.TheVariants.{Shorter, Sector}
 use Rattle.bus_master.specs.declared.direction.Direction.{Direction}
 use Rattle.bus_master.specs.declared.direction.Direction.TheVariants.{ToMemory, ToDisk}
-use Rattle.bus_master.specs.Common.{Cells, Master, is_to_memory, Moving, TransferPlace, ◌and_then◌, address_after, answered, begun, descriptor_read, ended, is_used_up, kind_of, next_moved, next_sector, next_word, ready_for, region_found, region_taken, sector_tested, table_tested, transferred, word_moved, words_moved}
+use Rattle.bus_master.specs.Common.{Cells, Master, is_to_memory, Moving, TransferPlace, ◌and_then◌, address_after}
+use Rattle.bus_master.specs.Common.{answered, begun, descriptor_read, ended, is_used_up, kind_of, next_moved}
+use Rattle.bus_master.specs.Common.{next_sector, next_word, ready_for, region_found, region_taken, sector_tested}
+use Rattle.bus_master.specs.Common.{table_tested, transferred, word_moved, words_moved}
 
 -- a part of a transfer under way that neither the place nor an end changes
 module _ {X : Type 0} (part : Moving → X)

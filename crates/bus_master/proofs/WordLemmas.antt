@@ -1,18 +1,24 @@
 -- Words one after another.
-use Rattle.std.proofs.Common.{◌≡◌, ◌≢◌, ℕ, zero, suc, ◌+◌, ◌-◌, ◌*◌, ◌/◌, ◌%◌, ◌≤◌, ◌<◌, Bool, true, false, not, ◌&&◌, List, Option, Some, None, is_some, unwrap_or, inl, inr, refl, sym, ap, subst, ◌∙◌, arith, lit≤, ◌==◌, if◌then◌else◌}
-use Rattle.board_prelude.proofs.Common.{cases_Bool, ne_eqb, and_left, Kind, Width, Area, Denial, Target, Disk, Medium, sectors_of, word_at, Setup, Bytes, Cell}
+use Rattle.std.proofs.Common.{◌≡◌, ◌≢◌, ℕ, zero, suc, ◌+◌, ◌-◌, ◌*◌, ◌/◌, ◌%◌, ◌≤◌, ◌<◌, false, Option, Some, None}
+use Rattle.std.proofs.Common.{refl, sym, ap, subst, ◌∙◌, arith, lit≤}
+use Rattle.board_prelude.proofs.Common.{ne_eqb, and_left, Kind, Width, Area, Denial, Target, Disk, Medium, word_at}
+use Rattle.board_prelude.proofs.Common.{Setup, Bytes, Cell}
 use Rattle.board_base.specs.declared.target.Area.TheVariants.{Dram, Shadow, Smram, Rom, Card, Abort as NobodysArea}
-use Rattle.ata_pio.specs.Words.{is_readable, with_word}
-use Rattle.addr_decode.specs.Common.{StandsFor, map_bytes, master_area, master_denial}
+use Rattle.ata_pio.specs.Words.{with_word}
+use Rattle.addr_decode.specs.Common.{master_area, master_denial}
 use Rattle.board_chipset.specs.declared.store.Store.{Store}
 use Rattle.bus_master.specs.declared.done.End.{End}
 use Rattle.bus_master.specs.declared.direction.Direction.{Direction}
 use Rattle.bus_master.specs.declared.direction.Direction.TheVariants.{ToMemory, ToDisk}
-use Rattle.bus_master.specs.Common.{Cells, put_in, Moving, TransferPlace, ◌and_then◌, abort_in, address_after, answered, is_used_up, kind_of, master_target, master_value, medium_of, moved_on, next_moved, next_sector, next_word, ready_for, region_found, sector_tested, table_tested, with_medium, word_moved, words_moved, cells_of, HasSameShape, IsCell, CameOn, HasSector, StandsAt}
+use Rattle.bus_master.specs.Common.{Cells, put_in, Moving, TransferPlace, ◌and_then◌, abort_in, address_after, answered}
+use Rattle.bus_master.specs.Common.{is_used_up, kind_of, master_target, master_value, medium_of, moved_on, next_moved}
+use Rattle.bus_master.specs.Common.{next_sector, next_word, ready_for, region_found, sector_tested, table_tested}
+use Rattle.bus_master.specs.Common.{with_medium, word_moved, words_moved, cells_of, HasSameShape, IsCell, CameOn}
+use Rattle.bus_master.specs.Common.{StandsAt}
 use Rattle.board_chipset.specs.Stores.{IsStoreOf}
 use Rattle.bus_master.specs.Pieces.{is_missing}
 use Rattle.bus_master.proofs.HeldTargets.{master_value_same}
-use Rattle.bus_master.proofs.StepLemmas.{stands_skipped, stands_taken, taken, skipped, answered_stands, table_goes_on, sector_within, region_in_use}
+use Rattle.bus_master.proofs.StepLemmas.{stands_skipped, stands_taken, taken, skipped, answered_stands}
 
 -- ---- a store with the same shape is one of the same board
 
@@ -289,7 +295,8 @@ module _ (setup : Setup) (bytes : Bytes) (direction : Direction) (lba : ℕ) whe
         (λ (e : place.moved % 512 / 2 ≡ 0). within (omega (arith, e, whole))))) answers)
 
   -- the first word of a stretch, where all before it went well
-  first_in_stretch : {store : Store} {place : TransferPlace} (moving : Moving) → StandsAt (reached_by moving) store place None →
+  first_in_stretch : {store : Store} {place : TransferPlace} (moving : Moving) →
+      StandsAt (reached_by moving) store place None →
       next_moved setup bytes direction lba moving ≡ word_moved setup bytes direction lba (reached_by moving)
   unfolding next_moved reached_by
   first_in_stretch moving is = taken (reached_by moving) (word_moved setup bytes direction lba) is.ends

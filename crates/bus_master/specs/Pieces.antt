@@ -1,6 +1,7 @@
--- A transfer in pieces: what a caller is to do next to a memory that it keeps itself, and that this is the transfer of the
--- definition, whatever that memory holds.
-use Rattle.std.specs.Prelude.{ℕ, zero, suc, ◌≡◌, ◌+◌, ◌-◌, ◌*◌, ◌/◌, ◌%◌, ◌<◌, ◌≤◌, ◌^◌, ◌==◌, ◌&&◌, Bool, not, false, List, [], ◌∷◌, Option, None}
+-- A transfer in pieces: what a caller is to do next to a memory that it keeps itself, and that this is the transfer of
+-- the definition, whatever that memory holds.
+use Rattle.std.specs.Prelude.{ℕ, zero, suc, ◌≡◌, ◌+◌, ◌-◌, ◌*◌, ◌<◌, ◌≤◌, ◌^◌, ◌==◌, ◌&&◌, Bool, not, false, List, []}
+use Rattle.std.specs.Prelude.{◌∷◌, Option, None}
 use Rattle.board_prelude.specs.Common.{Width, Kind, Area, Medium, Setup, Bytes, is_smram_range}
 use Rattle.board_base.specs.declared.access.Width.TheVariants.{Four}
 use Rattle.board_base.specs.declared.target.Area.TheVariants.{Dram as DramArea, Shadow as ShadowArea}
@@ -13,7 +14,9 @@ use Rattle.bus_master.specs.declared.piece.Piece.TheVariants.{Descriptor, Move, 
 use Rattle.bus_master.specs.declared.piece.Stretch.{Stretch}
 use Rattle.bus_master.specs.Cells.{Cells}
 use Rattle.bus_master.specs.Registers.{Master}
-use Rattle.bus_master.specs.Transfer.{Moving, TransferPlace, abort_in, address_after, direction_of, end_of, first_place, is_used_up, kind_of, master_value, next_sector, next_word, transferred, with_region, word_moved, words_moved}
+use Rattle.bus_master.specs.Transfer.{Moving, TransferPlace, abort_in, address_after, direction_of, end_of, first_place}
+use Rattle.bus_master.specs.Transfer.{is_used_up, kind_of, master_value, next_sector, next_word, transferred}
+use Rattle.bus_master.specs.Transfer.{with_region, word_moved, words_moved}
 
 -- how far a transfer has come, which way and from which sector on, and how many words it still has to move
 pub record Going : Type 0 where
@@ -107,7 +110,8 @@ pub record IsDescriptor (setup : Setup) (bytes : Bytes) (going : Going) (cells :
   pub same :
       outcome setup bytes going cells medium
       ≡ outcome setup bytes
-      (described (master_value setup bytes cells addr Four) (master_value setup bytes cells (address_after addr 4) Four) going)
+      (described (master_value setup bytes cells addr Four)
+      (master_value setup bytes cells (address_after addr 4) Four) going)
       cells medium
 
 -- words that lie in one area, one region and one sector

@@ -1,5 +1,5 @@
 -- The store that a transfer works on, and the definition of a transfer over its bytes.
-use Rattle.std.specs.Prelude.{ℕ, ◌≡◌, Bool, true, false, List, length}
+use Rattle.std.specs.Prelude.{ℕ, ◌≡◌, Bool, false, length}
 use Rattle.board_prelude.specs.Common.{Kind, Area, sectors_of, Setup, Bytes, is_smram_range, Cell, DramCell, CardCell}
 use Rattle.dram_store.specs.Dram.{dram_at}
 use Rattle.pci_bars.specs.Contents.{IsBaseNumber, held, held_byte}

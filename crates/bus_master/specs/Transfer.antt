@@ -1,7 +1,9 @@
 -- A transfer of the bus master: words between the sectors of the disk, from one on, and the regions of memory that a
 -- table of descriptors names (82371SB, 2.7).
-use Rattle.std.specs.Prelude.{ℕ, zero, suc, ◌+◌, ◌-◌, ◌*◌, ◌/◌, ◌%◌, ◌==◌, Bool, true, false, not, ◌&&◌, if◌then◌else◌, [], Option, Some, None, is_some, unwrap_or}
-use Rattle.board_prelude.specs.Common.{Width, Kind, Read, Write, Area, Denial, NoRegister, Medium, Disk, word_at, Setup, is_bit, Bytes}
+use Rattle.std.specs.Prelude.{ℕ, zero, suc, ◌+◌, ◌-◌, ◌*◌, ◌/◌, ◌%◌, ◌==◌, Bool, false, not, ◌&&◌, if◌then◌else◌, []}
+use Rattle.std.specs.Prelude.{Option, Some, None, is_some, unwrap_or}
+use Rattle.board_prelude.specs.Common.{Width, Kind, Read, Write, Area, Denial, NoRegister, Medium, Disk, word_at, Setup}
+use Rattle.board_prelude.specs.Common.{is_bit, Bytes}
 use Rattle.board_base.specs.declared.access.Width.TheVariants.{Two, Four}
 use Rattle.board_base.specs.declared.target.Area.TheVariants.{Abort as NobodysArea}
 use Rattle.ata_pio.specs.Words.{is_readable, with_word}

@@ -8,7 +8,9 @@ ghost use Rattle.addr_decode.specs.Common.{StandsFor, map_bytes};
 ghost use Rattle.bus_master.specs.Cells.{Cells};
 ghost use Rattle.bus_master.specs.Registers.{is_started};
 ghost use Rattle.bus_master.specs.Transfer.{Moving, done_of, kind_of, master_after, medium_of, next_sector, next_word};
-ghost use Rattle.bus_master.specs.Pieces.{ComesToTheTransfer, HasPassed, IfMove, IsEnd, IsInArea, IsNext, IsOutsideSmramRange, IsSaid, IsStretch, abort_at, described, going_at_start, going_from, gone_on, went_on};
+ghost use Rattle.bus_master.specs.Pieces.{ComesToTheTransfer, HasPassed, IfMove, IsEnd, IsInArea, IsNext};
+ghost use Rattle.bus_master.specs.Pieces.{IsOutsideSmramRange, IsSaid, IsStretch, abort_at, described, going_at_start};
+ghost use Rattle.bus_master.specs.Pieces.{going_from, gone_on, went_on};
 
 use crate::direction::Direction;
 use crate::done::{Done, End};
@@ -21,8 +23,8 @@ use ata_pio::Ata;
 use board_base::Kind;
 use std::marker::Model;
 
-/// A transfer over memory that its caller keeps: `BusMaster::begin` begins one and `BusMaster::finish` ends it. Contracts
-/// see how far it has come, and what it still has to move.
+/// A transfer over memory that its caller keeps: `BusMaster::begin` begins one and `BusMaster::finish` ends it.
+/// Contracts see how far it has come, and what it still has to move.
 #[derive(Drop)]
 pub struct Transfer {
     pub(crate) way: UnderWay,
@@ -74,9 +76,9 @@ impl BusMaster {
 }
 
 impl Transfer {
-    /// What comes next, by the registers of the memory map and the disk, where one is fitted. What the whole comes to is
-    /// the same before and after it, whatever the caller's memory holds; and no byte of memory at A0000h to BFFFFh is in
-    /// a stretch of memory.
+    /// What comes next, by the registers of the memory map and the disk, where one is fitted. What the whole comes to
+    /// is the same before and after it, whatever the caller's memory holds; and no byte of memory at A0000h to BFFFFh
+    /// is in a stretch of memory.
     pub fn next(&self, regs: &MapRegs, disk: Option<&Ata>) -> Piece
         requires cards { AreFitted regs.now.cards.items }
         ensures next { (setup : Setup) (bytes : Bytes) (cells : Cells) → StandsFor setup bytes (map_bytes regs.now)
@@ -88,8 +90,8 @@ impl Transfer {
         self.next_by(regs, is_readable(disk, self.sector()))
     }
 
-    /// What comes next, as `next` tells it, over any disk: its caller says whether the sector of the next word (`sector`)
-    /// is there and not bad.
+    /// What comes next, as `next` tells it, over any disk: its caller says whether the sector of the next word
+    /// (`sector`) is there and not bad.
     pub fn next_by(&self, regs: &MapRegs, readable: bool) -> Piece
         requires cards { AreFitted regs.now.cards.items }
         ensures next { (setup : Setup) (bytes : Bytes) (cells : Cells) (medium : Medium)
@@ -302,8 +304,8 @@ impl UnderWay {
     }
 }
 
-/// Where a caller does one piece after another as each is told, memory and disk hold in the end what the transfer makes of
-/// them, and it has ended as it does, whatever they held.
+/// Where a caller does one piece after another as each is told, memory and disk hold in the end what the transfer makes
+/// of them, and it has ended as it does, whatever they held.
 pub fn law_pieces()
     ensures whole { ComesToTheTransfer }
 {}

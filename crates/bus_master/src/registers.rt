@@ -1,7 +1,8 @@
 //! The registers of the bus master.
 
 ghost use Rattle.std.specs.Prelude.{◌≡◌, ◌<◌};
-ghost use Rattle.bus_master.specs.Registers.{command_bits, command_written, is_started, master_at_reset, master_written, register_of, status_after, table_after};
+ghost use Rattle.bus_master.specs.Registers.{command_bits, command_written, is_started, master_at_reset};
+ghost use Rattle.bus_master.specs.Registers.{master_written, register_of, status_after, table_after};
 
 use board_spec::bits::{is_set, merged};
 use std::marker::Model;

@@ -8,7 +8,9 @@ ghost use Rattle.addr_decode.specs.Common.{StandsFor, map_bytes, master_area, ma
 ghost use Rattle.bus_master.specs.declared.done.End.{End};
 ghost use Rattle.bus_master.specs.declared.direction.Direction.{Direction};
 ghost use Rattle.bus_master.specs.Cells.{put_in};
-ghost use Rattle.bus_master.specs.Transfer.{Moving, abort_in, address_after, descriptor_read, first_place, is_used_up, kind_of, master_value, medium_of, moved_on, next_sector, next_word, ready_for, sector_tested, size_of, with_region, word_moved, words_moved};
+ghost use Rattle.bus_master.specs.Transfer.{Moving, abort_in, address_after, descriptor_read, first_place, is_used_up};
+ghost use Rattle.bus_master.specs.Transfer.{kind_of, master_value, medium_of, moved_on, next_sector, next_word};
+ghost use Rattle.bus_master.specs.Transfer.{ready_for, sector_tested, size_of, with_region, word_moved, words_moved};
 ghost use Rattle.board_chipset.specs.Masters.{master_target};
 ghost use Rattle.board_chipset.specs.Stores.{IsOfBoard, IsStoreOf};
 ghost use Rattle.bus_master.specs.Stores.{cells_of, HasSameShape, IsCell, IsReached};

@@ -1,5 +1,6 @@
 -- What a step of one pass leaves true of the others.
-use Rattle.std.proofs.Common.{◌≡◌, ◌≢◌, ⊎_elim, ℕ, ◌+◌, ◌<◌, List, [], ◌∷◌, length, set, All, Option, length-set, sym, refl, ap, ◌∙◌, subst, arith}
+use Rattle.std.proofs.Common.{◌≡◌, ◌≢◌, ⊎_elim, ℕ, ◌+◌, ◌<◌, List, [], ◌∷◌, length, set, All, Option, length-set, sym}
+use Rattle.std.proofs.Common.{refl, ap, ◌∙◌, subst, arith}
 use mathlib.Core.Option.{some, some-injective}
 use mathlib.Core.Option as maybe
 use mathlib.Core.List.{IsPrefix}
@@ -10,7 +11,8 @@ use Rattle.atomic_table.proofs.Lists.{at_set, set_else}
 use Rattle.bus_turn.specs.declared.view.View.{View}
 use Rattle.bus_turn.specs.declared.view.Stage.{Stage}
 use Rattle.bus_turn.specs.declared.view.Stage.TheVariants.{Holds, Spent}
-use Rattle.bus_turn.specs.Common.{own_by, spent, Place, home, away, slot_of, Book, gone, waits, is_gone, joins, total, IsSpent, AreJoined, log_of, words_of, AtStage, Knows, Lies, Ordered}
+use Rattle.bus_turn.specs.Common.{own_by, spent, Place, home, away, slot_of, Book, gone, waits, is_gone, joins, total}
+use Rattle.bus_turn.specs.Common.{IsSpent, AreJoined, log_of, words_of, AtStage, Knows, Lies, Ordered}
 use Rattle.bus_turn.proofs.Sums.{total_set}
 use Rattle.bus_turn.proofs.Rows.{prefix_trans, All-more}
 

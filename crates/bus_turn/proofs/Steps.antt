@@ -1,5 +1,7 @@
 -- Each step keeps the rule of the table.
-use Rattle.std.proofs.Common.{zero, suc, map, append-nil, mod-eq_of_lt, ◌≡◌, ◌≢◌, ⊎_elim, ℕ, ◌+◌, ◌%◌, ◌^◌, ◌≤◌, ◌<◌, List, [], ◌∷◌, ◌++◌, length, set, get_or, drop, All, eq-or-lt_of_le, Option, Some, None, length-set, length-append, append_assoc, sym, refl, ap, ◌∙◌, subst, arith}
+use Rattle.std.proofs.Common.{zero, suc, map, append-nil, mod-eq_of_lt, ◌≡◌, ◌≢◌, ⊎_elim, ℕ, ◌+◌, ◌%◌, ◌^◌, ◌≤◌, ◌<◌}
+use Rattle.std.proofs.Common.{List, [], ◌∷◌, ◌++◌, length, set, get_or, drop, All, eq-or-lt_of_le, Option, Some, None}
+use Rattle.std.proofs.Common.{length-set, length-append, append_assoc, sym, refl, ap, ◌∙◌, subst, arith}
 use Rattle.std.proofs.Math.Nat.{mod-add-mod}
 use mathlib.Core.Option.{some, none, some-injective, some-ne-none}
 use mathlib.Core.Option as maybe
@@ -9,14 +11,19 @@ use Rattle.std.proofs.lemmas.List.Elements.{All-append, All-cons, All-nil}
 use mathlib.Core.List.{IsPrefix}
 use native.Mathlib.Decide.{ℕ_discrete}
 use lib.ListN.{get_elem?}
-use Rattle.atomic_table.specs.Table.{State, Me, step, Act, keeps, takes, gives, Valid, stepped, carried_after, put_back, rest, Allows, Splits, Joins, Final, Seen, opening}
+use Rattle.atomic_table.specs.Table.{State, Me, step, Act, keeps, takes, gives, Valid, stepped, carried_after, put_back}
+use Rattle.atomic_table.specs.Table.{rest, Allows, Splits, Joins, Final, Seen, opening}
 use Rattle.atomic_table.proofs.Lists.{at_set, set_here, set_else, set_again, at_longer, one_turn}
 use Rattle.bus_turn.specs.declared.view.View.{View}
 use Rattle.bus_turn.specs.declared.view.Stage.{Stage}
 use Rattle.bus_turn.specs.declared.view.Stage.TheVariants.{Idle, Waits, Holds, Spent}
-use Rattle.bus_turn.specs.Common.{own_by, spent, staged, sees, commits, starting, after_split, split_off, with_joined, Fits, Closes, drew, called, counted, gave, looked, ticket_of, Place, home, away, slot_of, Book, gone, waiting, waits, is_gone, joins, total, IsSpent, AreJoined, log_of, AtStage, Knows, Lies, Ordered, Ruled}
+use Rattle.bus_turn.specs.Common.{own_by, spent, staged, sees, commits, starting, after_split, split_off, with_joined}
+use Rattle.bus_turn.specs.Common.{Fits, Closes, drew, called, counted, gave, looked, ticket_of, Place, home, away}
+use Rattle.bus_turn.specs.Common.{slot_of, Book, gone, waiting, waits, is_gone, joins, total, IsSpent, AreJoined}
+use Rattle.bus_turn.specs.Common.{log_of, AtStage, Knows, Lies, Ordered, Ruled}
 use Rattle.bus_turn.proofs.Sums.{total_set, total_at, total_snoc, total_below, total_under, total_both}
-use Rattle.bus_turn.proofs.Rows.{at_lt, at_end, set_apart, prefix_refl, prefix_same, prefix_trans, drop_front, own_more, own_else, own_none, All-more}
+use Rattle.bus_turn.proofs.Rows.{at_lt, at_end, set_apart, prefix_refl, prefix_same, prefix_trans, drop_front, own_more}
+use Rattle.bus_turn.proofs.Rows.{own_else, own_none, All-more}
 use Rattle.bus_turn.proofs.Moves.{put, put_here, put_else, alive, joined_on, moved, lies_away, lies_kept, as_joined}
 
 abbrev holding : Stage → ℕ

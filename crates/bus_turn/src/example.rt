@@ -51,7 +51,8 @@ impl Sheet {
 
     /// Makes a mark, unless the sheet is full or there is no memory.
     pub fn mark(&mut self, number: u8) -> bool
-        ensures marked { MatchBool result (self.new.marks.items ≡ self.old.marks.items ++ number ∷ []) (self.new.marks.items ≡ self.old.marks.items) }
+        ensures marked { MatchBool result (self.new.marks.items ≡ self.old.marks.items ++ number ∷ [])
+            (self.new.marks.items ≡ self.old.marks.items) }
     {
         if self.marks.len() >= MOST {
             return false;
@@ -77,7 +78,8 @@ pub fn mark_once<R: Wait>(rt: &R, turn: &Turn<Sheet>, pass: &mut Pass<Sheet>, nu
     ensures idle { IsIdle pass.new }
     ensures same { IsSameCaller pass.old pass.new × HasSameJoined pass.old pass.new }
     ensures later { IsPrefix (seen_of pass.old) (seen_of pass.new) }
-    ensures mine { MatchBool result (mine_of pass.new ≡ mine_of pass.old ++ number ∷ []) (mine_of pass.new ≡ mine_of pass.old) }
+    ensures mine { MatchBool result (mine_of pass.new ≡ mine_of pass.old ++ number ∷ [])
+        (mine_of pass.new ≡ mine_of pass.old) }
 {
     let mut held = turn.take(rt, pass);
     if held.value.mark(number) {

@@ -2,7 +2,8 @@
 ghost use Rattle.std.specs.Prelude.{◌≡◌, ◌++◌, ◌∷◌, ◌+◌, ◌<◌, [], All, Some, IfOk, IfErr, length, drop, ◌≤◌};
 ghost use mathlib.Core.List.{IsPrefix};
 ghost use Rattle.bus_turn.specs.Views.{own_by, commits};
-ghost use Rattle.bus_turn.specs.Passes.{IsIdle, IsHolding, IsSameCaller, HasSameJoined, number_of, splits_of, opened_of, part_of, seen_of, mine_of, joined_of, IsFirst, IsFurther};
+ghost use Rattle.bus_turn.specs.Passes.{IsIdle, IsHolding, IsSameCaller, HasSameJoined, number_of, splits_of};
+ghost use Rattle.bus_turn.specs.Passes.{opened_of, part_of, seen_of, mine_of, joined_of, IsFirst, IsFurther};
 
 use crate::kept::Kept;
 use crate::plays::{Absorb, Branch, Call, Count, Draw, Give, Look, Said};
@@ -90,7 +91,8 @@ impl<T: Kept> Turn<T> {
         ensures further { IsFurther pass.new result }
         ensures splits { splits_of pass.new ≡ splits_of pass.old + 1 }
         ensures same { IsSameCaller pass.old pass.new }
-        ensures seen { (seen_of pass.new ≡ seen_of pass.old) × (mine_of pass.new ≡ mine_of pass.old) × (joined_of pass.new ≡ joined_of pass.old) }
+        ensures seen { (seen_of pass.new ≡ seen_of pass.old) × (mine_of pass.new ≡ mine_of pass.old)
+            × (joined_of pass.new ≡ joined_of pass.old) }
     {
         self.table.shared.split_seat::<Branch>(pass)
     }
@@ -140,9 +142,11 @@ impl<T: Kept> Turn<T> {
         ensures list { seen_of pass.new ≡ T.entries result.value }
         ensures begins { IsPrefix (seen_of pass.old) (T.entries result.value) }
         ensures opened { IsPrefix (opened_of pass.old) (T.entries result.value) }
-        ensures mine { own_by T.actor (number_of pass.old) (drop (length (opened_of pass.old)) (T.entries result.value)) ≡ mine_of pass.old }
+        ensures mine { own_by T.actor (number_of pass.old) (drop (length (opened_of pass.old)) (T.entries result.value))
+            ≡ mine_of pass.old }
         ensures part { part_of pass.old ≡ Some (T.fixed result.value) }
-        ensures same { IsSameCaller pass.old pass.new × HasSameJoined pass.old pass.new × (mine_of pass.new ≡ mine_of pass.old) }
+        ensures same { IsSameCaller pass.old pass.new × HasSameJoined pass.old pass.new
+            × (mine_of pass.new ≡ mine_of pass.old) }
     {
         self.wait_for_free_turn();
         let ticket = self.table.shared.fetch_add::<Draw>(pass, TICKET, 1);
@@ -162,12 +166,14 @@ impl<T: Kept> Turn<T> {
     pub fn commit(&self, pass: &mut Pass<T>, held: &mut Held<T>)
         requires own { IsOf self.now pass.old }
         requires holds { IsHolding pass.old }
-        requires adds { (e : T.Entry) × (T.entries held.old.value ≡ seen_of pass.old ++ e ∷ []) × (T.actor e ≡ number_of pass.old) }
+        requires adds { (e : T.Entry) × (T.entries held.old.value ≡ seen_of pass.old ++ e ∷ [])
+            × (T.actor e ≡ number_of pass.old) }
         requires part { part_of pass.old ≡ Some (T.fixed held.old.value) }
         ensures own { IsOf self.now pass.new }
         ensures holds { IsHolding pass.new }
         ensures list { seen_of pass.new ≡ T.entries held.old.value }
-        ensures mine { mine_of pass.new ≡ mine_of pass.old ++ drop (length (seen_of pass.old)) (T.entries held.old.value) }
+        ensures mine { mine_of pass.new ≡ mine_of pass.old ++ drop (length (seen_of pass.old))
+            (T.entries held.old.value) }
         ensures same { IsSameCaller pass.old pass.new × HasSameJoined pass.old pass.new }
         ensures held { held.new ≡ held.old }
     {
@@ -177,7 +183,8 @@ impl<T: Kept> Turn<T> {
     fn commit_said<W: Said<T::Entry>>(&self, pass: &mut Pass<T>, held: &Held<T>)
         requires own { IsOf self.now pass.old }
         requires holds { IsHolding pass.old }
-        requires adds { (e : T.Entry) × (W.added ≡ e ∷ []) × (T.entries held.now.value ≡ seen_of pass.old ++ e ∷ []) × (T.actor e ≡ number_of pass.old) }
+        requires adds { (e : T.Entry) × (W.added ≡ e ∷ []) × (T.entries held.now.value ≡ seen_of pass.old ++ e ∷ [])
+            × (T.actor e ≡ number_of pass.old) }
         ensures own { IsOf self.now pass.new }
         ensures view { pass.new.me ≡ (commits pass.old.me.0 W.added, pass.old.me.1) }
     {
@@ -209,7 +216,8 @@ impl<T: Kept> Turn<T> {
         ensures idle { IsIdle pass.new }
         ensures seen { IsPrefix (seen_of pass.old) (seen_of pass.new) × IsPrefix (seen_of other) (seen_of pass.new) }
         ensures joined { joined_of pass.new ≡ joined_of pass.old ++ (number_of other, mine_of other) ∷ joined_of other }
-        ensures same { IsSameCaller pass.old pass.new × (splits_of pass.new ≡ splits_of pass.old) × (mine_of pass.new ≡ mine_of pass.old) }
+        ensures same { IsSameCaller pass.old pass.new × (splits_of pass.new ≡ splits_of pass.old)
+            × (mine_of pass.new ≡ mine_of pass.old) }
     {
         self.table.shared.join_seat::<Absorb>(pass, other);
         self.table.shared.load::<Look>(pass, SERVING);
@@ -223,8 +231,10 @@ impl<T: Kept> Turn<T> {
         requires joined { length (joined_of pass) ≡ splits_of pass }
         ensures begins { IsPrefix (seen_of pass) (T.entries result) }
         ensures opened { IsPrefix (opened_of pass) (T.entries result) }
-        ensures mine { own_by T.actor (number_of pass) (drop (length (opened_of pass)) (T.entries result)) ≡ mine_of pass }
-        ensures joined { All (λ other. own_by T.actor other.0 (drop (length (opened_of pass)) (T.entries result)) ≡ other.1) (joined_of pass) }
+        ensures mine { own_by T.actor (number_of pass) (drop (length (opened_of pass)) (T.entries result))
+            ≡ mine_of pass }
+        ensures joined { All (λ other. own_by T.actor other.0 (drop (length (opened_of pass)) (T.entries result))
+            ≡ other.1) (joined_of pass) }
         ensures callers { All (λ e. T.actor e ≤ splits_of pass) (drop (length (opened_of pass)) (T.entries result)) }
         ensures part { part_of pass ≡ Some (T.fixed result) }
     {

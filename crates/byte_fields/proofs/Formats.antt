@@ -1,6 +1,9 @@
 -- A format: how values are spelled and how they are read, and that each undoes the other.
-use Rattle.std.proofs.Common.{◌≡◌, ℕ, zero, suc, ◌+◌, ◌*◌, ◌≤◌, ◌⊎◌, inl, inr, Bool, true, false, cond, List, [], ◌∷◌, ◌++◌, length, take, drop, Result, Ok, Err, refl, sym, ap, subst, ◌∙◌, append_assoc, arith, nat_lt, flat_map}
-use Rattle.board_base.proofs.Common.{flat_map-cons, ltb-false, le-ltb, take_at, drop_at, length-append, length-take, take-append-drop, append-nil}
+use Rattle.std.proofs.Common.{◌≡◌, ℕ, zero, suc, ◌+◌, ◌*◌, ◌≤◌, ◌⊎◌, inl, inr, Bool, true, false, cond, List, [], ◌∷◌}
+use Rattle.std.proofs.Common.{◌++◌, length, take, drop, Result, Ok, Err, refl, sym, ap, subst, ◌∙◌, append_assoc, arith}
+use Rattle.std.proofs.Common.{nat_lt, flat_map}
+use Rattle.board_base.proofs.Common.{flat_map-cons, ltb-false, le-ltb, take_at, drop_at, length-append, length-take}
+use Rattle.board_base.proofs.Common.{take-append-drop, append-nil}
 use Rattle.std.proofs.Math.Nat.{mul-suc}
 use Rattle.byte_fields.specs.Fields.{AreBytes, Reading, then_read, gives, plain, ◌>>=◌}
 use Rattle.byte_fields.proofs.Loops.{IsLoop, with_later}
@@ -29,7 +32,7 @@ rest_of bytes front rest are is = AreBytes-rest front rest (subst AreBytes is ar
 pub ok_is : {X : Type 0} (x y : X) → ◌≡◌ {A = Result X ℕ} (Ok x) (Ok y) → x ≡ y
 ok_is x y is = cc
 
-pub not_err : {C : Type 0} (x : C) (y : ℕ) → ◌≡◌ {A = Result C ℕ} (Ok x) (Err y) → ⊥
+pub not_err : {A E : Type 0} (x : A) (y : E) → ◌≡◌ {A = Result A E} (Ok x) (Err y) → ⊥
 not_err x y is = absurd cc
 
 pub err_is : {X : Type 0} (x y : ℕ) → ◌≡◌ {A = Result X ℕ} (Err x) (Err y) → x ≡ y
@@ -175,7 +178,8 @@ abbrev pub AreMany : {S A : Type 0} → (S → A → S) → (S → A → Type 0)
 AreMany next IsGood s count values = (length values ≡ count) × AreGood next IsGood s values
 
 many_back :
-    {S A : Type 0} {n : ℕ} {one : S → Reading A} {next : S → A → S} {many : S → ℕ → Reading (List A)} {spelled : A → List ℕ}
+    {S A : Type 0} {n : ℕ} {one : S → Reading A} {next : S → A → S} {many : S → ℕ →
+    Reading (List A)} {spelled : A → List ℕ}
     {IsGood : S → A → Type 0} → IsLoop one next many → ((s : S) → IsFormat n (one s) spelled (IsGood s)) →
     (values : List A) (s : S) (rest : List ℕ) → AreGood next IsGood s values →
     many s (length values) (flat_map spelled values ++ rest) ≡ Ok (values, rest)
@@ -192,7 +196,8 @@ many_back {one = one} {next = next} {many = many} {spelled = spelled} loop each 
     ) refl
 
 many_taken :
-    {S A : Type 0} {n : ℕ} {one : S → Reading A} {next : S → A → S} {many : S → ℕ → Reading (List A)} {spelled : A → List ℕ}
+    {S A : Type 0} {n : ℕ} {one : S → Reading A} {next : S → A → S} {many : S → ℕ →
+    Reading (List A)} {spelled : A → List ℕ}
     {IsGood : S → A → Type 0} → IsLoop one next many → ((s : S) → IsFormat n (one s) spelled (IsGood s)) →
     (count : ℕ) (s : S) (bytes : List ℕ) (values : List A) (rest : List ℕ) → AreBytes bytes →
     many s count bytes ≡ Ok (values, rest) →
@@ -225,12 +230,13 @@ many_taken {A = A} {one = one} {next = next} {many = many} {spelled = spelled}
     (joined, (ap suc b.1.0, (a.1, b.1.1)))
 
 many_bad :
-    {S A : Type 0} {n : ℕ} {one : S → Reading A} {next : S → A → S} {many : S → ℕ → Reading (List A)} {spelled : A → List ℕ}
+    {S A : Type 0} {n : ℕ} {one : S → Reading A} {next : S → A → S} {many : S → ℕ →
+    Reading (List A)} {spelled : A → List ℕ}
     {IsGood : S → A → Type 0} → IsLoop one next many → ((s : S) → IsFormat n (one s) spelled (IsGood s)) →
     (count : ℕ) (s : S) (bytes : List ℕ) (left : ℕ) → AreBytes bytes → many s count bytes ≡ Err left →
     (left ≤ length bytes) × (length bytes ≤ left + n * count)
 many_bad {A = A} loop each zero s bytes left are is =
-    absurd (not_err {C = List A × List ℕ} ([], bytes) left (sym (loop.none s bytes) ∙ is))
+    absurd (not_err {A = List A × List ℕ} ([], bytes) left (sym (loop.none s bytes) ∙ is))
 many_bad {A = A} {n = n} {one = one} {next = next} {many = many} {spelled = spelled} loop
     each (suc count) s bytes left are is =
     elim (then_err (one s bytes) (with_later (λ value. many (next s value) count)) left
@@ -249,7 +255,7 @@ many_bad {A = A} {n = n} {one = one} {next = next} {many = many} {spelled = spel
                 let bound : (left ≤ length late.0.1) × (length late.0.1 ≤ left + n * count) =
                 many_bad loop each count (next s value) late.0.1 left (rest_of bytes _ _ are a.0) within in
                 (omega (arith, bound.0, whole), omega (arith, bound.1, whole, few, mul-suc n count))
-            | inr never ↦ absurd (not_err {C = List A × List ℕ} (value ∷ never.0.0, never.0.1) left never.2)
+            | inr never ↦ absurd (not_err {A = List A × List ℕ} (value ∷ never.0.0, never.0.1) left never.2)
           ]
     ]
 
@@ -266,7 +272,8 @@ many_size {n = n} next {spelled = spelled} each (value ∷ later) s good =
     omega (arith, joined, first, rest, mul-suc n (length later))
 
 pub many_format :
-    {S A : Type 0} {n : ℕ} {one : S → Reading A} {next : S → A → S} {many : S → ℕ → Reading (List A)} {spelled : A → List ℕ}
+    {S A : Type 0} {n : ℕ} {one : S → Reading A} {next : S → A → S} {many : S → ℕ →
+    Reading (List A)} {spelled : A → List ℕ}
     {IsGood : S → A → Type 0} → IsLoop one next many → ((s : S) → IsFormat n (one s) spelled (IsGood s)) →
     (s : S) (count : ℕ) → IsFormat (n * count) (many s count) (flat_map spelled) (AreMany next IsGood s count)
 many_format {n = n} {next = next} {many = many} {spelled = spelled} loop each s count = record {

@@ -1,5 +1,6 @@
 -- Reading one value after another, as a loop does.
-use Rattle.std.proofs.Common.{◌≡◌, ℕ, suc, ◌+◌, ◌-◌, ◌<◌, ◌≤◌, List, [], ◌∷◌, ◌++◌, Result, Ok, Err, refl, sym, ap, ◌∙◌, append_assoc, arith}
+use Rattle.std.proofs.Common.{◌≡◌, ℕ, suc, ◌+◌, ◌-◌, ◌<◌, ◌≤◌, List, [], ◌∷◌, ◌++◌, Result, Ok, Err, refl, sym, ap, ◌∙◌}
+use Rattle.std.proofs.Common.{append_assoc, arith}
 use Rattle.std.proofs.lemmas.List.{append-nil}
 use Rattle.byte_fields.specs.Fields.{Reading, then_read, gives}
 
@@ -8,7 +9,8 @@ abbrev pub with_later : {A : Type 0} → (A → Reading (List A)) → A → Read
 with_later later value bytes = then_read (later value bytes) (λ values. gives (value ∷ values))
 
 -- so many values are read one after another. How each is read may depend on those before it
-pub record IsLoop {S A : Type 0} (one : S → Reading A) (next : S → A → S) (many : S → ℕ → Reading (List A)) : Type 0 where
+pub record IsLoop {S A : Type 0} (one : S → Reading A) (next : S → A → S) (many : S → ℕ →
+    Reading (List A)) : Type 0 where
   pub none : (s : S) (bytes : List ℕ) → many s 0 bytes ≡ Ok ([], bytes)
   pub more : (s : S) (n : ℕ) (bytes : List ℕ) →
       many s (suc n) bytes ≡ then_read (one s bytes) (with_later (λ value. many (next s value) n))
@@ -17,10 +19,10 @@ pub record IsLoop {S A : Type 0} (one : S → Reading A) (next : S → A → S) 
 abbrev pub with_front : {A : Type 0} → List A → Result (List A × List ℕ) ℕ → Result (List A × List ℕ) ℕ
 with_front front read = then_read read (λ later. gives (front ++ later))
 
-joined : {A : Type 0} (front : List A) (value : A) (read : Result (List A × List ℕ) ℕ) →
+pub front_joined : {A : Type 0} (front : List A) (value : A) (read : Result (List A × List ℕ) ℕ) →
     with_front front (then_read read (λ values. gives (value ∷ values))) ≡ with_front (front ++ value ∷ []) read
-joined front value (Ok got) = ap (λ values. Ok (values, got.1)) (sym (append_assoc front (value ∷ []) got.0))
-joined front value (Err left) = refl
+front_joined front value (Ok got) = ap (λ values. Ok (values, got.1)) (sym (append_assoc front (value ∷ []) got.0))
+front_joined front value (Err left) = refl
 
 -- a loop begins, goes on by one value, stops where one is bad, and ends
 
@@ -38,7 +40,7 @@ goes_on one next many loop front s count i bytes after value total below is so_f
     let step : with_front front (many s (count - i) bytes)
     ≡ with_front front (with_later (λ value. many (next s value) (count - (i + 1))) value after) =
     rw (left, loop.more s (count - (i + 1)) bytes, is) refl in
-    sym (joined front value (many (next s value) (count - (i + 1)) after)) ∙ (sym step ∙ so_far)
+    sym (front_joined front value (many (next s value) (count - (i + 1)) after)) ∙ (sym step ∙ so_far)
 
 pub stops :
     {S A : Type 0} (one : S → Reading A) (next : S → A → S) (many : S → ℕ → Reading (List A)) → IsLoop one next many →

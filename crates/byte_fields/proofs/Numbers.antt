@@ -1,10 +1,16 @@
 -- Numbers as fields.
-use Rattle.std.proofs.Common.{◌≡◌, ℕ, zero, suc, ◌+◌, ◌^◌, ◌<◌, ◌≤◌, inl, inr, Bool, true, false, cond, List, [], ◌∷◌, ◌++◌, length, take, drop, Option, Some, None, Result, Ok, Err, refl, sym, ap, subst, ◌∙◌, arith, nat_lt, nat_le, is_some, unwrap_or, ◌==◌, ◌&&◌, if◌then◌else◌}
+use Rattle.std.proofs.Common.{◌≡◌, ℕ, zero, suc, ◌+◌, ◌^◌, ◌<◌, ◌≤◌, inl, inr, Bool, true, false, cond, List, [], ◌∷◌}
+use Rattle.std.proofs.Common.{◌++◌, length, take, drop, Option, Some, None, Result, Ok, Err, refl, sym, ap, subst, ◌∙◌}
+use Rattle.std.proofs.Common.{arith, nat_lt, nat_le, is_some, unwrap_or, ◌==◌, ◌&&◌, if◌then◌else◌}
 use Rattle.std.specs.Int.{Width as Size, byte_len}
 use Rattle.board_base.specs.Common.{w8, w16, w32, w64, to_le_bytes, from_le_bytes}
-use Rattle.board_base.proofs.Common.{cases_eq, eq-eqb, ne_eqb, ltb-false, le-ltb, leb-true, le-leb, and_from, and_parts, take_at, drop_at, take-append-drop, length-append, length-take, get_or-take, get_or_past, cases_lt}
-use Rattle.std.proofs.lemmas.Nat.{le_bytes_2, le_bytes_4, le_bytes_8, from_le_bytes-to_le_bytes_2, from_le_bytes-to_le_bytes_4, from_le_bytes-to_le_bytes_8}
-use Rattle.byte_fields.specs.Fields.{AreBytes, Reading, said, number, number_where, within, where_true, flag_byte, flag_of, flag_field, flag_where, optional, bound_where, some_where, IsWithin}
+use Rattle.board_base.proofs.Common.{cases_eq, eq-eqb, ne_eqb, ltb-false, le-ltb, leb-true, le-leb, and_from, and_parts}
+use Rattle.board_base.proofs.Common.{take_at, drop_at, take-append-drop, length-append, length-take, get_or-take}
+use Rattle.board_base.proofs.Common.{get_or_past, cases_lt}
+use Rattle.std.proofs.lemmas.Nat.{le_bytes_2, le_bytes_4, le_bytes_8, from_le_bytes-to_le_bytes_2}
+use Rattle.std.proofs.lemmas.Nat.{from_le_bytes-to_le_bytes_4, from_le_bytes-to_le_bytes_8}
+use Rattle.byte_fields.specs.Fields.{AreBytes, Reading, said, number, number_where, within, where_true, flag_byte}
+use Rattle.byte_fields.specs.Fields.{flag_of, flag_field, flag_where, optional, bound_where, some_where, IsWithin}
 use Rattle.byte_fields.proofs.Formats.{IsFormat, format_as, then_format, last_format, ok_is, err_is}
 
 -- ---- the sizes
@@ -229,6 +235,10 @@ flag_again allowed zero few = refl
 flag_again allowed (suc zero) few = refl
 flag_again true (suc (suc n)) few = absurd (omega arith)
 flag_again false (suc (suc n)) few = absurd (omega arith)
+
+pub bound_where-small : (there : Bool) → bound_where there 255 < 2 ^ 8
+bound_where-small true = omega arith
+bound_where-small false = omega arith
 
 flag_small : (flag : Bool) → flag_byte flag < 2 ^ 8
 flag_small false = omega arith

@@ -1,12 +1,19 @@
 -- Bytes beside plain ones are spelled page by page, and read back.
-use Rattle.std.proofs.Common.{◌≡◌, ℕ, zero, suc, ◌+◌, ◌-◌, ◌*◌, ◌≤◌, ◌<◌, inl, inr, min, Bool, true, false, not, cond, List, [], ◌∷◌, ◌++◌, length, take, drop, replicate, Result, Ok, Err, refl, sym, ap, subst, ◌∙◌, append_assoc, arith, nat_lt, bytes_eq}
+use Rattle.std.proofs.Common.{◌≡◌, ℕ, zero, suc, ◌+◌, ◌-◌, ◌*◌, ◌≤◌, ◌<◌, inl, inr, min, Bool, true, false, not, cond}
+use Rattle.std.proofs.Common.{List, [], ◌∷◌, ◌++◌, length, take, drop, replicate, Result, Ok, Err, refl, sym, ap, subst}
+use Rattle.std.proofs.Common.{◌∙◌, append_assoc, arith, nat_lt, bytes_eq}
 use Rattle.std.specs.List.{concat}
-use Rattle.board_base.proofs.Common.{ltb-false, le-ltb, take_at, drop_at, length-append, length-take, length-drop, take-append-drop, nil_from_length, bytes_eq-Decides, cases_lt, drop-drop, drop_all, take_all, append-nil, take-append-le, drop-append-le}
-use Rattle.std.proofs.lemmas.List.{take_min, take-replicate, drop-replicate, length-replicate, replicate-append-replicate}
+use Rattle.board_base.proofs.Common.{ltb-false, le-ltb, take_at, drop_at, length-append, length-take, length-drop}
+use Rattle.board_base.proofs.Common.{take-append-drop, nil_from_length, bytes_eq-Decides, cases_lt, drop-drop, drop_all}
+use Rattle.board_base.proofs.Common.{take_all, append-nil, take-append-le, drop-append-le}
+use Rattle.std.proofs.lemmas.List.{take_min, take-replicate, drop-replicate, length-replicate}
+use Rattle.std.proofs.lemmas.List.{replicate-append-replicate}
 use Rattle.std.proofs.Math.Nat.{suc-mul, zero-mul}
 use Rattle.byte_fields.specs.Fields.{Reading, then_read, gives, ◌>>=◌, flag_byte, other_than}
-use Rattle.byte_fields.specs.Pages.{page_bytes, page_where, page_field, each_page_bytes, each_page_field, cut, pages_of, pages_bytes, pages_fields, memory_page, memory_bytes, memory_fields}
-use Rattle.byte_fields.proofs.Formats.{IsFormat, format_as, then_format, last_format, done_format, cut_ok, cut_bad, err_is}
+use Rattle.byte_fields.specs.Pages.{page_bytes, page_where, page_field, each_page_bytes, each_page_field, cut, pages_of}
+use Rattle.byte_fields.specs.Pages.{pages_bytes, pages_fields, memory_page, memory_bytes, memory_fields}
+use Rattle.byte_fields.proofs.Formats.{IsFormat, format_as, then_format, last_format, done_format, cut_ok, cut_bad}
+use Rattle.byte_fields.proofs.Formats.{err_is}
 use Rattle.byte_fields.proofs.Loops.{with_front}
 use Rattle.byte_fields.proofs.Numbers.{flag_format, whole_ok}
 

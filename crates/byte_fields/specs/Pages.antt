@@ -1,5 +1,6 @@
 -- Bytes beside plain ones, page by page: of each page whether it is the plain one, and else its bytes.
-use Rattle.std.specs.Prelude.{ℕ, zero, suc, Bool, true, false, if◌then◌else◌, List, [], ◌∷◌, ◌++◌, length, take, drop, replicate, bytes_eq}
+use Rattle.std.specs.Prelude.{ℕ, zero, suc, Bool, true, false, if◌then◌else◌, List, [], ◌∷◌, ◌++◌, length, take, drop}
+use Rattle.std.specs.Prelude.{replicate, bytes_eq}
 use Rattle.byte_fields.specs.Fields.{Reading, gives, ◌>>=◌, flag_field, other_than}
 
 -- ---- one page

@@ -2,7 +2,9 @@
 
 ghost use Rattle.std.specs.Prelude.{◌≡◌, ◌≤◌, ◌<◌, ℕ, Bool, true, false, Option, length, take, drop, MatchResult, IfOk};
 ghost use Rattle.std.specs.Int.{w8, w16, w32, w64};
-ghost use Rattle.byte_fields.specs.Fields.{AreBytes, Took, number, within, plain, exactly, other_than, ended, flag_of, flag_field, flag_byte, flag_where, IsWithin, optional, bound_where, some_where};
+ghost use Rattle.byte_fields.specs.Fields.{AreBytes, Took, number, within, plain, exactly, other_than, ended, flag_of};
+ghost use Rattle.byte_fields.specs.Fields.{flag_field, flag_byte, flag_where, IsWithin, optional, bound_where};
+ghost use Rattle.byte_fields.specs.Fields.{some_where};
 
 use crate::fault::Bad;
 use std::marker::Model;

@@ -1,6 +1,7 @@
 //! Bytes beside plain ones, page by page: a byte 0 for a page that is the plain one, else a byte 1 and the page.
 
-ghost use Rattle.std.specs.Prelude.{◌≡◌, ◌<◌, ℕ, List, ◌++◌, length, replicate, Option, OnOk, IfOk, IfSome, option_map, unwrap_or};
+ghost use Rattle.std.specs.Prelude.{◌≡◌, ◌<◌, ℕ, List, ◌++◌, length, replicate, Option, OnOk, IfOk, IfSome, option_map};
+ghost use Rattle.std.specs.Prelude.{unwrap_or};
 ghost use Rattle.byte_fields.specs.Fields.{Took};
 ghost use Rattle.byte_fields.specs.Pages.{page_bytes, page_field, pages_bytes, pages_fields, memory_bytes};
 

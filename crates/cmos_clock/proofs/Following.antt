@@ -5,12 +5,13 @@ use Rattle.std.proofs.lemmas.Bool.Decides.{nat_tests}
 use Rattle.board_base.specs.declared.moment.Moment.{Moment}
 use Rattle.board_base.specs.Calendar.{IsDate, days_in_month, days_since_1980}
 use Rattle.board_base.proofs.CalendarLemmas.{next_day, next_month, next_year}
-use Rattle.cmos_clock.specs.Seconds.{SecondsFollow, midnight_after, second_after, seconds_since_1980}
+use Rattle.cmos_clock.specs.Seconds.{SecondsFollow, midnight_after, seconds_since_1980}
 
 abbrev days_of : Moment → ℕ
 days_of m = days_since_1980 m.year m.month m.day
 
-midnight_days : (year month day : ℕ) → IsDate year month day → days_of (midnight_after year month day) ≡ days_since_1980 year month day + 1
+midnight_days : (year month day : ℕ) → IsDate year month day →
+    days_of (midnight_after year month day) ≡ days_since_1980 year month day + 1
 midnight_days year month day is =
     elim (cases_lt day (days_in_month year month)) [
       | inl below ↦ rw (lt-ltb day (days_in_month year month) below) (next_day year month day is.day_low)
@@ -25,7 +26,8 @@ midnight_days year month day is =
           ])
     ]
 
-midnight_time : (year month day : ℕ) → seconds_since_1980 (midnight_after year month day) ≡ days_of (midnight_after year month day) * 86_400
+midnight_time : (year month day : ℕ) → seconds_since_1980 (midnight_after year month day)
+    ≡ days_of (midnight_after year month day) * 86_400
 midnight_time year month day = grind (arith, nat_tests)
 
 pub seconds_follow : SecondsFollow

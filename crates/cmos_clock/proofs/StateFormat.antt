@@ -1,5 +1,5 @@
 -- The state of the clock is spelled and read back.
-use Rattle.std.proofs.Common.{◌≡◌, ℕ, ◌<◌, ◌≤◌, length, refl, sym, ap, arith}
+use Rattle.std.proofs.Common.{refl, ap, arith}
 use Rattle.device_spec.specs.Clock.{Clock}
 use Rattle.byte_fields.proofs.Formats.{IsFormat, format_as, then_format, last_format, plain_format}
 use Rattle.byte_fields.proofs.Numbers.{byte_within, flag_format}

@@ -10,4 +10,5 @@ peeked clock address = read_value (after_write clock clock_index_port address) c
 -- then the index as it was before to port 70h.
 abbrev pub with_byte : Clock → (address byte : ℕ) → Clock
 with_byte clock address byte =
-    after_write (after_write (after_write clock clock_index_port address) clock_data_port byte) clock_index_port clock.index
+    after_write (after_write (after_write clock clock_index_port address) clock_data_port byte)
+    clock_index_port clock.index

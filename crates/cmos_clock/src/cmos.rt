@@ -1,6 +1,8 @@
 //! The clock: its ports, its time, its alarm and its interrupt line.
 ghost use Rattle.std.specs.Prelude.{◌≡◌, ◌<◌};
-ghost use Rattle.device_spec.specs.Common.{after_moment, after_read, after_reset, after_write, alarm_fits, alarm_rings, control_of, data_byte, flags_byte, interrupt_line, put, read_value, store, time_bytes, without_flags, IsMoment, civil_time};
+ghost use Rattle.device_spec.specs.Common.{after_moment, after_read, after_reset, after_write, alarm_fits, alarm_rings};
+ghost use Rattle.device_spec.specs.Common.{control_of, data_byte, flags_byte, interrupt_line, put, read_value, store};
+ghost use Rattle.device_spec.specs.Common.{time_bytes, without_flags, IsMoment, civil_time};
 ghost use Rattle.device_spec.specs.Clock.{power_on};
 ghost use Rattle.cmos_clock.specs.Outside.{peeked, with_byte};
 

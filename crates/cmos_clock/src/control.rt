@@ -1,6 +1,7 @@
 //! Register B: what the clock does and how it writes its time.
 ghost use Rattle.std.specs.Prelude.{◌≡◌, ◌<◌};
-ghost use Rattle.device_spec.specs.Clock.{alarm_interrupts, bcd, control_reset, control_written, hour_byte, holds_time, is_24_hour, is_binary, number_byte, update_interrupts};
+ghost use Rattle.device_spec.specs.Clock.{alarm_interrupts, bcd, control_reset, control_written, hour_byte, holds_time};
+ghost use Rattle.device_spec.specs.Clock.{is_24_hour, is_binary, number_byte, update_interrupts};
 
 use board_base::bits::is_set;
 

@@ -27,8 +27,8 @@ impl Cmos {
         push_bytes(into, &self.bytes)
     }
 
-    /// The clock whose state is at the front of the bytes. Refused where a field is not whole or out of range: the bytes
-    /// left then begin with the first such field.
+    /// The clock whose state is at the front of the bytes. Refused where a field is not whole or out of range: the
+    /// bytes left then begin with the first such field.
     pub fn load_state(fields: &mut Fields) -> Result<Cmos, Bad>
         ensures loaded { Loads clock_fields clock_bytes IsClock fields.old fields.new result }
     {

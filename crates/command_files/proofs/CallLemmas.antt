@@ -1,7 +1,9 @@
 -- The calls that were made, one after another, and the fetches of one file.
-use Rattle.std.proofs.Common.{◌≡◌, ◌≢◌, ℕ, ◌≤◌, ◌+◌, List, [], ◌∷◌, ◌++◌, Option, Some, None, refl, sym, ap, ◌∙◌, subst, append_assoc, arith, Result, Ok, Err}
+use Rattle.std.proofs.Common.{◌≡◌, ◌≢◌, ℕ, ◌≤◌, ◌+◌, List, [], ◌∷◌, ◌++◌, Option, Some, None, refl, sym, ap, ◌∙◌, subst}
+use Rattle.std.proofs.Common.{append_assoc, arith, Result, Ok, Err}
 use Rattle.board_outside.specs.Outside.{Fetch, Made}
-use Rattle.command_files.specs.Calls.{OfCalls, count_come, place_after, BroughtBytes, FoundEnd, IsReading, FetchesOnce, ReadsBy}
+use Rattle.command_files.specs.Calls.{OfCalls, count_come, place_after, BroughtBytes, FoundEnd, IsReading, FetchesOnce}
+use Rattle.command_files.specs.Calls.{ReadsBy}
 use Rattle.script_spec.proofs.Common.{same_some}
 
 -- ---- lists of calls

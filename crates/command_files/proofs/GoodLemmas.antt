@@ -4,7 +4,8 @@ use Rattle.board_spec.specs.Setup.{IsRomSize, IsDisk}
 use Rattle.script_spec.specs.Common.{Script as Said, IsInRangeScript}
 use Rattle.command_words.specs.Words.{Command, Replay, Run, Map, Check, Make, Dma, Save, Resume, Serial, Blame}
 use Rattle.command_files.specs.declared.status.Which.TheVariants.{Script, Rom, Disk, Log, Image, Input}
-use Rattle.command_files.specs.Common.{files_of, script_name, Files, Known, rom_name, disk_name, OfScript, HasBoard, HasImage, HasRead, IsTaken, IsPassed}
+use Rattle.command_files.specs.Common.{files_of, script_name, Files, Known, rom_name, disk_name, OfScript, HasBoard}
+use Rattle.command_files.specs.Common.{HasImage, HasRead, IsTaken, IsPassed}
 use Rattle.command_files.proofs.Places.{AreTaken}
 
 -- a script was read, and no disk yet

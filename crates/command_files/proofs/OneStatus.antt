@@ -1,6 +1,7 @@
 -- The words and the files ask for at most one status: what was read before a file is determined, and so is what is said
 -- of it.
-use Rattle.std.proofs.Common.{◌≡◌, ℕ, ◌<◌, ◌≤◌, ◌++◌, ◌⊎◌, inl, inr, List, [], ◌∷◌, length, reverse, Option, Some, None, refl, sym, ap, ◌∙◌, subst, append_assoc, append-nil}
+use Rattle.std.proofs.Common.{◌≡◌, ℕ, ◌<◌, ◌≤◌, ◌++◌, ◌⊎◌, inl, inr, List, [], ◌∷◌, length, reverse, Option, Some, None}
+use Rattle.std.proofs.Common.{refl, sym, ap, ◌∙◌, subst, append_assoc, append-nil}
 use Rattle.std.proofs.Math.Nat.{not-le_of_lt}
 use Rattle.board_prelude.proofs.Common.{reverse-append, reverse-reverse, Statement, Setup}
 use Rattle.script_spec.specs.Common.{Script as Said, IsScriptBad, IsLogOf, DiffersAt}
@@ -11,8 +12,12 @@ use Rattle.command_words.specs.Words.{Command, Replay, Run, Map, Check, Make, Dm
 use Rattle.command_files.specs.declared.status.Which.{Which}
 use Rattle.command_files.specs.declared.status.Which.TheVariants.{Script, Rom, Disk, Log, Image, Input}
 use Rattle.command_files.specs.declared.status.Status.{Status}
-use Rattle.command_files.specs.declared.status.Status.TheVariants.{Done, Usage, ReadFault, WriteFault, TooLong, BadScript, BadImage, Differs, NoMemory, OtherBoard}
-use Rattle.command_files.specs.Common.{files_of, limit_of, Files, Known, nothing_known, file_name, Learns, Passes, AreReadAs, AllRead, ComesTo, board_of, OfScript, OfImage, IsNoImage, LogIsLegal, LogDiffers, BoardsAgree, BoardsDiffer, CanBeDone, OfCheck, OfResume, EndsWith, AsksFor, OneStatus}
+use Rattle.command_files.specs.declared.status.Status.TheVariants.{Done, Usage, ReadFault, WriteFault, TooLong}
+use Rattle.command_files.specs.declared.status.Status.TheVariants.{BadScript, BadImage, Differs, NoMemory, OtherBoard}
+use Rattle.command_files.specs.Common.{files_of, limit_of, Files, Known, nothing_known, file_name, Learns, Passes}
+use Rattle.command_files.specs.Common.{AreReadAs, AllRead, ComesTo, board_of, OfScript, OfImage, IsNoImage, LogIsLegal}
+use Rattle.command_files.specs.Common.{LogDiffers, BoardsAgree, BoardsDiffer, CanBeDone, OfCheck, OfResume, EndsWith}
+use Rattle.command_files.specs.Common.{AsksFor, OneStatus}
 
 -- at most one status holds
 abbrev IsOne : (Status → Type 0) → Type 0

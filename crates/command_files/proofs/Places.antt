@@ -1,5 +1,7 @@
 -- A command at a place of its table: what its status is there, and which fetches it made.
-use Rattle.std.proofs.Common.{◌≡◌, ◌≢◌, ℕ, suc, ◌+◌, ◌<◌, ◌≤◌, ◌⊎◌, inl, inr, List, [], ◌∷◌, ◌++◌, length, take, drop, reverse, get_or, Option, Some, None, refl, sym, ap, ◌∙◌, subst, append_assoc, Result, Ok, OnOk}
+use Rattle.std.proofs.Common.{◌≡◌, ◌≢◌, ℕ, suc, ◌+◌, ◌<◌, ◌≤◌, ◌⊎◌, inl, inr, List, [], ◌∷◌, ◌++◌, length, take, drop}
+use Rattle.std.proofs.Common.{reverse, get_or, Option, Some, None, refl, sym, ap, ◌∙◌, subst, append_assoc, Result, Ok}
+use Rattle.std.proofs.Common.{OnOk}
 use Rattle.board_prelude.proofs.Common.{reverse-append, reverse-reverse, append-nil, take_all}
 use Rattle.board_outside.specs.Outside.{Rose, OfFile}
 use Rattle.std.proofs.Math.Seq.{split_at}
@@ -9,8 +11,12 @@ use Rattle.command_words.specs.Words.{Command}
 use Rattle.command_files.specs.declared.status.Which.{Which}
 use Rattle.command_files.specs.declared.status.Which.TheVariants.{Script, Rom, Disk, Log, Image, Input}
 use Rattle.command_files.specs.declared.status.Status.{Status}
-use Rattle.command_files.specs.declared.status.Status.TheVariants.{Done, Usage, ReadFault, WriteFault, TooLong, BadScript, BadImage, Differs, OtherBoard, NoMemory}
-use Rattle.command_files.specs.Common.{files_of, name_in_words, limit_of, Files, Known, nothing_known, file_name, Learns, Passes, AreReadAs, ComesTo, ReadsFile, FitsFile, IsNoImage, ShelfCall, OfFiles, CanRead, FailsAt, IsNotTaken, IsRefused, OfCalls, FoundEnd, ReachesFile, Reads, ReadEach, FetchesOf, IsPassed, IsNotPassed, ReadsNamed}
+use Rattle.command_files.specs.declared.status.Status.TheVariants.{Done, Usage, ReadFault, WriteFault, TooLong}
+use Rattle.command_files.specs.declared.status.Status.TheVariants.{BadScript, BadImage, Differs, OtherBoard, NoMemory}
+use Rattle.command_files.specs.Common.{files_of, name_in_words, limit_of, Files, Known, nothing_known, file_name}
+use Rattle.command_files.specs.Common.{Learns, Passes, AreReadAs, ComesTo, ReadsFile, FitsFile, IsNoImage, ShelfCall}
+use Rattle.command_files.specs.Common.{OfFiles, CanRead, FailsAt, IsNotTaken, IsRefused, OfCalls, FoundEnd, ReachesFile}
+use Rattle.command_files.specs.Common.{Reads, ReadEach, FetchesOf, IsPassed, IsNotPassed, ReadsNamed}
 use Rattle.command_files.proofs.CallLemmas.{Both, calls_both, calls_hold}
 use Rattle.command_files.proofs.Refusals.{of_files, at_files, at_file, any_file}
 use Rattle.logs_and_maps.proofs.Lines.{reverse-take_more}

@@ -9,7 +9,8 @@ use Rattle.command_words.specs.Words.{Command, Check, Resume}
 use Rattle.command_files.specs.declared.status.Which.{Which}
 use Rattle.command_files.specs.declared.status.Which.TheVariants.{Script, Rom, Disk, Image}
 use Rattle.command_files.specs.declared.status.Status.{Status}
-use Rattle.command_files.specs.declared.status.Status.TheVariants.{Done, TooLong, BadScript, BadImage, Differs, OtherBoard}
+use Rattle.command_files.specs.declared.status.Status.TheVariants.{Done, TooLong, BadScript, BadImage, Differs}
+use Rattle.command_files.specs.declared.status.Status.TheVariants.{OtherBoard}
 use Rattle.command_files.specs.Table.{limit_of}
 use Rattle.command_files.specs.Known.{Files, Known, AllRead, ComesTo, board_of, OfScript, OfImage}
 

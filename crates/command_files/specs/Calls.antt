@@ -1,5 +1,6 @@
 -- Which fetches a command makes of a shelf. A list of calls has the latest first.
-use Rattle.std.specs.Prelude.{ℕ, ◌≡◌, ◌≢◌, ◌<◌, ◌≤◌, ◌+◌, ◌++◌, ◌⊎◌, List, [], ◌∷◌, reverse, Option, Some, None, Result, IfOk, OnOk}
+use Rattle.std.specs.Prelude.{ℕ, ◌≡◌, ◌≢◌, ◌<◌, ◌≤◌, ◌+◌, ◌++◌, ◌⊎◌, List, [], ◌∷◌, reverse, Option, Some, None, Result}
+use Rattle.std.specs.Prelude.{IfOk, OnOk}
 use Rattle.board_outside.specs.Outside.{Fetch, Made}
 use Rattle.command_words.specs.Words.{Command}
 use Rattle.command_files.specs.declared.status.Which.{Which}

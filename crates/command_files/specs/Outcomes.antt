@@ -6,7 +6,8 @@ use Rattle.command_words.specs.Words.{Command, Resume}
 use Rattle.command_files.specs.declared.status.Which.{Which}
 use Rattle.command_files.specs.declared.status.Which.TheVariants.{Script, Rom, Disk, Log, Image}
 use Rattle.command_files.specs.declared.status.Status.{Status}
-use Rattle.command_files.specs.declared.status.Status.TheVariants.{Done, Usage, ReadFault, WriteFault, TooLong, BadScript, BadImage, Differs, OtherBoard, NoMemory}
+use Rattle.command_files.specs.declared.status.Status.TheVariants.{Done, Usage, ReadFault, WriteFault, TooLong}
+use Rattle.command_files.specs.declared.status.Status.TheVariants.{BadScript, BadImage, Differs, OtherBoard, NoMemory}
 use Rattle.command_files.specs.Table.{files_of, name_in_words, limit_of}
 use Rattle.command_files.specs.Known.{Files}
 use Rattle.command_files.specs.Asked.{ReadsFile, FitsFile, IsNoImage, AsksFor}

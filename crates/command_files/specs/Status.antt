@@ -1,7 +1,8 @@
 -- The exit code of each status.
 use Rattle.std.specs.Prelude.{ℕ}
 use Rattle.command_files.specs.declared.status.Status.{Status}
-use Rattle.command_files.specs.declared.status.Status.TheVariants.{Done, Usage, ReadFault, WriteFault, TooLong, BadScript, BadImage, Differs, NoMemory, OtherBoard}
+use Rattle.command_files.specs.declared.status.Status.TheVariants.{Done, Usage, ReadFault, WriteFault, TooLong}
+use Rattle.command_files.specs.declared.status.Status.TheVariants.{BadScript, BadImage, Differs, NoMemory, OtherBoard}
 
 abbrev pub code_of : Status → ℕ
 code_of Done = 0

@@ -5,14 +5,16 @@ use Rattle.board_outside.specs.declared.fault.PutFault.TheVariants.{Failed as Si
 use Rattle.script_text.specs.declared.fault.ScriptFault.{ScriptFault}
 use Rattle.script_text.specs.declared.fault.ScriptFault.TheVariants.{Bad as BadLine, NoMemory as NoMemoryForScript}
 use Rattle.log_check.specs.declared.fault.CheckFault.{CheckFault}
-use Rattle.log_check.specs.declared.fault.CheckFault.TheVariants.{Differs as DiffersAtLine, NoMemory as NoMemoryForCheck}
+use Rattle.log_check.specs.declared.fault.CheckFault.TheVariants.{Differs as DiffersAtLine}
+use Rattle.log_check.specs.declared.fault.CheckFault.TheVariants.{NoMemory as NoMemoryForCheck}
 use Rattle.board_image.specs.declared.fault.ImageFault.{ImageFault}
 use Rattle.board_image.specs.declared.fault.ImageFault.TheVariants.{Bad as BadAt, NoMemory as NoMemoryForImage}
 use Rattle.board_chipset.specs.declared.setup.BoardOpen.{BoardOpen}
 use Rattle.board_chipset.specs.declared.setup.BoardOpen.TheVariants.{BadRom, BadDisk, NoMemory as NoMemoryForBoard}
 use Rattle.command_files.specs.declared.status.Which.TheVariants.{Rom, Disk, Image}
 use Rattle.command_files.specs.declared.status.Status.{Status}
-use Rattle.command_files.specs.declared.status.Status.TheVariants.{Done, Usage, WriteFault, BadScript, BadImage, Differs, NoMemory}
+use Rattle.command_files.specs.declared.status.Status.TheVariants.{Done, Usage, WriteFault, BadScript, BadImage}
+use Rattle.command_files.specs.declared.status.Status.TheVariants.{Differs, NoMemory}
 
 abbrev pub status_of_script_fault : ScriptFault → Status
 status_of_script_fault (BadLine line why) = BadScript line why

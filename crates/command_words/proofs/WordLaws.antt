@@ -1,11 +1,15 @@
 -- The words that ask for a command are those that a user writes.
-use Rattle.std.proofs.Common.{◌≡◌, ℕ, ◌%◌, inl, inr, eqb, leb, cond, Bool, true, false, List, [], ◌∷◌, Option, Some, None, refl, sym, ap, ◌∙◌, subst, arith, codes, decimal, bytes_eq}
+use Rattle.std.proofs.Common.{◌≡◌, ℕ, ◌%◌, inl, inr, eqb, leb, cond, Bool, true, false, List, [], ◌∷◌, Option, Some}
+use Rattle.std.proofs.Common.{None, refl, sym, ap, ◌∙◌, subst, arith, codes, decimal, bytes_eq}
 use Rattle.std.proofs.lemmas.Bool.{cases_Bool, leb-true, le-leb, eqb-true, eq-eqb}
 use Rattle.script_spec.specs.Common.{IsDecimal, parse_decimal, parse_hex}
 use Rattle.script_spec.proofs.Common.{some_is, guarded, then_said, both, word_is, decimal_read, decimal_back}
 use Rattle.make_script.specs.Laws.{most_rounds}
 use Rattle.command_words.specs.declared.transfer.Transfer.{Transfer}
-use Rattle.command_words.specs.Words.{Command, Replay, Run, Map, Check, Make, Dma, Save, Resume, Serial, Blame, IsTransfer, IsCommand, direction_word, AreWordsOf, with_name, with_names, is_round_count, make_of, is_transfer, direction_of, dma_of, command_of, WordsDecide, OneCommand}
+use Rattle.command_words.specs.Words.{Command, Replay, Run, Map, Check, Make, Dma, Save, Resume, Serial, Blame}
+use Rattle.command_words.specs.Words.{IsTransfer, IsCommand, direction_word, AreWordsOf, with_name, with_names}
+use Rattle.command_words.specs.Words.{is_round_count, make_of, is_transfer, direction_of, dma_of, command_of}
+use Rattle.command_words.specs.Words.{WordsDecide, OneCommand}
 
 abbrev Asks : List (List ℕ) → Command → Type 0
 Asks words command = IsCommand command × AreWordsOf words command

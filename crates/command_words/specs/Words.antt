@@ -1,5 +1,6 @@
 -- The words of the command line, and the command that they are.
-use Rattle.std.specs.Prelude.{ℕ, ◌≡◌, ◌≤◌, ◌%◌, ◌==◌, ◌↔◌, Bool, true, false, List, [], ◌∷◌, map, string_bytes, String, Option, Some, None, option_map, codes, decimal, bytes_eq, if◌then◌else◌, ◌&&◌, nat_le}
+use Rattle.std.specs.Prelude.{ℕ, ◌≡◌, ◌≤◌, ◌%◌, ◌==◌, ◌↔◌, Bool, true, false, List, [], ◌∷◌, map, string_bytes, String}
+use Rattle.std.specs.Prelude.{Option, Some, None, option_map, codes, decimal, bytes_eq, if◌then◌else◌, ◌&&◌, nat_le}
 use Rattle.std.specs.Global.{Global}
 use Rattle.script_spec.specs.Numbers.{parse_decimal, parse_hex, ◌>>=◌}
 use Rattle.make_script.specs.Laws.{most_rounds}

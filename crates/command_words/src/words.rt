@@ -2,7 +2,9 @@
 
 ghost use Rattle.std.specs.Prelude.{◌≡◌, option_map, map, string_bytes, IfSome};
 ghost use Rattle.script_spec.specs.Numbers.{parse_hex};
-ghost use Rattle.command_words.specs.Words.{Check, Resume, Serial, command_said, usage_text, name_of, names_of, with_names, is_round_count, make_of, is_transfer, dma_with, direction_of, dma_of, IsCommand, WordsDecide, OneCommand};
+ghost use Rattle.command_words.specs.Words.{Check, Resume, Serial, command_said, usage_text, name_of, names_of};
+ghost use Rattle.command_words.specs.Words.{with_names, is_round_count, make_of, is_transfer, dma_with, direction_of};
+ghost use Rattle.command_words.specs.Words.{dma_of, IsCommand, WordsDecide, OneCommand};
 ghost use Rattle.command_words.specs.Commands.{said_by};
 
 use crate::transfer::Transfer;

@@ -1,5 +1,6 @@
 -- A card by its place, several bytes, and the registers of a function.
-use Rattle.std.proofs.Common.{◌≡◌, ℕ, ◌+◌, ◌<◌, true, false, List, Some, refl, sym, ◌∙◌, ap, arith, ◌==◌, All, length, get_or}
+use Rattle.std.proofs.Common.{◌≡◌, ℕ, ◌+◌, ◌<◌, true, false, List, Some, refl, sym, ◌∙◌, ap, arith, ◌==◌, All, length}
+use Rattle.std.proofs.Common.{get_or}
 use Rattle.std.proofs.lemmas.List.Quantifiers.{position-Some}
 use Rattle.board_prelude.proofs.Common.{position, eqb-true, Width, One, Reg, bytes_of, wide}
 use Rattle.board_base.specs.declared.access.Width.TheVariants.{Two, Four}

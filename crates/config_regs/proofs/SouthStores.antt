@@ -1,6 +1,7 @@
 -- What a store leaves of the registers of the 82371SB.
 use Rattle.std.proofs.Common.{◌≡◌, ◌≢◌, ℕ, ◌+◌, ◌&&◌, false, sym, ◌∙◌, add-one, ◌==◌}
-use Rattle.board_prelude.proofs.Common.{cond-false, ne_eqb, and_left, Width, One, Reg, bytes_of, Store, Setup, byte, covers, changed_byte, reg_after, after_stores, Bytes, byte_by_byte}
+use Rattle.board_prelude.proofs.Common.{cond-false, ne_eqb, and_left, Width, One, Reg, bytes_of, Store, Setup, byte}
+use Rattle.board_prelude.proofs.Common.{covers, changed_byte, reg_after, after_stores, Bytes, byte_by_byte}
 use Rattle.xbus_select.specs.Piix.{piix_register}
 use Rattle.config_regs.specs.declared.south.South.{South}
 use Rattle.config_regs.specs.Config.{IsSouthOf}

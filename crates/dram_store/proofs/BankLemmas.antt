@@ -1,14 +1,10 @@
 -- The bytes of a bank that are kept, and the zeros above them.
-use Rattle.std.proofs.Common.{◌≡◌, ℕ, ◌+◌, ◌-◌, ◌&&◌, List, ◌++◌, length, replicate, inl, inr, ◌∙◌, refl, sym, ap, arith, slice_index, nat_le, nat_lt, if◌then◌else◌}
-use Rattle.board_prelude.proofs.Common.{length-replicate, get_or_append_left, get_or-append_right, get_or_past, get_or-replicate, cases_lt}
+use Rattle.std.proofs.Common.{◌≡◌, ℕ, ◌+◌, ◌-◌, ◌&&◌, List, ◌++◌, length, replicate, inl, inr, ◌∙◌, refl, sym, ap}
+use Rattle.std.proofs.Common.{slice_index, nat_le, nat_lt, if◌then◌else◌}
+use Rattle.board_base.proofs.ZeroLemmas.{zero_at}
+use Rattle.board_prelude.proofs.Common.{get_or_append_left, get_or-append_right, get_or_past}
+use Rattle.board_prelude.proofs.Common.{cases_lt}
 use Rattle.dram_store.specs.Bank.{bank_size, bank_of, IsPut}
-
-pub zero_at : (count at : ℕ) → slice_index (replicate count 0) at ≡ 0
-zero_at count at =
-    elim (cases_lt at count) [
-      | inl below ↦ get_or-replicate count at 0 0 below
-      | inr above ↦ get_or_past (replicate count 0) at 0 (omega (arith, length-replicate {A = ℕ} count 0))
-    ]
 
 -- a list that is read past its end gives 0, as the bytes do that are not kept
 pub same_byte : (kept : List ℕ) (count at : ℕ) → slice_index (kept ++ replicate count 0) at ≡ slice_index kept at

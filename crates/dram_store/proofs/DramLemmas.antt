@@ -1,6 +1,10 @@
 -- The DRAM after a history, and after one entry more.
-use Rattle.std.proofs.Common.{◌≡◌, ℕ, ◌+◌, ◌-◌, ◌<◌, ◌≤◌, true, false, ◌&&◌, List, [], ◌∷◌, length, Option, Some, None, inl, inr, ◌∙◌, refl, sym, ap, arith, slice_index, nat_le, nat_lt, if◌then◌else◌, replicate, unwrap_or}
-use Rattle.board_prelude.proofs.Common.{option_or, length-replicate, get_or-replicate, cases_lt, lt-ltb, le-ltb, nat_tests, Width, Dram, One, bytes_of, largest_of, Entry, Setup, installed, byte, wide, DramCell, stored_of, byte_put, entry_put, dram_byte}
+use Rattle.std.proofs.Common.{◌≡◌, ℕ, ◌+◌, ◌-◌, ◌<◌, ◌≤◌, true, false, ◌&&◌, List, [], ◌∷◌, length, Option, Some, None}
+use Rattle.std.proofs.Common.{inl, inr, ◌∙◌, refl, sym, ap, arith, slice_index, nat_le, nat_lt, if◌then◌else◌}
+use Rattle.std.proofs.Common.{replicate, unwrap_or}
+use Rattle.board_prelude.proofs.Common.{option_or, length-replicate, get_or-replicate, cases_lt, lt-ltb, le-ltb}
+use Rattle.board_prelude.proofs.Common.{nat_tests, Width, Dram, One, bytes_of, largest_of, Entry, Setup, installed}
+use Rattle.board_prelude.proofs.Common.{byte, wide, DramCell, stored_of, byte_put, entry_put, dram_byte}
 use Rattle.board_base.specs.declared.access.Width.TheVariants.{Two, Four}
 use Rattle.dram_store.specs.Dram.{dram_at, IsDramOf, IsWritten}
 
@@ -32,7 +36,7 @@ put_as put other old new same has = record {
       λ at within. has.each at within ∙ ap (λ (byte : Option ℕ). unwrap_or byte (slice_index old at)) (sym (same at));
 }
 
-later_first :
+pub later_first :
     (later first : Option ℕ) (old : ℕ) → unwrap_or later (unwrap_or first old) ≡ unwrap_or (option_or later first) old
 later_first None first old = refl
 later_first (Some byte) first old = refl

@@ -1,6 +1,8 @@
 -- The bytes of a DRAM are spelled bank by bank, and read back.
-use Rattle.std.proofs.Common.{◌≡◌, ℕ, ◌+◌, ◌-◌, ◌*◌, ◌/◌, ◌%◌, ◌≤◌, ◌<◌, List, [], ◌∷◌, ◌++◌, length, drop, get_or, replicate, Result, Ok, Err, sym, ap, ◌∙◌, append_assoc, arith, All}
-use Rattle.board_prelude.proofs.Common.{concat, append-nil, length-append, length-replicate, All-get_or, drop_more, drop_all}
+use Rattle.std.proofs.Common.{◌≡◌, ℕ, ◌+◌, ◌-◌, ◌*◌, ◌/◌, ◌%◌, ◌≤◌, ◌<◌, List, [], ◌∷◌, ◌++◌, length, drop, get_or}
+use Rattle.std.proofs.Common.{replicate, Result, Ok, Err, sym, ap, ◌∙◌, append_assoc, arith, All}
+use Rattle.board_prelude.proofs.Common.{concat, append-nil, length-append, length-replicate, All-get_or, drop_more}
+use Rattle.board_prelude.proofs.Common.{drop_all}
 use Rattle.std.proofs.lemmas.List.{replicate-append-replicate}
 use Rattle.byte_fields.specs.declared.fault.Fault.{Fault}
 use Rattle.byte_fields.specs.declared.fault.Fault.TheVariants as faults
@@ -8,7 +10,8 @@ use Rattle.byte_fields.specs.Fields.{then_read, gives, Failed}
 use Rattle.byte_fields.specs.Pages.{page_field, memory_page, memory_bytes, memory_fields}
 use Rattle.byte_fields.proofs.Formats.{IsFormat}
 use Rattle.byte_fields.proofs.Loops.{with_front}
-use Rattle.byte_fields.proofs.PageFormats.{memory_format, memory_append, memory_zeros, memory_then, then_more, joined, zeros_go_on, zeros_stop, zeros_end}
+use Rattle.byte_fields.proofs.PageFormats.{memory_format, memory_append, memory_zeros, memory_then, then_more, joined}
+use Rattle.byte_fields.proofs.PageFormats.{zeros_go_on, zeros_stop, zeros_end}
 use Rattle.dram_store.specs.Bank.{IsBank, bank_of, bank_size}
 use Rattle.dram_store.specs.State.{HasMib, dram_bytes, dram_fields}
 

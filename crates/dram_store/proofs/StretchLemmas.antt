@@ -1,8 +1,12 @@
 -- Stretches of bytes that are copied out of the DRAM and into it.
-use Rattle.std.proofs.Common.{◌≡◌, ℕ, ◌+◌, ◌-◌, ◌*◌, ◌/◌, ◌%◌, ◌^◌, ◌<◌, ◌≤◌, Bool, true, false, ◌&&◌, List, ◌++◌, length, take, drop, replicate, inl, inr, ◌∙◌, refl, sym, ap, arith, length-append, length-take-le, length-drop, slice_index, nat_le, nat_lt, min, All}
-use Rattle.board_prelude.proofs.Common.{concat, length-replicate, get_or_append_left, get_or-append_right, get_or_past, get_or-take, get_or-drop, get_or-replicate, cases_lt, lt-ltb, le-ltb, nat_tests}
+use Rattle.std.proofs.Common.{◌≡◌, ℕ, ◌+◌, ◌-◌, ◌*◌, ◌/◌, ◌%◌, ◌^◌, ◌<◌, ◌≤◌, Bool, true, false, ◌&&◌, List, ◌++◌}
+use Rattle.std.proofs.Common.{length, take, drop, replicate, inl, inr, ◌∙◌, refl, sym, ap, arith, length-append}
+use Rattle.std.proofs.Common.{length-take-le, length-drop, slice_index, nat_le, nat_lt, min, All}
+use Rattle.board_base.proofs.ZeroLemmas.{zero_at}
+use Rattle.board_prelude.proofs.Common.{concat, length-replicate, get_or_append_left, get_or-append_right, get_or_past}
+use Rattle.board_prelude.proofs.Common.{get_or-take, get_or-drop, get_or-replicate, cases_lt, lt-ltb, le-ltb, nat_tests}
 use Rattle.dram_store.specs.Common.{bank_size, bank_of, page_end, IsBank, IsPut, dram_at, IsWritten}
-use Rattle.dram_store.proofs.BankLemmas.{same_byte, zero_at}
+use Rattle.dram_store.proofs.BankLemmas.{same_byte}
 use Rattle.dram_store.proofs.ConcatLemmas.{bank_at, bank_byte, byte_at}
 
 -- ---- in a bank
@@ -20,7 +24,8 @@ put_at old new from fits at =
           ∙ get_or-take from old at 0 below)
       | inr above ↦
           let is_from : nat_le from at ≡ true = grind (arith, nat_tests) in
-          let past = get_or-append_right (take from old) (new ++ drop (length new) (drop from old)) from at 0 front above in
+          let past = get_or-append_right (take from old) (new ++ drop (length new) (drop from old)) from at
+          0 front above in
           elim (cases_lt at (from + length new)) [
             | inl within ↦
                 let is_to : nat_lt at (from + length new) ≡ true = lt-ltb _ _ within in
@@ -30,7 +35,8 @@ put_at old new from fits at =
                 let not_to : nat_lt at (from + length new) ≡ false = le-ltb _ _ after in
                 rw (is_from, not_to)
                 (past
-                ∙ get_or-append_right new (drop (length new) (drop from old)) (length new) (at - from) 0 refl (omega arith)
+                ∙ get_or-append_right new (drop (length new) (drop from old)) (length new)
+                (at - from) 0 refl (omega arith)
                 ∙ get_or-drop (length new) (drop from old) (at - from - length new) 0
                 ∙ get_or-drop from old (length new + (at - from - length new)) 0
                 ∙ ap (slice_index old) (omega arith))
@@ -88,7 +94,8 @@ pub bytes_read :
     slice_index (take count (front ++ drop count into) ++ (rest ++ post)) k ≡ slice_index (bank_of kept) (at + k)
 bytes_read kept into front rest post at from count zeros k from_is count_is front_is rest_is fills within =
     let long : length front ≡ count =
-    ap length front_is ∙ length-take-le count (drop from kept) (omega (arith, length-drop from kept, from_is, count_is)) in
+    ap length front_is ∙ length-take-le count (drop from kept)
+    (omega (arith, length-drop from kept, from_is, count_is)) in
     let whole : length (take count (front ++ drop count into)) ≡ count =
     length-take-le count (front ++ drop count into) (omega (arith, length-append front (drop count into), long)) in
     elim (cases_lt k count) [
@@ -113,7 +120,8 @@ bytes_read kept into front rest post at from count zeros k from_is count_is fron
 
 -- the front of a list was put
 pub front_put : (old new bytes : List ℕ) (from count : ℕ) → count ≤ length bytes →
-    IsPut old from (length (take count bytes)) (slice_index (take count bytes)) new → IsPut old from count (slice_index bytes) new
+    IsPut old from (length (take count bytes)) (slice_index (take count bytes)) new →
+    IsPut old from count (slice_index bytes) new
 front_put old new bytes from count fits put at =
     let long : length (take count bytes) ≡ count = length-take-le count bytes fits in
     elim (cases_lt at (from + count)) [
@@ -126,7 +134,8 @@ front_put old new bytes from count fits put at =
                 let is_from : nat_le from at ≡ true = grind (arith, nat_tests) in
                 let is_to : nat_lt at (from + count) ≡ true = lt-ltb _ _ within in
                 rw (is_from, is_to)
-                (rw (long, is_from, is_to) at (put at) ∙ get_or-take count bytes (at - from) 0 (omega (arith, above, within)))
+                (rw (long, is_from, is_to) at (put at) ∙ get_or-take count bytes (at - from) 0
+                (omega (arith, above, within)))
           ]
       | inr after ↦
           let not_to : nat_lt at (from + count) ≡ false = le-ltb _ _ after in

@@ -1,5 +1,6 @@
 -- A bank is the list of its bytes, which are a mebibyte in pages of 64 KiB.
-use Rattle.std.specs.Prelude.{ℕ, ◌≡◌, ◌≤◌, ◌+◌, ◌-◌, ◌*◌, ◌/◌, ◌%◌, ◌&&◌, nat_le, nat_lt, if◌then◌else◌, List, ◌++◌, length, replicate, slice_index}
+use Rattle.std.specs.Prelude.{ℕ, ◌≡◌, ◌≤◌, ◌+◌, ◌-◌, ◌*◌, ◌/◌, ◌%◌, ◌&&◌, nat_le, nat_lt, if◌then◌else◌, List, ◌++◌}
+use Rattle.std.specs.Prelude.{length, replicate, slice_index}
 use Rattle.byte_fields.specs.Pages.{memory_page}
 
 abbrev pub bank_size : ℕ

@@ -1,5 +1,5 @@
 -- The causes of a refusal, from its definition.
-use Rattle.std.proofs.Common.{ℕ, ◌≡◌, ◌≢◌, ◌<◌, ◌≤◌, length, Option, Some, None, inl, inr, arith}
+use Rattle.std.proofs.Common.{ℕ, ◌≡◌, ◌≢◌, ◌<◌, ◌≤◌, length, Some, None, inl, inr, arith}
 use Rattle.board_prelude.specs.Common.{Disk, sectors_of, sector_bytes}
 use Rattle.library_examples.specs.Refusals.{IsRefused, EachRefusal}
 

@@ -1,9 +1,11 @@
 -- The examples are computed from the definitions.
 use Rattle.std.proofs.Common.{ℕ, refl, arith, ◌≤◌}
-use Rattle.board_base.specs.Calendar.{IsDate, IsTime, IsMoment, days_in_month, weekday_of, days_since_1980, days_of_years, days_of_months}
+use Rattle.board_base.specs.Calendar.{IsDate, IsTime, days_in_month, weekday_of, days_since_1980, days_of_years}
+use Rattle.board_base.specs.Calendar.{days_of_months}
 use Rattle.library_examples.specs.Seconds.{MomentsShown, SecondsPass, moment}
 
-date : (year month day : ℕ) → 1980 ≤ year → year ≤ 2099 → 1 ≤ month → month ≤ 12 → 1 ≤ day → day ≤ days_in_month year month → IsDate year month day
+date : (year month day : ℕ) → 1980 ≤ year → year ≤ 2099 → 1 ≤ month → month ≤ 12 → 1 ≤ day →
+    day ≤ days_in_month year month → IsDate year month day
 date year month day a b c d e f =
     record { year_low = a; year_high = b; month_low = c; month_high = d; day_low = e; day_high = f }
 
@@ -87,4 +89,12 @@ moments_shown = record {
 
 pub seconds_pass : SecondsPass
 unfolding weekday_of days_since_1980 days_of_years days_of_months
-seconds_pass = record { second = refl; minute = refl; hour = refl; day = refl; leap_day = refl; no_leap_day = refl; year = refl }
+seconds_pass = record {
+  second = refl;
+  minute = refl;
+  hour = refl;
+  day = refl;
+  leap_day = refl;
+  no_leap_day = refl;
+  year = refl;
+}

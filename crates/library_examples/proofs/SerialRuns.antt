@@ -2,7 +2,8 @@
 use Rattle.std.proofs.Common.{refl}
 use Rattle.uart_16550.specs.Reads.{value_of, after_value}
 use Rattle.uart_16550.specs.Writes.{with_value}
-use Rattle.library_examples.specs.Serial.{given, told, scratched, LoopedLeavesEmpty, SentLeavesEmpty, QueueBorders, EachPort}
+use Rattle.library_examples.specs.Serial.{given, told, scratched, LoopedLeavesEmpty, SentLeavesEmpty, QueueBorders}
+use Rattle.library_examples.specs.Serial.{EachPort}
 
 pub looped_leaves_empty : LoopedLeavesEmpty
 unfolding LoopedLeavesEmpty given told value_of after_value with_value

@@ -1,6 +1,6 @@
--- Worked examples of the bytes of an image: the number of a base is its power of two, bit 7 is set where it is for ports,
--- and bit 6 where the board keeps no bytes of it.
-use Rattle.std.specs.Prelude.{ℕ, ◌≡◌, ◌++◌, Bool, true, false, List, [], ◌∷◌, map, Option, Some, None, Result, Ok, Err}
+-- Worked examples of the bytes of an image: the number of a base is its power of two, bit 7 is set where it is for
+-- ports, and bit 6 where the board keeps no bytes of it.
+use Rattle.std.specs.Prelude.{ℕ, ◌≡◌, ◌++◌, false, List, [], ◌∷◌, map, Option, Some, None, Result, Ok, Err}
 use Rattle.board_prelude.specs.Common.{MemoryBase, IoBase, OutsideBase, FittedCard}
 use Rattle.board_image.specs.Common.{card_bytes}
 use Rattle.board_image.specs.ImageFields.{card_fields, head_fields}
@@ -12,7 +12,8 @@ port_card = record { dev = 3; vga = false; bases = MemoryBase 12 ∷ IoBase 4 �
 abbrev pub port_card_bytes : List ℕ
 port_card_bytes = 3 ∷ 0 ∷ 0 ∷ 2 ∷ 0x0C ∷ 0x84 ∷ []
 
--- what is read of bytes where a first card may stand: it, and the bytes left, or how many are left from the bad field on
+-- what is read of bytes where a first card may stand: it, and the bytes left, or how many are left from the bad field
+-- on
 abbrev pub read_card : List ℕ → Result (FittedCard × List ℕ) ℕ
 read_card bytes = card_fields 1 0x400_0000 bytes
 
@@ -51,8 +52,8 @@ pub record OutsideKept : Type 0 where
   pub too_much : read_card (with_base 0x5D) ≡ Err 1
   pub both_bits : read_card (with_base 0xC4) ≡ Err 1
 
--- ---- the head: `BOARDIMG`, version 1, MiB, cards, whether there is a disk, a byte that is reserved, and four bytes each
--- for the length of the ROM, that of the disk, and the number of steps, the low byte first
+-- ---- the head: `BOARDIMG`, version 1, MiB, cards, whether there is a disk, a byte that is reserved, and four bytes
+-- each for the length of the ROM, that of the disk, and the number of steps, the low byte first
 
 abbrev pub head_with : (version mib cards disk reserved : ℕ) → (sizes : List ℕ) → List ℕ
 head_with version mib cards disk reserved sizes =
@@ -78,11 +79,13 @@ abbrev pub bad_from : List ℕ → Option ℕ
 bad_from bytes = left_of (head_fields bytes)
 
 pub record HeadBorders : Type 0 where
-  pub versions : map (λ version. bad_from (head_with version 8 0 0 0 plain_sizes)) (0 ∷ 1 ∷ 2 ∷ []) ≡ Some 18 ∷ None ∷ Some 18 ∷ []
+  pub versions : map (λ version. bad_from (head_with version 8 0 0 0 plain_sizes)) (0 ∷ 1 ∷ 2 ∷ [])
+      ≡ Some 18 ∷ None ∷ Some 18 ∷ []
   pub memory :
       map (λ mib. bad_from (head_with 1 mib 0 0 0 plain_sizes)) (0 ∷ 1 ∷ 64 ∷ 65 ∷ [])
       ≡ Some 16 ∷ None ∷ None ∷ Some 16 ∷ []
-  pub cards : map (λ cards. bad_from (head_with 1 8 cards 0 0 plain_sizes)) (0 ∷ 8 ∷ 9 ∷ []) ≡ None ∷ None ∷ Some 15 ∷ []
+  pub cards : map (λ cards. bad_from (head_with 1 8 cards 0 0 plain_sizes)) (0 ∷ 8 ∷ 9 ∷ [])
+      ≡ None ∷ None ∷ Some 15 ∷ []
   pub flag : bad_from (head_with 1 8 0 2 0 plain_sizes) ≡ Some 14
   pub reserved : bad_from (head_with 1 8 0 0 1 plain_sizes) ≡ Some 13
   pub rom : bad_from (head_with 1 8 0 0 0 (1 ∷ 0 ∷ 1 ∷ 0 ∷ 0 ∷ 0 ∷ 0 ∷ 0 ∷ 0 ∷ 0 ∷ 0 ∷ 0 ∷ [])) ≡ Some 12
@@ -105,7 +108,8 @@ card_from above room bytes = left_of (card_fields above room bytes)
 
 pub record CardFieldBorders : Type 0 where
   pub devices :
-      map (λ dev. card_from 1 0x400_0000 (dev ∷ 0 ∷ 0 ∷ 0 ∷ [])) (1 ∷ 2 ∷ 9 ∷ 10 ∷ []) ≡ Some 4 ∷ None ∷ None ∷ Some 4 ∷ []
+      map (λ dev. card_from 1 0x400_0000 (dev ∷ 0 ∷ 0 ∷ 0 ∷ [])) (1 ∷ 2 ∷ 9 ∷ 10 ∷ [])
+      ≡ Some 4 ∷ None ∷ None ∷ Some 4 ∷ []
   pub rising : map (λ above. card_from above 0x400_0000 (5 ∷ 0 ∷ 0 ∷ 0 ∷ [])) (4 ∷ 5 ∷ []) ≡ None ∷ Some 4 ∷ []
   pub roms :
       map (λ rom. card_from 1 0x400_0000 (5 ∷ 0 ∷ rom ∷ 0 ∷ [])) (0 ∷ 10 ∷ 11 ∷ 24 ∷ 25 ∷ [])

@@ -1,6 +1,7 @@
 -- Worked examples of records, by the numbers of include/board.h, which stand here once more on purpose.
 use Rattle.std.specs.Prelude.{ℕ, ◌≡◌, true, false, Some, None}
-use Rattle.board_prelude.specs.Common.{Fetch, Read, Write, One, Memory, Wide, Port, Ack, Pulses, Time, Wire, Line, BadSector}
+use Rattle.board_prelude.specs.Common.{Fetch, Read, Write, One, Memory, Wide, Port, Ack, Pulses, Time, Wire, Line}
+use Rattle.board_prelude.specs.Common.{BadSector}
 use Rattle.board_base.specs.declared.access.Width.TheVariants.{Two, Four}
 use Rattle.board_spec.specs.declared.event.Event.TheVariants.{Look as LookAt}
 use Rattle.uart_16550.specs.declared.com1.Happening.TheVariants.{Comes}
@@ -64,8 +65,8 @@ pub record TimeSaid : Type 0 where
   pub last_hour : event_said (asks 6 0 0 0 20_261_128_240_000) ≡ None
   pub last_minute : event_said (asks 6 0 0 0 20_261_128_006_000) ≡ None
 
--- The last number that goes where it is said, and the first that does not: 65,536 ports, values of 32 bits but for a wide
--- access, devices and lines of one byte, levels 0 and 1
+-- The last number that goes where it is said, and the first that does not: 65,536 ports, values of 32 bits but for a
+-- wide access, devices and lines of one byte, levels 0 and 1
 pub record RecordBorders : Type 0 where
   pub port :
       event_said (asks 2 2 1 0xFFFF 0) ≡ Some (Port (record { write = false; port = 0xFFFF; width = One; value = 0 }))

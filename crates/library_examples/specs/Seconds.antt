@@ -25,8 +25,8 @@ clock_of_bytes control second minute hour day month year = record {
   update_flag = false;
 }
 
--- What stands in the registers: in binary-coded decimal and in binary, of 24 hours and of 12, where 91h is eleven in the
--- evening, 12h the first hour of the day and 8Ch noon
+-- What stands in the registers: in binary-coded decimal and in binary, of 24 hours and of 12, where 91h is eleven in
+-- the evening, 12h the first hour of the day and 8Ch noon
 pub record MomentsShown : Type 0 where
   pub decimal : IsShown (clock_of_bytes 0x02 0x59 0x59 0x23 0x31 0x12 0x99) (moment 1999 12 31 6 23 59 59)
   pub evening : IsShown (clock_of_bytes 0x00 0x59 0x59 0x91 0x28 0x02 0x24) (moment 2024 2 28 4 23 59 59)

@@ -35,8 +35,8 @@ told (_ ∷ rest) = told rest
 abbrev pub Answers : List Line → Type 0
 Answers lines = given lines uart_at_reset ≡ told lines
 
--- in loopback a byte that is written to THR leaves it empty too: the interrupt of the empty THR comes, once, also where the
--- byte found the queue full and is lost
+-- in loopback a byte that is written to THR leaves it empty too: the interrupt of the empty THR comes, once, also where
+-- the byte found the queue full and is lost
 abbrev pub looped_leaves_empty : List Line
 looped_leaves_empty =
     Out 4 0x10 ∷ Out 1 0x02 ∷ In 2 0x02 ∷ In 2 0x01

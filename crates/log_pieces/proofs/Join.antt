@@ -1,6 +1,10 @@
 -- Pieces that are joined in their order.
-use Rattle.std.proofs.Common.{◌≡◌, ℕ, ◌+◌, ◌*◌, ◌-◌, ◌<◌, ◌≤◌, ◌++◌, List, [], ◌∷◌, length, get_or, take, drop, refl, sym, ap, ◌∙◌, subst, append_assoc, append-nil, arith, inl, inr, Result, Ok, Err, IfOk, string_bytes, String, reverse}
-use Rattle.board_prelude.proofs.Common.{Global, cases_lt, drop_all, take_all, length-take-le, length-append, length-drop, get_or-drop, get_or-append_seam, Entry, line_feed, line_text, log_text}
+use Rattle.std.proofs.Common.{◌≡◌, ℕ, ◌+◌, ◌*◌, ◌-◌, ◌<◌, ◌≤◌, ◌++◌, List, [], ◌∷◌, length, get_or, take, drop, refl}
+use Rattle.std.proofs.Common.{sym, ap, ◌∙◌, subst, append_assoc, append-nil, arith, inl, inr, Result, Ok, Err, IfOk}
+use Rattle.std.proofs.Common.{string_bytes, String, reverse}
+use Rattle.board_prelude.proofs.Common.{Global, cases_lt, drop_all, take_all, length-take-le, length-append}
+use Rattle.board_prelude.proofs.Common.{length-drop, get_or-drop, get_or-append_seam, Entry, line_feed, line_text}
+use Rattle.board_prelude.proofs.Common.{log_text}
 use Rattle.std.proofs.Math.Seq.{take-add}
 use Rattle.logs_and_maps.specs.LinesFrom.{lines_from}
 use Rattle.logs_and_maps.proofs.Parts.{lines_of_parts, log_text-lines, appended_line}

@@ -1,5 +1,6 @@
 -- The lines of a history in pieces. Here the oldest entry stands first.
-use Rattle.std.specs.Prelude.{ℕ, ◌≡◌, ◌+◌, ◌*◌, ◌<◌, List, length, take, drop, slice_index_or, Result, IfOk, String, string_bytes}
+use Rattle.std.specs.Prelude.{ℕ, ◌≡◌, ◌+◌, ◌*◌, ◌<◌, List, length, take, drop, slice_index_or, Result, IfOk, String}
+use Rattle.std.specs.Prelude.{string_bytes}
 use Rattle.board_prelude.specs.Common.{Global, NoMemory, Entry}
 use Rattle.logs_and_maps.specs.LinesFrom.{lines_from}
 

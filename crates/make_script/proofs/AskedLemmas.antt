@@ -1,8 +1,17 @@
 -- Statements that are read in turn after a setup and a phase.
-use Rattle.std.proofs.Common.{ℕ, ◌≡◌, ◌+◌, ◌*◌, ◌<◌, ◌≤◌, Bool, true, false, ◌&&◌, ◌||◌, not, ltb, None, List, [], ◌∷◌, ◌++◌, length, map, filter, sum_by, All, refl, sym, ap, ◌∙◌, inl, inr, append_assoc, append-nil, arith, option_map, decimal}
-use Rattle.board_prelude.proofs.Common.{find, list_any, AllZip, onto_first, list_all, le-ltb, and_from, and_parts, reverse-append, All-head, All-tail, sum_by-cons, Statement, memory_of_cards, space, line_feed, event_text}
-use Rattle.script_spec.specs.Common.{lines_of, text_of_lines, Item, Ask, StandsFor, IsEventForm, item_text, reason, is_phase, is_statement, is_setup, cards_of, is_misplaced, is_repeated, lacks_setup, is_in_range, is_event_in_range, is_placed, is_event_placed, is_there, is_cpus_above, is_card_there, pulses_of, pulses_of_event, passes_limits, least_reason, most_bytes, is_skipped, AreRead}
-use Rattle.script_spec.proofs.Common.{lacks, lacks-first, lacks-later, lacks-append, lacks-word, lacks-plain, decimal_word, event_plain}
+use Rattle.std.proofs.Common.{ℕ, ◌≡◌, ◌+◌, ◌*◌, ◌<◌, ◌≤◌, Bool, true, false, ◌&&◌, ◌||◌, not, ltb, None, List, [], ◌∷◌}
+use Rattle.std.proofs.Common.{◌++◌, length, map, filter, sum_by, All, refl, sym, ap, ◌∙◌, inl, inr, append_assoc}
+use Rattle.std.proofs.Common.{append-nil, arith, option_map, decimal}
+use Rattle.board_prelude.proofs.Common.{find, list_any, AllZip, onto_first, list_all, le-ltb, and_from, and_parts}
+use Rattle.board_prelude.proofs.Common.{reverse-append, All-head, All-tail, sum_by-cons, Statement, memory_of_cards}
+use Rattle.board_prelude.proofs.Common.{space, line_feed, event_text}
+use Rattle.script_spec.specs.Common.{lines_of, text_of_lines, Item, Ask, StandsFor, IsEventForm, item_text, reason}
+use Rattle.script_spec.specs.Common.{is_phase, is_statement, is_setup, cards_of, is_misplaced, is_repeated, lacks_setup}
+use Rattle.script_spec.specs.Common.{is_in_range, is_event_in_range, is_placed, is_event_placed, is_there}
+use Rattle.script_spec.specs.Common.{is_cpus_above, is_card_there, pulses_of, pulses_of_event, passes_limits}
+use Rattle.script_spec.specs.Common.{least_reason, most_bytes, is_skipped, AreRead}
+use Rattle.script_spec.proofs.Common.{lacks, lacks-first, lacks-later, lacks-append, lacks-word, lacks-plain}
+use Rattle.script_spec.proofs.Common.{decimal_word, event_plain}
 use Rattle.script_spec.proofs.ReadingExists.{run_of}
 
 -- ---- lines

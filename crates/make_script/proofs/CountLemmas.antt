@@ -1,9 +1,12 @@
 -- The counts of one entry more.
 use Rattle.std.proofs.Common.{ℕ, ◌≡◌, ◌+◌, ◌≤◌, ◌<◌, Bool, cond, List, [], ◌∷◌, length, refl, ap, ◌∙◌, inl, inr, arith}
 use mir.Val.{bool_byte}
-use Rattle.board_prelude.proofs.Common.{cases_Bool, All-head, All-tail, Dram, Shadow, Smram, Rom, Card, Device, Config, Abort, Event, Reply, Bus, Saw, Entry}
+use Rattle.board_prelude.proofs.Common.{cases_Bool, All-head, All-tail, Dram, Shadow, Smram, Rom, Card, Device, Config}
+use Rattle.board_prelude.proofs.Common.{Abort, Event, Reply, Bus, Saw, Entry}
 use Rattle.board_spec.specs.declared.event.Reply.TheVariants.{Parts as InParts}
-use Rattle.make_script.specs.Common.{is_dram, is_shadow, is_smram, is_rom, is_card, is_config, is_device, is_abort, answers, is_look, count_where, IsCycleReply, KindsAddUp, AreCounts, HasRoomForOne, most_counted}
+use Rattle.make_script.specs.Common.{is_dram, is_shadow, is_smram, is_rom, is_card, is_config, is_device, is_abort}
+use Rattle.make_script.specs.Common.{answers, is_look, count_where, IsCycleReply, KindsAddUp, AreCounts, HasRoomForOne}
+use Rattle.make_script.specs.Common.{most_counted}
 use Rattle.make_script.specs.declared.counts.Counts.{Counts}
 
 pub count-more :

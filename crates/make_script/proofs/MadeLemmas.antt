@@ -1,12 +1,22 @@
 -- The text that is made is that of the made script.
-use Rattle.std.proofs.Common.{ℕ, zero, suc, ◌≡◌, ◌+◌, ◌*◌, ◌%◌, ◌/◌, ◌<◌, ◌≤◌, true, false, List, [], ◌∷◌, ◌++◌, length, map, Some, None, refl, sym, ap, ◌∙◌, inl, inr, append_assoc, append-nil, arith, codes}
-use Rattle.board_prelude.proofs.Common.{find, list_any, list_all, digits, and_from, map-append, length-append, All-nil, All-cons, length-map-range_with_len, IsCardList, IsRomSize, IsDisk, MemoryBase, IoBase, line_feed, event_text, Statement}
+use Rattle.std.proofs.Common.{ℕ, zero, suc, ◌≡◌, ◌+◌, ◌*◌, ◌%◌, ◌/◌, ◌<◌, ◌≤◌, true, false, List, [], ◌∷◌, ◌++◌, length}
+use Rattle.std.proofs.Common.{map, Some, None, refl, sym, ap, ◌∙◌, inl, inr, append_assoc, append-nil, arith, codes}
+use Rattle.board_prelude.proofs.Common.{find, list_any, list_all, digits, and_from, map-append, length-append, All-nil}
+use Rattle.board_prelude.proofs.Common.{All-cons, length-map-range_with_len, IsCardList, IsRomSize, IsDisk, MemoryBase}
+use Rattle.board_prelude.proofs.Common.{IoBase, line_feed, event_text, Statement}
 use Rattle.std.proofs.lemmas.List.Folds.{list_all-append}
 use Rattle.std.proofs.lemmas.List.Sorted.{IsPermutation-reverse}
-use Rattle.script_spec.specs.Common.{lines_of, text_of_lines, Item, SetCpus, SetMemory, SetRom, SetDisk, FitCard, BeginPhase, Ask, IsBaseForm, IsForm, Says, item_text, is_cpus, is_memory, is_rom, is_disk, is_cpus_above, cards_of, lacks_setup, least_reason, most_bytes, is_skipped, IsGoodLine, AreRead, IsSaidBy}
+use Rattle.script_spec.specs.Common.{lines_of, text_of_lines, Item, SetCpus, SetMemory, SetRom, SetDisk, FitCard}
+use Rattle.script_spec.specs.Common.{BeginPhase, Ask, IsBaseForm, IsForm, Says, item_text, is_cpus, is_memory, is_rom}
+use Rattle.script_spec.specs.Common.{is_disk, is_cpus_above, cards_of, lacks_setup, least_reason, most_bytes}
+use Rattle.script_spec.specs.Common.{is_skipped, IsGoodLine, AreRead, IsSaidBy}
 use Rattle.script_spec.proofs.Common.{lacks, scripts_are_in_range}
-use Rattle.make_script.specs.Common.{setup_lines, opening_lines, round_lines, lines_of_rounds, make_lines, make_text, asks, opening_events, round_statements, statements_of_rounds, made_statements, vga_card, plain_card, made_cards, made_script, rom_image, disk_image, MakeTextIsScript, MadeIsInRange, StatementCount, MadeSetupFits}
-use Rattle.make_script.proofs.AskedLemmas.{lines-back, said, said-lines, AreAsked, items_asked, asks-read, asked-keeps, asked-run}
+use Rattle.make_script.specs.Common.{setup_lines, opening_lines, round_lines, lines_of_rounds, make_lines, make_text}
+use Rattle.make_script.specs.Common.{asks, opening_events, round_statements, statements_of_rounds, made_statements}
+use Rattle.make_script.specs.Common.{vga_card, plain_card, made_cards, made_script, rom_image, disk_image}
+use Rattle.make_script.specs.Common.{MakeTextIsScript, MadeIsInRange, StatementCount, MadeSetupFits}
+use Rattle.make_script.proofs.AskedLemmas.{lines-back, said, said-lines, AreAsked, items_asked, asks-read, asked-keeps}
+use Rattle.make_script.proofs.AskedLemmas.{asked-run}
 use Rattle.make_script.proofs.FineLemmas.{made-fine}
 
 -- ---- each line is that of its statement

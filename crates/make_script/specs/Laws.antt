@@ -5,7 +5,8 @@ use Rattle.board_spec.specs.declared.event.Reply.TheVariants.{Parts as InParts}
 use Rattle.script_spec.specs.Common.{IsScriptText, IsInRangeScript}
 use Rattle.make_script.specs.MakeText.{make_text}
 use Rattle.make_script.specs.MadeScript.{made_statements, made_script, made_setup}
-use Rattle.make_script.specs.Summary.{is_dram, is_shadow, is_smram, is_rom, is_card, is_config, is_device, is_abort, answers, is_look, count_where}
+use Rattle.make_script.specs.Summary.{is_dram, is_shadow, is_smram, is_rom, is_card, is_config, is_device, is_abort}
+use Rattle.make_script.specs.Summary.{answers, is_look, count_where}
 
 -- the most rounds
 abbrev pub most_rounds : ℕ

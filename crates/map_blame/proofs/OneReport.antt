@@ -1,5 +1,5 @@
 -- There is only one report of a list of changes.
-use Rattle.std.proofs.Common.{◌≡◌, ℕ, suc, ◌<◌, ◌≤◌, ◌⊎◌, inl, inr, true, ◌||◌, List, [], ◌∷◌, length, get_or, map}
+use Rattle.std.proofs.Common.{◌≡◌, ℕ, suc, ◌<◌, ◌≤◌, ◌⊎◌, inl, inr, true, List, [], ◌∷◌, length, get_or, map}
 use Rattle.std.proofs.Common.{refl, sym, ap, ◌∙◌, subst, arith, ◌==◌}
 use Rattle.board_prelude.proofs.Common.{AllPairs, AllByRecursion, cases_Bool, eq-eqb, eqb-true, false≢true}
 use Rattle.board_prelude.proofs.Common.{recursion_from_All, MapChange, Setup, registers_after, MapRange, OneFlatMap}

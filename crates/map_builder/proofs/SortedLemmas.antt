@@ -155,7 +155,8 @@ inside_with addr window (other ∷ later) is =
           elim (or_cases (is_above_first addr other) (is_inside (with_window window later) addr) parts) [
             | inl here ↦ or_right (is_above_first addr window) _ (or_left (is_above_first addr other) _ here)
             | inr rest ↦
-                elim (or_cases (is_above_first addr window) (is_inside later addr) (inside_with addr window later rest)) [
+                elim (or_cases (is_above_first addr window) (is_inside later addr)
+                (inside_with addr window later rest)) [
                   | inl there ↦ or_left (is_above_first addr window) _ there
                   | inr more ↦ or_right (is_above_first addr window) _ (or_right (is_above_first addr other) _ more)
                 ]

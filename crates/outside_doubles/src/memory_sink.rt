@@ -1,6 +1,7 @@
 //! A sink in memory that can be made to fail.
 
-ghost use Rattle.std.specs.Prelude.{◌≡◌, ◌≢◌, ◌++◌, IsErrOf, ◌≤◌, ◌↔◌, [], Some, None, length, IfOk, OnOk, OnErr, Contains};
+ghost use Rattle.std.specs.Prelude.{◌≡◌, ◌≢◌, ◌++◌, IsErrOf, ◌≤◌, ◌↔◌, [], Some, None, length, IfOk, OnOk, OnErr};
+ghost use Rattle.std.specs.Prelude.{Contains};
 ghost use Rattle.board_outside.specs.Counts.{next_fault};
 ghost use Rattle.outside_doubles.specs.Calls.{next_call};
 

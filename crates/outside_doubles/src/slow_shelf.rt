@@ -1,6 +1,7 @@
 //! A shelf in memory that hands out few bytes a call.
 
-ghost use Rattle.std.specs.Prelude.{◌≡◌, ◌<◌, ◌≤◌, ◌↔◌, ◌⊎◌, take, drop, Contains, Some, None, IfOk, OnOk, OnErr, IsErr};
+ghost use Rattle.std.specs.Prelude.{◌≡◌, ◌<◌, ◌≤◌, ◌↔◌, ◌⊎◌, take, drop, Contains, Some, None, IfOk, OnOk, OnErr};
+ghost use Rattle.std.specs.Prelude.{IsErr};
 ghost use Rattle.board_outside.specs.Files.{file_at, file_named, piece_length};
 ghost use Rattle.board_outside.specs.Counts.{next_fault};
 ghost use Rattle.outside_doubles.specs.Calls.{next_call};

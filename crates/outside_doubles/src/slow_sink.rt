@@ -1,6 +1,7 @@
 //! A sink in memory that takes few bytes a call.
 
-ghost use Rattle.std.specs.Prelude.{◌≡◌, ◌≢◌, ◌++◌, ◌<◌, ◌≤◌, ◌↔◌, length, take, min, Contains, Some, None, IfOk, OnErr, IsErrOf};
+ghost use Rattle.std.specs.Prelude.{◌≡◌, ◌≢◌, ◌++◌, ◌<◌, ◌≤◌, ◌↔◌, length, take, min, Contains, Some, None, IfOk};
+ghost use Rattle.std.specs.Prelude.{OnErr, IsErrOf};
 ghost use Rattle.board_outside.specs.Counts.{next_fault};
 ghost use Rattle.outside_doubles.specs.Calls.{next_call};
 

@@ -1,6 +1,9 @@
 -- The PAM registers in the table of registers.
-use Rattle.std.proofs.Common.{◌≡◌, ◌≢◌, ℕ, ◌-◌, ◌<◌, List, [], ◌∷◌, length, get_or, set, false, ◌∙◌, sym, refl, ap, subst, arith, inl, inr, get_or-set_other, get_or-set_same, map}
-use Rattle.board_prelude.proofs.Common.{cases_eq, One, Store, Setup, merged, writable_bits, changed_byte, Bytes, bridge, pam, smram, is_same, Each, each_from, changed_byte-one_same, changed_byte-one_other}
+use Rattle.std.proofs.Common.{◌≡◌, ◌≢◌, ℕ, ◌-◌, ◌<◌, List, [], ◌∷◌, length, get_or, set, false, ◌∙◌, sym, refl, ap}
+use Rattle.std.proofs.Common.{subst, arith, inl, inr, get_or-set_other, get_or-set_same, map}
+use Rattle.board_prelude.proofs.Common.{cases_eq, One, Store, Setup, merged, writable_bits, changed_byte, Bytes, bridge}
+use Rattle.board_prelude.proofs.Common.{pam, smram, is_same, Each, each_from, changed_byte-one_same}
+use Rattle.board_prelude.proofs.Common.{changed_byte-one_other}
 use Rattle.pam_windows.specs.Pam.{IsPamOffset, IsPamOf, pam_byte}
 
 -- what holds at each of the seven offsets

@@ -1,6 +1,9 @@
 -- Base registers as four bytes, and the bases of a card by their numbers.
-use Rattle.std.proofs.Common.{◌≡◌, ◌≢◌, ℕ, zero, suc, ◌^◌, ◌<◌, ◌≤◌, List, length, get_or, set, map, Some, inl, inr, ◌∙◌, sym, ap, subst, arith, lit<, length-set, get_or-set_same, get_or-set_other, All, slice_get}
-use Rattle.board_prelude.proofs.Common.{w32, from_le_bytes, to_le_bytes, cases_eq, All-get_or, get_or-map, length-map, Base, IsBase, byte}
+use Rattle.std.proofs.Common.{◌≡◌, ◌≢◌, ℕ, zero, suc, ◌^◌, ◌<◌, ◌≤◌, List, length, get_or, set, map, Some, inl, inr}
+use Rattle.std.proofs.Common.{◌∙◌, sym, ap, subst, arith, lit<, length-set, get_or-set_same, get_or-set_other, All}
+use Rattle.std.proofs.Common.{slice_get}
+use Rattle.board_prelude.proofs.Common.{w32, from_le_bytes, to_le_bytes, cases_eq, All-get_or, get_or-map, length-map}
+use Rattle.board_prelude.proofs.Common.{Base, IsBase, byte}
 use Rattle.std.proofs.lemmas.Nat.{le_bytes_4}
 use Rattle.std.proofs.Math.Pow.{pow_mono}
 use Rattle.std.proofs.lemmas.Option.{slice_get_within, get_or_from_slice_get}

@@ -1,9 +1,19 @@
 -- The registers of a card after a reset, as they are read, and after a store of one byte.
-use Rattle.std.proofs.Common.{◌≡◌, ◌≢◌, ◌⊎◌, ℕ, zero, suc, ◌+◌, ◌-◌, ◌*◌, ◌^◌, ◌<◌, ◌≤◌, false, Option, None, List, [], ◌∷◌, length, get_or, set, Some, inl, inr, ◌∙◌, refl, sym, ap, subst, arith, lit<, lit≤, add-zero, get_or-set_same, get_or-set_other, ◌==◌, slice_index}
-use Rattle.board_prelude.proofs.Common.{and_left, ne_eqb, cases_eq, cases_lt, nat_tests, One, Reg, Store, Base, MemoryBase, IoBase, OutsideBase, FittedCard, Setup, IsCard, card_at, byte, merged, wide, card_function, listed, base_reset, base_writable, rom_writable, reset_byte, changed_byte, reg_after, Bytes, card_register, base_register, expansion_rom, smram, is_same, merged-all, merged-none, changed_byte-one_same, changed_byte-one_other}
+use Rattle.std.proofs.Common.{◌≡◌, ◌≢◌, ◌⊎◌, ℕ, zero, suc, ◌+◌, ◌-◌, ◌*◌, ◌^◌, ◌<◌, ◌≤◌, false, Option, None, List, []}
+use Rattle.std.proofs.Common.{◌∷◌, length, get_or, set, Some, inl, inr, ◌∙◌, refl, sym, ap, subst, arith, lit<, lit≤}
+use Rattle.std.proofs.Common.{add-zero, get_or-set_same, get_or-set_other, ◌==◌, slice_index}
+use Rattle.board_prelude.proofs.Common.{and_left, ne_eqb, cases_eq, cases_lt, nat_tests, One, Reg, Store, Base}
+use Rattle.board_prelude.proofs.Common.{MemoryBase, IoBase, OutsideBase, FittedCard, Setup, IsCard, card_at, byte}
+use Rattle.board_prelude.proofs.Common.{merged, wide, card_function, listed, base_reset, base_writable, rom_writable}
+use Rattle.board_prelude.proofs.Common.{reset_byte, changed_byte, reg_after, Bytes, card_register, base_register}
+use Rattle.board_prelude.proofs.Common.{expansion_rom, smram, is_same, merged-all, merged-none, changed_byte-one_same}
+use Rattle.board_prelude.proofs.Common.{changed_byte-one_other}
 use Rattle.board_base.specs.declared.access.Width.TheVariants.{Four}
-use Rattle.pci_bars.specs.Common.{of_base, CardBytes, HoldsLong, HoldsRom, DecodesAs, IsCardOf, is_kept_offset, header_of}
-use Rattle.pci_bars.proofs.TableLemmas.{byte_of_zero, kept_nowhere, is_fixed, reset_byte-card, writable_bits-card, reset-base, writable-base, reset-rom, writable-rom, reset-header, reset-pin, reset-line, reset-command, writable-line, past_pin, command_writable}
+use Rattle.pci_bars.specs.Common.{of_base, CardBytes, HoldsLong, HoldsRom, DecodesAs, IsCardOf, is_kept_offset}
+use Rattle.pci_bars.specs.Common.{header_of}
+use Rattle.pci_bars.proofs.TableLemmas.{byte_of_zero, kept_nowhere, is_fixed, reset_byte-card, writable_bits-card}
+use Rattle.pci_bars.proofs.TableLemmas.{reset-base, writable-base, reset-rom, writable-rom, reset-header, reset-pin}
+use Rattle.pci_bars.proofs.TableLemmas.{reset-line, reset-command, writable-line, past_pin, command_writable}
 
 -- ---- four bytes as a number
 
@@ -43,7 +53,11 @@ abbrev new_card : FittedCard → List ℕ → CardBytes
 new_card card values = record { card = card; command = 0; line = 0; bases = values; rom = 0 }
 
 small_reset : (base : Base) → base_reset base < 2 ^ 32
-small_reset base = elim base as (λ b. base_reset b < 2 ^ 32) [ MemoryBase bits ↦ lit< tt | IoBase bits ↦ lit< tt | OutsideBase bits ↦ lit< tt ]
+small_reset base = elim base as (λ b. base_reset b < 2 ^ 32) [
+  | MemoryBase bits ↦ lit< tt
+  | IoBase bits ↦ lit< tt
+  | OutsideBase bits ↦ lit< tt
+]
 
 small_reset_of : (bases : List Base) (k : ℕ) → of_base base_reset bases k < 2 ^ 32
 small_reset_of [] k = lit< tt
@@ -493,7 +507,8 @@ pub card-command :
     IsCardOf setup (stored setup bytes card.card.dev 0x04 written)
     (record card { command = merged (command_writable card.card) card.command written })
 card-command setup bytes card written fit below is =
-    card-stored setup bytes card (record card { command = merged (command_writable card.card) card.command written }) 0x04 written fit below
+    card-stored setup bytes card (record card { command = merged (command_writable card.card) card.command written })
+    0x04 written fit below
     is (λ e. grind arith) refl refl is.no_rom
     (decodes-command setup bytes card written fit below is.decodes)
 

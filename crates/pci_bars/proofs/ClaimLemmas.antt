@@ -1,11 +1,19 @@
 -- Claims of the cards' registers are those of the windows that a board's registers make.
-use Rattle.std.proofs.Common.{◌≡◌, ℕ, ◌+◌, ◌<◌, ◌≤◌, Bool, true, false, not, List, [], ◌∷◌, ◌++◌, length, Option, Some, None, inl, inr, ◌∙◌, refl, sym, ap, arith, lit<, ◌==◌, ◌&&◌, All, flat_map, option_map, if◌then◌else◌, slice_index}
-use Rattle.board_prelude.proofs.Common.{enumerate_from, option_or, cases_Bool, append-nil, All-head, All-tail, find-append, Base, MemoryBase, IoBase, OutsideBase, FittedCard, Setup, IsCard, byte, is_bit, Bytes, Window, is_covered, base_value, rom_value, memory_window, io_window, rom_window, rom_window_of, is_rom_on, vga_window, unselected_windows, io_windows, is_enabled_for, first_window, memory_claim, memory_shut, rom_unselected, io_claim, io_shut}
+use Rattle.std.proofs.Common.{◌≡◌, ℕ, ◌+◌, ◌<◌, ◌≤◌, Bool, true, false, not, List, [], ◌∷◌, ◌++◌, length, Option, Some}
+use Rattle.std.proofs.Common.{None, inl, inr, ◌∙◌, refl, sym, ap, arith, lit<, ◌==◌, ◌&&◌, All, flat_map, option_map}
+use Rattle.std.proofs.Common.{if◌then◌else◌, slice_index}
+use Rattle.board_prelude.proofs.Common.{enumerate_from, option_or, cases_Bool, append-nil, All-head, All-tail}
+use Rattle.board_prelude.proofs.Common.{find-append, Base, MemoryBase, IoBase, OutsideBase, FittedCard, Setup, IsCard}
+use Rattle.board_prelude.proofs.Common.{byte, is_bit, Bytes, Window, is_covered, base_value, rom_value, memory_window}
+use Rattle.board_prelude.proofs.Common.{io_window, rom_window, rom_window_of, is_rom_on, vga_window, unselected_windows}
+use Rattle.board_prelude.proofs.Common.{io_windows, is_enabled_for, first_window, memory_claim, memory_shut}
+use Rattle.board_prelude.proofs.Common.{rom_unselected, io_claim, io_shut}
 use Rattle.pci_bars.specs.declared.claims.Gate.{Gate}
 use Rattle.pci_bars.specs.declared.claims.Gate.TheVariants.{Open, Shut}
 use Rattle.pci_bars.specs.declared.claims.Windows.{Windows}
 use Rattle.pci_bars.specs.declared.claims.Windows.TheVariants.{Memory, UnselectedRom, Ports}
-use Rattle.pci_bars.specs.Common.{CardBytes, HoldsRom, DecodesAs, AreCards, AreDecoded, cards_of, agrees, covering, rom_claim, vga_claim, covering_base, is_enabled, is_gate, first_claim}
+use Rattle.pci_bars.specs.Common.{CardBytes, HoldsRom, DecodesAs, AreCards, AreDecoded, cards_of, agrees, covering}
+use Rattle.pci_bars.specs.Common.{rom_claim, vga_claim, covering_base, is_enabled, is_gate, first_claim}
 
 -- device and base of the first window that counts and covers a place
 abbrev pub pick : (ℕ → Bool) → ℕ → List Window → Option (ℕ × ℕ)

@@ -1,6 +1,15 @@
 -- The bytes behind the bases: as they begin, and after a write.
-use Rattle.std.proofs.Common.{◌≡◌, ◌≢◌, ℕ, ◌+◌, ◌-◌, ◌/◌, ◌%◌, ◌<◌, ◌≤◌, true, false, ◌&&◌, List, [], ◌∷◌, map, Vec, Global, length, get_or, set, take, drop, ◌++◌, replicate, inl, inr, ◌∙◌, refl, sym, ap, arith, lit<, get_or-set_same, get_or-set_other, length-append, length-drop, length-take-le, ◌==◌, nat_le, nat_lt, find, if◌then◌else◌, slice_index, unwrap_or, vec_len}
-use Rattle.board_prelude.proofs.Common.{with_items, and_from, and_left, and_right, eq-eqb, ne_eqb, le-leb, lt-leb, lt-ltb, le-ltb, cases_lt, cases_eq, get_or-replicate, get_or_past, length-replicate, length-map, map-set, get_or-map, with_items_is, drop-drop, Width, One, Card, bytes_of, largest_of, Entry, FittedCard, Setup, card_at, kept_size, byte, wide, CardCell, byte_put, card_byte, entry_put, stored_of, expansion_byte}
+use Rattle.std.proofs.Common.{◌≡◌, ◌≢◌, ℕ, ◌+◌, ◌-◌, ◌/◌, ◌%◌, ◌<◌, ◌≤◌, true, false, ◌&&◌, List, [], ◌∷◌, map, Vec}
+use Rattle.std.proofs.Common.{Global, length, get_or, set, take, drop, ◌++◌, replicate, inl, inr, ◌∙◌, refl, sym, ap}
+use Rattle.std.proofs.Common.{arith, lit<, get_or-set_same, get_or-set_other, length-append, length-drop}
+use Rattle.std.proofs.Common.{length-take-le, ◌==◌, nat_le, nat_lt, find, if◌then◌else◌, slice_index, unwrap_or}
+use Rattle.std.proofs.Common.{vec_len}
+use Rattle.board_prelude.proofs.Common.{with_items, and_from, and_left, and_right, eq-eqb, ne_eqb, le-leb, lt-leb}
+use Rattle.board_prelude.proofs.Common.{lt-ltb, le-ltb, cases_lt, cases_eq, get_or-replicate, get_or_past}
+use Rattle.board_prelude.proofs.Common.{length-replicate, length-map, map-set, get_or-map, with_items_is, drop-drop}
+use Rattle.board_prelude.proofs.Common.{Width, One, Card, bytes_of, largest_of, Entry, FittedCard, Setup, card_at}
+use Rattle.board_prelude.proofs.Common.{kept_size, byte, wide, CardCell, byte_put, card_byte, entry_put, stored_of}
+use Rattle.board_prelude.proofs.Common.{expansion_byte}
 use Rattle.std.proofs.lemmas.List.{set_past}
 use Rattle.board_base.specs.declared.access.Width.TheVariants.{Two, Four}
 use Rattle.pci_bars.specs.Contents.{IsBaseNumber, slot_number, held, held_byte, kept_at, HaveSizes, IsContentsOf}
@@ -172,7 +181,8 @@ kept_read kept off width fits =
     (λ k below. sym (kept_within kept (off + k) (omega (arith, fits, below))))
 
 -- where none are kept all ones are read
-pub none_read : (kept : List ℕ) (off : ℕ) (width : Width) → length kept ≡ 0 → largest_of width ≡ wide (kept_at kept) off width
+pub none_read : (kept : List ℕ) (off : ℕ) (width : Width) → length kept ≡ 0 →
+    largest_of width ≡ wide (kept_at kept) off width
 none_read kept off One none = sym (kept_past kept off (omega (arith, none)))
 none_read kept off Two none =
     rw (kept_past kept off (omega (arith, none)), kept_past kept (off + 1) (omega (arith, none))) refl

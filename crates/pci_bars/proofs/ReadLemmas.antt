@@ -1,6 +1,8 @@
 -- What the registers read on which the address map depends.
-use Rattle.std.proofs.Common.{◌≡◌, ◌≢◌, ◌⊎◌, ℕ, ◌+◌, ◌-◌, ◌<◌, ◌≤◌, Bool, true, false, ◌&&◌, ◌||◌, Option, Some, None, get_or, inl, inr, ◌∙◌, refl, sym, ap, arith, ◌==◌, is_some}
-use Rattle.board_prelude.proofs.Common.{and-true, ne_eqb, cases_eq, both_ways, nat_tests, FittedCard, Setup, IsCard, card_at, byte, is_within, is_map_byte, Bytes, card_register}
+use Rattle.std.proofs.Common.{◌≡◌, ◌≢◌, ◌⊎◌, ℕ, ◌+◌, ◌-◌, ◌<◌, ◌≤◌, Bool, true, false, ◌&&◌, ◌||◌, Option, Some, None}
+use Rattle.std.proofs.Common.{get_or, inl, inr, ◌∙◌, refl, sym, ap, arith, ◌==◌, is_some}
+use Rattle.board_prelude.proofs.Common.{and-true, ne_eqb, cases_eq, both_ways, nat_tests, FittedCard, Setup, IsCard}
+use Rattle.board_prelude.proofs.Common.{card_at, byte, is_within, is_map_byte, Bytes, card_register}
 use Rattle.pci_bars.specs.Cards.{CardBytes, HoldsRom, DecodesAs, header_of}
 
 -- the offsets of a card's map bytes

@@ -1,6 +1,10 @@
 -- The bytes behind the bases are spelled base by base, and read back.
-use Rattle.std.proofs.Common.{◌≡◌, ℕ, zero, suc, ◌+◌, ◌-◌, ◌/◌, ◌%◌, ◌^◌, ◌≤◌, ◌<◌, inl, inr, Bool, true, false, List, [], ◌∷◌, ◌++◌, Vec, Global, length, drop, get_or, Option, Some, None, Result, refl, sym, ap, ◌∙◌, append_assoc, arith, All, find, ◌==◌, slice_get, if◌then◌else◌}
-use Rattle.board_prelude.proofs.Common.{append-nil, flat_map-cons, drop_more, drop_all, cases_Bool, All-head, All-tail, option_map_or, Base, MemoryBase, IoBase, OutsideBase, IsBase, FittedCard, IsCard, kept_of_base, kept_size}
+use Rattle.std.proofs.Common.{◌≡◌, ℕ, zero, suc, ◌+◌, ◌-◌, ◌/◌, ◌%◌, ◌^◌, ◌≤◌, ◌<◌, inl, inr, Bool, true, false, List}
+use Rattle.std.proofs.Common.{[], ◌∷◌, ◌++◌, Vec, Global, length, drop, get_or, Option, Some, None, Result, refl, sym}
+use Rattle.std.proofs.Common.{ap, ◌∙◌, append_assoc, arith, All, find, ◌==◌, slice_get, if◌then◌else◌}
+use Rattle.board_prelude.proofs.Common.{append-nil, flat_map-cons, drop_more, drop_all, cases_Bool, All-head, All-tail}
+use Rattle.board_prelude.proofs.Common.{option_map_or, Base, MemoryBase, IoBase, OutsideBase, IsBase, FittedCard}
+use Rattle.board_prelude.proofs.Common.{IsCard, kept_of_base, kept_size}
 use Rattle.board_prelude.specs.Common.{vga_base, vga_bits}
 use Rattle.std.proofs.Math.Pow.{pow_mono}
 use Rattle.byte_fields.specs.declared.fault.Fault.{Fault}

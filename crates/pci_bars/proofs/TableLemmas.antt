@@ -1,6 +1,12 @@
 -- A card in the table of registers.
-use Rattle.std.proofs.Common.{◌≡◌, ◌≢◌, ◌⊎◌, ℕ, zero, suc, ◌+◌, ◌-◌, ◌*◌, ◌<◌, ◌≤◌, Bool, true, false, Option, None, List, [], ◌∷◌, length, get_or, Some, inl, inr, ◌∙◌, refl, sym, ap, subst, arith, lit<, lit≤, ◌==◌, ◌&&◌, ◌||◌, flat_map, if◌then◌else◌, is_some, replicate}
-use Rattle.board_prelude.proofs.Common.{ne_eqb, cases_lt, cases_eq, nat_tests, get_or_append_left, get_or-append_right, Base, FittedCard, Setup, IsCard, card_at, byte, is_within, long_bytes, line, read_only, card_function, function_lines, listed, base_reset, base_writable, rom_writable, reset_byte, writable_bits, card_register, listed-past, listed-before, listed-here, Each, each_below}
+use Rattle.std.proofs.Common.{◌≡◌, ◌≢◌, ◌⊎◌, ℕ, zero, suc, ◌+◌, ◌-◌, ◌*◌, ◌<◌, ◌≤◌, Bool, true, false, Option, None}
+use Rattle.std.proofs.Common.{List, [], ◌∷◌, length, get_or, Some, inl, inr, ◌∙◌, refl, sym, ap, subst, arith, lit<}
+use Rattle.std.proofs.Common.{lit≤, ◌==◌, ◌&&◌, ◌||◌, flat_map, if◌then◌else◌, is_some, replicate}
+use Rattle.board_prelude.proofs.Common.{ne_eqb, cases_lt, cases_eq, nat_tests, get_or_append_left, get_or-append_right}
+use Rattle.board_prelude.proofs.Common.{Base, FittedCard, Setup, IsCard, card_at, byte, is_within, long_bytes, line}
+use Rattle.board_prelude.proofs.Common.{read_only, card_function, function_lines, listed, base_reset, base_writable}
+use Rattle.board_prelude.proofs.Common.{rom_writable, reset_byte, writable_bits, card_register, listed-past}
+use Rattle.board_prelude.proofs.Common.{listed-before, listed-here, Each, each_below}
 use Rattle.board_spec.specs.RegisterTable.{Line}
 use Rattle.pci_bars.specs.Common.{of_base, CardBytes, is_kept_offset, header_of}
 

@@ -1,6 +1,13 @@
 -- The window that claims a place has the size of its base, and an access that it claims lies in its contents.
-use Rattle.std.proofs.Common.{◌≡◌, ◌≢◌, ◌⊎◌, ℕ, ◌+◌, ◌-◌, ◌*◌, ◌/◌, ◌%◌, ◌^◌, ◌<◌, ◌≤◌, Bool, false, ◌&&◌, List, [], ◌∷◌, ◌++◌, length, Option, None, Some, inl, inr, ◌∙◌, refl, sym, ap, subst, arith, lit<, lit≤, ◌==◌, All, find, flat_map, slice_get}
-use Rattle.board_prelude.proofs.Common.{cases_Bool, ne_eqb, nil_from_length, pow-add, pow_pos, All-nil, All-cons, All-head, All-tail, All-append, Base, MemoryBase, IoBase, OutsideBase, FittedCard, Setup, IsBase, IsExpansionRom, IsCard, card_at, kept_of_base, kept_size, Width, One, bytes_of, window_bits, bits_of_base, Bytes, Window, is_covered, rom_window_of, is_rom_on, io_windows, is_enabled_for, memory_claim, io_claim, base_value}
+use Rattle.std.proofs.Common.{◌≡◌, ◌≢◌, ◌⊎◌, ℕ, ◌+◌, ◌-◌, ◌*◌, ◌/◌, ◌%◌, ◌^◌, ◌<◌, ◌≤◌, Bool, false, ◌&&◌, List, []}
+use Rattle.std.proofs.Common.{◌∷◌, ◌++◌, length, Option, None, Some, inl, inr, ◌∙◌, refl, sym, ap, subst, arith, lit<}
+use Rattle.std.proofs.Common.{lit≤, ◌==◌, All, find, flat_map, slice_get}
+use Rattle.board_prelude.proofs.Common.{cases_Bool, ne_eqb, nil_from_length, pow-add, pow_pos, All-nil, All-cons}
+use Rattle.board_prelude.proofs.Common.{All-head, All-tail, All-append, Base, MemoryBase, IoBase, OutsideBase}
+use Rattle.board_prelude.proofs.Common.{FittedCard, Setup, IsBase, IsExpansionRom, IsCard, card_at, kept_of_base}
+use Rattle.board_prelude.proofs.Common.{kept_size, Width, One, bytes_of, window_bits, bits_of_base, Bytes, Window}
+use Rattle.board_prelude.proofs.Common.{is_covered, rom_window_of, is_rom_on, io_windows, is_enabled_for, memory_claim}
+use Rattle.board_prelude.proofs.Common.{io_claim, base_value}
 use Rattle.std.proofs.lemmas.Nat.{mod-pow-add}
 use Rattle.std.proofs.Math.Nat.{mod-lt}
 use Rattle.board_base.specs.declared.access.Width.TheVariants.{Two, Four}
@@ -9,7 +16,8 @@ use Rattle.pci_bars.specs.declared.claims.Windows.TheVariants.{Memory, Unselecte
 use Rattle.pci_bars.specs.Common.{CardBytes, DecodesAs, AreCards, AreDecoded, cards_of, IsBaseNumber, LiesIn, HaveSizes}
 use Rattle.pci_bars.specs.Contents.{held}
 use Rattle.pci_bars.proofs.BaseLemmas.{is_base}
-use Rattle.pci_bars.proofs.ClaimLemmas.{window_in, base_windows, rom_windows, vga_windows, windows_in, same_windows, io_windows_are}
+use Rattle.pci_bars.proofs.ClaimLemmas.{window_in, base_windows, rom_windows, vga_windows, windows_in, same_windows}
+use Rattle.pci_bars.proofs.ClaimLemmas.{io_windows_are}
 
 -- of a base of 2 ^ bits bytes all are kept, or none
 abbrev IsKeptAs : (size bits : ℕ) → Type 0

@@ -1,6 +1,8 @@
 -- Claims as the cards' own registers decide them.
-use Rattle.std.specs.Prelude.{ℕ, ◌+◌, ◌/◌, ◌^◌, ◌==◌, Bool, true, false, not, ◌&&◌, if◌then◌else◌, List, [], ◌∷◌, Option, Some, None, option_map, slice_index}
-use Rattle.board_prelude.specs.Common.{option_or, Base, MemoryBase, IoBase, OutsideBase, rom_base, vga_base, vga_bits, is_bit, smram_range}
+use Rattle.std.specs.Prelude.{ℕ, ◌+◌, ◌/◌, ◌^◌, ◌==◌, Bool, true, false, not, ◌&&◌, if◌then◌else◌, List, [], ◌∷◌}
+use Rattle.std.specs.Prelude.{Option, Some, None, option_map, slice_index}
+use Rattle.board_prelude.specs.Common.{option_or, Base, MemoryBase, IoBase, OutsideBase, rom_base, vga_base, vga_bits}
+use Rattle.board_prelude.specs.Common.{is_bit, smram_range}
 use Rattle.pci_bars.specs.declared.claims.Gate.{Gate}
 use Rattle.pci_bars.specs.declared.claims.Gate.TheVariants.{Open, Shut}
 use Rattle.pci_bars.specs.declared.claims.Windows.{Windows}
@@ -24,7 +26,8 @@ base_covers Ports (OutsideBase bits) value place = false
 abbrev pub covering : Windows → (values : List ℕ) → (place : ℕ) → ℕ → List Base → Option ℕ
 covering windows values place k [] = None
 covering windows values place k (base ∷ later) =
-    if base_covers windows base (slice_index values k) place then Some k else covering windows values place (k + 1) later
+    if base_covers windows base (slice_index values k) place then Some k
+    else covering windows values place (k + 1) later
 
 -- an expansion ROM base_covers the places that agree with its register
 abbrev pub rom_covers : Option ℕ → (register place : ℕ) → Bool

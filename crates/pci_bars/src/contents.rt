@@ -1,7 +1,10 @@
 //! The bytes behind the bases of the cards.
-ghost use Rattle.std.specs.Prelude.{◌≡◌, ◌≢◌, ◌≤◌, ◌<◌, ◌+◌, ◌-◌, ◌++◌, ◌==◌, ◌&&◌, nat_le, nat_lt, if◌then◌else◌, ℕ, List, [], ◌∷◌, All, find, length, slice_index, take, drop, IfOk, unwrap_or};
-ghost use Rattle.board_prelude.specs.Common.{Width, Card, bytes_of, largest_of, byte, Entry, Setup, IsCard, rom_base, kept_size, wide, CardCell, byte_put, card_byte, entry_put, expansion_byte};
-ghost use Rattle.pci_bars.specs.Contents.{IsBaseNumber, slot_number, held, held_byte, kept_at, slot_size, FitsIn, LiesIn, IsContentsOf};
+ghost use Rattle.std.specs.Prelude.{◌≡◌, ◌≢◌, ◌≤◌, ◌<◌, ◌+◌, ◌-◌, ◌++◌, ◌==◌, ◌&&◌, nat_le, nat_lt, if◌then◌else◌, ℕ};
+ghost use Rattle.std.specs.Prelude.{List, [], ◌∷◌, All, find, length, slice_index, take, drop, IfOk, unwrap_or};
+ghost use Rattle.board_prelude.specs.Common.{Width, Card, bytes_of, largest_of, byte, Entry, Setup, IsCard, rom_base};
+ghost use Rattle.board_prelude.specs.Common.{kept_size, wide, CardCell, byte_put, card_byte, entry_put, expansion_byte};
+ghost use Rattle.pci_bars.specs.Contents.{IsBaseNumber, slot_number, held, held_byte, kept_at, slot_size, FitsIn};
+ghost use Rattle.pci_bars.specs.Contents.{LiesIn, IsContentsOf};
 
 use crate::cards::CARD_COUNT;
 use crate::spec::{CardSpec, ROM_BASE};
@@ -84,8 +87,8 @@ impl Contents {
         kept_value(&self.buffers[slot_of(dev, base)], off, width)
     }
 
-    /// Writes a value at an offset in a base, its low byte first. A write to an expansion ROM is lost, and one to a base
-    /// of which no bytes are kept.
+    /// Writes a value at an offset in a base, its low byte first. A write to an expansion ROM is lost, and one to a
+    /// base of which no bytes are kept.
     pub fn write(&mut self, dev: u8, base: u8, off: u32, width: Width, value: u32)
         requires place { LiesIn self.old dev base off width }
         requires value { value ≤ largest_of width }
@@ -121,7 +124,8 @@ impl Contents {
         requires within { off + length bytes.now ≤ length (held self.old dev base) }
         ensures here { held self.new dev base ≡ take off (held self.old dev base)
             ++ (bytes.now ++ drop (off + length bytes.now) (held self.old dev base)) }
-        ensures others { (d b : ℕ) → IsBaseNumber d b → (d ≡ dev → b ≡ base → ⊥) → held self.new d b ≡ held self.old d b }
+        ensures others { (d b : ℕ) → IsBaseNumber d b → (d ≡ dev → b ≡ base → ⊥)
+            → held self.new d b ≡ held self.old d b }
     {
         let from = off as usize;
         self.buffers[slot_of(dev, base)][from..from + bytes.len()].copy_from_slice(bytes);
@@ -150,7 +154,8 @@ pub(crate) fn slot_size(specs: &[CardSpec], slot: u8) -> usize
     )
 }
 
-/// How many bytes are kept of a base of a device. 0 where it does not exist, of an outside base, and of an expansion ROM.
+/// How many bytes are kept of a base of a device. 0 where it does not exist, of an outside base, and of an expansion
+/// ROM.
 fn size_of(specs: &[CardSpec], dev: u8, base: u8) -> usize
     requires cards { All IsCard specs.now }
     ensures size { result ≡ kept_size (find (λ card. card.dev == dev) specs.now) base }

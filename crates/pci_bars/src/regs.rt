@@ -1,6 +1,7 @@
 //! The configuration registers of a card (PCI Local Bus 2.1, section 6.2).
 ghost use Rattle.std.specs.Prelude.{◌≡◌, ◌≢◌, ◌≤◌, ◌<◌, ◌/◌, ◌%◌, ℕ, true, Some, slice_index};
-ghost use Rattle.board_prelude.specs.Common.{One, Store, Setup, IsCard, card_at, byte, merged, reset_byte, is_map_byte, changed_byte, Bytes, card_register};
+ghost use Rattle.board_prelude.specs.Common.{One, Store, Setup, IsCard, card_at, byte, merged, reset_byte, is_map_byte};
+ghost use Rattle.board_prelude.specs.Common.{changed_byte, Bytes, card_register};
 ghost use Rattle.pci_bars.specs.Cards.{DecodesAs, IsCardOf, header_of};
 
 use crate::spec::{BASE_COUNT, CardSpec};

@@ -160,7 +160,8 @@ pub fn run_phases<R: Threads + Wait + Sync, G: Gate>(
     requires in_range { All (λ phase. All (IsStatement board.setup cpus) phase.items) phases.items }
     requires statements { length (flat_map (λ phase. phase.items) phases.items) ≤ most_statements }
     ensures legal { IfOk result (λ history. IsLegal board.setup history.entries) }
-    ensures complete { IfOk result (λ history. IsCompleteFor (map (λ phase. phase.items) phases.items) history.entries) }
+    ensures complete { IfOk result (λ history. IsCompleteFor (map (λ phase. phase.items) phases.items)
+        history.entries) }
     ensures places { IfOk result (λ history. AreAllInPlace board.setup
         (reverse (map (λ phase. phase.items) phases.items)) history.entries) }
 {

@@ -1,10 +1,14 @@
 -- Sets of levels and the bits of their bytes.
-use Rattle.std.proofs.Common.{◌≡◌, ℕ, zero, suc, ◌-◌, ◌*◌, ◌%◌, ◌^◌, ◌<◌, min, max, Bool, true, not, eqb, ◌||◌, ◌&&◌, refl, ap, ◌∙◌, ◌↔◌, inl, inr, arith, bit_or, bit_and}
+use Rattle.std.proofs.Common.{◌≡◌, ℕ, zero, suc, ◌-◌, ◌*◌, ◌%◌, ◌^◌, ◌<◌, min, max, Bool, true, not, eqb, ◌||◌, ◌&&◌}
+use Rattle.std.proofs.Common.{refl, ap, ◌∙◌, ◌↔◌, inl, inr, arith, bit_or, bit_and}
 use Rattle.std.specs.Int.{Width, bit_at, bit_not}
 use mir.Val.{bits}
 use mir.Syntax.{w8}
-use Rattle.device_spec.proofs.Common.{cases_eq, eq-eqb, ne_eqb, agree_below_at, eqb-true, is_bit, levels_where-same, has-levels_where, has, levels_where, no_levels, with_level, without_level, levels_of_byte, byte_of_levels}
-use Rattle.std.proofs.lemmas.Nat.Bits.{bit_at-lt, bit_at_or, bit_at_and, bit_at_not, bit_at_set_same, bit_at_set_other, bit_at_clear_same, bit_at_clear_other}
+use Rattle.device_spec.proofs.Common.{cases_eq, eq-eqb, ne_eqb, agree_below_at, eqb-true, is_bit, levels_where-same}
+use Rattle.device_spec.proofs.Common.{has-levels_where, has, levels_where, no_levels, with_level, without_level}
+use Rattle.device_spec.proofs.Common.{levels_of_byte, byte_of_levels}
+use Rattle.std.proofs.lemmas.Nat.Bits.{bit_at-lt, bit_at_or, bit_at_and, bit_at_not, bit_at_set_same, bit_at_set_other}
+use Rattle.std.proofs.lemmas.Nat.Bits.{bit_at_clear_same, bit_at_clear_other}
 
 -- ---- bits
 
@@ -31,22 +35,26 @@ not-bit (suc (suc x)) p = absurd (omega arith)
 
 -- bit l of a byte after a bit operation
 pub is_bit-or : (a b l : ℕ) → is_bit (bit_or a b) l ≡ (is_bit a l || is_bit b l)
-is_bit-or a b l = ap (λ x. eqb x 1) (bit_at_or a b l) ∙ max-bits (bit_at a l) (bit_at b l) (bit_at-lt a l) (bit_at-lt b l)
+is_bit-or a b l = ap (λ x. eqb x 1) (bit_at_or a b l) ∙ max-bits (bit_at a l) (bit_at b l) (bit_at-lt a l)
+    (bit_at-lt b l)
 
 pub is_bit-and : (a b l : ℕ) → is_bit (bit_and a b) l ≡ (is_bit a l && is_bit b l)
-is_bit-and a b l = ap (λ x. eqb x 1) (bit_at_and a b l) ∙ min-bits (bit_at a l) (bit_at b l) (bit_at-lt a l) (bit_at-lt b l)
+is_bit-and a b l = ap (λ x. eqb x 1) (bit_at_and a b l) ∙ min-bits (bit_at a l) (bit_at b l) (bit_at-lt a l)
+    (bit_at-lt b l)
 
 pub is_bit-not : (b l : ℕ) → b < 256 → l < 8 → is_bit (255 - b) l ≡ not (is_bit b l)
 is_bit-not b l small h = ap (λ x. eqb x 1) (bit_at_not w8 b l small h) ∙ not-bit (bit_at b l) (bit_at-lt b l)
 
-pub is_bit-set : (w : Width) (n k l : ℕ) → k < bits w → is_bit (bit_or n (1 * 2 ^ k % 2 ^ bits w)) l ≡ (eqb l k || is_bit n l)
+pub is_bit-set : (w : Width) (n k l : ℕ) → k < bits w →
+    is_bit (bit_or n (1 * 2 ^ k % 2 ^ bits w)) l ≡ (eqb l k || is_bit n l)
 is_bit-set w n k l hk =
     elim (cases_eq l k) [
       | inl same ↦ rw (same, eq-eqb k k refl) (ap (λ x. eqb x 1) (bit_at_set_same w n k hk))
       | inr other ↦ rw (ne_eqb l k other) (ap (λ x. eqb x 1) (bit_at_set_other w n k hk l other))
     ]
 
-pub is_bit-clear : (w : Width) (n k l : ℕ) → k < bits w → l < bits w → is_bit (bit_and n (bit_not w (1 * 2 ^ k % 2 ^ bits w))) l ≡ (not (eqb l k) && is_bit n l)
+pub is_bit-clear : (w : Width) (n k l : ℕ) → k < bits w → l < bits w →
+    is_bit (bit_and n (bit_not w (1 * 2 ^ k % 2 ^ bits w))) l ≡ (not (eqb l k) && is_bit n l)
 is_bit-clear w n k l hk hl =
     elim (cases_eq l k) [
       | inl same ↦ rw (same, eq-eqb k k refl) (ap (λ x. eqb x 1) (bit_at_clear_same w n k hk))
@@ -55,25 +63,35 @@ is_bit-clear w n k l hk hl =
 
 -- ---- what the operations on masks do to the sets
 
-pub levels-union : (a b : ℕ) → levels_of_byte (bit_or a b) ≡ levels_where (λ l. has (levels_of_byte a) l || has (levels_of_byte b) l)
+pub levels-union : (a b : ℕ) → levels_of_byte (bit_or a b)
+    ≡ levels_where (λ l. has (levels_of_byte a) l || has (levels_of_byte b) l)
 levels-union a b =
-    levels_where-same _ (λ l. has (levels_of_byte a) l || has (levels_of_byte b) l) (λ l h. rw (has-levels_where (is_bit a) l h, has-levels_where (is_bit b) l h) (is_bit-or a b l))
+    levels_where-same _ (λ l. has (levels_of_byte a) l || has (levels_of_byte b) l)
+    (λ l h. rw (has-levels_where (is_bit a) l h, has-levels_where (is_bit b) l h) (is_bit-or a b l))
 
-pub levels-both : (a b : ℕ) → levels_of_byte (bit_and a b) ≡ levels_where (λ l. has (levels_of_byte a) l && has (levels_of_byte b) l)
+pub levels-both : (a b : ℕ) → levels_of_byte (bit_and a b)
+    ≡ levels_where (λ l. has (levels_of_byte a) l && has (levels_of_byte b) l)
 levels-both a b =
-    levels_where-same _ (λ l. has (levels_of_byte a) l && has (levels_of_byte b) l) (λ l h. rw (has-levels_where (is_bit a) l h, has-levels_where (is_bit b) l h) (is_bit-and a b l))
+    levels_where-same _ (λ l. has (levels_of_byte a) l && has (levels_of_byte b) l)
+    (λ l h. rw (has-levels_where (is_bit a) l h, has-levels_where (is_bit b) l h) (is_bit-and a b l))
 
-pub levels-rest : (a b : ℕ) → b < 256 → levels_of_byte (bit_and a (255 - b)) ≡ levels_where (λ l. has (levels_of_byte a) l && not (has (levels_of_byte b) l))
+pub levels-rest : (a b : ℕ) → b < 256 → levels_of_byte (bit_and a (255 - b))
+    ≡ levels_where (λ l. has (levels_of_byte a) l && not (has (levels_of_byte b) l))
 levels-rest a b small =
-    levels_where-same _ (λ l. has (levels_of_byte a) l && not (has (levels_of_byte b) l)) (λ l h. rw (has-levels_where (is_bit a) l h, has-levels_where (is_bit b) l h) (is_bit-and a (255 - b) l ∙ ap (λ x. is_bit a l && x) (is_bit-not b l small h)))
+    levels_where-same _ (λ l. has (levels_of_byte a) l && not (has (levels_of_byte b) l))
+    (λ l h. rw (has-levels_where (is_bit a) l h, has-levels_where (is_bit b) l h) (is_bit-and a (255 - b) l
+    ∙ ap (λ x. is_bit a l && x) (is_bit-not b l small h)))
 
 pub levels-set : (n k : ℕ) → k < 8 → levels_of_byte (bit_or n (1 * 2 ^ k % 256)) ≡ with_level (levels_of_byte n) k
 levels-set n k hk =
-    levels_where-same _ (λ l. eqb l k || has (levels_of_byte n) l) (λ l h. rw (has-levels_where (is_bit n) l h) (is_bit-set w8 n k l hk))
+    levels_where-same _ (λ l. eqb l k || has (levels_of_byte n) l)
+    (λ l h. rw (has-levels_where (is_bit n) l h) (is_bit-set w8 n k l hk))
 
-pub levels-cleared : (n k : ℕ) → k < 8 → levels_of_byte (bit_and n (255 - 1 * 2 ^ k % 256)) ≡ without_level (levels_of_byte n) k
+pub levels-cleared : (n k : ℕ) → k < 8 → levels_of_byte (bit_and n (255 - 1 * 2 ^ k % 256))
+    ≡ without_level (levels_of_byte n) k
 levels-cleared n k hk =
-    levels_where-same _ (λ l. not (eqb l k) && has (levels_of_byte n) l) (λ l h. rw (has-levels_where (is_bit n) l h) (is_bit-clear w8 n k l hk h))
+    levels_where-same _ (λ l. not (eqb l k) && has (levels_of_byte n) l)
+    (λ l h. rw (has-levels_where (is_bit n) l h) (is_bit-clear w8 n k l hk h))
 
 -- the byte of a byte's set
 is_own_byte : ℕ → Bool

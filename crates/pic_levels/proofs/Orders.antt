@@ -1,5 +1,6 @@
 -- The order of priority of the levels.
-use Rattle.std.proofs.Common.{◌≡◌, ℕ, ◌+◌, ◌%◌, ◌<◌, Bool, true, eqb, length, get_or, drop, take, refl, length-append, length-drop, length-take, arith, ◌∙◌}
+use Rattle.std.proofs.Common.{◌≡◌, ℕ, ◌+◌, ◌%◌, ◌<◌, Bool, true, eqb, length, get_or, drop, take, refl, length-append}
+use Rattle.std.proofs.Common.{length-drop, length-take, arith, ◌∙◌}
 use Rattle.std.proofs.lemmas.Bool.{agree_below}
 use Rattle.device_spec.specs.Common.{priority_order}
 use Rattle.device_spec.specs.Levels.{all_levels}
@@ -12,11 +13,13 @@ stands_at lowest place = eqb ((lowest + 1 + place) % 8) (get_or (priority_order 
 stand_so : ℕ → Bool
 stand_so lowest = agree_below (stands_at lowest) (λ _. true) 8
 
-pub level-at : (lowest place : ℕ) → lowest < 8 → place < 8 → (lowest + 1 + place) % 8 ≡ get_or (priority_order lowest) place 0
+pub level-at : (lowest place : ℕ) → lowest < 8 → place < 8 →
+    (lowest + 1 + place) % 8 ≡ get_or (priority_order lowest) place 0
 unfolding stands_at stand_so
 level-at lowest place small within =
     let here = agree_below_at stand_so (λ _. true) 8 lowest refl small in
-    eqb-true ((lowest + 1 + place) % 8) (get_or (priority_order lowest) place 0) (agree_below_at (stands_at lowest) (λ _. true) 8 place here within)
+    eqb-true ((lowest + 1 + place) % 8) (get_or (priority_order lowest) place 0)
+    (agree_below_at (stands_at lowest) (λ _. true) 8 place here within)
 
 pub order-length : (lowest : ℕ) → length (priority_order lowest) ≡ 8
 order-length lowest =

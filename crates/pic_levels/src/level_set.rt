@@ -1,6 +1,7 @@
 //! Sets of the eight levels of an interrupt controller, as bit masks.
 ghost use Rattle.std.specs.Prelude.{◌≡◌, ◌↔◌, ◌<◌, ◌&&◌, ◌||◌, not, true, length};
-ghost use Rattle.device_spec.specs.Levels.{has, levels_where, no_levels, with_level, without_level, levels_of_byte, byte_of_levels};
+ghost use Rattle.device_spec.specs.Levels.{has, levels_where, no_levels, with_level, without_level, levels_of_byte};
+ghost use Rattle.device_spec.specs.Levels.{byte_of_levels};
 
 use board_base::bits::is_set;
 use std::marker::Model;

@@ -1,15 +1,19 @@
 -- One chip: its inputs, and that it has no request where no level is requested.
-use Rattle.std.proofs.Common.{◌≡◌, ℕ, suc, ◌+◌, ◌≤◌, ◌<◌, Bool, true, false, not, cond, ◌||◌, ◌&&◌, List, [], ◌∷◌, ◌++◌, length, get_or, drop, Some, None, refl, arith, sym, ap, ◌∙◌, inl, inr}
+use Rattle.std.proofs.Common.{◌≡◌, ℕ, suc, ◌+◌, ◌≤◌, ◌<◌, Bool, true, false, not, cond, ◌||◌, ◌&&◌, List, [], ◌∷◌, ◌++◌}
+use Rattle.std.proofs.Common.{length, get_or, drop, Some, None, refl, arith, sym, ap, ◌∙◌, inl, inr}
 use Rattle.std.proofs.lemmas.Bool.{cases_lt}
 use Rattle.std.proofs.lemmas.List.{get_or_past}
-use Rattle.device_spec.specs.Common.{find, Levels, has, levels_where, no_levels, Chip, pending, latches_after, is_requested, first_selectable, first_blocking, blocks_itself, is_blocking, request, priority_order}
+use Rattle.device_spec.specs.Common.{find, Levels, has, levels_where, no_levels, Chip, pending, latches_after}
+use Rattle.device_spec.specs.Common.{is_requested, first_selectable, first_blocking, blocks_itself, is_blocking}
+use Rattle.device_spec.specs.Common.{request, priority_order}
 use Rattle.device_spec.proofs.Priorities.{scan, scan-found, scan-blocked, scan-past, scan-end}
 use Rattle.device_spec.proofs.Common.{levels_where-same, has-levels_where, priority_order-small}
 use Rattle.pic_levels.proofs.Orders.{order-length}
 
 -- ---- the pending levels
 
-either-of : (triggered high latched : Bool) → ((high && triggered) || (latched && not triggered)) ≡ cond triggered high latched
+either-of : (triggered high latched : Bool) → ((high && triggered) || (latched && not triggered))
+    ≡ cond triggered high latched
 either-of true true true = refl
 either-of true true false = refl
 either-of true false true = refl
@@ -20,15 +24,30 @@ either-of false false true = refl
 either-of false false false = refl
 
 -- the high ones of the level triggered inputs, and the latched ones of the others
-pub pending-is : (chip : Chip) → levels_where (λ l. has (levels_where (λ l. has chip.inputs l && has chip.triggers l)) l || has (levels_where (λ l. has chip.latches l && not (has chip.triggers l))) l) ≡ pending chip
+pub pending-is : (chip : Chip) →
+    levels_where (λ l. has (levels_where (λ l. has chip.inputs l && has chip.triggers l)) l || has
+    (levels_where (λ l. has chip.latches l && not (has chip.triggers l))) l) ≡ pending chip
 unfolding pending
 pending-is chip =
-    levels_where-same _ (λ l. cond (has chip.triggers l) (has chip.inputs l) (has chip.latches l)) (λ l h. rw (has-levels_where (λ l. has chip.inputs l && has chip.triggers l) l h, has-levels_where (λ l. has chip.latches l && not (has chip.triggers l)) l h) (either-of (has chip.triggers l) (has chip.inputs l) (has chip.latches l)))
+    levels_where-same _ (λ l. cond (has chip.triggers l) (has chip.inputs l) (has chip.latches l))
+    (λ l h. rw (
+      has-levels_where (λ l. has chip.inputs l && has chip.triggers l) l h,
+      has-levels_where (λ l. has chip.latches l && not (has chip.triggers l)) l h,
+    ) (either-of
+    (has chip.triggers l) (has chip.inputs l) (has chip.latches l)))
 
 -- the latches with the rises, without the falls
-pub latches-are : (latches before now : Levels) → levels_where (λ l. has (levels_where (λ l. has latches l || has (levels_where (λ l. has now l && not (has before l))) l)) l && not (has (levels_where (λ l. has before l && not (has now l))) l)) ≡ latches_after latches before now
+pub latches-are : (latches before now : Levels) →
+    levels_where
+    (λ l. has (levels_where (λ l. has latches l || has (levels_where (λ l. has now l && not (has before l))) l)) l
+    && not (has (levels_where (λ l. has before l && not (has now l))) l)) ≡ latches_after latches before now
 latches-are latches before now =
-    levels_where-same _ (λ l. (has latches l || (has now l && not (has before l))) && not (has before l && not (has now l))) (λ l h. rw (has-levels_where (λ l. has before l && not (has now l)) l h, has-levels_where (λ l. has latches l || has (levels_where (λ l. has now l && not (has before l))) l) l h, has-levels_where (λ l. has now l && not (has before l)) l h) refl)
+    levels_where-same _ (λ l. (has latches l || (has now l && not (has before l))) && not
+    (has before l && not (has now l))) (λ l h. rw (
+      has-levels_where (λ l. has before l && not (has now l)) l h,
+      has-levels_where (λ l. has latches l || has (levels_where (λ l. has now l && not (has before l))) l) l h,
+      has-levels_where (λ l. has now l && not (has before l)) l h,
+    ) refl)
 
 -- ---- no request
 
@@ -44,13 +63,16 @@ requested-none chip none l =
       | inl small ↦
           sym (has-levels_where (is_requested chip) l small)
           ∙ (ap (λ (set : Levels). has set l) none ∙ has-levels_where (λ _. false) l small)
-      | inr past ↦ ap (λ (b : Bool). b && not (has chip.masked l)) (has-past (λ l. cond (has chip.triggers l) (has chip.inputs l) (has chip.latches l)) l past)
+      | inr past ↦ ap (λ (b : Bool). b && not (has chip.masked l))
+          (has-past (λ l. cond (has chip.triggers l) (has chip.inputs l) (has chip.latches l)) l past)
     ]
 
-none_selectable : (chip : Chip) (higher order : List ℕ) → ((l : ℕ) → is_requested chip l ≡ false) → first_selectable chip higher order ≡ None
+none_selectable : (chip : Chip) (higher order : List ℕ) → ((l : ℕ) → is_requested chip l ≡ false) →
+    first_selectable chip higher order ≡ None
 unfolding first_selectable
 none_selectable chip higher [] none = refl
-none_selectable chip higher (level ∷ lower) none = rw (none level) (none_selectable chip (higher ++ level ∷ []) lower none)
+none_selectable chip higher (level ∷ lower) none =
+    rw (none level) (none_selectable chip (higher ++ level ∷ []) lower none)
 
 -- where no level is requested there is no request
 pub none_requested : (chip : Chip) → levels_where (is_requested chip) ≡ no_levels → request chip ≡ None
@@ -58,21 +80,25 @@ unfolding request
 none_requested chip none = none_selectable chip [] (priority_order chip.lowest) (requested-none chip none)
 
 -- the set of the requested levels has those
-pub requested-has : (chip : Chip) (set : Levels) (l : ℕ) → l < 8 → set ≡ levels_where (is_requested chip) → has set l ≡ is_requested chip l
+pub requested-has : (chip : Chip) (set : Levels) (l : ℕ) → l < 8 → set ≡ levels_where (is_requested chip) →
+    has set l ≡ is_requested chip l
 requested-has chip set l small is = ap (λ (s : Levels). has s l) is ∙ has-levels_where (is_requested chip) l small
 
 -- ---- the levels that block
 
 -- in special mask mode those in service that are not masked
-pub blocking-masked : (chip : Chip) → chip.special_mask ≡ true → levels_where (λ l. has chip.in_service l && not (has chip.masked l)) ≡ levels_where (is_blocking chip)
+pub blocking-masked : (chip : Chip) → chip.special_mask ≡ true →
+    levels_where (λ l. has chip.in_service l && not (has chip.masked l)) ≡ levels_where (is_blocking chip)
 blocking-masked chip is = levels_where-same _ (is_blocking chip) (λ l h. rw is refl)
 
 -- else all in service
-pub blocking-all : (chip : Chip) → chip.special_mask ≡ false → levels_where (λ l. has chip.in_service l && not (has no_levels l)) ≡ levels_where (is_blocking chip)
+pub blocking-all : (chip : Chip) → chip.special_mask ≡ false →
+    levels_where (λ l. has chip.in_service l && not (has no_levels l)) ≡ levels_where (is_blocking chip)
 blocking-all chip is = levels_where-same _ (is_blocking chip) (λ l h. rw (is, has-levels_where (λ _. false) l h) refl)
 
 -- tests that agree find the same element
-find-same : (p q : ℕ → Bool) (xs : List ℕ) → ((i : ℕ) → i < length xs → p (get_or xs i 0) ≡ q (get_or xs i 0)) → find p xs ≡ find q xs
+find-same : (p q : ℕ → Bool) (xs : List ℕ) → ((i : ℕ) → i < length xs → p (get_or xs i 0) ≡ q (get_or xs i 0)) →
+    find p xs ≡ find q xs
 find-same p q [] same = refl
 find-same p q (x ∷ xs) same =
     let here : p x ≡ q x = same 0 (omega arith) in
@@ -80,14 +106,16 @@ find-same p q (x ∷ xs) same =
     rw (here, rest) refl
 
 -- the first level of those that block is the first that blocks
-pub first-is : (chip : Chip) (set : Levels) → chip.lowest < 8 → set ≡ levels_where (is_blocking chip) → find (has set) (priority_order chip.lowest) ≡ first_blocking chip
+pub first-is : (chip : Chip) (set : Levels) → chip.lowest < 8 → set ≡ levels_where (is_blocking chip) →
+    find (has set) (priority_order chip.lowest) ≡ first_blocking chip
 unfolding first_blocking
 first-is chip set small is =
     ap (λ (s : Levels). find (has s) (priority_order chip.lowest)) is
     ∙ find-same (has (levels_where (is_blocking chip))) (is_blocking chip) (priority_order chip.lowest)
     (λ i h.
     let below : i < 8 = omega (arith, h, order-length chip.lowest) in
-    has-levels_where (is_blocking chip) (get_or (priority_order chip.lowest) i 0) (priority_order-small chip.lowest i small below))
+    has-levels_where (is_blocking chip) (get_or (priority_order chip.lowest) i 0)
+    (priority_order-small chip.lowest i small below))
 
 -- ---- the search for a level, which a chip finds at a place of its order
 
@@ -108,11 +136,14 @@ module _ (chip : Chip) (place level : ℕ) (here : level ≡ get_or (priority_or
 
   pub blocked-here : place < 8 → asks level ≡ false → is_blocking chip level ≡ true → scan chip rest ≡ None
   blocked-here small passes blocks =
-      scan-blocked chip (priority_order chip.lowest) place (within small) (sym (ap asks here) ∙ passes) (sym (ap (is_blocking chip) here) ∙ blocks)
+      scan-blocked chip (priority_order chip.lowest) place (within small) (sym (ap asks here) ∙ passes)
+      (sym (ap (is_blocking chip) here) ∙ blocks)
 
-  pub past-here : place < 8 → asks level ≡ false → is_blocking chip level ≡ false → scan chip rest ≡ scan chip (drop (place + 1) (priority_order chip.lowest))
+  pub past-here : place < 8 → asks level ≡ false → is_blocking chip level ≡ false →
+      scan chip rest ≡ scan chip (drop (place + 1) (priority_order chip.lowest))
   past-here small passes none =
-      scan-past chip (priority_order chip.lowest) place (within small) (sym (ap asks here) ∙ passes) (sym (ap (is_blocking chip) here) ∙ none)
+      scan-past chip (priority_order chip.lowest) place (within small) (sym (ap asks here) ∙ passes)
+      (sym (ap (is_blocking chip) here) ∙ none)
 
 pub none-left : (chip : Chip) (place : ℕ) → 8 ≤ place → scan chip (drop place (priority_order chip.lowest)) ≡ None
 none-left chip place past = scan-end chip (priority_order chip.lowest) place (omega (arith, order-length chip.lowest))

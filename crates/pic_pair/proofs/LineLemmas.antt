@@ -1,7 +1,10 @@
 -- The levels of the sixteen lines, and the bits of their mask.
-use Rattle.std.proofs.Common.{◌≡◌, ℕ, ◌+◌, ◌-◌, ◌*◌, ◌/◌, ◌%◌, ◌^◌, ◌<◌, Bool, true, false, cond, not, eqb, ◌||◌, ◌&&◌, List, ◌++◌, length, take, drop, replicate, get_or, set, refl, sym, ap, subst, ◌∙◌, inl, inr, arith, length-set, get_or-set_same, get_or-set_other, bit_or, bit_and}
+use Rattle.std.proofs.Common.{◌≡◌, ℕ, ◌+◌, ◌-◌, ◌*◌, ◌/◌, ◌%◌, ◌^◌, ◌<◌, Bool, true, false, cond, not, eqb, ◌||◌, ◌&&◌}
+use Rattle.std.proofs.Common.{List, ◌++◌, length, take, drop, replicate, get_or, set, refl, sym, ap, subst, ◌∙◌, inl}
+use Rattle.std.proofs.Common.{inr, arith, length-set, get_or-set_same, get_or-set_other, bit_or, bit_and}
 use mir.Syntax.{w16}
-use Rattle.device_spec.proofs.Common.{take-append-drop, cases_eq, eq-eqb, ne_eqb, eqb-true, agree_below_at, get_or-map, ext_get_or, is_bit, levels_where, levels_of_byte}
+use Rattle.device_spec.proofs.Common.{take-append-drop, cases_eq, eq-eqb, ne_eqb, eqb-true, agree_below_at, get_or-map}
+use Rattle.device_spec.proofs.Common.{ext_get_or, is_bit, levels_where, levels_of_byte}
 use Rattle.pic_pair.specs.Lines.{sixteen, lines_where, lines_of}
 use Rattle.pic_levels.proofs.LevelLemmas.{is_bit-or, is_bit-set, is_bit-clear}
 
@@ -22,7 +25,8 @@ unfolding lines_where
 lines_where-length p = refl
 
 -- a list of sixteen levels that pass the test
-pub lines_where-is : (p : ℕ → Bool) (levels : List Bool) → length levels ≡ 16 → ((l : ℕ) → l < 16 → get_or levels l false ≡ p l) → levels ≡ lines_where p
+pub lines_where-is : (p : ℕ → Bool) (levels : List Bool) → length levels ≡ 16 →
+    ((l : ℕ) → l < 16 → get_or levels l false ≡ p l) → levels ≡ lines_where p
 lines_where-is p levels size each =
     ext_get_or false levels (lines_where p) (size ∙ sym (lines_where-length p))
     (λ l h.
@@ -35,14 +39,16 @@ lines_where-same p q same =
     lines_where-is q (lines_where p) (lines_where-length p) (λ l small. has-lines_where p l small ∙ same l small)
 
 -- one line set among those of a test
-set-lines_where : (p : ℕ → Bool) (k : ℕ) (on : Bool) → k < 16 → set (lines_where p) k on ≡ lines_where (λ l. cond (eqb l k) on (p l))
+set-lines_where : (p : ℕ → Bool) (k : ℕ) (on : Bool) → k < 16 →
+    set (lines_where p) k on ≡ lines_where (λ l. cond (eqb l k) on (p l))
 set-lines_where p k on within =
     let size = lines_where-length p in
     lines_where-is (λ l. cond (eqb l k) on (p l)) (set (lines_where p) k on) (length-set (lines_where p) k on ∙ size)
     (λ l small.
     elim (cases_eq l k) [
       | inl same ↦
-          rw (same, eq-eqb k k refl) (get_or-set_same (lines_where p) k on false (subst (λ (n : ℕ). k < n) (sym size) within))
+          rw (same, eq-eqb k k refl) (get_or-set_same (lines_where p) k on false
+          (subst (λ (n : ℕ). k < n) (sym size) within))
       | inr other ↦
           rw (ne_eqb l k other) (get_or-set_other (lines_where p) k l on false other ∙ has-lines_where p l small)
     ])
@@ -59,17 +65,24 @@ and-cond false b = refl
 
 pub lines-raised : (n k : ℕ) → k < 16 → lines_of (bit_or n (1 * 2 ^ k % 65536)) ≡ set (lines_of n) k true
 lines-raised n k small =
-    lines_where-same _ (λ l. cond (eqb l k) true (is_bit n l)) (λ l h. is_bit-set w16 n k l small ∙ or-cond (eqb l k) (is_bit n l))
+    lines_where-same _ (λ l. cond (eqb l k) true (is_bit n l)) (λ l h. is_bit-set w16 n k l small
+    ∙ or-cond (eqb l k) (is_bit n l))
     ∙ sym (set-lines_where (is_bit n) k true small)
 
 pub lines-lowered : (n k : ℕ) → k < 16 → lines_of (bit_and n (65535 - 1 * 2 ^ k % 65536)) ≡ set (lines_of n) k false
 lines-lowered n k small =
-    lines_where-same _ (λ l. cond (eqb l k) false (is_bit n l)) (λ l h. is_bit-clear w16 n k l small h ∙ and-cond (eqb l k) (is_bit n l))
+    lines_where-same _ (λ l. cond (eqb l k) false (is_bit n l)) (λ l h. is_bit-clear w16 n k l small h
+    ∙ and-cond (eqb l k) (is_bit n l))
     ∙ sym (set-lines_where (is_bit n) k false small)
 
-pub lines-either : (a b l : ℕ) → l < 16 → get_or (lines_of (bit_or a b)) l false ≡ (get_or (lines_of a) l false || get_or (lines_of b) l false)
+pub lines-either : (a b l : ℕ) → l < 16 → get_or (lines_of (bit_or a b)) l false
+    ≡ (get_or (lines_of a) l false || get_or (lines_of b) l false)
 lines-either a b l small =
-    rw (has-lines_where (is_bit (bit_or a b)) l small, has-lines_where (is_bit a) l small, has-lines_where (is_bit b) l small) (is_bit-or a b l)
+    rw (
+      has-lines_where (is_bit (bit_or a b)) l small,
+      has-lines_where (is_bit a) l small,
+      has-lines_where (is_bit b) l small,
+    ) (is_bit-or a b l)
 
 pub lines-low : lines_of 0 ≡ replicate 16 false
 unfolding lines_where
@@ -104,7 +117,8 @@ high-lines n =
     cc
 
 -- the mask of two bytes
-pub lines_of_bytes : (low high : ℕ) → low < 256 → lines_of (low + 256 * high) ≡ levels_of_byte low ++ levels_of_byte high
+pub lines_of_bytes : (low high : ℕ) → low < 256 →
+    lines_of (low + 256 * high) ≡ levels_of_byte low ++ levels_of_byte high
 lines_of_bytes low high below =
     let n = low + 256 * high in
     let first : n % 256 ≡ low = omega (arith, below) in

@@ -1,14 +1,19 @@
 -- The state of the pair is spelled and read back.
-use Rattle.std.proofs.Common.{◌≡◌, ℕ, zero, suc, ◌+◌, ◌*◌, ◌/◌, ◌%◌, ◌^◌, ◌<◌, ◌≤◌, Bool, true, false, eqb, List, [], ◌∷◌, ◌++◌, length, take, drop, refl, sym, ap, subst, ◌∙◌, arith, if◌then◌else◌}
+use Rattle.std.proofs.Common.{◌≡◌, ℕ, zero, suc, ◌+◌, ◌*◌, ◌/◌, ◌%◌, ◌^◌, ◌<◌, ◌≤◌, Bool, true, false, eqb, List, []}
+use Rattle.std.proofs.Common.{◌∷◌, ◌++◌, length, take, drop, refl, sym, ap, subst, ◌∙◌, arith, if◌then◌else◌}
 use Rattle.std.proofs.Math.Nat.{pow-succ'}
-use Rattle.device_spec.proofs.Common.{take_at, drop_at, take-append-drop, length-take, length-drop, length-append, agree_below_at, eqb-true, get_or_past, is_bit, has, levels_where, levels_where-same, levels_where-has, levels_of_byte, byte_of_levels, Levels}
+use Rattle.device_spec.proofs.Common.{take_at, drop_at, take-append-drop, length-take, length-drop, length-append}
+use Rattle.device_spec.proofs.Common.{agree_below_at, eqb-true, get_or_past, is_bit, has, levels_where}
+use Rattle.device_spec.proofs.Common.{levels_where-same, levels_where-has, levels_of_byte, byte_of_levels, Levels}
 use Rattle.device_spec.specs.Pic.{Chip, Word}
 use Rattle.device_spec.specs.Pair.{Pair}
 use Rattle.byte_fields.proofs.Formats.{IsFormat, format_as, then_format, last_format}
 use Rattle.byte_fields.proofs.Numbers.{Any, byte_within, flag_format}
 use Rattle.pic_pair.specs.declared.state.Sets.{Sets}
 use Rattle.pic_pair.specs.declared.state.Modes.{Modes}
-use Rattle.pic_pair.specs.State.{awaited_byte, words_of, AreAwaited, sets_of, modes_of, AreSets, sets_bytes, modes_bytes, sets_fields, modes_fields, IsChip, chip_bytes, chip_fields, IsPair, pair_bytes, pair_fields, AreLines, lines_bytes, lines_fields}
+use Rattle.pic_pair.specs.State.{awaited_byte, words_of, AreAwaited, sets_of, modes_of, AreSets, sets_bytes}
+use Rattle.pic_pair.specs.State.{modes_bytes, sets_fields, modes_fields, IsChip, chip_bytes, chip_fields, IsPair}
+use Rattle.pic_pair.specs.State.{pair_bytes, pair_fields, AreLines, lines_bytes, lines_fields}
 use Rattle.std.specs.Int.{bit_at}
 use Rattle.std.proofs.lemmas.Nat.Bits.{bit_at_lowest, bit_at-suc, bit_at-zero}
 use Rattle.pic_levels.proofs.LevelLemmas.{byte-levels}
@@ -94,18 +99,44 @@ unfolding sets_fields
 sets_format =
     format_as 5 sets_bytes AreSets
     (then_format (λ (s : Sets). byte_of_levels s.masked) (byte_within 0 255 (omega arith)) (λ masked good_masked.
-    (then_format (λ (s : Sets). byte_of_levels s.in_service) (byte_within 0 255 (omega arith)) (λ in_service good_in_service.
+    (then_format (λ (s : Sets). byte_of_levels s.in_service) (byte_within 0 255 (omega arith))
+    (λ in_service good_in_service.
     (then_format (λ (s : Sets). byte_of_levels s.latches) (byte_within 0 255 (omega arith)) (λ latches good_latches.
     (then_format (λ (s : Sets). byte_of_levels s.inputs) (byte_within 0 255 (omega arith)) (λ inputs good_inputs.
-    (last_format (λ (s : Sets). byte_of_levels s.triggers) (λ triggers. record { masked = levels_of_byte masked; in_service = levels_of_byte in_service; latches = levels_of_byte latches; inputs = levels_of_byte inputs; triggers = levels_of_byte triggers })
+    (last_format (λ (s : Sets). byte_of_levels s.triggers)
+    (λ triggers. record {
+      masked = levels_of_byte masked;
+      in_service = levels_of_byte in_service;
+      latches = levels_of_byte latches;
+      inputs = levels_of_byte inputs;
+      triggers = levels_of_byte triggers;
+    })
     (byte_within 0 255 (omega arith)) (λ triggers good. byte_again triggers good.1)))
     (λ inputs s any good. ap (λ (s : Sets). byte_of_levels s.inputs) good.1 ∙ byte_again inputs any.1)))
     (λ latches s any good. ap (λ (s : Sets). byte_of_levels s.latches) good.1.1 ∙ byte_again latches any.1)))
     (λ in_service s any good. ap (λ (s : Sets). byte_of_levels s.in_service) good.1.1.1 ∙ byte_again in_service any.1)))
     (λ masked s any good. ap (λ (s : Sets). byte_of_levels s.masked) good.1.1.1.1 ∙ byte_again masked any.1))
     (omega arith)
-    (λ s is. ((omega arith, set_few s.masked is.masked), ((omega arith, set_few s.in_service is.in_service), ((omega arith, set_few s.latches is.latches), ((omega arith, set_few s.inputs is.inputs), ((omega arith, set_few s.triggers is.triggers), made_sets s is))))))
-    (λ s good. record { masked = set_eight s.masked _ (ap (λ (s : Sets). s.masked) good.1.1.1.1.1); in_service = set_eight s.in_service _ (ap (λ (s : Sets). s.in_service) good.1.1.1.1.1); latches = set_eight s.latches _ (ap (λ (s : Sets). s.latches) good.1.1.1.1.1); inputs = set_eight s.inputs _ (ap (λ (s : Sets). s.inputs) good.1.1.1.1.1); triggers = set_eight s.triggers _ (ap (λ (s : Sets). s.triggers) good.1.1.1.1.1) })
+    (λ s is. (
+      (omega arith, set_few s.masked is.masked),
+      (
+        (omega arith, set_few s.in_service is.in_service),
+        (
+          (omega arith, set_few s.latches is.latches),
+          (
+            (omega arith, set_few s.inputs is.inputs),
+            ((omega arith, set_few s.triggers is.triggers), made_sets s is),
+          ),
+        ),
+      ),
+    ))
+    (λ s good. record {
+      masked = set_eight s.masked _ (ap (λ (s : Sets). s.masked) good.1.1.1.1.1);
+      in_service = set_eight s.in_service _ (ap (λ (s : Sets). s.in_service) good.1.1.1.1.1);
+      latches = set_eight s.latches _ (ap (λ (s : Sets). s.latches) good.1.1.1.1.1);
+      inputs = set_eight s.inputs _ (ap (λ (s : Sets). s.inputs) good.1.1.1.1.1);
+      triggers = set_eight s.triggers _ (ap (λ (s : Sets). s.triggers) good.1.1.1.1.1);
+    })
     (λ s good. refl)
 
 modes_format : IsFormat 7 modes_fields modes_bytes Any
@@ -118,7 +149,16 @@ modes_format =
     (then_format (λ (m : Modes). m.rotates) flag_format (λ rotates good_rotates.
     (then_format (λ (m : Modes). m.special_mask) flag_format (λ special_mask good_special_mask.
     (then_format (λ (m : Modes). m.polls) flag_format (λ polls good_polls.
-    (last_format (λ (m : Modes). m.reads_in_service) (λ reads_in_service. record { is_ready = is_ready; auto_eoi = auto_eoi; fully_nested = fully_nested; rotates = rotates; special_mask = special_mask; polls = polls; reads_in_service = reads_in_service })
+    (last_format (λ (m : Modes). m.reads_in_service)
+    (λ reads_in_service. record {
+      is_ready = is_ready;
+      auto_eoi = auto_eoi;
+      fully_nested = fully_nested;
+      rotates = rotates;
+      special_mask = special_mask;
+      polls = polls;
+      reads_in_service = reads_in_service;
+    })
     flag_format (λ reads_in_service good. refl)))
     (λ polls m any good. ap (λ (m : Modes). m.polls) good.1)))
     (λ special_mask m any good. ap (λ (m : Modes). m.special_mask) good.1.1)))
@@ -173,7 +213,8 @@ same_chip : (has_slave : Bool) (c : Chip) → IsChip has_slave c →
     c ≡ made_chip has_slave c.base (sets_of c) (awaited_byte c.awaited) (modes_of c) c.lowest
 same_chip has_slave c is =
     ap (λ (b : Bool). record c { has_slave = b }) is.slave
-    ∙ ap (λ (words : List Word). record c { has_slave = has_slave; awaited = words }) (awaited_again c.awaited is.awaited)
+    ∙ ap (λ (words : List Word). record c { has_slave = has_slave; awaited = words })
+    (awaited_again c.awaited is.awaited)
 
 pub chip_format : (has_slave : Bool) → IsFormat 15 (chip_fields has_slave) chip_bytes (IsChip has_slave)
 unfolding chip_fields

@@ -1,5 +1,6 @@
 -- The state of the pair as bytes: the master's, and then the slave's. And that of the sixteen lines.
-use Rattle.std.specs.Prelude.{ℕ, ◌≡◌, ◌<◌, ◌≤◌, ◌+◌, ◌++◌, Bool, true, false, if◌then◌else◌, List, [], ◌∷◌, length, take, drop}
+use Rattle.std.specs.Prelude.{ℕ, ◌≡◌, ◌<◌, ◌≤◌, ◌+◌, ◌++◌, Bool, true, false, if◌then◌else◌, List, [], ◌∷◌, length}
+use Rattle.std.specs.Prelude.{take, drop}
 use Rattle.board_base.specs.Common.{w8, is_bit}
 use Rattle.byte_fields.specs.Fields.{Reading, gives, ◌>>=◌, within, flag_byte, flag_field}
 use Rattle.device_spec.specs.Levels.{levels_of_byte, byte_of_levels}
@@ -113,7 +114,8 @@ pub record IsChip (has_slave : Bool) (chip : Chip) : Type 0 where
 
 abbrev pub chip_bytes : Chip → List ℕ
 chip_bytes chip =
-    chip.base ∷ (sets_bytes (sets_of chip) ++ awaited_byte chip.awaited ∷ (modes_bytes (modes_of chip) ++ chip.lowest ∷ []))
+    chip.base ∷ (sets_bytes (sets_of chip) ++ awaited_byte chip.awaited
+    ∷ (modes_bytes (modes_of chip) ++ chip.lowest ∷ []))
 
 unfoldable pub chip_fields : (has_slave : Bool) → Reading Chip
 chip_fields has_slave = do

@@ -1,5 +1,6 @@
 //! The levels of the sixteen interrupt lines, as a bit mask.
-ghost use Rattle.std.specs.Prelude.{◌≡◌, ℕ, ◌+◌, ◌*◌, ◌<◌, ◌||◌, ◌++◌, length, replicate, take, drop, slice_index_or, slice_set, true, false};
+ghost use Rattle.std.specs.Prelude.{◌≡◌, ℕ, ◌+◌, ◌*◌, ◌<◌, ◌||◌, ◌++◌, length, replicate, take, drop, slice_index_or};
+ghost use Rattle.std.specs.Prelude.{slice_set, true, false};
 ghost use Rattle.device_spec.specs.Levels.{levels_of_byte};
 
 use board_base::bits::is_set;

@@ -4,7 +4,9 @@ ghost use Rattle.std.specs.Prelude.{◌≡◌, ◌++◌, ◌<◌, OnOk, IfOk};
 ghost use Rattle.byte_fields.specs.Fields.{Took};
 ghost use Rattle.byte_fields.specs.Loads.{Loads, OneSpelling};
 ghost use Rattle.pic_pair.specs.View.{awaited_words};
-ghost use Rattle.pic_pair.specs.State.{awaited_byte, words_of, sets_of, modes_of, sets_bytes, modes_bytes, sets_fields, modes_fields, IsChip, chip_bytes, chip_fields, IsPair, pair_bytes, pair_fields, AreLines, lines_bytes, lines_fields};
+ghost use Rattle.pic_pair.specs.State.{awaited_byte, words_of, sets_of, modes_of, sets_bytes, modes_bytes, sets_fields};
+ghost use Rattle.pic_pair.specs.State.{modes_fields, IsChip, chip_bytes, chip_fields, IsPair, pair_bytes, pair_fields};
+ghost use Rattle.pic_pair.specs.State.{AreLines, lines_bytes, lines_fields};
 
 use crate::chip::{Awaited, Pic};
 use crate::lines::Lines;

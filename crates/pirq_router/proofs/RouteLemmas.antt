@@ -1,6 +1,9 @@
 -- One pin more, and one line set.
-use Rattle.std.proofs.Common.{zero, suc, ◌≡◌, ℕ, ◌+◌, ◌<◌, Bool, true, false, eqb, ◌||◌, ◌&&◌, List, length, get_or, set, Option, Some, None, refl, sym, ap, ◌∙◌, add-one, get_or-set_same, get_or-set_other, inl, inr}
-use Rattle.board_prelude.proofs.Common.{or-false, cases_eq, eq-eqb, ne_eqb, Routes, drives, line_of_route, is_line_driven}
+use Rattle.std.proofs.Common.{zero, suc, ◌≡◌, ℕ, ◌+◌, ◌<◌, Bool, true, false, eqb, ◌||◌, ◌&&◌, List, length, get_or}
+use Rattle.std.proofs.Common.{set, Option, Some, None, refl, sym, ap, ◌∙◌, add-one, get_or-set_same, get_or-set_other}
+use Rattle.std.proofs.Common.{inl, inr}
+use Rattle.board_prelude.proofs.Common.{or-false, cases_eq, eq-eqb, ne_eqb, Routes, drives, line_of_route}
+use Rattle.board_prelude.proofs.Common.{is_line_driven}
 
 -- whether one of the first pins holds the line at 1
 unfoldable pub drives_among : ℕ → Routes → List Bool → ℕ → Bool
@@ -16,7 +19,8 @@ or_of_four false false false true = refl
 or_of_four false false false false = refl
 
 -- one of all four
-pub drives_among-all : (routes : Routes) (pins : List Bool) (line : ℕ) → drives_among 4 routes pins line ≡ is_line_driven routes pins line
+pub drives_among-all : (routes : Routes) (pins : List Bool) (line : ℕ) →
+    drives_among 4 routes pins line ≡ is_line_driven routes pins line
 unfolding drives_among is_line_driven
 drives_among-all routes pins line =
     let pin : ℕ → Bool = λ k. drives (line_of_route (get_or routes k 0)) (get_or pins k false) line in
@@ -28,7 +32,9 @@ unfolding drives_among
 drives_among-none routes pins line = refl
 
 -- the next pin adds the line that it is routed to
-pub drives_among-more : (k : ℕ) (routes : Routes) (pins : List Bool) (line : ℕ) → drives_among (k + 1) routes pins line ≡ (drives_among k routes pins line || drives (line_of_route (get_or routes k 0)) (get_or pins k false) line)
+pub drives_among-more : (k : ℕ) (routes : Routes) (pins : List Bool) (line : ℕ) →
+    drives_among (k + 1) routes pins line
+    ≡ (drives_among k routes pins line || drives (line_of_route (get_or routes k 0)) (get_or pins k false) line)
 unfolding drives_among
 drives_among-more k routes pins line = rw (add-one k) refl
 
@@ -45,9 +51,12 @@ or-true true = refl
 or-true false = refl
 
 -- and one at 1 the line that it is routed to
-pub line-raised : (lines : List Bool) (routed line : ℕ) → routed < length lines → get_or (set lines routed true) line false ≡ (get_or lines line false || (true && eqb routed line))
+pub line-raised : (lines : List Bool) (routed line : ℕ) → routed < length lines →
+    get_or (set lines routed true) line false ≡ (get_or lines line false || (true && eqb routed line))
 line-raised lines routed line h =
     elim (cases_eq line routed) [
-      | inl same ↦ rw (same, get_or-set_same lines routed true false h, eq-eqb routed routed refl) (or-true (get_or lines routed false))
-      | inr other ↦ rw (get_or-set_other lines routed line true false other, ne_eqb routed line (λ e. other (sym e))) (sym (or-false (get_or lines line false)))
+      | inl same ↦ rw (same, get_or-set_same lines routed true false h, eq-eqb routed routed refl)
+          (or-true (get_or lines routed false))
+      | inr other ↦ rw (get_or-set_other lines routed line true false other, ne_eqb routed line (λ e. other (sym e)))
+          (sym (or-false (get_or lines line false)))
     ]

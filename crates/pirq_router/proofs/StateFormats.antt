@@ -1,5 +1,5 @@
 -- The states of the registers are spelled and read back.
-use Rattle.std.proofs.Common.{◌≡◌, ℕ, ◌<◌, ◌≤◌, [], ◌∷◌, refl, sym, ap, arith}
+use Rattle.std.proofs.Common.{refl, ap, arith}
 use Rattle.device_spec.specs.Elcr.{Triggers}
 use Rattle.byte_fields.proofs.Formats.{IsFormat, format_as, then_format, last_format, plain_format}
 use Rattle.byte_fields.proofs.Numbers.{byte_within}

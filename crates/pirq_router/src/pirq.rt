@@ -3,8 +3,11 @@
 //! | offset | register           | reset    | writable | effect                                             |
 //! |--------|--------------------|----------|----------|----------------------------------------------------|
 //! | 60-63  | PIRQRCA to PIRQRCD | 80h each | 8F each  | bit 7 at 1: not routed; bits 3 to 0: to which line |
-ghost use Rattle.std.specs.Prelude.{◌≡◌, ℕ, ◌<◌, ◌-◌, if◌then◌else◌, replicate, IfSome, slice_index_or, ◌||◌, true, false};
-ghost use Rattle.board_prelude.specs.Common.{One, Store, Setup, reset_byte, changed_byte, Bytes, isa, pirq, route_byte, routes_after_write, route_reset, drives, is_line_driven, is_route_offset, line_of_route};
+ghost use Rattle.std.specs.Prelude.{◌≡◌, ℕ, ◌<◌, ◌-◌, if◌then◌else◌, replicate, IfSome, slice_index_or, ◌||◌, true};
+ghost use Rattle.std.specs.Prelude.{false};
+ghost use Rattle.board_prelude.specs.Common.{One, Store, Setup, reset_byte, changed_byte, Bytes, isa, pirq, route_byte};
+ghost use Rattle.board_prelude.specs.Common.{routes_after_write, route_reset, drives, is_line_driven, is_route_offset};
+ghost use Rattle.board_prelude.specs.Common.{line_of_route};
 ghost use Rattle.pirq_router.specs.Routes.{AreRoutesIn};
 
 use board_base::bits::{is_set, merged};

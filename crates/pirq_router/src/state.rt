@@ -3,7 +3,8 @@
 ghost use Rattle.std.specs.Prelude.{◌≡◌, ◌++◌, OnOk};
 ghost use Rattle.byte_fields.specs.Fields.{Took};
 ghost use Rattle.byte_fields.specs.Loads.{Loads, OneSpelling};
-ghost use Rattle.pirq_router.specs.State.{IsRoutes, routes_bytes, routes_fields, AreTriggers, triggers_bytes, triggers_fields};
+ghost use Rattle.pirq_router.specs.State.{IsRoutes, routes_bytes, routes_fields, AreTriggers, triggers_bytes};
+ghost use Rattle.pirq_router.specs.State.{triggers_fields};
 
 use crate::elcr::Elcr;
 use crate::pirq::Pirq;

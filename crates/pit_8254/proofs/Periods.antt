@@ -1,7 +1,10 @@
 -- Whole periods.
-use Rattle.std.proofs.Common.{◌≡◌, ℕ, zero, suc, ◌+◌, ◌-◌, ◌*◌, ◌/◌, ◌%◌, ◌<◌, ◌≤◌, Bool, true, false, Some, inl, inr, refl, sym, subst, arith}
+use Rattle.std.proofs.Common.{◌≡◌, ℕ, zero, suc, ◌+◌, ◌-◌, ◌*◌, ◌/◌, ◌%◌, ◌<◌, ◌≤◌, Bool, true, false, Some, inl, inr}
+use Rattle.std.proofs.Common.{refl, sym, subst, arith}
 use Rattle.std.proofs.Math.Nat.{suc-mul, zero-mul}
-use Rattle.device_spec.proofs.Common.{and-false, cases_lt, true≢false, Mode, TerminalCount, OneShot, RateGenerator, SquareWave, SoftwareStrobe, HardwareStrobe, CounterState, is_periodic, pulse, pulses_of, IsAtLoad, rate_repeats, square_repeats}
+use Rattle.device_spec.proofs.Common.{and-false, cases_lt, true≢false, Mode, TerminalCount, OneShot, RateGenerator}
+use Rattle.device_spec.proofs.Common.{SquareWave, SoftwareStrobe, HardwareStrobe, CounterState, is_periodic, pulse}
+use Rattle.device_spec.proofs.Common.{pulses_of, IsAtLoad, rate_repeats, square_repeats}
 use Rattle.pit_8254.specs.Common.{rises_of, IsPart, IsAtPeriod, IsFirstRise}
 use Rattle.pit_8254.specs.declared.counting.running.Run.{Run}
 use Rattle.pit_8254.proofs.Runs.{pulses_of-add, rises_of-add}
@@ -18,7 +21,11 @@ none_yet : (gate : Bool) (n a : ℕ) (c : CounterState) → IsPeriod gate n a c 
 unfolding rises_of pulses_of
 none_yet gate n a c is zero h = refl
 none_yet gate n a c is (suc k) h = elim (cases_lt (suc k) a) [
-  | inl still ↦ rw (none_yet gate n a c is k (omega arith), is.high k (omega arith), and-false (pulse gate (pulses_of gate k c)).out) refl
+  | inl still ↦ rw (
+    none_yet gate n a c is k (omega arith),
+    is.high k (omega arith),
+    and-false (pulse gate (pulses_of gate k c)).out,
+  ) refl
   | inr past ↦ rw (none_yet gate n a c is k (omega arith), is.low (suc k) past h) refl
 ]
 
@@ -48,7 +55,8 @@ to_period gate a c is =
           (one_rise gate (c.in_use - 1) a c (subst (λ (m : ℕ). IsPeriod gate m a c) more is));
     }
 
-one_period : (mode : Mode) (c : CounterState) → is_periodic mode ≡ true → 2 ≤ c.in_use → IsAtLoad mode c.in_use true c → Period true c
+one_period : (mode : Mode) (c : CounterState) → is_periodic mode ≡ true → 2 ≤ c.in_use →
+    IsAtLoad mode c.in_use true c → Period true c
 one_period RateGenerator c periodic least load =
     let has = rate_repeats c.in_use c least load in
     to_period true (c.in_use - 1) c (record {
@@ -95,11 +103,18 @@ many gate (suc m) c is =
     let before = many gate m c is in
     record {
       again = rw (suc-mul m c.in_use, pulses_of-add gate (m * c.in_use) c.in_use c, before.again) is.again;
-      rose = rw (suc-mul m c.in_use, rises_of-add gate (m * c.in_use) c.in_use c, before.again, before.rose, is.once) (omega arith);
+      rose = rw (
+        suc-mul m c.in_use,
+        rises_of-add gate (m * c.in_use) c.in_use c,
+        before.again,
+        before.rose,
+        is.once,
+      ) (omega arith);
     }
 
 pub part_periods : (gate : Bool) (c : CounterState) (before after : Run) → IsAtPeriod gate c →
-    after.left ≡ before.left % c.in_use → after.rose ≡ before.rose + before.left / c.in_use → IsPart gate c c before after
+    after.left ≡ before.left % c.in_use → after.rose ≡ before.rose + before.left / c.in_use →
+    IsPart gate c c before after
 part_periods gate c before after is left rose =
     let least = is.least in
     let many_of = many gate (before.left / c.in_use) c (its_period gate c is) in

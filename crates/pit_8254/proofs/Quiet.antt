@@ -1,7 +1,13 @@
 -- Quiet pulses change nothing but CE, and come as often as they are told.
-use Rattle.std.proofs.Common.{◌≡◌, ℕ, zero, suc, ◌+◌, ◌-◌, ◌*◌, ◌/◌, ◌%◌, ◌<◌, ◌≤◌, ◌==◌, ◌&&◌, ◌||◌, not, Bool, true, false, cond, inl, inr, refl, ap, sym, subst, ◌∙◌, arith, nat_lt}
-use Rattle.device_spec.proofs.Common.{and-false, cases_Bool, cases_lt, or_parts, not-false, true≢false, nat_tests, Mode, TerminalCount, OneShot, RateGenerator, SquareWave, SoftwareStrobe, HardwareStrobe, Notation, Binary, Decimal, modulus, half_end, CounterState, count_down, count_to_end, count_to_reload, count_half, count_to_strobe, pulse_by_mode, pulse, pulses_of}
-use Rattle.pit_8254.specs.Quiet.{IsQuiet, rise, rises_of, is_due, counts, every_pulse, pulses_in_half, counted_quietly, quiet_pulses, lowered, element_after, after_quiet}
+use Rattle.std.proofs.Common.{◌≡◌, ℕ, zero, suc, ◌+◌, ◌-◌, ◌*◌, ◌/◌, ◌%◌, ◌<◌, ◌≤◌, ◌==◌, ◌&&◌, ◌||◌, not, Bool, true}
+use Rattle.std.proofs.Common.{false, cond, inl, inr, refl, ap, sym, subst, ◌∙◌, arith, nat_lt}
+use Rattle.device_spec.proofs.Common.{and-false, cases_Bool, cases_lt, or_parts, not-false, true≢false, nat_tests, Mode}
+use Rattle.device_spec.proofs.Common.{TerminalCount, OneShot, RateGenerator, SquareWave, SoftwareStrobe, HardwareStrobe}
+use Rattle.device_spec.proofs.Common.{Notation, Binary, Decimal, modulus, half_end, CounterState, count_down}
+use Rattle.device_spec.proofs.Common.{count_to_end, count_to_reload, count_half, count_to_strobe, pulse_by_mode, pulse}
+use Rattle.device_spec.proofs.Common.{pulses_of}
+use Rattle.pit_8254.specs.Quiet.{IsQuiet, rise, rises_of, is_due, counts, every_pulse, pulses_in_half, counted_quietly}
+use Rattle.pit_8254.specs.Quiet.{quiet_pulses, lowered, element_after, after_quiet}
 
 pub same_cond : (A : Type 0) (b : Bool) (x : A) → cond b x x ≡ x
 same_cond A true x = refl
@@ -26,10 +32,12 @@ counted SquareWave c = count_half c
 counted SoftwareStrobe c = count_to_strobe c
 counted HardwareStrobe c = count_to_strobe c
 
-pub settled_pulse : (mode : Mode) (gate : Bool) (c : CounterState) (e : ℕ) → c.mode ≡ mode → c.trigger ≡ false → is_due mode c ≡ false →
+pub settled_pulse : (mode : Mode) (gate : Bool) (c : CounterState) (e : ℕ) → c.mode ≡ mode → c.trigger ≡ false →
+    is_due mode c ≡ false →
     pulse gate (with_element c e) ≡ cond (counts mode gate c) (counted mode (with_element c e)) (with_element c e)
 unfolding pulse pulse_by_mode
-settled_pulse TerminalCount gate c e m t h = rw (m, t) (terminal CounterState c.stopped c.load_asked (c.started && gate) _ _ _ h)
+settled_pulse TerminalCount gate c e m t h = rw (m, t)
+    (terminal CounterState c.stopped c.load_asked (c.started && gate) _ _ _ h)
 settled_pulse OneShot gate c e m t h = rw (m, t) refl
 settled_pulse RateGenerator gate c e m t h = rw (m, t, h) refl
 settled_pulse SquareWave gate c e m t h = rw (m, t, h) refl
@@ -52,19 +60,23 @@ lowered_few notation k e h =
     let test : nat_lt e k ≡ false = grind (arith, nat_tests) in
     rw test refl
 
-pub end_out : (c : CounterState) (e : ℕ) → c.out ≡ true → count_to_end (with_element c e) ≡ with_element c (low c.notation e)
+pub end_out : (c : CounterState) (e : ℕ) → c.out ≡ true →
+    count_to_end (with_element c e) ≡ with_element c (low c.notation e)
 unfolding count_to_end count_down
 end_out c e h = rw h (same_cond CounterState _ _)
 
-end_early : (c : CounterState) (e : ℕ) → (low c.notation e == 0) ≡ false → count_to_end (with_element c e) ≡ with_element c (low c.notation e)
+end_early : (c : CounterState) (e : ℕ) → (low c.notation e == 0) ≡ false →
+    count_to_end (with_element c e) ≡ with_element c (low c.notation e)
 unfolding count_to_end count_down
 end_early c e h = rw h refl
 
-pub strobe_past : (c : CounterState) (e : ℕ) → c.expired ≡ true → count_to_strobe (with_element c e) ≡ with_element c (low c.notation e)
+pub strobe_past : (c : CounterState) (e : ℕ) → c.expired ≡ true →
+    count_to_strobe (with_element c e) ≡ with_element c (low c.notation e)
 unfolding count_to_strobe count_down
 strobe_past c e h = rw (h, and-false (low c.notation e == 0)) refl
 
-strobe_early : (c : CounterState) (e : ℕ) → (low c.notation e == 0) ≡ false → count_to_strobe (with_element c e) ≡ with_element c (low c.notation e)
+strobe_early : (c : CounterState) (e : ℕ) → (low c.notation e == 0) ≡ false →
+    count_to_strobe (with_element c e) ≡ with_element c (low c.notation e)
 unfolding count_to_strobe count_down
 strobe_early c e h = rw h refl
 
@@ -76,7 +88,8 @@ reload_counts c e h =
     let next_not : (e - 1 == 1) ≡ false = grind (arith, nat_tests) in
     rw (one_not, zero_not, next_not) refl
 
-pub half_counts : (c : CounterState) (e : ℕ) → (e == half_end c) ≡ false → count_half (with_element c e) ≡ with_element c (e - 2)
+pub half_counts : (c : CounterState) (e : ℕ) → (e == half_end c) ≡ false →
+    count_half (with_element c e) ≡ with_element c (e - 2)
 unfolding count_half
 half_counts c e h = rw h refl
 
@@ -115,32 +128,39 @@ before_half false e j h = before_two e j h
 
 -- ---- one quiet pulse of a counter that counts
 
-pub lowers : (c : CounterState) (j : ℕ) (d : CounterState) → d ≡ with_element c (low c.notation (lowered c.notation j c.element)) →
+pub lowers : (c : CounterState) (j : ℕ) (d : CounterState) →
+    d ≡ with_element c (low c.notation (lowered c.notation j c.element)) →
     d ≡ with_element c (lowered c.notation (suc j) c.element)
 lowers c j d is = is ∙ ap (with_element c) (lowered_more c.notation j c.element)
 
 not_last : (notation : Notation) (e j : ℕ) → j < e - 1 → (low notation (lowered notation j e) == 0) ≡ false
 not_last notation e j h =
-    let is : low notation (lowered notation j e) ≡ e - suc j = lowered_more notation j e ∙ lowered_few notation (suc j) e (omega arith) in
+    let is : low notation (lowered notation j e) ≡ e - suc j = lowered_more notation j e
+    ∙ lowered_few notation (suc j) e (omega arith) in
     let more : 0 < e - suc j = omega arith in
     rw is (grind (arith, nat_tests))
 
 step_end : (c : CounterState) (j : ℕ) → j < cond c.out every_pulse (c.element - 1) →
-    count_to_end (with_element c (lowered c.notation j c.element)) ≡ with_element c (lowered c.notation (suc j) c.element)
+    count_to_end (with_element c (lowered c.notation j c.element))
+    ≡ with_element c (lowered c.notation (suc j) c.element)
 step_end c j h = lowers c j _ (elim (cases_Bool c.out) [
   | inl out ↦ end_out c _ out
-  | inr low_out ↦ let sooner : j < c.element - 1 = rw low_out at h in end_early c _ (not_last c.notation c.element j sooner)
+  | inr low_out ↦ let sooner : j < c.element - 1 = rw low_out at h in
+      end_early c _ (not_last c.notation c.element j sooner)
 ])
 
 step_strobe : (c : CounterState) (j : ℕ) → j < cond c.expired every_pulse (c.element - 1) →
-    count_to_strobe (with_element c (lowered c.notation j c.element)) ≡ with_element c (lowered c.notation (suc j) c.element)
+    count_to_strobe (with_element c (lowered c.notation j c.element))
+    ≡ with_element c (lowered c.notation (suc j) c.element)
 step_strobe c j h = lowers c j _ (elim (cases_Bool c.expired) [
   | inl past ↦ strobe_past c _ past
-  | inr still ↦ let sooner : j < c.element - 1 = rw still at h in strobe_early c _ (not_last c.notation c.element j sooner)
+  | inr still ↦ let sooner : j < c.element - 1 = rw still at h in
+      strobe_early c _ (not_last c.notation c.element j sooner)
 ])
 
 step_rate : (c : CounterState) (j : ℕ) → j < c.element - 2 →
-    count_to_reload (with_element c (lowered c.notation j c.element)) ≡ with_element c (lowered c.notation (suc j) c.element)
+    count_to_reload (with_element c (lowered c.notation j c.element))
+    ≡ with_element c (lowered c.notation (suc j) c.element)
 step_rate c j h =
     rw (lowered_few c.notation j c.element (omega arith), lowered_few c.notation (suc j) c.element (omega arith))
     (reload_counts c (c.element - j) (omega arith) ∙ ap (with_element c) (omega arith))
@@ -148,10 +168,12 @@ step_rate c j h =
 step_half : (c : CounterState) (j : ℕ) → j < pulses_in_half (half_end c) c.element →
     count_half (with_element c (c.element - 2 * j)) ≡ with_element c (c.element - 2 * suc j)
 step_half c j h =
-    half_counts c (c.element - 2 * j) (before_half (c.out && c.in_use % 2 == 1) c.element j h) ∙ ap (with_element c) (omega arith)
+    half_counts c (c.element - 2 * j) (before_half (c.out && c.in_use % 2 == 1) c.element j h)
+    ∙ ap (with_element c) (omega arith)
 
 quiet_step : (mode : Mode) (c : CounterState) (j : ℕ) → j < counted_quietly mode c →
-    counted mode (with_element c (element_after mode c.notation j c.element)) ≡ with_element c (element_after mode c.notation (suc j) c.element)
+    counted mode (with_element c (element_after mode c.notation j c.element))
+    ≡ with_element c (element_after mode c.notation (suc j) c.element)
 quiet_step TerminalCount c j h = step_end c j h
 quiet_step OneShot c j h = step_end c j h
 quiet_step RateGenerator c j h = step_rate c j h
@@ -191,13 +213,15 @@ first_element_after SoftwareStrobe notation e = lowered_few notation 0 e (omega 
 first_element_after HardwareStrobe notation e = lowered_few notation 0 e (omega arith) ∙ omega arith
 
 -- the first pulses are quiet, as many as `quiet_pulses` counts
-pub quietly : (gate : Bool) (c : CounterState) (n : ℕ) → n ≤ quiet_pulses gate c → Quietly gate n c (after_quiet gate n c)
+pub quietly : (gate : Bool) (c : CounterState) (n : ℕ) → n ≤ quiet_pulses gate c →
+    Quietly gate n c (after_quiet gate n c)
 unfolding quiet_pulses after_quiet
 quietly gate c n h = elim (cases_Bool (c.trigger || is_due c.mode c)) [
   | inl due ↦
       let none : n ≤ 0 = rw due at h in
       elim (cases_Bool (counts c.mode gate c)) [
-        | inl on ↦ rw on (runs_quiet gate c (λ j. element_after c.mode c.notation j c.element) 0 (first_element_after c.mode c.notation c.element) (λ j few. absurd (omega arith)) n none)
+        | inl on ↦ rw on (runs_quiet gate c (λ j. element_after c.mode c.notation j c.element) 0
+            (first_element_after c.mode c.notation c.element) (λ j few. absurd (omega arith)) n none)
         | inr off ↦ rw off (runs_quiet gate c (λ j. c.element) 0 refl (λ j few. absurd (omega arith)) n none)
       ]
   | inr free ↦
@@ -205,21 +229,27 @@ quietly gate c n h = elim (cases_Bool (c.trigger || is_due c.mode c)) [
       elim (cases_Bool (counts c.mode gate c)) [
         | inl on ↦
             let few : n ≤ counted_quietly c.mode c = rw (free, on) at h in
-            rw on (runs_quiet gate c (λ j. element_after c.mode c.notation j c.element) (counted_quietly c.mode c) (first_element_after c.mode c.notation c.element)
-            (λ j sooner. (rw on at (settled_pulse c.mode gate c (element_after c.mode c.notation j c.element) refl both.0 both.1)) ∙ quiet_step c.mode c j sooner) n few)
+            rw on (runs_quiet gate c (λ j. element_after c.mode c.notation j c.element) (counted_quietly c.mode c)
+            (first_element_after c.mode c.notation c.element)
+            (λ j sooner.
+            (rw on at (settled_pulse c.mode gate c (element_after c.mode c.notation j c.element) refl both.0
+            both.1)) ∙ quiet_step c.mode c j sooner) n few)
         | inr off ↦
-            rw off (runs_quiet gate c (λ j. c.element) n refl (λ j sooner. rw off at (settled_pulse c.mode gate c c.element refl both.0 both.1)) n (omega arith))
+            rw off (runs_quiet gate c (λ j. c.element) n refl
+            (λ j sooner. rw off at (settled_pulse c.mode gate c c.element refl both.0 both.1)) n (omega arith))
       ]
 ]
 
-pulses_quietly : (gate : Bool) (c : CounterState) (k : ℕ) → k < quiet_pulses gate c → pulse gate (after_quiet gate k c) ≡ after_quiet gate (suc k) c
+pulses_quietly : (gate : Bool) (c : CounterState) (k : ℕ) → k < quiet_pulses gate c →
+    pulse gate (after_quiet gate k c) ≡ after_quiet gate (suc k) c
 unfolding pulses_of
 pulses_quietly gate c k h =
     let here = (quietly gate c k (omega arith)).state in
     let next = (quietly gate c (suc k) (omega arith)).state in
     ap (pulse gate) (sym here) ∙ next
 
-next_element : (gate : Bool) (c : CounterState) (k : ℕ) → (e : ℕ) × (after_quiet gate (suc k) c ≡ record (after_quiet gate k c) { element = e })
+next_element : (gate : Bool) (c : CounterState) (k : ℕ) →
+    (e : ℕ) × (after_quiet gate (suc k) c ≡ record (after_quiet gate k c) { element = e })
 unfolding after_quiet
 next_element gate c k = elim (cases_Bool (counts c.mode gate c)) [
   | inl on ↦ rw on (element_after c.mode c.notation (suc k) c.element, refl)

@@ -1,11 +1,20 @@
 -- The state of the timer is spelled and read back.
-use Rattle.std.proofs.Common.{◌≡◌, ℕ, zero, suc, ◌^◌, ◌<◌, ◌≤◌, Bool, true, false, List, [], ◌∷◌, length, take, get_or, Option, Some, None, is_some, refl, ap, ◌∙◌, arith, nat_lt}
-use Rattle.device_spec.specs.Pit.{Mode, TerminalCount, OneShot, RateGenerator, SquareWave, SoftwareStrobe, HardwareStrobe, Access, LowByte, HighByte, LowThenHigh, Notation, Binary, Decimal, CounterState, PitState, mode_number, mode_numbered, access_number, notation_number, notation_of_bit, bcd_bit}
+use Rattle.std.proofs.Common.{◌≡◌, ℕ, zero, suc, ◌^◌, ◌<◌, ◌≤◌, Bool, true, false, List, [], ◌∷◌, length, take, get_or}
+use Rattle.std.proofs.Common.{Option, Some, None, is_some, refl, ap, ◌∙◌, arith, nat_lt}
+use Rattle.device_spec.specs.Pit.{Mode, TerminalCount, OneShot, RateGenerator, SquareWave, SoftwareStrobe}
+use Rattle.device_spec.specs.Pit.{HardwareStrobe, Access, LowByte, HighByte, LowThenHigh, Notation, Binary, Decimal}
+use Rattle.device_spec.specs.Pit.{CounterState, PitState, mode_number, mode_numbered, access_number, notation_number}
+use Rattle.device_spec.specs.Pit.{notation_of_bit, bcd_bit}
 use Rattle.byte_fields.specs.Fields.{bound_where, flag_byte, IsWithin}
 use Rattle.byte_fields.proofs.Formats.{IsFormat, format_as, then_format, last_format}
-use Rattle.byte_fields.proofs.Numbers.{Any, Ranges, byte_within, within_format, wide32, flag_format, flag_where_format, optional_format}
+use Rattle.byte_fields.proofs.Numbers.{Any, Ranges, byte_within, within_format, wide32, flag_format, flag_where_format}
+use Rattle.byte_fields.proofs.Numbers.{optional_format}
 use Rattle.pit_8254.specs.Quiet.{HasCount, IsBounded, IsFew, least_count, most_count}
-use Rattle.pit_8254.specs.State.{Word, Counts, Latches, Flags, access_of, word_bytes, word_fields, counts_bytes, counts_fields, AreCounts, IsLatch, latch_bytes, latch_fields, AreLatches, latches_bytes, latches_fields, AreFlags, flags_bytes, flags_fields, word_of, counts_of, latches_of, flags_of, IsCounter, counter_bytes, counter_fields, IsPit, pit_bytes, pit_fields}
+use Rattle.pit_8254.specs.State.{Word, Counts, Latches, Flags, access_of, word_bytes, word_fields, counts_bytes}
+use Rattle.pit_8254.specs.State.{counts_fields, AreCounts, IsLatch, latch_bytes, latch_fields, AreLatches}
+use Rattle.pit_8254.specs.State.{latches_bytes, latches_fields, AreFlags, flags_bytes, flags_fields, word_of, counts_of}
+use Rattle.pit_8254.specs.State.{latches_of, flags_of, IsCounter, counter_bytes, counter_fields, IsPit, pit_bytes}
+use Rattle.pit_8254.specs.State.{pit_fields}
 
 -- ---- the word
 

@@ -1,6 +1,7 @@
 -- A run of pulses of one counter, part by part.
 use Rattle.std.specs.Prelude.{◌≡◌, ◌+◌, ◌-◌, ◌<◌, ◌≤◌, Bool, true, false}
-use Rattle.device_spec.specs.Common.{Mode, TerminalCount, OneShot, RateGenerator, SquareWave, SoftwareStrobe, HardwareStrobe, CounterState, is_periodic, pulses_of, IsAtLoad}
+use Rattle.device_spec.specs.Common.{Mode, TerminalCount, OneShot, RateGenerator, SquareWave, SoftwareStrobe}
+use Rattle.device_spec.specs.Common.{HardwareStrobe, CounterState, is_periodic, pulses_of, IsAtLoad}
 use Rattle.pit_8254.specs.Quiet.{HasCount, rises_of, is_due, counts}
 use Rattle.pit_8254.specs.declared.counting.running.Run.{Run}
 

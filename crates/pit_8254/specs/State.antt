@@ -1,8 +1,11 @@
 -- The state of the timer as bytes: counters 0 to 2, 31 bytes each, and the gate of counter 2.
-use Rattle.std.specs.Prelude.{ℕ, ◌<◌, ◌≤◌, ◌==◌, ◌++◌, Bool, if◌then◌else◌, nat_lt, List, [], ◌∷◌, length, take, get_or, Option, is_some, unwrap_or}
+use Rattle.std.specs.Prelude.{ℕ, ◌<◌, ◌≤◌, ◌==◌, ◌++◌, Bool, if◌then◌else◌, nat_lt, List, [], ◌∷◌, length, take, get_or}
+use Rattle.std.specs.Prelude.{Option, is_some, unwrap_or}
 use Rattle.board_base.specs.Common.{w8, w32, to_le_bytes}
-use Rattle.byte_fields.specs.Fields.{Reading, gives, ◌>>=◌, within, flag_byte, flag_field, flag_where, optional, bound_where, IsWithin}
-use Rattle.device_spec.specs.Pit.{Mode, Access, LowByte, HighByte, LowThenHigh, Notation, CounterState, PitState, mode_number, mode_numbered, access_number, notation_number, notation_of_bit, bcd_bit}
+use Rattle.byte_fields.specs.Fields.{Reading, gives, ◌>>=◌, within, flag_byte, flag_field, flag_where, optional}
+use Rattle.byte_fields.specs.Fields.{bound_where, IsWithin}
+use Rattle.device_spec.specs.Pit.{Mode, Access, LowByte, HighByte, LowThenHigh, Notation, CounterState, PitState}
+use Rattle.device_spec.specs.Pit.{mode_number, mode_numbered, access_number, notation_number, notation_of_bit, bcd_bit}
 use Rattle.pit_8254.specs.View.{mode_view, access_view, notation_view, latch_view}
 use Rattle.pit_8254.specs.declared.state.Word.{Word as WordRead}
 use Rattle.pit_8254.specs.declared.state.Counts.{Counts as CountsRead}
@@ -114,7 +117,8 @@ pub record Flags : Type 0 where
 
 abbrev pub flags_bytes : Flags → List ℕ
 flags_bytes flags =
-    flag_byte flags.null_count ∷ flag_byte flags.out ∷ flag_byte flags.load_asked ∷ flag_byte flags.started ∷ flag_byte flags.stopped
+    flag_byte flags.null_count ∷ flag_byte flags.out ∷ flag_byte flags.load_asked ∷ flag_byte flags.started
+    ∷ flag_byte flags.stopped
     ∷ flag_byte flags.expired ∷ flag_byte flags.trigger ∷ []
 
 unfoldable pub flags_fields : (has_count : Bool) → Reading Flags

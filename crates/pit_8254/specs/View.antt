@@ -1,6 +1,7 @@
 -- Which words of the machine the crate's enums stand for.
 use Rattle.std.specs.Prelude.{List, [], ◌∷◌, ℕ}
-use Rattle.device_spec.specs.Pit.{Mode, TerminalCount, OneShot, RateGenerator, SquareWave, SoftwareStrobe, HardwareStrobe, Access, LowByte, HighByte, LowThenHigh, Notation, Binary, Decimal}
+use Rattle.device_spec.specs.Pit.{Mode, TerminalCount, OneShot, RateGenerator, SquareWave, SoftwareStrobe}
+use Rattle.device_spec.specs.Pit.{HardwareStrobe, Access, LowByte, HighByte, LowThenHigh, Notation, Binary, Decimal}
 use Rattle.pit_8254.specs.declared.word.CountingMode.{CountingMode}
 use Rattle.pit_8254.specs.declared.word.CountingMode.TheVariants as modes
 use Rattle.pit_8254.specs.declared.word.ByteAccess.{ByteAccess}

@@ -1,6 +1,8 @@
 //! One counter: what a control word, a read, a write and the gate do to it.
 ghost use Rattle.std.specs.Prelude.{◌≡◌, ◌≤◌, Some};
-ghost use Rattle.device_spec.specs.Pit.{programmed, reset_counter, element_bytes, status_byte, latch_count, latch_status, control, read_back, read_live, read, count_of_bytes, complete, take_low, take_byte, write, gate_rises, gate_falls};
+ghost use Rattle.device_spec.specs.Pit.{programmed, reset_counter, element_bytes, status_byte, latch_count};
+ghost use Rattle.device_spec.specs.Pit.{latch_status, control, read_back, read_live, read, count_of_bytes, complete};
+ghost use Rattle.device_spec.specs.Pit.{take_low, take_byte, write, gate_rises, gate_falls};
 ghost use Rattle.pit_8254.specs.View.{mode_view, access_view, notation_view, latch_view};
 ghost use Rattle.pit_8254.specs.Quiet.{least_count};
 

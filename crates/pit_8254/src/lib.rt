@@ -13,7 +13,8 @@
 #![tactic(auto)]
 
 ghost use Rattle.std.specs.Prelude.{◌≡◌, ◌+◌, ◌*◌, ◌<◌, ◌≤◌, IfSome};
-ghost use Rattle.device_spec.specs.Pit.{IsTimerPort, reset, port_read, port_write, read_back_chosen, write_control, set_gate2, out_of, pulses, rises};
+ghost use Rattle.device_spec.specs.Pit.{IsTimerPort, reset, port_read, port_write, read_back_chosen, write_control};
+ghost use Rattle.device_spec.specs.Pit.{set_gate2, out_of, pulses, rises};
 ghost use Rattle.pit_8254.specs.Quiet.{most_count};
 ghost use Rattle.pit_8254.specs.NextRise.{IsNextRise};
 

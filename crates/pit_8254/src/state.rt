@@ -5,7 +5,11 @@ ghost use Rattle.byte_fields.specs.Fields.{Took, IsWithin};
 ghost use Rattle.byte_fields.specs.Loads.{Loads, OneSpelling};
 ghost use Rattle.pit_8254.specs.Quiet.{least_count};
 ghost use Rattle.pit_8254.specs.View.{mode_view, access_view, notation_view, latch_view};
-ghost use Rattle.pit_8254.specs.State.{AreCounts, AreFlags, word_bytes, word_of, word_fields, access_of, counts_bytes, counts_of, counts_fields, latch_bytes, latch_fields, IsLatch, latches_bytes, latches_of, latches_fields, flags_bytes, flags_of, flags_fields, word_view, counts_view, latches_view, flags_view, IsCounter, counter_bytes, counter_fields, IsPit, pit_bytes, pit_fields};
+ghost use Rattle.pit_8254.specs.State.{AreCounts, AreFlags, word_bytes, word_of, word_fields, access_of, counts_bytes};
+ghost use Rattle.pit_8254.specs.State.{counts_of, counts_fields, latch_bytes, latch_fields, IsLatch, latches_bytes};
+ghost use Rattle.pit_8254.specs.State.{latches_of, latches_fields, flags_bytes, flags_of, flags_fields, word_view};
+ghost use Rattle.pit_8254.specs.State.{counts_view, latches_view, flags_view, IsCounter, counter_bytes, counter_fields};
+ghost use Rattle.pit_8254.specs.State.{IsPit, pit_bytes, pit_fields};
 
 use crate::Pit;
 use crate::counting::Counter;
@@ -313,8 +317,8 @@ impl Pit {
         push_flag(into, self.gate2)
     }
 
-    /// The timer whose state is at the front of the bytes. Refused where a field is not whole or out of range: the bytes
-    /// left then begin with the first such field.
+    /// The timer whose state is at the front of the bytes. Refused where a field is not whole or out of range: the
+    /// bytes left then begin with the first such field.
     pub fn load_state(fields: &mut Fields) -> Result<Pit, Bad>
         ensures loaded { Loads pit_fields pit_bytes IsPit fields.old fields.new result }
     {

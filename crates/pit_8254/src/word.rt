@@ -1,6 +1,9 @@
 //! The fields of a control word: the mode, the bytes that are read and written, and the notation.
 ghost use Rattle.std.specs.Prelude.{◌≡◌, ◌<◌, ◌≤◌, ◌%◌, ◌/◌, ◌+◌, ◌*◌, option_map};
-ghost use Rattle.device_spec.specs.Pit.{mode_numbered, mode_number, is_periodic, first_element, is_terminal_count, is_triggered_by_gate, asks_for_load, access_numbered, access_number, notation_of_bit, notation_number, rw_field, mode_field, bcd_bit, byte_values, modulus, byte_value, byte_of_value, low_byte, high_byte};
+ghost use Rattle.device_spec.specs.Pit.{mode_numbered, mode_number, is_periodic, first_element, is_terminal_count};
+ghost use Rattle.device_spec.specs.Pit.{is_triggered_by_gate, asks_for_load, access_numbered, access_number};
+ghost use Rattle.device_spec.specs.Pit.{notation_of_bit, notation_number, rw_field, mode_field, bcd_bit, byte_values};
+ghost use Rattle.device_spec.specs.Pit.{modulus, byte_value, byte_of_value, low_byte, high_byte};
 ghost use Rattle.pit_8254.specs.View.{mode_view, access_view, notation_view};
 
 use board_base::bits::is_set;

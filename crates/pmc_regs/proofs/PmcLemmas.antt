@@ -1,8 +1,12 @@
 -- Stores of one byte to the registers of the host bridge.
-use Rattle.std.proofs.Common.{◌≡◌, ◌≢◌, ℕ, ◌+◌, ◌<◌, ◌⊎◌, List, [], ◌∷◌, length, set, false, None, ◌∙◌, refl, sym, ap, subst, arith, inl, inr, get_or-set_other, get_or-set_same, slice_index}
-use Rattle.board_prelude.proofs.Common.{cases_lt, cases_eq, ne_eqb, One, Store, Setup, merged, reset_byte, writable_bits, changed_byte, Bytes, bridge, fdhc, smram, is_same, merged-all, merged-none, changed_byte-one_same, changed_byte-one_other}
+use Rattle.std.proofs.Common.{◌≡◌, ◌≢◌, ℕ, ◌+◌, ◌<◌, ◌⊎◌, List, [], length, set, false, None, ◌∙◌, refl, sym, ap, subst}
+use Rattle.std.proofs.Common.{arith, inl, inr, get_or-set_other, get_or-set_same, slice_index}
+use Rattle.board_prelude.proofs.Common.{cases_lt, cases_eq, ne_eqb, One, Store, Setup, merged, reset_byte}
+use Rattle.board_prelude.proofs.Common.{writable_bits, changed_byte, Bytes, bridge, fdhc, smram, is_same, merged-all}
+use Rattle.board_prelude.proofs.Common.{merged-none, changed_byte-one_same, changed_byte-one_other}
 use Rattle.pmc_regs.specs.Pmc.{PmcBytes, IsFixedOffset, IsRowsOf, IsPmcOf}
-use Rattle.pmc_regs.proofs.TableLemmas.{header_byte, row_bytes, rows_are, writable_bits-row, reset_byte-header, reset_byte-blank, writable_bits-fixed}
+use Rattle.pmc_regs.proofs.TableLemmas.{header_byte, row_bytes, rows_are, writable_bits-row, reset_byte-header}
+use Rattle.pmc_regs.proofs.TableLemmas.{reset_byte-blank, writable_bits-fixed}
 
 -- ---- after a reset
 

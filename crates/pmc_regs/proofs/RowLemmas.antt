@@ -1,6 +1,9 @@
 -- The rows of DRAM in the list of their boundary registers.
-use Rattle.std.proofs.Common.{◌≡◌, ℕ, zero, suc, ◌+◌, ◌*◌, ◌<◌, ◌≤◌, List, [], ◌∷◌, length, Bool, true, Option, Some, None, cond, ◌∙◌, sym, refl, ap, arith, inl, inr, nat_lt, is_some, slice_index, IsNone, ◌↔◌}
-use Rattle.board_prelude.proofs.Common.{find, position, option_or, cases_lt, lt-ltb, le-ltb, cond-true, cond-false, false≢true, find-append, Bytes, boundary, top_of, row_of, bridge}
+use Rattle.std.proofs.Common.{◌≡◌, ℕ, zero, suc, ◌+◌, ◌*◌, ◌<◌, ◌≤◌, List, [], ◌∷◌, length, Bool, true, Option, Some}
+use Rattle.std.proofs.Common.{None, cond, ◌∙◌, sym, refl, ap, arith, inl, inr, nat_lt, is_some, slice_index, IsNone}
+use Rattle.std.proofs.Common.{◌↔◌}
+use Rattle.board_prelude.proofs.Common.{find, position, option_or, cases_lt, lt-ltb, le-ltb, cond-true, cond-false}
+use Rattle.board_prelude.proofs.Common.{false≢true, find-append, Bytes, boundary, top_of, row_of, bridge}
 use Rattle.std.specs.List.{position_from}
 use Rattle.std.proofs.lemmas.Iterator.Adapters.{position_from-zero}
 use Rattle.pmc_regs.specs.Pmc.{IsRowsOf}

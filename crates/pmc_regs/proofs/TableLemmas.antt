@@ -1,6 +1,8 @@
 -- The registers of the host bridge in the table of registers.
-use Rattle.std.proofs.Common.{◌≡◌, ℕ, ◌+◌, ◌<◌, ◌≤◌, ◌⊎◌, List, [], ◌∷◌, length, ◌∙◌, refl, arith, inl, inr, lit<, map, slice_index}
-use Rattle.board_prelude.proofs.Common.{cases_lt, Setup, host_bridge, listed, reset_byte, writable_bits, Bytes, bridge, drb, listed-past, listed-before, Each, each_below}
+use Rattle.std.proofs.Common.{◌≡◌, ℕ, ◌+◌, ◌<◌, ◌≤◌, ◌⊎◌, List, [], ◌∷◌, length, ◌∙◌, refl, arith, inl, inr, lit<, map}
+use Rattle.std.proofs.Common.{slice_index}
+use Rattle.board_prelude.proofs.Common.{cases_lt, Setup, host_bridge, listed, reset_byte, writable_bits, Bytes, bridge}
+use Rattle.board_prelude.proofs.Common.{drb, listed-past, listed-before, Each, each_below}
 use Rattle.board_spec.specs.RegisterTable.{Line}
 use Rattle.pmc_regs.specs.Pmc.{IsFixedOffset, IsRowsOf}
 
@@ -66,16 +68,58 @@ outside off fixed from =
     elim fixed.1 [
       | inl below_rows ↦
           elim fixed.0.1 [
-            | inl below_pam ↦
-                (inr (omega arith), (inr (omega arith), (inr (omega arith), (inl (omega arith), (inl (omega arith), (inl (omega arith), (inl (omega arith), (inl (omega arith), tt))))))))
+            | inl below_pam ↦ (
+              inr (omega arith),
+              (
+                inr (omega arith),
+                (
+                  inr (omega arith),
+                  (
+                    inl (omega arith),
+                    (
+                      inl (omega arith),
+                      (inl (omega arith), (inl (omega arith), (inl (omega arith), tt))),
+                    ),
+                  ),
+                ),
+              ),
+            )
             | inr above_pam ↦ absurd (omega arith)
           ]
       | inr above_hole ↦
           elim fixed.0.2 [
-            | inl below_smram ↦
-                (inr (omega arith), (inr (omega arith), (inr (omega arith), (inr (omega arith), (inr (omega arith), (inr (omega arith), (inr (omega arith), (inl (omega arith), tt))))))))
-            | inr above_smram ↦
-                (inr (omega arith), (inr (omega arith), (inr (omega arith), (inr (omega arith), (inr (omega arith), (inr (omega arith), (inr (omega arith), (inr (omega arith), tt))))))))
+            | inl below_smram ↦ (
+              inr (omega arith),
+              (
+                inr (omega arith),
+                (
+                  inr (omega arith),
+                  (
+                    inr (omega arith),
+                    (
+                      inr (omega arith),
+                      (inr (omega arith), (inr (omega arith), (inl (omega arith), tt))),
+                    ),
+                  ),
+                ),
+              ),
+            )
+            | inr above_smram ↦ (
+              inr (omega arith),
+              (
+                inr (omega arith),
+                (
+                  inr (omega arith),
+                  (
+                    inr (omega arith),
+                    (
+                      inr (omega arith),
+                      (inr (omega arith), (inr (omega arith), (inr (omega arith), tt))),
+                    ),
+                  ),
+                ),
+              ),
+            )
           ]
     ]
 

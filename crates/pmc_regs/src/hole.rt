@@ -1,6 +1,7 @@
 //! The fixed DRAM hole, by its control register FDHC (82441FX).
 ghost use Rattle.std.specs.Prelude.{◌≡◌, ◌↔◌, IsNone};
-ghost use Rattle.board_prelude.specs.Common.{Setup, is_bit, merged, fdhc as hole_register, writable_bits, hole_of as hole_by};
+ghost use Rattle.board_prelude.specs.Common.{Setup, is_bit, merged, fdhc as hole_register, writable_bits};
+ghost use Rattle.board_prelude.specs.Common.{hole_of as hole_by};
 
 use board_spec::bits::merged;
 use board_spec::range::{HOLE_AT_15_MIB, HOLE_AT_512_KIB};

@@ -9,7 +9,8 @@
 //! | 68     | FDHC            | 00h          | C0       | the hole in DRAM, by bits 7 and 6  |
 //! | others | reserved        | 00h          | 00       |                                    |
 ghost use Rattle.std.specs.Prelude.{◌≡◌, ◌≤◌, ◌<◌, ◌↔◌, IsNone, IfSome};
-ghost use Rattle.board_prelude.specs.Common.{One, Store, Setup, is_bit, largest_top, reset_byte, changed_byte, Bytes, top_of as top_by, row_of as row_by, hole_of as hole_by, bridge, fdhc};
+ghost use Rattle.board_prelude.specs.Common.{One, Store, Setup, is_bit, largest_top, reset_byte, changed_byte, Bytes};
+ghost use Rattle.board_prelude.specs.Common.{top_of as top_by, row_of as row_by, hole_of as hole_by, bridge, fdhc};
 ghost use Rattle.pmc_regs.specs.Pmc.{IsPmcOffset, IsFixedOffset, IsPmcOf};
 
 use crate::hole::{fdhc_after, hole_of};

@@ -1,6 +1,6 @@
 -- Each byte that an aligned read gives is the one that a read of that byte alone gives.
 use Rattle.std.proofs.Common.{◌≡◌, ℕ, zero, suc, ◌+◌, ◌-◌, ◌*◌, ◌/◌, ◌%◌, ◌^◌, ◌<◌, ◌≤◌, List, [], length, inl, inr}
-use Rattle.std.proofs.Common.{refl, ap, ◌∙◌, arith, ◌==◌, slice_index}
+use Rattle.std.proofs.Common.{refl, ap, ◌∙◌, arith, slice_index}
 use Rattle.std.proofs.lemmas.Nat.{mod-pow-add}
 use Rattle.board_prelude.proofs.Common.{get_or_past, Width, One, bytes_of, largest_of, Entry, Setup, IsRomSize, Area}
 use Rattle.board_prelude.proofs.Common.{Target, Dram, Shadow, Smram, Rom, Card, Device, Config, Abort, byte, wide}

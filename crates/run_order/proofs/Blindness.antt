@@ -1,6 +1,27 @@
 -- No answer depends on the looks and the numbers before it: each definition over histories gives the same without them.
-use Rattle.std.proofs.Common.{◌≡◌, ℕ, zero, suc, ◌+◌, ◌==◌, nat_lt, Bool, true, List, [], ◌∷◌, ◌++◌, length, refl, sym, ◌∙◌, ap, inl, inr, Option, Some, None, unwrap_or, option_map, option_and_then, if◌then◌else◌}
-use Rattle.board_prelude.proofs.Common.{option_to_list, option_map_or, cases_Bool, WideAccess, PortAccess, Kind, Width, Reg, Target, Dram, Shadow, Smram, Rom, Card, Device, Config, Abort, Dev, Pic0, Pic1, Pit, System, Keyboard, Elcr, Ata, Wires, Vector, Spurious, largest_of, Triggers, triggers_at_reset, trigger_byte, PitState, out_of, pulses, port_read, reset as timer_at_reset, Clock, after_reset as clock_after_reset, read_value, Disk, read_of, Pair, pair_at_reset, pair_after_lines, port_byte, answer_of, Event, Memory, Wide, Port, Ack, Pulses, Time, Wire, Line, BadSector, Look, Parts as PartList, Reply, Bus, Saw, Entry, MapChange, Setup, installed, wide, pirq, control_written, control_after, resets_hard, reset_control, is_hard_reset, address_written, kept_address, config_address, config_store, register_change, byte_with, byte_of, touches_map, map_change_of, map_writes_of, Cell, DramCell, CardCell, entry_put, stored_of, dram_byte, expansion_byte, parts_of, wire_set, wire_of, line_set, irq_of, triggers_after, triggers_of, SystemPort, system_at_reset, system_after, system_of, timer_after, timer_of, clock_after, clock_of, disk_after, disk_with, disk_of, pirqs, levels_with, levels_of, elcr_of, pair_after, pair_pulsed, pair_reset_or_after, pair_stepped, pair_of, device_value, system_value, who_answered, IsOfMemory, SameDevices, MemoryLeavesDevices, IsAnswer, memory_answer, part_answer, wide_value, IsWideAnswer, port_answer, port_value, value_at, IsLookAnswer, map-same, SameDrivers, levels-same, disk_of-same, elcr-same, card_at, card_byte, kept_size}
+use Rattle.std.proofs.Common.{◌≡◌, ℕ, zero, suc, ◌==◌, nat_lt, Bool, true, List, [], ◌∷◌, ◌++◌, length, refl, sym, ◌∙◌}
+use Rattle.std.proofs.Common.{ap, inl, inr, Option, Some, None, unwrap_or, option_map, option_and_then, if◌then◌else◌}
+use Rattle.board_prelude.proofs.Common.{option_to_list, option_map_or, cases_Bool, WideAccess, PortAccess, Kind, Width}
+use Rattle.board_prelude.proofs.Common.{Reg, Target, Dram, Shadow, Smram, Rom, Card, Device, Config, Abort, Dev, Pic0}
+use Rattle.board_prelude.proofs.Common.{Pic1, Pit, System, Keyboard, Elcr, Ata, Wires, Vector, Spurious, largest_of}
+use Rattle.board_prelude.proofs.Common.{Triggers, triggers_at_reset, trigger_byte, PitState, out_of, pulses, port_read}
+use Rattle.board_prelude.proofs.Common.{reset as timer_at_reset, Clock, after_reset as clock_after_reset, read_value}
+use Rattle.board_prelude.proofs.Common.{Disk, read_of, Pair, pair_at_reset, pair_after_lines, port_byte, answer_of}
+use Rattle.board_prelude.proofs.Common.{Event, Memory, Wide, Port, Ack, Pulses, Time, Wire, Line, BadSector, Look}
+use Rattle.board_prelude.proofs.Common.{Parts as PartList, Reply, Bus, Saw, Entry, MapChange, Setup, installed, wide}
+use Rattle.board_prelude.proofs.Common.{pirq, control_written, control_after, resets_hard, reset_control, is_hard_reset}
+use Rattle.board_prelude.proofs.Common.{address_written, kept_address, config_address, config_store, register_change}
+use Rattle.board_prelude.proofs.Common.{byte_with, byte_of, touches_map, map_change_of, map_writes_of, Cell, DramCell}
+use Rattle.board_prelude.proofs.Common.{CardCell, entry_put, stored_of, dram_byte, expansion_byte, parts_of, wire_set}
+use Rattle.board_prelude.proofs.Common.{wire_of, line_set, irq_of, triggers_after, triggers_of, SystemPort}
+use Rattle.board_prelude.proofs.Common.{system_at_reset, system_after, system_of, timer_after, timer_of, clock_after}
+use Rattle.board_prelude.proofs.Common.{clock_of, disk_after, disk_with, disk_of, pirqs, levels_with, levels_of}
+use Rattle.board_prelude.proofs.Common.{elcr_of, pair_after, pair_pulsed, pair_reset_or_after, pair_stepped, pair_of}
+use Rattle.board_prelude.proofs.Common.{device_value, system_value, who_answered, IsOfMemory, SameDevices}
+use Rattle.board_prelude.proofs.Common.{MemoryLeavesDevices, IsAnswer, memory_answer, part_answer, wide_value}
+use Rattle.board_prelude.proofs.Common.{IsWideAnswer, port_answer, port_value, value_at, IsLookAnswer, map-same}
+use Rattle.board_prelude.proofs.Common.{SameDrivers, levels-same, disk_of-same, elcr-same, card_at, card_byte}
+use Rattle.board_prelude.proofs.Common.{kept_size}
 use Rattle.board_base.specs.declared.access.Access.{Access}
 use Rattle.board_base.specs.declared.target.Dev.TheVariants.{Confadd, Reset, Clock as ClockChip}
 use Rattle.device_spec.specs.Ata.Steps.{after_reset as disk_after_reset}

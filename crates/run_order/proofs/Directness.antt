@@ -1,14 +1,20 @@
 -- Each look is in its place.
-use Rattle.std.proofs.Common.{◌≡◌, ℕ, ◌+◌, ◌<◌, ◌≤◌, ◌==◌, nat_le, nat_lt, true, false, List, [], ◌∷◌, ◌++◌, length, All, refl, sym, ◌∙◌, ap, subst, arith, inl, inr}
-use Rattle.board_prelude.proofs.Common.{cases_Bool, nat_tests, Event, Memory, Wide, Port, Ack, Pulses, Time, Wire, Line, BadSector, Reply, Saw, Entry, Setup, map_writes_of, version_of, IsNext, IsLegal, next_entry}
+use Rattle.std.proofs.Common.{◌≡◌, ℕ, ◌+◌, ◌<◌, ◌≤◌, ◌==◌, nat_le, nat_lt, true, false, List, [], ◌∷◌, ◌++◌, length}
+use Rattle.std.proofs.Common.{All, refl, sym, ◌∙◌, ap, subst, arith, inl, inr}
+use Rattle.board_prelude.proofs.Common.{cases_Bool, nat_tests, Event, Memory, Wide, Port, Ack, Pulses, Time, Wire, Line}
+use Rattle.board_prelude.proofs.Common.{BadSector, Reply, Saw, Entry, Setup, map_writes_of, version_of, IsNext, IsLegal}
+use Rattle.board_prelude.proofs.Common.{next_entry}
 use Rattle.board_spec.specs.declared.event.Event.TheVariants.{Look as LookAt}
 use Rattle.run_order.specs.declared.done.Done.{Done}
 use Rattle.run_order.specs.declared.done.Done.TheVariants.{Went, Looked}
-use Rattle.run_order.specs.Common.{is_look, with_looks, left_after, with_all_looks, all_left, done_by, without_first, passed, placed, without_lower, IsPlaceOf, IsInPlace, AreInPlace, bare, AnswersAreBlind}
+use Rattle.run_order.specs.Common.{is_look, with_looks, left_after, with_all_looks, all_left, done_by, without_first}
+use Rattle.run_order.specs.Common.{passed, placed, without_lower, IsPlaceOf, IsInPlace, AreInPlace, bare}
+use Rattle.run_order.specs.Common.{AnswersAreBlind}
 use Rattle.run_order.proofs.Histories.{onto, version_step}
 use Rattle.run_order.proofs.Blindness.{writes_bare}
 use Rattle.run_order.proofs.Fitting.{Headed, Fits, Late}
-use Rattle.run_order.proofs.Legality.{Each, Beside, Good, pass, own_head, noted_is, few_left, few_passed, all_looks_good, entered, legal_front}
+use Rattle.run_order.proofs.Legality.{Each, Beside, Good, pass, own_head, noted_is, few_left, few_passed}
+use Rattle.run_order.proofs.Legality.{all_looks_good, entered, legal_front}
 
 -- ---- what comes last
 

@@ -1,10 +1,13 @@
 -- A processor's statements fit into the history of the bus: at each place its looks that are due there are right.
-use Rattle.std.proofs.Common.{◌≡◌, ℕ, ◌+◌, ◌≤◌, ◌==◌, nat_le, false, List, [], ◌∷◌, length, refl, sym, ◌∙◌, ap, subst, arith, inl, inr, MatchBool}
-use Rattle.board_prelude.proofs.Common.{cases_Bool, nat_tests, Event, Saw, Entry, Setup, version_of, IsAnswer, entries_by}
+use Rattle.std.proofs.Common.{◌≡◌, ℕ, ◌+◌, ◌≤◌, ◌==◌, nat_le, false, List, [], ◌∷◌, length, refl, sym, ◌∙◌, ap, subst}
+use Rattle.std.proofs.Common.{arith, inl, inr, MatchBool}
+use Rattle.board_prelude.proofs.Common.{cases_Bool, nat_tests, Event, Saw, Entry, Setup, version_of, IsAnswer}
+use Rattle.board_prelude.proofs.Common.{entries_by}
 use Rattle.board_spec.specs.declared.event.Event.TheVariants.{Look as LookAt}
 use Rattle.run_order.specs.declared.done.Done.{Done}
 use Rattle.run_order.specs.declared.done.Done.TheVariants.{Went, Looked}
-use Rattle.run_order.proofs.Histories.{onto, begins_before, onto_begins, other_entry, own_later, same_place, version_step}
+use Rattle.run_order.proofs.Histories.{onto, begins_before, onto_begins, other_entry, own_later, same_place}
+use Rattle.run_order.proofs.Histories.{version_step}
 use Rattle.run_order.specs.Common.{is_look, Begins}
 use Rattle.run_order.proofs.Following.{Follows}
 

@@ -1,6 +1,8 @@
 -- Beginnings of a history, and a processor's entries in it.
-use Rattle.std.proofs.Common.{◌≡◌, ℕ, ◌+◌, ◌<◌, ◌≤◌, ◌==◌, true, false, List, [], ◌∷◌, ◌++◌, length, refl, sym, ◌∙◌, ap, subst, arith, append_assoc, Option, Some, None, inl, inr, reverse}
-use Rattle.board_prelude.proofs.Common.{option_to_list, reverse-append, cases_Bool, nat_tests, Entry, MapChange, Setup, version_of, map_change_of, map_writes_of, entries_by}
+use Rattle.std.proofs.Common.{◌≡◌, ℕ, ◌+◌, ◌<◌, ◌≤◌, ◌==◌, true, false, List, [], ◌∷◌, ◌++◌, length, refl, sym, ◌∙◌, ap}
+use Rattle.std.proofs.Common.{subst, arith, append_assoc, Option, Some, None, inl, inr, reverse}
+use Rattle.board_prelude.proofs.Common.{option_to_list, reverse-append, cases_Bool, nat_tests, Entry, MapChange, Setup}
+use Rattle.board_prelude.proofs.Common.{version_of, map_change_of, map_writes_of, entries_by}
 use Rattle.run_order.specs.Trace.{Begins}
 
 -- what comes later, the oldest first, put before a list with the newest first

@@ -1,10 +1,13 @@
 -- The placed history is legal.
-use Rattle.std.proofs.Common.{◌≡◌, ℕ, suc, ◌+◌, ◌<◌, ◌≤◌, ◌==◌, nat_le, Bool, true, false, List, [], ◌∷◌, length, All, refl, sym, ◌∙◌, ap, subst, arith, inl, inr, MatchBool}
-use Rattle.board_prelude.proofs.Common.{length-map, All-head, All-tail, cases_Bool, nat_tests, Kind, Event, Look, Saw, Entry, Setup, version_of, IsAnswer, IsNext, IsLegal, next_entry}
+use Rattle.std.proofs.Common.{◌≡◌, ℕ, suc, ◌+◌, ◌<◌, ◌≤◌, ◌==◌, nat_le, Bool, true, false, List, [], ◌∷◌, length, All}
+use Rattle.std.proofs.Common.{refl, sym, ◌∙◌, ap, subst, arith, inl, inr, MatchBool}
+use Rattle.board_prelude.proofs.Common.{length-map, All-head, All-tail, cases_Bool, nat_tests, Kind, Event, Look, Saw}
+use Rattle.board_prelude.proofs.Common.{Entry, Setup, version_of, IsAnswer, IsNext, IsLegal, next_entry}
 use Rattle.board_spec.specs.declared.event.Event.TheVariants.{Look as LookAt}
 use Rattle.run_order.specs.declared.done.Done.{Done}
 use Rattle.run_order.specs.declared.done.Done.TheVariants.{Went, Looked}
-use Rattle.run_order.specs.Common.{is_look, with_looks, left_after, with_all_looks, all_left, without_first, passed, done_by, noted, placed, bare, AnswersAreBlind}
+use Rattle.run_order.specs.Common.{is_look, with_looks, left_after, with_all_looks, all_left, without_first, passed}
+use Rattle.run_order.specs.Common.{done_by, noted, placed, bare, AnswersAreBlind}
 use Rattle.run_order.proofs.Histories.{onto}
 use Rattle.run_order.proofs.Fitting.{Due, Headed, Fits}
 

@@ -1,6 +1,11 @@
 -- A phase that was placed is whole.
-use Rattle.std.proofs.Common.{◌≡◌, ℕ, suc, ◌+◌, ◌<◌, ◌≤◌, ◌==◌, Bool, true, false, List, [], ◌∷◌, ◌++◌, map, length, filter, take, drop, refl, sym, ◌∙◌, ap, subst, arith, inl, inr, reverse, if◌then◌else◌}
-use Rattle.board_prelude.proofs.Common.{cases_Bool, nat_tests, append-nil, reverse-append, reverse-reverse, map-append, append_cancel_left, length-map, length-reverse, length-take, take_all, drop_all, take-append-le, drop-append-le, filter-append, Event, Entry, Statement, Setup, version_of, IsLegal, statement_of, statements_of, events_by, IsWholePhase, HasPhases}
+use Rattle.std.proofs.Common.{◌≡◌, ℕ, suc, ◌+◌, ◌<◌, ◌≤◌, ◌==◌, Bool, true, false, List, [], ◌∷◌, ◌++◌, map, length}
+use Rattle.std.proofs.Common.{filter, take, drop, refl, sym, ◌∙◌, ap, subst, arith, inl, inr, reverse, if◌then◌else◌}
+use Rattle.board_prelude.proofs.Common.{cases_Bool, nat_tests, append-nil, reverse-append, reverse-reverse, map-append}
+use Rattle.board_prelude.proofs.Common.{append_cancel_left, length-map, length-reverse, length-take, take_all, drop_all}
+use Rattle.board_prelude.proofs.Common.{take-append-le, drop-append-le, filter-append, Event, Entry, Statement, Setup}
+use Rattle.board_prelude.proofs.Common.{version_of, IsLegal, statement_of, statements_of, events_by, IsWholePhase}
+use Rattle.board_prelude.proofs.Common.{HasPhases}
 use Rattle.run_order.specs.declared.done.Done.{Done}
 use Rattle.run_order.specs.Common.{event_of, placed, done_by, bare, IsPlaced, AnswersAreBlind}
 use Rattle.run_order.proofs.Histories.{onto, onto_is}

@@ -1,6 +1,8 @@
 -- A phase that was run hands over what the law of the places asks.
-use Rattle.std.proofs.Common.{◌≡◌, ℕ, ◌+◌, ◌<◌, ◌≤◌, ◌==◌, false, List, [], ◌∷◌, ◌++◌, map, length, All, refl, sym, ◌∙◌, ap, subst, arith, inl, inr, reverse}
-use Rattle.board_prelude.proofs.Common.{cases_lt, nat_tests, append-nil, reverse-reverse, All-head, All-tail, Entry, Statement, version_of, IsLegal, events_by}
+use Rattle.std.proofs.Common.{◌≡◌, ℕ, ◌+◌, ◌<◌, ◌≤◌, ◌==◌, false, List, [], ◌∷◌, ◌++◌, map, length, All, refl, sym, ◌∙◌}
+use Rattle.std.proofs.Common.{ap, subst, arith, inl, inr, reverse}
+use Rattle.board_prelude.proofs.Common.{cases_lt, nat_tests, append-nil, reverse-reverse, All-head, All-tail, Entry}
+use Rattle.board_prelude.proofs.Common.{Statement, version_of, IsLegal, events_by}
 use Rattle.run_order.specs.declared.done.Done.{Done}
 use Rattle.run_order.specs.Common.{event_of, done_by, IsWork, AnswersAreBlind, PhaseRuns}
 use Rattle.run_order.proofs.Following.{Follows}

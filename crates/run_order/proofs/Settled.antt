@@ -1,9 +1,11 @@
 -- Lists in which no look is due.
-use Rattle.std.proofs.Common.{◌≡◌, ℕ, zero, suc, ◌+◌, ◌-◌, ◌<◌, nat_le, false, List, [], ◌∷◌, length, All, drop, get_or, set, refl, sym, ◌∙◌, ap, subst, arith, inl, inr}
+use Rattle.std.proofs.Common.{◌≡◌, ℕ, zero, suc, ◌+◌, ◌-◌, ◌<◌, nat_le, false, List, [], ◌∷◌, length, All, drop, get_or}
+use Rattle.std.proofs.Common.{set, refl, sym, ◌∙◌, ap, subst, arith, inl, inr}
 use Rattle.board_prelude.proofs.Common.{cases_Bool, nat_tests, length-map, get_or-set_other, Entry, next_entry}
 use Rattle.run_order.specs.declared.done.Done.{Done}
 use Rattle.run_order.specs.declared.done.Done.TheVariants.{Went, Looked}
-use Rattle.run_order.specs.Common.{with_looks, left_after, with_all_looks, all_left, done_by, without_first, passed, noted, placed, looks_in, all_looks_in, IsNotDue, IsSettled, IsSettledBut}
+use Rattle.run_order.specs.Common.{with_looks, left_after, with_all_looks, all_left, done_by, without_first, passed}
+use Rattle.run_order.specs.Common.{noted, placed, looks_in, all_looks_in, IsNotDue, IsSettled, IsSettledBut}
 use Rattle.run_order.proofs.Counts.{count_set}
 use Rattle.run_order.proofs.Steps.{ArePlaced, placed_step}
 

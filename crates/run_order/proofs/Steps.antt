@@ -1,9 +1,12 @@
 -- One entry of the bus after another.
-use Rattle.std.proofs.Common.{◌≡◌, ℕ, zero, suc, ◌+◌, ◌-◌, ◌<◌, ◌≤◌, ◌==◌, true, false, List, [], ◌∷◌, length, All, drop, get_or, set, refl, sym, ◌∙◌, ap, subst, arith}
-use Rattle.board_prelude.proofs.Common.{nat_tests, drop_more, drop_all, length-map, length-set, get_or-drop, get_or_default, All-get_or, Entry, next_entry}
+use Rattle.std.proofs.Common.{◌≡◌, ℕ, zero, suc, ◌+◌, ◌-◌, ◌<◌, ◌≤◌, ◌==◌, true, false, List, [], ◌∷◌, length, All}
+use Rattle.std.proofs.Common.{drop, get_or, set, refl, sym, ◌∙◌, ap, subst, arith}
+use Rattle.board_prelude.proofs.Common.{nat_tests, drop_more, drop_all, length-map, length-set, get_or-drop}
+use Rattle.board_prelude.proofs.Common.{get_or_default, All-get_or, Entry, next_entry}
 use Rattle.run_order.specs.declared.done.Done.{Done}
 use Rattle.run_order.specs.declared.done.Done.TheVariants.{Went, Looked}
-use Rattle.run_order.specs.Common.{nowhere, left_after, with_all_looks, all_left, done_by, without_first, passed, noted, placed, looks_in, all_looks_in}
+use Rattle.run_order.specs.Common.{nowhere, left_after, with_all_looks, all_left, done_by, without_first, passed, noted}
+use Rattle.run_order.specs.Common.{placed, looks_in, all_looks_in}
 use Rattle.run_order.proofs.Counts.{count_set}
 
 pub done_at : (rests : List (List Done)) (first k : ℕ) → done_by first (first + k) rests ≡ get_or rests k []

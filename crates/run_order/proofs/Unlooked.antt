@@ -1,9 +1,12 @@
 -- Where nobody looked, the placed history is that of the bus.
-use Rattle.std.proofs.Common.{◌≡◌, ℕ, ◌+◌, ◌<◌, ◌==◌, List, [], ◌∷◌, ◌++◌, length, take, drop, get_or, refl, sym, ◌∙◌, ap, subst, arith, inl, inr, reverse}
-use Rattle.board_prelude.proofs.Common.{cases_Bool, take_more, drop_more, reverse-append, take-append-drop, Entry, Setup, IsLegal, IsNext, next_entry}
+use Rattle.std.proofs.Common.{◌≡◌, ℕ, ◌+◌, ◌<◌, ◌==◌, List, [], ◌∷◌, ◌++◌, length, take, drop, get_or, refl, sym, ◌∙◌}
+use Rattle.std.proofs.Common.{ap, subst, arith, inl, inr, reverse}
+use Rattle.board_prelude.proofs.Common.{cases_Bool, take_more, drop_more, reverse-append, take-append-drop, Entry}
+use Rattle.board_prelude.proofs.Common.{Setup, IsLegal, IsNext, next_entry}
 use Rattle.run_order.specs.declared.done.Done.{Done}
 use Rattle.run_order.specs.declared.done.Done.TheVariants.{Went, Looked}
-use Rattle.run_order.specs.Common.{with_looks, left_after, with_all_looks, all_left, without_first, passed, done_by, noted, placed, looks_in, all_looks_in}
+use Rattle.run_order.specs.Common.{with_looks, left_after, with_all_looks, all_left, without_first, passed, done_by}
+use Rattle.run_order.specs.Common.{noted, placed, looks_in, all_looks_in}
 use Rattle.run_order.proofs.Histories.{onto, onto_is}
 
 -- ---- entries of a legal history

@@ -1,10 +1,13 @@
 -- The placed history has each processor's statements, in its order.
-use Rattle.std.proofs.Common.{◌≡◌, ℕ, ◌+◌, ◌<◌, ◌==◌, nat_le, Bool, true, false, List, [], ◌∷◌, map, length, All, refl, sym, ◌∙◌, ap, subst, arith, inl, inr, MatchBool}
-use Rattle.board_prelude.proofs.Common.{cases_Bool, nat_tests, Event, Saw, Entry, Setup, version_of, IsAnswer, entries_by, next_entry}
+use Rattle.std.proofs.Common.{◌≡◌, ℕ, ◌+◌, ◌<◌, ◌==◌, nat_le, Bool, true, false, List, [], ◌∷◌, map, length, All, refl}
+use Rattle.std.proofs.Common.{sym, ◌∙◌, ap, subst, arith, inl, inr, MatchBool}
+use Rattle.board_prelude.proofs.Common.{cases_Bool, nat_tests, Event, Saw, Entry, Setup, version_of, IsAnswer}
+use Rattle.board_prelude.proofs.Common.{entries_by, next_entry}
 use Rattle.board_spec.specs.declared.event.Event.TheVariants.{Look as LookAt}
 use Rattle.run_order.specs.declared.done.Done.{Done}
 use Rattle.run_order.specs.declared.done.Done.TheVariants.{Went, Looked}
-use Rattle.run_order.specs.Placing.{event_of, with_looks, left_after, with_all_looks, all_left, without_first, passed, done_by, placed}
+use Rattle.run_order.specs.Placing.{event_of, with_looks, left_after, with_all_looks, all_left, without_first, passed}
+use Rattle.run_order.specs.Placing.{done_by, placed}
 use Rattle.run_order.proofs.Histories.{onto, own_entry, other_entry}
 use Rattle.run_order.proofs.Fitting.{Due, Headed, Fits}
 use Rattle.run_order.proofs.Legality.{Each, Beside, pass, same_test, own_head, noted_is, few_left, few_passed}

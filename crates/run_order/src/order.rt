@@ -1,6 +1,7 @@
 //! The order of the entries of a run, with the looks of all processors.
 
-ghost use Rattle.std.specs.Prelude.{◌≡◌, ◌-◌, ◌+◌, ◌<◌, ◌≤◌, List, [], ◌∷◌, length, map, drop, reverse, slice_index_or, All, max, IsFalse, IsOk, IfOk, OnOk, OnErr};
+ghost use Rattle.std.specs.Prelude.{◌≡◌, ◌-◌, ◌+◌, ◌<◌, ◌≤◌, List, [], ◌∷◌, length, map, drop, reverse, slice_index_or};
+ghost use Rattle.std.specs.Prelude.{All, max, IsFalse, IsOk, IfOk, OnOk, OnErr};
 ghost use Rattle.board_prelude.specs.Common.{Entry, Saw, Setup, IsLegal, entries_by, next_entry};
 ghost use Rattle.board_spec.specs.declared.event.Event.TheVariants.{Look as LookAt};
 ghost use Rattle.run_order.specs.Over.{IsPlacedBelow, entry_of, nowhere, over};
@@ -26,8 +27,8 @@ const MOST_ENTRIES: usize = u32::MAX as usize;
 /// What each processor did in a phase, the oldest first, from processor 0 on.
 pub type Works<'a> = ArrayVec<&'a [Done], MOST_PROCESSORS>;
 
-/// The order of the entries of a run: the places of those of the bus's history, and the looks. Contracts see its entries,
-/// the newest first, how many more it has room for, and how many of the bus's history are among them.
+/// The order of the entries of a run: the places of those of the bus's history, and the looks. Contracts see its
+/// entries, the newest first, how many more it has room for, and how many of the bus's history are among them.
 #[derive(Drop)]
 pub struct RunOrder {
     entries: Vec<RunEntry>,
@@ -109,9 +110,9 @@ impl RunOrder {
     }
 
     /// Adds the entries that the bus's history gained in a phase and the looks of all processors at their places. `bus`
-    /// is the bus's history with them, the oldest first, and `version` that of the map before the phase. Of the room that
-    /// there was it uses what it needs, and keeps the rest. Where there is no memory, or there would be 2^32 entries,
-    /// nothing changes.
+    /// is the bus's history with them, the oldest first, and `version` that of the map before the phase. Of the room
+    /// that there was it uses what it needs, and keeps the rest. Where there is no memory, or there would be 2^32
+    /// entries, nothing changes.
     pub fn place(
         &mut self,
         version: u32,
@@ -160,8 +161,8 @@ impl RunOrder {
         self.counts[usize::from(actor)] + 1
     }
 
-    /// Adds an entry of a processor, in the room that was reserved. Then the entries of the bus's history up to `bus` are
-    /// among them.
+    /// Adds an entry of a processor, in the room that was reserved. Then the entries of the bus's history up to `bus`
+    /// are among them.
     fn push(&mut self, actor: u8, entry: RunEntry, bus: u32)
         requires actor { actor < 8 }
         requires own { (of_bus : List Entry) → (entry_of of_bus entry).actor ≡ actor }
@@ -169,7 +170,11 @@ impl RunOrder {
         requires least { self.old.bus ≤ bus }
         requires next { bus ≤ self.old.bus + 1 }
         requires room { 1 ≤ self.old.spare }
-        ensures pushed { self.new ≡ record { entries = entry ∷ self.old.entries; spare = self.old.spare - 1; bus = bus } }
+        ensures pushed { self.new ≡ record {
+          entries = entry ∷ self.old.entries;
+          spare = self.old.spare - 1;
+          bus = bus;
+        } }
     {
         self.entries.push(entry).unwrap();
         self.spare -= 1;

@@ -1,5 +1,6 @@
 -- The table of digits holds what each byte stands for.
-use Rattle.std.proofs.Common.{◌≡◌, ℕ, ◌<◌, ◌≤◌, cond, ltb, Option, Some, None, List, get_or, map, refl, sym, ap, ◌∙◌, arith}
+use Rattle.std.proofs.Common.{◌≡◌, ℕ, ◌<◌, ◌≤◌, cond, ltb, Option, Some, None, List, get_or, map, refl, sym, ap, ◌∙◌}
+use Rattle.std.proofs.Common.{arith}
 use Rattle.board_prelude.proofs.Common.{range_with_len, lt-ltb, le-ltb, get_or-map-range_with_len}
 use Rattle.script_spec.specs.Numbers.{digit_value}
 

@@ -1,5 +1,6 @@
 -- A line up to its first space, and after it.
-use Rattle.std.proofs.Common.{◌≡◌, ℕ, ◌+◌, ◌≤◌, ◌-◌, Bool, true, false, cond, eqb, ltb, Option, Some, None, List, [], ◌∷◌, length, take, drop, refl, subst, arith}
+use Rattle.std.proofs.Common.{◌≡◌, ℕ, ◌+◌, ◌≤◌, ◌-◌, Bool, true, false, cond, eqb, ltb, Option, Some, None, List, []}
+use Rattle.std.proofs.Common.{◌∷◌, length, take, drop, refl, subst, arith}
 use Rattle.board_prelude.proofs.Common.{position_or_len, ltb-false, take_rest}
 use borrow.Author.Tests.{ltb-true}
 use Rattle.std.proofs.lemmas.Option.{cond_some}

@@ -1,5 +1,6 @@
 -- Digits, one after the other.
-use Rattle.std.proofs.Common.{◌≡◌, ℕ, ◌+◌, ◌*◌, ◌^◌, ◌<◌, ◌≤◌, Option, Some, None, List, length, get_or, drop, refl, sym, ◌∙◌, arith}
+use Rattle.std.proofs.Common.{◌≡◌, ℕ, ◌+◌, ◌*◌, ◌^◌, ◌<◌, ◌≤◌, Option, Some, None, List, length, get_or, drop, refl}
+use Rattle.std.proofs.Common.{sym, ◌∙◌, arith}
 use Rattle.board_prelude.proofs.Common.{drop_more, drop_all, pow-le-pow_right, option_and_then}
 use Rattle.std.proofs.lemmas.Nat.{mul-add-lt}
 use Rattle.std.proofs.lemmas.Grind.{pow_more}

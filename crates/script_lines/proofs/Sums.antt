@@ -1,5 +1,6 @@
 -- What digits add up to is the number that they make.
-use Rattle.std.proofs.Common.{◌≡◌, ℕ, ◌+◌, ◌*◌, ◌^◌, ◌<◌, ◌≤◌, Option, Some, None, cond, ltb, List, [], ◌∷◌, get_or, map, refl, sym, ap, subst, ◌∙◌, arith}
+use Rattle.std.proofs.Common.{◌≡◌, ℕ, ◌+◌, ◌*◌, ◌^◌, ◌<◌, ◌≤◌, Option, Some, None, cond, ltb, List, [], ◌∷◌, get_or}
+use Rattle.std.proofs.Common.{map, refl, sym, ap, subst, ◌∙◌, arith}
 use Rattle.board_prelude.proofs.Common.{option_and_then, ltb-true, range_with_len, get_or-map-range_with_len}
 use Rattle.script_spec.specs.Numbers.{digit_value, parse_digit, parse_digits, number_after}
 use Rattle.script_spec.proofs.Chains.{some_is, guarded, then_said}

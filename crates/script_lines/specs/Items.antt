@@ -1,7 +1,8 @@
 -- What the reader's values say.
 use Rattle.std.specs.Prelude.{ℕ, List, map}
 use Rattle.board_prelude.specs.Common.{Moment, moment_of, Time, Base, MemoryBase, IoBase, FittedCard}
-use Rattle.script_spec.specs.Common.{Item, SetCpus, SetMemory, SetRom, SetDisk, FitCard, BeginPhase, HasForm, Tail, ask, wire_item, line_item}
+use Rattle.script_spec.specs.Common.{Item, SetCpus, SetMemory, SetRom, SetDisk, FitCard, BeginPhase, HasForm, Tail, ask}
+use Rattle.script_spec.specs.Common.{wire_item, line_item}
 use Rattle.script_lines.specs.declared.item.Item.{Item as Line}
 use Rattle.script_lines.specs.declared.item.Item.TheVariants.{Cpus, Memory, Rom, Disk, Card, Phase, Statement as Asks}
 use Rattle.script_lines.specs.declared.item.Asked.{Asked}

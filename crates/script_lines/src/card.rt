@@ -2,7 +2,8 @@
 
 ghost use Rattle.std.specs.Prelude.{◌≡◌, None, option_map};
 ghost use Rattle.script_lines.specs.Items.{base_said, card_said, tail_said};
-ghost use Rattle.script_spec.specs.Cards.{parse_base, parse_rom_bits, with_base, with_rom, with_field, with_fields, no_tail, parse_vga, parse_card};
+ghost use Rattle.script_spec.specs.Cards.{parse_base, parse_rom_bits, with_base, with_rom, with_field, with_fields};
+ghost use Rattle.script_spec.specs.Cards.{no_tail, parse_vga, parse_card};
 
 use crate::fields::Fields;
 use crate::numbers::parse_decimal;

@@ -2,7 +2,10 @@
 
 ghost use Rattle.std.specs.Prelude.{◌≡◌, ◌*◌, ◌<◌, ◌^◌, IfSome};
 ghost use Rattle.board_base.specs.Access.{bytes_of};
-ghost use Rattle.script_spec.specs.Common.{parse_hex, IsSize, parse_width, quad_size, parse_size, width_with, is_wide, memory_event, parse_kind, parse_smm, parse_read, parse_write, parse_in, parse_out, parse_look, parse_ack, parse_number, parse_bad_sector, parse_event};
+ghost use Rattle.script_spec.specs.Common.{parse_hex, IsSize, parse_width, quad_size, parse_size, width_with, is_wide};
+ghost use Rattle.script_spec.specs.Common.{memory_event, parse_kind, parse_smm, parse_read, parse_write, parse_in};
+ghost use Rattle.script_spec.specs.Common.{parse_out, parse_look, parse_ack, parse_number, parse_bad_sector};
+ghost use Rattle.script_spec.specs.Common.{parse_event};
 ghost use Rattle.script_spec.specs.Events.{parse_pulses};
 
 use crate::fields::Fields;

@@ -41,7 +41,8 @@ impl<'a> Fields<'a> {
 
     /// None where a field is left.
     pub fn end(self) -> Option<()>
-        ensures end { MatchOption result ((field : List ℕ) × (later : List (List ℕ)) × (self.entry ≡ field ∷ later)) (λ done. self.entry ≡ []) }
+        ensures end { MatchOption result ((field : List ℕ) × (later : List (List ℕ)) × (self.entry ≡ field ∷ later))
+            (λ done. self.entry ≡ []) }
     {
         match self.next() {
             None => Some(()),

@@ -3,7 +3,11 @@
 ghost use Rattle.std.specs.Prelude.{◌≡◌, ℕ, option_map, bytes_eq, IfSome};
 ghost use Rattle.std.specs.Option.{IfNone};
 ghost use Rattle.std.specs.List.{list_all};
-ghost use Rattle.script_spec.specs.Common.{SetCpus, SetMemory, SetRom, SetDisk, FitCard, HasForm, is_name_start, is_name_byte, parse_number, parse_card, parse_two_numbers, parse_only_moment, parse_time_item, parse_wire_item, parse_line_item, parse_event_item, parse_by_verb, parse_statement_words, is_name, parse_name, parse_phase, parse_statement, parse_by_key, parse_item};
+ghost use Rattle.script_spec.specs.Common.{SetCpus, SetMemory, SetRom, SetDisk, FitCard, HasForm, is_name_start};
+ghost use Rattle.script_spec.specs.Common.{is_name_byte, parse_number, parse_card, parse_two_numbers};
+ghost use Rattle.script_spec.specs.Common.{parse_only_moment, parse_time_item, parse_wire_item, parse_line_item};
+ghost use Rattle.script_spec.specs.Common.{parse_event_item, parse_by_verb, parse_statement_words, is_name, parse_name};
+ghost use Rattle.script_spec.specs.Common.{parse_phase, parse_statement, parse_by_key, parse_item};
 ghost use Rattle.script_lines.specs.Items.{moment_said, asked_said, line_said, HasNoForm};
 
 use crate::card::{CardFields, parse_card};
@@ -94,7 +98,8 @@ fn parse_line_item(words: Fields<'_>) -> Option<Asked>
 
 #[tactic(auto, unfolding(script_spec::specs::Items::parse_event_item))]
 fn parse_event_item(version: u8, verb: &[u8], words: Fields<'_>) -> Option<Asked>
-    ensures asked { (actor : ℕ) → option_map (asked_said actor) result ≡ parse_event_item version actor verb.now words.entry }
+    ensures asked { (actor : ℕ) → option_map (asked_said actor) result
+        ≡ parse_event_item version actor verb.now words.entry }
 {
     let event = parse_event(version, verb, words)?;
     Some(Asked::Event(event))
@@ -102,7 +107,8 @@ fn parse_event_item(version: u8, verb: &[u8], words: Fields<'_>) -> Option<Asked
 
 #[tactic(auto, unfolding(script_spec::specs::Items::parse_by_verb))]
 fn parse_by_verb(version: u8, verb: &[u8], words: Fields<'_>) -> Option<Asked>
-    ensures asked { (actor : ℕ) → option_map (asked_said actor) result ≡ parse_by_verb version actor verb.now words.entry }
+    ensures asked { (actor : ℕ) → option_map (asked_said actor) result
+        ≡ parse_by_verb version actor verb.now words.entry }
 {
     if is_word(verb, "moment") {
         return parse_time_item(words);
@@ -119,7 +125,8 @@ fn parse_by_verb(version: u8, verb: &[u8], words: Fields<'_>) -> Option<Asked>
 /// The event of a statement, by the fields of its line after the processor's number.
 #[tactic(auto, unfolding(script_spec::specs::Items::parse_statement_words))]
 fn parse_statement_words(version: u8, words: Fields<'_>) -> Option<Asked>
-    ensures asked { (actor : ℕ) → option_map (asked_said actor) result ≡ parse_statement_words version actor words.entry }
+    ensures asked { (actor : ℕ) → option_map (asked_said actor) result
+        ≡ parse_statement_words version actor words.entry }
 {
     let (verb, words) = words.next()?;
     parse_by_verb(version, verb, words)

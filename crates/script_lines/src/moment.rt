@@ -39,7 +39,8 @@ fn parse_year(text: &[u8]) -> Option<(u16, &[u8])>
 /// `YYYY-MM-DD`, and what follows.
 #[tactic(auto, unfolding(script_spec::specs::Moments::parse_date))]
 fn parse_date(text: &[u8]) -> Option<(u16, u8, u8, &[u8])>
-    ensures date { option_map (λ p. record { first = p.0; second = p.1; third = p.2; rest = p.3.now }) result ≡ parse_date text.now }
+    ensures date { option_map (λ p. record { first = p.0; second = p.1; third = p.2; rest = p.3.now }) result
+        ≡ parse_date text.now }
 {
     let (year, rest) = parse_year(text)?;
     let (month, rest) = parse_moment_part(b'-', rest)?;
@@ -50,7 +51,8 @@ fn parse_date(text: &[u8]) -> Option<(u16, u8, u8, &[u8])>
 /// `THH:MM:SS`, and what follows.
 #[tactic(auto, unfolding(script_spec::specs::Moments::parse_time))]
 fn parse_time(text: &[u8]) -> Option<(u8, u8, u8, &[u8])>
-    ensures time { option_map (λ p. record { first = p.0; second = p.1; third = p.2; rest = p.3.now }) result ≡ parse_time text.now }
+    ensures time { option_map (λ p. record { first = p.0; second = p.1; third = p.2; rest = p.3.now }) result
+        ≡ parse_time text.now }
 {
     let (hour, rest) = parse_moment_part(b'T', text)?;
     let (minute, rest) = parse_moment_part(b':', rest)?;

@@ -1,7 +1,9 @@
 //! Numbers as a script writes them.
 
-ghost use Rattle.std.specs.Prelude.{ℕ, ◌≡◌, ◌<◌, ◌≤◌, ◌^◌, [], ◌∷◌, length, IfSome, option_map, Option, Some, None, if◌then◌else◌};
-ghost use Rattle.script_spec.specs.Numbers.{digit_value, parse_digit, parse_digits, parse_hex, parse_decimal, has_leading_zero, parse_two_digits, after_mark};
+ghost use Rattle.std.specs.Prelude.{ℕ, ◌≡◌, ◌<◌, ◌≤◌, ◌^◌, [], ◌∷◌, length, IfSome, option_map, Option, Some, None};
+ghost use Rattle.std.specs.Prelude.{if◌then◌else◌};
+ghost use Rattle.script_spec.specs.Numbers.{digit_value, parse_digit, parse_digits, parse_hex, parse_decimal};
+ghost use Rattle.script_spec.specs.Numbers.{has_leading_zero, parse_two_digits, after_mark};
 ghost use Rattle.script_lines.specs.Sums.{IsSum, sum_after, summand_of};
 
 /// The base of hexadecimal numbers.

@@ -1,7 +1,10 @@
 -- Fields that spell the bases and the expansion ROM of a card are read as them.
-use Rattle.std.proofs.Common.{◌≡◌, ℕ, ◌+◌, ◌<◌, ◌≤◌, eqb, Option, Some, None, List, [], ◌∷◌, ◌++◌, length, map, All, inl, inr, refl, sym, ap, ◌∙◌, append_assoc, append-nil, arith, codes, decimal}
-use Rattle.board_prelude.proofs.Common.{cases_Bool, eq-eqb, lt-ltb, length-append, All-head, All-tail, Base, MemoryBase, IoBase, OutsideBase}
-use Rattle.script_spec.specs.Common.{IsBaseForm, IsRomForm, parse_base, parse_rom_bits, with_base, with_rom, with_field, with_fields}
+use Rattle.std.proofs.Common.{◌≡◌, ℕ, ◌+◌, ◌<◌, ◌≤◌, eqb, Option, Some, None, List, [], ◌∷◌, ◌++◌, length, map, All}
+use Rattle.std.proofs.Common.{inl, inr, refl, sym, ap, ◌∙◌, append_assoc, append-nil, arith, codes, decimal}
+use Rattle.board_prelude.proofs.Common.{cases_Bool, eq-eqb, lt-ltb, length-append, All-head, All-tail, Base, MemoryBase}
+use Rattle.board_prelude.proofs.Common.{IoBase, OutsideBase}
+use Rattle.script_spec.specs.Common.{IsBaseForm, IsRomForm, parse_base, parse_rom_bits, with_base, with_rom, with_field}
+use Rattle.script_spec.specs.Common.{with_fields}
 use Rattle.script_spec.proofs.NumberBack.{decimal_back}
 use Rattle.script_spec.proofs.CardTexts.{fresh}
 

@@ -1,7 +1,12 @@
 -- The card that was read is the one that the fields spell.
-use Rattle.std.proofs.Common.{◌≡◌, ℕ, ◌<◌, ◌≤◌, ◌⊎◌, inl, inr, Bool, true, false, cond, eqb, Option, Some, None, List, [], ◌∷◌, ◌++◌, length, flat_map, All, refl, sym, ap, subst, ◌∙◌, append_assoc, append-nil, arith, codes, decimal, bytes_eq, if◌then◌else◌}
-use Rattle.board_prelude.proofs.Common.{join_with_byte, option_map, cases_Bool, eqb-true, ltb-true, length-append, All-nil, All-cons, Base, MemoryBase, IoBase, FittedCard, space}
-use Rattle.script_spec.specs.Common.{IsBaseForm, IsRomForm, IsCardForm, base_text, rom_text, card_text, parse_decimal, parse_base, Tail, parse_rom_bits, has_room, with_base, with_rom, with_field, with_fields, no_tail, parse_vga, parse_card}
+use Rattle.std.proofs.Common.{◌≡◌, ℕ, ◌<◌, ◌≤◌, ◌⊎◌, inl, inr, Bool, true, false, cond, eqb, Option, Some, None, List}
+use Rattle.std.proofs.Common.{[], ◌∷◌, ◌++◌, length, flat_map, All, refl, sym, ap, subst, ◌∙◌, append_assoc, append-nil}
+use Rattle.std.proofs.Common.{arith, codes, decimal, bytes_eq, if◌then◌else◌}
+use Rattle.board_prelude.proofs.Common.{join_with_byte, option_map, cases_Bool, eqb-true, ltb-true, length-append}
+use Rattle.board_prelude.proofs.Common.{All-nil, All-cons, Base, MemoryBase, IoBase, FittedCard, space}
+use Rattle.script_spec.specs.Common.{IsBaseForm, IsRomForm, IsCardForm, base_text, rom_text, card_text, parse_decimal}
+use Rattle.script_spec.specs.Common.{parse_base, Tail, parse_rom_bits, has_room, with_base, with_rom, with_field}
+use Rattle.script_spec.specs.Common.{with_fields, no_tail, parse_vga, parse_card}
 use Rattle.script_spec.proofs.Chains.{some_is, guarded, then_said, mapped}
 use Rattle.script_spec.proofs.NumberTexts.{decimal_read}
 use Rattle.script_spec.proofs.Joins.{word_is}

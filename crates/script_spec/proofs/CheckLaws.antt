@@ -1,7 +1,10 @@
 -- A text leaves a kind of texts at one line.
-use Rattle.std.proofs.Common.{ℕ, ◌≡◌, ◌≢◌, ◌+◌, ◌⊎◌, true, List, [], ◌∷◌, ◌++◌, length, All, refl, sym, ap, ◌∙◌, inl, inr, append_assoc}
-use Rattle.board_prelude.proofs.Common.{ne_eqb, eqb-false, flat_map-append, All-nil, All-cons, All-head, All-tail, line_feed}
-use Rattle.script_spec.specs.Common.{text_of_lines, IsOneLine, AreBegun, LeavesAt, IsSomeLog, IsLogOf, OneBadLog, OneDifference}
+use Rattle.std.proofs.Common.{ℕ, ◌≡◌, ◌≢◌, ◌+◌, ◌⊎◌, true, List, [], ◌∷◌, ◌++◌, length, All, refl, sym, ap, ◌∙◌, inl}
+use Rattle.std.proofs.Common.{inr, append_assoc}
+use Rattle.board_prelude.proofs.Common.{ne_eqb, eqb-false, flat_map-append, All-nil, All-cons, All-head, All-tail}
+use Rattle.board_prelude.proofs.Common.{line_feed}
+use Rattle.script_spec.specs.Common.{text_of_lines, IsOneLine, AreBegun, LeavesAt, IsSomeLog, IsLogOf, OneBadLog}
+use Rattle.script_spec.specs.Common.{OneDifference}
 use Rattle.script_spec.proofs.Digits.{lacks}
 use Rattle.script_spec.proofs.Fields.{front, back, front-field, back-field, lacks-first, lacks-later}
 

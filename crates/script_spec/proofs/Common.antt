@@ -3,7 +3,8 @@ pub use Rattle.script_spec.proofs.Chains.{both, guarded, some_is, then_said}
 pub use Rattle.script_spec.proofs.CheckLaws.{compared, lacks-line, one_difference, one_line}
 pub use Rattle.script_spec.proofs.CutLemmas.{cut_field, cut_joined}
 pub use Rattle.script_spec.proofs.Digits.{lacks, value_of_decimal}
-pub use Rattle.script_spec.proofs.Fields.{back, back-field, front, front-field, lacks-append, lacks-decimal, lacks-first, lacks-later}
+pub use Rattle.script_spec.proofs.Fields.{back, back-field, front, front-field, lacks-append, lacks-decimal}
+pub use Rattle.script_spec.proofs.Fields.{lacks-first, lacks-later}
 pub use Rattle.script_spec.proofs.GoodItems.{NoReason, no_reason}
 pub use Rattle.script_spec.proofs.Joins.{word_is}
 pub use Rattle.script_spec.proofs.LineReading.{one_item}

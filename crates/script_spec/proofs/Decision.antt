@@ -1,7 +1,11 @@
 -- What a text says is found line by line: the items of a script, or the first bad line and the least reason.
-use Rattle.std.proofs.Common.{ℕ, ◌≡◌, ◌⊎◌, ◌+◌, true, false, Option, Some, None, Result, Ok, Err, List, [], ◌∷◌, ◌++◌, length, refl, sym, ap, subst, ◌∙◌, inl, inr, append-nil, arith, ◌<◌, nat_lt, if◌then◌else◌, bytes_eq, ◌≤◌}
+use Rattle.std.proofs.Common.{ℕ, ◌≡◌, ◌⊎◌, ◌+◌, false, Option, Some, None, Result, Ok, Err, List, [], ◌∷◌, ◌++◌, length}
+use Rattle.std.proofs.Common.{refl, sym, ap, subst, ◌∙◌, inl, inr, append-nil, arith, ◌<◌, nat_lt, if◌then◌else◌}
+use Rattle.std.proofs.Common.{bytes_eq, ◌≤◌}
 use Rattle.board_prelude.proofs.Common.{digits, cases_Bool, cases_lt, lt-ltb, le-ltb, true≢false, bytes_eq-Decides}
-use Rattle.script_spec.specs.Common.{lines_of, Item, HasForm, parse_line, lacks_setup, least_reason, most_bytes, is_skipped, IsBadLine, AreRead, EndsBadly, IsVersion, first_line, BeginsBadly, IsBadLater, Script, IsScriptText}
+use Rattle.script_spec.specs.Common.{lines_of, Item, HasForm, parse_line, lacks_setup, least_reason, most_bytes}
+use Rattle.script_spec.specs.Common.{is_skipped, IsBadLine, AreRead, EndsBadly, IsVersion, first_line, BeginsBadly}
+use Rattle.script_spec.specs.Common.{IsBadLater, Script, IsScriptText}
 use Rattle.script_spec.proofs.LineReading.{read_says, nothing_said}
 use Rattle.script_spec.proofs.Lists.{same_head, not_nil}
 use Rattle.script_spec.proofs.ItemBack.{line_back}

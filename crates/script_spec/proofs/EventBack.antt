@@ -1,9 +1,12 @@
 -- Fields that spell an event are read as that event.
-use Rattle.std.proofs.Common.{◌≡◌, ℕ, ◌^◌, ◌<◌, inl, inr, Bool, true, false, Some, List, [], ◌∷◌, refl, ap, ◌∙◌, arith, codes}
-use Rattle.board_prelude.proofs.Common.{eq-eqb, Kind, Fetch, Read, Write, Width, One, bytes_of, Port, hex_number, size_text, width_text, kind_text}
+use Rattle.std.proofs.Common.{◌≡◌, ℕ, ◌^◌, ◌<◌, inl, inr, Bool, true, false, Some, List, [], ◌∷◌, refl, ap, ◌∙◌, arith}
+use Rattle.std.proofs.Common.{codes}
+use Rattle.board_prelude.proofs.Common.{eq-eqb, Kind, Fetch, Read, Write, Width, One, bytes_of, Port, hex_number}
+use Rattle.board_prelude.proofs.Common.{size_text, width_text, kind_text}
 use Rattle.board_base.specs.declared.access.Width.TheVariants.{Two, Four}
 use Rattle.board_spec.specs.declared.event.Event.TheVariants.{Look as LookAt}
-use Rattle.script_spec.specs.Events.{parse_width, parse_size, parse_kind, parse_smm, IsSize, memory_event, parse_read, parse_write, parse_in, parse_out, parse_look}
+use Rattle.script_spec.specs.Events.{parse_width, parse_size, parse_kind, parse_smm, IsSize, memory_event, parse_read}
+use Rattle.script_spec.specs.Events.{parse_write, parse_in, parse_out, parse_look}
 use Rattle.script_spec.proofs.Joins.{Spells, Reads, smm_words}
 use Rattle.script_spec.proofs.NumberBack.{plain_is, hex_back}
 

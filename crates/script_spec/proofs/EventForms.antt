@@ -1,11 +1,20 @@
 -- Each event of a form is read again from the fields that spell it.
-use Rattle.std.proofs.Common.{◌≡◌, ℕ, ◌%◌, ◌^◌, ◌<◌, ◌⊎◌, inl, inr, Bool, true, false, not, eqb, ◌&&◌, Some, List, [], ◌∷◌, refl, sym, ap, subst, ◌∙◌, arith, codes, decimal}
-use Rattle.board_prelude.proofs.Common.{join_with_byte, option_map, cases_Bool, eqb-true, eq-eqb, ne_eqb, Kind, Fetch, Read, Write, Width, One, WideAccess, Moment, bytes_of, Event, Memory, Wide, Port, Ack, Pulses, Time, Wire, Line, BadSector, is_write, FitsBytes, space, hex_number, size_text, width_text, kind_text, level_text, memory_text, moment_text, event_text}
+use Rattle.std.proofs.Common.{◌≡◌, ℕ, ◌%◌, ◌^◌, ◌<◌, ◌⊎◌, inl, inr, Bool, true, false, not, eqb, ◌&&◌, Some, List, []}
+use Rattle.std.proofs.Common.{◌∷◌, refl, sym, ap, subst, ◌∙◌, arith, codes, decimal}
+use Rattle.board_prelude.proofs.Common.{join_with_byte, option_map, cases_Bool, eqb-true, eq-eqb, ne_eqb, Kind, Fetch}
+use Rattle.board_prelude.proofs.Common.{Read, Write, Width, One, WideAccess, Moment, bytes_of, Event, Memory, Wide}
+use Rattle.board_prelude.proofs.Common.{Port, Ack, Pulses, Time, Wire, Line, BadSector, is_write, FitsBytes, space}
+use Rattle.board_prelude.proofs.Common.{hex_number, size_text, width_text, kind_text, level_text, memory_text}
+use Rattle.board_prelude.proofs.Common.{moment_text, event_text}
 use Rattle.board_base.specs.declared.access.Width.TheVariants.{Two, Four}
 use Rattle.board_spec.specs.declared.event.Event.TheVariants.{Look as LookAt}
-use Rattle.script_spec.specs.Common.{Item, IsDecimal, IsWideForm, IsMomentForm, IsEventForm, IsSize, memory_event, parse_read, parse_ack, parse_number, parse_event, ask, wire_item, line_item, parse_two_numbers, parse_only_moment, parse_time_item, parse_wire_item, parse_line_item, parse_event_item, parse_by_verb, parse_statement_words}
+use Rattle.script_spec.specs.Common.{Item, IsDecimal, IsWideForm, IsMomentForm, IsEventForm, IsSize, memory_event}
+use Rattle.script_spec.specs.Common.{parse_read, parse_ack, parse_number, parse_event, ask, wire_item, line_item}
+use Rattle.script_spec.specs.Common.{parse_two_numbers, parse_only_moment, parse_time_item, parse_wire_item}
+use Rattle.script_spec.specs.Common.{parse_line_item, parse_event_item, parse_by_verb, parse_statement_words}
 use Rattle.script_spec.proofs.Digits.{lacks, digits_of_decimal}
-use Rattle.script_spec.proofs.Joins.{Spells, Reads, smm_words, access_joined, write_joined, look_joined, port_joined, out_joined}
+use Rattle.script_spec.proofs.Joins.{Spells, Reads, smm_words, access_joined, write_joined, look_joined, port_joined}
+use Rattle.script_spec.proofs.Joins.{out_joined}
 use Rattle.script_spec.proofs.Splits.{Lack}
 use Rattle.script_spec.proofs.ItemTexts.{zero_text, one_text}
 use Rattle.script_spec.proofs.NumberBack.{is_plain, plain_is, plain-digits, decimal_back}

@@ -1,9 +1,13 @@
 -- Events that have a form, and that there is no reason to refuse, are in range.
 use Rattle.std.proofs.Common.{ℕ, ◌≡◌, ◌+◌, ◌%◌, Bool, true, false, ◌&&◌, List, refl, arith, is_some}
-use Rattle.board_prelude.proofs.Common.{false≢true, leb-true, eqb-true, Width, One, Moment, bytes_of, IsMoment, Event, Memory, Wide, Port, Ack, Pulses, Time, Wire, Line, BadSector, Setup, card_at, is_write, FitsAccess, FitsBytes, IsInRange, IsScriptSector, IsInVersion, is_moment}
+use Rattle.board_prelude.proofs.Common.{false≢true, leb-true, eqb-true, Width, One, Moment, bytes_of, IsMoment, Event}
+use Rattle.board_prelude.proofs.Common.{Memory, Wide, Port, Ack, Pulses, Time, Wire, Line, BadSector, Setup, card_at}
+use Rattle.board_prelude.proofs.Common.{is_write, FitsAccess, FitsBytes, IsInRange, IsScriptSector, IsInVersion}
+use Rattle.board_prelude.proofs.Common.{is_moment}
 use Rattle.board_base.specs.declared.access.Width.TheVariants.{Two, Four}
 use Rattle.board_spec.specs.declared.event.Event.TheVariants.{Look as LookAt}
-use Rattle.script_spec.specs.Common.{Item, IsMomentForm, IsEventForm, has_card, is_event_in_range, is_event_placed, is_card_there}
+use Rattle.script_spec.specs.Common.{Item, IsMomentForm, IsEventForm, has_card, is_event_in_range, is_event_placed}
+use Rattle.script_spec.specs.Common.{is_card_there}
 use Rattle.script_spec.proofs.Chains.{is_within_is}
 
 fits_access : (writes : Bool) (width : Width) (value : ℕ) → FitsBytes writes (bytes_of width) value →

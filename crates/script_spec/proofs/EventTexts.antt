@@ -1,12 +1,19 @@
 -- The events that were read are those that the fields spell.
-use Rattle.std.proofs.Common.{◌≡◌, ℕ, ◌*◌, ◌%◌, ◌^◌, ◌<◌, ◌⊎◌, inl, inr, Bool, true, false, not, eqb, ◌||◌, Some, List, [], ◌∷◌, refl, sym, ap, subst, ◌∙◌, arith, codes, decimal, bytes_eq}
-use Rattle.board_prelude.proofs.Common.{join_with_byte, cases_Bool, eqb-true, eq-eqb, true≢false, Kind, Fetch, Read, Write, Width, One, bytes_of, Event, Ack, is_write, FitsBytes, space, hex_number, size_text, width_text, kind_text, memory_text, event_text}
+use Rattle.std.proofs.Common.{◌≡◌, ℕ, ◌*◌, ◌%◌, ◌^◌, ◌<◌, ◌⊎◌, inl, inr, Bool, true, false, not, eqb, ◌||◌, Some, List}
+use Rattle.std.proofs.Common.{[], ◌∷◌, refl, sym, ap, subst, ◌∙◌, arith, codes, decimal, bytes_eq}
+use Rattle.board_prelude.proofs.Common.{join_with_byte, cases_Bool, eqb-true, eq-eqb, true≢false, Kind, Fetch, Read}
+use Rattle.board_prelude.proofs.Common.{Write, Width, One, bytes_of, Event, Ack, is_write, FitsBytes, space, hex_number}
+use Rattle.board_prelude.proofs.Common.{size_text, width_text, kind_text, memory_text, event_text}
 use Rattle.board_base.specs.declared.access.Width.TheVariants.{Two, Four}
-use Rattle.script_spec.specs.Common.{IsDecimal, IsEventForm, parse_hex, parse_width, quad_size, parse_size, parse_kind, parse_smm, IsSize, width_with, is_wide, memory_event, parse_read, parse_write, parse_in, parse_out, parse_look, parse_ack, parse_number, parse_bad_sector, parse_event}
+use Rattle.script_spec.specs.Common.{IsDecimal, IsEventForm, parse_hex, parse_width, quad_size, parse_size, parse_kind}
+use Rattle.script_spec.specs.Common.{parse_smm, IsSize, width_with, is_wide, memory_event, parse_read, parse_write}
+use Rattle.script_spec.specs.Common.{parse_in, parse_out, parse_look, parse_ack, parse_number, parse_bad_sector}
+use Rattle.script_spec.specs.Common.{parse_event}
 use Rattle.script_spec.specs.Events.{parse_pulses}
 use Rattle.script_spec.proofs.Chains.{some_is, guarded, then_said, both}
 use Rattle.script_spec.proofs.NumberTexts.{decimal_read, hex_read}
-use Rattle.script_spec.proofs.Joins.{Reads, same, same_as, word_is, smm_words, smm_read, access_joined, write_joined, look_joined, port_joined, out_joined}
+use Rattle.script_spec.proofs.Joins.{Reads, same, same_as, word_is, smm_words, smm_read, access_joined, write_joined}
+use Rattle.script_spec.proofs.Joins.{look_joined, port_joined, out_joined}
 
 -- fields spell an event
 pub record IsRead (version : ℕ) (fields : List (List ℕ)) (event : Event) : Type 0 where

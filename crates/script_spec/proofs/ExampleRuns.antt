@@ -1,8 +1,19 @@
 -- The worked texts of scripts, decided by computation.
-use Rattle.std.proofs.Common.{ℕ, ◌≡◌, ◌<◌, Bool, true, false, List, [], ◌∷◌, map, All, Result, Ok, Err, refl, arith, subst}
-use Rattle.board_prelude.proofs.Common.{digits, false≢true, All-nil, All-cons, weekday_of, days_since_1980, days_of_years, days_of_months}
+use Rattle.std.proofs.Common.{ℕ, ◌≡◌, ◌<◌, Bool, true, false, List, [], ◌∷◌, map, All, Result, Ok, Err, refl, arith}
+use Rattle.std.proofs.Common.{subst}
+use Rattle.board_prelude.proofs.Common.{digits, false≢true, All-nil, All-cons, weekday_of, days_since_1980}
+use Rattle.board_prelude.proofs.Common.{days_of_years, days_of_months}
 use Rattle.std.proofs.lemmas.List.Sorted.{IsPermutation-refl}
-use Rattle.script_spec.specs.Common.{lines_of, text_of_lines, Item, number_after, parse_two_digits, after_mark, parse_moment_part, parse_year, parse_date, parse_time, whole_moment, parse_moment, parse_base, parse_rom_bits, with_base, with_rom, with_field, with_fields, parse_card, parse_smm, memory_event, parse_read, parse_write, parse_in, parse_out, parse_look, parse_ack, parse_number, parse_event, parse_two_numbers, parse_only_moment, parse_time_item, parse_wire_item, parse_line_item, parse_event_item, parse_by_verb, parse_statement_words, is_name, parse_name, parse_phase, parse_statement, parse_by_key, parse_item, least_reason, Script, IsSaidBy, IsScriptText, IsScriptBad, BadText, IsBadText, bad_texts, AreBad, Bound, with_line, IsBound, bounds, AreBounds, TwoProcessors, TwoOrders, WideScript}
+use Rattle.script_spec.specs.Common.{lines_of, text_of_lines, Item, number_after, parse_two_digits, after_mark}
+use Rattle.script_spec.specs.Common.{parse_moment_part, parse_year, parse_date, parse_time, whole_moment, parse_moment}
+use Rattle.script_spec.specs.Common.{parse_base, parse_rom_bits, with_base, with_rom, with_field, with_fields}
+use Rattle.script_spec.specs.Common.{parse_card, parse_smm, memory_event, parse_read, parse_write, parse_in, parse_out}
+use Rattle.script_spec.specs.Common.{parse_look, parse_ack, parse_number, parse_event, parse_two_numbers}
+use Rattle.script_spec.specs.Common.{parse_only_moment, parse_time_item, parse_wire_item, parse_line_item}
+use Rattle.script_spec.specs.Common.{parse_event_item, parse_by_verb, parse_statement_words, is_name, parse_name}
+use Rattle.script_spec.specs.Common.{parse_phase, parse_statement, parse_by_key, parse_item, least_reason, Script}
+use Rattle.script_spec.specs.Common.{IsSaidBy, IsScriptText, IsScriptBad, BadText, IsBadText, bad_texts, AreBad, Bound}
+use Rattle.script_spec.specs.Common.{with_line, IsBound, bounds, AreBounds, TwoProcessors, TwoOrders, WideScript}
 use Rattle.script_spec.proofs.ReadingLaws.{same_head, same_tail}
 use Rattle.script_spec.proofs.Decision.{judged, judged_lines, AreJudged, judged_is}
 use Rattle.script_spec.proofs.ReadingExists.{text_said}

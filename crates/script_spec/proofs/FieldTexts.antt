@@ -1,6 +1,9 @@
 -- The texts of fields have no space, and a number is no word.
-use Rattle.std.proofs.Common.{◌≡◌, ℕ, ◌+◌, ◌/◌, ◌%◌, ◌<◌, inl, inr, Bool, true, false, not, eqb, leb, ◌||◌, List, [], ◌∷◌, ◌++◌, refl, sym, ap, subst, ◌∙◌, arith, decimal, bytes_eq}
-use Rattle.board_prelude.proofs.Common.{list_all, AllDigits, cases_Bool, and_parts, and_from, or_left, or_cases, ne_eqb, eqb-true, le-leb, lt-leb, true≢false, Moment, is_within, space, hex_number, two_digits, moment_text}
+use Rattle.std.proofs.Common.{◌≡◌, ℕ, ◌+◌, ◌/◌, ◌%◌, ◌<◌, inl, inr, Bool, true, false, not, eqb, leb, ◌||◌, List, []}
+use Rattle.std.proofs.Common.{◌∷◌, ◌++◌, refl, sym, ap, subst, ◌∙◌, arith, decimal, bytes_eq}
+use Rattle.board_prelude.proofs.Common.{list_all, AllDigits, cases_Bool, and_parts, and_from, or_left, or_cases, ne_eqb}
+use Rattle.board_prelude.proofs.Common.{eqb-true, le-leb, lt-leb, true≢false, Moment, is_within, space, hex_number}
+use Rattle.board_prelude.proofs.Common.{two_digits, moment_text}
 use Rattle.script_spec.specs.Grammar.{IsDecimal, is_name_byte}
 use Rattle.script_spec.proofs.Digits.{lacks, digits_of_decimal}
 use Rattle.script_spec.proofs.PlainText.{hex_number_word, decimal_word, lacks-word}

@@ -1,7 +1,8 @@
 -- What holds of items that were read.
 use Rattle.std.proofs.Common.{ℕ, ◌≡◌, Bool, true, false, ◌&&◌, Some, None, List, [], ◌∷◌, sym, ap, inl, inr, unwrap_or}
 use Rattle.board_prelude.proofs.Common.{option_map, find, not-false, cases_Bool, none-some}
-use Rattle.script_spec.specs.Common.{Item, IsForm, Reason, reasons, is_phase, is_misplaced, is_repeated, lacks_setup, is_in_range, is_placed, is_there, passes_limits, least_reason, AreRead}
+use Rattle.script_spec.specs.Common.{Item, IsForm, Reason, reasons, is_phase, is_misplaced, is_repeated, lacks_setup}
+use Rattle.script_spec.specs.Common.{is_in_range, is_placed, is_there, passes_limits, least_reason, AreRead}
 
 -- there is no reason to refuse an item after these
 pub record NoReason (before : List Item) (item : Item) : Type 0 where

@@ -1,7 +1,11 @@
 -- Each line of a form is read as what it says.
-use Rattle.std.proofs.Common.{◌≡◌, ℕ, ◌≤◌, ◌⊎◌, inl, inr, true, Some, List, [], ◌∷◌, ◌++◌, refl, sym, ap, subst, ◌∙◌, arith, codes, decimal}
+use Rattle.std.proofs.Common.{◌≡◌, ℕ, ◌≤◌, ◌⊎◌, inl, inr, true, Some, List, [], ◌∷◌, ◌++◌, refl, sym, ap, subst, ◌∙◌}
+use Rattle.std.proofs.Common.{arith, codes, decimal}
 use Rattle.board_prelude.proofs.Common.{option_map, ne_eqb, Event, space, event_text}
-use Rattle.script_spec.specs.Common.{Item, SetCpus, SetMemory, SetRom, SetDisk, FitCard, BeginPhase, Ask, AskLevel, IsDecimal, IsForm, IsLevelForm, Says, HasForm, item_text, fields_of, ask, wire_item, line_item, parse_wire_item, parse_line_item, parse_by_verb, parse_statement_words, parse_statement, parse_by_key, parse_item}
+use Rattle.script_spec.specs.Common.{Item, SetCpus, SetMemory, SetRom, SetDisk, FitCard, BeginPhase, Ask, AskLevel}
+use Rattle.script_spec.specs.Common.{IsDecimal, IsForm, IsLevelForm, Says, HasForm, item_text, fields_of, ask}
+use Rattle.script_spec.specs.Common.{wire_item, line_item, parse_wire_item, parse_line_item, parse_by_verb}
+use Rattle.script_spec.specs.Common.{parse_statement_words, parse_statement, parse_by_key, parse_item}
 use Rattle.script_spec.proofs.Digits.{lacks}
 use Rattle.script_spec.proofs.Joins.{Spells, Reads}
 use Rattle.script_spec.proofs.ItemTexts.{level_joined}
@@ -9,7 +13,8 @@ use Rattle.script_spec.proofs.Splits.{split}
 use Rattle.script_spec.proofs.NumberBack.{decimal_back}
 use Rattle.script_spec.proofs.FieldTexts.{lacks_decimal, no_word}
 use Rattle.script_spec.proofs.EventForms.{IsReadBack, event_back, number_is, two_back}
-use Rattle.script_spec.proofs.SetupBack.{IsLineBack, exact_back, cpus_back, memory_back, phase_back, rom_back, disk_back, card_back}
+use Rattle.script_spec.proofs.SetupBack.{IsLineBack, exact_back, cpus_back, memory_back, phase_back, rom_back}
+use Rattle.script_spec.proofs.SetupBack.{disk_back, card_back}
 
 -- ---- statements
 

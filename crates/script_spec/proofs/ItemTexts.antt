@@ -1,9 +1,17 @@
 -- The item that was read is the one that the line says.
-use Rattle.std.proofs.Common.{◌≡◌, ℕ, zero, suc, ◌≤◌, ◌⊎◌, ◌==◌, inl, inr, Bool, true, false, eqb, leb, ◌&&◌, Some, List, [], ◌∷◌, ◌++◌, length, take, refl, sym, ap, subst, ◌∙◌, append_assoc, arith, lit<, codes, decimal, bytes_eq, if◌then◌else◌}
-use Rattle.board_prelude.proofs.Common.{join_with_byte, list_all, option_map, cases_Bool, eqb-true, leb-true, Moment, Event, Time, Wire, Line, space, event_text, moment_text, level_text}
+use Rattle.std.proofs.Common.{◌≡◌, ℕ, zero, suc, ◌≤◌, ◌⊎◌, ◌==◌, inl, inr, Bool, true, false, eqb, leb, ◌&&◌, Some}
+use Rattle.std.proofs.Common.{List, [], ◌∷◌, ◌++◌, length, take, refl, sym, ap, subst, ◌∙◌, append_assoc, arith, lit<}
+use Rattle.std.proofs.Common.{codes, decimal, bytes_eq, if◌then◌else◌}
+use Rattle.board_prelude.proofs.Common.{join_with_byte, list_all, option_map, cases_Bool, eqb-true, leb-true, Moment}
+use Rattle.board_prelude.proofs.Common.{Event, Time, Wire, Line, space, event_text, moment_text, level_text}
 use Rattle.std.proofs.lemmas.Fmt.{decimal-digits_value}
 use Rattle.std.proofs.lemmas.List.Splits.{join_with_byte-slice_split}
-use Rattle.script_spec.specs.Common.{Item, IsEventForm, SetCpus, SetMemory, SetRom, SetDisk, FitCard, BeginPhase, AskLevel, IsDecimal, IsName, HasForm, item_text, is_name_start, is_name_byte, fields_of, parse_decimal, parse_event, parse_number, parse_card, parse_moment, ask, parse_two_numbers, parse_only_moment, parse_time_item, parse_wire_item, parse_line_item, parse_event_item, parse_by_verb, parse_statement_words, is_name, parse_name, parse_phase, parse_statement, parse_by_key, parse_item}
+use Rattle.script_spec.specs.Common.{Item, IsEventForm, SetCpus, SetMemory, SetRom, SetDisk, FitCard, BeginPhase}
+use Rattle.script_spec.specs.Common.{AskLevel, IsDecimal, IsName, HasForm, item_text, is_name_start, is_name_byte}
+use Rattle.script_spec.specs.Common.{fields_of, parse_decimal, parse_event, parse_number, parse_card, parse_moment, ask}
+use Rattle.script_spec.specs.Common.{parse_two_numbers, parse_only_moment, parse_time_item, parse_wire_item}
+use Rattle.script_spec.specs.Common.{parse_line_item, parse_event_item, parse_by_verb, parse_statement_words, is_name}
+use Rattle.script_spec.specs.Common.{parse_name, parse_phase, parse_statement, parse_by_key, parse_item}
 use Rattle.script_spec.proofs.Digits.{own}
 use Rattle.script_spec.proofs.Chains.{some_is, guarded, then_said, mapped, both}
 use Rattle.script_spec.proofs.NumberTexts.{decimal_read}

@@ -1,5 +1,6 @@
 -- Fields that are spelled make a line that is spelled.
-use Rattle.std.proofs.Common.{◌≡◌, ℕ, Bool, true, false, Some, List, [], ◌∷◌, ◌++◌, inl, refl, sym, ap, subst, ◌∙◌, append_assoc, append-nil, codes, bytes_eq}
+use Rattle.std.proofs.Common.{◌≡◌, ℕ, Bool, true, false, Some, List, [], ◌∷◌, ◌++◌, inl, refl, sym, ap, subst, ◌∙◌}
+use Rattle.std.proofs.Common.{append_assoc, append-nil, codes, bytes_eq}
 use Rattle.board_prelude.proofs.Common.{AllZip, join_with_byte, bytes_eq-Decides, space, smm_text}
 use Rattle.script_spec.specs.Common.{StandsFor, parse_smm}
 use Rattle.script_spec.proofs.Chains.{some_is, guarded}

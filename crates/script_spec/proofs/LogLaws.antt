@@ -1,6 +1,9 @@
 -- A line of the log says its entry, and a log its version and its history.
-use Rattle.std.proofs.Common.{ℕ, ◌≡◌, ◌+◌, true, Option, Some, None, List, [], ◌∷◌, ◌++◌, length, map, reverse, get_or, drop, All, refl, sym, ap, ◌∙◌, inl, inr, append_assoc, append-nil, arith, codes, decimal}
-use Rattle.board_prelude.proofs.Common.{digits, flat_map-append, map-append, reverse-append, reverse-reverse, All-nil, All-head, All-tail, All-push, Pit, Ack, Entry, outside_answer, space, line_feed, event_text, value_bytes, reply_text, line_text, lines_text, log_text}
+use Rattle.std.proofs.Common.{ℕ, ◌≡◌, ◌+◌, true, Option, Some, None, List, [], ◌∷◌, ◌++◌, length, map, reverse, get_or}
+use Rattle.std.proofs.Common.{drop, All, refl, sym, ap, ◌∙◌, inl, inr, append_assoc, append-nil, arith, codes, decimal}
+use Rattle.board_prelude.proofs.Common.{digits, flat_map-append, map-append, reverse-append, reverse-reverse, All-nil}
+use Rattle.board_prelude.proofs.Common.{All-head, All-tail, All-push, Pit, Ack, Entry, outside_answer, space, line_feed}
+use Rattle.board_prelude.proofs.Common.{event_text, value_bytes, reply_text, line_text, lines_text, log_text}
 use Rattle.std.proofs.lemmas.Fmt.{decimal_injective}
 use Rattle.script_spec.specs.Common.{text_of_lines, IsOneLine, IsVersion, IsWellFormed, LineSaysEntry, LogSaysAll}
 use Rattle.script_spec.proofs.Digits.{lacks}

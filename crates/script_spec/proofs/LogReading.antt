@@ -1,7 +1,10 @@
 -- A line of the log is taken apart, and its entry is read from it.
-use Rattle.std.proofs.Common.{◌≡◌, ℕ, ◌<◌, true, Option, Some, None, List, [], ◌∷◌, ◌++◌, refl, sym, ap, ◌∙◌, inl, inr, append_assoc, arith, codes, decimal}
-use Rattle.board_prelude.proofs.Common.{lt-ltb, common_steps, Event, Statement, Entry, space, event_text, value_bytes, reply_text, line_text}
-use Rattle.script_spec.specs.Common.{Item, Ask, HasForm, item_text, IsWellFormed, fields_of, ◌>>=◌, ask, parse_line, cut, parse_spaced_reply, Pieces, but_last, parse_pieces, parse_actor}
+use Rattle.std.proofs.Common.{◌≡◌, ℕ, ◌<◌, true, Option, Some, None, List, [], ◌∷◌, ◌++◌, refl, sym, ap, ◌∙◌, inl, inr}
+use Rattle.std.proofs.Common.{append_assoc, arith, codes, decimal}
+use Rattle.board_prelude.proofs.Common.{lt-ltb, common_steps, Event, Statement, Entry, space, event_text, value_bytes}
+use Rattle.board_prelude.proofs.Common.{reply_text, line_text}
+use Rattle.script_spec.specs.Common.{Item, Ask, HasForm, item_text, IsWellFormed, fields_of, ◌>>=◌, ask, parse_line}
+use Rattle.script_spec.specs.Common.{cut, parse_spaced_reply, Pieces, but_last, parse_pieces, parse_actor}
 use Rattle.script_spec.proofs.Digits.{lacks}
 use Rattle.script_spec.proofs.Fields.{lacks-append, lacks-decimal}
 use Rattle.script_spec.proofs.PlainText.{lacks-word, lacks-plain, decimal_word}

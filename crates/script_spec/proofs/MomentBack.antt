@@ -1,7 +1,8 @@
 -- A field that spells a moment is read as that moment.
 use Rattle.std.proofs.Common.{◌≡◌, ℕ, ◌+◌, ◌*◌, ◌/◌, ◌%◌, ◌<◌, Some, List, [], ◌∷◌, ◌++◌, refl, sym, ap, arith}
 use Rattle.board_prelude.proofs.Common.{eq-eqb, Moment, moment_of, two_digits, moment_text}
-use Rattle.script_spec.specs.Common.{IsMomentForm, parse_two_digits, after_mark, parse_moment_part, parse_year, parse_date, parse_time, whole_moment, parse_moment}
+use Rattle.script_spec.specs.Common.{IsMomentForm, parse_two_digits, after_mark, parse_moment_part, parse_year}
+use Rattle.script_spec.specs.Common.{parse_date, parse_time, whole_moment, parse_moment}
 use Rattle.script_spec.proofs.NumberBack.{digit_so}
 
 two_back : (n : ℕ) (rest : List ℕ) → n < 100 → parse_two_digits (two_digits n ++ rest) ≡ Some (n, rest)

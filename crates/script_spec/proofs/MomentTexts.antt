@@ -1,7 +1,9 @@
 -- The moment that was read is the one that the field spells.
-use Rattle.std.proofs.Common.{◌≡◌, ℕ, ◌+◌, ◌*◌, ◌/◌, ◌%◌, ◌<◌, eqb, Some, List, [], ◌∷◌, ◌++◌, refl, sym, ap, subst, ◌∙◌, arith}
+use Rattle.std.proofs.Common.{◌≡◌, ℕ, ◌+◌, ◌*◌, ◌/◌, ◌%◌, ◌<◌, eqb, Some, List, [], ◌∷◌, ◌++◌, refl, sym, ap, subst}
+use Rattle.std.proofs.Common.{◌∙◌, arith}
 use Rattle.board_prelude.proofs.Common.{eqb-true, Moment, moment_of, two_digits, moment_text}
-use Rattle.script_spec.specs.Common.{IsMomentForm, parse_digit, parse_two_digits, after_mark, parse_moment_part, parse_year, Three, parse_date, parse_time, whole_moment, parse_moment}
+use Rattle.script_spec.specs.Common.{IsMomentForm, parse_digit, parse_two_digits, after_mark, parse_moment_part}
+use Rattle.script_spec.specs.Common.{parse_year, Three, parse_date, parse_time, whole_moment, parse_moment}
 use Rattle.script_spec.proofs.Chains.{some_is, guarded, then_said}
 use Rattle.script_spec.proofs.NumberTexts.{ten_is}
 

@@ -1,14 +1,20 @@
 -- A field that spells a number is read as that number.
-use Rattle.std.proofs.Common.{◌≡◌, ℕ, zero, suc, ◌+◌, ◌-◌, ◌*◌, ◌/◌, ◌%◌, ◌^◌, ◌<◌, ◌≤◌, inl, inr, Bool, true, false, not, eqb, leb, Some, List, [], ◌∷◌, length, get_or, refl, sym, ap, subst, ◌∙◌, arith, pow-suc, lit<, decimal}
-use Rattle.board_prelude.proofs.Common.{list_all, AllDigits, cases_Bool, cases_lt, leb-true, lt-ltb, le-ltb, le-leb, lt-leb, eq-eqb, eqb-true, and_parts, true≢false, not-true, byte, is_within, hex_digit, hex_number}
+use Rattle.std.proofs.Common.{◌≡◌, ℕ, zero, suc, ◌+◌, ◌-◌, ◌*◌, ◌/◌, ◌%◌, ◌^◌, ◌<◌, ◌≤◌, inl, inr, Bool, true, false}
+use Rattle.std.proofs.Common.{not, eqb, leb, Some, List, [], ◌∷◌, length, get_or, refl, sym, ap, subst, ◌∙◌, arith}
+use Rattle.std.proofs.Common.{pow-suc, lit<, decimal}
+use Rattle.board_prelude.proofs.Common.{list_all, AllDigits, cases_Bool, cases_lt, leb-true, lt-ltb, le-ltb, le-leb}
+use Rattle.board_prelude.proofs.Common.{lt-leb, eq-eqb, eqb-true, and_parts, true≢false, not-true, byte, is_within}
+use Rattle.board_prelude.proofs.Common.{hex_digit, hex_number}
 use Rattle.std.specs.Char.{digit_value as value_of_digit}
 use Rattle.std.specs.Str.Parse.{digits_value_after}
 use Rattle.std.proofs.lemmas.Str.Parse.{digit_from_value}
 use Rattle.std.proofs.lemmas.Str.{digit_value_digit}
-use Rattle.std.proofs.lemmas.Fmt.{digits_value-decimal, length-decimal-le, first_decimal, decimal_nonempty, decimal_digit}
+use Rattle.std.proofs.lemmas.Fmt.{digits_value-decimal, length-decimal-le, first_decimal, decimal_nonempty}
+use Rattle.std.proofs.lemmas.Fmt.{decimal_digit}
 use Rattle.std.proofs.lemmas.List.Elements.{length_all_zip}
 use Rattle.std.proofs.Math.Nat.{div-eq_of_lt}
-use Rattle.script_spec.specs.Common.{IsDecimal, StandsFor, parse_digit, number_after, parse_digits, parse_hex, has_leading_zero, parse_decimal}
+use Rattle.script_spec.specs.Common.{IsDecimal, StandsFor, parse_digit, number_after, parse_digits, parse_hex}
+use Rattle.script_spec.specs.Common.{has_leading_zero, parse_decimal}
 use Rattle.script_spec.proofs.Digits.{own, digits_of_decimal}
 use Rattle.script_spec.proofs.NumberTexts.{quotient, digit_again}
 use Rattle.script_spec.proofs.Joins.{Spells}

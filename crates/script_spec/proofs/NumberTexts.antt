@@ -1,12 +1,17 @@
 -- The numbers that were read are those whose text a field is.
-use Rattle.std.proofs.Common.{◌≡◌, ℕ, zero, suc, ◌+◌, ◌-◌, ◌*◌, ◌/◌, ◌%◌, ◌^◌, ◌<◌, ◌≤◌, ◌⊎◌, inl, inr, false, not, cond, eqb, leb, ltb, ◌&&◌, Some, None, List, [], ◌∷◌, length, get_or, refl, sym, ap, subst, ◌∙◌, arith, pow-suc, lit<, le-div_iff_mul-le, decimal}
-use Rattle.board_prelude.proofs.Common.{AllZip, AllDigits, digits_value, true≢false, cases_Bool, leb-true, ltb-true, cases_lt, lt-ltb, le-ltb, le-leb, eqb-true, pow-le-pow_right, byte, is_within, hex_digit, hex_number}
+use Rattle.std.proofs.Common.{◌≡◌, ℕ, zero, suc, ◌+◌, ◌-◌, ◌*◌, ◌/◌, ◌%◌, ◌^◌, ◌<◌, ◌≤◌, ◌⊎◌, inl, inr, false, not}
+use Rattle.std.proofs.Common.{cond, eqb, leb, ltb, ◌&&◌, Some, None, List, [], ◌∷◌, length, get_or, refl, sym, ap}
+use Rattle.std.proofs.Common.{subst, ◌∙◌, arith, pow-suc, lit<, le-div_iff_mul-le, decimal}
+use Rattle.board_prelude.proofs.Common.{AllZip, AllDigits, digits_value, true≢false, cases_Bool, leb-true, ltb-true}
+use Rattle.board_prelude.proofs.Common.{cases_lt, lt-ltb, le-ltb, le-leb, eqb-true, pow-le-pow_right, byte, is_within}
+use Rattle.board_prelude.proofs.Common.{hex_digit, hex_number}
 use Rattle.std.specs.Char.{digit_value as value_of_digit}
 use Rattle.std.specs.Str.Parse.{digits_value_after}
 use native.Mathlib.Nat.{div-div-eq-div-mul}
 use Rattle.std.proofs.lemmas.Fmt.{decimal-digits_value}
 use Rattle.std.proofs.lemmas.Int.Digits.{digits_value-lt}
-use Rattle.script_spec.specs.Common.{IsDecimal, StandsFor, digit_value, parse_digit, number_after, parse_digits, parse_hex, has_leading_zero, parse_decimal}
+use Rattle.script_spec.specs.Common.{IsDecimal, StandsFor, digit_value, parse_digit, number_after, parse_digits}
+use Rattle.script_spec.specs.Common.{parse_hex, has_leading_zero, parse_decimal}
 use Rattle.script_spec.proofs.Digits.{own}
 use Rattle.script_spec.proofs.Chains.{some_is, guarded, then_said, both, is_within_is}
 

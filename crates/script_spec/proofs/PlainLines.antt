@@ -1,9 +1,16 @@
 -- Statements and replies are words and spaces.
-use Rattle.std.proofs.Common.{ℕ, ◌≡◌, ◌+◌, ◌/◌, ◌%◌, ◌<◌, Bool, true, false, ◌||◌, eqb, Option, Some, None, List, [], ◌∷◌, ◌++◌, flat_map, refl, inl, inr, arith, codes, decimal, if◌then◌else◌}
-use Rattle.board_prelude.proofs.Common.{cases_Bool, or_right, and_from, Kind, Fetch, Read, Write, Moment, Target, Denial, bytes_of, Event, Memory, Wide, Port, Ack, Pulses, Time, Wire, Line, BadSector, Part, Reply, Bus, Saw, is_write, parts_list, space, hex_number, hex_word, hex_long, area_text, target_text, denial_text, size_text, kind_text, written_text, smm_text, memory_text, level_text, two_digits, moment_text, event_text, value_text, answered_text, reply_text}
+use Rattle.std.proofs.Common.{ℕ, ◌≡◌, ◌+◌, ◌/◌, ◌%◌, ◌<◌, Bool, true, false, ◌||◌, eqb, Option, Some, None, List, []}
+use Rattle.std.proofs.Common.{◌∷◌, ◌++◌, flat_map, refl, inl, inr, arith, codes, decimal, if◌then◌else◌}
+use Rattle.board_prelude.proofs.Common.{cases_Bool, or_right, and_from, Kind, Fetch, Read, Write, Moment, Target}
+use Rattle.board_prelude.proofs.Common.{Denial, bytes_of, Event, Memory, Wide, Port, Ack, Pulses, Time, Wire, Line}
+use Rattle.board_prelude.proofs.Common.{BadSector, Part, Reply, Bus, Saw, is_write, parts_list, space, hex_number}
+use Rattle.board_prelude.proofs.Common.{hex_word, hex_long, area_text, target_text, denial_text, size_text, kind_text}
+use Rattle.board_prelude.proofs.Common.{written_text, smm_text, memory_text, level_text, two_digits, moment_text}
+use Rattle.board_prelude.proofs.Common.{event_text, value_text, answered_text, reply_text}
 use Rattle.board_spec.specs.declared.event.Event.TheVariants.{Look as LookAt}
 use Rattle.board_spec.specs.declared.event.Reply.TheVariants.{Parts as InParts}
-use Rattle.script_spec.proofs.PlainText.{is_word_byte, is_word, is_plain, plain-append, plain-word, digit_byte, hex_number_word, decimal_word, area_word, target_word, denial_word}
+use Rattle.script_spec.proofs.PlainText.{is_word_byte, is_word, is_plain, plain-append, plain-word, digit_byte}
+use Rattle.script_spec.proofs.PlainText.{hex_number_word, decimal_word, area_word, target_word, denial_word}
 
 hex_plain : (bytes n : ℕ) → is_plain (hex_number bytes n) ≡ true
 hex_plain bytes n = plain-word (hex_number bytes n) (hex_number_word bytes n)

@@ -1,6 +1,12 @@
 -- The bytes of the log's words: spaces, letters, digits and a few marks, but no line feed and no `=`.
-use Rattle.std.proofs.Common.{ℕ, zero, suc, ◌≡◌, ◌+◌, ◌/◌, ◌%◌, ◌<◌, Bool, true, false, ◌||◌, cond, eqb, leb, ltb, Option, Some, None, List, [], ◌∷◌, ◌++◌, refl, sym, ap, ◌∙◌, inl, inr, arith, codes, decimal}
-use Rattle.board_prelude.proofs.Common.{digits, list_all, le-leb, lt-ltb, le-ltb, ne_eqb, cases_lt, cases_Bool, and_from, and_parts, or_right, or_left, true≢false, Reg, Dev, Area, Target, Denial, Register, Confadd, NoRegister, byte, is_within, space, hex_digit, hex_number, hex_offset, register_text, base_text, area_text, device_text, target_text, denial_text}
+use Rattle.std.proofs.Common.{ℕ, zero, suc, ◌≡◌, ◌+◌, ◌/◌, ◌%◌, ◌<◌, Bool, true, false, ◌||◌, cond, eqb, leb, ltb}
+use Rattle.std.proofs.Common.{Option, Some, None, List, [], ◌∷◌, ◌++◌, refl, sym, ap, ◌∙◌, inl, inr, arith, codes}
+use Rattle.std.proofs.Common.{decimal}
+use Rattle.board_prelude.proofs.Common.{digits, list_all, le-leb, lt-ltb, le-ltb, ne_eqb, cases_lt, cases_Bool}
+use Rattle.board_prelude.proofs.Common.{and_from, and_parts, or_right, or_left, true≢false, Reg, Dev, Area, Target}
+use Rattle.board_prelude.proofs.Common.{Denial, Register, Confadd, NoRegister, byte, is_within, space, hex_digit}
+use Rattle.board_prelude.proofs.Common.{hex_number, hex_offset, register_text, base_text, area_text, device_text}
+use Rattle.board_prelude.proofs.Common.{target_text, denial_text}
 use Rattle.std.specs.Fmt.{digits_onto, digit_glyph}
 use Rattle.std.proofs.lemmas.List.Folds.{list_all-append}
 use Rattle.board_base.specs.declared.target.Dev.TheVariants as devices

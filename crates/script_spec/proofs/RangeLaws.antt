@@ -1,12 +1,24 @@
 -- What a text says is in range.
-use Rattle.std.proofs.Common.{ℕ, ◌≡◌, ◌+◌, ◌-◌, ◌*◌, ◌<◌, ◌≤◌, Bool, true, false, not, ◌&&◌, ◌||◌, cond, ltb, Option, Some, None, List, [], ◌∷◌, ◌++◌, length, map, reverse, All, filter, flat_map, refl, sym, ap, ◌∙◌, inl, inr, get_or, add-one, arith, is_some, ◌==◌}
-use Rattle.board_prelude.proofs.Common.{option_map, find, list_any, list_all, IsPermutation, true≢false, false≢true, or_parts, or_cases, or_right, and_parts, cases_Bool, ltb-true, ltb-false, All-nil, All-cons, All-head, All-tail, All-append, sum_by-cons, sum_by-append, All-permutation, IsPermutation-sym, Statement, most_statements, most_phases, most_pulses, most_card_memory, Setup, Base, MemoryBase, IoBase, OutsideBase, FittedCard, IsBase, IsExpansionRom, IsCard, Rises, memory_size, memory_of_cards, IsScripted, is_base_in_range, is_rom_in_range}
+use Rattle.std.proofs.Common.{ℕ, ◌≡◌, ◌+◌, ◌-◌, ◌*◌, ◌<◌, ◌≤◌, Bool, true, false, not, ◌&&◌, ◌||◌, cond, ltb, Option}
+use Rattle.std.proofs.Common.{Some, None, List, [], ◌∷◌, ◌++◌, length, map, reverse, All, filter, flat_map, refl, sym}
+use Rattle.std.proofs.Common.{ap, ◌∙◌, inl, inr, get_or, add-one, arith, is_some, ◌==◌}
+use Rattle.board_prelude.proofs.Common.{option_map, find, list_any, list_all, IsPermutation, true≢false, false≢true}
+use Rattle.board_prelude.proofs.Common.{or_parts, or_cases, or_right, and_parts, cases_Bool, ltb-true, ltb-false}
+use Rattle.board_prelude.proofs.Common.{All-nil, All-cons, All-head, All-tail, All-append, sum_by-cons, sum_by-append}
+use Rattle.board_prelude.proofs.Common.{All-permutation, IsPermutation-sym, Statement, most_statements, most_phases}
+use Rattle.board_prelude.proofs.Common.{most_pulses, most_card_memory, Setup, Base, MemoryBase, IoBase, OutsideBase}
+use Rattle.board_prelude.proofs.Common.{FittedCard, IsBase, IsExpansionRom, IsCard, Rises, memory_size, memory_of_cards}
+use Rattle.board_prelude.proofs.Common.{IsScripted, is_base_in_range, is_rom_in_range}
 use Rattle.std.specs.List.{sum_by}
 use Rattle.std.proofs.lemmas.List.Elements.{All-filter}
 use Rattle.std.proofs.lemmas.List.Folds.{list_any_none}
 use Rattle.std.proofs.lemmas.List.Sums.{length-filter}
 use Rattle.std.proofs.lemmas.List.Sorted.{IsPermutation-reverse, sum_by-IsPermutation}
-use Rattle.script_spec.specs.Common.{Item, SetCpus, SetMemory, SetRom, SetDisk, FitCard, BeginPhase, Ask, AskLevel, IsForm, is_phase, is_statement, is_setup, is_cpus, is_memory, is_rom, is_disk, is_cpus_above, has_card, cards_of, pulses_of, pulses_of_event, is_card_there, Script, IsVersion, phase_items, IsSaidBy, IsDiskName, statements_in, IsInRangeScript, ScriptsAreInRange}
+use Rattle.script_spec.specs.Common.{Item, SetCpus, SetMemory, SetRom, SetDisk, FitCard, BeginPhase, Ask, AskLevel}
+use Rattle.script_spec.specs.Common.{IsForm, is_phase, is_statement, is_setup, is_cpus, is_memory, is_rom, is_disk}
+use Rattle.script_spec.specs.Common.{is_cpus_above, has_card, cards_of, pulses_of, pulses_of_event, is_card_there}
+use Rattle.script_spec.specs.Common.{Script, IsVersion, phase_items, IsSaidBy, IsDiskName, statements_in}
+use Rattle.script_spec.specs.Common.{IsInRangeScript, ScriptsAreInRange}
 use Rattle.script_spec.proofs.GoodItems.{NoReason, AreGood, read_good, found_good}
 use Rattle.script_spec.proofs.ScriptLaws.{count_of}
 use Rattle.script_spec.proofs.EventRange.{HasCards, event_in_range, sector_in_range, event_in_version}

@@ -1,8 +1,17 @@
 -- Each text is a script's, or bad.
-use Rattle.std.proofs.Common.{ℕ, ◌≡◌, ◌≢◌, ◌<◌, ◌≤◌, ◌⊎◌, Bool, true, false, not, ◌&&◌, ◌||◌, cond, ltb, Option, Some, None, Result, Ok, Err, List, [], ◌∷◌, ◌++◌, map, reverse, get_or, All, filter, refl, sym, ap, ◌∙◌, inl, inr, append_assoc, append-nil, arith, ◌==◌}
-use Rattle.board_prelude.proofs.Common.{option_map, find, list_any, IsPermutation, true≢false, false≢true, or_right, or_from, and_parts, and_from, cases_Bool, ltb-true, ltb-false, eqb-false, flat_map-append, map-append, reverse-append, All-nil, All-cons, All-head, All-tail, All-permutation, IsPermutation-sym, Statement, FittedCard, Rises}
-use Rattle.std.proofs.lemmas.List.Sorted.{IsPermutation-refl, IsPermutation-trans, IsPermutation-cons, IsPermutation-middle}
-use Rattle.script_spec.specs.Common.{lines_of, Item, SetCpus, SetMemory, SetRom, SetDisk, FitCard, BeginPhase, Ask, AskLevel, is_phase, is_setup, is_cpus, is_memory, is_rom, is_disk, cards_of, has_setup, lacks_setup, Script, phase_items, IsSaidBy, IsScriptText, IsScriptBad, SomeReading}
+use Rattle.std.proofs.Common.{ℕ, ◌≡◌, ◌≢◌, ◌<◌, ◌≤◌, ◌⊎◌, Bool, true, false, not, ◌&&◌, ◌||◌, cond, ltb, Option, Some}
+use Rattle.std.proofs.Common.{None, Result, Ok, Err, List, [], ◌∷◌, ◌++◌, map, reverse, get_or, All, filter, refl, sym}
+use Rattle.std.proofs.Common.{ap, ◌∙◌, inl, inr, append_assoc, append-nil, arith, ◌==◌}
+use Rattle.board_prelude.proofs.Common.{option_map, find, list_any, IsPermutation, true≢false, false≢true, or_right}
+use Rattle.board_prelude.proofs.Common.{or_from, and_parts, and_from, cases_Bool, ltb-true, ltb-false, eqb-false}
+use Rattle.board_prelude.proofs.Common.{flat_map-append, map-append, reverse-append, All-nil, All-cons, All-head}
+use Rattle.board_prelude.proofs.Common.{All-tail, All-permutation, IsPermutation-sym, Statement, FittedCard, Rises}
+use Rattle.std.proofs.lemmas.List.Sorted.{IsPermutation-refl, IsPermutation-trans, IsPermutation-cons}
+use Rattle.std.proofs.lemmas.List.Sorted.{IsPermutation-middle}
+use Rattle.script_spec.specs.Common.{lines_of, Item, SetCpus, SetMemory, SetRom, SetDisk, FitCard, BeginPhase, Ask}
+use Rattle.script_spec.specs.Common.{AskLevel, is_phase, is_setup, is_cpus, is_memory, is_rom, is_disk, cards_of}
+use Rattle.script_spec.specs.Common.{has_setup, lacks_setup, Script, phase_items, IsSaidBy, IsScriptText, IsScriptBad}
+use Rattle.script_spec.specs.Common.{SomeReading}
 use Rattle.script_spec.proofs.GoodItems.{NoReason, AreGood, read_good}
 use Rattle.script_spec.proofs.RangeLaws.{none_any}
 use Rattle.script_spec.proofs.Decision.{judged, AreGoodLines, AreJudged, judged_is}

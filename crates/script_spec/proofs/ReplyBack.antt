@@ -1,10 +1,21 @@
 -- A reply is read back from its words, and what is read has the shape of its event.
-use Rattle.std.proofs.Common.{◌≡◌, ℕ, zero, suc, ◌+◌, ◌-◌, ◌^◌, ◌<◌, ◌≤◌, ◌↔◌, Bool, true, false, eqb, Option, Some, None, List, [], ◌∷◌, ◌++◌, length, All, flat_map, refl, sym, ap, ◌∙◌, inl, inr, append_assoc, append-nil, arith, lit<, decimal, IfSome, IsTrue}
-use Rattle.board_prelude.proofs.Common.{option_map, pow-le-pow_right, cases_Bool, eq-eqb, eqb-true, true≢false, All-head, All-tail, Kind, Fetch, Read, Write, WideAccess, Target, Denial, bytes_of, Event, Memory, Wide, Port, Ack, Pulses, Time, Wire, Line, BadSector, Look, Part, Parts, Two, Three, Four, Reply, Bus, Saw, is_write, longest_at, parts_from, parts_of, parts_list, space, hex_long, area_text, target_text, denial_text, value_bytes, value_text, answered_text, reply_text}
+use Rattle.std.proofs.Common.{◌≡◌, ℕ, zero, suc, ◌+◌, ◌-◌, ◌^◌, ◌<◌, ◌≤◌, ◌↔◌, Bool, true, false, eqb, Option, Some}
+use Rattle.std.proofs.Common.{None, List, [], ◌∷◌, ◌++◌, length, All, flat_map, refl, sym, ap, ◌∙◌, inl, inr}
+use Rattle.std.proofs.Common.{append_assoc, append-nil, arith, lit<, decimal, IfSome, IsTrue}
+use Rattle.board_prelude.proofs.Common.{option_map, pow-le-pow_right, cases_Bool, eq-eqb, eqb-true, true≢false}
+use Rattle.board_prelude.proofs.Common.{All-head, All-tail, Kind, Fetch, Read, Write, WideAccess, Target, Denial}
+use Rattle.board_prelude.proofs.Common.{bytes_of, Event, Memory, Wide, Port, Ack, Pulses, Time, Wire, Line, BadSector}
+use Rattle.board_prelude.proofs.Common.{Look, Part, Parts, Two, Three, Four, Reply, Bus, Saw, is_write, longest_at}
+use Rattle.board_prelude.proofs.Common.{parts_from, parts_of, parts_list, space, hex_long, area_text, target_text}
+use Rattle.board_prelude.proofs.Common.{denial_text, value_bytes, value_text, answered_text, reply_text}
 use Rattle.board_spec.specs.declared.event.Event.TheVariants.{Look as LookAt}
 use Rattle.board_spec.specs.declared.event.Reply.TheVariants.{Parts as InParts}
-use Rattle.script_spec.specs.Common.{IsDecimal, FitsPart, IsReplyValue, IsBusReply, IsWideReply, IsLookReply, HasShape, fields_of, parse_hex, parse_decimal, parse_denial, parse_area, parse_target, parse_value, parse_bus_reply, parse_last_parts, parse_more_parts, parse_parts, part_count, parts_with, parse_wide_reply, parse_reply, parse_spaced_reply}
-use Rattle.script_spec.proofs.PlainText.{is_word, lacks-word, hex_number_word, decimal_word, area_word, target_word, denial_word}
+use Rattle.script_spec.specs.Common.{IsDecimal, FitsPart, IsReplyValue, IsBusReply, IsWideReply, IsLookReply, HasShape}
+use Rattle.script_spec.specs.Common.{fields_of, parse_hex, parse_decimal, parse_denial, parse_area, parse_target}
+use Rattle.script_spec.specs.Common.{parse_value, parse_bus_reply, parse_last_parts, parse_more_parts, parse_parts}
+use Rattle.script_spec.specs.Common.{part_count, parts_with, parse_wide_reply, parse_reply, parse_spaced_reply}
+use Rattle.script_spec.proofs.PlainText.{is_word, lacks-word, hex_number_word, decimal_word, area_word, target_word}
+use Rattle.script_spec.proofs.PlainText.{denial_word}
 use Rattle.script_spec.proofs.PlainLines.{value_word}
 use Rattle.script_spec.proofs.Digits.{lacks}
 use Rattle.script_spec.proofs.CardTexts.{spaced, line_spaced}

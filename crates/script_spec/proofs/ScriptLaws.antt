@@ -1,7 +1,10 @@
 -- A text says at most one script.
-use Rattle.std.proofs.Common.{ℕ, ◌≡◌, ◌<◌, ◌⊎◌, Option, Some, None, Result, Ok, List, [], ◌∷◌, ◌++◌, get_or, map, All, refl, sym, ap, ◌∙◌, inl, inr, append-nil, arith}
-use Rattle.board_prelude.proofs.Common.{option_map, IsPermutation, All-head, All-tail, All-nil, All-cons, All-permutation, IsPermutation-sym, Statement, FittedCard, Rises}
-use Rattle.script_spec.specs.Common.{Item, SetCpus, SetMemory, SetRom, SetDisk, BeginPhase, Ask, cards_of, Script, phase_items, IsSaidBy, OneScript}
+use Rattle.std.proofs.Common.{ℕ, ◌≡◌, ◌<◌, ◌⊎◌, Option, Some, None, Result, Ok, List, [], ◌∷◌, ◌++◌, get_or, map, All}
+use Rattle.std.proofs.Common.{refl, sym, ap, ◌∙◌, inl, inr, append-nil, arith}
+use Rattle.board_prelude.proofs.Common.{option_map, IsPermutation, All-head, All-tail, All-nil, All-cons}
+use Rattle.board_prelude.proofs.Common.{All-permutation, IsPermutation-sym, Statement, FittedCard, Rises}
+use Rattle.script_spec.specs.Common.{Item, SetCpus, SetMemory, SetRom, SetDisk, BeginPhase, Ask, cards_of, Script}
+use Rattle.script_spec.specs.Common.{phase_items, IsSaidBy, OneScript}
 use Rattle.script_spec.proofs.Decision.{text_decided}
 
 -- ---- cards in rising order

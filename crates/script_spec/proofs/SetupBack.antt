@@ -1,7 +1,12 @@
 -- Each line of a form that asks nothing is read again from its fields.
-use Rattle.std.proofs.Common.{◌≡◌, ℕ, Bool, true, false, Option, Some, None, List, [], ◌∷◌, ◌++◌, length, flat_map, map, leb, ◌&&◌, refl, sym, ap, ◌∙◌, append_assoc, append-nil, arith, codes, decimal}
-use Rattle.board_prelude.proofs.Common.{join_with_byte, list_all, option_map, and_parts, and_from, le-leb, Base, MemoryBase, IoBase, OutsideBase, FittedCard, space}
-use Rattle.script_spec.specs.Common.{Item, SetCpus, SetMemory, SetRom, SetDisk, FitCard, BeginPhase, IsDecimal, IsName, IsCardForm, base_text, rom_text, item_text, is_name_start, is_name_byte, parse_number, parse_card, fields_of, is_name, parse_name, parse_phase, parse_by_key, parse_item}
+use Rattle.std.proofs.Common.{◌≡◌, ℕ, Bool, true, false, Option, Some, None, List, [], ◌∷◌, ◌++◌, length, flat_map, map}
+use Rattle.std.proofs.Common.{leb, ◌&&◌, refl, sym, ap, ◌∙◌, append_assoc, append-nil, arith, codes, decimal}
+use Rattle.board_prelude.proofs.Common.{join_with_byte, list_all, option_map, and_parts, and_from, le-leb, Base}
+use Rattle.board_prelude.proofs.Common.{MemoryBase, IoBase, OutsideBase, FittedCard, space}
+use Rattle.script_spec.specs.Common.{Item, SetCpus, SetMemory, SetRom, SetDisk, FitCard, BeginPhase, IsDecimal, IsName}
+use Rattle.script_spec.specs.Common.{IsCardForm, base_text, rom_text, item_text, is_name_start, is_name_byte}
+use Rattle.script_spec.specs.Common.{parse_number, parse_card, fields_of, is_name, parse_name, parse_phase}
+use Rattle.script_spec.specs.Common.{parse_by_key, parse_item}
 use Rattle.script_spec.proofs.Digits.{lacks}
 use Rattle.script_spec.proofs.Splits.{Lack, split_exact}
 use Rattle.script_spec.proofs.NumberBack.{decimal_back}

@@ -1,6 +1,8 @@
 -- A line that spells fields has just those fields.
-use Rattle.std.proofs.Common.{◌≡◌, ℕ, inl, inr, Bool, true, false, eqb, leb, List, [], ◌∷◌, ◌++◌, refl, sym, ap, subst, ◌∙◌, All, arith}
-use Rattle.board_prelude.proofs.Common.{join_with_byte, and_parts, leb-true, ne_eqb, true≢false, All-nil, All-cons, space}
+use Rattle.std.proofs.Common.{◌≡◌, ℕ, inl, inr, Bool, true, false, eqb, leb, List, [], ◌∷◌, ◌++◌, refl, sym, ap, subst}
+use Rattle.std.proofs.Common.{◌∙◌, All, arith}
+use Rattle.board_prelude.proofs.Common.{join_with_byte, and_parts, leb-true, ne_eqb, true≢false, All-nil, All-cons}
+use Rattle.board_prelude.proofs.Common.{space}
 use Rattle.std.proofs.lemmas.List.Splits.{slice_split_none, slice_split_at}
 use Rattle.script_spec.specs.Common.{StandsFor, fields_of}
 use Rattle.script_spec.proofs.Digits.{lacks}

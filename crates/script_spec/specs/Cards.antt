@@ -1,5 +1,6 @@
 -- What a card line says, by its fields after `card`: the reader's way through the form.
-use Rattle.std.specs.Prelude.{ℕ, ◌==◌, Bool, true, false, nat_lt, List, [], ◌∷◌, ◌++◌, length, if◌then◌else◌, Option, Some, None, option_map, is_some, codes, bytes_eq}
+use Rattle.std.specs.Prelude.{ℕ, ◌==◌, Bool, true, false, nat_lt, List, [], ◌∷◌, ◌++◌, length, if◌then◌else◌, Option}
+use Rattle.std.specs.Prelude.{Some, None, option_map, is_some, codes, bytes_eq}
 use Rattle.board_spec.specs.Setup.{Base, MemoryBase, IoBase, FittedCard}
 use Rattle.script_spec.specs.Numbers.{parse_decimal, ◌>>=◌}
 

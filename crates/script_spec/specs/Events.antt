@@ -1,6 +1,8 @@
 -- What a statement asks, by the fields of its line after the processor's number: the reader's way through the forms.
-use Rattle.std.specs.Prelude.{ℕ, ◌*◌, ◌%◌, ◌≡◌, ◌⊎◌, ◌==◌, Bool, true, false, not, ◌&&◌, ◌||◌, List, [], ◌∷◌, if◌then◌else◌, Option, Some, None, codes, bytes_eq}
-use Rattle.board_prelude.specs.Common.{option_and_then, Width, One, bytes_of, Kind, Fetch, Read, Write, Event, Memory, Wide, Port, Ack, Pulses, BadSector}
+use Rattle.std.specs.Prelude.{ℕ, ◌*◌, ◌%◌, ◌≡◌, ◌⊎◌, ◌==◌, Bool, true, false, not, ◌&&◌, ◌||◌, List, [], ◌∷◌}
+use Rattle.std.specs.Prelude.{if◌then◌else◌, Option, Some, None, codes, bytes_eq}
+use Rattle.board_prelude.specs.Common.{option_and_then, Width, One, bytes_of, Kind, Fetch, Read, Write, Event, Memory}
+use Rattle.board_prelude.specs.Common.{Wide, Port, Ack, Pulses, BadSector}
 use Rattle.board_base.specs.declared.access.Width.TheVariants.{Two, Four}
 use Rattle.board_spec.specs.declared.event.Event.TheVariants.{Look as LookAt}
 use Rattle.script_spec.specs.Numbers.{parse_hex, parse_decimal, ◌>>=◌}

@@ -1,7 +1,11 @@
 -- What a line of a script says after its first line. A statement is spelled as the log spells it, with hexadecimal
 -- digits in either case, and everything else as it stands. The forms are those of a version of scripts, 1 or 2.
-use Rattle.std.specs.Prelude.{ℕ, ◌≡◌, ◌≢◌, ◌+◌, ◌%◌, ◌^◌, ◌≤◌, ◌<◌, ◌⊎◌, ◌==◌, Bool, true, ◌||◌, if◌then◌else◌, List, [], ◌∷◌, ◌++◌, length, flat_map, take, All, Option, Some, None, codes, decimal}
-use Rattle.board_prelude.specs.Common.{AllZip, list_all, PortAccess, WideAccess, Moment, bytes_of, weekday_of, Event, Memory, Wide, Port, Ack, Pulses, Time, Wire, Line, BadSector, Statement, Base, MemoryBase, IoBase, OutsideBase, FittedCard, is_within, is_write, FitsBytes, space, event_text}
+use Rattle.std.specs.Prelude.{ℕ, ◌≡◌, ◌≢◌, ◌+◌, ◌%◌, ◌^◌, ◌≤◌, ◌<◌, ◌⊎◌, ◌==◌, Bool, true, ◌||◌, if◌then◌else◌, List}
+use Rattle.std.specs.Prelude.{[], ◌∷◌, ◌++◌, length, flat_map, take, All, Option, Some, None, codes, decimal}
+use Rattle.board_prelude.specs.Common.{AllZip, list_all, PortAccess, WideAccess, Moment, bytes_of, weekday_of, Event}
+use Rattle.board_prelude.specs.Common.{Memory, Wide, Port, Ack, Pulses, Time, Wire, Line, BadSector, Statement, Base}
+use Rattle.board_prelude.specs.Common.{MemoryBase, IoBase, OutsideBase, FittedCard, is_within, is_write, FitsBytes}
+use Rattle.board_prelude.specs.Common.{space, event_text}
 use Rattle.board_base.specs.declared.access.Access.{Access}
 use Rattle.board_spec.specs.declared.event.Event.TheVariants.{Look as LookAt}
 

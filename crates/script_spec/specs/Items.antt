@@ -1,7 +1,9 @@
 -- What a line says, by its fields: the reader's way through the forms.
-use Rattle.std.specs.Prelude.{ℕ, ◌==◌, Bool, true, false, ◌&&◌, nat_le, List, [], ◌∷◌, length, if◌then◌else◌, Option, Some, None, option_map, codes, bytes_eq}
+use Rattle.std.specs.Prelude.{ℕ, ◌==◌, Bool, true, false, ◌&&◌, nat_le, List, [], ◌∷◌, length, if◌then◌else◌, Option}
+use Rattle.std.specs.Prelude.{Some, None, option_map, codes, bytes_eq}
 use Rattle.board_prelude.specs.Common.{list_all, Moment, Event, Time, Wire as SetWire, Line as SetLine}
-use Rattle.script_spec.specs.Grammar.{Item, SetCpus, SetMemory, SetRom, SetDisk, FitCard, BeginPhase, Ask, AskLevel, is_name_start, is_name_byte}
+use Rattle.script_spec.specs.Grammar.{Item, SetCpus, SetMemory, SetRom, SetDisk, FitCard, BeginPhase, Ask, AskLevel}
+use Rattle.script_spec.specs.Grammar.{is_name_start, is_name_byte}
 use Rattle.script_spec.specs.Fields.{fields_of}
 use Rattle.script_spec.specs.Numbers.{parse_decimal, ◌>>=◌}
 use Rattle.script_spec.specs.Events.{parse_event, parse_number}

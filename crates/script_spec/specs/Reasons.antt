@@ -1,6 +1,10 @@
 -- Why a line that has a form is refused, by the items of the lines before it, the newest first.
-use Rattle.std.specs.Prelude.{ℕ, ◌+◌, ◌%◌, ◌==◌, nat_le, nat_lt, Bool, true, false, not, ◌&&◌, ◌||◌, List, [], ◌∷◌, length, filter, sum_by, Option, option_map, if◌then◌else◌}
-use Rattle.board_prelude.specs.Common.{list_all, list_any, find, bytes_of, is_moment, Event, Memory, Wide, Port, Pulses, Time, Wire, Line, BadSector, most_statements, most_phases, most_pulses, most_card_memory, FittedCard, is_base_in_range, is_rom_in_range, memory_of_cards, is_within, is_free_line}
+use Rattle.std.specs.Prelude.{ℕ, ◌+◌, ◌%◌, ◌==◌, nat_le, nat_lt, Bool, true, false, not, ◌&&◌, ◌||◌, List, [], ◌∷◌}
+use Rattle.std.specs.Prelude.{length, filter, sum_by, Option, option_map, if◌then◌else◌}
+use Rattle.board_prelude.specs.Common.{list_all, list_any, find, bytes_of, is_moment, Event, Memory, Wide, Port, Pulses}
+use Rattle.board_prelude.specs.Common.{Time, Wire, Line, BadSector, most_statements, most_phases, most_pulses}
+use Rattle.board_prelude.specs.Common.{most_card_memory, FittedCard, is_base_in_range, is_rom_in_range, memory_of_cards}
+use Rattle.board_prelude.specs.Common.{is_within, is_free_line}
 use Rattle.script_spec.specs.Grammar.{Item, SetCpus, SetMemory, SetRom, SetDisk, FitCard, BeginPhase, Ask, AskLevel}
 
 -- ---- kinds of items

@@ -1,6 +1,9 @@
 -- What the words of a reply say, by its event: the reader's way through its shapes.
-use Rattle.std.specs.Prelude.{ℕ, zero, suc, ◌+◌, ◌-◌, ◌*◌, ◌==◌, ◌≤◌, Bool, false, List, [], ◌∷◌, length, if◌then◌else◌, Option, Some, None, option_map, codes, bytes_eq}
-use Rattle.board_prelude.specs.Common.{WideAccess, Pit, Wires, Ata, bytes_of, Event, Memory, Wide, Port, Ack, Pulses, Time, Wire, Line, BadSector, Part, Parts, Two, Three, Four, Reply, Bus, Saw, is_write, longest_at, parts_list, outside_answer}
+use Rattle.std.specs.Prelude.{ℕ, zero, suc, ◌+◌, ◌-◌, ◌*◌, ◌==◌, ◌≤◌, Bool, false, List, [], ◌∷◌, length, if◌then◌else◌}
+use Rattle.std.specs.Prelude.{Option, Some, None, option_map, codes, bytes_eq}
+use Rattle.board_prelude.specs.Common.{WideAccess, Pit, Wires, Ata, bytes_of, Event, Memory, Wide, Port, Ack, Pulses}
+use Rattle.board_prelude.specs.Common.{Time, Wire, Line, BadSector, Part, Parts, Two, Three, Four, Reply, Bus, Saw}
+use Rattle.board_prelude.specs.Common.{is_write, longest_at, parts_list, outside_answer}
 use Rattle.board_base.specs.declared.target.Dev.TheVariants.{Clock}
 use Rattle.board_spec.specs.declared.event.Event.TheVariants.{Look as LookAt}
 use Rattle.board_spec.specs.declared.event.Reply.TheVariants.{Parts as InParts}

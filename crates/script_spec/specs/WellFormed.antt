@@ -1,6 +1,9 @@
 -- Entries whose line in the log of a version says all that they are.
 use Rattle.std.specs.Prelude.{ℕ, ◌≡◌, ◌<◌, ◌^◌, Bool, true, false, length, All, Option, Some, None}
-use Rattle.board_prelude.specs.Common.{Reg, Dev, Pit, Wires, Ata, Area, Target, Dram, Shadow, Rom, Card, Device, Config, Denial, Register, IsMoment, bytes_of, Event, Memory, Wide, Port, Ack, Pulses, Time, Wire, Line, BadSector, Look, Part, Reply, Bus, Saw, Entry, is_write, parts_of, parts_list, outside_answer}
+use Rattle.board_prelude.specs.Common.{Reg, Dev, Pit, Wires, Ata, Area, Target, Dram, Shadow, Rom, Card, Device, Config}
+use Rattle.board_prelude.specs.Common.{Denial, Register, IsMoment, bytes_of, Event, Memory, Wide, Port, Ack, Pulses}
+use Rattle.board_prelude.specs.Common.{Time, Wire, Line, BadSector, Look, Part, Reply, Bus, Saw, Entry, is_write}
+use Rattle.board_prelude.specs.Common.{parts_of, parts_list, outside_answer}
 use Rattle.board_base.specs.declared.target.Dev.TheVariants.{Clock}
 use Rattle.board_base.specs.declared.target.Dev.TheVariants as devices
 use Rattle.board_base.specs.declared.target.Area.TheVariants as areas

@@ -1,6 +1,7 @@
 //! Laws of the definitions. Each function does nothing: its clause is the law.
 
-ghost use Rattle.script_spec.specs.Laws.{LineSaysEntry, LogSaysAll, NotBoth, OneBadLog, OneDifference, OneItem, OneRefusal, OneScript, ScriptsAreInRange, SomeReading};
+ghost use Rattle.script_spec.specs.Laws.{LineSaysEntry, LogSaysAll, NotBoth, OneBadLog, OneDifference, OneItem};
+ghost use Rattle.script_spec.specs.Laws.{OneRefusal, OneScript, ScriptsAreInRange, SomeReading};
 
 /// A line of a script says at most one thing, whatever the case of its digits.
 pub fn law_one_item()

@@ -1,13 +1,23 @@
 -- The least reason for an item, by what is kept of the lines before it.
-use Rattle.std.proofs.Common.{ℕ, ◌≡◌, ◌+◌, ◌<◌, ◌≤◌, Bool, true, false, not, ◌&&◌, ◌||◌, Option, Some, None, Result, Ok, Err, List, [], ◌∷◌, length, filter, flat_map, sum_by, refl, sym, ap, ◌∙◌, arith, ◌==◌, nat_le, nat_lt, is_some, if◌then◌else◌, codes}
-use Rattle.board_prelude.proofs.Common.{option_map, find, list_any, false≢true, le-ltb, lt-ltb, leb-true, or_right, and_parts, none-some, sum_by-append, sum_by-cons, Event, Memory, Wide, Port, Ack, Pulses, Time, Wire, Line, BadSector, Statement, FittedCard, memory_size, memory_of_cards}
+use Rattle.std.proofs.Common.{ℕ, ◌≡◌, ◌+◌, ◌<◌, ◌≤◌, Bool, true, false, not, ◌&&◌, ◌||◌, Option, Some, None, Result, Ok}
+use Rattle.std.proofs.Common.{Err, List, [], ◌∷◌, length, filter, flat_map, sum_by, refl, sym, ap, ◌∙◌, arith, ◌==◌}
+use Rattle.std.proofs.Common.{nat_le, nat_lt, is_some, if◌then◌else◌, codes}
+use Rattle.board_prelude.proofs.Common.{option_map, find, list_any, false≢true, le-ltb, lt-ltb, leb-true, or_right}
+use Rattle.board_prelude.proofs.Common.{and_parts, none-some, sum_by-append, sum_by-cons, Event, Memory, Wide, Port}
+use Rattle.board_prelude.proofs.Common.{Ack, Pulses, Time, Wire, Line, BadSector, Statement, FittedCard, memory_size}
+use Rattle.board_prelude.proofs.Common.{memory_of_cards}
 use Rattle.std.specs.Result.{IsErr, IsErrAnd}
 use Rattle.std.proofs.lemmas.List.Sorted.{list_any-IsPermutation}
 use Rattle.board_spec.specs.declared.event.Event.TheVariants.{Look as LookAt}
-use Rattle.script_spec.specs.Common.{Item, SetCpus, SetMemory, SetRom, SetDisk, FitCard, BeginPhase, Ask, AskLevel, reason, is_phase, is_statement, is_setup, is_cpus, is_memory, is_rom, is_disk, is_cpus_above, cards_of, has_card, has_setup, lacks_setup, is_misplaced, is_repeated, is_event_in_range, is_in_range, is_placed, is_there, pulses_of_event, pulses_of, passes_limits, least_reason, ask}
+use Rattle.script_spec.specs.Common.{Item, SetCpus, SetMemory, SetRom, SetDisk, FitCard, BeginPhase, Ask, AskLevel}
+use Rattle.script_spec.specs.Common.{reason, is_phase, is_statement, is_setup, is_cpus, is_memory, is_rom, is_disk}
+use Rattle.script_spec.specs.Common.{is_cpus_above, cards_of, has_card, has_setup, lacks_setup, is_misplaced}
+use Rattle.script_spec.specs.Common.{is_repeated, is_event_in_range, is_in_range, is_placed, is_there, pulses_of_event}
+use Rattle.script_spec.specs.Common.{pulses_of, passes_limits, least_reason, ask}
 use Rattle.script_spec.proofs.ReadingLaws.{same_some}
 use Rattle.script_lines.specs.declared.item.Asked.{Asked}
-use Rattle.script_lines.specs.declared.item.Asked.TheVariants.{Event as AnEvent, Moment as AMoment, Wire as WireAt, Line as LineAt}
+use Rattle.script_lines.specs.declared.item.Asked.TheVariants.{Event as AnEvent, Moment as AMoment, Wire as WireAt}
+use Rattle.script_lines.specs.declared.item.Asked.TheVariants.{Line as LineAt}
 use Rattle.script_lines.specs.Items.{asked_said, moment_said}
 use Rattle.script_text.specs.declared.fault.Reason.{Reason}
 use Rattle.script_text.specs.declared.reading.Reading.{Reading}

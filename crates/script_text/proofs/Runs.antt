@@ -1,7 +1,9 @@
 -- The run over the lines.
-use Rattle.std.proofs.Common.{◌≡◌, ℕ, ◌+◌, true, false, Result, Ok, Err, List, [], ◌∷◌, ◌++◌, length, refl, sym, ap, ◌∙◌, inl, inr, append_assoc, append-nil, length-append, arith, IfOk, codes, bytes_eq}
+use Rattle.std.proofs.Common.{◌≡◌, ℕ, ◌+◌, true, false, Result, Ok, Err, List, [], ◌∷◌, ◌++◌, length, refl, sym, ap}
+use Rattle.std.proofs.Common.{◌∙◌, inl, inr, append_assoc, append-nil, length-append, arith, IfOk, codes, bytes_eq}
 use Rattle.board_prelude.proofs.Common.{digits, true≢false, bytes_eq-Decides}
-use Rattle.script_spec.specs.Common.{lines_of, Item, lacks_setup, Script as Said, IsBadLine, AreRead, IsVersion, first_line, IsSaidBy, IsScriptText, BeginsBadly, IsBadLater, IsInRangeScript}
+use Rattle.script_spec.specs.Common.{lines_of, Item, lacks_setup, Script as Said, IsBadLine, AreRead, IsVersion}
+use Rattle.script_spec.specs.Common.{first_line, IsSaidBy, IsScriptText, BeginsBadly, IsBadLater, IsInRangeScript}
 use Rattle.script_spec.proofs.Common.{same_head, read_more, skip_more, scripts_are_in_range, word_is}
 use Rattle.script_text.specs.declared.fault.ScriptFault.{ScriptFault}
 use Rattle.script_text.specs.declared.fault.ScriptFault.TheVariants.{Bad, NoMemory}

@@ -1,8 +1,12 @@
 -- A line that is read straight.
-use Rattle.std.proofs.Common.{◌≡◌, ℕ, true, false, Some, None, List, [], ◌∷◌, ◌++◌, Result, Ok, Err, OnOk, IfErr, refl, ap, ◌∙◌, inl, inr, leb, All, arith, decimal}
-use Rattle.board_prelude.proofs.Common.{AllZip, All-nil, All-cons, and_parts, leb-true, ne_eqb, Event, space, event_text}
-use Rattle.script_spec.specs.Common.{lines_of, Item, StandsFor, HasForm, item_text, ask, AreRead, IsBadLine, least_reason}
-use Rattle.script_spec.proofs.Common.{lacks, lacks-first, lacks-later, lacks-append, lacks-word, lacks-plain, decimal_word, event_plain}
+use Rattle.std.proofs.Common.{◌≡◌, ℕ, true, false, Some, None, List, [], ◌∷◌, ◌++◌, Result, Ok, Err, OnOk, IfErr, refl}
+use Rattle.std.proofs.Common.{ap, ◌∙◌, inl, inr, leb, All, arith, decimal}
+use Rattle.board_prelude.proofs.Common.{AllZip, All-nil, All-cons, and_parts, leb-true, ne_eqb, Event, space}
+use Rattle.board_prelude.proofs.Common.{event_text}
+use Rattle.script_spec.specs.Common.{lines_of, Item, StandsFor, HasForm, item_text, ask, AreRead, IsBadLine}
+use Rattle.script_spec.specs.Common.{least_reason}
+use Rattle.script_spec.proofs.Common.{lacks, lacks-first, lacks-later, lacks-append, lacks-word, lacks-plain}
+use Rattle.script_spec.proofs.Common.{decimal_word, event_plain}
 use Rattle.script_text.specs.declared.fault.ScriptFault.{ScriptFault}
 use Rattle.script_text.specs.declared.fault.ScriptFault.TheVariants.{Bad, NoMemory}
 use Rattle.script_text.specs.declared.reading.Reading.{Reading}

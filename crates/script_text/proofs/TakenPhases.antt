@@ -1,8 +1,13 @@
 -- What `phase` and statements add to what is kept.
-use Rattle.std.proofs.Common.{◌≡◌, ℕ, ◌+◌, ◌-◌, ◌<◌, ◌≤◌, true, false, not, List, [], ◌∷◌, ◌++◌, Vec, Global, vec_len, length, get_or, map, filter, set, sum_by, refl, sym, ap, ◌∙◌, inl, inr, arith, length-append, append_assoc}
-use Rattle.board_prelude.proofs.Common.{list_any, true≢false, false≢true, cases_Bool, or_parts, ltb-false, not-false, map-append, map-set, get_or-map, length-map, sum_by-cons, get_or-append_seam, Statement}
+use Rattle.std.proofs.Common.{◌≡◌, ℕ, ◌+◌, ◌-◌, ◌<◌, ◌≤◌, true, false, not, List, [], ◌∷◌, ◌++◌, Vec, Global, vec_len}
+use Rattle.std.proofs.Common.{length, get_or, map, filter, set, sum_by, refl, sym, ap, ◌∙◌, inl, inr, arith}
+use Rattle.std.proofs.Common.{length-append, append_assoc}
+use Rattle.board_prelude.proofs.Common.{list_any, true≢false, false≢true, cases_Bool, or_parts, ltb-false, not-false}
+use Rattle.board_prelude.proofs.Common.{map-append, map-set, get_or-map, length-map, sum_by-cons, get_or-append_seam}
+use Rattle.board_prelude.proofs.Common.{Statement}
 use Rattle.std.proofs.Math.Seq.{set-append_seam}
-use Rattle.script_spec.specs.Common.{Item, BeginPhase, Ask, is_phase, is_statement, is_setup, has_setup, pulses_of, pulses_of_event, passes_limits, phase_items, lists_of}
+use Rattle.script_spec.specs.Common.{Item, BeginPhase, Ask, is_phase, is_statement, is_setup, has_setup, pulses_of}
+use Rattle.script_spec.specs.Common.{pulses_of_event, passes_limits, phase_items, lists_of}
 use Rattle.script_spec.proofs.Common.{NoReason, no_reason, reverse_more, phases_more}
 use Rattle.script_text.specs.declared.reading.Reading.{Reading}
 use Rattle.script_text.specs.Reading.{Takes}

@@ -1,8 +1,13 @@
 -- What the lines of the setup add to what is kept.
-use Rattle.std.proofs.Common.{◌≡◌, ℕ, ◌+◌, ◌<◌, ◌≤◌, ◌≢◌, true, false, Some, List, [], ◌∷◌, Vec, Global, get_or, insert, sum_by, All, refl, sym, ap, ◌∙◌, inl, inr, arith, one-add, nat_lt, ◌==◌}
-use Rattle.board_prelude.proofs.Common.{list_any, position_or_len, IsPermutation, true≢false, cases_Bool, or_parts, ltb-true, ltb-false, eqb-false, All-nil, All-cons, All-head, All-tail, sum_by-cons, All-permutation, or-false, FittedCard, Rises, memory_size, memory_of_cards}
+use Rattle.std.proofs.Common.{◌≡◌, ℕ, ◌+◌, ◌<◌, ◌≤◌, ◌≢◌, true, false, Some, List, [], ◌∷◌, Vec, Global, get_or, insert}
+use Rattle.std.proofs.Common.{sum_by, All, refl, sym, ap, ◌∙◌, inl, inr, arith, one-add, nat_lt, ◌==◌}
+use Rattle.board_prelude.proofs.Common.{list_any, position_or_len, IsPermutation, true≢false, cases_Bool, or_parts}
+use Rattle.board_prelude.proofs.Common.{ltb-true, ltb-false, eqb-false, All-nil, All-cons, All-head, All-tail}
+use Rattle.board_prelude.proofs.Common.{sum_by-cons, All-permutation, or-false, FittedCard, Rises, memory_size}
+use Rattle.board_prelude.proofs.Common.{memory_of_cards}
 use Rattle.std.proofs.lemmas.List.Sorted.{IsPermutation-trans, IsPermutation-cons, IsPermutation-insert}
-use Rattle.script_spec.specs.Common.{Item, SetCpus, FitCard, is_phase, is_setup, is_cpus, is_cpus_above, has_card, cards_of, pulses_of}
+use Rattle.script_spec.specs.Common.{Item, SetCpus, FitCard, is_phase, is_setup, is_cpus, is_cpus_above, has_card}
+use Rattle.script_spec.specs.Common.{cards_of, pulses_of}
 use Rattle.script_spec.proofs.Common.{NoReason, no_reason, none_any}
 use Rattle.script_text.specs.declared.reading.Reading.{Reading}
 use Rattle.script_text.proofs.Reasons.{memory_cons}

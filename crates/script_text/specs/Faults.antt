@@ -1,7 +1,8 @@
 -- What a reader refuses, held against what the text says.
 use Rattle.std.specs.Prelude.{ℕ}
 use Rattle.script_text.specs.declared.fault.Reason.{Reason}
-use Rattle.script_text.specs.declared.fault.Reason.TheVariants.{NoVersion, TooLong, NoForm, Misplaced, Repeated, NoSetup, OutOfRange, NotPlaced, NotThere, PastLimit}
+use Rattle.script_text.specs.declared.fault.Reason.TheVariants.{NoVersion, TooLong, NoForm, Misplaced, Repeated}
+use Rattle.script_text.specs.declared.fault.Reason.TheVariants.{NoSetup, OutOfRange, NotPlaced, NotThere, PastLimit}
 use Rattle.script_text.specs.declared.fault.ScriptFault.{ScriptFault}
 use Rattle.script_text.specs.declared.fault.ScriptFault.TheVariants.{Bad, NoMemory}
 

@@ -15,7 +15,8 @@ const LINE_FEED: u8 = b'\n';
 /// bytes there is no line.
 #[inline(always)]
 pub(crate) fn split_line(bytes: &[u8]) -> Option<(&[u8], &[u8])>
-    ensures cases { MatchOption result (lines_of bytes.now ≡ []) (λ p. lines_of bytes.now ≡ p.0.now ∷ lines_of p.1.now) }
+    ensures cases { MatchOption result (lines_of bytes.now ≡ [])
+        (λ p. lines_of bytes.now ≡ p.0.now ∷ lines_of p.1.now) }
     ensures shorter { IfSome result (λ p. length p.1.now < length bytes.now) }
 {
     if bytes.is_empty() {
@@ -65,7 +66,8 @@ type Next<'a> = (&'a [u8], &'a [u8], Option<(u32, Event)>);
 /// The first line of these bytes, as `split_line` has it, without a search where it can be read straight.
 #[inline(always)]
 pub(crate) fn next_line<'a>(version: u8, bytes: &'a [u8]) -> Option<Next<'a>>
-    ensures cases { MatchOption result (lines_of bytes.now ≡ []) (λ p. lines_of bytes.now ≡ p.0.now ∷ lines_of p.1.now) }
+    ensures cases { MatchOption result (lines_of bytes.now ≡ [])
+        (λ p. lines_of bytes.now ≡ p.0.now ∷ lines_of p.1.now) }
     ensures shorter { IfSome result (λ p. length p.1.now < length bytes.now) }
     ensures straight { IfSome result (λ p. IfSome p.2 (λ asked. IsStraight version p.0.now asked.0 asked.1)) }
 {

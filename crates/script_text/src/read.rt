@@ -1,7 +1,9 @@
 //! The run over the lines of a text.
 
-ghost use Rattle.std.specs.Prelude.{◌≡◌, ◌<◌, ◌+◌, ◌^◌, ◌-◌, [], ◌∷◌, ℕ, List, length, IfOk, IfErr, IfSome, OnOk, Some, None};
-ghost use Rattle.script_spec.specs.Common.{Item as Said, lines_of, IsVersion, first_line, AreRead, IsBadLine, IsBadLater, IsScriptText, IsScriptBad, IsInRangeScript, ask, least_reason};
+ghost use Rattle.std.specs.Prelude.{◌≡◌, ◌<◌, ◌+◌, ◌^◌, ◌-◌, [], ◌∷◌, ℕ, List, length, IfOk, IfErr, IfSome, OnOk, Some};
+ghost use Rattle.std.specs.Prelude.{None};
+ghost use Rattle.script_spec.specs.Common.{Item as Said, lines_of, IsVersion, first_line, AreRead, IsBadLine};
+ghost use Rattle.script_spec.specs.Common.{IsBadLater, IsScriptText, IsScriptBad, IsInRangeScript, ask, least_reason};
 ghost use Rattle.script_text.specs.Faults.{OnBad};
 ghost use Rattle.script_text.specs.Reading.{IsReadingOf};
 ghost use Rattle.script_text.specs.Script.{said_of};

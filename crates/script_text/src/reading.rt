@@ -52,7 +52,8 @@ impl Reading {
         ensures whole { IfOk result (λ script. (items : List Item) → IsReadingOf items self →
             (lacks_setup items ≡ false) × IsSaidBy (said_of script) items) }
         ensures reason { IfErr result (λ reason. reason ≡ Reason.NoSetup) }
-        ensures lacks { IfErr result (λ reason. (items : List Item) → IsReadingOf items self → lacks_setup items ≡ true) }
+        ensures lacks { IfErr result (λ reason. (items : List Item) → IsReadingOf items self
+            → lacks_setup items ≡ true) }
     {
         let Reading {
             cpus,

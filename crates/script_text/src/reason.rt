@@ -1,9 +1,12 @@
 //! Whether an item can stand after those before it, and the least reason if not.
 
-ghost use Rattle.std.specs.Prelude.{◌≡◌, ◌≤◌, ◌<◌, ◌+◌, ◌&&◌, ◌||◌, nat_lt, true, is_some, ℕ, List, length, sum_by, IfOk, IsTrue};
+ghost use Rattle.std.specs.Prelude.{◌≡◌, ◌≤◌, ◌<◌, ◌+◌, ◌&&◌, ◌||◌, nat_lt, true, is_some, ℕ, List, length, sum_by};
+ghost use Rattle.std.specs.Prelude.{IfOk, IsTrue};
 ghost use Rattle.board_prelude.specs.Common.{list_any, most_statements, most_pulses, IsBase, IsCard, memory_size};
 ghost use Rattle.pci_bars.specs.Bases.{base_of};
-ghost use Rattle.script_spec.specs.Common.{Item as Said, SetCpus, SetMemory, SetRom, SetDisk, FitCard, BeginPhase, Ask, IsForm, is_phase, is_setup, is_repeated, has_card, is_card_there, pulses_of_event};
+ghost use Rattle.script_spec.specs.Common.{Item as Said, SetCpus, SetMemory, SetRom, SetDisk, FitCard, BeginPhase, Ask};
+ghost use Rattle.script_spec.specs.Common.{IsForm, is_phase, is_setup, is_repeated, has_card, is_card_there};
+ghost use Rattle.script_spec.specs.Common.{pulses_of_event};
 ghost use Rattle.script_lines.specs.Items.{card_said, asked_said, line_said};
 ghost use Rattle.script_text.specs.Valid.{item_said, IsValid};
 ghost use Rattle.script_text.specs.Reading.{is_below, IsReadingOf, IsWithinLimits, Judges, Stands};
@@ -117,7 +120,8 @@ impl Reading {
     }
 
     fn validate_cpus(&self, count: u32) -> Result<u8, Reason>
-        ensures judged { (items : List Said) → IsReadingOf items self.now → Judges SetCpus items (SetCpus count) result }
+        ensures judged { (items : List Said) → IsReadingOf items self.now
+            → Judges SetCpus items (SetCpus count) result }
     {
         self.validate_setup(self.cpus.is_some())?;
         if is_within(1, MOST_CPUS, count) {
@@ -128,7 +132,8 @@ impl Reading {
     }
 
     fn validate_memory(&self, mib: u32) -> Result<u8, Reason>
-        ensures judged { (items : List Said) → IsReadingOf items self.now → Judges SetMemory items (SetMemory mib) result }
+        ensures judged { (items : List Said) → IsReadingOf items self.now
+            → Judges SetMemory items (SetMemory mib) result }
     {
         self.validate_setup(self.mib.is_some())?;
         if is_within(1, MOST_MIB, mib) {
@@ -227,7 +232,8 @@ impl Reading {
     pub(crate) fn validate<'a>(&self, version: u8, item: Item<'a>) -> Result<ValidItem<'a>, Reason>
         requires form { IsForm version (line_said item) }
         requires limits { IsWithinLimits self.now }
-        ensures judged { (items : List Said) → IsReadingOf items self.now → Judges item_said items (line_said item.entry) result }
+        ensures judged { (items : List Said) → IsReadingOf items self.now
+            → Judges item_said items (line_said item.entry) result }
         ensures valid { IfOk result IsValid }
     {
         match item {

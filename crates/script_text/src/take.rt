@@ -2,7 +2,8 @@
 
 ghost use Rattle.std.specs.Prelude.{◌≡◌, ◌≤◌, ◌++◌, [], ◌∷◌, List, length, nat_lt, OnOk};
 ghost use Rattle.board_prelude.specs.Common.{position_or_len, Statement, IsCard};
-ghost use Rattle.script_spec.specs.Common.{SetCpus, SetMemory, SetRom, SetDisk, FitCard, BeginPhase, Ask, IsName, pulses_of_event, lists_of};
+ghost use Rattle.script_spec.specs.Common.{SetCpus, SetMemory, SetRom, SetDisk, FitCard, BeginPhase, Ask, IsName};
+ghost use Rattle.script_spec.specs.Common.{pulses_of_event, lists_of};
 ghost use Rattle.script_text.specs.Valid.{item_said, IsValid};
 ghost use Rattle.script_text.specs.Reading.{IsWithinLimits, Takes};
 

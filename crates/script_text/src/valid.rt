@@ -1,9 +1,11 @@
 //! Items with their numbers in range.
 
 ghost use Rattle.std.specs.Prelude.{◌≡◌, ◌≤◌, ℕ, length, map, option_map, IfSome};
-ghost use Rattle.board_prelude.specs.Common.{list_all, is_free_line, IsCard, is_within, is_base_in_range, is_rom_in_range, is_moment};
+ghost use Rattle.board_prelude.specs.Common.{list_all, is_free_line, IsCard, is_within, is_base_in_range};
+ghost use Rattle.board_prelude.specs.Common.{is_rom_in_range, is_moment};
 ghost use Rattle.pci_bars.specs.Bases.{base_of};
-ghost use Rattle.script_spec.specs.Common.{is_card_in_range, is_event_in_range, is_event_placed, is_in_range, pulses_of_event, ask};
+ghost use Rattle.script_spec.specs.Common.{is_card_in_range, is_event_in_range, is_event_placed, is_in_range};
+ghost use Rattle.script_spec.specs.Common.{pulses_of_event, ask};
 ghost use Rattle.script_lines.specs.Items.{base_said, card_said, asked_said};
 ghost use Rattle.script_text.specs.Valid.{in_case};
 
@@ -74,7 +76,8 @@ fn valid_base(field: BaseField) -> Option<BaseSpec>
 }
 
 fn memory_base(bits: u32) -> Option<BaseSpec>
-    ensures base { option_map base_of result ≡ in_case (is_base_in_range (base_said (BaseField.Memory bits))) (base_said (BaseField.Memory bits)) }
+    ensures base { option_map base_of result ≡ in_case (is_base_in_range (base_said (BaseField.Memory bits)))
+        (base_said (BaseField.Memory bits)) }
 {
     if is_within(LEAST_MEMORY_BITS, MOST_MEMORY_BITS, bits) {
         Some(BaseSpec::Memory(bits as u8))
@@ -84,7 +87,8 @@ fn memory_base(bits: u32) -> Option<BaseSpec>
 }
 
 fn io_base(bits: u32) -> Option<BaseSpec>
-    ensures base { option_map base_of result ≡ in_case (is_base_in_range (base_said (BaseField.Io bits))) (base_said (BaseField.Io bits)) }
+    ensures base { option_map base_of result ≡ in_case (is_base_in_range (base_said (BaseField.Io bits)))
+        (base_said (BaseField.Io bits)) }
 {
     if is_within(LEAST_PORTS, MOST_PORTS, bits) {
         Some(BaseSpec::Io(bits as u8))
@@ -157,7 +161,8 @@ fn is_free_line(irq: u32) -> bool
 /// Whether the calendar and the clock have this moment.
 fn is_moment(moment: &Moment) -> bool
     ensures moment { result
-        ≡ is_moment moment.now.year moment.now.month moment.now.day moment.now.hour moment.now.minute moment.now.second }
+        ≡ is_moment moment.now.year moment.now.month moment.now.day moment.now.hour moment.now.minute
+        moment.now.second }
 {
     let Moment {
         year,

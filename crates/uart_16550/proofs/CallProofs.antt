@@ -1,9 +1,12 @@
 -- No byte that was received is lost, and all are read in their order.
-use Rattle.std.proofs.Common.{◌≡◌, ℕ, Bool, true, false, not, List, [], ◌∷◌, ◌++◌, length, inl, inr, refl, sym, ap, ◌∙◌, append_assoc, ◌==◌, Option, Some, None}
-use Rattle.board_prelude.proofs.Common.{cases_Bool, ne_eqb, append-nil, Event, Memory, Wide, Port, Ack, Pulses, Time, Wire, Line, BadSector, control_written, resets_hard}
+use Rattle.std.proofs.Common.{◌≡◌, ℕ, Bool, true, false, not, List, [], ◌∷◌, ◌++◌, length, inl, inr, refl, sym, ap, ◌∙◌}
+use Rattle.std.proofs.Common.{append_assoc, ◌==◌, Option, Some, None}
+use Rattle.board_prelude.proofs.Common.{cases_Bool, ne_eqb, append-nil, Event, Memory, Wide, Port, Ack, Pulses, Time}
+use Rattle.board_prelude.proofs.Common.{Wire, Line, BadSector, control_written, resets_hard}
 use Rattle.board_spec.specs.declared.event.Event.TheVariants.{Look as LookAt}
 use Rattle.uart_16550.specs.declared.interrupt.Interrupt.{Interrupt}
-use Rattle.uart_16550.specs.declared.interrupt.Interrupt.TheVariants.{LineStatus, DataAvailable, TransmitterEmpty, ModemStatus}
+use Rattle.uart_16550.specs.declared.interrupt.Interrupt.TheVariants.{LineStatus, DataAvailable, TransmitterEmpty}
+use Rattle.uart_16550.specs.declared.interrupt.Interrupt.TheVariants.{ModemStatus}
 use Rattle.uart_16550.specs.declared.register.ReadRegister.{ReadRegister}
 use Rattle.uart_16550.specs.declared.register.ReadRegister.TheVariants as read
 use Rattle.uart_16550.specs.declared.register.WriteRegister.{WriteRegister}
@@ -11,7 +14,12 @@ use Rattle.uart_16550.specs.declared.register.WriteRegister.TheVariants as write
 use Rattle.uart_16550.specs.declared.com1.Com1.{Com1}
 use Rattle.uart_16550.specs.declared.com1.Happening.{Happening}
 use Rattle.uart_16550.specs.declared.com1.Happening.TheVariants.{Comes, Happens}
-use Rattle.uart_16550.specs.Common.{Uart, is_dlab, is_loopback, pending, register_read, front_of, rest_of, value_of, after_identity, after_value, register_written, is_emptying, with_value, com1_irq, is_for_uart, com1_after, Call, Renews, Receives, Reads, Writes, after_call, brought, front_taken, taken, is_kept, is_keeping, after_calls, all_brought, all_taken, ReadInOrder, calls_of, Sending, sending_after, calls_for, all_calls, after_all, bytes_come, SerialReadsInOrder}
+use Rattle.uart_16550.specs.Common.{Uart, is_dlab, is_loopback, pending, register_read, front_of, rest_of, value_of}
+use Rattle.uart_16550.specs.Common.{after_identity, after_value, register_written, is_emptying, with_value, com1_irq}
+use Rattle.uart_16550.specs.Common.{is_for_uart, com1_after, Call, Renews, Receives, Reads, Writes, after_call, brought}
+use Rattle.uart_16550.specs.Common.{front_taken, taken, is_kept, is_keeping, after_calls, all_brought, all_taken}
+use Rattle.uart_16550.specs.Common.{ReadInOrder, calls_of, Sending, sending_after, calls_for, all_calls, after_all}
+use Rattle.uart_16550.specs.Common.{bytes_come, SerialReadsInOrder}
 
 front_and_rest : (queue : List ℕ) → front_taken queue read.Rbr (front_of queue) ++ rest_of queue ≡ queue
 front_and_rest [] = refl
@@ -81,7 +89,8 @@ calls_in_order uart (call ∷ later) kept =
 event_is_calls : (resets : Bool) (event : Event) (com1 : Com1) →
     (com1_after resets event com1).uart ≡ after_calls com1.uart (calls_of resets event)
 event_is_calls resets (Port access) com1 = elim (cases_Bool (is_for_uart access)) [
-  | inl uart ↦ elim (cases_Bool access.write) [ inl writes ↦ rw (uart, writes) refl | inr reads ↦ rw (uart, reads) refl ]
+  | inl uart ↦ elim (cases_Bool access.write) [ inl writes ↦ rw (uart, writes) refl
+      | inr reads ↦ rw (uart, reads) refl ]
   | inr board ↦ elim (cases_Bool resets) [ inl hard ↦ rw (board, hard) refl | inr soft ↦ rw (board, soft) refl ]
 ]
 event_is_calls resets (Line irq on) com1 =
@@ -97,7 +106,8 @@ event_is_calls resets (BadSector sector) com1 = refl
 
 event_brings_nothing : (resets : Bool) (event : Event) → all_brought (calls_of resets event) ≡ []
 event_brings_nothing resets (Port access) = elim (cases_Bool (is_for_uart access)) [
-  | inl uart ↦ elim (cases_Bool access.write) [ inl writes ↦ rw (uart, writes) refl | inr reads ↦ rw (uart, reads) refl ]
+  | inl uart ↦ elim (cases_Bool access.write) [ inl writes ↦ rw (uart, writes) refl
+      | inr reads ↦ rw (uart, reads) refl ]
   | inr board ↦ elim (cases_Bool resets) [ inl hard ↦ rw (board, hard) refl | inr soft ↦ rw (board, soft) refl ]
 ]
 event_brings_nothing resets (Line irq on) = refl
@@ -150,6 +160,7 @@ run_brings before (Happens event ∷ later) =
 
 pub serial_in_order : SerialReadsInOrder
 serial_in_order before happenings kept =
-    ap (λ (uart : Uart). all_taken before.com1.uart (all_calls before happenings) ++ uart.queue) (run_is_calls before happenings)
+    ap (λ (uart : Uart). all_taken before.com1.uart (all_calls before happenings) ++ uart.queue)
+        (run_is_calls before happenings)
     ∙ (calls_in_order before.com1.uart (all_calls before happenings) kept
     ∙ ap (λ (bytes : List ℕ). before.com1.uart.queue ++ bytes) (run_brings before happenings))

@@ -1,9 +1,14 @@
 -- The reset control register of a board with a serial port.
-use Rattle.std.proofs.Common.{◌≡◌, ℕ, Bool, true, false, ◌&&◌, List, [], ◌∷◌, ◌++◌, inl, inr, refl, sym, ap, ◌∙◌, ◌==◌, nat_le, if◌then◌else◌, Some, None}
-use Rattle.board_prelude.proofs.Common.{cases_Bool, ne_eqb, PortAccess, bytes_of, Event, Memory, Wide, Port, Ack, Pulses, Time, Wire, Line, BadSector, Entry, Statement, reset_control_port, control_written, control_after, reset_control, is_hard_reset, statement_of, statements_of}
+use Rattle.std.proofs.Common.{◌≡◌, ℕ, Bool, true, false, ◌&&◌, List, [], ◌∷◌, ◌++◌, inl, inr, refl, sym, ap, ◌∙◌, ◌==◌}
+use Rattle.std.proofs.Common.{nat_le, if◌then◌else◌, Some, None}
+use Rattle.board_prelude.proofs.Common.{cases_Bool, ne_eqb, PortAccess, bytes_of, Event, Memory, Wide, Port, Ack}
+use Rattle.board_prelude.proofs.Common.{Pulses, Time, Wire, Line, BadSector, Entry, Statement, reset_control_port}
+use Rattle.board_prelude.proofs.Common.{control_written, control_after, reset_control, is_hard_reset, statement_of}
+use Rattle.board_prelude.proofs.Common.{statements_of}
 use Rattle.board_spec.specs.declared.event.Event.TheVariants.{Look as LookAt}
 use Rattle.uart_16550.specs.declared.com1.Com1.{Com1}
-use Rattle.uart_16550.specs.Common.{differ, is_for_uart, level_of, line_steps, com1_after, board_steps, uart_after, uart_at_reset, ControlFollows}
+use Rattle.uart_16550.specs.Common.{differ, is_for_uart, level_of, line_steps, com1_after, board_steps, uart_after}
+use Rattle.uart_16550.specs.Common.{uart_at_reset, ControlFollows}
 use Rattle.uart_16550.proofs.SerialSteps.{statements_joined}
 
 -- the register after statements, the oldest first
@@ -31,17 +36,20 @@ control_more (entry ∷ more) history =
 -- levels of line 4 leave it
 control_of_change : (control : ℕ) (old new : Bool) → control_over control (line_steps old new) ≡ control
 unfolding control_over
-control_of_change control old new = elim (cases_Bool (differ old new)) [ inl moves ↦ rw moves refl | inr stays ↦ rw stays refl ]
+control_of_change control old new = elim (cases_Bool (differ old new)) [ inl moves ↦ rw moves refl
+    | inr stays ↦ rw stays refl ]
 
 -- and so does an access to the UART
 other_port : (access : PortAccess) → is_for_uart access ≡ true → (access.port == reset_control_port) ≡ false
 other_port access uart =
     ne_eqb access.port reset_control_port (λ is. no_uart access.port (bytes_of access.width == 1) is uart)
   where
-    no_uart : (port : ℕ) (one : Bool) → port ≡ reset_control_port → (nat_le 0x3F8 port && nat_le port 0x3FF && one) ≡ true → ⊥
+    no_uart : (port : ℕ) (one : Bool) → port ≡ reset_control_port →
+        (nat_le 0x3F8 port && nat_le port 0x3FF && one) ≡ true → ⊥
     no_uart port one is within = cc (rw is at within)
 
-written_nothing : (write here one : Bool) (value : ℕ) → here ≡ false → (if write && here && one then Some value else None) ≡ None
+written_nothing : (write here one : Bool) (value : ℕ) → here ≡ false →
+    (if write && here && one then Some value else None) ≡ None
 written_nothing true here one value is = rw is refl
 written_nothing false here one value is = refl
 

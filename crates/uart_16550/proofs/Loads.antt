@@ -62,7 +62,8 @@ module _ (old new : Serial Running) (addr : ℕ) (bytes : List ℕ) where
 
   abbrev LeavesPort : Type 0
   LeavesPort =
-      (history entries : List Entry) → IsPortLeftBy IsLeftBy old history → WriteAll addr bytes entries → AreOwn entries →
+      (history entries : List Entry) → IsPortLeftBy IsLeftBy old history → WriteAll addr bytes entries →
+      AreOwn entries →
       IsPortLeftBy IsLeftBy new (entries ++ history)
 
   port_left : old.com1 ≡ new.com1 → LeavesChipset → LeavesPort
@@ -72,7 +73,8 @@ module _ (old new : Serial Running) (addr : ℕ) (bytes : List ℕ) where
     own = own_with entries history own was.own;
   })
 
-  pub dram_left : (result : Result (Unit {0}) PastTheEnd) → old.com1 ≡ new.com1 → OnOk result LeavesChipset → OnOk result LeavesPort
+  pub dram_left : (result : Result (Unit {0}) PastTheEnd) → old.com1 ≡ new.com1 → OnOk result LeavesChipset →
+      OnOk result LeavesPort
   dram_left (Ok done) same left = port_left same left
   dram_left (Err past) same left = tt
 

@@ -4,13 +4,16 @@ use Rattle.board_prelude.proofs.Common.{Kind, Event, Line, Reply, Entry, IsAnswe
 use Rattle.board_spec.specs.declared.event.Event.TheVariants.{Look as LookAt}
 use Rattle.board_chipset.specs.Common.{Running, IsAnswerModulo, IsForDevices, IsLeftBy}
 use Rattle.board_chipset.proofs.Exact.{modulo}
-use Rattle.uart_16550.specs.Common.{com1_actor, board_event, board_steps, level_of, IsChipsetAfter, IsLeftBy as IsPortLeftBy, Serial}
+use Rattle.uart_16550.specs.Common.{com1_actor, board_event, board_steps, level_of, IsChipsetAfter}
+use Rattle.uart_16550.specs.Common.{IsLeftBy as IsPortLeftBy, Serial}
 use Rattle.uart_16550.proofs.SerialSteps.{IsPlain, is_plain, one_step, other_actor}
 
-pub plain_outside : (event : Event) → IsForDevices event → ((irq : ℕ) (on : Bool) → event ≡ Line irq on → ⊥) → IsPlain event
+pub plain_outside : (event : Event) → IsForDevices event → ((irq : ℕ) (on : Bool) → event ≡ Line irq on → ⊥) →
+    IsPlain event
 plain_outside event is no_line = is_plain event (λ access same. rw same at is) no_line
 
-pub no_look : (event : Event) → IsForDevices event → (kind : Kind) (addr : ℕ) (smm : Bool) → event ≡ LookAt kind addr smm → ⊥
+pub no_look : (event : Event) → IsForDevices event → (kind : Kind) (addr : ℕ) (smm : Bool) →
+    event ≡ LookAt kind addr smm → ⊥
 no_look event is kind addr smm same = rw same at is
 
 -- the answer to an event for the devices alone, as the board hears it

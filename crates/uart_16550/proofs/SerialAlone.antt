@@ -1,5 +1,6 @@
 -- Bytes that are the state of a chipset with a serial port, with nothing behind it.
-use Rattle.std.proofs.Common.{◌≡◌, ℕ, ◌+◌, ◌-◌, ◌≤◌, ◌⊎◌, inl, inr, false, List, [], ◌++◌, length, Result, Ok, Err, refl, sym, ap, ◌∙◌, append_assoc, arith}
+use Rattle.std.proofs.Common.{◌≡◌, ℕ, ◌+◌, ◌-◌, ◌≤◌, ◌⊎◌, inl, inr, false, List, [], length, Result, Ok, Err, refl, sym}
+use Rattle.std.proofs.Common.{ap, ◌∙◌, arith}
 use Rattle.board_prelude.proofs.Common.{append-nil, Setup, IsSetup}
 use Rattle.byte_fields.specs.declared.fault.Fault.{Fault}
 use Rattle.byte_fields.specs.declared.fault.Fault.TheVariants as faults
@@ -7,7 +8,7 @@ use Rattle.byte_fields.specs.Fields.{AreBytes, ended}
 use Rattle.byte_fields.proofs.Formats.{IsFormat, format_as, then_format, last_format}
 use Rattle.board_chipset.specs.Alone.{alone}
 use Rattle.board_chipset.specs.Chipset.{Running}
-use Rattle.board_chipset.specs.ChipsetState.{chipset_bytes, is_other_version}
+use Rattle.board_chipset.specs.ChipsetState.{is_other_version}
 use Rattle.board_chipset.proofs.Marks.{alone_bad}
 use Rattle.board_chipset.proofs.ChipsetFormats.{IsBareChipset, most_chipset, chipset_format}
 use Rattle.board_chipset.proofs.ChipsetLoads.{of_version}
@@ -74,5 +75,6 @@ bad_at setup bytes after at few is place = record { left = length after; place =
 -- ---- the version
 
 -- the bytes are of this version
-pub own_version : (serial : Serial Running) (bytes : List ℕ) → bytes ≡ serial_bytes serial → is_other_version bytes ≡ false
+pub own_version : (serial : Serial Running) (bytes : List ℕ) → bytes ≡ serial_bytes serial →
+    is_other_version bytes ≡ false
 own_version serial bytes is = ap is_other_version is ∙ of_version serial.board (com1_bytes serial.com1)

@@ -1,17 +1,16 @@
 -- The state of a chipset with a serial port is spelled and read back.
-use Rattle.std.proofs.Common.{◌≡◌, ◌⊎◌, ℕ, inl, inr, List, ◌++◌, Result, Ok, Err, IfOk, refl, sym, ap, ◌∙◌, append_assoc}
+use Rattle.std.proofs.Common.{◌≡◌, ℕ, inl, inr, List, ◌++◌, Result, Ok, Err, refl, sym, ap, ◌∙◌, append_assoc}
 use Rattle.board_prelude.specs.Common.{Setup}
 use Rattle.byte_fields.specs.declared.fault.Bad.{Bad}
 use Rattle.byte_fields.specs.declared.fault.Fault.{Fault}
 use Rattle.byte_fields.specs.declared.fault.Fault.TheVariants as faults
-use Rattle.byte_fields.specs.Fields.{then_read, gives, Filled, Took}
 use Rattle.byte_fields.specs.Loads.{Loads}
 use Rattle.board_chipset.specs.Common.{Running}
-use Rattle.board_chipset.specs.ChipsetState.{IsChipset, LoadsChipset, bare_chipset, chipset_bytes, chipset_fields}
+use Rattle.board_chipset.specs.ChipsetState.{LoadsChipset, chipset_bytes}
 use Rattle.uart_16550.specs.declared.com1.Com1.{Com1}
 use Rattle.uart_16550.specs.Serial.{Serial}
 use Rattle.uart_16550.specs.State.{IsCom1, com1_bytes, com1_fields}
-use Rattle.uart_16550.specs.SerialState.{IsSerial, LoadsSerial, bare_serial, serial_bytes, serial_fields}
+use Rattle.uart_16550.specs.SerialState.{LoadsSerial, serial_fields}
 
 abbrev pub both : Running → Com1 → Serial Running
 both board com1 = record { board = board; com1 = com1 }

@@ -1,15 +1,21 @@
 -- How the histories go on that leave a board with a serial port.
-use Rattle.std.proofs.Common.{◌≡◌, ℕ, ◌<◌, Bool, true, false, List, [], ◌∷◌, ◌++◌, map, reverse, refl, sym, ap, subst, ◌∙◌, append_assoc, lt_irrefl, ◌==◌, None, unwrap_or}
-use Rattle.board_prelude.proofs.Common.{ne_eqb, reverse-append, map-append, PortAccess, Event, Memory, Wide, Port, Ack, Pulses, Time, Wire, Line, BadSector, Reply, Entry, Statement, Setup, line_set, irq_of, next_entry, statement_of, statements_of}
+use Rattle.std.proofs.Common.{◌≡◌, ℕ, ◌<◌, Bool, true, false, List, [], ◌∷◌, ◌++◌, map, reverse, refl, sym, ap, subst}
+use Rattle.std.proofs.Common.{◌∙◌, append_assoc, lt_irrefl, ◌==◌, None, unwrap_or}
+use Rattle.board_prelude.proofs.Common.{ne_eqb, reverse-append, map-append, PortAccess, Event, Memory, Wide, Port, Ack}
+use Rattle.board_prelude.proofs.Common.{Pulses, Time, Wire, Line, BadSector, Reply, Entry, Statement, Setup, line_set}
+use Rattle.board_prelude.proofs.Common.{irq_of, next_entry, statement_of, statements_of}
 use Rattle.board_spec.specs.declared.event.Event.TheVariants.{Look as LookAt}
 use Rattle.uart_16550.specs.declared.com1.Com1.{Com1}
-use Rattle.uart_16550.specs.Common.{com1_irq, com1_actor, level_of, board_event, line_steps, change_steps, com1_after, board_steps, uart_access, SetsLine, GoesOnBy, IsNextBy, AreAnswered, AnsweredIsLegal, IsLeftAt, IsLeftAfter}
+use Rattle.uart_16550.specs.Common.{com1_irq, com1_actor, level_of, board_event, line_steps, change_steps, com1_after}
+use Rattle.uart_16550.specs.Common.{board_steps, uart_access, SetsLine, GoesOnBy, IsNextBy, AreAnswered}
+use Rattle.uart_16550.specs.Common.{AnsweredIsLegal, IsLeftAt, IsLeftAfter}
 
 -- a processor is not the port
 pub other_actor : (actor : ℕ) (event : Event) → actor < com1_actor → actor ≡ com1_actor → SetsLine event
 other_actor actor event below is = elim (lt_irrefl com1_actor (rw is at below)) [ ]
 
-pub statements_joined : (more before : List Entry) → statements_of (more ++ before) ≡ statements_of before ++ statements_of more
+pub statements_joined : (more before : List Entry) →
+    statements_of (more ++ before) ≡ statements_of before ++ statements_of more
 statements_joined more before =
     ap (map statement_of) (reverse-append more before) ∙ map-append statement_of (reverse before) (reverse more)
 
@@ -17,18 +23,21 @@ pub goes_on_twice : (before middle after : List Entry) (first second : List Stat
     GoesOnBy before first middle → GoesOnBy middle second after → GoesOnBy before (first ++ second) after
 goes_on_twice before middle after first second one two = record {
   more = two.more ++ one.more;
-  grows = two.grows ∙ (ap (λ (list : List Entry). two.more ++ list) one.grows ∙ sym (append_assoc two.more one.more before));
+  grows = two.grows ∙ (ap (λ (list : List Entry). two.more ++ list) one.grows
+      ∙ sym (append_assoc two.more one.more before));
   same = statements_joined two.more one.more
       ∙ (ap (λ (list : List Statement). list ++ statements_of two.more) one.same
       ∙ ap (λ (list : List Statement). first ++ list) two.same);
 }
 
-answered_as : (is_answer : Setup → List Entry → Event → Reply → Type 0) (setup other : Setup) (before more : List Entry) →
+answered_as : (is_answer : Setup → List Entry → Event → Reply → Type 0) (setup other : Setup)
+    (before more : List Entry) →
     setup ≡ other → AreAnswered (is_answer other) before more → AreAnswered (is_answer setup) before more
 answered_as is_answer setup other before more same answered = rw same answered
 
 answered_twice : (is_answer : List Entry → Event → Reply → Type 0) (before one two : List Entry) →
-    AreAnswered is_answer before one → AreAnswered is_answer (one ++ before) two → AreAnswered is_answer before (two ++ one)
+    AreAnswered is_answer before one → AreAnswered is_answer (one ++ before) two →
+    AreAnswered is_answer before (two ++ one)
 answered_twice is_answer before one [] first second = first
 answered_twice is_answer before one (entry ∷ two) first second = (
   subst (λ (list : List Entry). IsNextBy is_answer list entry) (sym (append_assoc two one before)) second.0,
@@ -163,20 +172,24 @@ module _ {B : Type 0} (is_answer : Setup → List Entry → Event → Reply → 
   }
 
   -- the same under another name of the event
-  pub one_step_as : (old new : B) (level next : Bool) (history : List Entry) (actor : ℕ) (event name : Event) (reply : Reply) →
+  pub one_step_as : (old new : B) (level next : Bool) (history : List Entry) (actor : ℕ) (event name : Event)
+      (reply : Reply) →
       IsLeftAt left_by old level history → setup_of new ≡ setup_of old →
       is_answer (setup_of old) history event reply → left_by new (next_entry history actor event reply ∷ history) →
       unwrap_or (line_set com1_irq event) level ≡ next → actor < com1_actor → event ≡ name →
       IsLeftAfter is_answer setup_of left_by new next history (record { actor = actor; event = name } ∷ [])
   one_step_as old new level next history actor event name reply left_at same answer left is below named =
       rw (← named)
-      (one_step old new level next history actor event reply left_at same answer left is (other_actor actor event below))
+      (one_step old new level next history actor event reply left_at same answer left is
+          (other_actor actor event below))
 
   -- the script gives line 4 a level
-  pub level_given : (old new : B) (com1 : Com1) (irq : ℕ) (on level : Bool) (history : List Entry) (actor : ℕ) (reply : Reply) →
+  pub level_given : (old new : B) (com1 : Com1) (irq : ℕ) (on level : Bool) (history : List Entry) (actor : ℕ)
+      (reply : Reply) →
       irq ≡ com1_irq → level ≡ level_of (with_level com1 on) →
       IsLeftAt left_by old (level_of com1) history → setup_of new ≡ setup_of old →
-      is_answer (setup_of old) history (Line irq level) reply → left_by new (next_entry history actor (Line irq level) reply ∷ history) →
+      is_answer (setup_of old) history (Line irq level) reply →
+      left_by new (next_entry history actor (Line irq level) reply ∷ history) →
       actor < com1_actor →
       IsLeftAfter is_answer setup_of left_by new (level_of (with_level com1 on)) history
       (record { actor = actor; event = board_event com1 (Line irq on) } ∷ [])
@@ -185,10 +198,12 @@ module _ {B : Type 0} (is_answer : Setup → List Entry → Event → Reply → 
       (board_event com1 (Line irq on)) reply left_at same answer left (rw is level_is) below (rw (is, level_is) refl)
 
   -- the script gives another line a level
-  pub other_given : (old new : B) (com1 : Com1) (irq : ℕ) (on : Bool) (history : List Entry) (actor : ℕ) (reply : Reply) →
+  pub other_given : (old new : B) (com1 : Com1) (irq : ℕ) (on : Bool) (history : List Entry) (actor : ℕ)
+      (reply : Reply) →
       (irq ≡ com1_irq → ⊥) →
       IsLeftAt left_by old (level_of com1) history → setup_of new ≡ setup_of old →
-      is_answer (setup_of old) history (Line irq on) reply → left_by new (next_entry history actor (Line irq on) reply ∷ history) →
+      is_answer (setup_of old) history (Line irq on) reply →
+      left_by new (next_entry history actor (Line irq on) reply ∷ history) →
       actor < com1_actor →
       IsLeftAfter is_answer setup_of left_by new (level_of com1) history
       (record { actor = actor; event = board_event com1 (Line irq on) } ∷ [])
@@ -222,11 +237,13 @@ module _ {B : Type 0} (is_answer : Setup → List Entry → Event → Reply → 
   module _ (old middle : B) (com1 : Com1) (history : List Entry) (actor : ℕ) (access : PortAccess) (reply : Reply)
       (left_at : IsLeftAt left_by old (level_of com1) history) (same : setup_of middle ≡ setup_of old)
       (answer : is_answer (setup_of old) history (Port access) reply)
-      (left : left_by middle (next_entry history actor (Port access) reply ∷ history)) (below : actor < com1_actor) where
+      (left : left_by middle (next_entry history actor (Port access) reply ∷ history))
+          (below : actor < com1_actor) where
     pub accessed : IsLeftAfter is_answer setup_of left_by middle (level_of com1) history
         (record { actor = actor; event = Port access } ∷ [])
     accessed =
-        one_step old middle (level_of com1) (level_of com1) history actor (Port access) reply left_at same answer left refl
+        one_step old middle (level_of com1) (level_of com1) history actor (Port access) reply left_at same
+            answer left refl
         (other_actor actor (Port access) below)
 
     -- the port stays as it is
@@ -241,14 +258,17 @@ module _ {B : Type 0} (is_answer : Setup → List Entry → Event → Reply → 
         IsLeftAfter is_answer setup_of left_by new (level_of next) history
         (record { actor = actor; event = Port access } ∷ change_steps com1 next)
     accessed_and_moved new next stays moved =
-        then_more middle new (level_of com1) (level_of next) history (record { actor = actor; event = Port access } ∷ [])
+        then_more middle new (level_of com1) (level_of next) history
+            (record { actor = actor; event = Port access } ∷ [])
         (change_steps com1 next) stays accessed moved
 
   -- the board does an event that is for it alone
-  pub plain_step : (old new : B) (com1 : Com1) (history : List Entry) (actor : ℕ) (event : Event) (resets : Bool) (reply : Reply) →
+  pub plain_step : (old new : B) (com1 : Com1) (history : List Entry) (actor : ℕ) (event : Event) (resets : Bool)
+      (reply : Reply) →
       IsPlain event → IsLeftAt left_by old (level_of com1) history → setup_of new ≡ setup_of old →
       is_answer (setup_of old) history event reply → left_by new (next_entry history actor event reply ∷ history) →
-      actor < com1_actor → IsLeftAfter is_answer setup_of left_by new (level_of com1) history (board_steps actor resets event com1)
+      actor < com1_actor → IsLeftAfter is_answer setup_of left_by new (level_of com1) history
+          (board_steps actor resets event com1)
   plain_step old new com1 history actor event resets reply plain left_at same answer left below =
       rw (plain.alone actor resets com1)
       (one_step old new (level_of com1) (level_of com1) history actor event reply left_at same answer left

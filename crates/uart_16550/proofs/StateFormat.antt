@@ -7,7 +7,9 @@ use Rattle.uart_16550.specs.declared.state.Registers.{Registers}
 use Rattle.uart_16550.specs.declared.state.Causes.{Causes}
 use Rattle.uart_16550.specs.declared.state.Receiver.{Receiver}
 use Rattle.uart_16550.specs.Uart.{Uart, size_with}
-use Rattle.uart_16550.specs.State.{registers_in, registers_bytes, registers_fields, AreRegisters, causes_of, causes_bytes, causes_fields, receiver_of, receiver_bytes, receiver_fields, IsReceiver, IsUart, uart_bytes, uart_fields, IsCom1, com1_bytes, com1_fields}
+use Rattle.uart_16550.specs.State.{registers_in, registers_bytes, registers_fields, AreRegisters, causes_of}
+use Rattle.uart_16550.specs.State.{causes_bytes, causes_fields, receiver_of, receiver_bytes, receiver_fields}
+use Rattle.uart_16550.specs.State.{IsReceiver, IsUart, uart_bytes, uart_fields, IsCom1, com1_bytes, com1_fields}
 
 registers_format : IsFormat 6 registers_fields registers_bytes AreRegisters
 unfolding registers_fields

@@ -1,11 +1,13 @@
 -- What a read of a 16550 gives, and what it leaves.
-use Rattle.std.specs.Prelude.{ℕ, ◌+◌, ◌==◌, Bool, true, false, not, if◌then◌else◌, List, [], ◌∷◌, length, Option, Some, None}
+use Rattle.std.specs.Prelude.{ℕ, ◌+◌, ◌==◌, Bool, true, false, not, if◌then◌else◌, length, Option, Some, None}
 use Rattle.uart_16550.specs.declared.interrupt.Interrupt.{Interrupt}
-use Rattle.uart_16550.specs.declared.interrupt.Interrupt.TheVariants.{LineStatus, DataAvailable, TransmitterEmpty, ModemStatus}
+use Rattle.uart_16550.specs.declared.interrupt.Interrupt.TheVariants.{LineStatus, DataAvailable, TransmitterEmpty}
+use Rattle.uart_16550.specs.declared.interrupt.Interrupt.TheVariants.{ModemStatus}
 use Rattle.uart_16550.specs.declared.modem.ModemLines.{ModemLines}
 use Rattle.uart_16550.specs.declared.modem.ModemChanges.{ModemChanges}
 use Rattle.uart_16550.specs.declared.register.ReadRegister.{ReadRegister}
-use Rattle.uart_16550.specs.declared.register.ReadRegister.TheVariants.{Rbr, Dll, Ier, Dlm, Iir, Lcr, Mcr, Lsr, Msr, Scr}
+use Rattle.uart_16550.specs.declared.register.ReadRegister.TheVariants.{Rbr, Dll, Ier, Dlm, Iir, Lcr, Mcr, Lsr, Msr}
+use Rattle.uart_16550.specs.declared.register.ReadRegister.TheVariants.{Scr}
 use Rattle.uart_16550.specs.declared.register.UartRegisters.{UartRegisters}
 use Rattle.byte_queue.specs.Queue.{front_of, rest_of}
 use Rattle.uart_16550.specs.Names.{dr, oe, thre, temt, dcts, ddsr, teri, ddcd, cts, dsr, ri, dcd}

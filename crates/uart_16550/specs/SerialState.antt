@@ -1,4 +1,5 @@
--- The state of a chipset with a serial port as bytes, over the setup of the chipset: the chipset's, and then the port's.
+-- The state of a chipset with a serial port as bytes, over the setup of the chipset: the chipset's, and then the
+-- port's.
 use Rattle.std.specs.Prelude.{ℕ, ◌≡◌, ◌+◌, ◌⊎◌, ◌++◌, List, length, Result, Ok, Err, IfOk}
 use Rattle.board_prelude.specs.Common.{Setup}
 use Rattle.byte_fields.specs.declared.fault.Fault.{Fault}
@@ -27,8 +28,8 @@ serial_fields setup = do
   com1 ← com1_fields
   gives (record { board = board; com1 = com1 })
 
--- What a call says that reads a chipset of this setup with its port from the front of bytes: `Loads`, where what is read
--- is compared without the ranges of the map
+-- What a call says that reads a chipset of this setup with its port from the front of bytes: `Loads`, where what is
+-- read is compared without the ranges of the map
 pub record LoadsSerial (setup : Setup) (before after : List ℕ) (result : Result (Serial Running) Fault) : Type 0 where
   pub loaded : IfOk result (λ serial.
       (serial.board.setup ≡ setup) × IsSerial serial × (before ≡ serial_bytes serial ++ after))

@@ -1,10 +1,12 @@
 -- A 16550 as a machine: its state, the interrupt that it asks for, and the register at each offset.
 -- The line rate is not modelled: a byte is sent as soon as it is written. Sections are those of National's PC16550D
 -- data sheet.
-use Rattle.std.specs.Prelude.{ℕ, ◌^◌, ◌<◌, ◌≤◌, ◌==◌, Bool, true, false, not, ◌&&◌, ◌||◌, nat_le, if◌then◌else◌, List, [], ◌∷◌, ◌++◌, length, Option, is_some, find}
+use Rattle.std.specs.Prelude.{ℕ, ◌^◌, ◌<◌, ◌≤◌, ◌==◌, Bool, true, false, not, ◌&&◌, ◌||◌, nat_le, if◌then◌else◌, List}
+use Rattle.std.specs.Prelude.{[], ◌∷◌, ◌++◌, length, Option, is_some, find}
 use Rattle.board_spec.specs.Bits.{is_bit}
 use Rattle.uart_16550.specs.declared.interrupt.Interrupt.{Interrupt}
-use Rattle.uart_16550.specs.declared.interrupt.Interrupt.TheVariants.{LineStatus, DataAvailable, TransmitterEmpty, ModemStatus}
+use Rattle.uart_16550.specs.declared.interrupt.Interrupt.TheVariants.{LineStatus, DataAvailable, TransmitterEmpty}
+use Rattle.uart_16550.specs.declared.interrupt.Interrupt.TheVariants.{ModemStatus}
 use Rattle.uart_16550.specs.declared.modem.ModemLines.{ModemLines}
 use Rattle.uart_16550.specs.declared.modem.ModemChanges.{ModemChanges}
 use Rattle.uart_16550.specs.Names.{erbfi, etbei, elsi, edssi, dlab, dtr, rts, out1, out2, loop_enable}

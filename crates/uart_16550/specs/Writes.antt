@@ -4,7 +4,8 @@ use Rattle.board_spec.specs.Bits.{is_bit}
 use Rattle.uart_16550.specs.declared.modem.ModemLines.{ModemLines}
 use Rattle.uart_16550.specs.declared.modem.ModemChanges.{ModemChanges}
 use Rattle.uart_16550.specs.declared.register.WriteRegister.{WriteRegister}
-use Rattle.uart_16550.specs.declared.register.WriteRegister.TheVariants.{Thr, Dll, Ier, Dlm, Fcr, Lcr, Mcr, Lsr, Msr, Scr}
+use Rattle.uart_16550.specs.declared.register.WriteRegister.TheVariants.{Thr, Dll, Ier, Dlm, Fcr, Lcr, Mcr, Lsr, Msr}
+use Rattle.uart_16550.specs.declared.register.WriteRegister.TheVariants.{Scr}
 use Rattle.uart_16550.specs.Names.{etbei, fifo_enable, receiver_reset}
 use Rattle.uart_16550.specs.Uart.{Uart, is_dlab, is_loopback, is_full, received, lines_of}
 

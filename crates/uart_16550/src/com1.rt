@@ -3,7 +3,8 @@
 ghost use Rattle.std.specs.Prelude.{◌≡◌, ◌-◌, ◌<◌, ◌≤◌, ◌||◌, true, Some, None};
 ghost use Rattle.board_spec.specs.InRange.{IsBusAccess};
 ghost use Rattle.uart_16550.specs.Uart.{is_interrupting, uart_at_reset};
-ghost use Rattle.uart_16550.specs.Com1.{com1_at_reset, from_uart, is_for_uart, level_of, offset_of, uart_after, uart_reply};
+ghost use Rattle.uart_16550.specs.Com1.{com1_at_reset, from_uart, is_for_uart, level_of, offset_of, uart_after};
+ghost use Rattle.uart_16550.specs.Com1.{uart_reply};
 
 use crate::uart::Uart;
 use board_base::PortAccess;

@@ -20,8 +20,8 @@ impl SerialBoard<Chipset> {
         self.board.put_dram(bytes)
     }
 
-    /// Replaces the bytes that the disk was fitted with, as `Chipset::put_fitted` does: refused exactly where they are not
-    /// as many; then nothing has changed. It takes no memory.
+    /// Replaces the bytes that the disk was fitted with, as `Chipset::put_fitted` does: refused exactly where they are
+    /// not as many; then nothing has changed. It takes no memory.
     pub fn put_fitted(&mut self, bytes: &[u8]) -> Result<(), OtherLength>
         ensures refused { IsErr result ↔ length bytes.now ≢ disk_size self.old.board.setup }
         ensures put { OnOk result
@@ -31,8 +31,8 @@ impl SerialBoard<Chipset> {
         self.board.put_fitted(bytes)
     }
 
-    /// Replaces the bytes of all sectors of the disk, as `Chipset::put_sectors` does: refused exactly where they are not as
-    /// many; then nothing has changed. It takes no memory.
+    /// Replaces the bytes of all sectors of the disk, as `Chipset::put_sectors` does: refused exactly where they are
+    /// not as many; then nothing has changed. It takes no memory.
     pub fn put_sectors(&mut self, bytes: &[u8]) -> Result<(), OtherLength>
         ensures refused { IsErr result ↔ length bytes.now ≢ disk_size self.old.board.setup }
         ensures put { OnOk result

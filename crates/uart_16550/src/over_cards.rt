@@ -9,8 +9,8 @@ use crate::serial::SerialBoard;
 use board_chipset::{Chipset, PastTheBase};
 
 impl SerialBoard<Chipset> {
-    /// Puts bytes into a base of a card from an offset on, as `Chipset::write_card` does: refused exactly where they do not
-    /// all lie in it; then nothing has changed. It takes no memory.
+    /// Puts bytes into a base of a card from an offset on, as `Chipset::write_card` does: refused exactly where they do
+    /// not all lie in it; then nothing has changed. It takes no memory.
     pub fn write_card(
         &mut self,
         dev: u8,

@@ -1,11 +1,15 @@
 //! A chipset with a serial port: events that nothing was proved of, and bytes that are written from outside the bus.
 
-ghost use Rattle.std.specs.Prelude.{◌≡◌, ◌≤◌, ◌<◌, ◌+◌, ◌↔◌, ◌++◌, ℕ, Bool, false, None, List, [], ◌∷◌, length, IsErr, IfOk, IfErr, OnOk, OnErr};
-ghost use Rattle.board_prelude.specs.Common.{Entry, Line, Memory, Port, Wide, installed, IsAnswer, IsBusAccess, IsInRange, IsWideAccess, is_hard_reset, is_write};
-ghost use Rattle.board_chipset.specs.Common.{IsLeftBy as IsChipsetLeftBy, WriteAll, WriteClockByte, IsAnswerModulo, IsFault, IsForDevices, reply_of, wide_reply_of};
+ghost use Rattle.std.specs.Prelude.{◌≡◌, ◌≤◌, ◌<◌, ◌+◌, ◌↔◌, ◌++◌, ℕ, Bool, false, None, List, [], ◌∷◌, length, IsErr};
+ghost use Rattle.std.specs.Prelude.{IfOk, IfErr, OnOk, OnErr};
+ghost use Rattle.board_prelude.specs.Common.{Entry, Line, Memory, Port, Wide, installed, IsAnswer, IsBusAccess};
+ghost use Rattle.board_prelude.specs.Common.{IsInRange, IsWideAccess, is_hard_reset, is_write};
+ghost use Rattle.board_chipset.specs.Common.{IsLeftBy as IsChipsetLeftBy, WriteAll, WriteClockByte, IsAnswerModulo};
+ghost use Rattle.board_chipset.specs.Common.{IsFault, IsForDevices, reply_of, wide_reply_of};
 ghost use Rattle.board_spec.specs.declared.event.Event.TheVariants.{Look as LookAt};
 ghost use Rattle.board_spec.specs.declared.event.Reply.TheVariants.{Saw};
-ghost use Rattle.uart_16550.specs.Com1.{board_event, board_steps, change_steps, com1_actor, com1_after, is_for_uart, uart_access};
+ghost use Rattle.uart_16550.specs.Com1.{board_event, board_steps, change_steps, com1_actor, com1_after, is_for_uart};
+ghost use Rattle.uart_16550.specs.Com1.{uart_access};
 ghost use Rattle.uart_16550.specs.OverChipset.{IsChipsetAfter};
 ghost use Rattle.uart_16550.specs.Serial.{AreOwn, IsLeftBy};
 
@@ -106,8 +110,8 @@ impl SerialBoard<Chipset> {
         self.board.outside(event)
     }
 
-    /// Puts bytes into the DRAM from an address on, as `Chipset::write_dram` does: refused exactly where they do not all
-    /// lie in the installed memory; then nothing has changed. It takes no memory.
+    /// Puts bytes into the DRAM from an address on, as `Chipset::write_dram` does: refused exactly where they do not
+    /// all lie in the installed memory; then nothing has changed. It takes no memory.
     pub fn write_dram(&mut self, addr: u32, bytes: &[u8]) -> Result<(), PastTheEnd>
         ensures refused { IsErr result ↔ installed self.old.board.setup < addr + length bytes.now }
         ensures unchanged { OnErr result (self.new ≡ self.old) }

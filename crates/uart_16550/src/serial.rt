@@ -1,10 +1,13 @@
 //! A board with a serial port on COM1.
 
-ghost use Rattle.std.specs.Prelude.{◌≡◌, ◌+◌, ◌<◌, ◌∷◌, [], ℕ, List, true, false, Some, None, if◌then◌else◌, ◌==◌, ◌||◌};
-ghost use Rattle.board_prelude.specs.Common.{PortAccess, Entry, Port, Line, Reply, IsInRange, IsBusAccess, is_free_line, is_hard_reset};
+ghost use Rattle.std.specs.Prelude.{◌≡◌, ◌+◌, ◌<◌, ◌∷◌, [], ℕ, List, true, false, Some, None, if◌then◌else◌, ◌==◌};
+ghost use Rattle.std.specs.Prelude.{◌||◌};
+ghost use Rattle.board_prelude.specs.Common.{PortAccess, Entry, Port, Line, Reply, IsInRange, IsBusAccess};
+ghost use Rattle.board_prelude.specs.Common.{is_free_line, is_hard_reset};
 ghost use Rattle.uart_16550.specs.declared.com1.SerialReply.TheVariants.{Board};
 ghost use Rattle.uart_16550.specs.Uart.{has_room, received, is_interrupting, uart_at_reset};
-ghost use Rattle.uart_16550.specs.Com1.{com1_at_reset, com1_after, com1_irq, com1_actor, from_uart, is_for_uart, level_of, uart_access, uart_reply, board_event, board_steps, change_steps};
+ghost use Rattle.uart_16550.specs.Com1.{com1_at_reset, com1_after, com1_irq, com1_actor, from_uart, is_for_uart};
+ghost use Rattle.uart_16550.specs.Com1.{level_of, uart_access, uart_reply, board_event, board_steps, change_steps};
 ghost use Rattle.uart_16550.specs.Serial.{IsLeftBy, IsAfter};
 
 use crate::com1::{COM1_IRQ, Com1, SerialReply, UartReply, is_for_uart};

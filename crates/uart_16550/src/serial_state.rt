@@ -11,7 +11,8 @@ ghost use Rattle.board_chipset.specs.ChipsetState.{is_other_version};
 ghost use Rattle.board_chipset.specs.Setups.{IsSetupFault};
 ghost use Rattle.board_chipset.specs.StateFaults.{IsOfBytes};
 ghost use Rattle.uart_16550.specs.Serial.{Serial};
-ghost use Rattle.uart_16550.specs.SerialState.{IsBadSerialAt, IsSerial, LoadsSerial, bare_serial, serial_bytes, serial_fields};
+ghost use Rattle.uart_16550.specs.SerialState.{IsBadSerialAt, IsSerial, LoadsSerial, bare_serial, serial_bytes};
+ghost use Rattle.uart_16550.specs.SerialState.{serial_fields};
 
 use crate::com1::Com1;
 use crate::serial::SerialBoard;
@@ -32,9 +33,10 @@ impl SerialBoard<Chipset> {
 
     /// The chipset of this setup, with its port, whose state the bytes are: equal to the one that was saved.
     ///
-    /// Refused as `Chipset::load_state` refuses: with the first field of the setup that no board can have; and then where
-    /// the bytes are of another version of the format; and then with the offset of the first field that is not whole or out
-    /// of range, of the chipset or of the port behind it, or of the first byte too many. NoMemory says nothing of the bytes.
+    /// Refused as `Chipset::load_state` refuses: with the first field of the setup that no board can have; and then
+    /// where the bytes are of another version of the format; and then with the offset of the first field that is not
+    /// whole or out of range, of the chipset or of the port behind it, or of the first byte too many. NoMemory says
+    /// nothing of the bytes.
     pub fn load_state(
         alloc: Global,
         setup: Setup,
@@ -62,9 +64,9 @@ impl SerialBoard<Chipset> {
         load_version(alloc, setup, bytes)
     }
 
-    /// The chipset of this setup, with its port, whose state is at the front of the bytes: equal to the one that was saved, so
-    /// that each history which left that one leaves this one. Refused where a field is not whole or out of range, or the
-    /// version is another: the bytes left then begin with the first such field.
+    /// The chipset of this setup, with its port, whose state is at the front of the bytes: equal to the one that was
+    /// saved, so that each history which left that one leaves this one. Refused where a field is not whole or out of
+    /// range, or the version is another: the bytes left then begin with the first such field.
     #[tactic(auto, unfolding(crate::specs::SerialState::serial_fields))]
     pub fn load_fields(
         alloc: Global,

@@ -4,7 +4,9 @@ ghost use Rattle.std.specs.Prelude.{◌≡◌, ◌≤◌, ◌<◌, ◌++◌, OnO
 ghost use Rattle.byte_fields.specs.Fields.{Took, plain};
 ghost use Rattle.byte_fields.specs.Loads.{Loads, OneSpelling};
 ghost use Rattle.uart_16550.specs.Uart.{size_with};
-ghost use Rattle.uart_16550.specs.State.{registers_in, registers_bytes, registers_fields, causes_of, causes_bytes, causes_fields, receiver_of, receiver_bytes, receiver_fields, IsReceiver, IsUart, uart_bytes, uart_fields, IsCom1, com1_bytes, com1_fields};
+ghost use Rattle.uart_16550.specs.State.{registers_in, registers_bytes, registers_fields, causes_of, causes_bytes};
+ghost use Rattle.uart_16550.specs.State.{causes_fields, receiver_of, receiver_bytes, receiver_fields, IsReceiver};
+ghost use Rattle.uart_16550.specs.State.{IsUart, uart_bytes, uart_fields, IsCom1, com1_bytes, com1_fields};
 
 use crate::com1::Com1;
 use crate::modem::ModemChanges;

@@ -1,10 +1,13 @@
 //! The chip.
 
 ghost use Rattle.std.specs.Prelude.{◌≡◌, ◌<◌, ◌≤◌, true, false, [], ◌++◌, not, ◌==◌, length};
-ghost use Rattle.uart_16550.specs.Uart.{uart_at_reset, no_changes, is_dlab, is_loopback, is_full, has_room, received, has_condition, is_raised, pending, is_interrupting};
+ghost use Rattle.uart_16550.specs.Uart.{uart_at_reset, no_changes, is_dlab, is_loopback, is_full, has_room, received};
+ghost use Rattle.uart_16550.specs.Uart.{has_condition, is_raised, pending, is_interrupting};
 ghost use Rattle.uart_16550.specs.Calls.{bytes_taken, keeps_queue};
-ghost use Rattle.uart_16550.specs.Reads.{iir_of, lsr_of, msr_of, registers_of, after_identity, value_of, after_value, byte_read, after_read};
-ghost use Rattle.uart_16550.specs.Writes.{looped, thr_written, ier_written, is_emptying, fcr_written, mcr_written, with_value, after_write, byte_sent};
+ghost use Rattle.uart_16550.specs.Reads.{iir_of, lsr_of, msr_of, registers_of, after_identity, value_of, after_value};
+ghost use Rattle.uart_16550.specs.Reads.{byte_read, after_read};
+ghost use Rattle.uart_16550.specs.Writes.{looped, thr_written, ier_written, is_emptying, fcr_written, mcr_written};
+ghost use Rattle.uart_16550.specs.Writes.{with_value, after_write, byte_sent};
 
 use crate::interrupt::{Interrupt, identity};
 use crate::modem::{ModemChanges, ModemLines, modem_status};

@@ -1,6 +1,8 @@
 -- The registers of the IDE function in the table of registers: after a reset, and after a store of one byte.
 use Rattle.std.proofs.Common.{◌≡◌, ◌≢◌, ℕ, ◌<◌, ◌∙◌, refl, sym, ap, arith, slice_index}
-use Rattle.board_prelude.proofs.Common.{nat_tests, One, Reg, Store, Setup, merged, ide_function, reset_byte, writable_bits, changed_byte, Bytes, ide, ide_command, idetim, idetim_high, merged-all, changed_byte-one_same, changed_byte-one_other}
+use Rattle.board_prelude.proofs.Common.{nat_tests, One, Reg, Store, Setup, merged, ide_function, reset_byte}
+use Rattle.board_prelude.proofs.Common.{writable_bits, changed_byte, Bytes, ide, ide_command, idetim, idetim_high}
+use Rattle.board_prelude.proofs.Common.{merged-all, changed_byte-one_same, changed_byte-one_other}
 use Rattle.xbus_select.specs.Ide.{IdeBytes, IsIdeFixed, IsIdeOf}
 use Rattle.xbus_select.proofs.FixedLemmas.{IsFixedAt, ide_header, ide_fixed, kept_byte, bare}
 

@@ -1,6 +1,8 @@
 -- The registers of the ISA bridge in the table of registers: after a reset, and after a store of one byte.
 use Rattle.std.proofs.Common.{◌≡◌, ◌≢◌, ℕ, ◌<◌, inl, inr, ◌∙◌, refl, sym, ap, arith, slice_index}
-use Rattle.board_prelude.proofs.Common.{nat_tests, One, Reg, Store, Setup, merged, reset_byte, writable_bits, changed_byte, Bytes, isa, ide, xbcs as select_register, changed_byte-one_same, changed_byte-one_other}
+use Rattle.board_prelude.proofs.Common.{nat_tests, One, Reg, Store, Setup, merged, reset_byte, writable_bits}
+use Rattle.board_prelude.proofs.Common.{changed_byte, Bytes, isa, ide, xbcs as select_register, changed_byte-one_same}
+use Rattle.board_prelude.proofs.Common.{changed_byte-one_other}
 use Rattle.xbus_select.specs.Common.{IdeBytes, IsIdeOf, PiixBytes, IsPiixRegister, IsIsaFixed, IsPiixOf}
 use Rattle.xbus_select.proofs.FixedLemmas.{IsFixedAt, isa_header, isa_fixed, kept_byte, bare}
 use Rattle.xbus_select.proofs.IdeLemmas.{ide_stored_at}

@@ -1,7 +1,13 @@
 -- At the ports of the keyboard controller, the clock and the primary IDE channel, the device answers
 -- exactly where the chip selects it.
-use Rattle.std.proofs.Common.{◌≡◌, ◌≢◌, ℕ, ◌↔◌, Bool, true, false, Option, Some, None, refl, sym, ap, subst, arith, inl, inr, ◌&&◌, not, if◌then◌else◌, unwrap_or, option_map}
-use Rattle.board_prelude.proofs.Common.{cases_eq, false≢true, nat_tests, One, Dev, Keyboard, Ata, Target, Device, Denial, Register, clock_index_port, clock_data_port, disk_error_port, disk_count_port, disk_low_port, disk_mid_port, disk_high_port, disk_device_port, disk_status_port, is_port_of, Setup, is_bit, Bytes, Window, io_claim, xbcs as select_register, ide_command, idetim, idetim_high, device, nobody, card_port, unselected, port_target_of}
+use Rattle.std.proofs.Common.{◌≡◌, ◌≢◌, ℕ, ◌↔◌, Bool, true, false, Option, Some, None, refl, sym, ap, subst, arith, inl}
+use Rattle.std.proofs.Common.{inr, ◌&&◌, not, if◌then◌else◌, unwrap_or, option_map}
+use Rattle.board_prelude.proofs.Common.{cases_eq, false≢true, nat_tests, One, Dev, Keyboard, Ata, Target, Device}
+use Rattle.board_prelude.proofs.Common.{Denial, Register, clock_index_port, clock_data_port, disk_error_port}
+use Rattle.board_prelude.proofs.Common.{disk_count_port, disk_low_port, disk_mid_port, disk_high_port, disk_device_port}
+use Rattle.board_prelude.proofs.Common.{disk_status_port, is_port_of, Setup, is_bit, Bytes, Window, io_claim}
+use Rattle.board_prelude.proofs.Common.{xbcs as select_register, ide_command, idetim, idetim_high, device, nobody}
+use Rattle.board_prelude.proofs.Common.{card_port, unselected, port_target_of}
 use Rattle.board_base.specs.declared.access.Width.TheVariants.{Two, Four}
 use Rattle.board_base.specs.declared.target.Dev.TheVariants.{Clock}
 use Rattle.device_spec.specs.PortNames.{keyboard_data_port, keyboard_command_port, disk_data_port, disk_control_port}

@@ -1,6 +1,7 @@
 //! Function 01.1 of the 82371SB, the IDE controller.
 ghost use Rattle.std.specs.Prelude.{◌≡◌, ◌+◌, ◌*◌, ◌/◌};
-ghost use Rattle.board_prelude.specs.Common.{One, Store, Setup, is_bit, reset_byte, changed_byte, Bytes, ide as ide_register};
+ghost use Rattle.board_prelude.specs.Common.{One, Store, Setup, is_bit, reset_byte, changed_byte, Bytes};
+ghost use Rattle.board_prelude.specs.Common.{ide as ide_register};
 ghost use Rattle.xbus_select.specs.Ide.{IsIdeOf, is_ide_decoded};
 
 use crate::header::header_byte;

@@ -1,6 +1,12 @@
 -- What holds of the disk beyond its rules, said of whole transfers and of any run of accesses.
-use Rattle.std.specs.Prelude.{◌≡◌, ◌⊎◌, ℕ, zero, suc, ◌+◌, ◌*◌, ◌/◌, ◌%◌, ◌<◌, ◌≤◌, ◌==◌, Bool, true, false, ◌&&◌, ◌||◌, List, [], ◌∷◌, ◌++◌, length, Some, Ok, Err}
-use Rattle.device_spec.specs.Common.{Width, One, Two, Four, power_on, is_disk_length, Medium, Registers, Activity, Ready, Failed, Reading, Writing, Identifying, Drive, Disk, sectors_of, word_at, sector_bytes, stored, is_drive_one, is_drq, named, naming, left_of, readable, counted_down, moved_to, ended, failed, finished, begin_read, begin_write, verified, sector_read, sector_written, word_of, word_read, word_written, with_drive, after_bad, disk_control_port}
+use Rattle.std.specs.Prelude.{◌≡◌, ◌⊎◌, ℕ, zero, suc, ◌+◌, ◌*◌, ◌/◌, ◌%◌, ◌<◌, ◌≤◌, ◌==◌, Bool, true, false, ◌&&◌, ◌||◌}
+use Rattle.std.specs.Prelude.{List, [], ◌∷◌, ◌++◌, length, Some, Ok, Err}
+use Rattle.device_spec.specs.Common.{Width, One, Two, Four, power_on, is_disk_length, Medium, Registers, Activity}
+use Rattle.device_spec.specs.Common.{Ready, Failed, Reading, Writing, Identifying, Drive, Disk, sectors_of, word_at}
+use Rattle.device_spec.specs.Common.{sector_bytes, stored, is_drive_one, is_drq, named, naming, left_of, readable}
+use Rattle.device_spec.specs.Common.{counted_down, moved_to, ended, failed, finished, begin_read, begin_write, verified}
+use Rattle.device_spec.specs.Common.{sector_read, sector_written, word_of, word_read, word_written, with_drive}
+use Rattle.device_spec.specs.Common.{after_bad, disk_control_port}
 use Rattle.device_spec.specs.Ata.Steps.{after_read, after_write, after_reset}
 
 -- A read of the alternate status changes nothing.
@@ -248,7 +254,8 @@ request_of (words ∷ rest) request = true
 -- A write of which n sectors are there stores them, in turn, and then goes on to the sector after
 -- them, without the words of which it stops where that one is not found. Where none is left after it,
 -- its words are the last. No other sector changes.
-pub record WritesSectors (medium : Medium) (sector : ℕ) (sectors : List (List ℕ)) (request : Bool) (drive : Drive) : Type 0 where
+pub record WritesSectors (medium : Medium) (sector : ℕ) (sectors : List (List ℕ)) (request : Bool)
+    (drive : Drive) : Type 0 where
   pub rest :
       after_words_written (all_words sectors) (writing_disk medium request drive)
       ≡ writing_disk (all_stored medium sector sectors) (request_of sectors request)

@@ -1,6 +1,7 @@
 -- The examples of the clock, computed.
 use Rattle.std.proofs.Common.{refl}
-use Rattle.board_examples.specs.Common.{given, told, AnAlarmStays, AHardReset, AMoment, HourForms, Alarms, Interrupts, EachByte}
+use Rattle.board_examples.specs.Common.{given, told, AnAlarmStays, AHardReset, AMoment, HourForms, Alarms, Interrupts}
+use Rattle.board_examples.specs.Common.{EachByte}
 use Rattle.device_spec.specs.Clock.{power_on}
 
 pub an_alarm_stays : AnAlarmStays
@@ -21,12 +22,38 @@ hour_forms = record { decimal_day = refl; decimal_face = refl; binary_day = refl
 
 pub alarms : Alarms
 unfolding given told power_on
-alarms = record { at_its_time = refl; other_second = refl; other_minute = refl; other_hour = refl; at_any_time = refl; any_second = refl; any_minute_and_hour = refl; every_hour_at_zero = refl; no_wildcards = refl }
+alarms = record {
+  at_its_time = refl;
+  other_second = refl;
+  other_minute = refl;
+  other_hour = refl;
+  at_any_time = refl;
+  any_second = refl;
+  any_minute_and_hour = refl;
+  every_hour_at_zero = refl;
+  no_wildcards = refl;
+}
 
 pub interrupts : Interrupts
 unfolding given told power_on
-interrupts = record { no_switch = refl; of_updates = refl; of_alarms = refl; of_no_period = refl; standing_still = refl; never_of_a_standing_time = refl }
+interrupts = record {
+  no_switch = refl;
+  of_updates = refl;
+  of_alarms = refl;
+  of_no_period = refl;
+  standing_still = refl;
+  never_of_a_standing_time = refl;
+}
 
 pub each_byte : EachByte
 unfolding given told power_on
-each_byte = record { second = refl; register_a = refl; register_b = refl; register_c = refl; register_d = refl; first_memory = refl; last_memory = refl; bit_7_of_the_index = refl }
+each_byte = record {
+  second = refl;
+  register_a = refl;
+  register_b = refl;
+  register_c = refl;
+  register_d = refl;
+  first_memory = refl;
+  last_memory = refl;
+  bit_7_of_the_index = refl;
+}

@@ -1,7 +1,11 @@
 -- The examples of the disk, computed.
 use Rattle.std.proofs.Common.{refl}
-use Rattle.board_examples.specs.Common.{given, told, passed, filled, PastTheEnd, BadInTheMiddle, ReadToItsEnd, BadIsWritten, WrittenIsGood, WordsOfSector3, LowByteFirst, CommandEnds, WordsTheWrongWay, Writes, Resets, Commands, Addresses, Identify, Lengths, DiskPorts}
-use Rattle.board_prelude.proofs.Common.{begin_read, sector_read, begin_write, sector_written, verified, obeyed, commanded, after_word, word_written, register_written, identify_word}
+use Rattle.board_examples.specs.Common.{given, told, passed, filled, PastTheEnd, BadInTheMiddle, ReadToItsEnd}
+use Rattle.board_examples.specs.Common.{BadIsWritten, WrittenIsGood, WordsOfSector3, LowByteFirst, CommandEnds}
+use Rattle.board_examples.specs.Common.{WordsTheWrongWay, Writes, Resets, Commands, Addresses, Identify, Lengths}
+use Rattle.board_examples.specs.Common.{DiskPorts}
+use Rattle.board_prelude.proofs.Common.{begin_read, sector_read, begin_write, sector_written, verified, obeyed}
+use Rattle.board_prelude.proofs.Common.{commanded, after_word, word_written, register_written, identify_word}
 use Rattle.device_spec.specs.Ata.Steps.{control_written}
 
 -- the examples, all computed with the same definitions open
@@ -23,7 +27,9 @@ record AllRun : Type 0 where
   pub lengths_runs : Lengths
 
 all_run : AllRun
-unfolding PastTheEnd BadInTheMiddle ReadToItsEnd BadIsWritten WrittenIsGood WordsOfSector3 LowByteFirst CommandEnds WordsTheWrongWay given told passed filled begin_read sector_read begin_write sector_written verified obeyed commanded after_word word_written register_written control_written identify_word
+unfolding PastTheEnd BadInTheMiddle ReadToItsEnd BadIsWritten WrittenIsGood WordsOfSector3 LowByteFirst CommandEnds
+    WordsTheWrongWay given told passed filled begin_read sector_read begin_write sector_written verified obeyed
+    commanded after_word word_written register_written control_written identify_word
 all_run = record {
   past_the_end_runs = λ bytes. refl;
   bad_in_the_middle_runs = λ bytes. refl;

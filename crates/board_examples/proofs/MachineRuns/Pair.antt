@@ -1,7 +1,12 @@
 -- The examples of the pair, computed.
 use Rattle.std.proofs.Common.{refl}
-use Rattle.board_examples.specs.Common.{given, told, after_lines, initialised, NobodyIsReady, SpuriousAnswers, ALevelStays, AnEdgeIsKept, TheHigherEndsFirst, ANewBeginning, AShortSequence, SpecialMask, ChosenRegisters, Polls, PollsOfOne, ResetAtLevels, EachCommand, AutomaticEnd, ModesEnd, FullyNested, Cascaded}
-use Rattle.board_prelude.proofs.Common.{levels_where, byte_of_levels, pending, first_selectable, request, chip_after_write, byte_read, chip_after_read, first_blocking, answer_of, pair_after_acknowledge}
+use Rattle.board_examples.specs.Common.{given, told, after_lines, initialised, NobodyIsReady, SpuriousAnswers}
+use Rattle.board_examples.specs.Common.{ALevelStays, AnEdgeIsKept, TheHigherEndsFirst, ANewBeginning, AShortSequence}
+use Rattle.board_examples.specs.Common.{SpecialMask, ChosenRegisters, Polls, PollsOfOne, ResetAtLevels, EachCommand}
+use Rattle.board_examples.specs.Common.{AutomaticEnd, ModesEnd, FullyNested, Cascaded}
+use Rattle.board_prelude.proofs.Common.{levels_where, byte_of_levels, pending, first_selectable, request}
+use Rattle.board_prelude.proofs.Common.{chip_after_write, byte_read, chip_after_read, first_blocking, answer_of}
+use Rattle.board_prelude.proofs.Common.{pair_after_acknowledge}
 
 -- the examples, all computed with the same definitions open
 record AllRun : Type 0 where
@@ -24,7 +29,10 @@ record AllRun : Type 0 where
   pub modes_end_runs : ModesEnd
 
 all_run : AllRun
-unfolding NobodyIsReady SpuriousAnswers ALevelStays AnEdgeIsKept TheHigherEndsFirst ANewBeginning AShortSequence SpecialMask ChosenRegisters Polls PollsOfOne ResetAtLevels initialised given told after_lines levels_where byte_of_levels pending first_selectable request chip_after_write byte_read chip_after_read first_blocking answer_of pair_after_acknowledge
+unfolding NobodyIsReady SpuriousAnswers ALevelStays AnEdgeIsKept TheHigherEndsFirst ANewBeginning AShortSequence
+    SpecialMask ChosenRegisters Polls PollsOfOne ResetAtLevels initialised given told after_lines levels_where
+    byte_of_levels pending first_selectable request chip_after_write byte_read chip_after_read first_blocking answer_of
+    pair_after_acknowledge
 all_run = record {
   nobody_is_ready_runs = refl;
   spurious_answers_runs = refl;

@@ -1,7 +1,13 @@
 -- The examples of the timer, computed.
 use Rattle.std.proofs.Common.{refl, arith}
-use Rattle.board_examples.specs.Common.{given, told, after_lines, Ports, AfterReset, ReadBackOf0, Counters1And2, OnePeriod, EachMode, EachCount, EachGate, BytesAndLatches}
-use Rattle.device_spec.specs.Pit.{mode_numbered, access_numbered, programmed, count_of_number, low_byte, high_byte, element_bytes, status_byte, latch_count, latch_status, control, read_back, read_live, read, asks_for_load, complete, take_low, take_byte, write, gate_rises, gate_falls, load, count_down, count_to_end, count_to_reload, count_half, count_to_strobe, pulse_by_mode, pulse, reset, port_read, read_back_chosen, write_control, port_write, set_gate2, out_of, pulse_all, pulses, rises}
+use Rattle.board_examples.specs.Common.{given, told, after_lines, Ports, AfterReset, ReadBackOf0, Counters1And2}
+use Rattle.board_examples.specs.Common.{OnePeriod, EachMode, EachCount, EachGate, BytesAndLatches}
+use Rattle.device_spec.specs.Pit.{mode_numbered, access_numbered, programmed, count_of_number, low_byte, high_byte}
+use Rattle.device_spec.specs.Pit.{element_bytes, status_byte, latch_count, latch_status, control, read_back, read_live}
+use Rattle.device_spec.specs.Pit.{read, asks_for_load, complete, take_low, take_byte, write, gate_rises, gate_falls}
+use Rattle.device_spec.specs.Pit.{load, count_down, count_to_end, count_to_reload, count_half, count_to_strobe}
+use Rattle.device_spec.specs.Pit.{pulse_by_mode, pulse, reset, port_read, read_back_chosen, write_control, port_write}
+use Rattle.device_spec.specs.Pit.{set_gate2, out_of, pulse_all, pulses, rises}
 
 -- the examples, all computed with the same definitions open
 record AllRun : Type 0 where
@@ -15,7 +21,11 @@ record AllRun : Type 0 where
   pub bytes_and_latches_runs : BytesAndLatches
 
 all_run : AllRun
-unfolding AfterReset ReadBackOf0 Counters1And2 given told after_lines mode_numbered access_numbered programmed count_of_number low_byte high_byte element_bytes status_byte latch_count latch_status control read_back read_live read asks_for_load complete take_low take_byte write gate_rises gate_falls load count_down count_to_end count_to_reload count_half count_to_strobe pulse_by_mode pulse reset port_read read_back_chosen write_control port_write set_gate2 out_of pulse_all pulses rises
+unfolding AfterReset ReadBackOf0 Counters1And2 given told after_lines mode_numbered access_numbered programmed
+    count_of_number low_byte high_byte element_bytes status_byte latch_count latch_status control read_back read_live
+    read asks_for_load complete take_low take_byte write gate_rises gate_falls load count_down count_to_end
+    count_to_reload count_half count_to_strobe pulse_by_mode pulse reset port_read read_back_chosen write_control
+    port_write set_gate2 out_of pulse_all pulses rises
 all_run = record {
   after_reset_runs = refl;
   read_back_of_0_runs = refl;
@@ -94,4 +104,9 @@ pub bytes_and_latches : BytesAndLatches
 bytes_and_latches = all_run.bytes_and_latches_runs
 
 pub ports : Ports
-ports = record { first = (omega arith, omega arith); last = (omega arith, omega arith); before = λ h. omega (arith, h.0); past = λ h. omega (arith, h.1) }
+ports = record {
+  first = (omega arith, omega arith);
+  last = (omega arith, omega arith);
+  before = λ h. omega (arith, h.0);
+  past = λ h. omega (arith, h.1);
+}

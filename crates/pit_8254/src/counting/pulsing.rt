@@ -1,6 +1,8 @@
 //! One pulse of a counter's clock, mode by mode.
 ghost use Rattle.std.specs.Prelude.{◌≡◌, ◌+◌, true, false};
-ghost use Rattle.device_spec.specs.Pit.{TerminalCount, OneShot, RateGenerator, SquareWave, SoftwareStrobe, HardwareStrobe, load, load_with, count_down, count_to_end, count_to_reload, half_end, count_half, count_to_strobe, is_counting, pulse_by_mode, pulse};
+ghost use Rattle.device_spec.specs.Pit.{TerminalCount, OneShot, RateGenerator, SquareWave, SoftwareStrobe};
+ghost use Rattle.device_spec.specs.Pit.{HardwareStrobe, load, load_with, count_down, count_to_end, count_to_reload};
+ghost use Rattle.device_spec.specs.Pit.{half_end, count_half, count_to_strobe, is_counting, pulse_by_mode, pulse};
 
 use super::Counter;
 use crate::word::CountingMode;

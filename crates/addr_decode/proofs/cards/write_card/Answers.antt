@@ -1,7 +1,8 @@
 use Rattle.std.proofs.Common.{◌≡◌, sym, ◌∙◌, ap, Some, List, None, ◌==◌}
 use Rattle.std.specs.List.{position}
 use Rattle.pci_bars.specs.Cards.{CardBytes}
-use Rattle.addr_decode.proofs.CardLemmas.{card_written, registers_written, card_kept, no_card_written, no_registers_written}
+use Rattle.addr_decode.proofs.CardLemmas.{card_written, registers_written, card_kept, no_card_written}
+use Rattle.addr_decode.proofs.CardLemmas.{no_registers_written}
 use Rattle.addr_decode.proofs.cards.write_card.Goals as goal
 
 pub returns-in-Some-get_mut-clause-decoded : goal.returns-in-Some-get_mut-clause-decoded

@@ -10,7 +10,8 @@ returns c = record {
   touched = λ setup bytes stands.
       let cards = c.args.regs.now.cards.items in
       c.has_name.ensures.named
-      ∙ ap (λ (fitted : List FittedCard). list_any is_some (names_from fitted c.args.reg c.args.width)) (sym stands.cards.0)
+      ∙ ap (λ (fitted : List FittedCard). list_any is_some (names_from fitted c.args.reg c.args.width))
+      (sym stands.cards.0)
       ∙ names_touch setup c.args.reg c.args.width 0
       (no_low_card setup cards 0 (lit< tt) c.requires.cards.each stands.cards.0)
       (no_low_card setup cards 1 (lit< tt) c.requires.cards.each stands.cards.0);

@@ -45,5 +45,6 @@ returns-in-None c = record {
       c.in_default.ensures.denial (c.top_of.ensures.top bytes stands.rows)
       (c.in_default-shut_mem.ensures.shut setup bytes
       (subst (AreDecoded setup bytes) (sym c.deref.ensures.0) stands.cards))
-      (c.in-None.ensures.unselected setup bytes (subst (AreDecoded setup bytes) (sym c.deref-2.ensures.0) stands.cards));
+      (c.in-None.ensures.unselected setup bytes
+      (subst (AreDecoded setup bytes) (sym c.deref-2.ensures.0) stands.cards));
 }

@@ -9,7 +9,10 @@ returns-then-addr c = record { first = c.first_above.ensures.first }
 
 pub returns-then-addr-2 : goal.returns-then-addr-2
 unfolding fixed_edges
-returns-then-addr-2 c = record { first = c.first_above-then-addr-2.ensures.first ∙ skip_to_expansion c.args.addr (omega arith) }
+returns-then-addr-2 c = record {
+  first = c.first_above-then-addr-2.ensures.first
+      ∙ skip_to_expansion c.args.addr (omega arith);
+}
 
 pub returns : goal.returns
 unfolding fixed_edges

@@ -5,6 +5,7 @@ use Rattle.addr_decode.proofs.laws.law_names.Goals as goal
 
 pub returns : goal.returns
 returns c = record {
-  named = λ setup reg list. named setup reg (no_low_fitted setup 0 (lit< tt) list) (no_low_fitted setup 1 (lit< tt) list);
+  named = λ setup reg list. named setup reg (no_low_fitted setup 0 (lit< tt) list)
+      (no_low_fitted setup 1 (lit< tt) list);
   one = λ cards reg register is. (is_name cards reg register is).place;
 }

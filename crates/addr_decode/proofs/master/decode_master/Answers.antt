@@ -1,5 +1,6 @@
 use Rattle.std.proofs.Common.{◌∙◌, ap}
-use Rattle.board_prelude.proofs.Common.{Area, top_of, memory_shut, rom_unselected, abort_denial, rom_denial, denial_in, isa}
+use Rattle.board_prelude.proofs.Common.{Area, top_of, memory_shut, rom_unselected, abort_denial, rom_denial, denial_in}
+use Rattle.board_prelude.proofs.Common.{isa}
 use Rattle.addr_decode.specs.Master.{master_denial}
 use Rattle.addr_decode.proofs.master.decode_master.Goals as goal
 

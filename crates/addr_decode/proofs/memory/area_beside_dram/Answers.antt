@@ -5,7 +5,8 @@ use Rattle.addr_decode.proofs.memory.area_beside_dram.Goals as goal
 
 pub returns-then-rom_selected : goal.returns-then-rom_selected
 returns-then-rom_selected c = record {
-  area = λ setup bytes stands. rom_answers setup bytes c.args.addr c.args.regs.now.xbcs stands.xbcs c.if-rom_selected.ensures.selected;
+  area = λ setup bytes stands. rom_answers setup bytes c.args.addr c.args.regs.now.xbcs stands.xbcs
+      c.if-rom_selected.ensures.selected;
 }
 
 pub returns-in-Some : goal.returns-in-Some

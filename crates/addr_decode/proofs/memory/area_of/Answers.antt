@@ -6,7 +6,8 @@ use Rattle.addr_decode.proofs.memory.area_of.Goals as goal
 pub returns-in-Some : goal.returns-in-Some
 returns-in-Some c = record {
   area = λ setup bytes stands.
-      either_answers setup bytes c.args.addr c.args.kind c.args.smm (Some c.in-Some.area) (beside_dram setup bytes c.args.addr)
+      either_answers setup bytes c.args.addr c.args.kind c.args.smm (Some c.in-Some.area)
+      (beside_dram setup bytes c.args.addr)
       (c.in-Some.ensures.dram setup bytes stands) refl;
 }
 

@@ -1,5 +1,6 @@
 use Rattle.std.proofs.Common.{Some, None, refl, ◌∙◌, ap}
-use Rattle.board_prelude.proofs.Common.{Area, top_of, memory_shut, rom_unselected, abort_denial, rom_denial, denial_in, denial_of, isa}
+use Rattle.board_prelude.proofs.Common.{Area, top_of, memory_shut, rom_unselected, abort_denial, rom_denial, denial_in}
+use Rattle.board_prelude.proofs.Common.{denial_of, isa}
 use Rattle.addr_decode.specs.Memory.{beside_dram}
 use Rattle.addr_decode.proofs.MemoryLemmas.{either_answers, dram_undenied}
 use Rattle.addr_decode.proofs.memory.decode.Goals as goal

@@ -7,7 +7,8 @@ use Rattle.addr_decode.proofs.ports.config_port.Goals as goal
 
 pub returns-in-Some-clause-decoded : goal.returns-in-Some-clause-decoded
 returns-in-Some-clause-decoded c = λ setup bytes are.
-    selected_target setup (kept_address c.args.confadd) c.args.port c.in-Some.selected (decoded_as c.selected_port.result)
+    selected_target setup (kept_address c.args.confadd) c.args.port c.in-Some.selected
+    (decoded_as c.selected_port.result)
     (λ off.
     false≢true
     (sym (c.in-Some.ensures.none.1 (ap (λ (address : ℕ). is_enabled address) c.kept.ensures.kept ∙ off))))

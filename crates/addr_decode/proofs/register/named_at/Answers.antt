@@ -10,6 +10,7 @@ returns c = record {
   named =
       let card = c.index-cards-place.result in
       c.named_in_card.ensures.named
-      ∙ ap (λ (it : CardBytes). option_map (Card c.args.reg.dev) (in_card c.args.reg.off it.card)) c.index-cards-place.is
+      ∙ ap (λ (it : CardBytes). option_map (Card c.args.reg.dev) (in_card c.args.reg.off it.card))
+      c.index-cards-place.is
       ∙ card_name c.args.cards.now c.args.reg c.args.place card c.requires.dev c.requires.fun c.requires.place;
 }

@@ -3,4 +3,5 @@ use Rattle.board_base.proofs.bits.merged.Goals as goal
 
 pub returns-clause-bits : goal.returns-clause-bits
 returns-clause-bits c =
-    λ k below. merged_bits c.args.mask c.args.old c.args.written k c.ranges.mask.fits c.ranges.old.fits c.ranges.written.fits below
+    λ k below. merged_bits c.args.mask c.args.old c.args.written k c.ranges.mask.fits c.ranges.old.fits
+    c.ranges.written.fits below

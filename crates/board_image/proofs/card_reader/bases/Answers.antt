@@ -1,5 +1,5 @@
-use Rattle.std.proofs.Common.{◌≡◌, ◌-◌, ◌+◌, ℕ, ◌<◌, ◌++◌, List, [], ◌∷◌, length, ap, ◌∙◌, sym, arith, map, sum_by}
-use Rattle.board_prelude.proofs.Common.{err_from_is_err_and, length_push, Base, memory_size}
+use Rattle.std.proofs.Common.{◌≡◌, ◌-◌, ◌+◌, ℕ, ◌++◌, List, [], ◌∷◌, length, ap, ◌∙◌, arith, map, sum_by}
+use Rattle.board_prelude.proofs.Common.{err_from_is_err_and, length_push, memory_size}
 use Rattle.std.proofs.lemmas.List.{map_push}
 use Rattle.std.proofs.lemmas.List.Sums.{sum_by_push}
 use Rattle.pci_bars.specs.declared.spec.BaseSpec.{BaseSpec}

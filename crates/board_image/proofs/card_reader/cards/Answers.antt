@@ -1,4 +1,4 @@
-use Rattle.std.proofs.Common.{◌≡◌, ℕ, ◌++◌, List, [], ◌∷◌, length, ap, sym, rules}
+use Rattle.std.proofs.Common.{◌≡◌, length, ap, sym, rules}
 use Rattle.board_prelude.proofs.Common.{err_from_is_err_and, FittedCard, most_card_memory}
 use Rattle.board_image.specs.ImageFields.{cards_fields}
 use Rattle.byte_fields.proofs.Loops.{goes_on, stops, is_done}

@@ -1,4 +1,4 @@
-use Rattle.std.proofs.Common.{◌≡◌, List, ◌++◌, refl, ap, ◌∙◌, map, reverse}
+use Rattle.std.proofs.Common.{◌≡◌, List, ◌++◌, refl, ap, ◌∙◌, reverse}
 use Rattle.board_prelude.proofs.Common.{reverse-append, map-append, Entry, statement_of, statements_of}
 use Rattle.board_image.proofs.laws.law_goes_on.Goals as goal
 

@@ -1,6 +1,6 @@
-use Rattle.std.proofs.Common.{◌≡◌, ℕ, ◌+◌, ◌-◌, ◌⊎◌, inl, inr, List, [], length, Result, Ok, Err, refl, sym, ap, ◌∙◌, arith}
-use Rattle.board_image.specs.Common.{Saved, image_bytes, image_fields, IsBadAt, AreBytes, IsImageOf}
-use Rattle.byte_fields.proofs.Formats.{ok_is, not_err, err_is}
+use Rattle.std.proofs.Common.{◌≡◌, ℕ, ◌-◌, ◌⊎◌, inl, inr, List, [], length, Result, Ok, Err, refl, sym, ap, ◌∙◌, arith}
+use Rattle.board_image.specs.Common.{Saved, image_fields, IsBadAt, AreBytes, IsImageOf}
+use Rattle.byte_fields.proofs.Formats.{not_err, err_is}
 use Rattle.board_image.proofs.ImageFormats.{image_back, image_taken, image_bad}
 use Rattle.board_image.proofs.laws.law_image_or_bad.Goals as goal
 

@@ -1,4 +1,4 @@
-use Rattle.std.proofs.Common.{◌≡◌, List, ℕ, [], sym, ap, ◌∙◌}
+use Rattle.std.proofs.Common.{List, ℕ, [], sym, ap, ◌∙◌}
 use Rattle.board_image.specs.Common.{Saved, image_fields}
 use Rattle.byte_fields.proofs.Formats.{ok_is}
 use Rattle.board_image.proofs.ImageFormats.{image_back}

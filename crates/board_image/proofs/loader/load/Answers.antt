@@ -1,4 +1,4 @@
-use Rattle.std.proofs.Common.{◌≡◌, List, length, rules, ap, subst}
+use Rattle.std.proofs.Common.{◌≡◌, List, rules, subst}
 use Rattle.board_prelude.proofs.Common.{Statement, Setup}
 use Rattle.board_core.specs.Steps.{AreInRange}
 use Rattle.image_writer.specs.ImageBytes.{IsImage}

@@ -1,4 +1,4 @@
-use Rattle.std.proofs.Common.{◌≡◌, ℕ, ◌+◌, ◌-◌, ◌<◌, ◌≤◌, inl, inr, List, [], length, Result, Ok, Err, refl, sym, ap, subst, ◌∙◌, arith}
+use Rattle.std.proofs.Common.{◌≡◌, ℕ, ◌+◌, ◌≤◌, inl, List, [], length, Result, Ok, Err, sym, ap, ◌∙◌, arith}
 use Rattle.board_prelude.proofs.Common.{Statement, Setup}
 use Rattle.board_image.specs.declared.fault.ImageFault.{ImageFault}
 use Rattle.board_image.specs.declared.fault.ImageFault.TheVariants.{Bad}

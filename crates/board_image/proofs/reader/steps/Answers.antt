@@ -1,4 +1,4 @@
-use Rattle.std.proofs.Common.{◌≡◌, ◌-◌, ◌+◌, ℕ, ◌++◌, List, [], ◌∷◌, length, ap, sym}
+use Rattle.std.proofs.Common.{length}
 use Rattle.std.proofs.lemmas.Result.{err_from_is_err_and}
 use Rattle.board_image.specs.Common.{step_fields, steps_fields}
 use Rattle.byte_fields.proofs.Loops.{goes_on, stops, is_done}

@@ -9,4 +9,5 @@ returns-in-Two-clause-bytes c =
 pub returns-in-Four-clause-bytes : goal.returns-in-Four-clause-bytes
 returns-in-Four-clause-bytes c =
     let fits = rw c.in-Four.is at c.requires.within in
-    rw c.in-Four.is (λ k. put_four c.args.bytes.now c.write_u32.new.buf c.args.at c.args.value k fits c.write_u32.ensures)
+    rw c.in-Four.is (λ k. put_four c.args.bytes.now c.write_u32.new.buf c.args.at c.args.value k fits
+    c.write_u32.ensures)

@@ -1,7 +1,8 @@
 use Rattle.std.proofs.Common.{◌≡◌, [], drop, ◌∙◌, arith}
 use Rattle.std.proofs.lemmas.List.{drop_all}
 use Rattle.board_stores.proofs.ValueLemmas.{value_below}
-use Rattle.board_stores.proofs.JoinLemmas.{few_bytes, shift_below, next_shift, value_of, joined_parts, next_value, whole_value}
+use Rattle.board_stores.proofs.JoinLemmas.{few_bytes, shift_below, next_shift, value_of, joined_parts, next_value}
+use Rattle.board_stores.proofs.JoinLemmas.{whole_value}
 use Rattle.board_stores.proofs.join.read_cycles.Goals as goal
 
 pub overflow_shl-value : goal.overflow_shl-value

@@ -6,7 +6,8 @@ pub returns-in_default : goal.returns-in_default
 returns-in_default c = record {
   stands =
       c.read.ensures.stands
-      ∙ beside_rom c.args.stores.now c.args.rom.now c.args.answer.now.target c.args.access.now.addr c.args.access.now.width
+      ∙ beside_rom c.args.stores.now c.args.rom.now c.args.answer.now.target c.args.access.now.addr
+      c.args.access.now.width
       c.in_default.not-Rom;
   value = λ setup history kept image. c.read.ensures.value setup history kept;
 }

@@ -34,7 +34,8 @@ loop-preserved c =
                 rw items
                 (map-append (λ (it : PortCycle). it.access) cycles (cycle ∷ [])
                 ∙ ap (λ (front : List PortAccess). front ++ cycle.access ∷ []) c.loop.invariant.are
-                ∙ ap (λ (last : PortAccess). map (cycle_of c.args.access.now.write) c.loop.invariant.parts ++ last ∷ []) w.cycle_of.ensures.cycle
+                ∙ ap (λ (last : PortAccess). map (cycle_of c.args.access.now.write) c.loop.invariant.parts ++ last ∷ [])
+                w.cycle_of.ensures.cycle
                 ∙ sym (map-append (cycle_of c.args.access.now.write) c.loop.invariant.parts (part ∷ [])));
             on =
                 rw done_is
@@ -49,24 +50,28 @@ loop-preserved c =
             few = rw w.cycles-is (omega (arith, c.loop.invariant.few));
             parts = c.loop.invariant.parts;
             are = rw w.cycles-is c.loop.invariant.are;
-            on = rw w.done-is (no_part access c.loop.invariant.parts c.loop.counter c.loop.done all c.loop.invariant.on);
+            on = rw w.done-is (no_part access c.loop.invariant.parts c.loop.counter c.loop.done all
+                c.loop.invariant.on);
           }
     ]
 
 pub returns-clause-cycles : goal.returns-clause-cycles
 returns-clause-cycles c =
     whole c.args.access.now c.as_wide-wide.result c.loop.invariant.parts c.loop.counter c.loop.done
-    (port_accesses c.loop.cycles.items) c.as_wide-wide.ensures.wide c.loop.invariant.are (omega arith) c.loop.invariant.on
+    (port_accesses c.loop.cycles.items) c.as_wide-wide.ensures.wide c.loop.invariant.are
+    (omega arith) c.loop.invariant.on
 
 pub returns-clause-covers : goal.returns-clause-covers
 returns-clause-covers c =
     are_cycles_as c.args.access.now (port_accesses c.loop.cycles.items)
     (whole c.args.access.now c.as_wide-wide.result c.loop.invariant.parts c.loop.counter c.loop.done
-    (port_accesses c.loop.cycles.items) c.as_wide-wide.ensures.wide c.loop.invariant.are (omega arith) c.loop.invariant.on)
+    (port_accesses c.loop.cycles.items) c.as_wide-wide.ensures.wide c.loop.invariant.are
+    (omega arith) c.loop.invariant.on)
 
 pub returns-clause-bus : goal.returns-clause-bus
 returns-clause-bus c = λ fits.
     bus_cycles c.args.access.now (port_accesses c.loop.cycles.items) fits
     (are_cycles_as c.args.access.now (port_accesses c.loop.cycles.items)
     (whole c.args.access.now c.as_wide-wide.result c.loop.invariant.parts c.loop.counter c.loop.done
-    (port_accesses c.loop.cycles.items) c.as_wide-wide.ensures.wide c.loop.invariant.are (omega arith) c.loop.invariant.on)).each
+    (port_accesses c.loop.cycles.items) c.as_wide-wide.ensures.wide c.loop.invariant.are
+    (omega arith) c.loop.invariant.on)).each

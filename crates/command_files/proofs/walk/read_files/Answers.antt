@@ -4,7 +4,8 @@ use Rattle.command_files.specs.declared.status.Status.{Status}
 use Rattle.command_files.specs.Calls.{OfCalls}
 use Rattle.command_files.proofs.CallLemmas.{none_made}
 use Rattle.command_files.proofs.Refusals.{holds_of_error}
-use Rattle.command_files.proofs.Places.{AreTaken, WholeBefore, past_table, are_read, taken_next, whole_next, stops_here, fetches_here, fetches_all}
+use Rattle.command_files.proofs.Places.{AreTaken, WholeBefore, past_table, are_read, taken_next, whole_next, stops_here}
+use Rattle.command_files.proofs.Places.{fetches_here, fetches_all}
 use Rattle.command_files.proofs.GoodLemmas.{has_read}
 use Rattle.command_files.proofs.walk.read_files.Goals as goal
 

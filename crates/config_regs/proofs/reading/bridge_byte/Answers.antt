@@ -8,13 +8,15 @@ use Rattle.config_regs.proofs.reading.bridge_byte.Goals as goal
 
 pub byte-requires-clause-number : goal.byte-requires-clause-number
 byte-requires-clause-number c =
-    (is_name (cards_of c.args.regs.now.cards.items) (bridge c.args.off) c.in-Some.register (sym c.in-Some.ensures.named)).number
+    (is_name (cards_of c.args.regs.now.cards.items) (bridge c.args.off) c.in-Some.register
+    (sym c.in-Some.ensures.named)).number
 
 pub fixed_byte-requires : goal.fixed_byte-requires
 fixed_byte-requires c = record {
   offset =
       fixed_beside c.args.off (omega arith)
-      (nameless_in_bridge (cards_of c.args.regs.now.cards.items) (bridge c.args.off) refl refl (sym c.in-None.ensures.named));
+      (nameless_in_bridge (cards_of c.args.regs.now.cards.items) (bridge c.args.off) refl refl
+      (sym c.in-None.ensures.named));
 }
 
 pub returns-in-Some : goal.returns-in-Some
@@ -31,6 +33,8 @@ pub returns-in-None : goal.returns-in-None
 returns-in-None c = record {
   byte = λ setup bytes stands has.
       let beside =
-      nameless_in_bridge (cards_of c.args.regs.now.cards.items) (bridge c.args.off) refl refl (sym c.in-None.ensures.named) in
-      c.fixed_byte.ensures.byte setup ∙ sym (has.bridge_bytes c.args.off (fixed_beside c.args.off (omega arith) beside));
+      nameless_in_bridge (cards_of c.args.regs.now.cards.items) (bridge c.args.off) refl refl
+      (sym c.in-None.ensures.named) in
+      c.fixed_byte.ensures.byte setup
+      ∙ sym (has.bridge_bytes c.args.off (fixed_beside c.args.off (omega arith) beside));
 }

@@ -1,7 +1,8 @@
 use Rattle.std.proofs.Common.{◌∙◌, sym, arith, inl, inr}
 use Rattle.xbus_select.specs.Piix.{IsIsaFixed, IsOffRouting}
 use Rattle.config_regs.proofs.reading.isa_byte_beside.Goals as goal
-use Rattle.config_regs.proofs.reading.isa_byte_beside.Goals.{in_default-via-then-off-lt96, in_default-via-else-off-lt96+else-off-lt100}
+use Rattle.config_regs.proofs.reading.isa_byte_beside.Goals.{in_default-via-then-off-lt96}
+use Rattle.config_regs.proofs.reading.isa_byte_beside.Goals.{in_default-via-else-off-lt96+else-off-lt100}
 
 pub returns-in_default : goal.returns-in_default
 returns-in_default c =

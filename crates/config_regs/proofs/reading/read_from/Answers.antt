@@ -1,4 +1,5 @@
-use Rattle.std.proofs.Common.{◌≡◌, ℕ, ◌≤◌, ◌∙◌, length, slice_index, set, inl, inr, length-set, get_or-set_same, get_or-set_other, sym, refl, subst, arith}
+use Rattle.std.proofs.Common.{◌≡◌, ℕ, ◌≤◌, ◌∙◌, length, slice_index, set, inl, inr, length-set, get_or-set_same}
+use Rattle.std.proofs.Common.{get_or-set_other, sym, refl, subst, arith}
 use Rattle.board_prelude.proofs.Common.{cases_eq, bytes_of, reg_after}
 use Rattle.addr_decode.proofs.StoreLemmas.{few_bytes}
 use Rattle.config_regs.proofs.Functions.{wide_shifted}

@@ -8,7 +8,8 @@ use Rattle.dram_store.proofs.state.save_banks.Goals as goal
 pub loop-bank-preserved : goal.loop-bank-preserved
 loop-bank-preserved c =
     bank_added c.args.banks.now c.loop-bank.bank-index c.bank-item.result c.loop-bank.into.items
-    c.save_state.new.into.items (c.args.into.now.items ++ memory_bytes (concat c.args.banks.now)) c.requires.each c.loop-bank-test.true
+    c.save_state.new.into.items (c.args.into.now.items ++ memory_bytes (concat c.args.banks.now)) c.requires.each
+    c.loop-bank-test.true
     (sym (get_or_read c.args.banks.now c.loop-bank.bank-index c.bank-item.result c.loop-bank-test.true c.bank-item.is
     []))
     c.loop-bank.invariant c.in_ok-save_state.ensures.saved

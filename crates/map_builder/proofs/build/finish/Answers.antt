@@ -55,7 +55,8 @@ extend-requires c =
     (range_of c.range_at-last.result) c.args.before.now c.index_from-index.result c.args.after kept.agrees
     c.index_from-index.ensures.holds (omega arith)
     c.range_at-last.ensures.goes_on kept.built in
-    let few = few_from kept.regs c.range_at-last.new.ranges.items _ c.args.before.now c.index_from-index.result whole in (
+    let few =
+    few_from kept.regs c.range_at-last.new.ranges.items _ c.args.before.now c.index_from-index.result whole in (
       lit< tt,
       omega (
         arith,

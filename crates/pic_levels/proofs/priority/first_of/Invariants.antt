@@ -4,4 +4,5 @@ use Rattle.device_spec.proofs.Common.{find, has, priority_order}
 use Rattle.pic_levels.proofs.priority.first_of.Given as goal
 
 abbrev pub invariant-loop-place : goal.invariant-loop-place
-invariant-loop-place l = find (has l.levels) (priority_order l.lowest) ≡ find (has l.levels) (drop l.place (priority_order l.lowest))
+invariant-loop-place l = find (has l.levels) (priority_order l.lowest)
+    ≡ find (has l.levels) (drop l.place (priority_order l.lowest))

@@ -1,4 +1,4 @@
-use Rattle.std.proofs.Common.{◌≡◌, ℕ, ◌-◌, ◌≤◌, List, length, Result, Err, sym, ap, ◌∙◌, arith}
+use Rattle.std.proofs.Common.{◌≡◌, ℕ, ◌≤◌, List, length, Result, Err, sym, ap, ◌∙◌, arith}
 use Rattle.board_prelude.proofs.Common.{Setup, IsSetup}
 use Rattle.byte_fields.specs.Fields.{AreBytes}
 use Rattle.board_chipset.specs.declared.state_fault.StateFault.{StateFault}

@@ -8,7 +8,8 @@ pub loop-k-preserved : goal.loop-k-preserved
 loop-k-preserved c = record {
   count = omega (arith, c.loop-k.invariant.count, c.push.ensures.len);
   named =
-      one_more_named (cards_of c.args.self.now.cards.items) c.args.reg c.loop-k.k c.loop-k.names.items c.push.new.self.items
+      one_more_named (cards_of c.args.self.now.cards.items) c.args.reg c.loop-k.k c.loop-k.names.items
+      c.push.new.self.items
       c.register_after.result (omega (arith, bytes_few c.args.width)) c.loop-k.invariant.named
       c.register_after.ensures.named c.push.ensures.items;
 }

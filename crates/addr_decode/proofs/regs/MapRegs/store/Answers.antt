@@ -5,7 +5,8 @@ use Rattle.addr_decode.specs.MapRegs.{StandsFor, map_bytes, stored}
 use Rattle.addr_decode.proofs.StoreLemmas.{byte_in_list, few_bytes}
 use Rattle.addr_decode.proofs.CardLemmas.{fitted_same}
 use Rattle.addr_decode.proofs.NameLemmas.{named_so_far}
-use Rattle.addr_decode.proofs.StandsLemmas.{stored_so_far, none_stored, one_more_stored, all_stored, no_cards_stored, more_cards_stored, all_cards_stored}
+use Rattle.addr_decode.proofs.StandsLemmas.{stored_so_far, none_stored, one_more_stored, all_stored, no_cards_stored}
+use Rattle.addr_decode.proofs.StandsLemmas.{more_cards_stored, all_cards_stored}
 use Rattle.addr_decode.proofs.regs.MapRegs.store.Goals as goal
 
 pub loop-k-init : goal.loop-k-init
@@ -26,7 +27,8 @@ store_after-requires c = record {
 }
 
 this_byte :
-    (c : goal.After-store_after) → slice_index c.to_le_bytes-bytes.result c.from-place.result ≡ byte c.args.value c.loop-k.k
+    (c : goal.After-store_after) → slice_index c.to_le_bytes-bytes.result c.from-place.result
+        ≡ byte c.args.value c.loop-k.k
 this_byte c =
     byte_in_list c.args.value c.loop-k.k c.from-place.result c.to_le_bytes-bytes.result c.from-place.ensures
     (omega (arith, few_bytes c.args.width)) c.to_le_bytes-bytes.ensures

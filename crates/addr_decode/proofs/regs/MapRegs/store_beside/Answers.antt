@@ -16,7 +16,8 @@ returns-then-is_of_bridge-clause-stands c = λ setup bytes stands.
 
 pub returns-then-is_of_bridge-clause-cards : goal.returns-then-is_of_bridge-clause-cards
 returns-then-is_of_bridge-clause-cards c = λ setup bytes are.
-    cards_beside setup bytes (reg_after c.args.reg c.args.k) c.args.byte c.args.self.now.cards.items c.requires.cards.each
+    cards_beside setup bytes (reg_after c.args.reg c.args.k) c.args.byte c.args.self.now.cards.items
+    c.requires.cards.each
     (c.is_of_bridge.ensures.bridge c.if-is_of_bridge.true) are
 
 pub returns-in-Some-clause-stands : goal.returns-in-Some-clause-stands
@@ -25,7 +26,8 @@ returns-in-Some-clause-stands c = λ setup bytes stands.
     let place : c.in-Some.off ≡ c.args.reg.off + c.args.k = omega (arith, c.in-Some.ensures) in
     subst (λ (reg : Reg). StandsFor setup (stored setup bytes reg c.args.byte)
     (record (map_bytes c.args.self.now) { cards = c.write_card.new.cards.items }))
-    (in_function_0 (reg_after c.args.reg c.args.k) c.args.reg.dev refl (c.is_of_bridge.ensures.card c.if-is_of_bridge.false).1)
+    (in_function_0 (reg_after c.args.reg c.args.k) c.args.reg.dev refl
+    (c.is_of_bridge.ensures.card c.if-is_of_bridge.false).1)
     (rw (← place) (card_stored setup bytes (map_bytes c.args.self.now) c.write_card.new.cards.items c.args.reg.dev
     c.in-Some.off c.args.byte (omega (arith, card.0)) (omega (arith, card.0))
     (c.write_card.ensures.decoded setup bytes stands.cards) stands))
@@ -34,7 +36,8 @@ pub returns-in-Some-clause-cards : goal.returns-in-Some-clause-cards
 returns-in-Some-clause-cards c = λ setup bytes are.
     let place : c.in-Some.off ≡ c.args.reg.off + c.args.k = omega (arith, c.in-Some.ensures) in
     subst (λ (reg : Reg). AreCardsOf setup (stored setup bytes reg c.args.byte) c.write_card.new.cards.items)
-    (in_function_0 (reg_after c.args.reg c.args.k) c.args.reg.dev refl (c.is_of_bridge.ensures.card c.if-is_of_bridge.false).1)
+    (in_function_0 (reg_after c.args.reg c.args.k) c.args.reg.dev refl
+    (c.is_of_bridge.ensures.card c.if-is_of_bridge.false).1)
     (rw (← place) (c.write_card.ensures.written setup bytes are))
 
 pub returns-in-None-clause-stands : goal.returns-in-None-clause-stands

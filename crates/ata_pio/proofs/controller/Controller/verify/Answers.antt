@@ -9,7 +9,8 @@ returns-in-Err-clause-verified c =
     let now = c.loop-sector.self in
     let is : readable (medium_of c.args.sectors.now) (named (registers_of now.task)) ≡ Err (error_of c.in-Err.fault) =
     rw (← c.sector.ensures.sector) (sym c.in-Err.ensures.readable) in
-    c.fail.ensures.failed ∙ sym (verified-fails (medium_of c.args.sectors.now) _ _ (drive_of now) is) ∙ c.loop-sector.invariant
+    c.fail.ensures.failed ∙ sym (verified-fails (medium_of c.args.sectors.now) _ _ (drive_of now) is)
+    ∙ c.loop-sector.invariant
 
 pub returns-then-self-eq0-clause-verified : goal.returns-then-self-eq0-clause-verified
 returns-then-self-eq0-clause-verified c =
@@ -17,7 +18,8 @@ returns-then-self-eq0-clause-verified c =
     let m = medium_of c.args.sectors.now in
     let is : readable m (named (registers_of now.task)) ≡ Ok c.in-Ok.sector =
     rw (← c.sector.ensures.sector) (sym c.in-Ok.ensures.readable) in
-    let last : left_of (registers_of now.task) ≡ 0 = sym (ap (λ (r : Registers). r.count) c.count_down.ensures.counted) ∙ c.if-self-eq0.true in
+    let last : left_of (registers_of now.task) ≡ 0 = sym (ap (λ (r : Registers). r.count) c.count_down.ensures.counted)
+    ∙ c.if-self-eq0.true in
     c.finish.ensures.finished
     ∙ ap (λ (r : Registers). finished (record (drive_of now) { registers = r })) c.count_down.ensures.counted
     ∙ sym (verified-last m c.in-Ok.sector (drive_of now) is last)

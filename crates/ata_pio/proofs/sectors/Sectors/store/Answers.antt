@@ -4,5 +4,6 @@ use Rattle.ata_pio.proofs.sectors.Sectors.store.Goals as goal
 
 pub returns : goal.returns
 returns c = record {
-  stored = rw (stored_items c.args.self.now.bytes c.args.sector _ _ _ c.deref_mut.ensures.value c.copy_from_slice.ensures.after (omega arith) c.requires.whole) refl;
+  stored = rw (stored_items c.args.self.now.bytes c.args.sector _ _ _ c.deref_mut.ensures.value
+      c.copy_from_slice.ensures.after (omega arith) c.requires.whole) refl;
 }

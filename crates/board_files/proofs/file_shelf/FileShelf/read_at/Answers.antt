@@ -1,4 +1,4 @@
-use Rattle.std.proofs.Common.{rules, ◌≡◌, ℕ, ◌+◌, List, drop, take, Some, ap, sym, ◌∙◌}
+use Rattle.std.proofs.Common.{rules, ◌≡◌, ℕ, List, drop, take, Some, ap, sym, ◌∙◌}
 use Rattle.board_files.proofs.Known.{passed_more, ends_by}
 use Rattle.board_files.proofs.file_shelf.FileShelf.read_at.Goals as goal
 

@@ -1,7 +1,8 @@
-use Rattle.std.proofs.Common.{◌≡◌, ℕ, ◌%◌, Option, sym, ap, ◌∙◌}
+use Rattle.std.proofs.Common.{◌≡◌, ◌%◌, Option, sym, ap, ◌∙◌}
 use Rattle.board_prelude.proofs.Common.{Disk, Medium, Setup, Bytes, DramCell}
 use Rattle.board_chipset.specs.declared.store.Store.{Store}
-use Rattle.bus_master.specs.Common.{Master, Moving, TransferPlace, done_of, end_of, first_place, medium_of, with_medium, cells_of, transfer_of, EndedSo}
+use Rattle.bus_master.specs.Common.{Master, Moving, TransferPlace, done_of, end_of, first_place, medium_of, with_medium}
+use Rattle.bus_master.specs.Common.{cells_of, transfer_of, EndedSo}
 use Rattle.board_chipset.specs.Stores.{IsStoreOf}
 use Rattle.bus_master.proofs.TransferLemmas.{all_moved, disk_is, done_is, same_transfer, smram_kept}
 use Rattle.bus_master.proofs.WordLemmas.{own_medium, same_store}
@@ -63,7 +64,8 @@ returns-clause-to_disk c = λ way cell there.
     let sound = c.requires.sound in
     let store = c.args.store.now in
     (moved c sound.0 sound.1 sound.2).cells cell there
-    ∙ memory_kept sound.0 sound.1 c.args.self.now c.args.lba c.args.count (cells_of store) (medium_of store.disk) way cell
+    ∙ memory_kept sound.0 sound.1 c.args.self.now c.args.lba c.args.count (cells_of store)
+    (medium_of store.disk) way cell
 
 pub returns-clause-hidden : goal.returns-clause-hidden
 returns-clause-hidden c = λ setup bytes other of differs.
@@ -74,7 +76,8 @@ returns-clause-hidden c = λ setup bytes other of differs.
       done_is is c.moved.ensures.moved ∙ sym (ap done_of hidden),
       c.end_transfer.ensures.ended (of_other c setup bytes other)
           (ap end_of hidden ∙ sym is.ends)
-          (ap (λ (moving : Moving). moving.place.table) hidden ∙ ap (λ (place : TransferPlace). place.table) (sym is.come)
+          (ap (λ (moving : Moving). moving.place.table) hidden
+          ∙ ap (λ (place : TransferPlace). place.table) (sym is.come)
           ∙ sym c.table.ensures.table),
       disk_is is c.transfer-end.ensures.shape
           ∙ ap (λ (m : Medium). with_medium c.args.store.now.disk m) (sym medium)

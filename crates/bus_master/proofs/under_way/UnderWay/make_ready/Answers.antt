@@ -1,4 +1,4 @@
-use Rattle.std.proofs.Common.{◌≡◌, Err, None, sym, ap, ◌∙◌, arith, rules}
+use Rattle.std.proofs.Common.{◌≡◌, Err, sym, ap, ◌∙◌, rules}
 use Rattle.bus_master.specs.Transfer.{TransferPlace}
 use Rattle.bus_master.proofs.StepLemmas.{region_read, region_in_use, ready_over, ready_misses, ready_at_region}
 use Rattle.bus_master.proofs.under_way.UnderWay.make_ready.Goals as goal

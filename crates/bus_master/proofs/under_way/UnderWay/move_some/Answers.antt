@@ -1,9 +1,10 @@
-use Rattle.std.proofs.Common.{◌≡◌, ◌≢◌, ℕ, ◌+◌, ◌*◌, ◌%◌, ◌<◌, ◌≤◌, Err, None, sym, ap, subst, ◌∙◌, arith, lit≤, rules}
-use Rattle.board_prelude.proofs.Common.{Setup, Bytes}
+use Rattle.std.proofs.Common.{◌≡◌, ℕ, ◌+◌, ◌*◌, ◌%◌, Err, None, sym, ap, subst, ◌∙◌, arith, lit≤, rules}
 use Rattle.addr_decode.specs.Master.{master_area}
 use Rattle.bus_master.specs.Common.{Moving, TransferPlace, address_after, kind_of, StandsAt}
 use Rattle.bus_master.proofs.HeldTargets.{cards_fitted}
-use Rattle.bus_master.proofs.WordLemmas.{address_on, came, came_first, came_on, came_words, ends_before, ends_unanswered, inside_sector, one_word, reached_stands, same_answers, same_sector, same_shape, same_store, shape_after}
+use Rattle.bus_master.proofs.WordLemmas.{address_on, came, came_first, came_on, came_words, ends_before}
+use Rattle.bus_master.proofs.WordLemmas.{ends_unanswered, inside_sector, one_word, reached_stands, same_answers}
+use Rattle.bus_master.proofs.WordLemmas.{same_shape, same_store, shape_after}
 use Rattle.bus_master.proofs.under_way.UnderWay.move_some.Goals as goal
 
 pub returns-in_err-make_ready-clause-moved : goal.returns-in_err-make_ready-clause-moved

@@ -8,7 +8,8 @@ pub returns-in-Ok-clause-next : goal.returns-in-Ok-clause-next
 returns-in-Ok-clause-next c = λ setup bytes direction lba words cells medium stands passed first.
     let table = ap (λ (p : TransferPlace). p.table) c.self.view_is in
     rw table
-    (described_same setup bytes (going_from c.args.self.now direction lba words) cells medium passed c.requires.used first
+    (described_same setup bytes (going_from c.args.self.now direction lba words) cells medium passed
+    c.requires.used first
     (rw table at (c.in-Ok.ensures.end setup bytes stands)))
 
 pub returns-in-Err-clause-next : goal.returns-in-Err-clause-next

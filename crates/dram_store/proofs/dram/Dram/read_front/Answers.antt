@@ -13,7 +13,8 @@ returns-in-Some-clause-bytes c = λ k within.
     let part : length (take c.min-count.result c.args.into.now) ≡ c.min-count.result =
     length-take-le c.min-count.result c.args.into.now (omega (arith, c.min-count.ensures)) in
     rw (← c.self.view_is)
-    (front_read banks c.in-Some.bank.now c.read_bytes.new.into _ c.args.at c.min-count.result k c.self.invariant.each lookup.3.0
+    (front_read banks c.in-Some.bank.now c.read_bytes.new.into _ c.args.at c.min-count.result k
+    c.self.invariant.each lookup.3.0
     found (omega (arith, c.min-count.ensures)) within (c.read_bytes.ensures.length ∙ part)
     (c.read_bytes.ensures.bytes k (omega (arith, part, within))))
 

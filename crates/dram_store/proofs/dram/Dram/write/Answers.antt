@@ -10,7 +10,8 @@ use Rattle.dram_store.proofs.dram.Dram.write.Goals.{in-Some, in_default}
 -- the bytes after the write, and how many they are
 written :
     (c : goal.Joined-get_mut) →
-    IsWritten c.args.self.now c.args.addr (bytes_of c.args.width) (byte c.args.value) (concat c.match-get_mut.self-inside.banks.items)
+    IsWritten c.args.self.now c.args.addr (bytes_of c.args.width) (byte c.args.value)
+    (concat c.match-get_mut.self-inside.banks.items)
     × (length (concat c.match-get_mut.self-inside.banks.items) ≡ length c.args.self.now)
 written c =
     let banks = c.self.inside.banks.items in
@@ -23,7 +24,8 @@ written c =
           let is : IsBank w.write.new.self =
           w.write.ensures.length ∙ rw found (All-get_or IsBank banks bank [] inside c.self.invariant.each) in
           rw (w.self-inside-is, ← c.self.view_is) (
-            changed banks w.write.new.self c.args.addr (bytes_of c.args.width) (byte c.args.value) c.self.invariant.each is
+            changed banks w.write.new.self c.args.addr (bytes_of c.args.width)
+                (byte c.args.value) c.self.invariant.each is
                 inside (aligned_fits c.args.addr c.args.width c.requires.aligned) (rw (← found) w.write.ensures.bytes),
             same_length banks c.args.addr w.write.new.self c.self.invariant.each is,
           )

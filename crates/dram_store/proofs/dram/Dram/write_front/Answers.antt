@@ -11,7 +11,8 @@ use Rattle.dram_store.proofs.dram.Dram.write_front.Goals.{in-Some, in_default}
 -- the bytes after the write, and how many they are
 written :
     (c : goal.Joined-get_mut) →
-    IsWritten c.args.self.now c.args.at c.min-count.result (slice_index c.args.bytes.now) (concat c.match-get_mut.self-inside.banks.items)
+    IsWritten c.args.self.now c.args.at c.min-count.result (slice_index c.args.bytes.now)
+    (concat c.match-get_mut.self-inside.banks.items)
     × (length (concat c.match-get_mut.self-inside.banks.items) ≡ length c.args.self.now)
 written c =
     let banks = c.self.inside.banks.items in
@@ -24,8 +25,11 @@ written c =
           let is : IsBank w.write_bytes.new.self =
           w.write_bytes.ensures.length ∙ rw found (All-get_or IsBank banks bank [] inside c.self.invariant.each) in
           rw (w.self-inside-is, ← c.self.view_is) (
-            changed banks w.write_bytes.new.self c.args.at c.min-count.result (slice_index c.args.bytes.now) c.self.invariant.each is
-                inside (omega (arith, c.min-count.ensures)) (front_put (bank_at banks c.args.at) w.write_bytes.new.self c.args.bytes.now _ c.min-count.result (omega (arith, c.min-count.ensures)) (rw (← found) w.write_bytes.ensures.bytes)),
+            changed banks w.write_bytes.new.self c.args.at c.min-count.result (slice_index c.args.bytes.now)
+                c.self.invariant.each is
+                inside (omega (arith, c.min-count.ensures))
+                (front_put (bank_at banks c.args.at) w.write_bytes.new.self c.args.bytes.now _ c.min-count.result
+                (omega (arith, c.min-count.ensures)) (rw (← found) w.write_bytes.ensures.bytes)),
             same_length banks c.args.at w.write_bytes.new.self c.self.invariant.each is,
           )
       | in_default w ↦

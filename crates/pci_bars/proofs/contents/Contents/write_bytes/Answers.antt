@@ -1,7 +1,8 @@
 use Rattle.std.proofs.Common.{◌≡◌, ◌<◌, ◌≤◌, ◌+◌, List, ℕ, length, set, sym, ap, ◌∙◌, arith, subst}
 use Rattle.board_prelude.proofs.Common.{with_items, length-map}
 use Rattle.pci_bars.specs.Contents.{slot_number, held}
-use Rattle.pci_bars.proofs.ContentsLemmas.{lists, lists-set, lists-at, stretch, stretch_length, stretch_here, stretch_beside}
+use Rattle.pci_bars.proofs.ContentsLemmas.{lists, lists-set, lists-at, stretch, stretch_length, stretch_here}
+use Rattle.pci_bars.proofs.ContentsLemmas.{stretch_beside}
 use Rattle.pci_bars.proofs.contents.Contents.write_bytes.Goals.{After-copy_from_slice}
 use Rattle.pci_bars.proofs.contents.Contents.write_bytes.Goals as goal
 
@@ -19,7 +20,8 @@ old c =
 
 new : (c : After-copy_from_slice) →
     lists (set c.self.inside.buffers.items c.slot_of.result
-    (with_items c.index_mut.result.now (stretch c.deref_mut.result.now c.copy_from_slice.new.self c.args.off (length c.args.bytes.now))))
+    (with_items c.index_mut.result.now (stretch c.deref_mut.result.now c.copy_from_slice.new.self c.args.off
+    (length c.args.bytes.now))))
     ≡ set c.args.self.now (slot_number c.args.dev c.args.base)
     (stretch c.deref_mut.result.now c.copy_from_slice.new.self c.args.off (length c.args.bytes.now))
 new c =
@@ -29,7 +31,8 @@ new c =
     let fits : c.args.off + length bytes ≤ length now =
     subst (λ (all : List ℕ). c.args.off + length bytes ≤ length all) (old c) c.requires.within in
     lists-set c.self.inside.buffers.items c.slot_of.result c.index_mut.result.now written
-    (stretch_length now bytes c.copy_from_slice.new.self c.args.off fits c.copy_from_slice.ensures.after ∙ c.deref_mut.ensures.len)
+    (stretch_length now bytes c.copy_from_slice.new.self c.args.off fits c.copy_from_slice.ensures.after
+    ∙ c.deref_mut.ensures.len)
     ∙ ap (λ contents. set contents c.slot_of.result written) c.self.view_is
     ∙ ap (λ at. set c.args.self.now at written) c.slot_of.ensures.slot
 

@@ -6,5 +6,10 @@ use Rattle.pic_pair.proofs.chip.Pic.pending.Goals as goal
 pub returns : goal.returns
 returns c =
     record {
-      pending = rw (c.union.ensures.either, c.intersection-high.ensures.both, c.difference-latched.ensures.rest, ← c.self.view_is) (pending-is (the_view c.self.inside));
+      pending = rw (
+        c.union.ensures.either,
+        c.intersection-high.ensures.both,
+        c.difference-latched.ensures.rest,
+        ← c.self.view_is,
+      ) (pending-is (the_view c.self.inside));
     }

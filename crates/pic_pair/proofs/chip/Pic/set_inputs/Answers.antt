@@ -7,5 +7,12 @@ pub returns : goal.returns
 returns c =
     let latches = latches-are c.self.inside.latches c.self.inside.inputs c.args.inputs in
     record {
-      inputs = rw (c.difference-self-inside.ensures.rest, c.union.ensures.either, c.difference-rises.ensures.rest, c.difference-falls.ensures.rest, latches, ← c.self.view_is) refl;
+      inputs = rw (
+        c.difference-self-inside.ensures.rest,
+        c.union.ensures.either,
+        c.difference-rises.ensures.rest,
+        c.difference-falls.ensures.rest,
+        latches,
+        ← c.self.view_is,
+      ) refl;
     }

@@ -16,7 +16,8 @@ loop-pin-preserved c = λ line small.
     let pin = c.loop-pin.pin in
     let pins = c.args.pins in
     c.joined-lines.ensures.lines line small
-    ∙ ap (λ (on : Bool). on || drives (line_of_route (get_or bytes pin 0)) (get_or pins pin false) line) (c.loop-pin.invariant line small)
+    ∙ ap (λ (on : Bool). on || drives (line_of_route (get_or bytes pin 0)) (get_or pins pin false) line)
+    (c.loop-pin.invariant line small)
     ∙ sym (drives_among-more pin bytes pins line)
 
 pub returns : goal.returns
@@ -25,6 +26,7 @@ returns c =
     record {
       lines = λ line small.
           c.loop-pin.invariant line small
-          ∙ (ap (λ k. drives_among k c.self.inside.bytes c.args.pins line) all ∙ drives_among-all c.self.inside.bytes c.args.pins line
+          ∙ (ap (λ k. drives_among k c.self.inside.bytes c.args.pins line) all
+          ∙ drives_among-all c.self.inside.bytes c.args.pins line
           ∙ ap (λ bytes. is_line_driven bytes c.args.pins line) c.self.view_is);
     }

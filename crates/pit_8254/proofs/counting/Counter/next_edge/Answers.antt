@@ -12,7 +12,8 @@ pub returns-clause-edge : goal.returns-clause-edge
 returns-clause-edge g c = record {
   pulses = search rules;
   rises = search rules;
-  state = edge_state c.args.gate c.args.self.now c.pass_quietly.new.self c.pulse.new.self c.quiet_pulses-quiet.result c.quiet_pulses-quiet.ensures.number c.pass_quietly.ensures.state c.pulse.ensures.state;
+  state = edge_state c.args.gate c.args.self.now c.pass_quietly.new.self c.pulse.new.self c.quiet_pulses-quiet.result
+      c.quiet_pulses-quiet.ensures.number c.pass_quietly.ensures.state c.pulse.ensures.state;
   some = search rules;
 }
 

@@ -15,4 +15,5 @@ pub returns-clause-state : goal.returns-clause-state
 returns-clause-state g c = run_state _ _ _ _ _ _ _ c.step-run.ensures.part c.run_on.ensures.part c.run_on.ensures.done
 
 pub returns-clause-rose : goal.returns-clause-rose
-returns-clause-rose g c = run_rose _ _ _ _ _ _ _ c.step-run.ensures.part c.run_on.ensures.part c.run_on.ensures.done refl
+returns-clause-rose g c = run_rose _ _ _ _ _ _ _ c.step-run.ensures.part c.run_on.ensures.part
+    c.run_on.ensures.done refl

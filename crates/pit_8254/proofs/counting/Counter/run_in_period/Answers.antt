@@ -8,5 +8,6 @@ returns-clause-part g c = part_join _ _ _ _ _ _ _ c.advance-run.ensures.part c.s
 
 pub returns-clause-done : goal.returns-clause-done
 returns-clause-done g c =
-    period_ends c.args.gate c.args.self.now c.advance-run.new.self c.args.run c.advance-run.result _ c.advance-run.ensures.part c.advance-run.ensures.left
+    period_ends c.args.gate c.args.self.now c.advance-run.new.self c.args.run c.advance-run.result _
+    c.advance-run.ensures.part c.advance-run.ensures.left
     c.requires.less (omega arith) c.skip.ensures.left c.requires.at_period

@@ -8,10 +8,12 @@ advance-run-requires-2 g c = record { room = room_kept _ _ _ _ _ c.advance-run.e
 
 pub returns-clause-part : goal.returns-clause-part
 returns-clause-part g c =
-    part_join _ _ _ _ _ _ _ (part_join _ _ _ _ _ _ _ c.advance-run.ensures.part c.advance-run-2.ensures.part) c.skip.ensures.part
+    part_join _ _ _ _ _ _ _ (part_join _ _ _ _ _ _ _ c.advance-run.ensures.part c.advance-run-2.ensures.part)
+    c.skip.ensures.part
 
 pub returns-clause-done : goal.returns-clause-done
 returns-clause-done g c =
-    left_none_of_two c.args.gate c.args.self.now c.advance-run.new.self c.advance-run-2.new.self c.args.run c.advance-run.result c.advance-run-2.result _
+    left_none_of_two c.args.gate c.args.self.now c.advance-run.new.self c.advance-run-2.new.self c.args.run
+    c.advance-run.result c.advance-run-2.result _
     c.advance-run.ensures.part c.advance-run.ensures.left c.advance-run-2.ensures.part c.advance-run-2.ensures.left
     (omega arith) c.skip.ensures.left (strobes c.args.gate c.args.self.now c.requires.settled c.requires.mode)

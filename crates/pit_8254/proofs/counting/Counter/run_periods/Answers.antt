@@ -6,8 +6,10 @@ pass_periods-run-requires-clause-room g c = room_kept _ _ _ _ _ c.run_to_period-
 
 pub run_in_period-requires-clause-room : goal.run_in_period-requires-clause-room
 run_in_period-requires-clause-room g c =
-    room_kept _ _ _ _ _ c.pass_periods-run.ensures.part (room_kept _ _ _ _ _ c.run_to_period-run.ensures.part c.requires.room)
+    room_kept _ _ _ _ _ c.pass_periods-run.ensures.part
+    (room_kept _ _ _ _ _ c.run_to_period-run.ensures.part c.requires.room)
 
 pub returns-clause-part : goal.returns-clause-part
 returns-clause-part g c =
-    part_join _ _ _ _ _ _ _ (part_join _ _ _ _ _ _ _ c.run_to_period-run.ensures.part c.pass_periods-run.ensures.part) c.run_in_period.ensures.part
+    part_join _ _ _ _ _ _ _ (part_join _ _ _ _ _ _ _ c.run_to_period-run.ensures.part c.pass_periods-run.ensures.part)
+    c.run_in_period.ensures.part

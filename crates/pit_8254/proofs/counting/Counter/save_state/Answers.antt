@@ -1,5 +1,6 @@
 use Rattle.std.proofs.Common.{◌≡◌, List, ℕ, ◌++◌, OnOk, ap, subst, ◌∙◌}
-use Rattle.pit_8254.specs.State.{word_bytes, word_of, counts_bytes, counts_of, latches_bytes, latches_of, flags_bytes, flags_of}
+use Rattle.pit_8254.specs.State.{word_bytes, word_of, counts_bytes, counts_of, latches_bytes, latches_of, flags_bytes}
+use Rattle.pit_8254.specs.State.{flags_of}
 use Rattle.pit_8254.proofs.Saved.{joined}
 use Rattle.pit_8254.proofs.counting.Counter.save_state.Goals as goal
 

@@ -10,4 +10,5 @@ returns-clause-part g c =
 
 pub returns-clause-settled : goal.returns-clause-settled
 returns-clause-settled g c =
-    pulse_settles c.args.gate c.args.self.now c.pulse.new.self (rw (← c.self.view_is) c.self.invariant.0) c.pulse.ensures.state
+    pulse_settles c.args.gate c.args.self.now c.pulse.new.self (rw (← c.self.view_is) c.self.invariant.0)
+    c.pulse.ensures.state

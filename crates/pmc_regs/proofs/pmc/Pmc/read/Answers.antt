@@ -1,7 +1,8 @@
 use Rattle.std.proofs.Common.{◌<◌, ◌⊎◌, arith, inl, inr}
 use Rattle.pmc_regs.proofs.PmcLemmas.{fixed_read}
 use Rattle.pmc_regs.proofs.pmc.Pmc.read.Goals as goal
-use Rattle.pmc_regs.proofs.pmc.Pmc.read.Goals.{in_default-via-then-off-lt96, in_default-via-else-off-lt96+else-off-lt104}
+use Rattle.pmc_regs.proofs.pmc.Pmc.read.Goals.{in_default-via-then-off-lt96}
+use Rattle.pmc_regs.proofs.pmc.Pmc.read.Goals.{in_default-via-else-off-lt96+else-off-lt104}
 
 pub returns-in_default : goal.returns-in_default
 returns-in_default c =

@@ -1,4 +1,5 @@
-use Rattle.std.proofs.Common.{rules, ◌≡◌, ◌+◌, ◌<◌, ◌^◌, ◌≤◌, [], ◌∷◌, ◌++◌, length, ap, arith, reverse, slice_index, vec_capacity}
+use Rattle.std.proofs.Common.{rules, ◌≡◌, ◌+◌, ◌<◌, ◌^◌, ◌≤◌, [], ◌∷◌, ◌++◌, length, ap, arith, reverse, slice_index}
+use Rattle.std.proofs.Common.{vec_capacity}
 use Rattle.run_order.specs.Room.{Order}
 use Rattle.run_order.proofs.Counts.{number_fits, order_more}
 use Rattle.run_order.proofs.order.RunOrder.push.Goals as goal

@@ -2,7 +2,8 @@ use Rattle.std.proofs.Common.{◌≡◌, ◌+◌, ◌∙◌, true, length, sum_b
 use Rattle.board_spec.specs.Setup.{FittedCard, memory_size}
 use Rattle.script_spec.specs.Common.{FitCard, is_card_in_range}
 use Rattle.script_lines.specs.Items.{card_said}
-use Rattle.script_text.proofs.Reasons.{out_of_range, past_limit, no_reason, none_in_case, some_in_case, limits_with, past_memory, setup_within}
+use Rattle.script_text.proofs.Reasons.{out_of_range, past_limit, no_reason, none_in_case, some_in_case, limits_with}
+use Rattle.script_text.proofs.Reasons.{past_memory, setup_within}
 use Rattle.script_text.proofs.reading.Reading.validate_card.Goals as goal
 
 pub returns-in_default-clause-judged : goal.returns-in_default-clause-judged

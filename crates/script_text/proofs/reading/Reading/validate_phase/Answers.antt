@@ -1,6 +1,7 @@
 use Rattle.std.proofs.Common.{◌≡◌, ◌+◌, ◌∙◌, not, true, false, length, refl, sym, ap, arith}
 use Rattle.script_spec.specs.Common.{BeginPhase, has_setup}
-use Rattle.script_text.proofs.Reasons.{phase_placed, no_setup, past_limit, no_reason, setup_kept, lacks_is, limits_with, past_phases, within}
+use Rattle.script_text.proofs.Reasons.{phase_placed, no_setup, past_limit, no_reason, setup_kept, lacks_is, limits_with}
+use Rattle.script_text.proofs.Reasons.{past_phases, within}
 use Rattle.script_text.proofs.reading.Reading.validate_phase.Goals as goal
 
 pub returns-then-not-has_setup : goal.returns-then-not-has_setup

@@ -1,8 +1,11 @@
 use Rattle.std.proofs.Common.{◌≡◌, ◌+◌, ◌∙◌, ◌&&◌, Bool, true, false, length, refl, sym, ap}
 use Rattle.board_prelude.proofs.Common.{and_from, list_any, option_map}
-use Rattle.script_spec.specs.Common.{Item, is_cpus_above, is_card_there, is_in_range, is_there, pulses_of_event, least_reason, ask}
+use Rattle.script_spec.specs.Common.{Item, is_cpus_above, is_card_there, is_in_range, is_there, pulses_of_event}
+use Rattle.script_spec.specs.Common.{least_reason, ask}
 use Rattle.script_lines.specs.Items.{asked_said}
-use Rattle.script_text.proofs.Reasons.{misplaced, out_of_range, not_placed, not_there, past_limit, no_reason, statement_place, asked_place, asked_repeated, asked_begun, actor_kept, few_pulses, none_in_case, some_in_case, limits_with, past_two}
+use Rattle.script_text.proofs.Reasons.{misplaced, out_of_range, not_placed, not_there, past_limit, no_reason}
+use Rattle.script_text.proofs.Reasons.{statement_place, asked_place, asked_repeated, asked_begun, actor_kept}
+use Rattle.script_text.proofs.Reasons.{few_pulses, none_in_case, some_in_case, limits_with, past_two}
 use Rattle.script_text.proofs.reading.Reading.validate_statement.Goals as goal
 
 and_absent : (a b : Bool) → b ≡ false → (a && b) ≡ false

@@ -12,15 +12,18 @@ returns-clause-other c = (plain_outside c.args.event.now c.requires.devices c.re
 pub returns-clause-com1 : goal.returns-clause-com1
 returns-clause-com1 c =
     rw (← c.self.view_is)
-    (λ resets. sym ((plain_outside c.args.event.now c.requires.devices c.requires.no_line).after resets c.self.inside.com1))
+    (λ resets. sym ((plain_outside c.args.event.now c.requires.devices c.requires.no_line).after resets
+    c.self.inside.com1))
 
 pub returns-clause-answer : goal.returns-clause-answer
 returns-clause-answer c =
     let event = c.args.event.now in
     rw (← c.self.view_is)
     (λ history left_at.
-    heard_as (record { board = c.self.inside.board; com1 = c.self.inside.com1 }) history event (reply_of c.outside.result)
-    c.requires.devices (plain_outside event c.requires.devices c.requires.no_line) (c.outside.ensures.answer history left_at.left))
+    heard_as (record { board = c.self.inside.board; com1 = c.self.inside.com1 }) history event
+    (reply_of c.outside.result)
+    c.requires.devices (plain_outside event c.requires.devices c.requires.no_line)
+    (c.outside.ensures.answer history left_at.left))
 
 pub returns-clause-history : goal.returns-clause-history
 returns-clause-history c =
@@ -31,6 +34,7 @@ returns-clause-history c =
     rw (← c.self.view_is)
     (λ history actor resets below left_at.
     gone_on_by old new refl c.outside.ensures.setup history actor below left_at event reply
-    (modulo old.board.setup history event reply (no_look event c.requires.devices) (c.outside.ensures.answer history left_at.left))
+    (modulo old.board.setup history event reply (no_look event c.requires.devices)
+    (c.outside.ensures.answer history left_at.left))
     (c.outside.ensures.left history (next_entry history actor event reply) left_at.left refl refl)
     (plain_outside event c.requires.devices c.requires.no_line) resets)

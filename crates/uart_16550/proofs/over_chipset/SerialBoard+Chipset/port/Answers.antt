@@ -9,18 +9,22 @@ returns-then-not-resets-clause-history c =
     let reply = reply_of c.port-reply.result in
     rw (← c.self.view_is)
     (λ history actor below left_at.
-    accessed_alone IsAnswerModulo (λ (chipset : Running). chipset.setup) IsLeftBy c.self.inside.board c.port-reply.new.self
+    accessed_alone IsAnswerModulo (λ (chipset : Running). chipset.setup) IsLeftBy c.self.inside.board
+    c.port-reply.new.self
     c.self.inside.com1 history actor c.args.access.now reply left_at c.port-reply.ensures.setup
     (c.port-reply.ensures.answer history left_at.left)
-    (c.port-reply.ensures.left history (next_entry history actor (Port c.args.access.now) reply) left_at.left refl refl) below)
+    (c.port-reply.ensures.left history (next_entry history actor (Port c.args.access.now) reply) left_at.left refl refl)
+    below)
 
 pub returns-clause-history : goal.returns-clause-history
 returns-clause-history c =
     let reply = reply_of c.port-reply.result in
     rw (← c.self.view_is)
     (λ history actor below left_at.
-    accessed_and_moved IsAnswerModulo (λ (chipset : Running). chipset.setup) IsLeftBy c.self.inside.board c.port-reply.new.self
+    accessed_and_moved IsAnswerModulo (λ (chipset : Running). chipset.setup) IsLeftBy c.self.inside.board
+    c.port-reply.new.self
     c.self.inside.com1 history actor c.args.access.now reply left_at c.port-reply.ensures.setup
     (c.port-reply.ensures.answer history left_at.left)
-    (c.port-reply.ensures.left history (next_entry history actor (Port c.args.access.now) reply) left_at.left refl refl) below
+    (c.port-reply.ensures.left history (next_entry history actor (Port c.args.access.now) reply) left_at.left refl refl)
+    below
     c.renew.new.self.board c.renew.new.self.com1 c.renew.ensures.setup c.renew.ensures.history)

@@ -5,9 +5,11 @@ pub returns-then-not-resets-clause-history : goal.returns-then-not-resets-clause
 returns-then-not-resets-clause-history g c =
     rw (← c.self.view_is)
     (λ history left_at.
-    accessed_alone g.B.SteppedBoard.is_answer g.B.SteppedBoard.setup g.B.SteppedBoard.is_left_by c.self.inside.board c.step-reply.new.self
+    accessed_alone g.B.SteppedBoard.is_answer g.B.SteppedBoard.setup g.B.SteppedBoard.is_left_by c.self.inside.board
+    c.step-reply.new.self
     c.self.inside.com1 history c.args.actor c.args.access.now c.step-reply.result left_at c.step-reply.ensures.setup
-    (c.step-reply.ensures.answer history left_at.left) (c.step-reply.ensures.left history left_at.left) c.requires.actor)
+    (c.step-reply.ensures.answer history left_at.left) (c.step-reply.ensures.left history left_at.left)
+    c.requires.actor)
 
 pub returns-clause-history : goal.returns-clause-history
 returns-clause-history g c =
