@@ -1,6 +1,6 @@
 -- No answer depends on the looks and the numbers before it: each definition over histories gives the same without them.
 use Rattle.std.proofs.Common.{◌≡◌, ℕ, zero, suc, ◌+◌, ◌==◌, nat_lt, Bool, true, List, [], ◌∷◌, ◌++◌, length, refl, sym, ◌∙◌, ap, inl, inr, Option, Some, None, unwrap_or, option_map, option_and_then, if◌then◌else◌}
-use Rattle.board_prelude.proofs.Common.{option_to_list, option_map_or, cases_Bool, WideAccess, PortAccess, Kind, Width, Reg, Target, Dram, Shadow, Smram, Rom, Card, Device, Config, Abort, Dev, Pic0, Pic1, Pit, System, Keyboard, Elcr, Ata, Wires, Vector, Spurious, largest_of, Triggers, triggers_at_reset, trigger_byte, PitState, out_of, pulses, port_read, reset as timer_at_reset, Clock, after_reset as clock_after_reset, read_value, Disk, read_of, Pair, pair_at_reset, pair_after_lines, port_byte, answer_of, Event, Memory, Wide, Port, Ack, Pulses, Time, Wire, Line, BadSector, Look, Parts as PartList, Reply, Bus, Saw, Entry, MapChange, Setup, installed, wide, pirq, control_written, control_after, resets_hard, reset_control, is_hard_reset, address_written, kept_address, config_address, config_store, register_change, byte_with, byte_of, touches_map, map_change_of, map_writes_of, Cell, DramCell, CardCell, entry_put, stored_of, dram_byte, expansion_byte, parts_of, wire_set, wire_of, line_set, irq_of, triggers_after, triggers_of, SystemPort, system_at_reset, system_after, system_of, timer_after, timer_of, clock_after, clock_of, disk_after, disk_with, disk_of, pirqs, levels_with, levels_of, elcr_of, pair_after, pair_pulsed, pair_reset_or_after, pair_stepped, pair_of, device_value, system_value, who_answered, IsOfMemory, SameDevices, MemoryLeavesDevices, IsAnswer, memory_answer, part_answer, wide_value, IsWideAnswer, port_answer, port_value, value_at, IsLookAnswer, map-same, SameDrivers, levels-same, disk_of-same, elcr-same, card_at, card_byte, kept_size}
+use Rattle.board_prelude.proofs.Common.{option_to_list, option_map_or, cases_Bool, WideAccess, PortAccess, Kind, Width, Reg, Target, Dram, Shadow, Smram, Rom, Card, Device, Config, Abort, Dev, Pic0, Pic1, Pit, System, Keyboard, Elcr, Ata, largest_of, Triggers, triggers_at_reset, trigger_byte, PitState, out_of, pulses, port_read, reset as timer_at_reset, Clock, after_reset as clock_after_reset, read_value, Disk, read_of, Pair, pair_at_reset, pair_after_lines, port_byte, answer_of, Event, Memory, Wide, Port, Ack, Pulses, Time, Wire, Line, BadSector, Look, Parts as PartList, Reply, Bus, Saw, Entry, MapChange, Setup, installed, wide, pirq, control_written, control_after, resets_hard, reset_control, is_hard_reset, address_written, kept_address, config_address, config_store, register_change, byte_with, byte_of, touches_map, map_change_of, map_writes_of, Cell, DramCell, CardCell, entry_put, stored_of, dram_byte, expansion_byte, parts_of, wire_set, wire_of, line_set, irq_of, triggers_after, triggers_of, SystemPort, system_at_reset, system_after, system_of, timer_after, timer_of, clock_after, clock_of, disk_after, disk_with, disk_of, pirqs, levels_with, levels_of, elcr_of, pair_after, pair_pulsed, pair_reset_or_after, pair_stepped, pair_of, device_value, system_value, who_answered, IsOfMemory, SameDevices, MemoryLeavesDevices, IsAnswer, memory_answer, part_answer, wide_value, IsWideAnswer, port_answer, port_value, value_at, IsLookAnswer, map-same, SameDrivers, levels-same, disk_of-same, elcr-same, card_at, card_byte, kept_size}
 use Rattle.board_base.specs.declared.access.Access.{Access}
 use Rattle.board_base.specs.declared.target.Dev.TheVariants.{Confadd, Reset, Clock as ClockChip}
 use Rattle.device_spec.specs.Ata.Steps.{after_reset as disk_after_reset}
@@ -27,15 +27,7 @@ look_put kind addr smm (Saw look) cell = refl
 looks_are_silent : (event : Event) → is_look event ≡ true → Silent event
 looks_are_silent (LookAt kind addr smm) is =
     record { control = refl; address = refl; store = λ setup address. refl; put = look_put kind addr smm; memory = tt }
-looks_are_silent (Memory access) is = absurd (cc is)
-looks_are_silent (Wide access) is = absurd (cc is)
-looks_are_silent (Port access) is = absurd (cc is)
-looks_are_silent Ack is = absurd (cc is)
-looks_are_silent (Pulses count) is = absurd (cc is)
-looks_are_silent (Time moment) is = absurd (cc is)
-looks_are_silent (Wire dev on) is = absurd (cc is)
-looks_are_silent (Line irq on) is = absurd (cc is)
-looks_are_silent (BadSector sector) is = absurd (cc is)
+looks_are_silent _ is = absurd (cc is)
 
 -- ---- one definition after another
 
@@ -276,15 +268,7 @@ module _ (leaves : MemoryLeavesDevices) (setup : Setup) where
   stepped_next : (entry : Entry) (before : List Entry) (event : Event) (pair : Pair)
       → pair_stepped setup entry before event pair ≡ pair_stepped setup (plain entry) (bare before) event pair
   stepped_next entry before (Pulses count) pair = pulsed_bare before count pair
-  stepped_next entry before (Memory access) pair = reached_next entry before pair
-  stepped_next entry before (Wide access) pair = reached_next entry before pair
-  stepped_next entry before (Port access) pair = reached_next entry before pair
-  stepped_next entry before (LookAt kind addr smm) pair = reached_next entry before pair
-  stepped_next entry before Ack pair = reached_next entry before pair
-  stepped_next entry before (Time moment) pair = reached_next entry before pair
-  stepped_next entry before (Wire dev on) pair = reached_next entry before pair
-  stepped_next entry before (Line irq on) pair = reached_next entry before pair
-  stepped_next entry before (BadSector sector) pair = reached_next entry before pair
+  stepped_next entry before _ pair = reached_next entry before pair
 
   pair_next : (entry : Entry) (before : List Entry) → pair_of setup before ≡ pair_of setup (bare before)
       → pair_of setup (entry ∷ before) ≡ pair_of setup (plain entry ∷ bare before)
@@ -343,28 +327,14 @@ module _ (leaves : MemoryLeavesDevices) (setup : Setup) (final before : List Ent
         (both triggers_of (triggers_bare leaves setup))
     device_same Ata port width =
         ap (λ (d : Option Disk). option_map_or (λ disk. read_of port width disk) d (largest_of width)) disk_same
-    device_same Confadd port width = refl
-    device_same Reset port width = refl
-    device_same Keyboard port width = refl
-    device_same Wires port width = refl
-    device_same (Vector chip) port width = refl
-    device_same (Spurious chip) port width = refl
+    device_same _ port width = refl
 
     port_same : (dev : Dev) (port : ℕ) (width : Width)
         → port_value setup final dev port width ≡ port_value setup before dev port width
     port_same Confadd port width = address_same
     port_same Reset port width = control_same
-    port_same Pic0 port width = device_same Pic0 port width
-    port_same Pic1 port width = device_same Pic1 port width
-    port_same Pit port width = device_same Pit port width
-    port_same System port width = device_same System port width
     port_same Keyboard port width = refl
-    port_same ClockChip port width = device_same ClockChip port width
-    port_same Elcr port width = device_same Elcr port width
-    port_same Ata port width = device_same Ata port width
-    port_same Wires port width = device_same Wires port width
-    port_same (Vector chip) port width = device_same (Vector chip) port width
-    port_same (Spurious chip) port width = device_same (Spurious chip) port width
+    port_same dev port width = device_same dev port width
 
     dram_same : dram_byte setup final ≡ dram_byte setup before
     dram_same = λ i addr. if nat_lt addr (installed setup) then cells_same i (DramCell addr) else 0xFF
