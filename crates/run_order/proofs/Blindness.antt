@@ -3,7 +3,7 @@ use Rattle.std.proofs.Common.{◌≡◌, ℕ, zero, suc, ◌==◌, nat_lt, Bool,
 use Rattle.std.proofs.Common.{ap, inl, inr, Option, Some, None, unwrap_or, option_map, option_and_then, if◌then◌else◌}
 use Rattle.board_prelude.proofs.Common.{option_to_list, option_map_or, cases_Bool, WideAccess, PortAccess, Kind, Width}
 use Rattle.board_prelude.proofs.Common.{Reg, Target, Dram, Shadow, Smram, Rom, Card, Device, Config, Abort, Dev, Pic0}
-use Rattle.board_prelude.proofs.Common.{Pic1, Pit, System, Keyboard, Elcr, Ata, Wires, Vector, Spurious, largest_of}
+use Rattle.board_prelude.proofs.Common.{Pic1, Pit, System, Keyboard, Elcr, Ata, largest_of}
 use Rattle.board_prelude.proofs.Common.{Triggers, triggers_at_reset, trigger_byte, PitState, out_of, pulses, port_read}
 use Rattle.board_prelude.proofs.Common.{reset as timer_at_reset, Clock, after_reset as clock_after_reset, read_value}
 use Rattle.board_prelude.proofs.Common.{Disk, read_of, Pair, pair_at_reset, pair_after_lines, port_byte, answer_of}
@@ -48,15 +48,7 @@ look_put kind addr smm (Saw look) cell = refl
 looks_are_silent : (event : Event) → is_look event ≡ true → Silent event
 looks_are_silent (LookAt kind addr smm) is =
     record { control = refl; address = refl; store = λ setup address. refl; put = look_put kind addr smm; memory = tt }
-looks_are_silent (Memory access) is = absurd (cc is)
-looks_are_silent (Wide access) is = absurd (cc is)
-looks_are_silent (Port access) is = absurd (cc is)
-looks_are_silent Ack is = absurd (cc is)
-looks_are_silent (Pulses count) is = absurd (cc is)
-looks_are_silent (Time moment) is = absurd (cc is)
-looks_are_silent (Wire dev on) is = absurd (cc is)
-looks_are_silent (Line irq on) is = absurd (cc is)
-looks_are_silent (BadSector sector) is = absurd (cc is)
+looks_are_silent _ is = absurd (cc is)
 
 -- ---- one definition after another
 
@@ -297,15 +289,7 @@ module _ (leaves : MemoryLeavesDevices) (setup : Setup) where
   stepped_next : (entry : Entry) (before : List Entry) (event : Event) (pair : Pair)
       → pair_stepped setup entry before event pair ≡ pair_stepped setup (plain entry) (bare before) event pair
   stepped_next entry before (Pulses count) pair = pulsed_bare before count pair
-  stepped_next entry before (Memory access) pair = reached_next entry before pair
-  stepped_next entry before (Wide access) pair = reached_next entry before pair
-  stepped_next entry before (Port access) pair = reached_next entry before pair
-  stepped_next entry before (LookAt kind addr smm) pair = reached_next entry before pair
-  stepped_next entry before Ack pair = reached_next entry before pair
-  stepped_next entry before (Time moment) pair = reached_next entry before pair
-  stepped_next entry before (Wire dev on) pair = reached_next entry before pair
-  stepped_next entry before (Line irq on) pair = reached_next entry before pair
-  stepped_next entry before (BadSector sector) pair = reached_next entry before pair
+  stepped_next entry before _ pair = reached_next entry before pair
 
   pair_next : (entry : Entry) (before : List Entry) → pair_of setup before ≡ pair_of setup (bare before)
       → pair_of setup (entry ∷ before) ≡ pair_of setup (plain entry ∷ bare before)
@@ -364,28 +348,14 @@ module _ (leaves : MemoryLeavesDevices) (setup : Setup) (final before : List Ent
         (both triggers_of (triggers_bare leaves setup))
     device_same Ata port width =
         ap (λ (d : Option Disk). option_map_or (λ disk. read_of port width disk) d (largest_of width)) disk_same
-    device_same Confadd port width = refl
-    device_same Reset port width = refl
-    device_same Keyboard port width = refl
-    device_same Wires port width = refl
-    device_same (Vector chip) port width = refl
-    device_same (Spurious chip) port width = refl
+    device_same _ port width = refl
 
     port_same : (dev : Dev) (port : ℕ) (width : Width)
         → port_value setup final dev port width ≡ port_value setup before dev port width
     port_same Confadd port width = address_same
     port_same Reset port width = control_same
-    port_same Pic0 port width = device_same Pic0 port width
-    port_same Pic1 port width = device_same Pic1 port width
-    port_same Pit port width = device_same Pit port width
-    port_same System port width = device_same System port width
     port_same Keyboard port width = refl
-    port_same ClockChip port width = device_same ClockChip port width
-    port_same Elcr port width = device_same Elcr port width
-    port_same Ata port width = device_same Ata port width
-    port_same Wires port width = device_same Wires port width
-    port_same (Vector chip) port width = device_same (Vector chip) port width
-    port_same (Spurious chip) port width = device_same (Spurious chip) port width
+    port_same dev port width = device_same dev port width
 
     dram_same : dram_byte setup final ≡ dram_byte setup before
     dram_same = λ i addr. if nat_lt addr (installed setup) then cells_same i (DramCell addr) else 0xFF
