@@ -4,7 +4,7 @@ use Rattle.std.proofs.Common.{◌∙◌, arith, nat_lt}
 use Rattle.device_spec.specs.Common.{Registers, Activity, Ready, Failed, Reading, Writing, Identifying, Drive}
 use Rattle.byte_fields.specs.Fields.{plain, bound_where}
 use Rattle.byte_fields.proofs.Formats.{IsFormat, format_as, then_format, last_format, plain_format}
-use Rattle.byte_fields.proofs.Numbers.{byte_within, within_format, wide32, flag_format}
+use Rattle.byte_fields.proofs.Numbers.{byte_within, within_format, wide32, flag_format, bound_where-small}
 use Rattle.ata_pio.specs.DriveState.{AreRegisters, registers_bytes, registers_fields, IsActivity, number_of, sector_of}
 use Rattle.ata_pio.specs.DriveState.{next_word_of, came_of, came_size, activity_bytes, activity_with, activity_fields}
 use Rattle.ata_pio.specs.DriveState.{IsDrive, drive_bytes, drive_fields}
@@ -177,10 +177,6 @@ sector_small : (there : Bool) (bound : ℕ) → bound < 2 ^ 32 → bound_where t
 sector_small true bound few = few
 sector_small false bound few = omega arith
 
-word_small : (there : Bool) → bound_where there 255 < 2 ^ 8
-word_small true = omega arith
-word_small false = omega arith
-
 came_small : (number word : ℕ) → number ≤ 4 → word ≤ bound_where (nat_lt 1 number) 255 → came_size number word ≤ 512
 came_small zero word few small = omega arith
 came_small (suc zero) word few small = omega arith
@@ -208,9 +204,9 @@ activity_format sectors some few =
     (within_format wide32 0 (bound_where (nat_lt 2 number) (sectors - 1))
     (sector_small (nat_lt 2 number) (sectors - 1) (omega (arith, few)))) (λ sector good_sector.
     then_format next_word_of
-    (byte_within 0 (bound_where (nat_lt 1 number) 255) (word_small (nat_lt 1 number))) (λ word good_word.
+    (byte_within 0 (bound_where (nat_lt 1 number) 255) (bound_where-small (nat_lt 1 number))) (λ word good_word.
     last_format came_of (λ came. activity_with number sector word came)
-        (came_format number word good_number.1 good_word.1)
+    (came_format number word good_number.1 good_word.1)
     (λ came good. came_again number sector word came good_number.1 good))
     (λ word a any good.
     ap next_word_of good.1 ∙ word_again number sector word (came_of a) good_number.1 any.1 good.0))

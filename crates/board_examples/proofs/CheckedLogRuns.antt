@@ -9,7 +9,7 @@ use Rattle.board_examples.specs.Common.{EmptyLogDiffers, CutLogDiffers, OpenLogD
 use Rattle.board_examples.specs.Common.{last_line}
 use Rattle.script_spec.specs.Common.{text_of_lines, IsOneLine, IsVersion, IsWellFormed, AreBegun, IsSomeLog, IsLogOf}
 use Rattle.script_spec.proofs.Common.{lacks, front, front-field, lacks-first, lacks-later, line_whole, lacks-line}
-use Rattle.script_spec.proofs.Common.{one_line}
+use Rattle.script_spec.proofs.Common.{one_line, nothing_more}
 
 pub no_entries : NoEntries
 unfolding NoEntries digits lines_text
@@ -30,11 +30,6 @@ some_begun = record {
   };
 }
 
-nothing_whole : (this after : List ℕ) → [] ≡ this ++ line_feed ∷ after → ⊥
-nothing_whole [] after e = let counts : 0 ≡ suc (length after) = ap length e in omega (arith, counts)
-nothing_whole (c ∷ cs) after e = let counts : 0 ≡ suc (length (cs ++ line_feed ∷ after)) = ap length e in omega
-    (arith, counts)
-
 no_log : (version : ℕ) (entries : List Entry) → [] ≡ log_text version entries → ⊥
 no_log version entries e = let counts : 0 ≡ suc (length (drop 1
     (log_text version entries))) = ap length e in omega (arith, counts)
@@ -48,7 +43,7 @@ empty_log = record {
   cut = refl;
   place = refl;
   begun = some_begun;
-  leaves = λ this after one whole begun. nothing_whole this after whole;
+  leaves = λ this after one whole begun. nothing_more this after whole;
   other = λ log. no_log log.version log.entries log.log.text;
 }
 
@@ -98,7 +93,7 @@ empty_log_differs last = record {
   cut = refl;
   place = refl;
   begun = record { later = log_text 1 look_last; text = order_log last };
-  leaves = λ this after one whole begun. nothing_whole this after whole;
+  leaves = λ this after one whole begun. nothing_more this after whole;
   other = λ log. no_log 1 log.history log.text;
 }
 
@@ -188,7 +183,7 @@ cut_log_differs last = record {
     later = codes "2 0.2 out b 0CFD 10 = - config:00.0.59 -" ++ line_feed ∷ (last_line ++ line_feed ∷ []);
     text = rw whole_log (order_log last);
   };
-  leaves = λ this after one whole begun. nothing_whole this after whole;
+  leaves = λ this after one whole begun. nothing_more this after whole;
   other = λ log. let e : 2 ≡ 4 = four_feeds (text_of_lines (take 2 order_lines)) log in omega (arith, e);
 }
 

@@ -1,14 +1,15 @@
 -- The maps whose columns differ, range by range: the byte of the SMRAM register matters in its own range alone.
-use Rattle.std.proofs.Common.{ℕ, zero, suc, ◌≡◌, ◌<◌, ◌≤◌, ◌+◌, ◌-◌, ◌/◌, ◌%◌, ◌==◌, Bool, true, false, get_or, refl}
+use Rattle.std.proofs.Common.{ℕ, zero, suc, ◌≡◌, ◌<◌, ◌≤◌, ◌+◌, ◌-◌, ◌/◌, ◌%◌, ◌==◌, get_or, refl}
 use Rattle.std.proofs.Common.{arith}
 use Rattle.board_prelude.proofs.Common.{le-leb, lt-leb, lt-ltb, le-ltb, div-lt_iff_lt-mul, reset_byte, writable_bits}
-use Rattle.board_prelude.proofs.Common.{host_bridge, isa_bridge, byte_of, config_address, reset_control, Bytes, nibble}
+use Rattle.board_prelude.proofs.Common.{host_bridge, isa_bridge, byte_of, config_address, reset_control, Bytes}
 use Rattle.board_prelude.proofs.Common.{pam_register, row_of, area_of, memory_claim, bridge, MapRange, IsRight}
 use Rattle.board_base.specs.declared.target.Area.TheVariants.{Dram as DramArea, Smram as SmramArea, Rom as RomArea}
 use Rattle.board_base.specs.declared.target.Area.TheVariants.{Abort as AbortArea}
 use Rattle.board_examples.specs.Common.{small_board, range, smram_written, smram_range, map_round, MapOpenAndClosed}
 use Rattle.board_examples.specs.Common.{MapClosedToData, MapOfSmm}
 use Rattle.board_examples.proofs.Spans.{above, below}
+use Rattle.board_examples.proofs.MapRuns.{closed_nibble}
 
 abbrev after : (control : ℕ) → Bytes
 after control = byte_of small_board (smram_written control)
@@ -39,12 +40,8 @@ pam_byte control (suc (suc (suc (suc (suc (suc k)))))) less = absurd (omega arit
 pam_closed : (control x : ℕ) → 0xC_0000 ≤ x → x ≤ 0xE_FFFF → after control (pam_register x) ≡ 0
 pam_closed control x from to =
     let less : (x - 0xC_0000) / 0x8000 < 6 = (div-lt_iff_lt-mul {k = 0x8000} {x = x - 0xC_0000} {y = 6} (omega arith)).1
-        (omega arith) in
+    (omega arith) in
     rw (lt-leb 0xF_0000 x (omega arith)) (pam_byte control ((x - 0xC_0000) / 0x8000) less)
-
-closed_nibble : (high : Bool) → nibble 0 high ≡ 0
-closed_nibble true = refl
-closed_nibble false = refl
 
 closed_windows : (control : ℕ) → IsRight small_board (after control) (range 0xC_0000 0xE_FFFF AbortArea)
 unfolding byte_of config_address reset_control reset_byte writable_bits host_bridge isa_bridge row_of area_of
@@ -184,41 +181,86 @@ all_right control middle is (suc (suc (suc (suc (suc (suc (suc k))))))) otherwis
 pub map_open_and_closed : MapOpenAndClosed
 unfolding MapOpenAndClosed
 map_open_and_closed = record {
-  tiles = (refl, omega arith,
-      (refl, omega arith,
-          (refl, omega arith,
-              (refl, omega arith, (refl, omega arith, (refl, omega arith, (refl, omega arith, refl)))))));
+  tiles = (
+    refl,
+    omega arith,
+    (
+      refl,
+      omega arith,
+      (
+        refl,
+        omega arith,
+        (refl, omega arith, (refl, omega arith, (refl, omega arith, (refl, omega arith, refl)))),
+      ),
+    ),
+  );
   right = all_right 0x68 (smram_range SmramArea AbortArea SmramArea AbortArea) open_and_closed;
-  least = (λ e. grind (arith, e),
-      (λ e. grind (arith, e),
-          (λ e. grind (arith, e),
-              (λ e. grind (arith, e), (λ e. grind (arith, e), (λ e. grind (arith, e), (tt, tt)))))));
+  least = (
+    λ e. grind (arith, e),
+    (
+      λ e. grind (arith, e),
+      (
+        λ e. grind (arith, e),
+        (λ e. grind (arith, e), (λ e. grind (arith, e), (λ e. grind (arith, e), (tt, tt)))),
+      ),
+    ),
+  );
 }
 
 pub map_closed_to_data : MapClosedToData
 unfolding MapClosedToData
 map_closed_to_data = record {
-  tiles = (refl, omega arith,
-      (refl, omega arith,
-          (refl, omega arith,
-              (refl, omega arith, (refl, omega arith, (refl, omega arith, (refl, omega arith, refl)))))));
+  tiles = (
+    refl,
+    omega arith,
+    (
+      refl,
+      omega arith,
+      (
+        refl,
+        omega arith,
+        (refl, omega arith, (refl, omega arith, (refl, omega arith, (refl, omega arith, refl)))),
+      ),
+    ),
+  );
   right = all_right 0x28 (smram_range AbortArea AbortArea SmramArea AbortArea) closed_to_data;
-  least = (λ e. grind (arith, e),
-      (λ e. grind (arith, e),
-          (λ e. grind (arith, e),
-              (λ e. grind (arith, e), (λ e. grind (arith, e), (λ e. grind (arith, e), (tt, tt)))))));
+  least = (
+    λ e. grind (arith, e),
+    (
+      λ e. grind (arith, e),
+      (
+        λ e. grind (arith, e),
+        (λ e. grind (arith, e), (λ e. grind (arith, e), (λ e. grind (arith, e), (tt, tt)))),
+      ),
+    ),
+  );
 }
 
 pub map_of_smm : MapOfSmm
 unfolding MapOfSmm
 map_of_smm = record {
-  tiles = (refl, omega arith,
-      (refl, omega arith,
-          (refl, omega arith,
-              (refl, omega arith, (refl, omega arith, (refl, omega arith, (refl, omega arith, refl)))))));
+  tiles = (
+    refl,
+    omega arith,
+    (
+      refl,
+      omega arith,
+      (
+        refl,
+        omega arith,
+        (refl, omega arith, (refl, omega arith, (refl, omega arith, (refl, omega arith, refl)))),
+      ),
+    ),
+  );
   right = all_right 0x08 (smram_range AbortArea AbortArea SmramArea SmramArea) of_smm;
-  least = (λ e. grind (arith, e),
-      (λ e. grind (arith, e),
-          (λ e. grind (arith, e),
-              (λ e. grind (arith, e), (λ e. grind (arith, e), (λ e. grind (arith, e), (tt, tt)))))));
+  least = (
+    λ e. grind (arith, e),
+    (
+      λ e. grind (arith, e),
+      (
+        λ e. grind (arith, e),
+        (λ e. grind (arith, e), (λ e. grind (arith, e), (λ e. grind (arith, e), (tt, tt)))),
+      ),
+    ),
+  );
 }

@@ -34,10 +34,10 @@ pam_byte (suc (suc (suc (suc (suc (suc k)))))) less = absurd (omega arith)
 pam_closed : (x : ℕ) → 0xC_0000 ≤ x → x ≤ 0xE_FFFF → byte_of small_board [] (pam_register x) ≡ 0
 pam_closed x from to =
     let less : (x - 0xC_0000) / 0x8000 < 6 = (div-lt_iff_lt-mul {k = 0x8000} {x = x - 0xC_0000} {y = 6} (omega arith)).1
-        (omega arith) in
+    (omega arith) in
     rw (lt-leb 0xF_0000 x (omega arith)) (pam_byte ((x - 0xC_0000) / 0x8000) less)
 
-closed_nibble : (high : Bool) → nibble 0 high ≡ 0
+pub closed_nibble : (high : Bool) → nibble 0 high ≡ 0
 closed_nibble true = refl
 closed_nibble false = refl
 
@@ -137,11 +137,16 @@ all_right (suc (suc (suc (suc (suc (suc k)))))) otherwise less = absurd (omega a
 pub map_after_reset : MapAfterReset
 unfolding MapAfterReset
 map_after_reset = record {
-  tiles = (refl, omega arith,
-      (refl, omega arith, (refl, omega arith, (refl, omega arith, (refl, omega arith, (refl, omega arith, refl))))));
+  tiles = (
+    refl,
+    omega arith,
+    (refl, omega arith, (refl, omega arith, (refl, omega arith, (refl, omega arith, (refl, omega arith, refl))))),
+  );
   right = all_right;
-  least = (λ e. grind (arith, e),
-      (λ e. grind (arith, e), (λ e. grind (arith, e), (λ e. grind (arith, e), (λ e. grind (arith, e), (tt, tt))))));
+  least = (
+    λ e. grind (arith, e),
+    (λ e. grind (arith, e), (λ e. grind (arith, e), (λ e. grind (arith, e), (λ e. grind (arith, e), (tt, tt))))),
+  );
 }
 
 pub map_after_reset_written : MapAfterResetWritten

@@ -1,7 +1,7 @@
 -- Lists of numbers that follow one another, and tests on them.
-use Rattle.std.proofs.Common.{◌≡◌, ℕ, zero, suc, ◌+◌, ◌≤◌, ◌<◌, Bool, true, false, ◌||◌, List, [], ◌∷◌, get_or, Some}
+use Rattle.std.proofs.Common.{◌≡◌, ℕ, zero, suc, ◌+◌, ◌≤◌, ◌<◌, Bool, true, false, List, [], ◌∷◌, get_or, Some}
 use Rattle.std.proofs.Common.{refl, sym, ◌∙◌, ap, subst, inl, inr, arith, find, map}
-use Rattle.board_prelude.proofs.Common.{list_any, cases_Bool, cases_eq, cond-true, cond-false, false≢true}
+use Rattle.board_prelude.proofs.Common.{list_any, cases_Bool, cases_eq, cond-true, cond-false, false≢true, or_right}
 
 -- this many numbers from one on
 unfoldable pub numbers_from : (from count : ℕ) → List ℕ
@@ -34,10 +34,6 @@ map-number f from (suc count) zero n otherwise below is = let e : from ≡ n = o
 map-number f from (suc count) (suc place) n otherwise below is =
     map-number f (from + 1) count place n otherwise (omega arith) (omega arith)
 
-either : (a b : Bool) → b ≡ true → (a || b) ≡ true
-either true b holds = refl
-either false b holds = holds
-
 -- some number passes
 pub any-number :
     (test : ℕ → Bool) (from count n : ℕ) → from ≤ n → n < from + count → test n ≡ true →
@@ -47,7 +43,7 @@ any-number test from zero n above below here = absurd (omega arith)
 any-number test from (suc count) n above below here =
     elim (cases_eq from n) [
       | inl first ↦ rw (subst (λ (k : ℕ). test k ≡ true) (sym first) here) refl
-      | inr apart ↦ either (test from) _ (any-number test (from + 1) count n (omega arith) (omega arith) here)
+      | inr apart ↦ or_right (test from) _ (any-number test (from + 1) count n (omega arith) (omega arith) here)
     ]
 
 pub record Passes (test : ℕ → Bool) (from count : ℕ) : Type 0 where

@@ -5,6 +5,7 @@ use Rattle.board_prelude.proofs.Common.{cases_Bool, Chip, pending, first_selecta
 use Rattle.board_prelude.proofs.Common.{acknowledged_if, chip_after_read, Pair, settled, pair_read, latched}
 use Rattle.board_prelude.proofs.Common.{settled-asks, settled-quiet}
 use Rattle.board_laws.specs.PicLaws.{ReadsLeaveTheOther}
+use Rattle.board_laws.proofs.PicLaws.{settled-slave}
 
 -- ---- a read of one chip
 
@@ -30,12 +31,6 @@ still-quiet chip quiet =
       | inr not_polls ↦ ap (λ b. interrupt (after b (interrupt chip))) not_polls ∙ quiet
     ]
 
-settled-slave-is : (pair : Pair) → (settled pair).slave ≡ pair.slave
-settled-slave-is pair = elim (cases_Bool (is_some (interrupt pair.slave))) [
-  | inl asks ↦ ap (λ p. p.slave) (settled-asks pair asks)
-  | inr quiet ↦ ap (λ p. p.slave) (settled-quiet pair quiet)
-]
-
 -- another slave leaves a master alone that has latched the request of the one before, or had none to latch
 other-slave : (pair : Pair) (slave : Chip) (o : Option ℕ) → interrupt pair.slave ≡ o → settled pair ≡ pair →
     (interrupt pair.slave ≡ None → interrupt slave ≡ None) →
@@ -51,11 +46,11 @@ other-slave pair slave (Some level) e is quiet =
 
 pub reads-leave : ReadsLeaveTheOther
 reads-leave pair port = record {
-  slave = λ e. settled-slave-is (pair_read pair port)
+  slave = λ e. settled-slave (pair_read pair port)
       ∙ ap (λ b. (cond b (record pair { slave = chip_after_read pair.slave })
-          (record pair { master = chip_after_read pair.master })).slave) e;
+      (record pair { master = chip_after_read pair.master })).slave) e;
   master = λ e is.
       ap (λ b. (settled (cond b (record pair { slave = chip_after_read pair.slave })
-          (record pair { master = chip_after_read pair.master }))).master) e
+      (record pair { master = chip_after_read pair.master }))).master) e
       ∙ other-slave pair (chip_after_read pair.slave) (interrupt pair.slave) refl is (still-quiet pair.slave);
 }

@@ -34,7 +34,7 @@ quiet-level : (chip : Chip) (level : ℕ) → (is_requested chip level && not (b
     is_blocking chip level ≡ false → is_requested chip level ≡ false
 quiet-level chip level silent idle =
     let free : blocks_itself chip level ≡ false = and_left (is_blocking chip level)
-        (not (chip.fully_nested && (chip.has_slave && eqb level 2))) idle in
+    (not (chip.fully_nested && (chip.has_slave && eqb level 2))) idle in
     elim (and_cases (is_requested chip level) (not (blocks_itself chip level)) silent) [
       | inl quiet ↦ quiet
       | inr blocked ↦
@@ -90,7 +90,7 @@ pub interrupt-first : (chip : Chip) (level : ℕ) → interrupt chip ≡ Some le
     IsFirstInOrder chip (priority_order chip.lowest) level
 interrupt-first chip level e =
     found-first chip (priority_order chip.lowest) level (sym (request-is chip (priority_order chip.lowest) refl)
-        ∙ interrupt-request chip level e)
+    ∙ interrupt-request chip level e)
 
 pub interrupt-unmasked : (chip : Chip) (level : ℕ) → interrupt chip ≡ Some level → has chip.masked level ≡ false
 interrupt-unmasked chip level e =
@@ -126,7 +126,7 @@ settled-in_service : (pair : Pair) → (settled pair).master.in_service ≡ pair
 settled-in_service pair =
     elim (cases_Bool (is_some (interrupt pair.slave))) [ inl asks ↦ rw asks refl | inr quiet ↦ rw quiet refl ]
 
-settled-slave : (pair : Pair) → (settled pair).slave ≡ pair.slave
+pub settled-slave : (pair : Pair) → (settled pair).slave ≡ pair.slave
 settled-slave pair =
     elim (cases_Bool (is_some (interrupt pair.slave))) [ inl asks ↦ rw asks refl | inr quiet ↦ rw quiet refl ]
 
@@ -176,8 +176,8 @@ spurious-other : (pair : Pair) (level : ℕ) → interrupt pair.master ≡ Some 
     (answer_of pair).is_spurious ≡ true → IsSpuriousAt pair
 spurious-other pair level e other spurious =
     let answer = answer-level pair (Some level) e
-        ∙ ap (λ b. cond b (chip_answer 1 pair.slave (interrupt pair.slave)) (chip_answer 0 pair.master (Some level)))
-        other in
+    ∙ ap (λ b. cond b (chip_answer 1 pair.slave (interrupt pair.slave)) (chip_answer 0 pair.master (Some level)))
+    other in
     absurd (false≢true (sym (ap (λ (a : Answer). a.is_spurious) answer) ∙ spurious))
 
 -- of a master with the slave's level: the slave has none

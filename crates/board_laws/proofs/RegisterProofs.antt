@@ -1,22 +1,16 @@
 -- Only an entry whose reply names a register changes registers in configuration space.
 use Rattle.std.proofs.Common.{◌≡◌, ℕ, ◌≤◌, Bool, true, ◌&&◌, List, Option, Some, None, is_some, refl, sym, ◌∙◌, ap}
 use Rattle.std.proofs.Common.{subst, inl, inr, arith, option_map}
-use Rattle.board_prelude.proofs.Common.{cases_Bool, cond-true, cond-false, and_parts, nat_tests, Width, One, PortAccess}
+use Rattle.board_prelude.proofs.Common.{cases_Bool, cond-true, cond-false, and_parts, nat_tests, Width, PortAccess}
 use Rattle.board_prelude.proofs.Common.{Reg, bytes_of, Event, Port, Reply, Entry, MapChange, Store, Reset, Setup}
 use Rattle.board_prelude.proofs.Common.{is_hard_reset, is_config_port, config_register, config_store, config_address}
 use Rattle.board_prelude.proofs.Common.{covers, byte_with, byte_of, Bytes, Decoded, config_port, port_target_of}
-use Rattle.board_prelude.proofs.Common.{port_answer, IsAnswer}
-use Rattle.board_base.specs.declared.access.Width.TheVariants.{Two, Four}
+use Rattle.board_prelude.proofs.Common.{port_answer, IsAnswer, bytes_few}
 use Rattle.board_laws.specs.RegisterLaws.{IsNear, TargetReaches, ReachesNear, RegistersStay}
-
-width_most : (width : Width) → bytes_of width ≤ 4
-width_most One = omega arith
-width_most Two = omega arith
-width_most Four = omega arith
 
 near_of : (named reg : Reg) (width : Width) → covers named width reg ≡ true → IsNear named reg
 near_of named reg width inside =
-    let most : bytes_of width ≤ 4 = width_most width in
+    let most : bytes_of width ≤ 4 = bytes_few width in
     record {
       dev = grind (arith, nat_tests);
       fun = grind (arith, nat_tests);

@@ -1,7 +1,7 @@
 -- A card's INTA# and the line to which it is routed.
 use Rattle.std.proofs.Common.{◌≡◌, ℕ, ◌≤◌, ◌<◌, inl, inr, Bool, true, false, ◌||◌, ◌&&◌, List, get_or, Option, Some}
 use Rattle.std.proofs.Common.{None, refl, sym, ◌∙◌, ap, subst, arith, ◌==◌}
-use Rattle.board_prelude.proofs.Common.{cases_Bool, and_from, and_parts, eq-eqb, eqb-true, false≢true, drives}
+use Rattle.board_prelude.proofs.Common.{cases_Bool, and_from, and_parts, eq-eqb, eqb-true, false≢true, drives, or_right}
 use Rattle.board_prelude.proofs.Common.{line_of_route, is_line_driven, Entry, Setup, pirq, byte_of, wire_of, timer_of}
 use Rattle.board_prelude.proofs.Common.{pirq_of_card, own_level, level_with, levels_with, levels_of, pirq_level}
 use Rattle.board_prelude.proofs.Common.{pirq_levels, routes_of}
@@ -75,10 +75,6 @@ driven-by (Some routed) level line is =
 
 -- ---- both ways
 
-driven_or : (own driven : Bool) → driven ≡ true → (own || driven) ≡ true
-driven_or true driven is = refl
-driven_or false driven is = is
-
 pub wire_reaches_line : WireReachesLine
 unfolding is_line_driven numbers_from
 wire_reaches_line setup history line dev below wire =
@@ -89,7 +85,7 @@ wire_reaches_line setup history line dev below wire =
     (wire-pirq history dev wire.first wire.last wire.high) in
     let driven : is_line_driven (routes_of setup history) (pirq_levels history) line ≡ true =
     any-number (pin_drives setup history line) 0 4 pin (omega arith) (omega arith) here in
-    level-at setup history line below ∙ driven_or (own_level setup history (timer_of history) line) _ driven
+    level-at setup history line below ∙ or_right (own_level setup history (timer_of history) line) _ driven
 
 some_wire :
     (setup : Setup) (history : List Entry) (line : ℕ) →

@@ -5,18 +5,16 @@ use Rattle.std.proofs.Common.{arith, lit<, get_or-set_same, get_or-set_other, le
 use Rattle.std.proofs.Common.{length-take-le, ◌==◌, nat_le, nat_lt, find, if◌then◌else◌, slice_index, unwrap_or}
 use Rattle.std.proofs.Common.{vec_len}
 use Rattle.board_prelude.proofs.Common.{with_items, and_from, and_left, and_right, eq-eqb, ne_eqb, le-leb, lt-leb}
-use Rattle.board_prelude.proofs.Common.{lt-ltb, le-ltb, cases_lt, cases_eq, get_or-replicate, get_or_past}
+use Rattle.board_prelude.proofs.Common.{lt-ltb, le-ltb, cases_lt, cases_eq, get_or_past}
 use Rattle.board_prelude.proofs.Common.{length-replicate, length-map, map-set, get_or-map, with_items_is, drop-drop}
 use Rattle.board_prelude.proofs.Common.{Width, One, Card, bytes_of, largest_of, Entry, FittedCard, Setup, card_at}
 use Rattle.board_prelude.proofs.Common.{kept_size, byte, wide, CardCell, byte_put, card_byte, entry_put, stored_of}
 use Rattle.board_prelude.proofs.Common.{expansion_byte}
 use Rattle.std.proofs.lemmas.List.{set_past}
 use Rattle.board_base.specs.declared.access.Width.TheVariants.{Two, Four}
+use Rattle.board_base.proofs.ZeroLemmas.{zero_at}
+use Rattle.board_spec.proofs.WideLemmas.{put_byte}
 use Rattle.pci_bars.specs.Contents.{IsBaseNumber, slot_number, held, held_byte, kept_at, HaveSizes, IsContentsOf}
-
--- the bytes of a list after those of a value were put from a place on
-abbrev pub put_byte : (old : List ℕ) → (at count value k : ℕ) → ℕ
-put_byte old at count value k = if nat_le at k && nat_lt k (at + count) then byte value (k - at) else slice_index old k
 
 -- ---- after a write
 
@@ -307,13 +305,6 @@ pub record IsFilled (cards : List FittedCard) (count : ℕ) (contents : List (Li
   pub long : length contents ≡ count
   pub each : (i : ℕ) → i < count → at_slot contents i ≡ zeros_at cards i
 
-zero_byte : (n k : ℕ) → slice_index (replicate n 0) k ≡ 0
-zero_byte n k =
-    elim (cases_lt k n) [
-      | inl within ↦ get_or-replicate n k 0 0 within
-      | inr past ↦ get_or_past (replicate n 0) k 0 (omega (arith, length-replicate {A = ℕ} n 0))
-    ]
-
 pub zeros_held :
     (cards : List FittedCard) (contents : List (List ℕ)) → IsFilled cards 64 contents → (dev base off : ℕ) → base ≢ 6 →
     off < length (held contents dev base) → held_byte contents dev base off ≡ 0
@@ -324,7 +315,7 @@ zeros_held cards contents is dev base off kept below =
     elim (cases_lt slot 64) [
       | inl within ↦
           ap (λ bytes. slice_index bytes off) (is.each slot within)
-          ∙ zero_byte (kept_size (find (λ card. card.dev == 2 + slot / 8) cards) (slot % 8)) off
+          ∙ zero_at (kept_size (find (λ card. card.dev == 2 + slot / 8) cards) (slot % 8)) off
       | inr past ↦ ap (λ bytes. slice_index bytes off) (get_or_past contents slot [] (omega arith))
     ]
 

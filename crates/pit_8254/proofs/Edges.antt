@@ -1,6 +1,7 @@
 -- The pulse after those that are quiet, and where a run ends.
 use Rattle.std.proofs.Common.{◌≡◌, ℕ, suc, ◌+◌, ◌-◌, ◌<◌, ◌≤◌, ◌==◌, ◌&&◌, ◌||◌, not, Bool, true, false, cond, is_some}
 use Rattle.std.proofs.Common.{◌⊎◌, inl, inr, refl, ap, sym, subst, ◌∙◌, arith}
+use Rattle.std.proofs.Math.Bool.{or-true}
 use Rattle.device_spec.proofs.Common.{cases_Bool, cases_lt, and_parts, true≢false, Mode, TerminalCount, OneShot}
 use Rattle.device_spec.proofs.Common.{SoftwareStrobe, HardwareStrobe, CounterState, count_down, count_to_end}
 use Rattle.device_spec.proofs.Common.{count_to_strobe, pulse_by_mode, pulse, pulses_of}
@@ -38,18 +39,18 @@ pub quiet_off : (mode : Mode) (gate : Bool) (c : CounterState) → IsFree mode c
 unfolding quiet_pulses
 quiet_off mode gate c f off =
     subst (λ (m : Mode). cond (c.trigger || is_due m c) 0 (cond (counts m gate c) (counted_quietly m c) every_pulse)
-        ≡ every_pulse) (sym f.mode_is)
+    ≡ every_pulse) (sym f.mode_is)
     (none_due c.trigger (is_due mode c) (counts mode gate c) (counted_quietly mode c) every_pulse f.trigger f.due
-        ∙ rw off refl)
+    ∙ rw off refl)
 
 pub quiet_on : (mode : Mode) (gate : Bool) (c : CounterState) → IsFree mode c → counts mode gate c ≡ true →
     quiet_pulses gate c ≡ counted_quietly mode c
 unfolding quiet_pulses
 quiet_on mode gate c f on =
     subst (λ (m : Mode). cond (c.trigger || is_due m c) 0 (cond (counts m gate c) (counted_quietly m c) every_pulse)
-        ≡ counted_quietly mode c) (sym f.mode_is)
+    ≡ counted_quietly mode c) (sym f.mode_is)
     (none_due c.trigger (is_due mode c) (counts mode gate c) (counted_quietly mode c) every_pulse f.trigger f.due
-        ∙ rw on refl)
+    ∙ rw on refl)
 
 pub edge_on : (mode : Mode) (gate : Bool) (c : CounterState) (n e : ℕ) → IsFree mode c → counts mode gate c ≡ true →
     counted_quietly mode c ≡ n →
@@ -60,7 +61,7 @@ edge_on mode gate c n e f on is then_is =
     let first : pulses_of gate n c ≡ after_quiet gate n c = (quietly gate c n (omega arith)).state in
     let there : after_quiet gate n c ≡ with_element c e =
     subst (λ (m : Mode). cond (counts m gate c) (with_element c (element_after m c.notation n c.element)) c
-        ≡ with_element c e) (sym f.mode_is)
+    ≡ with_element c e) (sym f.mode_is)
     (rw on (ap (with_element c) then_is)) in
     ap (λ (k : ℕ). pulse gate (pulses_of gate k c)) q
     ∙ (ap (pulse gate) (first ∙ there) ∙ (rw on at (settled_pulse mode gate c e f.mode_is f.trigger f.due)))
@@ -90,9 +91,12 @@ ends_terminal gate c s =
         | inl out ↦ inl (quiet_on TerminalCount gate c f on ∙ rw out refl)
         | inr out ↦
             let is : edge gate c ≡ ended c = edge_on TerminalCount gate c (c.element - 1) 1 f on (rw out refl)
-                (one_left c.notation c.element (s.by_mode.1 on out)) ∙ end_is c in
-            let g : IsFree TerminalCount (ended c) = record { mode_is = s.mode; trigger = s.trigger;
-                due = s.by_mode.0 } in
+            (one_left c.notation c.element (s.by_mode.1 on out)) ∙ end_is c in
+            let g : IsFree TerminalCount (ended c) = record {
+              mode_is = s.mode;
+              trigger = s.trigger;
+              due = s.by_mode.0;
+            } in
             inr (ap (quiet_pulses gate) is ∙ quiet_on TerminalCount gate (ended c) g on)
       ]
     ]
@@ -106,7 +110,7 @@ ends_one_shot gate c s =
         | inl out ↦ inl (quiet_on OneShot gate c f on ∙ rw out refl)
         | inr out ↦
             let is : edge gate c ≡ ended c = edge_on OneShot gate c (c.element - 1) 1 f on (rw out refl)
-                (one_left c.notation c.element (s.by_mode.1 on out)) ∙ end_is c in
+            (one_left c.notation c.element (s.by_mode.1 on out)) ∙ end_is c in
             let g : IsFree OneShot (ended c) = record { mode_is = s.mode; trigger = s.trigger; due = s.by_mode.0 } in
             inr (ap (quiet_pulses gate) is ∙ quiet_on OneShot gate (ended c) g on)
       ]
@@ -145,41 +149,59 @@ unfolding count_to_strobe count_down
 not_again mode c s out =
     by_cond (IsPastHigh mode) (low c.notation c.element == 0 && not c.expired) _ _
     (λ again. let past : not c.expired ≡ false = rw s.expired refl in
-        absurd (true≢false (sym (and_parts _ _ again).1 ∙ past)))
-    (λ more. record { past = record { mode_is = s.mode_is; trigger = s.trigger; load_asked = s.load_asked;
-        expired = s.expired }; out = out })
+    absurd (true≢false (sym (and_parts _ _ again).1 ∙ past)))
+    (λ more. record {
+      past = record {
+        mode_is = s.mode_is;
+        trigger = s.trigger;
+        load_asked = s.load_asked;
+        expired = s.expired;
+      };
+      out = out;
+    })
 
 past_pulse_software : (gate : Bool) (c : CounterState) → IsPast SoftwareStrobe c →
     IsPastHigh SoftwareStrobe (pulse gate c)
 unfolding pulse pulse_by_mode
 past_pulse_software gate c s =
     let d = record c { trigger = false; out = true } in
-    let p : IsPast SoftwareStrobe d = record { mode_is = s.mode_is; trigger = refl; load_asked = s.load_asked;
-        expired = s.expired } in
+    let p : IsPast SoftwareStrobe d = record {
+      mode_is = s.mode_is;
+      trigger = refl;
+      load_asked = s.load_asked;
+      expired = s.expired;
+    } in
     subst (λ (m : Mode). IsPastHigh SoftwareStrobe (pulse_by_mode m gate (c.trigger && is_some c.count)
-        (record c { trigger = false }))) (sym s.mode_is)
+    (record c { trigger = false }))) (sym s.mode_is)
     (by_cond (IsPastHigh SoftwareStrobe) c.load_asked _ _
     (λ asked. absurd (true≢false (sym asked ∙ s.load_asked refl)))
     (λ not_asked. by_cond (IsPastHigh SoftwareStrobe) (c.started && gate) _ _ (λ on. not_again SoftwareStrobe d p refl)
-        (λ off. record { past = p; out = refl })))
+    (λ off. record { past = p; out = refl })))
 
 past_pulse_hardware : (gate : Bool) (c : CounterState) → IsPast HardwareStrobe c →
     IsPastHigh HardwareStrobe (pulse gate c)
 unfolding pulse pulse_by_mode
 past_pulse_hardware gate c s =
     let d = record c { trigger = false; out = true } in
-    let p : IsPast HardwareStrobe d = record { mode_is = s.mode_is; trigger = refl; load_asked = s.load_asked;
-        expired = s.expired } in
+    let p : IsPast HardwareStrobe d = record {
+      mode_is = s.mode_is;
+      trigger = refl;
+      load_asked = s.load_asked;
+      expired = s.expired;
+    } in
     subst (λ (m : Mode). IsPastHigh HardwareStrobe (pulse_by_mode m gate (c.trigger && is_some c.count)
-        (record c { trigger = false }))) (sym s.mode_is)
+    (record c { trigger = false }))) (sym s.mode_is)
     (rw s.trigger
     (by_cond (IsPastHigh HardwareStrobe) c.started _ _ (λ on. not_again HardwareStrobe d p refl)
-        (λ off. record { past = p; out = refl })))
+    (λ off. record { past = p; out = refl })))
 
 past_software : (gate : Bool) (c : CounterState) → IsPastHigh SoftwareStrobe c → quiet_pulses gate c ≡ every_pulse
 past_software gate c s =
-    let f : IsFree SoftwareStrobe c = record { mode_is = s.past.mode_is; trigger = s.past.trigger;
-        due = rw (s.past.load_asked refl, s.out) refl } in
+    let f : IsFree SoftwareStrobe c = record {
+      mode_is = s.past.mode_is;
+      trigger = s.past.trigger;
+      due = rw (s.past.load_asked refl, s.out) refl;
+    } in
     elim (cases_Bool (counts SoftwareStrobe gate c)) [
       | inr off ↦ quiet_off SoftwareStrobe gate c f off
       | inl on ↦ quiet_on SoftwareStrobe gate c f on ∙ rw s.past.expired refl
@@ -187,8 +209,11 @@ past_software gate c s =
 
 past_hardware : (gate : Bool) (c : CounterState) → IsPastHigh HardwareStrobe c → quiet_pulses gate c ≡ every_pulse
 past_hardware gate c s =
-    let f : IsFree HardwareStrobe c = record { mode_is = s.past.mode_is; trigger = s.past.trigger;
-        due = rw s.out refl } in
+    let f : IsFree HardwareStrobe c = record {
+      mode_is = s.past.mode_is;
+      trigger = s.past.trigger;
+      due = rw s.out refl;
+    } in
     elim (cases_Bool (counts HardwareStrobe gate c)) [
       | inr off ↦ quiet_off HardwareStrobe gate c f off
       | inl on ↦ quiet_on HardwareStrobe gate c f on ∙ rw s.past.expired refl
@@ -204,17 +229,13 @@ unfolding pulses_of quiet_pulses
 edge_due mode gate c m due =
     let here : is_due c.mode c ≡ true = subst (λ (k : Mode). is_due k c ≡ true) (sym m) due in
     ap (λ (k : ℕ). pulse gate (pulses_of gate k c))
-        (none_first c.trigger (is_due c.mode c) (counts c.mode gate c) (counted_quietly c.mode c) every_pulse here)
-
-or_true : (b : Bool) → (b || true) ≡ true
-or_true true = refl
-or_true false = refl
+    (none_first c.trigger (is_due c.mode c) (counts c.mode gate c) (counted_quietly c.mode c) every_pulse here)
 
 past_ends_software : (gate : Bool) (c : CounterState) → IsPast SoftwareStrobe c → AreQuietBy1 gate c
 past_ends_software gate c s = elim (cases_Bool c.out) [
   | inl out ↦ inl (past_software gate c (record { past = s; out = out }))
   | inr out ↦
-      let is : edge gate c ≡ pulse gate c = edge_due SoftwareStrobe gate c s.mode_is (rw out (or_true c.load_asked)) in
+      let is : edge gate c ≡ pulse gate c = edge_due SoftwareStrobe gate c s.mode_is (rw out (or-true c.load_asked)) in
       inr (ap (quiet_pulses gate) is ∙ past_software gate (pulse gate c) (past_pulse_software gate c s))
 ]
 
@@ -245,20 +266,27 @@ strobes_software : (gate : Bool) (c : CounterState) → IsSettled SoftwareStrobe
 strobes_software gate c s = elim (cases_Bool c.expired) [
   | inl past ↦
       later gate c
-          (past_ends_software gate c (record { mode_is = s.mode; trigger = s.trigger; load_asked = λ is. s.by_mode.0;
-              expired = past }))
+      (past_ends_software gate c (record {
+        mode_is = s.mode;
+        trigger = s.trigger;
+        load_asked = λ is. s.by_mode.0;
+        expired = past;
+      }))
   | inr new ↦
-      let f : IsFree SoftwareStrobe c = record { mode_is = s.mode; trigger = s.trigger;
-          due = rw (s.by_mode.0, s.by_mode.1 new) refl } in
+      let f : IsFree SoftwareStrobe c = record {
+        mode_is = s.mode;
+        trigger = s.trigger;
+        due = rw (s.by_mode.0, s.by_mode.1 new) refl;
+      } in
       elim (cases_Bool (counts SoftwareStrobe gate c)) [
         | inr off ↦ inl (quiet_off SoftwareStrobe gate c f off)
         | inl on ↦
             let is : edge gate c ≡ struck c =
             edge_on SoftwareStrobe gate c (c.element - 1) 1 f on (rw new refl)
-                (one_left c.notation c.element (s.by_mode.2 new on)) ∙ strobe_is c new in
+            (one_left c.notation c.element (s.by_mode.2 new on)) ∙ strobe_is c new in
             inr (subst (AreQuietBy1 gate) (sym is)
-                (past_ends_software gate (struck c)
-                    (record { mode_is = s.mode; trigger = s.trigger; load_asked = λ e. s.by_mode.0; expired = refl })))
+            (past_ends_software gate (struck c)
+            (record { mode_is = s.mode; trigger = s.trigger; load_asked = λ e. s.by_mode.0; expired = refl })))
       ]
 ]
 
@@ -266,20 +294,27 @@ strobes_hardware : (gate : Bool) (c : CounterState) → IsSettled HardwareStrobe
 strobes_hardware gate c s = elim (cases_Bool c.expired) [
   | inl past ↦
       later gate c
-          (past_ends_hardware gate c (record { mode_is = s.mode; trigger = s.trigger; load_asked = λ is. absurd (cc);
-              expired = past }))
+      (past_ends_hardware gate c (record {
+        mode_is = s.mode;
+        trigger = s.trigger;
+        load_asked = λ is. absurd (cc);
+        expired = past;
+      }))
   | inr new ↦
-      let f : IsFree HardwareStrobe c = record { mode_is = s.mode; trigger = s.trigger;
-          due = rw (s.by_mode.0 new) refl } in
+      let f : IsFree HardwareStrobe c = record {
+        mode_is = s.mode;
+        trigger = s.trigger;
+        due = rw (s.by_mode.0 new) refl;
+      } in
       elim (cases_Bool (counts HardwareStrobe gate c)) [
         | inr off ↦ inl (quiet_off HardwareStrobe gate c f off)
         | inl on ↦
             let is : edge gate c ≡ struck c =
             edge_on HardwareStrobe gate c (c.element - 1) 1 f on (rw new refl)
-                (one_left c.notation c.element (s.by_mode.1 new on)) ∙ strobe_is c new in
+            (one_left c.notation c.element (s.by_mode.1 new on)) ∙ strobe_is c new in
             inr (subst (AreQuietBy1 gate) (sym is)
-                (past_ends_hardware gate (struck c)
-                    (record { mode_is = s.mode; trigger = s.trigger; load_asked = λ e. absurd (cc); expired = refl })))
+            (past_ends_hardware gate (struck c)
+            (record { mode_is = s.mode; trigger = s.trigger; load_asked = λ e. absurd (cc); expired = refl })))
       ]
 ]
 

@@ -1,5 +1,5 @@
 -- The state of the timer is spelled and read back.
-use Rattle.std.proofs.Common.{◌≡◌, ℕ, zero, suc, ◌^◌, ◌<◌, ◌≤◌, Bool, true, false, List, [], ◌∷◌, length, take, get_or}
+use Rattle.std.proofs.Common.{◌≡◌, ℕ, zero, suc, ◌<◌, ◌≤◌, Bool, true, false, List, [], ◌∷◌, length, take, get_or}
 use Rattle.std.proofs.Common.{Option, Some, None, is_some, refl, ap, ◌∙◌, arith, nat_lt}
 use Rattle.device_spec.specs.Pit.{Mode, TerminalCount, OneShot, RateGenerator, SquareWave, SoftwareStrobe}
 use Rattle.device_spec.specs.Pit.{HardwareStrobe, Access, LowByte, HighByte, LowThenHigh, Notation, Binary, Decimal}
@@ -8,7 +8,7 @@ use Rattle.device_spec.specs.Pit.{notation_of_bit, bcd_bit}
 use Rattle.byte_fields.specs.Fields.{bound_where, flag_byte, IsWithin}
 use Rattle.byte_fields.proofs.Formats.{IsFormat, format_as, then_format, last_format}
 use Rattle.byte_fields.proofs.Numbers.{Any, Ranges, byte_within, within_format, wide32, flag_format, flag_where_format}
-use Rattle.byte_fields.proofs.Numbers.{optional_format}
+use Rattle.byte_fields.proofs.Numbers.{optional_format, bound_where-small}
 use Rattle.pit_8254.specs.Quiet.{HasCount, IsBounded, IsFew, least_count, most_count}
 use Rattle.pit_8254.specs.State.{Word, Counts, Latches, Flags, access_of, word_bytes, word_fields, counts_bytes}
 use Rattle.pit_8254.specs.State.{counts_fields, AreCounts, IsLatch, latch_bytes, latch_fields, AreLatches}
@@ -129,10 +129,6 @@ counts_format mode =
 abbrev latch_with : (size first second : ℕ) → List ℕ
 latch_with size first second = take size (first ∷ second ∷ [])
 
-bounded : (there : Bool) → bound_where there 255 < 2 ^ 8
-bounded true = omega arith
-bounded false = omega arith
-
 size_again : (size first second : ℕ) → size ≤ 2 → length (latch_with size first second) ≡ size
 size_again zero first second few = refl
 size_again (suc zero) first second few = refl
@@ -172,9 +168,9 @@ latch_format =
     format_as 3 latch_bytes IsLatch
     (then_format (λ (bytes : List ℕ). length bytes) (byte_within 0 2 (omega arith)) (λ size good_size.
     then_format (λ (bytes : List ℕ). get_or bytes 0 0)
-    (byte_within 0 (bound_where (nat_lt 0 size) 255) (bounded (nat_lt 0 size))) (λ first good_first.
+    (byte_within 0 (bound_where (nat_lt 0 size) 255) (bound_where-small (nat_lt 0 size))) (λ first good_first.
     last_format (λ (bytes : List ℕ). get_or bytes 1 0) (λ second. latch_with size first second)
-    (byte_within 0 (bound_where (nat_lt 1 size) 255) (bounded (nat_lt 1 size)))
+    (byte_within 0 (bound_where (nat_lt 1 size) 255) (bound_where-small (nat_lt 1 size)))
     (λ second good. second_again size first second good_size.1 good.1))
     (λ first bytes any good.
     ap (λ (bytes : List ℕ). get_or bytes 0 0) good.1 ∙ first_again size first (get_or bytes 1 0) good_size.1 any.1))

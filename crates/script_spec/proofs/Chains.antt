@@ -1,6 +1,6 @@
 -- Parts of a chain that said something.
-use Rattle.std.proofs.Common.{◌≡◌, ℕ, ◌≤◌, Bool, true, false, cond, leb, ◌&&◌, Option, Some, None, refl, sym}
-use Rattle.board_prelude.proofs.Common.{option_and_then, option_map, leb-true, is_within}
+use Rattle.std.proofs.Common.{◌≡◌, Bool, true, false, cond, ◌&&◌, Option, Some, None, refl, sym}
+use Rattle.board_prelude.proofs.Common.{option_and_then, option_map}
 
 pub some_is : {A : Type 0} (x y : A) → ◌≡◌ {A = Option A} (Some x) (Some y) → x ≡ y
 some_is x y e = cc
@@ -22,8 +22,3 @@ mapped (Some x) f y e = (x, refl, sym (some_is (f x) y e))
 pub both : (a b : Bool) → (a && b) ≡ true → (a ≡ true) × (b ≡ true)
 both true b e = (refl, e)
 both false b e = absurd cc
-
-pub is_within_is : (first last n : ℕ) → is_within first last n ≡ true → (first ≤ n) × (n ≤ last)
-is_within_is first last n e =
-    let parts = both (leb first n) (leb n last) e in
-    (leb-true first n parts.0, leb-true n last parts.1)

@@ -1,14 +1,14 @@
 -- Events that have a form, and that there is no reason to refuse, are in range.
-use Rattle.std.proofs.Common.{ℕ, ◌≡◌, ◌+◌, ◌%◌, Bool, true, false, ◌&&◌, List, refl, arith, is_some}
-use Rattle.board_prelude.proofs.Common.{false≢true, leb-true, eqb-true, Width, One, Moment, bytes_of, IsMoment, Event}
+use Rattle.std.proofs.Common.{ℕ, ◌≡◌, ◌+◌, ◌%◌, Bool, true, false, List, arith, is_some}
+use Rattle.board_prelude.proofs.Common.{leb-true, eqb-true, Width, One, Moment, bytes_of, IsMoment, Event}
 use Rattle.board_prelude.proofs.Common.{Memory, Wide, Port, Ack, Pulses, Time, Wire, Line, BadSector, Setup, card_at}
 use Rattle.board_prelude.proofs.Common.{is_write, FitsAccess, FitsBytes, IsInRange, IsScriptSector, IsInVersion}
 use Rattle.board_prelude.proofs.Common.{is_moment}
 use Rattle.board_base.specs.declared.access.Width.TheVariants.{Two, Four}
+use Rattle.board_base.proofs.CalendarLemmas.{six_parts, is_within_parts}
 use Rattle.board_spec.specs.declared.event.Event.TheVariants.{Look as LookAt}
 use Rattle.script_spec.specs.Common.{Item, IsMomentForm, IsEventForm, has_card, is_event_in_range, is_event_placed}
 use Rattle.script_spec.specs.Common.{is_card_there}
-use Rattle.script_spec.proofs.Chains.{is_within_is}
 
 fits_access : (writes : Bool) (width : Width) (value : ℕ) → FitsBytes writes (bytes_of width) value →
     FitsAccess writes width value
@@ -17,23 +17,13 @@ fits_access true One value fits = omega (arith, fits)
 fits_access true Two value fits = omega (arith, fits)
 fits_access true Four value fits = omega (arith, fits)
 
-six : (a b c d e f : Bool) → (a && b && c && d && e && f) ≡ true →
-    (a ≡ true) × (b ≡ true) × (c ≡ true) × (d ≡ true) × (e ≡ true) × (f ≡ true)
-six false b c d e f test = absurd (false≢true test)
-six true false c d e f test = absurd (false≢true test)
-six true true false d e f test = absurd (false≢true test)
-six true true true false e f test = absurd (false≢true test)
-six true true true true false f test = absurd (false≢true test)
-six true true true true true false test = absurd (false≢true test)
-six true true true true true true test = (refl, refl, refl, refl, refl, refl)
-
 moment_there : (m : Moment) → IsMomentForm m → is_moment m.year m.month m.day m.hour m.minute m.second ≡ true
     → IsMoment m
 moment_there m form test =
-    let parts = six _ _ _ _ _ _ test in
-    let year = is_within_is _ _ m.year parts.0 in
-    let month = is_within_is _ _ m.month parts.1 in
-    let day = is_within_is _ _ m.day parts.2 in
+    let parts = six_parts _ _ _ _ _ _ test in
+    let year = is_within_parts _ _ m.year parts.0 in
+    let month = is_within_parts _ _ m.month parts.1 in
+    let day = is_within_parts _ _ m.day parts.2 in
     record {
       date = record {
         year_low = year.0;
@@ -76,7 +66,7 @@ event_in_range version setup before (Port access) form range place there cards =
 }
 event_in_range version setup before (LookAt kind addr smm) form range place there cards = tt
 event_in_range version setup before Ack form range place there cards = tt
-event_in_range version setup before (Pulses count) form range place there cards = is_within_is _ _ count range
+event_in_range version setup before (Pulses count) form range place there cards = is_within_parts _ _ count range
 event_in_range version setup before (Time moment) form range place there cards = moment_there moment form range
 event_in_range version setup before (Wire dev on) form range place there cards = cards dev there
 event_in_range version setup before (Line irq on) form range place there cards = range

@@ -3,14 +3,14 @@ use Rattle.std.proofs.Common.{◌≡◌, ℕ, ◌*◌, ◌%◌, ◌^◌, ◌<◌
 use Rattle.std.proofs.Common.{[], ◌∷◌, refl, sym, ap, subst, ◌∙◌, arith, codes, decimal, bytes_eq}
 use Rattle.board_prelude.proofs.Common.{join_with_byte, cases_Bool, eqb-true, eq-eqb, true≢false, Kind, Fetch, Read}
 use Rattle.board_prelude.proofs.Common.{Write, Width, One, bytes_of, Event, Ack, is_write, FitsBytes, space, hex_number}
-use Rattle.board_prelude.proofs.Common.{size_text, width_text, kind_text, memory_text, event_text}
+use Rattle.board_prelude.proofs.Common.{size_text, width_text, kind_text, memory_text, event_text, and_parts}
 use Rattle.board_base.specs.declared.access.Width.TheVariants.{Two, Four}
 use Rattle.script_spec.specs.Common.{IsDecimal, IsEventForm, parse_hex, parse_width, quad_size, parse_size, parse_kind}
 use Rattle.script_spec.specs.Common.{parse_smm, IsSize, width_with, is_wide, memory_event, parse_read, parse_write}
 use Rattle.script_spec.specs.Common.{parse_in, parse_out, parse_look, parse_ack, parse_number, parse_bad_sector}
 use Rattle.script_spec.specs.Common.{parse_event}
 use Rattle.script_spec.specs.Events.{parse_pulses}
-use Rattle.script_spec.proofs.Chains.{some_is, guarded, then_said, both}
+use Rattle.script_spec.proofs.Chains.{some_is, guarded, then_said}
 use Rattle.script_spec.proofs.NumberTexts.{decimal_read, hex_read}
 use Rattle.script_spec.proofs.Joins.{Reads, same, same_as, word_is, smm_words, smm_read, access_joined, write_joined}
 use Rattle.script_spec.proofs.Joins.{look_joined, port_joined, out_joined}
@@ -116,7 +116,7 @@ wide_access : (version : ℕ) (kind : Kind) (bytes addr value : ℕ) (smm : Bool
     → IsAccess version kind bytes addr value smm
 unfolding memory_event event_text
 wide_access version kind bytes addr value smm wide sizes small fits =
-    let parts = both (eqb version 2) (eqb bytes 8 || not (eqb (addr % bytes) 0)) wide in
+    let parts = and_parts (eqb version 2) (eqb bytes 8 || not (eqb (addr % bytes) 0)) wide in
     let moved : (bytes ≡ 8) ⊎ (addr % bytes ≡ 0 → ⊥) = elim (cases_Bool (eqb bytes 8)) [
       | inl eight ↦ inl (eqb-true bytes 8 eight)
       | inr other ↦ inr (not_aligned (addr % bytes) (rw other at parts.1))
@@ -131,7 +131,7 @@ is_access : (version : ℕ) (kind : Kind) (bytes addr value : ℕ) (smm : Bool) 
 is_access version kind bytes addr value smm size small fits = elim (cases_Bool (is_wide version bytes addr)) [
   | inl wide ↦ elim size [
     | inl one ↦
-        let parts = both (eqb version 2) (eqb bytes 8 || not (eqb (addr % bytes) 0)) wide in
+        let parts = and_parts (eqb version 2) (eqb bytes 8 || not (eqb (addr % bytes) 0)) wide in
         let none : eqb (addr % bytes) 0 ≡ true = eq-eqb (addr % bytes) 0 (rw one (omega arith)) in
         let f = rw (none, one) at parts in absurd (true≢false (sym f.1))
     | inr more ↦ elim more [

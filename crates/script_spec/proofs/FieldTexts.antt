@@ -1,13 +1,13 @@
 -- The texts of fields have no space, and a number is no word.
 use Rattle.std.proofs.Common.{◌≡◌, ℕ, ◌+◌, ◌/◌, ◌%◌, ◌<◌, inl, inr, Bool, true, false, not, eqb, leb, ◌||◌, List, []}
 use Rattle.std.proofs.Common.{◌∷◌, ◌++◌, refl, sym, ap, subst, ◌∙◌, arith, decimal, bytes_eq}
+use Rattle.board_base.proofs.CalendarLemmas.{is_within_parts}
 use Rattle.board_prelude.proofs.Common.{list_all, AllDigits, cases_Bool, and_parts, and_from, or_left, or_cases, ne_eqb}
 use Rattle.board_prelude.proofs.Common.{eqb-true, le-leb, lt-leb, true≢false, Moment, is_within, space, hex_number}
 use Rattle.board_prelude.proofs.Common.{two_digits, moment_text}
 use Rattle.script_spec.specs.Grammar.{IsDecimal, is_name_byte}
 use Rattle.script_spec.proofs.Digits.{lacks, digits_of_decimal}
 use Rattle.script_spec.proofs.PlainText.{hex_number_word, decimal_word, lacks-word}
-use Rattle.script_spec.proofs.Chains.{is_within_is}
 use Rattle.script_spec.proofs.Joins.{word_is}
 use Rattle.script_spec.proofs.NumberBack.{is_plain}
 
@@ -71,7 +71,7 @@ lacks_moment moment =
 
 stamp_plain : (b : ℕ) → is_stamp_byte b ≡ true → not (is_within 0x41 0x46 b) ≡ true
 stamp_plain b stamp = elim (or_cases (is_within 0x2D 0x3A b) (eqb b 0x54) stamp) [
-  | inl low ↦ rw (lt-leb 0x41 b (omega (arith, (is_within_is 0x2D 0x3A b low).1))) refl
+  | inl low ↦ rw (lt-leb 0x41 b (omega (arith, (is_within_parts 0x2D 0x3A b low).1))) refl
   | inr letter ↦ rw (eqb-true b 0x54 letter) refl
 ]
 

@@ -3,7 +3,7 @@ use Rattle.std.proofs.Common.{◌≡◌, ℕ, zero, suc, ◌≤◌, ◌⊎◌, �
 use Rattle.std.proofs.Common.{List, [], ◌∷◌, ◌++◌, length, take, refl, sym, ap, subst, ◌∙◌, append_assoc, arith, lit<}
 use Rattle.std.proofs.Common.{codes, decimal, bytes_eq, if◌then◌else◌}
 use Rattle.board_prelude.proofs.Common.{join_with_byte, list_all, option_map, cases_Bool, eqb-true, leb-true, Moment}
-use Rattle.board_prelude.proofs.Common.{Event, Time, Wire, Line, space, event_text, moment_text, level_text}
+use Rattle.board_prelude.proofs.Common.{Event, Time, Wire, Line, space, event_text, moment_text, level_text, and_parts}
 use Rattle.std.proofs.lemmas.Fmt.{decimal-digits_value}
 use Rattle.std.proofs.lemmas.List.Splits.{join_with_byte-slice_split}
 use Rattle.script_spec.specs.Common.{Item, IsEventForm, SetCpus, SetMemory, SetRom, SetDisk, FitCard, BeginPhase}
@@ -13,7 +13,7 @@ use Rattle.script_spec.specs.Common.{parse_two_numbers, parse_only_moment, parse
 use Rattle.script_spec.specs.Common.{parse_line_item, parse_event_item, parse_by_verb, parse_statement_words, is_name}
 use Rattle.script_spec.specs.Common.{parse_name, parse_phase, parse_statement, parse_by_key, parse_item}
 use Rattle.script_spec.proofs.Digits.{own}
-use Rattle.script_spec.proofs.Chains.{some_is, guarded, then_said, mapped, both}
+use Rattle.script_spec.proofs.Chains.{some_is, guarded, then_said, mapped}
 use Rattle.script_spec.proofs.NumberTexts.{decimal_read}
 use Rattle.script_spec.proofs.Joins.{Spells, same, same_as, joined, zipped, word_is}
 use Rattle.script_spec.proofs.EventTexts.{IsRead, event_read, number_read}
@@ -235,8 +235,9 @@ name_is : (name : List ℕ) → is_name name ≡ true → IsName name
 unfolding is_name
 name_is [] e = absurd cc
 name_is (first ∷ rest) e =
-    let all = both (leb (length (first ∷ rest)) 64 && is_name_start first) (list_all is_name_byte (first ∷ rest)) e in
-    let front = both (leb (length (first ∷ rest)) 64) (is_name_start first) all.0 in
+    let all = and_parts (leb (length (first ∷ rest)) 64 && is_name_start first)
+    (list_all is_name_byte (first ∷ rest)) e in
+    let front = and_parts (leb (length (first ∷ rest)) 64) (is_name_start first) all.0 in
     record {
       some = omega arith;
       few = leb-true (length (first ∷ rest)) 64 front.0;

@@ -4,16 +4,18 @@ use Rattle.std.proofs.Common.{cond, eqb, leb, ltb, ◌&&◌, Some, None, List, [
 use Rattle.std.proofs.Common.{subst, ◌∙◌, arith, pow-suc, lit<, le-div_iff_mul-le, decimal}
 use Rattle.board_prelude.proofs.Common.{AllZip, AllDigits, digits_value, true≢false, cases_Bool, leb-true, ltb-true}
 use Rattle.board_prelude.proofs.Common.{cases_lt, lt-ltb, le-ltb, le-leb, eqb-true, pow-le-pow_right, byte, is_within}
-use Rattle.board_prelude.proofs.Common.{hex_digit, hex_number}
+use Rattle.board_prelude.proofs.Common.{hex_digit, hex_number, and_parts}
 use Rattle.std.specs.Char.{digit_value as value_of_digit}
 use Rattle.std.specs.Str.Parse.{digits_value_after}
 use native.Mathlib.Nat.{div-div-eq-div-mul}
 use Rattle.std.proofs.lemmas.Fmt.{decimal-digits_value}
 use Rattle.std.proofs.lemmas.Int.Digits.{digits_value-lt}
+use Rattle.board_base.proofs.CalendarLemmas.{is_within_parts}
+use Rattle.board_spec.proofs.PartLawProofs.{some_power}
 use Rattle.script_spec.specs.Common.{IsDecimal, StandsFor, digit_value, parse_digit, number_after, parse_digits}
 use Rattle.script_spec.specs.Common.{parse_hex, has_leading_zero, parse_decimal}
 use Rattle.script_spec.proofs.Digits.{own}
-use Rattle.script_spec.proofs.Chains.{some_is, guarded, then_said, both, is_within_is}
+use Rattle.script_spec.proofs.Chains.{some_is, guarded, then_said}
 
 -- ---- one digit
 
@@ -23,15 +25,15 @@ digit_cases : (c d : ℕ) → digit_value c ≡ Some d
     ⊎ (((65 ≤ c) × ((c ≤ 70) × (d ≡ c - 65 + 10))) ⊎ ((97 ≤ c) × ((c ≤ 102) × (d ≡ c - 97 + 10))))
 digit_cases c d e = elim (cases_Bool (is_within 0x30 0x39 c)) [
   | inl low ↦
-      let r = is_within_is 0x30 0x39 c low in
+      let r = is_within_parts 0x30 0x39 c low in
       inl (r.0, (r.1, sym (some_is (c - 0x30) d (rw low at e))))
   | inr other ↦ elim (cases_Bool (is_within 0x41 0x46 c)) [
     | inl upper ↦
-        let r = is_within_is 0x41 0x46 c upper in
+        let r = is_within_parts 0x41 0x46 c upper in
         inr (inl (r.0, (r.1, sym (some_is (c - 0x41 + 10) d (rw (other, upper) at e)))))
     | inr third ↦ elim (cases_Bool (is_within 0x61 0x66 c)) [
       | inl lower ↦
-          let r = is_within_is 0x61 0x66 c lower in
+          let r = is_within_parts 0x61 0x66 c lower in
           inr (inr (r.0, (r.1, sym (some_is (c - 0x61 + 10) d (rw (other, third, lower) at e)))))
       | inr none ↦ let e = rw (other, third, none) at e in absurd cc
     ]
@@ -96,8 +98,8 @@ pub decimal_read : (field : List ℕ) (n : ℕ) → parse_decimal field ≡ Some
 decimal_read field n e =
     let g = guarded (leb 1 (length field) && leb (length field) 9 && not (has_leading_zero field))
     (parse_digits 10 field) n e in
-    let h = both (leb 1 (length field) && leb (length field) 9) (not (has_leading_zero field)) g.0 in
-    let k = both (leb 1 (length field)) (leb (length field) 9) h.0 in
+    let h = and_parts (leb 1 (length field) && leb (length field) 9) (not (has_leading_zero field)) g.0 in
+    let k = and_parts (leb 1 (length field)) (leb (length field) 9) h.0 in
     let some = leb-true 1 (length field) k.0 in
     let few = leb-true (length field) 9 k.1 in
     let read = digits 0 n field g.1 in
@@ -146,10 +148,6 @@ digit_stands c d e =
 pub quotient : (n p : ℕ) → n / (p * 256) ≡ n / p / 256
 quotient n p = sym (div-div-eq-div-mul n p 256)
 
-power : (k : ℕ) → 0 < 256 ^ k
-power zero = lit< tt
-power (suc k) = omega (arith, pow-suc 256 k, power k)
-
 -- two digits are a byte
 two_digits : (h a b q : ℕ) → a < 16 → b < 16 → q ≡ (h * 16 + a) * 16 + b
     → (q / 256 ≡ h) × ((q % 256 / 16 % 16 ≡ a) × (q % 256 % 16 ≡ b))
@@ -196,4 +194,4 @@ hex_read k field n e =
     let g = guarded (eqb (length field) (2 * k)) (parse_digits 0x10 field) n e in
     let long : length field ≡ k + k = omega (arith, eqb-true (length field) (2 * k) g.0) in
     let read = hex_digits k 0 n field long g.1 in
-    (read.1, below_power n (256 ^ k) (power k) read.0)
+    (read.1, below_power n (256 ^ k) (some_power k) read.0)

@@ -14,6 +14,7 @@ use Rattle.std.proofs.lemmas.List.Elements.{All-filter}
 use Rattle.std.proofs.lemmas.List.Folds.{list_any_none}
 use Rattle.std.proofs.lemmas.List.Sums.{length-filter}
 use Rattle.std.proofs.lemmas.List.Sorted.{IsPermutation-reverse, sum_by-IsPermutation}
+use Rattle.board_base.proofs.CalendarLemmas.{is_within_parts}
 use Rattle.script_spec.specs.Common.{Item, SetCpus, SetMemory, SetRom, SetDisk, FitCard, BeginPhase, Ask, AskLevel}
 use Rattle.script_spec.specs.Common.{IsForm, is_phase, is_statement, is_setup, is_cpus, is_memory, is_rom, is_disk}
 use Rattle.script_spec.specs.Common.{is_cpus_above, has_card, cards_of, pulses_of, pulses_of_event, is_card_there}
@@ -22,7 +23,6 @@ use Rattle.script_spec.specs.Common.{IsInRangeScript, ScriptsAreInRange}
 use Rattle.script_spec.proofs.GoodItems.{NoReason, AreGood, read_good, found_good}
 use Rattle.script_spec.proofs.ScriptLaws.{count_of}
 use Rattle.script_spec.proofs.EventRange.{HasCards, event_in_range, sector_in_range, event_in_version}
-use Rattle.script_spec.proofs.Chains.{is_within_is}
 
 -- ---- processors
 
@@ -160,17 +160,17 @@ all_bases : (bases : List Base) → list_all is_base_in_range bases ≡ true →
 all_bases [] test = All-nil IsBase
 all_bases (MemoryBase bits ∷ bases) test =
     let both = and_parts _ (list_all is_base_in_range bases) test in
-    All-cons IsBase (MemoryBase bits) bases (is_within_is _ _ bits both.0) (all_bases bases both.1)
+    All-cons IsBase (MemoryBase bits) bases (is_within_parts _ _ bits both.0) (all_bases bases both.1)
 all_bases (IoBase bits ∷ bases) test =
     let both = and_parts _ (list_all is_base_in_range bases) test in
-    All-cons IsBase (IoBase bits) bases (is_within_is _ _ bits both.0) (all_bases bases both.1)
+    All-cons IsBase (IoBase bits) bases (is_within_parts _ _ bits both.0) (all_bases bases both.1)
 all_bases (OutsideBase bits ∷ bases) test =
     let both = and_parts _ (list_all is_base_in_range bases) test in
-    All-cons IsBase (OutsideBase bits) bases (is_within_is _ _ bits both.0) (all_bases bases both.1)
+    All-cons IsBase (OutsideBase bits) bases (is_within_parts _ _ bits both.0) (all_bases bases both.1)
 
 rom_there : (rom : Option ℕ) → is_rom_in_range rom ≡ true → IsExpansionRom rom
 rom_there None test = tt
-rom_there (Some bits) test = is_within_is _ _ bits test
+rom_there (Some bits) test = is_within_parts _ _ bits test
 
 three : (a b c : Bool) → (a && b && c) ≡ true → (a ≡ true) × (b ≡ true) × (c ≡ true)
 three false b c test = absurd (false≢true test)
@@ -182,7 +182,7 @@ all_cards : (version : ℕ) (items : List Item) → AreGood version items → Al
 all_cards version [] good = All-nil IsCard
 all_cards version (FitCard card ∷ before) good =
     let parts = three _ (list_all is_base_in_range card.bases) (is_rom_in_range card.rom) good.1.range in
-    let dev = is_within_is _ _ card.dev parts.0 in
+    let dev = is_within_parts _ _ card.dev parts.0 in
     All-cons IsCard card (cards_of before)
     (record {
       first = dev.0;
@@ -353,9 +353,9 @@ in_range : (items : List Item) (script : Script) → AreGood script.version item
     IsInRangeScript script
 in_range items script good version said =
     let cpus = found_good script.version items is_cpus (SetCpus script.cpus) good said.cpus in
-    let count = is_within_is _ _ script.cpus cpus.1 in
+    let count = is_within_parts _ _ script.cpus cpus.1 in
     let memory = found_good script.version items is_memory (SetMemory script.mib) good said.memory in
-    let mib = is_within_is _ _ script.mib memory.1 in
+    let mib = is_within_parts _ _ script.mib memory.1 in
     let limits : IsWithinLimits items = within_limits script.version items good in
     let cards : All IsCard script.cards =
     All-permutation IsCard (cards_of items) script.cards said.cards (all_cards script.version items good)

@@ -1,7 +1,8 @@
 use Rattle.std.proofs.Common.{◌≡◌, ◌≢◌, ℕ, ◌<◌, length, set, sym, ap, ◌∙◌, arith, slice_index}
+use Rattle.board_spec.proofs.WideLemmas.{put_byte}
 use Rattle.board_prelude.proofs.Common.{with_items, length-map, bytes_of}
 use Rattle.pci_bars.specs.Contents.{slot_number, held}
-use Rattle.pci_bars.proofs.ContentsLemmas.{put_byte, lists, lists-set, lists-at, IsWritten, written, lost}
+use Rattle.pci_bars.proofs.ContentsLemmas.{lists, lists-set, lists-at, IsWritten, written, lost}
 use Rattle.pci_bars.proofs.ContentsLemmas.{stored_written}
 use Rattle.pci_bars.proofs.contents.Contents.write.Goals as goal
 
