@@ -1,7 +1,7 @@
-//! Callers that share a board. `two-callers` are two, one after another, and what is refused for want of memory is asked for once
-//! more: so whichever allocation is refused, the same is told, and `tests/each-failure` refuses each in turn. `callers 8 50` are
-//! eight, each on a thread of its own, that write a register 50 times: told are the version of the map, and whether what each did
-//! is in the history, whatever the schedule.
+//! Callers that share a board. `two-callers` are two, one after another, and what is refused for want of memory is
+//! asked for once more: so whichever allocation is refused, the same is told, and `tests/each-failure` refuses each in
+//! turn. `callers 8 50` are eight, each on a thread of its own, that write a register 50 times: told are the version of
+//! the map, and whether what each did is in the history, whatever the schedule.
 
 ghost use Rattle.std.specs.Prelude.{◌≡◌, ◌+◌, ◌<◌, ◌≤◌, [], length, All, IfOk};
 ghost use Rattle.board_prelude.specs.Common.{Setup as Fitting, IsInRange};
@@ -253,8 +253,8 @@ fn are_right(entries: &Entries<'_>, n: u8, each: u32) -> bool {
     true
 }
 
-/// Tells the version of the map of a board that callers shared, each on a thread of its own, and whether each did what it must:
-/// of a row, how many callers, and how often each writes.
+/// Tells the version of the map of a board that callers shared, each on a thread of its own, and whether each did what
+/// it must: of a row, how many callers, and how often each writes.
 pub fn tell_many<R: AllocGlobal + Threads + Wait + Sync, W: Write>(
     rt: &R,
     told: &mut W,

@@ -19,8 +19,8 @@ use Rattle.board_chipset.specs.declared.registers.Registers.{Registers}
 use Rattle.board_chipset.specs.declared.state.State.{State}
 use Rattle.board_chipset.specs.Chipset.{Running}
 
--- ---- the head: a mark, the version of the format, and what the chipset is fitted with: the memory in MiB, the number of
--- cards, whether there is a disk, and the sizes of ROM and disk, which is 0 without one
+-- ---- the head: a mark, the version of the format, and what the chipset is fitted with: the memory in MiB, the number
+-- of cards, whether there is a disk, and the sizes of ROM and disk, which is 0 without one
 
 abbrev pub state_mark : List ℕ
 state_mark = codes "BOARDSTA"

@@ -1,9 +1,29 @@
 -- What an entry makes of the devices. All are stepped at once: the machines that an event leaves are the same by
 -- computing, so that no lemma about an entry has a column for each device.
-use Rattle.std.proofs.Common.{◌≡◌, ℕ, ◌<◌, ◌≤◌, Bool, true, false, ◌||◌, ◌&&◌, List, [], ◌∷◌, Option, Some, None, length, get_or, refl, sym, ◌∙◌, ap, subst, arith, inl, inr, ◌*◌, ◌/◌, ◌%◌, replicate, eq-eqb, ne_eqb, get_or-set_same, get_or-set_other, length-set, ◌↔◌, is_some, Result, Err, ◌==◌, unwrap_or, map, option_map, slice_index_or, slice_set, if◌then◌else◌}
-use Rattle.board_prelude.proofs.Common.{or-false, and-false, nat_tests, cases_eq, cases_Bool, lt-ltb, le-leb, get_or-replicate, ext_get_or, length-map, get_or-map, each_below, same-levels, pair_has_seen, PortAccess, Dev, Pic0, Pic1, Pit, System, Keyboard, Elcr, Ata, Wires, Vector, Spurious, PitState, out_of, reset as timer_at_reset, after_reset as clock_after_reset, triggers_at_reset, reserved-rest, Pair, levels_at_power_on, port_byte, pair_after_lines, pair_at_reset, port_read, read_value, trigger_byte, Disk, option_map_or, is_disk_length, power_on as disk_at_power_on, Event, Memory, Wide, Port, Pulses, Wire, Line, BadSector, Reply, Entry, Setup, IsDisk, IsDiskSize, is_free_line, reset_control, control_written, resets_hard, is_hard_reset, system_at_reset, device_reached, wire_set, wire_of, line_set, irq_of, triggers_after, triggers_of, system_after, system_of, timer_after, timer_of, clock_after, clock_of, disk_accessed, disk_after, disk_with, disk_of, routes_of, pirq_levels, own_level, level_with, all_lines, levels_with, levels_of, elcr_of, device_value, pair_after, pair_reset_or_after, pair_stepped, pair_of, after_bad, byte_of, config_store, elcr-same, is_line_driven, list_any, map-same, true≢false}
+use Rattle.std.proofs.Common.{◌≡◌, ℕ, ◌<◌, ◌≤◌, Bool, true, false, ◌||◌, ◌&&◌, List, [], ◌∷◌, Option, Some, None}
+use Rattle.std.proofs.Common.{length, get_or, refl, sym, ◌∙◌, ap, subst, arith, inl, inr, ◌*◌, ◌/◌, ◌%◌, replicate}
+use Rattle.std.proofs.Common.{eq-eqb, ne_eqb, get_or-set_same, get_or-set_other, length-set, ◌↔◌, is_some, Result, Err}
+use Rattle.std.proofs.Common.{◌==◌, unwrap_or, map, option_map, slice_index_or, slice_set, if◌then◌else◌}
+use Rattle.board_prelude.proofs.Common.{or-false, and-false, nat_tests, cases_eq, cases_Bool, lt-ltb, le-leb}
+use Rattle.board_prelude.proofs.Common.{get_or-replicate, ext_get_or, length-map, get_or-map, each_below, same-levels}
+use Rattle.board_prelude.proofs.Common.{pair_has_seen, PortAccess, Dev, Pic0, Pic1, Pit, System, Keyboard, Elcr, Ata}
+use Rattle.board_prelude.proofs.Common.{Wires, Vector, Spurious, PitState, out_of, reset as timer_at_reset}
+use Rattle.board_prelude.proofs.Common.{after_reset as clock_after_reset, triggers_at_reset, reserved-rest, Pair}
+use Rattle.board_prelude.proofs.Common.{levels_at_power_on, port_byte, pair_after_lines, pair_at_reset, port_read}
+use Rattle.board_prelude.proofs.Common.{read_value, trigger_byte, Disk, option_map_or, is_disk_length}
+use Rattle.board_prelude.proofs.Common.{power_on as disk_at_power_on, Event, Memory, Wide, Port, Pulses, Wire, Line}
+use Rattle.board_prelude.proofs.Common.{BadSector, Reply, Entry, Setup, IsDisk, IsDiskSize, is_free_line, reset_control}
+use Rattle.board_prelude.proofs.Common.{control_written, resets_hard, is_hard_reset, system_at_reset, device_reached}
+use Rattle.board_prelude.proofs.Common.{wire_set, wire_of, line_set, irq_of, triggers_after, triggers_of, system_after}
+use Rattle.board_prelude.proofs.Common.{system_of, timer_after, timer_of, clock_after, clock_of, disk_accessed}
+use Rattle.board_prelude.proofs.Common.{disk_after, disk_with, disk_of, routes_of, pirq_levels, own_level, level_with}
+use Rattle.board_prelude.proofs.Common.{all_lines, levels_with, levels_of, elcr_of, device_value, pair_after}
+use Rattle.board_prelude.proofs.Common.{pair_reset_or_after, pair_stepped, pair_of, after_bad, byte_of, config_store}
+use Rattle.board_prelude.proofs.Common.{elcr-same, is_line_driven, list_any, map-same, true≢false}
 use Rattle.board_prelude.specs.Common.{is_interrupt}
-use Rattle.board_devices.specs.Common.{LeavesDevices, DevicesValue, AreIrqsOf, AreAfter, AreDevicesOf, ReachesDevice, Asks, is_chip, PassesBy, Leaves, value_read, after_read, after_write, devices_accessed, driven, fitted_accessed, level_driven}
+use Rattle.board_devices.specs.Common.{LeavesDevices, DevicesValue, AreIrqsOf, AreAfter, AreDevicesOf, ReachesDevice}
+use Rattle.board_devices.specs.Common.{Asks, is_chip, PassesBy, Leaves, value_read, after_read, after_write}
+use Rattle.board_devices.specs.Common.{devices_accessed, driven, fitted_accessed, level_driven}
 use Rattle.ata_pio.specs.declared.ata.AtaOpen.{AtaOpen}
 use Rattle.board_base.specs.declared.target.Dev.TheVariants.{Confadd, Reset, Clock}
 use Rattle.device_spec.specs.Clock.{interrupt_line, power_on as clock_at_power_on}
@@ -186,7 +206,8 @@ pub settled_as : (setup : Setup) (history : List Entry) (before after : DevicesV
     after ≡ record before { pair = after.pair } → after.pair ≡ lined setup history before.pair →
     pair_of setup history ≡ lined setup history before.pair → AreDevicesOf setup history after
 settled_as setup history before after are others seen pair = record {
-  others = subst (λ (d : DevicesValue). AreAfter setup history d) (sym others) (with_pair setup history before after.pair are);
+  others = subst (λ (d : DevicesValue). AreAfter setup history d) (sym others)
+      (with_pair setup history before after.pair are);
   pair = seen ∙ sym pair;
 }
 
@@ -275,8 +296,19 @@ value_at setup history _ access devices are = refl
 -- line k stands at place k
 line_numbered : (k : ℕ) → k < 16 → get_or all_lines k 0 ≡ k
 line_numbered k below =
-    each_below (λ (k : ℕ). get_or all_lines k 0 ≡ k) 16 k
-    (refl, (refl, (refl, (refl, (refl, (refl, (refl, (refl, (refl, (refl, (refl, (refl, (refl, (refl, (refl, (refl, tt)))))))))))))))) below
+    each_below (λ (k : ℕ). get_or all_lines k 0 ≡ k) 16 k (
+      refl,
+      (
+        refl,
+        (
+          refl,
+          (
+            refl,
+            (refl, (refl, (refl, (refl, (refl, (refl, (refl, (refl, (refl, (refl, (refl, (refl, tt)))))))))))),
+          ),
+        ),
+      ),
+    ) below
 
 level_numbered : (level : ℕ → Bool) (k : ℕ) → k < 16 → slice_index_or (map level all_lines) k false ≡ level k
 level_numbered level k low = get_or-map level all_lines k 0 false low ∙ ap level (line_numbered k low)
@@ -294,11 +326,13 @@ same_levels setup history levels size each =
     each k low ∙ sym (level_numbered level k low))
 
 -- the levels set from outside, with those of the timer, the clock and the disk, are what drives each line itself
-pub own_levels : (setup : Setup) (history : List Entry) (irqs : List Bool) (timer clock disk : Bool) (line : ℕ) → length irqs ≡ 16 →
+pub own_levels : (setup : Setup) (history : List Entry) (irqs : List Bool) (timer clock disk : Bool) (line : ℕ) →
+    length irqs ≡ 16 →
     timer ≡ out_of 0 (timer_of history) → clock ≡ interrupt_line (clock_of history) →
     disk ≡ option_map_or (λ disk. is_interrupt disk.drive) (disk_of setup history) false →
     AreIrqsOf history irqs → line < 16 →
-    slice_index_or (slice_set (slice_set (slice_set irqs 0 timer) 8 clock) 14 disk) line false ≡ own_level setup history (timer_of history) line
+    slice_index_or (slice_set (slice_set (slice_set irqs 0 timer) 8 clock) 14 disk) line false ≡ own_level setup history
+    (timer_of history) line
 own_levels setup history irqs timer clock disk line size timer_is clock_is disk_is are below =
     let timed : List Bool = slice_set irqs 0 timer in
     let clocked : List Bool = slice_set timed 8 clock in
@@ -500,7 +534,8 @@ module _ (setup : Setup) (history : List Entry) (entry : Entry) (hard : is_hard_
   disk_hard (Some bytes) = rw hard refl
 
   -- an event that resets is an access at a port, which sets no level
-  resets_by_port : (event : Event) → resets_hard (reset_control history) (control_written event) ≡ true → SetsNoLevel event
+  resets_by_port : (event : Event) → resets_hard (reset_control history) (control_written event) ≡ true →
+      SetsNoLevel event
   resets_by_port (Port access) is = record { wire = λ n. refl; line = λ n. refl; room = λ d. tt; still = tt }
   resets_by_port _ is = cc
 
@@ -540,9 +575,11 @@ module _ (setup : Setup) (history : List Entry) (entry : Entry) (hard : is_hard_
 
 -- ---- power-on
 
-pub at_power_on : (setup : Setup) (devices : DevicesValue) → devices.timer ≡ timer_at_reset → devices.clock ≡ clock_at_power_on →
+pub at_power_on : (setup : Setup) (devices : DevicesValue) → devices.timer ≡ timer_at_reset →
+    devices.clock ≡ clock_at_power_on →
     devices.triggers ≡ triggers_at_reset → devices.system ≡ system_at_reset → devices.disk ≡ disk_of setup [] →
-    devices.wires ≡ replicate 16 false → devices.irqs ≡ replicate 16 false → devices.pair ≡ pair_at_reset levels_at_power_on →
+    devices.wires ≡ replicate 16 false → devices.irqs ≡ replicate 16 false →
+    devices.pair ≡ pair_at_reset levels_at_power_on →
     AreDevicesOf setup [] devices
 unfolding timer_of clock_of triggers_of system_of wire_of irq_of pair_of
 at_power_on setup devices timer clock triggers system disk wires irqs pair = record {
@@ -561,9 +598,11 @@ at_power_on setup devices timer clock triggers system disk wires irqs pair = rec
 -- ---- pulses
 
 -- line 0 is the timer's alone: nothing is routed to it
-timer_line : (setup : Setup) (history : List Entry) (timer : PitState) → level_with setup history timer 0 ≡ out_of 0 timer
+timer_line : (setup : Setup) (history : List Entry) (timer : PitState) →
+    level_with setup history timer 0 ≡ out_of 0 timer
 timer_line setup history timer =
-    ap (λ (b : Bool). out_of 0 timer || b) (reserved-rest (routes_of setup history) (pirq_levels history) 0 refl) ∙ or-false (out_of 0 timer)
+    ap (λ (b : Bool). out_of 0 timer || b) (reserved-rest (routes_of setup history) (pirq_levels history) 0 refl)
+    ∙ or-false (out_of 0 timer)
 
 -- with another state of the timer line 0 alone has another level
 pub levels_pulsed : (setup : Setup) (history : List Entry) (timer later : PitState) →
@@ -580,7 +619,8 @@ whole_sectors size is =
     let few : size ≤ 512 * 65536 = grind (arith, nat_tests) in
     (size / 512, omega (arith, whole, some), omega (arith, few), omega (arith, whole))
 
-counted_sectors : (size sectors : ℕ) → 1 ≤ sectors → sectors ≤ 0x1_0000 → size ≡ sectors * 512 → is_disk_length size ≡ true
+counted_sectors : (size sectors : ℕ) → 1 ≤ sectors → sectors ≤ 0x1_0000 → size ≡ sectors * 512 →
+    is_disk_length size ≡ true
 counted_sectors size sectors some few is =
     let whole : size % 512 ≡ 0 = omega (arith, is) in
     let more : 0 < size = omega (arith, is, some) in
@@ -600,18 +640,21 @@ pub length_refused : (size : ℕ) → ¬ IsDiskSize size → is_disk_length size
 length_refused size none =
     elim (cases_Bool (is_disk_length size)) [ inl is ↦ absurd (none (whole_sectors size is)) | inr refused ↦ refused ]
 
-pub opened_disk : (setup : Setup) (bytes : List ℕ) (disk : Disk) → setup.disk ≡ Some bytes → disk ≡ disk_at_power_on bytes → Some disk ≡ disk_of setup []
+pub opened_disk : (setup : Setup) (bytes : List ℕ) (disk : Disk) → setup.disk ≡ Some bytes →
+    disk ≡ disk_at_power_on bytes → Some disk ≡ disk_of setup []
 unfolding disk_with
 opened_disk setup bytes disk fitted is = rw (fitted, is) refl
 
 -- a refusal names the length exactly where it is not that of a disk
-pub fault_named : (result : Result Disk AtaOpen) (fault : AtaOpen) (size : ℕ) → (result ≡ Err AtaOpen.BadLength) ↔ (is_disk_length size ≡ false) → result ≡ Err fault →
+pub fault_named : (result : Result Disk AtaOpen) (fault : AtaOpen) (size : ℕ) → (result ≡ Err AtaOpen.BadLength)
+    ↔ (is_disk_length size ≡ false) → result ≡ Err fault →
     (fault ≡ AtaOpen.BadLength → ¬ IsDiskSize size) × (¬ IsDiskSize size → fault ≡ AtaOpen.BadLength)
 fault_named result fault size exact is = (
   λ bad. refused_length size (exact.0 (is ∙ ap (λ (f : AtaOpen). Err f) bad)),
   λ none. let named : result ≡ Err AtaOpen.BadLength = exact.1 (length_refused size none) in cc,
 )
 
-pub some_disk : (bytes : Option (List ℕ)) (history : List Entry) → is_some (option_map (λ bytes. disk_with bytes history) bytes) ≡ is_some bytes
+pub some_disk : (bytes : Option (List ℕ)) (history : List Entry) →
+    is_some (option_map (λ bytes. disk_with bytes history) bytes) ≡ is_some bytes
 some_disk None history = refl
 some_disk (Some bytes) history = refl

@@ -1,9 +1,14 @@
 -- No access, reset or bad sector changes how many sectors a disk has.
-use Rattle.std.proofs.Common.{◌≡◌, ℕ, ◌*◌, ◌/◌, ◌%◌, Bool, true, false, cond, eqb, List, [], ◌∷◌, ◌++◌, length, Option, Some, None, refl, sym, ◌∙◌, ap, arith, option_map, length-set}
-use Rattle.board_prelude.proofs.Common.{PortAccess, Dev, Ata, Width, One, Setup, Disk, IsDisk, IsDiskSize, disk_with, disk_of}
+use Rattle.std.proofs.Common.{◌≡◌, ℕ, ◌*◌, ◌/◌, ◌%◌, Bool, true, false, cond, eqb, List, [], ◌∷◌, ◌++◌, length, Option}
+use Rattle.std.proofs.Common.{Some, None, refl, sym, ◌∙◌, ap, arith, option_map, length-set}
+use Rattle.board_prelude.proofs.Common.{PortAccess, Dev, Ata, Width, One, Setup, Disk, IsDisk, IsDiskSize, disk_with}
+use Rattle.board_prelude.proofs.Common.{disk_of}
 use Rattle.board_base.specs.declared.access.Width.TheVariants.{Two, Four}
-use Rattle.device_spec.proofs.Common.{length-replicate, Activity, Ready, Failed, Reading, Writing, Identifying, sectors_of, is_drq, bytes_written, activity_written, word_written, byte_written, disk_status_port, disk_control_port}
-use Rattle.device_spec.specs.Ata.Steps.{after_read as disk_after_read, after_write as disk_after_write, after_reset as disk_after_reset, after_bad}
+use Rattle.device_spec.proofs.Common.{length-replicate, Activity, Ready, Failed, Reading, Writing, Identifying}
+use Rattle.device_spec.proofs.Common.{sectors_of, is_drq, bytes_written, activity_written, word_written, byte_written}
+use Rattle.device_spec.proofs.Common.{disk_status_port, disk_control_port}
+use Rattle.device_spec.specs.Ata.Steps.{after_read as disk_after_read, after_write as disk_after_write}
+use Rattle.device_spec.specs.Ata.Steps.{after_reset as disk_after_reset, after_bad}
 use Rattle.board_devices.specs.Devices.{DevicesValue, HasDisk, sectors_fitted}
 use Rattle.board_devices.specs.Steps.{after_read, after_write, devices_accessed, fitted_accessed}
 
@@ -12,7 +17,8 @@ use Rattle.board_devices.specs.Steps.{after_read, after_write, devices_accessed,
 abbrev HasSectors : ℕ → Disk → Type 0
 HasSectors count disk = sectors_of disk.medium ≡ count
 
-either_has : (count : ℕ) (b : Bool) (x y : Disk) → HasSectors count x → HasSectors count y → HasSectors count (cond b x y)
+either_has : (count : ℕ) (b : Bool) (x y : Disk) → HasSectors count x → HasSectors count y →
+    HasSectors count (cond b x y)
 either_has count true x y p q = p
 either_has count false x y p q = q
 
@@ -33,7 +39,8 @@ activity_written-has (Identifying next) word disk = refl
 word_written-has : (word : ℕ) (disk : Disk) → HasSectors (sectors_of disk.medium) (word_written word disk)
 unfolding word_written
 word_written-has word disk =
-    either_has (sectors_of disk.medium) (is_drq disk.drive) _ _ (activity_written-has disk.drive.activity word disk) refl
+    either_has (sectors_of disk.medium) (is_drq disk.drive) _ _
+    (activity_written-has disk.drive.activity word disk) refl
 
 byte_written-has : (port byte : ℕ) (disk : Disk) → HasSectors (sectors_of disk.medium) (byte_written port byte disk)
 byte_written-has port byte disk =
@@ -47,7 +54,8 @@ written_has port Two value disk = word_written-has (value % 65536) disk
 written_has port Four value disk =
     word_written-has (value / 65536) (word_written (value % 65536) disk) ∙ word_written-has (value % 65536) disk
 
-read_has : (port : ℕ) (width : Width) (disk : Disk) → HasSectors (sectors_of disk.medium) (disk_after_read port width disk)
+read_has : (port : ℕ) (width : Width) (disk : Disk) →
+    HasSectors (sectors_of disk.medium) (disk_after_read port width disk)
 read_has port One disk = either_has (sectors_of disk.medium) (eqb port disk_status_port) _ _ refl refl
 read_has port Two disk = refl
 read_has port Four disk = refl
@@ -87,10 +95,12 @@ write_fitted dev access devices = access_fitted (Some dev) (record access { writ
 
 -- ---- at power-on
 
-has_opened : (bytes : List ℕ) → IsDiskSize (length bytes) → 512 * (sectors_of (disk_with bytes []).medium) ≡ length bytes
+has_opened : (bytes : List ℕ) → IsDiskSize (length bytes) →
+    512 * (sectors_of (disk_with bytes []).medium) ≡ length bytes
 unfolding disk_with
 has_opened bytes is =
-    let count : sectors_of (disk_with bytes []).medium ≡ length bytes / 512 = length-replicate (length bytes / 512) false in
+    let count : sectors_of (disk_with bytes []).medium ≡ length bytes / 512 =
+    length-replicate (length bytes / 512) false in
     omega (arith, count, is.3)
 
 fitted_opened : (disk : Option (List ℕ)) → IsDisk disk →

@@ -1,6 +1,8 @@
 -- What a monitor asks of the devices, and what it writes to them.
 use Rattle.std.proofs.Common.{◌≡◌, ◌∙◌, ℕ, ◌==◌, Bool, false, Option, Some, None, refl, sym, ap, inl, inr, ◌↔◌, is_some}
-use Rattle.board_prelude.proofs.Common.{cases_Bool, true≢false, PortAccess, Dev, Spurious, cascade, Chip, interrupt, Pair, chip_answer, answer_at, answer_of, after_write as clock_after_write, who_answered}
+use Rattle.board_prelude.proofs.Common.{cases_Bool, true≢false, PortAccess, Dev, Spurious, cascade, Chip, interrupt}
+use Rattle.board_prelude.proofs.Common.{Pair, chip_answer, answer_at, answer_of, after_write as clock_after_write}
+use Rattle.board_prelude.proofs.Common.{who_answered}
 use Rattle.board_base.specs.declared.target.Dev.TheVariants.{Clock}
 use Rattle.board_devices.specs.Common.{DevicesValue, after_write, devices_accessed}
 
@@ -20,18 +22,23 @@ apart pair level = elim (cases_Bool (level == cascade)) [
   | inr other ↦ rw other refl
 ]
 
-spurious_at : (pair : Pair) (level : Option ℕ) → (is_some level ≡ false) ↔ (who_answered (answer_at pair level) ≡ Spurious 0)
+spurious_at : (pair : Pair) (level : Option ℕ) → (is_some level ≡ false)
+    ↔ (who_answered (answer_at pair level) ≡ Spurious 0)
 spurious_at pair None = (λ none. refl, λ answered. refl)
-spurious_at pair (Some level) =
-    (λ none. absurd (true≢false none), λ answered. absurd (true≢false (sym (ap is_master_spurious answered) ∙ apart pair level)))
+spurious_at pair (Some level) = (
+  λ none. absurd (true≢false none),
+  λ answered. absurd (true≢false (sym (ap is_master_spurious answered) ∙ apart pair level)),
+)
 
-pub spurious_is : (pair : Pair) → (is_some (interrupt pair.master) ≡ false) ↔ (who_answered (answer_of pair) ≡ Spurious 0)
+pub spurious_is : (pair : Pair) → (is_some (interrupt pair.master) ≡ false)
+    ↔ (who_answered (answer_of pair) ≡ Spurious 0)
 unfolding answer_of
 spurious_is pair = spurious_at pair (interrupt pair.master)
 
 -- ---- a write to the clock
 
 pub clock_written : (access : PortAccess) (devices : DevicesValue) →
-    after_write Clock access devices ≡ record devices { clock = clock_after_write devices.clock access.port access.value }
+    after_write Clock access devices
+    ≡ record devices { clock = clock_after_write devices.clock access.port access.value }
 unfolding after_write devices_accessed
 clock_written access devices = refl

@@ -1,6 +1,19 @@
 -- Many pulses of the timer leave the pair as two sets of levels do.
-use Rattle.std.proofs.Common.{◌≡◌, ℕ, zero, suc, ◌+◌, ◌/◌, ◌%◌, ◌<◌, ◌==◌, nat_lt, ◌&&◌, ◌||◌, not, Bool, true, false, cond, List, [], ◌∷◌, Option, Some, None, is_some, take, drop, inl, inr, refl, ap, sym, subst, ◌∙◌, arith, lit<, slice_set}
-use Rattle.board_prelude.proofs.Common.{cases_Bool, or_parts, true≢false, nat_tests, Levels, has, levels_where, no_levels, with_level, levels_of_byte, Chip, interrupt, latches_after, chip_after_inputs, acknowledged, chip_after_write, chip_after_read, Pair, settled, master_inputs, pair_at_reset, levels_at_power_on, pair_after_lines, pair_after_write, pair_after_read, pair_acknowledged, pair_acknowledged_at, pair_after_acknowledge, is_slave_port, is_odd_port, PitState, out_of, pulses, rises, PortAccess, Dev, Pic0, Pic1, Event, Port, Ack, Pulses, Reply, Entry, Setup, is_hard_reset, device_reached, timer_of, routes_of, levels_with, levels_of, elcr_of, elcr-same, timer-pulsed, triggers-pulsed, levels-pulsed, pair_pulsed, pair_accessed, pair_after, pair_reset_or_after, pair_stepped, pair_of, pair_has_seen, levels_where-same, has-levels_where, same-levels, inputs-again, settled-asks, settled-quiet, latched, pair-pulsed}
+use Rattle.std.proofs.Common.{◌≡◌, ℕ, zero, suc, ◌+◌, ◌/◌, ◌%◌, ◌<◌, ◌==◌, nat_lt, ◌&&◌, ◌||◌, not, Bool, true, false}
+use Rattle.std.proofs.Common.{cond, List, [], ◌∷◌, Option, Some, None, is_some, take, drop, inl, inr, refl, ap, sym}
+use Rattle.std.proofs.Common.{subst, ◌∙◌, arith, lit<, slice_set}
+use Rattle.board_prelude.proofs.Common.{cases_Bool, or_parts, true≢false, nat_tests, Levels, has, levels_where}
+use Rattle.board_prelude.proofs.Common.{no_levels, with_level, levels_of_byte, Chip, interrupt, latches_after}
+use Rattle.board_prelude.proofs.Common.{chip_after_inputs, acknowledged, chip_after_write, chip_after_read, Pair}
+use Rattle.board_prelude.proofs.Common.{settled, master_inputs, pair_at_reset, levels_at_power_on, pair_after_lines}
+use Rattle.board_prelude.proofs.Common.{pair_after_write, pair_after_read, pair_acknowledged, pair_acknowledged_at}
+use Rattle.board_prelude.proofs.Common.{pair_after_acknowledge, is_slave_port, is_odd_port, PitState, out_of, pulses}
+use Rattle.board_prelude.proofs.Common.{rises, PortAccess, Dev, Pic0, Pic1, Event, Port, Ack, Pulses, Reply, Entry}
+use Rattle.board_prelude.proofs.Common.{Setup, is_hard_reset, device_reached, timer_of, routes_of, levels_with}
+use Rattle.board_prelude.proofs.Common.{levels_of, elcr_of, elcr-same, timer-pulsed, triggers-pulsed, levels-pulsed}
+use Rattle.board_prelude.proofs.Common.{pair_pulsed, pair_accessed, pair_after, pair_reset_or_after, pair_stepped}
+use Rattle.board_prelude.proofs.Common.{pair_of, pair_has_seen, levels_where-same, has-levels_where, same-levels}
+use Rattle.board_prelude.proofs.Common.{inputs-again, settled-asks, settled-quiet, latched, pair-pulsed}
 use Rattle.board_devices.specs.Common.{DevicesValue, AreAfter, AreDevicesOf, Asks, lines_at, pair_after_run}
 use Rattle.board_devices.proofs.ChipSteps.{Keeps, write_keeps, acknowledged_keeps, read_keeps}
 use Rattle.board_devices.proofs.DeviceLemmas.{with_pair, routes_stand, others_asked, levels_pulsed}
@@ -32,7 +45,8 @@ settled_fresh pair is = record { fresh = settled_stale pair ∙ is.fresh }
 
 -- ---- what an event leaves fresh
 
-edge_fresh : (latch before now : Bool) → (latch && not before) ≡ false → (((latch || (now && not before)) && not (before && not now)) && not now) ≡ false
+edge_fresh : (latch before now : Bool) → (latch && not before) ≡ false →
+    (((latch || (now && not before)) && not (before && not now)) && not now) ≡ false
 edge_fresh true true true h = refl
 edge_fresh true true false h = refl
 edge_fresh true false now h = absurd (true≢false h)
@@ -41,16 +55,21 @@ edge_fresh false true false h = refl
 edge_fresh false false true h = refl
 edge_fresh false false false h = refl
 
-inputs_fresh : (chip : Chip) (inputs triggers : Levels) → is_stale chip ≡ false → is_stale (chip_after_inputs chip inputs triggers) ≡ false
+inputs_fresh : (chip : Chip) (inputs triggers : Levels) → is_stale chip ≡ false →
+    is_stale (chip_after_inputs chip inputs triggers) ≡ false
 unfolding levels_where
 inputs_fresh chip inputs triggers h = edge_fresh (has chip.latches 0) (has chip.inputs 0) (has inputs 0) h
 
-pub lines_fresh : (pair : Pair) (levels : List Bool) (elcr : ℕ) → IsFresh pair → IsFresh (pair_after_lines pair levels elcr)
+pub lines_fresh : (pair : Pair) (levels : List Bool) (elcr : ℕ) → IsFresh pair →
+    IsFresh (pair_after_lines pair levels elcr)
 lines_fresh pair levels elcr is =
     let low = master_inputs (take 8 levels) in
     let triggers = master_inputs (levels_of_byte (elcr % 256)) in
     settled_fresh
-    (record { master = chip_after_inputs pair.master low triggers; slave = chip_after_inputs pair.slave (drop 8 levels) (levels_of_byte (elcr / 256)) })
+    (record {
+      master = chip_after_inputs pair.master low triggers;
+      slave = chip_after_inputs pair.slave (drop 8 levels) (levels_of_byte (elcr / 256));
+    })
     (record { fresh = inputs_fresh pair.master low triggers is.fresh })
 
 fewer_fresh : (kept latch before : Bool) → (latch && not before) ≡ false → ((kept && latch) && not before) ≡ false
@@ -70,17 +89,31 @@ pub pair_write_fresh : (pair : Pair) (port byte : ℕ) → IsFresh pair → IsFr
 pair_write_fresh pair port byte is =
     let slave = record pair { slave = chip_after_write pair.slave (is_odd_port port) byte } in
     let master = record pair { master = chip_after_write pair.master (is_odd_port port) byte } in
-    settled_fresh (cond (is_slave_port port) slave master) (by_pair (is_slave_port port) slave master (record { fresh = is.fresh }) (record { fresh = keeps_fresh pair.master (chip_after_write pair.master (is_odd_port port) byte) (write_keeps pair.master (is_odd_port port) byte) is.fresh }))
+    settled_fresh (cond (is_slave_port port) slave master)
+    (by_pair (is_slave_port port) slave master (record { fresh = is.fresh })
+    (record {
+      fresh = keeps_fresh pair.master (chip_after_write pair.master (is_odd_port port) byte)
+          (write_keeps pair.master (is_odd_port port) byte) is.fresh;
+    }))
 
 pub pair_read_fresh : (pair : Pair) (port : ℕ) → IsFresh pair → IsFresh (pair_after_read pair port)
 pair_read_fresh pair port is =
     let slave = record pair { slave = chip_after_read pair.slave } in
     let master = record pair { master = chip_after_read pair.master } in
-    settled_fresh (cond (is_slave_port port) slave master) (by_pair (is_slave_port port) slave master (record { fresh = is.fresh }) (record { fresh = keeps_fresh pair.master (chip_after_read pair.master) (read_keeps pair.master) is.fresh }))
+    settled_fresh (cond (is_slave_port port) slave master)
+    (by_pair (is_slave_port port) slave master (record { fresh = is.fresh })
+    (record {
+      fresh = keeps_fresh pair.master (chip_after_read pair.master)
+          (read_keeps pair.master) is.fresh;
+    }))
 
 at_fresh : (pair : Pair) (level : Option ℕ) → IsFresh pair → IsFresh (pair_acknowledged_at pair level)
 at_fresh pair None is = is
-at_fresh pair (Some level) is = settled_fresh (pair_acknowledged pair level) (record { fresh = keeps_fresh pair.master (acknowledged pair.master level) (acknowledged_keeps pair.master level) is.fresh })
+at_fresh pair (Some level) is = settled_fresh (pair_acknowledged pair level)
+    (record {
+      fresh = keeps_fresh pair.master (acknowledged pair.master level)
+          (acknowledged_keeps pair.master level) is.fresh;
+    })
 
 pub pair_acknowledge_fresh : (pair : Pair) → IsFresh pair → IsFresh (pair_after_acknowledge pair)
 unfolding pair_after_acknowledge
@@ -99,7 +132,8 @@ pair_reset_fresh levels = record { fresh = none_fresh _ }
 abbrev low_lines : List Bool → Bool → Levels
 low_lines levels level = master_inputs (take 8 (slice_set levels 0 level))
 
-same_above : (levels : List Bool) (l : ℕ) → suc l < 8 → has (low_lines levels true) (suc l) ≡ has (low_lines levels false) (suc l)
+same_above : (levels : List Bool) (l : ℕ) → suc l < 8 →
+    has (low_lines levels true) (suc l) ≡ has (low_lines levels false) (suc l)
 same_above [] l h = refl
 same_above (x ∷ rest) l h =
     has-levels_where (λ level. not (level == 2) && has (take 8 (true ∷ rest)) level) (suc l) h
@@ -115,7 +149,8 @@ stays_put true false = refl
 stays_put false true = refl
 stays_put false false = refl
 
-rises_and_falls : (latch input : Bool) → (latch && not input) ≡ false → after_at (after_at latch input true) true false ≡ after_at latch input false
+rises_and_falls : (latch input : Bool) → (latch && not input) ≡ false →
+    after_at (after_at latch input true) true false ≡ after_at latch input false
 rises_and_falls true true h = refl
 rises_and_falls true false h = absurd (true≢false h)
 rises_and_falls false true h = refl
@@ -137,20 +172,25 @@ module _ (rest : List Bool) (latches inputs : Levels) (fresh : (has latches 0 &&
   first_low = refl
 
   base : (l : ℕ) → l < 8 →
-      after_at (after_at (has latches l) (has inputs l) (has high_at l)) (has high_at l) (has low_at l) ≡ after_at (has latches l) (has inputs l) (has low_at l)
+      after_at (after_at (has latches l) (has inputs l) (has high_at l)) (has high_at l) (has low_at l)
+      ≡ after_at (has latches l) (has inputs l) (has low_at l)
   base zero h = rw (first_high, first_low) (rises_and_falls (has latches 0) (has inputs 0) fresh)
-  base (suc l) h = rw (same_above (true ∷ rest) l h) (stays_put (after_at (has latches (suc l)) (has inputs (suc l)) (has low_at (suc l))) (has low_at (suc l)))
+  base (suc l) h = rw (same_above (true ∷ rest) l h)
+      (stays_put (after_at (has latches (suc l)) (has inputs (suc l)) (has low_at (suc l))) (has low_at (suc l)))
 
   forgets : latches_after (latches_after latches inputs high_at) high_at low_at ≡ latches_after latches inputs low_at
-  forgets = levels_where-same _ _ (λ l h. rw (has-levels_where (λ k. after_at (has latches k) (has inputs k) (has high_at k)) l h) (base l h))
+  forgets = levels_where-same _ _
+      (λ l h. rw (has-levels_where (λ k. after_at (has latches k) (has inputs k) (has high_at k)) l h) (base l h))
 
-  forgets_latched : with_level (latches_after (with_level (latches_after latches inputs high_at) 2) high_at low_at) 2 ≡ with_level (latches_after latches inputs low_at) 2
+  forgets_latched : with_level (latches_after (with_level (latches_after latches inputs high_at) 2) high_at low_at) 2
+      ≡ with_level (latches_after latches inputs low_at) 2
   forgets_latched = levels_where-same _ _ (λ l h. elim (cases_Bool (l == 2)) [
     | inl two ↦ rw two refl
     | inr apart ↦
         rw (
           apart,
-          has-levels_where (λ k. after_at (has (with_level (latches_after latches inputs high_at) 2) k) (has high_at k) (has low_at k)) l h,
+          has-levels_where (λ k. after_at (has (with_level (latches_after latches inputs high_at) 2) k) (has high_at k)
+              (has low_at k)) l h,
           has-levels_where (λ k. (k == 2) || has (latches_after latches inputs high_at) k) l h,
           apart,
           has-levels_where (λ k. after_at (has latches k) (has inputs k) (has high_at k)) l h,
@@ -166,11 +206,13 @@ given pair low triggers high high_triggers = record {
   slave = chip_after_inputs pair.slave high high_triggers;
 }
 
-chips : (a b : Chip) (slave other : Chip) → a ≡ b → slave ≡ other → ◌≡◌ {A = Pair} (record { master = a; slave = slave }) (record { master = b; slave = other })
+chips : (a b : Chip) (slave other : Chip) → a ≡ b → slave ≡ other →
+    ◌≡◌ {A = Pair} (record { master = a; slave = slave }) (record { master = b; slave = other })
 chips a b slave other p q = rw (p, q) refl
 
 forget_given : (pair : Pair) (rest : List Bool) (triggers high high_triggers : Levels) → IsFresh pair →
-    settled (given (settled (given pair (master_inputs (take 8 (true ∷ rest))) triggers high high_triggers)) (master_inputs (take 8 (false ∷ rest))) triggers high high_triggers)
+    settled (given (settled (given pair (master_inputs (take 8 (true ∷ rest))) triggers high high_triggers))
+    (master_inputs (take 8 (false ∷ rest))) triggers high high_triggers)
     ≡ settled (given pair (master_inputs (take 8 (false ∷ rest))) triggers high high_triggers)
 forget_given pair rest triggers high high_triggers is =
     let up = given pair (master_inputs (take 8 (true ∷ rest))) triggers high high_triggers in
@@ -181,16 +223,19 @@ forget_given pair rest triggers high high_triggers is =
       | inr quiet ↦
           ap (λ (p : Pair). settled (given p low triggers high high_triggers)) (settled-quiet up quiet)
           ∙ ap settled (chips _ _ _ _
-          (ap (λ (l : Levels). record pair.master { latches = l; inputs = low; triggers = triggers }) (forgets rest pair.master.latches pair.master.inputs is.fresh))
+          (ap (λ (l : Levels). record pair.master { latches = l; inputs = low; triggers = triggers })
+          (forgets rest pair.master.latches pair.master.inputs is.fresh))
           same_slave)
       | inl asks ↦
           let again = given (latched up) low triggers high high_triggers in
           let slave_is : again.slave ≡ up.slave = same_slave in
-          let asks_again : is_some (interrupt again.slave) ≡ true = ap (λ (c : Chip). is_some (interrupt c)) slave_is ∙ asks in
+          let asks_again : is_some (interrupt again.slave) ≡ true = ap (λ (c : Chip). is_some (interrupt c)) slave_is
+          ∙ asks in
           ap (λ (p : Pair). settled (given p low triggers high high_triggers)) (settled-asks up asks)
           ∙ (settled-asks again asks_again
           ∙ (chips _ _ _ _
-          (ap (λ (l : Levels). record pair.master { latches = l; inputs = low; triggers = triggers }) (forgets_latched rest pair.master.latches pair.master.inputs is.fresh))
+          (ap (λ (l : Levels). record pair.master { latches = l; inputs = low; triggers = triggers })
+          (forgets_latched rest pair.master.latches pair.master.inputs is.fresh))
           same_slave
           ∙ sym (settled-asks down asks)))
     ]
@@ -202,12 +247,14 @@ forget (x ∷ rest) elcr pair is = forget_given pair rest _ _ _ is
 
 -- ---- a run of pulses
 
-low_again : (levels : List Bool) (elcr : ℕ) (level : Bool) (pair : Pair) → lines_at levels elcr level (lines_at levels elcr level pair) ≡ lines_at levels elcr level pair
+low_again : (levels : List Bool) (elcr : ℕ) (level : Bool) (pair : Pair) →
+    lines_at levels elcr level (lines_at levels elcr level pair) ≡ lines_at levels elcr level pair
 low_again levels elcr level pair = same-levels pair (slice_set levels 0 level) elcr
 
 next : (levels : List Bool) (elcr : ℕ) (pair : Pair) (rose was now : Bool) → IsFresh pair →
     (rose ≡ false → was ≡ true → lines_at levels elcr true pair ≡ pair) →
-    lines_at levels elcr now (pair_after_run levels elcr rose was pair) ≡ pair_after_run levels elcr (rose || (now && not was)) now pair
+    lines_at levels elcr now (pair_after_run levels elcr rose was pair) ≡ pair_after_run levels elcr
+    (rose || (now && not was)) now pair
 next levels elcr pair false false false is high = low_again levels elcr false pair
 next levels elcr pair false false true is high = refl
 next levels elcr pair false true false is high = ap (lines_at levels elcr false) (high refl refl)
@@ -215,7 +262,8 @@ next levels elcr pair false true true is high = low_again levels elcr true pair
 next levels elcr pair true false false is high = low_again levels elcr false pair
 next levels elcr pair true false true is high = refl
 next levels elcr pair true true false is high =
-    forget levels elcr (lines_at levels elcr false pair) (lines_fresh pair (slice_set levels 0 false) elcr is) ∙ low_again levels elcr false pair
+    forget levels elcr (lines_at levels elcr false pair) (lines_fresh pair (slice_set levels 0 false) elcr is)
+    ∙ low_again levels elcr false pair
 next levels elcr pair true true true is high = low_again levels elcr true (lines_at levels elcr false pair)
 
 more_rises : (n : ℕ) (b : Bool) → nat_lt 0 (n + cond b 1 0) ≡ (nat_lt 0 n || b)
@@ -223,7 +271,8 @@ more_rises n true = grind (arith, nat_tests)
 more_rises n false = grind (arith, nat_tests)
 
 -- where OUT 0 did not rise and is 1, it was 1 from the start
-was_high : (timer : PitState) (n : ℕ) → nat_lt 0 (rises n timer) ≡ false → out_of 0 (pulses n timer) ≡ true → out_of 0 timer ≡ true
+was_high : (timer : PitState) (n : ℕ) → nat_lt 0 (rises n timer) ≡ false → out_of 0 (pulses n timer) ≡ true →
+    out_of 0 timer ≡ true
 unfolding rises pulses out_of
 was_high timer zero none high = high
 was_high timer (suc k) none high =
@@ -240,31 +289,42 @@ module _ (setup : Setup) (history : List Entry) where
   abbrev lines : List Bool
   lines = levels_with setup history timer
 
-  pub pulsed : (n : ℕ) → IsFresh (pair_of setup history) → lines_at lines (elcr_of history) (out_of 0 timer) (pair_of setup history) ≡ pair_of setup history →
+  pub pulsed : (n : ℕ) → IsFresh (pair_of setup history) →
+      lines_at lines (elcr_of history) (out_of 0 timer) (pair_of setup history) ≡ pair_of setup history →
       pair_pulsed setup history n (pair_of setup history)
-      ≡ pair_after_run lines (elcr_of history) (nat_lt 0 (rises n timer)) (out_of 0 (pulses n timer)) (pair_of setup history)
+      ≡ pair_after_run lines (elcr_of history) (nat_lt 0 (rises n timer)) (out_of 0 (pulses n timer))
+      (pair_of setup history)
   unfolding pair_pulsed rises pulses out_of
   pulsed zero is seen = sym seen
   pulsed (suc k) is seen =
       let p = pair_of setup history in
-      ap (λ (l : List Bool). pair_after_lines (pair_pulsed setup history k p) l (elcr_of history)) (levels_pulsed setup history timer (pulses (suc k) timer))
+      ap (λ (l : List Bool). pair_after_lines (pair_pulsed setup history k p) l (elcr_of history))
+      (levels_pulsed setup history timer (pulses (suc k) timer))
       ∙ (ap (lines_at lines (elcr_of history) (out_of 0 (pulses (suc k) timer))) (pulsed k is seen)
-      ∙ (next lines (elcr_of history) p (nat_lt 0 (rises k timer)) (out_of 0 (pulses k timer)) (out_of 0 (pulses (suc k) timer)) is
-      (λ none high. subst (λ (level : Bool). lines_at lines (elcr_of history) level p ≡ p) (was_high timer k none high) seen)
-      ∙ ap (λ (rose : Bool). pair_after_run lines (elcr_of history) rose (out_of 0 (pulses (suc k) timer)) p) (sym (more_rises (rises k timer) _))))
+      ∙ (next lines (elcr_of history) p (nat_lt 0 (rises k timer)) (out_of 0 (pulses k timer))
+      (out_of 0 (pulses (suc k) timer)) is
+      (λ none high. subst (λ (level : Bool). lines_at lines (elcr_of history) level p ≡ p)
+      (was_high timer k none high) seen)
+      ∙ ap (λ (rose : Bool). pair_after_run lines (elcr_of history) rose (out_of 0 (pulses (suc k) timer)) p)
+      (sym (more_rises (rises k timer) _))))
 
 -- ---- no stale latch, ever
 
-pulsed_fresh : (setup : Setup) (history : List Entry) (n : ℕ) (pair : Pair) → IsFresh pair → IsFresh (pair_pulsed setup history n pair)
+pulsed_fresh : (setup : Setup) (history : List Entry) (n : ℕ) (pair : Pair) → IsFresh pair →
+    IsFresh (pair_pulsed setup history n pair)
 unfolding pair_pulsed
 pulsed_fresh setup history zero pair is = is
 pulsed_fresh setup history (suc k) pair is =
-    lines_fresh (pair_pulsed setup history k pair) (levels_with setup history (pulses (suc k) (timer_of history))) (elcr_of history) (pulsed_fresh setup history k pair is)
+    lines_fresh (pair_pulsed setup history k pair) (levels_with setup history (pulses (suc k) (timer_of history)))
+    (elcr_of history) (pulsed_fresh setup history k pair is)
 
-accessed_fresh : (access : PortAccess) (pair : Pair) → IsFresh pair → IsFresh (cond access.write (pair_after_write pair access.port access.value) (pair_after_read pair access.port))
-accessed_fresh access pair is = by_pair access.write _ _ (pair_write_fresh pair access.port access.value is) (pair_read_fresh pair access.port is)
+accessed_fresh : (access : PortAccess) (pair : Pair) → IsFresh pair →
+    IsFresh (cond access.write (pair_after_write pair access.port access.value) (pair_after_read pair access.port))
+accessed_fresh access pair is = by_pair access.write _ _ (pair_write_fresh pair access.port access.value is)
+    (pair_read_fresh pair access.port is)
 
-device_fresh : (device : Option Dev) (access : PortAccess) (pair : Pair) → IsFresh pair → IsFresh (pair_accessed device access pair)
+device_fresh : (device : Option Dev) (access : PortAccess) (pair : Pair) → IsFresh pair →
+    IsFresh (pair_accessed device access pair)
 device_fresh (Some Pic0) access pair is = accessed_fresh access pair is
 device_fresh (Some Pic1) access pair is = accessed_fresh access pair is
 device_fresh _ access pair is = is
@@ -275,38 +335,48 @@ after_fresh Ack reply pair is = pair_acknowledge_fresh pair is
 after_fresh _ reply pair is = is
 
 other_fresh : (setup : Setup) (entry : Entry) (before : List Entry) (pair : Pair) → IsFresh pair →
-    IsFresh (pair_after_lines (pair_reset_or_after setup entry before pair) (levels_of setup (entry ∷ before)) (elcr_of (entry ∷ before)))
+    IsFresh (pair_after_lines (pair_reset_or_after setup entry before pair) (levels_of setup (entry ∷ before))
+    (elcr_of (entry ∷ before)))
 other_fresh setup entry before pair is =
-    lines_fresh (pair_reset_or_after setup entry before pair) (levels_of setup (entry ∷ before)) (elcr_of (entry ∷ before))
-    (by_pair (is_hard_reset before entry.event) _ _ (pair_reset_fresh (levels_of setup (entry ∷ before))) (after_fresh entry.event entry.reply pair is))
+    lines_fresh (pair_reset_or_after setup entry before pair) (levels_of setup (entry ∷ before))
+    (elcr_of (entry ∷ before))
+    (by_pair (is_hard_reset before entry.event) _ _ (pair_reset_fresh (levels_of setup (entry ∷ before)))
+    (after_fresh entry.event entry.reply pair is))
 
-stepped_fresh : (setup : Setup) (entry : Entry) (before : List Entry) (event : Event) (pair : Pair) → IsFresh pair → IsFresh (pair_stepped setup entry before event pair)
+stepped_fresh : (setup : Setup) (entry : Entry) (before : List Entry) (event : Event) (pair : Pair) → IsFresh pair →
+    IsFresh (pair_stepped setup entry before event pair)
 stepped_fresh setup entry before (Pulses count) pair is = pulsed_fresh setup before count pair is
 stepped_fresh setup entry before _ pair is = other_fresh setup entry before pair is
 
 pub always_fresh : (setup : Setup) (history : List Entry) → IsFresh (pair_of setup history)
 unfolding pair_of
 always_fresh setup [] = pair_reset_fresh levels_at_power_on
-always_fresh setup (entry ∷ before) = stepped_fresh setup entry before entry.event (pair_of setup before) (always_fresh setup before)
+always_fresh setup (entry ∷ before) = stepped_fresh setup entry before entry.event (pair_of setup before)
+    (always_fresh setup before)
 
 -- ---- the devices
 
 -- line 0 is given at a level of its own, whatever the lines have there
-run_again : (levels : List Bool) (elcr : ℕ) (x rose out : Bool) (pair : Pair) → pair_after_run (slice_set levels 0 x) elcr rose out pair ≡ pair_after_run levels elcr rose out pair
+run_again : (levels : List Bool) (elcr : ℕ) (x rose out : Bool) (pair : Pair) →
+    pair_after_run (slice_set levels 0 x) elcr rose out pair ≡ pair_after_run levels elcr rose out pair
 run_again [] elcr x rose out pair = refl
 run_again (y ∷ rest) elcr x rose out pair = refl
 
-same_run : (levels lines : List Bool) (elcr bits n m : ℕ) (out level : Bool) (pair same : Pair) → levels ≡ lines → elcr ≡ bits → n ≡ m → out ≡ level → pair ≡ same →
+same_run : (levels lines : List Bool) (elcr bits n m : ℕ) (out level : Bool) (pair same : Pair) → levels ≡ lines →
+    elcr ≡ bits → n ≡ m → out ≡ level → pair ≡ same →
     pair_after_run levels elcr (nat_lt 0 n) out pair ≡ pair_after_run lines bits (nat_lt 0 m) level same
 same_run levels lines elcr bits n m out level pair same a b c d e = rw (a, b, c, d, e) refl
 
 -- no route moves
-pub routes_pulsed : (setup : Setup) (history : List Entry) (entry : Entry) (count : ℕ) → Asks history entry (Pulses count) →
+pub routes_pulsed : (setup : Setup) (history : List Entry) (entry : Entry) (count : ℕ) →
+    Asks history entry (Pulses count) →
     routes_of setup (entry ∷ history) ≡ routes_of setup history
 routes_pulsed setup history entry count asks = routes_stand setup history entry asks.soft (rw asks.event_is refl)
 
 -- `run` are the devices whose timer alone ran
-module _ (setup : Setup) (history : List Entry) (entry : Entry) (old run : DevicesValue) (count : ℕ) (are : AreDevicesOf setup history old) (asks : Asks history entry (Pulses count)) (is : run ≡ record old { timer = pulses count old.timer }) where
+module _ (setup : Setup) (history : List Entry) (entry : Entry) (old run : DevicesValue) (count : ℕ)
+    (are : AreDevicesOf setup history old) (asks : Asks history entry (Pulses count))
+    (is : run ≡ record old { timer = pulses count old.timer }) where
   abbrev stood : List Bool
   stood = levels_of setup history
 
@@ -331,7 +401,8 @@ module _ (setup : Setup) (history : List Entry) (entry : Entry) (old run : Devic
       ap (λ (l : List Bool). pair_after_lines saw l (elcr_of history)) (sym (levels_pulsed setup history before before))
       ∙ pair_has_seen same-levels setup history
 
-  ran : pair_pulsed setup history count saw ≡ pair_after_run stood (elcr_of history) (nat_lt 0 (rises count before)) (out_of 0 after) saw
+  ran : pair_pulsed setup history count saw ≡ pair_after_run stood (elcr_of history) (nat_lt 0 (rises count before))
+      (out_of 0 after) saw
   ran = pulsed setup history count (always_fresh setup history) seen
 
   -- all but the pair
@@ -340,7 +411,8 @@ module _ (setup : Setup) (history : List Entry) (entry : Entry) (old run : Devic
       subst (λ (d : DevicesValue). AreAfter setup (entry ∷ history) d) (sym is)
       (others_asked setup history entry (Pulses count) asks old tt are.others)
 
-  whole : (devices : DevicesValue) → devices ≡ record run { pair = devices.pair } → devices.pair ≡ pair_pulsed setup history count saw →
+  whole : (devices : DevicesValue) → devices ≡ record run { pair = devices.pair } →
+      devices.pair ≡ pair_pulsed setup history count saw →
       AreDevicesOf setup (entry ∷ history) devices
   whole devices others pair = record {
     others =
@@ -350,16 +422,19 @@ module _ (setup : Setup) (history : List Entry) (entry : Entry) (old run : Devic
   }
 
   -- the lines then reach the pair
-  pub gave : (devices : DevicesValue) (rose : ℕ) (out : Bool) → rose ≡ rises count old.timer → out ≡ out_of 0 (pulses count old.timer) →
+  pub gave : (devices : DevicesValue) (rose : ℕ) (out : Bool) → rose ≡ rises count old.timer →
+      out ≡ out_of 0 (pulses count old.timer) →
       devices ≡ record run { pair = devices.pair } →
-      devices.pair ≡ pair_after_run (levels_of setup (entry ∷ history)) (elcr_of (entry ∷ history)) (nat_lt 0 rose) out run.pair →
+      devices.pair ≡ pair_after_run (levels_of setup (entry ∷ history)) (elcr_of (entry ∷ history))
+      (nat_lt 0 rose) out run.pair →
       AreDevicesOf setup (entry ∷ history) devices
   gave devices rose out rose_is out_is others lined =
       let lines : levels_of setup (entry ∷ history) ≡ slice_set stood 0 (out_of 0 after) =
       ap (λ (t : PitState). levels_with setup (entry ∷ history) t) (timer-pulsed history entry count asks.event_is)
       ∙ (levels-pulsed setup history entry count after asks.event_is
       ∙ levels_pulsed setup history before after) in
-      let bits : elcr_of (entry ∷ history) ≡ elcr_of history = elcr-same (entry ∷ history) history (triggers-pulsed history entry count asks.event_is) in
+      let bits : elcr_of (entry ∷ history) ≡ elcr_of history =
+      elcr-same (entry ∷ history) history (triggers-pulsed history entry count asks.event_is) in
       whole devices others
       (lined
       ∙ (same_run _ _ _ _ rose (rises count before) out (out_of 0 after) run.pair saw lines bits
@@ -370,12 +445,14 @@ module _ (setup : Setup) (history : List Entry) (entry : Entry) (old run : Devic
       ∙ sym ran)))
 
   -- and where line 0 did not move they need not
-  pub rested : rises count old.timer ≡ 0 → out_of 0 (pulses count old.timer) ≡ out_of 0 old.timer → AreDevicesOf setup (entry ∷ history) run
+  pub rested : rises count old.timer ≡ 0 → out_of 0 (pulses count old.timer) ≡ out_of 0 old.timer →
+      AreDevicesOf setup (entry ∷ history) run
   rested none same =
       whole run refl
       (pair_is
       ∙ sym (ran
-      ∙ (same_run stood stood (elcr_of history) (elcr_of history) (rises count before) 0 (out_of 0 after) (out_of 0 before) saw saw refl refl
+      ∙ (same_run stood stood (elcr_of history) (elcr_of history) (rises count before) 0 (out_of 0 after)
+      (out_of 0 before) saw saw refl refl
       (sym (ap (λ (t : PitState). rises count t) are.others.timer) ∙ none)
       (sym (ap (λ (t : PitState). out_of 0 t) timer_is) ∙ (same ∙ ap (λ (t : PitState). out_of 0 t) are.others.timer))
       refl

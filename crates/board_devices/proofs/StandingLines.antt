@@ -1,14 +1,30 @@
 -- Events that move no line: the lines reach the pair as it saw them, and leave it.
-use Rattle.std.proofs.Common.{◌≡◌, ℕ, ◌/◌, ◌%◌, ◌==◌, ◌&&◌, ◌||◌, not, Bool, true, false, cond, List, [], ◌∷◌, Option, Some, None, length, take, drop, refl, sym, ap, subst, ◌∙◌, inl, inr, is_some, arith}
-use Rattle.board_prelude.proofs.Common.{cases_Bool, and-true, and-false, nat_tests, true≢false, is_bit, Levels, has, levels_of_byte, levels_where-same, Chip, interrupt, latches_after, chip_after_inputs, acknowledged, acknowledged_if, chip_after_write, chip_after_read, Pair, settled, master_inputs, pair_after_lines, pair_written, pair_read, pair_after_write, pair_after_read, pair_acknowledged, pair_acknowledged_at, pair_after_acknowledge, is_slave_port, is_odd_port, same-levels, settled-asks, settled-quiet, latched, PortAccess, Dev, Pic0, Pic1, Pit, System, Elcr, Ata, bytes_of, PitState, out_of, set_gate2, port_read, Event, Port, Ack, Reply, Entry, Setup, is_hard_reset, is_config_port, device_reached, timer_accessed, triggers_of, config_store, levels_of, elcr_of, pair_accessed, pair_after, pair_of, pair_has_seen, Triggers, triggers_accessed}
+use Rattle.std.proofs.Common.{◌≡◌, ℕ, ◌/◌, ◌%◌, ◌==◌, ◌&&◌, ◌||◌, not, Bool, true, false, cond, List, [], ◌∷◌, Option}
+use Rattle.std.proofs.Common.{Some, None, length, take, drop, refl, sym, ap, subst, ◌∙◌, inl, inr, is_some, arith}
+use Rattle.board_prelude.proofs.Common.{cases_Bool, and-true, and-false, nat_tests, true≢false, is_bit, Levels, has}
+use Rattle.board_prelude.proofs.Common.{levels_of_byte, levels_where-same, Chip, interrupt, latches_after}
+use Rattle.board_prelude.proofs.Common.{chip_after_inputs, acknowledged, acknowledged_if, chip_after_write}
+use Rattle.board_prelude.proofs.Common.{chip_after_read, Pair, settled, master_inputs, pair_after_lines, pair_written}
+use Rattle.board_prelude.proofs.Common.{pair_read, pair_after_write, pair_after_read, pair_acknowledged}
+use Rattle.board_prelude.proofs.Common.{pair_acknowledged_at, pair_after_acknowledge, is_slave_port, is_odd_port}
+use Rattle.board_prelude.proofs.Common.{same-levels, settled-asks, settled-quiet, latched, PortAccess, Dev, Pic0, Pic1}
+use Rattle.board_prelude.proofs.Common.{Pit, System, Elcr, Ata, bytes_of, PitState, out_of, set_gate2, port_read, Event}
+use Rattle.board_prelude.proofs.Common.{Port, Ack, Reply, Entry, Setup, is_hard_reset, is_config_port, device_reached}
+use Rattle.board_prelude.proofs.Common.{timer_accessed, triggers_of, config_store, levels_of, elcr_of, pair_accessed}
+use Rattle.board_prelude.proofs.Common.{pair_after, pair_of, pair_has_seen, Triggers, triggers_accessed}
 use Rattle.device_spec.specs.Pit.{Access, LowByte, HighByte, LowThenHigh, CounterState, read, read_live}
 use Rattle.device_spec.specs.PortNames.{counter0_port, counter1_port, counter2_port}
 use Rattle.device_spec.proofs.Common.{levels_where-has}
 use Rattle.board_spec.specs.Registers.{config_address}
 use Rattle.board_base.specs.declared.target.Dev.TheVariants.{Clock}
-use Rattle.board_devices.specs.Common.{DevicesValue, AreAfter, AreDevicesOf, driven, level_driven, sets_triggers, AccessLeavesLines, StillLeavesLines, AcknowledgeLeavesLines, is_chip_port, moves_lines, ReachesDevice, devices_accessed}
-use Rattle.board_devices.proofs.ChipSteps.{Keeps, eight, unmoved, write_keeps, read_keeps, acknowledged_keeps, acknowledged_if_keeps}
-use Rattle.board_devices.proofs.DeviceLemmas.{stood_as, pair_soft, with_pair, SetsNoLevel, Stays, stays_as, passing, lines_stand, routes_stand, others_asked, port_asked, reached_as, devices_after, devices_of, they_are, driven_is}
+use Rattle.board_devices.specs.Common.{DevicesValue, AreAfter, AreDevicesOf, driven, level_driven, sets_triggers}
+use Rattle.board_devices.specs.Common.{AccessLeavesLines, StillLeavesLines, AcknowledgeLeavesLines, is_chip_port}
+use Rattle.board_devices.specs.Common.{moves_lines, ReachesDevice, devices_accessed}
+use Rattle.board_devices.proofs.ChipSteps.{Keeps, eight, unmoved, write_keeps, read_keeps, acknowledged_keeps}
+use Rattle.board_devices.proofs.ChipSteps.{acknowledged_if_keeps}
+use Rattle.board_devices.proofs.DeviceLemmas.{stood_as, pair_soft, with_pair, SetsNoLevel, Stays, stays_as, passing}
+use Rattle.board_devices.proofs.DeviceLemmas.{lines_stand, routes_stand, others_asked, port_asked, reached_as}
+use Rattle.board_devices.proofs.DeviceLemmas.{devices_after, devices_of, they_are, driven_is}
 
 -- ---- a chip whose inputs stand
 
@@ -26,17 +42,21 @@ no_edge false false = refl
 
 latches_stay : (latches inputs : Levels) → length latches ≡ 8 → latches_after latches inputs inputs ≡ latches
 latches_stay latches inputs whole =
-    levels_where-same _ (λ l. has latches l) (λ l small. no_edge (has latches l) (has inputs l)) ∙ levels_where-has latches whole
+    levels_where-same _ (λ l. has latches l) (λ l small. no_edge (has latches l) (has inputs l))
+    ∙ levels_where-has latches whole
 
 -- given once more they change nothing
-given_again : (chip : Chip) (inputs triggers : Levels) → Holds inputs triggers chip → chip_after_inputs chip inputs triggers ≡ chip
+given_again : (chip : Chip) (inputs triggers : Levels) → Holds inputs triggers chip →
+    chip_after_inputs chip inputs triggers ≡ chip
 given_again chip inputs triggers holds =
-    rw (← holds.inputs_are, ← holds.triggers_are) (ap (λ (latches : Levels). record chip { latches = latches }) (latches_stay chip.latches chip.inputs holds.whole))
+    rw (← holds.inputs_are, ← holds.triggers_are) (ap (λ (latches : Levels). record chip { latches = latches })
+    (latches_stay chip.latches chip.inputs holds.whole))
 
 given_holds : (chip : Chip) (inputs triggers : Levels) → Holds inputs triggers (chip_after_inputs chip inputs triggers)
 given_holds chip inputs triggers = record { inputs_are = refl; triggers_are = refl; whole = eight _ }
 
-keeps_holds : (inputs triggers : Levels) (old new : Chip) → Keeps old new → Holds inputs triggers old → Holds inputs triggers new
+keeps_holds : (inputs triggers : Levels) (old new : Chip) → Keeps old new → Holds inputs triggers old →
+    Holds inputs triggers new
 keeps_holds inputs triggers old new keeps holds = record {
   inputs_are = keeps.inputs ∙ holds.inputs_are;
   triggers_are = keeps.triggers ∙ holds.triggers_are;
@@ -64,38 +84,51 @@ module _ (levels : List Bool) (elcr : ℕ) where
 
   lines_seen : (pair : Pair) → Sees levels elcr (pair_after_lines pair levels elcr)
   lines_seen pair = settled_sees (record {
-    master = chip_after_inputs pair.master (master_inputs (take 8 levels)) (master_inputs (levels_of_byte (elcr % 256)));
+    master = chip_after_inputs pair.master (master_inputs (take 8 levels))
+        (master_inputs (levels_of_byte (elcr % 256)));
     slave = chip_after_inputs pair.slave (drop 8 levels) (levels_of_byte (elcr / 256));
   }) (record {
     master = given_holds pair.master (master_inputs (take 8 levels)) (master_inputs (levels_of_byte (elcr % 256)));
     slave = given_holds pair.slave (drop 8 levels) (levels_of_byte (elcr / 256));
   })
 
-  pairs : (a b c d : Chip) → a ≡ c → b ≡ d → ◌≡◌ {A = Pair} (record { master = a; slave = b }) (record { master = c; slave = d })
+  pairs : (a b c d : Chip) → a ≡ c → b ≡ d → ◌≡◌ {A = Pair} (record { master = a; slave = b })
+      (record { master = c; slave = d })
   pairs a b c d p q = rw (p, q) refl
 
   -- the lines change nothing of a pair that sees them so, once its slave is heard
   stands : (pair : Pair) → Sees levels elcr pair → pair_after_lines (settled pair) levels elcr ≡ settled pair
   stands pair sees =
       let once : pair_after_lines pair levels elcr ≡ settled pair =
-      ap settled (pairs _ _ pair.master pair.slave (given_again pair.master _ _ sees.master) (given_again pair.slave _ _ sees.slave)) in
+      ap settled (pairs _ _ pair.master pair.slave (given_again pair.master _ _ sees.master)
+      (given_again pair.slave _ _ sees.slave)) in
       ap (λ (p : Pair). pair_after_lines p levels elcr) (sym once) ∙ (same-levels pair levels elcr ∙ once)
 
   by_side : (b : Bool) (x y : Pair) → Sees levels elcr x → Sees levels elcr y → Sees levels elcr (cond b x y)
   by_side true x y p q = p
   by_side false x y p q = q
 
-  master_sees : (pair : Pair) (chip : Chip) → Keeps pair.master chip → Sees levels elcr pair → Sees levels elcr (record pair { master = chip })
-  master_sees pair chip keeps sees = record { master = keeps_holds _ _ pair.master chip keeps sees.master; slave = sees.slave }
+  master_sees : (pair : Pair) (chip : Chip) → Keeps pair.master chip → Sees levels elcr pair →
+      Sees levels elcr (record pair { master = chip })
+  master_sees pair chip keeps sees = record {
+    master = keeps_holds _ _ pair.master chip keeps sees.master;
+    slave = sees.slave;
+  }
 
-  slave_sees : (pair : Pair) (chip : Chip) → Keeps pair.slave chip → Sees levels elcr pair → Sees levels elcr (record pair { slave = chip })
-  slave_sees pair chip keeps sees = record { master = sees.master; slave = keeps_holds _ _ pair.slave chip keeps sees.slave }
+  slave_sees : (pair : Pair) (chip : Chip) → Keeps pair.slave chip → Sees levels elcr pair →
+      Sees levels elcr (record pair { slave = chip })
+  slave_sees pair chip keeps sees = record {
+    master = sees.master;
+    slave = keeps_holds _ _ pair.slave chip keeps sees.slave;
+  }
 
   written_sees : (pair : Pair) (port byte : ℕ) → Sees levels elcr pair → Sees levels elcr (pair_written pair port byte)
   written_sees pair port byte sees =
       by_side (is_slave_port port) _ _
-      (slave_sees pair (chip_after_write pair.slave (is_odd_port port) byte) (write_keeps pair.slave (is_odd_port port) byte) sees)
-      (master_sees pair (chip_after_write pair.master (is_odd_port port) byte) (write_keeps pair.master (is_odd_port port) byte) sees)
+      (slave_sees pair (chip_after_write pair.slave (is_odd_port port) byte)
+      (write_keeps pair.slave (is_odd_port port) byte) sees)
+      (master_sees pair (chip_after_write pair.master (is_odd_port port) byte)
+      (write_keeps pair.master (is_odd_port port) byte) sees)
 
   read_sees : (pair : Pair) (port : ℕ) → Sees levels elcr pair → Sees levels elcr (pair_read pair port)
   read_sees pair port sees =
@@ -107,12 +140,15 @@ module _ (levels : List Bool) (elcr : ℕ) where
   by_chip true old x y p q = p
   by_chip false old x y p q = q
 
-  acknowledged_sees : (pair : Pair) (level : ℕ) → Sees levels elcr pair → Sees levels elcr (pair_acknowledged pair level)
+  acknowledged_sees : (pair : Pair) (level : ℕ) → Sees levels elcr pair →
+      Sees levels elcr (pair_acknowledged pair level)
   acknowledged_sees pair level sees = record {
-    master = keeps_holds _ _ pair.master (acknowledged pair.master level) (acknowledged_keeps pair.master level) sees.master;
+    master = keeps_holds _ _ pair.master (acknowledged pair.master level)
+        (acknowledged_keeps pair.master level) sees.master;
     slave =
         keeps_holds _ _ pair.slave (pair_acknowledged pair level).slave
-        (by_chip (level == 2) pair.slave (acknowledged_if pair.slave (interrupt pair.slave)) pair.slave (acknowledged_if_keeps pair.slave (interrupt pair.slave)) (unmoved pair.slave))
+        (by_chip (level == 2) pair.slave (acknowledged_if pair.slave (interrupt pair.slave)) pair.slave
+        (acknowledged_if_keeps pair.slave (interrupt pair.slave)) (unmoved pair.slave))
         sees.slave;
   }
 
@@ -129,21 +165,24 @@ module _ (levels : List Bool) (elcr : ℕ) where
   by_again true x y p q = p
   by_again false x y p q = q
 
-  ported_again : (access : PortAccess) (pair : Pair) → Again pair → Again (cond access.write (pair_after_write pair access.port access.value) (pair_after_read pair access.port))
+  ported_again : (access : PortAccess) (pair : Pair) → Again pair →
+      Again (cond access.write (pair_after_write pair access.port access.value) (pair_after_read pair access.port))
   ported_again access pair seen =
       let sees = seen_sees pair seen in
       by_again access.write _ _
       (stands (pair_written pair access.port access.value) (written_sees pair access.port access.value sees))
       (stands (pair_read pair access.port) (read_sees pair access.port sees))
 
-  accessed_again : (reached : Option Dev) (access : PortAccess) (pair : Pair) → Again pair → Again (pair_accessed reached access pair)
+  accessed_again : (reached : Option Dev) (access : PortAccess) (pair : Pair) → Again pair →
+      Again (pair_accessed reached access pair)
   accessed_again (Some Pic0) access pair seen = ported_again access pair seen
   accessed_again (Some Pic1) access pair seen = ported_again access pair seen
   accessed_again _ access pair seen = seen
 
   acknowledged_at_again : (pair : Pair) (level : Option ℕ) → Again pair → Again (pair_acknowledged_at pair level)
   acknowledged_at_again pair None seen = seen
-  acknowledged_at_again pair (Some level) seen = stands (pair_acknowledged pair level) (acknowledged_sees pair level (seen_sees pair seen))
+  acknowledged_at_again pair (Some level) seen = stands (pair_acknowledged pair level)
+      (acknowledged_sees pair level (seen_sees pair seen))
 
   acknowledged_again : (pair : Pair) → Again pair → Again (pair_after_acknowledge pair)
   unfolding pair_after_acknowledge
@@ -168,10 +207,15 @@ read_out c None [] LowThenHigh is counts accesses = rw (is, counts, accesses) re
 port_read_out : (port : ℕ) (timer : PitState) → out_of 0 (port_read port timer).1 ≡ out_of 0 timer
 unfolding port_read out_of
 port_read_out port timer = elim (cases_Bool (port == counter0_port)) [
-  | inl first ↦ rw first (read_out timer.counter0 timer.counter0.status_latch timer.counter0.count_latch timer.counter0.access refl refl refl)
+  | inl first ↦
+      rw first (read_out timer.counter0 timer.counter0.status_latch timer.counter0.count_latch timer.counter0.access
+      refl refl refl)
   | inr later ↦ rw later (elim (cases_Bool (port == counter1_port)) [
     | inl second ↦ rw second refl
-    | inr last ↦ rw last (elim (cases_Bool (port == counter2_port)) [ inl third ↦ rw third refl | inr none ↦ rw none refl ])
+    | inr last ↦ rw last (elim (cases_Bool (port == counter2_port)) [
+      | inl third ↦ rw third refl
+      | inr none ↦ rw none refl
+    ])
   ])
 ]
 
@@ -197,7 +241,10 @@ pair_stands setup history entry soft sets none stays =
 
 system_out : (access : PortAccess) (t : PitState) → out_of 0 (timer_accessed (Some System) access t) ≡ out_of 0 t
 system_out access t =
-    elim (cases_Bool access.write) [ inl writes ↦ rw writes (gate_out (is_bit access.value 0) t) | inr reads ↦ rw reads refl ]
+    elim (cases_Bool access.write) [
+      | inl writes ↦ rw writes (gate_out (is_bit access.value 0) t)
+      | inr reads ↦ rw reads refl
+    ]
 
 -- an access leaves the level that every other device drives
 others_drive : (other dev : Dev) (access : PortAccess) (devices : DevicesValue) →

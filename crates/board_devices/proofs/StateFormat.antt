@@ -10,7 +10,9 @@ use Rattle.pirq_router.proofs.StateFormats.{triggers_format}
 use Rattle.ata_pio.specs.State.{IsDisk as IsDiskOver}
 use Rattle.ata_pio.proofs.StateFormats.{most_bytes, disk_format}
 use Rattle.board_devices.specs.Devices.{DevicesValue}
-use Rattle.board_devices.specs.State.{IsSystem, system_bytes, system_fields, AreMachines, machines_bytes, machines_fields, IsFittedDisk, fitted_bytes, fitted_fields, AreDevices, devices_bytes, devices_fields}
+use Rattle.board_devices.specs.State.{IsSystem, system_bytes, system_fields, AreMachines, machines_bytes}
+use Rattle.board_devices.specs.State.{machines_fields, IsFittedDisk, fitted_bytes, fitted_fields, AreDevices}
+use Rattle.board_devices.specs.State.{devices_bytes, devices_fields}
 use Rattle.board_devices.proofs.DeviceLemmas.{disk_length}
 
 -- ---- port 61h
@@ -135,7 +137,8 @@ fitted_format (Some bytes) is =
 abbrev pub most_of : Option (List ℕ) → ℕ
 most_of fitted = 263 + fitted_most fitted
 
-with_disk : (machines devices : DevicesValue) → machines.disk ≡ None → devices ≡ record machines { disk = devices.disk } →
+with_disk : (machines devices : DevicesValue) → machines.disk ≡ None →
+    devices ≡ record machines { disk = devices.disk } →
     record devices { disk = None } ≡ machines
 with_disk machines devices none is =
     ap (λ (d : DevicesValue). record d { disk = None }) is

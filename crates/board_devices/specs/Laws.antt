@@ -1,8 +1,10 @@
 -- What the laws of this crate say: they are proved on functions of `lines`.
 use Rattle.std.specs.Prelude.{◌≡◌, ◌&&◌, true, false, List, ◌∷◌, Some}
-use Rattle.board_prelude.specs.Common.{PortAccess, Dev, bytes_of, Ack, Entry, Setup, routes_of, pair_after_acknowledge, pair_accessed, pair_of}
+use Rattle.board_prelude.specs.Common.{PortAccess, Dev, bytes_of, Ack, Entry, Setup, routes_of, pair_after_acknowledge}
+use Rattle.board_prelude.specs.Common.{pair_accessed, pair_of}
 use Rattle.board_devices.specs.Devices.{DevicesValue, AreDevicesOf}
-use Rattle.board_devices.specs.Events.{Asks, Leaves, ReachesDevice, is_chip_port, moves_lines, sets_triggers, level_driven}
+use Rattle.board_devices.specs.Events.{Asks, Leaves, ReachesDevice, is_chip_port, moves_lines, sets_triggers}
+use Rattle.board_devices.specs.Events.{level_driven}
 
 -- an event that reaches no device and moves no route leaves every device, and the pair too, since the lines stand as
 -- it saw them

@@ -1,6 +1,7 @@
 -- What is asked of the devices between two events, and what is written to them from outside the bus.
 use Rattle.std.specs.Prelude.{ℕ, ◌≡◌, Bool, true, List, ◌∷◌, is_some}
-use Rattle.board_prelude.specs.Common.{PortAccess, One, interrupt, clock_index_port, clock_data_port, Entry, Setup, clock_of, pair_of}
+use Rattle.board_prelude.specs.Common.{PortAccess, One, interrupt, clock_index_port, clock_data_port, Entry, Setup}
+use Rattle.board_prelude.specs.Common.{clock_of, pair_of}
 use Rattle.board_base.specs.declared.target.Dev.TheVariants.{Clock as ClockChip}
 use Rattle.board_devices.specs.Devices.{AreRoutesOf}
 use Rattle.board_devices.specs.Events.{ReachesDevice}
@@ -14,13 +15,15 @@ abbrev pub byte_out : (port byte : ℕ) → PortAccess
 byte_out port byte = record { port = port; width = One; write = true; value = byte }
 
 -- An entry writes a byte to a port of the clock, and the routes are these after it.
-pub record WritesClock (setup : Setup) (routes : List ℕ) (history : List Entry) (entry : Entry) (port byte : ℕ) : Type 0 where
+pub record WritesClock (setup : Setup) (routes : List ℕ) (history : List Entry) (entry : Entry)
+    (port byte : ℕ) : Type 0 where
   pub reaches : ReachesDevice history entry ClockChip (byte_out port byte)
   pub routes_are : AreRoutesOf setup (entry ∷ history) routes
 
 -- Three entries write a byte of the clock: the address to port 70h, the byte to port 71h, and the index as it was
 -- before to port 70h. The history after them is `later`.
-pub record PutsClockByte (setup : Setup) (routes : List ℕ) (history : List Entry) (address byte : ℕ) (later : List Entry) : Type 0 where
+pub record PutsClockByte (setup : Setup) (routes : List ℕ) (history : List Entry) (address byte : ℕ)
+    (later : List Entry) : Type 0 where
   pub to_address : Entry
   pub to_byte : Entry
   pub back : Entry

@@ -24,8 +24,8 @@ system_fields = do
   flip ← flag_field
   gives (record { kept = kept; flip = flip })
 
--- ---- all but the disk: the pair, the timer, the clock, the edge and level control, port 61h, INTA# by device number, and
--- the levels that were set from outside, by line
+-- ---- all but the disk: the pair, the timer, the clock, the edge and level control, port 61h, INTA# by device number,
+-- and the levels that were set from outside, by line
 
 pub record AreMachines (devices : DevicesValue) : Type 0 where
   pub pair : IsPair devices.pair

@@ -1,6 +1,9 @@
 -- What an access at a port does to the devices, before the lines reach the pair.
 use Rattle.std.specs.Prelude.{ℕ, ◌==◌, Bool, true, false, Option, Some, option_map}
-use Rattle.board_prelude.specs.Common.{option_map_or, PortAccess, Dev, Pic0, Pic1, Pit, System, Elcr, Ata, Disk, largest_of, port_byte, port_read, read_value, trigger_byte, read_of, system_value, out_of, is_interrupt, pair_accessed, timer_accessed, clock_accessed, disk_accessed, triggers_accessed, system_accessed}
+use Rattle.board_prelude.specs.Common.{option_map_or, PortAccess, Dev, Pic0, Pic1, Pit, System, Elcr, Ata, Disk}
+use Rattle.board_prelude.specs.Common.{largest_of, port_byte, port_read, read_value, trigger_byte, read_of}
+use Rattle.board_prelude.specs.Common.{system_value, out_of, is_interrupt, pair_accessed, timer_accessed}
+use Rattle.board_prelude.specs.Common.{clock_accessed, disk_accessed, triggers_accessed, system_accessed}
 use Rattle.device_spec.specs.Clock.{interrupt_line}
 use Rattle.board_base.specs.declared.target.Dev.TheVariants.{Clock}
 use Rattle.device_spec.specs.PortNames.{elcr_ports}

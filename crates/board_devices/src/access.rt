@@ -1,7 +1,10 @@
 //! Accesses at the ports of the devices.
 
 ghost use Rattle.std.specs.Prelude.{◌≡◌, ◌∷◌, ◌≤◌, List, true, false, ◌%◌, ◌&&◌, option_map};
-ghost use Rattle.board_prelude.specs.Common.{bytes_of, largest_of, Entry, Setup, device_value, vector_of, acknowledged_by, Ack as AckEvent, option_map_or, answer_of, pair_after_acknowledge, set_gate2, is_ata_port, read_of, is_bit, who_answered};
+ghost use Rattle.board_prelude.specs.Common.{bytes_of, largest_of, Entry, Setup, device_value, vector_of};
+ghost use Rattle.board_prelude.specs.Common.{acknowledged_by, Ack as AckEvent, option_map_or, answer_of};
+ghost use Rattle.board_prelude.specs.Common.{pair_after_acknowledge, set_gate2, is_ata_port, read_of, is_bit};
+ghost use Rattle.board_prelude.specs.Common.{who_answered};
 ghost use Rattle.device_spec.specs.Ata.Steps.{after_read as disk_after_read, after_write as disk_after_write};
 ghost use Rattle.pic_pair.specs.View.{answer_shown};
 ghost use Rattle.board_devices.specs.Steps.{value_read, after_read, after_write, driven};
@@ -19,8 +22,8 @@ use pirq_router::Pirq;
 const GATE_2: u32 = 0;
 
 impl Devices {
-    /// Reads a port of a device, which may change its state, and then the lines reach the pair where one moved. Without a
-    /// disk its ports read all ones.
+    /// Reads a port of a device, which may change its state, and then the lines reach the pair where one moved. Without
+    /// a disk its ports read all ones.
     pub fn read(&mut self, routes: &Pirq, dev: Dev, access: &PortAccess) -> u32
         requires port { is_chip_port dev access.now.port (bytes_of access.now.width) ≡ true }
         ensures value { (setup : Setup) (history : List Entry) → AreDevicesOf setup history self.old

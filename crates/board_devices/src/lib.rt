@@ -1,6 +1,7 @@
 //! The devices of the board, joined by the interrupt lines: the 8259A pair, the 8254 with port 61h, the clock, the
 //! disk, and the edge and level control. After each event that can move one, the lines reach the pair as they then
-//! stand. The routes of the PCI interrupts are registers of the board's configuration space, so each call is given them.
+//! stand. The routes of the PCI interrupts are registers of the board's configuration space, so each call is given
+//! them.
 #![tactic(auto)]
 
 mod access;

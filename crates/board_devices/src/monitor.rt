@@ -2,7 +2,8 @@
 
 ghost use Rattle.std.specs.Prelude.{◌≡◌, ◌+◌, ◌*◌, ◌<◌, ◌≤◌, ◌↔◌, ◌∷◌, List, length, option_map, IfSome, true, false};
 ghost use Rattle.board_base.specs.declared.target.Dev.TheVariants.{Clock as ClockChip};
-ghost use Rattle.board_prelude.specs.Common.{Spurious, Entry, Setup, timer_of, clock_of, disk_of, acknowledged_by, after_write};
+ghost use Rattle.board_prelude.specs.Common.{Spurious, Entry, Setup, timer_of, clock_of, disk_of, acknowledged_by};
+ghost use Rattle.board_prelude.specs.Common.{after_write};
 ghost use Rattle.pit_8254.specs.Common.{most_count, IsNextRise};
 ghost use Rattle.cmos_clock.specs.Outside.{with_byte};
 ghost use Rattle.board_devices.specs.Devices.{AreDevicesOf, HasDisk, sectors_fitted, sectors_in, with_sectors};
@@ -60,8 +61,8 @@ impl Devices {
         }
     }
 
-    /// Replaces the bytes of all sectors by as many, where a disk is fitted. Which sectors are bad stays, and so does all
-    /// else.
+    /// Replaces the bytes of all sectors by as many, where a disk is fitted. Which sectors are bad stays, and so does
+    /// all else.
     pub fn set_sectors(&mut self, bytes: &[u8])
         requires whole { IfSome (sectors_fitted self.old.disk) (λ count. length bytes.now ≡ 512 * count) }
         ensures set { self.new ≡ with_sectors bytes.now self.old }

@@ -10,7 +10,9 @@ ghost use Rattle.cmos_clock.specs.State.{clock_fields};
 ghost use Rattle.pirq_router.specs.State.{triggers_fields};
 ghost use Rattle.ata_pio.specs.State.{IsDisk as IsDiskOver, disk_bytes, disk_fields};
 ghost use Rattle.board_devices.specs.Devices.{HasDisk};
-ghost use Rattle.board_devices.specs.State.{IsSystem, system_bytes, system_fields, AreMachines, machines_bytes, machines_fields, IsFittedDisk, fitted_bytes, fitted_fields, AreDevices, devices_bytes, devices_fields};
+ghost use Rattle.board_devices.specs.State.{IsSystem, system_bytes, system_fields, AreMachines, machines_bytes};
+ghost use Rattle.board_devices.specs.State.{machines_fields, IsFittedDisk, fitted_bytes, fitted_fields, AreDevices};
+ghost use Rattle.board_devices.specs.State.{devices_bytes, devices_fields};
 
 use crate::devices::Devices;
 use crate::system::{KEPT, SystemPort};
@@ -117,8 +119,8 @@ fn save_over(disk: &Ata, fitted: &[u8], into: &mut Vec<u8>) -> Result<(), NoMemo
 }
 
 impl Devices {
-    /// Adds the state. `fitted` are the bytes of the disk as it was fitted, where there is one: of its sectors those that
-    /// differ are in the state.
+    /// Adds the state. `fitted` are the bytes of the disk as it was fitted, where there is one: of its sectors those
+    /// that differ are in the state.
     pub fn save_state(&self, fitted: Option<&[u8]>, into: &mut Vec<u8>) -> Result<(), NoMemory>
         requires disk { HasDisk (option_map (λ bytes. bytes.now) fitted) self.now.disk }
         ensures saved { OnOk result (into.new.items

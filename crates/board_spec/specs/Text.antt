@@ -1,8 +1,13 @@
 -- Words of the texts: hexadecimal digits in upper case, areas, registers, targets and denials.
-use Rattle.std.specs.Prelude.{ℕ, zero, suc, ◌+◌, ◌/◌, ◌%◌, ◌++◌, List, [], ◌∷◌, nat_lt, if◌then◌else◌, Option, Some, None, codes, decimal}
-use Rattle.device_spec.specs.Common.{Reg, Dev, Reset, Pic0, Pic1, Pit, System, Keyboard, Elcr, Ata, Wires, Vector, Spurious, Area, Target, Dram, Shadow, Smram, Rom, Card, Device, Config, Abort, Denial, Register, Confadd, NoRegister}
+use Rattle.std.specs.Prelude.{ℕ, zero, suc, ◌+◌, ◌/◌, ◌%◌, ◌++◌, List, [], ◌∷◌, nat_lt, if◌then◌else◌, Option, Some}
+use Rattle.std.specs.Prelude.{None, codes, decimal}
+use Rattle.device_spec.specs.Common.{Reg, Dev, Reset, Pic0, Pic1, Pit, System, Keyboard, Elcr, Ata, Wires, Vector}
+use Rattle.device_spec.specs.Common.{Spurious, Area, Target, Dram, Shadow, Smram, Rom, Card, Device, Config, Abort}
+use Rattle.device_spec.specs.Common.{Denial, Register, Confadd, NoRegister}
 use Rattle.board_base.specs.declared.target.Dev.TheVariants.{Confadd as AddressPort, Clock}
-use Rattle.board_base.specs.declared.target.Area.TheVariants.{Dram as DramArea, Shadow as ShadowArea, Smram as SmramArea, Rom as RomArea, Card as CardArea, Abort as AbortArea}
+use Rattle.board_base.specs.declared.target.Area.TheVariants.{Dram as DramArea, Shadow as ShadowArea}
+use Rattle.board_base.specs.declared.target.Area.TheVariants.{Smram as SmramArea, Rom as RomArea, Card as CardArea}
+use Rattle.board_base.specs.declared.target.Area.TheVariants.{Abort as AbortArea}
 use Rattle.board_spec.specs.Bits.{byte}
 
 abbrev pub space : ℕ

@@ -1,7 +1,9 @@
 -- The pair: levels that are given again.
-use Rattle.std.proofs.Common.{◌≡◌, ℕ, Bool, true, false, not, cond, eqb, ◌||◌, ◌&&◌, refl, sym, ap, ◌∙◌, inl, inr, is_some}
+use Rattle.std.proofs.Common.{◌≡◌, ℕ, Bool, true, false, not, cond, eqb, ◌||◌, ◌&&◌, refl, sym, ap, ◌∙◌, inl, inr}
+use Rattle.std.proofs.Common.{is_some}
 use Rattle.std.proofs.lemmas.Bool.{cases_Bool}
-use Rattle.device_spec.specs.Common.{Levels, has, levels_where, with_level, Chip, interrupt, chip_after_inputs, latches_after, Pair, settled, SameLevelsAgain}
+use Rattle.device_spec.specs.Common.{Levels, has, levels_where, with_level, Chip, interrupt, chip_after_inputs}
+use Rattle.device_spec.specs.Common.{latches_after, Pair, settled, SameLevelsAgain}
 use Rattle.device_spec.proofs.Levels.{levels_where-same, has-levels_where}
 
 -- ---- the same levels again
@@ -14,26 +16,32 @@ no-edge false false = refl
 
 latches-stay : (test : ℕ → Bool) (inputs : Levels) → latches_after (levels_where test) inputs inputs ≡ levels_where test
 latches-stay test inputs =
-    levels_where-same _ test (λ level small. rw (has-levels_where test level small) (no-edge (test level) (has inputs level)))
+    levels_where-same _ test (λ level small. rw (has-levels_where test level small)
+    (no-edge (test level) (has inputs level)))
 
-set-already : (level two : ℕ) (latches : Levels) → (eqb level two || (eqb level two || has latches level)) ≡ (eqb level two || has latches level)
+set-already : (level two : ℕ) (latches : Levels) → (eqb level two || (eqb level two || has latches level))
+    ≡ (eqb level two || has latches level)
 set-already level two latches = elim (cases_Bool (eqb level two)) [ inl e ↦ rw e refl | inr e ↦ rw e refl ]
 
 set-again : (latches : Levels) (two : ℕ) → with_level (with_level latches two) two ≡ with_level latches two
 set-again latches two =
-    levels_where-same _ _ (λ level small. rw (has-levels_where (λ l. eqb l two || has latches l) level small) (set-already level two latches))
+    levels_where-same _ _ (λ level small. rw (has-levels_where (λ l. eqb l two || has latches l) level small)
+    (set-already level two latches))
 
-pub inputs-again : (chip : Chip) (inputs triggers : Levels) → chip_after_inputs (chip_after_inputs chip inputs triggers) inputs triggers ≡ chip_after_inputs chip inputs triggers
+pub inputs-again : (chip : Chip) (inputs triggers : Levels) →
+    chip_after_inputs (chip_after_inputs chip inputs triggers) inputs triggers ≡ chip_after_inputs chip inputs triggers
 inputs-again chip inputs triggers =
     ap (λ l. record chip { latches = l; inputs = inputs; triggers = triggers }) (latches-stay _ inputs)
 
 cascade-again : (chip : Chip) (inputs triggers : Levels) (two : ℕ) →
     let now = chip_after_inputs chip inputs triggers in
-    chip_after_inputs (record now { latches = with_level now.latches two }) inputs triggers ≡ record now { latches = with_level now.latches two }
+    chip_after_inputs (record now { latches = with_level now.latches two }) inputs triggers
+    ≡ record now { latches = with_level now.latches two }
 cascade-again chip inputs triggers two =
     ap (λ l. record chip { latches = l; inputs = inputs; triggers = triggers }) (latches-stay _ inputs)
 
-pair-equal : {a b c d : Chip} → a ≡ c → b ≡ d → ◌≡◌ {A = Pair} (record { master = a; slave = b }) (record { master = c; slave = d })
+pair-equal : {a b c d : Chip} → a ≡ c → b ≡ d → ◌≡◌ {A = Pair} (record { master = a; slave = b })
+    (record { master = c; slave = d })
 pair-equal p q = rw (p, q) refl
 
 -- a pair whose slave asks, with its request latched at the master
@@ -62,8 +70,10 @@ given-again pair low low_triggers high high_triggers =
     elim (cases_Bool (is_some (interrupt now.slave))) [
       | inl asks ↦
           let is = settled-asks now asks in
-          let again : given (latched now) low low_triggers high high_triggers ≡ latched now = pair-equal (cascade-again pair.master low low_triggers 2) same_slave in
-          let once : latched (latched now) ≡ latched now = ap (λ l. record now { master = record now.master { latches = l } }) (set-again now.master.latches 2) in
+          let again : given (latched now) low low_triggers high high_triggers ≡ latched now =
+          pair-equal (cascade-again pair.master low low_triggers 2) same_slave in
+          let once : latched (latched now) ≡ latched now =
+          ap (λ l. record now { master = record now.master { latches = l } }) (set-again now.master.latches 2) in
           ap (λ p. settled (given p low low_triggers high high_triggers)) is
           ∙ (ap settled again ∙ (settled-asks (latched now) asks ∙ (once ∙ sym is)))
       | inr quiet ↦

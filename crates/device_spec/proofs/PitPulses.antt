@@ -1,6 +1,7 @@
 -- Pulses of the whole chip.
 use Rattle.std.proofs.Common.{◌≡◌, ℕ, zero, suc, ◌+◌, refl, ap, sym, add-zero, add-suc, add_assoc}
-use Rattle.device_spec.specs.Common.{PitState, pulses, rises, rise_of, pulse_all, PulsesAddUp, CountersAreApart, pulses_of}
+use Rattle.device_spec.specs.Common.{PitState, pulses, rises, rise_of, pulse_all, PulsesAddUp, CountersAreApart}
+use Rattle.device_spec.specs.Common.{pulses_of}
 
 pulses-add : (n m : ℕ) (p : PitState) → pulses (n + m) p ≡ pulses m (pulses n p)
 unfolding pulses
@@ -11,7 +12,8 @@ rises-add : (n m : ℕ) (p : PitState) → rises (n + m) p ≡ rises n p + rises
 unfolding pulses rises
 rises-add n zero p = rw (add-zero n) (sym (add-zero (rises n p)))
 rises-add n (suc m) p =
-    rw (add-suc n m) (rw (rises-add n m p, pulses-add n m p) (add_assoc (rises n p) (rises m (pulses n p)) (rise_of (pulses m (pulses n p)))))
+    rw (add-suc n m) (rw (rises-add n m p, pulses-add n m p)
+    (add_assoc (rises n p) (rises m (pulses n p)) (rise_of (pulses m (pulses n p)))))
 
 pub pulses_add_up : PulsesAddUp
 pulses_add_up n m p = (pulses-add n m p, rises-add n m p)

@@ -1,7 +1,8 @@
 -- Each port is one device's.
 use Rattle.std.proofs.Common.{◌≡◌, ℕ, true, false, List, [], ◌∷◌, Option, Some, refl, ◌∙◌, arith}
 use Rattle.board_base.proofs.Common.{cond-true, cond-false, false≢true, nat_tests}
-use Rattle.device_spec.specs.Common.{Dev, Reset, Pic0, Pic1, Pit, System, Keyboard, Elcr, Ata, Wires, Vector, Spurious, is_port_of, first_with, PortsApart, ConfigApart}
+use Rattle.device_spec.specs.Common.{Dev, Reset, Pic0, Pic1, Pit, System, Keyboard, Elcr, Ata, Wires, Vector, Spurious}
+use Rattle.device_spec.specs.Common.{is_port_of, first_with, PortsApart, ConfigApart}
 use Rattle.board_base.specs.declared.target.Dev.TheVariants.{Confadd, Clock}
 
 module _ (port size : ℕ) where

@@ -1,8 +1,12 @@
 -- The search for the first level that can be selected.
-use Rattle.std.proofs.Common.{◌≡◌, ℕ, ◌+◌, ◌<◌, ◌≤◌, Bool, true, false, not, cond, ltb, ◌||◌, ◌&&◌, Option, Some, None, List, [], ◌∷◌, ◌++◌, length, get_or, drop, refl, sym, ap, ◌∙◌, inl, inr, add-one, drop-cons}
-use Rattle.board_base.proofs.Common.{or-false, and-false, drop_of_length-le, cases_Bool, agree_below_at, ltb-true, or_from}
+use Rattle.std.proofs.Common.{◌≡◌, ℕ, ◌+◌, ◌<◌, ◌≤◌, Bool, true, false, not, cond, ltb, ◌||◌, ◌&&◌, Option, Some, None}
+use Rattle.std.proofs.Common.{List, [], ◌∷◌, ◌++◌, length, get_or, drop, refl, sym, ap, ◌∙◌, inl, inr, add-one}
+use Rattle.std.proofs.Common.{drop-cons}
+use Rattle.board_base.proofs.Common.{or-false, and-false, drop_of_length-le, cases_Bool, agree_below_at, ltb-true}
+use Rattle.board_base.proofs.Common.{or_from}
 use Rattle.std.proofs.Math.Bool.{or-true, or_assoc}
-use Rattle.device_spec.specs.Common.{find, list_any, Chip, priority_order, is_blocking, blocks_itself, is_requested, first_selectable, request, first_blocking}
+use Rattle.device_spec.specs.Common.{find, list_any, Chip, priority_order, is_blocking, blocks_itself, is_requested}
+use Rattle.device_spec.specs.Common.{first_selectable, request, first_blocking}
 use Rattle.std.proofs.lemmas.Bool.{agree_below}
 
 -- ---- the search for a level
@@ -21,13 +25,16 @@ priority_order-small lowest i hl hi =
     ltb-true _ 8 (agree_below_at (order_is_small lowest) (λ _. true) 8 i here hi)
 
 -- a search goes past an element that fails, and ends at one that passes
-pub find-past : (test : ℕ → Bool) (xs : List ℕ) (i : ℕ) → i < length xs → test (get_or xs i 0) ≡ false → find test (drop i xs) ≡ find test (drop (i + 1) xs)
+pub find-past : (test : ℕ → Bool) (xs : List ℕ) (i : ℕ) → i < length xs → test (get_or xs i 0) ≡ false →
+    find test (drop i xs) ≡ find test (drop (i + 1) xs)
 find-past test xs i h fails = rw (add-one, drop-cons xs i 0) (rw fails refl)
 
-pub find-here : (test : ℕ → Bool) (xs : List ℕ) (i : ℕ) → i < length xs → test (get_or xs i 0) ≡ true → find test (drop i xs) ≡ Some (get_or xs i 0)
+pub find-here : (test : ℕ → Bool) (xs : List ℕ) (i : ℕ) → i < length xs → test (get_or xs i 0) ≡ true →
+    find test (drop i xs) ≡ Some (get_or xs i 0)
 find-here test xs i h passes = rw (drop-cons xs i 0) (rw passes refl)
 
-pub first_blocking-is : (chip : Chip) (order : List ℕ) → order ≡ priority_order chip.lowest → first_blocking chip ≡ find (is_blocking chip) order
+pub first_blocking-is : (chip : Chip) (order : List ℕ) → order ≡ priority_order chip.lowest →
+    first_blocking chip ≡ find (is_blocking chip) order
 unfolding first_blocking
 first_blocking-is chip order is = ap (find (is_blocking chip)) (sym is)
 
@@ -38,22 +45,26 @@ first_blocking-is chip order is = ap (find (is_blocking chip)) (sym is)
 unfoldable pub scan : Chip → List ℕ → Option ℕ
 scan chip [] = None
 scan chip (level ∷ lower) =
-    cond (is_requested chip level && not (blocks_itself chip level)) (Some level) (cond (is_blocking chip level) None (scan chip lower))
+    cond (is_requested chip level && not (blocks_itself chip level)) (Some level)
+    (cond (is_blocking chip level) None (scan chip lower))
 
 or-end : (test : ℕ → Bool) (xs : List ℕ) (x : ℕ) → list_any test (xs ++ x ∷ []) ≡ (list_any test xs || test x)
 or-end test [] x = or-false (test x)
 or-end test (y ∷ xs) x = ap (λ b. test y || b) (or-end test xs x) ∙ sym (or_assoc (test y) (list_any test xs) (test x))
 
 -- after a level that blocks no level can be selected
-blocked : (chip : Chip) (higher order : List ℕ) → list_any (is_blocking chip) higher ≡ true → first_selectable chip higher order ≡ None
+blocked : (chip : Chip) (higher order : List ℕ) → list_any (is_blocking chip) higher ≡ true →
+    first_selectable chip higher order ≡ None
 unfolding first_selectable
 blocked chip higher [] h = refl
 blocked chip higher (level ∷ lower) h =
-    let rest = blocked chip (higher ++ level ∷ []) lower (or-end (is_blocking chip) higher level ∙ ap (λ b. b || is_blocking chip level) h) in
+    let rest = blocked chip (higher ++ level ∷ []) lower (or-end (is_blocking chip) higher level
+    ∙ ap (λ b. b || is_blocking chip level) h) in
     rw (h, and-false (is_requested chip level)) rest
 
 -- after levels that do not block, the first that can be selected is the one that the search finds
-unblocked : (chip : Chip) (higher order : List ℕ) → list_any (is_blocking chip) higher ≡ false → first_selectable chip higher order ≡ scan chip order
+unblocked : (chip : Chip) (higher order : List ℕ) → list_any (is_blocking chip) higher ≡ false →
+    first_selectable chip higher order ≡ scan chip order
 unfolding first_selectable scan
 unblocked chip higher [] h = refl
 unblocked chip higher (level ∷ lower) h =
@@ -62,8 +73,12 @@ unblocked chip higher (level ∷ lower) h =
       | inl found ↦ rw found refl
       | inr not_here ↦ rw not_here (
           elim (cases_Bool (is_blocking chip level)) [
-            | inl blocking ↦ rw blocking (blocked chip (higher ++ level ∷ []) lower (or-end (is_blocking chip) higher level ∙ ap (λ b. list_any (is_blocking chip) higher || b) blocking ∙ or-true _))
-            | inr open_level ↦ rw open_level (unblocked chip (higher ++ level ∷ []) lower (or-end (is_blocking chip) higher level ∙ or_from _ _ h open_level))
+            | inl blocking ↦
+                rw blocking (blocked chip (higher ++ level ∷ []) lower (or-end (is_blocking chip) higher level
+                ∙ ap (λ b. list_any (is_blocking chip) higher || b) blocking ∙ or-true _))
+            | inr open_level ↦
+                rw open_level (unblocked chip (higher ++ level ∷ []) lower (or-end (is_blocking chip) higher level
+                ∙ or_from _ _ h open_level))
           ])
     ])
 
@@ -73,15 +88,21 @@ request-is chip order is = unblocked chip [] (priority_order chip.lowest) refl �
 
 -- ---- the search for a request, one level further
 
-pub scan-found : (chip : Chip) (xs : List ℕ) (i : ℕ) → i < length xs → (is_requested chip (get_or xs i 0) && not (blocks_itself chip (get_or xs i 0))) ≡ true → scan chip (drop i xs) ≡ Some (get_or xs i 0)
+pub scan-found : (chip : Chip) (xs : List ℕ) (i : ℕ) → i < length xs →
+    (is_requested chip (get_or xs i 0) && not (blocks_itself chip (get_or xs i 0))) ≡ true →
+    scan chip (drop i xs) ≡ Some (get_or xs i 0)
 unfolding scan
 scan-found chip xs i h found = rw (drop-cons xs i 0) (rw found refl)
 
-pub scan-blocked : (chip : Chip) (xs : List ℕ) (i : ℕ) → i < length xs → (is_requested chip (get_or xs i 0) && not (blocks_itself chip (get_or xs i 0))) ≡ false → is_blocking chip (get_or xs i 0) ≡ true → scan chip (drop i xs) ≡ None
+pub scan-blocked : (chip : Chip) (xs : List ℕ) (i : ℕ) → i < length xs →
+    (is_requested chip (get_or xs i 0) && not (blocks_itself chip (get_or xs i 0))) ≡ false →
+    is_blocking chip (get_or xs i 0) ≡ true → scan chip (drop i xs) ≡ None
 unfolding scan
 scan-blocked chip xs i h not_here blocking = rw (drop-cons xs i 0) (rw (not_here, blocking) refl)
 
-pub scan-past : (chip : Chip) (xs : List ℕ) (i : ℕ) → i < length xs → (is_requested chip (get_or xs i 0) && not (blocks_itself chip (get_or xs i 0))) ≡ false → is_blocking chip (get_or xs i 0) ≡ false → scan chip (drop i xs) ≡ scan chip (drop (i + 1) xs)
+pub scan-past : (chip : Chip) (xs : List ℕ) (i : ℕ) → i < length xs →
+    (is_requested chip (get_or xs i 0) && not (blocks_itself chip (get_or xs i 0))) ≡ false →
+    is_blocking chip (get_or xs i 0) ≡ false → scan chip (drop i xs) ≡ scan chip (drop (i + 1) xs)
 unfolding scan
 scan-past chip xs i h not_here open_level = rw (add-one, drop-cons xs i 0) (rw (not_here, open_level) refl)
 

@@ -1,6 +1,7 @@
 -- The MC146818 real time clock (Motorola MC146818 datasheet, "Address Map", "Time, Calendar and Alarm
 -- Locations" and "Registers"), as a machine: what a read gives, and the state after each step.
-use Rattle.std.specs.Prelude.{ℕ, ◌+◌, ◌-◌, ◌*◌, ◌/◌, ◌%◌, Bool, true, false, ◌&&◌, ◌||◌, ◌==◌, nat_le, if◌then◌else◌, List, [], ◌∷◌, replicate, slice_index, slice_set}
+use Rattle.std.specs.Prelude.{ℕ, ◌+◌, ◌-◌, ◌*◌, ◌/◌, ◌%◌, Bool, true, false, ◌&&◌, ◌||◌, ◌==◌, nat_le, if◌then◌else◌}
+use Rattle.std.specs.Prelude.{List, [], ◌∷◌, replicate, slice_index, slice_set}
 use Rattle.board_base.specs.Bits.{is_bit}
 use Rattle.device_spec.specs.PortNames.{clock_index_port, clock_data_port}
 

@@ -1,5 +1,6 @@
 -- Sets of the eight levels of an interrupt controller, IR0 to IR7.
-use Rattle.std.specs.Prelude.{ℕ, Bool, false, List, [], ◌∷◌, ◌+◌, ◌*◌, ◌==◌, ◌&&◌, ◌||◌, not, map, if◌then◌else◌, slice_index_or}
+use Rattle.std.specs.Prelude.{ℕ, Bool, false, List, [], ◌∷◌, ◌+◌, ◌*◌, ◌==◌, ◌&&◌, ◌||◌, not, map, if◌then◌else◌}
+use Rattle.std.specs.Prelude.{slice_index_or}
 use Rattle.board_base.specs.Bits.{is_bit}
 
 -- a set is the list of eight Booleans that say which levels it has

@@ -1,10 +1,12 @@
 -- The two 8259As of a PC: the master at ports 20h and 21h has the lines 0 to 7, the slave at A0h and
 -- A1h has the lines 8 to 15, and the slave's INT is input 2 of the master (8259A, Cascade Mode; 82371SB, Interrupt
 -- Controller).
-use Rattle.std.specs.Prelude.{ℕ, Bool, true, false, Option, Some, None, List, ◌∷◌, ◌+◌, ◌/◌, ◌%◌, ◌==◌, is_some, take, drop, replicate, if◌then◌else◌}
+use Rattle.std.specs.Prelude.{ℕ, Bool, true, false, Option, Some, None, List, ◌∷◌, ◌+◌, ◌/◌, ◌%◌, ◌==◌, is_some, take}
+use Rattle.std.specs.Prelude.{drop, replicate, if◌then◌else◌}
 use Rattle.board_base.specs.Bits.{is_bit}
 use Rattle.device_spec.specs.Levels.{Levels, with_level, without_level, levels_of_byte}
-use Rattle.device_spec.specs.Pic.{cascade, last_level, Chip, chip_at_reset, chip_after_inputs, chip_after_write, byte_read, chip_after_read, interrupt, acknowledged, acknowledged_if}
+use Rattle.device_spec.specs.Pic.{cascade, last_level, Chip, chip_at_reset, chip_after_inputs, chip_after_write}
+use Rattle.device_spec.specs.Pic.{byte_read, chip_after_read, interrupt, acknowledged, acknowledged_if}
 
 pub record Pair : Type 0 where
   pub master : Chip

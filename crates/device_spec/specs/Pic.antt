@@ -1,8 +1,10 @@
 -- One 8259A interrupt controller, by its datasheet. What the datasheet leaves open is marked as this
 -- board's choice.
-use Rattle.std.specs.Prelude.{ℕ, Bool, true, false, Option, Some, None, List, [], ◌∷◌, ◌++◌, ◌+◌, ◌*◌, ◌/◌, ◌%◌, ◌==◌, ◌&&◌, ◌||◌, not, take, drop, if◌then◌else◌}
+use Rattle.std.specs.Prelude.{ℕ, Bool, true, false, Option, Some, None, List, [], ◌∷◌, ◌++◌, ◌+◌, ◌*◌, ◌/◌, ◌%◌, ◌==◌}
+use Rattle.std.specs.Prelude.{◌&&◌, ◌||◌, not, take, drop, if◌then◌else◌}
 use Rattle.board_base.specs.Common.{find, list_any, is_bit}
-use Rattle.device_spec.specs.Levels.{Levels, all_levels, has, levels_where, no_levels, with_level, without_level, levels_of_byte, byte_of_levels}
+use Rattle.device_spec.specs.Levels.{Levels, all_levels, has, levels_where, no_levels, with_level, without_level}
+use Rattle.device_spec.specs.Levels.{levels_of_byte, byte_of_levels}
 
 -- the input of the master to which the slave is wired (82371SB, Interrupt Controller: IRQ2)
 abbrev pub cascade : ℕ

@@ -1,7 +1,8 @@
 -- The 8254 programmable interval timer, in the terms of its datasheet: three counters and the control word register.
 -- Each step gives the state after it from the state before; a read gives the byte that it answers beside it.
 -- This board's own choices are marked (choice).
-use Rattle.std.specs.Prelude.{ℕ, zero, suc, ◌+◌, ◌-◌, ◌*◌, ◌/◌, ◌%◌, ◌≤◌, ◌==◌, Bool, true, false, not, ◌&&◌, ◌||◌, if◌then◌else◌, List, [], ◌∷◌, Option, Some, None, is_some}
+use Rattle.std.specs.Prelude.{ℕ, zero, suc, ◌+◌, ◌-◌, ◌*◌, ◌/◌, ◌%◌, ◌≤◌, ◌==◌, Bool, true, false, not, ◌&&◌, ◌||◌}
+use Rattle.std.specs.Prelude.{if◌then◌else◌, List, [], ◌∷◌, Option, Some, None, is_some}
 use Rattle.board_base.specs.Bits.{is_bit}
 use Rattle.device_spec.specs.PortNames.{counter0_port, counter1_port, counter2_port, timer_ports}
 

@@ -1,11 +1,14 @@
 -- The ports of the devices, one line a device. A port that no line lists is a card's, or nobody's.
 use Rattle.std.specs.Prelude.{ℕ, ◌==◌, Bool, false, ◌&&◌, ◌||◌, if◌then◌else◌, List, [], ◌∷◌, Option, Some, None}
 use Rattle.board_base.specs.declared.target.Dev.{Dev}
-use Rattle.board_base.specs.declared.target.Dev.TheVariants.{Confadd, Reset, Pic0, Pic1, Pit, System, Keyboard, Clock, Elcr, Ata}
+use Rattle.board_base.specs.declared.target.Dev.TheVariants.{Confadd, Reset, Pic0, Pic1, Pit, System, Keyboard, Clock}
+use Rattle.board_base.specs.declared.target.Dev.TheVariants.{Elcr, Ata}
 use Rattle.board_base.specs.Bits.{is_within}
 use Rattle.device_spec.specs.declared.port.Select.{Select}
 use Rattle.device_spec.specs.declared.port.Select.TheVariants.{Always, XbcsBit0, XbcsBit1, IdeChannel}
-use Rattle.device_spec.specs.PortNames.{config_address_port, reset_control_port, master_ports, slave_ports, elcr_ports, timer_ports, system_port, keyboard_data_port, keyboard_command_port, clock_ports, disk_data_port, disk_ports, disk_control_port}
+use Rattle.device_spec.specs.PortNames.{config_address_port, reset_control_port, master_ports, slave_ports, elcr_ports}
+use Rattle.device_spec.specs.PortNames.{timer_ports, system_port, keyboard_data_port, keyboard_command_port}
+use Rattle.device_spec.specs.PortNames.{clock_ports, disk_data_port, disk_ports, disk_control_port}
 
 -- some ports, and how many bytes an access that they take has
 pub record Ports : Type 0 where
@@ -58,7 +61,8 @@ is_size (one ∷ others) size = size == one || is_size others size
 
 abbrev pub takes : List Ports → (port size : ℕ) → Bool
 takes [] port size = false
-takes (some ∷ others) port size = is_size some.sizes size && is_within some.first some.last port || takes others port size
+takes (some ∷ others) port size = is_size some.sizes size && is_within some.first some.last port
+    || takes others port size
 
 abbrev pub is_port_of : Dev → (port size : ℕ) → Bool
 is_port_of dev port size = takes (device_line dev).ports port size

@@ -1,6 +1,7 @@
 -- The routing of the four PCI interrupt pins to the sixteen interrupt lines
 -- (82371SB, PIRQRC: PIRQx Route Control Registers, of function 0).
-use Rattle.std.specs.Prelude.{ℕ, Bool, false, Option, Some, None, List, [], ◌∷◌, ◌+◌, ◌-◌, ◌%◌, ◌==◌, ◌&&◌, ◌||◌, not, nat_lt, nat_le, if◌then◌else◌, slice_index, slice_index_or, slice_set}
+use Rattle.std.specs.Prelude.{ℕ, Bool, false, Option, Some, None, List, [], ◌∷◌, ◌+◌, ◌-◌, ◌%◌, ◌==◌, ◌&&◌, ◌||◌, not}
+use Rattle.std.specs.Prelude.{nat_lt, nat_le, if◌then◌else◌, slice_index, slice_index_or, slice_set}
 use Rattle.board_base.specs.Common.{list_any, merged}
 
 -- the bits of a route control register that can be written: 7, and 3 to 0 (82371SB, PIRQRC; bits 6 to 4 are reserved)

@@ -1,6 +1,9 @@
 -- What a statement that was read asks.
-use Rattle.std.proofs.Common.{◌≡◌, ◌≢◌, ℕ, ◌<◌, ◌≤◌, Bool, true, false, cond, eqb, Option, Some, None, List, refl, sym, ap, subst, ◌∙◌, inl, inr, arith, MatchOption, codes}
-use Rattle.board_prelude.proofs.Common.{option_and_then, cases_Bool, cases_lt, lt-ltb, le-ltb, true≢false, WideAccess, PortAccess, Moment, IsMoment, Event, Memory, Wide, Port, Ack, Pulses, Time, Wire as SetWire, Line as SetLine, BadSector}
+use Rattle.std.proofs.Common.{◌≡◌, ◌≢◌, ℕ, ◌<◌, ◌≤◌, Bool, true, false, cond, eqb, Option, Some, None, List, refl, sym}
+use Rattle.std.proofs.Common.{ap, subst, ◌∙◌, inl, inr, arith, MatchOption, codes}
+use Rattle.board_prelude.proofs.Common.{option_and_then, cases_Bool, cases_lt, lt-ltb, le-ltb, true≢false, WideAccess}
+use Rattle.board_prelude.proofs.Common.{PortAccess, Moment, IsMoment, Event, Memory, Wide, Port, Ack, Pulses, Time}
+use Rattle.board_prelude.proofs.Common.{Wire as SetWire, Line as SetLine, BadSector}
 use Rattle.board_base.specs.declared.access.Access.{Access}
 use Rattle.board_spec.specs.declared.event.Event.TheVariants.{Look as LookAt}
 use Rattle.script_spec.specs.Common.{Item, Ask, AskLevel, HasForm, IsNamed, ask, if_byte}
@@ -8,7 +11,8 @@ use Rattle.script_spec.proofs.LineReading.{one_item}
 use Rattle.script_lines.specs.declared.item.Asked.{Asked}
 use Rattle.script_lines.specs.declared.item.Asked.TheVariants.{Event as AnEvent, Moment as AMoment, Wire, Line}
 use Rattle.script_lines.specs.declared.item.Item.{Item as Read}
-use Rattle.script_lines.specs.declared.item.Item.TheVariants.{Cpus, Memory as SetMemory, Rom, Disk, Card, Phase, Statement as Asks}
+use Rattle.script_lines.specs.declared.item.Item.TheVariants.{Cpus, Memory as SetMemory, Rom, Disk, Card, Phase}
+use Rattle.script_lines.specs.declared.item.Item.TheVariants.{Statement as Asks}
 use Rattle.script_lines.specs.declared.moment.MomentFields.{MomentFields}
 use Rattle.script_lines.specs.Items.{asked_said, moment_said, line_said}
 use Rattle.log_lines.specs.Asked.{level_on, wire_event, line_event, IsPlacedEvent, IsEventOf, IsAsked}

@@ -2,7 +2,9 @@
 
 ghost use Rattle.std.specs.Prelude.{◌≡◌, ◌≤◌, ◌<◌, ◌^◌, ◌∷◌, ℕ, false, length, IfSome};
 ghost use Rattle.board_prelude.specs.Common.{Reply, is_write, parts_of, outside_answer, space, value_bytes, reply_text};
-ghost use Rattle.script_spec.specs.Common.{IsDecimal, IsEventForm, IsReplyValue, IsBusReply, IsWideReply, IsLookReply, HasShape, parse_decimal, parse_no_value, parse_value, parse_bus_reply, parts_with, parse_wide_reply, parse_reply, parse_spaced_reply, IsNarrow};
+ghost use Rattle.script_spec.specs.Common.{IsDecimal, IsEventForm, IsReplyValue, IsBusReply, IsWideReply, IsLookReply};
+ghost use Rattle.script_spec.specs.Common.{HasShape, parse_decimal, parse_no_value, parse_value, parse_bus_reply};
+ghost use Rattle.script_spec.specs.Common.{parts_with, parse_wide_reply, parse_reply, parse_spaced_reply, IsNarrow};
 ghost use Rattle.script_spec.specs.Replies.{parse_look_reply};
 
 use crate::target::{parse_area, parse_denial, parse_target};

@@ -1,5 +1,6 @@
 -- Bytes of a number, by shifts.
-use Rattle.std.proofs.Common.{◌≡◌, ℕ, zero, suc, ◌+◌, ◌*◌, ◌/◌, ◌%◌, ◌<◌, ◌≤◌, ◌^◌, ◌++◌, [], refl, ap, sym, ◌∙◌, pow-add, arith}
+use Rattle.std.proofs.Common.{◌≡◌, ℕ, zero, suc, ◌+◌, ◌*◌, ◌/◌, ◌%◌, ◌<◌, ◌≤◌, ◌^◌, ◌++◌, [], refl, ap, sym, ◌∙◌}
+use Rattle.std.proofs.Common.{pow-add, arith}
 use Rattle.board_prelude.proofs.Common.{pow-le-pow_right, byte, hex_byte, hex_number}
 use Rattle.std.proofs.Math.Nat.{div-eq_of_lt}
 

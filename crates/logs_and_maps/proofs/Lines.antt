@@ -1,5 +1,6 @@
 -- The log of one entry more.
-use Rattle.std.proofs.Common.{◌≡◌, ℕ, ◌+◌, ◌<◌, ◌++◌, List, [], ◌∷◌, length, reverse, take, get_or, ap, ◌∙◌, append_assoc}
+use Rattle.std.proofs.Common.{◌≡◌, ℕ, ◌+◌, ◌<◌, ◌++◌, List, [], ◌∷◌, length, reverse, take, get_or, ap, ◌∙◌}
+use Rattle.std.proofs.Common.{append_assoc}
 use Rattle.board_prelude.proofs.Common.{reverse-append, take_at_read, Entry, line_feed, line_text, lines_text}
 
 -- with the entry at i as the newest, the history is one longer

@@ -1,5 +1,6 @@
 -- The table of the two digits of each byte, entry by entry.
-use Rattle.std.proofs.Common.{◌≡◌, ℕ, zero, suc, ◌+◌, ◌*◌, ◌/◌, ◌<◌, inl, inr, Bool, true, ◌&&◌, eqb, get_or, refl, arith}
+use Rattle.std.proofs.Common.{◌≡◌, ℕ, zero, suc, ◌+◌, ◌*◌, ◌/◌, ◌<◌, inl, inr, Bool, true, ◌&&◌, eqb, get_or, refl}
+use Rattle.std.proofs.Common.{arith}
 use Rattle.board_prelude.proofs.Common.{and_parts, eqb-true, cases_lt, hex_digit}
 use Rattle.logs_and_maps.specs.declared.hex.TheConstants.{PAIRS}
 

@@ -1,6 +1,8 @@
 -- The lines of a history and of its parts.
-use Rattle.std.proofs.Common.{◌≡◌, ℕ, ◌+◌, ◌<◌, ◌++◌, List, [], ◌∷◌, length, reverse, take, get_or, codes, decimal, refl, sym, ap, ◌∙◌, append_assoc, arith}
-use Rattle.board_prelude.proofs.Common.{reverse-append, append-nil, take_at_read, common_steps, Entry, line_feed, line_text, lines_text, log_text}
+use Rattle.std.proofs.Common.{◌≡◌, ℕ, ◌+◌, ◌<◌, ◌++◌, List, [], ◌∷◌, length, reverse, take, get_or, codes, decimal}
+use Rattle.std.proofs.Common.{refl, sym, ap, ◌∙◌, append_assoc, arith}
+use Rattle.board_prelude.proofs.Common.{reverse-append, append-nil, take_at_read, common_steps, Entry, line_feed}
+use Rattle.board_prelude.proofs.Common.{line_text, lines_text, log_text}
 use Rattle.logs_and_maps.specs.LinesFrom.{lines_from}
 use Rattle.logs_and_maps.proofs.Lines.{lines_text-newest}
 

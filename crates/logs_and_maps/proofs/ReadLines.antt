@@ -1,6 +1,8 @@
 -- The lines of a log, read one by one.
-use Rattle.std.proofs.Common.{◌≡◌, ◌≢◌, ℕ, ◌+◌, ◌≤◌, Option, Some, None, List, [], ◌∷◌, ◌++◌, length, reverse, All, refl, sym, ap, subst, ◌∙◌, inl, inr, append_assoc, arith, MatchOption, codes, bytes_eq}
-use Rattle.board_prelude.proofs.Common.{digits, cases_Bool, reverse-append, length-append, All-nil, All-cons, All-head, All-tail, All-push, Entry, line_feed, line_text, lines_text}
+use Rattle.std.proofs.Common.{◌≡◌, ◌≢◌, ℕ, ◌+◌, ◌≤◌, Option, Some, None, List, [], ◌∷◌, ◌++◌, length, reverse, All}
+use Rattle.std.proofs.Common.{refl, sym, ap, subst, ◌∙◌, inl, inr, append_assoc, arith, MatchOption, codes, bytes_eq}
+use Rattle.board_prelude.proofs.Common.{digits, cases_Bool, reverse-append, length-append, All-nil, All-cons, All-head}
+use Rattle.board_prelude.proofs.Common.{All-tail, All-push, Entry, line_feed, line_text, lines_text}
 use Rattle.script_spec.specs.Common.{IsVersion, IsWellFormed, cut}
 use Rattle.script_spec.proofs.Common.{lacks-line, line_whole, some_is, word_is, cut_field, cut_joined}
 use Rattle.logs_and_maps.specs.Reading.{heading, parse_heading, HasEntry, HasNoEntry}

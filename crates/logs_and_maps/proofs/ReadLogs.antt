@@ -1,8 +1,14 @@
 -- Where the bytes of a log stop being one.
-use Rattle.std.proofs.Common.{◌≡◌, ◌≢◌, ℕ, ◌+◌, ◌<◌, true, Option, Some, None, List, [], ◌∷◌, ◌++◌, length, reverse, get_or, drop, All, refl, sym, ap, subst, ◌∙◌, inl, inr, append_assoc, append-nil, arith, Result, Ok, Err, IfErr, IsErrAnd, codes, decimal}
-use Rattle.board_prelude.proofs.Common.{cases_lt, get_or_append_left, append_cancel_left, length-append, All-nil, All-cons, All-head, All-tail, All-push, Entry, line_feed, line_text, lines_text, log_text}
-use Rattle.script_spec.specs.Common.{text_of_lines, IsOneLine, IsVersion, IsWellFormed, IsLogText, IsSomeLog, IsBadLog, cut}
-use Rattle.script_spec.proofs.Common.{lacks, lacks-append, lacks-word, decimal_word, one_line, compared, log_lines, lines_joined, lines_whole, nothing_more, some_is, cut_field, cut_joined}
+use Rattle.std.proofs.Common.{◌≡◌, ◌≢◌, ℕ, ◌+◌, ◌<◌, true, Option, Some, None, List, [], ◌∷◌, ◌++◌, length, reverse}
+use Rattle.std.proofs.Common.{get_or, drop, All, refl, sym, ap, subst, ◌∙◌, inl, inr, append_assoc, append-nil, arith}
+use Rattle.std.proofs.Common.{Result, Ok, Err, IfErr, IsErrAnd, codes, decimal}
+use Rattle.board_prelude.proofs.Common.{cases_lt, get_or_append_left, append_cancel_left, length-append, All-nil}
+use Rattle.board_prelude.proofs.Common.{All-cons, All-head, All-tail, All-push, Entry, line_feed, line_text, lines_text}
+use Rattle.board_prelude.proofs.Common.{log_text}
+use Rattle.script_spec.specs.Common.{text_of_lines, IsOneLine, IsVersion, IsWellFormed, IsLogText, IsSomeLog, IsBadLog}
+use Rattle.script_spec.specs.Common.{cut}
+use Rattle.script_spec.proofs.Common.{lacks, lacks-append, lacks-word, decimal_word, one_line, compared, log_lines}
+use Rattle.script_spec.proofs.Common.{lines_joined, lines_whole, nothing_more, some_is, cut_field, cut_joined}
 use Rattle.logs_and_maps.specs.declared.fault.LogFault.{LogFault}
 use Rattle.logs_and_maps.specs.declared.fault.LogFault.TheVariants.{Bad, NoMemory}
 use Rattle.logs_and_maps.specs.Reading.{NamesBad, heading, parse_heading, HasNoEntry, IsBadAfter}

@@ -1,6 +1,7 @@
 //! The log of a history: a heading, and a line for each entry.
 
-ghost use Rattle.std.specs.Prelude.{◌≡◌, ◌+◌, ◌^◌, ◌≤◌, ◌∷◌, ◌++◌, [], length, OnOk, OnErr, IfOk, reverse, decimal, codes};
+ghost use Rattle.std.specs.Prelude.{◌≡◌, ◌+◌, ◌^◌, ◌≤◌, ◌∷◌, ◌++◌, [], length, OnOk, OnErr, IfOk, reverse, decimal};
+ghost use Rattle.std.specs.Prelude.{codes};
 ghost use Rattle.board_prelude.specs.Common.{space, line_feed, Wide, line_text, log_text};
 ghost use Rattle.logs_and_maps.specs.Adds.{AddsWords, KeepsFront};
 ghost use Rattle.logs_and_maps.specs.Tails.{HasRoom, HasShortValue};

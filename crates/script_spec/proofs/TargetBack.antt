@@ -1,11 +1,18 @@
 -- A word of a reply is read as what it names.
-use Rattle.std.proofs.Common.{◌≡◌, ℕ, zero, suc, ◌+◌, ◌*◌, ◌/◌, ◌%◌, ◌^◌, ◌<◌, ◌⊎◌, true, false, cond, eqb, ltb, Option, Some, None, List, [], ◌∷◌, ◌++◌, refl, sym, ap, ◌∙◌, inl, inr, append_assoc, arith, codes, decimal}
-use Rattle.board_prelude.proofs.Common.{digits, option_map, lt-ltb, le-ltb, ne_eqb, cases_lt, Reg, Dev, Area, Target, Denial, Register, Confadd, NoRegister, byte, hex_digit, hex_byte, hex_number, hex_long, hex_offset, register_text, area_text, device_text, target_text, denial_text}
+use Rattle.std.proofs.Common.{◌≡◌, ℕ, zero, suc, ◌+◌, ◌*◌, ◌/◌, ◌%◌, ◌^◌, ◌<◌, ◌⊎◌, true, false, cond, eqb, ltb, Option}
+use Rattle.std.proofs.Common.{Some, None, List, [], ◌∷◌, ◌++◌, refl, sym, ap, ◌∙◌, inl, inr, append_assoc, arith, codes}
+use Rattle.std.proofs.Common.{decimal}
+use Rattle.board_prelude.proofs.Common.{digits, option_map, lt-ltb, le-ltb, ne_eqb, cases_lt, Reg, Dev, Area, Target}
+use Rattle.board_prelude.proofs.Common.{Denial, Register, Confadd, NoRegister, byte, hex_digit, hex_byte, hex_number}
+use Rattle.board_prelude.proofs.Common.{hex_long, hex_offset, register_text, area_text, device_text, target_text}
+use Rattle.board_prelude.proofs.Common.{denial_text}
 use Rattle.std.proofs.lemmas.Fmt.{decimal_digit}
 use Rattle.board_base.specs.declared.target.Dev.TheVariants as devices
 use Rattle.board_base.specs.declared.target.Area.TheVariants as areas
 use Rattle.board_base.specs.declared.target.Target.TheVariants as targets
-use Rattle.script_spec.specs.Common.{FitsReg, FitsArea, FitsDevice, FitsTarget, FitsDenial, parse_digit, number_after, parse_hex, cut, parse_one_digit, parse_register, denial_with, parse_denial, parse_placed_area, parse_area, parse_placed_target, parse_device, parse_target}
+use Rattle.script_spec.specs.Common.{FitsReg, FitsArea, FitsDevice, FitsTarget, FitsDenial, parse_digit, number_after}
+use Rattle.script_spec.specs.Common.{parse_hex, cut, parse_one_digit, parse_register, denial_with, parse_denial}
+use Rattle.script_spec.specs.Common.{parse_placed_area, parse_area, parse_placed_target, parse_device, parse_target}
 use Rattle.script_spec.proofs.Digits.{lacks}
 use Rattle.script_spec.proofs.Fields.{lacks-append, lacks-decimal}
 use Rattle.script_spec.proofs.Joins.{same}

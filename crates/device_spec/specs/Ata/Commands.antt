@@ -1,6 +1,8 @@
 -- What each command does, and what goes on as its words move.
-use Rattle.std.specs.Prelude.{ℕ, zero, suc, ◌+◌, ◌==◌, nat_lt, Bool, true, false, not, ◌&&◌, ◌||◌, if◌then◌else◌, [], Option, Some, None, Result, Ok, Err}
-use Rattle.device_spec.specs.Ata.State.{Medium, Registers, Ready, Failed, Reading, Writing, Identifying, Drive, sectors_of, is_bad, reset_drive, is_drive_one}
+use Rattle.std.specs.Prelude.{ℕ, zero, suc, ◌+◌, ◌==◌, nat_lt, Bool, true, false, not, ◌&&◌, ◌||◌, if◌then◌else◌, []}
+use Rattle.std.specs.Prelude.{Option, Some, None, Result, Ok, Err}
+use Rattle.device_spec.specs.Ata.State.{Medium, Registers, Ready, Failed, Reading, Writing, Identifying, Drive}
+use Rattle.device_spec.specs.Ata.State.{sectors_of, is_bad, reset_drive, is_drive_one}
 use Rattle.device_spec.specs.Ata.Address.{track_sectors, named, naming, head_of, left_of, counted}
 
 -- The bits of the error register: ABRT, IDNF and UNC (ATA, Error register).

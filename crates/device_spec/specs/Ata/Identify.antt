@@ -1,5 +1,6 @@
 -- The words of IDENTIFY DEVICE for a disk of n sectors (ATA, IDENTIFY DEVICE).
-use Rattle.std.specs.Prelude.{ℕ, ◌+◌, ◌-◌, ◌*◌, ◌/◌, ◌%◌, ◌==◌, nat_le, ◌&&◌, ◌||◌, min, max, if◌then◌else◌, List, slice_index_or, codes}
+use Rattle.std.specs.Prelude.{ℕ, ◌+◌, ◌-◌, ◌*◌, ◌/◌, ◌%◌, ◌==◌, nat_le, ◌&&◌, ◌||◌, min, max, if◌then◌else◌, List}
+use Rattle.std.specs.Prelude.{slice_index_or, codes}
 use Rattle.device_spec.specs.Ata.Address.{track_sectors, heads, cylinder_sectors}
 
 -- the cylinders of the default geometry of 16 heads and 63 sectors

@@ -1,5 +1,7 @@
 -- What an ATA disk keeps, and what its status register and its interrupt line show of it.
-use Rattle.std.specs.Prelude.{ℕ, ◌+◌, ◌*◌, ◌/◌, ◌%◌, ◌==◌, Bool, true, false, not, ◌&&◌, if◌then◌else◌, List, ◌++◌, length, take, drop, replicate, slice_index, slice_index_or, slice_set, bit_or, nat_lt, nat_le}
+use Rattle.std.specs.Prelude.{ℕ, ◌+◌, ◌*◌, ◌/◌, ◌%◌, ◌==◌, Bool, true, false, not, ◌&&◌, if◌then◌else◌, List, ◌++◌}
+use Rattle.std.specs.Prelude.{length, take, drop, replicate, slice_index, slice_index_or, slice_set, bit_or, nat_lt}
+use Rattle.std.specs.Prelude.{nat_le}
 use Rattle.board_base.specs.Bits.{is_bit}
 
 -- The sectors of 512 bytes: the bytes of all, with sector s from place 512 * s on, and for each

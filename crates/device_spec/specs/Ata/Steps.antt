@@ -1,13 +1,17 @@
 -- One access to a port of the disk: what is read, and the disk after it.
-use Rattle.std.specs.Prelude.{ℕ, ◌+◌, ◌*◌, ◌/◌, ◌%◌, ◌==◌, Bool, false, ◌||◌, if◌then◌else◌, List, [], ◌∷◌, ◌++◌, length}
+use Rattle.std.specs.Prelude.{ℕ, ◌+◌, ◌*◌, ◌/◌, ◌%◌, ◌==◌, Bool, false, ◌||◌, if◌then◌else◌, List, [], ◌∷◌, ◌++◌}
+use Rattle.std.specs.Prelude.{length}
 use Rattle.board_base.specs.declared.access.Width.{Width}
 use Rattle.board_base.specs.declared.access.Width.TheVariants.{One, Two, Four}
 use Rattle.board_base.specs.Common.{is_bit, bytes_of}
-use Rattle.device_spec.specs.Ata.State.{Medium, Registers, Activity, Ready, Failed, Reading, Writing, Identifying, Drive, Disk, sectors_of, word_at, stored, marked, device_byte, reset_drive, power_on_drive, status_of, is_drq}
+use Rattle.device_spec.specs.Ata.State.{Medium, Registers, Activity, Ready, Failed, Reading, Writing, Identifying}
+use Rattle.device_spec.specs.Ata.State.{Drive, Disk, sectors_of, word_at, stored, marked, device_byte, reset_drive}
+use Rattle.device_spec.specs.Ata.State.{power_on_drive, status_of, is_drq}
 use Rattle.device_spec.specs.Ata.Identify.{identify_word}
 use Rattle.device_spec.specs.Ata.Commands.{ended, sector_read, sector_written, commanded}
 use Rattle.board_base.specs.declared.target.Dev.TheVariants.{Ata}
-use Rattle.device_spec.specs.PortNames.{disk_error_port, disk_count_port, disk_low_port, disk_mid_port, disk_high_port, disk_device_port, disk_status_port, disk_control_port}
+use Rattle.device_spec.specs.PortNames.{disk_error_port, disk_count_port, disk_low_port, disk_mid_port, disk_high_port}
+use Rattle.device_spec.specs.PortNames.{disk_device_port, disk_status_port, disk_control_port}
 use Rattle.device_spec.specs.PortTable.{is_port_of}
 
 -- The ports, by width: words at the data port, and bytes at the registers of the task file and at
@@ -115,7 +119,8 @@ read_of port Four disk = word_of disk + 65536 * word_of (word_read disk)
 -- The disk after the read: the status at 1F7 takes the request away, and no other register changes anything
 -- (ATA, Status register; Alternate Status register).
 abbrev pub register_read : ℕ → Disk → Disk
-register_read port disk = if port == disk_status_port then with_drive disk (record disk.drive { request = false }) else disk
+register_read port disk = if port == disk_status_port then with_drive disk (record disk.drive { request = false })
+    else disk
 
 abbrev pub after_read : ℕ → Width → Disk → Disk
 after_read port One disk = register_read port disk

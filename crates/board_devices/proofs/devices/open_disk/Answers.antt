@@ -9,7 +9,8 @@ returns-in-Ok-clause-fresh c = λ setup fitted.
 
 pub returns-in-Err-clause-bad : goal.returns-in-Err-clause-bad
 returns-in-Err-clause-bad c =
-    let named = fault_named c.open.result c.in-Err.fault (length c.in-Some.bytes.now) c.open.ensures.bad_length c.in-Err.is in (
+    let named = fault_named c.open.result c.in-Err.fault (length c.in-Some.bytes.now) c.open.ensures.bad_length
+    c.in-Err.is in (
       λ is disk. let bad : c.in-Err.fault ≡ AtaOpen.BadLength = cc in named.0 bad (rw c.in-Some.is at disk),
       λ none. ap (λ (f : AtaOpen). Err f) (named.1 (λ disk. none (rw c.in-Some.is disk))),
     )

@@ -1,6 +1,7 @@
 use Rattle.std.proofs.Common.{◌∙◌}
 use Rattle.script_spec.proofs.Common.{some_is, pieces}
-use Rattle.log_lines.proofs.LineBack.{pieces_are, actor_read, asked_read, replied_is, asked_event, asked_seq, reply_found, entry_is}
+use Rattle.log_lines.proofs.LineBack.{pieces_are, actor_read, asked_read, replied_is, asked_event, asked_seq}
+use Rattle.log_lines.proofs.LineBack.{reply_found, entry_is}
 use Rattle.log_lines.proofs.entry.parse_entry.Goals as goal
 use Rattle.script_lines.proofs.StraightLemmas.{none_some}
 

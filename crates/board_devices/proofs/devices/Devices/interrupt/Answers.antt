@@ -7,5 +7,6 @@ pub returns-clause-spurious : goal.returns-clause-spurious
 returns-clause-spurious c = λ setup history is.
     let shown : c.pending.result ≡ is_some (interrupt c.args.self.now.pair.master) = search rules in
     subst (λ (pair : Pair). (c.pending.result ≡ false) ↔ (who_answered (answer_of pair) ≡ Spurious 0)) is.pair
-    (subst (λ (pending : Bool). (pending ≡ false) ↔ (who_answered (answer_of c.args.self.now.pair) ≡ Spurious 0)) (sym shown)
+    (subst (λ (pending : Bool). (pending ≡ false) ↔ (who_answered (answer_of c.args.self.now.pair) ≡ Spurious 0))
+    (sym shown)
     (spurious_is c.args.self.now.pair))

@@ -11,9 +11,11 @@ returns c = record {
   own = λ setup history line after below.
       let are = subst (λ (d : DevicesValue). AreAfter setup history d) (sym c.self.view_is) after in
       rw (c.with.ensures.set, c.with-clocked.ensures.set, c.with-timed.ensures.set)
-      (own_levels setup history c.self.inside.irqs c.out.result c.irq.result c.disk_irq.result line c.with-timed.ensures.size
+      (own_levels setup history c.self.inside.irqs c.out.result c.irq.result c.disk_irq.result line
+      c.with-timed.ensures.size
       (c.out.ensures.level ∙ ap (λ t. out_of 0 t) are.timer)
       (c.irq.ensures.value ∙ ap interrupt_line are.clock)
-      (c.disk_irq.ensures.level ∙ ap (λ (fitted : Option Disk). option_map_or (λ disk. is_interrupt disk.drive) fitted false) after.disk)
+      (c.disk_irq.ensures.level
+      ∙ ap (λ (fitted : Option Disk). option_map_or (λ disk. is_interrupt disk.drive) fitted false) after.disk)
       are.irqs below);
 }

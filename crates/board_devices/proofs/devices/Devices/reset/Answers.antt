@@ -11,7 +11,8 @@ returns-clause-reset c = λ setup history entry is hard routes.
     let now = entry ∷ history in
     let machines : AreAfter setup now c.reset_machines.new.self =
     reset_after setup history entry hard old c.reset_machines.new.self is.others c.reset_machines.ensures.after in
-    let levels : c.levels-levels.result ≡ levels_of setup now = c.levels-levels.ensures.levels setup now machines routes in
+    let levels : c.levels-levels.result ≡ levels_of setup now =
+    c.levels-levels.ensures.levels setup now machines routes in
     let others : AreAfter setup now c.reset_pair.new.self =
     subst (λ (d : DevicesValue). AreAfter setup now d) (sym c.reset_pair.ensures.after)
     (with_pair setup now c.reset_machines.new.self (pair_at_reset c.levels-levels.result) machines) in

@@ -11,5 +11,6 @@ returns-clause-devices c = λ setup history later is puts.
     let one = c.write_clock.ensures.devices setup history puts.to_address is puts.first in
     let two = c.write_clock-2.ensures.devices setup (puts.to_address ∷ history) puts.to_byte one puts.second in
     let three = c.write_clock-3.ensures.devices setup (puts.to_byte ∷ puts.to_address ∷ history) puts.back two
-    (subst (λ (i : ℕ). WritesClock setup c.args.routes.now (puts.to_byte ∷ puts.to_address ∷ history) puts.back clock_index_port i) (sym index) puts.third) in
+    (subst (λ (i : ℕ). WritesClock setup c.args.routes.now (puts.to_byte ∷ puts.to_address ∷ history) puts.back
+    clock_index_port i) (sym index) puts.third) in
     subst (λ (h : List Entry). AreDevicesOf setup h c.write_clock-3.new.self) (sym puts.are_last) three

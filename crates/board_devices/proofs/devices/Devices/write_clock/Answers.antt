@@ -24,7 +24,8 @@ returns-clause-others c =
     let is = after ∙ clock_written access c.args.self.now in
     c.settle.ensures.others
     ∙ (ap (λ (d : DevicesValue). record d { pair = c.settle.new.self.pair }) is
-    ∙ ap (λ (clock : ClockState). record c.args.self.now { clock = clock; pair = c.settle.new.self.pair }) (sym (returns-clause-clock c)))
+    ∙ ap (λ (clock : ClockState). record c.args.self.now { clock = clock; pair = c.settle.new.self.pair })
+    (sym (returns-clause-clock c)))
 
 pub returns-clause-devices : goal.returns-clause-devices
 returns-clause-devices c = λ setup history entry is writes.
