@@ -37,13 +37,13 @@ returns-then-off-lt48-clause-written c =
 
 pub returns-in-60-clause-decodes : goal.returns-in-60-clause-decodes
 returns-in-60-clause-decodes c =
-    rw (← c.self.view_is, c.in-60.is)
+    rw (← c.self-in-60.view_is, c.in-60.is)
     (λ setup bytes is.
     decodes-apart setup bytes _ c.args.byte 0x3C c.args.byte
     (record { command = λ e. omega arith; bases = inr (omega arith); rom = inr (omega arith) }) is)
 
 pub returns-in-60-clause-written : goal.returns-in-60-clause-written
 returns-in-60-clause-written c =
-    let fit = rw (← c.self.view_is) at c.requires.card in
-    rw (← c.self.view_is, c.in-60.is)
+    let fit = rw (← c.self-in-60.view_is) at c.requires.card in
+    rw (← c.self-in-60.view_is, c.in-60.is)
     (λ setup bytes is. card-line_stored setup bytes _ c.args.byte fit c.ranges.byte.fits is)
