@@ -1,6 +1,6 @@
-//! Commands over the files of its folder, each a line of standard input, by the whole program: told are its exit code,
-//! what standard error is told, and then all that it puts. The files are scripts, logs and images, and the lines of
-//! their logs the replies that are due. Some lines are other than the words of a command, cut at each space:
+//! Commands over the files of its folder, each a line of standard input, by the whole program: told are its exit code, what
+//! standard error is told, and then all that it puts. The files are scripts, logs and images, and the lines of their logs the
+//! replies that are due. Some lines are other than the words of a command, cut at each space:
 //!
 //!     COMMAND >/dev/full     the output is a full disk
 //!     COMMAND, interrupted   a signal interrupts each call of a file and of the output
@@ -10,13 +10,11 @@
 //!     text WORDS             a text or a line by itself (`texts`)
 //!     memory STEP            a command over files in memory, or what makes these (`in_memory`)
 //!     two-callers            a board that two callers share, and what stands in its history
-//!     callers COUNT TIMES    one that so many share, each on a thread of its own, and whether each did what it must
 //!
-//! Of a command line the characters `~`, `^`, `!` and `?` stand for the bytes FFh, C3h, A9h and 80h. `#` begins a
-//! comment, which is told as it is. At last comes the command of this program's own words, as `board` does it.
+//! Of a command line the characters `~`, `^`, `!` and `?` stand for the bytes FFh, C3h, A9h and 80h. `#` begins a comment, which
+//! is told as it is. At last comes the command of this program's own words, as `board` does it.
 #![tactic(auto)]
 
-mod callers;
 mod files;
 mod in_memory;
 mod lines;
@@ -26,6 +24,7 @@ mod made;
 mod shaken;
 mod texts;
 mod turn;
+mod two_callers;
 
 use crate::lines::{Bytes, NoRoom, Row, given_by};
 use crate::shaken::{Shaken, ShakenFolder};
@@ -47,8 +46,7 @@ const FAILED: u8 = 8;
 /// The greatest exit code of a command.
 const MOST_CODE: u8 = 9;
 
-/// Does what a command line asks for. No clause stands here, so that nothing else is proved with those of
-/// `run_program`.
+/// Does what a command line asks for. No clause stands here, so that nothing else is proved with those of `run_program`.
 fn end_of<R, L: CommandLine, F: Folder + Drop, W: Write, E: Write>(
     rt: &R,
     line: &L,
@@ -202,8 +200,7 @@ where
         "text" => write_text(told, rt.alloc(), rest),
         "given" => tell_given(rt, told, line, false),
         "unread" => tell_given(rt, told, line, true),
-        "two-callers" => callers::tell_two(rt, told),
-        "callers" => callers::tell_many(rt, told, rest),
+        "two-callers" => two_callers::tell(rt, told),
         "no-room" => {
             show(rt, told, &NoRoom);
             Ok(())

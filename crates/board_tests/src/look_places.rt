@@ -219,7 +219,7 @@ fn run(rt: &impl Abort, alloc: Global, phases: &str) {
             .place(u32::from(version == "1"), &bus, works)
             .expect(rt, "places");
         let added = placed(alloc, &bus, order.entries(), before).expect(rt, "a text");
-        assert!(rt; added.as_str() == due);
+        assert!(rt; added.as_str() == due, "{due}");
     }
 }
 

@@ -72,7 +72,7 @@ fn follow(
             assert!(rt; map.version() < MOST_STATEMENTS as u32);
             map.apply(&change);
             let anew = FlatMap::from_scratch(map.regs().copy());
-            assert!(rt; map.ranges() == anew.ranges());
+            assert_eq!(rt; map.ranges(), anew.ranges());
         }
         board.step(statement.actor, &statement.event);
     }
@@ -101,7 +101,7 @@ fn made_maps_are_built_as_from_scratch(rt: HostRuntime) -> Result<(), Fail> {
     let mut board = made_board(rt.alloc(), &script)?;
     let mut map = board.map().copy();
     follow_script(&rt, &mut board, &mut map, &script)?;
-    assert!(rt; map.version() == 10);
-    assert!(rt; map.ranges() == board.map().ranges());
+    assert_eq!(rt; map.version(), 10);
+    assert_eq!(rt; map.ranges(), board.map().ranges());
     Ok(())
 }

@@ -2,7 +2,7 @@ use Rattle.std.proofs.Common.{rules, ◌≡◌, List, sym, subst, ap}
 use Rattle.board_live.specs.declared.cpu.Cpu.{Cpu}
 use Rattle.board_live.specs.Callers.{IsCallerOf, IsSameCaller}
 use Rattle.board_live.proofs.Opening.{all_again}
-use Rattle.app_commands.proofs.callers.all_write.Goals as goal
+use Rattle.board_tests.proofs.callers.all_write.Goals as goal
 
 pub returns : goal.returns
 returns g c =

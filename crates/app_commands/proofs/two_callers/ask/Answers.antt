@@ -1,5 +1,5 @@
 use Rattle.board_live.specs.Callers.{setup_of}
-use Rattle.app_commands.proofs.callers.ask.Goals as goal
+use Rattle.app_commands.proofs.two_callers.ask.Goals as goal
 
 pub bus-requires-clause-event : goal.bus-requires-clause-event
 bus-requires-clause-event g c = c.requires.event (setup_of c.args.cpu.now)

@@ -1,6 +1,6 @@
 use Rattle.std.proofs.Common.{◌≤◌, ◌*◌, length}
 use Rattle.board_live.specs.Callers.{IsCallerOf, IsSameCaller, mine_of}
-use Rattle.app_commands.proofs.callers.write_often.Given as goal
+use Rattle.board_tests.proofs.callers.write_often.Given as goal
 
 abbrev pub invariant-loop-value : goal.invariant-loop-value
 invariant-loop-value g l = record {
