@@ -1,7 +1,37 @@
-//! The board as a library: one access of a fresh board, and a monitor over a chipset.
+//! The board and its parts as libraries: a short example of each public type.
+//!
+//! | example                             | type                 | shows                                           |
+//! |-------------------------------------|----------------------|-------------------------------------------------|
+//! | `reset_vector`                      | `Board`              | the first fetch of a processor                  |
+//! | `serve`, `serve_all`                | `Chipset`            | a monitor's loop over the exits of a guest      |
+//! | `replay::read_back`                 | `Replay`             | a byte is written and read back                 |
+//! | `serial::looped_back`               | `Uart`               | a byte comes back by loopback                   |
+//! | `serial::sent`                      | `SerialBoard`        | a byte is sent on COM1                          |
+//! | `transfer::first_sector`            | `BusMaster`          | a sector is moved from the disk to memory       |
+//! | `pit::counted_down`                 | `Pit`                | a counter is programmed, runs, and is read back |
+//! | `pic::acknowledged`                 | `PicPair`            | a line is raised, its interrupt acknowledged    |
+//! | `pic::routed`                       | `Pirq`, `Elcr`       | the interrupt of a card is routed               |
+//! | `clock::flags_at`                   | `Cmos`               | the alarm goes off                              |
+//! | `disk::sectors`                     | `Ata`                | a disk is identified                            |
+//! | `dram::first_of_boot_sector`        | `Dram`               | bytes are loaded, and read as a number          |
+//! | `map::shadowed`                     | `FlatMap`            | a shadow window is opened and looked at         |
+//! | `published::seen`                   | `Publisher`, `Viewer`| a viewer sees that the map was changed          |
+//! | `live::shared`                      | `Live`, `Cpu`        | a caller does an event in its turn              |
 #![tactic(auto)]
 
+pub mod clock;
+pub mod disk;
+pub mod dram;
+mod fitted;
+pub mod live;
+pub mod map;
 mod monitor;
+pub mod pic;
+pub mod pit;
+pub mod published;
+pub mod replay;
+pub mod serial;
+pub mod transfer;
 
 ghost use Rattle.std.specs.Prelude.{◌≡◌, ◌≢◌, ◌↔◌, [], false, None, length, Err, IfOk};
 ghost use Rattle.board_prelude.specs.Common.{Kind, Width, Event, IsRomSize, IsAnswer};

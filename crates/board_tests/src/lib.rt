@@ -14,6 +14,8 @@ mod doubles;
 #[cfg(test)]
 mod eight;
 #[cfg(test)]
+mod examples;
+#[cfg(test)]
 mod first_fetch;
 #[cfg(test)]
 mod history;
