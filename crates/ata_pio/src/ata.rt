@@ -29,7 +29,7 @@ pub enum AtaOpen {
     NoMemory,
 }
 
-/// An ATA disk, drive 0 of a channel with no other drive.
+/// An ATA disk, drive 0 of a channel with no other drive. `board_example::disk` has an example.
 #[derive(Drop)]
 pub struct Ata {
     pub(crate) sectors: Sectors,

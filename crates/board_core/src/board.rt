@@ -25,7 +25,8 @@ use map_builder::FlatMap;
 use std::alloc::Global;
 use std::marker::Model;
 
-/// A board. Contracts see its setup, its history and the room for more entries.
+/// A board. Contracts see its setup, its history and the room for more entries. `board_example::reset_vector` is an
+/// example.
 #[derive(Drop)]
 pub struct Board {
     replay: Replay,

@@ -22,7 +22,7 @@ use std::alloc::Global;
 use std::marker::Model;
 
 /// A board that keeps no history. Contracts see its chipset and how many entries there were, and which histories it may
-/// have played.
+/// have played. `board_example::replay` has an example.
 #[derive(Drop)]
 pub struct Replay {
     chipset: Chipset,

@@ -18,7 +18,7 @@ use shared_board::sharing::{shared, unshared};
 use std::alloc::{AllocFailed, Global};
 use std::sync::Wait;
 
-/// A board that callers share by turns.
+/// A board that callers share by turns. `board_example::live` has an example.
 pub struct Live {
     pub turn: Turn<Shared>,
 }

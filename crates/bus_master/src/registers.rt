@@ -31,7 +31,7 @@ const ERROR: u32 = 1;
 const INTERRUPT: u32 = 2;
 
 /// A channel of the bus master IDE function (82371SB, 2.7). Contracts see its command, its status and its table
-/// pointer.
+/// pointer. `board_example::transfer` has an example.
 #[derive(Drop)]
 pub struct BusMaster {
     pub(crate) command: u8,

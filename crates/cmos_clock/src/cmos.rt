@@ -47,6 +47,7 @@ const UPDATE_FLAG: u8 = 0x10;
 const ANY_TIME: u8 = 0xC0;
 
 /// The MC146818 real time clock with its 128 bytes. Time passes only by the moments that `moment` gives it.
+/// `board_example::clock` has an example.
 #[derive(Drop)]
 pub struct Cmos {
     pub(crate) index: u8,

@@ -15,7 +15,8 @@ use std::marker::Model;
 #[derive(Clone, Copy, PartialEq, Eq, Debug)]
 pub struct PastTheEnd;
 
-/// The installed DRAM, in whole MiB, up to 512. Contracts see the list of its bytes.
+/// The installed DRAM, in whole MiB, up to 512. Contracts see the list of its bytes. `board_example::dram` has an
+/// example.
 #[derive(Drop)]
 pub struct Dram {
     /// A bank for each MiB.

@@ -28,7 +28,7 @@ use std::sync::ledger::{Blank, Ledger};
 const NOTHING: Changed = Changed { lo: 0, hi: 0 };
 
 /// The memory map of some registers, and how many changes it has had: the least list of ranges from the first address
-/// to the last in each of which every address has the same areas.
+/// to the last in each of which every address has the same areas. `board_example::map` has an example.
 #[derive(Drop)]
 pub struct FlatMap {
     pub(crate) regs: MapRegs,

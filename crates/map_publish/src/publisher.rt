@@ -23,7 +23,7 @@ use std::sync::Wait;
 pub(crate) type Copies = Writer<Shown, Next, Name, Published>;
 
 /// A map, of which two copies are kept so that viewers can look at one while the other is changed. It is not `Drop`:
-/// end it by `close`.
+/// end it by `close`. `board_example::published` has an example.
 pub struct Publisher {
     writer: Copies,
     head: Head,

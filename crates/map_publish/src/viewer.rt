@@ -30,7 +30,7 @@ pub struct Note {
 pub(crate) type Place = Reader<Shown, Name, Published>;
 
 /// A viewer. It keeps the sight of the newest map that it was opened with, found by a look, or learnt from a note, and
-/// its place at the published copies.
+/// its place at the published copies. `board_example::published` has an example.
 #[derive(Drop)]
 pub struct Viewer {
     /// None only inside a call that reads what is published.

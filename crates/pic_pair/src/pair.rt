@@ -35,7 +35,8 @@ pub struct Ack {
     pub spurious: bool,
 }
 
-/// The 8259A pair: the master at ports 20h and 21h, and the slave at A0h and A1h on its input 2.
+/// The 8259A pair: the master at ports 20h and 21h, and the slave at A0h and A1h on its input 2. `board_example::pic`
+/// has an example.
 #[derive(Drop)]
 pub struct PicPair {
     pub(crate) master: Pic,

@@ -15,7 +15,7 @@ const WRITABLE_LOW: u8 = 0xF8;
 /// The bits of 4D1h that can be written: lines 8 and 13 stay edge triggered.
 const WRITABLE_HIGH: u8 = 0xDE;
 
-/// The edge/level control registers: a bit at 1 makes its line level triggered.
+/// The edge/level control registers: a bit at 1 makes its line level triggered. `board_example::pic` has an example.
 #[derive(Drop)]
 pub struct Elcr {
     pub(crate) low: u8,

@@ -29,7 +29,7 @@ const WRITABLE: u8 = DISABLED | LINE_BITS;
 
 /// The four PIRQ route control registers of the PIIX3, in its function 0.
 ///
-/// Contracts see the list of their four bytes.
+/// Contracts see the list of their four bytes. `board_example::pic` has an example.
 #[derive(Drop)]
 pub struct Pirq {
     pub(crate) bytes: [u8; 4],

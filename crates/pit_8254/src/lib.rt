@@ -40,7 +40,7 @@ const CHOOSES_2: u32 = 3;
 
 /// The 8254: three counters, of which contracts see the state of the datasheet's machine.
 ///
-/// The gates of counters 0 and 1 are always 1.
+/// The gates of counters 0 and 1 are always 1. `board_example::pit` has an example.
 #[derive(Drop)]
 pub struct Pit {
     counter0: Counter,

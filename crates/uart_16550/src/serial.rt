@@ -20,6 +20,7 @@ use std::marker::Model;
 
 /// A board with a 16550 on COM1: ports 3F8h to 3FFh, interrupt line 4. Contracts see the board and the port, and speak
 /// of every history that left them so: in it line 4 has the or of the UART's line and the script's level.
+/// `board_example::serial` has an example.
 #[derive(Drop)]
 pub struct SerialBoard<B: SteppedBoard> {
     pub(crate) board: B,

@@ -20,6 +20,7 @@ use byte_queue::{FIFO_SIZE, Queue};
 use std::marker::Model;
 
 /// A 16550. Contracts see the machine of the definitions. No time passes in it: a byte is sent as it is written.
+/// `board_example::serial` has an example.
 #[derive(Drop)]
 pub struct Uart {
     pub(crate) ier: u8,
