@@ -2,11 +2,11 @@
 
 ghost use Rattle.std.specs.Prelude.{◌≡◌, ◌≢◌, ◌⊎◌, [], length, true, false, Some, IsSomeAnd};
 ghost use Rattle.board_records.specs.declared.left.LeftOut.{LeftOut as Left};
-ghost use Rattle.board_records.specs.Common.{AreAsMany, Behind, IsBehind, IsGivenBoard, IsGivenRefusal, IsSaveRefusal, IsWritten, closed, image_bytes, left_of, no_memory, no_room, ok, on_board, with_given, without, without_roms};
+ghost use Rattle.board_records.specs.Common.{AreAsMany, Behind, IsBehind, IsGivenBoard, IsGivenRefusal, IsSaveRefusal, IsWritten, closed, given_of, image_bytes, left_of, no_memory, no_room, ok, on_board, with_given, without, without_roms};
 
 use crate::handle::Handle;
 use board_records::status::{CLOSED, NO_MEMORY, OK};
-use board_records::{Door, LeftOut};
+use board_records::{Door, Given, LeftOut};
 use std::alloc::Global;
 
 /// Writes the board as `board_save` does, without the bytes of the DRAM or those of the disk, as it was fitted and as its
@@ -55,28 +55,33 @@ pub extern "C" fn board_load_with(
     fitted: &[u8],
     sectors: &[u8],
 ) -> u32
-    ensures done { result ≡ ok → (handle.new.full ≡ true) × IsSomeAnd handle.new.held
-        (λ held. (held.roms ≡ []) × IsGivenBoard from.now
-        (record { dram = dram.now; fitted = fitted.now; sectors = sectors.now }) held.behind) }
+    ensures done { result ≡ ok → (handle.new.full ≡ true) × IsSomeAnd handle.new.held (λ held. (held.roms ≡ [])
+        × IsGivenBoard from.now (given_of dram.now fitted.now sectors.now) held.behind) }
+    ensures sound { result ≡ ok → IsSomeAnd handle.new.held (λ held. IsBehind held.behind) }
     ensures exact { (behind : Behind) → handle.old.full ≡ false → IsBehind behind → from.now ≡ image_bytes behind
-        → AreAsMany (record { dram = dram.now; fitted = fitted.now; sectors = sectors.now }) behind.serial.board.setup
-        → (result ≡ no_memory) ⊎ ((result ≡ ok) × (handle.new.held ≡ Some (without_roms (on_board
-        (with_given (record { dram = dram.now; fitted = fitted.now; sectors = sectors.now })) behind)))) }
+        → AreAsMany (given_of dram.now fitted.now sectors.now) behind.serial.board.setup
+        → (result ≡ no_memory) ⊎ ((result ≡ ok) × (handle.new.held ≡ Some (without_roms
+        (on_board (with_given (given_of dram.now fitted.now sectors.now)) behind)))) }
     ensures saved { (left : Left) (behind : Behind) → handle.old.full ≡ false → IsBehind behind
         → from.now ≡ image_bytes (without left behind)
-        → record { dram = dram.now; fitted = fitted.now; sectors = sectors.now } ≡ left_of left behind.serial.board
+        → given_of dram.now fitted.now sectors.now ≡ left_of left behind.serial.board
         → (result ≡ no_memory) ⊎ ((result ≡ ok) × (handle.new.held ≡ Some (without_roms behind))) }
     ensures twice { handle.old.full ≡ true → result ≡ closed }
     ensures held { handle.old.full ≡ true → handle.new.held ≡ handle.old.held }
-    ensures refused { handle.old.full ≡ false → result ≢ ok → IsGivenRefusal from.now
-        (record { dram = dram.now; fitted = fitted.now; sectors = sectors.now }) result }
+    ensures refused { handle.old.full ≡ false → result ≢ ok
+        → IsGivenRefusal from.now (given_of dram.now fitted.now sectors.now) result }
     ensures kept { result ≢ ok → handle.new.full ≡ handle.old.full }
 {
     if let Some(board) = handle.take(alloc) {
         handle.put(board);
         return CLOSED;
     }
-    let board = match Door::load_with(alloc, from, dram, fitted, sectors) {
+    let given = Given {
+        dram,
+        fitted,
+        sectors,
+    };
+    let board = match Door::load_with(alloc, from, &given) {
         Ok(board) => board,
         Err(status) => return status,
     };

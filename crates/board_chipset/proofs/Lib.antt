@@ -12,6 +12,7 @@ pub mod OutsideSteps
 pub mod MemorySteps
 pub mod ChangeSteps
 pub mod Lefts
+pub mod Held
 pub mod Openings
 pub mod Exact
 pub mod ResetLemmas

@@ -6,6 +6,7 @@ pub mod Chipset
 pub mod ChipsetState
 pub mod Faults
 pub mod Given
+pub mod Held
 pub mod Kept
 pub mod Loads
 pub mod Masters

@@ -7,7 +7,8 @@ ghost use Rattle.board_prelude.specs.Common.{IsFlatMapOf, disk_of};
 ghost use Rattle.addr_decode.specs.MapRegs.{StandsFor, map_bytes};
 ghost use Rattle.dram_store.specs.Dram.{IsDramOf};
 ghost use Rattle.pci_bars.specs.Contents.{IsContentsOf};
-ghost use Rattle.board_chipset.specs.Chipset.{IsLeftBy};
+ghost use Rattle.board_chipset.specs.Chipset.{IsLeftBy, IsRunning};
+ghost use Rattle.board_chipset.specs.Held.{HoldsBytes};
 ghost use Rattle.board_chipset.specs.Stores.{IsOfBoard, IsStoreOf};
 ghost use Rattle.board_chipset.specs.Versions.{version_count, AreLastChanged, IsAnswerModulo};
 
@@ -94,8 +95,13 @@ impl Chipset {
     }
 
     /// The memory map of the registers as they stand. Its version is the number of map writes so far, modulo 2^32: the
-    /// stores to a register that the map depends on, and the hard resets.
+    /// stores to a register that the map depends on, and the hard resets. The registers are those of the state, also where
+    /// no history left it so.
     pub fn map(&self) -> &FlatMap
+        ensures held { result.now ≡ self.now.state.registers.map }
+        ensures bytes { (history : List Entry) → IsLeftBy self.now history
+            → HoldsBytes self.now (byte_of self.now.setup history) }
+        ensures sound { IsRunning self.now }
         ensures stands { (history : List Entry) → IsLeftBy self.now history
             → StandsFor self.now.setup (byte_of self.now.setup history) result.now.regs }
         ensures map { (history : List Entry) → IsLeftBy self.now history

@@ -1,8 +1,9 @@
 //! What an access of a bus master would reach, without doing it: nothing changes.
 
 ghost use Rattle.std.specs.Prelude.{◌≡◌, ◌≢◌, List};
-ghost use Rattle.board_prelude.specs.Common.{Entry, Smram, byte_of};
+ghost use Rattle.board_prelude.specs.Common.{Bytes, Entry, Smram, byte_of};
 ghost use Rattle.board_chipset.specs.Chipset.{IsLeftBy};
+ghost use Rattle.board_chipset.specs.Held.{HoldsBytes};
 ghost use Rattle.board_chipset.specs.Masters.{IsOutsideSmram, master_part};
 
 use crate::chipset::Chipset;
@@ -18,6 +19,8 @@ impl Chipset {
     pub fn decode_master(&self, addr: u32, kind: Kind) -> Part
         ensures part { (history : List Entry) → IsLeftBy self.now history
             → result ≡ master_part self.now.setup (byte_of self.now.setup history) kind addr }
+        ensures held { (bytes : Bytes) → HoldsBytes self.now bytes
+            → result ≡ master_part self.now.setup bytes kind addr }
         ensures no_smram { result.target ≢ Smram }
         ensures outside { IsOutsideSmram result.target addr }
     {

@@ -5,6 +5,7 @@ use Rattle.board_records.specs.Given.{AreAsMany, Given, IsGivenBoard, IsGivenRef
 use Rattle.board_records.specs.Images.{IsBehind, image_bytes}
 use Rattle.board_records.specs.Statuses.{bad_length, no_memory}
 use Rattle.board_records.proofs.Images.{never_err, ok_of, ok_same}
+use Rattle.board_records.proofs.LeftSteps.{sound_with}
 
 -- what a call says that puts them in
 abbrev pub Puts : Given → Behind → Result Behind ℕ → Type 0
@@ -23,6 +24,14 @@ given_loaded (Ok it) given loaded bytes puts sound image = record {
   same = puts.0.0;
 }
 given_loaded (Err status) given loaded bytes puts sound image = tt
+
+-- and steps can go on from it
+pub given_sound :
+    (result : Result Behind ℕ) (given : Given) (loaded : Behind) → Puts given loaded result → IsBehind loaded →
+    IfOk result IsBehind
+given_sound (Ok it) given loaded puts sound =
+    subst IsBehind (sym puts.0.0) (sound_with given loaded puts.0.1 sound)
+given_sound (Err status) given loaded puts sound = tt
 
 pub given_refused :
     (result : Result Behind ℕ) (given : Given) (loaded : Behind) (bytes : List ℕ) → Puts given loaded result →

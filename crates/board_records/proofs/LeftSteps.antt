@@ -11,7 +11,7 @@ use Rattle.board_chipset.proofs.LeftBytes.{left_length, left_on, zeros_length}
 use Rattle.board_spec.specs.Setup.{installed}
 use Rattle.board_records.specs.declared.left.LeftOut.{LeftOut}
 use Rattle.board_records.specs.Doors.{Behind}
-use Rattle.board_records.specs.Given.{AreAsMany, Given, given_or, left_of, on_board, with_given, without}
+use Rattle.board_records.specs.Given.{AreAsMany, Given, IsAsMany, given_or, left_of, on_board, with_given, without}
 use Rattle.board_records.specs.Images.{IsBehind, image_bytes}
 use Rattle.board_records.proofs.Images.{ok_of}
 use Rattle.board_records.specs.Statuses.{no_memory}
@@ -89,6 +89,41 @@ sound_without left behind is = record {
   say = is.say;
 }
 
+-- ---- what is given in their place
+
+sectors_long : (fitted : Option (List ℕ)) (disk : Option Disk) → IsFittedDisk fitted disk →
+    length (unwrap_or (sectors_in disk) []) ≡ length (unwrap_or fitted [])
+sectors_long None None is = refl
+sectors_long None (Some disk) is = absurd is
+sectors_long (Some bytes) None is = absurd is
+sectors_long (Some bytes) (Some disk) is = is.medium.bytes
+
+given_length : (given own : List ℕ) (size : ℕ) → IsAsMany given size → length own ≡ size →
+    length (given_or given own) ≡ length own
+given_length [] own size same is = refl
+given_length (byte ∷ later) own size same is = same (λ none. cc) ∙ sym is
+
+pub sound_with : (given : Given) (behind : Behind) → AreAsMany given behind.serial.board.setup → IsBehind behind →
+    IsBehind (on_board (with_given given) behind)
+sound_with given behind many is =
+    let chipset : Running = behind.serial.board in
+    let fitted : List ℕ = fitted_on chipset in
+    record {
+      state = record {
+        chipset =
+            whole_with (given_or given.dram (dram_on chipset)) (given_or given.fitted fitted)
+            (given_or given.sectors (sectors_on chipset)) chipset
+            (given_length given.dram (dram_on chipset) (installed chipset.setup) many.dram
+            is.state.chipset.whole.stores.dram)
+            (given_length given.fitted fitted (length fitted) many.fitted refl)
+            (given_length given.sectors (sectors_on chipset) (length fitted) many.sectors
+            (sectors_long chipset.setup.disk chipset.state.devices.disk is.state.chipset.whole.devices.disk))
+            is.state.chipset;
+        port = is.state.port;
+      };
+      say = is.say;
+    }
+
 -- ---- its own put in again
 
 given_back : (left : Bool) (bytes : List ℕ) → given_or (if left then bytes else []) (unless_left left bytes) ≡ bytes
@@ -148,13 +183,6 @@ as_many : (left : Bool) (bytes : List ℕ) (size : ℕ) → length bytes ≡ siz
     length (if left then bytes else []) ≡ size
 as_many true bytes size same some = same
 as_many false bytes size same some = absurd (some refl)
-
-sectors_long : (fitted : Option (List ℕ)) (disk : Option Disk) → IsFittedDisk fitted disk →
-    length (unwrap_or (sectors_in disk) []) ≡ length (unwrap_or fitted [])
-sectors_long None None is = refl
-sectors_long None (Some disk) is = absurd is
-sectors_long (Some bytes) None is = absurd is
-sectors_long (Some bytes) (Some disk) is = is.medium.bytes
 
 pub own_as_many : (left : LeftOut) (behind : Behind) → IsBehind behind →
     AreAsMany (left_of left behind.serial.board) (without left behind).serial.board.setup

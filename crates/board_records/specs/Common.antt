@@ -5,7 +5,7 @@ pub use Rattle.board_records.specs.CardRoms.{AreRomsWritten, IsRomKept, IsRomRef
 pub use Rattle.board_records.specs.Cards.{identities_said}
 pub use Rattle.board_records.specs.Doors.{Behind, Held, IsDoorStep, IsOpenRefusal, IsOpenedWith, IsSetupRefusal, OnBoard, OnBoth, SameRoms, setup_said, without_roms}
 unfoldable pub use Rattle.board_records.specs.Events.{asked_said, event_said}
-pub use Rattle.board_records.specs.Given.{AreAsMany, Given, HasOtherLength, IsAsMany, IsGivenBoard, IsGivenRefusal, left_of, on_board, with_given, without}
+pub use Rattle.board_records.specs.Given.{AreAsMany, Given, HasOtherLength, IsAsMany, IsGivenBoard, IsGivenRefusal, given_of, left_of, on_board, with_given, without}
 pub use Rattle.board_records.specs.Images.{IsBehind, IsLoadRefusal, IsSaveRefusal, IsWritten, image_bytes}
 pub use Rattle.board_records.specs.Maps.{AreRangesTold, AreWindowsTold, IsVersionSaid}
 pub use Rattle.board_records.specs.Masters.{IsMasterCycle, IsMasterPlaced}

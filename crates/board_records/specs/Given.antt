@@ -26,6 +26,9 @@ pub record Given : Type 0 where
   pub fitted : List ℕ
   pub sectors : List ℕ
 
+abbrev pub given_of : (dram fitted sectors : List ℕ) → Given
+given_of dram fitted sectors = record { dram = dram; fitted = fitted; sectors = sectors }
+
 abbrev pub given_or : (given own : List ℕ) → List ℕ
 given_or [] own = own
 given_or (byte ∷ later) own = byte ∷ later

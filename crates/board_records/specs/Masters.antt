@@ -1,7 +1,8 @@
 -- Where an access of a bus master would land, in numbers.
 use Rattle.std.specs.Prelude.{ℕ, ◌≡◌, ◌≢◌, ◌⊎◌, ◌%◌, Bool, true, false, List, Some}
-use Rattle.board_prelude.specs.Common.{Width, Kind, Read, Write, bytes_of, Entry, byte_of, is_smram_range}
+use Rattle.board_prelude.specs.Common.{Bytes, Width, Kind, Read, Write, bytes_of, Entry, byte_of, is_smram_range}
 use Rattle.board_chipset.specs.Common.{Running, IsLeftBy, master_part}
+use Rattle.board_chipset.specs.Held.{HoldsBytes}
 use Rattle.board_records.specs.declared.reply.PartRecord.{PartRecord}
 use Rattle.board_records.specs.Events.{width_said}
 use Rattle.board_records.specs.Numbers.{dram_target, shadow_target, smram_target}
@@ -20,5 +21,7 @@ pub record IsMasterPlaced (chipset : Running) (addr bytes : ℕ) (is_write : Boo
   pub cycle : IsMasterCycle addr bytes
   pub part : (history : List Entry) → IsLeftBy chipset history →
       said ≡ of_part (master_part chipset.setup (byte_of chipset.setup history) (master_kind is_write) addr)
+  pub held : (registers : Bytes) → HoldsBytes chipset registers →
+      said ≡ of_part (master_part chipset.setup registers (master_kind is_write) addr)
   pub no_smram : said.target ≢ smram_target
   pub outside : (said.target ≡ dram_target) ⊎ (said.target ≡ shadow_target) → is_smram_range addr ≡ false

@@ -14,47 +14,56 @@ use crate::image::{Loaded, load};
 use crate::status::BAD_LENGTH;
 use board_chipset::{Chipset, OtherLength};
 use std::alloc::Global;
+use std::marker::Model;
 use uart_16550::SerialBoard;
 
+/// What a monitor gives beside an image: the bytes of the DRAM, of the disk as it was fitted, and of its sectors as
+/// they stand. No bytes are none given.
+#[derive(Drop)]
+pub struct Given<'a> {
+    pub dram: &'a [u8],
+    pub fitted: &'a [u8],
+    pub sectors: &'a [u8],
+}
+
+impl<'a> Model for Given<'a> {
+    ghost use Rattle.board_records.specs.Given.{Given as GivenBytes, given_of};
+
+    ghost Value = { GivenBytes };
+
+    ghost view = { λ given. given_of given.dram.now given.fitted.now given.sectors.now };
+}
+
 /// The board whose bytes these are, with those that are given in their place: `Door::load_with`.
-pub(crate) fn load_with(
-    alloc: Global,
-    from: &[u8],
-    dram: &[u8],
-    fitted: &[u8],
-    sectors: &[u8],
-) -> Result<Loaded, u32>
-    ensures loaded { IfOk result (IsGivenBoard from.now
-        (record { dram = dram.now; fitted = fitted.now; sectors = sectors.now })) }
+pub(crate) fn load_with(alloc: Global, from: &[u8], given: &Given) -> Result<Loaded, u32>
+    ensures loaded { IfOk result (IsGivenBoard from.now given.now) }
+    ensures sound { IfOk result IsBehind }
     ensures exact { (behind : Behind) → IsBehind behind → from.now ≡ image_bytes behind
-        → AreAsMany (record { dram = dram.now; fitted = fitted.now; sectors = sectors.now }) behind.serial.board.setup
-        → (result ≡ Err no_memory) ⊎ (result ≡ Ok (on_board
-        (with_given (record { dram = dram.now; fitted = fitted.now; sectors = sectors.now })) behind)) }
+        → AreAsMany given.now behind.serial.board.setup
+        → (result ≡ Err no_memory) ⊎ (result ≡ Ok (on_board (with_given given.now) behind)) }
     ensures saved { (left : Left) (behind : Behind) → IsBehind behind → from.now ≡ image_bytes (without left behind)
-        → record { dram = dram.now; fitted = fitted.now; sectors = sectors.now } ≡ left_of left behind.serial.board
+        → given.now ≡ left_of left behind.serial.board
         → (result ≡ Err no_memory) ⊎ (result ≡ Ok behind) }
-    ensures refused { IfErr result (IsGivenRefusal from.now
-        (record { dram = dram.now; fitted = fitted.now; sectors = sectors.now })) }
+    ensures refused { IfErr result (IsGivenRefusal from.now given.now) }
 {
     match load(alloc, from) {
-        Ok(behind) => with_given(behind, dram, fitted, sectors),
+        Ok(behind) => with_given(behind, given),
         Err(status) => Err(status),
     }
 }
 
 /// A board with the bytes that are given.
-fn with_given(behind: Loaded, dram: &[u8], fitted: &[u8], sectors: &[u8]) -> Result<Loaded, u32>
-    ensures given { IfOk result (λ given. (given ≡ on_board
-        (with_given (record { dram = dram.now; fitted = fitted.now; sectors = sectors.now })) behind)
-        × AreAsMany (record { dram = dram.now; fitted = fitted.now; sectors = sectors.now }) behind.serial.board.setup) }
+fn with_given(behind: Loaded, given: &Given) -> Result<Loaded, u32>
+    ensures given { IfOk result (λ loaded. (loaded ≡ on_board (with_given given.now) behind)
+        × AreAsMany given.now behind.serial.board.setup) }
     ensures refused { IfErr result (λ status. (status ≡ bad_length)
-        × ¬ AreAsMany (record { dram = dram.now; fitted = fitted.now; sectors = sectors.now }) behind.serial.board.setup) }
+        × ¬ AreAsMany given.now behind.serial.board.setup) }
 {
     let Loaded {
         mut serial,
         identities,
     } = behind;
-    match put_given(&mut serial, dram, fitted, sectors) {
+    match put_given(&mut serial, given) {
         Ok(()) => Ok(Loaded { serial, identities }),
         Err(OtherLength) => Err(BAD_LENGTH),
     }
@@ -62,24 +71,16 @@ fn with_given(behind: Loaded, dram: &[u8], fitted: &[u8], sectors: &[u8]) -> Res
 
 /// Puts in the bytes that are given. Where some are not as many as those in whose place they stand, others may have been
 /// put in.
-fn put_given(
-    serial: &mut SerialBoard<Chipset>,
-    dram: &[u8],
-    fitted: &[u8],
-    sectors: &[u8],
-) -> Result<(), OtherLength>
+fn put_given(serial: &mut SerialBoard<Chipset>, given: &Given) -> Result<(), OtherLength>
     ensures put { OnOk result (serial.new ≡ record serial.old {
-      board = with_given
-          (record { dram = dram.now; fitted = fitted.now; sectors = sectors.now }) serial.old.board;
+      board = with_given given.now serial.old.board;
     }) }
-    ensures as_many { OnOk result
-        (AreAsMany (record { dram = dram.now; fitted = fitted.now; sectors = sectors.now }) serial.old.board.setup) }
-    ensures refused { OnErr result
-        (¬ AreAsMany (record { dram = dram.now; fitted = fitted.now; sectors = sectors.now }) serial.old.board.setup) }
+    ensures as_many { OnOk result (AreAsMany given.now serial.old.board.setup) }
+    ensures refused { OnErr result (¬ AreAsMany given.now serial.old.board.setup) }
 {
-    put_dram(serial, dram)?;
-    put_sectors(serial, sectors)?;
-    put_fitted(serial, fitted)
+    put_dram(serial, given.dram)?;
+    put_sectors(serial, given.sectors)?;
+    put_fitted(serial, given.fitted)
 }
 
 /// Puts in the bytes of the DRAM, where they are given.

@@ -32,6 +32,7 @@ pub use asked::asked_of;
 pub use card::{BaseRecord, CardRecord, cards_of};
 pub use door::Door;
 pub use event::{EventRecord, event_of};
+pub use given::Given;
 pub use image::write_front;
 pub use left::LeftOut;
 pub use map::{AreaRecord, MapRecord, RangeRecord, WindowRecord};

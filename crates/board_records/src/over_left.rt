@@ -8,7 +8,7 @@ ghost use Rattle.board_records.specs.Images.{IsBehind, IsSaveRefusal, IsWritten,
 ghost use Rattle.board_records.specs.Statuses.{ok, closed, no_memory, no_room};
 
 use crate::door::Door;
-use crate::given::load_with;
+use crate::given::{Given, load_with};
 use crate::image::Loaded;
 use crate::left::{LeftOut, save_without};
 use std::alloc::Global;
@@ -36,33 +36,25 @@ impl Door {
         save_without(alloc, left, &self.serial, &self.identities, into, bytes)
     }
 
-    /// The board whose bytes these are, as `load` gives it, with the bytes that are given in the place of its own: those of
-    /// the DRAM, of the disk as it was fitted, and of its sectors as they stand. No bytes are none given; which sectors are
-    /// bad stays. So with the bytes that `save_without` left out it is the board that was saved.
+    /// The board whose bytes these are, as `load` gives it, with what is given in the place of its own bytes; which
+    /// sectors are bad stays. So with the bytes that `save_without` left out it is the board that was saved.
     /// Refused as `load` is; and with `BAD_LENGTH` where the bytes are those of a board, and those given are not as many as
     /// it has.
-    pub fn load_with(
-        alloc: Global,
-        from: &[u8],
-        dram: &[u8],
-        fitted: &[u8],
-        sectors: &[u8],
-    ) -> Result<Door, u32>
-        ensures loaded { IfOk result (λ door. IsSomeAnd door (λ held. (held.roms ≡ []) × IsGivenBoard from.now
-            (record { dram = dram.now; fitted = fitted.now; sectors = sectors.now }) held.behind)) }
+    pub fn load_with(alloc: Global, from: &[u8], given: &Given) -> Result<Door, u32>
+        ensures loaded { IfOk result (λ door. IsSomeAnd door
+            (λ held. (held.roms ≡ []) × IsGivenBoard from.now given.now held.behind)) }
+        ensures sound { IfOk result (λ door. IsSomeAnd door (λ held. IsBehind held.behind)) }
         ensures exact { (behind : Behind) → IsBehind behind → from.now ≡ image_bytes behind
-            → AreAsMany (record { dram = dram.now; fitted = fitted.now; sectors = sectors.now })
-            behind.serial.board.setup
-            → (result ≡ Err no_memory) ⊎ (result ≡ Ok (Some (without_roms (on_board
-            (with_given (record { dram = dram.now; fitted = fitted.now; sectors = sectors.now })) behind)))) }
+            → AreAsMany given.now behind.serial.board.setup
+            → (result ≡ Err no_memory)
+            ⊎ (result ≡ Ok (Some (without_roms (on_board (with_given given.now) behind)))) }
         ensures saved { (left : Left) (behind : Behind) → IsBehind behind
             → from.now ≡ image_bytes (without left behind)
-            → record { dram = dram.now; fitted = fitted.now; sectors = sectors.now } ≡ left_of left behind.serial.board
+            → given.now ≡ left_of left behind.serial.board
             → (result ≡ Err no_memory) ⊎ (result ≡ Ok (Some (without_roms behind))) }
-        ensures refused { IfErr result (IsGivenRefusal from.now
-            (record { dram = dram.now; fitted = fitted.now; sectors = sectors.now })) }
+        ensures refused { IfErr result (IsGivenRefusal from.now given.now) }
     {
-        match load_with(alloc, from, dram, fitted, sectors) {
+        match load_with(alloc, from, given) {
             Ok(Loaded { serial, identities }) => Ok(Door {
                 serial,
                 identities,

@@ -16,3 +16,5 @@ pub use piece::{Piece, Stretch};
 pub use pieces::{Transfer, law_pieces};
 pub use registers::{BusMaster, COMMAND, DIRECTION, START, STATUS, TABLE};
 pub use state::TransferState;
+pub use transfer::SECTOR_WORDS;
+pub use under_way::{COUNT_OFFSET, DESCRIPTOR_BYTES, SECTOR_BYTES, WORD_BYTES};

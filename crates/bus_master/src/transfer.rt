@@ -16,7 +16,7 @@ use board_chipset::Store;
 use board_spec::bits::is_set;
 
 /// How many words a sector has.
-pub(crate) const SECTOR_WORDS: u32 = 256;
+pub const SECTOR_WORDS: u32 = 256;
 
 impl BusMaster {
     /// Moves `count` sectors, 1 to 256, from `lba` on, which is below 2^28, between the disk and the regions of the

@@ -27,15 +27,15 @@ use board_spec::range::SMRAM_RANGE;
 use std::marker::Model;
 
 /// How many bytes a sector has.
-pub(crate) const SECTOR_BYTES: u32 = 512;
+pub const SECTOR_BYTES: u32 = 512;
 /// How many bytes a word has.
-pub(crate) const WORD_BYTES: u32 = 2;
+pub const WORD_BYTES: u32 = 2;
 /// How many values a word can have.
 const WORD_VALUES: u32 = 0x1_0000;
 /// How many bytes a descriptor has: a doubleword for the base of a region, and one for its count.
-const DESCRIPTOR_BYTES: u32 = 8;
+pub const DESCRIPTOR_BYTES: u32 = 8;
 /// Where the count stands in a descriptor.
-pub(crate) const COUNT_OFFSET: u32 = 4;
+pub const COUNT_OFFSET: u32 = 4;
 /// The bit of the count's doubleword that marks the last descriptor of a table.
 const END_OF_TABLE: u32 = 31;
 /// The bytes of a region whose count is 0.

@@ -1,8 +1,9 @@
 -- A transfer that is driven through the calls comes to that of the definition.
 use Rattle.std.proofs.Common.{◌≡◌, ℕ, ◌+◌, ◌-◌, ◌*◌, ◌≤◌, ◌/◌, List, [], ◌∷◌, Bool, true, false, if◌then◌else◌, refl, sym, ap, subst, ◌∙◌, arith}
-use Rattle.board_prelude.proofs.Common.{Medium, Setup, Bytes, Entry, byte_of}
+use Rattle.board_prelude.proofs.Common.{Medium, Setup, Bytes}
 use Rattle.board_base.specs.declared.access.Width.TheVariants.{Four}
-use Rattle.board_chipset.specs.Common.{IsLeftBy, Running, master_part}
+use Rattle.board_chipset.specs.Common.{Running, master_part}
+use Rattle.board_chipset.specs.Held.{HoldsBytes}
 use Rattle.bus_master.specs.declared.done.Done.{Done}
 use Rattle.bus_master.specs.declared.done.End.{End}
 use Rattle.bus_master.specs.declared.done.End.TheVariants.{Exact, Longer, Shorter, Abort, Sector}
@@ -50,10 +51,7 @@ record AreTold (setup : Setup) (bytes : Bytes) (first last : Stage) : Type 0 whe
   done : all_done setup bytes pieces (point_of first) ≡ point_of last
   readable : AreReadable last.transfer last.medium
 
-module _ (chipset : Running) (history : List Entry) (left : IsLeftBy chipset history) where
-  abbrev bytes : Bytes
-  bytes = byte_of chipset.setup history
-
+module _ (chipset : Running) (bytes : Bytes) (held : HoldsBytes chipset bytes) where
   -- at the end nothing is done
   ended_done : (end : End) (moved : ℕ) (after : TransferRecord) (old : Stage) →
       done_as_told chipset.setup bytes (ended_said (record { end = end; moved = moved })) after old
@@ -140,7 +138,7 @@ module _ (chipset : Running) (history : List Entry) (left : IsLeftBy chipset his
       subst (λ (stage : Stage). AreReadable stage.transfer stage.medium)
       (sym (ended_done end old.transfer.moved (recorded (going_in old.transfer) old.transfer.readable) old)) readable
 
-  module _ (old new : Stage) (round : IsRound chipset history old new) where
+  module _ (old new : Stage) (round : IsRound chipset bytes old new) where
     same_round :
         done_as_told chipset.setup bytes
         (piece_said (master_part chipset.setup bytes) (going_in old.transfer) round.told.piece)
@@ -150,7 +148,7 @@ module _ (chipset : Running) (history : List Entry) (left : IsLeftBy chipset his
         ap
         (λ (said : PieceRecord). done_as_told chipset.setup bytes said
         (recorded (going_past round.told.piece (going_in old.transfer)) old.transfer.readable) old)
-        (sym (round.told.tells history left))
+        (sym (round.told.tells bytes held))
         ∙ ap (λ (after : TransferRecord). done_as_told chipset.setup bytes round.said after old) (sym round.told.after)
         ∙ sym round.done
 
@@ -159,7 +157,7 @@ module _ (chipset : Running) (history : List Entry) (left : IsLeftBy chipset his
     round_done readable =
         done_so round.told.piece old
         (at_table chipset.setup bytes (going_in old.transfer) old.cells old.medium round.told.piece
-        (round.told.next history old.cells old.medium left readable))
+        (round.told.next bytes old.cells old.medium held readable))
         ∙ ap point_of same_round
 
     round_readable : AreReadable old.transfer old.medium → AreReadable new.transfer new.medium
@@ -168,7 +166,7 @@ module _ (chipset : Running) (history : List Entry) (left : IsLeftBy chipset his
         (readable_so round.told.piece old round.told.stretch readable)
 
   all_told : (first : Stage) (later : List Stage) → AreReadable first.transfer first.medium →
-      AreRounds chipset history first later → AreTold chipset.setup bytes first (last_of first later)
+      AreRounds chipset bytes first later → AreTold chipset.setup bytes first (last_of first later)
   unfolding AreRounds last_of AreNext all_done
   all_told first [] readable rounds = record { pieces = []; next = tt; done = refl; readable = readable }
   all_told first (next ∷ later) readable rounds =
@@ -178,7 +176,7 @@ module _ (chipset : Running) (history : List Entry) (left : IsLeftBy chipset his
       record {
         pieces = round.told.piece ∷ told.pieces;
         next = (
-          round.told.next history first.cells first.medium left readable,
+          round.told.next bytes first.cells first.medium held readable,
           subst (λ (p : Point). AreNext chipset.setup bytes told.pieces p) (sym done) told.next,
         );
         done = ap (all_done chipset.setup bytes told.pieces) done ∙ told.done;
@@ -208,16 +206,15 @@ module _ (chipset : Running) (history : List Entry) (left : IsLeftBy chipset his
 -- ---- the law
 
 pub calls_come_to_the_transfer : CallsComeToTheTransfer
-calls_come_to_the_transfer chipset history master lba sectors readable first later after said left begins are rounds told
+calls_come_to_the_transfer chipset bytes master lba sectors readable first later after said held begins are rounds told
     ended =
-    let bytes = byte_of chipset.setup history in
     let last = last_of first later in
-    let all = all_told chipset history left first later are rounds in
+    let all = all_told chipset bytes held first later are rounds in
     let start = starts first begins in
     let whole = ap (all_done chipset.setup bytes all.pieces) start ∙ all.done in
-    end_so chipset history left
+    end_so chipset bytes held
     (transferred chipset.setup bytes master lba sectors first.cells first.medium) last told.piece after said
-    (told.tells history left) ended
+    (told.tells bytes held) ended
     (λ end is.
     subst
     (λ (p : Point). IsEnd (transferred chipset.setup bytes master lba sectors first.cells first.medium) p.going p.cells
@@ -227,7 +224,7 @@ calls_come_to_the_transfer chipset history master lba sectors readable first lat
     (subst (λ (p : Point). AreNext chipset.setup bytes all.pieces p) (sym start) all.next)
     (subst (λ (p : Point). IsNext chipset.setup bytes p.going p.cells p.medium (Ended end)) (sym whole)
     (subst (λ (piece : Piece). IsNext chipset.setup bytes (going_in last.transfer) last.cells last.medium piece) is
-    (told.next history last.cells last.medium left all.readable)))))
+    (told.next bytes last.cells last.medium held all.readable)))))
   where
     same_direction : (on : Bool) → direction_to on ≡ (if on then ToMemory else ToDisk)
     same_direction true = refl

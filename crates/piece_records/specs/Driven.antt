@@ -1,8 +1,9 @@
 -- A transfer that is driven through the calls, and that it comes to the transfer of the definition.
 use Rattle.std.specs.Prelude.{ℕ, ◌≡◌, ◌/◌, ◌==◌, if◌then◌else◌, List, [], ◌∷◌}
-use Rattle.board_prelude.specs.Common.{Medium, Setup, Bytes, Entry, byte_of}
+use Rattle.board_prelude.specs.Common.{Medium, Setup, Bytes}
 use Rattle.board_base.specs.declared.access.Width.TheVariants.{Four}
-use Rattle.board_chipset.specs.Common.{IsLeftBy, Running}
+use Rattle.board_chipset.specs.Common.{Running}
+use Rattle.board_chipset.specs.Held.{HoldsBytes}
 use Rattle.bus_master.specs.Cells.{Cells}
 use Rattle.bus_master.specs.Pieces.{copied, standing}
 use Rattle.bus_master.specs.Registers.{Master, is_to_memory}
@@ -43,16 +44,16 @@ done_as_told setup bytes said after old =
 
 -- ---- one piece after another
 
-pub record IsRound (chipset : Running) (history : List Entry) (old new : Stage) : Type 0 where
+pub record IsRound (chipset : Running) (bytes : Bytes) (old new : Stage) : Type 0 where
   pub after : TransferRecord
   pub said : PieceRecord
   pub told : IsPieceTold chipset old.transfer after said
-  pub done : new ≡ done_as_told chipset.setup (byte_of chipset.setup history) said after old
+  pub done : new ≡ done_as_told chipset.setup bytes said after old
 
-unfoldable pub AreRounds : Running → List Entry → Stage → List Stage → Type 0
-AreRounds chipset history first [] = Unit {0}
-AreRounds chipset history first (next ∷ later) =
-    IsRound chipset history first next × AreRounds chipset history next later
+unfoldable pub AreRounds : Running → Bytes → Stage → List Stage → Type 0
+AreRounds chipset bytes first [] = Unit {0}
+AreRounds chipset bytes first (next ∷ later) =
+    IsRound chipset bytes first next × AreRounds chipset bytes next later
 
 unfoldable pub last_of : Stage → List Stage → Stage
 last_of first [] = first
@@ -68,17 +69,17 @@ pub record HasCome (moving : Moving) (last : Stage) (said : PieceRecord) : Type 
   pub table : last.transfer.table ≡ moving.place.table
   pub end : said ≡ ended_said (done_of moving)
 
--- whatever memory and disk held
+-- whatever memory and disk held, on each board, by the register bytes that it holds
 abbrev pub CallsComeToTheTransfer : Type 0
 CallsComeToTheTransfer =
-    (chipset : Running) (history : List Entry) (master : Master) (lba sectors readable : ℕ) (first : Stage)
+    (chipset : Running) (bytes : Bytes) (master : Master) (lba sectors readable : ℕ) (first : Stage)
     (later : List Stage) (after : TransferRecord) (said : PieceRecord) →
-    IsLeftBy chipset history →
+    HoldsBytes chipset bytes →
     first.transfer ≡ begun_at master.table lba sectors readable (is_to_memory master) →
     AreReadable first.transfer first.medium →
-    AreRounds chipset history first later →
+    AreRounds chipset bytes first later →
     IsPieceTold chipset (last_of first later).transfer after said →
     said.what ≡ ended_piece →
     HasCome
-    (transferred chipset.setup (byte_of chipset.setup history) master lba sectors first.cells first.medium)
+    (transferred chipset.setup bytes master lba sectors first.cells first.medium)
     (last_of first later) said

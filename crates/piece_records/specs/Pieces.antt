@@ -1,8 +1,9 @@
 -- A piece of a transfer in numbers, and what a call tells.
-use Rattle.std.specs.Prelude.{ℕ, ◌≡◌, ◌≢◌, ◌⊎◌, ◌+◌, ◌*◌, ◌<◌, false, List, Some}
-use Rattle.board_prelude.specs.Common.{Kind, Read, Denial, Part, Medium, Entry, byte_of, is_smram_range}
+use Rattle.std.specs.Prelude.{ℕ, ◌≡◌, ◌≢◌, ◌⊎◌, ◌+◌, ◌*◌, ◌<◌, false, Some}
+use Rattle.board_prelude.specs.Common.{Bytes, Kind, Read, Denial, Part, Medium, is_smram_range}
 use Rattle.board_base.specs.declared.target.Target.TheVariants.{Abort as Nobody}
-use Rattle.board_chipset.specs.Common.{IsLeftBy, Running, master_part}
+use Rattle.board_chipset.specs.Common.{Running, master_part}
+use Rattle.board_chipset.specs.Held.{HoldsBytes}
 use Rattle.board_records.specs.declared.reply.PartRecord.{PartRecord}
 use Rattle.board_records.specs.Numbers.{dram_target, shadow_target, smram_target}
 use Rattle.board_records.specs.Replies.{no_part, of_part}
@@ -121,16 +122,18 @@ abbrev pub going_past : Piece → Going → Going
 going_past (Move stretch) going = gone_on stretch.words going
 going_past _ going = going
 
--- the numbers were those of a transfer, and the piece that is told is the next of it, whatever memory and disk hold, on
--- a board that some history left so
+-- the numbers were those of a transfer, and the piece that is told is the next of it, whatever memory and disk hold, by
+-- the register bytes that the board holds: some, and each history's that left it so
 pub record IsPieceTold (chipset : Running) (old new : TransferRecord) (said : PieceRecord) : Type 0 where
   pub is : IsTransfer old
   pub piece : Piece
-  pub tells : (history : List Entry) → IsLeftBy chipset history →
-      said ≡ piece_said (master_part chipset.setup (byte_of chipset.setup history)) (going_in old) piece
-  pub next : (history : List Entry) (cells : Cells) (medium : Medium) → IsLeftBy chipset history →
+  pub some : Bytes
+  pub held : HoldsBytes chipset some
+  pub tells : (bytes : Bytes) → HoldsBytes chipset bytes →
+      said ≡ piece_said (master_part chipset.setup bytes) (going_in old) piece
+  pub next : (bytes : Bytes) (cells : Cells) (medium : Medium) → HoldsBytes chipset bytes →
       AreReadable old medium →
-      IsNext chipset.setup (byte_of chipset.setup history) (going_in old) cells medium piece
+      IsNext chipset.setup bytes (going_in old) cells medium piece
   pub stretch : IfMove piece (IsStretch (going_in old))
-  pub safe : (history : List Entry) → IsLeftBy chipset history → AreSafe piece said
+  pub safe : AreSafe piece said
   pub after : new ≡ recorded (going_past piece (going_in old)) old.readable

@@ -1,8 +1,9 @@
 //! Pieces of a transfer in numbers.
 
-ghost use Rattle.std.specs.Prelude.{◌≡◌, ◌+◌, ◌<◌, ◌≤◌, ◌^◌, List};
-ghost use Rattle.board_prelude.specs.Common.{Entry, byte_of};
-ghost use Rattle.board_chipset.specs.Common.{IsLeftBy, master_part};
+ghost use Rattle.std.specs.Prelude.{◌≡◌, ◌+◌, ◌*◌, ◌<◌, ◌≤◌, ◌^◌};
+ghost use Rattle.board_prelude.specs.Common.{Bytes};
+ghost use Rattle.board_chipset.specs.Common.{master_part};
+ghost use Rattle.board_chipset.specs.Held.{HoldsBytes};
 ghost use Rattle.bus_master.specs.Pieces.{IfMove};
 ghost use Rattle.piece_records.specs.Pieces.{descriptor_said, end_said, ended_said, nobody, piece_said, words_said};
 
@@ -10,7 +11,9 @@ use board_base::{Denial, Kind, Target};
 use board_chipset::Chipset;
 use board_records::{PartRecord, of_part};
 use board_spec::Part;
-use bus_master::{Done, End, Piece, Stretch, Transfer};
+use bus_master::{
+    COUNT_OFFSET, DESCRIPTOR_BYTES, Done, End, Piece, SECTOR_BYTES, Stretch, Transfer, WORD_BYTES,
+};
 
 /// The next descriptor is wanted.
 pub const DESCRIPTOR_PIECE: u8 = 1;
@@ -29,15 +32,6 @@ pub const SHORTER_END: u8 = 3;
 pub const ABORT_END: u8 = 4;
 /// A sector is not there, or it is bad.
 pub const SECTOR_END: u8 = 5;
-
-/// How many bytes a sector has.
-const SECTOR_BYTES: u64 = 512;
-/// How many bytes a word has.
-const WORD_BYTES: u32 = 2;
-/// How many bytes a descriptor has.
-const DESCRIPTOR_BYTES: u32 = 8;
-/// Where the count stands in a descriptor.
-const COUNT_OFFSET: u32 = 4;
 
 /// A piece in numbers: what it is (`DESCRIPTOR_PIECE` ..). Of a descriptor its address, and what answers each of its two
 /// doublewords. Of words the address of the first and what answers it, how many bytes they are, and their first byte on the
@@ -67,8 +61,8 @@ pub(crate) fn piece_record(
 ) -> PieceRecord
     requires table { table ≡ transfer.now.place.table }
     requires fits { IfMove piece.now (λ stretch. stretch.word + stretch.words ≤ 256) }
-    ensures said { (history : List Entry) → IsLeftBy chipset.now history → result
-        ≡ piece_said (master_part chipset.now.setup (byte_of chipset.now.setup history)) transfer.now piece.now }
+    ensures said { (bytes : Bytes) → HoldsBytes chipset.now bytes
+        → result ≡ piece_said (master_part chipset.now.setup bytes) transfer.now piece.now }
     ensures table { table < 2 ^ 32 }
     ensures address { IfMove piece.now (λ stretch. stretch.addr < 2 ^ 32) }
 {
@@ -107,7 +101,7 @@ fn words_record(stretch: &Stretch, first: Part) -> PieceRecord
     ensures said { result ≡ words_said stretch.now first }
 {
     PieceRecord {
-        disk: SECTOR_BYTES * u64::from(stretch.sector) + u64::from(WORD_BYTES * stretch.word),
+        disk: first_byte(stretch.sector) + u64::from(WORD_BYTES * stretch.word),
         addr: stretch.addr,
         bytes: WORD_BYTES * stretch.words,
         sector: stretch.sector,
@@ -130,6 +124,13 @@ fn ended_record(done: Done) -> PieceRecord
     }
 }
 
+/// The first byte of a sector on the disk.
+fn first_byte(sector: u32) -> u64
+    ensures byte { result ≡ 512 * sector }
+{
+    u64::from(SECTOR_BYTES) * u64::from(sector)
+}
+
 /// That nobody answers.
 fn nobody(denial: Denial) -> PartRecord
     ensures nobody { result ≡ nobody denial }
@@ -144,7 +145,7 @@ fn end_record(end: u8, addr: u32, sector: u32, part: PartRecord, done: Done) -> 
     ensures said { result ≡ end_said end addr sector part done }
 {
     PieceRecord {
-        disk: SECTOR_BYTES * u64::from(sector),
+        disk: first_byte(sector),
         addr,
         bytes: done.moved,
         sector,

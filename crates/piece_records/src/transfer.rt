@@ -4,12 +4,8 @@ ghost use Rattle.std.specs.Prelude.{◌≡◌, ◌+◌, ◌/◌, ◌≤◌, true
 ghost use Rattle.bus_master.specs.States.{IsTransferState};
 ghost use Rattle.piece_records.specs.Transfers.{IsBeginning, IsTransfer, begun_at, going_in, recorded, state_in};
 
-use bus_master::{Transfer, TransferState};
+use bus_master::{SECTOR_BYTES, SECTOR_WORDS, Transfer, TransferState};
 
-/// How many bytes a sector has.
-const SECTOR_BYTES: u32 = 512;
-/// How many words a sector has.
-const SECTOR_WORDS: u32 = 256;
 /// The most sectors of a transfer.
 const MOST_SECTORS: u32 = 256;
 

@@ -3,13 +3,13 @@ use Rattle.board_records.specs.Doors.{Behind}
 use Rattle.board_records.specs.Given.{AreAsMany, Given, on_board, with_given}
 use Rattle.board_records.specs.Images.{IsBehind, image_bytes}
 use Rattle.board_records.specs.Statuses.{no_memory}
-use Rattle.board_records.proofs.GivenParts.{Puts, exact_refused, given_exact, given_loaded, given_refused}
+use Rattle.board_records.proofs.GivenParts.{Puts, exact_refused, given_exact, given_loaded, given_refused, given_sound}
 use Rattle.board_records.proofs.LeftSteps.{loaded_back}
 use Rattle.board_records.proofs.given.load_with.Goals as goal
 
 pub returns-in-Ok : goal.returns-in-Ok
 returns-in-Ok c =
-    let given : Given = record { dram = c.args.dram.now; fitted = c.args.fitted.now; sectors = c.args.sectors.now } in
+    let given : Given = c.args.given.now in
     let result : Result Behind ℕ = c.with_given.result in
     let loaded : Behind = c.in-Ok.behind in
     let puts : Puts given loaded result = (c.with_given.ensures.given, c.with_given.ensures.refused) in
@@ -19,6 +19,7 @@ returns-in-Ok c =
     λ any is same fits. given_exact result given loaded any puts (c.in-Ok.ensures.exact any is same) fits in
     record {
       loaded = given_loaded result given loaded c.args.from.now puts c.in-Ok.ensures.loaded.0 c.in-Ok.ensures.loaded.1;
+      sound = given_sound result given loaded puts c.in-Ok.ensures.loaded.0;
       exact = exact;
       saved = λ left behind is same own. loaded_back result c.args.from.now given left behind exact is same own;
       refused = given_refused result given loaded c.args.from.now puts c.in-Ok.ensures.loaded.0 c.in-Ok.ensures.loaded.1;
@@ -26,6 +27,5 @@ returns-in-Ok c =
 
 pub returns-in-Err-clause-saved : goal.returns-in-Err-clause-saved
 returns-in-Err-clause-saved c left behind is same own =
-    loaded_back (Err c.in-Err.status) c.args.from.now
-    (record { dram = c.args.dram.now; fitted = c.args.fitted.now; sectors = c.args.sectors.now }) left behind
+    loaded_back (Err c.in-Err.status) c.args.from.now c.args.given.now left behind
     (λ any sound image fits. exact_refused c.in-Err.status any _ (c.in-Err.ensures.exact any sound image)) is same own

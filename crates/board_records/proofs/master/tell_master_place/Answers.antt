@@ -18,6 +18,13 @@ returns-clause-done c = λ ok.
           ∙ ap (λ (kind : Kind). master_part chipset.setup (byte_of chipset.setup history) kind c.args.addr)
           c.kind_of.ensures.kind
           );
+      held = λ registers holds.
+          let chipset = c.args.chipset.now in
+          c.of_part.ensures.part
+          ∙ ap of_part (
+          c.decode_master.ensures.held registers holds
+          ∙ ap (λ (kind : Kind). master_part chipset.setup registers kind c.args.addr) c.kind_of.ensures.kind
+          );
       no_smram = rw (c.of_part.ensures.part) (no_smram_said part.target part.denial c.decode_master.ensures.no_smram);
       outside = rw (c.of_part.ensures.part)
           (outside_said part.target part.denial c.args.addr c.decode_master.ensures.outside);
