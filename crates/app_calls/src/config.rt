@@ -6,8 +6,8 @@ use call_words::{byte, number, port, word};
 use cfg_ports::{ConfAdd, Space};
 use std::alloc::AllocError;
 
-/// `59=FF` writes a byte of 256 that all have this value after a reset and this mask; told are that byte before, after and
-/// after a reset, and the one beside it.
+/// `59=FF` writes a byte of 256 that all have this value after a reset and this mask; told are that byte before, after
+/// and after a reset, and the one beside it.
 pub fn tell_space(words: &[&str], text: &mut String) -> Result<(), NoMemory> {
     let (reset, mask) = (byte(word(words, 1)), byte(word(words, 2)));
     let mut space = Space::new([reset; 256], [mask; 256]);
@@ -55,8 +55,8 @@ fn act_address(conf_add: &mut ConfAdd, step: &str, text: &mut String) -> Result<
     }
 }
 
-/// The configuration address: `=80000058` writes it, `?` reads it, `reset` is a hard reset, `3` selects by byte 3 of the data
-/// port.
+/// The configuration address: `=80000058` writes it, `?` reads it, `reset` is a hard reset, `3` selects by byte 3 of
+/// the data port.
 pub fn tell_address(steps: &[&str], text: &mut String) -> Result<(), NoMemory> {
     let mut conf_add = ConfAdd::new();
     for step in steps {

@@ -1,4 +1,5 @@
-//! The state of a disk as bytes. `disk-state 2 bad1` tells that of a disk of so many sectors of bytes 02h after steps as
+//! The state of a disk as bytes. `disk-state 2 bad1` tells that of a disk of so many sectors of bytes 02h after steps
+//! as
 //! `disk` has them; `disk-load 2 0001` reads one from bytes, and tells it again, or the place of the first bad field.
 //! `02*1FE` are so many bytes 02.
 

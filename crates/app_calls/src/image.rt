@@ -1,6 +1,6 @@
-//! Images of boards. Bytes stand alone (`bare`), behind the head of an image of two cards (`cards`), or behind an image of a
-//! board with a card and one step (`step`): told is at which byte behind these the image is bad. Of a good one are told the
-//! entries of its board, and whether that board is saved as the same bytes.
+//! Images of boards. Bytes stand alone (`bare`), behind the head of an image of two cards (`cards`), or behind an image
+//! of a board with a card and one step (`step`): told is at which byte behind these the image is bad. Of a good one are
+//! told the entries of its board, and whether that board is saved as the same bytes.
 
 ghost use Rattle.std.specs.Prelude.{◌≤◌, IfSome};
 ghost use Rattle.board_spec.specs.Setup.{IsSetup};

@@ -1,6 +1,6 @@
-//! The parts of the board by themselves, and a chipset with what stands over it: each line of standard input is a call, a word
-//! and what it is given, and is told with what it answers. `#` begins a comment, which is told as it is. The words of a part are
-//! those of `parts`, each with what it takes at its function. A chipset and what stands over it:
+//! The parts of the board by themselves, and a chipset with what stands over it: each line of standard input is a call,
+//! a word and what it is given, and is told with what it answers. `#` begins a comment, which is told as it is. The
+//! words of a part are those of `parts`, each with what it takes at its function. A chipset and what stands over it:
 //!
 //!     serial REQUEST..                a board with a UART on COM1, and the log of what the board itself was asked
 //!     master PRESET STEP..            the bus master and its transfers, over a board on which doublewords were written

@@ -1,7 +1,8 @@
-//! The address map without a board. `edges` and cards, then `dev.off.bytes=value` stores and `addr?` asks for the next edge
-//! above an address; `touches` and cards, then `dev.off.bytes` asks whether the map depends on a byte of such a store;
-//! `changes` and cards, then stores, each told with the first and last address of what it may have changed; `reset` is a hard
-//! reset.
+//! The address map without a board. `edges` and cards, then `dev.off.bytes=value` stores and `addr?` asks for the next
+//! edge above an address; `touches` and cards, then `dev.off.bytes` asks whether the map depends on a byte of such a
+//! store;
+//! `changes` and cards, then stores, each told with the first and last address of what it may have changed; `reset` is
+//! a hard reset.
 
 ghost use Rattle.std.specs.Prelude.{◌≡◌, ◌<◌, ◌≤◌, IfSome};
 ghost use Rattle.board_spec.specs.Setup.{IsCard};
@@ -71,8 +72,8 @@ fn rom_card(dev: u8) -> CardSpec
     }
 }
 
-/// The registers after a reset: with no card; with bases of 1 MiB and 4 KiB at devices 2 and 3; with an expansion ROM at
-/// device 2 and a base of 4 KiB at device 3; or with a VGA card at device 2 and an expansion ROM at device 3.
+/// The registers after a reset: with no card; with bases of 1 MiB and 4 KiB at devices 2 and 3; with an expansion ROM
+/// at device 2 and a base of 4 KiB at device 3; or with a VGA card at device 2 and an expansion ROM at device 3.
 fn registers(cards: &str) -> MapRegs
     ensures fitted { AreFitted result.cards.items }
 {
@@ -188,7 +189,8 @@ fn is_other(map: &FlatMap, copy: &mut FlatMap, change: &MapChange, changed: Chan
     again != changed || copy.ranges() != map.ranges()
 }
 
-/// Makes a change by both calls, by one of them on a copy, and tells the first and last address of what it may have changed.
+/// Makes a change by both calls, by one of them on a copy, and tells the first and last address of what it may have
+/// changed.
 fn tell_change(map: &mut FlatMap, change: &MapChange, text: &mut String) -> Result<(), AllocError> {
     let mut copy = map.copy();
     let has_windows = copy.changed() == map.changed();

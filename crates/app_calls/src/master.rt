@@ -1,8 +1,10 @@
-//! The bus master over a board of 8 MiB with a VGA card at device 2, which is enabled, and a disk of four sectors, whose bytes
-//! are the number of their sector and 1. The first word has doublewords that are written on the board before, as
-//! `1000:2000,1004:80000200`. Then `0=FF` writes a register, `2?` reads one, and `all` reads all eight; `go1` moves sector 1,
-//! `go1.2` two sectors from it on, and tells how the transfer ends and how many bytes moved; `dram2000` and `window0` tell a
-//! doubleword of DRAM and of the card's window, and `disk1.FF` a word of the disk.
+//! The bus master over a board of 8 MiB with a VGA card at device 2, which is enabled, and a disk of four sectors,
+//! whose bytes are the number of their sector and 1. The first word has doublewords that are written on the board
+//! before, as
+//! `1000:2000,1004:80000200`. Then `0=FF` writes a register, `2?` reads one, and `all` reads all eight; `go1` moves
+//! sector 1,
+//! `go1.2` two sectors from it on, and tells how the transfer ends and how many bytes moved; `dram2000` and `window0`
+//! tell a doubleword of DRAM and of the card's window, and `disk1.FF` a word of the disk.
 
 ghost use Rattle.std.specs.Prelude.{IfOk};
 ghost use Rattle.board_chipset.specs.Stores.{IsOfBoard};

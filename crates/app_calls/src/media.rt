@@ -1,6 +1,8 @@
-//! The clock and a disk beside their ports. `clock` writes FFh to each address and tells what `bytes` and a read of the data
-//! port give; `disk 2` has so many sectors of bytes 02h, of which `1.FF=ABCD` sets a word, `1.1FD:0103` sets bytes,
-//! `bad1` marks a sector, `1.FF?` tells a word, `ok1` whether a sector can be read, and `id54` a word of IDENTIFY DEVICE;
+//! The clock and a disk beside their ports. `clock` writes FFh to each address and tells what `bytes` and a read of the
+//! data port give; `disk 2` has so many sectors of bytes 02h, of which `1.FF=ABCD` sets a word, `1.1FD:0103` sets
+//! bytes,
+//! `bad1` marks a sector, `1.FF?` tells a word, `ok1` whether a sector can be read, and `id54` a word of IDENTIFY
+//! DEVICE;
 //! `c30` writes the command register, and `dABCD` a word to the data port.
 
 ghost use Rattle.std.specs.Prelude.{◌<◌};

@@ -1,5 +1,5 @@
-//! Widths. `width 2 FF 10000` tells how many bytes a width has and the largest value, and of each number whether it fits and
-//! whether an address is aligned.
+//! Widths. `width 2 FF 10000` tells how many bytes a width has and the largest value, and of each number whether it
+//! fits and whether an address is aligned.
 
 use board_base::{NoMemory, Width};
 use call_words::{number, width};

@@ -1,4 +1,5 @@
-//! Accesses to ports that need not be aligned, at a chipset of 1 MiB: `21.2=55AA` writes two bytes from port 21h on, and
+//! Accesses to ports that need not be aligned, at a chipset of 1 MiB: `21.2=55AA` writes two bytes from port 21h on,
+//! and
 //! `21.2?` reads them. Told are what was read and the reset that was made, or why the access is refused.
 
 use crate::setup::chipset;

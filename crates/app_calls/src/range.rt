@@ -1,5 +1,5 @@
-//! Events of which nothing was proved, at a chipset of 1 MiB with a card at device 4: whether each is in range, and the field
-//! that is not. An event is a word, a count of bytes, a place and a value.
+//! Events of which nothing was proved, at a chipset of 1 MiB with a card at device 4: whether each is in range, and the
+//! field that is not. An event is a word, a count of bytes, a place and a value.
 
 use crate::setup::chipset;
 use board_base::{Access, Kind, Moment, NoMemory, WideAccess};

@@ -1,6 +1,6 @@
-//! A board of 8 MiB with a serial port. `03F8=48` writes a byte, `03FA?` reads one, and `03F8:` reads two. `+` and `-` are
-//! levels of line 4, `ack` acknowledges, and `<41` is a byte that comes. Told are what the port gives and sends, or that the
-//! board answers, and then the log of what the board itself was asked, where its processor 8 is the port.
+//! A board of 8 MiB with a serial port. `03F8=48` writes a byte, `03FA?` reads one, and `03F8:` reads two. `+` and `-`
+//! are levels of line 4, `ack` acknowledges, and `<41` is a byte that comes. Told are what the port gives and sends, or
+//! that the board answers, and then the log of what the board itself was asked, where its processor 8 is the port.
 
 ghost use Rattle.std.specs.Prelude.{◌≡◌, false, [], IfOk};
 ghost use Rattle.board_prelude.specs.Common.{Setup as Fitting, IsInRange};

@@ -1,5 +1,6 @@
-//! Setups of a chipset: the memory in MiB, the bytes of ROM and of disk, and the cards. A card is its device, 1 for a base of
-//! memory or 0 for one of ports, the number of its address bits, and that of its expansion ROM or 0, as `2:1:4:0`.
+//! Setups of a chipset: the memory in MiB, the bytes of ROM and of disk, and the cards. A card is its device, 1 for a
+//! base of memory or 0 for one of ports, the number of its address bits, and that of its expansion ROM or 0, as
+//! `2:1:4:0`.
 
 use arrayvec::ArrayVec;
 use board_base::NoMemory;

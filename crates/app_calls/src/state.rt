@@ -1,6 +1,7 @@
-//! States of chipsets as bytes: `chipset-state DISK BYTES CARD..` and, with a serial port, `serial-state`. The chipset has
-//! 1 MiB, a ROM of 64 KiB, a disk of so many bytes, none where that is 0, and cards as `setup` has them. Told is that the
-//! state is saved as the same bytes, or where it is bad. Bytes are pieces joined by `+`; `00*100` are so many equal ones.
+//! States of chipsets as bytes: `chipset-state DISK BYTES CARD..` and, with a serial port, `serial-state`. The chipset
+//! has 1 MiB, a ROM of 64 KiB, a disk of so many bytes, none where that is 0, and cards as `setup` has them. Told is
+//! that the state is saved as the same bytes, or where it is bad. Bytes are pieces joined by `+`; `00*100` are so many
+//! equal ones.
 
 use crate::setup::{cards_of, setup};
 use board_base::NoMemory;

@@ -130,8 +130,8 @@ fn act_bytes(
     push_bytes(text, &found)
 }
 
-/// A step at memory: `FFFFC=01020304` writes a stretch as the bus does, `FFFFC+0102` loads one whole or not at all, `FFFFC?`
-/// reads eight bytes, `kept1` tells how many bytes of a MiB are kept.
+/// A step at memory: `FFFFC=01020304` writes a stretch as the bus does, `FFFFC+0102` loads one whole or not at all,
+/// `FFFFC?` reads eight bytes, `kept1` tells how many bytes of a MiB are kept.
 fn act(alloc: Global, dram: &mut Dram, step: &str, text: &mut String) -> Result<(), AllocError> {
     if let Some(mib) = step.strip_prefix("kept") {
         return push_kept(dram, mib, text);

@@ -1,6 +1,6 @@
 //! The 8254, each step a word: `w10` writes the control word 10h, `c3` the byte 3 of a count of counter 0, `d3` one of
-//! counter 2, `g1` and `g0` are levels of gate 2, `p5` gives five pulses at once, and `rose5` too and tells how often OUT of
-//! counter 0 rose, and its level. `?` asks after how many pulses it next rises.
+//! counter 2, `g1` and `g0` are levels of gate 2, `p5` gives five pulses at once, and `rose5` too and tells how often
+//! OUT of counter 0 rose, and its level. `?` asks after how many pulses it next rises.
 
 use crate::told::space;
 use board_base::NoMemory;

@@ -1,5 +1,6 @@
-//! Commands over files in memory, at the limits of what they take: the largest board, the longest script with its log and
-//! its image, the most rounds of `make`, and files with as many bytes as they may have, and with one more. Each row behind
+//! Commands over files in memory, at the limits of what they take: the largest board, the longest script with its log
+//! and its image, the most rounds of `make`, and files with as many bytes as they may have, and with one more. Each row
+//! behind
 //! `memory` is a step:
 //!
 //!     add NAME COUNT TEXT     appends a text to a file so many times, in which `|` stands for a line feed

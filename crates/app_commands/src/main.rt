@@ -1,6 +1,6 @@
-//! Commands over the files of its folder, each a line of standard input, by the whole program: told are its exit code, what
-//! standard error is told, and then all that it puts. The files are scripts, logs and images, and the lines of their logs the
-//! replies that are due. Some lines are other than the words of a command, cut at each space:
+//! Commands over the files of its folder, each a line of standard input, by the whole program: told are its exit code,
+//! what standard error is told, and then all that it puts. The files are scripts, logs and images, and the lines of
+//! their logs the replies that are due. Some lines are other than the words of a command, cut at each space:
 //!
 //!     COMMAND >/dev/full     the output is a full disk
 //!     COMMAND, interrupted   a signal interrupts each call of a file and of the output
@@ -11,8 +11,8 @@
 //!     memory STEP            a command over files in memory, or what makes these (`in_memory`)
 //!     two-callers            a board that two callers share, and what stands in its history
 //!
-//! Of a command line the characters `~`, `^`, `!` and `?` stand for the bytes FFh, C3h, A9h and 80h. `#` begins a comment, which
-//! is told as it is. At last comes the command of this program's own words, as `board` does it.
+//! Of a command line the characters `~`, `^`, `!` and `?` stand for the bytes FFh, C3h, A9h and 80h. `#` begins a
+//! comment, which is told as it is. At last comes the command of this program's own words, as `board` does it.
 #![tactic(auto)]
 
 mod files;
@@ -46,7 +46,8 @@ const FAILED: u8 = 8;
 /// The greatest exit code of a command.
 const MOST_CODE: u8 = 9;
 
-/// Does what a command line asks for. No clause stands here, so that nothing else is proved with those of `run_program`.
+/// Does what a command line asks for. No clause stands here, so that nothing else is proved with those of
+/// `run_program`.
 fn end_of<R, L: CommandLine, F: Folder + Drop, W: Write, E: Write>(
     rt: &R,
     line: &L,

@@ -1,5 +1,5 @@
-//! Texts and lines, each a row behind `text` and a word. In a text `|` stands for a line feed, `~` for a carriage return and `^`
-//! for a tab.
+//! Texts and lines, each a row behind `text` and a word. In a text `|` stands for a line feed, `~` for a carriage
+//! return and `^` for a tab.
 //!
 //!     script TEXT · log TEXT        that it is good, or the line at which it is refused, and why
 //!     long HEAD;PART;COUNT;END      the same of a script of a head, a part so many times, and an end

@@ -21,7 +21,8 @@ fn set(files: &mut Files, name: &str, at: usize, byte: u8) {
     }
 }
 
-/// How many values of a byte are not answered as they must be: by the line where it stands, or for its own value by `Done`.
+/// How many values of a byte are not answered as they must be: by the line where it stands, or for its own value by
+/// `Done`.
 fn wrong_at<R: AllocGlobal + Threads + Wait + Sync>(
     rt: &R,
     shelf: &mut SafeShelf,

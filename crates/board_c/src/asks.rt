@@ -1,7 +1,8 @@
 //! What C asks of a board between two steps: the board stays as it is.
 
 ghost use Rattle.std.specs.Prelude.{◌≡◌, ◌≢◌, true, false, IsSomeAnd};
-ghost use Rattle.board_records.specs.Common.{AreRangesTold, AreWindowsTold, IsAskedPlace, IsNotPlaced, IsRiseTold, IsVersionSaid, OnBoard, asked_said, closed, ok};
+ghost use Rattle.board_records.specs.Common.{AreRangesTold, AreWindowsTold, IsAskedPlace, IsNotPlaced, IsRiseTold};
+ghost use Rattle.board_records.specs.Common.{IsVersionSaid, OnBoard, asked_said, closed, ok};
 
 use crate::handle::Handle;
 use board_records::status::{CLOSED, OK};
@@ -40,8 +41,8 @@ pub extern "C" fn board_ranges(
     OK
 }
 
-/// Tells where the access that a record says would land, and what would deny it; nothing happens. `CLOSED` exactly where
-/// the handle is closed; refused with why where the record says no event, or one that no bus cycle can make.
+/// Tells where the access that a record says would land, and what would deny it; nothing happens. `CLOSED` exactly
+/// where the handle is closed; refused with why where the record says no event, or one that no bus cycle can make.
 #[unsafe(no_mangle)]
 pub extern "C" fn board_decode(
     alloc: Global,
@@ -67,7 +68,8 @@ pub extern "C" fn board_decode(
     status
 }
 
-/// Tells after how many pulses of the timer's clock line 0 next rises: 0 where it does not, unless something is written.
+/// Tells after how many pulses of the timer's clock line 0 next rises: 0 where it does not, unless something is
+/// written.
 /// `CLOSED` exactly where the handle is closed.
 #[unsafe(no_mangle)]
 pub extern "C" fn board_pulses_to_rise(alloc: Global, handle: &mut Handle, pulses: &mut u32) -> u32

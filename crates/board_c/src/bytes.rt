@@ -2,7 +2,8 @@
 
 ghost use Rattle.std.specs.Prelude.{◌≡◌, ◌≢◌, ◌+◌, ◌<◌, ◌≤◌, length, true, false};
 ghost use Rattle.board_spec.specs.Setup.{installed};
-ghost use Rattle.board_records.specs.Common.{IsClockByte, IsClockWritten, IsDramTold, IsDramWritten, IsSectorRefusal, IsSectorTold, OnBoard, OnBoth, clock_bytes, closed, no_byte, ok, past_end};
+ghost use Rattle.board_records.specs.Common.{IsClockByte, IsClockWritten, IsDramTold, IsDramWritten, IsSectorRefusal};
+ghost use Rattle.board_records.specs.Common.{IsSectorTold, OnBoard, OnBoth, clock_bytes, closed, no_byte, ok, past_end};
 
 use crate::handle::Handle;
 use board_records::status::{CLOSED, OK};
@@ -32,8 +33,8 @@ pub extern "C" fn board_dram_read(
     OK
 }
 
-/// Tells the 512 bytes of a sector, bad or not. `CLOSED` exactly where the handle is closed, `NO_SECTOR` where there is no
-/// disk or it has no such sector, `BAD_LENGTH` where the room is not that of a sector.
+/// Tells the 512 bytes of a sector, bad or not. `CLOSED` exactly where the handle is closed, `NO_SECTOR` where there is
+/// no disk or it has no such sector, `BAD_LENGTH` where the room is not that of a sector.
 #[unsafe(no_mangle)]
 pub extern "C" fn board_disk_read(
     alloc: Global,
@@ -58,8 +59,8 @@ pub extern "C" fn board_disk_read(
     status
 }
 
-/// Tells what a read of port 71h would give of the clock with this index, and clears nothing. `CLOSED` exactly where the
-/// handle is closed, and `NO_BYTE` exactly where it is open and the address is 128 or more.
+/// Tells what a read of port 71h would give of the clock with this index, and clears nothing. `CLOSED` exactly where
+/// the handle is closed, and `NO_BYTE` exactly where it is open and the address is 128 or more.
 #[unsafe(no_mangle)]
 pub extern "C" fn board_cmos_read(
     alloc: Global,

@@ -3,7 +3,9 @@
 ghost use Rattle.std.specs.Prelude.{◌≡◌, ◌≢◌, ◌+◌, ◌<◌, IsSomeAnd, length, true, false};
 ghost use Rattle.board_chipset.specs.Common.{card_size};
 ghost use Rattle.board_prelude.specs.Common.{rom_base};
-ghost use Rattle.board_records.specs.Common.{AreRomsWritten, IsCardTold, IsCardWritten, IsPastRom, IsRomRefusal, IsRomTold, IsMasterCycle, IsMasterPlaced, OnBoard, OnBoth, closed, no_cycle, ok, past_end};
+ghost use Rattle.board_records.specs.Common.{AreRomsWritten, IsCardTold, IsCardWritten, IsPastRom, IsRomRefusal};
+ghost use Rattle.board_records.specs.Common.{IsRomTold, IsMasterCycle, IsMasterPlaced, OnBoard, OnBoth, closed};
+ghost use Rattle.board_records.specs.Common.{no_cycle, ok, past_end};
 
 use crate::handle::Handle;
 use board_records::status::CLOSED;
@@ -13,9 +15,9 @@ use std::alloc::Global;
 /// The base number of an expansion ROM.
 const ROM_BASE: u8 = 6;
 
-/// Tells where an access of a bus master would land, and what would deny it: never SMRAM, nor memory at A0000h to BFFFFh;
-/// nothing happens. `CLOSED` exactly where the handle is closed, and `NO_CYCLE` exactly where it is open and the access is
-/// not of 1, 2 or 4 bytes at a multiple of them.
+/// Tells where an access of a bus master would land, and what would deny it: never SMRAM, nor memory at A0000h to
+/// BFFFFh; nothing happens. `CLOSED` exactly where the handle is closed, and `NO_CYCLE` exactly where it is open and
+/// the access is not of 1, 2 or 4 bytes at a multiple of them.
 #[unsafe(no_mangle)]
 pub extern "C" fn board_decode_master(
     alloc: Global,
@@ -42,9 +44,9 @@ pub extern "C" fn board_decode_master(
     status
 }
 
-/// Tells the bytes of a base of a card, 0 to 5, or 6 for its expansion ROM, or 7 for the VGA window, from an offset on, as
-/// the guest would read them. `CLOSED` exactly where the handle is closed, and `PAST_END` exactly where they do not all lie
-/// in the base: a card or base that is not there has none.
+/// Tells the bytes of a base of a card, 0 to 5, or 6 for its expansion ROM, or 7 for the VGA window, from an offset on,
+/// as the guest would read them. `CLOSED` exactly where the handle is closed, and `PAST_END` exactly where they do not
+/// all lie in the base: a card or base that is not there has none.
 #[unsafe(no_mangle)]
 pub extern "C" fn board_card_read(
     alloc: Global,
@@ -94,10 +96,10 @@ fn tell(board: &Door, device: u8, base: u8, offset: u32, into: &mut [u8]) -> u32
     board.tell_card(device, base, offset, into)
 }
 
-/// Puts bytes into a base of a card from an offset on, as if processors had written them, or into its expansion ROM, base
-/// 6, where reads find them and no processor writes. `CLOSED` exactly where the handle is closed, and `PAST_END` exactly
-/// where they do not all lie in the base; `NO_MEMORY` only of a ROM into which no bytes were put yet; then nothing has
-/// changed.
+/// Puts bytes into a base of a card from an offset on, as if processors had written them, or into its expansion ROM,
+/// base 6, where reads find them and no processor writes. `CLOSED` exactly where the handle is closed, and `PAST_END`
+/// exactly where they do not all lie in the base; `NO_MEMORY` only of a ROM into which no bytes were put yet; then
+/// nothing has changed.
 #[unsafe(no_mangle)]
 pub extern "C" fn board_card_write(
     alloc: Global,

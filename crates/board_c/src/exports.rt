@@ -1,15 +1,16 @@
 //! The functions that C calls. One call at a time is inside a handle, and its pointers are good: what the caller owes.
 
 ghost use Rattle.std.specs.Prelude.{◌≡◌, ◌≢◌, [], true, false, IsSomeAnd};
-ghost use Rattle.board_records.specs.Common.{IsDoorStep, IsEventRefusal, IsOpenRefusal, IsOpenedWith, OnBoard, asked_said, closed, identities_said, ok, setup_said};
+ghost use Rattle.board_records.specs.Common.{IsDoorStep, IsEventRefusal, IsOpenRefusal, IsOpenedWith, OnBoard};
+ghost use Rattle.board_records.specs.Common.{asked_said, closed, identities_said, ok, setup_said};
 
 use crate::handle::Handle;
 use board_records::status::{CLOSED, NO_MEMORY, OK};
 use board_records::{CardRecord, Door, EventRecord, ReplyRecord};
 use std::alloc::Global;
 
-/// Opens a board with these cards over copies of these bytes. A disk of no bytes is none. `CLOSED` where the handle is open
-/// already; a handle that is refused is as before.
+/// Opens a board with these cards over copies of these bytes. A disk of no bytes is none. `CLOSED` where the handle is
+/// open already; a handle that is refused is as before.
 #[unsafe(no_mangle)]
 pub extern "C" fn board_open(
     alloc: Global,
@@ -45,8 +46,8 @@ pub extern "C" fn board_open(
     OK
 }
 
-/// Does the event that a record says, and tells its reply by another. `CLOSED` exactly where the handle is closed; refused
-/// with why where the record says no event, or one that is out of range. Then nothing has changed.
+/// Does the event that a record says, and tells its reply by another. `CLOSED` exactly where the handle is closed;
+/// refused with why where the record says no event, or one that is out of range. Then nothing has changed.
 #[unsafe(no_mangle)]
 pub extern "C" fn board_step(
     alloc: Global,

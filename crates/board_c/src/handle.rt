@@ -21,7 +21,8 @@ pub struct Handle {
 }
 
 impl Model for Handle {
-    ghost also_owns = { λ h. owned_if h.full (box_owns (⟦<Global as Allocator>⟧.dealloc_token h.alloc) door_row h.at h.held) };
+    ghost also_owns = { λ h.
+        owned_if h.full (box_owns (⟦<Global as Allocator>⟧.dealloc_token h.alloc) door_row h.at h.held) };
 }
 
 // What a handle owns says the same to every thread, so it may move between threads.

@@ -1,16 +1,17 @@
 //! A running board as bytes, out and in.
 
 ghost use Rattle.std.specs.Prelude.{◌≡◌, ◌≢◌, ◌⊎◌, [], length, true, false, Some, IsSomeAnd};
-ghost use Rattle.board_records.specs.Common.{Behind, IsBehind, IsLoadRefusal, IsSaveRefusal, IsWritten, closed, image_bytes, no_memory, no_room, ok, without_roms};
+ghost use Rattle.board_records.specs.Common.{Behind, IsBehind, IsLoadRefusal, IsSaveRefusal, IsWritten, closed};
+ghost use Rattle.board_records.specs.Common.{image_bytes, no_memory, no_room, ok, without_roms};
 
 use crate::handle::Handle;
 use board_records::Door;
 use board_records::status::{CLOSED, NO_MEMORY, OK};
 use std::alloc::Global;
 
-/// Writes the board to the front of the room, as bytes that are whole in themselves, and tells how many they are. `CLOSED`
-/// exactly where the handle is closed; `NO_ROOM` where they do not fit, and then too their count is told; `NO_MEMORY` where
-/// there is none for a copy of them.
+/// Writes the board to the front of the room, as bytes that are whole in themselves, and tells how many they are.
+/// `CLOSED` exactly where the handle is closed; `NO_ROOM` where they do not fit, and then too their count is told;
+/// `NO_MEMORY` where there is none for a copy of them.
 #[unsafe(no_mangle)]
 pub extern "C" fn board_save(
     alloc: Global,
@@ -39,9 +40,10 @@ pub extern "C" fn board_save(
     status
 }
 
-/// Opens the board that was saved as these bytes: it is equal to that one, but that no expansion ROM was given bytes. `CLOSED` where the handle is open already;
-/// `OTHER_VERSION` where another version saved them; `BAD_IMAGE` where they are those of no board. A handle that is refused is
-/// as before.
+/// Opens the board that was saved as these bytes: it is equal to that one, but that no expansion ROM was given bytes.
+/// `CLOSED` where the handle is open already;
+/// `OTHER_VERSION` where another version saved them; `BAD_IMAGE` where they are those of no board. A handle that is
+/// refused is as before.
 #[unsafe(no_mangle)]
 pub extern "C" fn board_load(alloc: Global, handle: &mut Handle, from: &[u8]) -> u32
     ensures done { result ≡ ok → (handle.new.full ≡ true) × IsSomeAnd handle.new.held

@@ -2,15 +2,17 @@
 
 ghost use Rattle.std.specs.Prelude.{◌≡◌, ◌≢◌, ◌⊎◌, [], length, true, false, Some, IsSomeAnd};
 ghost use Rattle.board_records.specs.declared.left.LeftOut.{LeftOut as Left};
-ghost use Rattle.board_records.specs.Common.{AreAsMany, Behind, IsBehind, IsGivenBoard, IsGivenRefusal, IsSaveRefusal, IsWritten, closed, given_of, image_bytes, left_of, no_memory, no_room, ok, on_board, with_given, without, without_roms};
+ghost use Rattle.board_records.specs.Common.{AreAsMany, Behind, IsBehind, IsGivenBoard, IsGivenRefusal, IsSaveRefusal};
+ghost use Rattle.board_records.specs.Common.{IsWritten, closed, given_of, image_bytes, left_of, no_memory, no_room, ok};
+ghost use Rattle.board_records.specs.Common.{on_board, with_given, without, without_roms};
 
 use crate::handle::Handle;
 use board_records::status::{CLOSED, NO_MEMORY, OK};
 use board_records::{Door, Given, LeftOut};
 use std::alloc::Global;
 
-/// Writes the board as `board_save` does, without the bytes of the DRAM or those of the disk, as it was fitted and as its
-/// sectors stand: zeros stand in the place of what is left out. The statuses are those of `board_save`.
+/// Writes the board as `board_save` does, without the bytes of the DRAM or those of the disk, as it was fitted and as
+/// its sectors stand: zeros stand in the place of what is left out. The statuses are those of `board_save`.
 #[unsafe(no_mangle)]
 pub extern "C" fn board_save_without(
     alloc: Global,
@@ -41,11 +43,11 @@ pub extern "C" fn board_save_without(
     status
 }
 
-/// Opens the board that was saved as these bytes, as `board_load` does, with the bytes that are given in the place of its
-/// own: those of the DRAM, of the disk as it was fitted, and of its sectors as they stand. No bytes are none given. So with
-/// those that `board_save_without` left out it is the board that was saved. `BAD_LENGTH` where the bytes are those of a
-/// board, and those given are not as many as it has; the other statuses are those of `board_load`. A handle that is refused
-/// is as before.
+/// Opens the board that was saved as these bytes, as `board_load` does, with the bytes that are given in the place of
+/// its own: those of the DRAM, of the disk as it was fitted, and of its sectors as they stand. No bytes are none given.
+/// So with those that `board_save_without` left out it is the board that was saved. `BAD_LENGTH` where the bytes are
+/// those of a board, and those given are not as many as it has; the other statuses are those of `board_load`. A handle
+/// that is refused is as before.
 #[unsafe(no_mangle)]
 pub extern "C" fn board_load_with(
     alloc: Global,

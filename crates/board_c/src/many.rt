@@ -10,9 +10,9 @@ use board_records::status::CLOSED;
 use port_strings::{in_many, out_many};
 use std::alloc::Global;
 
-/// Reads a port for each of the values, one after another, until the processor is asked for: INT is asserted, or there was
-/// a reset. Tells how many were read, and the last one's reply. `CLOSED` exactly where
-/// the handle is closed; refused with why where the first is. Then nothing has changed.
+/// Reads a port for each of the values, one after another, until the processor is asked for: INT is asserted, or there
+/// was a reset. Tells how many were read, and the last one's reply. `CLOSED` exactly where the handle is closed;
+/// refused with why where the first is. Then nothing has changed.
 #[unsafe(no_mangle)]
 pub extern "C" fn board_in_many(
     alloc: Global,
@@ -43,8 +43,8 @@ pub extern "C" fn board_in_many(
     status
 }
 
-/// Writes each of the values to a port, one after another, until the processor is asked for: INT is asserted, there was a
-/// reset, or COM1 sent a byte. Tells how many were written, and the last one's reply.
+/// Writes each of the values to a port, one after another, until the processor is asked for: INT is asserted, there was
+/// a reset, or COM1 sent a byte. Tells how many were written, and the last one's reply.
 /// `CLOSED` exactly where the handle is closed; refused with why where the first is. Then nothing has changed.
 #[unsafe(no_mangle)]
 pub extern "C" fn board_out_many(

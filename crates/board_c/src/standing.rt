@@ -1,7 +1,8 @@
 //! One second of the clock; and what stands of the interrupt lines and of the serial port.
 
 ghost use Rattle.std.specs.Prelude.{◌≡◌, ◌≢◌, true, false};
-ghost use Rattle.board_records.specs.Common.{AreLinesTold, HasNoSecond, IsSecondStep, OnBoard, OnBoth, closed, no_time, ok, serial_state_said};
+ghost use Rattle.board_records.specs.Common.{AreLinesTold, HasNoSecond, IsSecondStep, OnBoard, OnBoth, closed, no_time};
+ghost use Rattle.board_records.specs.Common.{ok, serial_state_said};
 
 use crate::handle::Handle;
 use board_records::status::{CLOSED, OK};
@@ -9,8 +10,8 @@ use board_records::{EventRecord, ReplyRecord, SerialRecord};
 use std::alloc::Global;
 
 /// Lets the clock go on one second from what it shows, in whichever form, and tells the event by which it does and the
-/// reply. `CLOSED` exactly where the handle is closed, and `NO_TIME` exactly where it is open and SET holds the time, or
-/// its registers say no moment; then nothing has changed.
+/// reply. `CLOSED` exactly where the handle is closed, and `NO_TIME` exactly where it is open and SET holds the time,
+/// or its registers say no moment; then nothing has changed.
 #[unsafe(no_mangle)]
 pub extern "C" fn board_second(
     alloc: Global,

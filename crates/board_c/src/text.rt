@@ -9,9 +9,10 @@ use board_records::{EventRecord, ReplyRecord};
 use record_text::tell_line;
 use std::alloc::Global;
 
-/// Writes line `number` of a log, with its line feed, of the entry of a processor, the number of its statement, an event
-/// and its reply, and tells how many bytes the line has. Refused with `NO_EVENT` or `NO_REPLY` where a record says none, and
-/// with `NO_ROOM` where the line does not fit: then its count of bytes is told. `NO_MEMORY` may come where both say something.
+/// Writes line `number` of a log, with its line feed, of the entry of a processor, the number of its statement, an
+/// event and its reply, and tells how many bytes the line has. Refused with `NO_EVENT` or `NO_REPLY` where a record
+/// says none, and with `NO_ROOM` where the line does not fit: then its count of bytes is told. `NO_MEMORY` may come
+/// where both say something.
 #[unsafe(no_mangle)]
 pub extern "C" fn board_text(
     alloc: Global,
@@ -28,7 +29,8 @@ pub extern "C" fn board_text(
     ensures refused { result ≢ ok → IsLineRefusal (entry_recorded processor statement event.now reply.now)
         event.now number (length into.old) result }
     ensures unwritten { result ≢ ok → into.new ≡ into.old }
-    ensures counted { ((result ≡ ok) ⊎ (result ≡ no_room)) → IsSomeAnd (entry_recorded processor statement event.now reply.now)
+    ensures counted { ((result ≡ ok) ⊎ (result ≡ no_room))
+        → IsSomeAnd (entry_recorded processor statement event.now reply.now)
         (λ entry. bytes.new ≡ length (whole_line number entry)) }
     ensures uncounted { result ≢ ok → result ≢ no_room → bytes.new ≡ bytes.old }
 {

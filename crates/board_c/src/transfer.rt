@@ -2,7 +2,8 @@
 
 ghost use Rattle.std.specs.Prelude.{◌≡◌, ◌≢◌, true, false};
 ghost use Rattle.board_records.specs.Common.{OnBoard, closed, no_transfer, ok};
-ghost use Rattle.piece_records.specs.Common.{IsBeginning, IsPieceTold, IsRegionFree, IsTransfer, begun_at, described_by};
+ghost use Rattle.piece_records.specs.Common.{IsBeginning, IsPieceTold, IsRegionFree, IsTransfer, begun_at};
+ghost use Rattle.piece_records.specs.Common.{described_by};
 
 use crate::handle::Handle;
 use board_records::status::CLOSED;
@@ -10,8 +11,8 @@ use piece_records::{PieceRecord, TransferRecord, begin_transfer, next_piece, tak
 use std::alloc::Global;
 
 /// Begins a transfer of sectors, 1 to 256, from `lba` on, which is below 2^28, by the table at an address that is a
-/// multiple of 4; the first `readable` of them are there and can be read. `NO_TRANSFER` exactly where one of these is out of
-/// range.
+/// multiple of 4; the first `readable` of them are there and can be read. `NO_TRANSFER` exactly where one of these is
+/// out of range.
 #[unsafe(no_mangle)]
 pub extern "C" fn board_transfer_begin(
     transfer: &mut TransferRecord,
@@ -29,8 +30,8 @@ pub extern "C" fn board_transfer_begin(
     begin_transfer(transfer, table, lba, sectors, readable, to_memory)
 }
 
-/// Tells the next piece of a transfer: a descriptor that is to be read, words that are to be moved, or its end. Words are
-/// taken as moved. `CLOSED` exactly where the handle is closed, and `NO_TRANSFER` exactly where it is open and the
+/// Tells the next piece of a transfer: a descriptor that is to be read, words that are to be moved, or its end. Words
+/// are taken as moved. `CLOSED` exactly where the handle is closed, and `NO_TRANSFER` exactly where it is open and the
 /// transfer's numbers are those of none.
 #[unsafe(no_mangle)]
 pub extern "C" fn board_transfer_next(
@@ -58,8 +59,8 @@ pub extern "C" fn board_transfer_next(
     status
 }
 
-/// Goes on in the region that a descriptor names, whose two doublewords are its base and its count. `NO_TRANSFER` exactly
-/// where the transfer's numbers are those of none, or of one that has a region in use.
+/// Goes on in the region that a descriptor names, whose two doublewords are its base and its count. `NO_TRANSFER`
+/// exactly where the transfer's numbers are those of none, or of one that has a region in use.
 #[unsafe(no_mangle)]
 pub extern "C" fn board_transfer_region(transfer: &mut TransferRecord, base: u32, count: u32) -> u32
     ensures done { result ≡ ok → transfer.new ≡ described_by base count transfer.old }

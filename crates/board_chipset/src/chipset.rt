@@ -95,8 +95,8 @@ impl Chipset {
     }
 
     /// The memory map of the registers as they stand. Its version is the number of map writes so far, modulo 2^32: the
-    /// stores to a register that the map depends on, and the hard resets. The registers are those of the state, also where
-    /// no history left it so.
+    /// stores to a register that the map depends on, and the hard resets. The registers are those of the state, also
+    /// where no history left it so.
     pub fn map(&self) -> &FlatMap
         ensures held { result.now ≡ self.now.state.registers.map }
         ensures bytes { (history : List Entry) → IsLeftBy self.now history

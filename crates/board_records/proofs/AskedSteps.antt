@@ -1,5 +1,5 @@
--- What an access at a port makes of a chipset with a serial port, in the words of a step that was asked; and the record of
--- each kind of reply as that of a reply of both.
+-- What an access at a port makes of a chipset with a serial port, in the words of a step that was asked; and the record
+-- of each kind of reply as that of a reply of both.
 use Rattle.std.proofs.Common.{◌≡◌, ℕ, true, false, List, ◌∷◌, Option, Some, None, refl}
 use Rattle.board_prelude.proofs.Common.{Target, Denial, PortAccess, Parts, Port, Bus, Look, Saw, Entry, is_hard_reset}
 use Rattle.board_spec.specs.declared.event.Reply.TheVariants as replies
@@ -10,7 +10,8 @@ use Rattle.uart_16550.specs.declared.com1.SerialReply.TheVariants.{Board as OfBo
 use Rattle.uart_16550.specs.Common.{change_steps, com1_after, is_for_uart, Serial, sending_after, steps_for}
 use Rattle.board_records.specs.declared.reply.AfterStep.{AfterStep}
 use Rattle.board_records.specs.declared.reply.ReplyRecord.{ReplyRecord}
-use Rattle.board_records.specs.Replies.{bus_said, look_said, uart_said, wide_said, record_said, serial_said, blank, with_cycle, without_value, beside_cycle}
+use Rattle.board_records.specs.Replies.{bus_said, look_said, uart_said, wide_said, record_said, serial_said, blank}
+use Rattle.board_records.specs.Replies.{with_cycle, without_value, beside_cycle}
 use Rattle.board_records.specs.Steps.{port_of}
 
 pub bus_told : (value : Option ℕ) (target : Target) (denial : Option Denial) (after : AfterStep) →

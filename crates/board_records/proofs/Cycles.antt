@@ -1,6 +1,7 @@
 -- Accesses of one bus cycle have a place.
 use Rattle.std.proofs.Common.{◌≡◌, List, None}
-use Rattle.board_prelude.proofs.Common.{Event, Memory, Port, Wide, Ack, Pulses, Time, Wire, Line, BadSector, Entry, Setup}
+use Rattle.board_prelude.proofs.Common.{Event, Memory, Port, Wide, Ack, Pulses, Time, Wire, Line, BadSector, Entry}
+use Rattle.board_prelude.proofs.Common.{Setup}
 use Rattle.board_spec.specs.declared.event.Event.TheVariants.{Look as LookAt}
 use Rattle.board_chipset.specs.Places.{place_of}
 use Rattle.board_records.specs.Places.{IsCycle}

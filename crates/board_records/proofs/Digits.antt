@@ -14,8 +14,10 @@ record AreParts (digits year month day hour minute second : ℕ) : Type 0 where
   pub minute_is : digits / 100 % 100 ≡ minute
   pub second_is : digits / 1 % 100 ≡ second
 
-parts_of_digits : (year month day hour minute second : ℕ) → month < 100 → day < 100 → hour < 100 → minute < 100 → second < 100 →
-    AreParts (((year * 100 + month) * 100 + day) * 1_000_000 + ((hour * 100 + minute) * 100 + second)) year month day hour minute second
+parts_of_digits : (year month day hour minute second : ℕ) → month < 100 → day < 100 → hour < 100 →
+    minute < 100 → second < 100 →
+    AreParts (((year * 100 + month) * 100 + day) * 1_000_000 + ((hour * 100 + minute) * 100 + second)) year month day
+    hour minute second
 parts_of_digits year month day hour minute second mo da ho mi se = record {
   year_is = omega (arith, mo, da, ho, mi, se);
   month_is = omega (arith, mo, da, ho, mi, se);

@@ -19,10 +19,12 @@ reply_is serial history event None told left uart board =
     let is = board refl in rw (is.1) (is.2 history left)
 
 abbrev pub IsAfterThese : Serial Running → List Entry → List Statement → Type 0
-IsAfterThese serial history steps = IsAfter IsAnswerModulo (λ (chipset : Running). chipset.setup) IsChipsetLeftBy serial history steps
+IsAfterThese serial history steps = IsAfter IsAnswerModulo (λ (chipset : Running). chipset.setup) IsChipsetLeftBy
+    serial history steps
 
 -- the same under another name of the steps
-abbrev pub after_as : (serial : Serial Running) (history : List Entry) (steps others : List Statement) → steps ≡ others →
+abbrev pub after_as : (serial : Serial Running) (history : List Entry) (steps others : List Statement) →
+    steps ≡ others →
     IsAfterThese serial history steps → IsAfterThese serial history others
 after_as serial history steps others is gone = record {
   after = gone.after;

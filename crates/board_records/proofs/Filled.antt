@@ -1,8 +1,10 @@
 -- Lists that are filled from the front.
-use Rattle.std.proofs.Common.{◌≡◌, ℕ, ◌+◌, ◌<◌, ◌≤◌, List, ◌++◌, length, map, set, get_or, ap, sym, ◌∙◌, arith, take, drop}
+use Rattle.std.proofs.Common.{◌≡◌, ℕ, ◌+◌, ◌<◌, ◌≤◌, List, ◌++◌, length, map, set, get_or, ap, sym, ◌∙◌, arith, take}
+use Rattle.std.proofs.Common.{drop}
 use Rattle.std.proofs.lemmas.Grind.{drop_more_same}
 use Rattle.board_records.specs.Maps.{filled}
-use Rattle.std.proofs.lemmas.List.{take-append-drop, take_all, take_more_same, length-set, length-map, take-set, drop-set-lt, get_or-set_same, get_or-map}
+use Rattle.std.proofs.lemmas.List.{take-append-drop, take_all, take_more_same, length-set, length-map, take-set}
+use Rattle.std.proofs.lemmas.List.{drop-set-lt, get_or-set_same, get_or-map}
 
 -- one more is told in front
 pub filled_more : {X Y : Type 0} (say : X → Y) (told : List X) (now : List Y) (index : ℕ) (last : X) (next : Y) →
@@ -20,9 +22,11 @@ rest_more now before index next rest =
     drop-set-lt (index + 1) now index next (omega arith) ∙ drop_more_same now before index rest
 
 -- all is told, and there is room for it
-pub filled_all : {A : Type 0} (told now before : List A) (index : ℕ) → length told ≤ length before → index ≡ length told →
+pub filled_all : {A : Type 0} (told now before : List A) (index : ℕ) → length told ≤ length before →
+    index ≡ length told →
     take index now ≡ take index told → drop index now ≡ drop index before → now ≡ filled told before
 filled_all told now before index room is front rest =
     rw (take_all (length before) told room, ← is)
-    (sym (take-append-drop index now) ∙ ap (λ list. list ++ drop index now) (front ∙ take_all index told (omega (arith, is)))
+    (sym (take-append-drop index now) ∙ ap (λ list. list ++ drop index now)
+    (front ∙ take_all index told (omega (arith, is)))
     ∙ ap (λ list. told ++ list) rest)

@@ -1,5 +1,6 @@
 -- What cards say that they are, one after another; and steps of a door over those of its chipset.
-use Rattle.std.proofs.Common.{◌≡◌, ℕ, ◌+◌, ◌<◌, ◌≤◌, Bool, true, false, if◌then◌else◌, List, [], ◌∷◌, length, get_or, drop, IsSomeAnd, Option, Some, None, option_map, refl, sym, ap, ◌∙◌, arith}
+use Rattle.std.proofs.Common.{◌≡◌, ℕ, ◌+◌, ◌<◌, ◌≤◌, Bool, true, false, if◌then◌else◌, List, [], ◌∷◌, length, get_or}
+use Rattle.std.proofs.Common.{drop, IsSomeAnd, Option, Some, None, option_map, refl, sym, ap, ◌∙◌, arith}
 use Rattle.std.proofs.lemmas.List.{drop_more}
 use Rattle.board_prelude.proofs.Common.{Width}
 use Rattle.board_spec.specs.Setup.{FittedCard, Setup}
@@ -30,7 +31,8 @@ identities_next records index last within = ap identities_said (drop_more record
 pub some_few : (count : ℕ) (mib : ℕ) (rom disk : List ℕ) (serial : Serial Running) (said : Option (List FittedCard)) →
     ((cards : List FittedCard) → said ≡ Some cards → length cards ≡ count) →
     IsSomeAnd
-    (option_map (λ cards. let setup : Setup = record { mib = mib; cards = cards; rom = rom; disk = disk_of disk } in setup) said)
+    (option_map (λ cards. let setup : Setup = record { mib = mib; cards = cards; rom = rom; disk = disk_of disk } in
+    setup) said)
     (IsOpenedWith serial) → count ≤ 8
 some_few count mib rom disk serial None each opened = absurd opened
 some_few count mib rom disk serial (Some cards) each opened =

@@ -77,7 +77,8 @@ last_loaded (Ok given) behind fitted before mid told is =
     rw (told.0) (
       is.0,
       is.1,
-      is.2 ∙ (ap (λ (rest : List ℕ). serial_bytes behind.serial ++ rest) told.1 ∙ append-nil (serial_bytes behind.serial)),
+      is.2 ∙ (ap (λ (rest : List ℕ). serial_bytes behind.serial ++ rest) told.1
+          ∙ append-nil (serial_bytes behind.serial)),
     )
 last_loaded (Err fault) behind fitted before mid told is = tt
 

@@ -1,12 +1,14 @@
 -- A board that is saved without bytes of its own, and loaded with them.
-use Rattle.std.proofs.Common.{◌≡◌, ◌≢◌, ℕ, ◌/◌, true, false, Bool, if◌then◌else◌, List, [], ◌∷◌, length, option_map, unwrap_or, Option, Some, None, Result, Ok, Err, ◌⊎◌, inl, inr, refl, sym, ap, subst, ◌∙◌}
+use Rattle.std.proofs.Common.{◌≡◌, ◌≢◌, ℕ, ◌/◌, true, false, Bool, if◌then◌else◌, List, [], ◌∷◌, length, option_map}
+use Rattle.std.proofs.Common.{unwrap_or, Option, Some, None, Result, Ok, Err, ◌⊎◌, inl, inr, refl, sym, ap, subst, ◌∙◌}
 use Rattle.board_prelude.specs.Common.{Disk, IsDisk, IsDiskSize}
 use Rattle.ata_pio.specs.State.{IsDisk as IsDiskOver}
 use Rattle.board_devices.specs.Common.{holding, sectors_in}
 use Rattle.board_devices.specs.State.{IsFittedDisk}
 use Rattle.board_chipset.specs.ChipsetState.{IsChipset}
 use Rattle.board_chipset.specs.Common.{Running}
-use Rattle.board_chipset.specs.Given.{dram_left, dram_on, disk_left, fitted_on, sectors_on, unless_left, with_dram, with_fitted, with_sectors, zeros}
+use Rattle.board_chipset.specs.Given.{dram_left, dram_on, disk_left, fitted_on, sectors_on, unless_left, with_dram}
+use Rattle.board_chipset.specs.Given.{with_fitted, with_sectors, zeros}
 use Rattle.board_chipset.proofs.LeftBytes.{left_length, left_on, zeros_length}
 use Rattle.board_spec.specs.Setup.{installed}
 use Rattle.board_records.specs.declared.left.LeftOut.{LeftOut}
@@ -164,7 +166,8 @@ chipset_restored left chipset =
     let blank : Option (List ℕ) = option_map {T = List ℕ} (λ _. unless_left left.disk (unwrap_or fitted [])) fitted in
     let empty : Option Disk = option_map (holding (unless_left left.disk sectors)) disk in
     let refit : Option (List ℕ) =
-    option_map {T = List ℕ} (λ _. given_or (if left.disk then unwrap_or fitted [] else []) (unwrap_or blank [])) blank in
+    option_map {T = List ℕ} (λ _. given_or (if left.disk then unwrap_or fitted [] else []) (unwrap_or blank []))
+    blank in
     let full : Option Disk =
     option_map (holding (given_or (if left.disk then sectors else []) (unwrap_or (sectors_in empty) []))) empty in
     ap (λ (bytes : List ℕ). rebuilt chipset bytes refit full) (given_back left.dram dram)
@@ -188,7 +191,8 @@ pub own_as_many : (left : LeftOut) (behind : Behind) → IsBehind behind →
     AreAsMany (left_of left behind.serial.board) (without left behind).serial.board.setup
 own_as_many left behind is =
     let chipset : Running = behind.serial.board in
-    let size : length (unwrap_or (option_map {T = List ℕ} (λ _. unless_left left.disk (fitted_on chipset)) chipset.setup.disk) [])
+    let size : length
+    (unwrap_or (option_map {T = List ℕ} (λ _. unless_left left.disk (fitted_on chipset)) chipset.setup.disk) [])
     ≡ length (fitted_on chipset) =
     ap length (left_on left.disk chipset.setup.disk) ∙ left_length left.disk (fitted_on chipset) in
     record {

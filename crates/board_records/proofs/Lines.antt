@@ -1,12 +1,14 @@
 -- The number of the levels from a line on.
 use mir.Val.{bool_byte}
-use Rattle.std.proofs.Common.{◌≡◌, ℕ, suc, ◌+◌, ◌*◌, ◌-◌, ◌<◌, ◌≤◌, ◌^◌, Bool, true, false, if◌then◌else◌, List, length, get_or, drop, refl, ap, arith}
+use Rattle.std.proofs.Common.{◌≡◌, ℕ, suc, ◌+◌, ◌*◌, ◌-◌, ◌<◌, ◌≤◌, ◌^◌, Bool, true, false, if◌then◌else◌, List, length}
+use Rattle.std.proofs.Common.{get_or, drop, refl, ap, arith}
 use Rattle.std.proofs.lemmas.List.{drop_all, drop_more}
 use Rattle.std.proofs.Math.Nat.{pow-succ'}
 use Rattle.board_prelude.proofs.Common.{byte_of_levels, Entry, Setup, levels_of, levels_with}
 
 pub bits_from : (levels : List Bool) (line next : ℕ) → line < length levels → next ≡ line + 1 →
-    byte_of_levels (drop line levels) ≡ (if get_or levels line false then 1 else 0) + 2 * byte_of_levels (drop next levels)
+    byte_of_levels (drop line levels) ≡ (if get_or levels line false then 1 else 0) + 2 * byte_of_levels
+    (drop next levels)
 unfolding byte_of_levels
 bits_from levels line next within is = rw is (ap byte_of_levels (drop_more levels line false within))
 
@@ -28,7 +30,8 @@ at_most_one true = omega arith
 at_most_one false = omega arith
 
 -- and they fit
-pub fits : (k bits more : ℕ) (level : Bool) → more ≡ bool_byte level → bits + 1 ≤ 2 ^ k → 2 * bits + more + 1 ≤ 2 ^ (k + 1)
+pub fits : (k bits more : ℕ) (level : Bool) → more ≡ bool_byte level → bits + 1 ≤ 2 ^ k →
+    2 * bits + more + 1 ≤ 2 ^ (k + 1)
 fits k bits more level is small =
     let next : k + 1 ≡ suc k = omega arith in
     let double : 2 ^ (k + 1) ≡ 2 * 2 ^ k = rw next (pow-succ' 2 k) in

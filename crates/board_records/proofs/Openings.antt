@@ -1,5 +1,6 @@
 -- What an open looks at before it copies: the cards that records say are as many as the records.
-use Rattle.std.proofs.Common.{◌≡◌, ℕ, suc, ◌+◌, ◌<◌, ◌&&◌, true, arith, IsSomeAnd, List, [], ◌∷◌, length, get_or, drop, is_some, Option, Some, None, option_map, option_and_then, refl, ap, sym}
+use Rattle.std.proofs.Common.{◌≡◌, ℕ, suc, ◌+◌, ◌<◌, ◌&&◌, true, arith, IsSomeAnd, List, [], ◌∷◌, length, get_or, drop}
+use Rattle.std.proofs.Common.{is_some, Option, Some, None, option_map, option_and_then, refl, ap, sym}
 use Rattle.std.proofs.lemmas.List.{drop_more}
 use Rattle.board_spec.specs.Setup.{FittedCard, IsCardList, IsSetup, Setup}
 use Rattle.board_chipset.specs.declared.check.SetupFault.TheVariants.{Cards}
@@ -14,11 +15,14 @@ one_more : {A : Type 0} (n : ℕ) (one : Option A) (others : Option (List A)) (a
     option_and_then (λ it. option_map (λ later. it ∷ later) others) one ≡ Some all → length all ≡ suc n
 one_more n None others all each is = absurd cc
 one_more n (Some it) None all each is = absurd cc
-one_more n (Some it) (Some later) all each is = let same : it ∷ later ≡ all = cc in rw (← same) (ap suc (each later refl))
+one_more n (Some it) (Some later) all each is = let same : it ∷ later ≡ all = cc in
+    rw (← same) (ap suc (each later refl))
 
-pub said_count : (records : List CardRecord) (cards : List FittedCard) → cards_said records ≡ Some cards → length cards ≡ length records
+pub said_count : (records : List CardRecord) (cards : List FittedCard) → cards_said records ≡ Some cards →
+    length cards ≡ length records
 said_count [] cards is = let same : [] ≡ cards = cc in rw (← same) refl
-said_count (first ∷ later) cards is = one_more (length later) (card_said first) (cards_said later) cards (said_count later) is
+said_count (first ∷ later) cards is = one_more (length later) (card_said first) (cards_said later) cards
+    (said_count later) is
 
 both_said : {B : Type 0} (one : Option B) (others : Option (List B)) →
     is_some (option_and_then (λ it. option_map (λ later. it ∷ later) others) one) ≡ (is_some one && is_some others)
@@ -57,10 +61,12 @@ many_cards mib records rom disk test many memory =
 
 -- ---- at most eight
 
-said_is : (mib : ℕ) (records : List CardRecord) (rom disk : List ℕ) (cards : List FittedCard) → Some cards ≡ cards_said records →
+said_is : (mib : ℕ) (records : List CardRecord) (rom disk : List ℕ) (cards : List FittedCard) →
+    Some cards ≡ cards_said records →
     setup_said mib records rom disk ≡ Some (setup_of mib cards rom disk)
 said_is mib records rom disk cards is = ap (λ said. option_map (λ cards. setup_of mib cards rom disk) said) (sym is)
 
 pub said_fits : (mib : ℕ) (records : List CardRecord) (rom disk : List ℕ) (cards : List FittedCard) →
-    Some cards ≡ cards_said records → IsSetup (setup_of mib cards rom disk) → IsSomeAnd (setup_said mib records rom disk) IsSetup
+    Some cards ≡ cards_said records → IsSetup (setup_of mib cards rom disk) →
+    IsSomeAnd (setup_said mib records rom disk) IsSetup
 said_fits mib records rom disk cards is fits = rw (said_is mib records rom disk cards is) fits

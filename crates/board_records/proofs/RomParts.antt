@@ -1,5 +1,7 @@
 -- Which part moved a byte, and the cards one after another; and replies where no ROM was given bytes.
-use Rattle.std.proofs.Common.{◌≡◌, ℕ, ◌+◌, ◌-◌, ◌<◌, ◌≤◌, ◌&&◌, ◌||◌, ◌==◌, nat_lt, Bool, true, false, not, if◌then◌else◌, List, [], length, drop, get_or, find, Option, Some, None, refl, sym, ap, ◌∙◌}
+use Rattle.std.proofs.Common.{◌≡◌, ℕ, ◌+◌, ◌-◌, ◌<◌, ◌≤◌, ◌&&◌, ◌||◌, ◌==◌, nat_lt, Bool, true, false, not}
+use Rattle.std.proofs.Common.{if◌then◌else◌, List, [], length, drop, get_or, find, Option, Some, None, refl, sym, ap}
+use Rattle.std.proofs.Common.{◌∙◌}
 use Rattle.std.proofs.lemmas.List.{drop_more}
 use Rattle.board_prelude.proofs.Common.{and_right, drop_all, le-ltb, lt-ltb, bytes_of, longest_at}
 use Rattle.board_spec.specs.Setup.{FittedCard}
@@ -10,7 +12,8 @@ use Rattle.board_records.specs.declared.reply.ReplyRecord.{ReplyRecord}
 use Rattle.board_records.specs.Replies.{no_part}
 use Rattle.board_records.specs.RomReplies.{is_given, part_of, with_roms}
 
-pub part_next : (parts : List PartRecord) (index addr bytes before place : ℕ) (last : PartRecord) → index < length parts →
+pub part_next : (parts : List PartRecord) (index addr bytes before place : ℕ) (last : PartRecord) →
+    index < length parts →
     part_of (drop index parts) addr bytes before place
     ≡ (let after = before + bytes_of (longest_at (addr + before) (bytes - before)) in
     if nat_lt place after then Some (get_or parts index last, place - before)
@@ -30,7 +33,8 @@ part_here parts index addr bytes before place last count left within is_left is_
 pub part_later : (parts : List PartRecord) (index addr bytes before place : ℕ) (count left : ℕ) →
     index < length parts → left ≡ bytes - before → count ≡ bytes_of (longest_at (addr + before) left) →
     before + count ≤ place →
-    part_of (drop index parts) addr bytes before place ≡ part_of (drop (index + 1) parts) addr bytes (before + count) place
+    part_of (drop index parts) addr bytes before place ≡ part_of (drop (index + 1) parts) addr bytes
+    (before + count) place
 part_later parts index addr bytes before place count left within is_left is_count past =
     let is : bytes_of (longest_at (addr + before) (bytes - before)) ≡ count = sym (rw is_left at is_count) in
     part_next parts index addr bytes before place no_part within ∙ rw (is, le-ltb place (before + count) past) refl
@@ -44,7 +48,8 @@ pub card_next : (cards : List FittedCard) (index dev : ℕ) (last : FittedCard) 
     find (λ card. card.dev == dev) (drop index cards)
     ≡ (if (get_or cards index last).dev == dev then Some (get_or cards index last)
     else find (λ card. card.dev == dev) (drop (index + 1) cards))
-card_next cards index dev last within = ap (λ rest. find (λ card. card.dev == dev) rest) (drop_more cards index last within)
+card_next cards index dev last within = ap (λ rest. find (λ card. card.dev == dev) rest)
+    (drop_more cards index last within)
 
 -- ---- no ROM was given any
 

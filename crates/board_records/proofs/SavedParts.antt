@@ -1,5 +1,6 @@
 -- The bytes of a board in three: those before the DRAM's, these, and those after them.
-use Rattle.std.proofs.Common.{◌≡◌, ℕ, ◌+◌, ◌≤◌, Bool, List, [], ◌∷◌, ◌++◌, length, take, drop, replicate, Result, Ok, Err, OnOk, true, ◌*◌, refl, sym, ap, subst, ◌∙◌, append_assoc, arith}
+use Rattle.std.proofs.Common.{◌≡◌, ℕ, ◌+◌, ◌≤◌, Bool, List, [], ◌∷◌, ◌++◌, length, take, drop, replicate, Result, Ok}
+use Rattle.std.proofs.Common.{Err, OnOk, true, ◌*◌, refl, sym, ap, subst, ◌∙◌, append_assoc, arith}
 use Rattle.board_prelude.proofs.Common.{length-append, length-take, length-drop, take_at, drop_at}
 use Rattle.pit_8254.proofs.Saved.{joined}
 use Rattle.byte_fields.specs.Fields.{flag_byte}
@@ -87,7 +88,10 @@ pub before_added :
     OnOk result (new ≡ old ++ before_bytes (on_board (disk_left left) behind))
 before_added (Ok value) left behind board setup old mid new of_board of_setup first second =
     let fitting : List ℕ =
-    fitting_bytes (record { setup = disk_unless_left left behind.serial.board.setup; identities = behind.identities }) in
+    fitting_bytes (record {
+      setup = disk_unless_left left behind.serial.board.setup;
+      identities = behind.identities;
+    }) in
     let registers : List ℕ = registers_bytes behind.serial.board.state.registers in
     second
     ∙ rw (first, of_setup, of_board)
@@ -97,7 +101,8 @@ before_added (Err fault) left behind board setup old mid new of_board of_setup f
 
 -- zeros were added in the place of the DRAM's bytes
 pub blank_image :
-    (disk : Bool) (behind : Behind) (none one two three : List ℕ) → HasMib behind.serial.board.setup.mib behind.serial.board.state.stores.dram → none ≡ [] →
+    (disk : Bool) (behind : Behind) (none one two three : List ℕ) →
+    HasMib behind.serial.board.setup.mib behind.serial.board.state.stores.dram → none ≡ [] →
     one ≡ none ++ before_bytes (on_board (disk_left disk) behind) →
     two ≡ one ++ replicate (behind.serial.board.setup.mib * 256) 0 →
     three ≡ two ++ after_bytes (on_board (disk_left disk) behind) →

@@ -1,5 +1,6 @@
 -- Which cards some records say, none where a number of one names nothing; and what these say that they are.
-use Rattle.std.specs.Prelude.{ℕ, ◌==◌, nat_le, Bool, ◌&&◌, if◌then◌else◌, List, [], ◌∷◌, take, Option, Some, None, option_map, option_and_then}
+use Rattle.std.specs.Prelude.{ℕ, ◌==◌, nat_le, Bool, ◌&&◌, if◌then◌else◌, List, [], ◌∷◌, take, Option, Some, None}
+use Rattle.std.specs.Prelude.{option_map, option_and_then}
 use Rattle.board_spec.specs.Setup.{Base, MemoryBase, IoBase, OutsideBase, FittedCard}
 use Rattle.card_identity.specs.declared.identity.Identity.{Identity}
 use Rattle.card_identity.specs.declared.identity.FittedIdentity.{FittedIdentity}

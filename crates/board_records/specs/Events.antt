@@ -1,12 +1,16 @@
 -- Which event a record says: none where a number of it names nothing, or does not fit where it goes.
-use Rattle.std.specs.Prelude.{ℕ, ◌==◌, ◌%◌, ◌/◌, ◌^◌, nat_lt, nat_le, Bool, true, false, ◌&&◌, if◌then◌else◌, Option, Some, None, option_map, option_and_then}
-use Rattle.board_prelude.specs.Common.{Kind, Fetch, Read, Write, Width, One, WideAccess, bytes_of, is_moment, moment_of, Event, Memory, Wide, Port, Ack, Pulses, Time, Wire, Line, BadSector}
+use Rattle.std.specs.Prelude.{ℕ, ◌==◌, ◌%◌, ◌/◌, ◌^◌, nat_lt, nat_le, Bool, true, false, ◌&&◌, if◌then◌else◌, Option}
+use Rattle.std.specs.Prelude.{Some, None, option_map, option_and_then}
+use Rattle.board_prelude.specs.Common.{Kind, Fetch, Read, Write, Width, One, WideAccess, bytes_of, is_moment, moment_of}
+use Rattle.board_prelude.specs.Common.{Event, Memory, Wide, Port, Ack, Pulses, Time, Wire, Line, BadSector}
 use Rattle.board_base.specs.declared.access.Width.TheVariants.{Two, Four}
 use Rattle.board_spec.specs.declared.event.Event.TheVariants.{Look as LookAt}
 use Rattle.uart_16550.specs.declared.com1.Happening.{Happening}
 use Rattle.uart_16550.specs.declared.com1.Happening.TheVariants.{Comes, Happens}
 use Rattle.board_records.specs.declared.event.EventRecord.{EventRecord}
-use Rattle.board_records.specs.Numbers.{memory_event, port_event, look_event, ack_event, pulses_event, time_event, wire_event, line_event, bad_sector_event, serial_event, fetch_kind, read_kind, write_kind}
+use Rattle.board_records.specs.Numbers.{memory_event, port_event, look_event, ack_event, pulses_event, time_event}
+use Rattle.board_records.specs.Numbers.{wire_event, line_event, bad_sector_event, serial_event, fetch_kind, read_kind}
+use Rattle.board_records.specs.Numbers.{write_kind}
 
 unfoldable pub kind_said : ℕ → Option Kind
 kind_said number =
@@ -37,7 +41,13 @@ unfoldable pub cycle_said : EventRecord → Kind → Width → Option Event
 cycle_said said kind width =
     if said.addr % bytes_of width == 0
     then (if nat_lt said.value (2 ^ 32)
-    then Some (Memory (record { kind = kind; addr = said.addr; width = width; smm = said.smm == 1; value = said.value }))
+    then Some (Memory (record {
+      kind = kind;
+      addr = said.addr;
+      width = width;
+      smm = said.smm == 1;
+      value = said.value;
+    }))
     else None)
     else Some (Wide (wide_access kind said))
 
@@ -87,8 +97,10 @@ unfoldable pub asked_by : EventRecord → Option Event
 asked_by said =
     if said.what == memory_event then option_and_then (access_said said) (kind_said said.kind) else
     if said.what == port_event
-    then option_and_then (λ width. option_and_then (port_said said width) (direction_said said.kind)) (width_said said.bytes) else
-    if said.what == look_event then option_map (λ kind. LookAt kind said.addr (said.smm == 1)) (kind_said said.kind) else
+    then option_and_then (λ width. option_and_then (port_said said width) (direction_said said.kind))
+    (width_said said.bytes) else
+    if said.what == look_event then option_map (λ kind. LookAt kind said.addr (said.smm == 1)) (kind_said said.kind)
+    else
     if said.what == ack_event then Some Ack else
     if said.what == pulses_event then pulses_said said.value else
     if said.what == time_event then digits_said said.value else

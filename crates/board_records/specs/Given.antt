@@ -1,10 +1,11 @@
--- Bytes of a board that a monitor keeps itself: those of the DRAM, of the disk as it was fitted, and of its sectors as they
--- stand. An image can leave them out, and a load takes them from the caller.
+-- Bytes of a board that a monitor keeps itself: those of the DRAM, of the disk as it was fitted, and of its sectors as
+-- they stand. An image can leave them out, and a load takes them from the caller.
 use Rattle.std.specs.Prelude.{ℕ, ◌≡◌, ◌≢◌, ◌⊎◌, if◌then◌else◌, Bool, List, [], ◌∷◌, length}
 use Rattle.board_spec.specs.Setup.{Setup, installed}
 use Rattle.board_chipset.specs.ChipsetState.{disk_size}
 use Rattle.board_chipset.specs.Common.{Running}
-use Rattle.board_chipset.specs.Given.{dram_left, dram_on, disk_left, fitted_on, sectors_on, with_dram, with_fitted, with_sectors}
+use Rattle.board_chipset.specs.Given.{dram_left, dram_on, disk_left, fitted_on, sectors_on, with_dram, with_fitted}
+use Rattle.board_chipset.specs.Given.{with_sectors}
 use Rattle.board_records.specs.declared.left.LeftOut.{LeftOut}
 use Rattle.board_records.specs.Doors.{Behind}
 use Rattle.board_records.specs.Images.{IsBehind, IsLoadRefusal, image_bytes}

@@ -18,7 +18,8 @@ use Rattle.board_records.specs.Steps.{IsAskedStep}
 -- a reply to a read of configuration data
 abbrev pub is_config_read : ReplyRecord → Bool
 is_config_read said =
-    (said.form == bus_reply) && (said.has_value == 1) && (said.part0.target == config_target) && nat_lt said.part0.offset 256
+    (said.form == bus_reply) && (said.has_value == 1) && (said.part0.target == config_target)
+    && nat_lt said.part0.offset 256
 
 -- which, of as many bytes as the width has, were read from a register of a card with this identity on
 abbrev pub identified_by : Option Identity → Option Width → ReplyRecord → ReplyRecord
@@ -29,7 +30,8 @@ identified_by (Some identity) (Some width) said =
 
 abbrev pub identified_record : List FittedIdentity → EventRecord → ReplyRecord → ReplyRecord
 identified_record identities event said =
-    identified_by (if is_config_read said then identity_at identities said.part0.unit else None) (width_said event.bytes) said
+    identified_by (if is_config_read said then identity_at identities said.part0.unit else None)
+    (width_said event.bytes) said
 
 -- the same with the bytes that expansion ROMs were given
 abbrev pub fitted_record : List FittedIdentity → (roms : List (List ℕ)) → EventRecord → ReplyRecord → ReplyRecord

@@ -10,7 +10,10 @@ use Rattle.uart_16550.specs.declared.com1.SerialReply.TheVariants.{Board as OfBo
 use Rattle.board_records.specs.declared.reply.PartRecord.{PartRecord}
 use Rattle.board_records.specs.declared.reply.ReplyRecord.{ReplyRecord}
 use Rattle.board_records.specs.declared.reply.AfterStep.{AfterStep}
-use Rattle.board_records.specs.Numbers.{dram_target, shadow_target, smram_target, rom_target, card_target, device_target, config_target, abort_target, device_number, uart_device, register_denial, confadd_denial, no_register_denial, bus_reply, parts_reply, look_reply, reset_number, flag}
+use Rattle.board_records.specs.Numbers.{dram_target, shadow_target, smram_target, rom_target, card_target}
+use Rattle.board_records.specs.Numbers.{device_target, config_target, abort_target, device_number, uart_device}
+use Rattle.board_records.specs.Numbers.{register_denial, confadd_denial, no_register_denial, bus_reply, parts_reply}
+use Rattle.board_records.specs.Numbers.{look_reply, reset_number, flag}
 
 -- ---- one part
 

@@ -1,6 +1,7 @@
 -- The record of a reply where expansion ROMs were given bytes: that of the chipset's reply, with these in the place of
 -- those that it gives them.
-use Rattle.std.specs.Prelude.{ℕ, ◌+◌, ◌-◌, ◌==◌, ◌&&◌, ◌||◌, not, nat_lt, Bool, if◌then◌else◌, length, List, [], ◌∷◌, Option, Some, None, unwrap_or}
+use Rattle.std.specs.Prelude.{ℕ, ◌+◌, ◌-◌, ◌==◌, ◌&&◌, ◌||◌, not, nat_lt, Bool, if◌then◌else◌, length, List, [], ◌∷◌}
+use Rattle.std.specs.Prelude.{Option, Some, None, unwrap_or}
 use Rattle.board_prelude.specs.Common.{w64, from_le_bytes, byte, bytes_of, longest_at, rom_base}
 use Rattle.expansion_roms.specs.Roms.{byte_over, given}
 use Rattle.board_records.specs.declared.event.EventRecord.{EventRecord}

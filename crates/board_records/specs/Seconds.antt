@@ -10,8 +10,8 @@ use Rattle.board_records.specs.declared.reply.ReplyRecord.{ReplyRecord}
 use Rattle.board_records.specs.Events.{asked_said}
 use Rattle.board_records.specs.Steps.{IsAskedStep}
 
--- The clock was told the second after the one that its registers said, whatever history left it; a record that says this
--- event, and the reply.
+-- The clock was told the second after the one that its registers said, whatever history left it; a record that says
+-- this event, and the reply.
 pub record IsSecondStep (old new : Serial Running) (event : EventRecord) (said : ReplyRecord) : Type 0 where
   pub next : Moment
   pub is_next : (history : List Entry) → IsLeftBy old.board history → IsNextSecond (clock_of history) next

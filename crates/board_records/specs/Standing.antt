@@ -8,8 +8,8 @@ use Rattle.board_records.specs.declared.standing.SerialRecord.{SerialRecord}
 use Rattle.board_records.specs.Numbers.{flag}
 use Rattle.board_records.specs.Maps.{filled}
 
--- sixteen bits, of which bit k is the level of line k as the pair of 8259A hears it: the number whose binary digits, the
--- lowest first, are the levels
+-- sixteen bits, of which bit k is the level of line k as the pair of 8259A hears it: the number whose binary digits,
+-- the lowest first, are the levels
 abbrev pub AreLinesTold : Running → (bits : ℕ) → Type 0
 AreLinesTold chipset bits =
     (history : List Entry) → IsLeftBy chipset history → bits ≡ byte_of_levels (levels_of chipset.setup history)

@@ -10,7 +10,8 @@ use Rattle.uart_16550.specs.declared.com1.Happening.{Happening}
 use Rattle.uart_16550.specs.declared.com1.Happening.TheVariants.{Comes, Happens}
 use Rattle.uart_16550.specs.declared.com1.SerialReply.{SerialReply}
 use Rattle.uart_16550.specs.declared.com1.SerialReply.TheVariants.{Board as OfBoard, Uart as OfUart}
-use Rattle.uart_16550.specs.Common.{has_room, level_of, uart_access, uart_reply, board_event, Serial, IsLeftBy, IsAfter, Sending, sending_after, steps_for}
+use Rattle.uart_16550.specs.Common.{has_room, level_of, uart_access, uart_reply, board_event, Serial, IsLeftBy, IsAfter}
+use Rattle.uart_16550.specs.Common.{Sending, sending_after, steps_for}
 use Rattle.board_records.specs.declared.reply.ReplyRecord.{ReplyRecord}
 use Rattle.board_records.specs.declared.reply.AfterStep.{AfterStep}
 use Rattle.board_records.specs.Replies.{serial_said}

@@ -1,7 +1,8 @@
 //! The calls of a chipset with a serial port, in numbers.
 
 ghost use Rattle.std.specs.Prelude.{◌≡◌, ◌≢◌, ◌==◌, ℕ, Bool, true, false, List, IfOk, IfErr, IsSomeAnd, Some};
-ghost use Rattle.board_prelude.specs.Common.{Entry, IsBusAccess, IsInRange, IsWideAccess, Line, Memory, Port, Wide, is_write};
+ghost use Rattle.board_prelude.specs.Common.{Entry, IsBusAccess, IsInRange, IsWideAccess, Line, Memory, Port, Wide};
+ghost use Rattle.board_prelude.specs.Common.{is_write};
 ghost use Rattle.board_spec.specs.declared.event.Event.TheVariants.{Look as LookAt};
 ghost use Rattle.board_chipset.specs.Common.{IsLeftBy as IsChipsetLeftBy, IsForDevices};
 ghost use Rattle.uart_16550.specs.Com1.{is_for_uart};
@@ -23,8 +24,9 @@ use board_chipset::{Chipset, ResetKind, test_memory, test_port};
 use board_spec::Event;
 use uart_16550::{Happening, SerialBoard, is_for_uart};
 
-/// Does what a record asks, and tells the reply by another. Refused with why where the record asks nothing (`NO_EVENT`), an
-/// event that is out of range, or a byte for which COM1 has no room (`SERIAL_FULL`); then nothing has changed.
+/// Does what a record asks, and tells the reply by another. Refused with why where the record asks nothing
+/// (`NO_EVENT`), an event that is out of range, or a byte for which COM1 has no room (`SERIAL_FULL`); then nothing has
+/// changed.
 #[inline(always)]
 pub(crate) fn step(
     serial: &mut SerialBoard<Chipset>,

@@ -2,7 +2,8 @@
 
 ghost use Rattle.std.specs.Prelude.{◌≡◌, ◌≤◌, length, map, IfOk, is_some, option_map};
 ghost use Rattle.pci_bars.specs.Bases.{base_of as fitted_base};
-ghost use Rattle.board_records.specs.Cards.{all_said, base_said, rom_said, numbers_fit, card_said, cards_said, identity_said, identities_said};
+ghost use Rattle.board_records.specs.Cards.{all_said, base_said, rom_said, numbers_fit, card_said, cards_said};
+ghost use Rattle.board_records.specs.Cards.{identity_said, identities_said};
 
 use crate::numbers::{IO_BASE, MEMORY_BASE, OUTSIDE_BASE};
 use arrayvec::ArrayVec;
@@ -10,8 +11,8 @@ use card_identity::{FittedIdentity, Identity};
 use pci_bars::{BASE_COUNT, BaseSpec, CardSpec};
 use std::alloc::{AllocError, Global};
 
-/// A base of a card: for memory or for I/O ports (`MEMORY_BASE`, `IO_BASE`), or for memory whose bytes the monitor keeps
-/// (`OUTSIDE_BASE`), and log2 of its size in bytes or ports.
+/// A base of a card: for memory or for I/O ports (`MEMORY_BASE`, `IO_BASE`), or for memory whose bytes the monitor
+/// keeps (`OUTSIDE_BASE`), and log2 of its size in bytes or ports.
 #[repr(C)]
 #[derive(Clone, Copy, Default)]
 pub struct BaseRecord {
@@ -26,8 +27,8 @@ const MOST_CLASS: u32 = 0xFF_FFFF;
 const LAST_PIN: u8 = 4;
 
 /// A PCI card: its device number, 1 for a VGA adapter, log2 of the size of its expansion ROM or 0 for none, how many
-/// bases it has, and these, of which those past that count are not read; and what it says that it is, as `Identity` has it,
-/// the class in 24 bits and the pin 0 to 4. `reserved` is 0.
+/// bases it has, and these, of which those past that count are not read; and what it says that it is, as `Identity` has
+/// it, the class in 24 bits and the pin 0 to 4. `reserved` is 0.
 #[repr(C)]
 #[derive(Clone, Copy, Default)]
 pub struct CardRecord {

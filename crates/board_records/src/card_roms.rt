@@ -1,10 +1,13 @@
 //! The bytes that expansion ROMs of cards were given: over the record of a reply, out and in.
 
-ghost use Rattle.std.specs.Prelude.{◌≡◌, ◌≢◌, ◌==◌, ◌+◌, ◌<◌, ◌≤◌, ◌^◌, ℕ, All, find, option_and_then, [], None, Some, IfOk, IfSome, length, slice_index, OnOk, OnErr};
-ghost use Rattle.board_prelude.specs.Common.{IsCard, IsExpansionRom, byte, bytes_of, expansion_byte, from_le_bytes, longest_at, w64};
+ghost use Rattle.std.specs.Prelude.{◌≡◌, ◌≢◌, ◌==◌, ◌+◌, ◌<◌, ◌≤◌, ◌^◌, ℕ, All, find, option_and_then, [], None, Some};
+ghost use Rattle.std.specs.Prelude.{IfOk, IfSome, length, slice_index, OnOk, OnErr};
+ghost use Rattle.board_prelude.specs.Common.{IsCard, IsExpansionRom, byte, bytes_of, expansion_byte, from_le_bytes};
+ghost use Rattle.board_prelude.specs.Common.{longest_at, w64};
 ghost use Rattle.expansion_roms.specs.Roms.{IsKept, given, put_byte, rom_byte};
 ghost use Rattle.board_records.specs.CardRoms.{rom_size, size_of_rom};
-ghost use Rattle.board_records.specs.RomReplies.{byte_by, byte_told, bytes_told, is_given, part_of, reads_given, roms_in, with_roms};
+ghost use Rattle.board_records.specs.RomReplies.{byte_by, byte_told, bytes_told, is_given, part_of, reads_given};
+ghost use Rattle.board_records.specs.RomReplies.{roms_in, with_roms};
 
 use crate::event::EventRecord;
 use crate::numbers::CARD_TARGET;
@@ -30,8 +33,8 @@ pub(crate) fn roms_told(roms: &Option<Roms>, event: &EventRecord, reply: &mut Re
     }
 }
 
-/// Puts them in the place of those that the board gives, where one of the ROMs answered a read. Every other reply stays as
-/// it is.
+/// Puts them in the place of those that the board gives, where one of the ROMs answered a read. Every other reply stays
+/// as it is.
 fn tell_roms(roms: &Roms, event: &EventRecord, reply: &mut ReplyRecord)
     ensures told { reply.new ≡ with_roms roms.now event.now reply.old }
 {
@@ -157,7 +160,8 @@ pub(crate) fn rom_size(chipset: &Chipset, dev: u8) -> usize
 #[tactic(auto, using(crate::proofs::RomParts::card_next))]
 fn rom_in(cards: &[CardSpec], dev: u8) -> usize
     requires cards { All IsCard cards.now }
-    ensures size { result ≡ size_of_rom (option_and_then (λ card. card.rom) (find (λ card. card.dev == dev) cards.now)) }
+    ensures size { result
+        ≡ size_of_rom (option_and_then (λ card. card.rom) (find (λ card. card.dev == dev) cards.now)) }
     ensures most { result ≤ 2 ^ 24 }
     ensures device { 0 < result → dev < 10 }
 {
@@ -206,8 +210,9 @@ fn read_fixed(dev: u8, off: u32, into: &mut [u8])
     }
 }
 
-/// Gives the expansion ROM of the card at a device, which has so many bytes, these from an offset on; from then on all its
-/// bytes are kept. It takes memory only where they were not, and is refused where there is none; then nothing has changed.
+/// Gives the expansion ROM of the card at a device, which has so many bytes, these from an offset on; from then on all
+/// its bytes are kept. It takes memory only where they were not, and is refused where there is none; then nothing has
+/// changed.
 pub(crate) fn put_rom(
     alloc: Global,
     roms: &mut Option<Roms>,

@@ -2,8 +2,10 @@
 
 ghost use Rattle.std.specs.Prelude.{◌≡◌, ◌≢◌, ◌+◌, ◌<◌, ◌≤◌, ◌⊎◌, [], length, Ok, Err, Some, IfOk, IfErr, IsSomeAnd};
 ghost use Rattle.board_spec.specs.Setup.{installed};
-ghost use Rattle.board_records.specs.Bytes.{clock_bytes, IsDramTold, IsSectorTold, IsSectorRefusal, IsClockByte, IsDramWritten, IsClockWritten};
-ghost use Rattle.board_records.specs.Doors.{Behind, IsDoorStep, IsOpenedWith, IsOpenRefusal, OnBoard, OnBoth, SameRoms, setup_said, without_roms};
+ghost use Rattle.board_records.specs.Bytes.{clock_bytes, IsDramTold, IsSectorTold, IsSectorRefusal, IsClockByte};
+ghost use Rattle.board_records.specs.Bytes.{IsDramWritten, IsClockWritten};
+ghost use Rattle.board_records.specs.Doors.{Behind, IsDoorStep, IsOpenedWith, IsOpenRefusal, OnBoard, OnBoth, SameRoms};
+ghost use Rattle.board_records.specs.Doors.{setup_said, without_roms};
 ghost use Rattle.board_records.specs.Cards.{identities_said};
 ghost use Rattle.board_records.specs.Events.{asked_said};
 ghost use Rattle.board_records.specs.Images.{IsBehind, IsLoadRefusal, IsSaveRefusal, IsWritten, image_bytes};
@@ -11,7 +13,8 @@ ghost use Rattle.board_records.specs.Maps.{AreRangesTold, AreWindowsTold, IsVers
 ghost use Rattle.board_records.specs.Places.{IsAskedPlace, IsNotPlaced, IsRiseTold};
 ghost use Rattle.board_records.specs.Seconds.{IsSecondStep, HasNoSecond};
 ghost use Rattle.board_records.specs.Standing.{AreLinesTold, serial_state_said};
-ghost use Rattle.board_records.specs.Statuses.{ok, closed, no_byte, no_memory, no_room, no_time, past_end, IsEventRefusal};
+ghost use Rattle.board_records.specs.Statuses.{ok, closed, no_byte, no_memory, no_room, no_time, past_end};
+ghost use Rattle.board_records.specs.Statuses.{IsEventRefusal};
 
 use crate::bytes::{tell_clock_byte, tell_dram, tell_sector};
 use crate::calls::step;
@@ -35,8 +38,8 @@ use std::alloc::Global;
 use std::marker::Model;
 use uart_16550::SerialBoard;
 
-/// A chipset with a serial port on COM1, and cards that say what they are and have bytes in their ROMs, whose calls are in numbers. Contracts see it as
-/// some: what holds none has the value None.
+/// A chipset with a serial port on COM1, and cards that say what they are and have bytes in their ROMs, whose calls are
+/// in numbers. Contracts see it as some: what holds none has the value None.
 #[derive(Drop)]
 pub struct Door {
     pub(crate) serial: SerialBoard<Chipset>,
@@ -58,10 +61,11 @@ impl Model for Door {
 }
 
 impl Door {
-    /// A chipset with these cards over copies of these bytes, as after power-on. A disk of no bytes is none. Refused with
-    /// `BAD_CARDS` where a record says no card; with `BAD_SIZE`, `BAD_CARDS`, `BAD_ROM` or `BAD_DISK` by the first of them that
-    /// no board can have; and with `NO_MEMORY` only where a board can have all of it. Of what none can have nothing is
-    /// copied.
+    /// A chipset with these cards over copies of these bytes, as after power-on. A disk of no bytes is none. Refused
+    /// with
+    /// `BAD_CARDS` where a record says no card; with `BAD_SIZE`, `BAD_CARDS`, `BAD_ROM` or `BAD_DISK` by the first of
+    /// them that no board can have; and with `NO_MEMORY` only where a board can have all of it. Of what none can have
+    /// nothing is copied.
     pub fn open(
         alloc: Global,
         mib: u32,
@@ -86,9 +90,9 @@ impl Door {
         }
     }
 
-    /// Writes the board to the front of the room, as bytes that are whole in themselves, and tells how many they are. Refused
-    /// with `NO_ROOM` where they do not fit, and then too their count is told; and with `NO_MEMORY` where there is none for
-    /// those that stand around the DRAM's, which go straight into the room. The board stays as it is.
+    /// Writes the board to the front of the room, as bytes that are whole in themselves, and tells how many they are.
+    /// Refused with `NO_ROOM` where they do not fit, and then too their count is told; and with `NO_MEMORY` where there
+    /// is none for those that stand around the DRAM's, which go straight into the room. The board stays as it is.
     pub fn save(&self, alloc: Global, into: &mut [u8], bytes: &mut usize) -> u32
         ensures done { result ≡ ok → IsSomeAnd self.now
             (λ held. IsBehind held.behind × IsWritten (image_bytes held.behind) into.old into.new) }
@@ -103,11 +107,11 @@ impl Door {
         save(alloc, false, &self.serial, &self.identities, into, bytes)
     }
 
-    /// The board whose bytes these are: equal to the one that was saved, so that all which holds of that one holds of it;
-    /// but what expansion ROMs were given is not in the bytes, and is given again.
+    /// The board whose bytes these are: equal to the one that was saved, so that all which holds of that one holds of
+    /// it; but what expansion ROMs were given is not in the bytes, and is given again.
     /// Bytes that no board wrote, but that are those of a state which one could go on from, give that one. Refused with
-    /// `OTHER_VERSION` where they begin as those of another version; with `BAD_IMAGE` where they are those of no board; and
-    /// with `NO_MEMORY` where there is none.
+    /// `OTHER_VERSION` where they begin as those of another version; with `BAD_IMAGE` where they are those of no board;
+    /// and with `NO_MEMORY` where there is none.
     pub fn load(alloc: Global, from: &[u8]) -> Result<Door, u32>
         ensures loaded { IfOk result (λ door. IsSomeAnd door
             (λ held. IsBehind held.behind × (from.now ≡ image_bytes held.behind) × (held.roms ≡ []))) }
@@ -125,10 +129,10 @@ impl Door {
         }
     }
 
-    /// Does what a record asks, and tells the reply by another: the chipset's, in which a read of configuration data has
-    /// the bytes of the card's identity, and one of an expansion ROM those that it was given; what a guest writes to the
-    /// address of one is lost. Refused with why where the record asks nothing (`NO_EVENT`), an event that is out of range,
-    /// or a byte for which COM1 has no room (`SERIAL_FULL`); then nothing has changed.
+    /// Does what a record asks, and tells the reply by another: the chipset's, in which a read of configuration data
+    /// has the bytes of the card's identity, and one of an expansion ROM those that it was given; what a guest writes
+    /// to the address of one is lost. Refused with why where the record asks nothing (`NO_EVENT`), an event that is out
+    /// of range, or a byte for which COM1 has no room (`SERIAL_FULL`); then nothing has changed.
     #[inline(always)]
     pub fn step(&mut self, event: &EventRecord, reply: &mut ReplyRecord) -> u32
         ensures done { result ≡ ok → IsSomeAnd (asked_said event.now)
@@ -163,8 +167,9 @@ impl Door {
         tell_map(self.serial.board(), told, ranges, windows);
     }
 
-    /// Lets the clock go on one second from what it shows, in whichever form, and tells the event by which it does and the
-    /// reply. Refused with `NO_TIME` where SET holds its time, or its registers say no moment; then nothing has changed.
+    /// Lets the clock go on one second from what it shows, in whichever form, and tells the event by which it does and
+    /// the reply. Refused with `NO_TIME` where SET holds its time, or its registers say no moment; then nothing has
+    /// changed.
     pub fn second(&mut self, event: &mut EventRecord, reply: &mut ReplyRecord) -> u32
         ensures done { result ≡ ok
             → OnBoth self.old self.new (λ old new. IsSecondStep old new event.new reply.new) }
@@ -232,8 +237,8 @@ impl Door {
         tell_sector(self.serial.board(), sector, into)
     }
 
-    /// Tells what a read of port 71h would give of the clock with this index, and clears nothing. Refused with `NO_BYTE`
-    /// from address 128 on.
+    /// Tells what a read of port 71h would give of the clock with this index, and clears nothing. Refused with
+    /// `NO_BYTE` from address 128 on.
     pub fn tell_clock_byte(&self, address: u8, byte: &mut u8) -> u32
         ensures done { result ≡ ok → OnBoard self.now (λ serial. IsClockByte serial.board address byte.new) }
         ensures within { result ≡ ok → address < clock_bytes }
@@ -256,7 +261,8 @@ impl Door {
         write_dram(&mut self.serial, addr, bytes)
     }
 
-    /// Writes the byte of the clock at an address. Refused with `NO_BYTE` from address 128 on; then nothing has changed.
+    /// Writes the byte of the clock at an address. Refused with `NO_BYTE` from address 128 on; then nothing has
+    /// changed.
     pub fn write_clock_byte(&mut self, address: u8, byte: u8) -> u32
         ensures done { result ≡ ok → OnBoth self.old self.new (λ old new. IsClockWritten old new address byte) }
         ensures refused { result ≢ ok → (result ≡ no_byte) × (clock_bytes ≤ address) }

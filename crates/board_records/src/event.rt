@@ -4,7 +4,9 @@ ghost use Rattle.std.specs.Prelude.{◌≡◌, ◌==◌, IfSome, Some, option_ma
 ghost use Rattle.board_spec.specs.declared.event.Event.TheVariants.{Line, Look as LookAt, Memory, Port, Wide, Wire};
 ghost use Rattle.uart_16550.specs.declared.com1.Happening.TheVariants.{Happens};
 ghost use Rattle.board_records.specs.Numbers.{look_event, memory_event, port_event};
-ghost use Rattle.board_records.specs.Events.{asked_said, event_said, is_plain, asked_by, kind_said, direction_said, width_said, wide_access, cycle_said, access_said, port_said, moment_said, digits_said, level_said, pulses_said};
+ghost use Rattle.board_records.specs.Events.{asked_said, event_said, is_plain, asked_by, kind_said, direction_said};
+ghost use Rattle.board_records.specs.Events.{width_said, wide_access, cycle_said, access_said, port_said, moment_said};
+ghost use Rattle.board_records.specs.Events.{digits_said, level_said, pulses_said};
 
 use crate::numbers::{
     ACK_EVENT, BAD_SECTOR_EVENT, FETCH_KIND, LINE_EVENT, LOOK_EVENT, MEMORY_EVENT, PORT_EVENT,
@@ -56,7 +58,8 @@ pub fn event_of(record: &EventRecord) -> Option<Event>
     asked_by(record)
 }
 
-/// The access to memory of one bus cycle that a record of `MEMORY_EVENT` says. None where it says another access, or none.
+/// The access to memory of one bus cycle that a record of `MEMORY_EVENT` says. None where it says another access, or
+/// none.
 #[tactic(auto, unfolding(crate::specs::Events::asked_said, crate::specs::Events::event_said, crate::specs::Events::asked_by))]
 pub(crate) fn cycle_of(record: &EventRecord) -> Option<Access>
     requires memory { record.now.what ≡ memory_event }
@@ -283,7 +286,8 @@ fn wide_access(record: &EventRecord, kind: Kind) -> WideAccess
 }
 
 fn look_event(record: &EventRecord) -> Option<Event>
-    ensures said { result ≡ option_map (λ kind. LookAt kind record.now.addr (record.now.smm == 1)) (kind_said record.now.kind) }
+    ensures said { result ≡ option_map (λ kind. LookAt kind record.now.addr (record.now.smm == 1))
+        (kind_said record.now.kind) }
 {
     match kind_of(record.kind) {
         Some(kind) => Some(Event::Look {
@@ -296,7 +300,8 @@ fn look_event(record: &EventRecord) -> Option<Event>
 }
 
 fn port_event(record: &EventRecord) -> Option<Event>
-    ensures said { result ≡ option_and_then (λ width. option_and_then (port_said record.now width) (direction_said record.now.kind)) (width_said record.now.bytes) }
+    ensures said { result ≡ option_and_then (λ width. option_and_then (port_said record.now width)
+        (direction_said record.now.kind)) (width_said record.now.bytes) }
 {
     match port_access(record) {
         Some(access) => Some(Event::Port(access)),
@@ -305,7 +310,9 @@ fn port_event(record: &EventRecord) -> Option<Event>
 }
 
 fn port_access(record: &EventRecord) -> Option<PortAccess>
-    ensures said { option_map (λ access. Port access) result ≡ option_and_then (λ width. option_and_then (port_said record.now width) (direction_said record.now.kind)) (width_said record.now.bytes) }
+    ensures said { option_map (λ access. Port access) result
+        ≡ option_and_then (λ width. option_and_then (port_said record.now width) (direction_said record.now.kind))
+        (width_said record.now.bytes) }
 {
     match width_of(record.bytes) {
         Some(width) => directed_access(record, width),
@@ -314,7 +321,8 @@ fn port_access(record: &EventRecord) -> Option<PortAccess>
 }
 
 fn directed_access(record: &EventRecord, width: Width) -> Option<PortAccess>
-    ensures said { option_map (λ access. Port access) result ≡ option_and_then (port_said record.now width) (direction_said record.now.kind) }
+    ensures said { option_map (λ access. Port access) result ≡ option_and_then (port_said record.now width)
+        (direction_said record.now.kind) }
 {
     match direction_of(record.kind) {
         Some(write) => bus_access(record, width, write),

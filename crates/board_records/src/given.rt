@@ -5,7 +5,8 @@ ghost use Rattle.board_spec.specs.Setup.{installed};
 ghost use Rattle.board_chipset.specs.ChipsetState.{disk_size};
 ghost use Rattle.board_chipset.specs.Given.{dram_on, fitted_on, sectors_on, with_dram, with_fitted, with_sectors};
 ghost use Rattle.board_records.specs.Doors.{Behind};
-ghost use Rattle.board_records.specs.Given.{AreAsMany, IsAsMany, IsGivenBoard, IsGivenRefusal, given_or, left_of, on_board, with_given, without};
+ghost use Rattle.board_records.specs.Given.{AreAsMany, IsAsMany, IsGivenBoard, IsGivenRefusal, given_or, left_of};
+ghost use Rattle.board_records.specs.Given.{on_board, with_given, without};
 ghost use Rattle.board_records.specs.declared.left.LeftOut.{LeftOut as Left};
 ghost use Rattle.board_records.specs.Images.{IsBehind, image_bytes};
 ghost use Rattle.board_records.specs.Statuses.{bad_length, no_memory};
@@ -69,8 +70,8 @@ fn with_given(behind: Loaded, given: &Given) -> Result<Loaded, u32>
     }
 }
 
-/// Puts in the bytes that are given. Where some are not as many as those in whose place they stand, others may have been
-/// put in.
+/// Puts in the bytes that are given. Where some are not as many as those in whose place they stand, others may have
+/// been put in.
 fn put_given(serial: &mut SerialBoard<Chipset>, given: &Given) -> Result<(), OtherLength>
     ensures put { OnOk result (serial.new ≡ record serial.old {
       board = with_given given.now serial.old.board;

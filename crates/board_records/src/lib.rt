@@ -1,5 +1,5 @@
-//! The board behind plain numbers, as other languages can pass them: events and replies as records of numbers, and how a
-//! call ends as a status.
+//! The board behind plain numbers, as other languages can pass them: events and replies as records of numbers, and how
+//! a call ends as a status.
 #![tactic(auto)]
 
 mod asked;

@@ -2,7 +2,8 @@
 
 ghost use Rattle.std.specs.Prelude.{◌≡◌, map};
 ghost use Rattle.map_builder.specs.Map.{range_of};
-ghost use Rattle.board_records.specs.Maps.{short_area, range_said, window_said, filled, AreRangesTold, AreWindowsTold, IsVersionSaid};
+ghost use Rattle.board_records.specs.Maps.{short_area, range_said, window_said, filled, AreRangesTold, AreWindowsTold};
+ghost use Rattle.board_records.specs.Maps.{IsVersionSaid};
 
 use crate::reply::area_record;
 use board_base::Area;

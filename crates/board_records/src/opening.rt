@@ -14,8 +14,8 @@ use uart_16550::SerialBoard;
 const MOST_CARDS: usize = 8;
 
 /// A chipset with a serial port and these cards, over copies of these bytes. A disk of no bytes is none. Refused with
-/// `BAD_CARDS` where a record says no card; with the first field that no board can have, which may be the cards too; and
-/// with `NO_MEMORY` only where a board can have all of it.
+/// `BAD_CARDS` where a record says no card; with the first field that no board can have, which may be the cards too;
+/// and with `NO_MEMORY` only where a board can have all of it.
 pub(crate) fn open(
     alloc: Global,
     mib: u32,
@@ -23,7 +23,8 @@ pub(crate) fn open(
     rom: &[u8],
     disk: &[u8],
 ) -> Result<SerialBoard<Chipset>, u32>
-    ensures fresh { IfOk result (λ serial. IsSomeAnd (setup_said mib cards.now rom.now disk.now) (IsOpenedWith serial)) }
+    ensures fresh { IfOk result (λ serial. IsSomeAnd (setup_said mib cards.now rom.now disk.now)
+        (IsOpenedWith serial)) }
     ensures refused { IfErr result (IsOpenRefusal (setup_said mib cards.now rom.now disk.now)) }
 {
     check(mib, cards, rom, disk)?;

@@ -44,8 +44,8 @@ impl Door {
     }
 
     /// Tells the bytes of a base of a card, 0 to 5, or 7 for the VGA window, from an offset on, as reads give them.
-    /// Refused with `PAST_END` where they do not all lie in it: a card or base that is not there has none, nor has base 6,
-    /// the expansion ROM, which `tell_rom` tells.
+    /// Refused with `PAST_END` where they do not all lie in it: a card or base that is not there has none, nor has base
+    /// 6, the expansion ROM, which `tell_rom` tells.
     pub fn tell_card(&self, dev: u8, base: u8, off: u32, into: &mut [u8]) -> u32
         ensures done { result ≡ ok
             → OnBoard self.now (λ serial. IsCardTold serial.board dev base off into.old into.new) }
@@ -70,8 +70,8 @@ impl Door {
         write_card(&mut self.serial, dev, base, off, bytes)
     }
 
-    /// Tells the bytes of the expansion ROM of a card from an offset on, as reads give them. Refused with `PAST_END` where
-    /// they do not all lie in it: a card that is not there, or has no such ROM, has none.
+    /// Tells the bytes of the expansion ROM of a card from an offset on, as reads give them. Refused with `PAST_END`
+    /// where they do not all lie in it: a card that is not there, or has no such ROM, has none.
     pub fn tell_rom(&self, dev: u8, off: u32, into: &mut [u8]) -> u32
         ensures done { result ≡ ok → IsSomeAnd self.now (IsRomTold dev off into.old into.new) }
         ensures refused { result ≢ ok → IsSomeAnd self.now (IsPastRom dev off (length into.old) result) }
@@ -86,9 +86,9 @@ impl Door {
         OK
     }
 
-    /// Gives the expansion ROM of a card bytes from an offset on: reads give these from now on, and a write of the guest
-    /// changes none. Refused with `PAST_END` as `tell_rom` is, and with `NO_MEMORY` only of a ROM into which no bytes were
-    /// put yet, which takes memory for all of its bytes at once; then nothing has changed.
+    /// Gives the expansion ROM of a card bytes from an offset on: reads give these from now on, and a write of the
+    /// guest changes none. Refused with `PAST_END` as `tell_rom` is, and with `NO_MEMORY` only of a ROM into which no
+    /// bytes were put yet, which takes memory for all of its bytes at once; then nothing has changed.
     pub fn write_rom(&mut self, alloc: Global, dev: u8, off: u32, bytes: &[u8]) -> u32
         ensures done { result ≡ ok → AreRomsWritten dev off bytes.now self.old self.new }
         ensures refused { result ≢ ok

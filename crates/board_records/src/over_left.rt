@@ -3,7 +3,8 @@
 ghost use Rattle.std.specs.Prelude.{◌≡◌, ◌≢◌, ◌⊎◌, [], length, Ok, Err, Some, IfOk, IfErr, IsSomeAnd};
 ghost use Rattle.board_records.specs.declared.left.LeftOut.{LeftOut as Left};
 ghost use Rattle.board_records.specs.Doors.{Behind, without_roms};
-ghost use Rattle.board_records.specs.Given.{AreAsMany, IsGivenBoard, IsGivenRefusal, left_of, on_board, with_given, without};
+ghost use Rattle.board_records.specs.Given.{AreAsMany, IsGivenBoard, IsGivenRefusal, left_of, on_board, with_given};
+ghost use Rattle.board_records.specs.Given.{without};
 ghost use Rattle.board_records.specs.Images.{IsBehind, IsSaveRefusal, IsWritten, image_bytes};
 ghost use Rattle.board_records.specs.Statuses.{ok, closed, no_memory, no_room};
 
@@ -14,8 +15,9 @@ use crate::left::{LeftOut, save_without};
 use std::alloc::Global;
 
 impl Door {
-    /// Writes the board as `save` does, without the bytes that are left out: those of the DRAM, or those of the disk, as it
-    /// was fitted and as its sectors stand. Zeros stand in their place, of which a page takes a byte. Refused as `save` is.
+    /// Writes the board as `save` does, without the bytes that are left out: those of the DRAM, or those of the disk,
+    /// as it was fitted and as its sectors stand. Zeros stand in their place, of which a page takes a byte. Refused as
+    /// `save` is.
     pub fn save_without(
         &self,
         alloc: Global,
@@ -38,8 +40,8 @@ impl Door {
 
     /// The board whose bytes these are, as `load` gives it, with what is given in the place of its own bytes; which
     /// sectors are bad stays. So with the bytes that `save_without` left out it is the board that was saved.
-    /// Refused as `load` is; and with `BAD_LENGTH` where the bytes are those of a board, and those given are not as many as
-    /// it has.
+    /// Refused as `load` is; and with `BAD_LENGTH` where the bytes are those of a board, and those given are not as
+    /// many as it has.
     pub fn load_with(alloc: Global, from: &[u8], given: &Given) -> Result<Door, u32>
         ensures loaded { IfOk result (λ door. IsSomeAnd door
             (λ held. (held.roms ≡ []) × IsGivenBoard from.now given.now held.behind)) }

@@ -17,8 +17,8 @@ use board_chipset::Chipset;
 use board_spec::Event;
 use uart_16550::{Happening, is_for_uart};
 
-/// Sets `part` to what would answer the access of a record, and what would deny it. Refused where the record asks nothing
-/// (`NO_EVENT`), or no access of one bus cycle in range (`NO_CYCLE`).
+/// Sets `part` to what would answer the access of a record, and what would deny it. Refused where the record asks
+/// nothing (`NO_EVENT`), or no access of one bus cycle in range (`NO_CYCLE`).
 pub(crate) fn tell_place(chipset: &Chipset, event: &EventRecord, part: &mut PartRecord) -> u32
     ensures done { result ≡ ok → IsSomeAnd (asked_said event.now) (IsAskedPlace chipset.now part.new) }
     ensures refused { result ≢ ok → IsNotPlaced chipset.now (asked_said event.now) result }

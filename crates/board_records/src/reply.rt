@@ -6,7 +6,10 @@ ghost use Rattle.board_prelude.specs.Common.{Dram, Entry};
 ghost use Rattle.board_chipset.specs.Common.{IsLeftBy as IsChipsetLeftBy};
 ghost use Rattle.board_chipset.specs.declared.reset_control.ResetKind.TheVariants.{None as NoReset};
 ghost use Rattle.board_records.specs.Numbers.{device_number, reset_number};
-ghost use Rattle.board_records.specs.Replies.{placed, no_part, target_said, area_said, with_denial, part_said, blank, with_value, with_parts, look_said, bus_said, wide_said, record_said, of_part, uart_part, uart_said, serial_said, no_reply, with_cycle, with_wide, without_value, beside_cycle};
+ghost use Rattle.board_records.specs.Replies.{placed, no_part, target_said, area_said, with_denial, part_said, blank};
+ghost use Rattle.board_records.specs.Replies.{with_value, with_parts, look_said, bus_said, wide_said, record_said};
+ghost use Rattle.board_records.specs.Replies.{of_part, uart_part, uart_said, serial_said, no_reply, with_cycle};
+ghost use Rattle.board_records.specs.Replies.{with_wide, without_value, beside_cycle};
 ghost use Rattle.board_records.specs.Steps.{after_step};
 
 use crate::numbers::{
@@ -40,8 +43,8 @@ pub struct PartRecord {
 }
 
 /// A reply in numbers: what was read, where anything was; which reply it is (`BUS_REPLY` ..) and how many of its parts
-/// are filled; of a look the version of the map before it and the interval; the byte that COM1 sent, where it sent one; and
-/// what stands after the step, as `AfterStep` has it.
+/// are filled; of a look the version of the map before it and the interval; the byte that COM1 sent, where it sent one;
+/// and what stands after the step, as `AfterStep` has it.
 #[repr(C)]
 #[derive(Clone, Copy, Default)]
 pub struct ReplyRecord {
@@ -66,8 +69,8 @@ pub struct ReplyRecord {
     pub reserved: u32,
 }
 
-/// What stands after a step: the version of the map, whether INT is asserted, the reset that the step made, the level of
-/// interrupt line 4, and whether COM1 has room for a byte.
+/// What stands after a step: the version of the map, whether INT is asserted, the reset that the step made, the level
+/// of interrupt line 4, and whether COM1 has room for a byte.
 #[derive(Clone, Copy)]
 pub struct AfterStep {
     pub version: u32,
@@ -142,8 +145,8 @@ pub(crate) fn tell_cycle(
     tell_beside(told, serial, reset);
 }
 
-/// Tells a reply to an access to memory, as `tell_cycle` does after a step that made no reset. One of DRAM goes a way of its
-/// own, on which nothing is asked of the target again.
+/// Tells a reply to an access to memory, as `tell_cycle` does after a step that made no reset. One of DRAM goes a way
+/// of its own, on which nothing is asked of the target again.
 #[inline(always)]
 pub(crate) fn tell_memory(told: &mut ReplyRecord, serial: &SerialBoard<Chipset>, reply: &BusReply)
     ensures said { (history : List Entry) → IsChipsetLeftBy serial.now.board history

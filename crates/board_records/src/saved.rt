@@ -10,7 +10,8 @@ ghost use Rattle.state_room.specs.Room.{IsInstalled};
 ghost use Rattle.uart_16550.specs.SerialState.{IsSerial};
 ghost use Rattle.uart_16550.specs.State.{com1_bytes};
 ghost use Rattle.board_records.specs.Given.{on_board};
-ghost use Rattle.board_records.specs.Images.{IsBehind, IsSaveRefusal, IsWritten, before_bytes, fitting_of, image_bytes, with_dram};
+ghost use Rattle.board_records.specs.Images.{IsBehind, IsSaveRefusal, IsWritten, before_bytes, fitting_of, image_bytes};
+ghost use Rattle.board_records.specs.Images.{with_dram};
 ghost use Rattle.board_records.specs.Statuses.{closed, no_room, ok};
 
 use crate::status::{NO_MEMORY, NO_ROOM, OK};
@@ -31,8 +32,8 @@ struct Around {
     dram_at: usize,
 }
 
-/// Writes the board, without the bytes of the disk where they are left out, to the front of the room, and tells how many
-/// bytes it has.
+/// Writes the board, without the bytes of the disk where they are left out, to the front of the room, and tells how
+/// many bytes it has.
 pub(crate) fn save(
     alloc: Global,
     left: bool,
@@ -43,7 +44,8 @@ pub(crate) fn save(
 ) -> u32
     requires few { length identities.now ≤ 8 }
     ensures done { result ≡ ok → IsBehind (record { serial = serial.now; identities = identities.now })
-        × IsWritten (image_bytes (on_board (disk_left left) (record { serial = serial.now; identities = identities.now })))
+        × IsWritten (image_bytes
+        (on_board (disk_left left) (record { serial = serial.now; identities = identities.now })))
         into.old into.new }
     ensures refused { result ≢ ok → IsSaveRefusal (length into.old) result
         (on_board (disk_left left) (record { serial = serial.now; identities = identities.now })) }
@@ -70,7 +72,8 @@ fn write(bytes: &[u8], dram_at: usize, dram: &Dram, size: usize, into: &mut [u8]
     requires few { IsInstalled dram.now }
     requires size { size ≡ length bytes.now + length (dram_bytes dram.now) }
     ensures done { result ≡ ok → IsWritten (with_dram bytes.now dram_at dram.now) into.old into.new }
-    ensures refused { result ≢ ok → (result ≡ no_room) × (length into.old < length (with_dram bytes.now dram_at dram.now)) }
+    ensures refused { result ≢ ok → (result ≡ no_room)
+        × (length into.old < length (with_dram bytes.now dram_at dram.now)) }
     ensures unwritten { result ≢ ok → into.new ≡ into.old }
 {
     if into.len() < size {
@@ -113,8 +116,8 @@ fn bytes_around(
     Ok(Around { bytes, dram_at })
 }
 
-/// Adds what the board is fitted with, without the bytes of the disk where they are left out, and of its state what stands
-/// before the bytes of the DRAM.
+/// Adds what the board is fitted with, without the bytes of the disk where they are left out, and of its state what
+/// stands before the bytes of the DRAM.
 pub(crate) fn push_before(
     into: &mut Vec<u8>,
     left: bool,

@@ -9,8 +9,8 @@ use crate::status::{NO_BYTE, OK, PAST_END};
 use board_chipset::Chipset;
 use uart_16550::SerialBoard;
 
-/// Puts bytes into the DRAM from an address on. Refused with `PAST_END` where they do not all lie in the installed memory;
-/// then nothing has changed.
+/// Puts bytes into the DRAM from an address on. Refused with `PAST_END` where they do not all lie in the installed
+/// memory; then nothing has changed.
 pub(crate) fn write_dram(serial: &mut SerialBoard<Chipset>, addr: u32, bytes: &[u8]) -> u32
     ensures done { result ≡ ok → IsDramWritten serial.old serial.new addr bytes.now }
     ensures refused { result ≢ ok

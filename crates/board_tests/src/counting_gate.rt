@@ -26,8 +26,8 @@ impl CountingGate {
         }
     }
 
-    /// Whether each of eight processors began and ended this many statements, below 16, and each call told their numbers
-    /// from 1 on.
+    /// Whether each of eight processors began and ended this many statements, below 16, and each call told their
+    /// numbers from 1 on.
     pub fn has_counted(&self, statements: u32) -> bool {
         let all = statements % 16 * ONE_EACH;
         self.wrong.load(Ordering::SeqCst) == 0

@@ -1,6 +1,7 @@
-//! Tests of the board: callers and viewers on threads, histories by themselves and by turns, the places of looks in a run, and logs
-//! in pieces; of the commands: faults, the calls of the outside, the order of a run, and the map after each write; of files and
-//! writers that take a byte at once, are interrupted and fail late, and of the shelves and sinks in memory.
+//! Tests of the board: callers and viewers on threads, histories by themselves and by turns, the places of looks in a
+//! run, and logs in pieces; of the commands: faults, the calls of the outside, the order of a run, and the map after
+//! each write; of files and writers that take a byte at once, are interrupted and fail late, and of the shelves and
+//! sinks in memory.
 #![tactic(auto)]
 
 #[cfg(test)]

@@ -12,16 +12,17 @@ use run_order::{Done, RunEntry, RunOrder, Works};
 use std::alloc::{AllocError, Global};
 use std::process::Abort;
 
-/// A run a line, of phases with `;` between them. A phase has four words: the version of the map before it; the calls that the
-/// bus's history gained; what each processor did, with `/` between the processors; and the entries that come of it. A call is
-/// a processor and `P`, a pulse, or `O`, the first map write. What was done is `L`, a look at F0000h, `P` or `O`, with the
-/// version of the map after it. An entry is its processor, its number, and the version of a look. `none` is no call.
+/// A run a line, of phases with `;` between them. A phase has four words: the version of the map before it; the calls
+/// that the bus's history gained; what each processor did, with `/` between the processors; and the entries that come
+/// of it. A call is a processor and `P`, a pulse, or `O`, the first map write. What was done is `L`, a look at F0000h,
+/// `P` or `O`, with the version of the map after it. An entry is its processor, its number, and the version of a look.
+/// `none` is no call.
 ///
-/// A look before its processor's first statement, in the first phase and in the second. Processor 1 looks while processor 0
-/// opens the window: it saw the map before, or the map after. The look's processor made its call after the map write, so the
-/// look stands after that call. It made its call before the map write, so the look stands after the write. In the same place:
-/// in order of processor, and each processor's in its own order. Eight processors, of which the last makes the one call, and
-/// a phase of looks alone.
+/// A look before its processor's first statement, in the first phase and in the second. Processor 1 looks while
+/// processor 0 opens the window: it saw the map before, or the map after. The look's processor made its call after the
+/// map write, so the look stands after that call. It made its call before the map write, so the look stands after the
+/// write. In the same place: in order of processor, and each processor's in its own order. Eight processors, of which
+/// the last makes the one call, and a phase of looks alone.
 const RUNS: &str = "\
 0 0P L0,P0 010,02-;0 0O L0,O1 030,04-
 0 0P,0O P0,O1/L0 110,01-,02-

@@ -61,8 +61,8 @@ phase
 1 r b 000F0002
 ";
 
-/// Runs a script with a gate that holds moments, of which none must be held in vain, and tells whether the log is this one, where
-/// only one may come.
+/// Runs a script with a gate that holds moments, of which none must be held in vain, and tells whether the log is this
+/// one, where only one may come.
 fn is_forced<R: Threads + Wait + Sync + Abort>(
     rt: &R,
     alloc: Global,

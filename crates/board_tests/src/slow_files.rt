@@ -12,7 +12,8 @@ use std::time::Clock;
 /// What is read and written.
 const BYTES: [u8; 5] = *b"bytes";
 
-/// By which error each call is refused first, and how often, and after how many bytes one fails; more than there are: never.
+/// By which error each call is refused first, and how often, and after how many bytes one fails; more than there are:
+/// never.
 #[derive(Clone, Copy)]
 struct Habit {
     kind: ErrorKind,

@@ -1,5 +1,6 @@
 -- What cards say that they are is spelled and read back.
-use Rattle.std.proofs.Common.{◌≡◌, ℕ, ◌+◌, ◌*◌, ◌^◌, ◌<◌, ◌≤◌, List, [], ◌∷◌, ◌++◌, length, flat_map, All, refl, ap, arith}
+use Rattle.std.proofs.Common.{◌≡◌, ℕ, ◌+◌, ◌*◌, ◌^◌, ◌<◌, ◌≤◌, List, [], ◌∷◌, ◌++◌, length, flat_map, All, refl, ap}
+use Rattle.std.proofs.Common.{arith}
 use Rattle.std.proofs.lemmas.List.Elements.{All-from_recursion}
 use Rattle.board_prelude.proofs.Common.{AllByRecursion, recursion_from_All}
 use Rattle.card_identity.specs.declared.identity.FittedIdentity.{FittedIdentity}
@@ -7,7 +8,8 @@ use Rattle.byte_fields.specs.Fields.{Reading}
 use Rattle.byte_fields.proofs.Loops.{IsLoop}
 use Rattle.byte_fields.proofs.Formats.{IsFormat, format_as, then_format, last_format, many_format, AreGood}
 use Rattle.byte_fields.proofs.Numbers.{wide16, wide32, byte_within, within_format}
-use Rattle.fitted_bytes.specs.Identities.{AreIdentities, IsIdentity, first_bytes, last_bytes, identity_bytes, identity_fields, identities_bytes, identities_fields, some_identities}
+use Rattle.fitted_bytes.specs.Identities.{AreIdentities, IsIdentity, first_bytes, last_bytes, identity_bytes}
+use Rattle.fitted_bytes.specs.Identities.{identity_fields, identities_bytes, identities_fields, some_identities}
 
 identity_format : IsFormat 15 identity_fields identity_bytes IsIdentity
 unfolding identity_fields first_bytes last_bytes

@@ -39,8 +39,8 @@ impl Model for Fitted {
     ghost view = { λ fitted. record { setup = fitted.setup; identities = fitted.identities.items } };
 }
 
-/// Adds the mark, the version, the setup, and what the cards say. Where the bytes of the disk are left out, zeros stand in
-/// their place.
+/// Adds the mark, the version, the setup, and what the cards say. Where the bytes of the disk are left out, zeros stand
+/// in their place.
 pub fn push_fitted(
     into: &mut Vec<u8>,
     setup: &Setup,
@@ -60,8 +60,8 @@ pub fn push_fitted(
     push_identities(into, identities)
 }
 
-/// Reads the mark, the version, the setup, and what the cards say. Refused where a field is not whole or out of range: the
-/// bytes left then begin with the first such field.
+/// Reads the mark, the version, the setup, and what the cards say. Refused where a field is not whole or out of range:
+/// the bytes left then begin with the first such field.
 pub fn read_fitted(alloc: Global, fields: &mut Fields) -> Result<Fitted, Fault>
     ensures loaded { LoadsWith fitting_fields fitting_bytes IsFitting fields.old fields.new result }
 {

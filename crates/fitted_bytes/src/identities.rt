@@ -2,7 +2,8 @@
 
 ghost use Rattle.std.specs.Prelude.{◌≡◌, ◌≤◌, ◌<◌, ◌^◌, ◌++◌, length, All, OnOk};
 ghost use Rattle.byte_fields.specs.Fields.{Took};
-ghost use Rattle.fitted_bytes.specs.Identities.{IsIdentity, first_bytes, last_bytes, identity_bytes, identity_fields, identities_bytes, identities_fields, some_identities};
+ghost use Rattle.fitted_bytes.specs.Identities.{IsIdentity, first_bytes, last_bytes, identity_bytes, identity_fields};
+ghost use Rattle.fitted_bytes.specs.Identities.{identities_bytes, identities_fields, some_identities};
 
 use arrayvec::ArrayVec;
 use board_base::NoMemory;

@@ -1,5 +1,6 @@
 -- A transfer that is driven through the calls comes to that of the definition.
-use Rattle.std.proofs.Common.{◌≡◌, ℕ, ◌+◌, ◌-◌, ◌*◌, ◌≤◌, ◌/◌, List, [], ◌∷◌, Bool, true, false, if◌then◌else◌, refl, sym, ap, subst, ◌∙◌, arith}
+use Rattle.std.proofs.Common.{◌≡◌, ℕ, ◌+◌, ◌-◌, ◌*◌, ◌≤◌, ◌/◌, List, [], ◌∷◌, Bool, true, false, if◌then◌else◌, refl}
+use Rattle.std.proofs.Common.{sym, ap, subst, ◌∙◌, arith}
 use Rattle.board_prelude.proofs.Common.{Medium, Setup, Bytes}
 use Rattle.board_base.specs.declared.access.Width.TheVariants.{Four}
 use Rattle.board_chipset.specs.Common.{Running, master_part}
@@ -13,7 +14,8 @@ use Rattle.bus_master.specs.declared.piece.Piece.{Piece}
 use Rattle.bus_master.specs.declared.piece.Piece.TheVariants.{Descriptor, Move, Ended}
 use Rattle.bus_master.specs.Cells.{Cells}
 use Rattle.bus_master.specs.States.{direction_to}
-use Rattle.bus_master.specs.Pieces.{Going, IfMove, IsEnd, IsNext, IsStretch, Point, described, going_at_start, going_from, gone_on, standing}
+use Rattle.bus_master.specs.Pieces.{Going, IfMove, IsEnd, IsNext, IsStretch, Point, described, going_at_start}
+use Rattle.bus_master.specs.Pieces.{going_from, gone_on, standing}
 use Rattle.bus_master.specs.Pieces.{AreNext, all_done, copied, once_done}
 use Rattle.bus_master.specs.Registers.{Master, is_to_memory}
 use Rattle.bus_master.specs.Transfer.{Moving, TransferPlace, address_after, done_of, end_of, first_place, master_value}
@@ -125,7 +127,8 @@ module _ (chipset : Running) (bytes : Bytes) (held : HoldsBytes chipset bytes) w
       let going = going_in old.transfer in
       let words : ℕ = 2 * stretch.words / 2 in
       still_readable old.transfer (recorded (gone_on stretch.words going) old.transfer.readable) old.medium
-      (copied chipset.setup bytes going.direction going.lba words (standing going old.cells old.medium)).medium refl refl
+      (copied chipset.setup bytes going.direction going.lba words (standing going old.cells old.medium)).medium refl
+      refl
       (all_words old.transfer.moved old.transfer.words stretch.words is.most)
       (λ sector.
       copied_readable chipset.setup bytes going.lba sector going.direction words
@@ -188,8 +191,10 @@ module _ (chipset : Running) (bytes : Bytes) (held : HoldsBytes chipset bytes) w
       said ≡ piece_said (master_part chipset.setup bytes) (going_in last.transfer) piece → said.what ≡ ended_piece →
       ((end : End) → piece ≡ Ended end → IsEnd moving (going_in last.transfer) last.cells last.medium end) →
       HasCome moving last said
-  end_so moving last (Descriptor addr) after said is ended ends = absurd (omega (arith, ap (λ (p : PieceRecord). p.what) is, ended))
-  end_so moving last (Move stretch) after said is ended ends = absurd (omega (arith, ap (λ (p : PieceRecord). p.what) is, ended))
+  end_so moving last (Descriptor addr) after said is ended ends =
+      absurd (omega (arith, ap (λ (p : PieceRecord). p.what) is, ended))
+  end_so moving last (Move stretch) after said is ended ends =
+      absurd (omega (arith, ap (λ (p : PieceRecord). p.what) is, ended))
   end_so moving last (Ended end) after said is ended ends =
       let how = ends end refl in
       record {

@@ -1,11 +1,14 @@
 -- No part of a piece is SMRAM, nor memory at A0000h to BFFFFh.
 use Rattle.std.proofs.Common.{◌≡◌, ℕ, ◌*◌, ◌%◌, ◌<◌, ◌^◌, false, Option, sym, ap, subst, ◌∙◌, arith}
 use Rattle.board_prelude.proofs.Common.{nat_tests, Area, Denial, Kind, Read, Setup, Bytes, is_smram_range, target_at}
-use Rattle.board_base.specs.declared.target.Area.TheVariants.{Dram as DramArea, Shadow as ShadowArea, Smram as SmramArea, Rom as RomArea, Card as CardArea, Abort as NobodysArea}
+use Rattle.board_base.specs.declared.target.Area.TheVariants.{Dram as DramArea, Shadow as ShadowArea}
+use Rattle.board_base.specs.declared.target.Area.TheVariants.{Smram as SmramArea, Rom as RomArea, Card as CardArea}
+use Rattle.board_base.specs.declared.target.Area.TheVariants.{Abort as NobodysArea}
 use Rattle.addr_decode.specs.Common.{master_area}
 use Rattle.board_chipset.specs.Common.{master_part}
 use Rattle.board_records.specs.Replies.{of_part, part_said}
-use Rattle.board_records.proofs.Masters.{IsMemory as IsMemoryTarget, no_memory, no_smram_said, outside_said, said_target}
+use Rattle.board_records.proofs.Masters.{IsMemory as IsMemoryTarget, no_memory, no_smram_said, outside_said}
+use Rattle.board_records.proofs.Masters.{said_target}
 use Rattle.board_chipset.proofs.MasterSteps.{no_smram, outside_smram}
 use Rattle.bus_master.specs.declared.piece.Piece.{Piece}
 use Rattle.bus_master.specs.declared.piece.Piece.TheVariants.{Descriptor, Move, Ended}
@@ -16,7 +19,8 @@ use Rattle.piece_records.specs.Pieces.{AreSafe, IsSafe, piece_said}
 
 -- ---- a doubleword
 
-beside : (addr i : ℕ) → addr < 2 ^ 32 → addr % 4 ≡ 0 → i < 4 → is_smram_range addr ≡ false → is_smram_range (address_after addr i) ≡ false
+beside : (addr i : ℕ) → addr < 2 ^ 32 → addr % 4 ≡ 0 → i < 4 → is_smram_range addr ≡ false →
+    is_smram_range (address_after addr i) ≡ false
 beside addr i fits aligned below outside = grind (arith, nat_tests)
 
 doubleword_safe : (setup : Setup) (bytes : Bytes) (addr : ℕ) → addr < 2 ^ 32 → addr % 4 ≡ 0 →
@@ -38,7 +42,8 @@ memory_area setup (DramArea row) addr denial is = tt
 memory_area setup (ShadowArea row) addr denial is = tt
 memory_area setup SmramArea addr denial is = absurd (no_memory _ (omega arith) (rw (said_target _ denial) at is))
 memory_area setup RomArea addr denial is = absurd (no_memory _ (omega arith) (rw (said_target _ denial) at is))
-memory_area setup (CardArea dev base) addr denial is = absurd (no_memory _ (omega arith) (rw (said_target _ denial) at is))
+memory_area setup (CardArea dev base) addr denial is =
+    absurd (no_memory _ (omega arith) (rw (said_target _ denial) at is))
 memory_area setup NobodysArea addr denial is = absurd (no_memory _ (omega arith) (rw (said_target _ denial) at is))
 
 words_safe : (setup : Setup) (bytes : Bytes) (kind : Kind) (stretch : Stretch) →

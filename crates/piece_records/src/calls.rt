@@ -5,7 +5,8 @@ ghost use Rattle.board_records.specs.Common.{OnBoard, closed, no_transfer, ok};
 ghost use Rattle.piece_records.specs.Driven.{CallsComeToTheTransfer};
 ghost use Rattle.bus_master.specs.Pieces.{IfMove, IsStretch};
 ghost use Rattle.piece_records.specs.Pieces.{IsPieceTold, going_past};
-ghost use Rattle.piece_records.specs.Transfers.{IsBeginning, IsRegionFree, IsTransfer, begun_at, described_by, going_in};
+ghost use Rattle.piece_records.specs.Transfers.{IsBeginning, IsRegionFree, IsTransfer, begun_at, described_by};
+ghost use Rattle.piece_records.specs.Transfers.{going_in};
 
 use crate::piece::{PieceRecord, piece_record};
 use crate::transfer::TransferRecord;
@@ -14,9 +15,9 @@ use board_records::Door;
 use board_records::status::{NO_TRANSFER, OK};
 use bus_master::{Piece, Transfer};
 
-/// Begins a transfer of `sectors` sectors, 1 to 256, from `lba` on, which is below 2^28, by the table at an address that
-/// is a multiple of 4, between memory and a disk of the caller's own, of which the first `readable` sectors from `lba` on
-/// are there and can be read. Refused with `NO_TRANSFER` where one of these is out of range.
+/// Begins a transfer of `sectors` sectors, 1 to 256, from `lba` on, which is below 2^28, by the table at an address
+/// that is a multiple of 4, between memory and a disk of the caller's own, of which the first `readable` sectors from
+/// `lba` on are there and can be read. Refused with `NO_TRANSFER` where one of these is out of range.
 pub fn begin_transfer(
     transfer: &mut TransferRecord,
     table: u32,
@@ -39,8 +40,9 @@ pub fn begin_transfer(
     }
 }
 
-/// Tells the next piece of a transfer: a descriptor that is to be read, words that are to be moved, or its end, with what
-/// answers a bus master there. Words are taken as moved. Refused with `NO_TRANSFER` where the numbers are those of none.
+/// Tells the next piece of a transfer: a descriptor that is to be read, words that are to be moved, or its end, with
+/// what answers a bus master there. Words are taken as moved. Refused with `NO_TRANSFER` where the numbers are those of
+/// none.
 pub fn next_piece(door: &Door, transfer: &mut TransferRecord, piece: &mut PieceRecord) -> u32
     ensures done { result ≡ ok → OnBoard door.now
         (λ serial. IsPieceTold serial.board transfer.old transfer.new piece.new) }
@@ -109,8 +111,9 @@ pub fn take_region(transfer: &mut TransferRecord, base: u32, count: u32) -> u32
     }
 }
 
-/// Where a caller does one piece after another as it is told, while the board stays as it is, its memory and its disk hold in
-/// the end what the transfer makes of them, and the end that is told is that of the transfer, whatever they held.
+/// Where a caller does one piece after another as it is told, while the board stays as it is, its memory and its disk
+/// hold in the end what the transfer makes of them, and the end that is told is that of the transfer, whatever they
+/// held.
 pub fn law_calls()
     ensures whole { CallsComeToTheTransfer }
 {}

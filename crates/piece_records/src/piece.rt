@@ -33,10 +33,10 @@ pub const ABORT_END: u8 = 4;
 /// A sector is not there, or it is bad.
 pub const SECTOR_END: u8 = 5;
 
-/// A piece in numbers: what it is (`DESCRIPTOR_PIECE` ..). Of a descriptor its address, and what answers each of its two
-/// doublewords. Of words the address of the first and what answers it, how many bytes they are, and their first byte on the
-/// disk and its sector. Of an end which one it is (`EXACT_END` ..), bits 2 to 0 of the status register, how many bytes were
-/// moved, and where nobody answers or which sector cannot be read.
+/// A piece in numbers: what it is (`DESCRIPTOR_PIECE` ..). Of a descriptor its address, and what answers each of its
+/// two doublewords. Of words the address of the first and what answers it, how many bytes they are, and their first
+/// byte on the disk and its sector. Of an end which one it is (`EXACT_END` ..), bits 2 to 0 of the status register, how
+/// many bytes were moved, and where nobody answers or which sector cannot be read.
 #[repr(C)]
 #[derive(Clone, Copy, Default)]
 pub struct PieceRecord {

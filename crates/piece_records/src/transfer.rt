@@ -10,8 +10,8 @@ use bus_master::{SECTOR_BYTES, SECTOR_WORDS, Transfer, TransferState};
 const MOST_SECTORS: u32 = 256;
 
 /// A transfer as far as it has come: the address of the next descriptor; where the region in use goes on, and how many
-/// bytes it has left; how many bytes were moved, and how many words are still to be; the first sector, and how many from
-/// it on are there and can be read; 1 where the region is the last of the table, and 1 where words go to memory.
+/// bytes it has left; how many bytes were moved, and how many words are still to be; the first sector, and how many
+/// from it on are there and can be read; 1 where the region is the last of the table, and 1 where words go to memory.
 #[repr(C)]
 #[derive(Clone, Copy, Default)]
 pub struct TransferRecord {
@@ -28,8 +28,8 @@ pub struct TransferRecord {
 }
 
 impl TransferRecord {
-    /// A transfer that has moved nothing. None exactly where the table is not at a multiple of 4, `lba` not below 2^28, or
-    /// the sectors not 1 to 256.
+    /// A transfer that has moved nothing. None exactly where the table is not at a multiple of 4, `lba` not below 2^28,
+    /// or the sectors not 1 to 256.
     pub(crate) fn begin(
         table: u32,
         lba: u32,

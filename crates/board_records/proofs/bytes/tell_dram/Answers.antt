@@ -9,6 +9,7 @@ returns c = record {
     size = c.read_bytes.ensures.length;
     bytes = λ history k left below.
         c.read_bytes.ensures.bytes k below
-        ∙ read_stored c.args.chipset.now.setup history c.dram.result.now (c.args.addr + k) One (c.dram.ensures.dram history left);
+        ∙ read_stored c.args.chipset.now.setup history c.dram.result.now (c.args.addr + k) One
+        (c.dram.ensures.dram history left);
   };
 }

@@ -17,7 +17,8 @@ returns-in-true-clause-done c = λ ok. record {
       record {
         answer = refl;
         com1 = c.receive.ensures.com1;
-        goes_on = after_as c.receive.new.self history _ _ (ap (change_steps c.args.serial.now.com1) c.receive.ensures.com1) gone;
+        goes_on = after_as c.receive.new.self history _ _
+            (ap (change_steps c.args.serial.now.com1) c.receive.ensures.com1) gone;
         told =
             c.tell_uart.ensures.said
             ∙ uart_told None None c.after_step.result

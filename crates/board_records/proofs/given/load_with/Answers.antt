@@ -22,7 +22,8 @@ returns-in-Ok c =
       sound = given_sound result given loaded puts c.in-Ok.ensures.loaded.0;
       exact = exact;
       saved = λ left behind is same own. loaded_back result c.args.from.now given left behind exact is same own;
-      refused = given_refused result given loaded c.args.from.now puts c.in-Ok.ensures.loaded.0 c.in-Ok.ensures.loaded.1;
+      refused = given_refused result given loaded c.args.from.now puts c.in-Ok.ensures.loaded.0
+          c.in-Ok.ensures.loaded.1;
     }
 
 pub returns-in-Err-clause-saved : goal.returns-in-Err-clause-saved

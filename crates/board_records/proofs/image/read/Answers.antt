@@ -6,7 +6,8 @@ returns-in-Ok c = record {
   loaded = whole_loaded c.read_last.result c.in-Ok.fitted c.args.fields.now c.read_fitted.new.fields
       c.in-Ok.ensures.loaded.loaded.1 c.read_last.ensures.loaded;
   exact = λ behind is begins.
-      let so = fitted_so c.args.fields.now c.read_fitted.new.fields c.in-Ok.fitted c.in-Ok.ensures.loaded behind is begins in
+      let so = fitted_so c.args.fields.now c.read_fitted.new.fields c.in-Ok.fitted c.in-Ok.ensures.loaded
+      behind is begins in
       c.read_last.ensures.exact behind is so.0 so.1;
 }
 

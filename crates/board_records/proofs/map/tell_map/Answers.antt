@@ -27,5 +27,6 @@ returns-clause-windows c = record {
   windows = c.map-map.result.now.changed;
   changed = c.map-map.ensures.changed;
   count_is = ap length c.changed-changed.ensures.windows;
-  told = c.tell_windows.ensures.told ∙ ap (λ windows. filled (map window_said windows) c.args.windows.now) c.changed-changed.ensures.windows;
+  told = c.tell_windows.ensures.told ∙ ap (λ windows. filled (map window_said windows) c.args.windows.now)
+      c.changed-changed.ensures.windows;
 }

@@ -9,7 +9,9 @@ pub loop-line-preserved : goal.loop-line-preserved
 loop-line-preserved c = record {
   bits = λ size.
       one_more_line c.args.lines.now c.loop-line.line c.loop-line.bits c.from.result c.loop-line-test.true size
-      (c.from.ensures ∙ level_number c.level.result ∙ ap (λ (level : Bool). if◌then◌else◌ {A = ℕ} level 1 0) c.level.ensures.level)
+      (c.from.ensures ∙ level_number c.level.result ∙ ap (λ (level : Bool). if◌then◌else◌ {A = ℕ} level 1 0)
+      c.level.ensures.level)
       (c.loop-line.invariant.bits size);
-  small = fits c.loop-line.line c.loop-line.bits c.from.result c.level.result c.from.ensures c.loop-line.invariant.small;
+  small = fits c.loop-line.line c.loop-line.bits c.from.result c.level.result c.from.ensures
+      c.loop-line.invariant.small;
 }

@@ -13,10 +13,12 @@ follow-requires g c =
     let phases = c.deref-phase-items.result.now in
     let all = in_range c.args.board.now.setup (said_of c.args.script.now) c.requires.in_range c.requires.cards in
     let own =
-    all_of_phase (λ statement. IsInRange c.args.board.now.setup statement.event) (lists_of (take i phases)) c.phase-item.result.items
+    all_of_phase (λ statement. IsInRange c.args.board.now.setup statement.event) (lists_of (take i phases))
+    c.phase-item.result.items
     (lists_of (drop (i + 1) phases))
     (subst (λ (ps : List (List Statement)). AreInRange c.args.board.now.setup (in_file_order ps))
-    (ap lists_of (sym c.deref-phase-items.ensures.value) ∙ phases_cut phases i c.phase-item.result c.loop-phase-test.true c.phase-item.is) all) in
+    (ap lists_of (sym c.deref-phase-items.ensures.value)
+    ∙ phases_cut phases i c.phase-item.result c.loop-phase-test.true c.phase-item.is) all) in
     record {
       in_range =
           subst (λ (setup : Setup). AreInRange setup c.deref.result.now) (sym c.loop-phase.invariant)

@@ -6,6 +6,7 @@ use Rattle.fitted_bytes.proofs.identities.read_some.Given as goal
 
 abbrev pub invariant-loop : goal.invariant-loop
 invariant-loop l = record {
-  read : with_front l.cards.items (some_identities tt (l.count - l.counter) l.fields) ≡ some_identities tt l.count l.fn.fields;
+  read : with_front l.cards.items (some_identities tt (l.count - l.counter) l.fields)
+      ≡ some_identities tt l.count l.fn.fields;
   count : length l.cards.items ≡ l.counter;
 }

@@ -22,5 +22,8 @@ if_open false F k = tt
 pub send : IsSend the_row
 send = let O = the_type in let all : AllSend (fields O) = (search sendable, (search sendable, (search sendable, tt))) in
     owning_send O all
-    (λ h. if_open h.full _ (lies door_row door.the_send h.at h.held, frees.frees h.alloc (raw (lone door_row.mir)) h.at))
+    (λ h. if_open h.full _ (
+      lies door_row door.the_send h.at h.held,
+      frees.frees h.alloc (raw (lone door_row.mir)) h.at,
+    ))
     (λ k. quiet (to O) (exits_of k (fields O)) ((struct_send (shape O) all).leaving k))

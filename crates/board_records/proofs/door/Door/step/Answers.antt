@@ -13,6 +13,7 @@ returns-clause-done c = λ ok.
     c.self.inside.identities.items (roms_in c.self.inside.roms) c.args.event.now c.step-status.new.reply
     c.fitted_told.new.reply
     (c.fitted_told.ensures.told ok
-    ∙ ap (λ (identities : List FittedIdentity). fitted_record identities (roms_in c.self.inside.roms) c.args.event.now c.step-status.new.reply)
+    ∙ ap (λ (identities : List FittedIdentity). fitted_record identities (roms_in c.self.inside.roms) c.args.event.now
+    c.step-status.new.reply)
     c.deref.ensures.0)
     (c.step-status.ensures.done ok))
