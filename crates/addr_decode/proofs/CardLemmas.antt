@@ -319,7 +319,7 @@ reset_cards setup cards fitted reset same = (
       ∙ subst (λ (card : FittedCard). find (λ other. other.dev == card.dev) (cards_of cards) ≡ Some card)
       (get_or-map (λ (it : CardBytes). it.card) cards k d d.card within)
       (find_at (cards_of cards) fitted.rises k d.card
-          (omega (arith, length-map cards (λ (it : CardBytes). it.card)))))),
+      (omega (arith, length-map cards (λ (it : CardBytes). it.card)))))),
 )
 
 pub reset_decoded :

@@ -96,7 +96,7 @@ isa_named off = elim (cases_Bool (off == 0x4E)) [ inl here ↦ rw here refl | in
 
 named_by : (command base rom within : Bool) (dev : ℕ) (x y z : CardRegister) →
     is_some (option_map (Card dev) (if command then Some x else if base then Some y else if rom && within
-        then Some z else None))
+    then Some z else None))
     ≡ (command || base || rom && within)
 named_by true base rom within dev x y z = refl
 named_by false true rom within dev x y z = refl
@@ -312,7 +312,7 @@ pub named_byte : (setup : Setup) (cards : List CardBytes) (reg : Reg) (register 
 named_byte setup cards reg register fitted same is =
     ap (λ (at : Reg). is_map_byte setup at) (is_name (cards_of cards) reg register is).place
     ∙ sym (named setup reg (no_low_card setup cards 0 (lit< tt) fitted.each same)
-        (no_low_card setup cards 1 (lit< tt) fitted.each same))
+    (no_low_card setup cards 1 (lit< tt) fitted.each same))
     ∙ ap (λ (list : List FittedCard). is_some (map_register list reg)) same
     ∙ ap (λ (name : Option MapRegister). is_some name) is
 

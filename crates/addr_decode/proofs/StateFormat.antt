@@ -33,7 +33,7 @@ IsLong n = n < 2 ^ 32
 
 six : (bases : List ℕ) → length bases ≡ 6 →
     bases ≡ base_at 0 bases ∷ base_at 1 bases ∷ base_at 2 bases ∷ base_at 3 bases ∷ base_at 4 bases
-        ∷ base_at 5 bases ∷ []
+    ∷ base_at 5 bases ∷ []
 six [] long = absurd (omega (arith, long))
 six (a ∷ []) long = absurd (omega (arith, long))
 six (a ∷ b ∷ []) long = absurd (omega (arith, long))

@@ -46,10 +46,10 @@ follow_from access (suc most) addr left few =
             subst
                 (λ (end : ℕ). Follow (addr + bytes_of width) end
                 (map (cycle_of access.write) (parts_from (as_wide access) most (addr + bytes_of width)
-                    (left - bytes_of width))))
+                (left - bytes_of width))))
                 more
                 (follow_from access most (addr + bytes_of width) (left - bytes_of width)
-                    (omega (arith, few, fits, some_bytes width))),
+                (omega (arith, few, fits, some_bytes width))),
           )
     ]
 
@@ -66,7 +66,7 @@ each_from access (suc most) addr left =
           rw some
           (All-cons (IsCycleOf access) (cycle_of access.write (part_at (as_wide access) addr width))
           (map (cycle_of access.write) (parts_from (as_wide access) most (addr + bytes_of width)
-              (left - bytes_of width)))
+          (left - bytes_of width)))
           (record { write = refl; aligned = longest_aligned addr left; value = refl })
           (each_from access most (addr + bytes_of width) (left - bytes_of width)))
     ]

@@ -89,8 +89,10 @@ calls_in_order uart (call ∷ later) kept =
 event_is_calls : (resets : Bool) (event : Event) (com1 : Com1) →
     (com1_after resets event com1).uart ≡ after_calls com1.uart (calls_of resets event)
 event_is_calls resets (Port access) com1 = elim (cases_Bool (is_for_uart access)) [
-  | inl uart ↦ elim (cases_Bool access.write) [ inl writes ↦ rw (uart, writes) refl
-      | inr reads ↦ rw (uart, reads) refl ]
+  | inl uart ↦ elim (cases_Bool access.write) [
+    | inl writes ↦ rw (uart, writes) refl
+    | inr reads ↦ rw (uart, reads) refl
+  ]
   | inr board ↦ elim (cases_Bool resets) [ inl hard ↦ rw (board, hard) refl | inr soft ↦ rw (board, soft) refl ]
 ]
 event_is_calls resets (Line irq on) com1 =
@@ -106,8 +108,10 @@ event_is_calls resets (BadSector sector) com1 = refl
 
 event_brings_nothing : (resets : Bool) (event : Event) → all_brought (calls_of resets event) ≡ []
 event_brings_nothing resets (Port access) = elim (cases_Bool (is_for_uart access)) [
-  | inl uart ↦ elim (cases_Bool access.write) [ inl writes ↦ rw (uart, writes) refl
-      | inr reads ↦ rw (uart, reads) refl ]
+  | inl uart ↦ elim (cases_Bool access.write) [
+    | inl writes ↦ rw (uart, writes) refl
+    | inr reads ↦ rw (uart, reads) refl
+  ]
   | inr board ↦ elim (cases_Bool resets) [ inl hard ↦ rw (board, hard) refl | inr soft ↦ rw (board, soft) refl ]
 ]
 event_brings_nothing resets (Line irq on) = refl
@@ -161,6 +165,6 @@ run_brings before (Happens event ∷ later) =
 pub serial_in_order : SerialReadsInOrder
 serial_in_order before happenings kept =
     ap (λ (uart : Uart). all_taken before.com1.uart (all_calls before happenings) ++ uart.queue)
-        (run_is_calls before happenings)
+    (run_is_calls before happenings)
     ∙ (calls_in_order before.com1.uart (all_calls before happenings) kept
     ∙ ap (λ (bytes : List ℕ). before.com1.uart.queue ++ bytes) (run_brings before happenings))

@@ -36,8 +36,10 @@ control_more (entry ∷ more) history =
 -- levels of line 4 leave it
 control_of_change : (control : ℕ) (old new : Bool) → control_over control (line_steps old new) ≡ control
 unfolding control_over
-control_of_change control old new = elim (cases_Bool (differ old new)) [ inl moves ↦ rw moves refl
-    | inr stays ↦ rw stays refl ]
+control_of_change control old new = elim (cases_Bool (differ old new)) [
+  | inl moves ↦ rw moves refl
+  | inr stays ↦ rw stays refl
+]
 
 -- and so does an access to the UART
 other_port : (access : PortAccess) → is_for_uart access ≡ true → (access.port == reset_control_port) ≡ false

@@ -181,7 +181,7 @@ module _ {B : Type 0} (is_answer : Setup → List Entry → Event → Reply → 
   one_step_as old new level next history actor event name reply left_at same answer left is below named =
       rw (← named)
       (one_step old new level next history actor event reply left_at same answer left is
-          (other_actor actor event below))
+      (other_actor actor event below))
 
   -- the script gives line 4 a level
   pub level_given : (old new : B) (com1 : Com1) (irq : ℕ) (on level : Bool) (history : List Entry) (actor : ℕ)
@@ -238,12 +238,12 @@ module _ {B : Type 0} (is_answer : Setup → List Entry → Event → Reply → 
       (left_at : IsLeftAt left_by old (level_of com1) history) (same : setup_of middle ≡ setup_of old)
       (answer : is_answer (setup_of old) history (Port access) reply)
       (left : left_by middle (next_entry history actor (Port access) reply ∷ history))
-          (below : actor < com1_actor) where
+      (below : actor < com1_actor) where
     pub accessed : IsLeftAfter is_answer setup_of left_by middle (level_of com1) history
         (record { actor = actor; event = Port access } ∷ [])
     accessed =
         one_step old middle (level_of com1) (level_of com1) history actor (Port access) reply left_at same
-            answer left refl
+        answer left refl
         (other_actor actor (Port access) below)
 
     -- the port stays as it is
@@ -259,7 +259,7 @@ module _ {B : Type 0} (is_answer : Setup → List Entry → Event → Reply → 
         (record { actor = actor; event = Port access } ∷ change_steps com1 next)
     accessed_and_moved new next stays moved =
         then_more middle new (level_of com1) (level_of next) history
-            (record { actor = actor; event = Port access } ∷ [])
+        (record { actor = actor; event = Port access } ∷ [])
         (change_steps com1 next) stays accessed moved
 
   -- the board does an event that is for it alone
@@ -268,7 +268,7 @@ module _ {B : Type 0} (is_answer : Setup → List Entry → Event → Reply → 
       IsPlain event → IsLeftAt left_by old (level_of com1) history → setup_of new ≡ setup_of old →
       is_answer (setup_of old) history event reply → left_by new (next_entry history actor event reply ∷ history) →
       actor < com1_actor → IsLeftAfter is_answer setup_of left_by new (level_of com1) history
-          (board_steps actor resets event com1)
+      (board_steps actor resets event com1)
   plain_step old new com1 history actor event resets reply plain left_at same answer left below =
       rw (plain.alone actor resets com1)
       (one_step old new (level_of com1) (level_of com1) history actor event reply left_at same answer left

@@ -28,7 +28,7 @@ store_after-requires c = record {
 
 this_byte :
     (c : goal.After-store_after) → slice_index c.to_le_bytes-bytes.result c.from-place.result
-        ≡ byte c.args.value c.loop-k.k
+    ≡ byte c.args.value c.loop-k.k
 this_byte c =
     byte_in_list c.args.value c.loop-k.k c.from-place.result c.to_le_bytes-bytes.result c.from-place.ensures
     (omega (arith, few_bytes c.args.width)) c.to_le_bytes-bytes.ensures
