@@ -30,7 +30,7 @@ use crate::lines::{Bytes, NoRoom, Row, given_by};
 use crate::shaken::{Shaken, ShakenFolder};
 use board_base::NoMemory;
 use board_files::{FileShelf, Folder, OutSink, SystemFolder};
-use board_main::{CommandLine, SystemLine, run_program};
+use board_main::{CommandLine, SystemLine, WordFault, run_program};
 use board_outside::SafeShelf;
 use std::alloc::Global;
 use std::fs::File;
@@ -136,6 +136,14 @@ where
     }
 }
 
+/// Why the words are not read, in a word.
+fn fault_name(fault: WordFault) -> &'static str {
+    match fault {
+        WordFault::NoText => "NoText",
+        WordFault::NoRoom => "NoRoom",
+    }
+}
+
 /// Writes the words of a command line, or why they are not read.
 fn write_words<T: Write, L: CommandLine>(told: &mut T, line: &L) {
     match line.words() {
@@ -145,7 +153,7 @@ fn write_words<T: Write, L: CommandLine>(told: &mut T, line: &L) {
             }
         }
         Err(fault) => {
-            let _ = write!(told, "{fault:?}");
+            let _ = write!(told, "{}", fault_name(fault));
         }
     }
     let _ = writeln!(told, "");
