@@ -296,7 +296,7 @@ cards_beyond setup bytes at written cards each below past are = (
 
 -- ---- after a reset
 
-find_at : (cards : List FittedCard) → Rises cards → (k : ℕ) (d : FittedCard) → k < length cards →
+pub find_at : (cards : List FittedCard) → Rises cards → (k : ℕ) (d : FittedCard) → k < length cards →
     find (λ card. card.dev == (get_or cards k d).dev) cards ≡ Some (get_or cards k d)
 find_at [] rises k d within = absurd (omega arith)
 find_at (card ∷ later) rises zero d within =
@@ -319,7 +319,7 @@ reset_cards setup cards fitted reset same = (
       ∙ subst (λ (card : FittedCard). find (λ other. other.dev == card.dev) (cards_of cards) ≡ Some card)
       (get_or-map (λ (it : CardBytes). it.card) cards k d d.card within)
       (find_at (cards_of cards) fitted.rises k d.card
-          (omega (arith, length-map cards (λ (it : CardBytes). it.card)))))),
+      (omega (arith, length-map cards (λ (it : CardBytes). it.card)))))),
 )
 
 pub reset_decoded :

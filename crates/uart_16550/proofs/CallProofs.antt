@@ -1,8 +1,8 @@
 -- No byte that was received is lost, and all are read in their order.
-use Rattle.std.proofs.Common.{◌≡◌, ℕ, Bool, true, false, not, List, [], ◌∷◌, ◌++◌, length, inl, inr, refl, sym, ap, ◌∙◌}
+use Rattle.std.proofs.Common.{◌≡◌, ℕ, Bool, true, List, [], ◌∷◌, ◌++◌, length, inl, inr, refl, sym, ap, ◌∙◌}
 use Rattle.std.proofs.Common.{append_assoc, ◌==◌, Option, Some, None}
 use Rattle.board_prelude.proofs.Common.{cases_Bool, ne_eqb, append-nil, Event, Memory, Wide, Port, Ack, Pulses, Time}
-use Rattle.board_prelude.proofs.Common.{Wire, Line, BadSector, control_written, resets_hard}
+use Rattle.board_prelude.proofs.Common.{Wire, Line, BadSector, control_written, resets_hard, not-true}
 use Rattle.board_spec.specs.declared.event.Event.TheVariants.{Look as LookAt}
 use Rattle.uart_16550.specs.declared.interrupt.Interrupt.{Interrupt}
 use Rattle.uart_16550.specs.declared.interrupt.Interrupt.TheVariants.{LineStatus, DataAvailable, TransmitterEmpty}
@@ -47,15 +47,11 @@ read_in_order uart read.Lsr = refl
 read_in_order uart read.Msr = refl
 read_in_order uart read.Scr = refl
 
-unless : (b : Bool) → not b ≡ true → b ≡ false
-unless true is = cc
-unless false is = refl
-
 pub write_keeps : (uart : Uart) (register : WriteRegister) (byte : ℕ) → is_kept uart register byte ≡ true →
     (with_value uart register byte).queue ≡ uart.queue
 unfolding with_value
-write_keeps uart write.Thr byte kept = rw (unless (is_loopback uart) kept) refl
-write_keeps uart write.Fcr byte kept = rw (unless (is_emptying uart byte) kept) refl
+write_keeps uart write.Thr byte kept = rw (not-true (is_loopback uart) kept) refl
+write_keeps uart write.Fcr byte kept = rw (not-true (is_emptying uart byte) kept) refl
 write_keeps uart write.Dll byte kept = refl
 write_keeps uart write.Ier byte kept = refl
 write_keeps uart write.Dlm byte kept = refl
@@ -89,8 +85,10 @@ calls_in_order uart (call ∷ later) kept =
 event_is_calls : (resets : Bool) (event : Event) (com1 : Com1) →
     (com1_after resets event com1).uart ≡ after_calls com1.uart (calls_of resets event)
 event_is_calls resets (Port access) com1 = elim (cases_Bool (is_for_uart access)) [
-  | inl uart ↦ elim (cases_Bool access.write) [ inl writes ↦ rw (uart, writes) refl
-      | inr reads ↦ rw (uart, reads) refl ]
+  | inl uart ↦ elim (cases_Bool access.write) [
+    | inl writes ↦ rw (uart, writes) refl
+    | inr reads ↦ rw (uart, reads) refl
+  ]
   | inr board ↦ elim (cases_Bool resets) [ inl hard ↦ rw (board, hard) refl | inr soft ↦ rw (board, soft) refl ]
 ]
 event_is_calls resets (Line irq on) com1 =
@@ -106,8 +104,10 @@ event_is_calls resets (BadSector sector) com1 = refl
 
 event_brings_nothing : (resets : Bool) (event : Event) → all_brought (calls_of resets event) ≡ []
 event_brings_nothing resets (Port access) = elim (cases_Bool (is_for_uart access)) [
-  | inl uart ↦ elim (cases_Bool access.write) [ inl writes ↦ rw (uart, writes) refl
-      | inr reads ↦ rw (uart, reads) refl ]
+  | inl uart ↦ elim (cases_Bool access.write) [
+    | inl writes ↦ rw (uart, writes) refl
+    | inr reads ↦ rw (uart, reads) refl
+  ]
   | inr board ↦ elim (cases_Bool resets) [ inl hard ↦ rw (board, hard) refl | inr soft ↦ rw (board, soft) refl ]
 ]
 event_brings_nothing resets (Line irq on) = refl
@@ -161,6 +161,6 @@ run_brings before (Happens event ∷ later) =
 pub serial_in_order : SerialReadsInOrder
 serial_in_order before happenings kept =
     ap (λ (uart : Uart). all_taken before.com1.uart (all_calls before happenings) ++ uart.queue)
-        (run_is_calls before happenings)
+    (run_is_calls before happenings)
     ∙ (calls_in_order before.com1.uart (all_calls before happenings) kept
     ∙ ap (λ (bytes : List ℕ). before.com1.uart.queue ++ bytes) (run_brings before happenings))
