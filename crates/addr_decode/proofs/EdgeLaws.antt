@@ -8,11 +8,12 @@ use Rattle.board_prelude.proofs.Common.{IoBase, OutsideBase, FittedCard, Setup, 
 use Rattle.board_prelude.proofs.Common.{shadow_range, hole_at_512_kib, hole_at_15_mib, system_bios, high_bios}
 use Rattle.board_prelude.proofs.Common.{lower_bios, lower_high_bios, extended_bios, is_within, Bytes, Window, boundary}
 use Rattle.board_prelude.proofs.Common.{row_of, is_in, hole_of, pam_register, is_high_window, nibble, is_open}
-use Rattle.board_prelude.proofs.Common.{is_shadow_range, is_shadowed, smram_answers, is_smram_range, is_rom_selected}
+use Rattle.board_prelude.proofs.Common.{is_shadow_range, is_shadowed, is_smram_range, is_rom_selected}
 use Rattle.board_prelude.proofs.Common.{is_covered, base_value, rom_value, memory_window, rom_window, rom_window_of}
 use Rattle.board_prelude.proofs.Common.{is_rom_on, vga_window, memory_windows, is_enabled_for, first_window}
-use Rattle.board_prelude.proofs.Common.{memory_claim, area_of, xbcs as select_register, smram as smram_register}
+use Rattle.board_prelude.proofs.Common.{memory_claim, area_of, xbcs as select_register}
 use Rattle.board_prelude.proofs.Common.{fdhc as hole_register, address_count, six_areas}
+use Rattle.board_prelude.proofs.Common.{is_smram_open}
 use Rattle.std.proofs.lemmas.Nat.{div_below, le-div}
 use Rattle.std.proofs.lemmas.List.Elements.{All-contains_itself, Contains-append_left, Contains-append_right}
 use Rattle.addr_decode.proofs.MemoryLemmas.{table}
@@ -439,7 +440,7 @@ area_same :
     area_of setup bytes x kind smm ≡ area_of setup bytes addr kind smm
 unfolding area_of
 area_same setup bytes addr x kind smm between =
-    table_same (smram_answers (bytes smram_register) kind smm) _ _ _ _ _ _ _ _ _ _ _ _ _ _
+    table_same (is_smram_open bytes kind smm) _ _ _ _ _ _ _ _ _ _ _ _ _ _
     (row_same setup bytes addr x between) (shadowed_same setup bytes addr x kind between)
     (hole_same setup bytes addr x (bytes hole_register) between)
     (rom_same setup bytes addr x (bytes select_register) between) (smram_range_same setup bytes addr x between)

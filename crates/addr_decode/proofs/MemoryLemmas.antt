@@ -5,8 +5,9 @@ use Rattle.board_prelude.proofs.Common.{nat_tests, Area, Denial, Kind, top_of, m
 use Rattle.board_prelude.proofs.Common.{abort_denial, rom_denial, denial_in, denial_of, Setup, lies_in, upper_memory}
 use Rattle.board_prelude.proofs.Common.{Window, first_of, line_where, is_smram_range, is_shadow_range, card_area}
 use Rattle.board_prelude.proofs.Common.{area_under, Bytes, row_of, is_in, hole_of, pam_register, is_high_window, nibble}
-use Rattle.board_prelude.proofs.Common.{is_open, is_shadowed, smram_answers, is_rom_selected, memory_claim, area_of}
-use Rattle.board_prelude.proofs.Common.{xbcs as select_register, smram as smram_register, fdhc as hole_register}
+use Rattle.board_prelude.proofs.Common.{is_open, is_shadowed, is_rom_selected, memory_claim, area_of}
+use Rattle.board_prelude.proofs.Common.{xbcs as select_register, fdhc as hole_register}
+use Rattle.board_prelude.proofs.Common.{is_in_hole, is_bios_selected, is_smram_open}
 use Rattle.board_base.specs.declared.target.Area.TheVariants.{Dram, Shadow, Smram, Rom, Abort}
 use Rattle.pmc_regs.specs.Pmc.{IsRowsOf}
 use Rattle.addr_decode.specs.Common.{MapBytes, StandsFor, dram_area, row_area, above_dram, beside_dram, area_by}
@@ -74,18 +75,18 @@ area_in_order (Some row) smram open' hole rom claim addr =
 -- where DRAM answers, over the register bytes
 abbrev pub dram_by : Bytes → ℕ → Kind → Bool → Option Area
 dram_by bytes addr kind smm =
-    dram_area (row_of bytes addr) (smram_answers (bytes smram_register) kind smm) (is_shadowed bytes addr kind)
-    (is_in (hole_of (bytes hole_register)) addr) addr
+    dram_area (row_of bytes addr) (is_smram_open bytes kind smm) (is_shadowed bytes addr kind)
+    (is_in_hole bytes addr) addr
 
 by_parts : (setup : Setup) (bytes : Bytes) (addr : ℕ) (kind : Kind) (smm : Bool) →
     area_of setup bytes addr kind smm
-    ≡ above_dram (dram_by bytes addr kind smm) (is_rom_selected (bytes select_register) addr)
+    ≡ above_dram (dram_by bytes addr kind smm) (is_bios_selected bytes addr)
     (memory_claim setup bytes addr)
 unfolding area_of
 by_parts setup bytes addr kind smm =
-    area_in_order (row_of bytes addr) (smram_answers (bytes smram_register) kind smm)
+    area_in_order (row_of bytes addr) (is_smram_open bytes kind smm)
     (is_open (nibble (bytes (pam_register addr)) (is_high_window addr)) kind)
-    (is_in (hole_of (bytes hole_register)) addr) (is_rom_selected (bytes select_register) addr)
+    (is_in_hole bytes addr) (is_bios_selected bytes addr)
     (memory_claim setup bytes addr) addr
 
 pub rom_answers : (setup : Setup) (bytes : Bytes) (addr xbcs : ℕ) → xbcs ≡ bytes select_register →
@@ -123,8 +124,8 @@ pub either_answers : (setup : Setup) (bytes : Bytes) (addr : ℕ) (kind : Kind) 
     unwrap_or dram beside ≡ area_of setup bytes addr kind smm
 either_answers setup bytes addr kind smm dram beside is_dram is_beside =
     ap (λ (other : Area). unwrap_or dram other) is_beside
-    ∙ or_beside dram (is_rom_selected (bytes select_register) addr) (memory_claim setup bytes addr)
-    ∙ ap (λ (found : Option Area). above_dram found (is_rom_selected (bytes select_register) addr)
+    ∙ or_beside dram (is_bios_selected bytes addr) (memory_claim setup bytes addr)
+    ∙ ap (λ (found : Option Area). above_dram found (is_bios_selected bytes addr)
     (memory_claim setup bytes addr)) is_dram
     ∙ sym (by_parts setup bytes addr kind smm)
 
@@ -163,8 +164,8 @@ dram_undenied setup bytes addr kind smm area is =
     let abort : Denial = abort_denial (top_of bytes) (memory_shut setup bytes addr) (rom_unselected setup bytes addr)
     addr in
     let rom : Denial = rom_denial (bytes select_register) in
-    undenied_in (row_of bytes addr) (smram_answers (bytes smram_register) kind smm) (is_shadowed bytes addr kind)
-    (is_in (hole_of (bytes hole_register)) addr) addr area kind abort rom is
+    undenied_in (row_of bytes addr) (is_smram_open bytes kind smm) (is_shadowed bytes addr kind)
+    (is_in_hole bytes addr) addr area kind abort rom is
     ∙ ap (λ (it : Area). denial_in it kind abort rom)
     (either_answers setup bytes addr kind smm (Some area) (beside_dram setup bytes addr) is refl)
 
@@ -207,8 +208,8 @@ pub shadow_answers : (setup : Setup) (bytes : Bytes) (addr row : ℕ) (kind : Ki
     unwrap_or (line_where open' (Shadow row)) beside ≡ area_of setup bytes addr kind smm
 shadow_answers setup bytes addr row kind smm open' beside window is_row is_open' is_beside =
     let apart : is_smram_range addr ≡ false = grind (arith, nat_tests) in
-    let answers : Bool = smram_answers (bytes smram_register) kind smm in
-    let hole : Bool = is_in (hole_of (bytes hole_register)) addr in
+    let answers : Bool = is_smram_open bytes kind smm in
+    let hole : Bool = is_in_hole bytes addr in
     let dram : line_where open' (Shadow row) ≡ dram_by bytes addr kind smm =
     sym (row_shadow row answers open' hole addr apart window)
     ∙ ap (λ (found : Option ℕ). dram_area found answers open' hole addr) is_row
@@ -220,24 +221,24 @@ pub no_row_answers : (setup : Setup) (bytes : Bytes) (addr : ℕ) (kind : Kind) 
     beside ≡ beside_dram setup bytes addr → beside ≡ area_of setup bytes addr kind smm
 no_row_answers setup bytes addr kind smm beside is_row is_beside =
     either_answers setup bytes addr kind smm None beside
-    (ap (λ (found : Option ℕ). dram_area found (smram_answers (bytes smram_register) kind smm)
+    (ap (λ (found : Option ℕ). dram_area found (is_smram_open bytes kind smm)
     (is_shadowed bytes addr kind)
-    (is_in (hole_of (bytes hole_register)) addr) addr) is_row)
+    (is_in_hole bytes addr) addr) is_row)
     is_beside
 
 -- the same of a bus master
 pub master_answers :
     (setup : Setup) (bytes : Bytes) (addr : ℕ) (kind : Kind) (dram : Option Area) (beside : Area) →
     dram ≡ dram_area (row_of bytes addr) false (is_shadowed bytes addr kind)
-    (is_in (hole_of (bytes hole_register)) addr) addr →
+    (is_in_hole bytes addr) addr →
     beside ≡ beside_dram setup bytes addr → unwrap_or dram beside ≡ master_area setup bytes addr kind
 unfolding master_area
 master_answers setup bytes addr kind dram beside is_dram is_beside =
     ap (λ (other : Area). unwrap_or dram other) is_beside
-    ∙ or_beside dram (is_rom_selected (bytes select_register) addr) (memory_claim setup bytes addr)
-    ∙ ap (λ (found : Option Area). above_dram found (is_rom_selected (bytes select_register) addr)
+    ∙ or_beside dram (is_bios_selected bytes addr) (memory_claim setup bytes addr)
+    ∙ ap (λ (found : Option Area). above_dram found (is_bios_selected bytes addr)
     (memory_claim setup bytes addr)) is_dram
     ∙ sym
     (area_in_order (row_of bytes addr) false (is_open (nibble (bytes (pam_register addr)) (is_high_window addr)) kind)
-    (is_in (hole_of (bytes hole_register)) addr) (is_rom_selected (bytes select_register) addr)
+    (is_in_hole bytes addr) (is_bios_selected bytes addr)
     (memory_claim setup bytes addr) addr)

@@ -1,8 +1,9 @@
 -- How a bus master sees the memory map: as a processor does where SMRAM answers nobody.
 use Rattle.std.specs.Prelude.{ℕ, false, Option}
-use Rattle.board_prelude.specs.Common.{Kind, Area, Denial, Setup, fdhc, xbcs, Bytes, area_under, row_of, is_shadowed}
-use Rattle.board_prelude.specs.Common.{is_in, hole_of, is_rom_selected, memory_claim, denial_in, abort_denial, top_of}
+use Rattle.board_prelude.specs.Common.{Kind, Area, Denial, Setup, xbcs, Bytes, area_under, row_of, is_shadowed}
+use Rattle.board_prelude.specs.Common.{memory_claim, denial_in, abort_denial, top_of}
 use Rattle.board_prelude.specs.Common.{memory_shut, rom_unselected, rom_denial}
+use Rattle.board_prelude.specs.Common.{is_in_hole, is_bios_selected}
 
 -- the area that an access of a bus master reaches
 unfoldable pub master_area : Setup → Bytes → ℕ → Kind → Area
@@ -11,8 +12,8 @@ master_area setup bytes addr kind =
     (row_of bytes addr)
     false
     (is_shadowed bytes addr kind)
-    (is_in (hole_of (bytes fdhc)) addr)
-    (is_rom_selected (bytes xbcs) addr)
+    (is_in_hole bytes addr)
+    (is_bios_selected bytes addr)
     (memory_claim setup bytes addr)
     addr
 

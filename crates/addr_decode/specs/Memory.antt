@@ -3,8 +3,9 @@ use Rattle.std.specs.Prelude.{ℕ, ◌==◌, nat_lt, Bool, true, false, not, if�
 use Rattle.std.specs.Prelude.{unwrap_or}
 use Rattle.board_prelude.specs.Common.{Area, Denial, Register, NoRegister, Setup, lies_in, selectable_bios}
 use Rattle.board_prelude.specs.Common.{expansion_range, largest_top, Bytes, Window, line_where, is_smram_range}
-use Rattle.board_prelude.specs.Common.{is_shadow_range, is_rom_selected, card_area, memory_claim, pam_register, drb}
+use Rattle.board_prelude.specs.Common.{is_shadow_range, card_area, memory_claim, pam_register, drb}
 use Rattle.board_prelude.specs.Common.{fdhc, smram, xbcs, card_command, expansion_rom}
+use Rattle.board_prelude.specs.Common.{is_bios_selected}
 use Rattle.board_base.specs.declared.target.Area.TheVariants.{Dram, Shadow, Smram, Rom, Card, Abort}
 
 -- where an access below the top of DRAM reaches it, over what the registers say of the address
@@ -25,7 +26,7 @@ above_dram None false claim = unwrap_or (option_map card_area claim) Abort
 
 -- at an address of a board
 abbrev pub beside_dram : Setup → Bytes → ℕ → Area
-beside_dram setup bytes addr = above_dram None (is_rom_selected (bytes xbcs) addr) (memory_claim setup bytes addr)
+beside_dram setup bytes addr = above_dram None (is_bios_selected bytes addr) (memory_claim setup bytes addr)
 
 -- the area that a claim gives
 abbrev pub area_by : Option (ℕ × ℕ) → Area

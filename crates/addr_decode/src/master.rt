@@ -1,7 +1,7 @@
 //! The memory map as a bus master sees it, to which SMRAM never answers.
 ghost use Rattle.std.specs.Prelude.{◌≡◌, false};
-ghost use Rattle.board_prelude.specs.Common.{Setup, Bytes, is_in, hole_of as hole_by, row_of as row_by, is_shadowed};
-ghost use Rattle.board_prelude.specs.Common.{fdhc};
+ghost use Rattle.board_prelude.specs.Common.{Setup, Bytes, row_of as row_by, is_shadowed};
+ghost use Rattle.board_prelude.specs.Common.{is_in_hole};
 ghost use Rattle.pci_bars.specs.Cards.{AreFitted};
 ghost use Rattle.addr_decode.specs.MapRegs.{StandsFor, map_bytes};
 ghost use Rattle.addr_decode.specs.Memory.{dram_area, row_area};
@@ -43,7 +43,7 @@ fn master_area(regs: &MapRegs, addr: u32, kind: Kind) -> Area
 fn master_dram(regs: &MapRegs, addr: u32, kind: Kind) -> Option<Area>
     ensures dram { (setup : Setup) (bytes : Bytes) → StandsFor setup bytes (map_bytes regs.now)
         → result ≡ dram_area (row_by bytes addr) false
-        (is_shadowed bytes addr kind) (is_in (hole_by (bytes fdhc)) addr) addr }
+        (is_shadowed bytes addr kind) (is_in_hole bytes addr) addr }
 {
     match row_of(&regs.drb, addr) {
         Some(row) => master_row(regs, row, addr, kind),
@@ -55,7 +55,7 @@ fn master_dram(regs: &MapRegs, addr: u32, kind: Kind) -> Option<Area>
 fn master_row(regs: &MapRegs, row: u8, addr: u32, kind: Kind) -> Option<Area>
     ensures dram { (setup : Setup) (bytes : Bytes) → StandsFor setup bytes (map_bytes regs.now)
         → result ≡ row_area row false
-        (is_shadowed bytes addr kind) (is_in (hole_by (bytes fdhc)) addr) addr }
+        (is_shadowed bytes addr kind) (is_in_hole bytes addr) addr }
 {
     if SMRAM_RANGE.contains(addr) {
         return None;

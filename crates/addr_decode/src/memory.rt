@@ -1,9 +1,10 @@
 //! The memory map of the 82441FX and the 82371SB: which area an access reaches, and what denies it.
 ghost use Rattle.std.specs.Prelude.{◌≡◌, Bool, true, false, Some, None, IfSome, unwrap_or};
 ghost use Rattle.board_prelude.specs.Common.{Kind, Read, Write, Setup, Bytes, line_where, is_in, hole_of as hole_by};
-ghost use Rattle.board_prelude.specs.Common.{row_of as row_by, is_shadow_range, is_shadowed, smram_answers, area_of};
+ghost use Rattle.board_prelude.specs.Common.{row_of as row_by, is_shadow_range, is_shadowed, area_of};
 ghost use Rattle.board_prelude.specs.Common.{denial_of, denial_in as denial_by, abort_denial, rom_denial, top_of};
-ghost use Rattle.board_prelude.specs.Common.{memory_shut, rom_unselected, fdhc, smram, xbcs as select_register};
+ghost use Rattle.board_prelude.specs.Common.{memory_shut, rom_unselected, fdhc, xbcs as select_register};
+ghost use Rattle.board_prelude.specs.Common.{is_in_hole, is_smram_open};
 ghost use Rattle.board_base.specs.declared.target.Area.TheVariants.{Dram, Shadow};
 ghost use Rattle.pam_windows.specs.Pam.{IsPamOf};
 ghost use Rattle.pci_bars.specs.Cards.{AreFitted};
@@ -114,8 +115,8 @@ pub(crate) fn area_beside_dram(regs: &MapRegs, addr: u32) -> Area
 #[inline(always)]
 fn dram_area(regs: &MapRegs, addr: u32, kind: Kind, smm: bool) -> Option<Area>
     ensures dram { (setup : Setup) (bytes : Bytes) → StandsFor setup bytes (map_bytes regs.now)
-        → result ≡ dram_area (row_by bytes addr) (smram_answers (bytes smram) kind smm)
-        (is_shadowed bytes addr kind) (is_in (hole_by (bytes fdhc)) addr) addr }
+        → result ≡ dram_area (row_by bytes addr) (is_smram_open bytes kind smm)
+        (is_shadowed bytes addr kind) (is_in_hole bytes addr) addr }
 {
     match row_of(&regs.drb, addr) {
         Some(row) => row_area(regs, row, addr, kind, smm),
@@ -126,8 +127,8 @@ fn dram_area(regs: &MapRegs, addr: u32, kind: Kind, smm: bool) -> Option<Area>
 /// Where an access at an address of a row reaches DRAM.
 fn row_area(regs: &MapRegs, row: u8, addr: u32, kind: Kind, smm: bool) -> Option<Area>
     ensures dram { (setup : Setup) (bytes : Bytes) → StandsFor setup bytes (map_bytes regs.now)
-        → result ≡ row_area row (smram_answers (bytes smram) kind smm)
-        (is_shadowed bytes addr kind) (is_in (hole_by (bytes fdhc)) addr) addr }
+        → result ≡ row_area row (is_smram_open bytes kind smm)
+        (is_shadowed bytes addr kind) (is_in_hole bytes addr) addr }
 {
     if SMRAM_RANGE.contains(addr) {
         return smram_reaches(regs.smram, kind, smm).then_some(Area::Smram);

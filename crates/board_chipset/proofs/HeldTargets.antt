@@ -2,10 +2,11 @@
 use Rattle.std.proofs.Common.{◌≡◌, ℕ, ◌+◌, ◌%◌, ◌^◌, ◌≤◌, Bool, true, false, ◌&&◌, not, List, [], ◌∷◌, length, Option}
 use Rattle.std.proofs.Common.{Some, None, inl, inr, refl, sym, subst, arith, is_some, unwrap_or, option_map}
 use Rattle.board_prelude.proofs.Common.{Kind, Width, One, Dev, Reg, Area, Target, Device, Config, Card, Abort, bytes_of}
-use Rattle.board_prelude.proofs.Common.{Part, Setup, IsRomSize, IsBusAccess, is_write, fdhc, smram, xbcs, lies_in}
-use Rattle.board_prelude.proofs.Common.{upper_memory, Bytes, Window, first_of, line_where, card_area, row_of, hole_of}
-use Rattle.board_prelude.proofs.Common.{is_in, is_smram_range, is_shadowed, smram_answers, is_rom_selected}
+use Rattle.board_prelude.proofs.Common.{Part, Setup, IsRomSize, IsBusAccess, is_write, smram, lies_in}
+use Rattle.board_prelude.proofs.Common.{upper_memory, Bytes, Window, first_of, line_where, card_area, row_of}
+use Rattle.board_prelude.proofs.Common.{is_smram_range, is_shadowed}
 use Rattle.board_prelude.proofs.Common.{memory_claim, area_of, window_bits, target_at}
+use Rattle.board_prelude.proofs.Common.{is_in_hole, is_bios_selected, is_smram_open}
 use Rattle.board_base.specs.declared.access.Width.TheVariants.{Two, Four}
 use Rattle.board_base.specs.declared.access.Access.{Access}
 use Rattle.board_base.specs.declared.target.Area.TheVariants.{Dram as DramArea, Shadow as ShadowArea}
@@ -52,10 +53,10 @@ claimed :
 unfolding area_of
 claimed setup bytes addr kind smm dev base is =
     claim_line
-    (is_smram_range addr && is_some (row_of bytes addr) && smram_answers (bytes smram) kind smm)
+    (is_smram_range addr && is_some (row_of bytes addr) && is_smram_open bytes kind smm)
     (is_some (row_of bytes addr) && is_shadowed bytes addr kind)
-    (not (lies_in upper_memory addr) && is_some (row_of bytes addr) && not (is_in (hole_of (bytes fdhc)) addr))
-    (is_rom_selected (bytes xbcs) addr)
+    (not (lies_in upper_memory addr) && is_some (row_of bytes addr) && not (is_in_hole bytes addr))
+    (is_bios_selected bytes addr)
     (unwrap_or (row_of bytes addr) 0) (memory_claim setup bytes addr) dev base is
 
 -- an aligned access ends within the ROM

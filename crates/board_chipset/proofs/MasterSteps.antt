@@ -3,9 +3,10 @@ use Rattle.std.proofs.Common.{◌≡◌, ◌≢◌, ℕ, Bool, true, false, not,
 use Rattle.std.proofs.Common.{inl, inr, arith, ◌==◌, unwrap_or, option_map}
 use Rattle.board_prelude.proofs.Common.{cases_Bool, and_left, and_right, nat_tests, Kind, Area, Target, Dram, Shadow}
 use Rattle.board_prelude.proofs.Common.{Smram, Rom, Card, Device, Config, Abort, Setup, rom_base, lies_in, smram_range}
-use Rattle.board_prelude.proofs.Common.{shadow_range, upper_memory, fdhc, xbcs, Bytes, Window, first_of, line_where}
-use Rattle.board_prelude.proofs.Common.{card_area, row_of, hole_of, is_in, is_shadowed, is_rom_selected, memory_claim}
+use Rattle.board_prelude.proofs.Common.{shadow_range, upper_memory, Bytes, Window, first_of, line_where}
+use Rattle.board_prelude.proofs.Common.{card_area, row_of, is_shadowed, memory_claim}
 use Rattle.board_prelude.proofs.Common.{is_smram_range, target_at, DramCell, first_cell}
+use Rattle.board_prelude.proofs.Common.{is_in_hole, is_bios_selected}
 use Rattle.board_base.specs.declared.target.Area.TheVariants.{Dram as DramArea, Shadow as ShadowArea}
 use Rattle.board_base.specs.declared.target.Area.TheVariants.{Smram as SmramArea, Rom as RomArea, Card as CardArea}
 use Rattle.board_base.specs.declared.target.Area.TheVariants.{Abort as AbortArea}
@@ -36,8 +37,8 @@ unfolding master_area
 no_smram_area setup bytes addr kind =
     no_smram_lines (is_smram_range addr && is_some (row_of bytes addr) && false)
     (is_some (row_of bytes addr) && is_shadowed bytes addr kind)
-    (not (lies_in upper_memory addr) && is_some (row_of bytes addr) && not (is_in (hole_of (bytes fdhc)) addr))
-    (is_rom_selected (bytes xbcs) addr) (unwrap_or (row_of bytes addr) 0) (memory_claim setup bytes addr)
+    (not (lies_in upper_memory addr) && is_some (row_of bytes addr) && not (is_in_hole bytes addr))
+    (is_bios_selected bytes addr) (unwrap_or (row_of bytes addr) 0) (memory_claim setup bytes addr)
     (and_right _ _ refl)
 
 no_smram_at : (setup : Setup) (area : Area) (addr : ℕ) → IsNoSmram area → target_at setup area addr ≢ Smram
@@ -88,8 +89,8 @@ unfolding master_area
 off_dram setup bytes addr kind inside =
     off_table (is_smram_range addr && is_some (row_of bytes addr) && false)
     (is_some (row_of bytes addr) && is_shadowed bytes addr kind)
-    (not (lies_in upper_memory addr) && is_some (row_of bytes addr) && not (is_in (hole_of (bytes fdhc)) addr))
-    (is_rom_selected (bytes xbcs) addr) (unwrap_or (row_of bytes addr) 0) (memory_claim setup bytes addr)
+    (not (lies_in upper_memory addr) && is_some (row_of bytes addr) && not (is_in_hole bytes addr))
+    (is_bios_selected bytes addr) (unwrap_or (row_of bytes addr) 0) (memory_claim setup bytes addr)
     (and_right _ _ refl) (and_right _ _ (and_left _ _ (no_shadow addr inside)))
     (and_left _ _ (and_left _ _ (ap not (in_upper addr inside))))
 

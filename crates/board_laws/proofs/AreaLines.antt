@@ -2,9 +2,10 @@
 use Rattle.std.proofs.Common.{◌≡◌, ℕ, ◌<◌, Bool, true, false, not, ◌&&◌, List, [], ◌∷◌, ◌++◌, Option, Some, None}
 use Rattle.std.proofs.Common.{is_some, refl, ◌∙◌, ap, inl, inr, find, unwrap_or, All}
 use Rattle.board_prelude.proofs.Common.{cases_Bool, cond-true, cond-false, and_from, and_left, and_right, and_parts}
-use Rattle.board_prelude.proofs.Common.{not-true, All-head, All-tail, Kind, Setup, fdhc, smram, xbcs, lies_in}
-use Rattle.board_prelude.proofs.Common.{smram_range, shadow_range, upper_memory, Bytes, top_of, hole_of, is_in, row_of}
-use Rattle.board_prelude.proofs.Common.{smram_answers, is_shadowed, is_rom_selected, Window, memory_claim, area_of}
+use Rattle.board_prelude.proofs.Common.{not-true, All-head, All-tail, Kind, Setup, lies_in}
+use Rattle.board_prelude.proofs.Common.{smram_range, shadow_range, upper_memory, Bytes, top_of, row_of}
+use Rattle.board_prelude.proofs.Common.{is_shadowed, Window, memory_claim, area_of}
+use Rattle.board_prelude.proofs.Common.{is_in_hole, is_bios_selected, is_smram_open}
 use Rattle.std.proofs.lemmas.Bool.{not_from_false}
 use Rattle.board_laws.specs.AreaLaws.{IsRow, IsInSmram, IsInShadow, IsInDram, IsPastDram, claims, memory_windows_of}
 use Rattle.board_laws.specs.AreaLaws.{NoneClaims, WhoAnswers}
@@ -55,7 +56,7 @@ no_smram_line bytes addr kind smm never =
       | inl holds ↦
           let parts =
           and_parts (lies_in smram_range addr && is_some (row_of bytes addr))
-          (smram_answers (bytes smram) kind smm) holds in
+          (is_smram_open bytes kind smm) holds in
           let first = and_parts (lies_in smram_range addr) (is_some (row_of bytes addr)) parts.0 in
           absurd (never (record { range = first.0; below_top = is_some-row bytes addr first.1; opened = parts.1 }))
     ]
@@ -77,12 +78,12 @@ no_dram_line bytes addr never =
       | inl holds ↦
           let parts =
           and_parts (not (lies_in upper_memory addr) && is_some (row_of bytes addr))
-          (not (is_in (hole_of (bytes fdhc)) addr)) holds in
+          (not (is_in_hole bytes addr)) holds in
           let first = and_parts (not (lies_in upper_memory addr)) (is_some (row_of bytes addr)) parts.0 in
           absurd (never (record {
             below_top = is_some-row bytes addr first.1;
             range = not-true (lies_in upper_memory addr) first.0;
-            outside_hole = not-true (is_in (hole_of (bytes fdhc)) addr) parts.1;
+            outside_hole = not-true (is_in_hole bytes addr) parts.1;
           }))
     ]
 
@@ -126,13 +127,13 @@ area-is :
     (setup : Setup) (bytes : Bytes) (addr : ℕ) (kind : Kind) (smm : Bool) (a b c d : Bool) (row : ℕ)
     (claim : Option Window) →
     smram_line bytes addr kind smm ≡ a → shadow_line bytes addr kind ≡ b → dram_line bytes addr ≡ c →
-    is_rom_selected (bytes xbcs) addr ≡ d → unwrap_or (row_of bytes addr) 0 ≡ row → memory_claim setup bytes addr
+    is_bios_selected bytes addr ≡ d → unwrap_or (row_of bytes addr) 0 ≡ row → memory_claim setup bytes addr
     ≡ claim →
     area_of setup bytes addr kind smm ≡ table a b c d row claim
 area-is setup bytes addr kind smm a b c d row claim ea eb ec ed er e =
     area-table setup bytes addr kind smm
     ∙ table-is (smram_line bytes addr kind smm) (shadow_line bytes addr kind) (dram_line bytes addr)
-    (is_rom_selected (bytes xbcs) addr)
+    (is_bios_selected bytes addr)
     (unwrap_or (row_of bytes addr) 0) (memory_claim setup bytes addr) a b c d row claim ea eb ec ed er e
 
 row_read : (bytes : Bytes) (addr row : ℕ) → IsRow bytes addr row → unwrap_or (row_of bytes addr) 0 ≡ row
@@ -142,7 +143,7 @@ pub who_answers : WhoAnswers
 unfolding table
 who_answers setup bytes addr kind smm =
     let past_dram : (d : Bool) (claim : Option Window) → IsPastDram bytes addr kind smm →
-    is_rom_selected (bytes xbcs) addr ≡ d →
+    is_bios_selected bytes addr ≡ d →
     memory_claim setup bytes addr ≡ claim → area_of setup bytes addr kind smm
     ≡ table false false false d (unwrap_or (row_of bytes addr) 0) claim =
     λ d claim past ed e.

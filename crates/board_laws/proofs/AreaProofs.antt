@@ -2,10 +2,11 @@
 use Rattle.std.proofs.Common.{◌≡◌, ℕ, zero, suc, ◌+◌, ◌≤◌, ◌<◌, Bool, true, false, not, ◌&&◌, [], ◌∷◌, Option, Some}
 use Rattle.std.proofs.Common.{None, is_some, refl, sym, ◌∙◌, ap, subst, inl, inr, arith, nat_lt, unwrap_or, option_map}
 use Rattle.board_prelude.proofs.Common.{cases_eq, cases_lt, cond-true, cond-false, lt-ltb, le-ltb, false≢true}
-use Rattle.board_prelude.proofs.Common.{nat_tests, Kind, Area, Setup, fdhc, smram, xbcs, lies_in, smram_range}
+use Rattle.board_prelude.proofs.Common.{nat_tests, Kind, Area, Setup, lies_in, smram_range}
 use Rattle.board_prelude.proofs.Common.{shadow_range, upper_memory, Bytes, first_of, line_where, boundary, top_of}
-use Rattle.board_prelude.proofs.Common.{row_of, hole_of, is_in, smram_answers, is_smram_range, is_shadowed}
-use Rattle.board_prelude.proofs.Common.{is_rom_selected, Window, card_area, memory_claim, area_of}
+use Rattle.board_prelude.proofs.Common.{row_of, is_smram_range, is_shadowed}
+use Rattle.board_prelude.proofs.Common.{Window, card_area, memory_claim, area_of}
+use Rattle.board_prelude.proofs.Common.{is_in_hole, is_bios_selected, is_smram_open}
 use Rattle.board_base.specs.declared.target.Area.TheVariants.{Dram, Shadow, Smram, Rom, Abort}
 use Rattle.board_laws.proofs.Numbers.{numbers_from, find-number}
 use Rattle.board_laws.specs.AreaLaws.{IsRow, HasRow, RowBelowTop}
@@ -77,20 +78,20 @@ table in_smram in_shadow in_dram in_rom row claim =
 
 abbrev pub smram_line : Bytes → ℕ → Kind → Bool → Bool
 smram_line bytes addr kind smm =
-    is_smram_range addr && is_some (row_of bytes addr) && smram_answers (bytes smram) kind smm
+    is_smram_range addr && is_some (row_of bytes addr) && is_smram_open bytes kind smm
 
 abbrev pub shadow_line : Bytes → ℕ → Kind → Bool
 shadow_line bytes addr kind = is_some (row_of bytes addr) && is_shadowed bytes addr kind
 
 abbrev pub dram_line : Bytes → ℕ → Bool
 dram_line bytes addr =
-    not (lies_in upper_memory addr) && is_some (row_of bytes addr) && not (is_in (hole_of (bytes fdhc)) addr)
+    not (lies_in upper_memory addr) && is_some (row_of bytes addr) && not (is_in_hole bytes addr)
 
 pub area-table :
     (setup : Setup) (bytes : Bytes) (addr : ℕ) (kind : Kind) (smm : Bool) →
     area_of setup bytes addr kind smm
     ≡ table (smram_line bytes addr kind smm) (shadow_line bytes addr kind) (dram_line bytes addr)
-    (is_rom_selected (bytes xbcs) addr)
+    (is_bios_selected bytes addr)
     (unwrap_or (row_of bytes addr) 0) (memory_claim setup bytes addr)
 unfolding area_of table
 area-table setup bytes addr kind smm = refl

@@ -1,8 +1,9 @@
 -- Who answers at an address of memory, line by line of the memory map.
 use Rattle.std.specs.Prelude.{ℕ, ◌≡◌, ◌<◌, ◌≤◌, Bool, true, false, ◌&&◌, List, ◌∷◌, ◌++◌, All, flat_map}
-use Rattle.board_prelude.specs.Common.{Kind, Setup, fdhc, smram, xbcs, lies_in, smram_range, upper_memory, Bytes}
-use Rattle.board_prelude.specs.Common.{boundary, top_of, hole_of, is_in, smram_answers, is_shadowed, is_rom_selected}
+use Rattle.board_prelude.specs.Common.{Kind, Setup, lies_in, smram_range, upper_memory, Bytes}
+use Rattle.board_prelude.specs.Common.{boundary, top_of, is_shadowed}
 use Rattle.board_prelude.specs.Common.{Window, is_covered, is_enabled_for, memory_windows, area_of}
+use Rattle.board_prelude.specs.Common.{is_in_hole, is_bios_selected, is_smram_open}
 use Rattle.board_base.specs.declared.target.Area.TheVariants.{Dram, Shadow, Smram, Rom, Card, Abort}
 
 -- the row of DRAM in which an address lies: below the top, the first that ends above the address
@@ -16,7 +17,7 @@ pub record IsRow (bytes : Bytes) (addr row : ℕ) : Type 0 where
 pub record IsInSmram (bytes : Bytes) (addr : ℕ) (kind : Kind) (smm : Bool) : Type 0 where
   pub range : lies_in smram_range addr ≡ true
   pub below_top : addr < top_of bytes
-  pub opened : smram_answers (bytes smram) kind smm ≡ true
+  pub opened : is_smram_open bytes kind smm ≡ true
 
 -- DRAM answers at a shadow window below the top that is open
 pub record IsInShadow (bytes : Bytes) (addr : ℕ) (kind : Kind) : Type 0 where
@@ -27,7 +28,7 @@ pub record IsInShadow (bytes : Bytes) (addr : ℕ) (kind : Kind) : Type 0 where
 pub record IsInDram (bytes : Bytes) (addr : ℕ) : Type 0 where
   pub below_top : addr < top_of bytes
   pub range : lies_in upper_memory addr ≡ false
-  pub outside_hole : is_in (hole_of (bytes fdhc)) addr ≡ false
+  pub outside_hole : is_in_hole bytes addr ≡ false
 
 -- nothing of the DRAM answers
 pub record IsPastDram (bytes : Bytes) (addr : ℕ) (kind : Kind) (smm : Bool) : Type 0 where
@@ -48,7 +49,7 @@ NoneClaims bytes addr windows = All (λ window. claims bytes addr window ≡ fal
 -- nor does the ROM
 pub record IsPastRom (bytes : Bytes) (addr : ℕ) (kind : Kind) (smm : Bool) : Type 0 where
   pub past : IsPastDram bytes addr kind smm
-  pub no_rom : is_rom_selected (bytes xbcs) addr ≡ false
+  pub no_rom : is_bios_selected bytes addr ≡ false
 
 -- the area of an address: DRAM's by SMRAM, shadow window and row, else the ROM's, else the first card's that claims it
 pub record Answers (setup : Setup) (bytes : Bytes) (addr : ℕ) (kind : Kind) (smm : Bool) : Type 0 where
@@ -58,7 +59,7 @@ pub record Answers (setup : Setup) (bytes : Bytes) (addr : ℕ) (kind : Kind) (s
   pub in_dram :
       (row : ℕ) → IsRow bytes addr row → IsInDram bytes addr → area_of setup bytes addr kind smm ≡ Dram row
   pub in_rom :
-      IsPastDram bytes addr kind smm → is_rom_selected (bytes xbcs) addr ≡ true →
+      IsPastDram bytes addr kind smm → is_bios_selected bytes addr ≡ true →
       area_of setup bytes addr kind smm ≡ Rom
   pub in_card :
       (earlier later : List Window) (window : Window) → IsPastRom bytes addr kind smm →

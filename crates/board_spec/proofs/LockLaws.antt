@@ -6,11 +6,12 @@ use Rattle.board_spec.specs.Common.{AllByRecursion, Kind, WideAccess, bytes_of, 
 use Rattle.board_spec.specs.Common.{bit, is_bit, byte, reset_byte, host_bridge, is_hard_reset, config_address}
 use Rattle.board_spec.specs.Common.{config_register, config_store, register_change, covers, smram_after, byte_with}
 use Rattle.board_spec.specs.Common.{byte_of, is_config_port, Bytes, Window, first_of, line_where, card_area, row_of}
-use Rattle.board_spec.specs.Common.{hole_of, is_in, is_shadowed, is_rom_selected, memory_claim, reaches_smram}
-use Rattle.board_spec.specs.Common.{smram_answers, is_smram_range, area_under, area_of, fdhc, smram, xbcs, lies_in}
+use Rattle.board_spec.specs.Common.{is_shadowed, memory_claim, reaches_smram}
+use Rattle.board_spec.specs.Common.{is_smram_range, area_under, area_of, smram, lies_in}
 use Rattle.board_spec.specs.Common.{upper_memory, target_at, memory_answer, part_answer, IsAnswer, IsNext, IsLegal}
 use Rattle.board_spec.specs.Common.{SetsLock, NoHardReset, IsOutsideSmm, HasSmram, NamesSmram, longest_at, parts_from}
 use Rattle.board_spec.specs.Common.{parts_of, parts_list, LegalKeepsLock}
+use Rattle.board_spec.specs.Common.{is_in_hole, is_bios_selected, is_smram_open}
 use Rattle.std.proofs.lemmas.Bool.{cases_eq, cases_Bool}
 use Rattle.board_base.specs.declared.access.Access.{Access}
 use Rattle.board_base.specs.declared.target.Area.TheVariants.{Dram as DramArea, Shadow as ShadowArea}
@@ -217,11 +218,11 @@ no_smram : (setup : Setup) (bytes : Bytes) (addr : ℕ) (kind : Kind) → bit (b
     area_of setup bytes addr kind false ≢ SmramArea
 unfolding area_of IsNotSmram
 no_smram setup bytes addr kind shut =
-    let answers : smram_answers (bytes smram) kind false ≡ false =
+    let answers : is_smram_open bytes kind false ≡ false =
     rw shut (shut_answers (is_bit (bytes smram) 3) (is_bit (bytes smram) 5) kind) in
     rw answers
-    (no_smram_under (row_of bytes addr) (is_shadowed bytes addr kind) (is_in (hole_of (bytes fdhc)) addr)
-    (is_rom_selected (bytes xbcs) addr) (memory_claim setup bytes addr) addr)
+    (no_smram_under (row_of bytes addr) (is_shadowed bytes addr kind) (is_in_hole bytes addr)
+    (is_bios_selected bytes addr) (memory_claim setup bytes addr) addr)
 
 -- ---- replies
 

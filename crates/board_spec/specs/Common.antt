@@ -11,6 +11,7 @@ pub use Rattle.board_spec.specs.Decode.{is_rom_on, is_rom_selected, is_shadow_ra
 pub use Rattle.board_spec.specs.Decode.{line_where, memory_window, memory_windows, nibble, pam_register, reaches_smram}
 pub use Rattle.board_spec.specs.Decode.{rom_denial, rom_register_of, rom_value, rom_window, rom_window_of}
 pub use Rattle.board_spec.specs.Decode.{smram_answers, top_of, unselected_windows, vga_window}
+pub use Rattle.board_spec.specs.Decode.{is_bios_selected, is_in_hole, is_smram_open}
 unfoldable pub use Rattle.board_spec.specs.Decode.{area_of, denial_of, io_claim, io_shut, memory_claim, memory_shut}
 unfoldable pub use Rattle.board_spec.specs.Decode.{rom_unselected, row_of}
 pub use Rattle.board_spec.specs.DeviceLaws.{ActsOnPair, FirstLevels, IsOfMemory, MemoryLeavesDevices, NamesDevice}

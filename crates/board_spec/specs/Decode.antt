@@ -56,6 +56,10 @@ abbrev pub is_in : Option (ℕ × ℕ) → ℕ → Bool
 is_in None addr = false
 is_in (Some hole) addr = lies_in hole addr
 
+-- whether an address lies in the hole that FDHC makes
+abbrev pub is_in_hole : Bytes → ℕ → Bool
+is_in_hole bytes addr = is_in (hole_of (bytes fdhc)) addr
+
 -- ---- shadow windows (82441FX, PAM)
 
 -- PAM0's high nibble governs F0000h-FFFFFh. From C0000h on, the low and then the high nibble of PAM1 to
@@ -101,6 +105,10 @@ reaches_smram true true opened kind smm = is_fetch kind && (smm || opened)
 abbrev pub smram_answers : ℕ → Kind → Bool → Bool
 smram_answers control kind smm = reaches_smram (is_bit control 3) (is_bit control 5) (is_bit control 6) kind smm
 
+-- whether the SMRAM register lets such an access through
+abbrev pub is_smram_open : Bytes → Kind → Bool → Bool
+is_smram_open bytes kind smm = smram_answers (bytes smram) kind smm
+
 abbrev pub is_smram_range : ℕ → Bool
 is_smram_range addr = lies_in smram_range addr
 
@@ -113,6 +121,10 @@ is_rom_selected selects addr =
     || lies_in high_bios addr
     || is_bit selects 6 && (lies_in lower_bios addr || lies_in lower_high_bios addr)
     || is_bit selects 7 && lies_in extended_bios addr
+
+-- whether XBCS selects the ROM at an address
+abbrev pub is_bios_selected : Bytes → ℕ → Bool
+is_bios_selected bytes addr = is_rom_selected (bytes xbcs) addr
 
 -- ---- cards (PCI Local Bus 2.1, sections 6.2.2 and 6.2.5)
 
@@ -242,10 +254,10 @@ unfoldable pub area_of : Setup → Bytes → ℕ → Kind → Bool → Area
 area_of setup bytes addr kind smm =
     area_under
     (row_of bytes addr)
-    (smram_answers (bytes smram) kind smm)
+    (is_smram_open bytes kind smm)
     (is_shadowed bytes addr kind)
-    (is_in (hole_of (bytes fdhc)) addr)
-    (is_rom_selected (bytes xbcs) addr)
+    (is_in_hole bytes addr)
+    (is_bios_selected bytes addr)
     (memory_claim setup bytes addr)
     addr
 

@@ -2,9 +2,10 @@
 use Rattle.std.proofs.Common.{◌≡◌, ℕ, ◌+◌, ◌%◌, ◌≤◌, ◌<◌, false, not, ◌&&◌, List, length, sym, refl, arith, is_some}
 use Rattle.std.proofs.Common.{unwrap_or}
 use Rattle.board_prelude.proofs.Common.{bytes_of, Kind, Width, One, Area, Target, Dram, Shadow, Smram, Rom, Card}
-use Rattle.board_prelude.proofs.Common.{Device, Config, Abort, Setup, wide, lies_in, upper_memory, fdhc, xbcs, Bytes}
-use Rattle.board_prelude.proofs.Common.{row_of, hole_of, is_in, is_smram_range, is_shadowed, is_rom_selected}
+use Rattle.board_prelude.proofs.Common.{Device, Config, Abort, Setup, wide, lies_in, upper_memory, Bytes}
+use Rattle.board_prelude.proofs.Common.{row_of, is_smram_range, is_shadowed}
 use Rattle.board_prelude.proofs.Common.{memory_claim, target_at, Cell, DramCell, CardCell}
+use Rattle.board_prelude.proofs.Common.{is_in_hole, is_bios_selected}
 use Rattle.board_base.specs.declared.access.Width.TheVariants.{Two, Four}
 use Rattle.board_base.specs.declared.target.Area.TheVariants.{Rom as RomArea, Card as CardArea}
 use Rattle.pci_bars.specs.Cards.{AreFitted}
@@ -24,8 +25,8 @@ claimed setup bytes addr kind dev base is =
     claim_line
     (is_smram_range addr && is_some (row_of bytes addr) && false)
     (is_some (row_of bytes addr) && is_shadowed bytes addr kind)
-    (not (lies_in upper_memory addr) && is_some (row_of bytes addr) && not (is_in (hole_of (bytes fdhc)) addr))
-    (is_rom_selected (bytes xbcs) addr)
+    (not (lies_in upper_memory addr) && is_some (row_of bytes addr) && not (is_in_hole bytes addr))
+    (is_bios_selected bytes addr)
     (unwrap_or (row_of bytes addr) 0) (memory_claim setup bytes addr) dev base is
 
 module _ {setup : Setup} {bytes : Bytes} {store : Store} (is : IsStoreOf setup bytes store) where

@@ -7,8 +7,9 @@ use Rattle.board_prelude.proofs.Common.{All-tail, All-append, enumerate_from, Ba
 use Rattle.board_prelude.proofs.Common.{FittedCard, Setup, IsBase, IsCard, IsCardList, Rises, IsExpansionRom, card_at}
 use Rattle.board_prelude.proofs.Common.{window_bits, bits_of_base, Bytes, Window, is_covered, is_enabled_for, is_rom_on}
 use Rattle.board_prelude.proofs.Common.{memory_window, memory_windows, rom_window, rom_window_of, vga_window}
-use Rattle.board_prelude.proofs.Common.{memory_claim, Kind, fdhc, smram, xbcs, lies_in, upper_memory, row_of, hole_of}
-use Rattle.board_prelude.proofs.Common.{is_in, is_smram_range, is_shadowed, smram_answers, is_rom_selected, area_of}
+use Rattle.board_prelude.proofs.Common.{memory_claim, Kind, lies_in, upper_memory, row_of}
+use Rattle.board_prelude.proofs.Common.{is_smram_range, is_shadowed, area_of}
+use Rattle.board_prelude.proofs.Common.{is_in_hole, is_bios_selected, is_smram_open}
 use Rattle.board_base.specs.declared.target.Area.TheVariants.{Card as CardArea}
 use Rattle.board_chipset.proofs.HeldTargets.{IsClaim, claim_line}
 use Rattle.pci_bars.specs.Common.{IsBaseNumber}
@@ -143,9 +144,9 @@ pub card_window : (setup : Setup) (bytes : Bytes) (addr : ℕ) (kind : Kind) (sm
 unfolding area_of
 card_window setup bytes addr kind smm dev base list is =
     let claim : IsClaim (memory_claim setup bytes addr) dev base =
-    claim_line (is_smram_range addr && is_some (row_of bytes addr) && smram_answers (bytes smram) kind smm)
+    claim_line (is_smram_range addr && is_some (row_of bytes addr) && is_smram_open bytes kind smm)
     (is_some (row_of bytes addr) && is_shadowed bytes addr kind)
-    (not (lies_in upper_memory addr) && is_some (row_of bytes addr) && not (is_in (hole_of (bytes fdhc)) addr))
-    (is_rom_selected (bytes xbcs) addr) (unwrap_or (row_of bytes addr) 0) (memory_claim setup bytes addr) dev base is in
+    (not (lies_in upper_memory addr) && is_some (row_of bytes addr) && not (is_in_hole bytes addr))
+    (is_bios_selected bytes addr) (unwrap_or (row_of bytes addr) 0) (memory_claim setup bytes addr) dev base is in
     subst (λ (n : ℕ). IsWindow setup dev n) claim.3
     (subst (λ (n : ℕ). IsWindow setup n claim.0.base) claim.2 (claiming setup bytes addr claim.0 list claim.1))
