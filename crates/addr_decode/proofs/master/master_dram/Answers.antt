@@ -1,5 +1,5 @@
 use Rattle.std.proofs.Common.{◌∙◌, ap, ℕ, Option, false}
-use Rattle.board_prelude.proofs.Common.{is_in, hole_of, is_shadowed, bridge}
+use Rattle.board_prelude.proofs.Common.{is_in_hole, is_shadowed}
 use Rattle.addr_decode.specs.Memory.{dram_area}
 use Rattle.addr_decode.proofs.master.master_dram.Goals as goal
 
@@ -8,6 +8,6 @@ returns-in-Some c = record {
   dram = λ setup bytes stands.
       c.master_row.ensures.dram setup bytes stands
       ∙ ap (λ (row : Option ℕ). dram_area row false
-      (is_shadowed bytes c.args.addr c.args.kind) (is_in (hole_of (bytes (bridge 0x68))) c.args.addr) c.args.addr)
+      (is_shadowed bytes c.args.addr c.args.kind) (is_in_hole bytes c.args.addr) c.args.addr)
       (c.in-Some.ensures.row bytes stands.rows);
 }
