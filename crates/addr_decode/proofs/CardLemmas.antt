@@ -296,7 +296,7 @@ cards_beyond setup bytes at written cards each below past are = (
 
 -- ---- after a reset
 
-find_at : (cards : List FittedCard) → Rises cards → (k : ℕ) (d : FittedCard) → k < length cards →
+pub find_at : (cards : List FittedCard) → Rises cards → (k : ℕ) (d : FittedCard) → k < length cards →
     find (λ card. card.dev == (get_or cards k d).dev) cards ≡ Some (get_or cards k d)
 find_at [] rises k d within = absurd (omega arith)
 find_at (card ∷ later) rises zero d within =

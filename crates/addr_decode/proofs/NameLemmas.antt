@@ -6,7 +6,7 @@ use Rattle.std.proofs.Common.{if◌then◌else◌}
 use Rattle.board_prelude.proofs.Common.{position, AllByRecursion, list_any, and-true, and-false, cases_Bool, cases_eq}
 use Rattle.board_prelude.proofs.Common.{ne_eqb, eqb-true, nat_tests, get_or-map, Width, One, Reg, bytes_of, MapChange}
 use Rattle.board_prelude.proofs.Common.{Store, Reset, FittedCard, Setup, card_at, is_within, bridge, isa, card_register}
-use Rattle.board_prelude.proofs.Common.{has_rom, is_map_byte, reg_after, touches_map}
+use Rattle.board_prelude.proofs.Common.{has_rom, is_map_byte, reg_after, touches_map, bytes_few}
 use Rattle.std.proofs.lemmas.List.{map_more}
 use Rattle.std.proofs.lemmas.List.Quantifiers.{position-Some}
 use Rattle.std.proofs.lemmas.Option.{slice_get-get_or}
@@ -20,7 +20,7 @@ use Rattle.addr_decode.specs.declared.register.CardRegister.TheVariants.{Command
 use Rattle.addr_decode.specs.MapRegister.{place_of, IsNumbered, IsNumberedName, AreNumbered, in_bridge, in_isa_bridge}
 use Rattle.addr_decode.specs.MapRegister.{in_card, in_device, map_register, names_from, names_of}
 use Rattle.pci_bars.specs.Cards.{CardBytes, AreFitted, cards_of}
-use Rattle.addr_decode.proofs.StoreLemmas.{in_function_0, few_bytes}
+use Rattle.addr_decode.proofs.StoreLemmas.{in_function_0}
 use Rattle.addr_decode.proofs.CardLemmas.{no_low_card}
 
 -- ---- the map bytes of each function
@@ -386,7 +386,7 @@ all_numbered cards reg (k ∷ later) =
 pub names_numbered : (cards : List FittedCard) (change : MapChange) → AreNumbered (names_of cards change)
 names_numbered cards Reset = record { few = omega arith; each = tt }
 names_numbered cards (Store reg width value) = record {
-  few = omega (arith, count_names cards reg width, few_bytes width);
+  few = omega (arith, count_names cards reg width, bytes_few width);
   each = all_numbered cards reg (take (bytes_of width) offsets);
 }
 

@@ -1,15 +1,14 @@
 -- The state of the registers is spelled and read back.
 use Rattle.std.proofs.Common.{◌≡◌, ℕ, zero, suc, ◌+◌, ◌*◌, ◌^◌, ◌<◌, ◌≤◌, List, [], ◌∷◌, ◌++◌, length, Option, Some}
-use Rattle.std.proofs.Common.{None, Result, Ok, refl, sym, ap, subst, ◌∙◌, append_assoc, arith, slice_index, flat_map}
+use Rattle.std.proofs.Common.{None, Result, Ok, refl, sym, ap, subst, ◌∙◌, arith, slice_index, flat_map}
 use Rattle.std.proofs.Common.{get_or, drop, Err, false}
 use Rattle.std.proofs.lemmas.List.{drop_more}
 use Rattle.std.proofs.lemmas.List.Concat.{flat_map-cons}
 use Rattle.std.proofs.lemmas.List.Elements.{All-from_recursion}
 use Rattle.board_prelude.proofs.Common.{AllByRecursion, append-nil, get_or_past, recursion_from_All, drop_all, w32}
 use Rattle.board_prelude.proofs.Common.{to_le_bytes, FittedCard}
-use Rattle.byte_fields.specs.Fields.{then_read, gives}
 use Rattle.byte_fields.proofs.Formats.{IsFormat, format_as, then_format, last_format, done_format, plain_format}
-use Rattle.byte_fields.proofs.Loops.{with_later, with_front}
+use Rattle.byte_fields.proofs.Loops.{with_later, with_front, front_joined}
 use Rattle.byte_fields.proofs.Numbers.{Ranges, byte_within, within_format, wide32}
 use Rattle.pci_bars.specs.Cards.{CardBytes, cards_of}
 use Rattle.addr_decode.specs.declared.regs.MapRegs.{MapRegs}
@@ -20,7 +19,7 @@ use Rattle.addr_decode.specs.State.{regs_fields}
 byte_format : IsFormat 1 any_byte (λ n. n ∷ []) (Ranges 0 255)
 byte_format = byte_within 0 255 (omega arith)
 
-long_format : IsFormat 4 any_long (to_le_bytes w32) (Ranges 0 0xFFFF_FFFF)
+pub long_format : IsFormat 4 any_long (to_le_bytes w32) (Ranges 0 0xFFFF_FFFF)
 long_format = within_format wide32 0 0xFFFF_FFFF (omega arith)
 
 -- ---- the bases
@@ -318,11 +317,6 @@ regs_format fitted =
 
 -- ---- the loop over the cards
 
-joined : {A : Type 0} (front : List A) (value : A) (read : Result (List A × List ℕ) ℕ) →
-    with_front front (then_read read (λ values. gives (value ∷ values))) ≡ with_front (front ++ value ∷ []) read
-joined front value (Ok got) = ap (λ values. Ok (values, got.1)) (sym (append_assoc front (value ∷ []) got.0))
-joined front value (Err left) = refl
-
 -- one card more
 pub one_more_read :
     (fitted : List FittedCard) (i : ℕ) (own : FittedCard) (front : List CardBytes) (now after : List ℕ)
@@ -336,7 +330,7 @@ one_more_read fitted i own front now after card total below at_i is so_far =
     let step : with_front front (cards_fields (drop i fitted) now)
     ≡ with_front front (with_later (λ it. cards_fields (drop (i + 1) fitted)) card after) =
     ap (λ (rest : List FittedCard). with_front front (cards_fields rest now)) left ∙ rw is refl in
-    sym (joined front card (cards_fields (drop (i + 1) fitted) after)) ∙ (sym step ∙ so_far)
+    sym (front_joined front card (cards_fields (drop (i + 1) fitted) after)) ∙ (sym step ∙ so_far)
 
 -- a card that is bad
 pub one_bad :

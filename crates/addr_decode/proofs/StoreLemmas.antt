@@ -1,8 +1,7 @@
 -- A byte that is stored in one register leaves all others, and a register takes it under its mask.
-use Rattle.std.proofs.Common.{◌≡◌, ◌≢◌, ◌≤◌, ℕ, List, ◌<◌, false, ◌⊎◌, inl, inr, sym, ◌∙◌, ap, arith, slice_index}
-use Rattle.board_prelude.proofs.Common.{w32, to_le_bytes, cond-false, nat_tests, Width, One, bytes_of, Reg, Setup, byte}
+use Rattle.std.proofs.Common.{◌≡◌, ◌≢◌, ℕ, List, ◌<◌, false, ◌⊎◌, inl, inr, sym, ◌∙◌, ap, arith, slice_index}
+use Rattle.board_prelude.proofs.Common.{w32, to_le_bytes, cond-false, nat_tests, One, Reg, Setup, byte}
 use Rattle.board_prelude.proofs.Common.{covers, Bytes, card_register}
-use Rattle.board_base.specs.declared.access.Width.TheVariants.{Two, Four}
 use Rattle.pci_bars.proofs.BaseLemmas.{long_byte}
 use Rattle.addr_decode.specs.MapRegs.{stored}
 
@@ -19,7 +18,7 @@ pub stored-elsewhere :
     stored setup bytes at written reg ≡ bytes reg
 stored-elsewhere setup bytes at written reg apart = cond-false (covers at One reg) _ _ (not_covered at reg apart)
 
-abbrev reg_made : (dev fun off : ℕ) → Reg
+abbrev pub reg_made : (dev fun off : ℕ) → Reg
 reg_made dev fun off = record { dev = dev; fun = fun; off = off }
 
 -- a register of function 0 by its device
@@ -33,8 +32,3 @@ pub byte_in_list :
     (value k place : ℕ) (bytes : List ℕ) → place ≡ k → k < 4 → bytes ≡ to_le_bytes w32 value →
     slice_index bytes place ≡ byte value k
 byte_in_list value k place bytes same below are = rw (are, same) (long_byte value k below)
-
-pub few_bytes : (width : Width) → bytes_of width ≤ 4
-few_bytes One = omega arith
-few_bytes Two = omega arith
-few_bytes Four = omega arith

@@ -1,7 +1,7 @@
 -- A board that is fresh, and after a step.
-use Rattle.std.proofs.Common.{◌≡◌, Bool, not, ℕ, zero, suc, ◌+◌, ◌^◌, ◌<◌, List, ◌∷◌, length, inl, inr, refl, sym, ◌∙◌}
+use Rattle.std.proofs.Common.{◌≡◌, Bool, not, ℕ, ◌+◌, ◌^◌, ◌<◌, List, ◌∷◌, length, inl, inr, refl, sym, ◌∙◌}
 use Rattle.std.proofs.Common.{ap, subst, arith, get_or-set_same, get_or-set_other, ◌↔◌, Result, Ok, Err, ◌==◌}
-use Rattle.std.proofs.Common.{slice_index, slice_set, replicate}
+use Rattle.std.proofs.Common.{slice_index, slice_set}
 use Rattle.board_prelude.proofs.Common.{cases_eq, eq-eqb, ne_eqb, Entry, Setup, IsSetup, entries_by, IsLegal}
 use Rattle.board_prelude.proofs.Common.{version_of, IsAnswer, entry_limit}
 use Rattle.std.proofs.lemmas.List.Filters.{length-filter_both}
@@ -10,11 +10,6 @@ use Rattle.board_chipset.proofs.Common.{few_entries, state_of}
 use Rattle.board_core.specs.Kept.{Playing, HasPlayed}
 
 -- ---- a new board
-
-pub all_zero : (n k : ℕ) → slice_index (replicate n 0) k ≡ 0
-all_zero zero k = refl
-all_zero (suc n) zero = refl
-all_zero (suc n) (suc k) = all_zero n k
 
 -- two values that were made meet no refusal
 pub not_refused : {A B E : Type 0} {a : A} {b : B} {fault : E} {P : Type 0} →

@@ -1,12 +1,13 @@
 -- What a script may ask for at most. No list of so many items is computed: what is counted in one is counted for each
 -- length.
-use Rattle.std.proofs.Common.{ℕ, zero, suc, ◌≡◌, ◌+◌, ◌*◌, Bool, true, false, not, ◌&&◌, ◌||◌, nat_lt, Option, List, []}
-use Rattle.std.proofs.Common.{◌∷◌, length, filter, sum_by, refl, ap, ◌∙◌, arith, option_map, find}
+use Rattle.std.proofs.Common.{ℕ, zero, suc, ◌≡◌, ◌+◌, ◌*◌, Bool, true, false, ◌||◌, nat_lt, List}
+use Rattle.std.proofs.Common.{◌∷◌, length, filter, sum_by, refl, ap, ◌∙◌, arith}
 use Rattle.board_prelude.proofs.Common.{list_any, and_from, sum_by-cons, Ack, Pulses, memory_of_cards, most_statements}
 use Rattle.board_prelude.proofs.Common.{most_phases, most_pulses, most_card_memory}
-use Rattle.script_spec.specs.Common.{Item, BeginPhase, reason, is_phase, is_statement, is_cpus_above, cards_of}
-use Rattle.script_spec.specs.Common.{is_misplaced, is_repeated, lacks_setup, is_in_range, is_placed, is_there}
-use Rattle.script_spec.specs.Common.{pulses_of, passes_limits, least_reason}
+use Rattle.script_spec.specs.Common.{Item, BeginPhase, is_phase, is_statement, is_cpus_above, cards_of}
+use Rattle.script_spec.specs.Common.{is_in_range}
+use Rattle.script_spec.specs.Common.{pulses_of, passes_limits}
+use Rattle.script_spec.proofs.LeastReasons.{first_is}
 use Rattle.board_examples.specs.Limits.{asks, after_so_many, after_statements, after_phases, after_millions}
 use Rattle.board_examples.specs.Limits.{AmountBorders, AreaBorders}
 
@@ -76,21 +77,6 @@ millions (suc count) =
 
 -- ---- the least reason
 
-abbrev first_of : (a b c d e f g : Bool) → Option ℕ
-first_of a b c d e f g =
-    option_map (λ r. r.why) (find (λ r. r.holds)
-    (reason 4 a ∷ reason 5 b ∷ reason 6 c ∷ reason 7 d ∷ reason 8 e ∷ reason 9 f ∷ reason 10 g ∷ []))
-
--- where nothing else is wrong, it is that a limit is passed
-first_is :
-    (past : Bool) (items : List Item) (item : Item) →
-    is_misplaced items item ≡ false → is_repeated items item ≡ false → (is_phase item && lacks_setup items) ≡ false →
-    is_in_range item ≡ true → is_placed item ≡ true → is_there items item ≡ true → passes_limits (item ∷ items) ≡ past →
-    least_reason items item ≡ first_of false false false false false false past
-unfolding least_reason
-first_is past items item ea eb ec ed ee ef eg i =
-    first_of (ea i) (eb i) (ec i) (not (ed i)) (not (ee i)) (not (ef i)) (eg i)
-
 abbrev past : (statements phases pulses : ℕ) → Bool
 past statements phases pulses =
     nat_lt most_statements statements || nat_lt most_phases phases || nat_lt most_pulses pulses
@@ -108,7 +94,7 @@ unfolding after_statements
 statements count =
     let items : List Item = after_so_many count (asks Ack) in
     let has = acks count in
-    first_is (past (suc count) 1 0) items (asks Ack)
+    first_is false false false true true true (past (suc count) 1 0) items (asks Ack)
     (rw has.open_phase refl) refl refl refl refl
     (and_from (list_any (is_cpus_above 0) items) true has.cpus refl)
     (past_is (asks Ack ∷ items) (suc count) 1 0 (acks (suc count)))
@@ -119,7 +105,7 @@ unfolding after_phases
 phases count =
     let items : List Item = after_so_many count BeginPhase in
     let has = all_phases count in
-    first_is (past 0 (suc count + 1) 0) items BeginPhase
+    first_is false false false true true true (past 0 (suc count + 1) 0) items BeginPhase
     (rw has.open_phase refl) refl (rw has.open_phase refl) refl refl refl
     (past_is (BeginPhase ∷ items) 0 (suc count + 1) 0 (all_phases (suc count)))
 
@@ -144,7 +130,7 @@ unfolding after_millions
 pulses count more good =
     let items : List Item = after_so_many count a_million in
     let has = millions count in
-    first_is (past (suc count) 1 (more + 1_000_000 * count)) items (asks (Pulses more))
+    first_is false false false true true true (past (suc count) 1 (more + 1_000_000 * count)) items (asks (Pulses more))
     (rw has.open_phase refl) refl refl good refl
     (and_from (list_any (is_cpus_above 0) items) true has.cpus refl)
     (past_is (asks (Pulses more) ∷ items) (suc count) 1 (more + 1_000_000 * count) (with_pulses count more))

@@ -1,62 +1,31 @@
 -- The fields of a whole image.
 use Rattle.std.proofs.Common.{◌≡◌, ℕ, zero, ◌+◌, ◌%◌, ◌/◌, ◌^◌, ◌<◌, ◌≤◌, ◌↔◌, IsTrue, inl, inr, Bool, true, false}
-use Rattle.std.proofs.Common.{cond, List, [], ◌∷◌, ◌++◌, length, take, drop, Option, Some, None, Ok, Err, refl, sym, ap}
+use Rattle.std.proofs.Common.{List, [], ◌∷◌, ◌++◌, length, Option, Some, None, Ok, Err, refl, sym, ap}
 use Rattle.std.proofs.Common.{subst, ◌∙◌, append_assoc, arith, nat_le, nat_lt, ◌==◌, ◌&&◌, ◌||◌, flat_map, All, is_some}
-use Rattle.std.proofs.Common.{unwrap_or, bytes_eq}
+use Rattle.std.proofs.Common.{unwrap_or}
 use Rattle.board_prelude.proofs.Common.{AllByRecursion, w16, w32, to_le_bytes, and_from, and_parts, eq-eqb, eqb-true}
-use Rattle.board_prelude.proofs.Common.{leb-true, le-leb, ltb-true, lt-ltb, cases_Bool, false≢true, take_at, drop_at}
-use Rattle.board_prelude.proofs.Common.{take-append-drop, length-append, nil_from_length, append-nil}
-use Rattle.board_prelude.proofs.Common.{recursion_from_All, bytes_eq-Decides, Statement, Setup, IsRomSize, is_rom_size}
+use Rattle.board_prelude.proofs.Common.{leb-true, le-leb, ltb-true, lt-ltb, cases_Bool, false≢true}
+use Rattle.board_prelude.proofs.Common.{length-append, nil_from_length, append-nil}
+use Rattle.board_prelude.proofs.Common.{recursion_from_All, Statement, Setup, IsRomSize, is_rom_size}
 use Rattle.board_prelude.proofs.Common.{IsDisk, IsDiskSize, is_disk_length, most_statements, most_card_memory}
 use Rattle.std.proofs.lemmas.List.Elements.{All-from_recursion}
 use Rattle.board_image.specs.declared.head.Head.{Head}
 use Rattle.board_image.specs.Common.{Saved, magic, image_version, flag_byte, card_bytes, disk_bytes, size_bytes}
 use Rattle.board_image.specs.Common.{head_bytes, step_bytes, image_bytes, IsImageStep, IsImage, then_read, gives}
-use Rattle.board_image.specs.Common.{exactly, ended, has_disk_size, disk_where, head_fields, setup_fields, steps_fields}
+use Rattle.board_image.specs.Common.{ended, has_disk_size, disk_where, head_fields, setup_fields, steps_fields}
 use Rattle.board_image.specs.Common.{saved_fields, image_fields}
 use Rattle.byte_fields.specs.Fields.{AreBytes}
 use Rattle.byte_fields.proofs.Formats.{ok_is, not_err, err_is, then_ok, then_err, IsFormat, format_as, then_format}
 use Rattle.byte_fields.proofs.Formats.{last_format, many_format, plain_format, AreGood}
-use Rattle.byte_fields.proofs.Numbers.{Any, flag_format, wide16, wide32, byte_within, within_format, where_format}
+use Rattle.byte_fields.proofs.Numbers.{flag_format, wide16, wide32, byte_within, within_format, where_format}
 use Rattle.byte_fields.proofs.Numbers.{Ranges}
+use Rattle.byte_fields.proofs.Exactly.{exactly_format}
 use Rattle.board_image.proofs.EventFormats.{either_true}
 use Rattle.board_image.proofs.StepFormats.{step_format}
 use Rattle.board_image.proofs.CardFormats.{AreCardsOf, cards_format}
 use Rattle.board_image.proofs.ImageLoops.{same_setup, steps_loop}
 
 -- ---- fixed bytes
-
-chosen_ok : {X : Type 0} (test : Bool) (value given : X) (left : ℕ) →
-    cond test (Ok value) (Err left) ≡ Ok given → (test ≡ true) × (value ≡ given)
-chosen_ok true value given left is = (refl, ok_is value given is)
-chosen_ok false value given left is = absurd cc
-
-chosen_bad : {X : Type 0} (test : Bool) (value : X) (size left : ℕ) →
-    cond test (Ok value) (Err size) ≡ Err left → size ≡ left
-chosen_bad true value size left is = absurd cc
-chosen_bad {X} false value size left is = err_is {X = X} size left is
-
-exactly_format : (text : List ℕ) → IsFormat (length text) (exactly text) (λ done. text) Any
-exactly_format text = record {
-  back = λ done rest any.
-      let same : bytes_eq text text ≡ true = (bytes_eq-Decides text text).1 refl in
-      rw (take_at text rest (length text) refl, drop_at text rest (length text) refl, same) refl;
-  taken = λ bytes done rest are is.
-      let told = chosen_ok (bytes_eq (take (length text) bytes) text) (tt, drop (length text) bytes) (done, rest)
-      (length bytes) is in
-      let front : take (length text) bytes ≡ text = (bytes_eq-Decides (take (length text) bytes) text).0 told.0 in
-      let after : drop (length text) bytes ≡ rest = ap (λ (pair : Unit {0} × List ℕ). pair.1) told.1 in (
-        sym (take-append-drop (length text) bytes)
-            ∙ (ap (λ (front : List ℕ). front ++ drop (length text) bytes) front
-            ∙ ap (λ (last : List ℕ). text ++ last) after),
-        tt,
-      );
-  bad = λ bytes left are is.
-      let same = chosen_bad (bytes_eq (take (length text) bytes) text) (tt, drop (length text) bytes) (length bytes)
-      left is in
-      (omega (arith, same), omega (arith, same));
-  size = λ done any. omega arith;
-}
 
 -- ---- the head
 

@@ -26,7 +26,7 @@ fn base_in(room: u32, byte: u8) -> Option<BaseSpec>
     ensures base { IfSome result (λ base. IsBase (base_of base)) }
 {
     let base = base_of_byte(byte);
-    if is_base(base) && memory_size(base) <= room {
+    if is_base(base) && base.memory_size() <= room {
         Some(base)
     } else {
         None
@@ -46,17 +46,6 @@ fn base_of_byte(byte: u8) -> BaseSpec
     BaseSpec::Memory(byte)
 }
 
-/// The bytes of memory that the board keeps for a base.
-fn memory_size(base: BaseSpec) -> u32
-    requires base { IsBase (base_of base) }
-    ensures size { result ≡ memory_size (base_of base) }
-{
-    match base {
-        BaseSpec::Memory(bits) => 1 << bits,
-        BaseSpec::Io(_) | BaseSpec::Outside(_) => 0,
-    }
-}
-
 /// Reads a base, and takes the memory that it wants from the room.
 fn base(fields: &mut Fields, room: &mut u32) -> Result<BaseSpec, Bad>
     ensures took { Took base_of result fields.new (number w8 (base_in room.old) fields.old) }
@@ -66,7 +55,7 @@ fn base(fields: &mut Fields, room: &mut u32) -> Result<BaseSpec, Bad>
     let said = base_in(*room, byte);
     fields.past(1, said.is_some())?;
     let base = said.unwrap();
-    *room -= memory_size(base);
+    *room -= base.memory_size();
     Ok(base)
 }
 

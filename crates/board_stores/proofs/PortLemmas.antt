@@ -3,7 +3,7 @@ use Rattle.std.proofs.Common.{◌≡◌, ℕ, zero, suc, ◌+◌, ◌-◌, ◌/�
 use Rattle.std.proofs.Common.{map, inl, inr, refl, sym, ◌∙◌, ap, subst, arith, ◌==◌, nat_le, All}
 use Rattle.std.proofs.Math.Nat.{zero-div, zero-mod}
 use Rattle.board_prelude.proofs.Common.{cases_Bool, cases_eq, ne_eqb, nat_tests, All-nil, All-cons, All-head, All-tail}
-use Rattle.board_prelude.proofs.Common.{Width, One, PortAccess, WideAccess, bytes_of, some_bytes, FitsAccess}
+use Rattle.board_prelude.proofs.Common.{Width, One, PortAccess, WideAccess, bytes_of, some_bytes, FitsAccess, bytes_few}
 use Rattle.board_prelude.proofs.Common.{IsBusAccess, longest_at, part_at, parts_from, parts_of}
 use Rattle.board_base.specs.declared.access.Width.TheVariants.{Two, Four}
 use Rattle.board_base.specs.declared.access.Access.{Access}
@@ -71,14 +71,9 @@ each_from access (suc most) addr left =
           (each_from access most (addr + bytes_of width) (left - bytes_of width)))
     ]
 
-four_most : (width : Width) → bytes_of width ≤ 4
-four_most One = omega arith
-four_most Two = omega arith
-four_most Four = omega arith
-
 are_cycles : (access : PortAccess) → AreCyclesOf access (port_cycles access)
 are_cycles access = record {
-  covers = follow_from access 4 access.port (bytes_of access.width) (four_most access.width);
+  covers = follow_from access 4 access.port (bytes_of access.width) (bytes_few access.width);
   each = each_from access 4 access.port (bytes_of access.width);
 }
 

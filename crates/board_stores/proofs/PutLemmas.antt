@@ -1,10 +1,10 @@
 -- Bytes that are put into the stores one after the other.
-use Rattle.std.proofs.Common.{◌≡◌, ℕ, suc, ◌+◌, ◌<◌, List, [], ◌∷◌, length, get_or, drop, Option, Some, None, inl, inr}
+use Rattle.std.proofs.Common.{◌≡◌, ℕ, suc, ◌+◌, ◌<◌, List, [], ◌∷◌, length, get_or, drop, Option, None, inl, inr}
 use Rattle.std.proofs.Common.{refl, ◌∙◌, ap, arith, unwrap_or}
 use Rattle.board_prelude.proofs.Common.{drop-cons, nil_from_length, option_or, Width, Target, Dram, Shadow, Smram, Rom}
 use Rattle.board_prelude.proofs.Common.{Card, Device, Config, Abort, Cell, DramCell, CardCell, memory_put, parts_put}
 use Rattle.pci_bars.specs.Contents.{held, held_byte}
-use Rattle.dram_store.proofs.DramLemmas.{HasPut, put_then as dram_then}
+use Rattle.dram_store.proofs.DramLemmas.{HasPut, put_then as dram_then, later_first}
 use Rattle.board_stores.specs.declared.stores.Stores.{Stores}
 use Rattle.board_stores.specs.declared.cut.Cycle.{Cycle}
 use Rattle.board_stores.specs.Common.{IsHeld, ArePut, IsReady, accesses, answers}
@@ -16,11 +16,6 @@ put_nothing stores = record {
   sizes = λ dev base. refl;
   contents = λ dev base off number within. refl;
 }
-
-later_first :
-    (later first : Option ℕ) (old : ℕ) → unwrap_or later (unwrap_or first old) ≡ unwrap_or (option_or later first) old
-later_first None first old = refl
-later_first (Some byte) first old = refl
 
 in_dram :
     (put : Cell → Option ℕ) (old new : Stores) → ArePut put old new →

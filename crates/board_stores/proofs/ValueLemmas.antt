@@ -103,7 +103,7 @@ card_below setup history dev base off =
 
 -- ---- what is read
 
-wide_below :
+pub wide_below :
     (byte_of : ℕ → ℕ) (from : ℕ) (width : Width) → ((at : ℕ) → byte_of at < 256) →
     wide byte_of from width < 256 ^ bytes_of width
 wide_below byte_of from One below = below from

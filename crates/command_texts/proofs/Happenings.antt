@@ -1,6 +1,7 @@
 -- What happens to a board with a serial port, one thing after another.
 use Rattle.std.proofs.Common.{◌≡◌, ℕ, Bool, List, [], ◌∷◌, ◌++◌, length, map, reverse, inl, inr, refl, sym, ap, subst}
 use Rattle.std.proofs.Common.{◌∙◌, append-nil, append_assoc}
+use Rattle.board_spec.proofs.OrderLawProofs.{statements-append}
 use Rattle.board_prelude.proofs.Common.{cases_Bool, length-map, length-reverse, nil_from_length, Event, Line, Entry}
 use Rattle.board_prelude.proofs.Common.{Statement, IsAnswer, reset_control, is_hard_reset, statement_of, statements_of}
 use Rattle.board_core.specs.Kept.{Standing}
@@ -10,7 +11,7 @@ use Rattle.uart_16550.specs.declared.com1.Happening.TheVariants.{Comes, Happens}
 use Rattle.uart_16550.specs.Common.{received, differ, com1_actor, com1_at_reset, com1_irq, level_of, line_steps}
 use Rattle.uart_16550.specs.Common.{change_steps, com1_after, board_steps, Serial, GoesOnBy, IsLeftAt, IsLeftAfter}
 use Rattle.uart_16550.specs.Common.{Sending, sending_after, sent_by, bytes_sent, steps_for, after_all}
-use Rattle.uart_16550.proofs.Common.{control_follows, statements_joined}
+use Rattle.uart_16550.proofs.Common.{control_follows}
 use Rattle.command_texts.specs.Common.{steps_for_all, IsStanding, Happened, port_of}
 
 -- ---- lists of happenings, cut
@@ -67,7 +68,7 @@ steps_added : (before after : List Entry) (steps : List Statement) → GoesOnBy 
     statements_of after ≡ statements_of before ++ steps
 steps_added before after steps goes_on =
     ap statements_of goes_on.grows
-    ∙ (statements_joined goes_on.more before
+    ∙ (statements-append goes_on.more before
     ∙ ap (λ (list : List Statement). statements_of before ++ list) goes_on.same)
 
 -- ---- the reset control register

@@ -1,9 +1,9 @@
 -- The words that ask for a command are those that a user writes.
 use Rattle.std.proofs.Common.{◌≡◌, ℕ, ◌%◌, inl, inr, eqb, leb, cond, Bool, true, false, List, [], ◌∷◌, Option, Some}
 use Rattle.std.proofs.Common.{None, refl, sym, ap, ◌∙◌, subst, arith, codes, decimal, bytes_eq}
-use Rattle.std.proofs.lemmas.Bool.{cases_Bool, leb-true, le-leb, eqb-true, eq-eqb}
+use Rattle.std.proofs.lemmas.Bool.{cases_Bool, leb-true, le-leb, eqb-true, eq-eqb, and_parts}
 use Rattle.script_spec.specs.Common.{IsDecimal, parse_decimal, parse_hex}
-use Rattle.script_spec.proofs.Common.{some_is, guarded, then_said, both, word_is, decimal_read, decimal_back}
+use Rattle.script_spec.proofs.Common.{some_is, guarded, then_said, word_is, decimal_read, decimal_back}
 use Rattle.make_script.specs.Laws.{most_rounds}
 use Rattle.command_words.specs.declared.transfer.Transfer.{Transfer}
 use Rattle.command_words.specs.Words.{Command, Replay, Run, Map, Check, Make, Dma, Save, Resume, Serial, Blame}
@@ -43,7 +43,7 @@ make_read (word ∷ []) command e =
     let count = then_said (parse_decimal word) (λ count. cond (is_round_count count) (Some (Make count)) None) command
     e in
     let few = guarded (is_round_count count.0) (Some (Make count.0)) command count.2 in
-    let ends = both (leb 1 count.0) (leb count.0 most_rounds) few.0 in
+    let ends = and_parts (leb 1 count.0) (leb count.0 most_rounds) few.0 in
     subst (Asks (codes "make" ∷ word ∷ [])) (some_is (Make count.0) command few.1) (
       (leb-true 1 count.0 ends.0, leb-true count.0 most_rounds ends.1),
       ap (λ (last : List ℕ). codes "make" ∷ last ∷ []) (decimal_read word count.0 count.1).0,
@@ -52,9 +52,9 @@ make_read (word ∷ more ∷ rest) command e = absurd (cc e)
 
 transfer_is : (transfer : Transfer) → is_transfer transfer ≡ true → IsTransfer transfer
 transfer_is transfer e =
-    let three = both _ (leb transfer.count 256) e in
-    let two = both _ (leb 1 transfer.count) three.0 in
-    let one = both (eqb (transfer.table % 4) 0) (leb transfer.lba 65_535) two.0 in
+    let three = and_parts _ (leb transfer.count 256) e in
+    let two = and_parts _ (leb 1 transfer.count) three.0 in
+    let one = and_parts (eqb (transfer.table % 4) 0) (leb transfer.lba 65_535) two.0 in
     record {
       aligned = eqb-true (transfer.table % 4) 0 one.0;
       sector = leb-true transfer.lba 65_535 one.1;

@@ -5,6 +5,7 @@ use Rattle.std.proofs.lemmas.List.Quantifiers.{position-Some}
 use Rattle.board_prelude.proofs.Common.{position, eqb-true, Width, One, Reg, bytes_of, wide}
 use Rattle.board_base.specs.declared.access.Width.TheVariants.{Two, Four}
 use Rattle.pci_bars.specs.Cards.{CardBytes}
+use Rattle.addr_decode.proofs.StoreLemmas.{reg_made}
 
 -- ---- a card by its place
 
@@ -30,10 +31,6 @@ wide_shifted f g at Two same =
 wide_shifted f g at Four same =
     let none : at + 0 ≡ at = omega arith in
     rw (same 0 (omega arith), same 1 (omega arith), same 2 (omega arith), same 3 (omega arith), none) refl
-
--- a register of a function
-abbrev reg_made : (dev fun off : ℕ) → Reg
-reg_made dev fun off = record { dev = dev; fun = fun; off = off }
 
 pub of_device : (reg : Reg) (dev : ℕ) → reg.dev ≡ dev → reg_made dev reg.fun reg.off ≡ reg
 of_device reg dev is = ap (λ (d : ℕ). reg_made d reg.fun reg.off) (sym is)

@@ -1,6 +1,7 @@
 -- Where a walk stops, the bytes leave the logs of the script.
 use Rattle.std.proofs.Common.{ℕ, ◌≡◌, ◌≢◌, ◌+◌, List, [], ◌∷◌, ◌++◌, length, reverse, All, refl, sym, ap, ◌∙◌, subst}
 use Rattle.std.proofs.Common.{append_assoc, append-nil, arith}
+use Rattle.board_spec.proofs.ReplayLaws.{legal_before}
 use Rattle.board_prelude.proofs.Common.{All-nil, Entry, Statement, Setup, IsLegal, IsBegunFor, IsCompleteFor}
 use Rattle.board_prelude.proofs.Common.{in_file_order, IsAddressed, OneReplay, line_feed, line_text, lines_text}
 use Rattle.board_prelude.proofs.Common.{log_text, complete_is_begun, none_so_far}
@@ -10,7 +11,7 @@ use Rattle.log_check.specs.Common.{IsTyped, GoesOnWithNone, StopsAt}
 use Rattle.log_check.proofs.TextCuts.{cut_line}
 use Rattle.log_check.proofs.LogLines.{heading_whole, heading-log, log_parts, lines_from, newest_last, lines_left}
 use Rattle.log_check.proofs.LogLines.{log_joined, lined, one_line_more}
-use Rattle.log_check.proofs.Histories.{no_line, legal_front, begun_front, Extends, extends, completed}
+use Rattle.log_check.proofs.Histories.{no_line, begun_front, Extends, extends, completed}
 use Rattle.logs_and_maps.specs.Reading.{heading}
 
 -- what is known of a script
@@ -54,7 +55,7 @@ no_more setup phases history whole rest this after (next ∷ later) none single 
     let cut : (this ≡ line_text n next) × (rest ≡ lines_from n later) =
     cut_line this (line_text n next) rest (lines_from n later) single (line_whole n next) text in
     let longer : whole ≡ reverse later ++ (next ∷ history) = is ∙ newest_last next later history in
-    none next after (legal_front setup (reverse later) (next ∷ history) (subst (IsLegal setup) longer legal)).0
+    none next after (legal_before setup (reverse later) (next ∷ history) (subst (IsLegal setup) longer legal)).0
     (begun_front phases (reverse later) (next ∷ history) (subst (IsBegunFor phases) longer begun))
     (ap (λ (line : List ℕ). line ++ line_feed ∷ after) cut.0)
 
@@ -69,7 +70,7 @@ no_log setup phases history whole rest [] none unfinished legal complete is text
 no_log setup phases history whole rest (next ∷ later) none unfinished legal complete is text =
     let longer : whole ≡ reverse later ++ (next ∷ history) = is ∙ newest_last next later history in
     none next (lines_from (length history + 1) later)
-    (legal_front setup (reverse later) (next ∷ history) (subst (IsLegal setup) longer legal)).0
+    (legal_before setup (reverse later) (next ∷ history) (subst (IsLegal setup) longer legal)).0
     (begun_front phases (reverse later) (next ∷ history)
     (subst (IsBegunFor phases) longer (complete_is_begun phases whole complete)))
     text

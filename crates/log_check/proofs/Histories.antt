@@ -1,6 +1,7 @@
 -- A history that begins with the lines of another goes on from it, and a begun history can be completed.
 use Rattle.std.proofs.Common.{ℕ, zero, suc, ◌≡◌, ◌+◌, ◌-◌, ◌<◌, List, [], ◌∷◌, ◌++◌, length, reverse, All, refl, sym}
 use Rattle.std.proofs.Common.{ap, ◌∙◌, subst, inl, append-nil, add-one, arith, decimal}
+use Rattle.board_spec.proofs.ReplayLaws.{legal_before}
 use Rattle.board_prelude.proofs.Common.{reverse-reverse, Entry, Statement, Setup, IsLegal, IsBegunFor, IsCompleteFor}
 use Rattle.board_prelude.proofs.Common.{in_file_order, IsAddressed, OneReplay, space, line_feed, line_text, lines_text}
 use Rattle.board_prelude.proofs.Common.{front_is_begun, begun_is_bounded, whole_is_complete, complete_is_whole}
@@ -38,10 +39,6 @@ same_actor n left right l r same = sym (actor_read n left l) ∙ ap actor_of sam
 
 -- ---- fronts
 
-pub legal_front : (setup : Setup) (more history : List Entry) → IsLegal setup (more ++ history) → IsLegal setup history
-legal_front setup [] history legal = legal
-legal_front setup (entry ∷ more) history legal = legal_front setup more history legal.1
-
 pub begun_front :
     (phases : List (List Statement)) (more history : List Entry) → IsBegunFor phases (more ++ history) →
     IsBegunFor phases history
@@ -75,7 +72,7 @@ extends_step one setup phases entry before whole rest (next ∷ later) typed leg
     text in
     let longer : whole ≡ reverse later ++ (next ∷ before) = is ∙ newest_last next later before in
     let other : IsLegal setup (next ∷ before) =
-    legal_front setup (reverse later) (next ∷ before) (subst (IsLegal setup) longer all) in
+    legal_before setup (reverse later) (next ∷ before) (subst (IsLegal setup) longer all) in
     let others : IsBegunFor phases (next ∷ before) =
     begun_front phases (reverse later) (next ∷ before) (subst (IsBegunFor phases) longer wholly) in
     let actor : entry.actor ≡ next.actor =

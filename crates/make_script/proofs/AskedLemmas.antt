@@ -2,6 +2,7 @@
 use Rattle.std.proofs.Common.{ℕ, ◌≡◌, ◌+◌, ◌*◌, ◌<◌, ◌≤◌, Bool, true, false, ◌&&◌, ◌||◌, not, ltb, None, List, [], ◌∷◌}
 use Rattle.std.proofs.Common.{◌++◌, length, map, filter, sum_by, All, refl, sym, ap, ◌∙◌, inl, inr, append_assoc}
 use Rattle.std.proofs.Common.{append-nil, arith, option_map, decimal}
+use Rattle.std.proofs.lemmas.Bool.{not_from_true}
 use Rattle.board_prelude.proofs.Common.{find, list_any, AllZip, onto_first, list_all, le-ltb, and_from, and_parts}
 use Rattle.board_prelude.proofs.Common.{reverse-append, All-head, All-tail, sum_by-cons, Statement, memory_of_cards}
 use Rattle.board_prelude.proofs.Common.{space, line_feed, event_text}
@@ -115,9 +116,6 @@ placed-after : (before : List Item) (statement : Statement) → list_any is_phas
     → is_misplaced before (Ask statement) ≡ false
 placed-after before statement begun = rw begun refl
 
-not-so : (b : Bool) → b ≡ true → not b ≡ false
-not-so b holds = rw holds refl
-
 no-reason : (count : ℕ) (before : List Item) (statement : Statement) → AreAsked count before → IsFine statement
     → count + 1 ≤ 250_000 → least_reason before (Ask statement) ≡ None
 unfolding least_reason
@@ -126,9 +124,9 @@ no-reason count before statement has fine few =
     all-false (is_misplaced before item) (is_repeated before item) (is_phase item && lacks_setup before)
     (not (is_in_range item)) (not (is_placed item)) (not (is_there before item)) (passes_limits (item ∷ before))
     (placed-after before statement has.begun) refl refl
-    (not-so (is_in_range item) fine.range)
-    (not-so (is_placed item) fine.placed)
-    (not-so (is_there before item) (and_from (list_any (is_cpus_above statement.actor) before)
+    (not_from_true (is_in_range item) fine.range)
+    (not_from_true (is_placed item) fine.placed)
+    (not_from_true (is_there before item) (and_from (list_any (is_cpus_above statement.actor) before)
     (is_card_there before statement.event) (has.cpus statement.actor fine.actor) (fine.card before)))
     (within-limits (count + 1) (item ∷ before) (asked-more count before statement has fine) few)
 

@@ -1,14 +1,15 @@
 -- The last covers of a store, register by register.
 use Rattle.std.proofs.Common.{◌≡◌, ℕ, zero, suc, ◌+◌, ◌<◌, ◌≤◌, inl, inr, Bool, true, false, ◌||◌, ◌&&◌, List, [], ◌∷◌}
-use Rattle.std.proofs.Common.{length, get_or, take, refl, sym, ap, ◌∙◌, arith, ◌==◌, nat_le, nat_lt, Option, Some, None}
+use Rattle.std.proofs.Common.{length, take, refl, sym, ap, ◌∙◌, arith, ◌==◌, nat_le, nat_lt, Option, Some, None}
 use Rattle.std.proofs.Common.{is_some, find, slice_index_or, replicate, option_and_then, if◌then◌else◌}
-use Rattle.board_prelude.proofs.Common.{option_or, AllByRecursion, list_any, cases_Bool, eqb-true, false≢true}
+use Rattle.board_prelude.proofs.Common.{option_or, AllByRecursion, list_any, cases_Bool, eqb-true, false≢true, or-false}
 use Rattle.board_prelude.proofs.Common.{nat_tests, get_or-take, length-take, recursion_from_All, list_any_at, Width}
 use Rattle.board_prelude.proofs.Common.{One, Reg, MapChange, Store, Reset, FittedCard, Setup, IsCard, IsCardList}
 use Rattle.board_prelude.proofs.Common.{card_at, is_within, is_same, covers, has_rom, is_map_byte, reg_after}
 use Rattle.board_prelude.proofs.Common.{touches_map}
 use Rattle.std.specs.Bool.{then_some}
 use Rattle.std.proofs.lemmas.List.Folds.{list_any_more}
+use Rattle.addr_decode.proofs.NameLemmas.{offsets, offset_at}
 use Rattle.map_blame.specs.declared.covers.Covers.{Covers}
 use Rattle.map_blame.specs.Common.{last_cover, first_lock, locks, AreCoversOf, is_placed, place_of, number_at}
 
@@ -124,32 +125,18 @@ map_byte_placed setup reg cards is =
 
 -- ---- the bytes of a store
 
-pub or_nothing : (b : Bool) → (b || false) ≡ b
-or_nothing true = refl
-or_nothing false = refl
-
 pub touches_one : (setup : Setup) (reg : Reg) → touches_map setup (Store reg One 0) ≡ is_map_byte setup reg
 touches_one setup reg =
     let same : reg.off + 0 ≡ reg.off = omega arith in
-    or_nothing (is_map_byte setup (reg_after reg 0)) ∙ ap (λ (off : ℕ). is_map_byte setup (record reg { off = off }))
+    or-false (is_map_byte setup (reg_after reg 0)) ∙ ap (λ (off : ℕ). is_map_byte setup (record reg { off = off }))
     same
-
-abbrev pub offsets : List ℕ
-offsets = 0 ∷ 1 ∷ 2 ∷ 3 ∷ []
-
-offset_is : (k : ℕ) → k < 4 → get_or offsets k 0 ≡ k
-offset_is zero below = refl
-offset_is (suc zero) below = refl
-offset_is (suc (suc zero)) below = refl
-offset_is (suc (suc (suc zero))) below = refl
-offset_is (suc (suc (suc (suc k)))) below = absurd (omega (arith, below))
 
 pub any_next : (test : ℕ → Bool) (k : ℕ) → k < 4 → list_any test (take k offsets) ≡ false → test k ≡ false →
     list_any test (take (k + 1) offsets) ≡ false
-any_next test k below none other = rw (list_any_more test offsets k 0 below, none, offset_is k below, other) refl
+any_next test k below none other = rw (list_any_more test offsets k 0 below, none, offset_at k below, other) refl
 
 pub any_at : (test : ℕ → Bool) (count k : ℕ) → count ≤ 4 → k < count → test k ≡ true →
     list_any test (take count offsets) ≡ true
 any_at test count k few below is =
     list_any_at test (take count offsets) k 0 (omega (arith, below, few, length-take count offsets))
-    (ap test (get_or-take count offsets k 0 below ∙ offset_is k (omega (arith, few, below))) ∙ is)
+    (ap test (get_or-take count offsets k 0 below ∙ offset_at k (omega (arith, few, below))) ∙ is)

@@ -5,7 +5,7 @@ use Rattle.std.proofs.Common.{Some, None, bit_and, bit_or, if◌then◌else◌}
 use Rattle.board_prelude.proofs.Common.{option_or, and_zero_r, cases_Bool, cases_lt, eqb-true, and_parts, false≢true}
 use Rattle.board_prelude.proofs.Common.{nat_tests, Width, Reg, MapChange, Store, Reset, Setup, bit, is_bit, byte}
 use Rattle.board_prelude.proofs.Common.{merged, smram, is_same, writable_bits, covers, smram_after, changed_byte}
-use Rattle.board_prelude.proofs.Common.{is_map_byte, registers_after}
+use Rattle.board_prelude.proofs.Common.{is_map_byte, registers_after, or_right, or-false}
 use Rattle.std.specs.Int.Bits.{and_self}
 use Rattle.std.proofs.lemmas.Nat.{or_comm, and_assoc, and_or_apart}
 use Rattle.std.proofs.lemmas.Grind.{and-not_self}
@@ -60,14 +60,6 @@ write_same : (old other written : ℕ) → is_bit old 4 ≡ is_bit other 4 →
 write_same old other written same =
     ap (λ (lock : ℕ). (1 - max lock (bit written 4)) * bit written 6 * 0x40 + bit written 5 * 0x20
     + max lock (bit written 4) * 0x10 + bit written 3 * 0x08 + 0x02) (bit_of_test old other 4 same)
-
-or_false : (b : Bool) → (b || false) ≡ b
-or_false true = refl
-or_false false = refl
-
-or_true : (a b : Bool) → b ≡ true → (a || b) ≡ true
-or_true true b is = refl
-or_true false b is = is
 
 -- ---- the numbers of the changes since the last reset
 
@@ -234,7 +226,7 @@ module _ (setup : Setup) (keep : List ℕ) where
       is_locked (changed_byte setup (Store at width value) smram old) ≡ (is_locked old || locks (Store at width value))
   is_locked_after at width value old = elim (cases_Bool (covers at width smram)) [
     | inl covered ↦ rw covered (lock_of_write old (byte value (smram.off - at.off)))
-    | inr other ↦ rw other (sym (or_false (is_locked old)))
+    | inr other ↦ rw other (sym (or-false (is_locked old)))
   ]
 
   -- once it is locked it stays so
@@ -249,7 +241,7 @@ module _ (setup : Setup) (keep : List ℕ) where
         | inl earlier ↦
             let old : is_locked (value_after before smram) ≡ true = locked_since before number earlier in
             after ∙ rw old refl
-        | inr here ↦ after ∙ or_true (is_locked (value_after before smram)) _ (where_true _ _ number here.1).0
+        | inr here ↦ after ∙ or_right (is_locked (value_after before smram)) _ (where_true _ _ number here.1).0
       ]
 
   -- the first lock is chosen
@@ -280,7 +272,7 @@ module _ (setup : Setup) (keep : List ℕ) where
     | inl sets ↦ absurd (false≢true (sym none ∙ first_chosen at width value before e sets has))
     | inr clear ↦
         let old : Bool = is_locked (value_after before smram) in
-        sym (is_locked_after at width value (value_after before smram) ∙ ap (λ b. old || b) clear ∙ or_false old)
+        sym (is_locked_after at width value (value_after before smram) ∙ ap (λ b. old || b) clear ∙ or-false old)
   ]
 
   lock_same : (changes : List MapChange) → Since changes → HasLock changes →

@@ -5,19 +5,16 @@ use Rattle.std.proofs.Common.{None}
 use Rattle.board_prelude.proofs.Common.{list_any, AllPairs, cases_Bool, cases_lt, eq-eqb, eqb-true, and_parts, and_from}
 use Rattle.board_prelude.proofs.Common.{false≢true, nat_tests, get_or_default, length-reverse, list_any_at, Width, One}
 use Rattle.board_prelude.proofs.Common.{Reg, bytes_of, bytes_few, MapChange, Store, Reset, Setup, IsCardList, bridge}
-use Rattle.board_prelude.proofs.Common.{covers, is_map_byte, reg_after}
+use Rattle.board_prelude.proofs.Common.{covers, is_map_byte, reg_after, or_right, or-false}
 use Rattle.std.proofs.lemmas.List.{get_or-reverse}
 use Rattle.std.proofs.lemmas.List.Folds.{list_any-append}
 use Rattle.std.proofs.lemmas.List.Quantifiers.{all_pairs_push}
+use Rattle.addr_decode.proofs.NameLemmas.{offsets}
 use Rattle.map_blame.specs.declared.covers.Covers.{Covers}
 use Rattle.map_blame.specs.Common.{last_cover, first_lock, locks, is_among, IsLastCover, RestsOn, IsKeep, AreCoversOf}
 use Rattle.map_blame.specs.Common.{is_number, number_at, is_last_at, is_last_of, is_kept_of}
-use Rattle.map_blame.proofs.CoverLemmas.{map_byte_placed, or_nothing, offsets, any_at}
+use Rattle.map_blame.proofs.CoverLemmas.{map_byte_placed, any_at}
 use Rattle.map_blame.proofs.KeepLaws.{some_is, or_cases, where_true}
-
-or_right : (a b : Bool) → b ≡ true → (a || b) ≡ true
-or_right true b is = refl
-or_right false b is = is
 
 -- ---- the change of a number
 
@@ -210,7 +207,7 @@ among_pushed : (number next : ℕ) (keep : List ℕ) →
     is_among number (keep ++ next ∷ []) ≡ (is_among number keep || next == number)
 among_pushed number next keep =
     list_any-append (λ other. other == number) keep (next ∷ [])
-    ∙ ap (λ b. is_among number keep || b) (or_nothing (next == number))
+    ∙ ap (λ b. is_among number keep || b) (or-false (next == number))
 
 among_either : (number next : ℕ) (keep : List ℕ) → is_among number (keep ++ next ∷ []) ≡ true →
     (is_among number keep ≡ true) ⊎ (next ≡ number)

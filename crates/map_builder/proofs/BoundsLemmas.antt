@@ -11,9 +11,9 @@ use Rattle.addr_decode.specs.declared.register.MapRegister.TheVariants.{Card}
 use Rattle.addr_decode.specs.declared.register.CardRegister.{CardRegister}
 use Rattle.addr_decode.specs.declared.register.CardRegister.TheVariants.{Command, Base, ExpansionRom}
 use Rattle.addr_decode.specs.MapRegister.{map_register}
+use Rattle.addr_decode.proofs.NameLemmas.{offsets}
 use Rattle.map_builder.specs.Changed.{decoded, base_windows, pam_windows, card_windows, register_windows, name_windows}
 use Rattle.map_builder.specs.Changed.{windows_of, windows_covered, after, changed_windows, both, joined, bounds}
-use Rattle.map_builder.proofs.WindowLemmas.{offsets}
 
 abbrev pub IsOrdered : Changed → Type 0
 IsOrdered window = window.lo ≤ window.hi

@@ -2,6 +2,7 @@
 use Rattle.std.proofs.Common.{◌≡◌, ℕ, zero, suc, ◌+◌, ◌<◌, ◌≤◌, Bool, true, false, inl, inr, List, [], ◌∷◌, ◌++◌}
 use Rattle.std.proofs.Common.{length, get_or, take, Option, Some, None, refl, sym, ◌∙◌, ap, subst, arith, IfSome, ◌||◌}
 use Rattle.std.proofs.Common.{not, flat_map, is_some, map}
+use Rattle.board_spec.proofs.FlatMapLaws.{tiles_below}
 use Rattle.board_prelude.proofs.Common.{cases_Bool, true≢false, not-true, append-nil, list_any, Width, One, Reg}
 use Rattle.board_prelude.proofs.Common.{MapChange, Store, Reset, FittedCard, Setup, IsCardList, largest_top}
 use Rattle.board_prelude.proofs.Common.{touches_map, reg_after, bytes_of, Bytes, top_of, address_count, six_areas}
@@ -15,9 +16,8 @@ use Rattle.addr_decode.specs.Common.{is_of_card, map_register, names_from, names
 use Rattle.map_builder.specs.declared.range.Changed.{Changed}
 use Rattle.map_builder.specs.Changed.{register_windows}
 use Rattle.map_builder.specs.Common.{next_version, IsOfSomeBoard, IsMapOf, IsMapWhere, IsBeside, sorted, Rise, rows_in}
-use Rattle.map_builder.specs.Common.{AreChanged, after, bounds, is_card_name, rest_on_registers, name_windows}
+use Rattle.map_builder.specs.Common.{AreChanged, after, bounds, is_card_name, rest_on_registers, name_windows, Mapped}
 use Rattle.map_builder.specs.Common.{windows_covered, changed_windows, most_rows, AreMoved, IsHeldAt, IsSameByte}
-use Rattle.map_builder.proofs.FindLemmas.{tiles_below}
 use Rattle.map_builder.proofs.OutsideLemmas.{Outside}
 use Rattle.map_builder.proofs.BoundsLemmas.{covered_ordered, changed_ordered, bounds_twice}
 use Rattle.map_builder.proofs.SortedLemmas.{rise_sorted, outside_sorted, beside_sorted, rows_few, sorted_twice}
@@ -26,6 +26,11 @@ use Rattle.map_builder.proofs.UnchangedLemmas.{same_bytes, unchanged_keep}
 use Rattle.map_builder.proofs.KeptStores.{top_after, changes_keep}
 use Rattle.map_builder.proofs.WindowLemmas.{covered_by_names}
 use Rattle.map_builder.proofs.SameBoards.{boards_same, untouched_areas}
+
+-- the registers inside a map are those that it is seen to have
+pub stood : (inside seen : Mapped) (setup : Setup) (bytes : Bytes) → inside ≡ seen → StandsFor setup bytes seen.regs →
+    StandsFor setup bytes inside.regs
+stood inside seen setup bytes is stands = subst (λ (flat : Mapped). StandsFor setup bytes flat.regs) (sym is) stands
 
 -- the last address of a range is an address
 range_below : (from : ℕ) (ranges : List MapRange) → Tiles from ranges → (k : ℕ) (d : MapRange) → k < length ranges →

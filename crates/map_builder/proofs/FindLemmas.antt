@@ -1,8 +1,9 @@
 -- The ranges of a map by their indices, and the span round an address.
 use Rattle.std.proofs.Common.{◌≡◌, ◌≢◌, ℕ, zero, suc, ◌+◌, ◌-◌, ◌<◌, ◌≤◌, ◌⊎◌, inl, inr, Bool, List, [], ◌∷◌, length}
 use Rattle.std.proofs.Common.{map, sym, ◌∙◌, ap, subst, arith}
+use Rattle.board_spec.proofs.FlatMapLaws.{tiles_below}
 use Rattle.board_prelude.proofs.Common.{cases_lt, get_or-map, length-map, Kind, Setup, Bytes, area_of, address_count}
-use Rattle.board_prelude.proofs.Common.{six_areas, MapRange, Tiles, IsRight, IsFlatMapOf, IsSpan}
+use Rattle.board_prelude.proofs.Common.{six_areas, Tiles, IsRight, IsFlatMapOf, IsSpan}
 use Rattle.map_builder.specs.declared.range.Range.{Range}
 use Rattle.map_builder.specs.Common.{range_of, no_range, range_at, in_column, area_at, Holds, IsFirstAlike, IsLastAlike}
 
@@ -33,10 +34,6 @@ last_more : (range next : Range) (later : List Range) →
     (k : ℕ) → k + 1 ≡ length (range ∷ next ∷ later) → (range_at (range ∷ next ∷ later) k).hi + 1 ≡ address_count
 last_more range next later rest zero at_end = absurd (omega arith)
 last_more range next later rest (suc k) at_end = rest k (omega arith)
-
-pub tiles_below : (from : ℕ) (ranges : List MapRange) → Tiles from ranges → from ≤ address_count
-tiles_below from [] tiles = omega arith
-tiles_below from (range ∷ later) tiles = omega (arith, tiles_below (range.hi + 1) later tiles.2, tiles.0, tiles.1)
 
 pub placed : (from : ℕ) (ranges : List Range) → from < address_count → Tiles from (map range_of ranges) →
     Placed from ranges

@@ -11,7 +11,7 @@ use Rattle.map_builder.proofs.RebuildLemmas.{row_at, open_at, differ_at, right_a
 use Rattle.map_builder.proofs.StepLemmas.{AreasAt, built_range}
 
 -- the last range has the areas at which it went on
-areas_on : (ranges ranges' : List MapRange) (last last' : MapRange) (addr : ℕ) (areas : List Area) →
+pub areas_on : (ranges ranges' : List MapRange) (last last' : MapRange) (addr : ℕ) (areas : List Area) →
     ContinuesAt ranges ranges' last last' addr areas →
     last'.areas ≡ areas
 areas_on ranges ranges' last last' addr areas (inl (here, is, last_is)) =

@@ -1,12 +1,12 @@
 -- The card that answers at an address is the same before and after a change that moves no window round it.
 use Rattle.std.proofs.Common.{◌≡◌, ℕ, zero, suc, ◌+◌, ◌-◌, ◌*◌, ◌/◌, ◌<◌, ◌≤◌, ◌⊎◌, inl, inr, Bool, true, false, cond}
 use Rattle.std.proofs.Common.{List, [], ◌∷◌, ◌++◌, length, map, get_or, Option, Some, None, refl, sym, ◌∙◌, ap, subst}
-use Rattle.std.proofs.Common.{arith, ◌==◌, ◌&&◌, All, find, flat_map, slice_get, if◌then◌else◌, is_some, option_map}
+use Rattle.std.proofs.Common.{arith, ◌&&◌, All, find, flat_map, slice_get, if◌then◌else◌, is_some, option_map}
 use Rattle.std.proofs.Common.{option_and_then}
-use Rattle.board_prelude.proofs.Common.{and-true, option_map_or, AllByRecursion, cases_Bool, cases_lt, cond-true}
-use Rattle.board_prelude.proofs.Common.{cond-false, eq-eqb, ne_eqb, nat_tests, recursion_from_All, map-append}
+use Rattle.board_prelude.proofs.Common.{and-true, option_map_or, AllByRecursion, cases_Bool, cases_lt, and-false}
+use Rattle.board_prelude.proofs.Common.{ne_eqb, nat_tests, recursion_from_All, map-append}
 use Rattle.board_prelude.proofs.Common.{find-append, Reg, Base, MemoryBase, IoBase, OutsideBase, FittedCard, Setup}
-use Rattle.board_prelude.proofs.Common.{IsCard, IsCardList, Rises, card_at, is_bit, is_within, Bytes, Window}
+use Rattle.board_prelude.proofs.Common.{IsCard, IsCardList, card_at, is_bit, is_within, Bytes, Window}
 use Rattle.board_prelude.proofs.Common.{base_value, is_covered, rom_value, rom_window, rom_window_of, is_rom_on}
 use Rattle.board_prelude.proofs.Common.{vga_window, memory_windows, is_enabled_for, memory_claim, card_register}
 use Rattle.std.proofs.lemmas.Option.{slice_get_within}
@@ -15,8 +15,9 @@ use Rattle.addr_decode.specs.declared.register.CardRegister.{CardRegister}
 use Rattle.addr_decode.specs.declared.register.CardRegister.TheVariants.{Command, Base as BaseByte, ExpansionRom}
 use Rattle.addr_decode.specs.declared.register.MapRegister.TheVariants.{Card}
 use Rattle.addr_decode.specs.MapRegister.{IsCardNumber, in_card}
+use Rattle.addr_decode.proofs.CardLemmas.{find_at}
 use Rattle.map_builder.specs.Common.{decoded, base_windows, card_windows, name_windows, windows_of, held_by, card_held}
-use Rattle.map_builder.proofs.OutsideLemmas.{Outside, outside_left, outside_right, not_covered, none_covered, and_no}
+use Rattle.map_builder.proofs.OutsideLemmas.{Outside, outside_left, outside_right, not_covered, none_covered}
 use Rattle.map_builder.proofs.DeviceLemmas.{from_base, Hold, HoldRom, card_is, windows_of_card}
 
 -- a register keeps its byte, or an address lies outside the windows that it governs, by what the registers held before
@@ -94,18 +95,6 @@ rom_part bytes card = if is_rom_on bytes card.dev then rom_window bytes card els
 
 -- ---- cards of a list by their device numbers
 
-found : (cards : List FittedCard) → Rises cards → (k : ℕ) (d : FittedCard) → k < length cards →
-    find (λ card. card.dev == (get_or cards k d).dev) cards ≡ Some (get_or cards k d)
-found [] rises k d within = absurd (omega arith)
-found (card ∷ later) rises zero d within =
-    cond-true (card.dev == card.dev) (Some card) (find (λ other. other.dev == card.dev) later)
-    (eq-eqb card.dev card.dev refl)
-found (card ∷ later) rises (suc k) d within =
-    let above : card.dev < (get_or later k d).dev = rises.0 k d (omega arith) in
-    cond-false (card.dev == (get_or later k d).dev) (Some card)
-    (find (λ other. other.dev == (get_or later k d).dev) later) (ne_eqb _ _ (omega arith))
-    ∙ found later rises.1 k d (omega arith)
-
 record IsFitted (setup : Setup) (card : FittedCard) : Type 0 where
   pub at : card_at setup card.dev ≡ Some card
   pub first : 2 ≤ card.dev
@@ -114,7 +103,7 @@ record IsFitted (setup : Setup) (card : FittedCard) : Type 0 where
 fitted : (setup : Setup) → IsCardList setup.cards → All (IsFitted setup) setup.cards
 fitted setup list k d within =
     let is : IsCard (get_or setup.cards k d) = list.each k d within in
-    record { at = found setup.cards list.rises k d within; first = is.first; few = is.count }
+    record { at = find_at setup.cards list.rises k d within; first = is.first; few = is.count }
 
 abbrev window : (dev k inside bits : ℕ) → Window
 window dev k inside bits = record { dev = dev; base = k; inside = inside; bits = bits }
@@ -127,7 +116,7 @@ step_same e e' c c' w w' r r' same_e same_c same_w same_r = rw (same_e, same_c, 
 
 step_past : (e e' c c' : Bool) (w w' r r' : Option Window) → c ≡ false → c' ≡ false → r' ≡ r →
     cond (e' && c') w' r' ≡ cond (e && c) w r
-step_past e e' c c' w w' r r' none none' same_r = rw (none, none', and_no e, and_no e') same_r
+step_past e e' c c' w w' r r' none none' same_r = rw (none, none', and-false e, and-false e') same_r
 
 module _ (setup : Setup) (bytes new : Bytes) (addr : ℕ)
     (kept : (dev off : ℕ) → 2 ≤ dev → Kept setup bytes new addr (card_register dev off)) where

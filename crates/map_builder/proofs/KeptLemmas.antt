@@ -6,9 +6,10 @@ use Rattle.board_prelude.proofs.Common.{cases_Bool, cases_lt, ne_eqb, nat_tests,
 use Rattle.board_prelude.proofs.Common.{IsCardList, is_bit, is_within, Bytes, boundary, top_of, row_of, is_in, hole_of}
 use Rattle.board_prelude.proofs.Common.{is_high_window, nibble, is_open, is_shadow_range, is_shadowed, is_smram_range}
 use Rattle.board_prelude.proofs.Common.{is_rom_selected, pam_register, area_of, bridge, isa, card_register, six_areas}
+use Rattle.board_prelude.proofs.Common.{or-false, and-false}
 use Rattle.addr_decode.specs.MapRegister.{map_register}
 use Rattle.map_builder.specs.Changed.{from_to, pam_windows, windows_of, IsOutside}
-use Rattle.map_builder.proofs.OutsideLemmas.{Outside, and_no}
+use Rattle.map_builder.proofs.OutsideLemmas.{Outside}
 use Rattle.map_builder.proofs.KeptCards.{Kept, claim_same}
 
 outside_range : (addr lo hi : ℕ) → IsOutside addr (from_to lo hi) → is_within lo hi addr ≡ false
@@ -30,10 +31,6 @@ in_no_hole fdhc addr low high =
           ]
     ]
 
-or_no : (a : Bool) → (a || false) ≡ a
-or_no true = refl
-or_no false = refl
-
 always_rom : ℕ → Bool
 always_rom addr = is_within 0xF_0000 0xF_FFFF addr || is_within 0xFFFF_0000 0xFFFF_FFFF addr
 
@@ -50,10 +47,10 @@ rom_outside xbcs addr low high =
       outside_range addr 0xE_0000 0xE_FFFF low,
       last,
       rest,
-      and_no (is_bit xbcs 6),
-      and_no (is_bit xbcs 7),
-      or_no (is_within 0xF_0000 0xF_FFFF addr || is_within 0xFFFF_0000 0xFFFF_FFFF addr),
-      or_no (is_within 0xF_0000 0xF_FFFF addr || is_within 0xFFFF_0000 0xFFFF_FFFF addr),
+      and-false (is_bit xbcs 6),
+      and-false (is_bit xbcs 7),
+      or-false (is_within 0xF_0000 0xF_FFFF addr || is_within 0xFFFF_0000 0xFFFF_FFFF addr),
+      or-false (is_within 0xF_0000 0xF_FFFF addr || is_within 0xFFFF_0000 0xFFFF_FFFF addr),
     ) refl
 
 -- ---- the windows of PAM

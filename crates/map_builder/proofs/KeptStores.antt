@@ -1,16 +1,15 @@
 -- A change keeps each register whose windows lie elsewhere.
 use Rattle.std.proofs.Common.{◌≡◌, ℕ, zero, suc, ◌+◌, ◌-◌, ◌<◌, ◌≤◌, inl, inr, true, List, [], ◌∷◌, length, get_or}
 use Rattle.std.proofs.Common.{take, refl, subst, arith, flat_map}
-use Rattle.board_prelude.proofs.Common.{cases_Bool, nat_tests, recursion_from_All, Width, One, Reg, bytes_of, MapChange}
+use Rattle.board_prelude.proofs.Common.{cases_Bool, nat_tests, recursion_from_All, Width, Reg, bytes_of, MapChange}
 use Rattle.board_prelude.proofs.Common.{Store, Reset, Setup, IsCardList, byte, host_bridge, reset_byte, writable_bits}
 use Rattle.board_prelude.proofs.Common.{covers, byte_after, Bytes, top_of, bridge, reg_after, address_count, six_areas}
 use Rattle.board_prelude.proofs.Common.{merged-all}
-use Rattle.board_base.specs.declared.access.Width.TheVariants.{Two, Four}
+use Rattle.addr_decode.proofs.NameLemmas.{offsets, covered_offset}
 use Rattle.map_builder.specs.declared.range.Changed.{Changed}
 use Rattle.map_builder.specs.Common.{windows_of, windows_covered, after, changed_windows, IsOutside, WindowsHoldChanges}
 use Rattle.map_builder.specs.Common.{BoundsHoldChanges}
 use Rattle.map_builder.proofs.OutsideLemmas.{Outside, outside_bounds, outside_left, outside_right}
-use Rattle.map_builder.proofs.WindowLemmas.{offsets}
 use Rattle.map_builder.proofs.KeptCards.{Kept}
 use Rattle.map_builder.proofs.KeptLemmas.{row_same, areas_same}
 
@@ -24,23 +23,10 @@ outside_at addr windows (x ∷ xs) zero within out = outside_left addr (windows 
 outside_at addr windows (x ∷ xs) (suc k) within out =
     outside_at addr windows xs k (omega arith) (outside_right addr (windows x) (flat_map windows xs) out)
 
-offset_is : (width : Width) (k : ℕ) → k < bytes_of width →
-    (k < length (take (bytes_of width) offsets)) × (get_or (take (bytes_of width) offsets) k 0 ≡ k)
-offset_is One zero below = (omega arith, refl)
-offset_is One (suc k) below = absurd (omega arith)
-offset_is Two zero below = (omega arith, refl)
-offset_is Two (suc zero) below = (omega arith, refl)
-offset_is Two (suc (suc k)) below = absurd (omega arith)
-offset_is Four zero below = (omega arith, refl)
-offset_is Four (suc zero) below = (omega arith, refl)
-offset_is Four (suc (suc zero)) below = (omega arith, refl)
-offset_is Four (suc (suc (suc zero))) below = (omega arith, refl)
-offset_is Four (suc (suc (suc (suc k)))) below = absurd (omega arith)
-
 outside_of : (addr : ℕ) (windows : ℕ → List Changed) (width : Width) (k : ℕ) → k < bytes_of width →
     Outside addr (flat_map windows (take (bytes_of width) offsets)) → Outside addr (windows k)
 outside_of addr windows width k below out =
-    let at = offset_is width k below in
+    let at = covered_offset width k below in
     subst (λ (j : ℕ). Outside addr (windows j)) at.1
     (outside_at addr windows (take (bytes_of width) offsets) k at.0 out)
 

@@ -1,7 +1,7 @@
 -- Addresses outside windows and outside their bounds.
-use Rattle.std.proofs.Common.{◌≡◌, ℕ, ◌+◌, ◌*◌, ◌/◌, ◌%◌, ◌^◌, ◌<◌, inl, inr, Bool, true, false, List, [], ◌∷◌, ◌++◌}
+use Rattle.std.proofs.Common.{◌≡◌, ℕ, ◌+◌, ◌*◌, ◌/◌, ◌%◌, ◌^◌, ◌<◌, inl, inr, Bool, false, List, [], ◌∷◌, ◌++◌}
 use Rattle.std.proofs.Common.{map, Option, Some, None, refl, ap, arith, ◌&&◌, unwrap_or, find}
-use Rattle.board_prelude.proofs.Common.{AllByRecursion, ne_eqb, pow_pos, Window, is_covered}
+use Rattle.board_prelude.proofs.Common.{AllByRecursion, ne_eqb, pow_pos, Window, is_covered, and-false}
 use Rattle.std.proofs.Math.Pow.{split}
 use Rattle.map_builder.specs.declared.range.Changed.{Changed}
 use Rattle.map_builder.specs.Changed.{from_to, decoded, bounds, bounds_or_zero, both, joined, IsOutside}
@@ -63,12 +63,8 @@ not_covered addr window out =
     ap (λ q. q * 2 ^ window.bits) same in
     elim out [ inl below ↦ omega arith | inr above ↦ omega arith ])
 
-pub and_no : (a : Bool) → (a && false) ≡ false
-and_no true = refl
-and_no false = refl
-
 pub none_covered : (addr : ℕ) (windows : List Window) (counts : ℕ → Bool) → Outside addr (map decoded windows) →
     find (λ window. counts window.dev && is_covered addr window) windows ≡ None
 none_covered addr [] counts out = refl
 none_covered addr (window ∷ later) counts out =
-    rw (not_covered addr window out.0, and_no (counts window.dev)) (none_covered addr later counts out.1)
+    rw (not_covered addr window out.0, and-false (counts window.dev)) (none_covered addr later counts out.1)

@@ -2,7 +2,7 @@
 use Rattle.std.proofs.Common.{◌≡◌, ℕ, ◌+◌, ◌*◌, ◌≤◌, List, [], ◌∷◌, length, Result, Ok, Err, IfOk, refl, sym, ap, subst}
 use Rattle.std.proofs.Common.{◌∙◌, arith, flat_map}
 use Rattle.std.proofs.lemmas.List.Elements.{All-from_recursion}
-use Rattle.board_prelude.proofs.Common.{AllByRecursion, recursion_from_All, w32, to_le_bytes, FittedCard, MapRange}
+use Rattle.board_prelude.proofs.Common.{AllByRecursion, recursion_from_All, FittedCard, MapRange}
 use Rattle.board_prelude.proofs.Common.{OneFlatMap}
 use Rattle.byte_fields.specs.declared.fault.Bad.{Bad}
 use Rattle.byte_fields.specs.Fields.{AreBytes, Reading, Took}
@@ -11,19 +11,16 @@ use Rattle.byte_fields.proofs.Formats.{IsFormat, format_as, then_format, last_fo
 use Rattle.byte_fields.proofs.Formats.{ok_is, not_err}
 use Rattle.byte_fields.proofs.Loaded.{one_spelling}
 use Rattle.byte_fields.proofs.Loops.{IsLoop}
-use Rattle.byte_fields.proofs.Numbers.{Ranges, byte_within, within_format, wide32}
+use Rattle.byte_fields.proofs.Numbers.{byte_within}
 use Rattle.addr_decode.specs.MapRegs.{MapBytes, StandsFor, map_bytes}
 use Rattle.addr_decode.specs.declared.regs.MapRegs.{MapRegs}
 use Rattle.addr_decode.specs.State.{any_long, regs_fields}
-use Rattle.addr_decode.proofs.StateFormat.{regs_format}
+use Rattle.addr_decode.proofs.StateFormat.{regs_format, long_format}
 use Rattle.map_builder.specs.declared.range.Changed.{Changed}
 use Rattle.map_builder.specs.Map.{Mapped, IsMapOf}
 use Rattle.map_builder.specs.State.{IsWindow, AreWindows, window_bytes, window_fields, windows_bytes, so_many_windows}
 use Rattle.map_builder.specs.State.{windows_fields, regs_of, bare, IsSaved, IsMapped, IsBare, mapped_bytes}
 use Rattle.map_builder.specs.State.{mapped_fields, LoadsMap, SameMap}
-
-long_format : IsFormat 4 any_long (to_le_bytes w32) (Ranges 0 0xFFFF_FFFF)
-long_format = within_format wide32 0 0xFFFF_FFFF (omega arith)
 
 -- ---- windows
 

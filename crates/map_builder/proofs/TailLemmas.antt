@@ -1,18 +1,19 @@
 -- The ranges of a map that follow the last window, as they end those that were built.
-use Rattle.std.proofs.Common.{◌≡◌, ℕ, zero, suc, ◌+◌, ◌-◌, ◌<◌, ◌≤◌, inl, inr, List, [], ◌∷◌, ◌++◌, length, map, take}
+use Rattle.std.proofs.Common.{◌≡◌, ℕ, zero, suc, ◌+◌, ◌-◌, ◌<◌, ◌≤◌, inr, List, [], ◌∷◌, ◌++◌, length, map, take}
 use Rattle.std.proofs.Common.{drop, get_or, refl, sym, ◌∙◌, ap, subst, arith, append_assoc, min}
 use Rattle.board_prelude.proofs.Common.{AllByRecursion, length_push, length-map, get_or-map, map-append, length-append}
-use Rattle.board_prelude.proofs.Common.{length-drop, take_all, recursion_from_All, All-drop, Area, Setup, Bytes}
+use Rattle.board_prelude.proofs.Common.{length-drop, take_all, recursion_from_All, All-drop, Setup, Bytes}
 use Rattle.board_prelude.proofs.Common.{address_count, MapRange, Tiles, Differs, NeighboursDiffer, IsFlatMapOf}
 use Rattle.std.proofs.lemmas.List.{drop-map}
+use Rattle.board_spec.proofs.FlatMapLaws.{tiles_below}
 use Rattle.addr_decode.specs.MapRegs.{MapBytes, StandsFor}
 use Rattle.map_builder.specs.declared.range.Range.{Range}
 use Rattle.map_builder.specs.Common.{range_of, most_ranges, IsOfSomeBoard, no_range, range_at, Holds, ContinuesAt}
 use Rattle.map_builder.specs.Common.{IsBuilt, IsRightWhere, IsMapWhere, IsBetween, IsWhole}
-use Rattle.map_builder.proofs.FindLemmas.{tiles_below}
 use Rattle.map_builder.proofs.BuildLemmas.{range, built_all}
 use Rattle.map_builder.proofs.StepLemmas.{one_address, built_range}
 use Rattle.map_builder.proofs.RebuildLemmas.{kept_on}
+use Rattle.map_builder.proofs.KeepLemmas.{areas_on}
 
 pub tiles_drop : (from : ℕ) (ranges : List MapRange) (k : ℕ) (d : MapRange) → Tiles from ranges → k < length ranges →
     Tiles ((get_or ranges k d).hi + 1) (drop (k + 1) ranges)
@@ -85,13 +86,6 @@ whole_tail regs board Where (next ∷ later) ranges last hi built address tiles 
     subst (IsWholeOf regs)
     (append_assoc ranges (ended ∷ []) (next ∷ later)
     ∙ ap (λ (h : ℕ). ranges ++ range last.lo h last.areas ∷ next ∷ later) same_end) whole
-
--- the areas of a last range that goes on at an address
-areas_on : (ranges ranges' : List MapRange) (last last' : MapRange) (addr : ℕ) (areas : List Area) →
-    ContinuesAt ranges ranges' last last' addr areas → last'.areas ≡ areas
-areas_on ranges ranges' last last' addr areas (inl (same, is, last_is)) =
-    ap (λ (it : MapRange). it.areas) last_is ∙ sym same
-areas_on ranges ranges' last last' addr areas (inr (other, is, last_is)) = ap (λ (it : MapRange). it.areas) last_is
 
 pub whole_from : (regs : MapBytes) (board : IsOfSomeBoard regs) (ranges ranges' : List MapRange) (last last' : MapRange)
     (old : List Range) (k after : ℕ) →

@@ -12,6 +12,7 @@ use Rattle.pci_bars.specs.Bases.{base_of}
 use Rattle.map_builder.specs.declared.range.Changed.{Changed}
 use Rattle.addr_decode.specs.declared.register.MapRegister.{MapRegister}
 use Rattle.addr_decode.specs.MapRegister.{IsNumberedName, map_register, names_of}
+use Rattle.addr_decode.proofs.NameLemmas.{offsets}
 use Rattle.map_builder.specs.Common.{name_windows, windows_covered, held_by, held_from, held_at}
 
 -- the last address of a block is an address
@@ -27,9 +28,6 @@ block_fits inside bits address few =
     rw whole at (mul-add-lt (inside / 2 ^ bits) (2 ^ bits) (2 ^ bits - 1) (2 ^ (32 - bits)) place (omega arith))
 
 -- ---- the registers that a store covers
-
-abbrev pub offsets : List ℕ
-offsets = 0 ∷ 1 ∷ 2 ∷ 3 ∷ []
 
 windows_of_names : (windows : Option MapRegister → List Changed) (name : ℕ → Option MapRegister) (ks : List ℕ) →
     flat_map windows (map name ks) ≡ flat_map (λ k. windows (name k)) ks

@@ -30,7 +30,7 @@ pub record IsSized (setup : Setup) (window : Window) : Type 0 where
   pub bits : window.bits ≡ window_bits setup window.dev window.base
   pub size : window.base ≢ 6 → IsKeptAs (kept_size (card_at setup window.dev) window.base) window.bits
 
-All-find :
+pub All-find :
     (P : Window → Type 0) (test : Window → Bool) (windows : List Window) (window : Window) → All P windows →
     find test windows ≡ Some window → P window
 All-find P test [] window each found = absurd (cc)
@@ -40,7 +40,7 @@ All-find P test (first ∷ later) window each found =
       | inr miss ↦ All-find P test later window (All-tail P first later each) (rw miss at found)
     ]
 
-least_bits : (base : Base) → IsBase base → 2 ≤ bits_of_base (Some base)
+pub least_bits : (base : Base) → IsBase base → 2 ≤ bits_of_base (Some base)
 least_bits (MemoryBase bits) fit = omega (arith, fit.0)
 least_bits (IoBase bits) fit = fit.0
 least_bits (OutsideBase bits) fit = omega (arith, fit.0)
@@ -210,7 +210,7 @@ low_two place bits above =
     mod-pow-add place (bits - 2) 2 in
     ap (λ n. place % 2 ^ n % 4) (omega arith) ∙ ap (λ n. n % 4) split ∙ omega arith
 
-quarter : (bits : ℕ) → 2 ≤ bits → 2 ^ bits ≡ 2 ^ (bits - 2) * 4
+pub quarter : (bits : ℕ) → 2 ≤ bits → 2 ^ bits ≡ 2 ^ (bits - 2) * 4
 quarter bits above = ap (λ n. 2 ^ n) (omega arith) ∙ pow-add 2 (bits - 2) 2
 
 fits_below :

@@ -1,7 +1,7 @@
 //! What a card is: its device number, whether it is a VGA adapter, and its bases.
 ghost use Rattle.std.specs.Prelude.{◌≡◌, ◌^◌, ◌≤◌, ℕ, Some, option_map, slice_get, slice_index};
 ghost use Rattle.board_prelude.specs.Common.{IsBase, IsCard, bits_of_base, base_reset, base_writable, kept_of_base};
-ghost use Rattle.board_prelude.specs.Common.{kept_size, rom_writable};
+ghost use Rattle.board_prelude.specs.Common.{kept_size, memory_size, rom_writable};
 ghost use Rattle.pci_bars.specs.Bases.{base_of, base_size, bits_in, of_base};
 
 use arrayvec::ArrayVec;
@@ -66,6 +66,17 @@ impl BaseSpec {
         match self {
             BaseSpec::Memory(_) | BaseSpec::Io(_) => self.size(),
             BaseSpec::Outside(_) => 0,
+        }
+    }
+
+    /// How many bytes of memory the board keeps of it: none of a base for ports, and none of an outside one.
+    pub fn memory_size(self) -> u32
+        requires base { IsBase (base_of self) }
+        ensures size { result ≡ memory_size (base_of self) }
+    {
+        match self {
+            BaseSpec::Memory(bits) => 1 << bits,
+            BaseSpec::Io(_) | BaseSpec::Outside(_) => 0,
         }
     }
 

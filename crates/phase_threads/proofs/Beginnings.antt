@@ -1,6 +1,7 @@
 -- A phase that an order takes in, and an order that begins.
-use Rattle.std.proofs.Common.{◌≡◌, ℕ, ◌≤◌, List, [], ◌∷◌, ◌++◌, length, take, drop, All, Some, Result, Ok, Err, OnOk}
+use Rattle.std.proofs.Common.{◌≡◌, ℕ, ◌≤◌, List, ◌++◌, length, take, drop, All, Some, Result, Ok, Err, OnOk}
 use Rattle.std.proofs.Common.{sym, ◌∙◌, ap, subst, reverse}
+use Rattle.board_spec.proofs.ReplayLaws.{legal_before}
 use Rattle.board_prelude.proofs.Common.{reverse-append, reverse-reverse, take-append-drop, length-reverse}
 use Rattle.board_prelude.proofs.Common.{length-take-le, Entry, Setup, IsLegal}
 use Rattle.run_order.specs.declared.done.Done.{Done}
@@ -8,17 +9,13 @@ use Rattle.run_order.specs.Common.{IsPlacedBelow, over, placed, Order}
 use Rattle.run_order.proofs.Over.{over_front}
 use Rattle.phase_threads.specs.Placed.{entries_of}
 
-legal_end : (setup : Setup) (later before : List Entry) → IsLegal setup (later ++ before) → IsLegal setup before
-legal_end setup [] before legal = legal
-legal_end setup (entry ∷ later) before legal = legal_end setup later before legal.1
-
 -- the bus's history, in two parts
 pub cut_is : (n : ℕ) (bus : List Entry) → reverse bus ≡ reverse (drop n bus) ++ reverse (take n bus)
 cut_is n bus = ap reverse (sym (take-append-drop n bus)) ∙ reverse-append (take n bus) (drop n bus)
 
 pub legal_front : (setup : Setup) (n : ℕ) (bus : List Entry) → IsLegal setup (reverse bus)
     → IsLegal setup (reverse (take n bus))
-legal_front setup n bus legal = legal_end setup (reverse (drop n bus)) (reverse (take n bus))
+legal_front setup n bus legal = legal_before setup (reverse (drop n bus)) (reverse (take n bus))
     (subst (IsLegal setup) (cut_is n bus) legal)
 
 -- what an order takes in over the whole of the bus's history, it takes in over what it was before

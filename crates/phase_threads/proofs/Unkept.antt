@@ -12,7 +12,7 @@ use Rattle.run_order.specs.declared.done.Done.{Done}
 use Rattle.run_order.specs.declared.done.Done.TheVariants.{Went, Looked}
 use Rattle.run_order.specs.Common.{event_of, is_look, with_all_looks, all_left, done_by, without_first, passed, noted}
 use Rattle.run_order.specs.Common.{placed, IsNotDue, IsSettled, IsDone, IsWork, Begins}
-use Rattle.run_order.proofs.Settled.{settled_placed, settled_left}
+use Rattle.run_order.proofs.Settled.{settled_placed, settled_left, settled_more}
 use Rattle.run_order.proofs.Common.{all_reverse}
 use Rattle.phase_work.specs.declared.worker.Work.{Work}
 use Rattle.phase_work.specs.Works.{HasDone}
@@ -40,16 +40,10 @@ not_due version [] all = tt
 not_due version (Went after event ∷ done) all = tt
 not_due version (Looked kind addr smm look ∷ done) all = absurd (All-head IsWent (Looked kind addr smm look) done all)
 
-settled_with : (version : ℕ) (done : List Done) (rests : List (List Done)) → IsNotDue version done
-    → IsSettled version rests
-    → (k : ℕ) → IsNotDue version (slice_index_or (done ∷ rests) k [])
-settled_with version done rests not so zero = not
-settled_with version done rests not so (suc k) = so k
-
 settled : (version : ℕ) (rests : List (List Done)) → ArePlain rests → IsSettled version rests
 settled version [] plain = λ k. tt
 settled version (done ∷ rests) plain =
-    settled_with version done rests (not_due version done (All-head AreWent done rests plain))
+    settled_more version done rests (not_due version done (All-head AreWent done rests plain))
     (settled version rests (All-tail AreWent done rests plain))
 
 plain_first : (done : List Done) → AreWent done → AreWent (without_first done)

@@ -3,12 +3,13 @@ use Rattle.std.proofs.Common.{◌≡◌, ℕ, ◌+◌, ◌-◌, ◌*◌, ◌/◌
 use Rattle.std.proofs.Common.{Option, Some, None, refl, sym, ap, ◌∙◌, arith, All, flat_map}
 use Rattle.std.proofs.lemmas.List.Elements.{All-contains, All-from_recursion}
 use Rattle.std.proofs.Math.Nat.{mul_assoc}
-use Rattle.board_prelude.proofs.Common.{AllByRecursion, All-nil, All-append, All-head, All-tail, pow-add}
+use Rattle.board_prelude.proofs.Common.{AllByRecursion, All-nil, All-append, All-head, All-tail}
 use Rattle.board_prelude.proofs.Common.{enumerate_from, Kind, Fetch, Read, Write, Width, One, bytes_of, Base}
 use Rattle.board_prelude.proofs.Common.{MemoryBase, IoBase, OutsideBase, FittedCard, Setup, IsBase, IsExpansionRom}
 use Rattle.board_prelude.proofs.Common.{IsCard, Bytes, Window, boundary, base_value, rom_value, memory_window}
 use Rattle.board_prelude.proofs.Common.{rom_window_of, rom_window, area_of, address_count, six_areas}
 use Rattle.board_base.specs.declared.access.Width.TheVariants.{Two, Four}
+use Rattle.pci_bars.proofs.WindowLemmas.{quarter}
 use Rattle.addr_decode.specs.Edges.{fixed_edges, row_edges, first_address, window_edges, card_edges, edges_of}
 use Rattle.addr_decode.proofs.EdgeLaws.{areas_change_at_edges}
 
@@ -16,9 +17,6 @@ abbrev IsEven : ℕ → Type 0
 IsEven edge = edge % 4 ≡ 0
 
 -- ---- the edges
-
-pub quarter : (bits : ℕ) → 2 ≤ bits → 2 ^ bits ≡ 2 ^ (bits - 2) * 4
-quarter bits above = ap (λ n. 2 ^ n) (omega arith) ∙ pow-add 2 (bits - 2) 2
 
 first_even : (n bits : ℕ) → 2 ≤ bits → n * 2 ^ bits % 4 ≡ 0
 first_even n bits above =

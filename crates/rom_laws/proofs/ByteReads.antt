@@ -11,7 +11,7 @@ use Rattle.board_base.specs.declared.target.Area.TheVariants.{Smram as SmramArea
 use Rattle.board_base.specs.declared.target.Area.TheVariants.{Abort as AbortArea}
 use Rattle.pci_bars.specs.Common.{IsBaseNumber}
 use Rattle.pci_bars.specs.Contents.{slot_number}
-use Rattle.board_stores.proofs.ValueLemmas.{value_below}
+use Rattle.board_stores.proofs.ValueLemmas.{value_below, wide_below}
 use Rattle.rom_laws.proofs.CardWindows.{IsWindow}
 
 -- ---- what the byte after some others reaches
@@ -124,12 +124,6 @@ wide_byte byte_at from (suc i) One below within = absurd (omega arith)
 wide_byte byte_at from (suc (suc i)) Two below within = absurd (omega arith)
 wide_byte byte_at from (suc (suc (suc (suc i)))) Four below within = absurd (omega arith)
 
-wide_fits : (byte_at : ℕ → ℕ) (from : ℕ) (width : Width) → ((at : ℕ) → byte_at at < 256) →
-    wide byte_at from width < 256 ^ bytes_of width
-wide_fits byte_at from One below = below from
-wide_fits byte_at from Two below = omega (arith, below from, below (from + 1))
-wide_fits byte_at from Four below = omega (arith, below from, below (from + 1), below (from + 2), below (from + 3))
-
 ones_byte : (i : ℕ) (width : Width) → i < bytes_of width → byte (largest_of width) i ≡ 255
 ones_byte zero One within = refl
 ones_byte zero Two within = refl
@@ -153,12 +147,12 @@ module _ (setup : Setup) (before : List Entry) (rom : (at : ℕ) → slice_index
 
   pub value_fits : (target : Target) (place : ℕ) (width : Width) → InMemory setup target →
       value_at setup before target place width < 256 ^ bytes_of width
-  value_fits (Dram row) place width is = wide_fits (dram_byte setup before) place width dram_below
-  value_fits (Shadow row) place width is = wide_fits (dram_byte setup before) place width dram_below
-  value_fits Smram place width is = wide_fits (dram_byte setup before) place width dram_below
-  value_fits (Rom off) place width is = wide_fits (slice_index setup.rom) off width rom
+  value_fits (Dram row) place width is = wide_below (dram_byte setup before) place width dram_below
+  value_fits (Shadow row) place width is = wide_below (dram_byte setup before) place width dram_below
+  value_fits Smram place width is = wide_below (dram_byte setup before) place width dram_below
+  value_fits (Rom off) place width is = wide_below (slice_index setup.rom) off width rom
   value_fits (Card dev base off) place width is =
-      wide_fits (λ at. card_byte setup before dev base at) off width (card_below dev base is.number)
+      wide_below (λ at. card_byte setup before dev base at) off width (card_below dev base is.number)
   value_fits (Device dev) place width is = absurd is
   value_fits (Config reg) place width is = absurd is
   value_fits Abort place One is = omega arith

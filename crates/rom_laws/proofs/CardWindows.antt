@@ -1,11 +1,11 @@
 -- The window of a card that claims an address has the size of its base, of 4 bytes or more.
-use Rattle.std.proofs.Common.{◌≡◌, ℕ, zero, suc, ◌+◌, ◌<◌, ◌≤◌, Bool, false, ◌&&◌, List, [], ◌∷◌, ◌++◌, length, get_or}
-use Rattle.std.proofs.Common.{Option, Some, None, inl, inr, refl, ap, subst, ◌∙◌, arith, lit<, lit≤, ◌==◌, All, find}
+use Rattle.std.proofs.Common.{◌≡◌, ℕ, ◌+◌, ◌<◌, ◌≤◌, Bool, false, ◌&&◌, List, [], ◌∷◌, ◌++◌, length}
+use Rattle.std.proofs.Common.{Option, Some, None, inl, inr, refl, ap, subst, ◌∙◌, arith, lit<, lit≤, ◌==◌, All}
 use Rattle.std.proofs.Common.{flat_map, slice_get, if◌then◌else◌, is_some, not, unwrap_or}
-use Rattle.board_prelude.proofs.Common.{cases_Bool, cond-true, cond-false, eq-eqb, ne_eqb, All-nil, All-cons, All-head}
+use Rattle.board_prelude.proofs.Common.{cases_Bool, ne_eqb, All-nil, All-cons, All-head}
 use Rattle.board_prelude.proofs.Common.{All-tail, All-append, enumerate_from, Base, MemoryBase, IoBase, OutsideBase}
-use Rattle.board_prelude.proofs.Common.{FittedCard, Setup, IsBase, IsCard, IsCardList, Rises, IsExpansionRom, card_at}
-use Rattle.board_prelude.proofs.Common.{window_bits, bits_of_base, Bytes, Window, is_covered, is_enabled_for, is_rom_on}
+use Rattle.board_prelude.proofs.Common.{FittedCard, Setup, IsCard, IsCardList, IsExpansionRom, card_at}
+use Rattle.board_prelude.proofs.Common.{window_bits, Bytes, Window, is_covered, is_enabled_for, is_rom_on}
 use Rattle.board_prelude.proofs.Common.{memory_window, memory_windows, rom_window, rom_window_of, vga_window}
 use Rattle.board_prelude.proofs.Common.{memory_claim, Kind, lies_in, upper_memory, row_of}
 use Rattle.board_prelude.proofs.Common.{is_smram_range, is_shadowed, area_of}
@@ -14,6 +14,8 @@ use Rattle.board_base.specs.declared.target.Area.TheVariants.{Card as CardArea}
 use Rattle.board_chipset.proofs.HeldTargets.{IsClaim, claim_line}
 use Rattle.pci_bars.specs.Common.{IsBaseNumber}
 use Rattle.pci_bars.proofs.BaseLemmas.{is_base}
+use Rattle.pci_bars.proofs.WindowLemmas.{least_bits, All-find}
+use Rattle.addr_decode.proofs.CardLemmas.{find_at}
 
 -- a card with this number has a base with that one, which has 4 bytes or more
 pub record IsWindow (setup : Setup) (dev base : ℕ) : Type 0 where
@@ -27,25 +29,8 @@ OfCard setup window = IsWindow setup window.dev window.base
 abbrev IsFound : Setup → FittedCard → Type 0
 IsFound setup card = IsCard card × (card_at setup card.dev ≡ Some card)
 
-found : (cards : List FittedCard) → Rises cards → (k : ℕ) (d : FittedCard) → k < length cards →
-    find (λ card. card.dev == (get_or cards k d).dev) cards ≡ Some (get_or cards k d)
-found [] rises k d within = absurd (omega arith)
-found (card ∷ later) rises zero d within =
-    cond-true (card.dev == card.dev) (Some card) (find (λ other. other.dev == card.dev) later)
-    (eq-eqb card.dev card.dev refl)
-found (card ∷ later) rises (suc k) d within =
-    let above : card.dev < (get_or later k d).dev = rises.0 k d (omega arith) in
-    cond-false (card.dev == (get_or later k d).dev) (Some card)
-    (find (λ other. other.dev == (get_or later k d).dev) later) (ne_eqb _ _ (omega arith))
-    ∙ found later rises.1 k d (omega arith)
-
 all_found : (setup : Setup) → IsCardList setup.cards → All (IsFound setup) setup.cards
-all_found setup list k d within = (list.each k d within, found setup.cards list.rises k d within)
-
-least_bits : (base : Base) → IsBase base → 2 ≤ bits_of_base (Some base)
-least_bits (MemoryBase bits) fit = omega (arith, fit.0)
-least_bits (IoBase bits) fit = fit.0
-least_bits (OutsideBase bits) fit = omega (arith, fit.0)
+all_found setup list k d within = (list.each k d within, find_at setup.cards list.rises k d within)
 
 base_window : (setup : Setup) (card : FittedCard) (k : ℕ) (base : Base) → IsFound setup card → k < 6 →
     slice_get card.bases k ≡ Some base → IsWindow setup card.dev k
@@ -120,15 +105,6 @@ all_windows setup bytes (card ∷ later) are =
     All-append (OfCard setup) (memory_windows bytes card) (flat_map (memory_windows bytes) later)
     (card_windows setup bytes card (All-head (IsFound setup) card later are))
     (all_windows setup bytes later (All-tail (IsFound setup) card later are))
-
-All-find : (P : Window → Type 0) (test : Window → Bool) (windows : List Window) (window : Window) → All P windows →
-    find test windows ≡ Some window → P window
-All-find P test [] window each is = absurd (cc)
-All-find P test (first ∷ later) window each is =
-    elim (cases_Bool (test first)) [
-      | inl hit ↦ let same : Some first ≡ Some window = rw hit at is in subst P (cc) (All-head P first later each)
-      | inr miss ↦ All-find P test later window (All-tail P first later each) (rw miss at is)
-    ]
 
 pub claiming : (setup : Setup) (bytes : Bytes) (addr : ℕ) (window : Window) → IsCardList setup.cards →
     memory_claim setup bytes addr ≡ Some window → IsWindow setup window.dev window.base

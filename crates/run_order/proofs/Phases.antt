@@ -1,9 +1,10 @@
 -- A phase that was placed is whole.
 use Rattle.std.proofs.Common.{◌≡◌, ℕ, suc, ◌+◌, ◌<◌, ◌≤◌, ◌==◌, Bool, true, false, List, [], ◌∷◌, ◌++◌, map, length}
-use Rattle.std.proofs.Common.{filter, take, drop, refl, sym, ◌∙◌, ap, subst, arith, inl, inr, reverse, if◌then◌else◌}
-use Rattle.board_prelude.proofs.Common.{cases_Bool, nat_tests, append-nil, reverse-append, reverse-reverse, map-append}
+use Rattle.std.proofs.Common.{take, drop, refl, sym, ◌∙◌, ap, subst, arith, inl, inr, reverse, if◌then◌else◌}
+use Rattle.board_spec.proofs.OrderLawProofs.{events-append, statements-append}
+use Rattle.board_prelude.proofs.Common.{cases_Bool, nat_tests, append-nil, reverse-append, reverse-reverse}
 use Rattle.board_prelude.proofs.Common.{append_cancel_left, length-map, length-reverse, length-take, take_all, drop_all}
-use Rattle.board_prelude.proofs.Common.{take-append-le, drop-append-le, filter-append, Event, Entry, Statement, Setup}
+use Rattle.board_prelude.proofs.Common.{take-append-le, drop-append-le, Event, Entry, Statement, Setup}
 use Rattle.board_prelude.proofs.Common.{version_of, IsLegal, statement_of, statements_of, events_by, IsWholePhase}
 use Rattle.board_prelude.proofs.Common.{HasPhases}
 use Rattle.run_order.specs.declared.done.Done.{Done}
@@ -16,16 +17,6 @@ use Rattle.run_order.proofs.Directness.{has_added}
 use Rattle.run_order.proofs.Wholes.{own, own_new, own_old, placed_own}
 
 -- ---- statements and events
-
-statements_more : (more final : List Entry) → statements_of (more ++ final) ≡ statements_of final ++ statements_of more
-statements_more more final = ap (map statement_of) (reverse-append more final)
-    ∙ map-append statement_of (reverse final) (reverse more)
-
-events_append : (c : ℕ) (xs ys : List Statement) → events_by c (xs ++ ys) ≡ events_by c xs ++ events_by c ys
-events_append c xs ys =
-    ap (map (λ (s : Statement). s.event)) (filter-append (λ (s : Statement). s.actor == c) xs ys)
-    ∙ map-append (λ (s : Statement). s.event) (filter (λ (s : Statement). s.actor == c) xs)
-    (filter (λ (s : Statement). s.actor == c) ys)
 
 reverse_cons : (event : Event) (events : List Event) → reverse (event ∷ events) ≡ reverse events ++ event ∷ []
 reverse_cons event events = reverse-append (event ∷ []) events
@@ -41,8 +32,8 @@ events_own c [] = refl
 events_own c (entry ∷ before) =
     let split : events_by c (statements_of (entry ∷ before)) ≡ events_by c (statements_of before) ++ events_by c
     (statement_of entry ∷ []) =
-    ap (events_by c) (statements_more (entry ∷ []) before)
-    ∙ events_append c (statements_of before) (statement_of entry ∷ []) in
+    ap (events_by c) (statements-append (entry ∷ []) before)
+    ∙ events-append c (statements_of before) (statement_of entry ∷ []) in
     elim (cases_Bool (entry.actor == c)) [
       | inl is ↦ split ∙ (ap (λ (es : List Event). events_by c (statements_of before) ++ es) (one_own c entry is)
           ∙ (ap (λ (es : List Event). es ++ entry.event ∷ []) (events_own c before)
@@ -176,10 +167,10 @@ phase_placed blind setup opened later phase rests final over legal same =
     over.callers fit in
     let part : List Statement = statements_of adds.added in
     let said : statements_of all ≡ statements_of final ++ part = ap statements_of adds.adds
-    ∙ statements_more adds.added final in
+    ∙ statements-append adds.added final in
     let events : (c : ℕ) → events_by c part ≡ events_by c phase = λ c.
     let one : events_by c (statements_of final) ++ events_by c part ≡ events_by c (statements_of all) =
-    sym (ap (events_by c) said ∙ events_append c (statements_of final) part) in
+    sym (ap (events_by c) said ∙ events-append c (statements_of final) part) in
     let two : events_by c (statements_of all) ≡ reverse (onto (map event_of (done_by 0 c rests)) (own c final)) =
     events_own c all ∙ ap reverse (placed_own setup later opened rests final c fit over.callers) in
     let three : reverse (onto (map event_of (done_by 0 c rests)) (own c final)) ≡ events_by c (statements_of final)

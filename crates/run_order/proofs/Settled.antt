@@ -55,7 +55,7 @@ settled_left version [] so = refl
 settled_left version (done ∷ rests) so =
     λ t. not_due_same version done (so 0) t ∷ settled_left version rests (settled_tail version done rests so) t
 
-settled_more : (version : ℕ) (done : List Done) (rests : List (List Done)) → IsNotDue version done
+pub settled_more : (version : ℕ) (done : List Done) (rests : List (List Done)) → IsNotDue version done
     → IsSettled version rests → (k : ℕ)
     → IsNotDue version (get_or (done ∷ rests) k [])
 settled_more version done rests not so zero = not

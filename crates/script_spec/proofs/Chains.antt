@@ -1,5 +1,5 @@
 -- Parts of a chain that said something.
-use Rattle.std.proofs.Common.{◌≡◌, Bool, true, false, cond, ◌&&◌, Option, Some, None, refl, sym}
+use Rattle.std.proofs.Common.{◌≡◌, Bool, true, false, cond, Option, Some, None, refl, sym}
 use Rattle.board_prelude.proofs.Common.{option_and_then, option_map}
 
 pub some_is : {A : Type 0} (x y : A) → ◌≡◌ {A = Option A} (Some x) (Some y) → x ≡ y
@@ -18,7 +18,3 @@ pub mapped : {A B : Type 0} (said : Option A) (f : A → B) (y : B) → option_m
     → (x : A) × (said ≡ Some x) × (y ≡ f x)
 mapped None f y e = absurd cc
 mapped (Some x) f y e = (x, refl, sym (some_is (f x) y e))
-
-pub both : (a b : Bool) → (a && b) ≡ true → (a ≡ true) × (b ≡ true)
-both true b e = (refl, e)
-both false b e = absurd cc

@@ -1,5 +1,5 @@
 -- The lemmas and definitions that proofs above cite, passed on from one place. Declares nothing.
-pub use Rattle.script_spec.proofs.Chains.{both, guarded, some_is, then_said}
+pub use Rattle.script_spec.proofs.Chains.{guarded, some_is, then_said}
 pub use Rattle.script_spec.proofs.CheckLaws.{compared, lacks-line, one_difference, one_line}
 pub use Rattle.script_spec.proofs.CutLemmas.{cut_field, cut_joined}
 pub use Rattle.script_spec.proofs.Digits.{lacks, value_of_decimal}

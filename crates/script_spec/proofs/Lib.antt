@@ -24,6 +24,7 @@ pub mod Decision
 pub mod ReadingLaws
 pub mod ScriptLaws
 pub mod CheckLaws
+pub mod LeastReasons
 pub mod GoodItems
 pub mod EventRange
 pub mod RangeLaws

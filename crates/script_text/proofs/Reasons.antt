@@ -15,6 +15,7 @@ use Rattle.script_spec.specs.Common.{is_cpus_above, cards_of, has_card, has_setu
 use Rattle.script_spec.specs.Common.{is_repeated, is_event_in_range, is_in_range, is_placed, is_there, pulses_of_event}
 use Rattle.script_spec.specs.Common.{pulses_of, passes_limits, least_reason, ask}
 use Rattle.script_spec.proofs.ReadingLaws.{same_some}
+use Rattle.script_spec.proofs.LeastReasons.{first_is}
 use Rattle.script_lines.specs.declared.item.Asked.{Asked}
 use Rattle.script_lines.specs.declared.item.Asked.TheVariants.{Event as AnEvent, Moment as AMoment, Wire as WireAt}
 use Rattle.script_lines.specs.declared.item.Asked.TheVariants.{Line as LineAt}
@@ -24,20 +25,6 @@ use Rattle.script_text.specs.declared.reading.Reading.{Reading}
 use Rattle.script_text.specs.Common.{in_case, number_of, is_below, IsReadingOf, Judges, Stands}
 
 -- ---- of several reasons the least
-
-abbrev first_of : (a b c d e f g : Bool) → Option ℕ
-first_of a b c d e f g =
-    option_map (λ r. r.why) (find (λ r. r.holds)
-    (reason 4 a ∷ reason 5 b ∷ reason 6 c ∷ reason 7 d ∷ reason 8 e ∷ reason 9 f ∷ reason 10 g ∷ []))
-
-first_is :
-    (a b c d e f g : Bool) (items : List Item) (item : Item) →
-    is_misplaced items item ≡ a → is_repeated items item ≡ b → (is_phase item && lacks_setup items) ≡ c →
-    is_in_range item ≡ d → is_placed item ≡ e → is_there items item ≡ f → passes_limits (item ∷ items) ≡ g →
-    least_reason items item ≡ first_of a b c (not d) (not e) (not f) g
-unfolding least_reason
-first_is a b c d e f g items item ea eb ec ed ee ef eg i =
-    first_of (ea i) (eb i) (ec i) (not (ed i)) (not (ee i)) (not (ef i)) (eg i)
 
 pub misplaced : (items : List Item) (item : Item) → is_misplaced items item ≡ true → least_reason items item ≡ Some 4
 misplaced items item ea = first_is true _ _ _ _ _ _ items item ea refl refl refl refl refl refl

@@ -2,8 +2,7 @@
 
 ghost use Rattle.std.specs.Prelude.{◌≡◌, ◌≤◌, ◌<◌, ◌+◌, ◌&&◌, ◌||◌, nat_lt, true, is_some, ℕ, List, length, sum_by};
 ghost use Rattle.std.specs.Prelude.{IfOk, IsTrue};
-ghost use Rattle.board_prelude.specs.Common.{list_any, most_statements, most_pulses, IsBase, IsCard, memory_size};
-ghost use Rattle.pci_bars.specs.Bases.{base_of};
+ghost use Rattle.board_prelude.specs.Common.{list_any, most_statements, most_pulses, IsCard, memory_size};
 ghost use Rattle.script_spec.specs.Common.{Item as Said, SetCpus, SetMemory, SetRom, SetDisk, FitCard, BeginPhase, Ask};
 ghost use Rattle.script_spec.specs.Common.{IsForm, is_phase, is_setup, is_repeated, has_card, is_card_there};
 ghost use Rattle.script_spec.specs.Common.{pulses_of_event};
@@ -16,7 +15,7 @@ use crate::reading::Reading;
 use crate::valid::{ValidItem, is_placed, is_within, pulses_of, valid_card, valid_event};
 use board_spec::limits::MOST_STATEMENTS;
 use board_spec::{Event, Statement};
-use pci_bars::{BaseSpec, CardSpec};
+use pci_bars::CardSpec;
 use script_lines::{Asked, CardFields, Item};
 
 /// The most processors.
@@ -34,17 +33,6 @@ const MOST_PULSES: u32 = 100_000_000;
 /// The most bytes of memory behind the bases of all cards together, which is 64 MiB.
 const MOST_MEMORY: u32 = 0x400_0000;
 
-/// How many bytes of memory a base decodes.
-fn memory_size(base: BaseSpec) -> u32
-    requires base { IsBase (base_of base) }
-    ensures size { result ≡ memory_size (base_of base) }
-{
-    match base {
-        BaseSpec::Memory(bits) => 1 << bits,
-        BaseSpec::Io(_) | BaseSpec::Outside(_) => 0,
-    }
-}
-
 /// How many bytes of memory the bases of a card decode.
 pub(crate) fn memory_of_card(card: &CardSpec) -> u32
     requires card { IsCard card.now }
@@ -53,7 +41,7 @@ pub(crate) fn memory_of_card(card: &CardSpec) -> u32
 {
     let mut memory = 0;
     for base in card.bases.as_slice() {
-        memory += memory_size(*base);
+        memory += base.memory_size();
     }
     memory
 }

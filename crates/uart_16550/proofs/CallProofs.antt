@@ -1,8 +1,8 @@
 -- No byte that was received is lost, and all are read in their order.
-use Rattle.std.proofs.Common.{◌≡◌, ℕ, Bool, true, false, not, List, [], ◌∷◌, ◌++◌, length, inl, inr, refl, sym, ap, ◌∙◌}
+use Rattle.std.proofs.Common.{◌≡◌, ℕ, Bool, true, List, [], ◌∷◌, ◌++◌, length, inl, inr, refl, sym, ap, ◌∙◌}
 use Rattle.std.proofs.Common.{append_assoc, ◌==◌, Option, Some, None}
 use Rattle.board_prelude.proofs.Common.{cases_Bool, ne_eqb, append-nil, Event, Memory, Wide, Port, Ack, Pulses, Time}
-use Rattle.board_prelude.proofs.Common.{Wire, Line, BadSector, control_written, resets_hard}
+use Rattle.board_prelude.proofs.Common.{Wire, Line, BadSector, control_written, resets_hard, not-true}
 use Rattle.board_spec.specs.declared.event.Event.TheVariants.{Look as LookAt}
 use Rattle.uart_16550.specs.declared.interrupt.Interrupt.{Interrupt}
 use Rattle.uart_16550.specs.declared.interrupt.Interrupt.TheVariants.{LineStatus, DataAvailable, TransmitterEmpty}
@@ -47,15 +47,11 @@ read_in_order uart read.Lsr = refl
 read_in_order uart read.Msr = refl
 read_in_order uart read.Scr = refl
 
-unless : (b : Bool) → not b ≡ true → b ≡ false
-unless true is = cc
-unless false is = refl
-
 pub write_keeps : (uart : Uart) (register : WriteRegister) (byte : ℕ) → is_kept uart register byte ≡ true →
     (with_value uart register byte).queue ≡ uart.queue
 unfolding with_value
-write_keeps uart write.Thr byte kept = rw (unless (is_loopback uart) kept) refl
-write_keeps uart write.Fcr byte kept = rw (unless (is_emptying uart byte) kept) refl
+write_keeps uart write.Thr byte kept = rw (not-true (is_loopback uart) kept) refl
+write_keeps uart write.Fcr byte kept = rw (not-true (is_emptying uart byte) kept) refl
 write_keeps uart write.Dll byte kept = refl
 write_keeps uart write.Ier byte kept = refl
 write_keeps uart write.Dlm byte kept = refl

@@ -6,10 +6,10 @@ use Rattle.board_prelude.proofs.Common.{Pulses, Time, Wire, Line, BadSector, Ent
 use Rattle.board_prelude.proofs.Common.{control_written, control_after, reset_control, is_hard_reset, statement_of}
 use Rattle.board_prelude.proofs.Common.{statements_of}
 use Rattle.board_spec.specs.declared.event.Event.TheVariants.{Look as LookAt}
+use Rattle.board_spec.proofs.OrderLawProofs.{statements-append}
 use Rattle.uart_16550.specs.declared.com1.Com1.{Com1}
 use Rattle.uart_16550.specs.Common.{differ, is_for_uart, level_of, line_steps, com1_after, board_steps, uart_after}
 use Rattle.uart_16550.specs.Common.{uart_at_reset, ControlFollows}
-use Rattle.uart_16550.proofs.SerialSteps.{statements_joined}
 
 -- the register after statements, the oldest first
 control_over : ℕ → List Statement → ℕ
@@ -31,7 +31,7 @@ control_more [] history = refl
 control_more (entry ∷ more) history =
     ap (λ (control : ℕ). control_after control (control_written entry.event)) (control_more more history)
     ∙ (sym (control_last (reset_control history) (statements_of more) (statement_of entry))
-    ∙ ap (control_over (reset_control history)) (sym (statements_joined (entry ∷ []) more)))
+    ∙ ap (control_over (reset_control history)) (sym (statements-append (entry ∷ []) more)))
 
 -- levels of line 4 leave it
 control_of_change : (control : ℕ) (old new : Bool) → control_over control (line_steps old new) ≡ control

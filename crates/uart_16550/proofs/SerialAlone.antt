@@ -5,7 +5,8 @@ use Rattle.board_prelude.proofs.Common.{append-nil, Setup, IsSetup}
 use Rattle.byte_fields.specs.declared.fault.Fault.{Fault}
 use Rattle.byte_fields.specs.declared.fault.Fault.TheVariants as faults
 use Rattle.byte_fields.specs.Fields.{AreBytes, ended}
-use Rattle.byte_fields.proofs.Formats.{IsFormat, format_as, then_format, last_format}
+use Rattle.byte_fields.proofs.Formats.{IsFormat, format_as, then_format, last_format, not_err}
+use Rattle.byte_fields.proofs.Exactly.{not_ended}
 use Rattle.board_chipset.specs.Alone.{alone}
 use Rattle.board_chipset.specs.Chipset.{Running}
 use Rattle.board_chipset.specs.ChipsetState.{is_other_version}
@@ -16,11 +17,8 @@ use Rattle.uart_16550.specs.declared.com1.Com1.{Com1}
 use Rattle.uart_16550.specs.Serial.{Serial}
 use Rattle.uart_16550.specs.State.{IsCom1, com1_bytes}
 use Rattle.uart_16550.specs.SerialState.{IsSerial, LoadsSerial, IsBadSerialAt, serial_bytes, serial_fields}
-use Rattle.uart_16550.proofs.SerialStates.{both, never_err}
+use Rattle.uart_16550.proofs.SerialStates.{both}
 use Rattle.uart_16550.proofs.StateFormat.{com1_format}
-
-not_ended : (bytes : List ℕ) (left : ℕ) → ended bytes ≡ Err left → bytes ≡ [] → ⊥
-not_ended bytes left is none = let read : ended [] ≡ Err left = rw none at is in absurd cc
 
 -- what is read is that a call says that wants nothing behind it
 abbrev pub IsOnly : Setup → (bytes : List ℕ) → Result (Serial Running) Fault → Type 0
@@ -34,7 +32,7 @@ module _ (setup : Setup) (before mid : List ℕ) where
       IsOnly setup before (Ok serial)
   alone_only serial loads other same is begins =
       elim (loads.exact other [] same is (begins ∙ sym (append-nil (serial_bytes other)))) [
-        | inl none ↦ absurd (never_err serial faults.NoMemory none)
+        | inl none ↦ absurd (not_err serial faults.NoMemory none)
         | inr one ↦ inl one.0
       ]
 
@@ -43,7 +41,7 @@ module _ (setup : Setup) (before mid : List ℕ) where
       LoadsSerial setup before mid (Ok serial) → ended mid ≡ Err bad → IsOnly setup before result
   more_only bad serial result loads end other same is begins =
       elim (loads.exact other [] same is (begins ∙ sym (append-nil (serial_bytes other)))) [
-        | inl none ↦ absurd (never_err serial faults.NoMemory none)
+        | inl none ↦ absurd (not_err serial faults.NoMemory none)
         | inr one ↦ absurd (not_ended mid bad end one.1)
       ]
 

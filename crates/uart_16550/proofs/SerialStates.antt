@@ -5,6 +5,7 @@ use Rattle.byte_fields.specs.declared.fault.Bad.{Bad}
 use Rattle.byte_fields.specs.declared.fault.Fault.{Fault}
 use Rattle.byte_fields.specs.declared.fault.Fault.TheVariants as faults
 use Rattle.byte_fields.specs.Loads.{Loads}
+use Rattle.byte_fields.proofs.Formats.{not_err}
 use Rattle.board_chipset.specs.Common.{Running}
 use Rattle.board_chipset.specs.ChipsetState.{LoadsChipset, chipset_bytes}
 use Rattle.uart_16550.specs.declared.com1.Com1.{Com1}
@@ -21,9 +22,6 @@ chipset_is x y is = cc
 com1_is : (x y : Com1) → ◌≡◌ {A = Result Com1 Bad} (Ok x) (Ok y) → x ≡ y
 com1_is x y is = cc
 
-pub never_err : {A E : Type 0} (x : A) (y : E) → ◌≡◌ {A = Result A E} (Ok x) (Err y) → ⊥
-never_err x y is = absurd cc
-
 module _ (setup : Setup) (before mid after : List ℕ) where
   -- both were read
   pub loads_both : (board : Running) (com1 : Com1) → LoadsChipset setup before mid (Ok board) →
@@ -39,7 +37,7 @@ module _ (setup : Setup) (before mid after : List ℕ) where
     exact = λ serial rest same sound begins.
         elim (one.exact serial.board (com1_bytes serial.com1 ++ rest) same sound.chipset
         (begins ∙ append_assoc (chipset_bytes serial.board) (com1_bytes serial.com1) rest)) [
-          | inl never ↦ absurd (never_err board faults.NoMemory never)
+          | inl never ↦ absurd (not_err board faults.NoMemory never)
           | inr is ↦
               let port = two.exact serial.com1 rest sound.port is.1 in
               let first = chipset_is board serial.board is.0 in
@@ -58,10 +56,10 @@ module _ (setup : Setup) (before mid after : List ℕ) where
     exact = λ serial rest same sound begins.
         elim (one.exact serial.board (com1_bytes serial.com1 ++ rest) same sound.chipset
         (begins ∙ append_assoc (chipset_bytes serial.board) (com1_bytes serial.com1) rest)) [
-          | inl never ↦ absurd (never_err board faults.NoMemory never)
+          | inl never ↦ absurd (not_err board faults.NoMemory never)
           | inr is ↦
               let port = two.exact serial.com1 rest sound.port is.1 in
-              absurd (never_err serial.com1 bad (sym port.0))
+              absurd (not_err serial.com1 bad (sym port.0))
         ];
     bad = rw (one.bad, two.bad) refl;
   }

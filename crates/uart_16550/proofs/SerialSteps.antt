@@ -1,10 +1,11 @@
 -- How the histories go on that leave a board with a serial port.
-use Rattle.std.proofs.Common.{◌≡◌, ℕ, ◌<◌, Bool, true, false, List, [], ◌∷◌, ◌++◌, map, reverse, refl, sym, ap, subst}
+use Rattle.std.proofs.Common.{◌≡◌, ℕ, ◌<◌, Bool, true, false, List, [], ◌∷◌, ◌++◌, refl, sym, ap, subst}
 use Rattle.std.proofs.Common.{◌∙◌, append_assoc, lt_irrefl, ◌==◌, None, unwrap_or}
-use Rattle.board_prelude.proofs.Common.{ne_eqb, reverse-append, map-append, PortAccess, Event, Memory, Wide, Port, Ack}
+use Rattle.board_prelude.proofs.Common.{ne_eqb, PortAccess, Event, Memory, Wide, Port, Ack}
 use Rattle.board_prelude.proofs.Common.{Pulses, Time, Wire, Line, BadSector, Reply, Entry, Statement, Setup, line_set}
-use Rattle.board_prelude.proofs.Common.{irq_of, next_entry, statement_of, statements_of}
+use Rattle.board_prelude.proofs.Common.{irq_of, next_entry, statements_of}
 use Rattle.board_spec.specs.declared.event.Event.TheVariants.{Look as LookAt}
+use Rattle.board_spec.proofs.OrderLawProofs.{statements-append}
 use Rattle.uart_16550.specs.declared.com1.Com1.{Com1}
 use Rattle.uart_16550.specs.Common.{com1_irq, com1_actor, level_of, board_event, line_steps, change_steps, com1_after}
 use Rattle.uart_16550.specs.Common.{board_steps, uart_access, SetsLine, GoesOnBy, IsNextBy, AreAnswered}
@@ -14,18 +15,13 @@ use Rattle.uart_16550.specs.Common.{AnsweredIsLegal, IsLeftAt, IsLeftAfter}
 pub other_actor : (actor : ℕ) (event : Event) → actor < com1_actor → actor ≡ com1_actor → SetsLine event
 other_actor actor event below is = elim (lt_irrefl com1_actor (rw is at below)) [ ]
 
-pub statements_joined : (more before : List Entry) →
-    statements_of (more ++ before) ≡ statements_of before ++ statements_of more
-statements_joined more before =
-    ap (map statement_of) (reverse-append more before) ∙ map-append statement_of (reverse before) (reverse more)
-
 pub goes_on_twice : (before middle after : List Entry) (first second : List Statement) →
     GoesOnBy before first middle → GoesOnBy middle second after → GoesOnBy before (first ++ second) after
 goes_on_twice before middle after first second one two = record {
   more = two.more ++ one.more;
   grows = two.grows ∙ (ap (λ (list : List Entry). two.more ++ list) one.grows
       ∙ sym (append_assoc two.more one.more before));
-  same = statements_joined two.more one.more
+  same = statements-append two.more one.more
       ∙ (ap (λ (list : List Statement). list ++ statements_of two.more) one.same
       ∙ ap (λ (list : List Statement). first ++ list) two.same);
 }

@@ -1,10 +1,7 @@
-use Rattle.std.proofs.Common.{◌≡◌, List, ◌++◌, refl, ap, ◌∙◌, reverse}
-use Rattle.board_prelude.proofs.Common.{reverse-append, map-append, Entry, statement_of, statements_of}
+use Rattle.std.proofs.Common.{◌++◌, refl, ap, ◌∙◌}
+use Rattle.board_spec.proofs.OrderLawProofs.{statements-append}
+use Rattle.board_prelude.proofs.Common.{statements_of}
 use Rattle.board_image.proofs.laws.law_goes_on.Goals as goal
-
-one_after_other : (more first : List Entry) →
-    statements_of (more ++ first) ≡ statements_of first ++ statements_of more
-one_after_other more first = rw (reverse-append more first, map-append statement_of (reverse first) (reverse more)) refl
 
 pub returns : goal.returns
 returns c = record {
@@ -13,7 +10,7 @@ returns c = record {
         (record { legal = legal; same = refl }),
     record {
       legal = all;
-      same = one_after_other more loaded ∙ ap (λ first. first ++ statements_of more) replay.same;
+      same = statements-append more loaded ∙ ap (λ first. first ++ statements_of more) replay.same;
     },
   );
 }

@@ -1,7 +1,6 @@
 use Rattle.std.proofs.Common.{◌≡◌, ℕ, ◌≤◌, ◌∙◌, length, slice_index, set, inl, inr, length-set, get_or-set_same}
 use Rattle.std.proofs.Common.{get_or-set_other, sym, refl, subst, arith}
-use Rattle.board_prelude.proofs.Common.{cases_eq, bytes_of, reg_after}
-use Rattle.addr_decode.proofs.StoreLemmas.{few_bytes}
+use Rattle.board_prelude.proofs.Common.{cases_eq, bytes_of, reg_after, bytes_few}
 use Rattle.config_regs.proofs.Functions.{wide_shifted}
 use Rattle.config_regs.proofs.reading.read_from.Goals as goal
 
@@ -12,7 +11,7 @@ pub loop-index-preserved : goal.loop-index-preserved
 loop-index-preserved c =
     let read = c.loop-index.bytes in
     let index = c.loop-index.index in
-    let few : bytes_of c.args.width ≤ 4 = few_bytes c.args.width in
+    let few : bytes_of c.args.width ≤ 4 = bytes_few c.args.width in
     let four : length read ≡ 4 = c.loop-index.invariant.four in
     record {
       four = length-set read c.from.result c.read_byte.result ∙ four;

@@ -1,7 +1,8 @@
 use Rattle.std.proofs.Common.{◌≡◌, ℕ, false, sym, ◌∙◌, subst, arith, take}
 use Rattle.board_prelude.proofs.Common.{list_any, bytes_of, bytes_few, reg_after}
+use Rattle.addr_decode.proofs.NameLemmas.{offsets}
 use Rattle.map_blame.specs.Covers.{is_last_at}
-use Rattle.map_blame.proofs.CoverLemmas.{offsets, any_next, any_at}
+use Rattle.map_blame.proofs.CoverLemmas.{any_next, any_at}
 use Rattle.map_blame.proofs.keep.is_last_store.Goals as goal
 
 pub returns-then-is_last_after : goal.returns-then-is_last_after

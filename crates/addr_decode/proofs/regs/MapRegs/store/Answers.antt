@@ -1,8 +1,8 @@
 use Rattle.std.proofs.Common.{◌≡◌, ◌∙◌, ℕ, refl, subst, arith, slice_index}
-use Rattle.board_prelude.proofs.Common.{byte, reg_after}
+use Rattle.board_prelude.proofs.Common.{byte, reg_after, bytes_few}
 use Rattle.pci_bars.specs.Cards.{AreCardsOf}
 use Rattle.addr_decode.specs.MapRegs.{StandsFor, map_bytes, stored}
-use Rattle.addr_decode.proofs.StoreLemmas.{byte_in_list, few_bytes}
+use Rattle.addr_decode.proofs.StoreLemmas.{byte_in_list}
 use Rattle.addr_decode.proofs.CardLemmas.{fitted_same}
 use Rattle.addr_decode.proofs.NameLemmas.{named_so_far}
 use Rattle.addr_decode.proofs.StandsLemmas.{stored_so_far, none_stored, one_more_stored, all_stored, no_cards_stored}
@@ -31,7 +31,7 @@ this_byte :
     ≡ byte c.args.value c.loop-k.k
 this_byte c =
     byte_in_list c.args.value c.loop-k.k c.from-place.result c.to_le_bytes-bytes.result c.from-place.ensures
-    (omega (arith, few_bytes c.args.width)) c.to_le_bytes-bytes.ensures
+    (omega (arith, bytes_few c.args.width)) c.to_le_bytes-bytes.ensures
 
 pub loop-k-preserved : goal.loop-k-preserved
 loop-k-preserved c = record {

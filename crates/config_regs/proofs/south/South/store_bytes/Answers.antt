@@ -1,7 +1,7 @@
 use Rattle.std.proofs.Common.{◌≡◌, ℕ, ◌+◌, ◌≤◌, subst, arith, slice_index}
-use Rattle.board_prelude.proofs.Common.{bytes_of, One, Store, byte, changed_byte}
+use Rattle.board_prelude.proofs.Common.{bytes_of, One, Store, byte, changed_byte, bytes_few}
 use Rattle.xbus_select.specs.Piix.{piix_register}
-use Rattle.addr_decode.proofs.StoreLemmas.{byte_in_list, few_bytes}
+use Rattle.addr_decode.proofs.StoreLemmas.{byte_in_list}
 use Rattle.config_regs.specs.Config.{IsSouthOf}
 use Rattle.config_regs.proofs.SouthStores.{so_far, none_so_far, one_more, all_so_far}
 use Rattle.config_regs.proofs.south.South.store_bytes.Goals as goal
@@ -14,7 +14,7 @@ loop-index-init c = record {
 
 pub loop-index-preserved : goal.loop-index-preserved
 loop-index-preserved c =
-    let few : bytes_of c.args.width ≤ 4 = few_bytes c.args.width in
+    let few : bytes_of c.args.width ≤ 4 = bytes_few c.args.width in
     let at = piix_register c.args.fun c.args.off in
     let this : slice_index c.to_le_bytes-bytes.result c.from.result ≡ byte c.args.value c.loop-index.index =
     byte_in_list c.args.value c.loop-index.index c.from.result c.to_le_bytes-bytes.result c.from.ensures (omega arith)

@@ -8,16 +8,11 @@ use Rattle.map_builder.specs.declared.range.Changed.{Changed}
 use Rattle.map_builder.specs.Common.{Mapped, next_version, range_of, after, bounds, changed_windows, from_to}
 use Rattle.map_builder.specs.Common.{stores_rows, IsMapWhere, IsBeside, rows_in, sorted, Rise}
 use Rattle.map_builder.proofs.ChangeLemmas.{board_after, build_rise, build_few, build_beside, are_changed, keeps_byte}
-use Rattle.map_builder.proofs.ChangeLemmas.{pushed_found, AreFound, KeepsByte}
+use Rattle.map_builder.proofs.ChangeLemmas.{pushed_found, AreFound, KeepsByte, stood}
 use Rattle.map_builder.proofs.MovedRows.{covers_rows, rows_by_names}
 use Rattle.map_builder.proofs.flat_map.FlatMap.apply_named.Given.{Over}
 use Rattle.map_builder.proofs.flat_map.FlatMap.apply_named.Goals.{After-choose_windows}
 use Rattle.map_builder.proofs.flat_map.FlatMap.apply_named.Goals as goal
-
--- the registers inside a map are those that it is seen to have
-stood : (inside seen : Mapped) (setup : Setup) (bytes : Bytes) → inside ≡ seen → StandsFor setup bytes seen.regs →
-    StandsFor setup bytes inside.regs
-stood inside seen setup bytes is stands = subst (λ (flat : Mapped). StandsFor setup bytes flat.regs) (sym is) stands
 
 -- the names are those of the registers before, and after
 named : (g : Over) (c : After-choose_windows g) →

@@ -8,17 +8,12 @@ use Rattle.map_builder.specs.declared.range.Changed.{Changed}
 use Rattle.map_builder.specs.Changed.{register_windows}
 use Rattle.map_builder.specs.Common.{Mapped, next_version, range_of, changed_windows, is_row_name, stores_rows}
 use Rattle.map_builder.specs.Common.{IsMapWhere, IsBeside, sorted, Rise}
-use Rattle.map_builder.proofs.ChangeLemmas.{board_after, bridge_found, build_rise, build_beside, are_changed}
+use Rattle.map_builder.proofs.ChangeLemmas.{board_after, bridge_found, build_rise, build_beside, are_changed, stood}
 use Rattle.map_builder.proofs.ChangeLemmas.{keeps_byte, KeepsByte}
 use Rattle.map_builder.proofs.MovedRows.{covers_rows, rows_by_names}
 use Rattle.map_builder.proofs.flat_map.FlatMap.store_in_bridge.Given.{Over}
 use Rattle.map_builder.proofs.flat_map.FlatMap.store_in_bridge.Goals.{After-choose_in_bridge}
 use Rattle.map_builder.proofs.flat_map.FlatMap.store_in_bridge.Goals as goal
-
--- the registers inside a map are those that it is seen to have
-stood : (inside seen : Mapped) (setup : Setup) (bytes : Bytes) → inside ≡ seen → StandsFor setup bytes seen.regs →
-    StandsFor setup bytes inside.regs
-stood inside seen setup bytes is stands = subst (λ (flat : Mapped). StandsFor setup bytes flat.regs) (sym is) stands
 
 abbrev store : (g : Over) → After-choose_in_bridge g → MapChange
 store g c = Store c.args.reg One c.args.value

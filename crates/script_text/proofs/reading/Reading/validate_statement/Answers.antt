@@ -1,5 +1,5 @@
-use Rattle.std.proofs.Common.{◌≡◌, ◌+◌, ◌∙◌, ◌&&◌, Bool, true, false, length, refl, sym, ap}
-use Rattle.board_prelude.proofs.Common.{and_from, list_any, option_map}
+use Rattle.std.proofs.Common.{◌≡◌, ◌+◌, ◌∙◌, true, false, length, refl, sym, ap}
+use Rattle.board_prelude.proofs.Common.{and_from, list_any, option_map, and_right}
 use Rattle.script_spec.specs.Common.{Item, is_cpus_above, is_card_there, is_in_range, is_there, pulses_of_event}
 use Rattle.script_spec.specs.Common.{least_reason, ask}
 use Rattle.script_lines.specs.Items.{asked_said}
@@ -7,10 +7,6 @@ use Rattle.script_text.proofs.Reasons.{misplaced, out_of_range, not_placed, not_
 use Rattle.script_text.proofs.Reasons.{statement_place, asked_place, asked_repeated, asked_begun, actor_kept}
 use Rattle.script_text.proofs.Reasons.{few_pulses, none_in_case, some_in_case, limits_with, past_two}
 use Rattle.script_text.proofs.reading.Reading.validate_statement.Goals as goal
-
-and_absent : (a b : Bool) → b ≡ false → (a && b) ≡ false
-and_absent true b e = e
-and_absent false b e = refl
 
 pub returns-then-not-has_phase-clause-judged : goal.returns-then-not-has_phase-clause-judged
 returns-then-not-has_phase-clause-judged c items is =
@@ -66,7 +62,7 @@ returns-then-not-has_card_of-clause-judged c items is =
     ∙ not_there items asks
     (statement_place items asks true refl refl (sym (c.has_phase.ensures.phase items is) ∙ c.if-not-has_phase.false))
     refl refl (ap is_in_range read.1 ∙ read.0) (sym c.is_placed.ensures.placed ∙ c.if-not-is_placed.false)
-    (and_absent (list_any (is_cpus_above c.args.actor) items) (is_card_there items c.in-Some.event) there)
+    (and_right (list_any (is_cpus_above c.args.actor) items) (is_card_there items c.in-Some.event) there)
 
 pub is_past_limit-requires-clause-few : goal.is_past_limit-requires-clause-few
 is_past_limit-requires-clause-few c =
