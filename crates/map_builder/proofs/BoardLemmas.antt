@@ -1,16 +1,17 @@
--- Registers of the address map are those of some board: each of them stands for a byte of its own.
+-- Registers of the address map are those of some board, whatever its other registers hold: each stands for a byte of
+-- its own.
 use Rattle.std.proofs.Common.{◌≡◌, ℕ, zero, suc, ◌+◌, ◌-◌, ◌*◌, ◌/◌, ◌%◌, ◌^◌, ◌<◌, ◌≤◌, inl, inr, List, [], ◌∷◌}
 use Rattle.std.proofs.Common.{length, get_or, Option, Some, None, refl, sym, ◌∙◌, ap, subst, arith, ◌==◌, nat_lt}
-use Rattle.std.proofs.Common.{if◌then◌else◌, find, slice_index, option_map}
+use Rattle.std.proofs.Common.{if◌then◌else◌, false, ◌&&◌, All, find, is_some, slice_index, option_map}
 use Rattle.board_prelude.proofs.Common.{option_map_or, cases_Bool, cond-true, cond-false, eq-eqb, ne_eqb, get_or-map}
 use Rattle.board_prelude.proofs.Common.{length-map, nat_tests, Reg, Setup, FittedCard, Rises, IsCard, IsCardList, byte}
-use Rattle.board_prelude.proofs.Common.{is_within, card_register, expansion_rom, bridge, isa}
+use Rattle.board_prelude.proofs.Common.{is_within, card_register, bridge, isa, Bytes}
 use Rattle.pci_bars.specs.Cards.{CardBytes, HoldsLong, HoldsRom, DecodesAs, AreFitted, cards_of}
 use Rattle.pci_bars.proofs.CardLemmas.{wide_of_bytes}
-use Rattle.addr_decode.specs.MapRegs.{MapBytes}
+use Rattle.addr_decode.specs.MapRegs.{MapBytes, StandsFor}
 use Rattle.map_builder.specs.Map.{IsOfSomeBoard, HoldsDoublewords, HaveWidths}
 
--- ---- a board with these registers
+-- ---- these registers at their places, and other bytes elsewhere
 
 bridge_byte : MapBytes → ℕ → ℕ
 bridge_byte regs off =
@@ -18,37 +19,48 @@ bridge_byte regs off =
     if nat_lt off 0x68 then slice_index regs.drb (off - 0x60) else
     if off == 0x68 then regs.fdhc else regs.smram
 
-card_byte : ℕ → CardBytes → ℕ
-card_byte off card =
+card_byte : (other off : ℕ) → CardBytes → ℕ
+card_byte other off card =
     if off == 0x04 then card.command else
-    if is_within 0x10 0x27 off then byte (slice_index card.bases ((off - 0x10) / 4)) ((off - 0x10) % 4)
-    else byte card.rom (off - 0x30)
+    if is_within 0x10 0x27 off then byte (slice_index card.bases ((off - 0x10) / 4)) ((off - 0x10) % 4) else
+    if is_some card.card.rom && is_within 0x30 0x33 off then byte card.rom (off - 0x30) else other
 
 pub card_with : ℕ → List CardBytes → Option CardBytes
 card_with dev cards = find (λ card. card.card.dev == dev) cards
 
-board_byte : MapBytes → Reg → ℕ
-board_byte regs reg =
+unfoldable pub overlaid : MapBytes → (others : Bytes) → Bytes
+overlaid regs others reg =
     if reg.dev == 0 then bridge_byte regs reg.off else
-    if reg.dev == 1 then regs.xbcs else option_map_or (card_byte reg.off) (card_with reg.dev regs.cards) 0
+    if reg.dev == 1 then (if reg.fun == 0 && reg.off == 0x4E then regs.xbcs else others reg)
+    else option_map_or (card_byte (others reg) reg.off) (card_with reg.dev regs.cards) (others reg)
 
-board_setup : MapBytes → Setup
-board_setup regs = record { mib = 1; cards = cards_of regs.cards; rom = []; disk = None }
+-- ---- the bridges
 
--- ---- the host bridge
-
-rows_stand : (regs : MapBytes) (row : ℕ) → row < 8 → slice_index regs.drb row ≡ board_byte regs (bridge (0x60 + row))
-unfolding board_byte bridge_byte
-rows_stand regs row below =
+rows_stand : (regs : MapBytes) (others : Bytes) (row : ℕ) → row < 8 →
+    slice_index regs.drb row ≡ overlaid regs others (bridge (0x60 + row))
+unfolding overlaid bridge_byte
+rows_stand regs others row below =
     let off : 0x60 + row - 0x60 ≡ row = omega arith in
     sym (cond-false (nat_lt (0x60 + row) 0x60) _ _ (grind (arith, nat_tests))
     ∙ cond-true (nat_lt (0x60 + row) 0x68) _ _ (grind (arith, nat_tests))
     ∙ ap (λ k. slice_index regs.drb k) off)
 
-windows_stand : (regs : MapBytes) (off : ℕ) → (0x59 ≤ off) × (off ≤ 0x5F) →
-    slice_index regs.pam (off - 0x59) ≡ board_byte regs (bridge off)
-unfolding board_byte bridge_byte
-windows_stand regs off within = sym (cond-true (nat_lt off 0x60) _ _ (grind (arith, nat_tests, within.1)))
+windows_stand : (regs : MapBytes) (others : Bytes) (off : ℕ) → (0x59 ≤ off) × (off ≤ 0x5F) →
+    slice_index regs.pam (off - 0x59) ≡ overlaid regs others (bridge off)
+unfolding overlaid bridge_byte
+windows_stand regs others off within = sym (cond-true (nat_lt off 0x60) _ _ (grind (arith, nat_tests, within.1)))
+
+hole_stands : (regs : MapBytes) (others : Bytes) → regs.fdhc ≡ overlaid regs others (bridge 0x68)
+unfolding overlaid bridge_byte
+hole_stands regs others = refl
+
+smram_stands : (regs : MapBytes) (others : Bytes) → regs.smram ≡ overlaid regs others (bridge 0x72)
+unfolding overlaid bridge_byte
+smram_stands regs others = refl
+
+xbcs_stands : (regs : MapBytes) (others : Bytes) → regs.xbcs ≡ overlaid regs others (isa 0x4E)
+unfolding overlaid
+xbcs_stands regs others = refl
 
 -- ---- the cards
 
@@ -78,81 +90,105 @@ find-map dev (card ∷ later) = elim (cases_Bool (card.card.dev == dev)) [
   | inr not_here ↦ rw (not_here) (find-map dev later)
 ]
 
--- a register of a card that is found is that of the card
-card_stands : (regs : MapBytes) (card : CardBytes) (off : ℕ) → 2 ≤ card.card.dev →
-    card_with card.card.dev regs.cards ≡ Some card →
-    board_byte regs (card_register card.card.dev off) ≡ card_byte off card
-unfolding board_byte
-card_stands regs card off above at =
-    cond-false (card.card.dev == 0) _ _ (ne_eqb _ _ (omega arith))
-    ∙ cond-false (card.card.dev == 1) _ _ (ne_eqb _ _ (omega arith))
-    ∙ ap (λ (it : Option CardBytes). option_map_or (card_byte off) it 0) at
-
-command_byte : (card : CardBytes) → card_byte 0x04 card ≡ card.command
+command_byte : (other : ℕ) (card : CardBytes) → card_byte other 0x04 card ≡ card.command
 unfolding card_byte
-command_byte card = refl
+command_byte other card = refl
 
-base_byte : (card : CardBytes) (k j : ℕ) → k < 6 → j < 4 →
-    card_byte (0x10 + 4 * k + j) card ≡ byte (slice_index card.bases k) j
+base_byte : (other : ℕ) (card : CardBytes) (k j : ℕ) → k < 6 → j < 4 →
+    card_byte other (0x10 + 4 * k + j) card ≡ byte (slice_index card.bases k) j
 unfolding card_byte
-base_byte card k j few below =
+base_byte other card k j few below =
     let quotient : (0x10 + 4 * k + j - 0x10) / 4 ≡ k = omega arith in
     let rest : (0x10 + 4 * k + j - 0x10) % 4 ≡ j = omega arith in
     cond-false (0x10 + 4 * k + j == 0x04) _ _ (ne_eqb _ _ (omega arith))
     ∙ cond-true (is_within 0x10 0x27 (0x10 + 4 * k + j)) _ _ (grind (arith, nat_tests))
     ∙ rw (quotient, rest) refl
 
-rom_byte : (card : CardBytes) (j : ℕ) → j < 4 → card_byte (0x30 + j) card ≡ byte card.rom j
+rom_byte : (other : ℕ) (card : CardBytes) (bits j : ℕ) → card.card.rom ≡ Some bits → j < 4 →
+    card_byte other (0x30 + j) card ≡ byte card.rom j
 unfolding card_byte
-rom_byte card j below =
+rom_byte other card bits j is below =
     let place : 0x30 + j - 0x30 ≡ j = omega arith in
     cond-false (0x30 + j == 0x04) _ _ (ne_eqb _ _ (omega arith))
     ∙ cond-false (is_within 0x10 0x27 (0x30 + j)) _ _ (grind (arith, nat_tests))
+    ∙ cond-true (is_some card.card.rom && is_within 0x30 0x33 (0x30 + j)) _ _ (rw is (grind (arith, nat_tests)))
     ∙ ap (λ k. byte card.rom k) place
 
 -- four registers that hold the bytes of a doubleword hold it
-long_held : (regs : MapBytes) (dev from value : ℕ) → value < 2 ^ 32 →
-    ((j : ℕ) → j < 4 → board_byte regs (card_register dev (from + j)) ≡ byte value j) →
-    HoldsLong (board_byte regs) (card_register dev from) value
-long_held regs dev from value below each = record {
-  number = wide_of_bytes (λ off. board_byte regs (card_register dev off)) from value below each;
+long_held : (bytes : Bytes) (dev from value : ℕ) → value < 2 ^ 32 →
+    ((j : ℕ) → j < 4 → bytes (card_register dev (from + j)) ≡ byte value j) →
+    HoldsLong bytes (card_register dev from) value
+long_held bytes dev from value below each = record {
+  number = wide_of_bytes (λ off. bytes (card_register dev off)) from value below each;
   each = each;
 }
 
-rom_held : (regs : MapBytes) (dev value : ℕ) (rom : Option ℕ) → HoldsLong (board_byte regs) (expansion_rom dev) value →
-    HoldsRom (board_byte regs) dev value rom
-rom_held regs dev value None held = tt
-rom_held regs dev value (Some bits) held = held
+-- a card that is found
+module _ (regs : MapBytes) (others : Bytes) (card : CardBytes) (fit : IsCard card.card)
+    (at : card_with card.card.dev regs.cards ≡ Some card) where
+  stands : (off : ℕ) → overlaid regs others (card_register card.card.dev off)
+      ≡ card_byte (others (card_register card.card.dev off)) off card
+  unfolding overlaid
+  stands off =
+      let other : ℕ = others (card_register card.card.dev off) in
+      cond-false (card.card.dev == 0) _ _ (ne_eqb _ _ (omega (arith, fit.first)))
+      ∙ cond-false (card.card.dev == 1) _ _ (ne_eqb _ _ (omega (arith, fit.first)))
+      ∙ ap (λ (it : Option CardBytes). option_map_or (card_byte other off) it other) at
 
-decodes : (regs : MapBytes) (card : CardBytes) → IsCard card.card → HoldsDoublewords card →
-    card_with card.card.dev regs.cards ≡ Some card → DecodesAs (board_setup regs) (board_byte regs) card
-unfolding board_setup
-decodes regs card fit doublewords at = record {
-  fitted = find-map card.card.dev regs.cards
-      ∙ ap (λ (it : Option CardBytes). option_map (λ (card : CardBytes). card.card) it) at;
-  command = card_stands regs card 0x04 fit.first at ∙ command_byte card;
-  bases = λ k few.
-      long_held regs card.card.dev (0x10 + 4 * k) (slice_index card.bases k) (doublewords.bases k)
-      (λ j below. card_stands regs card (0x10 + 4 * k + j) fit.first at ∙ base_byte card k j few below);
-  rom =
-      rom_held regs card.card.dev card.rom card.card.rom
-      (long_held regs card.card.dev 0x30 card.rom doublewords.rom
-      (λ j below. card_stands regs card (0x30 + j) fit.first at ∙ rom_byte card j below));
-}
+  -- what is no part of the map
+  pub other_stands : (off : ℕ) → (off == 0x04) ≡ false → is_within 0x10 0x27 off ≡ false →
+      (is_some card.card.rom && is_within 0x30 0x33 off) ≡ false →
+      overlaid regs others (card_register card.card.dev off) ≡ others (card_register card.card.dev off)
+  unfolding card_byte
+  other_stands off no_command no_base no_rom =
+      stands off
+      ∙ cond-false (off == 0x04) _ _ no_command
+      ∙ cond-false (is_within 0x10 0x27 off) _ _ no_base
+      ∙ cond-false (is_some card.card.rom && is_within 0x30 0x33 off) _ _ no_rom
+
+  rom_held : (rom : Option ℕ) → card.card.rom ≡ rom → card.rom < 2 ^ 32 →
+      HoldsRom (overlaid regs others) card.card.dev card.rom rom
+  rom_held None is below = tt
+  rom_held (Some bits) is below =
+      long_held (overlaid regs others) card.card.dev 0x30 card.rom below
+      (λ j few. stands (0x30 + j) ∙ rom_byte _ card bits j is few)
+
+  pub decodes : (setup : Setup) → setup.cards ≡ cards_of regs.cards → HoldsDoublewords card →
+      DecodesAs setup (overlaid regs others) card
+  decodes setup same doublewords = record {
+    fitted =
+        ap (λ (cards : List FittedCard). find (λ other. other.dev == card.card.dev) cards) same
+        ∙ (find-map card.card.dev regs.cards
+        ∙ ap (λ (it : Option CardBytes). option_map (λ (card : CardBytes). card.card) it) at);
+    command = stands 0x04 ∙ command_byte _ card;
+    bases = λ k few.
+        long_held (overlaid regs others) card.card.dev (0x10 + 4 * k) (slice_index card.bases k)
+        (doublewords.bases k)
+        (λ j below. stands (0x10 + 4 * k + j) ∙ base_byte _ card k j few below);
+    rom = rom_held card.card.rom refl doublewords.rom;
+  }
 
 -- ---- all of them
 
-hole_stands : (regs : MapBytes) → regs.fdhc ≡ board_byte regs (bridge 0x68)
-unfolding board_byte bridge_byte
-hole_stands regs = refl
+pub overlaid_stands : (setup : Setup) (regs : MapBytes) (others : Bytes) → setup.cards ≡ cards_of regs.cards →
+    AreFitted regs.cards → All HoldsDoublewords regs.cards → StandsFor setup (overlaid regs others) regs
+overlaid_stands setup regs others same fitted doublewords = record {
+  rows = rows_stand regs others;
+  hole = hole_stands regs others;
+  windows = windows_stand regs others;
+  smram = smram_stands regs others;
+  xbcs = xbcs_stands regs others;
+  cards = (
+    same,
+    (λ k d within.
+        decodes regs others (get_or regs.cards k d) (fitted.each k d within)
+        (found regs.cards fitted.rises k d within) setup same (doublewords k d within)),
+  );
+}
 
-smram_stands : (regs : MapBytes) → regs.smram ≡ board_byte regs (bridge 0x72)
-unfolding board_byte bridge_byte
-smram_stands regs = refl
-
-xbcs_stands : (regs : MapBytes) → regs.xbcs ≡ board_byte regs (isa 0x4E)
-unfolding board_byte
-xbcs_stands regs = refl
+-- a board with these registers, and 0 in all others
+board_setup : MapBytes → Setup
+board_setup regs = record { mib = 1; cards = cards_of regs.cards; rom = []; disk = None }
 
 cards_fitted : (regs : MapBytes) → (board_setup regs).cards ≡ cards_of regs.cards
 unfolding board_setup
@@ -174,20 +210,10 @@ fitted_cards regs few fitted = record {
 pub has_board : (regs : MapBytes) → AreFitted regs.cards → HaveWidths regs → IsOfSomeBoard regs
 has_board regs fitted widths = record {
   setup = board_setup regs;
-  bytes = board_byte regs;
+  bytes = overlaid regs (λ reg. 0);
   cards = subst IsCardList (sym (cards_fitted regs)) (fitted_cards regs widths.count fitted);
-  top = omega (arith, rows_stand regs 7 (omega arith), widths.rows 7);
-  stands = record {
-    rows = rows_stand regs;
-    hole = hole_stands regs;
-    windows = windows_stand regs;
-    smram = smram_stands regs;
-    xbcs = xbcs_stands regs;
-    cards = (
-      cards_fitted regs,
-      (λ k d within.
-          decodes regs (get_or regs.cards k d) (fitted.each k d within) (widths.cards k d within)
-          (found regs.cards fitted.rises k d within)),
-    );
-  };
+  top = omega (arith, rows_stand regs (λ reg. 0) 7 (omega arith), widths.rows 7);
+  stands =
+      overlaid_stands (board_setup regs) regs (λ reg. 0) (cards_fitted regs) fitted
+      (λ k d within. widths.cards k d within);
 }
