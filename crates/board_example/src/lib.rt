@@ -43,8 +43,17 @@ use board_spec::{Event, Reply};
 pub use monitor::{Served, serve, serve_all};
 use std::alloc::Global;
 
-/// What a processor fetches first: the four bytes at FFFFFFF0h of a board with this ROM, 8 MiB and no cards. BadRom
-/// exactly where the ROM is not of 64, 128, 256 or 512 KiB; any other refusal is for want of memory.
+/// What a processor fetches first: the four bytes at FFFFFFF0h.
+const FIRST_FETCH: Access = Access {
+    kind: Kind::Fetch,
+    addr: 0xFFFF_FFF0,
+    width: Width::Four,
+    smm: false,
+    value: 0,
+};
+
+/// What a processor fetches first from a board with this ROM, 8 MiB and no cards. BadRom exactly where the ROM is not of
+/// 64, 128, 256 or 512 KiB; any other refusal is for want of memory.
 pub fn reset_vector(alloc: Global, rom: Vec<u8>) -> Result<Reply, BoardOpen>
     ensures answer { IfOk result (IsAnswer (record { mib = 8; cards = []; rom = rom.items; disk = None }) []
         (Event.Memory (record { kind = Kind.Fetch; addr = 0xFFFF_FFF0; width = Width.Four; smm = false; value = 0 }))) }
@@ -60,12 +69,5 @@ pub fn reset_vector(alloc: Global, rom: Vec<u8>) -> Result<Reply, BoardOpen>
     };
     let mut board = Board::open(alloc, setup)?;
     board.reserve(1)?;
-    let fetch = Access {
-        kind: Kind::Fetch,
-        addr: 0xFFFF_FFF0,
-        width: Width::Four,
-        smm: false,
-        value: 0,
-    };
-    Ok(board.step(0, &Event::Memory(fetch)))
+    Ok(board.step(0, &Event::Memory(FIRST_FETCH)))
 }

@@ -2,21 +2,12 @@
 
 ghost use Rattle.std.specs.Prelude.{◌≡◌, []};
 
-use board_base::{Access, Kind, Width};
+use crate::FIRST_FETCH;
 use board_core::Board;
 use board_live::{Live, LiveOpen};
 use board_spec::Event;
 use std::alloc::Global;
 use std::sync::Wait;
-
-/// What a processor fetches first.
-const FIRST_FETCH: Access = Access {
-    kind: Kind::Fetch,
-    addr: 0xFFFF_FFF0,
-    width: Width::Four,
-    smm: false,
-    value: 0,
-};
 
 /// Shares a fresh board with one caller, which fetches its first bytes, and gives the board back, with what it did.
 /// Further callers would each be on a thread of their own. It may wait.

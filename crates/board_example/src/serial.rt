@@ -5,7 +5,7 @@ use board_base::{PortAccess, Width};
 use board_chipset::{BoardOpen, Chipset};
 use board_spec::Event;
 use std::alloc::Global;
-use uart_16550::{SerialBoard, SerialReply, Uart};
+use uart_16550::{COM1, SerialBoard, SerialReply, Uart};
 
 /// The offsets of RBR and THR, of MCR, and of LSR.
 const BUFFER: u8 = 0;
@@ -16,9 +16,6 @@ const LINE_STATUS: u8 = 5;
 
 /// MCR: loopback.
 const LOOPBACK: u8 = 0x10;
-
-/// The first port of COM1.
-const COM1: u16 = 0x3F8;
 
 /// What a UART received: LSR, and the byte.
 #[derive(Clone, Copy, PartialEq, Eq, Debug)]

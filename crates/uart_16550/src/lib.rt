@@ -18,7 +18,7 @@ mod state;
 mod stepped;
 mod uart;
 
-pub use com1::{Happening, SerialReply, UartReply, is_for_uart};
+pub use com1::{COM1, Happening, SerialReply, UartReply, is_for_uart};
 pub use register::UartRegisters;
 pub use serial::SerialBoard;
 pub use state::law_one_uart;
