@@ -13,13 +13,13 @@ use Rattle.map_builder.specs.Map.{IsOfSomeBoard, HoldsDoublewords, HaveWidths}
 
 -- ---- these registers at their places, and other bytes elsewhere
 
-bridge_byte : MapBytes → ℕ → ℕ
+pub bridge_byte : MapBytes → ℕ → ℕ
 bridge_byte regs off =
     if nat_lt off 0x60 then slice_index regs.pam (off - 0x59) else
     if nat_lt off 0x68 then slice_index regs.drb (off - 0x60) else
     if off == 0x68 then regs.fdhc else regs.smram
 
-card_byte : (other off : ℕ) → CardBytes → ℕ
+pub card_byte : (other off : ℕ) → CardBytes → ℕ
 card_byte other off card =
     if off == 0x04 then card.command else
     if is_within 0x10 0x27 off then byte (slice_index card.bases ((off - 0x10) / 4)) ((off - 0x10) % 4) else
