@@ -7,7 +7,7 @@ use Rattle.board_prelude.proofs.Common.{most_phases, most_pulses, most_card_memo
 use Rattle.script_spec.specs.Common.{Item, BeginPhase, is_phase, is_statement, is_cpus_above, cards_of}
 use Rattle.script_spec.specs.Common.{is_in_range}
 use Rattle.script_spec.specs.Common.{pulses_of, passes_limits}
-use Rattle.script_spec.proofs.LeastReasons.{first_is}
+use Rattle.script_spec.proofs.LeastReasons.{first_is, first_of}
 use Rattle.board_examples.specs.Limits.{asks, after_so_many, after_statements, after_phases, after_millions}
 use Rattle.board_examples.specs.Limits.{AmountBorders, AreaBorders}
 
