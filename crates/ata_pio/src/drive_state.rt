@@ -1,7 +1,7 @@
 //! The state of the drive as bytes, out and in.
 
-ghost use Rattle.std.specs.Prelude.{◌≡◌, ◌++◌, ◌<◌, ◌≤◌, OnOk, IfOk, take, length, ℕ, List};
-ghost use Rattle.byte_fields.specs.Fields.{Took, plain};
+ghost use Rattle.std.specs.Prelude.{◌≡◌, ◌++◌, ◌-◌, ◌<◌, ◌≤◌, nat_lt, OnOk, IfOk, take, length, ℕ, List};
+ghost use Rattle.byte_fields.specs.Fields.{Took, bound_where, plain};
 ghost use Rattle.ata_pio.specs.View.{registers_of, activity_of, drive_of, IsOnDisk};
 ghost use Rattle.ata_pio.specs.DriveState.{AreRegisters, registers_bytes, registers_fields, IsActivity, number_of};
 ghost use Rattle.ata_pio.specs.DriveState.{sector_of, next_word_of, came_of, came_size, activity_bytes, activity_with};
@@ -158,15 +158,42 @@ impl Progress {
     }
 }
 
-/// Reads so many bytes of a sector into a buffer for all.
-fn read_came(fields: &mut Fields, size: usize) -> Result<[u8; SECTOR_BYTES], Bad>
+/// The last sector that what has this number may have at a disk of so many. It is 0 where it has none.
+fn last_sector(number: u8, sectors: u32) -> u32
+    requires some { 0 < sectors }
+    ensures last { result ≡ bound_where (nat_lt 2 number) (sectors - 1) }
+    ensures below { result < sectors }
+{
+    if IDENTIFY < number { sectors - 1 } else { 0 }
+}
+
+/// The last word that may come next for what has this number. It is 0 where none comes.
+fn last_word(number: u8) -> u8
+    ensures last { result ≡ bound_where (nat_lt 1 number) 255 }
+{
+    if ERROR < number { u8::MAX } else { 0 }
+}
+
+/// How many bytes of a sector have come for what has this number, where this word comes next.
+fn came_size(number: u8, word: u8) -> usize
+    ensures size { result ≡ came_size number word }
+    ensures room { result ≤ 512 }
+{
+    if READ < number {
+        2 * usize::from(word)
+    } else {
+        0
+    }
+}
+
+/// Reads so many bytes of a sector into the front of a buffer for all.
+fn read_came(fields: &mut Fields, size: usize, buffer: &mut [u8; SECTOR_BYTES]) -> Result<(), Bad>
     requires few { size ≤ 512 }
-    ensures took { Took (λ buffer. take size buffer) result fields.new (plain size fields.old) }
+    ensures took { Took (λ _. take size buffer.new) result fields.new (plain size fields.old) }
 {
     let came = fields.bytes(size)?;
-    let mut buffer = [0; SECTOR_BYTES];
     buffer[..size].copy_from_slice(came);
-    Ok(buffer)
+    Ok(())
 }
 
 impl UnderWay {
@@ -178,14 +205,10 @@ impl UnderWay {
         ensures within { IfOk result (λ under_way. IsOnDisk sectors under_way.progress) }
     {
         let number = fields.byte(IDLE, WRITE)?;
-        let sector = fields.word(0, if IDENTIFY < number { sectors - 1 } else { 0 })?;
-        let word = fields.byte(0, if ERROR < number { u8::MAX } else { 0 })?;
-        let size = if READ < number {
-            2 * usize::from(word)
-        } else {
-            0
-        };
-        let buffer = read_came(fields, size)?;
+        let sector = fields.word(0, last_sector(number, sectors))?;
+        let word = fields.byte(0, last_word(number))?;
+        let mut buffer = [0; SECTOR_BYTES];
+        read_came(fields, came_size(number, word), &mut buffer)?;
         let progress = Progress::of_numbers(number, sector, word);
         Ok(UnderWay { progress, buffer })
     }

@@ -1,18 +1,37 @@
 -- One step along a list, and bytes past a number.
-use Rattle.std.proofs.Common.{◌≡◌, ℕ, ◌+◌, ◌-◌, ◌/◌, ◌^◌, ◌<◌, ◌≤◌, Bool, arith, lit<, if◌then◌else◌, List, length}
-use Rattle.std.proofs.Common.{drop, get_or, find, Some, refl, ap}
-use Rattle.std.proofs.lemmas.List.{drop_more}
+use Rattle.std.proofs.Common.{◌≡◌, ℕ, ◌+◌, ◌-◌, ◌/◌, ◌^◌, ◌<◌, ◌≤◌, Bool, true, false, arith, lit<, if◌then◌else◌, List, length}
+use Rattle.std.proofs.Common.{drop, get_or, find, Some, refl, ap, sym, ◌∙◌}
+use Rattle.std.proofs.lemmas.List.{drop_more, at_drop_all}
 use Rattle.std.proofs.Math.Nat.{div-eq_of_lt, pow-le-pow_right}
 use Rattle.board_prelude.proofs.Common.{byte}
 use Rattle.card_identity.specs.declared.field.Field.{Field}
 use Rattle.card_identity.specs.Header.{byte_said, says}
 
-pub byte_next : (fields : List Field) (index off old : ℕ) (last : Field) → index < length fields →
+byte_next : (fields : List Field) (index off old : ℕ) (last : Field) → index < length fields →
     byte_said (drop index fields) off old
     ≡ (if says (get_or fields index last) off
     then byte (get_or fields index last).value (off - (get_or fields index last).first)
     else byte_said (drop (index + 1) fields) off old)
 byte_next fields index off old last within = ap (λ rest. byte_said rest off old) (drop_more fields index last within)
+
+-- the field here says the byte
+pub byte_here : (fields : List Field) (index off old : ℕ) (last : Field) → index < length fields →
+    says (get_or fields index last) off ≡ true →
+    byte_said (drop index fields) off old
+    ≡ byte (get_or fields index last).value (off - (get_or fields index last).first)
+byte_here fields index off old last within here = byte_next fields index off old last within ∙ rw here refl
+
+-- a later one says it, or none
+pub byte_later : (fields : List Field) (index off old : ℕ) (last : Field) → index < length fields →
+    says (get_or fields index last) off ≡ false →
+    byte_said (drop (index + 1) fields) off old ≡ byte_said (drop index fields) off old
+byte_later fields index off old last within not_here =
+    sym (byte_next fields index off old last within ∙ rw not_here refl)
+
+-- past the last field it is as it was
+pub byte_past : (fields : List Field) (index off old : ℕ) → length fields ≤ index →
+    old ≡ byte_said (drop index fields) off old
+byte_past fields index off old past = sym (at_drop_all (λ rest. byte_said rest off old) fields index past)
 
 pub find_next : {X : Type 0} (test : X → Bool) (items : List X) (index : ℕ) (last : X) → index < length items →
     find test (drop index items)

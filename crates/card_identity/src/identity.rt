@@ -57,7 +57,6 @@ impl Identity {
     }
 
     /// The byte at an offset of the header, where it was `old`.
-    #[tactic(auto, using(crate::proofs::Walks::byte_next), unfolding(crate::specs::Header::identity_byte))]
     pub(crate) fn byte(&self, off: u32, old: u8) -> u8
         ensures byte { result ≡ identity_byte self.now off old }
     {

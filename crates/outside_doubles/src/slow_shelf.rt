@@ -39,7 +39,6 @@ impl Shelf for SlowShelf {
     ghost fetches = { λ _. None };
 
     // More than a shelf has to promise: what the inner one returns where it has room for `self.piece` bytes at most.
-    #[tactic(auto, using(crate::proofs::SliceLemmas::beyond_in_front))]
     fn fetch(&mut self, name: &str, at: u64, into: &mut [u8]) -> Result<usize, Failed>
         ensures piece { self.new.piece ≡ self.old.piece }
         ensures short { IfOk result (λ k. k ≤ self.old.piece) }

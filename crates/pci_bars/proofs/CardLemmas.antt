@@ -2,15 +2,15 @@
 use Rattle.std.proofs.Common.{◌≡◌, ◌≢◌, ◌⊎◌, ℕ, zero, suc, ◌+◌, ◌-◌, ◌*◌, ◌^◌, ◌<◌, ◌≤◌, false, Option, None, List, []}
 use Rattle.std.proofs.Common.{◌∷◌, length, get_or, set, Some, inl, inr, ◌∙◌, refl, sym, ap, subst, arith, lit<, lit≤}
 use Rattle.std.proofs.Common.{add-zero, get_or-set_same, get_or-set_other, ◌==◌, slice_index}
-use Rattle.board_prelude.proofs.Common.{and_left, ne_eqb, cases_eq, cases_lt, nat_tests, One, Reg, Store, Base}
+use Rattle.board_prelude.proofs.Common.{and_left, ne_eqb, cases_eq, cases_lt, nat_tests, Reg, Base}
 use Rattle.board_prelude.proofs.Common.{MemoryBase, IoBase, OutsideBase, FittedCard, Setup, IsCard, card_at, byte}
 use Rattle.board_prelude.proofs.Common.{merged, wide, card_function, listed, base_reset, base_writable, rom_writable}
-use Rattle.board_prelude.proofs.Common.{reset_byte, changed_byte, reg_after, Bytes, card_register, base_register}
+use Rattle.board_prelude.proofs.Common.{reset_byte, reg_after, Bytes, card_register, base_register}
 use Rattle.board_prelude.proofs.Common.{expansion_rom, smram, is_same, merged-all, merged-none, changed_byte-one_same}
 use Rattle.board_prelude.proofs.Common.{changed_byte-one_other}
 use Rattle.board_base.specs.declared.access.Width.TheVariants.{Four}
 use Rattle.pci_bars.specs.Common.{of_base, CardBytes, HoldsLong, HoldsRom, DecodesAs, IsCardOf, is_kept_offset}
-use Rattle.pci_bars.specs.Common.{header_of}
+use Rattle.pci_bars.specs.Common.{header_of, stored}
 use Rattle.pci_bars.proofs.TableLemmas.{byte_of_zero, kept_nowhere, is_fixed, reset_byte-card, writable_bits-card}
 use Rattle.pci_bars.proofs.TableLemmas.{reset-base, writable-base, reset-rom, writable-rom, reset-header, reset-pin}
 use Rattle.pci_bars.proofs.TableLemmas.{reset-line, reset-command, writable-line, past_pin, command_writable}
@@ -165,11 +165,6 @@ read-rest setup bytes card off fit is above off_rom not_line not_pin =
     ∙ sym (read-fixed setup bytes card off fit is (kept_nowhere card.card.rom off (grind (arith, nat_tests)) off_rom))
 
 -- ---- after a store of one byte
-
--- the registers after a byte is stored at an offset of a card
-abbrev pub stored : Setup → Bytes → (dev off written : ℕ) → Bytes
-stored setup bytes dev off written =
-    λ reg. changed_byte setup (Store (card_register dev off) One written) reg (bytes reg)
 
 not_smram : (dev off : ℕ) → 2 ≤ dev → is_same (card_register dev off) smram ≡ false
 not_smram dev off above =

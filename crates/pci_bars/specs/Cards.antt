@@ -4,7 +4,7 @@ use Rattle.std.specs.Prelude.{Some, None, is_some, [], ◌∷◌, ◌++◌, if�
 use Rattle.board_base.specs.declared.access.Width.TheVariants.{Four}
 use Rattle.board_prelude.specs.Common.{Reg, FittedCard, Setup, IsCard, Rises, card_at, byte, is_within, wide}
 use Rattle.board_prelude.specs.Common.{card_register, card_command, base_register, expansion_rom, interrupt_line}
-use Rattle.board_prelude.specs.Common.{reset_byte, reg_after, Bytes}
+use Rattle.board_prelude.specs.Common.{One, Store, reset_byte, changed_byte, reg_after, Bytes}
 
 -- a card, its command register, its interrupt line, its six base address registers, and the register of its
 -- expansion ROM
@@ -49,6 +49,24 @@ pub record IsCardOf (setup : Setup) (bytes : Bytes) (card : CardBytes) : Type 0 
   pub no_rom : card.card.rom ≡ None → card.rom ≡ 0
   pub fixed : (off : ℕ) → is_kept_offset card.card off ≡ false →
       bytes (card_register card.card.dev off) ≡ reset_byte setup (card_register card.card.dev off)
+
+-- the registers after a byte is stored at an offset of a card
+abbrev pub stored : Setup → Bytes → (dev off written : ℕ) → Bytes
+stored setup bytes dev off written =
+    λ reg. changed_byte setup (Store (card_register dev off) One written) reg (bytes reg)
+
+-- a card before and after a byte is written at an offset: where the registers of a board were those of the card, they
+-- are so with that byte stored
+abbrev pub IsWritten : (old new : CardBytes) → (off written : ℕ) → Type 0
+IsWritten old new off written =
+    (setup : Setup) (bytes : Bytes) → IsCardOf setup bytes old →
+    IsCardOf setup (stored setup bytes old.card.dev off written) new
+
+-- the same of the registers on which the address map depends
+abbrev pub IsDecodedWritten : (old new : CardBytes) → (off written : ℕ) → Type 0
+IsDecodedWritten old new off written =
+    (setup : Setup) (bytes : Bytes) → DecodesAs setup bytes old →
+    DecodesAs setup (stored setup bytes old.card.dev off written) new
 
 abbrev pub cards_of : List CardBytes → List FittedCard
 cards_of cards = map (λ card. card.card) cards

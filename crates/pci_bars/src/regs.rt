@@ -1,8 +1,8 @@
 //! The configuration registers of a card (PCI Local Bus 2.1, section 6.2).
 ghost use Rattle.std.specs.Prelude.{◌≡◌, ◌≢◌, ◌≤◌, ◌<◌, ◌/◌, ◌%◌, ℕ, true, Some, slice_index};
-ghost use Rattle.board_prelude.specs.Common.{One, Store, Setup, IsCard, card_at, byte, merged, reset_byte, is_map_byte};
-ghost use Rattle.board_prelude.specs.Common.{changed_byte, Bytes, card_register};
-ghost use Rattle.pci_bars.specs.Cards.{DecodesAs, IsCardOf, header_of};
+ghost use Rattle.board_prelude.specs.Common.{Setup, IsCard, card_at, byte, merged, reset_byte, is_map_byte, Bytes};
+ghost use Rattle.board_prelude.specs.Common.{card_register};
+ghost use Rattle.pci_bars.specs.Cards.{DecodesAs, IsCardOf, IsWritten, IsDecodedWritten, header_of};
 
 use crate::spec::{BASE_COUNT, CardSpec};
 use board_spec::bits::merged;
@@ -109,14 +109,8 @@ impl CardRegs {
     /// Writes the register at an offset: its writable bits become those written, and nothing else changes.
     pub fn write(&mut self, off: u8, byte: u8)
         requires card { IsCard self.old.card }
-        ensures written { (setup : Setup) (bytes : Bytes) → IsCardOf setup bytes self.old
-            → IsCardOf setup
-            (λ reg. changed_byte setup (Store (card_register self.old.card.dev off) One byte) reg (bytes reg))
-            self.new }
-        ensures decodes { (setup : Setup) (bytes : Bytes) → DecodesAs setup bytes self.old
-            → DecodesAs setup
-            (λ reg. changed_byte setup (Store (card_register self.old.card.dev off) One byte) reg (bytes reg))
-            self.new }
+        ensures written { IsWritten self.old self.new off byte }
+        ensures decodes { IsDecodedWritten self.old self.new off byte }
         ensures same_card { self.new.card ≡ self.old.card }
     {
         match off {
@@ -132,14 +126,8 @@ impl CardRegs {
     fn write_base(&mut self, off: u8, byte: u8)
         requires card { IsCard self.old.card }
         requires base { (0x10 ≤ off) × (off < 0x28) }
-        ensures written { (setup : Setup) (bytes : Bytes) → IsCardOf setup bytes self.old
-            → IsCardOf setup
-            (λ reg. changed_byte setup (Store (card_register self.old.card.dev off) One byte) reg (bytes reg))
-            self.new }
-        ensures decodes { (setup : Setup) (bytes : Bytes) → DecodesAs setup bytes self.old
-            → DecodesAs setup
-            (λ reg. changed_byte setup (Store (card_register self.old.card.dev off) One byte) reg (bytes reg))
-            self.new }
+        ensures written { IsWritten self.old self.new off byte }
+        ensures decodes { IsDecodedWritten self.old self.new off byte }
         ensures same_card { self.new.card ≡ self.old.card }
     {
         let index = usize::from((off - BASE0) / 4);
@@ -151,14 +139,8 @@ impl CardRegs {
     fn write_rom(&mut self, off: u8, byte: u8)
         requires card { IsCard self.old.card }
         requires rom { (0x30 ≤ off) × (off < 0x34) }
-        ensures written { (setup : Setup) (bytes : Bytes) → IsCardOf setup bytes self.old
-            → IsCardOf setup
-            (λ reg. changed_byte setup (Store (card_register self.old.card.dev off) One byte) reg (bytes reg))
-            self.new }
-        ensures decodes { (setup : Setup) (bytes : Bytes) → DecodesAs setup bytes self.old
-            → DecodesAs setup
-            (λ reg. changed_byte setup (Store (card_register self.old.card.dev off) One byte) reg (bytes reg))
-            self.new }
+        ensures written { IsWritten self.old self.new off byte }
+        ensures decodes { IsDecodedWritten self.old self.new off byte }
         ensures same_card { self.new.card ≡ self.old.card }
     {
         let writable = self.spec.rom_writable();

@@ -1,9 +1,18 @@
-use Rattle.std.proofs.Common.{inl, arith}
+use Rattle.std.proofs.Common.{◌+◌, inl, arith}
 use Rattle.board_spec.specs.RegisterNames.{pam, drb, fdhc, smram, xbcs}
 use Rattle.addr_decode.specs.MapRegs.{map_bytes}
 use Rattle.addr_decode.proofs.CardLemmas.{cards_beside}
-use Rattle.addr_decode.proofs.StandsLemmas.{row_stored, hole_stored, smram_stored, xbcs_stored, card_stored}
+use Rattle.addr_decode.proofs.StandsLemmas.{window_stored, row_stored, hole_stored, smram_stored}
+use Rattle.addr_decode.proofs.StandsLemmas.{xbcs_stored, card_stored}
 use Rattle.addr_decode.proofs.regs.MapRegs.set.Goals as goal
+
+pub returns-in-Pam-clause-stands : goal.returns-in-Pam-clause-stands
+returns-in-Pam-clause-stands c = λ setup bytes stands.
+    let small = rw c.in-Pam.is at c.requires.number in
+    rw c.in-Pam.is
+    (window_stored setup bytes (map_bytes c.args.self.now) c.store_pam.new.pam (0x59 + c.in-Pam.number) c.args.byte
+    c.requires.cards (omega (arith, small), omega (arith, small))
+    (c.store_pam.ensures.stored setup bytes stands.windows) stands)
 
 pub returns-in-Pam-clause-cards : goal.returns-in-Pam-clause-cards
 returns-in-Pam-clause-cards c = λ setup bytes are.

@@ -1,9 +1,10 @@
 -- No moment is found only where the registers say none: the numbers of one that they say are those that were found.
-use Rattle.std.proofs.Common.{◌≡◌, ℕ, Option, Some, None, SomeIff, ap, arith}
+use Rattle.std.proofs.Common.{◌≡◌, ℕ, Option, Some, None, SomeIff, IfSome, ap, sym, subst, arith}
 use Rattle.board_base.specs.declared.moment.Moment.{Moment}
 use Rattle.board_base.proofs.CalendarLemmas.{days_in_month_bound}
 use Rattle.device_spec.specs.Common.{Clock, byte_at, control_of, second_at, minute_at, hour_at, day_at, month_at}
-use Rattle.device_spec.specs.Common.{year_at}
+use Rattle.device_spec.specs.Common.{year_at, IsMoment, moment_of}
+use Rattle.board_base.specs.Calendar.{IsDate, IsTime}
 use Rattle.cmos_clock.specs.Seconds.{AreDateBytes, AreTimeBytes, IsShown}
 use Rattle.cmos_clock.proofs.cmos.Cmos.shown.Goals as goal
 
@@ -39,6 +40,27 @@ time_said clock shown is = record {
   second_is = is.second;
 }
 
+is_shown : (clock : Clock) (year month day hour minute second : ℕ) →
+    AreDateBytes (control_of clock) (byte_at clock year_at) (byte_at clock month_at) (byte_at clock day_at) year month
+    day →
+    AreTimeBytes (control_of clock) (byte_at clock hour_at) (byte_at clock minute_at) (byte_at clock second_at) hour
+    minute second →
+    (found : Option Moment) →
+    SomeIff found (IsDate year month day × IsTime hour minute second) (moment_of year month day hour minute second) →
+    IfSome found IsMoment → IfSome found (IsShown clock)
+is_shown clock year month day hour minute second date time None exact moment = tt
+is_shown clock year month day hour minute second date time (Some found) exact moment =
+    subst (IsShown clock) (sym exact.1) (record {
+      moment = subst IsMoment exact.1 moment;
+      last_year = date.last;
+      second = time.second_is;
+      minute = time.minute_is;
+      hour = time.hour_is;
+      day = date.day_is;
+      month = date.month_is;
+      year = date.year_is;
+    })
+
 pub returns-clause-none : goal.returns-clause-none
 returns-clause-none c = λ none shown is.
     let date = same_three _ _ (c.in_ok-year.ensures.only shown.year shown.month shown.day
@@ -47,3 +69,22 @@ returns-clause-none c = λ none shown is.
     (rw (c.control-control.ensures.byte, c.bytes-bytes.ensures.bytes) (time_said c.args.self.now shown is))) in
     not_there c.new.result _ _ c.new.ensures.exact none
     (rw (date.0, date.1, date.2, time.0, time.1, time.2) (is.moment.date, is.moment.time))
+
+pub returns-in_err-year-clause-none : goal.returns-in_err-year-clause-none
+returns-in_err-year-clause-none c = λ none shown is.
+    let said = c.in_err-year.ensures.only shown.year shown.month shown.day
+    (rw (c.control-control.ensures.byte, c.bytes-bytes.ensures.bytes) (date_said c.args.self.now shown is)) in
+    absurd cc
+
+pub returns-in_err-hour-clause-none : goal.returns-in_err-hour-clause-none
+returns-in_err-hour-clause-none c = λ none shown is.
+    let said = c.in_err-hour.ensures.only shown.hour shown.minute shown.second
+    (rw (c.control-control.ensures.byte, c.bytes-bytes.ensures.bytes) (time_said c.args.self.now shown is)) in
+    absurd cc
+
+pub returns-clause-shown : goal.returns-clause-shown
+returns-clause-shown c =
+    is_shown c.args.self.now _ _ _ _ _ _
+    (rw (← c.control-control.ensures.byte, ← c.bytes-bytes.ensures.bytes) c.in_ok-year.ensures.said)
+    (rw (← c.control-control.ensures.byte, ← c.bytes-bytes.ensures.bytes) c.in_ok-hour.ensures.said)
+    c.new.result c.new.ensures.exact c.new.ensures.moment

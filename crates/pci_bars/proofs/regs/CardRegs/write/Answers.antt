@@ -47,3 +47,18 @@ returns-in-60-clause-written c =
     let fit = rw (← c.self-in-60.view_is) at c.requires.card in
     rw (← c.self-in-60.view_is, c.in-60.is)
     (λ setup bytes is. card-line_stored setup bytes _ c.args.byte fit c.ranges.byte.fits is)
+
+pub returns-then-off-lt16-clause-decodes : goal.returns-then-off-lt16-clause-decodes
+returns-then-off-lt16-clause-decodes c =
+    λ setup bytes is. decodes-apart setup bytes c.args.self.now c.args.self.now.line c.args.off c.args.byte
+    (record { command = λ e. omega arith; bases = inl (omega arith); rom = inl (omega arith) }) is
+
+pub returns-else-off-lt52-clause-decodes : goal.returns-else-off-lt52-clause-decodes
+returns-else-off-lt52-clause-decodes c =
+    λ setup bytes is. decodes-apart setup bytes c.args.self.now c.args.self.now.line c.args.off c.args.byte
+    (record { command = λ e. omega arith; bases = inr (omega arith); rom = inr (omega arith) }) is
+
+pub returns-then-off-lt48-clause-decodes : goal.returns-then-off-lt48-clause-decodes
+returns-then-off-lt48-clause-decodes c =
+    λ setup bytes is. decodes-apart setup bytes c.args.self.now c.args.self.now.line c.args.off c.args.byte
+    (record { command = λ e. omega arith; bases = inr (omega arith); rom = inl (omega arith) }) is
