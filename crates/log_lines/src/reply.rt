@@ -5,7 +5,7 @@ ghost use Rattle.board_prelude.specs.Common.{Reply, is_write, parts_of, outside_
 ghost use Rattle.script_spec.specs.Common.{IsDecimal, IsEventForm, IsReplyValue, IsBusReply, IsWideReply, IsLookReply};
 ghost use Rattle.script_spec.specs.Common.{HasShape, parse_decimal, parse_no_value, parse_value, parse_bus_reply};
 ghost use Rattle.script_spec.specs.Common.{parts_with, parse_wide_reply, parse_reply, parse_spaced_reply, IsNarrow};
-ghost use Rattle.script_spec.specs.Replies.{parse_look_reply};
+ghost use Rattle.script_spec.specs.Replies.{bus_reply, look_reply, parse_look_reply};
 
 use crate::target::{parse_area, parse_denial, parse_target};
 use crate::wide::{parse_parts, part_count, parts_length};
@@ -65,6 +65,23 @@ fn narrowed(value: Option<u64>) -> Option<u32>
 
 // ---- the shapes
 
+/// What answered an access with a value, or none, and what denied it, by their words.
+#[tactic(auto, unfolding(script_spec::specs::Replies::bus_reply))]
+fn bus_reply(writes: bool, bytes: u32, value: &[u8], target: &[u8], denial: &[u8]) -> Option<Reply>
+    requires few { bytes ≤ 4 }
+    ensures reply { result ≡ bus_reply writes bytes value.now target.now denial.now }
+    ensures shape { IfSome result (IsBusReply writes bytes) }
+{
+    let value = parse_value(writes, bytes, value)?;
+    let target = parse_target(target)?;
+    let denial = parse_denial(denial)?;
+    Some(Reply::Bus {
+        value: narrowed(value),
+        target,
+        denial,
+    })
+}
+
 /// `VALUE TARGET DENIAL`.
 #[tactic(auto, unfolding(script_spec::specs::Replies::parse_bus_reply))]
 fn parse_bus_reply(writes: bool, bytes: u32, words: Fields<'_>) -> Option<Reply>
@@ -74,16 +91,8 @@ fn parse_bus_reply(writes: bool, bytes: u32, words: Fields<'_>) -> Option<Reply>
 {
     let (value, words) = words.next()?;
     let (target, words) = words.next()?;
-    let (denial, words) = words.next()?;
-    words.end()?;
-    let value = parse_value(writes, bytes, value)?;
-    let target = parse_target(target)?;
-    let denial = parse_denial(denial)?;
-    Some(Reply::Bus {
-        value: narrowed(value),
-        target,
-        denial,
-    })
+    let denial = words.only()?;
+    bus_reply(writes, bytes, value, target, denial)
 }
 
 /// The reply with these parts, where the access has as many.
@@ -121,17 +130,12 @@ fn parse_map_version(field: &[u8]) -> Option<u32>
     parse_decimal(field)
 }
 
-/// `VERSION LO HI AREA`.
-#[tactic(auto, unfolding(script_spec::specs::Replies::parse_look_reply))]
-fn parse_look_reply(words: Fields<'_>) -> Option<Reply>
-    ensures reply { result ≡ parse_look_reply words.entry }
+/// What a look saw, by its words.
+#[tactic(auto, unfolding(script_spec::specs::Replies::look_reply))]
+fn look_reply(version: &[u8], lo: &[u8], hi: &[u8], area: &[u8]) -> Option<Reply>
+    ensures reply { result ≡ look_reply version.now lo.now hi.now area.now }
     ensures shape { IfSome result IsLookReply }
 {
-    let (version, words) = words.next()?;
-    let (lo, words) = words.next()?;
-    let (hi, words) = words.next()?;
-    let (area, words) = words.next()?;
-    words.end()?;
     let version = parse_map_version(version)?;
     let lo = parse_hex(8, lo)?;
     let hi = parse_hex(8, hi)?;
@@ -142,6 +146,19 @@ fn parse_look_reply(words: Fields<'_>) -> Option<Reply>
         hi: hi as u32,
         area,
     }))
+}
+
+/// `VERSION LO HI AREA`.
+#[tactic(auto, unfolding(script_spec::specs::Replies::parse_look_reply))]
+fn parse_look_reply(words: Fields<'_>) -> Option<Reply>
+    ensures reply { result ≡ parse_look_reply words.entry }
+    ensures shape { IfSome result IsLookReply }
+{
+    let (version, words) = words.next()?;
+    let (lo, words) = words.next()?;
+    let (hi, words) = words.next()?;
+    let area = words.only()?;
+    look_reply(version, lo, hi, area)
 }
 
 /// The reply to an event from outside the bus, whatever its line says.

@@ -108,12 +108,16 @@ pub(crate) fn parse_area(field: &[u8]) -> Option<Area>
     ensures area { result ≡ parse_area field.now }
     ensures fits { IfSome result FitsArea }
 {
-    match field {
-        b"smram" => Some(Area::Smram),
-        b"rom" => Some(Area::Rom),
-        b"abort" => Some(Area::Abort),
-        _ => parse_placed_area(field),
+    if is_word(field, "smram") {
+        return Some(Area::Smram);
     }
+    if is_word(field, "rom") {
+        return Some(Area::Rom);
+    }
+    if is_word(field, "abort") {
+        return Some(Area::Abort);
+    }
+    parse_placed_area(field)
 }
 
 // ---- targets
@@ -177,13 +181,19 @@ fn parse_chip(field: &[u8]) -> Option<Dev>
     ensures device { result ≡ parse_chip field.now }
     ensures fits { IfSome result FitsDevice }
 {
-    match field {
-        b"vec0" => Some(Dev::Vector(0)),
-        b"vec1" => Some(Dev::Vector(1)),
-        b"spur0" => Some(Dev::Spurious(0)),
-        b"spur1" => Some(Dev::Spurious(1)),
-        _ => None,
+    if is_word(field, "vec0") {
+        return Some(Dev::Vector(0));
     }
+    if is_word(field, "vec1") {
+        return Some(Dev::Vector(1));
+    }
+    if is_word(field, "spur0") {
+        return Some(Dev::Spurious(0));
+    }
+    if is_word(field, "spur1") {
+        return Some(Dev::Spurious(1));
+    }
+    None
 }
 
 /// A device with one name.
@@ -191,14 +201,22 @@ fn parse_named_device(field: &[u8]) -> Option<Dev>
     ensures device { result ≡ parse_named_device field.now }
     ensures fits { IfSome result FitsDevice }
 {
-    match field {
-        b"kbd" => Some(Dev::Keyboard),
-        b"clock" => Some(Dev::Clock),
-        b"elcr" => Some(Dev::Elcr),
-        b"ata" => Some(Dev::Ata),
-        b"wires" => Some(Dev::Wires),
-        _ => parse_chip(field),
+    if is_word(field, "kbd") {
+        return Some(Dev::Keyboard);
     }
+    if is_word(field, "clock") {
+        return Some(Dev::Clock);
+    }
+    if is_word(field, "elcr") {
+        return Some(Dev::Elcr);
+    }
+    if is_word(field, "ata") {
+        return Some(Dev::Ata);
+    }
+    if is_word(field, "wires") {
+        return Some(Dev::Wires);
+    }
+    parse_chip(field)
 }
 
 /// A device of the board.
@@ -210,14 +228,22 @@ fn parse_device(field: &[u8]) -> Option<Dev>
     if is_word(field, "confadd") {
         return Some(Dev::Confadd);
     }
-    match field {
-        b"reset" => Some(Dev::Reset),
-        b"pic0" => Some(Dev::Pic0),
-        b"pic1" => Some(Dev::Pic1),
-        b"pit" => Some(Dev::Pit),
-        b"sys" => Some(Dev::System),
-        _ => parse_named_device(field),
+    if is_word(field, "reset") {
+        return Some(Dev::Reset);
     }
+    if is_word(field, "pic0") {
+        return Some(Dev::Pic0);
+    }
+    if is_word(field, "pic1") {
+        return Some(Dev::Pic1);
+    }
+    if is_word(field, "pit") {
+        return Some(Dev::Pit);
+    }
+    if is_word(field, "sys") {
+        return Some(Dev::System);
+    }
+    parse_named_device(field)
 }
 
 /// A target that is no device.
@@ -225,11 +251,13 @@ fn parse_other_target(field: &[u8]) -> Option<Target>
     ensures target { result ≡ parse_other_target field.now }
     ensures fits { IfSome result FitsTarget }
 {
-    match field {
-        b"smram" => Some(Target::Smram),
-        b"abort" => Some(Target::Abort),
-        _ => parse_placed_target(field),
+    if is_word(field, "smram") {
+        return Some(Target::Smram);
     }
+    if is_word(field, "abort") {
+        return Some(Target::Abort);
+    }
+    parse_placed_target(field)
 }
 
 /// What answered an access.

@@ -6,6 +6,7 @@ ghost use Rattle.logs_and_maps.specs.Adds.{AddsWords, KeepsFront};
 
 use crate::reply::push_interval;
 use crate::target::push_area;
+use crate::words::push_words;
 use board_base::{Area, NoMemory};
 
 /// Appends an area after a space.
@@ -37,6 +38,5 @@ pub fn push_range(text: &mut String, lo: u32, hi: u32, areas: &[Area; 6]) -> Res
 {
     push_interval(text, lo, hi)?;
     push_areas(text, areas)?;
-    text.push('\n')?;
-    Ok(())
+    push_words(text, "\n")
 }

@@ -1,6 +1,8 @@
 -- The lines of one round more.
 use Rattle.std.proofs.Common.{ℕ, suc, ◌≡◌, ◌+◌, List, [], ◌∷◌, ◌++◌, append-nil, sym, ap, ◌∙◌, append_assoc, arith}
+use Rattle.std.proofs.Common.{Result, OnOk}
 use Rattle.board_prelude.proofs.Common.{flat_map-append, line_feed}
+use Rattle.logs_and_maps.proofs.Joined.{appended_more, appended_twice}
 use Rattle.script_spec.specs.Lines.{text_of_lines}
 use Rattle.make_script.specs.MakeText.{setup_lines, opening_lines, round_lines, lines_of_rounds, make_lines}
 
@@ -32,3 +34,17 @@ pub text-begun : (text : List ℕ) → text ≡ text_of_lines (setup_lines ++ op
 unfolding lines_of_rounds
 text-begun text begun =
     begun ∙ ap (λ (ls : List (List ℕ)). text_of_lines ls) (sym (append-nil (setup_lines ++ opening_lines)))
+
+-- ---- one round, in four pieces
+
+in_pieces : (a b c rest : List ℕ) → a ++ (b ++ (c ++ rest)) ≡ a ++ b ++ c ++ rest
+in_pieces a b c rest = sym (append_assoc a b (c ++ rest)) ∙ sym (append_assoc (a ++ b) c rest)
+
+-- three pieces, and a last one that may not come
+pub appended_pieces : {T E : Type 0} (r : Result T E) (old a b c rest one two three new whole : List ℕ) → one ≡ old ++ a
+    → two ≡ one ++ b → three ≡ two ++ c → OnOk r (new ≡ three ++ rest) → whole ≡ a ++ (b ++ (c ++ rest))
+    → OnOk r (new ≡ old ++ whole)
+appended_pieces r old a b c rest one two three new whole first second third last pieces =
+    appended_twice r old (a ++ b ++ c) three new rest whole
+    (appended_more old (a ++ b) two three c (appended_more old a one two b first second) third) last
+    (pieces ∙ in_pieces a b c rest)

@@ -102,8 +102,7 @@ fn push_numbered_line(text: &mut String, words: &str, number: u32) -> Result<(),
 {
     push_words(text, words)?;
     push_hex_long(text, number)?;
-    text.push('\n')?;
-    Ok(())
+    push_words(text, "\n")
 }
 
 /// Appends the line of words, an address and a value.

@@ -19,8 +19,7 @@ fn push_row(text: &mut String, words: &str, number: u64) -> Result<(), NoMemory>
 {
     push_words(text, words)?;
     push_decimal(text, number)?;
-    text.push('\n')?;
-    Ok(())
+    push_words(text, "\n")
 }
 
 /// Appends a line for each row of words and a number.

@@ -9,6 +9,7 @@ use Rattle.script_spec.specs.Common.{HasForm, fields_of, parse_size, parse_width
 use Rattle.script_spec.specs.Common.{parse_digit, parse_digits, number_after, parse_smm, memory_event, parse_read}
 use Rattle.script_spec.specs.Common.{parse_write, parse_in, parse_out, parse_look, parse_event, ask, is_skipped}
 use Rattle.script_spec.specs.Common.{parse_event_item, parse_by_verb, parse_statement_words, parse_item}
+use Rattle.script_spec.specs.Events.{read_event, write_event, in_event, out_event, look_event}
 use Rattle.script_spec.proofs.Chains.{guarded, then_said}
 use Rattle.script_spec.proofs.NumberTexts.{decimal_read}
 use Rattle.script_spec.proofs.LineReading.{read_says}
@@ -83,60 +84,65 @@ last_fields byte text first second is lacks one two =
 
 -- ---- events, as what was found says them
 
-pub access_straight : (version size bytes n : ℕ) (kind : Kind) (text addr : List ℕ) (event : Event)
-    → text ≡ size ∷ 32 ∷ addr
-    → Some bytes ≡ parse_size version (size ∷ []) → Some n ≡ parse_hex 8 addr
-    → event ≡ memory_event version kind bytes n 0 false
-    → parse_read version kind (fields_of text) ≡ Some event
-unfolding parse_read parse_smm
-access_straight version size bytes n kind text addr event is sized at made =
+pub access_straight : (version size : ℕ) (kind : Kind) (text addr : List ℕ) (found : Option Event)
+    → text ≡ size ∷ 32 ∷ addr → found ≡ read_event version kind (size ∷ []) addr false
+    → IfSome found (λ event. parse_read version kind (fields_of text) ≡ Some event)
+unfolding parse_read parse_smm read_event
+access_straight version size kind text addr None is made = tt
+access_straight version size kind text addr (Some event) is made =
+    let b = then_said (parse_size version (size ∷ [])) _ event (sym made) in
+    let a = then_said (parse_hex 8 addr) _ event b.2 in
     ap (λ (t : List ℕ). parse_read version kind (fields_of t)) is
-    ∙ ap (parse_read version kind) (last_field size addr (size_lacks version size bytes (sym sized))
-    (hex_lacks 8 n addr (sym at)))
-    ∙ rw (sym sized, sym at, made) refl
+    ∙ ap (parse_read version kind) (last_field size addr (size_lacks version size b.0 b.1) (hex_lacks 8 a.0 addr a.1))
+    ∙ sym made
 
-write_read : (version size bytes n m : ℕ) (text fields addr value : List ℕ) (event : Event) → text ≡ size ∷ 32 ∷ fields
-    → fields ≡ addr ++ 32 ∷ value → Some bytes ≡ parse_size version (size ∷ []) → Some n ≡ parse_hex 8 addr
-    → Some m ≡ parse_hex (2 * bytes) value → event ≡ memory_event version Write bytes n m false
+write_read : (version size : ℕ) (text fields addr value : List ℕ) (event : Event) → text ≡ size ∷ 32 ∷ fields
+    → fields ≡ addr ++ 32 ∷ value → Some event ≡ write_event version (size ∷ []) addr value false
     → parse_write version (fields_of text) ≡ Some event
-unfolding parse_write parse_smm
-write_read version size bytes n m text fields addr value event is cut sized at said made =
+unfolding parse_write parse_smm write_event
+write_read version size text fields addr value event is cut made =
+    let b = then_said (parse_size version (size ∷ [])) _ event (sym made) in
+    let a = then_said (parse_hex 8 addr) _ event b.2 in
+    let v = then_said (parse_hex (2 * b.0) value) _ event a.2 in
     ap (λ (t : List ℕ). parse_write version (fields_of t)) is
     ∙ ap (parse_write version)
-    (last_fields size fields addr value cut (size_lacks version size bytes (sym sized)) (hex_lacks 8 n addr (sym at))
-    (hex_lacks (2 * bytes) m value (sym said)))
-    ∙ rw (sym sized, sym at, sym said, made) refl
+    (last_fields size fields addr value cut (size_lacks version size b.0 b.1) (hex_lacks 8 a.0 addr a.1)
+    (hex_lacks (2 * b.0) v.0 value v.1))
+    ∙ sym made
 
-in_read : (byte n : ℕ) (width : Width) (text port : List ℕ) → text ≡ byte ∷ 32 ∷ port
-    → Some width ≡ parse_width (byte ∷ [])
-    → Some n ≡ parse_hex 4 port
-    → parse_in (fields_of text) ≡ Some (Port (record { write = false; port = n; width = width; value = 0 }))
-unfolding parse_in
-in_read byte n width text port is wide at =
+in_read : (byte : ℕ) (text port : List ℕ) (event : Event) → text ≡ byte ∷ 32 ∷ port
+    → Some event ≡ in_event (byte ∷ []) port → parse_in (fields_of text) ≡ Some event
+unfolding parse_in in_event
+in_read byte text port event is made =
+    let w = then_said (parse_width (byte ∷ [])) _ event (sym made) in
+    let p = then_said (parse_hex 4 port) _ event w.2 in
     ap (λ (t : List ℕ). parse_in (fields_of t)) is
-    ∙ ap parse_in (last_field byte port (width_lacks byte width (sym wide)) (hex_lacks 4 n port (sym at)))
-    ∙ rw (sym wide, sym at) refl
+    ∙ ap parse_in (last_field byte port (width_lacks byte w.0 w.1) (hex_lacks 4 p.0 port p.1))
+    ∙ sym made
 
-out_read : (byte n m : ℕ) (width : Width) (text fields port value : List ℕ) → text ≡ byte ∷ 32 ∷ fields
-    → fields ≡ port ++ 32 ∷ value → Some width ≡ parse_width (byte ∷ []) → Some n ≡ parse_hex 4 port
-    → Some m ≡ parse_hex (2 * bytes_of width) value
-    → parse_out (fields_of text) ≡ Some (Port (record { write = true; port = n; width = width; value = m }))
-unfolding parse_out
-out_read byte n m width text fields port value is cut wide at said =
+out_read : (byte : ℕ) (text fields port value : List ℕ) (event : Event) → text ≡ byte ∷ 32 ∷ fields
+    → fields ≡ port ++ 32 ∷ value → Some event ≡ out_event (byte ∷ []) port value
+    → parse_out (fields_of text) ≡ Some event
+unfolding parse_out out_event
+out_read byte text fields port value event is cut made =
+    let w = then_said (parse_width (byte ∷ [])) _ event (sym made) in
+    let p = then_said (parse_hex 4 port) _ event w.2 in
+    let v = then_said (parse_hex (2 * bytes_of w.0) value) _ event p.2 in
     ap (λ (t : List ℕ). parse_out (fields_of t)) is
     ∙ ap parse_out
-    (last_fields byte fields port value cut (width_lacks byte width (sym wide)) (hex_lacks 4 n port (sym at))
-    (hex_lacks (2 * bytes_of width) m value (sym said)))
-    ∙ rw (sym wide, sym at, sym said) refl
+    (last_fields byte fields port value cut (width_lacks byte w.0 w.1) (hex_lacks 4 p.0 port p.1)
+    (hex_lacks (2 * bytes_of w.0) v.0 value v.1))
+    ∙ sym made
 
-look_read : (byte n : ℕ) (kind : Kind) (text addr : List ℕ) → text ≡ byte ∷ 32 ∷ addr
-    → Some kind ≡ parse_kind (byte ∷ [])
-    → Some n ≡ parse_hex 8 addr → parse_look (fields_of text) ≡ Some (LookAt kind n false)
-unfolding parse_look parse_smm
-look_read byte n kind text addr is kindly at =
+look_read : (byte : ℕ) (text addr : List ℕ) (event : Event) → text ≡ byte ∷ 32 ∷ addr
+    → Some event ≡ look_event (byte ∷ []) addr false → parse_look (fields_of text) ≡ Some event
+unfolding parse_look parse_smm look_event
+look_read byte text addr event is made =
+    let k = then_said (parse_kind (byte ∷ [])) _ event (sym made) in
+    let a = then_said (parse_hex 8 addr) _ event k.2 in
     ap (λ (t : List ℕ). parse_look (fields_of t)) is
-    ∙ ap parse_look (last_field byte addr (kind_lacks byte kind (sym kindly)) (hex_lacks 8 n addr (sym at)))
-    ∙ rw (sym kindly, sym at) refl
+    ∙ ap parse_look (last_field byte addr (kind_lacks byte k.0 k.1) (hex_lacks 8 a.0 addr a.1))
+    ∙ sym made
 
 -- ---- verbs
 
@@ -166,40 +172,41 @@ pub each_fetch : (version : ℕ) (words text : List ℕ) (found : Option Event) 
 each_fetch version words text None is said = tt
 each_fetch version words text (Some event) is said = asks_fetch version words text event is said
 
-pub write_straight : (version size bytes n m : ℕ) (words text fields addr value : List ℕ) (event : Event)
+pub write_straight : (version size : ℕ) (words text fields addr value : List ℕ) (found : Option Event)
     → words ≡ 119 ∷ 32 ∷ text → text ≡ size ∷ 32 ∷ fields → fields ≡ addr ++ 32 ∷ value
-    → Some bytes ≡ parse_size version (size ∷ []) → Some n ≡ parse_hex 8 addr → Some m ≡ parse_hex (2 * bytes) value
-    → event ≡ memory_event version Write bytes n m false → Asks version words event
+    → found ≡ write_event version (size ∷ []) addr value false → IfSome found (Asks version words)
 unfolding parse_statement_words parse_by_verb parse_event_item parse_event
-write_straight version size bytes n m words text fields addr value event verb is cut sized at said made actor =
+write_straight version size words text fields addr value None verb is cut made = tt
+write_straight version size words text fields addr value (Some event) verb is cut made = λ actor.
     ap (λ (t : List ℕ). parse_statement_words version actor (fields_of t)) verb
-    ∙ ap (option_map (ask actor)) (write_read version size bytes n m text fields addr value event is cut sized at said
-    made)
+    ∙ ap (option_map (ask actor)) (write_read version size text fields addr value event is cut made)
 
-pub in_straight : (version byte n : ℕ) (width : Width) (words text port : List ℕ) → words ≡ 105 ∷ 110 ∷ 32 ∷ text
-    → text ≡ byte ∷ 32 ∷ port → Some width ≡ parse_width (byte ∷ []) → Some n ≡ parse_hex 4 port
-    → Asks version words (Port (record { write = false; port = n; width = width; value = 0 }))
+pub in_straight : (version byte : ℕ) (words text port : List ℕ) (found : Option Event)
+    → words ≡ 105 ∷ 110 ∷ 32 ∷ text → text ≡ byte ∷ 32 ∷ port → found ≡ in_event (byte ∷ []) port
+    → IfSome found (Asks version words)
 unfolding parse_statement_words parse_by_verb parse_event_item parse_event
-in_straight version byte n width words text port verb is wide at actor =
+in_straight version byte words text port None verb is made = tt
+in_straight version byte words text port (Some event) verb is made = λ actor.
     ap (λ (t : List ℕ). parse_statement_words version actor (fields_of t)) verb
-    ∙ ap (option_map (ask actor)) (in_read byte n width text port is wide at)
+    ∙ ap (option_map (ask actor)) (in_read byte text port event is made)
 
-pub out_straight : (version byte n m : ℕ) (width : Width) (words text fields port value : List ℕ)
+pub out_straight : (version byte : ℕ) (words text fields port value : List ℕ) (found : Option Event)
     → words ≡ 111 ∷ 117 ∷ 116 ∷ 32 ∷ text → text ≡ byte ∷ 32 ∷ fields → fields ≡ port ++ 32 ∷ value
-    → Some width ≡ parse_width (byte ∷ []) → Some n ≡ parse_hex 4 port → Some m ≡ parse_hex (2 * bytes_of width) value
-    → Asks version words (Port (record { write = true; port = n; width = width; value = m }))
+    → found ≡ out_event (byte ∷ []) port value → IfSome found (Asks version words)
 unfolding parse_statement_words parse_by_verb parse_event_item parse_event
-out_straight version byte n m width words text fields port value verb is cut wide at said actor =
+out_straight version byte words text fields port value None verb is cut made = tt
+out_straight version byte words text fields port value (Some event) verb is cut made = λ actor.
     ap (λ (t : List ℕ). parse_statement_words version actor (fields_of t)) verb
-    ∙ ap (option_map (ask actor)) (out_read byte n m width text fields port value is cut wide at said)
+    ∙ ap (option_map (ask actor)) (out_read byte text fields port value event is cut made)
 
-pub look_straight : (version byte n : ℕ) (kind : Kind) (words text addr : List ℕ)
-    → words ≡ 108 ∷ 111 ∷ 111 ∷ 107 ∷ 32 ∷ text → text ≡ byte ∷ 32 ∷ addr → Some kind ≡ parse_kind (byte ∷ [])
-    → Some n ≡ parse_hex 8 addr → Asks version words (LookAt kind n false)
+pub look_straight : (version byte : ℕ) (words text addr : List ℕ) (found : Option Event)
+    → words ≡ 108 ∷ 111 ∷ 111 ∷ 107 ∷ 32 ∷ text → text ≡ byte ∷ 32 ∷ addr → found ≡ look_event (byte ∷ []) addr false
+    → IfSome found (Asks version words)
 unfolding parse_statement_words parse_by_verb parse_event_item parse_event
-look_straight version byte n kind words text addr verb is kindly at actor =
+look_straight version byte words text addr None verb is made = tt
+look_straight version byte words text addr (Some event) verb is made = λ actor.
     ap (λ (t : List ℕ). parse_statement_words version actor (fields_of t)) verb
-    ∙ ap (option_map (ask actor)) (look_read byte n kind text addr is kindly at)
+    ∙ ap (option_map (ask actor)) (look_read byte text addr event is made)
 
 -- ---- the line
 

@@ -6,6 +6,7 @@ ghost use Rattle.script_spec.specs.Cards.{parse_base, parse_rom_bits, with_base,
 ghost use Rattle.script_spec.specs.Cards.{no_tail, parse_vga, parse_card};
 
 use crate::fields::Fields;
+use crate::item::is_word;
 use crate::numbers::parse_decimal;
 use arrayvec::ArrayVec;
 
@@ -64,11 +65,13 @@ fn parse_rom_bits(version: u8, field: &[u8]) -> Option<u32>
 fn parse_vga(field: &[u8]) -> Option<bool>
     ensures vga { result ≡ parse_vga field.now }
 {
-    match field {
-        b"vga" => Some(true),
-        b"plain" => Some(false),
-        _ => None,
+    if is_word(field, "vga") {
+        return Some(true);
     }
+    if is_word(field, "plain") {
+        return Some(false);
+    }
+    None
 }
 
 /// The bases and the expansion ROM of the fields so far.

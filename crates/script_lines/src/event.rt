@@ -6,7 +6,7 @@ ghost use Rattle.script_spec.specs.Common.{parse_hex, IsSize, parse_width, quad_
 ghost use Rattle.script_spec.specs.Common.{memory_event, parse_kind, parse_smm, parse_read, parse_write, parse_in};
 ghost use Rattle.script_spec.specs.Common.{parse_out, parse_look, parse_ack, parse_number, parse_bad_sector};
 ghost use Rattle.script_spec.specs.Common.{parse_event};
-ghost use Rattle.script_spec.specs.Events.{parse_pulses};
+ghost use Rattle.script_spec.specs.Events.{read_event, write_event, in_event, out_event, look_event, parse_pulses};
 
 use crate::fields::Fields;
 use crate::item::is_word;
@@ -15,7 +15,7 @@ use board_base::{Access, Kind, PortAccess, WideAccess, Width};
 use board_spec::Event;
 
 /// The width of an access to a port.
-pub(crate) fn parse_width(field: &[u8]) -> Option<Width>
+fn parse_width(field: &[u8]) -> Option<Width>
     ensures width { result ≡ parse_width field.now }
 {
     match field {
@@ -35,7 +35,7 @@ fn quad_size(version: u8) -> Option<u8>
 
 /// The number of bytes of an access to memory.
 #[inline(always)]
-pub(crate) fn parse_size(version: u8, field: &[u8]) -> Option<u8>
+fn parse_size(version: u8, field: &[u8]) -> Option<u8>
     ensures size { result ≡ parse_size version field.now }
     ensures known { IfSome result (IsSize version) }
 {
@@ -48,7 +48,7 @@ pub(crate) fn parse_size(version: u8, field: &[u8]) -> Option<u8>
     }
 }
 
-pub(crate) fn parse_kind(field: &[u8]) -> Option<Kind>
+fn parse_kind(field: &[u8]) -> Option<Kind>
     ensures kind { result ≡ parse_kind field.now }
 {
     match field {
@@ -105,14 +105,7 @@ fn is_wide(version: u8, bytes: u8, addr: u32) -> bool
 /// An access to memory of `bytes` bytes.
 #[inline(always)]
 #[tactic(auto, unfolding(script_spec::specs::Events::memory_event))]
-pub(crate) fn memory_event(
-    version: u8,
-    kind: Kind,
-    bytes: u8,
-    addr: u32,
-    value: u64,
-    smm: bool,
-) -> Event
+fn memory_event(version: u8, kind: Kind, bytes: u8, addr: u32, value: u64, smm: bool) -> Event
     requires size { IsSize version bytes }
     requires value { value < 16 ^ (2 * bytes) }
     ensures event { result ≡ memory_event version kind bytes addr value smm }
@@ -136,7 +129,7 @@ pub(crate) fn memory_event(
 }
 
 /// An address has eight digits.
-pub(crate) fn parse_address(field: &[u8]) -> Option<u32>
+fn parse_address(field: &[u8]) -> Option<u32>
     ensures address { result ≡ parse_hex 8 field.now }
 {
     let addr = parse_hex(8, field)?;
@@ -144,11 +137,28 @@ pub(crate) fn parse_address(field: &[u8]) -> Option<u32>
 }
 
 /// A port has four digits.
-pub(crate) fn parse_port(field: &[u8]) -> Option<u16>
+fn parse_port(field: &[u8]) -> Option<u16>
     ensures port { result ≡ parse_hex 4 field.now }
 {
     let port = parse_hex(4, field)?;
     Some(port as u16)
+}
+
+/// A read or a fetch, by its size and its address.
+#[inline(always)]
+#[tactic(auto, unfolding(script_spec::specs::Events::read_event))]
+pub(crate) fn read_event(
+    version: u8,
+    kind: Kind,
+    size: &[u8],
+    addr: &[u8],
+    smm: bool,
+) -> Option<Event>
+    ensures event { result ≡ read_event version kind size.now addr.now smm }
+{
+    let bytes = parse_size(version, size)?;
+    let addr = parse_address(addr)?;
+    Some(memory_event(version, kind, bytes, addr, 0, smm))
 }
 
 /// `W ADDR` and the flag, after the word for a read or a fetch.
@@ -158,10 +168,26 @@ fn parse_read(version: u8, kind: Kind, words: Fields<'_>) -> Option<Event>
 {
     let (size, words) = words.next()?;
     let (addr, words) = words.next()?;
+    let smm = parse_smm(words)?;
+    read_event(version, kind, size, addr, smm)
+}
+
+/// A write, by its size, its address and its value.
+#[inline(always)]
+#[tactic(auto, unfolding(script_spec::specs::Events::write_event))]
+pub(crate) fn write_event(
+    version: u8,
+    size: &[u8],
+    addr: &[u8],
+    value: &[u8],
+    smm: bool,
+) -> Option<Event>
+    ensures event { result ≡ write_event version size.now addr.now value.now smm }
+{
     let bytes = parse_size(version, size)?;
     let addr = parse_address(addr)?;
-    let smm = parse_smm(words)?;
-    Some(memory_event(version, kind, bytes, addr, 0, smm))
+    let value = parse_hex(2 * bytes as usize, value)?;
+    Some(memory_event(version, Kind::Write, bytes, addr, value, smm))
 }
 
 /// `W ADDR VALUE` and the flag, after the word for a write.
@@ -172,21 +198,16 @@ fn parse_write(version: u8, words: Fields<'_>) -> Option<Event>
     let (size, words) = words.next()?;
     let (addr, words) = words.next()?;
     let (value, words) = words.next()?;
-    let bytes = parse_size(version, size)?;
-    let addr = parse_address(addr)?;
-    let value = parse_hex(2 * bytes as usize, value)?;
     let smm = parse_smm(words)?;
-    Some(memory_event(version, Kind::Write, bytes, addr, value, smm))
+    write_event(version, size, addr, value, smm)
 }
 
-/// `W PORT`, after `in`.
-#[tactic(auto, unfolding(script_spec::specs::Events::parse_in))]
-fn parse_in(words: Fields<'_>) -> Option<Event>
-    ensures event { result ≡ parse_in words.entry }
+/// A read from a port, by its width and its number.
+#[inline(always)]
+#[tactic(auto, unfolding(script_spec::specs::Events::in_event))]
+pub(crate) fn in_event(width: &[u8], port: &[u8]) -> Option<Event>
+    ensures event { result ≡ in_event width.now port.now }
 {
-    let (width, words) = words.next()?;
-    let (port, words) = words.next()?;
-    words.end()?;
     let width = parse_width(width)?;
     let port = parse_port(port)?;
     Some(Event::Port(PortAccess {
@@ -197,23 +218,30 @@ fn parse_in(words: Fields<'_>) -> Option<Event>
     }))
 }
 
+/// `W PORT`, after `in`.
+#[tactic(auto, unfolding(script_spec::specs::Events::parse_in))]
+fn parse_in(words: Fields<'_>) -> Option<Event>
+    ensures event { result ≡ parse_in words.entry }
+{
+    let (width, words) = words.next()?;
+    let port = words.only()?;
+    in_event(width, port)
+}
+
 /// The value of an access to a port has two digits for each byte of its width.
-pub(crate) fn parse_value(width: Width, field: &[u8]) -> Option<u32>
+fn parse_value(width: Width, field: &[u8]) -> Option<u32>
     ensures value { result ≡ parse_hex (2 * bytes_of width) field.now }
 {
     let value = parse_hex(2 * width.bytes() as usize, field)?;
     Some(value as u32)
 }
 
-/// `W PORT VALUE`, after `out`.
-#[tactic(auto, unfolding(script_spec::specs::Events::parse_out))]
-fn parse_out(words: Fields<'_>) -> Option<Event>
-    ensures event { result ≡ parse_out words.entry }
+/// A write to a port, by its width, its number and its value.
+#[inline(always)]
+#[tactic(auto, unfolding(script_spec::specs::Events::out_event))]
+pub(crate) fn out_event(width: &[u8], port: &[u8], value: &[u8]) -> Option<Event>
+    ensures event { result ≡ out_event width.now port.now value.now }
 {
-    let (width, words) = words.next()?;
-    let (port, words) = words.next()?;
-    let (value, words) = words.next()?;
-    words.end()?;
     let width = parse_width(width)?;
     let port = parse_port(port)?;
     let value = parse_value(width, value)?;
@@ -225,6 +253,28 @@ fn parse_out(words: Fields<'_>) -> Option<Event>
     }))
 }
 
+/// `W PORT VALUE`, after `out`.
+#[tactic(auto, unfolding(script_spec::specs::Events::parse_out))]
+fn parse_out(words: Fields<'_>) -> Option<Event>
+    ensures event { result ≡ parse_out words.entry }
+{
+    let (width, words) = words.next()?;
+    let (port, words) = words.next()?;
+    let value = words.only()?;
+    out_event(width, port, value)
+}
+
+/// A look, by its kind and its address.
+#[inline(always)]
+#[tactic(auto, unfolding(script_spec::specs::Events::look_event))]
+pub(crate) fn look_event(kind: &[u8], addr: &[u8], smm: bool) -> Option<Event>
+    ensures event { result ≡ look_event kind.now addr.now smm }
+{
+    let kind = parse_kind(kind)?;
+    let addr = parse_address(addr)?;
+    Some(Event::Look { kind, addr, smm })
+}
+
 /// `K ADDR` and the flag, after `look`.
 #[tactic(auto, unfolding(script_spec::specs::Events::parse_look))]
 fn parse_look(words: Fields<'_>) -> Option<Event>
@@ -232,10 +282,8 @@ fn parse_look(words: Fields<'_>) -> Option<Event>
 {
     let (kind, words) = words.next()?;
     let (addr, words) = words.next()?;
-    let kind = parse_kind(kind)?;
-    let addr = parse_address(addr)?;
     let smm = parse_smm(words)?;
-    Some(Event::Look { kind, addr, smm })
+    look_event(kind, addr, smm)
 }
 
 /// `ack` has no more fields.
@@ -275,16 +323,32 @@ fn parse_bad_sector(words: Fields<'_>) -> Option<Event>
 pub(crate) fn parse_event(version: u8, verb: &[u8], words: Fields<'_>) -> Option<Event>
     ensures event { result ≡ parse_event version verb.now words.entry }
 {
-    match verb {
-        b"r" => parse_read(version, Kind::Read, words),
-        b"f" => parse_read(version, Kind::Fetch, words),
-        b"w" => parse_write(version, words),
-        b"in" => parse_in(words),
-        b"out" => parse_out(words),
-        b"look" => parse_look(words),
-        b"ack" => parse_ack(words),
-        b"pulse" => parse_pulses(words),
-        b"bad" => parse_bad_sector(words),
-        _ => None,
+    if is_word(verb, "r") {
+        return parse_read(version, Kind::Read, words);
     }
+    if is_word(verb, "f") {
+        return parse_read(version, Kind::Fetch, words);
+    }
+    if is_word(verb, "w") {
+        return parse_write(version, words);
+    }
+    if is_word(verb, "in") {
+        return parse_in(words);
+    }
+    if is_word(verb, "out") {
+        return parse_out(words);
+    }
+    if is_word(verb, "look") {
+        return parse_look(words);
+    }
+    if is_word(verb, "ack") {
+        return parse_ack(words);
+    }
+    if is_word(verb, "pulse") {
+        return parse_pulses(words);
+    }
+    if is_word(verb, "bad") {
+        return parse_bad_sector(words);
+    }
+    None
 }

@@ -57,8 +57,7 @@ fn parse_two_numbers(words: Fields<'_>) -> Option<(u32, u32)>
     ensures numbers { result ≡ parse_two_numbers words.entry }
 {
     let (first, words) = words.next()?;
-    let (second, words) = words.next()?;
-    words.end()?;
+    let second = words.only()?;
     let first = parse_decimal(first)?;
     let second = parse_decimal(second)?;
     Some((first, second))

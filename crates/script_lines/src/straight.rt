@@ -7,11 +7,9 @@ ghost use Rattle.script_lines.specs.Items.{asked_said};
 ghost use Rattle.script_lines.specs.Straight.{space, Asks};
 ghost use Rattle.script_lines.specs.declared.item.Asked.{Asked};
 
-use crate::event::{
-    memory_event, parse_address, parse_kind, parse_port, parse_size, parse_value, parse_width,
-};
-use crate::numbers::{parse_decimal, parse_hex};
-use board_base::{Kind, PortAccess};
+use crate::event::{in_event, look_event, out_event, read_event, write_event};
+use crate::numbers::parse_decimal;
+use board_base::Kind;
 use board_spec::Event;
 
 /// The digits of an address.
@@ -77,9 +75,7 @@ fn straight_access(version: u8, kind: Kind, text: &[u8]) -> Option<Event>
     ensures event { IfSome result (λ event. parse_read version kind (fields_of text.now) ≡ Some event) }
 {
     let (size, field) = first_of(text)?;
-    let bytes = parse_size(version, &[size])?;
-    let addr = parse_address(field)?;
-    Some(memory_event(version, kind, bytes, addr, 0, false))
+    read_event(version, kind, &[size], field, false)
 }
 
 #[inline(always)]
@@ -105,10 +101,7 @@ fn straight_write(version: u8, words: &[u8]) -> Option<Event>
     let text = after(b"w ", words)?;
     let (size, fields) = first_of(text)?;
     let (place, digits) = cut_at(ADDRESS, fields)?;
-    let bytes = parse_size(version, &[size])?;
-    let addr = parse_address(place)?;
-    let value = parse_hex(2 * bytes as usize, digits)?;
-    Some(memory_event(version, Kind::Write, bytes, addr, value, false))
+    write_event(version, &[size], place, digits, false)
 }
 
 #[inline(always)]
@@ -117,14 +110,7 @@ fn straight_in(version: u8, words: &[u8]) -> Option<Event>
 {
     let text = after(b"in ", words)?;
     let (letter, field) = first_of(text)?;
-    let width = parse_width(&[letter])?;
-    let port = parse_port(field)?;
-    Some(Event::Port(PortAccess {
-        write: false,
-        port,
-        width,
-        value: 0,
-    }))
+    in_event(&[letter], field)
 }
 
 #[inline(always)]
@@ -134,15 +120,7 @@ fn straight_out(version: u8, words: &[u8]) -> Option<Event>
     let text = after(b"out ", words)?;
     let (letter, fields) = first_of(text)?;
     let (place, digits) = cut_at(PORT, fields)?;
-    let width = parse_width(&[letter])?;
-    let port = parse_port(place)?;
-    let value = parse_value(width, digits)?;
-    Some(Event::Port(PortAccess {
-        write: true,
-        port,
-        width,
-        value,
-    }))
+    out_event(&[letter], place, digits)
 }
 
 #[inline(always)]
@@ -151,13 +129,7 @@ fn straight_look(version: u8, words: &[u8]) -> Option<Event>
 {
     let text = after(b"look ", words)?;
     let (letter, field) = first_of(text)?;
-    let kind = parse_kind(&[letter])?;
-    let addr = parse_address(field)?;
-    Some(Event::Look {
-        kind,
-        addr,
-        smm: false,
-    })
+    look_event(&[letter], field, false)
 }
 
 /// What a statement asks, by its words after the processor's number.

@@ -6,7 +6,8 @@ use Rattle.board_prelude.proofs.Common.{size_text, width_text, kind_text}
 use Rattle.board_base.specs.declared.access.Width.TheVariants.{Two, Four}
 use Rattle.board_spec.specs.declared.event.Event.TheVariants.{Look as LookAt}
 use Rattle.script_spec.specs.Events.{parse_width, parse_size, parse_kind, parse_smm, IsSize, memory_event, parse_read}
-use Rattle.script_spec.specs.Events.{parse_write, parse_in, parse_out, parse_look}
+use Rattle.script_spec.specs.Events.{parse_write, parse_in, parse_out, parse_look, read_event, write_event, in_event}
+use Rattle.script_spec.specs.Events.{out_event, look_event}
 use Rattle.script_spec.proofs.Joins.{Spells, Reads, smm_words}
 use Rattle.script_spec.proofs.NumberBack.{plain_is, hex_back}
 
@@ -56,36 +57,36 @@ pub read_spelled : (version bytes addr : ℕ) (kind : Kind) (smm : Bool) (words 
     → addr < 2 ^ 32
     → Reads words (size_text bytes ∷ hex_number 4 addr ∷ smm_words smm)
     → parse_read version kind words ≡ Some (memory_event version kind bytes addr 0 smm)
-unfolding parse_read
+unfolding parse_read read_event
 read_spelled version bytes addr kind smm [] size small reads = absurd reads
 read_spelled version bytes addr kind smm (s ∷ []) size small reads = absurd reads.1
 read_spelled version bytes addr kind smm (s ∷ a ∷ flags) size small reads =
     rw (
+      smm_spelled smm flags reads.1.1,
       size_spelled version bytes s size reads.0,
       hex_back 4 addr a (omega (arith, small)) reads.1.0,
-      smm_spelled smm flags reads.1.1,
     ) refl
 
 pub write_spelled : (version bytes addr value : ℕ) (smm : Bool) (words : List (List ℕ)) → IsSize version bytes
     → addr < 2 ^ 32
     → value < 256 ^ bytes → Reads words (size_text bytes ∷ hex_number 4 addr ∷ hex_number bytes value ∷ smm_words smm)
     → parse_write version words ≡ Some (memory_event version Write bytes addr value smm)
-unfolding parse_write
+unfolding parse_write write_event
 write_spelled version bytes addr value smm [] size small fits reads = absurd reads
 write_spelled version bytes addr value smm (s ∷ []) size small fits reads = absurd reads.1
 write_spelled version bytes addr value smm (s ∷ a ∷ []) size small fits reads = absurd reads.1.1
 write_spelled version bytes addr value smm (s ∷ a ∷ v ∷ flags) size small fits reads =
     rw (
+      smm_spelled smm flags reads.1.1.1,
       size_spelled version bytes s size reads.0,
       hex_back 4 addr a (omega (arith, small)) reads.1.0,
       hex_back bytes value v fits reads.1.1.0,
-      smm_spelled smm flags reads.1.1.1,
     ) refl
 
 pub in_spelled : (width : Width) (port : ℕ) (words : List (List ℕ)) → port < 2 ^ 16
     → Reads words (width_text width ∷ hex_number 2 port ∷ [])
     → parse_in words ≡ Some (Port (record { write = false; port = port; width = width; value = 0 }))
-unfolding parse_in
+unfolding parse_in in_event
 in_spelled width port [] small reads = absurd reads
 in_spelled width port (w ∷ []) small reads = absurd reads.1
 in_spelled width port (w ∷ p ∷ []) small reads =
@@ -96,7 +97,7 @@ pub out_spelled : (width : Width) (port value : ℕ) (words : List (List ℕ)) �
     → value < 256 ^ bytes_of width
     → Reads words (width_text width ∷ hex_number 2 port ∷ hex_number (bytes_of width) value ∷ [])
     → parse_out words ≡ Some (Port (record { write = true; port = port; width = width; value = value }))
-unfolding parse_out
+unfolding parse_out out_event
 out_spelled width port value [] small fits reads = absurd reads
 out_spelled width port value (w ∷ []) small fits reads = absurd reads.1
 out_spelled width port value (w ∷ p ∷ []) small fits reads = absurd reads.1.1
@@ -110,12 +111,12 @@ out_spelled width port value (w ∷ p ∷ v ∷ q ∷ words) small fits reads = 
 
 pub look_spelled : (kind : Kind) (addr : ℕ) (smm : Bool) (words : List (List ℕ)) → addr < 2 ^ 32
     → Reads words (kind_text kind ∷ hex_number 4 addr ∷ smm_words smm) → parse_look words ≡ Some (LookAt kind addr smm)
-unfolding parse_look
+unfolding parse_look look_event
 look_spelled kind addr smm [] small reads = absurd reads
 look_spelled kind addr smm (k ∷ []) small reads = absurd reads.1
 look_spelled kind addr smm (k ∷ a ∷ flags) small reads =
     rw (
+      smm_spelled smm flags reads.1.1,
       kind_spelled kind k reads.0,
       hex_back 4 addr a (omega (arith, small)) reads.1.0,
-      smm_spelled smm flags reads.1.1,
     ) refl

@@ -9,7 +9,7 @@ use Rattle.script_spec.specs.Common.{IsDecimal, IsEventForm, parse_hex, parse_wi
 use Rattle.script_spec.specs.Common.{parse_smm, IsSize, width_with, is_wide, memory_event, parse_read, parse_write}
 use Rattle.script_spec.specs.Common.{parse_in, parse_out, parse_look, parse_ack, parse_number, parse_bad_sector}
 use Rattle.script_spec.specs.Common.{parse_event}
-use Rattle.script_spec.specs.Events.{parse_pulses}
+use Rattle.script_spec.specs.Events.{read_event, write_event, in_event, out_event, look_event, parse_pulses}
 use Rattle.script_spec.proofs.Chains.{some_is, guarded, then_said}
 use Rattle.script_spec.proofs.NumberTexts.{decimal_read, hex_read}
 use Rattle.script_spec.proofs.Joins.{Reads, same, same_as, word_is, smm_words, smm_read, access_joined, write_joined}
@@ -158,18 +158,18 @@ is_access version kind bytes addr value smm size small fits = elim (cases_Bool (
 
 read_read : (version : ℕ) (kind : Kind) (words : List (List ℕ)) (event : Event) → is_write kind ≡ false
     → parse_read version kind words ≡ Some event → IsRead version (kind_text kind ∷ words) event
-unfolding parse_read
+unfolding parse_read read_event
 read_read version kind [] event reads e = absurd cc
 read_read version kind (_ ∷ []) event reads e = absurd cc
 read_read version kind (size ∷ addr ∷ flags) event reads e =
-    let b = then_said (parse_size version size) _ event e in
+    let s = then_said (parse_smm flags) _ event e in
+    let b = then_said (parse_size version size) _ event s.2 in
     let a = then_said (parse_hex 8 addr) _ event b.2 in
-    let s = then_said (parse_smm flags) _ event a.2 in
     let size_is = size_read version size b.0 b.1 in
     let addr_is = hex_read 4 addr a.0 a.1 in
     let fits : FitsBytes (is_write kind) b.0 0 = rw reads refl in
     let access = is_access version kind b.0 a.0 0 s.0 size_is.1 (omega (arith, addr_is.1)) fits in
-    subst (λ (x : Event). IsRead version (kind_text kind ∷ size ∷ addr ∷ flags) x) (some_is _ event s.2)
+    subst (λ (x : Event). IsRead version (kind_text kind ∷ size ∷ addr ∷ flags) x) (some_is _ event a.2)
     (record {
       texts = kind_text kind ∷ size_text b.0 ∷ hex_number 4 a.0 ∷ smm_words s.0;
       reads = (same (kind_text kind), (same_as size (size_text b.0) size_is.0, (addr_is.0, smm_read flags s.0 s.1)));
@@ -179,20 +179,20 @@ read_read version kind (size ∷ addr ∷ flags) event reads e =
 
 write_read : (version : ℕ) (words : List (List ℕ)) (event : Event)
     → parse_write version words ≡ Some event → IsRead version (codes "w" ∷ words) event
-unfolding parse_write
+unfolding parse_write write_event
 write_read version [] event e = absurd cc
 write_read version (_ ∷ []) event e = absurd cc
 write_read version (_ ∷ _ ∷ []) event e = absurd cc
 write_read version (size ∷ addr ∷ value ∷ flags) event e =
-    let b = then_said (parse_size version size) _ event e in
+    let s = then_said (parse_smm flags) _ event e in
+    let b = then_said (parse_size version size) _ event s.2 in
     let a = then_said (parse_hex 8 addr) _ event b.2 in
     let v = then_said (parse_hex (2 * b.0) value) _ event a.2 in
-    let s = then_said (parse_smm flags) _ event v.2 in
     let size_is = size_read version size b.0 b.1 in
     let addr_is = hex_read 4 addr a.0 a.1 in
     let value_is = hex_read b.0 value v.0 v.1 in
     let access = is_access version Write b.0 a.0 v.0 s.0 size_is.1 (omega (arith, addr_is.1)) value_is.1 in
-    subst (λ (x : Event). IsRead version (codes "w" ∷ size ∷ addr ∷ value ∷ flags) x) (some_is _ event s.2)
+    subst (λ (x : Event). IsRead version (codes "w" ∷ size ∷ addr ∷ value ∷ flags) x) (some_is _ event v.2)
     (record {
       texts = codes "w" ∷ size_text b.0 ∷ hex_number 4 a.0 ∷ hex_number b.0 v.0 ∷ smm_words s.0;
       reads = (
@@ -205,7 +205,7 @@ write_read version (size ∷ addr ∷ value ∷ flags) event e =
 
 in_read : (version : ℕ) (words : List (List ℕ)) (event : Event) → parse_in words ≡ Some event
     → IsRead version (codes "in" ∷ words) event
-unfolding parse_in event_text
+unfolding parse_in in_event event_text
 in_read version [] event e = absurd cc
 in_read version (_ ∷ []) event e = absurd cc
 in_read version (width ∷ port ∷ []) event e =
@@ -223,7 +223,7 @@ in_read version (_ ∷ _ ∷ _ ∷ _) event e = absurd cc
 
 out_read : (version : ℕ) (words : List (List ℕ)) (event : Event) → parse_out words ≡ Some event
     → IsRead version (codes "out" ∷ words) event
-unfolding parse_out event_text
+unfolding parse_out out_event event_text
 out_read version [] event e = absurd cc
 out_read version (_ ∷ []) event e = absurd cc
 out_read version (_ ∷ _ ∷ []) event e = absurd cc
@@ -247,15 +247,15 @@ out_read version (_ ∷ _ ∷ _ ∷ _ ∷ _) event e = absurd cc
 
 look_read : (version : ℕ) (words : List (List ℕ)) (event : Event) → parse_look words ≡ Some event
     → IsRead version (codes "look" ∷ words) event
-unfolding parse_look event_text
+unfolding parse_look look_event event_text
 look_read version [] event e = absurd cc
 look_read version (_ ∷ []) event e = absurd cc
 look_read version (kind ∷ addr ∷ flags) event e =
-    let k = then_said (parse_kind kind) _ event e in
+    let s = then_said (parse_smm flags) _ event e in
+    let k = then_said (parse_kind kind) _ event s.2 in
     let a = then_said (parse_hex 8 addr) _ event k.2 in
-    let s = then_said (parse_smm flags) _ event a.2 in
     let addr_is = hex_read 4 addr a.0 a.1 in
-    subst (λ (x : Event). IsRead version (codes "look" ∷ kind ∷ addr ∷ flags) x) (some_is _ event s.2)
+    subst (λ (x : Event). IsRead version (codes "look" ∷ kind ∷ addr ∷ flags) x) (some_is _ event a.2)
     (record {
       texts = codes "look" ∷ kind_text k.0 ∷ hex_number 4 a.0 ∷ smm_words s.0;
       reads = (

@@ -14,6 +14,7 @@ use Rattle.script_spec.specs.Common.{parse_event_item, parse_by_verb, parse_stat
 use Rattle.script_spec.specs.Common.{parse_phase, parse_statement, parse_by_key, parse_item, least_reason, Script}
 use Rattle.script_spec.specs.Common.{IsSaidBy, IsScriptText, IsScriptBad, BadText, IsBadText, bad_texts, AreBad, Bound}
 use Rattle.script_spec.specs.Common.{with_line, IsBound, bounds, AreBounds, TwoProcessors, TwoOrders, WideScript}
+use Rattle.script_spec.specs.Events.{read_event, write_event, in_event, out_event, look_event}
 use Rattle.script_spec.proofs.ReadingLaws.{same_head, same_tail}
 use Rattle.script_spec.proofs.Decision.{judged, judged_lines, AreJudged, judged_is}
 use Rattle.script_spec.proofs.ReadingExists.{text_said}
@@ -40,10 +41,11 @@ each_bad (text ∷ texts) e =
 pub are_bad : AreBad
 unfolding AreBad bad_texts lines_of digits judged_lines number_after parse_two_digits after_mark parse_moment_part
     parse_year parse_date parse_time whole_moment parse_moment parse_base parse_rom_bits with_base with_rom with_field
-    with_fields parse_card parse_smm memory_event parse_read parse_write parse_in parse_out parse_look parse_ack
-    parse_number parse_event parse_two_numbers parse_only_moment parse_time_item parse_wire_item parse_line_item
-    parse_event_item parse_by_verb parse_statement_words is_name parse_name parse_phase parse_statement parse_by_key
-    parse_item least_reason weekday_of days_since_1980 days_of_years days_of_months
+    with_fields parse_card parse_smm memory_event read_event write_event in_event out_event look_event parse_read
+    parse_write parse_in parse_out parse_look parse_ack parse_number parse_event parse_two_numbers parse_only_moment
+    parse_time_item parse_wire_item parse_line_item parse_event_item parse_by_verb parse_statement_words is_name
+    parse_name parse_phase parse_statement parse_by_key parse_item least_reason weekday_of days_since_1980 days_of_years
+    days_of_months
 are_bad = each_bad bad_texts refl
 
 -- ---- the numbers of a script
@@ -74,10 +76,11 @@ each_bound (row ∷ rows) good bad =
 pub are_bounds : AreBounds
 unfolding AreBounds bounds lines_of digits judged_lines number_after parse_two_digits after_mark parse_moment_part
     parse_year parse_date parse_time whole_moment parse_moment parse_base parse_rom_bits with_base with_rom with_field
-    with_fields parse_card parse_smm memory_event parse_read parse_write parse_in parse_out parse_look parse_ack
-    parse_number parse_event parse_two_numbers parse_only_moment parse_time_item parse_wire_item parse_line_item
-    parse_event_item parse_by_verb parse_statement_words is_name parse_name parse_phase parse_statement parse_by_key
-    parse_item least_reason weekday_of days_since_1980 days_of_years days_of_months
+    with_fields parse_card parse_smm memory_event read_event write_event in_event out_event look_event parse_read
+    parse_write parse_in parse_out parse_look parse_ack parse_number parse_event parse_two_numbers parse_only_moment
+    parse_time_item parse_wire_item parse_line_item parse_event_item parse_by_verb parse_statement_words is_name
+    parse_name parse_phase parse_statement parse_by_key parse_item least_reason weekday_of days_since_1980 days_of_years
+    days_of_months
 are_bounds = each_bound bounds refl refl
 
 -- ---- good texts
@@ -111,10 +114,10 @@ says bytes script = judged_so bytes script (judge bytes) (judged_is (lines_of by
 pub two_processors : TwoProcessors
 unfolding TwoProcessors lines_of digits judged_lines number_after parse_two_digits after_mark parse_moment_part
     parse_year parse_date parse_time whole_moment parse_moment parse_base parse_rom_bits with_base with_rom with_field
-    with_fields parse_card parse_smm memory_event parse_read parse_write parse_in parse_out parse_look parse_ack
-    parse_number parse_event parse_two_numbers parse_only_moment parse_time_item parse_wire_item parse_line_item
-    parse_event_item parse_by_verb parse_statement_words is_name parse_name parse_phase parse_statement parse_by_key
-    parse_item least_reason
+    with_fields parse_card parse_smm memory_event read_event write_event in_event out_event look_event parse_read
+    parse_write parse_in parse_out parse_look parse_ack parse_number parse_event parse_two_numbers parse_only_moment
+    parse_time_item parse_wire_item parse_line_item parse_event_item parse_by_verb parse_statement_words is_name
+    parse_name parse_phase parse_statement parse_by_key parse_item least_reason
 two_processors =
     says _ _ refl refl (record {
       cpus = refl;
@@ -132,10 +135,10 @@ two_processors =
 pub two_orders : TwoOrders
 unfolding TwoOrders lines_of digits judged_lines number_after parse_two_digits after_mark parse_moment_part parse_year
     parse_date parse_time whole_moment parse_moment parse_base parse_rom_bits with_base with_rom with_field with_fields
-    parse_card parse_smm memory_event parse_read parse_write parse_in parse_out parse_look parse_ack parse_number
-    parse_event parse_two_numbers parse_only_moment parse_time_item parse_wire_item parse_line_item parse_event_item
-    parse_by_verb parse_statement_words is_name parse_name parse_phase parse_statement parse_by_key parse_item
-    least_reason
+    parse_card parse_smm memory_event read_event write_event in_event out_event look_event parse_read parse_write
+    parse_in parse_out parse_look parse_ack parse_number parse_event parse_two_numbers parse_only_moment parse_time_item
+    parse_wire_item parse_line_item parse_event_item parse_by_verb parse_statement_words is_name parse_name parse_phase
+    parse_statement parse_by_key parse_item least_reason
 two_orders =
     says _ _ refl refl (record {
       cpus = refl;
@@ -150,10 +153,10 @@ two_orders =
 pub wide_script : WideScript
 unfolding WideScript lines_of digits judged_lines number_after parse_two_digits after_mark parse_moment_part parse_year
     parse_date parse_time whole_moment parse_moment parse_base parse_rom_bits with_base with_rom with_field with_fields
-    parse_card parse_smm memory_event parse_read parse_write parse_in parse_out parse_look parse_ack parse_number
-    parse_event parse_two_numbers parse_only_moment parse_time_item parse_wire_item parse_line_item parse_event_item
-    parse_by_verb parse_statement_words is_name parse_name parse_phase parse_statement parse_by_key parse_item
-    least_reason
+    parse_card parse_smm memory_event read_event write_event in_event out_event look_event parse_read parse_write
+    parse_in parse_out parse_look parse_ack parse_number parse_event parse_two_numbers parse_only_moment parse_time_item
+    parse_wire_item parse_line_item parse_event_item parse_by_verb parse_statement_words is_name parse_name parse_phase
+    parse_statement parse_by_key parse_item least_reason
 wide_script =
     says _ _ refl refl (record {
       cpus = refl;

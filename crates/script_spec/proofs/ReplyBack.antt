@@ -22,7 +22,7 @@ use Rattle.script_spec.proofs.CardTexts.{spaced, line_spaced}
 use Rattle.script_spec.proofs.Splits.{Lack, split_exact}
 use Rattle.script_spec.proofs.NumberTexts.{decimal_read}
 use Rattle.script_spec.proofs.NumberBack.{decimal_back}
-use Rattle.script_spec.specs.Replies.{parse_part, parse_look_reply}
+use Rattle.script_spec.specs.Replies.{bus_reply, look_reply, parse_part, parse_look_reply}
 use Rattle.script_spec.proofs.TargetBack.{hex_read, denial_back, area_back, target_back}
 
 -- ---- the words of a reply
@@ -103,7 +103,7 @@ value_back false bytes (Some n) fits = ap (option_map Some) (hex_read bytes n fi
 bus_said : (writes : Bool) (bytes : ℕ) (v t d : List ℕ) (value : Option ℕ) (target : Target) (denial : Option Denial)
     → parse_value writes bytes v ≡ Some value → parse_target t ≡ Some target → parse_denial d ≡ Some denial
     → parse_bus_reply writes bytes (v ∷ t ∷ d ∷ []) ≡ Some (Bus value target denial)
-unfolding parse_bus_reply
+unfolding parse_bus_reply bus_reply
 bus_said writes bytes v t d value target denial one two three = rw (one, two, three) refl
 
 bus_back : (writes : Bool) (bytes : ℕ) (reply : Reply) → IsBusReply writes bytes reply
@@ -182,7 +182,7 @@ wide_back access (Saw look) fits = absurd fits
 look_said : (v l h a : List ℕ) (look : Look) → parse_decimal v ≡ Some look.version → parse_hex 8 l ≡ Some look.lo
     → parse_hex 8 h ≡ Some look.hi → parse_area a ≡ Some look.area
     → parse_look_reply (v ∷ l ∷ h ∷ a ∷ []) ≡ Some (Saw look)
-unfolding parse_look_reply
+unfolding parse_look_reply look_reply
 look_said v l h a look one two three four = rw (one, two, three, four) refl
 
 look_back : (bytes : ℕ) (reply : Reply) → IsLookReply reply → parse_look_reply (words_in bytes reply) ≡ Some reply

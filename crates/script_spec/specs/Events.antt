@@ -57,15 +57,26 @@ memory_event version kind bytes addr value smm =
     then Wide (record { kind = kind; addr = addr; bytes = bytes; smm = smm; value = value })
     else Memory (record { kind = kind; addr = addr; width = width_with bytes; smm = smm; value = value })
 
+unfoldable pub read_event : (version : ℕ) → Kind → (size addr : List ℕ) → (smm : Bool) → Option Event
+read_event version kind size addr smm = do
+  bytes ← parse_size version size
+  addr ← parse_hex 8 addr
+  Some (memory_event version kind bytes addr 0 smm)
+
 -- `W ADDR`, after `r` or `f`
 unfoldable pub parse_read : (version : ℕ) → Kind → List (List ℕ) → Option Event
 parse_read version kind [] = None
 parse_read version kind (_ ∷ []) = None
 parse_read version kind (size ∷ addr ∷ flags) = do
+  smm ← parse_smm flags
+  read_event version kind size addr smm
+
+unfoldable pub write_event : (version : ℕ) → (size addr value : List ℕ) → (smm : Bool) → Option Event
+write_event version size addr value smm = do
   bytes ← parse_size version size
   addr ← parse_hex 8 addr
-  smm ← parse_smm flags
-  Some (memory_event version kind bytes addr 0 smm)
+  value ← parse_hex (2 * bytes) value
+  Some (memory_event version Write bytes addr value smm)
 
 -- `W ADDR VALUE`, after `w`
 unfoldable pub parse_write : (version : ℕ) → List (List ℕ) → Option Event
@@ -73,47 +84,54 @@ parse_write version [] = None
 parse_write version (_ ∷ []) = None
 parse_write version (_ ∷ _ ∷ []) = None
 parse_write version (size ∷ addr ∷ value ∷ flags) = do
-  bytes ← parse_size version size
-  addr ← parse_hex 8 addr
-  value ← parse_hex (2 * bytes) value
   smm ← parse_smm flags
-  Some (memory_event version Write bytes addr value smm)
+  write_event version size addr value smm
 
 -- ---- ports
+
+unfoldable pub in_event : (width port : List ℕ) → Option Event
+in_event width port = do
+  width ← parse_width width
+  port ← parse_hex 4 port
+  Some (Port (record { write = false; port = port; width = width; value = 0 }))
 
 -- `W PORT`, after `in`
 unfoldable pub parse_in : List (List ℕ) → Option Event
 parse_in [] = None
 parse_in (_ ∷ []) = None
-parse_in (width ∷ port ∷ []) = do
+parse_in (width ∷ port ∷ []) = in_event width port
+parse_in (_ ∷ _ ∷ _ ∷ _) = None
+
+unfoldable pub out_event : (width port value : List ℕ) → Option Event
+out_event width port value = do
   width ← parse_width width
   port ← parse_hex 4 port
-  Some (Port (record { write = false; port = port; width = width; value = 0 }))
-parse_in (_ ∷ _ ∷ _ ∷ _) = None
+  value ← parse_hex (2 * bytes_of width) value
+  Some (Port (record { write = true; port = port; width = width; value = value }))
 
 -- `W PORT VALUE`, after `out`
 unfoldable pub parse_out : List (List ℕ) → Option Event
 parse_out [] = None
 parse_out (_ ∷ []) = None
 parse_out (_ ∷ _ ∷ []) = None
-parse_out (width ∷ port ∷ value ∷ []) = do
-  width ← parse_width width
-  port ← parse_hex 4 port
-  value ← parse_hex (2 * bytes_of width) value
-  Some (Port (record { write = true; port = port; width = width; value = value }))
+parse_out (width ∷ port ∷ value ∷ []) = out_event width port value
 parse_out (_ ∷ _ ∷ _ ∷ _ ∷ _) = None
 
 -- ---- others
+
+unfoldable pub look_event : (kind addr : List ℕ) → (smm : Bool) → Option Event
+look_event kind addr smm = do
+  kind ← parse_kind kind
+  addr ← parse_hex 8 addr
+  Some (LookAt kind addr smm)
 
 -- `K ADDR`, after `look`
 unfoldable pub parse_look : List (List ℕ) → Option Event
 parse_look [] = None
 parse_look (_ ∷ []) = None
 parse_look (kind ∷ addr ∷ flags) = do
-  kind ← parse_kind kind
-  addr ← parse_hex 8 addr
   smm ← parse_smm flags
-  Some (LookAt kind addr smm)
+  look_event kind addr smm
 
 unfoldable pub parse_ack : List (List ℕ) → Option Event
 parse_ack [] = Some Ack

@@ -17,16 +17,19 @@ parse_no_value field = if bytes_eq field (codes "-") then Some None else None
 abbrev pub parse_value : (writes : Bool) → (bytes : ℕ) → List ℕ → Option (Option ℕ)
 parse_value writes bytes field = if writes then parse_no_value field else option_map Some (parse_hex (2 * bytes) field)
 
+unfoldable pub bus_reply : (writes : Bool) → (bytes : ℕ) → (value target denial : List ℕ) → Option Reply
+bus_reply writes bytes value target denial = do
+  value ← parse_value writes bytes value
+  target ← parse_target target
+  denial ← parse_denial denial
+  Some (Bus value target denial)
+
 -- `VALUE TARGET DENIAL`
 unfoldable pub parse_bus_reply : (writes : Bool) → (bytes : ℕ) → List (List ℕ) → Option Reply
 parse_bus_reply writes bytes [] = None
 parse_bus_reply writes bytes (_ ∷ []) = None
 parse_bus_reply writes bytes (_ ∷ _ ∷ []) = None
-parse_bus_reply writes bytes (value ∷ target ∷ denial ∷ []) = do
-  value ← parse_value writes bytes value
-  target ← parse_target target
-  denial ← parse_denial denial
-  Some (Bus value target denial)
+parse_bus_reply writes bytes (value ∷ target ∷ denial ∷ []) = bus_reply writes bytes value target denial
 parse_bus_reply writes bytes (_ ∷ _ ∷ _ ∷ _ ∷ _) = None
 
 -- ---- wide accesses
@@ -85,18 +88,21 @@ parse_wide_reply access (value ∷ words) = do
 
 -- ---- looks
 
+unfoldable pub look_reply : (version lo hi area : List ℕ) → Option Reply
+look_reply version lo hi area = do
+  version ← parse_decimal version
+  lo ← parse_hex 8 lo
+  hi ← parse_hex 8 hi
+  area ← parse_area area
+  Some (Saw (record { version = version; lo = lo; hi = hi; area = area }))
+
 -- `VERSION LO HI AREA`
 unfoldable pub parse_look_reply : List (List ℕ) → Option Reply
 parse_look_reply [] = None
 parse_look_reply (_ ∷ []) = None
 parse_look_reply (_ ∷ _ ∷ []) = None
 parse_look_reply (_ ∷ _ ∷ _ ∷ []) = None
-parse_look_reply (version ∷ lo ∷ hi ∷ area ∷ []) = do
-  version ← parse_decimal version
-  lo ← parse_hex 8 lo
-  hi ← parse_hex 8 hi
-  area ← parse_area area
-  Some (Saw (record { version = version; lo = lo; hi = hi; area = area }))
+parse_look_reply (version ∷ lo ∷ hi ∷ area ∷ []) = look_reply version lo hi area
 parse_look_reply (_ ∷ _ ∷ _ ∷ _ ∷ _ ∷ _) = None
 
 -- ---- by the event
