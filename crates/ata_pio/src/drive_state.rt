@@ -158,7 +158,7 @@ impl Progress {
     }
 }
 
-/// The last sector that what has this number may have at a disk of so many. It is 0 where it has none.
+/// The largest sector that can stand beside this number at a disk of so many: 0 where there is none.
 fn last_sector(number: u8, sectors: u32) -> u32
     requires some { 0 < sectors }
     ensures last { result ≡ bound_where (nat_lt 2 number) (sectors - 1) }
@@ -167,14 +167,14 @@ fn last_sector(number: u8, sectors: u32) -> u32
     if IDENTIFY < number { sectors - 1 } else { 0 }
 }
 
-/// The last word that may come next for what has this number. It is 0 where none comes.
+/// The largest word that can stand beside this number: 0 where there is none.
 fn last_word(number: u8) -> u8
     ensures last { result ≡ bound_where (nat_lt 1 number) 255 }
 {
     if ERROR < number { u8::MAX } else { 0 }
 }
 
-/// How many bytes of a sector have come for what has this number, where this word comes next.
+/// How many bytes of a sector have come where this number and this word stand.
 fn came_size(number: u8, word: u8) -> usize
     ensures size { result ≡ came_size number word }
     ensures room { result ≤ 512 }
