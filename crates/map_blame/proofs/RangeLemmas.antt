@@ -5,9 +5,8 @@ use Rattle.board_prelude.proofs.Common.{cases_lt, get_or-set_same, get_or-set_ot
 use Rattle.board_prelude.proofs.Common.{length-map, ext_get_or, All-nil, All-cons, MapChange, Setup, registers_after}
 use Rattle.board_prelude.proofs.Common.{Tiles, IsRight, IsFlatMapOf}
 use Rattle.std.proofs.lemmas.Simd.{map-map}
-use Rattle.map_builder.specs.declared.range.Range.{Range}
-use Rattle.map_builder.specs.Common.{range_of, no_range}
-use Rattle.map_builder.proofs.FindLemmas.{tiles_below}
+use Rattle.map_builder.specs.Common.{Range, range_of, no_range}
+use Rattle.map_builder.proofs.Common.{tiles_below}
 use Rattle.map_blame.specs.declared.blamed.Blamed.{Blamed}
 use Rattle.map_blame.specs.declared.watch.Watched.{Watched}
 use Rattle.map_blame.specs.Common.{IsSince, map_range_of, AreBlamed, IsInterval, IsWatchable, IsWatched}

@@ -6,10 +6,10 @@ use Rattle.board_prelude.proofs.Common.{length-drop, take_all, recursion_from_Al
 use Rattle.board_prelude.proofs.Common.{address_count, MapRange, Tiles, Differs, NeighboursDiffer, IsFlatMapOf}
 use Rattle.std.proofs.lemmas.List.{drop-map}
 use Rattle.addr_decode.specs.MapRegs.{MapBytes, StandsFor}
-use Rattle.map_builder.specs.declared.range.Range.{Range}
+use Rattle.map_ranges.specs.declared.range.Range.{Range}
 use Rattle.map_builder.specs.Common.{range_of, most_ranges, IsOfSomeBoard, no_range, range_at, Holds, ContinuesAt}
 use Rattle.map_builder.specs.Common.{IsBuilt, IsRightWhere, IsMapWhere, IsBetween, IsWhole}
-use Rattle.map_builder.proofs.FindLemmas.{tiles_below}
+use Rattle.map_ranges.proofs.FindLemmas.{tiles_below}
 use Rattle.map_builder.proofs.BuildLemmas.{range, built_all}
 use Rattle.map_builder.proofs.StepLemmas.{one_address, built_range}
 use Rattle.map_builder.proofs.RebuildLemmas.{kept_on}
