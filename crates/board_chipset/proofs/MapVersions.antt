@@ -4,8 +4,7 @@ use Rattle.std.proofs.Common.{None, refl, arith, inl, inr, if◌then◌else◌, 
 use Rattle.board_prelude.proofs.Common.{option_to_list, cases_Bool, nat_tests, Entry, MapChange, Store, Width, Reg}
 use Rattle.board_prelude.proofs.Common.{Setup, register_change, byte_of, touches_map, map_change_of, map_writes_of}
 use Rattle.board_prelude.proofs.Common.{version_of}
-use Rattle.map_builder.specs.declared.range.Changed.{Changed}
-use Rattle.map_builder.specs.Common.{next_version, AreChanged}
+use Rattle.map_builder.specs.Common.{Changed, next_version, AreChanged}
 use Rattle.board_chipset.specs.Versions.{version_count, AreNextChanged, AreLastChanged}
 
 -- the map write that a change of the registers is, and whether it is one

@@ -1,7 +1,7 @@
 -- The memory map as records of numbers.
 use Rattle.std.specs.Prelude.{ℕ, ◌≡◌, ◌%◌, ◌++◌, List, length, map, take, drop}
 use Rattle.board_prelude.specs.Common.{Area, Entry, byte_of, version_of, MapRange, IsFlatMapOf}
-use Rattle.map_builder.specs.declared.range.Changed.{Changed}
+use Rattle.map_builder.specs.Common.{Changed}
 use Rattle.board_chipset.specs.Common.{Running, IsLeftBy, version_count, AreLastChanged}
 use Rattle.board_records.specs.declared.map.AreaRecord.{AreaRecord}
 use Rattle.board_records.specs.declared.map.RangeRecord.{RangeRecord}

@@ -3,7 +3,7 @@ use Rattle.std.proofs.Common.{◌≡◌, ℕ, ◌+◌, ◌<◌, List, [], ◌∷
 use Rattle.std.proofs.Common.{map}
 use Rattle.board_prelude.proofs.Common.{take_more, map-append, append-nil, flat_map-append, line_feed, MapRange}
 use Rattle.board_prelude.proofs.Common.{range_text, map_text}
-use Rattle.map_builder.specs.declared.range.Range.{Range}
+use Rattle.map_builder.specs.Common.{Range}
 use Rattle.map_builder.specs.Map.{range_of}
 
 abbrev line_of : MapRange → List ℕ

@@ -6,8 +6,7 @@ use Rattle.board_prelude.proofs.Common.{length-map, ext_get_or, All-nil, All-con
 use Rattle.board_prelude.proofs.Common.{Tiles, IsRight, IsFlatMapOf}
 use Rattle.std.proofs.lemmas.Simd.{map-map}
 use Rattle.board_spec.proofs.FlatMapLaws.{tiles_below}
-use Rattle.map_builder.specs.declared.range.Range.{Range}
-use Rattle.map_builder.specs.Common.{range_of, no_range}
+use Rattle.map_builder.specs.Common.{Range, range_of, no_range}
 use Rattle.map_blame.specs.declared.blamed.Blamed.{Blamed}
 use Rattle.map_blame.specs.declared.watch.Watched.{Watched}
 use Rattle.map_blame.specs.Common.{IsSince, map_range_of, AreBlamed, IsInterval, IsWatchable, IsWatched}

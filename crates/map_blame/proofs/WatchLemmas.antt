@@ -4,8 +4,7 @@ use Rattle.std.proofs.Common.{get_or, take, reverse, refl, sym, ap, ◌∙◌, s
 use Rattle.board_prelude.proofs.Common.{cases_Bool, cases_lt, false≢true, take_more, reverse-append, length-reverse}
 use Rattle.board_prelude.proofs.Common.{length-take-le, MapChange, Setup, IsCardList, Bytes, top_of, reset_byte}
 use Rattle.board_prelude.proofs.Common.{host_bridge, registers_after, MapRange, IsRight}
-use Rattle.map_builder.specs.declared.range.Changed.{Changed}
-use Rattle.map_builder.specs.declared.range.Range.{Range}
+use Rattle.map_builder.specs.Common.{Changed, Range}
 use Rattle.addr_decode.specs.MapRegs.{StandsFor}
 use Rattle.map_builder.specs.Common.{Mapped, range_of, IsOutside, changed_windows, bounds_or_zero, IsApplied}
 use Rattle.map_builder.proofs.KeptStores.{top_after, bounds_hold_changes}

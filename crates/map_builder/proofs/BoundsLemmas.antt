@@ -4,7 +4,7 @@ use Rattle.std.proofs.Common.{ap, arith, ◌==◌, flat_map, filter, min, max}
 use Rattle.board_prelude.proofs.Common.{AllByRecursion, option_map_or, cases_Bool, nat_tests, Reg, bytes_of, MapChange}
 use Rattle.board_prelude.proofs.Common.{Store, Reset, FittedCard, Setup, card_at, Bytes, Window, rom_window, vga_window}
 use Rattle.board_prelude.proofs.Common.{reg_after}
-use Rattle.map_builder.specs.declared.range.Changed.{Changed}
+use Rattle.map_ranges.specs.declared.range.Changed.{Changed}
 use Rattle.addr_decode.specs.declared.register.MapRegister.{MapRegister}
 use Rattle.addr_decode.specs.declared.register.MapRegister.TheVariants.{Pam, RowBoundary, Hole, Smram, ChipSelects}
 use Rattle.addr_decode.specs.declared.register.MapRegister.TheVariants.{Card}

@@ -3,10 +3,10 @@ use Rattle.std.proofs.Common.{◌≡◌, ◌≢◌, ℕ, zero, suc, ◌+◌, ◌
 use Rattle.std.proofs.Common.{take, drop, refl, sym, ◌∙◌, ap, subst, arith, append_assoc, min}
 use Rattle.board_prelude.proofs.Common.{append-nil, drop_more, map-append, Area, address_count, MapRange}
 use Rattle.addr_decode.specs.MapRegs.{MapBytes}
-use Rattle.map_builder.specs.declared.range.Range.{Range}
+use Rattle.map_ranges.specs.declared.range.Range.{Range}
 use Rattle.map_builder.specs.Common.{range_of, no_range, range_at, Holds, ContinuesAt, IsBuilt, IsMapWhere, IsBetween}
 use Rattle.map_builder.proofs.BuildLemmas.{range}
-use Rattle.map_builder.proofs.FindLemmas.{Placed, placed}
+use Rattle.map_ranges.proofs.FindLemmas.{Placed, placed}
 use Rattle.map_builder.proofs.RebuildLemmas.{row_at, open_at, differ_at, right_at, kept_on}
 use Rattle.map_builder.proofs.StepLemmas.{AreasAt, built_range}
 

@@ -6,7 +6,7 @@ use Rattle.board_prelude.proofs.Common.{Store, Reset, Setup, IsCardList, byte, h
 use Rattle.board_prelude.proofs.Common.{covers, byte_after, Bytes, top_of, bridge, reg_after, address_count, six_areas}
 use Rattle.board_prelude.proofs.Common.{merged-all}
 use Rattle.addr_decode.proofs.NameLemmas.{offsets, covered_offset}
-use Rattle.map_builder.specs.declared.range.Changed.{Changed}
+use Rattle.map_ranges.specs.declared.range.Changed.{Changed}
 use Rattle.map_builder.specs.Common.{windows_of, windows_covered, after, changed_windows, IsOutside, WindowsHoldChanges}
 use Rattle.map_builder.specs.Common.{BoundsHoldChanges}
 use Rattle.map_builder.proofs.OutsideLemmas.{Outside, outside_bounds, outside_left, outside_right}

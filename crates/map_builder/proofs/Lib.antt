@@ -1,8 +1,6 @@
 pub mod BoardLemmas
-pub mod AreaLemmas
 pub mod BuildLemmas
 pub mod StepLemmas
-pub mod FindLemmas
 pub mod RebuildLemmas
 pub mod KeepLemmas
 pub mod WindowLemmas

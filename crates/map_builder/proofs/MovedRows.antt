@@ -13,7 +13,7 @@ use Rattle.addr_decode.specs.declared.register.MapRegister.TheVariants.{Pam, Row
 use Rattle.addr_decode.specs.declared.register.MapRegister.TheVariants.{Card}
 use Rattle.addr_decode.specs.Common.{map_register, names_of, MapBytes, StandsFor, edges_of, edges_after}
 use Rattle.addr_decode.proofs.Common.{is_name, in_function_0}
-use Rattle.map_builder.specs.declared.range.Changed.{Changed}
+use Rattle.map_ranges.specs.declared.range.Changed.{Changed}
 use Rattle.map_builder.specs.Common.{from_to, windows_of, windows_covered, after, changed_windows, is_above_first}
 use Rattle.map_builder.specs.Common.{is_inside, edges_inside, is_window, count_of, IsOutside, is_row_name, stores_rows}
 use Rattle.map_builder.specs.Common.{is_below, IsHidden, StaysOrHidden, RowStays, IsInRows, AreMoved, Rise, rows_in}

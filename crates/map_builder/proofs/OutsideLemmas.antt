@@ -3,7 +3,7 @@ use Rattle.std.proofs.Common.{◌≡◌, ℕ, ◌+◌, ◌*◌, ◌/◌, ◌%◌
 use Rattle.std.proofs.Common.{map, Option, Some, None, refl, ap, arith, ◌&&◌, unwrap_or, find}
 use Rattle.board_prelude.proofs.Common.{AllByRecursion, ne_eqb, pow_pos, Window, is_covered, and-false}
 use Rattle.std.proofs.Math.Pow.{split}
-use Rattle.map_builder.specs.declared.range.Changed.{Changed}
+use Rattle.map_ranges.specs.declared.range.Changed.{Changed}
 use Rattle.map_builder.specs.Changed.{from_to, decoded, bounds, bounds_or_zero, both, joined, IsOutside}
 
 -- an address outside all of some windows

@@ -5,13 +5,13 @@ use Rattle.board_prelude.proofs.Common.{get_or-map, length-map, drop_more, drop_
 use Rattle.board_prelude.proofs.Common.{address_count, MapRange, NeighboursDiffer, IsFlatMapOf}
 use Rattle.std.proofs.lemmas.List.{map_more}
 use Rattle.addr_decode.specs.MapRegs.{MapBytes, StandsFor}
-use Rattle.map_builder.specs.declared.range.Changed.{Changed}
-use Rattle.map_builder.specs.declared.range.Range.{Range}
+use Rattle.map_ranges.specs.declared.range.Changed.{Changed}
+use Rattle.map_ranges.specs.declared.range.Range.{Range}
 use Rattle.map_builder.specs.Common.{range_of, no_range, range_at, BeginsBelow, Holds, ContinuesAt, IsBuilt}
 use Rattle.map_builder.specs.Common.{IsRightWhere, IsMapWhere, IsBelow, IsBetween, IsBeside, from_to, AreAbove, Rise}
 use Rattle.map_builder.specs.Common.{rows_in}
 use Rattle.map_builder.proofs.BuildLemmas.{range}
-use Rattle.map_builder.proofs.FindLemmas.{Placed, placed}
+use Rattle.map_ranges.proofs.FindLemmas.{Placed, placed}
 use Rattle.map_builder.proofs.StepLemmas.{AreasAt, one_address, same_at_each, is_built_first, built_step, built_over}
 use Rattle.map_builder.proofs.StepLemmas.{built_range}
 

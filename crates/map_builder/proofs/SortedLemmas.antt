@@ -1,10 +1,10 @@
 -- Windows in rising order hold the addresses of those that were sorted, and are no more than there are different ones.
 use Rattle.std.proofs.Common.{◌≡◌, ℕ, ◌+◌, ◌<◌, ◌≤◌, ◌⊎◌, inl, inr, Bool, true, false, List, [], ◌∷◌, ◌++◌, length}
-use Rattle.std.proofs.Common.{refl, ap, arith, append_assoc, ◌||◌, nat_lt, nat_le, min, max, filter}
+use Rattle.std.proofs.Common.{refl, ap, arith, ◌||◌, nat_lt, nat_le, min, max, filter}
 use Rattle.board_prelude.proofs.Common.{list_any, cases_Bool, cases_lt, or_cases, or_left, or_right, false≢true}
 use Rattle.board_prelude.proofs.Common.{nat_tests, Setup, Bytes}
 use Rattle.addr_decode.specs.Edges.{edges_of, edges_after}
-use Rattle.map_builder.specs.declared.range.Changed.{Changed}
+use Rattle.map_ranges.specs.declared.range.Changed.{Changed}
 use Rattle.map_builder.specs.Common.{both, is_above_first, is_inside, edges_inside, is_window, count_of, IsOutside}
 use Rattle.map_builder.specs.Common.{with_window, sorted, AreAbove, Rise, rows_in}
 use Rattle.map_builder.proofs.OutsideLemmas.{Outside, outside_both}
@@ -454,36 +454,6 @@ rows_few setup bytes windows ordered =
       length_sorted windows ordered,
       filter_more (is_inside (sorted windows)) (is_inside windows) (edges_of setup bytes) (inside_sorted windows),
     )
-
--- ---- one window after the other, as the code takes them
-
-pub step_before : (rising later : List Changed) (window other : Changed) → other.hi < window.lo →
-    (rising ++ other ∷ []) ++ with_window window later ≡ rising ++ with_window window (other ∷ later)
-unfolding with_window
-step_before rising later window other before =
-    let is : nat_lt other.hi window.lo ≡ true = grind (arith, nat_tests) in
-    rw is (append_assoc rising (other ∷ []) (with_window window later))
-
-pub step_behind : (rising later : List Changed) (window other : Changed) → window.lo ≤ other.hi → window.hi < other.lo →
-    (rising ++ window ∷ []) ++ with_window other later ≡ rising ++ with_window window (other ∷ later)
-unfolding with_window
-step_behind rising later window other not_before behind =
-    let not : nat_lt other.hi window.lo ≡ false = grind (arith, nat_tests) in
-    let is : nat_lt window.hi other.lo ≡ true = grind (arith, nat_tests) in
-    rw (not, is) (append_assoc rising (window ∷ []) (with_window other later))
-
-pub step_overlap : (rising later : List Changed) (window other : Changed) → window.lo ≤ other.hi →
-    other.lo ≤ window.hi →
-    rising ++ with_window (both other window) later ≡ rising ++ with_window window (other ∷ later)
-unfolding with_window
-step_overlap rising later window other not_before overlap =
-    let not : nat_lt other.hi window.lo ≡ false = grind (arith, nat_tests) in
-    let neither : nat_lt window.hi other.lo ≡ false = grind (arith, nat_tests) in
-    rw (not, neither) refl
-
-pub step_last : (rising : List Changed) (window : Changed) → rising ++ with_window window [] ≡ rising ++ window ∷ []
-unfolding with_window
-step_last rising window = refl
 
 -- ---- those that rise already
 

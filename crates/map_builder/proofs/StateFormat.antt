@@ -16,7 +16,7 @@ use Rattle.addr_decode.specs.MapRegs.{MapBytes, StandsFor, map_bytes}
 use Rattle.addr_decode.specs.declared.regs.MapRegs.{MapRegs}
 use Rattle.addr_decode.specs.State.{any_long, regs_fields}
 use Rattle.addr_decode.proofs.StateFormat.{regs_format, long_format}
-use Rattle.map_builder.specs.declared.range.Changed.{Changed}
+use Rattle.map_ranges.specs.declared.range.Changed.{Changed}
 use Rattle.map_builder.specs.Map.{Mapped, IsMapOf}
 use Rattle.map_builder.specs.State.{IsWindow, AreWindows, window_bytes, window_fields, windows_bytes, so_many_windows}
 use Rattle.map_builder.specs.State.{windows_fields, regs_of, bare, IsSaved, IsMapped, IsBare, mapped_bytes}

@@ -7,7 +7,7 @@ use Rattle.board_prelude.proofs.Common.{Bytes, address_count, six_areas, MapRang
 use Rattle.std.proofs.lemmas.List.{map_push}
 use Rattle.addr_decode.specs.Common.{MapBytes, StandsFor, edges_of, edges_after, SameAreas}
 use Rattle.addr_decode.proofs.Common.{contains_cases, no_more, few_edges_after, areas_change_at_edges}
-use Rattle.map_builder.specs.declared.range.Range.{Range}
+use Rattle.map_ranges.specs.declared.range.Range.{Range}
 use Rattle.map_builder.specs.Common.{range_of, IsOfSomeBoard, ContinuesAt, IsBuilt, IsWhole}
 use Rattle.map_builder.proofs.BuildLemmas.{range, built_first, built_of_first, built_on, built_of_on, few_on, built_all}
 use Rattle.map_builder.proofs.BuildLemmas.{up_to_edge}

@@ -7,7 +7,7 @@ use Rattle.board_prelude.proofs.Common.{address_count, MapRange, Tiles, Differs,
 use Rattle.std.proofs.lemmas.List.{drop-map}
 use Rattle.board_spec.proofs.FlatMapLaws.{tiles_below}
 use Rattle.addr_decode.specs.MapRegs.{MapBytes, StandsFor}
-use Rattle.map_builder.specs.declared.range.Range.{Range}
+use Rattle.map_ranges.specs.declared.range.Range.{Range}
 use Rattle.map_builder.specs.Common.{range_of, most_ranges, IsOfSomeBoard, no_range, range_at, Holds, ContinuesAt}
 use Rattle.map_builder.specs.Common.{IsBuilt, IsRightWhere, IsMapWhere, IsBetween, IsWhole}
 use Rattle.map_builder.proofs.BuildLemmas.{range, built_all}

@@ -3,7 +3,7 @@ use Rattle.std.specs.Prelude.{ℕ, ◌≡◌, ◌<◌, true, false, if◌then◌
 use Rattle.board_prelude.specs.Common.{MapChange, Setup, Bytes, address_count, six_areas, IsFlatMapOf, touches_map}
 use Rattle.pci_bars.specs.Cards.{AreCardsOf, cards_of}
 use Rattle.addr_decode.specs.MapRegs.{StandsFor}
-use Rattle.map_builder.specs.declared.range.Changed.{Changed}
+use Rattle.map_ranges.specs.declared.range.Changed.{Changed}
 use Rattle.map_builder.specs.Map.{Mapped, next_version}
 use Rattle.map_builder.specs.Changed.{after, changed_windows, bounds_or_zero}
 use Rattle.map_builder.specs.Build.{IsBeside}

@@ -1,21 +1,13 @@
 -- The ranges of a map as they are built, from the first address on: the last of them may still go on.
-use Rattle.std.specs.Prelude.{ℕ, ◌≡◌, ◌≢◌, ◌+◌, ◌-◌, ◌<◌, ◌≤◌, ◌⊎◌, List, [], ◌∷◌, ◌++◌, length, map, All}
-use Rattle.board_prelude.specs.Common.{Area, Setup, Bytes, address_count, MapRange, six_areas, Tiles, NeighboursDiffer}
+use Rattle.std.specs.Prelude.{ℕ, ◌≡◌, ◌+◌, ◌-◌, ◌<◌, ◌≤◌, List, [], ◌∷◌, ◌++◌, length, map, All}
+use Rattle.board_prelude.specs.Common.{Setup, Bytes, address_count, MapRange, six_areas, Tiles, NeighboursDiffer}
 use Rattle.board_prelude.specs.Common.{IsRight, IsFlatMapOf, AllByRecursion}
 use Rattle.addr_decode.specs.Common.{MapBytes, StandsFor, edges_after}
-use Rattle.map_builder.specs.declared.range.Changed.{Changed}
-use Rattle.map_builder.specs.declared.range.Range.{Range}
+use Rattle.map_ranges.specs.declared.range.Changed.{Changed}
+use Rattle.map_ranges.specs.declared.range.Range.{Range}
+pub use Rattle.map_ranges.specs.Ranges.{ContinuesAt}
 use Rattle.map_builder.specs.Map.{range_of, most_ranges, IsOfSomeBoard}
 use Rattle.map_builder.specs.Changed.{IsOutside}
-
--- how the ranges go on at an address with these areas: the last range has them too, or it ends below, and another
--- begins
-abbrev pub ContinuesAt : (ranges ranges' : List MapRange) → (last last' : MapRange) → (addr : ℕ) → List Area → Type 0
-ContinuesAt ranges ranges' last last' addr areas =
-    ((areas ≡ last.areas) × (ranges' ≡ ranges) × (last' ≡ last))
-    ⊎ ((areas ≢ last.areas)
-    × (ranges' ≡ ranges ++ record last { hi = addr - 1 } ∷ [])
-    × (last' ≡ record { lo = addr; hi = address_count - 1; areas = areas }))
 
 -- the ranges cover all addresses as if the last of them went on to the last address
 pub record Built (ranges : List MapRange) (last : MapRange) (addr : ℕ) : Type 0 where

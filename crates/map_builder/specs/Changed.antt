@@ -1,5 +1,5 @@
 -- The windows of the address map that each register byte governs, and the bounds of those that a change may change.
-use Rattle.std.specs.Prelude.{ℕ, ◌+◌, ◌-◌, ◌*◌, ◌/◌, ◌^◌, ◌<◌, ◌⊎◌, ◌==◌, nat_lt, nat_le, min, max, Bool, false, ◌&&◌}
+use Rattle.std.specs.Prelude.{ℕ, ◌+◌, ◌-◌, ◌*◌, ◌/◌, ◌^◌, ◌<◌, ◌⊎◌, ◌==◌, nat_lt, nat_le, Bool, false, ◌&&◌}
 use Rattle.std.specs.Prelude.{length, if◌then◌else◌, List, [], ◌∷◌, ◌++◌, take, map, filter, flat_map, Option, Some}
 use Rattle.std.specs.Prelude.{None, unwrap_or}
 use Rattle.board_prelude.specs.Common.{option_map_or, enumerate_from, list_any, Reg, bytes_of, MapChange, Store, Reset}
@@ -12,13 +12,11 @@ use Rattle.addr_decode.specs.declared.register.MapRegister.TheVariants.{Card}
 use Rattle.addr_decode.specs.declared.register.CardRegister.{CardRegister}
 use Rattle.addr_decode.specs.declared.register.CardRegister.TheVariants.{Command, Base, ExpansionRom}
 use Rattle.addr_decode.specs.Common.{is_of_card, map_register, edges_of, first_address}
-use Rattle.map_builder.specs.declared.range.Changed.{Changed}
+use Rattle.map_ranges.specs.declared.range.Changed.{Changed}
+pub use Rattle.map_ranges.specs.Bounds.{from_to, both, joined}
+unfoldable pub use Rattle.map_ranges.specs.Bounds.{bounds}
 
--- the addresses from a first one to a last one
-abbrev pub from_to : ℕ → ℕ → Changed
-from_to lo hi = record { lo = lo; hi = hi }
-
--- those of a range
+-- every address of a range
 abbrev pub whole : ℕ × ℕ → Changed
 whole range = from_to range.0 range.1
 
@@ -99,19 +97,6 @@ abbrev pub rest_on_registers : List (Option MapRegister) → Bool
 rest_on_registers names = list_any is_card_name names
 
 -- ---- their bounds
-
--- the least interval that holds both
-abbrev pub both : Changed → Changed → Changed
-both here there = from_to (min here.lo there.lo) (max here.hi there.hi)
-
-abbrev pub joined : Changed → Option Changed → Changed
-joined here None = here
-joined here (Some there) = both here there
-
--- the least first and the greatest last address of some windows
-unfoldable pub bounds : List Changed → Option Changed
-bounds [] = None
-bounds (window ∷ later) = Some (joined window (bounds later))
 
 -- both are 0 where there is no window
 abbrev pub bounds_or_zero : List Changed → Changed

@@ -1,5 +1,4 @@
 pub mod Map
-pub mod Find
 pub mod Changed
 pub mod Sorted
 pub mod State

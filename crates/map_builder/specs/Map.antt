@@ -3,8 +3,8 @@ use Rattle.std.specs.Prelude.{ℕ, ◌+◌, ◌%◌, ◌^◌, ◌<◌, ◌≤◌
 use Rattle.board_prelude.specs.Common.{Setup, IsCardList, largest_top, Bytes, top_of, MapRange, Tiles, IsFlatMapOf}
 use Rattle.pci_bars.specs.Cards.{CardBytes, AreFitted}
 use Rattle.addr_decode.specs.MapRegs.{MapBytes, StandsFor}
-use Rattle.map_builder.specs.declared.range.Changed.{Changed}
-use Rattle.map_builder.specs.declared.range.Range.{Range}
+use Rattle.map_ranges.specs.declared.range.Changed.{Changed}
+pub use Rattle.map_ranges.specs.Ranges.{range_of}
 
 -- the registers that the map depends on, its ranges, how many changes it has had, modulo 2^32, and the windows that the
 -- last of them changed
@@ -17,9 +17,6 @@ pub record Mapped : Type 0 where
 -- the version after one more change
 abbrev pub next_version : ℕ → ℕ
 next_version version = (version + 1) % 2 ^ 32
-
-abbrev pub range_of : Range → MapRange
-range_of range = record { lo = range.lo; hi = range.hi; areas = range.row.areas }
 
 -- some board has these registers. The last boundary register is a byte, so that its DRAM ends at most at 255 times 8
 -- MiB

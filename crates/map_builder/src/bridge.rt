@@ -9,11 +9,11 @@ ghost use Rattle.map_builder.specs.Sorted.{sorted as sorted_by};
 
 use crate::changed::{push_range, push_two, windows_of_pam};
 use crate::rows::choose_moved;
-use crate::windows::Windows;
 use addr_decode::MapRegister;
 use board_spec::range::{
     HOLE_AT_15_MIB, HOLE_AT_512_KIB, LOWER_BIOS, SELECTABLE_BIOS, SMRAM_RANGE,
 };
+use map_ranges::Windows;
 
 /// Sets `chosen` to the windows in which the areas are looked up anew after a store to one register of a bridge, in
 /// rising order: its windows; for a row boundary the least window of all addresses whose row may change; none where the

@@ -5,23 +5,16 @@ ghost use Rattle.board_prelude.specs.Common.{Setup, Bytes, address_count, Tiles,
 ghost use Rattle.pci_bars.specs.Cards.{AreFitted};
 ghost use Rattle.addr_decode.specs.Common.{MapBytes, StandsFor, map_bytes, SameAreas, edges_after};
 ghost use Rattle.map_builder.specs.Map.{range_of, most_ranges, IsOfSomeBoard};
-ghost use Rattle.map_builder.specs.Find.{BeginsBelow, Holds};
-ghost use Rattle.map_builder.specs.Build.{ContinuesAt, IsBuilt, IsMapWhere, IsBelow, IsBetween, IsBeside, IsBuiltUpTo};
+ghost use Rattle.map_ranges.specs.Find.{BeginsBelow, Holds};
+ghost use Rattle.map_builder.specs.Build.{IsBuilt, IsMapWhere, IsBelow, IsBetween, IsBeside, IsBuiltUpTo};
 ghost use Rattle.map_builder.specs.Build.{IsWhole};
 ghost use Rattle.map_builder.specs.Sorted.{Rise, rows_in as rows_of};
 
 use crate::changed::EVERYTHING;
-use crate::find::index_of;
-use crate::list::FixedList;
-use crate::range::{Changed, LAST_ADDRESS, Range};
-use addr_decode::{MapRegs, SixAreas, next_edge, row};
+use addr_decode::{MapRegs, next_edge, row};
 use board_base::Steps;
+use map_ranges::{CAPACITY, Changed, FixedList, LAST_ADDRESS, Range, Ranges, index_of, range_at};
 use std::sync::ledger::Ledger;
-
-/// The most ranges that a map can keep, which is more than a board's map has.
-pub const CAPACITY: usize = 160;
-/// The ranges of a map in rising order of address.
-pub type Ranges = FixedList<Range, CAPACITY>;
 
 /// The ranges of the flat map of these registers. At each edge, from address 0 on, the range below goes on where the
 /// areas are the same, and else a new range begins. Each row that is looked up is a step.
@@ -286,27 +279,5 @@ fn edge_up_to(regs: &MapRegs, addr: u32, hi: u32) -> Option<u32>
     match next_edge(regs, addr) {
         Some(edge) if edge <= hi => Some(edge),
         _ => None,
-    }
-}
-
-/// The open range at `addr`, where the areas are those of `row` and `last` was the open range below. It is `last` where
-/// that has the same areas. Else `last` ends below `addr` and is pushed, and a new range begins.
-fn range_at(ranges: &mut Ranges, last: Range, addr: u32, row: SixAreas) -> Range
-    requires room { length ranges.old.items < 160 }
-    requires above { last.lo < addr }
-    ensures goes_on { ContinuesAt (map range_of ranges.old.items) (map range_of ranges.new.items) (range_of last)
-        (range_of result) addr row.areas }
-{
-    if row == last.row {
-        return last;
-    }
-    ranges.push(Range {
-        hi: addr - 1,
-        ..last
-    });
-    Range {
-        lo: addr,
-        hi: LAST_ADDRESS,
-        row,
     }
 }

@@ -10,13 +10,12 @@ ghost use Rattle.map_builder.specs.Changed.{is_card_name, rest_on_registers};
 ghost use Rattle.map_builder.specs.Held.{block, held_by, held_from, held_at, rom_held, vga_held, card_held};
 ghost use Rattle.map_builder.specs.Held.{device_held};
 
-use crate::list::FixedList;
-use crate::range::{Changed, LAST_ADDRESS};
 use addr_decode::{CardRegister, MapChange, MapRegister, MapRegs};
 use board_spec::range::{
     AddressRange, EXPANSION_RANGE, HOLE_AT_15_MIB, HOLE_AT_512_KIB, LARGEST_TOP, LOWER_BIOS,
     SELECTABLE_BIOS, SMRAM_RANGE, SYSTEM_BIOS,
 };
+use map_ranges::{Changed, FixedList, LAST_ADDRESS};
 use pci_bars::{BaseSpec, CardRegs, card_at};
 
 /// Every address.

@@ -10,17 +10,14 @@ ghost use Rattle.map_builder.specs.Changed.{most_rows};
 ghost use Rattle.map_builder.specs.Applied.{AreChanged, IsApplied, IsChangedBy, IsStored};
 
 use crate::bridge::choose_in_bridge;
-use crate::build::{CAPACITY, Ranges, ranges_of, rebuild};
+use crate::build::{ranges_of, rebuild};
 use crate::changed::{Covered, keeps_windows, push_again, push_covered};
-use crate::find::span_of;
-use crate::list::FixedList;
-use crate::range::{Changed, Range, Span};
 use crate::rows::choose_windows;
 use crate::unchanged::{byte_alone, is_same_byte};
 use crate::widths::hold_widths;
-use crate::windows::{Windows, bounds_of};
 use addr_decode::{ConfigRegister, MapChange, MapRegister, MapRegs, touch_map};
 use board_base::{Kind, Reg, Steps, Width};
+use map_ranges::{CAPACITY, Changed, FixedList, Range, Ranges, Span, Windows, bounds_of};
 use std::marker::{Brand, Model};
 use std::sync::ledger::{Blank, Ledger};
 
@@ -166,7 +163,7 @@ impl FlatMap {
         ensures span { (setup : Setup) (bytes : Bytes) → StandsFor setup bytes self.now.regs
             → IsSpan setup bytes addr kind smm result.lo result.hi result.area }
     {
-        span_of(self.ranges.as_slice(), addr, kind, smm)
+        Range::span_in(self.ranges.as_slice(), addr, kind, smm)
     }
 
     /// Makes a change of the registers, and raises the version by one, modulo 2^32. Returns the bounds of the addresses

@@ -4,18 +4,13 @@
 mod bridge;
 mod build;
 mod changed;
-mod find;
 mod flat_map;
 pub mod laws;
-mod list;
-mod range;
 mod rows;
 mod state;
 mod unchanged;
 mod widths;
-mod windows;
 
-pub use find::index_of;
 pub use flat_map::FlatMap;
-pub use range::{Changed, Range, Span};
+pub use map_ranges::{Changed, Range, Span, index_of};
 pub use state::{law_one_map, law_same_map};

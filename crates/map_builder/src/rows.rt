@@ -5,10 +5,9 @@ ghost use Rattle.map_builder.specs.Changed.{IsOutside};
 ghost use Rattle.map_builder.specs.Rows.{is_row_name, stores_rows as stores_rows_by, AreMoved, IsInRows, RowStays};
 ghost use Rattle.map_builder.specs.Sorted.{sorted as sorted_by};
 
-use crate::range::Changed;
-use crate::windows::{Windows, joined, sort_into};
 use addr_decode::MapRegister;
 use board_spec::range::BOUNDARY_UNIT;
+use map_ranges::{Changed, Windows, joined, sort_into};
 
 /// The row that ends at the top of DRAM.
 const LAST_ROW: usize = 7;

@@ -4,7 +4,7 @@ use Rattle.std.proofs.lemmas.List.{length-map}
 use Rattle.board_prelude.proofs.Common.{Kind, Area, Setup, Bytes, MapRange, Tiles, IsFlatMapOf, IsSpan}
 use Rattle.addr_decode.specs.MapRegs.{StandsFor}
 use Rattle.map_builder.specs.Map.{Mapped, most_ranges, range_of}
-use Rattle.map_builder.specs.declared.range.Range.{Range}
+use Rattle.map_builder.specs.Common.{Range}
 use Rattle.map_publish.specs.Common.{IsMapOfLog, bytes_after, changes_of}
 use Rattle.map_publish.specs.declared.mark.Mark.{Mark}
 use Rattle.map_publish.specs.Sights.{IsSight, IsSightOf, Sighted}

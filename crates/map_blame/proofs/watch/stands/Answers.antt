@@ -1,7 +1,7 @@
-use Rattle.std.proofs.Common.{map, subst, sym, ◌∙◌}
+use Rattle.std.proofs.Common.{subst, sym, ◌∙◌}
 use Rattle.board_prelude.proofs.Common.{false≢true, leb-true, IsFlatMapOf}
 use Rattle.std.proofs.lemmas.Bool.{leb-false}
-use Rattle.map_builder.proofs.AreaLemmas.{rows_eq}
+use Rattle.map_builder.proofs.Common.{rows_eq}
 use Rattle.map_blame.proofs.StandsLemmas.{all_right, other_row, ends_below}
 use Rattle.map_blame.proofs.watch.stands.Goals as goal
 

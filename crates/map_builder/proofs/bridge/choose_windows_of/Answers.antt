@@ -1,5 +1,5 @@
 use Rattle.std.proofs.Common.{sym, refl, ◌∙◌, ap, [], ◌∷◌}
-use Rattle.map_builder.specs.declared.range.Changed.{Changed}
+use Rattle.map_ranges.specs.declared.range.Changed.{Changed}
 use Rattle.map_builder.specs.Sorted.{sorted}
 use Rattle.map_builder.proofs.SortedLemmas.{one_sorted, two_sorted}
 use Rattle.map_builder.proofs.bridge.choose_windows_of.Goals as goal

@@ -1,7 +1,7 @@
 use Rattle.std.proofs.Common.{List, length, map, take, ap, arith}
 use Rattle.board_prelude.proofs.Common.{length-take, MapRange}
 use Rattle.addr_decode.specs.MapRegs.{map_bytes}
-use Rattle.map_builder.specs.declared.range.Range.{Range}
+use Rattle.map_ranges.specs.declared.range.Range.{Range}
 use Rattle.map_builder.specs.Common.{range_of, ContinuesAt}
 use Rattle.map_builder.proofs.RebuildLemmas.{open_at, built_to_interval}
 use Rattle.map_builder.proofs.build.cut_below.Goals as goal

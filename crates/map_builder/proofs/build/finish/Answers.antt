@@ -1,6 +1,6 @@
 use Rattle.std.proofs.Common.{◌≡◌, ℕ, ◌+◌, length, List, ◌++◌, map, drop, sym, ◌∙◌, ap, subst, arith, lit<}
 use Rattle.std.proofs.lemmas.List.{length-map, length_push}
-use Rattle.map_builder.specs.declared.range.Range.{Range}
+use Rattle.map_ranges.specs.declared.range.Range.{Range}
 use Rattle.map_builder.specs.Common.{range_of, range_at, IsBuilt, IsWhole}
 use Rattle.map_builder.proofs.StepLemmas.{is_whole}
 use Rattle.map_builder.proofs.RebuildLemmas.{begins_later}

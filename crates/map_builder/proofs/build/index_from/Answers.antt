@@ -1,5 +1,5 @@
 use Rattle.std.proofs.Common.{arith}
-use Rattle.map_builder.proofs.FindLemmas.{placed}
+use Rattle.map_ranges.proofs.FindLemmas.{placed}
 use Rattle.map_builder.proofs.RebuildLemmas.{begins_next}
 use Rattle.map_builder.proofs.build.index_from.Goals as goal
 

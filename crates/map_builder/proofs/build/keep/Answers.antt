@@ -1,8 +1,8 @@
 use Rattle.std.proofs.Common.{◌≡◌, ◌+◌, ◌-◌, ◌++◌, ℕ, List, map, min, take, drop, ◌∙◌, ap, subst, arith, lit<}
 use Rattle.std.proofs.lemmas.List.{length-map, length-append}
-use Rattle.map_builder.specs.declared.range.Range.{Range}
+use Rattle.map_ranges.specs.declared.range.Range.{Range}
 use Rattle.map_builder.specs.Common.{range_of, range_at, Holds, IsBuilt}
-use Rattle.map_builder.proofs.FindLemmas.{placed}
+use Rattle.map_ranges.proofs.FindLemmas.{placed}
 use Rattle.map_builder.proofs.RebuildLemmas.{begins_later, begins_next, holds_begins}
 use Rattle.map_builder.proofs.KeepLemmas.{kept_first, kept_later}
 use Rattle.map_builder.proofs.build.keep.Goals as goal

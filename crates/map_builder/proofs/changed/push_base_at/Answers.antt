@@ -3,7 +3,7 @@ use Rattle.board_prelude.proofs.Common.{append-nil, IsBase}
 use Rattle.pci_bars.specs.declared.spec.BaseSpec.{BaseSpec}
 use Rattle.pci_bars.specs.Bases.{base_of}
 use Rattle.pci_bars.proofs.BaseLemmas.{base_within}
-use Rattle.map_builder.specs.declared.range.Changed.{Changed}
+use Rattle.map_ranges.specs.declared.range.Changed.{Changed}
 use Rattle.map_builder.proofs.WindowLemmas.{held_here, held_past}
 use Rattle.map_builder.proofs.changed.push_base_at.Goals as goal
 

@@ -3,7 +3,7 @@ use Rattle.pci_bars.specs.Cards.{cards_of}
 use Rattle.addr_decode.specs.declared.register.MapRegister.{MapRegister}
 use Rattle.addr_decode.specs.MapRegister.{AreNumbered}
 use Rattle.addr_decode.proofs.NameLemmas.{names_numbered}
-use Rattle.map_builder.specs.declared.range.Changed.{Changed}
+use Rattle.map_ranges.specs.declared.range.Changed.{Changed}
 use Rattle.map_builder.proofs.WindowLemmas.{covered_by_names}
 use Rattle.map_builder.proofs.changed.push_covered.Goals as goal
 

@@ -4,7 +4,7 @@ use Rattle.pci_bars.specs.Cards.{AreCardsOf, cards_of}
 use Rattle.addr_decode.specs.declared.register.MapRegister.{MapRegister}
 use Rattle.addr_decode.specs.Common.{AreNumbered, names_of, StandsFor, map_bytes, edges_after}
 use Rattle.addr_decode.proofs.NameLemmas.{names_numbered}
-use Rattle.map_builder.specs.declared.range.Changed.{Changed}
+use Rattle.map_ranges.specs.declared.range.Changed.{Changed}
 use Rattle.map_builder.specs.Common.{Mapped, next_version, range_of, after, bounds, changed_windows, from_to}
 use Rattle.map_builder.specs.Common.{stores_rows, IsMapWhere, IsBeside, rows_in, sorted, Rise}
 use Rattle.map_builder.proofs.ChangeLemmas.{board_after, build_rise, build_few, build_beside, are_changed, keeps_byte}

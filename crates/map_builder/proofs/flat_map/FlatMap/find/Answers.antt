@@ -8,5 +8,5 @@ returns c = record {
   span = λ setup bytes stands.
       let inside = subst (λ (flat : Mapped). StandsFor setup bytes flat.regs) (sym c.self.view_is) stands in
       let is_map = c.self.invariant.map setup bytes inside in
-      c.span_of.ensures.span setup bytes (rw c.as_slice.ensures.items is_map);
+      c.span_in.ensures.span setup bytes (rw c.as_slice.ensures.items is_map);
 }

@@ -3,7 +3,7 @@ use Rattle.std.proofs.lemmas.List.{length-map}
 use Rattle.board_prelude.proofs.Common.{Setup, Bytes, Tiles, IsFlatMapOf}
 use Rattle.pci_bars.specs.Cards.{AreFitted}
 use Rattle.addr_decode.specs.MapRegs.{MapBytes, StandsFor, map_bytes}
-use Rattle.map_builder.specs.declared.range.Range.{Range}
+use Rattle.map_ranges.specs.declared.range.Range.{Range}
 use Rattle.map_builder.specs.Map.{range_of, most_ranges, HaveWidths, IsMapOf}
 use Rattle.map_builder.proofs.BoardLemmas.{has_board}
 use Rattle.map_builder.proofs.flat_map.FlatMap.restored.Goals as goal

@@ -1,6 +1,6 @@
 use Rattle.std.proofs.Common.{◌≤◌, List, Result, Ok, Err, OnOk, All, length, sym, subst}
 use Rattle.pci_bars.specs.Cards.{AreCardsOf}
-use Rattle.map_builder.specs.declared.range.Changed.{Changed}
+use Rattle.map_ranges.specs.declared.range.Changed.{Changed}
 use Rattle.map_builder.specs.Map.{Mapped}
 use Rattle.map_builder.specs.State.{IsWindow, IsMapped}
 use Rattle.map_builder.proofs.flat_map.FlatMap.save_state.Goals as goal

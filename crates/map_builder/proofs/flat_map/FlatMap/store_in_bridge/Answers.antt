@@ -4,7 +4,7 @@ use Rattle.pci_bars.specs.Cards.{AreCardsOf, cards_of}
 use Rattle.addr_decode.specs.declared.register.MapRegister.{MapRegister}
 use Rattle.addr_decode.specs.Common.{AreNumbered, names_of, StandsFor, map_bytes}
 use Rattle.addr_decode.proofs.NameLemmas.{names_numbered}
-use Rattle.map_builder.specs.declared.range.Changed.{Changed}
+use Rattle.map_ranges.specs.declared.range.Changed.{Changed}
 use Rattle.map_builder.specs.Changed.{register_windows}
 use Rattle.map_builder.specs.Common.{Mapped, next_version, range_of, changed_windows, is_row_name, stores_rows}
 use Rattle.map_builder.specs.Common.{IsMapWhere, IsBeside, sorted, Rise}

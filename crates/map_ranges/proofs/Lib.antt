@@ -1,0 +1,3 @@
+pub mod AreaLemmas
+pub mod StepLemmas
+pub mod FindLemmas

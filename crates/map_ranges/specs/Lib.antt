@@ -1,0 +1,4 @@
+pub mod Bounds
+pub mod Sorted
+pub mod Ranges
+pub mod Find
