@@ -13,22 +13,15 @@
 //!     serial-state DISK BYTES CARD..  the same with a serial port
 #![tactic(auto)]
 
-mod chipset;
+mod calls;
 mod config;
-mod disk_state;
 mod image;
+mod kept;
 mod map;
 mod master;
-mod media;
-mod parts;
-mod plain;
-mod ports;
-mod range;
 mod serial;
 mod setup;
 mod state;
-mod stretches;
-mod timer;
 mod told;
 
 use board_base::NoMemory;
@@ -44,7 +37,7 @@ fn answered(alloc: Global, line: &str) -> Result<String, NoMemory> {
     let words: Vec<&str> = line.split(' ').collect(alloc)?;
     let mut text = String::new(alloc);
     if let Some((call, words)) = words.split_first() {
-        chipset::answer(alloc, call, words, &mut text)?;
+        calls::answer(alloc, call, words, &mut text)?;
     }
     Ok(text)
 }
