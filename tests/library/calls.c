@@ -29,6 +29,7 @@
  *     memory [ADDR DOUBLEWORD]..                         8 MiB of zeros of the caller's own, with these doublewords, and a
  *                                                        disk of four sectors, whose bytes are their number and 1
  *     move TABLE LBA SECTORS TO_MEMORY                   a transfer over these: each piece, which is done as it is told
+ *     moved TABLE LBA SECTORS TO_MEMORY                  the same, of which the end alone is told
  *     doublewords ADDR.., words SECTOR INDEX..           what that memory and that disk then have
  *     told DEVICE BASE OFFSET BYTES                      bytes of a card, out
  *     give DEVICE BASE OFFSET BYTE..                     and in
@@ -388,19 +389,28 @@ static void take_descriptor(const board_piece *p) {
     must(board_transfer_region(&transfer, doubleword(bytes), doubleword(bytes + 4)));
 }
 
-static void move(void) {
+/* Does the transfer of a line, piece by piece, which are told, or the last one alone. */
+static void move_all(bool tells_each) {
     uint32_t lba = (uint32_t)numbers[1], sectors = (uint32_t)numbers[2];
     uint32_t left = lba < OWN_SECTORS ? OWN_SECTORS - lba : 0, readable = sectors < left ? sectors : left;
     board_piece piece = {0};
     must(board_transfer_begin(&transfer, (uint32_t)numbers[0], lba, sectors, readable, numbers[3] != 0));
     while (piece.what != BOARD_ENDED) {
         must(board_transfer_next(open_board(), &transfer, &piece));
-        printf("\n ");
-        tell_piece(&piece);
+        if (tells_each) printf("\n ");
+        if (tells_each || piece.what == BOARD_ENDED) tell_piece(&piece);
         if (piece.what == BOARD_DESCRIPTOR) take_descriptor(&piece);
         if (piece.what == BOARD_WORDS)
             move_bytes(&piece.part[0], piece.addr, own_disk + piece.disk, piece.bytes, transfer.to_memory);
     }
+}
+
+static void move(void) {
+    move_all(true);
+}
+
+static void moved(void) {
+    move_all(false);
 }
 
 static void doublewords(void) {
@@ -671,7 +681,8 @@ static const struct { const char *word; void (*call)(void); } calls[] = {
     {"lines", lines}, {"serial", serial}, {"second", second}, {"in", in}, {"out", out}, {"put", put}, {"set", set},
     {"fill", fill}, {"save", save}, {"load", load}, {"turn", turn}, {"cut", cut}, {"master", master}, {"told", told},
     {"give", give}, {"keep", keep}, {"with", load_with}, {"begin", begin}, {"stand", stand}, {"next", next},
-    {"region", region}, {"memory", own}, {"move", move}, {"doublewords", doublewords}, {"words", words},
+    {"region", region}, {"memory", own}, {"move", move}, {"moved", moved}, {"doublewords", doublewords},
+    {"words", words},
 };
 
 static void read_numbers(char *words) {

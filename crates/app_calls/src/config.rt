@@ -1,9 +1,12 @@
 //! The bytes of configuration space and the configuration address by themselves, each line a new one.
 
+ghost use Rattle.std.specs.Prelude.{IsTrue};
+ghost use Rattle.board_prelude.specs.Common.{is_config_port};
+
 use board_base::NoMemory;
 use board_spec::port::CONFIG_DATA;
-use call_words::{byte, number, port, word};
-use cfg_ports::{ConfAdd, Space};
+use call_words::{byte, number, word};
+use cfg_ports::{ConfAdd, Selected, Space};
 use std::alloc::AllocError;
 
 /// `59=FF` writes a byte of 256 that all have this value after a reset and this mask; told are that byte before, after
@@ -29,17 +32,33 @@ fn push_space(
     write!(text, "{before:02X} {after:02X} {beside:02X} {anew:02X}")
 }
 
-/// What is selected by a byte of the data port: bus, device, function and offset.
-fn push_selected(text: &mut String, conf_add: &ConfAdd, place: u16) -> Result<(), AllocError> {
-    match conf_add.select(CONFIG_DATA + place % 4) {
-        Some(selected) => {
-            let reg = selected.reg;
-            write!(
-                text,
-                "{:02X}.{:02X}.{}.{:02X}",
-                selected.bus, reg.dev, reg.fun, reg.off
-            )
-        }
+/// The port of a byte of the configuration data.
+fn data_port(place: &str) -> u16
+    ensures data { IsTrue (is_config_port result) }
+{
+    match place {
+        "1" => CONFIG_DATA + 1,
+        "2" => CONFIG_DATA + 2,
+        "3" => CONFIG_DATA + 3,
+        _ => CONFIG_DATA,
+    }
+}
+
+/// What is selected by a byte of the data port.
+fn selected(conf_add: &ConfAdd, place: &str) -> Option<Selected> {
+    conf_add.select(data_port(place))
+}
+
+/// Tells what is selected: bus, device, function and offset.
+fn push_selected(text: &mut String, selected: &Selected) -> Result<(), AllocError> {
+    write!(text, "{:02X}.{:02X}.", selected.bus, selected.reg.dev)?;
+    write!(text, "{}.{:02X}", selected.reg.fun, selected.reg.off)
+}
+
+/// Tells what is selected by a byte of the data port.
+fn push_place(text: &mut String, conf_add: &ConfAdd, place: &str) -> Result<(), AllocError> {
+    match selected(conf_add, place) {
+        Some(selected) => push_selected(text, &selected),
         None => text.push_str("none"),
     }
 }
@@ -51,7 +70,7 @@ fn act_address(conf_add: &mut ConfAdd, step: &str, text: &mut String) -> Result<
             conf_add.write(number(value));
             Ok(())
         }
-        None => push_selected(text, conf_add, port(step)),
+        None => push_place(text, conf_add, step),
     }
 }
 

@@ -1,13 +1,8 @@
-//! Images of boards. Bytes stand alone (`bare`), behind the head of an image of two cards (`cards`), or behind an image
-//! of a board with a card and one step (`step`): told is at which byte behind these the image is bad. Of a good one are
-//! told the entries of its board, and whether that board is saved as the same bytes.
-
-ghost use Rattle.std.specs.Prelude.{◌≤◌, IfSome};
-ghost use Rattle.board_spec.specs.Setup.{IsSetup};
+//! Images of boards that are bad. Bytes stand alone (`bare`), behind the head of an image of two cards (`cards`), or
+//! behind an image of a board with a card and one step (`step`): told is at which byte behind these the image is bad.
 
 use board_base::NoMemory;
-use board_core::Board;
-use board_image::{ImageFault, load, read_image, save};
+use board_image::{ImageFault, read_image};
 use call_words::{bytes_of, word};
 use std::alloc::{AllocError, Global};
 
@@ -33,44 +28,6 @@ fn before(alloc: Global, what: &str) -> Result<Vec<u8>, AllocError> {
     }
 }
 
-/// The board of an image.
-fn board_of(alloc: Global, bytes: &[u8]) -> Option<Board>
-    ensures fitted { IfSome result (λ board. IsSetup board.setup) }
-    ensures few_mib { IfSome result (λ board. board.setup.mib ≤ 64) }
-{
-    match read_image(alloc, bytes) {
-        Ok(image) => load(alloc, image).ok(),
-        Err(_) => None,
-    }
-}
-
-/// The bytes of a board's image, joined.
-fn image_of(alloc: Global, board: &Board) -> Result<Vec<u8>, NoMemory>
-    requires fitted { IsSetup board.now.setup }
-    requires few_mib { board.now.setup.mib ≤ 64 }
-{
-    let saved = save(alloc, board.setup(), board.history())?;
-    let mut bytes = Vec::new(alloc);
-    for piece in saved.pieces() {
-        bytes.extend_from_slice(piece)?;
-    }
-    Ok(bytes)
-}
-
-/// Tells of a good image how many entries its board has, and whether it is saved as the same bytes.
-fn push_board(alloc: Global, bytes: &[u8], text: &mut String) -> Result<(), NoMemory> {
-    let Some(board) = board_of(alloc, bytes) else {
-        return Err(NoMemory);
-    };
-    let saved = image_of(alloc, &board)?;
-    write!(text, "good, {} entries, ", board.history().len())?;
-    Ok(text.push_str(if saved.as_slice() == bytes {
-        "saved as the same"
-    } else {
-        "saved as another"
-    })?)
-}
-
 /// Where bytes are bad.
 fn bad_at(alloc: Global, bytes: &[u8]) -> Option<u32> {
     match read_image(alloc, bytes) {
@@ -79,27 +36,18 @@ fn bad_at(alloc: Global, bytes: &[u8]) -> Option<u32> {
     }
 }
 
-/// Tells what an image is, whose first bytes stood before.
-fn push_image(
-    alloc: Global,
-    bytes: &[u8],
-    before: usize,
-    text: &mut String,
-) -> Result<(), NoMemory> {
-    match bad_at(alloc, bytes) {
-        Some(at) => Ok(write!(
-            text,
-            "bad at {:X}",
-            at.wrapping_sub((before % 0x1_0000_0000) as u32)
-        )?),
-        None => push_board(alloc, bytes, text),
+/// Tells where an image is bad, whose first bytes stood before.
+fn push_bad(text: &mut String, at: Option<u32>, before: usize) -> Result<(), AllocError> {
+    match at {
+        Some(at) => write!(text, "bad at {:X}", (at as usize).saturating_sub(before)),
+        None => text.push_str("good"),
     }
 }
 
-/// Tells what the image of words is.
+/// Tells where the image of words is bad.
 pub fn tell(alloc: Global, words: &[&str], text: &mut String) -> Result<(), NoMemory> {
     let mut bytes = before(alloc, word(words, 0))?;
     let before = bytes.len();
     bytes.extend_from_slice(&bytes_of(alloc, word(words, 1))?)?;
-    push_image(alloc, &bytes, before, text)
+    Ok(push_bad(text, bad_at(alloc, &bytes), before)?)
 }

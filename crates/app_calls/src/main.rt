@@ -1,34 +1,28 @@
-//! The parts of the board by themselves, and a chipset with what stands over it: each line of standard input is a call,
-//! a word and what it is given, and is told with what it answers. `#` begins a comment, which is told as it is. The
-//! words of a part are those of `parts`, each with what it takes at its function. A chipset and what stands over it:
+//! What of a board neither a command nor the library for C tells: each line of standard input is a call, a word and
+//! what it is given, and is told with what it answers. `#` begins a comment, which is told as it is.
 //!
-//!     serial REQUEST..                a board with a UART on COM1, and the log of what the board itself was asked
-//!     master PRESET STEP..            the bus master and its transfers, over a board on which doublewords were written
 //!     image bare|cards|step BYTES     where an image is bad, beyond what stands before its bytes
-//!     event WORD BYTES PLACE VALUE    whether an event is in range, and which field is not
-//!     time YEAR MONTH DAY WEEKDAY HOUR   the same of a moment
-//!     setup MIB ROM DISK CARD..       whether a setup opens a chipset, and why not
-//!     ports STEP..                    accesses to ports that need not be aligned
 //!     chipset-state DISK BYTES CARD.. the state of a chipset as bytes: where it is bad, or that it is saved so
 //!     serial-state DISK BYTES CARD..  the same with a serial port
+//!     serial REQUEST..                a board with a UART on COM1, and the log of what the board itself was asked
+//!     master PRESET STEP..            the registers of the bus master, over a board on which doublewords were written
+//!     edges CARDS STEP..              the next edges of the map above addresses
+//!     touches CARDS PLACE..           whether the map depends on a byte of a store
+//!     changes CARDS STORE..           the first and the last address of what a store may change in the map
+//!     space BYTE RESET MASK VALUE     a byte of configuration space, before and after a write and a reset
+//!     confadd STEP..                  the configuration address, and what it selects
+//!     kept MIB STRETCH PLACE..        how many bytes of each MiB a memory keeps
 #![tactic(auto)]
 
-mod chipset;
+mod calls;
 mod config;
-mod disk_state;
 mod image;
+mod kept;
 mod map;
 mod master;
-mod media;
-mod parts;
-mod plain;
-mod ports;
-mod range;
 mod serial;
 mod setup;
 mod state;
-mod stretches;
-mod timer;
 mod told;
 
 use board_base::NoMemory;
@@ -44,7 +38,7 @@ fn answered(alloc: Global, line: &str) -> Result<String, NoMemory> {
     let words: Vec<&str> = line.split(' ').collect(alloc)?;
     let mut text = String::new(alloc);
     if let Some((call, words)) = words.split_first() {
-        chipset::answer(alloc, call, words, &mut text)?;
+        calls::answer(alloc, call, words, &mut text)?;
     }
     Ok(text)
 }

@@ -7,7 +7,6 @@
 ghost use Rattle.std.specs.Prelude.{◌≡◌, ◌<◌, ◌≤◌, IfSome};
 ghost use Rattle.board_spec.specs.Setup.{IsCard};
 ghost use Rattle.pci_bars.specs.Cards.{AreFitted};
-ghost use Rattle.map_builder.specs.Map.{next_version};
 
 use crate::told::{push_hex, space};
 use addr_decode::{MapChange, MapRegs, next_edge, touches};
@@ -172,7 +171,6 @@ fn counted<L: Ledger>(map: &mut FlatMap, change: &MapChange, blank: Blank) -> Ch
     requires name { blank.name ≡ L.name }
     requires parts { blank.parts ≡ L.parts }
     requires some_part { 0 < L.parts }
-    ensures version { map.new.version ≡ next_version map.old.version }
 {
     let mut steps = Steps::<L>::new(blank);
     map.apply_counted(change, &mut steps)

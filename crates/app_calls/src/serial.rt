@@ -139,15 +139,33 @@ fn setup(alloc: Global) -> Result<Setup, AllocError>
     })
 }
 
+/// The board of a setup that is one.
+fn opened(alloc: Global, setup: Setup) -> Result<Board, NoMemory>
+    requires mib { setup.mib ≡ 8 }
+    requires cards { setup.cards ≡ [] }
+    ensures fresh { IfOk result (λ board. board.entries ≡ []) }
+{
+    match Board::open(alloc, setup) {
+        Ok(board) => Ok(board),
+        Err(_) => Err(NoMemory),
+    }
+}
+
+/// A board with room for its entries.
+fn roomy(mut board: Board) -> Result<Board, NoMemory>
+    requires fresh { board.entries ≡ [] }
+    ensures fresh { IfOk result (λ board. board.entries ≡ []) }
+{
+    board.reserve(MOST)?;
+    Ok(board)
+}
+
 /// The board, with room for its entries.
 fn board(alloc: Global) -> Result<Board, NoMemory>
     ensures fresh { IfOk result (λ board. board.entries ≡ []) }
 {
-    let Ok(mut board) = Board::open(alloc, setup(alloc)?) else {
-        return Err(NoMemory);
-    };
-    board.reserve(MOST)?;
-    Ok(board)
+    let setup = setup(alloc)?;
+    roomy(opened(alloc, setup)?)
 }
 
 /// Tells the log of a board.

@@ -1,19 +1,20 @@
-//! Setups of a chipset: the memory in MiB, the bytes of ROM and of disk, and the cards. A card is its device, 1 for a
-//! base of memory or 0 for one of ports, the number of its address bits, and that of its expansion ROM or 0, as
-//! `2:1:4:0`.
+//! Setups of a chipset: the bytes of its disk, and the cards. A card is its device, 1 for a base of memory or 0 for one
+//! of ports, the number of its address bits, and that of its expansion ROM or 0, as `2:1:4:0`.
 
 use arrayvec::ArrayVec;
-use board_base::NoMemory;
-use board_chipset::{Chipset, Setup};
-use call_words::{byte, number, word};
+use board_chipset::Setup;
+use call_words::{byte, word};
 use pci_bars::{BaseSpec, CardSpec};
 use std::alloc::{AllocError, Global};
 
-/// The most bytes of a ROM or of a disk that a line asks for.
+/// The most bytes of a disk that a line asks for.
 const MOST_BYTES: u32 = 0x400_0000;
 
+/// The bytes of the ROM.
+const ROM: u32 = 0x1_0000;
+
 /// A card with one base.
-pub fn card(dev: u8, base: BaseSpec, rom: u8) -> CardSpec {
+fn card(dev: u8, base: BaseSpec, rom: u8) -> CardSpec {
     let mut bases = ArrayVec::new();
     bases.push(base);
     CardSpec {
@@ -40,7 +41,7 @@ fn card_of(alloc: Global, text: &str) -> Result<Option<CardSpec>, AllocError> {
 }
 
 /// The cards of words; a word that has not four numbers is none.
-pub fn cards_of(alloc: Global, words: &[&str]) -> Result<Vec<CardSpec>, AllocError> {
+fn cards_of(alloc: Global, words: &[&str]) -> Result<Vec<CardSpec>, AllocError> {
     let mut cards = Vec::new(alloc);
     for text in words {
         if let Some(card) = card_of(alloc, text)? {
@@ -55,44 +56,19 @@ fn bytes(alloc: Global, count: u32) -> Result<Vec<u8>, AllocError> {
     vec![in alloc; 0x5A; (count % MOST_BYTES) as usize]
 }
 
-/// A setup of so much memory, so many bytes of ROM and of disk, and cards.
-pub fn setup(
-    alloc: Global,
-    mib: u32,
-    rom: u32,
-    disk: u32,
-    cards: Vec<CardSpec>,
-) -> Result<Setup, AllocError> {
-    Ok(Setup {
-        mib,
-        cards,
-        rom: bytes(alloc, rom)?,
-        disk: Some(bytes(alloc, disk)?),
-    })
-}
-
-/// A chipset of 1 MiB, a disk of a sector and a card at device 4; none where there is no memory.
-pub fn chipset(alloc: Global) -> Result<Chipset, NoMemory> {
-    let mut cards = Vec::new(alloc);
-    cards.push(card(4, BaseSpec::Io(4), 0))?;
-    match Chipset::open_checked(alloc, setup(alloc, 1, 0x1_0000, 512, cards)?) {
-        Ok(chipset) => Ok(chipset),
-        Err(_) => Err(NoMemory),
-    }
-}
-
-/// Tells whether a setup opens a chipset, and why not.
-fn push_opened(alloc: Global, setup: Setup, text: &mut String) -> Result<(), AllocError> {
-    match Chipset::open_checked(alloc, setup) {
-        Ok(_) => text.push_str("good"),
-        Err(fault) => write!(text, "{fault:?}"),
-    }
-}
-
-/// Tells whether the setup of words opens a chipset, and why not.
-pub fn tell(alloc: Global, words: &[&str], text: &mut String) -> Result<(), NoMemory> {
+/// A setup of 1 MiB, with a ROM, the cards of words, and a disk of so many bytes, none where that is 0.
+pub fn setup(alloc: Global, disk: u32, words: &[&str]) -> Result<Setup, AllocError> {
     let cards = cards_of(alloc, words)?;
-    let (mib, rom) = (number(word(words, 0)), number(word(words, 1)));
-    let setup = setup(alloc, mib, rom, number(word(words, 2)), cards)?;
-    Ok(push_opened(alloc, setup, text)?)
+    let rom = bytes(alloc, ROM)?;
+    let disk = if disk == 0 {
+        None
+    } else {
+        Some(bytes(alloc, disk)?)
+    };
+    Ok(Setup {
+        mib: 1,
+        cards,
+        rom,
+        disk,
+    })
 }

@@ -3,15 +3,13 @@
 //! that the state is saved as the same bytes, or where it is bad. Bytes are pieces joined by `+`; `00*100` are so many
 //! equal ones.
 
-use crate::setup::{cards_of, setup};
+use crate::setup::setup;
 use board_base::NoMemory;
 use board_chipset::{Chipset, Setup, StateFault};
 use call_words::{byte, bytes_of, number, word};
 use std::alloc::{AllocError, Global};
 use uart_16550::SerialBoard;
 
-/// The bytes of the ROM.
-const ROM: u32 = 0x1_0000;
 /// The most equal bytes of a piece.
 const MOST_EQUAL: u32 = 0x1_0000;
 
@@ -37,12 +35,7 @@ fn joined(alloc: Global, pieces: &str) -> Result<Vec<u8>, AllocError> {
 
 /// What the chipset of a line is fitted with.
 fn fitted(alloc: Global, words: &[&str]) -> Result<Setup, AllocError> {
-    let disk = number(word(words, 0));
-    let mut fitted = setup(alloc, 1, ROM, disk, cards_of(alloc, words)?)?;
-    if disk == 0 {
-        fitted.disk = None;
-    }
-    Ok(fitted)
+    setup(alloc, number(word(words, 0)), words)
 }
 
 /// Tells whether what was saved are the same bytes.
