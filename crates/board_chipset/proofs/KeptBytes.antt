@@ -1,11 +1,11 @@
 -- Registers of the right number and widths are those of a board of their setup: each stands for a byte of its own.
 use Rattle.std.proofs.Common.{◌≡◌, ◌≢◌, ℕ, ◌+◌, ◌-◌, ◌*◌, ◌/◌, ◌%◌, ◌^◌, ◌<◌, ◌≤◌, false, ◌&&◌, List, [], ◌∷◌, length}
-use Rattle.std.proofs.Common.{get_or, Option, Some, None, refl, sym, ◌∙◌, ap, arith, ◌==◌, nat_lt, if◌then◌else◌, All}
-use Rattle.std.proofs.Common.{find, is_some, map, slice_index, option_map}
-use Rattle.board_prelude.proofs.Common.{and-false, or_parts, option_map_or, cond-false, cond-true, ne_eqb, nat_tests}
-use Rattle.board_prelude.proofs.Common.{Reg, Setup, FittedCard, IsCard, Bytes, byte, is_within, reset_byte}
-use Rattle.board_prelude.proofs.Common.{card_register, bridge, isa, ide, pirq, pirqs}
-use Rattle.pci_bars.specs.Cards.{CardBytes, HoldsLong, HoldsRom, DecodesAs, IsCardOf, AreFitted, is_kept_offset}
+use Rattle.std.proofs.Common.{get_or, Option, Some, None, refl, ◌∙◌, ap, arith, ◌==◌, if◌then◌else◌, All}
+use Rattle.std.proofs.Common.{is_some, map, slice_index}
+use Rattle.board_prelude.proofs.Common.{and-false, or_parts, option_map_or, cond-false, ne_eqb}
+use Rattle.board_prelude.proofs.Common.{Setup, IsCard, Bytes, byte, is_within, reset_byte}
+use Rattle.board_prelude.proofs.Common.{card_register, ide, pirq, pirqs}
+use Rattle.pci_bars.specs.Cards.{CardBytes, IsCardOf, AreFitted, is_kept_offset}
 use Rattle.pci_bars.specs.Cards.{cards_of}
 use Rattle.addr_decode.specs.MapRegs.{MapBytes, StandsFor}
 use Rattle.map_builder.specs.Map.{HoldsDoublewords}

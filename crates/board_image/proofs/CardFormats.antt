@@ -1,5 +1,5 @@
 -- The fields of cards.
-use Rattle.std.proofs.Common.{◌≡◌, ℕ, ◌+◌, ◌-◌, ◌*◌, ◌^◌, ◌<◌, ◌≤◌, inl, inr, Bool, true, false, List, [], ◌∷◌, length}
+use Rattle.std.proofs.Common.{◌≡◌, ℕ, ◌+◌, ◌-◌, ◌*◌, ◌^◌, ◌<◌, ◌≤◌, inl, inr, true, false, List, [], ◌∷◌, length}
 use Rattle.std.proofs.Common.{Option, Some, None, refl, ap, subst, ◌∙◌, arith, nat_le, ◌&&◌, map, flat_map, sum_by, All}
 use Rattle.std.proofs.Common.{unwrap_or}
 use Rattle.board_prelude.proofs.Common.{AllByRecursion, w8, and_from, and_parts, cases_Bool, cases_eq, eq-eqb, ne_eqb}

@@ -8,8 +8,8 @@ use Rattle.board_devices.specs.State.{IsFittedDisk}
 use Rattle.board_chipset.specs.ChipsetState.{IsChipset}
 use Rattle.board_chipset.specs.Common.{Running}
 use Rattle.board_chipset.specs.Given.{dram_left, dram_on, disk_left, fitted_on, sectors_on, unless_left, with_dram}
-use Rattle.board_chipset.specs.Given.{with_fitted, with_sectors, zeros}
-use Rattle.board_chipset.proofs.LeftBytes.{left_length, left_on, zeros_length}
+use Rattle.board_chipset.specs.Given.{with_fitted, with_sectors}
+use Rattle.board_chipset.proofs.LeftBytes.{left_length, left_on}
 use Rattle.board_spec.specs.Setup.{installed}
 use Rattle.board_records.specs.declared.left.LeftOut.{LeftOut}
 use Rattle.board_records.specs.Doors.{Behind}

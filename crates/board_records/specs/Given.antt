@@ -1,6 +1,6 @@
 -- Bytes of a board that a monitor keeps itself: those of the DRAM, of the disk as it was fitted, and of its sectors as
 -- they stand. An image can leave them out, and a load takes them from the caller.
-use Rattle.std.specs.Prelude.{ℕ, ◌≡◌, ◌≢◌, ◌⊎◌, if◌then◌else◌, Bool, List, [], ◌∷◌, length}
+use Rattle.std.specs.Prelude.{ℕ, ◌≡◌, ◌≢◌, ◌⊎◌, if◌then◌else◌, List, [], ◌∷◌, length}
 use Rattle.board_spec.specs.Setup.{Setup, installed}
 use Rattle.board_chipset.specs.ChipsetState.{disk_size}
 use Rattle.board_chipset.specs.Common.{Running}

@@ -8,7 +8,6 @@ use Rattle.device_spec.proofs.Common.{take_all, recursion_from_All, cases_eq, ca
 use Rattle.device_spec.proofs.Common.{ne_eqb}
 use Rattle.board_spec.specs.declared.event.Event.{Event}
 use Rattle.board_spec.specs.declared.event.Entry.{Entry}
-use Rattle.board_spec.specs.declared.event.Reply.{Reply}
 use Rattle.board_spec.specs.declared.event.Statement.{Statement}
 use Rattle.board_spec.proofs.ReplayLaws.{some_answer, entry_made}
 use Rattle.board_spec.proofs.OrderLawProofs.{statements-newest}

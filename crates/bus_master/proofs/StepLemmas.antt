@@ -7,7 +7,6 @@ use Rattle.addr_decode.specs.Master.{master_area, master_denial}
 use Rattle.board_chipset.specs.declared.store.Store.{Store}
 use Rattle.bus_master.specs.declared.done.End.{End}
 use Rattle.bus_master.specs.declared.done.End.TheVariants.{Shorter, Sector}
-use Rattle.bus_master.specs.declared.direction.Direction.{Direction}
 use Rattle.bus_master.specs.Common.{Moving, TransferPlace, ◌and_then◌, abort_in, address_after, answered}
 use Rattle.bus_master.specs.Common.{descriptor_read, is_used_up, master_value, medium_of, next_sector, next_word}
 use Rattle.bus_master.specs.Common.{ready_for, region_found, region_taken, sector_tested, table_tested, with_region}

@@ -4,7 +4,6 @@ use Rattle.board_prelude.proofs.Common.{Medium, Setup, Bytes, is_smram_range, Dr
 use Rattle.dram_store.specs.Dram.{dram_at}
 use Rattle.board_chipset.specs.declared.store.Store.{Store}
 use Rattle.bus_master.specs.declared.done.End.{End}
-use Rattle.bus_master.specs.declared.done.Done.{Done}
 use Rattle.bus_master.specs.declared.direction.Direction.{Direction}
 use Rattle.bus_master.specs.Common.{Master, Moving, TransferPlace, begun, direction_of, done_of, first_place, medium_of}
 use Rattle.bus_master.specs.Common.{transferred, with_medium, words_moved, cells_of, DiffersInSmramAlone, HasSameShape}

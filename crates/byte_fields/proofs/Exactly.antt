@@ -1,8 +1,8 @@
 -- Fixed bytes, and that nothing follows.
-use Rattle.std.proofs.Common.{◌≡◌, ℕ, ◌≤◌, Bool, true, false, cond, List, [], ◌∷◌, ◌++◌, length, take, drop, Result, Ok}
+use Rattle.std.proofs.Common.{◌≡◌, ℕ, ◌≤◌, Bool, true, false, cond, List, [], ◌∷◌, ◌++◌, length, take, drop, Ok}
 use Rattle.std.proofs.Common.{Err, refl, sym, ap, ◌∙◌, arith, bytes_eq}
 use Rattle.board_base.proofs.Common.{take_at, drop_at, take-append-drop, bytes_eq-Decides}
-use Rattle.byte_fields.specs.Fields.{AreBytes, exactly, ended}
+use Rattle.byte_fields.specs.Fields.{exactly, ended}
 use Rattle.byte_fields.proofs.Formats.{IsFormat, ok_is, err_is}
 use Rattle.byte_fields.proofs.Numbers.{Any}
 

@@ -1,5 +1,5 @@
 -- What stands in front of the state of a running board is spelled and read back.
-use Rattle.std.proofs.Common.{◌≡◌, ℕ, ◌≤◌, ◌++◌, List, refl, ap, arith}
+use Rattle.std.proofs.Common.{◌≡◌, ℕ, ◌≤◌, ◌++◌, refl, ap, arith}
 use Rattle.byte_fields.proofs.Formats.{IsFormat, format_as, then_format, last_format}
 use Rattle.board_chipset.proofs.Marks.{exactly_format}
 use Rattle.byte_fields.proofs.Numbers.{Ranges, wide16, within_format}

@@ -1,5 +1,5 @@
 -- A setup is spelled and read back.
-use Rattle.std.proofs.Common.{◌≡◌, ℕ, ◌+◌, ◌*◌, ◌^◌, ◌<◌, ◌≤◌, inl, inr, Bool, true, false, List, [], ◌∷◌, ◌++◌, length}
+use Rattle.std.proofs.Common.{◌≡◌, ℕ, ◌+◌, ◌*◌, ◌^◌, ◌<◌, ◌≤◌, inl, inr, Bool, true, false, List, ◌∷◌, ◌++◌, length}
 use Rattle.std.proofs.Common.{flat_map, Option, Some, None, refl, sym, ap, ◌∙◌, arith, ◌==◌, ◌||◌}
 use Rattle.board_prelude.proofs.Common.{cases_Bool, eqb-true, ne_eqb, nil_from_length, Setup, IsSetup, IsRomSize}
 use Rattle.board_prelude.proofs.Common.{is_rom_size, IsDisk, IsDiskSize, is_disk_length, most_card_memory}

@@ -4,7 +4,7 @@ use Rattle.std.proofs.Common.{◌≡◌, ℕ, zero, suc, ◌+◌, ◌-◌, ◌*�
 use Rattle.std.proofs.Common.{length, get_or, Option, Some, None, refl, sym, ◌∙◌, ap, subst, arith, ◌==◌, nat_lt}
 use Rattle.std.proofs.Common.{if◌then◌else◌, false, ◌&&◌, All, find, is_some, slice_index, option_map}
 use Rattle.board_prelude.proofs.Common.{option_map_or, cases_Bool, cond-true, cond-false, eq-eqb, ne_eqb, get_or-map}
-use Rattle.board_prelude.proofs.Common.{length-map, nat_tests, Reg, Setup, FittedCard, Rises, IsCard, IsCardList, byte}
+use Rattle.board_prelude.proofs.Common.{length-map, nat_tests, Setup, FittedCard, Rises, IsCard, IsCardList, byte}
 use Rattle.board_prelude.proofs.Common.{is_within, card_register, bridge, isa, Bytes}
 use Rattle.pci_bars.specs.Cards.{CardBytes, HoldsLong, HoldsRom, DecodesAs, AreFitted, cards_of}
 use Rattle.pci_bars.proofs.CardLemmas.{wide_of_bytes}

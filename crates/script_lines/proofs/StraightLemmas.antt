@@ -1,12 +1,11 @@
 -- A statement that is read straight from the bytes of its line is the one that its fields say.
-use Rattle.std.proofs.Common.{◌≡◌, ℕ, ◌+◌, ◌*◌, true, false, eqb, Option, Some, None, List, [], ◌∷◌, ◌++◌, length, All}
+use Rattle.std.proofs.Common.{◌≡◌, ℕ, ◌+◌, ◌*◌, false, eqb, Option, Some, None, List, [], ◌∷◌, ◌++◌, length, All}
 use Rattle.std.proofs.Common.{refl, sym, ap, subst, ◌∙◌, IfSome, MatchOption}
-use Rattle.board_prelude.proofs.Common.{option_map, ne_eqb, All-nil, All-cons, Event, Width, Kind, Read, Fetch, Write}
-use Rattle.board_prelude.proofs.Common.{Port, bytes_of}
-use Rattle.board_spec.specs.declared.event.Event.TheVariants.{Look as LookAt}
+use Rattle.board_prelude.proofs.Common.{option_map, ne_eqb, All-nil, All-cons, Event, Width, Kind, Read, Fetch}
+use Rattle.board_prelude.proofs.Common.{bytes_of}
 use Rattle.std.proofs.lemmas.List.Splits.{slice_split_none, slice_split_at}
 use Rattle.script_spec.specs.Common.{HasForm, fields_of, parse_size, parse_width, parse_kind, parse_hex, parse_decimal}
-use Rattle.script_spec.specs.Common.{parse_digit, parse_digits, number_after, parse_smm, memory_event, parse_read}
+use Rattle.script_spec.specs.Common.{parse_digit, parse_digits, number_after, parse_smm, parse_read}
 use Rattle.script_spec.specs.Common.{parse_write, parse_in, parse_out, parse_look, parse_event, ask, is_skipped}
 use Rattle.script_spec.specs.Common.{parse_event_item, parse_by_verb, parse_statement_words, parse_item}
 use Rattle.script_spec.specs.Events.{read_event, write_event, in_event, out_event, look_event}

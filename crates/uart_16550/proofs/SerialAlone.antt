@@ -13,7 +13,6 @@ use Rattle.board_chipset.specs.ChipsetState.{is_other_version}
 use Rattle.board_chipset.proofs.Marks.{alone_bad}
 use Rattle.board_chipset.proofs.ChipsetFormats.{IsBareChipset, most_chipset, chipset_format}
 use Rattle.board_chipset.proofs.ChipsetLoads.{of_version}
-use Rattle.uart_16550.specs.declared.com1.Com1.{Com1}
 use Rattle.uart_16550.specs.Serial.{Serial}
 use Rattle.uart_16550.specs.State.{IsCom1, com1_bytes}
 use Rattle.uart_16550.specs.SerialState.{IsSerial, LoadsSerial, IsBadSerialAt, serial_bytes, serial_fields}

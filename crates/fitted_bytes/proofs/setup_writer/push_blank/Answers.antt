@@ -1,4 +1,4 @@
-use Rattle.std.proofs.Common.{◌≡◌, ℕ, ◌++◌, List, length, Result, Ok, Err, OnOk, sym, subst, append_assoc}
+use Rattle.std.proofs.Common.{◌≡◌, ℕ, ◌++◌, List, length, Result, Ok, Err, OnOk, append_assoc}
 use Rattle.board_prelude.specs.Common.{w32, to_le_bytes}
 use Rattle.byte_fields.specs.Pages.{memory_page, pages_bytes}
 use Rattle.fitted_bytes.specs.Setups.{counted_bytes}

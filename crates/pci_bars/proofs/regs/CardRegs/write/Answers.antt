@@ -1,9 +1,7 @@
-use Rattle.std.proofs.Common.{◌≡◌, ◌+◌, ◌*◌, ◌<◌, inl, inr, arith, slice_index}
-use Rattle.board_spec.specs.RegisterTable.{card_function, base_writable, rom_writable}
-use Rattle.pci_bars.specs.Bases.{of_base}
-use Rattle.pci_bars.proofs.CardLemmas.{IsByteWrite, decodes-command, card-command, decodes-base_stored}
-use Rattle.pci_bars.proofs.CardLemmas.{card-base_stored, card-apart, card-line_stored, decodes-apart}
-use Rattle.pci_bars.proofs.CardLemmas.{decodes-rom_stored, card-rom_stored}
+use Rattle.std.proofs.Common.{◌≡◌, ◌+◌, ◌*◌, ◌<◌, inl, inr, arith}
+use Rattle.board_spec.specs.RegisterTable.{card_function}
+use Rattle.pci_bars.proofs.CardLemmas.{decodes-command, card-command}
+use Rattle.pci_bars.proofs.CardLemmas.{card-apart, card-line_stored, decodes-apart}
 use Rattle.pci_bars.proofs.regs.CardRegs.write.Goals as goal
 
 pub returns-in-4-clause-decodes : goal.returns-in-4-clause-decodes
