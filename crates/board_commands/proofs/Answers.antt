@@ -5,7 +5,7 @@ use Rattle.script_spec.specs.Common.{Script as Said, DiffersAt}
 use Rattle.log_check.specs.declared.fault.CheckFault.{CheckFault}
 use Rattle.log_check.specs.declared.fault.CheckFault.TheVariants.{Differs as DiffersAtLine}
 use Rattle.log_check.specs.declared.fault.CheckFault.TheVariants.{NoMemory as NoMemoryForCheck}
-use Rattle.command_words.specs.Words.{Command, Replay, Run, Map, Check, Make, Dma, Save, Resume, Serial, Blame}
+use Rattle.command_words.specs.Words.{Command, Check, Resume}
 use Rattle.command_files.specs.declared.status.Which.{Which}
 use Rattle.command_files.specs.declared.status.Which.TheVariants.{Script, Rom, Disk}
 use Rattle.command_files.specs.declared.status.Status.{Status}
@@ -36,28 +36,12 @@ text_answer command shelf text says quiet = record { text = says; refused = tt; 
 
 -- a command that can differ reads a log
 log_is_read : (command : Command) (P : Type 0) → OfCheck command P → CanEnd command (Differs 0)
-log_is_read (Replay script) P is = absurd is
-log_is_read (Run script) P is = absurd is
-log_is_read (Map script) P is = absurd is
 log_is_read (Check script log) P is = (Script ∷ Rom ∷ Disk ∷ [], [], refl)
-log_is_read (Make rounds) P is = absurd is
-log_is_read (Dma script transfer) P is = absurd is
-log_is_read (Save script) P is = absurd is
-log_is_read (Resume image script) P is = absurd is
-log_is_read (Serial script input) P is = absurd is
-log_is_read (Blame script) P is = absurd is
+log_is_read _ P is = absurd is
 
 boards_compared : (command : Command) (P : Type 0) → OfResume command P → CompareBoards command
-boards_compared (Replay script) P is = absurd is
-boards_compared (Run script) P is = absurd is
-boards_compared (Map script) P is = absurd is
-boards_compared (Check script log) P is = absurd is
-boards_compared (Make rounds) P is = absurd is
-boards_compared (Dma script transfer) P is = absurd is
-boards_compared (Save script) P is = absurd is
 boards_compared (Resume image script) P is = tt
-boards_compared (Serial script input) P is = absurd is
-boards_compared (Blame script) P is = absurd is
+boards_compared _ P is = absurd is
 
 module _ (command : Command) (shelf : ShelfCall) (known : Known)
     (read : OfFiles shelf.files (λ files. AllRead command files known)) where

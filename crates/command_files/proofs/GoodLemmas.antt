@@ -2,9 +2,9 @@
 use Rattle.std.proofs.Common.{◌≡◌, ℕ, List, [], ◌∷◌, length, reverse, Option, Some, None, refl, sym, ap, ◌∙◌, subst}
 use Rattle.board_spec.specs.Setup.{IsRomSize, IsDisk}
 use Rattle.script_spec.specs.Common.{Script as Said, IsInRangeScript}
-use Rattle.command_words.specs.Words.{Command, Replay, Run, Map, Check, Make, Dma, Save, Resume, Serial, Blame}
+use Rattle.command_words.specs.Words.{Command, Check, Make, Resume, Serial, script_name}
 use Rattle.command_files.specs.declared.status.Which.TheVariants.{Script, Rom, Disk, Log, Image, Input}
-use Rattle.command_files.specs.Common.{files_of, script_name, Files, Known, rom_name, disk_name, OfScript, HasBoard}
+use Rattle.command_files.specs.Common.{files_of, Files, Known, rom_name, disk_name, OfScript, HasBoard}
 use Rattle.command_files.specs.Common.{HasImage, HasRead, IsTaken, IsPassed}
 use Rattle.command_files.proofs.Places.{AreTaken}
 
@@ -78,15 +78,10 @@ module _ (told : Option Files) where
 
   pub has_read : (command : Command) (known : Known) → AreTaken command told (reverse (files_of command)) known
       → HasRead command known
-  has_read (Replay script) known is = board_read (Replay script) script refl known is
-  has_read (Run script) known is = board_read (Run script) script refl known is
-  has_read (Map script) known is = board_read (Map script) script refl known is
   has_read (Check script log) known is =
       log_read is.0 known log (board_read (Check script log) script refl is.0 is.1) is.2
   has_read (Make rounds) known is = tt
-  has_read (Dma script transfer) known is = board_read (Dma script transfer) script refl known is
-  has_read (Save script) known is = board_read (Save script) script refl known is
   has_read (Resume image script) known is = image_read is.1.0 is.0 known image script is.1.2 is.2
   has_read (Serial script input) known is =
       input_read is.0 known input (board_read (Serial script input) script refl is.0 is.1) is.2
-  has_read (Blame script) known is = board_read (Blame script) script refl known is
+  has_read command known is = board_read command _ refl known is

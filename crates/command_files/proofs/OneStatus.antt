@@ -8,7 +8,7 @@ use Rattle.script_spec.specs.Common.{Script as Said, IsScriptBad, IsLogOf, Diffe
 use Rattle.script_spec.proofs.Common.{same_some, not_both, one_refusal, one_script, one_difference}
 use Rattle.board_image.specs.Common.{Saved, OneSpelling}
 use Rattle.script_spec.specs.Boards.{IsForBoard}
-use Rattle.command_words.specs.Words.{Command, Replay, Run, Map, Check, Make, Dma, Save, Resume, Serial, Blame}
+use Rattle.command_words.specs.Words.{Command, Check, Resume}
 use Rattle.command_files.specs.declared.status.Which.{Which}
 use Rattle.command_files.specs.declared.status.Which.TheVariants.{Script, Rom, Disk, Log, Image, Input}
 use Rattle.command_files.specs.declared.status.Status.{Status}
@@ -112,29 +112,13 @@ ends_as command known OtherBoard ends = inr (inr (ends, refl))
 -- only `check` compares logs, and only `resume` boards
 check_is : (command : Command) (P : Type 0) → OfCheck command P
     → (script : List ℕ) × (log : List ℕ) × (command ≡ Check script log) × P
-check_is (Replay script) P is = absurd is
-check_is (Run script) P is = absurd is
-check_is (Map script) P is = absurd is
 check_is (Check script log) P is = (script, log, refl, is)
-check_is (Make rounds) P is = absurd is
-check_is (Dma script transfer) P is = absurd is
-check_is (Save script) P is = absurd is
-check_is (Resume image script) P is = absurd is
-check_is (Serial script input) P is = absurd is
-check_is (Blame script) P is = absurd is
+check_is _ P is = absurd is
 
 resume_is : (command : Command) (P : Type 0) → OfResume command P
     → (image : List ℕ) × (script : List ℕ) × (command ≡ Resume image script) × P
-resume_is (Replay script) P is = absurd is
-resume_is (Run script) P is = absurd is
-resume_is (Map script) P is = absurd is
-resume_is (Check script log) P is = absurd is
-resume_is (Make rounds) P is = absurd is
-resume_is (Dma script transfer) P is = absurd is
-resume_is (Save script) P is = absurd is
 resume_is (Resume image script) P is = (image, script, refl, is)
-resume_is (Serial script input) P is = absurd is
-resume_is (Blame script) P is = absurd is
+resume_is _ P is = absurd is
 
 -- of the one script that was read both hold, and of the one image
 both_of_script :

@@ -12,4 +12,4 @@ pub use Rattle.command_files.specs.Outcomes.{ShelfCall, shelf_call}
 pub use Rattle.command_files.specs.Status.{code_of}
 pub use Rattle.command_files.specs.Statuses.{IsRefusal, status_of, status_of_check_fault, status_of_put_fault}
 pub use Rattle.command_files.specs.Steps.{IsNotPassed, IsPassed, IsTaken, ReadsNamed}
-pub use Rattle.command_files.specs.Table.{files_of, limit_of, name_in_words, script_name}
+pub use Rattle.command_files.specs.Table.{files_of, limit_of, name_in_words}

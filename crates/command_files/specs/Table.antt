@@ -1,6 +1,6 @@
 -- The files that each command reads, in their order: one line a command.
 use Rattle.std.specs.Prelude.{ℕ, ◌++◌, List, [], ◌∷◌, Option, Some, None}
-use Rattle.command_words.specs.Words.{Command, Replay, Run, Map, Check, Make, Dma, Save, Resume, Serial, Blame}
+use Rattle.command_words.specs.Words.{Command, Check, Make, Resume, Serial, script_name}
 use Rattle.command_files.specs.declared.status.Which.{Which}
 use Rattle.command_files.specs.declared.status.Which.TheVariants.{Script, Rom, Disk, Log, Image, Input}
 
@@ -15,19 +15,6 @@ files_of (Make rounds) = []
 files_of (Resume image script) = Image ∷ Script ∷ []
 files_of (Serial script input) = with_board ++ Input ∷ []
 files_of _ = with_board
-
--- the script that a command names
-abbrev pub script_name : Command → Option (List ℕ)
-script_name (Replay script) = Some script
-script_name (Run script) = Some script
-script_name (Map script) = Some script
-script_name (Check script log) = Some script
-script_name (Make rounds) = None
-script_name (Dma script transfer) = Some script
-script_name (Save script) = Some script
-script_name (Resume image script) = Some script
-script_name (Serial script input) = Some script
-script_name (Blame script) = Some script
 
 abbrev pub log_name : Command → Option (List ℕ)
 log_name (Check script log) = Some log

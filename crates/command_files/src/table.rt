@@ -2,10 +2,10 @@
 
 ghost use Rattle.std.specs.Prelude.{◌≡◌, option_map};
 ghost use Rattle.command_words.specs.Commands.{said_by};
-ghost use Rattle.command_files.specs.Table.{files_of, script_name, log_name, image_name, input_name, name_in_words};
+ghost use Rattle.command_files.specs.Table.{files_of, log_name, image_name, input_name, name_in_words};
 
 use crate::status::Which;
-use command_words::{Alone, Command};
+use command_words::{Alone, Command, script_name};
 
 /// The files of a script's board: the script, then the ROM and the disk that it names.
 const WITH_BOARD: [Which; 3] = [Which::Script, Which::Rom, Which::Disk];
@@ -26,23 +26,6 @@ pub(crate) fn files_of(command: &Command) -> &'static [Which]
         Command::Alone(Alone::Resume { .. }) => &RESUMED,
         Command::Alone(Alone::Serial { .. }) => &WITH_INPUT,
         _ => &WITH_BOARD,
-    }
-}
-
-fn script_name<'a>(command: &'a Command) -> Option<&'a str>
-    ensures name { option_map (λ name. name.now) result ≡ script_name (said_by command.now) }
-{
-    match command {
-        Command::Run(script) => Some(script),
-        Command::Alone(Alone::Replay(script)) => Some(script),
-        Command::Alone(Alone::Map(script)) => Some(script),
-        Command::Alone(Alone::Check { script, .. }) => Some(script),
-        Command::Alone(Alone::Make(_)) => None,
-        Command::Alone(Alone::Dma { script, .. }) => Some(script),
-        Command::Alone(Alone::Save(script)) => Some(script),
-        Command::Alone(Alone::Resume { script, .. }) => Some(script),
-        Command::Alone(Alone::Serial { script, .. }) => Some(script),
-        Command::Alone(Alone::Blame(script)) => Some(script),
     }
 }
 

@@ -184,17 +184,10 @@ asked_back :
     (words : List (List ℕ)) (command : Command) → IsCommand command → AreWordsOf words command →
     command_of words ≡ Some command
 unfolding command_of
-asked_back words (Replay script) there is = as_words words _ (Replay script) is refl
-asked_back words (Run script) there is = as_words words _ (Run script) is refl
-asked_back words (Map script) there is = as_words words _ (Map script) is refl
-asked_back words (Check script log) there is = as_words words _ (Check script log) is refl
 asked_back words (Make rounds) there is = as_words words _ (Make rounds) is (made_back rounds there)
 asked_back words (Dma script transfer) there is =
     as_words words _ (Dma script transfer) is.2 (dma_back script is.0 transfer there is.1)
-asked_back words (Save script) there is = as_words words _ (Save script) is refl
-asked_back words (Resume image script) there is = as_words words _ (Resume image script) is refl
-asked_back words (Serial script input) there is = as_words words _ (Serial script input) is refl
-asked_back words (Blame script) there is = as_words words _ (Blame script) is refl
+asked_back words command there is = as_words words _ command is refl
 
 pub words_decide : WordsDecide
 words_decide = λ words command. (all_read words command, λ asks. asked_back words command asks.0 asks.1)

@@ -19,6 +19,19 @@ pub data Command : Type 0 where
   Serial : (script input : List ℕ) → Command
   Blame : (script : List ℕ) → Command
 
+-- the script that a command names
+abbrev pub script_name : Command → Option (List ℕ)
+script_name (Replay script) = Some script
+script_name (Run script) = Some script
+script_name (Map script) = Some script
+script_name (Check script log) = Some script
+script_name (Make rounds) = None
+script_name (Dma script transfer) = Some script
+script_name (Save script) = Some script
+script_name (Resume image script) = Some script
+script_name (Serial script input) = Some script
+script_name (Blame script) = Some script
+
 -- ---- the numbers that words can say
 
 -- `make` makes 1 to 20,000 rounds

@@ -5,4 +5,4 @@ mod transfer;
 mod words;
 
 pub use transfer::Transfer;
-pub use words::{Alone, Command, USAGE, command_of, law_words};
+pub use words::{Alone, Command, USAGE, command_of, law_words, script_name};

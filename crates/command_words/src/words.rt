@@ -4,7 +4,7 @@ ghost use Rattle.std.specs.Prelude.{◌≡◌, option_map, map, string_bytes, If
 ghost use Rattle.script_spec.specs.Numbers.{parse_hex};
 ghost use Rattle.command_words.specs.Words.{Check, Resume, Serial, command_said, usage_text, name_of, names_of};
 ghost use Rattle.command_words.specs.Words.{with_names, is_round_count, make_of, is_transfer, dma_with, direction_of};
-ghost use Rattle.command_words.specs.Words.{dma_of, IsCommand, WordsDecide, OneCommand};
+ghost use Rattle.command_words.specs.Words.{dma_of, IsCommand, WordsDecide, OneCommand, script_name};
 ghost use Rattle.command_words.specs.Commands.{said_by};
 
 use crate::transfer::Transfer;
@@ -44,6 +44,24 @@ pub enum Alone<'a> {
     Serial { script: &'a str, input: &'a str },
     /// Writes the address map after a replay with the map writes that made it.
     Blame(&'a str),
+}
+
+/// The script that a command names.
+pub fn script_name<'a>(command: &'a Command) -> Option<&'a str>
+    ensures name { option_map (λ name. name.now) result ≡ script_name (said_by command.now) }
+{
+    match command {
+        Command::Run(script) => Some(script),
+        Command::Alone(Alone::Replay(script)) => Some(script),
+        Command::Alone(Alone::Map(script)) => Some(script),
+        Command::Alone(Alone::Check { script, .. }) => Some(script),
+        Command::Alone(Alone::Make(_)) => None,
+        Command::Alone(Alone::Dma { script, .. }) => Some(script),
+        Command::Alone(Alone::Save(script)) => Some(script),
+        Command::Alone(Alone::Resume { script, .. }) => Some(script),
+        Command::Alone(Alone::Serial { script, .. }) => Some(script),
+        Command::Alone(Alone::Blame(script)) => Some(script),
+    }
 }
 
 /// The most rounds that `make` makes.
