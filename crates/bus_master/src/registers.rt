@@ -1,6 +1,7 @@
 //! The registers of the bus master.
 
-ghost use Rattle.std.specs.Prelude.{◌≡◌, ◌<◌};
+ghost use Rattle.std.specs.Prelude.{◌≡◌, ◌<◌, ◌≤◌, ◌-◌, ◌*◌};
+ghost use Rattle.board_spec.specs.Bits.{bit};
 ghost use Rattle.bus_master.specs.Registers.{command_bits, command_written, is_started, master_at_reset};
 ghost use Rattle.bus_master.specs.Registers.{master_written, register_of, status_after, table_after};
 
@@ -115,13 +116,29 @@ fn status_after(old: u8, written: u8) -> u8
     ensures after { result ≡ status_after old written }
 {
     let (old, written) = (u32::from(old), u32::from(written));
-    let interrupt = is_set(old, INTERRUPT) && !is_set(written, INTERRUPT);
-    let error = is_set(old, ERROR) && !is_set(written, ERROR);
-    0x40 * u8::from(is_set(written, 6))
-        + 0x20 * u8::from(is_set(written, 5))
-        + 4 * u8::from(interrupt)
-        + 2 * u8::from(error)
-        + u8::from(is_set(old, 0))
+    0x40 * flag(written, 6)
+        + 0x20 * flag(written, 5)
+        + 4 * uncleared(old, written, INTERRUPT)
+        + 2 * uncleared(old, written, ERROR)
+        + flag(old, 0)
+}
+
+/// Bit `k` of a value, 0 or 1.
+fn flag(value: u32, k: u32) -> u8
+    requires bit { k < 32 }
+    ensures flag { result ≡ bit value k }
+    ensures small { result ≤ 1 }
+{
+    u8::from(is_set(value, k))
+}
+
+/// Bit `k` of the status, which a written 1 clears.
+fn uncleared(old: u32, written: u32, k: u32) -> u8
+    requires bit { k < 32 }
+    ensures uncleared { result ≡ bit old k * (1 - bit written k) }
+    ensures small { result ≤ 1 }
+{
+    u8::from(is_set(old, k) && !is_set(written, k))
 }
 
 /// The table pointer after its byte `k` is written.

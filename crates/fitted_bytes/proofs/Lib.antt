@@ -1,3 +1,4 @@
 pub mod IdentityFormats
 pub mod SetupFormats
 pub mod FittedFormat
+pub mod Pushed

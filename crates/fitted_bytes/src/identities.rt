@@ -1,6 +1,6 @@
 //! What cards say that they are, as bytes.
 
-ghost use Rattle.std.specs.Prelude.{◌≡◌, ◌≤◌, ◌<◌, ◌^◌, ◌++◌, length, All, OnOk};
+ghost use Rattle.std.specs.Prelude.{◌≡◌, ◌≤◌, ◌<◌, ◌^◌, ◌++◌, length, flat_map, All, OnOk};
 ghost use Rattle.byte_fields.specs.Fields.{Took};
 ghost use Rattle.fitted_bytes.specs.Identities.{IsIdentity, first_bytes, last_bytes, identity_bytes, identity_fields};
 ghost use Rattle.fitted_bytes.specs.Identities.{identities_bytes, identities_fields, some_identities};
@@ -49,6 +49,13 @@ pub(crate) fn push_identities(into: &mut Vec<u8>, cards: &[FittedIdentity]) -> R
     ensures added { OnOk result (into.new.items ≡ into.old.items ++ identities_bytes cards.now) }
 {
     push_byte(into, cards.len() as u8)?;
+    push_each(into, cards)
+}
+
+/// Adds what each of some cards says.
+fn push_each(into: &mut Vec<u8>, cards: &[FittedIdentity]) -> Result<(), NoMemory>
+    ensures added { OnOk result (into.new.items ≡ into.old.items ++ flat_map identity_bytes cards.now) }
+{
     for card in cards {
         push_identity(into, card)?;
     }

@@ -40,14 +40,28 @@ pub(crate) fn push_word(out: &mut Vec<u8>, value: u32) -> Result<(), NoMemory>
     Ok(())
 }
 
+/// Adds what the fields of an access to memory begin with: the kind, the flag, the number of bytes, and the address.
+fn push_front(
+    out: &mut Vec<u8>,
+    kind: Kind,
+    smm: bool,
+    bytes: u8,
+    addr: u32,
+) -> Result<(), NoMemory>
+    ensures added { OnOk result (out.new.items
+        ≡ out.old.items ++ (kind_byte kind ∷ flag_byte smm ∷ bytes ∷ to_le_bytes w32 addr)) }
+{
+    out.extend_from_slice(&[kind_byte(kind), u8::from(smm), bytes])?;
+    push_word(out, addr)
+}
+
 /// Adds the fields of an access to memory.
 #[tactic(auto, unfolding(crate::specs::ImageBytes::memory_bytes))]
 fn push_memory(out: &mut Vec<u8>, access: &Access) -> Result<(), NoMemory>
     ensures added { OnOk result (out.new.items ≡ out.old.items ++ memory_bytes access.now) }
 {
     let width = width_byte(access.width);
-    out.extend_from_slice(&[kind_byte(access.kind), u8::from(access.smm), width])?;
-    push_word(out, access.addr)?;
+    push_front(out, access.kind, access.smm, width, access.addr)?;
     push_word(out, access.value)
 }
 
@@ -56,8 +70,7 @@ fn push_memory(out: &mut Vec<u8>, access: &Access) -> Result<(), NoMemory>
 fn push_wide(out: &mut Vec<u8>, access: &WideAccess) -> Result<(), NoMemory>
     ensures added { OnOk result (out.new.items ≡ out.old.items ++ wide_bytes access.now) }
 {
-    out.extend_from_slice(&[kind_byte(access.kind), u8::from(access.smm), access.bytes])?;
-    push_word(out, access.addr)?;
+    push_front(out, access.kind, access.smm, access.bytes, access.addr)?;
     out.extend_from_slice(&access.value.to_le_bytes())?;
     Ok(())
 }

@@ -1,8 +1,0 @@
--- The cards so far are written.
-use Rattle.std.proofs.Common.{◌≡◌, ◌++◌, ◌∷◌, length, take, flat_map}
-use Rattle.fitted_bytes.specs.Identities.{identity_bytes}
-use Rattle.fitted_bytes.proofs.identities.push_identities.Given as goal
-
-abbrev pub invariant-loop-card : goal.invariant-loop-card
-invariant-loop-card l =
-    l.into.items ≡ l.fn.into.items ++ length l.cards ∷ flat_map identity_bytes (take l.card-index l.cards)
