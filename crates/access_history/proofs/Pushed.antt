@@ -8,17 +8,15 @@ use Rattle.board_prelude.proofs.Common.{All-push, All-head, All-tail, All-cons, 
 use Rattle.access_history.specs.declared.packed.Count.{Count}
 use Rattle.access_history.specs.declared.packed.Count.TheVariants.{Two, Three, Four}
 use Rattle.access_history.specs.declared.packed.PackedReply.{PackedReply}
-use Rattle.access_history.specs.declared.packed.PackedReply.TheVariants.{Read, Wrote, ReadParts, WroteParts, Saw}
+use Rattle.access_history.specs.declared.packed.PackedReply.TheVariants.{ReadParts, WroteParts}
 use Rattle.access_history.specs.declared.packed.PackedEntry.{PackedEntry}
 use Rattle.access_history.specs.Packed.{IsHistory, IsWithin, AreWithin, KeepsParts, entry_in, entries_in, nothing}
 use Rattle.access_history.specs.Packed.{number_in, parts_at, reply_in}
 
 within_more : (n m : ℕ) → n ≤ m → (reply : PackedReply) → IsWithin n reply → IsWithin m reply
-within_more n m more (Read denial target value) within = tt
-within_more n m more (Wrote denial target) within = tt
 within_more n m more (ReadParts count first value) within = omega (arith, more, within)
 within_more n m more (WroteParts count first) within = omega (arith, more, within)
-within_more n m more (Saw area version lo hi) within = tt
+within_more n m more _ within = tt
 
 are_within_more : (n m : ℕ) → n ≤ m → (entries : List PackedEntry) → AreWithin n entries → AreWithin m entries
 are_within_more n m more [] within = All-nil (λ entry. IsWithin m entry.reply)
@@ -52,11 +50,9 @@ parts_front list more Four first less =
 
 reply_front : (list more : List Part) (reply : PackedReply) → IsWithin (length list) reply
     → reply_in (list ++ more) reply ≡ reply_in list reply
-reply_front list more (Read denial target value) within = refl
-reply_front list more (Wrote denial target) within = refl
 reply_front list more (ReadParts count first value) within = rw (parts_front list more count first within) refl
 reply_front list more (WroteParts count first) within = rw (parts_front list more count first within) refl
-reply_front list more (Saw area version lo hi) within = refl
+reply_front list more _ within = refl
 
 -- entries are the same over a list that got more parts
 entries_front : (list more : List Part) (entries : List PackedEntry) → AreWithin (length list) entries

@@ -70,16 +70,12 @@ sector_written-under_way m s d =
 abbrev IsOver : Activity → Type 0
 IsOver Ready = Unit {0}
 IsOver Failed = Unit {0}
-IsOver (Reading s w) = ⊥
-IsOver (Writing s b) = ⊥
-IsOver (Identifying w) = ⊥
+IsOver _ = ⊥
 
 over-under_way : (n : ℕ) (a : Activity) → IsOver a → IsUnderWay n a
-over-under_way n Ready h = tt
-over-under_way n Failed h = tt
 over-under_way n (Reading s w) h = absurd h
 over-under_way n (Writing s b) h = absurd h
-over-under_way n (Identifying w) h = tt
+over-under_way n _ h = tt
 
 end_over : (m : Medium) (d : Drive) (x : Result ℕ ℕ) → readable m (named d.registers) ≡ x →
     IsOver (verified m 0 d).activity
@@ -132,11 +128,9 @@ control_written-under_way n byte d h = either n (is_bit byte 2) _ _ h (either n 
 
 activity_word-under_way : (m : Medium) (a : Activity) (d : Drive) → IsUnderWay (sectors_of m) a →
     IsUnderWay (sectors_of m) d.activity → IsUnderWay (sectors_of m) (after_activity_word m a d).activity
-activity_word-under_way m Ready d h i = i
-activity_word-under_way m Failed d h i = i
 activity_word-under_way m (Reading s w) d h i = either (sectors_of m) (eqb w 255) _ _ (sector_read-under_way m s d) h
-activity_word-under_way m (Writing s b) d h i = i
 activity_word-under_way m (Identifying w) d h i = either (sectors_of m) (eqb w 255) _ _ tt tt
+activity_word-under_way m _ d h i = i
 
 pub after_word-under_way : (m : Medium) (d : Drive) → IsUnderWay (sectors_of m) d.activity →
     IsUnderWay (sectors_of m) (after_word m d).activity

@@ -4,7 +4,7 @@ use Rattle.std.proofs.Common.{[], ◌∷◌, ◌++◌, length, inl, inr, refl, a
 use Rattle.std.proofs.Common.{length-append}
 use Rattle.device_spec.proofs.Common.{and_parts, ltb-true, leb-true, cases_Bool, cond-true, cond-false, eqb-true}
 use Rattle.device_spec.proofs.Common.{eqb-false, or_parts, true≢false, length-replicate, One, Two, Four, power_on}
-use Rattle.device_spec.proofs.Common.{Activity, Ready, Failed, Reading, Writing, Identifying, Drive, Disk, sectors_of}
+use Rattle.device_spec.proofs.Common.{Activity, Writing, Drive, Disk, sectors_of}
 use Rattle.device_spec.proofs.Common.{sector_bytes, stored, is_drq, ended, sector_written, commanded, bytes_written}
 use Rattle.device_spec.proofs.Common.{activity_written, word_written, word_read, with_drive, after_word, byte_written}
 use Rattle.device_spec.proofs.Common.{control_written, register_written, disk_status_port, disk_control_port}
@@ -52,12 +52,9 @@ bytes_written-keeps disk s bytes h l = elim (cases_Bool (eqb (length bytes) 512)
 
 activity_written-keeps : (a : Activity) (word : ℕ) (disk : Disk) → IsSound disk →
     IsUnderWay (sectors_of disk.medium) a → Keeps disk (activity_written a word disk)
-activity_written-keeps Ready word disk h u = (h, refl)
-activity_written-keeps Failed word disk h u = (h, refl)
-activity_written-keeps (Reading s w) word disk h u = (h, refl)
 activity_written-keeps (Writing s bytes) word disk h u =
     bytes_written-keeps disk s (bytes ++ word % 256 ∷ word / 256 ∷ []) h u
-activity_written-keeps (Identifying w) word disk h u = (h, refl)
+activity_written-keeps _ word disk h u = (h, refl)
 
 word_written-keeps : (word : ℕ) (disk : Disk) → IsSound disk → Keeps disk (word_written word disk)
 unfolding word_written
@@ -142,13 +139,10 @@ not_stored s t n e h = eqb-false s t (not_both (eqb n 510) (eqb s t) e (ap (λ k
 activity_written-same : (t : ℕ) (a : Activity) (word : ℕ) (disk : Disk) → IsSound disk →
     IsUnderWay (sectors_of disk.medium) a → activity_stores a t ≡ false
     → SameBytes t disk (activity_written a word disk)
-activity_written-same t Ready word disk h u n = refl
-activity_written-same t Failed word disk h u n = refl
-activity_written-same t (Reading s w) word disk h u n = refl
 activity_written-same t (Writing s bytes) word disk h u n =
     bytes_written-same t s (bytes ++ word % 256 ∷ word / 256 ∷ []) disk h u
     (λ e. not_stored s t (length bytes) n (omega (arith, length-append bytes (word % 256 ∷ word / 256 ∷ []), e)))
-activity_written-same t (Identifying w) word disk h u n = refl
+activity_written-same t _ word disk h u n = refl
 
 word_written-same : (t word : ℕ) (disk : Disk) → IsSound disk → word_stores disk t ≡ false →
     SameBytes t disk (word_written word disk)
@@ -163,8 +157,6 @@ word_written-same t word disk h n = elim (cases_Bool (is_drq disk.drive)) [
 step_same : (access : Access) (disk : Disk) (t : ℕ) → IsSound disk → stores access disk t ≡ false →
     SameBytes t disk (stepped access disk)
 step_same (Read port One) disk t h n = either_same t disk (eqb port disk_status_port) _ _ refl refl
-step_same (Read port Two) disk t h n = refl
-step_same (Read port Four) disk t h n = refl
 step_same (Write port One value) disk t h n = either_same t disk (eqb port disk_status_port) _ _ refl
     (either_same t disk (eqb port disk_control_port) _ _ refl refl)
 step_same (Write port Two value) disk t h n = word_written-same t (value % 65536) disk h n
@@ -173,8 +165,7 @@ step_same (Write port Four value) disk t h n =
     word_written-same t (value / 65536) (word_written (value % 65536) disk)
     (word_written-keeps (value % 65536) disk h).0 parts.1
     ∙ word_written-same t (value % 65536) disk h parts.0
-step_same (Spoil s) disk t h n = refl
-step_same Restart disk t h n = refl
+step_same _ disk t h n = refl
 
 pub only_stores_change : OnlyStoresChange
 only_stores_change access disk t h n = step_same access disk t h n

@@ -1,6 +1,6 @@
 -- Answers, and answers in which the version of a look is counted modulo 2^32.
 use Rattle.std.proofs.Common.{◌≡◌, ℕ, Bool, ◌%◌, ◌<◌, List, length, refl, ◌∙◌, arith}
-use Rattle.board_prelude.proofs.Common.{Kind, Event, Memory, Wide, Port, Ack, Pulses, Time, Wire, Line, BadSector}
+use Rattle.board_prelude.proofs.Common.{Kind, Event}
 use Rattle.board_prelude.proofs.Common.{Reply, Bus, Saw, Entry, entry_limit, Setup, version_of, IsAnswer}
 use Rattle.board_spec.specs.declared.event.Event.TheVariants.{Look as LookAt}
 use Rattle.board_spec.specs.declared.event.Reply.TheVariants.{Parts}
@@ -12,15 +12,7 @@ pub modulo : (setup : Setup) (history : List Entry) (event : Event) (reply : Rep
     ((kind : Kind) (addr : ℕ) (smm : Bool) → event ≡ LookAt kind addr smm → ⊥) →
     IsAnswer setup history event reply → IsAnswerModulo setup history event reply
 modulo setup history (LookAt kind addr smm) reply not is = absurd (not kind addr smm refl)
-modulo setup history (Memory access) reply not is = is
-modulo setup history (Wide access) reply not is = is
-modulo setup history (Port access) reply not is = is
-modulo setup history Ack reply not is = is
-modulo setup history (Pulses count) reply not is = is
-modulo setup history (Time moment) reply not is = is
-modulo setup history (Wire dev on) reply not is = is
-modulo setup history (Line line on) reply not is = is
-modulo setup history (BadSector sector) reply not is = is
+modulo setup history _ reply not is = is
 
 -- so few versions are the same modulo 2^32
 pub few_versions : (setup : Setup) (history : List Entry) → version_of setup history < version_count →
@@ -43,12 +35,4 @@ pub exactly : (setup : Setup) (history : List Entry) (event : Event) (reply : Re
     version_of setup history < version_count →
     IsAnswerModulo setup history event reply → IsAnswer setup history event reply
 exactly setup history (LookAt kind addr smm) reply few is = seen setup history reply kind addr smm few is
-exactly setup history (Memory access) reply few is = is
-exactly setup history (Wide access) reply few is = is
-exactly setup history (Port access) reply few is = is
-exactly setup history Ack reply few is = is
-exactly setup history (Pulses count) reply few is = is
-exactly setup history (Time moment) reply few is = is
-exactly setup history (Wire dev on) reply few is = is
-exactly setup history (Line line on) reply few is = is
-exactly setup history (BadSector sector) reply few is = is
+exactly setup history _ reply few is = is

@@ -3,11 +3,10 @@ use Rattle.std.proofs.Common.{◌≡◌, ℕ, zero, suc, ◌+◌, ◌-◌, ◌<�
 use Rattle.std.proofs.Common.{None, refl, sym, ◌∙◌, ap, subst, arith, ◌⊎◌, inl, inr, ◌↔◌, Result, Ok, Err, IsErr, OnOk}
 use Rattle.std.proofs.Common.{OnErr, ◌==◌, nat_le, nat_lt, if◌then◌else◌, slice_index, unwrap_or}
 use Rattle.board_prelude.proofs.Common.{cases_eq, nat_tests, Write, One, Target, Dram, Shadow, Smram, Rom, Card, Device}
-use Rattle.board_prelude.proofs.Common.{Config, Abort, clock_index_port, clock_data_port, Memory, Port, Bus, Saw, Reply}
+use Rattle.board_prelude.proofs.Common.{Config, clock_index_port, clock_data_port, Memory, Port, Bus, Reply}
 use Rattle.board_prelude.proofs.Common.{Entry, Setup, byte, Cell, DramCell, CardCell, first_cell, byte_put, entry_put}
 use Rattle.board_prelude.proofs.Common.{stored_of, clock_of, device_reached}
 use Rattle.board_base.specs.declared.target.Dev.TheVariants.{Clock as ClockChip}
-use Rattle.board_spec.specs.declared.event.Reply.TheVariants.{Parts}
 use Rattle.dram_store.specs.declared.dram.PastTheEnd.{PastTheEnd}
 use Rattle.dram_store.specs.Dram.{dram_at, IsDramOf, IsWritten}
 use Rattle.pci_bars.specs.Contents.{IsContentsOf}
@@ -241,9 +240,7 @@ puts_none port byte (Bus value (Card dev base off) denial) cell is = absurd (cc)
 puts_none port byte (Bus value (Rom off) denial) cell is = refl
 puts_none port byte (Bus value (Device dev) denial) cell is = refl
 puts_none port byte (Bus value (Config reg) denial) cell is = refl
-puts_none port byte (Bus value Abort denial) cell is = refl
-puts_none port byte (Parts parts value) cell is = refl
-puts_none port byte (Saw look) cell is = refl
+puts_none port byte _ cell is = refl
 
 clock_puts : {port byte : ℕ} {entry : Entry} → IsClockWrite port byte entry → (cell : Cell) →
     entry_put entry.event entry.reply cell ≡ None

@@ -1,8 +1,8 @@
 -- What a bus master reaches is neither SMRAM nor DRAM in its range.
 use Rattle.std.proofs.Common.{◌≡◌, ◌≢◌, ℕ, Bool, true, false, not, ◌&&◌, [], ◌∷◌, Option, Some, None, is_some, refl, ap}
 use Rattle.std.proofs.Common.{inl, inr, arith, ◌==◌, unwrap_or, option_map}
-use Rattle.board_prelude.proofs.Common.{cases_Bool, and_left, and_right, nat_tests, Kind, Area, Target, Dram, Shadow}
-use Rattle.board_prelude.proofs.Common.{Smram, Rom, Card, Device, Config, Abort, Setup, rom_base, lies_in, smram_range}
+use Rattle.board_prelude.proofs.Common.{cases_Bool, and_left, and_right, nat_tests, Kind, Area, Target}
+use Rattle.board_prelude.proofs.Common.{Smram, Card, Setup, rom_base, lies_in, smram_range}
 use Rattle.board_prelude.proofs.Common.{shadow_range, upper_memory, Bytes, Window, first_of, line_where}
 use Rattle.board_prelude.proofs.Common.{card_area, row_of, is_shadowed, memory_claim}
 use Rattle.board_prelude.proofs.Common.{is_smram_range, target_at, DramCell, first_cell}
@@ -42,12 +42,8 @@ no_smram_area setup bytes addr kind =
     (and_right _ _ refl)
 
 no_smram_at : (setup : Setup) (area : Area) (addr : ℕ) → IsNoSmram area → target_at setup area addr ≢ Smram
-no_smram_at setup (DramArea row) addr other is = cc
-no_smram_at setup (ShadowArea row) addr other is = cc
 no_smram_at setup SmramArea addr other is = other
-no_smram_at setup RomArea addr other is = cc
-no_smram_at setup (CardArea dev base) addr other is = cc
-no_smram_at setup AbortArea addr other is = cc
+no_smram_at setup _ addr other is = cc
 
 pub no_smram : (setup : Setup) (bytes : Bytes) (kind : Kind) (addr : ℕ) → master_target setup bytes kind addr ≢ Smram
 no_smram setup bytes kind addr =
@@ -56,12 +52,10 @@ no_smram setup bytes kind addr =
 -- ---- in its range nothing that answers is DRAM
 
 abbrev pub IsOffDram : Area → Type 0
-IsOffDram (DramArea row) = ⊥
-IsOffDram (ShadowArea row) = ⊥
-IsOffDram SmramArea = ⊥
 IsOffDram RomArea = Unit {0}
 IsOffDram (CardArea dev base) = Unit {0}
 IsOffDram AbortArea = Unit {0}
+IsOffDram _ = ⊥
 
 off_lines : (rom : Bool) (claim : Option Window) →
     IsOffDram (first_of (line_where rom RomArea ∷ option_map card_area claim ∷ []) AbortArea)
@@ -102,23 +96,15 @@ card_cell dev base off addr at is = elim (cases_Bool (base == rom_base)) [
 
 off_cell : (setup : Setup) (area : Area) (addr at : ℕ) → IsOffDram area →
     first_cell (target_at setup area addr) addr ≡ Some (DramCell at) → ⊥
-off_cell setup (DramArea row) addr at off is = off
-off_cell setup (ShadowArea row) addr at off is = off
-off_cell setup SmramArea addr at off is = off
 off_cell setup RomArea addr at off is = cc
 off_cell setup (CardArea dev base) addr at off is = card_cell dev base _ addr at is
 off_cell setup AbortArea addr at off is = cc
+off_cell setup _ addr at off is = off
 
 -- a byte of DRAM stands at its own address
 own_address : (target : Target) (addr at : ℕ) → first_cell target addr ≡ Some (DramCell at) → addr ≡ at
-own_address (Dram row) addr at is = cc
-own_address (Shadow row) addr at is = cc
-own_address Smram addr at is = cc
-own_address (Rom off) addr at is = cc
 own_address (Card dev base off) addr at is = absurd (card_cell dev base off addr at is)
-own_address (Device dev) addr at is = cc
-own_address (Config reg) addr at is = cc
-own_address Abort addr at is = cc
+own_address _ addr at is = cc
 
 pub outside_smram : (setup : Setup) (bytes : Bytes) (kind : Kind) (addr : ℕ) →
     IsOutsideSmram (master_target setup bytes kind addr) addr

@@ -1,9 +1,8 @@
 -- Where an access would land, from what the decode tells.
 use Rattle.std.proofs.Common.{◌≡◌, List, Option, None, refl, ap}
 use Rattle.board_base.specs.declared.access.Access.{Access}
-use Rattle.board_prelude.proofs.Common.{PortAccess, Target, Denial, Event, Memory, Port, Wide, Ack, Pulses, Time, Wire}
-use Rattle.board_prelude.proofs.Common.{Line, BadSector, Part, Entry, Setup, Decoded}
-use Rattle.board_spec.specs.declared.event.Event.TheVariants.{Look as LookAt}
+use Rattle.board_prelude.proofs.Common.{PortAccess, Target, Denial, Event, Memory, Port}
+use Rattle.board_prelude.proofs.Common.{Part, Entry, Setup, Decoded}
 use Rattle.addr_decode.specs.Ports.{as_decoded}
 use Rattle.board_chipset.specs.Common.{reached, place_of, port_part}
 
@@ -20,11 +19,4 @@ pub no_place : (setup : Setup) (history : List Entry) (event : Event) →
     None ≡ place_of setup history event
 no_place setup history (Memory access) no_memory no_port = absurd (no_memory access refl)
 no_place setup history (Port access) no_memory no_port = absurd (no_port access refl)
-no_place setup history (Wide access) no_memory no_port = refl
-no_place setup history (LookAt kind addr smm) no_memory no_port = refl
-no_place setup history Ack no_memory no_port = refl
-no_place setup history (Pulses count) no_memory no_port = refl
-no_place setup history (Time moment) no_memory no_port = refl
-no_place setup history (Wire dev on) no_memory no_port = refl
-no_place setup history (Line irq on) no_memory no_port = refl
-no_place setup history (BadSector sector) no_memory no_port = refl
+no_place setup history _ no_memory no_port = refl

@@ -6,8 +6,8 @@ use Rattle.board_outside.specs.declared.fault.PutFault.{PutFault}
 use Rattle.board_outside.specs.declared.fault.PutFault.TheVariants.{Failed, NoMemory as NoMemoryForPut}
 use Rattle.command_files.specs.declared.status.Which.{Which}
 use Rattle.command_files.specs.declared.status.Status.{Status}
-use Rattle.command_files.specs.declared.status.Status.TheVariants.{Done, Usage, ReadFault, WriteFault, TooLong}
-use Rattle.command_files.specs.declared.status.Status.TheVariants.{BadScript, BadImage, Differs, OtherBoard, NoMemory}
+use Rattle.command_files.specs.declared.status.Status.TheVariants.{Done, Usage, ReadFault, WriteFault}
+use Rattle.command_files.specs.declared.status.Status.TheVariants.{NoMemory}
 use Rattle.command_words.specs.Words.{Command}
 use Rattle.board_commands.specs.Common.{IsCommandText, AppendsFront, SinkCall, OfCommand, PutsText, PutsTextFront}
 use Rattle.board_commands.specs.Common.{Stopped, WordsCanEnd, HasCause, IsCaused}
@@ -26,38 +26,25 @@ module _ (command : Command) (shelf : ShelfCall) (sink : SinkCall) where
   refusal_cause Usage refused = absurd refused
   refusal_cause (ReadFault which) refused = refused
   refusal_cause WriteFault refused = absurd refused
-  refusal_cause (TooLong which) refused = refused.1
-  refusal_cause (BadScript line why) refused = refused.1
-  refusal_cause (BadImage which) refused = refused.1
-  refusal_cause (Differs line) refused = refused.1
-  refusal_cause OtherBoard refused = refused.1
   refusal_cause NoMemory refused = tt
+  refusal_cause _ refused = refused.1
 
   refusal_ends : (status : Status) → IsRefused command shelf status → CanEnd command status
   refusal_ends Done refused = tt
   refusal_ends Usage refused = absurd refused
   refusal_ends (ReadFault which) refused = refused.can_read
   refusal_ends WriteFault refused = tt
-  refusal_ends (TooLong which) refused = refused.0
-  refusal_ends (BadScript line why) refused = refused.0
-  refusal_ends (BadImage which) refused = refused.0
-  refusal_ends (Differs line) refused = refused.0
-  refusal_ends OtherBoard refused = refused.0
   refusal_ends NoMemory refused = tt
+  refusal_ends _ refused = refused.0
 
   refusal_stopped :
       (status : Status) → IsRefused command shelf status → Keeps sink.taken_before sink.taken_now →
       Stopped status sink.taken_before sink.taken_now Front
   refusal_stopped Done refused keeps = absurd refused
   refusal_stopped Usage refused keeps = absurd refused
-  refusal_stopped (ReadFault which) refused keeps = keeps
   refusal_stopped WriteFault refused keeps = absurd refused
-  refusal_stopped (TooLong which) refused keeps = keeps
-  refusal_stopped (BadScript line why) refused keeps = keeps
-  refusal_stopped (BadImage which) refused keeps = keeps
-  refusal_stopped (Differs line) refused keeps = keeps
-  refusal_stopped OtherBoard refused keeps = keeps
   refusal_stopped NoMemory refused keeps = inl keeps
+  refusal_stopped _ refused keeps = keeps
 
   -- a command was refused before it had its text, and nothing was put
   pub caused_refusal :
@@ -139,11 +126,4 @@ pub refusal_of : (command : Command) (shelf : ShelfCall) (status : Status) → I
     → IsRefusal status
 refusal_of command shelf Done refused = refused
 refusal_of command shelf Usage refused = refused
-refusal_of command shelf (ReadFault which) refused = tt
-refusal_of command shelf WriteFault refused = tt
-refusal_of command shelf (TooLong which) refused = tt
-refusal_of command shelf (BadScript line why) refused = tt
-refusal_of command shelf (BadImage which) refused = tt
-refusal_of command shelf (Differs line) refused = tt
-refusal_of command shelf OtherBoard refused = tt
-refusal_of command shelf NoMemory refused = tt
+refusal_of command shelf _ refused = tt

@@ -14,15 +14,7 @@ use Rattle.command_files.proofs.Refusals.{at_files}
 quiet_shelf_for : (wanted : Status) (quiet_shelf quiet_sink : Type 0) → IsQuietFor wanted quiet_shelf quiet_sink
     → quiet_shelf
 quiet_shelf_for Done quiet_shelf quiet_sink quiet = quiet.0
-quiet_shelf_for Usage quiet_shelf quiet_sink quiet = quiet
-quiet_shelf_for (ReadFault which) quiet_shelf quiet_sink quiet = quiet
-quiet_shelf_for WriteFault quiet_shelf quiet_sink quiet = quiet
-quiet_shelf_for (TooLong which) quiet_shelf quiet_sink quiet = quiet
-quiet_shelf_for (BadScript line why) quiet_shelf quiet_sink quiet = quiet
-quiet_shelf_for (BadImage which) quiet_shelf quiet_sink quiet = quiet
-quiet_shelf_for (Differs line) quiet_shelf quiet_sink quiet = quiet
-quiet_shelf_for OtherBoard quiet_shelf quiet_sink quiet = quiet
-quiet_shelf_for NoMemory quiet_shelf quiet_sink quiet = quiet
+quiet_shelf_for _ quiet_shelf quiet_sink quiet = quiet
 
 -- a command that has a text can be done
 done_of_text : (command : Command) (files : Files) (text : List ℕ) → IsCommandText command files text
@@ -88,15 +80,7 @@ none_rose rose = elim rose [ inl more ↦ omega arith | inr last ↦ omega arith
 
 always_quiet : (wanted : Status) → IsQuietFor wanted (Unit {0}) (Unit {0}) → IsQuietFor wanted (¬ Rose 0 0) (¬ Rose 0 0)
 always_quiet Done quiet = (none_rose, none_rose)
-always_quiet Usage quiet = none_rose
-always_quiet (ReadFault which) quiet = none_rose
-always_quiet WriteFault quiet = none_rose
-always_quiet (TooLong which) quiet = none_rose
-always_quiet (BadScript line why) quiet = none_rose
-always_quiet (BadImage which) quiet = none_rose
-always_quiet (Differs line) quiet = none_rose
-always_quiet OtherBoard quiet = none_rose
-always_quiet NoMemory quiet = none_rose
+always_quiet _ quiet = none_rose
 
 -- where the outside cannot fail, it is quiet
 pub always_exact :

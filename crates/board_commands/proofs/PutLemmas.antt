@@ -7,8 +7,8 @@ use Rattle.board_outside.specs.declared.fault.PutFault.{PutFault}
 use Rattle.board_outside.specs.declared.fault.PutFault.TheVariants.{Failed, NoMemory as NoMemoryForPut}
 use Rattle.command_words.specs.Words.{Command}
 use Rattle.command_files.specs.declared.status.Status.{Status}
-use Rattle.command_files.specs.declared.status.Status.TheVariants.{Done, Usage, ReadFault, WriteFault, TooLong}
-use Rattle.command_files.specs.declared.status.Status.TheVariants.{BadScript, BadImage, Differs, OtherBoard, NoMemory}
+use Rattle.command_files.specs.declared.status.Status.TheVariants.{Done, Usage, WriteFault}
+use Rattle.command_files.specs.declared.status.Status.TheVariants.{NoMemory}
 use Rattle.command_files.specs.Common.{status_of_put_fault, ShelfCall, IsRefused, OfCalls}
 use Rattle.command_files.proofs.CallLemmas.{none_told, calls_hold, call_more, Both, calls_both}
 use Rattle.board_commands.specs.Puts.{AllTook, LatestRefused, ArePutsOf, PutsBy}
@@ -64,14 +64,9 @@ pub nothing_put : (command : Command) (shelf : ShelfCall) (status : Status) → 
     → ArePutsOf status []
 nothing_put command shelf Done refused = absurd refused
 nothing_put command shelf Usage refused = absurd refused
-nothing_put command shelf (ReadFault which) refused = refl
 nothing_put command shelf WriteFault refused = absurd refused
-nothing_put command shelf (TooLong which) refused = refl
-nothing_put command shelf (BadScript line why) refused = refl
-nothing_put command shelf (BadImage which) refused = refl
-nothing_put command shelf (Differs line) refused = refl
-nothing_put command shelf OtherBoard refused = refl
 nothing_put command shelf NoMemory refused = inl refl
+nothing_put command shelf _ refused = refl
 
 pub put_refused : (fault : PutFault) (made : List Put) → LatestRefused made → ArePutsOf (status_of_put_fault fault) made
 put_refused Failed made is = is

@@ -4,7 +4,7 @@ use Rattle.std.proofs.Common.{Some, None, refl, sym, ◌∙◌, ap, arith, optio
 use Rattle.board_prelude.proofs.Common.{PortAccess, Dev, Ata, Width, One, Setup, Disk, IsDisk, IsDiskSize, disk_with}
 use Rattle.board_prelude.proofs.Common.{disk_of}
 use Rattle.board_base.specs.declared.access.Width.TheVariants.{Two, Four}
-use Rattle.device_spec.proofs.Common.{length-replicate, Activity, Ready, Failed, Reading, Writing, Identifying}
+use Rattle.device_spec.proofs.Common.{length-replicate, Activity, Writing}
 use Rattle.device_spec.proofs.Common.{sectors_of, is_drq, bytes_written, activity_written, word_written, byte_written}
 use Rattle.device_spec.proofs.Common.{disk_status_port, disk_control_port}
 use Rattle.device_spec.specs.Ata.Steps.{after_read as disk_after_read, after_write as disk_after_write}
@@ -29,12 +29,9 @@ bytes_written-has sector bytes disk =
 
 activity_written-has : (activity : Activity) (word : ℕ) (disk : Disk) →
     HasSectors (sectors_of disk.medium) (activity_written activity word disk)
-activity_written-has Ready word disk = refl
-activity_written-has Failed word disk = refl
-activity_written-has (Reading sector next) word disk = refl
 activity_written-has (Writing sector bytes) word disk =
     bytes_written-has sector (bytes ++ word % 256 ∷ word / 256 ∷ []) disk
-activity_written-has (Identifying next) word disk = refl
+activity_written-has _ word disk = refl
 
 word_written-has : (word : ℕ) (disk : Disk) → HasSectors (sectors_of disk.medium) (word_written word disk)
 unfolding word_written

@@ -62,23 +62,16 @@ whole (InParts parts value) expected is = absurd (subst IsWhole (sym is) tt)
 
 answer : (setup : Setup) (before : List Entry) (event : Event) (reply : Reply) →
     told reply ≡ computed setup before event → IsAnswer setup before event reply
-answer setup before (Memory access) reply is = whole reply _ is
 answer setup before (Wide access) (InParts parts value) is = record { value_is = ap value_in is; each = ap parts_in is }
 answer setup before (Wide access) (Bus value target denial) is = absurd (subst IsWhole is tt)
 answer setup before (Wide access) (Saw look) is = absurd (subst IsWhole is tt)
-answer setup before (Port access) reply is = whole reply _ is
 answer setup before (LookAt kind addr smm) (InParts (TwoParts a b) value) is = absurd (subst IsPartless (sym is) tt)
 answer setup before (LookAt kind addr smm) (InParts (ThreeParts a b c) value) is = absurd (subst IsPartless (sym is) tt)
 answer setup before (LookAt kind addr smm) (InParts (FourParts a b c d) value) is =
     absurd (subst IsPartless (sym is) tt)
 answer setup before (LookAt kind addr smm) (Bus value target denial) is = absurd (subst IsWhole is tt)
 answer setup before (LookAt kind addr smm) (Saw look) is = absurd (subst IsWhole is tt)
-answer setup before Ack reply is = whole reply _ is
-answer setup before (Pulses count) reply is = whole reply _ is
-answer setup before (Time moment) reply is = whole reply _ is
-answer setup before (Wire dev on) reply is = whole reply _ is
-answer setup before (Line irq on) reply is = whole reply _ is
-answer setup before (BadSector sector) reply is = whole reply _ is
+answer setup before _ reply is = whole reply _ is
 
 -- the numbers and the replies of a history, as they stand and as they are computed
 abbrev pub said_in : List Entry → List (ℕ × Told)

@@ -48,15 +48,7 @@ tag_tells =
 
 tag_said : (tag : Tag) → Any tag → (tag_byte tag < 2 ^ 8) × (tag_of (tag_byte tag) ≡ Some tag)
 tag_said tags.Memory any = (omega arith, refl)
-tag_said tags.Port any = (omega arith, refl)
-tag_said tags.Look any = (omega arith, refl)
-tag_said tags.Ack any = (omega arith, refl)
-tag_said tags.Pulses any = (omega arith, refl)
-tag_said tags.Time any = (omega arith, refl)
-tag_said tags.Wire any = (omega arith, refl)
-tag_said tags.Line any = (omega arith, refl)
-tag_said tags.BadSector any = (omega arith, refl)
-tag_said tags.Wide any = (omega arith, refl)
+tag_said _ any = (omega arith, refl)
 
 pub tag_format : IsFormat 1 tag_field (λ tag. tag_byte tag ∷ []) Any
 tag_format = byte_format tag_byte Any tag_said (λ n tag below is. (tag_tells n tag is, tt))

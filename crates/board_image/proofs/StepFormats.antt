@@ -198,16 +198,9 @@ event_format setup tags.Wide = made_format Wide field_bytes wide_format (λ acce
 
 -- the tag of such an event is that tag
 tag_told : (setup : Setup) (tag : Tag) (event : Event) → CanSpell setup tag event → tag_of_event event ≡ tag
-tag_told setup tags.Memory event can = ap tag_of_event can.2
-tag_told setup tags.Port event can = ap tag_of_event can.2
 tag_told setup tags.Look event can = ap tag_of_event can.1
 tag_told setup tags.Ack event can = ap tag_of_event can
-tag_told setup tags.Pulses event can = ap tag_of_event can.2
-tag_told setup tags.Time event can = ap tag_of_event can.2
-tag_told setup tags.Wire event can = ap tag_of_event can.2
-tag_told setup tags.Line event can = ap tag_of_event can.2
-tag_told setup tags.BadSector event can = ap tag_of_event can.2
-tag_told setup tags.Wide event can = ap tag_of_event can.2
+tag_told setup _ event can = ap tag_of_event can.2
 
 -- what an image step is, by the tag of its event
 spelled_to : (setup : Setup) (event : Event) → FitsField event → IsInRange setup event → IsScriptSector event →

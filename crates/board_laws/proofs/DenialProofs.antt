@@ -4,7 +4,7 @@ use Rattle.std.proofs.Common.{is_some, refl, sym, subst, inl, inr, ◌==◌, if�
 use Rattle.board_prelude.proofs.Common.{cases_Bool, cond-false, false≢true, All-nil, All-cons, Width, Kind, Fetch, Read}
 use Rattle.board_prelude.proofs.Common.{Write, WideAccess, Reg, Area, Dev, Target, Device, Denial, Register, NoRegister}
 use Rattle.board_prelude.proofs.Common.{bytes_of, Select, Always, XbcsBit0, XbcsBit1, IdeChannel, device_at, select_of}
-use Rattle.board_prelude.proofs.Common.{Memory, Wide, Port, Ack, Pulses, Time, Wire, Line, BadSector, Part, Reply, Bus}
+use Rattle.board_prelude.proofs.Common.{Memory, Wide, Port, Ack, Part, Reply, Bus}
 use Rattle.board_prelude.proofs.Common.{Entry, Setup, is_bit, xbcs, ide_command, idetim, idetim_high, is_config_port}
 use Rattle.board_prelude.proofs.Common.{config_address, config_register, byte_of, Bytes, Window, denial_in, denial_of}
 use Rattle.board_prelude.proofs.Common.{io_claim, io_shut, command_of, Decoded, device, nobody, card_port, config_port}
@@ -12,8 +12,7 @@ use Rattle.board_prelude.proofs.Common.{by_xbcs, by_channel, selected_by, device
 use Rattle.board_prelude.proofs.Common.{longest_at, part_at, parts_from, target_at, memory_target, memory_denial}
 use Rattle.board_prelude.proofs.Common.{memory_answer, part_answer, port_answer}
 use Rattle.board_base.specs.declared.access.Access.{Access}
-use Rattle.board_base.specs.declared.target.Area.TheVariants.{Dram as DramArea, Shadow as ShadowArea}
-use Rattle.board_base.specs.declared.target.Area.TheVariants.{Smram as SmramArea, Rom as RomArea, Card as CardArea}
+use Rattle.board_base.specs.declared.target.Area.TheVariants.{Rom as RomArea}
 use Rattle.board_base.specs.declared.target.Area.TheVariants.{Abort as AbortArea}
 use Rattle.board_spec.specs.declared.event.Event.TheVariants.{Look as LookAt}
 use Rattle.board_laws.specs.DenialLaws.{ReachesNothing, IsDeniedExactly, DeniedOnBus, DeniedInParts}
@@ -34,14 +33,11 @@ refused writes target denial is = record { wherever = λ r. refl; only = λ deni
 denied_area :
     (setup : Setup) (area : Area) (addr : ℕ) (kind : Kind) (abort rom : Denial) →
     IsDeniedExactly (is_write kind) (target_at setup area addr) (denial_in area kind abort rom)
-denied_area setup (DramArea row) addr kind abort rom = answered (is_write kind) _ (λ r. r)
-denied_area setup (ShadowArea row) addr kind abort rom = answered (is_write kind) _ (λ r. r)
-denied_area setup SmramArea addr kind abort rom = answered (is_write kind) _ (λ r. r)
 denied_area setup RomArea addr Fetch abort rom = answered false _ (λ r. false≢true r)
 denied_area setup RomArea addr Read abort rom = answered false _ (λ r. false≢true r)
 denied_area setup RomArea addr Write abort rom = refused true _ rom refl
-denied_area setup (CardArea dev base) addr kind abort rom = answered (is_write kind) _ (λ r. r)
 denied_area setup AbortArea addr kind abort rom = refused (is_write kind) _ abort tt
+denied_area setup _ addr kind abort rom = answered (is_write kind) _ (λ r. r)
 
 denied_memory :
     (setup : Setup) (before : List Entry) (access : Access) →
@@ -133,16 +129,7 @@ denied_on_bus setup before (Port access) value target denial answer =
     (denied_port setup (byte_of setup before) (config_address before) (is_some setup.disk) access.port access.width)
 denied_on_bus setup before (LookAt kind addr smm) value target denial answer = absurd answer
 denied_on_bus setup before Ack value target denial answer = outside_right false _ (Bus value target denial) _ answer
-denied_on_bus setup before (Pulses count) value target denial answer =
-    outside_right false _ (Bus value target denial) _ answer
-denied_on_bus setup before (Time moment) value target denial answer =
-    outside_right false _ (Bus value target denial) _ answer
-denied_on_bus setup before (Wire dev on) value target denial answer =
-    outside_right false _ (Bus value target denial) _ answer
-denied_on_bus setup before (Line irq on) value target denial answer =
-    outside_right false _ (Bus value target denial) _ answer
-denied_on_bus setup before (BadSector sector) value target denial answer =
-    outside_right false _ (Bus value target denial) _ answer
+denied_on_bus setup before _ value target denial answer = outside_right false _ (Bus value target denial) _ answer
 
 abbrev IsRightPart : Bool → Part → Type 0
 IsRightPart writes part = IsDeniedExactly writes part.target part.denial
@@ -179,12 +166,5 @@ unfolding memory_answer port_answer
 denied_in_parts setup before (Wide access) value parts answer =
     subst (All (IsRightPart (is_write access.kind))) (sym answer.each)
     (denied_from setup before access 4 access.addr access.bytes)
-denied_in_parts setup before (Memory access) value parts answer = cc
-denied_in_parts setup before (Port access) value parts answer = cc
 denied_in_parts setup before (LookAt kind addr smm) value parts answer = absurd answer
-denied_in_parts setup before Ack value parts answer = cc
-denied_in_parts setup before (Pulses count) value parts answer = cc
-denied_in_parts setup before (Time moment) value parts answer = cc
-denied_in_parts setup before (Wire dev on) value parts answer = cc
-denied_in_parts setup before (Line irq on) value parts answer = cc
-denied_in_parts setup before (BadSector sector) value parts answer = cc
+denied_in_parts setup before _ value parts answer = cc

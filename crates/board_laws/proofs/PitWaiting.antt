@@ -1,8 +1,8 @@
 -- In modes 2 and 3 a count that is written waits for the next load.
 use Rattle.std.proofs.Common.{◌≡◌, ℕ, zero, suc, ◌-◌, ◌==◌, ◌&&◌, ◌||◌, Bool, true, false, cond, ◌⊎◌, inl, inr, Option}
 use Rattle.std.proofs.Common.{Some, None, unwrap_or, refl, ap, sym, ◌∙◌}
-use Rattle.board_prelude.proofs.Common.{and-true, or-false, cases_Bool, false≢true, Mode, TerminalCount, OneShot}
-use Rattle.board_prelude.proofs.Common.{RateGenerator, SquareWave, SoftwareStrobe, HardwareStrobe, Access, LowByte}
+use Rattle.board_prelude.proofs.Common.{and-true, or-false, cases_Bool, false≢true, Mode}
+use Rattle.board_prelude.proofs.Common.{RateGenerator, SquareWave, Access, LowByte}
 use Rattle.board_prelude.proofs.Common.{HighByte, LowThenHigh, CounterState, is_periodic, is_terminal_count}
 use Rattle.board_prelude.proofs.Common.{asks_for_load, count_of_bytes, modulus, complete, take_low, take_byte, write}
 use Rattle.board_prelude.proofs.Common.{load, count_down, count_to_reload, half_end, count_half, pulse_by_mode, pulse}
@@ -188,8 +188,6 @@ after_write : (mode : Mode) (gate : Bool) (byte n k : ℕ) (c : CounterState) �
     × ((pulses_of gate k (write byte c) ≡ waiting (pulses_of gate k c) w.m w.null w.low)
     ⊎ HasLoaded mode w.m (pulses_of gate k (write byte c)))
 unfolding asks_for_load
-after_write TerminalCount gate byte n k c e p started count = absurd (false≢true p)
-after_write OneShot gate byte n k c e p started count = absurd (false≢true p)
 after_write RateGenerator gate byte n k c e p started count =
     let w = waits_by c.access c.low_written byte n c (ap is_terminal_count e) (ap (λ mode. asks_for_load mode true) e)
     started count refl refl in (
@@ -204,8 +202,7 @@ after_write SquareWave gate byte n k c e p started count =
       rw (w.is) (goes_on SquareWave gate (square_goes gate) n w.m w.null w.low c
           (record { mode = e; count = count }) k),
     )
-after_write SoftwareStrobe gate byte n k c e p started count = absurd (false≢true p)
-after_write HardwareStrobe gate byte n k c e p started count = absurd (false≢true p)
+after_write _ gate byte n k c e p started count = absurd (false≢true p)
 
 pub count_waits : CountWaits
 count_waits c gate byte n k p started count waits =

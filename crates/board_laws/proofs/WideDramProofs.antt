@@ -4,7 +4,7 @@ use Rattle.std.proofs.Common.{Option, Some, None, refl, sym, ◌∙◌, ap, subs
 use Rattle.std.proofs.Common.{All, map, option_and_then}
 use Rattle.board_prelude.proofs.Common.{option_or, cases_Bool, cases_eq, cases_lt, cond-true, cond-false, le-leb}
 use Rattle.board_prelude.proofs.Common.{lt-leb, lt-ltb, le-ltb, All-head, All-tail, Width, One, WideAccess, Target}
-use Rattle.board_prelude.proofs.Common.{Dram, Shadow, Smram, Rom, Card, Device, Config, Abort, bytes_of, Event, Wide}
+use Rattle.board_prelude.proofs.Common.{Dram, Shadow, Smram, Card, bytes_of, Event, Wide}
 use Rattle.board_prelude.proofs.Common.{Part, Reply, Bus, Saw, Entry, Setup, byte, wide, part_at, parts_of, joined}
 use Rattle.board_prelude.proofs.Common.{Cell, DramCell, CardCell, first_cell, distance, memory_put, parts_put}
 use Rattle.board_prelude.proofs.Common.{entry_put, is_write, dram_byte, memory_target, part_answer, value_at}
@@ -24,7 +24,6 @@ value_at-dram :
 value_at-dram setup before (Dram row) addr width lands = refl
 value_at-dram setup before (Shadow row) addr width lands = refl
 value_at-dram setup before Smram addr width lands = refl
-value_at-dram setup before (Rom off) addr width lands = cc
 value_at-dram setup before (Card dev base off) addr width lands =
     elim (cases_Bool (base == 6)) [
       | inl rom ↦ let none : ◌≡◌ {A = Option Cell} None (Some (DramCell addr)) = rw rom at lands in cc
@@ -32,9 +31,7 @@ value_at-dram setup before (Card dev base off) addr width lands =
           let card : ◌≡◌ {A = Option Cell} (Some (CardCell dev base off))
           (Some (DramCell addr)) = rw other at lands in cc
     ]
-value_at-dram setup before (Device dev) addr width lands = cc
-value_at-dram setup before (Config reg) addr width lands = cc
-value_at-dram setup before Abort addr width lands = cc
+value_at-dram setup before _ addr width lands = cc
 
 joined-same :
     (f g : Access → ℕ) (parts : List Access) → All (λ part. f part ≡ g part) parts → joined f parts ≡ joined g parts

@@ -1,7 +1,7 @@
 -- What a bus master reaches, as a record: never SMRAM, nor memory in its range.
-use Rattle.std.proofs.Common.{◌≡◌, ◌≢◌, ℕ, ◌≤◌, ◌⊎◌, inl, inr, false, Option, Some, None, refl, sym, ◌∙◌, arith}
-use Rattle.board_prelude.proofs.Common.{Target, Dram, Shadow, Smram, Rom, Card, Device, Config, Abort, Denial, Register}
-use Rattle.board_prelude.proofs.Common.{Confadd, NoRegister, is_smram_range}
+use Rattle.std.proofs.Common.{◌≡◌, ◌≢◌, ℕ, ◌≤◌, ◌⊎◌, inl, inr, false, Option, Some, refl, sym, ◌∙◌, arith}
+use Rattle.board_prelude.proofs.Common.{Target, Dram, Shadow, Smram, Denial, Register}
+use Rattle.board_prelude.proofs.Common.{is_smram_range}
 use Rattle.board_chipset.specs.Common.{IsOutsideSmram}
 use Rattle.board_records.specs.Numbers.{dram_target, shadow_target, smram_target}
 use Rattle.board_records.specs.Replies.{part_said, target_said}
@@ -9,20 +9,12 @@ use Rattle.board_records.specs.Replies.{part_said, target_said}
 pub said_target : (target : Target) (denial : Option Denial) →
     (part_said target denial).target ≡ (target_said target).target
 unfolding part_said
-said_target target None = refl
 said_target target (Some (Register reg)) = refl
-said_target target (Some Confadd) = refl
-said_target target (Some NoRegister) = refl
+said_target target _ = refl
 
 no_smram_target : (target : Target) → target ≢ Smram → (target_said target).target ≢ smram_target
-no_smram_target (Dram row) other is = omega (arith, is)
-no_smram_target (Shadow row) other is = omega (arith, is)
 no_smram_target Smram other is = other refl
-no_smram_target (Rom off) other is = omega (arith, is)
-no_smram_target (Card dev base off) other is = omega (arith, is)
-no_smram_target (Device dev) other is = omega (arith, is)
-no_smram_target (Config reg) other is = omega (arith, is)
-no_smram_target Abort other is = omega (arith, is)
+no_smram_target _ other is = omega (arith, is)
 
 pub no_smram_said : (target : Target) (denial : Option Denial) → target ≢ Smram →
     (part_said target denial).target ≢ smram_target
@@ -40,11 +32,7 @@ outside_target : (target : Target) (addr : ℕ) → IsOutsideSmram target addr �
 outside_target (Dram row) addr outside is = outside addr refl
 outside_target (Shadow row) addr outside is = outside addr refl
 outside_target Smram addr outside is = outside addr refl
-outside_target (Rom off) addr outside is = absurd (no_memory _ (omega arith) is)
-outside_target (Card dev base off) addr outside is = absurd (no_memory _ (omega arith) is)
-outside_target (Device dev) addr outside is = absurd (no_memory _ (omega arith) is)
-outside_target (Config reg) addr outside is = absurd (no_memory _ (omega arith) is)
-outside_target Abort addr outside is = absurd (no_memory _ (omega arith) is)
+outside_target _ addr outside is = absurd (no_memory _ (omega arith) is)
 
 pub outside_said : (target : Target) (denial : Option Denial) (addr : ℕ) → IsOutsideSmram target addr →
     IsMemory (part_said target denial).target → is_smram_range addr ≡ false

@@ -15,11 +15,10 @@ use Rattle.board_spec.specs.Common.{is_in_hole, is_bios_selected, is_smram_open}
 use Rattle.std.proofs.lemmas.Bool.{cases_eq, cases_Bool}
 use Rattle.board_base.specs.declared.access.Access.{Access}
 use Rattle.board_base.specs.declared.target.Area.TheVariants.{Dram as DramArea, Shadow as ShadowArea}
-use Rattle.board_base.specs.declared.target.Area.TheVariants.{Smram as SmramArea, Rom as RomArea, Card as CardArea}
+use Rattle.board_base.specs.declared.target.Area.TheVariants.{Smram as SmramArea, Rom as RomArea}
 use Rattle.board_base.specs.declared.target.Area.TheVariants.{Abort as AbortArea}
 use Rattle.board_spec.specs.declared.event.Event.{Event}
-use Rattle.board_spec.specs.declared.event.Event.TheVariants.{Memory, Wide, Port, Look as LookAt, Ack, Pulses, Time}
-use Rattle.board_spec.specs.declared.event.Event.TheVariants.{Wire, Line, BadSector}
+use Rattle.board_spec.specs.declared.event.Event.TheVariants.{Memory, Wide, Port, Look as LookAt}
 use Rattle.board_spec.specs.declared.event.Reply.{Reply}
 use Rattle.board_spec.specs.declared.event.Part.{Part}
 use Rattle.board_spec.specs.declared.event.Reply.TheVariants.{Bus, Parts, Saw}
@@ -112,18 +111,10 @@ if_store true x h = h
 if_store false x h = λ e. cc
 
 store_is_no_reset : (setup : Setup) (address : ℕ) (event : Event) → config_store setup address event ≢ Some Reset
-store_is_no_reset setup address (Memory access) = λ e. cc
-store_is_no_reset setup address (Wide access) = λ e. cc
 store_is_no_reset setup address (Port access) =
     if_store (access.write && is_config_port access.port) _
     (mapped_store access.width access.value (config_register setup address access.port))
-store_is_no_reset setup address (LookAt kind addr smm) = λ e. cc
-store_is_no_reset setup address Ack = λ e. cc
-store_is_no_reset setup address (Pulses count) = λ e. cc
-store_is_no_reset setup address (Time moment) = λ e. cc
-store_is_no_reset setup address (Wire dev on) = λ e. cc
-store_is_no_reset setup address (Line irq on) = λ e. cc
-store_is_no_reset setup address (BadSector sector) = λ e. cc
+store_is_no_reset setup address _ = λ e. cc
 
 no_reset_change : (setup : Setup) (before : List Entry) (event : Event) → is_hard_reset before event ≡ false →
     register_change setup before event ≢ Some Reset
@@ -227,12 +218,8 @@ no_smram setup bytes addr kind shut =
 -- ---- replies
 
 target_names : (setup : Setup) (area : Area) (addr : ℕ) → target_at setup area addr ≡ Smram → area ≡ SmramArea
-target_names setup (DramArea row) addr e = cc
-target_names setup (ShadowArea row) addr e = cc
 target_names setup SmramArea addr e = refl
-target_names setup RomArea addr e = cc
-target_names setup (CardArea dev base) addr e = cc
-target_names setup AbortArea addr e = cc
+target_names setup _ addr e = cc
 
 reply_names :
     (value : Option ℕ) (target : Target) (denial : Option Denial) (reply : Reply) →
@@ -302,13 +289,7 @@ no_smram_answer setup before (LookAt kind addr smm) (Saw look) shut answer outsi
     answer.span.same addr answer.span.above answer.span.below ∙ names in
     no_smram setup (byte_of setup before) addr kind shut (rw outside at area)
 no_smram_answer setup before (LookAt kind addr smm) (Bus value target denial) shut answer outside names = absurd answer
-no_smram_answer setup before (Port access) reply shut answer outside names = absurd outside
-no_smram_answer setup before Ack reply shut answer outside names = absurd outside
-no_smram_answer setup before (Pulses count) reply shut answer outside names = absurd outside
-no_smram_answer setup before (Time moment) reply shut answer outside names = absurd outside
-no_smram_answer setup before (Wire dev on) reply shut answer outside names = absurd outside
-no_smram_answer setup before (Line irq on) reply shut answer outside names = absurd outside
-no_smram_answer setup before (BadSector sector) reply shut answer outside names = absurd outside
+no_smram_answer setup before _ reply shut answer outside names = absurd outside
 
 -- an entry of a legal history is the next of those before it
 next_in : (setup : Setup) (after before : List Entry) (entry : Entry) → IsLegal setup (after ++ entry ∷ before) →

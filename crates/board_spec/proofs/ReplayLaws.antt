@@ -8,8 +8,7 @@ use Rattle.board_spec.specs.Common.{longest_at, parts_from, parts_of, parts_list
 use Rattle.board_spec.specs.Common.{IsLookAnswer, IsAnswer, entries_by, IsNext, IsLegal, statement_of, statements_of}
 use Rattle.board_spec.specs.Common.{IsAddressed, SomeAnswer, OneAnswer, SomeReplay, OneReplay}
 use Rattle.board_spec.specs.declared.event.Event.{Event}
-use Rattle.board_spec.specs.declared.event.Event.TheVariants.{Memory, Wide, Port, Look as LookAt, Ack, Pulses, Time}
-use Rattle.board_spec.specs.declared.event.Event.TheVariants.{Wire, Line, BadSector}
+use Rattle.board_spec.specs.declared.event.Event.TheVariants.{Wide, Look as LookAt}
 use Rattle.board_spec.specs.declared.event.Look.{Look}
 use Rattle.board_spec.specs.declared.event.Reply.{Reply}
 use Rattle.board_spec.specs.declared.event.Part.{Part}
@@ -93,7 +92,6 @@ parts_counted setup before access wide =
 -- ---- answers
 
 pub some_answer : SomeAnswer
-some_answer setup before (Memory access) addressed = record { reply = _; answer = refl }
 some_answer setup before (Wide access) addressed =
     let some = some_parts (map (part_answer setup before) (parts_of access))
     (parts_counted setup before access addressed) in
@@ -101,19 +99,13 @@ some_answer setup before (Wide access) addressed =
       reply = InParts some.parts (wide_value setup before access);
       answer = record { value_is = refl; each = some.same };
     }
-some_answer setup before (Port access) addressed = record { reply = _; answer = refl }
 some_answer setup before (LookAt kind addr smm) addressed =
     let span = some_span setup (byte_of setup before) addr kind smm addressed in
     record {
       reply = Saw (record { version = version_of setup before; lo = span.lo; hi = span.hi; area = span.area });
       answer = record { version = refl; span = span.span };
     }
-some_answer setup before Ack addressed = record { reply = _; answer = refl }
-some_answer setup before (Pulses count) addressed = record { reply = _; answer = refl }
-some_answer setup before (Time moment) addressed = record { reply = _; answer = refl }
-some_answer setup before (Wire dev on) addressed = record { reply = _; answer = refl }
-some_answer setup before (Line irq on) addressed = record { reply = _; answer = refl }
-some_answer setup before (BadSector sector) addressed = record { reply = _; answer = refl }
+some_answer setup before _ addressed = record { reply = _; answer = refl }
 
 look_made : ℕ → ℕ → ℕ → Area → Look
 look_made version lo hi area = record { version = version; lo = lo; hi = hi; area = area }
@@ -135,7 +127,6 @@ one_look setup before kind addr smm left right l r =
     same_look left right (l.version ∙ sym r.version) same.0 same.1 same.2
 
 pub one_answer : OneAnswer
-one_answer setup before (Memory access) left right l r = l ∙ sym r
 one_answer setup before (Wide access) (InParts parts value) (InParts parts' value') l r =
     one_parts value value' parts parts' (l.value_is ∙ sym r.value_is) (l.each ∙ sym r.each)
 one_answer setup before (Wide access) (Bus value target denial) right l r = absurd l
@@ -144,17 +135,11 @@ one_answer setup before (Wide access) (InParts parts value) (Bus value' target d
 one_answer setup before (Wide access) (InParts parts value) (Saw look) l r = absurd r
 one_answer setup before (LookAt kind addr smm) (InParts parts value) right l r = absurd l
 one_answer setup before (LookAt kind addr smm) (Saw left) (InParts parts value) l r = absurd r
-one_answer setup before (Port access) left right l r = l ∙ sym r
 one_answer setup before (LookAt kind addr smm) (Saw left) (Saw right) l r =
     one_look setup before kind addr smm left right l r
 one_answer setup before (LookAt kind addr smm) (Bus value target denial) right l r = absurd l
 one_answer setup before (LookAt kind addr smm) (Saw left) (Bus value target denial) l r = absurd r
-one_answer setup before Ack left right l r = l ∙ sym r
-one_answer setup before (Pulses count) left right l r = l ∙ sym r
-one_answer setup before (Time moment) left right l r = l ∙ sym r
-one_answer setup before (Wire dev on) left right l r = l ∙ sym r
-one_answer setup before (Line irq on) left right l r = l ∙ sym r
-one_answer setup before (BadSector sector) left right l r = l ∙ sym r
+one_answer setup before _ left right l r = l ∙ sym r
 
 -- ---- replays
 

@@ -18,10 +18,8 @@ tag Abort = 5
 abbrev first : Area → ℕ
 first (Dram row) = row
 first (Shadow row) = row
-first Smram = 0
-first Rom = 0
 first (Card dev base) = dev
-first Abort = 0
+first _ = 0
 
 abbrev second : Area → ℕ
 second (Card dev base) = base
@@ -37,11 +35,7 @@ made tag first second =
 
 made_again : (area : Area) → made (tag area) (first area) (second area) ≡ area
 made_again (Dram row) = refl
-made_again (Shadow row) = refl
-made_again Smram = refl
-made_again Rom = refl
-made_again (Card dev base) = refl
-made_again Abort = refl
+made_again _ = refl
 
 same_area : (a b : Area) → tag a ≡ tag b → first a ≡ first b → second a ≡ second b → a ≡ b
 same_area a b p q r =

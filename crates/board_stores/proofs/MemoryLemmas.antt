@@ -1,6 +1,6 @@
 -- What an access to memory reaches.
 use Rattle.std.proofs.Common.{◌≡◌, ℕ, List, ◌∙◌, refl, map}
-use Rattle.board_prelude.proofs.Common.{Width, Target, Dram, Shadow, Smram, Rom, Card, Device, Config, Abort, Entry}
+use Rattle.board_prelude.proofs.Common.{Width, Target, Rom, Entry}
 use Rattle.board_prelude.proofs.Common.{Part, Setup, byte_of, part_answer}
 use Rattle.board_base.specs.declared.access.Access.{Access}
 use Rattle.board_stores.specs.Common.{part_in, value_in, value_with}
@@ -26,11 +26,5 @@ parts_answered setup history parts answers is = is ∙ λ k. map (λ access. par
 pub beside_rom :
     (stores : Stores) (rom : List ℕ) (target : Target) (place : ℕ) (width : Width) →
     ((off : ℕ) → target ≡ Rom off → ⊥) → value_in stores target place width ≡ value_with stores rom target place width
-beside_rom stores rom (Dram row) place width other = refl
-beside_rom stores rom (Shadow row) place width other = refl
-beside_rom stores rom Smram place width other = refl
 beside_rom stores rom (Rom off) place width other = absurd (other off refl)
-beside_rom stores rom (Card dev base off) place width other = refl
-beside_rom stores rom (Device dev) place width other = refl
-beside_rom stores rom (Config reg) place width other = refl
-beside_rom stores rom Abort place width other = refl
+beside_rom stores rom _ place width other = refl

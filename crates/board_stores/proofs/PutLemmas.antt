@@ -1,8 +1,8 @@
 -- Bytes that are put into the stores one after the other.
 use Rattle.std.proofs.Common.{◌≡◌, ℕ, suc, ◌+◌, ◌<◌, List, [], ◌∷◌, length, get_or, drop, Option, None, inl, inr}
 use Rattle.std.proofs.Common.{refl, ◌∙◌, ap, arith, unwrap_or}
-use Rattle.board_prelude.proofs.Common.{drop-cons, nil_from_length, option_or, Width, Target, Dram, Shadow, Smram, Rom}
-use Rattle.board_prelude.proofs.Common.{Card, Device, Config, Abort, Cell, DramCell, CardCell, memory_put, parts_put}
+use Rattle.board_prelude.proofs.Common.{drop-cons, nil_from_length, option_or, Width, Target, Rom}
+use Rattle.board_prelude.proofs.Common.{Card, Device, Config, Cell, DramCell, CardCell, memory_put, parts_put}
 use Rattle.pci_bars.specs.Contents.{held, held_byte}
 use Rattle.dram_store.proofs.DramLemmas.{HasPut, put_then as dram_then, later_first}
 use Rattle.board_stores.specs.declared.stores.Stores.{Stores}
@@ -73,9 +73,6 @@ held_after :
     (rom : List ℕ) (old new : List (List ℕ)) (target : Target) (width : Width) →
     ((dev base : ℕ) → length (held new dev base) ≡ length (held old dev base)) → IsHeld rom old target width → IsHeld
     rom new target width
-held_after rom old new (Dram row) width same is = tt
-held_after rom old new (Shadow row) width same is = tt
-held_after rom old new Smram width same is = tt
 held_after rom old new (Rom off) width same is = is
 held_after rom old new (Card dev base off) width same is =
     record {
@@ -87,7 +84,7 @@ held_after rom old new (Card dev base off) width same is =
     }
 held_after rom old new (Device dev) width same is = is
 held_after rom old new (Config reg) width same is = is
-held_after rom old new Abort width same is = tt
+held_after rom old new _ width same is = tt
 
 pub ready_after :
     (rom : List ℕ) (old new : List (List ℕ)) (cycle : Cycle) →

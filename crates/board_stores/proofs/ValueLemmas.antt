@@ -2,14 +2,13 @@
 use Rattle.std.proofs.Common.{◌≡◌, ℕ, ◌+◌, ◌^◌, ◌<◌, Bool, true, false, List, [], ◌∷◌, Option, Some, None, inl, inr}
 use Rattle.std.proofs.Common.{arith, ◌==◌, nat_lt, if◌then◌else◌, unwrap_or, option_and_then, slice_index}
 use Rattle.board_prelude.proofs.Common.{option_or, cases_Bool, Width, One, Target, Dram, Shadow, Smram, Rom, Card}
-use Rattle.board_prelude.proofs.Common.{Device, Config, Abort, bytes_of, Event, Memory, Wide, Port, Ack, Pulses, Time}
-use Rattle.board_prelude.proofs.Common.{Wire, Line, BadSector, Reply, Bus, Saw, Part, Entry, Setup, card_at, installed}
+use Rattle.board_prelude.proofs.Common.{Device, Config, Abort, bytes_of, Event, Memory, Wide, Port}
+use Rattle.board_prelude.proofs.Common.{Reply, Bus, Saw, Part, Entry, Setup, card_at, installed}
 use Rattle.board_prelude.proofs.Common.{kept_size, byte, wide, parts_of, parts_list, Cell, DramCell, CardCell}
 use Rattle.board_prelude.proofs.Common.{first_cell, distance, is_write, byte_put, memory_put, parts_put, entry_put}
 use Rattle.board_prelude.proofs.Common.{stored_of, dram_byte, card_byte, value_at}
 use Rattle.board_base.specs.declared.access.Width.TheVariants.{Two, Four}
 use Rattle.board_base.specs.declared.access.Access.{Access}
-use Rattle.board_spec.specs.declared.event.Event.TheVariants.{Look}
 use Rattle.board_spec.specs.declared.event.Reply.TheVariants.{Parts}
 use Rattle.board_stores.specs.Targets.{IsHeld}
 
@@ -62,13 +61,7 @@ entry_is_byte (Port access) (Saw look) cell = tt
 entry_is_byte (Wide access) (Bus value target denial) cell = tt
 entry_is_byte (Wide access) (Parts parts value) cell = parts_are_bytes (parts_of access) (parts_list parts) cell
 entry_is_byte (Wide access) (Saw look) cell = tt
-entry_is_byte (Look kind addr smm) reply cell = tt
-entry_is_byte Ack reply cell = tt
-entry_is_byte (Pulses count) reply cell = tt
-entry_is_byte (Time moment) reply cell = tt
-entry_is_byte (Wire dev on) reply cell = tt
-entry_is_byte (Line irq on) reply cell = tt
-entry_is_byte (BadSector sector) reply cell = tt
+entry_is_byte _ reply cell = tt
 
 -- ---- what is stored
 

@@ -1,8 +1,8 @@
 -- What a bus master reaches has the bytes that it asks for.
 use Rattle.std.proofs.Common.{◌≡◌, ℕ, ◌+◌, ◌%◌, ◌≤◌, ◌<◌, false, not, ◌&&◌, List, length, sym, refl, arith, is_some}
 use Rattle.std.proofs.Common.{unwrap_or}
-use Rattle.board_prelude.proofs.Common.{bytes_of, Kind, Width, One, Area, Target, Dram, Shadow, Smram, Rom, Card}
-use Rattle.board_prelude.proofs.Common.{Device, Config, Abort, Setup, wide, lies_in, upper_memory, Bytes}
+use Rattle.board_prelude.proofs.Common.{bytes_of, Kind, Width, One, Area, Target, Dram, Shadow, Smram, Card}
+use Rattle.board_prelude.proofs.Common.{Setup, wide, lies_in, upper_memory, Bytes}
 use Rattle.board_prelude.proofs.Common.{row_of, is_smram_range, is_shadowed}
 use Rattle.board_prelude.proofs.Common.{memory_claim, target_at, Cell, DramCell, CardCell}
 use Rattle.board_prelude.proofs.Common.{is_in_hole, is_bios_selected}
@@ -81,13 +81,10 @@ value_same setup rom contents cells other (Shadow row) addr width same held =
 value_same setup rom contents cells other Smram addr width same held =
     wide_same (λ at. cells (DramCell at)) (λ at. other (DramCell at)) addr width
     (λ at from below. same (DramCell at) tt)
-value_same setup rom contents cells other (Rom off) addr width same held = refl
 value_same setup rom contents cells other (Card dev base off) addr width same held =
     wide_same (λ at. cells (CardCell dev base at)) (λ at. other (CardCell dev base at)) off width
     (λ at from below. same (CardCell dev base at) held.number)
-value_same setup rom contents cells other (Device dev) addr width same held = refl
-value_same setup rom contents cells other (Config reg) addr width same held = refl
-value_same setup rom contents cells other Abort addr width same held = refl
+value_same setup rom contents cells other _ addr width same held = refl
 
 pub master_value_same : {setup : Setup} {bytes : Bytes} {store : Store} → IsStoreOf setup bytes store →
     (cells other : Cells) (addr : ℕ) (width : Width) → addr % bytes_of width ≡ 0 →

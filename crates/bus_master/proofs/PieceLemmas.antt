@@ -5,7 +5,7 @@ use Rattle.std.proofs.Common.{if◌then◌else◌}
 use Rattle.board_prelude.proofs.Common.{cases_Bool, ne_eqb, and_left, nat_tests, Read, Area, Medium, Setup, Bytes}
 use Rattle.board_prelude.proofs.Common.{is_smram_range}
 use Rattle.board_base.specs.declared.access.Width.TheVariants.{Four}
-use Rattle.board_base.specs.declared.target.Area.TheVariants.{Dram, Shadow, Smram, Rom, Card, Abort as NobodysArea}
+use Rattle.board_base.specs.declared.target.Area.TheVariants.{Rom, Card, Abort as NobodysArea}
 use Rattle.addr_decode.specs.Common.{master_area, master_denial}
 use Rattle.board_chipset.proofs.MasterSteps.{IsOffDram, off_dram}
 use Rattle.bus_master.specs.declared.done.End.{End}
@@ -375,12 +375,10 @@ module _ (setup : Setup) (bytes : Bytes) (going : Going) (cells : Cells) (medium
 -- ---- SMRAM
 
 not_both : (area : Area) → IsMemory area → IsOffDram area → ⊥
-not_both (Dram row) memory off = off
-not_both (Shadow row) memory off = off
-not_both Smram memory off = off
 not_both Rom memory off = memory
 not_both (Card dev base) memory off = memory
 not_both NobodysArea memory off = memory
+not_both _ memory off = off
 
 odd_outside : (addr i : ℕ) → addr % 2 ≡ 0 → is_smram_range (address_after addr (2 * (i / 2))) ≡ false →
     is_smram_range (address_after addr i) ≡ false

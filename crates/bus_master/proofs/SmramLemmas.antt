@@ -6,8 +6,7 @@ use Rattle.board_prelude.proofs.Common.{cases_Bool, cases_lt, le-ltb, lt-leb, le
 use Rattle.board_prelude.proofs.Common.{Write, Area, Target, Smram, Card, bytes_of, Medium, word_at, Setup, rom_base}
 use Rattle.board_prelude.proofs.Common.{wide, Bytes, is_smram_range, target_at, Cell, DramCell, CardCell, byte_put}
 use Rattle.board_base.specs.declared.access.Width.TheVariants.{Two, Four}
-use Rattle.board_base.specs.declared.target.Area.TheVariants.{Dram as DramArea, Shadow as ShadowArea}
-use Rattle.board_base.specs.declared.target.Area.TheVariants.{Smram as SmramArea, Rom as RomArea, Card as CardArea}
+use Rattle.board_base.specs.declared.target.Area.TheVariants.{Rom as RomArea, Card as CardArea}
 use Rattle.board_base.specs.declared.target.Area.TheVariants.{Abort as AbortArea}
 use Rattle.ata_pio.specs.Words.{is_readable}
 use Rattle.addr_decode.specs.Master.{master_area}
@@ -40,12 +39,10 @@ card_put dev base off addr value s = elim (cases_Bool (base == rom_base)) [ inl 
 
 off_put : (setup : Setup) (area : Area) (addr value s : ℕ) → IsOffDram area →
     byte_put (target_at setup area addr) addr Two value (DramCell s) ≡ None
-off_put setup (DramArea row) addr value s off = absurd off
-off_put setup (ShadowArea row) addr value s off = absurd off
-off_put setup SmramArea addr value s off = absurd off
 off_put setup RomArea addr value s off = refl
 off_put setup (CardArea dev base) addr value s off = card_put dev base _ addr value s
 off_put setup AbortArea addr value s off = refl
+off_put setup _ addr value s off = absurd off
 
 dram_put : (addr value s : ℕ) → (s < addr) ⊎ (addr + 2 ≤ s) → byte_put Smram addr Two value (DramCell s) ≡ None
 dram_put addr value s (inl below) = rw (lt-leb addr s below) refl
@@ -54,12 +51,10 @@ dram_put addr value s (inr above) =
 
 apart_put : (setup : Setup) (area : Area) (addr value s : ℕ) → (s < addr) ⊎ (addr + 2 ≤ s) →
     byte_put (target_at setup area addr) addr Two value (DramCell s) ≡ None
-apart_put setup (DramArea row) addr value s apart = dram_put addr value s apart
-apart_put setup (ShadowArea row) addr value s apart = dram_put addr value s apart
-apart_put setup SmramArea addr value s apart = dram_put addr value s apart
 apart_put setup RomArea addr value s apart = refl
 apart_put setup (CardArea dev base) addr value s apart = card_put dev base _ addr value s
 apart_put setup AbortArea addr value s apart = refl
+apart_put setup _ addr value s apart = dram_put addr value s apart
 
 -- an even address outside lies wholly outside
 apart : (addr s : ℕ) → addr % 2 ≡ 0 → is_smram_range addr ≡ false → is_smram_range s ≡ true →
@@ -108,22 +103,18 @@ module _ (setup : Setup) (cells other : Cells) (alike : AreAlike cells other) wh
   off_alike : (area : Area) (addr : ℕ) (width : Width) → IsOffDram area →
       value_in setup cells (target_at setup area addr) addr width
       ≡ value_in setup other (target_at setup area addr) addr width
-  off_alike (DramArea row) addr width off = absurd off
-  off_alike (ShadowArea row) addr width off = absurd off
-  off_alike SmramArea addr width off = absurd off
   off_alike RomArea addr width off = refl
   off_alike (CardArea dev base) addr width off = card_alike dev base _ width
   off_alike AbortArea addr width off = refl
+  off_alike _ addr width off = absurd off
 
   out_alike : (area : Area) (addr : ℕ) (width : Width) → addr % bytes_of width ≡ 0 → is_smram_range addr ≡ false →
       value_in setup cells (target_at setup area addr) addr width
       ≡ value_in setup other (target_at setup area addr) addr width
-  out_alike (DramArea row) addr width aligned out = dram_alike addr width aligned out
-  out_alike (ShadowArea row) addr width aligned out = dram_alike addr width aligned out
-  out_alike SmramArea addr width aligned out = dram_alike addr width aligned out
   out_alike RomArea addr width aligned out = refl
   out_alike (CardArea dev base) addr width aligned out = card_alike dev base _ width
   out_alike AbortArea addr width aligned out = refl
+  out_alike _ addr width aligned out = dram_alike addr width aligned out
 
   value_alike : (bytes : Bytes) (addr : ℕ) (width : Width) → addr % bytes_of width ≡ 0 →
       master_value setup bytes cells addr width ≡ master_value setup bytes other addr width

@@ -3,7 +3,7 @@ use Rattle.std.proofs.Common.{◌≡◌, ◌≢◌, ℕ, zero, suc, ◌+◌, ◌
 use Rattle.std.proofs.Common.{refl, sym, ap, subst, ◌∙◌, arith, lit≤}
 use Rattle.board_prelude.proofs.Common.{ne_eqb, and_left, Kind, Width, Area, Denial, Target, Disk, Medium, word_at}
 use Rattle.board_prelude.proofs.Common.{Setup, Bytes, Cell}
-use Rattle.board_base.specs.declared.target.Area.TheVariants.{Dram, Shadow, Smram, Rom, Card, Abort as NobodysArea}
+use Rattle.board_base.specs.declared.target.Area.TheVariants.{Abort as NobodysArea}
 use Rattle.ata_pio.specs.Words.{with_word}
 use Rattle.addr_decode.specs.Common.{master_area, master_denial}
 use Rattle.board_chipset.specs.declared.store.Store.{Store}
@@ -330,12 +330,8 @@ module _ (setup : Setup) (bytes : Bytes) (direction : Direction) (lba : ℕ) whe
 -- somebody answers in an area wherever in it the access is
 pub answers_in : (area : Area) (addr other : ℕ) (denial denial' : Option Denial) → None ≡ abort_in area addr denial →
     None ≡ abort_in area other denial'
-answers_in (Dram row) addr other denial denial' is = refl
-answers_in (Shadow row) addr other denial denial' is = refl
-answers_in Smram addr other denial denial' is = refl
-answers_in Rom addr other denial denial' is = refl
-answers_in (Card dev base) addr other denial denial' is = refl
 answers_in NobodysArea addr other denial denial' is = absurd (cc)
+answers_in _ addr other denial denial' is = refl
 
 pub address_on : (addr i : ℕ) → address_after (address_after addr 2) (2 * i) ≡ address_after addr (2 * (i + 1))
 address_on addr i = omega arith

@@ -31,12 +31,10 @@ IsRefusedAs Script bytes status = (line : ℕ) × (why : ℕ) × IsScriptBad byt
 IsRefusedAs which bytes status = IsNoImage which bytes × (status ≡ BadImage which)
 
 no_image_refused : (which : Which) (bytes : List ℕ) → IsNoImage which bytes → IsRefusedAs which bytes (BadImage which)
-no_image_refused Script bytes none = absurd none
 no_image_refused Rom bytes none = (none, refl)
 no_image_refused Disk bytes none = (none, refl)
-no_image_refused Log bytes none = absurd none
 no_image_refused Image bytes none = (none, refl)
-no_image_refused Input bytes none = absurd none
+no_image_refused _ bytes none = absurd none
 
 one_refused : (which : Which) (bytes : List ℕ) → IsOne (IsRefusedAs which bytes)
 one_refused Script bytes status other one two =
@@ -99,15 +97,9 @@ EndsAs command known status =
 ends_as : (command : Command) (known : Known) (status : Status) → EndsWith command known status
     → EndsAs command known status
 ends_as command known Done ends = inl (ends, refl)
-ends_as command known Usage ends = absurd ends
-ends_as command known (ReadFault which) ends = absurd ends
-ends_as command known WriteFault ends = absurd ends
-ends_as command known (TooLong which) ends = absurd ends
-ends_as command known (BadScript line why) ends = absurd ends
-ends_as command known (BadImage which) ends = absurd ends
 ends_as command known (Differs line) ends = inr (inl (line, ends, refl))
-ends_as command known NoMemory ends = absurd ends
 ends_as command known OtherBoard ends = inr (inr (ends, refl))
+ends_as command known _ ends = absurd ends
 
 -- only `check` compares logs, and only `resume` boards
 check_is : (command : Command) (P : Type 0) → OfCheck command P

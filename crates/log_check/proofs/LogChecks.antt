@@ -2,7 +2,7 @@
 use Rattle.std.proofs.Common.{ℕ, ◌≡◌, ◌≢◌, ◌+◌, ◌≤◌, ◌⊎◌, List, [], ◌∷◌, ◌++◌, length, All, refl, sym, ap, ◌∙◌, subst}
 use Rattle.std.proofs.Common.{inl, inr, append-nil, arith, ◌==◌, true, false, Result, Ok, Err, MatchResult}
 use Rattle.board_prelude.proofs.Common.{eq-eqb, eqb-true, true≢false, All-nil, All-cons, All-head, All-tail, Event}
-use Rattle.board_prelude.proofs.Common.{Memory, Wide, Port, Ack, Pulses, Time, Wire, Line, BadSector, Entry, Statement}
+use Rattle.board_prelude.proofs.Common.{Wide, Entry, Statement}
 use Rattle.board_prelude.proofs.Common.{Setup, IsInRange, IsLegal, IsBegunFor, IsCompleteFor, in_file_order}
 use Rattle.board_prelude.proofs.Common.{IsAddressed, OneReplay, log_text, complete_is_begun, begun_is_bounded}
 use Rattle.board_prelude.proofs.Common.{complete_is_whole, none_so_far}
@@ -17,16 +17,9 @@ use Rattle.log_check.proofs.Differences.{Known, differs, differs_at_once}
 -- ---- what is known of the script
 
 addressed : (setup : Setup) (event : Event) → IsLookInRange event → IsInRange setup event → IsAddressed event
-addressed setup (Memory access) fits range = tt
 addressed setup (Wide access) fits range = range
-addressed setup (Port access) fits range = tt
 addressed setup (LookAt kind addr smm) fits range = fits
-addressed setup Ack fits range = tt
-addressed setup (Pulses count) fits range = tt
-addressed setup (Time moment) fits range = tt
-addressed setup (Wire dev on) fits range = tt
-addressed setup (Line irq on) fits range = tt
-addressed setup (BadSector sector) fits range = tt
+addressed setup _ fits range = tt
 
 all_addressed :
     (setup : Setup) (statements : List Statement) → All IsTyped statements → AreInRange setup statements →

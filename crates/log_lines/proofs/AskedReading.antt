@@ -2,16 +2,14 @@
 use Rattle.std.proofs.Common.{◌≡◌, ◌≢◌, ℕ, ◌<◌, ◌≤◌, Bool, true, false, cond, eqb, Option, Some, None, List, refl, sym}
 use Rattle.std.proofs.Common.{ap, subst, ◌∙◌, inl, inr, arith, MatchOption, codes}
 use Rattle.board_prelude.proofs.Common.{option_and_then, cases_Bool, cases_lt, lt-ltb, le-ltb, true≢false, WideAccess}
-use Rattle.board_prelude.proofs.Common.{PortAccess, Moment, IsMoment, Event, Memory, Wide, Port, Ack, Pulses, Time}
-use Rattle.board_prelude.proofs.Common.{Wire as SetWire, Line as SetLine, BadSector}
+use Rattle.board_prelude.proofs.Common.{PortAccess, Moment, IsMoment, Event, Memory, Wide, Port, Ack, Time}
+use Rattle.board_prelude.proofs.Common.{Wire as SetWire, Line as SetLine}
 use Rattle.board_base.specs.declared.access.Access.{Access}
-use Rattle.board_spec.specs.declared.event.Event.TheVariants.{Look as LookAt}
 use Rattle.script_spec.specs.Common.{Item, Ask, AskLevel, HasForm, IsNamed, ask, if_byte}
 use Rattle.script_spec.proofs.LineReading.{one_item}
 use Rattle.script_lines.specs.declared.item.Asked.{Asked}
 use Rattle.script_lines.specs.declared.item.Asked.TheVariants.{Event as AnEvent, Moment as AMoment, Wire, Line}
 use Rattle.script_lines.specs.declared.item.Item.{Item as Read}
-use Rattle.script_lines.specs.declared.item.Item.TheVariants.{Cpus, Memory as SetMemory, Rom, Disk, Card, Phase}
 use Rattle.script_lines.specs.declared.item.Item.TheVariants.{Statement as Asks}
 use Rattle.script_lines.specs.declared.moment.MomentFields.{MomentFields}
 use Rattle.script_lines.specs.Items.{asked_said, moment_said, line_said}
@@ -161,14 +159,8 @@ none_asked version seq text event none is = none (ask seq event) is.has
 -- a line that says another item asks nothing
 pub not_asked : (version seq : ℕ) (text : List ℕ) (item : Read) (event : Event) → HasForm version text (line_said item)
     → ((actor : ℕ) (asked : Asked) → item ≢ Asks actor asked) → ¬ IsAsked version text seq event
-not_asked version seq text (Cpus count) event has other is = true≢false (ap asks (one_item version text _ _ is.has has))
-not_asked version seq text (SetMemory mib) event has other is = true≢false
-    (ap asks (one_item version text _ _ is.has has))
-not_asked version seq text (Rom name) event has other is = true≢false (ap asks (one_item version text _ _ is.has has))
-not_asked version seq text (Disk name) event has other is = true≢false (ap asks (one_item version text _ _ is.has has))
-not_asked version seq text (Card card) event has other is = true≢false (ap asks (one_item version text _ _ is.has has))
-not_asked version seq text Phase event has other is = true≢false (ap asks (one_item version text _ _ is.has has))
 not_asked version seq text (Asks actor asked) event has other is = other actor asked refl
+not_asked version seq text _ event has other is = true≢false (ap asks (one_item version text _ _ is.has has))
 
 -- one that says a statement asks what is read of it
 asked_same : (version actor seq : ℕ) (text : List ℕ) (asked : Asked) (event : Event)
@@ -229,10 +221,5 @@ pub named_is : (event : Event) → ((access : Access) → event ≢ Memory acces
 named_is (Memory access) one two three four named = absurd (one access refl)
 named_is (Wide access) one two three four named = absurd (two access refl)
 named_is (Port access) one two three four named = absurd (three access refl)
-named_is (LookAt kind addr smm) one two three four named = record { named = named; placed = refl }
-named_is Ack one two three four named = record { named = named; placed = refl }
-named_is (Pulses count) one two three four named = record { named = named; placed = refl }
 named_is (Time moment) one two three four named = absurd (four moment refl)
-named_is (SetWire dev on) one two three four named = record { named = named; placed = refl }
-named_is (SetLine irq on) one two three four named = record { named = named; placed = refl }
-named_is (BadSector sector) one two three four named = record { named = named; placed = refl }
+named_is _ one two three four named = record { named = named; placed = refl }

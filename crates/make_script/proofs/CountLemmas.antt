@@ -1,8 +1,8 @@
 -- The counts of one entry more.
 use Rattle.std.proofs.Common.{ℕ, ◌≡◌, ◌+◌, ◌≤◌, ◌<◌, Bool, cond, List, [], ◌∷◌, length, refl, ap, ◌∙◌, inl, inr, arith}
 use mir.Val.{bool_byte}
-use Rattle.board_prelude.proofs.Common.{cases_Bool, All-head, All-tail, Dram, Shadow, Smram, Rom, Card, Device, Config}
-use Rattle.board_prelude.proofs.Common.{Abort, Event, Reply, Bus, Saw, Entry}
+use Rattle.board_prelude.proofs.Common.{cases_Bool, All-head, All-tail, Dram, Shadow, Rom, Card, Device, Config}
+use Rattle.board_prelude.proofs.Common.{Event, Reply, Bus, Entry}
 use Rattle.board_spec.specs.declared.event.Reply.TheVariants.{Parts as InParts}
 use Rattle.make_script.specs.Common.{is_dram, is_shadow, is_smram, is_rom, is_card, is_config, is_device, is_abort}
 use Rattle.make_script.specs.Common.{answers, is_look, count_where, IsCycleReply, KindsAddUp, AreCounts, HasRoomForOne}
@@ -75,14 +75,12 @@ one-kind : (actor seq : ℕ) (event : Event) (reply : Reply) → IsCycleReply re
     → kinds (record { actor = actor; seq = seq; event = event; reply = reply }) ≡ 1
 one-kind actor seq event (Bus value (Dram row) denial) cycle = refl
 one-kind actor seq event (Bus value (Shadow row) denial) cycle = refl
-one-kind actor seq event (Bus value Smram denial) cycle = refl
 one-kind actor seq event (Bus value (Rom off) denial) cycle = refl
 one-kind actor seq event (Bus value (Card dev base off) denial) cycle = refl
 one-kind actor seq event (Bus value (Config reg) denial) cycle = refl
 one-kind actor seq event (Bus value (Device dev) denial) cycle = refl
-one-kind actor seq event (Bus value Abort denial) cycle = refl
-one-kind actor seq event (Saw look) cycle = refl
 one-kind actor seq event (InParts parts value) cycle = absurd cycle
+one-kind actor seq event _ cycle = refl
 
 pub kinds-add-up : KindsAddUp
 kinds-add-up [] all = refl

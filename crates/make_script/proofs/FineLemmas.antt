@@ -3,8 +3,8 @@ use Rattle.std.proofs.Common.{ℕ, zero, suc, ◌≡◌, ◌%◌, ◌<◌, ◌�
 use Rattle.std.proofs.Common.{◌∷◌, length, map, All, refl, arith}
 use Rattle.board_prelude.proofs.Common.{list_all, digits, ltb-true, eqb-true, eq-eqb, and_parts, not-true, false≢true}
 use Rattle.board_prelude.proofs.Common.{All-nil, All-cons, All-append, Read, One, Moment, bytes_of, weekday_of}
-use Rattle.board_prelude.proofs.Common.{days_since_1980, days_of_years, days_of_months, Event, Memory, Wide, Port, Ack}
-use Rattle.board_prelude.proofs.Common.{Pulses, Time, Wire, Line, BadSector, Statement, FitsBytes, is_write, event_text}
+use Rattle.board_prelude.proofs.Common.{days_since_1980, days_of_years, days_of_months, Event, Memory, Port, Ack}
+use Rattle.board_prelude.proofs.Common.{Pulses, Time, Wire, Statement, FitsBytes, is_write, event_text}
 use Rattle.board_base.specs.declared.access.Width.TheVariants.{Four}
 use Rattle.board_spec.specs.declared.event.Event.TheVariants.{Look as LookAt}
 use Rattle.script_spec.specs.Common.{Item, IsMomentForm, IsEventForm, item_text, is_event_in_range, is_event_placed}
@@ -76,34 +76,15 @@ event-fits (LookAt kind addr smm) fits = ltb-true addr (2 ^ 32) fits
 event-fits Ack fits = tt
 event-fits (Pulses count) fits = let few : count < 5 = ltb-true count 5 fits in omega (arith, few)
 event-fits (Time moment) fits = moment-fits moment fits
-event-fits (Wide access) fits = absurd (false≢true fits)
-event-fits (Wire dev on) fits = absurd (false≢true fits)
-event-fits (Line irq on) fits = absurd (false≢true fits)
-event-fits (BadSector sector) fits = absurd (false≢true fits)
+event-fits _ fits = absurd (false≢true fits)
 
 no-wire : (event : Event) → fits_event event ≡ true → (before : List Item) → is_card_there before event ≡ true
 no-wire (Wire dev on) fits before = absurd (false≢true fits)
-no-wire (Memory access) fits before = refl
-no-wire (Port access) fits before = refl
-no-wire (LookAt kind addr smm) fits before = refl
-no-wire Ack fits before = refl
-no-wire (Pulses count) fits before = refl
-no-wire (Time moment) fits before = refl
-no-wire (Wide access) fits before = refl
-no-wire (Line irq on) fits before = refl
-no-wire (BadSector sector) fits before = refl
+no-wire _ fits before = refl
 
 few-pulses : (event : Event) → fits_event event ≡ true → pulses_of_event event ≤ 4
 few-pulses (Pulses count) fits = let few : count < 5 = ltb-true count 5 fits in omega (arith, few)
-few-pulses (Wire dev on) fits = omega arith
-few-pulses (Memory access) fits = omega arith
-few-pulses (Port access) fits = omega arith
-few-pulses (LookAt kind addr smm) fits = omega arith
-few-pulses Ack fits = omega arith
-few-pulses (Time moment) fits = omega arith
-few-pulses (Wide access) fits = omega arith
-few-pulses (Line irq on) fits = omega arith
-few-pulses (BadSector sector) fits = omega arith
+few-pulses _ fits = omega arith
 
 -- what is seen of a statement without its numbers
 abbrev is_line : Statement → Bool

@@ -1,6 +1,6 @@
 -- After a change the ranges of a map are right again for each address outside the bounds of the changed windows.
 use Rattle.std.proofs.Common.{◌≡◌, ℕ, zero, suc, ◌+◌, ◌<◌, ◌≤◌, Bool, true, false, inl, inr, List, [], ◌∷◌, ◌++◌}
-use Rattle.std.proofs.Common.{length, get_or, take, Option, Some, None, refl, sym, ◌∙◌, ap, subst, arith, IfSome, ◌||◌}
+use Rattle.std.proofs.Common.{length, get_or, take, Option, Some, refl, sym, ◌∙◌, ap, subst, arith, IfSome, ◌||◌}
 use Rattle.std.proofs.Common.{not, flat_map, is_some, map}
 use Rattle.board_spec.proofs.FlatMapLaws.{tiles_below}
 use Rattle.board_prelude.proofs.Common.{cases_Bool, true≢false, not-true, append-nil, list_any, Width, One, Reg}
@@ -10,7 +10,7 @@ use Rattle.board_prelude.proofs.Common.{MapRange, Tiles, IsFlatMapOf, entry_limi
 use Rattle.pci_bars.specs.Cards.{CardBytes, AreFitted, cards_of}
 use Rattle.addr_decode.proofs.Common.{no_low_card, names_touch}
 use Rattle.addr_decode.specs.declared.register.MapRegister.{MapRegister}
-use Rattle.addr_decode.specs.declared.register.MapRegister.TheVariants.{Pam, RowBoundary, Hole, Smram, ChipSelects}
+use Rattle.addr_decode.specs.declared.register.MapRegister.TheVariants.{Pam, RowBoundary}
 use Rattle.addr_decode.specs.declared.register.MapRegister.TheVariants.{Card}
 use Rattle.addr_decode.specs.Common.{is_of_card, map_register, names_from, names_of, MapBytes, StandsFor, edges_after}
 use Rattle.map_ranges.specs.declared.range.Changed.{Changed}
@@ -124,13 +124,10 @@ pub record AreFound (setup : Setup) (bytes : Bytes) (change : MapChange) (all : 
 -- those of registers of the bridges do not rest on what the registers hold
 name_fixed : (setup : Setup) (bytes bytes' : Bytes) (name : Option MapRegister) → is_card_name name ≡ false →
     name_windows setup bytes name ≡ name_windows setup bytes' name
-name_fixed setup bytes bytes' None bridge = refl
 name_fixed setup bytes bytes' (Some (Pam number)) bridge = refl
 name_fixed setup bytes bytes' (Some (RowBoundary row)) bridge = refl
-name_fixed setup bytes bytes' (Some Hole) bridge = refl
-name_fixed setup bytes bytes' (Some Smram) bridge = refl
-name_fixed setup bytes bytes' (Some ChipSelects) bridge = refl
 name_fixed setup bytes bytes' (Some (Card dev register)) bridge = absurd (true≢false bridge)
+name_fixed setup bytes bytes' _ bridge = refl
 
 all_fixed : (setup : Setup) (bytes bytes' : Bytes) (name : ℕ → Option MapRegister) (ks : List ℕ) →
     rest_on_registers (map name ks) ≡ false →
@@ -229,12 +226,8 @@ pushed_found old new change names none first all kept same named keeps same_is n
 -- after
 bridge_windows : (setup setup' : Setup) (bytes bytes' : Bytes) (register : MapRegister) → is_of_card register ≡ false →
     register_windows setup bytes register ≡ register_windows setup' bytes' register
-bridge_windows setup setup' bytes bytes' (Pam number) bridge = refl
-bridge_windows setup setup' bytes bytes' (RowBoundary row) bridge = refl
-bridge_windows setup setup' bytes bytes' Hole bridge = refl
-bridge_windows setup setup' bytes bytes' Smram bridge = refl
-bridge_windows setup setup' bytes bytes' ChipSelects bridge = refl
 bridge_windows setup setup' bytes bytes' (Card dev register) bridge = absurd (true≢false bridge)
+bridge_windows setup setup' bytes bytes' _ bridge = refl
 
 pub bridge_found : (setup setup' : Setup) (bytes bytes' : Bytes) (reg : Reg) (value : ℕ) (register : MapRegister)
     (cards : List FittedCard) →

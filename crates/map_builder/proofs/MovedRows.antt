@@ -9,7 +9,7 @@ use Rattle.board_prelude.proofs.Common.{FittedCard, Setup, IsCardList, covers, B
 use Rattle.board_prelude.proofs.Common.{reg_after, six_areas}
 use Rattle.board_base.specs.declared.access.Width.TheVariants.{Two, Four}
 use Rattle.addr_decode.specs.declared.register.MapRegister.{MapRegister}
-use Rattle.addr_decode.specs.declared.register.MapRegister.TheVariants.{Pam, RowBoundary, Hole, Smram, ChipSelects}
+use Rattle.addr_decode.specs.declared.register.MapRegister.TheVariants.{Pam, RowBoundary}
 use Rattle.addr_decode.specs.declared.register.MapRegister.TheVariants.{Card}
 use Rattle.addr_decode.specs.Common.{map_register, names_of, MapBytes, StandsFor, edges_of, edges_after}
 use Rattle.addr_decode.proofs.Common.{is_name, in_function_0}
@@ -51,12 +51,9 @@ row_named : (cards : List FittedCard) (at : Reg) (k : ℕ) (name : Option MapReg
     map_register cards (reg_after at k) ≡ name →
     is_row_name name ≡ true → IsRowAt at k
 row_named cards at k (Some (RowBoundary row)) is row_is = row_placed cards at k row is
-row_named cards at k None is row_is = absurd (false≢true row_is)
 row_named cards at k (Some (Pam number)) is row_is = absurd (false≢true row_is)
-row_named cards at k (Some Hole) is row_is = absurd (false≢true row_is)
-row_named cards at k (Some Smram) is row_is = absurd (false≢true row_is)
-row_named cards at k (Some ChipSelects) is row_is = absurd (false≢true row_is)
 row_named cards at k (Some (Card dev register)) is row_is = absurd (false≢true row_is)
+row_named cards at k _ is row_is = absurd (false≢true row_is)
 
 row_at : (cards : List FittedCard) (at : Reg) (k : ℕ) → is_row_name (map_register cards (reg_after at k)) ≡ true →
     IsRowAt at k

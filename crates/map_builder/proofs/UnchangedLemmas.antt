@@ -15,9 +15,6 @@ use Rattle.map_builder.proofs.MovedRows.{row_stays}
 pub same_bytes : (setup : Setup) (bytes : Bytes) (change : MapChange) (held : ℕ) → IsHeldAt change bytes held →
     IsHeldAt change (after setup change bytes) held →
     (reg : Reg) → after setup change bytes reg ≡ bytes reg
-same_bytes setup bytes Reset held before later reg = absurd before
-same_bytes setup bytes (Store at Two value) held before later reg = absurd before
-same_bytes setup bytes (Store at Four value) held before later reg = absurd before
 same_bytes setup bytes (Store at One value) held before later reg =
     elim (cases_Bool (covers at One reg)) [
       | inr beside ↦ rw beside refl
@@ -28,6 +25,7 @@ same_bytes setup bytes (Store at One value) held before later reg =
           subst (λ (other : Reg). after setup (Store at One value) bytes other ≡ bytes other)
           (same_register at reg devs funs offs) (sym later ∙ before)
     ]
+same_bytes setup bytes _ held before later reg = absurd before
 
 pub unchanged_keep : (setup : Setup) (bytes : Bytes) (change : MapChange) (addr held : ℕ) → IsCardList setup.cards →
     IsHeldAt change bytes held →

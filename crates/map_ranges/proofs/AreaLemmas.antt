@@ -24,10 +24,8 @@ area_eq_true _ _ same = absurd (false≢true same)
 area_eq_same : (a : Area) → eq-value.it a a ≡ true
 area_eq_same (Dram row) = eq-eqb row row refl
 area_eq_same (Shadow row) = eq-eqb row row refl
-area_eq_same Smram = refl
-area_eq_same Rom = refl
 area_eq_same (Card dev base) = rw (eq-eqb dev dev refl, eq-eqb base base refl) refl
-area_eq_same Abort = refl
+area_eq_same _ = refl
 
 pub area_eq : (a b : Area) → Decides (eq-value.it a b) (a ≡ b)
 area_eq a b = (area_eq_true a b, λ same. subst (λ (other : Area). eq-value.it a other ≡ true) same (area_eq_same a))

@@ -1,8 +1,8 @@
 -- In modes 2 and 3 a run comes to the begin of a period, and a part of a period ends it.
 use Rattle.std.proofs.Common.{◌≡◌, ℕ, ◌+◌, ◌-◌, ◌*◌, ◌/◌, ◌%◌, ◌<◌, ◌≤◌, ◌==◌, ◌&&◌, not, Bool, true, false, cond, Some}
 use Rattle.std.proofs.Common.{◌⊎◌, inl, inr, refl, ap, sym, subst, ◌∙◌, arith, nat_lt}
-use Rattle.device_spec.proofs.Common.{cases_Bool, cases_lt, and_parts, true≢false, nat_tests, Mode, TerminalCount}
-use Rattle.device_spec.proofs.Common.{OneShot, RateGenerator, SquareWave, SoftwareStrobe, HardwareStrobe, CounterState}
+use Rattle.device_spec.proofs.Common.{cases_Bool, cases_lt, and_parts, true≢false, nat_tests, Mode}
+use Rattle.device_spec.proofs.Common.{RateGenerator, SquareWave, CounterState}
 use Rattle.device_spec.proofs.Common.{is_periodic, first_element, load_with, half_end, count_down, count_to_reload}
 use Rattle.device_spec.proofs.Common.{count_half}
 use Rattle.pit_8254.specs.Common.{HasCount, is_due, counts, every_pulse, pulses_in_half, quiet_pulses, lowered, IsPart}
@@ -215,10 +215,7 @@ comes_in : (mode : Mode) (gate : Bool) (c : CounterState) → is_periodic mode �
     IsSettled mode gate c → ComesTo gate c
 comes_in RateGenerator gate c periodic s = rate_settled gate c s
 comes_in SquareWave gate c periodic s = square_settled gate c s
-comes_in TerminalCount gate c periodic s = absurd (true≢false (sym periodic))
-comes_in OneShot gate c periodic s = absurd (true≢false (sym periodic))
-comes_in SoftwareStrobe gate c periodic s = absurd (true≢false (sym periodic))
-comes_in HardwareStrobe gate c periodic s = absurd (true≢false (sym periodic))
+comes_in _ gate c periodic s = absurd (true≢false (sym periodic))
 
 pub comes : (gate : Bool) (c : CounterState) → is_periodic c.mode ≡ true → IsSettled c.mode gate c → ComesTo gate c
 comes gate c periodic s = comes_in c.mode gate c periodic s
@@ -319,10 +316,7 @@ ends_in : (mode : Mode) (gate : Bool) (c : CounterState) → c.mode ≡ mode →
     IsAtPeriod gate c → EndsIn gate c
 ends_in RateGenerator gate c m periodic is = rate_ends gate c m is
 ends_in SquareWave gate c m periodic is = square_ends gate c m is
-ends_in TerminalCount gate c m periodic is = absurd (true≢false (sym periodic))
-ends_in OneShot gate c m periodic is = absurd (true≢false (sym periodic))
-ends_in SoftwareStrobe gate c m periodic is = absurd (true≢false (sym periodic))
-ends_in HardwareStrobe gate c m periodic is = absurd (true≢false (sym periodic))
+ends_in _ gate c m periodic is = absurd (true≢false (sym periodic))
 
 none_left : (gate : Bool) (a b : CounterState) (p q : Run) (n : ℕ) → IsPart gate a b p q →
     q.left ≡ p.left - (quiet_pulses gate a + 1) →

@@ -205,12 +205,8 @@ runs_quiet gate c f n start next (suc k) h =
     }
 
 pub first_element_after : (mode : Mode) (notation : Notation) (e : ℕ) → element_after mode notation 0 e ≡ e
-first_element_after TerminalCount notation e = lowered_few notation 0 e (omega arith) ∙ omega arith
-first_element_after OneShot notation e = lowered_few notation 0 e (omega arith) ∙ omega arith
-first_element_after RateGenerator notation e = lowered_few notation 0 e (omega arith) ∙ omega arith
 first_element_after SquareWave notation e = omega arith
-first_element_after SoftwareStrobe notation e = lowered_few notation 0 e (omega arith) ∙ omega arith
-first_element_after HardwareStrobe notation e = lowered_few notation 0 e (omega arith) ∙ omega arith
+first_element_after _ notation e = lowered_few notation 0 e (omega arith) ∙ omega arith
 
 -- the first pulses are quiet, as many as `quiet_pulses` counts
 pub quietly : (gate : Bool) (c : CounterState) (n : ℕ) → n ≤ quiet_pulses gate c →

@@ -1,8 +1,8 @@
 -- The state of the timer is spelled and read back.
 use Rattle.std.proofs.Common.{◌≡◌, ℕ, zero, suc, ◌<◌, ◌≤◌, Bool, true, false, List, [], ◌∷◌, length, take, get_or}
 use Rattle.std.proofs.Common.{Option, Some, None, is_some, refl, ap, ◌∙◌, arith, nat_lt}
-use Rattle.device_spec.specs.Pit.{Mode, TerminalCount, OneShot, RateGenerator, SquareWave, SoftwareStrobe}
-use Rattle.device_spec.specs.Pit.{HardwareStrobe, Access, LowByte, HighByte, LowThenHigh, Notation, Binary, Decimal}
+use Rattle.device_spec.specs.Pit.{Mode, TerminalCount}
+use Rattle.device_spec.specs.Pit.{Access, LowByte, HighByte, LowThenHigh, Notation, Binary, Decimal}
 use Rattle.device_spec.specs.Pit.{CounterState, PitState, mode_number, mode_numbered, access_number, notation_number}
 use Rattle.device_spec.specs.Pit.{notation_of_bit, bcd_bit}
 use Rattle.byte_fields.specs.Fields.{bound_where, flag_byte, IsWithin}
@@ -30,20 +30,12 @@ mode_again (suc (suc (suc (suc (suc (suc n)))))) few = absurd (omega arith)
 
 mode_few : (mode : Mode) → mode_number mode ≤ 5
 mode_few TerminalCount = omega arith
-mode_few OneShot = omega arith
-mode_few RateGenerator = omega arith
-mode_few SquareWave = omega arith
-mode_few SoftwareStrobe = omega arith
-mode_few HardwareStrobe = omega arith
+mode_few _ = omega arith
 
 mode_is : (mode : Mode) → mode ≡ mode_numbered (mode_number mode)
 unfolding mode_numbered
 mode_is TerminalCount = refl
-mode_is OneShot = refl
-mode_is RateGenerator = refl
-mode_is SquareWave = refl
-mode_is SoftwareStrobe = refl
-mode_is HardwareStrobe = refl
+mode_is _ = refl
 
 access_again : (n : ℕ) → Ranges 1 3 n → access_number (access_of n) ≡ n
 access_again zero good = absurd (omega (arith, good.0))

@@ -12,23 +12,11 @@ use Rattle.record_text.specs.Parts.{area_recorded}
 
 device_back : (dev : Dev) → FitsDevice dev → device_recorded (device_number dev) ≡ Some dev
 unfolding device_recorded
-device_back devices.Confadd fits = refl
-device_back devices.Reset fits = refl
-device_back devices.Pic0 fits = refl
-device_back devices.Pic1 fits = refl
-device_back devices.Pit fits = refl
-device_back devices.System fits = refl
-device_back devices.Keyboard fits = refl
-device_back devices.Clock fits = refl
-device_back devices.Elcr fits = refl
-device_back devices.Ata fits = refl
-device_back devices.Wires fits = refl
-device_back (devices.Vector zero) fits = refl
 device_back (devices.Vector (suc zero)) fits = refl
 device_back (devices.Vector (suc (suc chip))) fits = absurd (omega (arith, fits))
-device_back (devices.Spurious zero) fits = refl
 device_back (devices.Spurious (suc zero)) fits = refl
 device_back (devices.Spurious (suc (suc chip))) fits = absurd (omega (arith, fits))
+device_back _ fits = refl
 
 register_back : (reg : Reg) → FitsTarget (targets.Config reg)
     → target_recorded (target_said (targets.Config reg)) ≡ Some (targets.Config reg)
@@ -37,49 +25,28 @@ register_back reg fits = rw (lt-ltb reg.off 256 fits.2) refl
 
 target_back : (target : Target) → FitsTarget target → target_recorded (target_said target) ≡ Some target
 unfolding target_recorded
-target_back (targets.Dram row) fits = refl
-target_back (targets.Shadow row) fits = refl
-target_back targets.Smram fits = refl
-target_back (targets.Rom off) fits = refl
-target_back (targets.Card dev base off) fits = refl
 target_back (targets.Device dev) fits = rw (device_back dev fits) refl
 target_back (targets.Config reg) fits = register_back reg fits
-target_back targets.Abort fits = refl
+target_back _ fits = refl
 
 -- a denial leaves what answered as it is
 denied_target : (said : PartRecord) (denial : Option Denial)
     → target_recorded (with_denial said denial) ≡ target_recorded said
 unfolding target_recorded config_recorded
-denied_target said None = refl
 denied_target said (Some (Register reg)) = refl
-denied_target said (Some Confadd) = refl
-denied_target said (Some NoRegister) = refl
+denied_target said _ = refl
 
 not_denied : (target : Target) → (target_said target).denial ≡ 0
 not_denied (targets.Dram row) = refl
-not_denied (targets.Shadow row) = refl
-not_denied targets.Smram = refl
-not_denied (targets.Rom off) = refl
-not_denied (targets.Card dev base off) = refl
-not_denied (targets.Device dev) = refl
-not_denied (targets.Config reg) = refl
-not_denied targets.Abort = refl
+not_denied _ = refl
 
 unreserved : (target : Target) → (target_said target).reserved ≡ 0
 unreserved (targets.Dram row) = refl
-unreserved (targets.Shadow row) = refl
-unreserved targets.Smram = refl
-unreserved (targets.Rom off) = refl
-unreserved (targets.Card dev base off) = refl
-unreserved (targets.Device dev) = refl
-unreserved (targets.Config reg) = refl
-unreserved targets.Abort = refl
+unreserved _ = refl
 
 not_reserved : (target : Target) (denial : Option Denial) → (with_denial (target_said target) denial).reserved ≡ 0
-not_reserved target None = unreserved target
 not_reserved target (Some (Register reg)) = unreserved target
-not_reserved target (Some Confadd) = unreserved target
-not_reserved target (Some NoRegister) = unreserved target
+not_reserved target _ = unreserved target
 
 denial_back : (target : Target) (denial : Option Denial) → denial_recorded (part_said target denial) ≡ Some denial
 unfolding denial_recorded part_said
@@ -101,8 +68,4 @@ part_back part fits =
 pub area_back : (area : Area) → area_recorded (area_said area) ≡ Some area
 unfolding area_recorded
 area_back (areas.Dram row) = refl
-area_back (areas.Shadow row) = refl
-area_back areas.Smram = refl
-area_back areas.Rom = refl
-area_back (areas.Card dev base) = refl
-area_back areas.Abort = refl
+area_back _ = refl

@@ -6,9 +6,7 @@ use Rattle.board_prelude.proofs.Common.{get_or_past, Width, One, bytes_of, large
 use Rattle.board_prelude.proofs.Common.{Target, Dram, Shadow, Smram, Rom, Card, Device, Config, Abort, byte, wide}
 use Rattle.board_prelude.proofs.Common.{window_bits, target_at, dram_byte, card_byte, value_at}
 use Rattle.board_base.specs.declared.access.Width.TheVariants.{Two, Four}
-use Rattle.board_base.specs.declared.target.Area.TheVariants.{Dram as DramArea, Shadow as ShadowArea}
-use Rattle.board_base.specs.declared.target.Area.TheVariants.{Smram as SmramArea, Rom as RomArea, Card as CardArea}
-use Rattle.board_base.specs.declared.target.Area.TheVariants.{Abort as AbortArea}
+use Rattle.board_base.specs.declared.target.Area.TheVariants.{Rom as RomArea, Card as CardArea}
 use Rattle.pci_bars.specs.Common.{IsBaseNumber}
 use Rattle.pci_bars.specs.Contents.{slot_number}
 use Rattle.board_stores.proofs.ValueLemmas.{value_below, wide_below}
@@ -54,15 +52,12 @@ rom_moved addr i size width (inr (inr (inr is))) aligned within =
 pub target_moved : (setup : Setup) (area : Area) (addr i : ℕ) (width : Width) → IsRomSize (length setup.rom) →
     ((dev base : ℕ) → area ≡ CardArea dev base → IsWindow setup dev base) → addr % bytes_of width ≡ 0 →
     i < bytes_of width → target_at setup area (addr + i) ≡ moved (target_at setup area addr) i
-target_moved setup (DramArea row) addr i width size claim aligned within = refl
-target_moved setup (ShadowArea row) addr i width size claim aligned within = refl
-target_moved setup SmramArea addr i width size claim aligned within = refl
 target_moved setup RomArea addr i width size claim aligned within =
     ap Rom (rom_moved addr i (length setup.rom) width size aligned within)
 target_moved setup (CardArea dev base) addr i width size claim aligned within =
     ap (Card dev base)
     (window_moved addr i (window_bits setup dev base) width (claim dev base refl).least aligned within)
-target_moved setup AbortArea addr i width size claim aligned within = refl
+target_moved setup _ addr i width size claim aligned within = refl
 
 -- ---- what is read there
 
@@ -75,12 +70,8 @@ InMemory setup target = Unit {0}
 
 pub reaches_memory : (setup : Setup) (area : Area) (addr : ℕ) →
     ((dev base : ℕ) → area ≡ CardArea dev base → IsWindow setup dev base) → InMemory setup (target_at setup area addr)
-reaches_memory setup (DramArea row) addr claim = tt
-reaches_memory setup (ShadowArea row) addr claim = tt
-reaches_memory setup SmramArea addr claim = tt
-reaches_memory setup RomArea addr claim = tt
 reaches_memory setup (CardArea dev base) addr claim = claim dev base refl
-reaches_memory setup AbortArea addr claim = tt
+reaches_memory setup _ addr claim = tt
 
 of_one : (a : ℕ) → a < 256 → byte a 0 ≡ a
 of_one a p = omega (arith, p)
@@ -147,9 +138,6 @@ module _ (setup : Setup) (before : List Entry) (rom : (at : ℕ) → slice_index
 
   pub value_fits : (target : Target) (place : ℕ) (width : Width) → InMemory setup target →
       value_at setup before target place width < 256 ^ bytes_of width
-  value_fits (Dram row) place width is = wide_below (dram_byte setup before) place width dram_below
-  value_fits (Shadow row) place width is = wide_below (dram_byte setup before) place width dram_below
-  value_fits Smram place width is = wide_below (dram_byte setup before) place width dram_below
   value_fits (Rom off) place width is = wide_below (slice_index setup.rom) off width rom
   value_fits (Card dev base off) place width is =
       wide_below (λ at. card_byte setup before dev base at) off width (card_below dev base is.number)
@@ -158,15 +146,14 @@ module _ (setup : Setup) (before : List Entry) (rom : (at : ℕ) → slice_index
   value_fits Abort place One is = omega arith
   value_fits Abort place Two is = omega arith
   value_fits Abort place Four is = omega arith
+  value_fits _ place width is = wide_below (dram_byte setup before) place width dram_below
 
   pub byte_alone : (target : Target) (place i : ℕ) (width : Width) → InMemory setup target → i < bytes_of width →
       byte (value_at setup before target place width) i ≡ value_at setup before (moved target i) (place + i) One
-  byte_alone (Dram row) place i width is within = wide_byte (dram_byte setup before) place i width dram_below within
-  byte_alone (Shadow row) place i width is within = wide_byte (dram_byte setup before) place i width dram_below within
-  byte_alone Smram place i width is within = wide_byte (dram_byte setup before) place i width dram_below within
   byte_alone (Rom off) place i width is within = wide_byte (slice_index setup.rom) off i width rom within
   byte_alone (Card dev base off) place i width is within =
       wide_byte (λ at. card_byte setup before dev base at) off i width (card_below dev base is.number) within
   byte_alone (Device dev) place i width is within = absurd is
   byte_alone (Config reg) place i width is within = absurd is
   byte_alone Abort place i width is within = ones_byte i width within
+  byte_alone _ place i width is within = wide_byte (dram_byte setup before) place i width dram_below within

@@ -3,9 +3,9 @@ use Rattle.std.proofs.Common.{◌≡◌, ◌≢◌, ℕ, ◌+◌, ◌-◌, ◌%�
 use Rattle.std.proofs.Common.{◌++◌, length, Option, Some, None, inl, inr, refl, sym, ap, subst, ◌∙◌, arith, ◌==◌}
 use Rattle.std.proofs.Common.{nat_lt, map}
 use Rattle.board_prelude.proofs.Common.{and_parts, and_right, eqb-true, cases_Bool, cond-true, cond-false, eq-eqb}
-use Rattle.board_prelude.proofs.Common.{le-ltb, lt-ltb, Width, One, Kind, WideAccess, bytes_of, Area, Target, Dram}
-use Rattle.board_prelude.proofs.Common.{Shadow, Smram, Rom, Card, Device, Config, Abort, Denial, Register, Confadd}
-use Rattle.board_prelude.proofs.Common.{NoRegister, Entry, Setup, IsSetup, IsInRange, Memory, Wide, Port, Ack, Pulses}
+use Rattle.board_prelude.proofs.Common.{le-ltb, lt-ltb, Width, One, Kind, WideAccess, bytes_of, Area, Target}
+use Rattle.board_prelude.proofs.Common.{Card, Device, Config, Denial, Register}
+use Rattle.board_prelude.proofs.Common.{Entry, Setup, IsSetup, IsInRange, Memory, Wide, Port, Ack, Pulses}
 use Rattle.board_prelude.proofs.Common.{Time, Wire, Line, BadSector, Part, Parts, Reply, Bus, Saw, Bytes, byte}
 use Rattle.board_prelude.proofs.Common.{is_write, memory_target, memory_denial, parts_of, parts_list, joined, value_at}
 use Rattle.board_prelude.proofs.Common.{target_at, longest_at, address_count, expansion_byte, IsPart, AreParts, Covers}
@@ -39,10 +39,8 @@ use Rattle.rom_laws.proofs.ToldBytes.{value_told}
 
 by_denied : (roms : List (List ℕ)) (part : PartRecord) (denial : Option Denial) (i old : ℕ) →
     byte_by roms (Some (with_denial part denial, i)) old ≡ byte_by roms (Some (part, i)) old
-by_denied roms part None i old = refl
 by_denied roms part (Some (Register reg)) i old = refl
-by_denied roms part (Some Confadd) i old = refl
-by_denied roms part (Some NoRegister) i old = refl
+by_denied roms part _ i old = refl
 
 none_left : (roms : List (List ℕ)) (dev off : ℕ) → (length (given roms dev) == 0) ≡ true →
     rom_byte roms dev off ≡ expansion_byte dev off
@@ -53,10 +51,6 @@ none_left roms dev off none =
 by_target : (roms : List (List ℕ)) (setup : Setup) (before : List Entry) (target : Target) (i place old : ℕ) →
     InMemory setup target → old ≡ value_at setup before (moved target i) place One →
     byte_by roms (Some (target_said target, i)) old ≡ byte_of roms setup before (moved target i) place
-by_target roms setup before (Dram row) i place old is alone = alone
-by_target roms setup before (Shadow row) i place old is alone = alone
-by_target roms setup before Smram i place old is alone = alone
-by_target roms setup before (Rom off) i place old is alone = alone
 by_target roms setup before (Card dev base off) i place old is alone =
     elim (cases_Bool (base == 6)) [
       | inl rom ↦
@@ -69,7 +63,7 @@ by_target roms setup before (Card dev base off) i place old is alone =
     ]
 by_target roms setup before (Device dev) i place old is alone = absurd is
 by_target roms setup before (Config reg) i place old is alone = absurd is
-by_target roms setup before Abort i place old is alone = alone
+by_target roms setup before _ i place old is alone = alone
 
 -- ---- the byte of a part alone
 

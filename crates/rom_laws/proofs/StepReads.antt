@@ -1,7 +1,7 @@
 -- Each byte that a step reads of memory is the one that a read of that byte alone gives.
 use Rattle.std.proofs.Common.{◌≡◌, ℕ, ◌+◌, ◌<◌, ◌==◌, false, List, Option, Some, None, refl, sym, ap, subst, ◌∙◌, arith}
-use Rattle.board_prelude.proofs.Common.{WideAccess, Target, Dram, Shadow, Smram, Rom, Card, Device, Config, Abort}
-use Rattle.board_prelude.proofs.Common.{Denial, Register, Confadd, NoRegister, Entry, Setup, IsSetup, IsAnswer, Event}
+use Rattle.board_prelude.proofs.Common.{WideAccess, Target, Device, Config}
+use Rattle.board_prelude.proofs.Common.{Denial, Register, Entry, Setup, IsSetup, IsAnswer, Event}
 use Rattle.board_prelude.proofs.Common.{Memory, Wide, Port, Ack, Pulses, Time, Wire, Line, BadSector, Parts, Reply, Bus}
 use Rattle.board_prelude.proofs.Common.{Saw, byte, memory_target, memory_denial}
 use Rattle.board_base.specs.declared.access.Access.{Access}
@@ -33,20 +33,13 @@ use Rattle.rom_laws.proofs.SaidReads.{IsReadSaid, read_said}
 
 same_target : (target : Target) (denial : Option Denial) →
     (with_denial (target_said target) denial).target ≡ (target_said target).target
-same_target target None = refl
 same_target target (Some (Register reg)) = refl
-same_target target (Some Confadd) = refl
-same_target target (Some NoRegister) = refl
+same_target target _ = refl
 
 no_config : (setup : Setup) (target : Target) → InMemory setup target → ((target_said target).target == 7) ≡ false
-no_config setup (Dram row) is = refl
-no_config setup (Shadow row) is = refl
-no_config setup Smram is = refl
-no_config setup (Rom off) is = refl
-no_config setup (Card dev base off) is = refl
 no_config setup (Device dev) is = absurd is
 no_config setup (Config reg) is = absurd is
-no_config setup Abort is = refl
+no_config setup _ is = refl
 
 no_config_part : (setup : Setup) (target : Target) (denial : Option Denial) → InMemory setup target →
     ((part_said target denial).target == 7) ≡ false

@@ -2,12 +2,12 @@
 use Rattle.std.proofs.Common.{◌≡◌, ℕ, zero, suc, ◌==◌, nat_lt, Bool, true, List, [], ◌∷◌, ◌++◌, length, refl, sym, ◌∙◌}
 use Rattle.std.proofs.Common.{ap, inl, inr, Option, Some, None, unwrap_or, option_map, option_and_then, if◌then◌else◌}
 use Rattle.board_prelude.proofs.Common.{option_to_list, option_map_or, cases_Bool, WideAccess, PortAccess, Kind, Width}
-use Rattle.board_prelude.proofs.Common.{Reg, Target, Dram, Shadow, Smram, Rom, Card, Device, Config, Abort, Dev, Pic0}
+use Rattle.board_prelude.proofs.Common.{Reg, Target, Rom, Card, Device, Config, Abort, Dev, Pic0}
 use Rattle.board_prelude.proofs.Common.{Pic1, Pit, System, Keyboard, Elcr, Ata, largest_of}
 use Rattle.board_prelude.proofs.Common.{Triggers, triggers_at_reset, trigger_byte, PitState, out_of, pulses, port_read}
 use Rattle.board_prelude.proofs.Common.{reset as timer_at_reset, Clock, after_reset as clock_after_reset, read_value}
 use Rattle.board_prelude.proofs.Common.{Disk, read_of, Pair, pair_at_reset, pair_after_lines, port_byte, answer_of}
-use Rattle.board_prelude.proofs.Common.{Event, Memory, Wide, Port, Ack, Pulses, Time, Wire, Line, BadSector, Look}
+use Rattle.board_prelude.proofs.Common.{Event, Memory, Wide, Port, Ack, Pulses, Look}
 use Rattle.board_prelude.proofs.Common.{Parts as PartList, Reply, Bus, Saw, Entry, MapChange, Setup, installed, wide}
 use Rattle.board_prelude.proofs.Common.{pirq, control_written, control_after, resets_hard, reset_control, is_hard_reset}
 use Rattle.board_prelude.proofs.Common.{address_written, kept_address, config_address, config_store, register_change}
@@ -367,15 +367,13 @@ module _ (leaves : MemoryLeavesDevices) (setup : Setup) (final before : List Ent
 
     value_same : (target : Target) (addr : ℕ) (width : Width)
         → value_at setup final target addr width ≡ value_at setup before target addr width
-    value_same (Dram row) addr width = ap (λ (f : ℕ → ℕ). wide f addr width) dram_same
-    value_same (Shadow row) addr width = ap (λ (f : ℕ → ℕ). wide f addr width) dram_same
-    value_same Smram addr width = ap (λ (f : ℕ → ℕ). wide f addr width) dram_same
     value_same (Rom off) addr width = refl
     value_same (Card dev base off) addr width = ap (λ (f : ℕ → ℕ). wide f off width) (card_same dev base)
     value_same (Config reg) addr width = ap (λ (f : Reg → ℕ). wide (λ off. f (record reg { off = off })) reg.off width)
         bytes_same
     value_same (Device dev) addr width = port_same dev addr width
     value_same Abort addr width = refl
+    value_same _ addr width = ap (λ (f : ℕ → ℕ). wide f addr width) dram_same
 
     values_same : value_at setup final ≡ value_at setup before
     values_same = λ i target addr width. value_same target addr width i
@@ -427,11 +425,7 @@ module _ (leaves : MemoryLeavesDevices) (setup : Setup) (final before : List Ent
     blind_at (LookAt kind addr smm) (Bus value target denial) answer = absurd answer
     blind_at (LookAt kind addr smm) (Parts parts value) answer = absurd answer
     blind_at Ack reply answer = ack_same reply answer
-    blind_at (Pulses count) reply answer = answer
-    blind_at (Time moment) reply answer = answer
-    blind_at (Wire dev on) reply answer = answer
-    blind_at (Line irq on) reply answer = answer
-    blind_at (BadSector sector) reply answer = answer
+    blind_at _ reply answer = answer
 
 pub answers_are_blind : MemoryLeavesDevices → AnswersAreBlind
 answers_are_blind leaves setup before other same event reply answer = blind_at leaves setup before other same event

@@ -1,8 +1,8 @@
 -- Each look is in its place.
 use Rattle.std.proofs.Common.{◌≡◌, ℕ, ◌+◌, ◌<◌, ◌≤◌, ◌==◌, nat_le, nat_lt, true, false, List, [], ◌∷◌, ◌++◌, length}
 use Rattle.std.proofs.Common.{All, refl, sym, ◌∙◌, ap, subst, arith, inl, inr}
-use Rattle.board_prelude.proofs.Common.{cases_Bool, nat_tests, Event, Memory, Wide, Port, Ack, Pulses, Time, Wire, Line}
-use Rattle.board_prelude.proofs.Common.{BadSector, Reply, Saw, Entry, Setup, map_writes_of, version_of, IsNext, IsLegal}
+use Rattle.board_prelude.proofs.Common.{cases_Bool, nat_tests, Event}
+use Rattle.board_prelude.proofs.Common.{Reply, Saw, Entry, Setup, map_writes_of, version_of, IsNext, IsLegal}
 use Rattle.board_prelude.proofs.Common.{next_entry}
 use Rattle.board_spec.specs.declared.event.Event.TheVariants.{Look as LookAt}
 use Rattle.run_order.specs.declared.done.Done.{Done}
@@ -52,15 +52,7 @@ lower_on first (entry ∷ looks) lower = (lower.0, omega (arith, lower.1), lower
 call_in_place : (setup : Setup) (history before : List Entry) (actor : ℕ) (event : Event) (reply : Reply)
     → is_look event ≡ false → IsInPlace setup history before actor event reply
 call_in_place setup history before actor (LookAt kind addr smm) reply not = absurd (cc not)
-call_in_place setup history before actor (Memory access) reply not = tt
-call_in_place setup history before actor (Wide access) reply not = tt
-call_in_place setup history before actor (Port access) reply not = tt
-call_in_place setup history before actor Ack reply not = tt
-call_in_place setup history before actor (Pulses count) reply not = tt
-call_in_place setup history before actor (Time moment) reply not = tt
-call_in_place setup history before actor (Wire dev on) reply not = tt
-call_in_place setup history before actor (Line irq on) reply not = tt
-call_in_place setup history before actor (BadSector sector) reply not = tt
+call_in_place setup history before actor _ reply not = tt
 
 -- ---- what is left of each processor's statements
 

@@ -1,12 +1,11 @@
 -- Events that have a form, and that there is no reason to refuse, are in range.
 use Rattle.std.proofs.Common.{ℕ, ◌≡◌, ◌+◌, ◌%◌, Bool, true, false, List, arith, is_some}
 use Rattle.board_prelude.proofs.Common.{leb-true, eqb-true, Width, One, Moment, bytes_of, IsMoment, Event}
-use Rattle.board_prelude.proofs.Common.{Memory, Wide, Port, Ack, Pulses, Time, Wire, Line, BadSector, Setup, card_at}
+use Rattle.board_prelude.proofs.Common.{Memory, Wide, Port, Pulses, Time, Wire, Line, BadSector, Setup, card_at}
 use Rattle.board_prelude.proofs.Common.{is_write, FitsAccess, FitsBytes, IsInRange, IsScriptSector, IsInVersion}
 use Rattle.board_prelude.proofs.Common.{is_moment}
 use Rattle.board_base.specs.declared.access.Width.TheVariants.{Two, Four}
 use Rattle.board_base.proofs.CalendarLemmas.{six_parts, is_within_parts}
-use Rattle.board_spec.specs.declared.event.Event.TheVariants.{Look as LookAt}
 use Rattle.script_spec.specs.Common.{Item, IsMomentForm, IsEventForm, has_card, is_event_in_range, is_event_placed}
 use Rattle.script_spec.specs.Common.{is_card_there}
 
@@ -64,34 +63,16 @@ event_in_range version setup before (Port access) form range place there cards =
   aligned = eqb-true (access.port % bytes_of access.width) 0 place;
   fits = fits_access access.write access.width access.value form.value;
 }
-event_in_range version setup before (LookAt kind addr smm) form range place there cards = tt
-event_in_range version setup before Ack form range place there cards = tt
 event_in_range version setup before (Pulses count) form range place there cards = is_within_parts _ _ count range
 event_in_range version setup before (Time moment) form range place there cards = moment_there moment form range
 event_in_range version setup before (Wire dev on) form range place there cards = cards dev there
 event_in_range version setup before (Line irq on) form range place there cards = range
-event_in_range version setup before (BadSector sector) form range place there cards = tt
+event_in_range version setup before _ form range place there cards = tt
 
 pub sector_in_range : (event : Event) → is_event_in_range event ≡ true → IsScriptSector event
 sector_in_range (BadSector sector) range = let e = leb-true sector _ range in omega (arith, e)
-sector_in_range (Memory access) range = tt
-sector_in_range (Wide access) range = tt
-sector_in_range (Port access) range = tt
-sector_in_range (LookAt kind addr smm) range = tt
-sector_in_range Ack range = tt
-sector_in_range (Pulses count) range = tt
-sector_in_range (Time moment) range = tt
-sector_in_range (Wire dev on) range = tt
-sector_in_range (Line irq on) range = tt
+sector_in_range _ range = tt
 
 pub event_in_version : (version : ℕ) (event : Event) → IsEventForm version event → IsInVersion version event
 event_in_version version (Wide access) form = form.second
-event_in_version version (Memory access) form = tt
-event_in_version version (Port access) form = tt
-event_in_version version (LookAt kind addr smm) form = tt
-event_in_version version Ack form = tt
-event_in_version version (Pulses count) form = tt
-event_in_version version (Time moment) form = tt
-event_in_version version (Wire dev on) form = tt
-event_in_version version (Line irq on) form = tt
-event_in_version version (BadSector sector) form = tt
+event_in_version version _ form = tt

@@ -1,10 +1,10 @@
 -- The bytes of the log's words: spaces, letters, digits and a few marks, but no line feed and no `=`.
 use Rattle.std.proofs.Common.{ℕ, zero, suc, ◌≡◌, ◌+◌, ◌/◌, ◌%◌, ◌<◌, Bool, true, false, ◌||◌, cond, eqb, leb, ltb}
-use Rattle.std.proofs.Common.{Option, Some, None, List, [], ◌∷◌, ◌++◌, refl, sym, ap, ◌∙◌, inl, inr, arith, codes}
+use Rattle.std.proofs.Common.{Option, Some, List, [], ◌∷◌, ◌++◌, refl, sym, ap, ◌∙◌, inl, inr, arith, codes}
 use Rattle.std.proofs.Common.{decimal}
 use Rattle.board_prelude.proofs.Common.{digits, list_all, le-leb, lt-ltb, le-ltb, ne_eqb, cases_lt, cases_Bool}
 use Rattle.board_prelude.proofs.Common.{and_from, and_parts, or_right, or_left, true≢false, Reg, Dev, Area, Target}
-use Rattle.board_prelude.proofs.Common.{Denial, Register, Confadd, NoRegister, byte, is_within, space, hex_digit}
+use Rattle.board_prelude.proofs.Common.{Denial, Register, byte, is_within, space, hex_digit}
 use Rattle.board_prelude.proofs.Common.{hex_number, hex_offset, register_text, base_text, area_text, device_text}
 use Rattle.board_prelude.proofs.Common.{target_text, denial_text}
 use Rattle.std.specs.Fmt.{digits_onto, digit_glyph}
@@ -108,27 +108,15 @@ offset_word off = word-more (hex_digit (byte off 2)) (hex_number 2 off) (hex_dig
     (hex_number_word 2 off)
 
 device_word : (dev : Dev) → is_word (device_text dev) ≡ true
-device_word devices.Confadd = refl
-device_word devices.Reset = refl
-device_word devices.Pic0 = refl
-device_word devices.Pic1 = refl
-device_word devices.Pit = refl
-device_word devices.System = refl
-device_word devices.Keyboard = refl
-device_word devices.Clock = refl
-device_word devices.Elcr = refl
-device_word devices.Ata = refl
-device_word devices.Wires = refl
 device_word (devices.Vector chip) = decimal_word chip
 device_word (devices.Spurious chip) = decimal_word chip
+device_word _ = refl
 
 pub area_word : (area : Area) → is_word (area_text area) ≡ true
 area_word (areas.Dram row) = decimal_word row
 area_word (areas.Shadow row) = decimal_word row
-area_word areas.Smram = refl
-area_word areas.Rom = refl
 area_word (areas.Card dev base) = base_word_text dev base
-area_word areas.Abort = refl
+area_word _ = refl
 
 pub target_word : (target : Target) → is_word (target_text target) ≡ true
 target_word (targets.Dram row) = decimal_word row
@@ -143,10 +131,8 @@ target_word (targets.Config reg) = register_word reg
 target_word targets.Abort = refl
 
 pub denial_word : (denial : Option Denial) → is_word (denial_text denial) ≡ true
-denial_word None = refl
 denial_word (Some (Register reg)) = register_word reg
-denial_word (Some Confadd) = refl
-denial_word (Some NoRegister) = refl
+denial_word _ = refl
 
 -- ---- words and spaces
 

@@ -53,13 +53,7 @@ OnAsk P _ = Unit {0}
 has_card_more : (item : Item) (before : List Item) (dev : ℕ) → has_card before dev ≡ true →
     has_card (item ∷ before) dev ≡ true
 has_card_more (FitCard card) before dev has = or_right (card.dev == dev) (has_card before dev) has
-has_card_more (SetCpus count) before dev has = has
-has_card_more (SetMemory mib) before dev has = has
-has_card_more (SetRom name) before dev has = has
-has_card_more (SetDisk name) before dev has = has
-has_card_more BeginPhase before dev has = has
-has_card_more (Ask statement) before dev has = has
-has_card_more (AskLevel actor verb number level) before dev has = has
+has_card_more _ before dev has = has
 
 scripted :
     (version cpus : ℕ) (setup : Setup) (before : List Item) (item : Item) →
@@ -77,12 +71,7 @@ scripted version cpus setup before (Ask statement) above cards form none =
       said = event_in_version version statement.event form.1;
     }
 scripted version cpus setup before (SetCpus count) above cards form none = tt
-scripted version cpus setup before (SetMemory mib) above cards form none = tt
-scripted version cpus setup before (SetRom name) above cards form none = tt
-scripted version cpus setup before (SetDisk name) above cards form none = tt
-scripted version cpus setup before (FitCard card) above cards form none = tt
-scripted version cpus setup before BeginPhase above cards form none = tt
-scripted version cpus setup before (AskLevel actor verb number level) above cards form none = tt
+scripted version cpus setup before _ above cards form none = tt
 
 all_scripted :
     (version cpus : ℕ) (setup : Setup) (items : List Item) →

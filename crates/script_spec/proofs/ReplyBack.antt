@@ -4,7 +4,7 @@ use Rattle.std.proofs.Common.{None, List, [], ◌∷◌, ◌++◌, length, All, 
 use Rattle.std.proofs.Common.{append_assoc, append-nil, arith, lit<, decimal, IfSome, IsTrue}
 use Rattle.board_prelude.proofs.Common.{option_map, pow-le-pow_right, cases_Bool, eq-eqb, eqb-true, true≢false}
 use Rattle.board_prelude.proofs.Common.{All-head, All-tail, Kind, Fetch, Read, Write, WideAccess, Target, Denial}
-use Rattle.board_prelude.proofs.Common.{bytes_of, Event, Memory, Wide, Port, Ack, Pulses, Time, Wire, Line, BadSector}
+use Rattle.board_prelude.proofs.Common.{bytes_of, Event, Memory, Wide, Port, Ack}
 use Rattle.board_prelude.proofs.Common.{Look, Part, Parts, Two, Three, Four, Reply, Bus, Saw, is_write, longest_at}
 use Rattle.board_prelude.proofs.Common.{parts_from, parts_of, parts_list, space, hex_long, area_text, target_text}
 use Rattle.board_prelude.proofs.Common.{denial_text, value_bytes, value_text, answered_text, reply_text}
@@ -202,11 +202,7 @@ reply_back (Wide access) reply shape = wide_back access reply shape
 reply_back (Port access) reply shape = bus_back access.write (bytes_of access.width) reply shape
 reply_back (LookAt kind addr smm) reply shape = look_back 1 reply shape
 reply_back Ack reply shape = bus_back false 1 reply shape
-reply_back (Pulses count) reply shape = ap Some (sym shape)
-reply_back (Time moment) reply shape = ap Some (sym shape)
-reply_back (Wire dev on) reply shape = ap Some (sym shape)
-reply_back (Line irq on) reply shape = ap Some (sym shape)
-reply_back (BadSector sector) reply shape = ap Some (sym shape)
+reply_back _ reply shape = ap Some (sym shape)
 
 pub reply_read : (event : Event) (reply : Reply) → HasShape event reply
     → parse_spaced_reply event (fields_of (space ∷ reply_text (value_bytes event) reply)) ≡ Some reply

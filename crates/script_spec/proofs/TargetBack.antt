@@ -1,9 +1,9 @@
 -- A word of a reply is read as what it names.
 use Rattle.std.proofs.Common.{◌≡◌, ℕ, zero, suc, ◌+◌, ◌*◌, ◌/◌, ◌%◌, ◌^◌, ◌<◌, ◌⊎◌, true, false, cond, eqb, ltb, Option}
-use Rattle.std.proofs.Common.{Some, None, List, [], ◌∷◌, ◌++◌, refl, sym, ap, ◌∙◌, inl, inr, append_assoc, arith, codes}
+use Rattle.std.proofs.Common.{Some, List, [], ◌∷◌, ◌++◌, refl, sym, ap, ◌∙◌, inl, inr, append_assoc, arith, codes}
 use Rattle.std.proofs.Common.{decimal}
 use Rattle.board_prelude.proofs.Common.{digits, option_map, lt-ltb, le-ltb, ne_eqb, cases_lt, Reg, Dev, Area, Target}
-use Rattle.board_prelude.proofs.Common.{Denial, Register, Confadd, NoRegister, byte, hex_digit, hex_byte, hex_number}
+use Rattle.board_prelude.proofs.Common.{Denial, Register, byte, hex_digit, hex_byte, hex_number}
 use Rattle.board_prelude.proofs.Common.{hex_long, hex_offset, register_text, area_text, device_text, target_text}
 use Rattle.board_prelude.proofs.Common.{denial_text}
 use Rattle.std.proofs.lemmas.Fmt.{decimal_digit}
@@ -90,11 +90,9 @@ register_back reg fits =
 
 pub denial_back : (denial : Option Denial) → FitsDenial denial → parse_denial (denial_text denial) ≡ Some denial
 unfolding parse_denial parse_register cut
-denial_back None fits = refl
 denial_back (Some (Register reg)) fits = ap (λ (r : Option Reg). denial_with r (register_text reg))
     (register_back reg fits)
-denial_back (Some Confadd) fits = refl
-denial_back (Some NoRegister) fits = refl
+denial_back _ fits = refl
 
 -- ---- areas
 
@@ -120,10 +118,8 @@ pub area_back : (area : Area) → FitsArea area → parse_area (area_text area) 
 unfolding parse_area parse_placed_area cut
 area_back (areas.Dram row) fits = ap (option_map areas.Dram) (digit_back row fits)
 area_back (areas.Shadow row) fits = ap (option_map areas.Shadow) (digit_back row fits)
-area_back areas.Smram fits = refl
-area_back areas.Rom fits = refl
 area_back (areas.Card dev base) fits = ap (option_map (λ p. areas.Card p.0 p.1)) (base_parts dev base fits.0 fits.1)
-area_back areas.Abort fits = refl
+area_back _ fits = refl
 
 -- ---- targets
 
@@ -152,23 +148,11 @@ card_back dev base off one two three =
 
 device_back : (dev : Dev) → FitsDevice dev → parse_target (device_text dev) ≡ Some (targets.Device dev)
 unfolding parse_target parse_device digits
-device_back devices.Confadd fits = refl
-device_back devices.Reset fits = refl
-device_back devices.Pic0 fits = refl
-device_back devices.Pic1 fits = refl
-device_back devices.Pit fits = refl
-device_back devices.System fits = refl
-device_back devices.Keyboard fits = refl
-device_back devices.Clock fits = refl
-device_back devices.Elcr fits = refl
-device_back devices.Ata fits = refl
-device_back devices.Wires fits = refl
-device_back (devices.Vector zero) fits = refl
 device_back (devices.Vector (suc zero)) fits = refl
 device_back (devices.Vector (suc (suc chip))) fits = absurd (omega (arith, fits))
-device_back (devices.Spurious zero) fits = refl
 device_back (devices.Spurious (suc zero)) fits = refl
 device_back (devices.Spurious (suc (suc chip))) fits = absurd (omega (arith, fits))
+device_back _ fits = refl
 
 pub target_back : (target : Target) → FitsTarget target → parse_target (target_text target) ≡ Some target
 unfolding parse_target parse_device parse_placed_target cut

@@ -3,12 +3,11 @@ use Rattle.std.proofs.Common.{ℕ, ◌≡◌, ◌+◌, ◌<◌, ◌≤◌, Bool,
 use Rattle.std.proofs.Common.{Err, List, [], ◌∷◌, length, filter, flat_map, sum_by, refl, sym, ap, ◌∙◌, arith, ◌==◌}
 use Rattle.std.proofs.Common.{nat_le, nat_lt, is_some, if◌then◌else◌, codes}
 use Rattle.board_prelude.proofs.Common.{option_map, find, list_any, false≢true, le-ltb, lt-ltb, leb-true, or_right}
-use Rattle.board_prelude.proofs.Common.{and_parts, none-some, sum_by-append, sum_by-cons, Event, Memory, Wide, Port}
-use Rattle.board_prelude.proofs.Common.{Ack, Pulses, Time, Wire, Line, BadSector, Statement, FittedCard, memory_size}
+use Rattle.board_prelude.proofs.Common.{and_parts, none-some, sum_by-append, sum_by-cons, Event}
+use Rattle.board_prelude.proofs.Common.{Pulses, Time, Wire, Line, Statement, FittedCard, memory_size}
 use Rattle.board_prelude.proofs.Common.{memory_of_cards}
 use Rattle.std.specs.Result.{IsErr, IsErrAnd}
 use Rattle.std.proofs.lemmas.List.Sorted.{list_any-IsPermutation}
-use Rattle.board_spec.specs.declared.event.Event.TheVariants.{Look as LookAt}
 use Rattle.script_spec.specs.Common.{Item, SetCpus, SetMemory, SetRom, SetDisk, FitCard, BeginPhase, Ask, AskLevel}
 use Rattle.script_spec.specs.Common.{reason, is_phase, is_statement, is_setup, is_cpus, is_memory, is_rom, is_disk}
 use Rattle.script_spec.specs.Common.{is_cpus_above, cards_of, has_card, has_setup, lacks_setup, is_misplaced}
@@ -217,15 +216,7 @@ asked_begun items actor asked =
 
 pub few_pulses : (event : Event) → is_event_in_range event ≡ true → pulses_of_event event ≤ 1_000_000
 few_pulses (Pulses count) e = leb-true count 1_000_000 (and_parts (nat_le 1 count) (nat_le count 1_000_000) e).1
-few_pulses (Memory access) e = omega arith
-few_pulses (Wide access) e = omega arith
-few_pulses (Port access) e = omega arith
-few_pulses (LookAt kind addr smm) e = omega arith
-few_pulses Ack e = omega arith
-few_pulses (Time moment) e = omega arith
-few_pulses (Wire dev on) e = omega arith
-few_pulses (Line irq on) e = omega arith
-few_pulses (BadSector sector) e = omega arith
+few_pulses _ e = omega arith
 
 -- ---- numbers in range
 
@@ -293,13 +284,7 @@ memory_with _ memory = memory
 memory_more : (item : Item) (items : List Item) →
     memory_of_cards (cards_of (item ∷ items)) ≡ memory_with item (memory_of_cards (cards_of items))
 memory_more (FitCard card) items = memory_cons card (cards_of items)
-memory_more (SetCpus count) items = refl
-memory_more (SetMemory mib) items = refl
-memory_more (SetRom name) items = refl
-memory_more (SetDisk name) items = refl
-memory_more BeginPhase items = refl
-memory_more (Ask statement) items = refl
-memory_more (AskLevel actor verb number level) items = refl
+memory_more _ items = refl
 
 -- with one item more
 pub limits_with : (items : List Item) (reading : Reading) (item : Item) → IsReadingOf items reading →

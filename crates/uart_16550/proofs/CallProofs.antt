@@ -1,9 +1,8 @@
 -- No byte that was received is lost, and all are read in their order.
 use Rattle.std.proofs.Common.{◌≡◌, ℕ, Bool, true, List, [], ◌∷◌, ◌++◌, length, inl, inr, refl, sym, ap, ◌∙◌}
 use Rattle.std.proofs.Common.{append_assoc, ◌==◌, Option, Some, None}
-use Rattle.board_prelude.proofs.Common.{cases_Bool, ne_eqb, append-nil, Event, Memory, Wide, Port, Ack, Pulses, Time}
-use Rattle.board_prelude.proofs.Common.{Wire, Line, BadSector, control_written, resets_hard, not-true}
-use Rattle.board_spec.specs.declared.event.Event.TheVariants.{Look as LookAt}
+use Rattle.board_prelude.proofs.Common.{cases_Bool, ne_eqb, append-nil, Event, Memory, Port}
+use Rattle.board_prelude.proofs.Common.{Line, control_written, resets_hard, not-true}
 use Rattle.uart_16550.specs.declared.interrupt.Interrupt.{Interrupt}
 use Rattle.uart_16550.specs.declared.interrupt.Interrupt.TheVariants.{LineStatus, DataAvailable, TransmitterEmpty}
 use Rattle.uart_16550.specs.declared.interrupt.Interrupt.TheVariants.{ModemStatus}
@@ -38,28 +37,14 @@ pub read_in_order : (uart : Uart) (register : ReadRegister) →
 unfolding value_of after_value
 read_in_order uart read.Rbr = front_and_rest uart.queue
 read_in_order uart read.Iir = identity_keeps (pending uart) uart
-read_in_order uart read.Dll = refl
-read_in_order uart read.Ier = refl
-read_in_order uart read.Dlm = refl
-read_in_order uart read.Lcr = refl
-read_in_order uart read.Mcr = refl
-read_in_order uart read.Lsr = refl
-read_in_order uart read.Msr = refl
-read_in_order uart read.Scr = refl
+read_in_order uart _ = refl
 
 pub write_keeps : (uart : Uart) (register : WriteRegister) (byte : ℕ) → is_kept uart register byte ≡ true →
     (with_value uart register byte).queue ≡ uart.queue
 unfolding with_value
 write_keeps uart write.Thr byte kept = rw (not-true (is_loopback uart) kept) refl
 write_keeps uart write.Fcr byte kept = rw (not-true (is_emptying uart byte) kept) refl
-write_keeps uart write.Dll byte kept = refl
-write_keeps uart write.Ier byte kept = refl
-write_keeps uart write.Dlm byte kept = refl
-write_keeps uart write.Lcr byte kept = refl
-write_keeps uart write.Mcr byte kept = refl
-write_keeps uart write.Lsr byte kept = refl
-write_keeps uart write.Msr byte kept = refl
-write_keeps uart write.Scr byte kept = refl
+write_keeps uart _ byte kept = refl
 
 call_in_order : (uart : Uart) (call : Call) → is_keeping uart call ≡ true →
     taken uart call ++ (after_call uart call).queue ≡ uart.queue ++ brought call
@@ -94,13 +79,7 @@ event_is_calls resets (Port access) com1 = elim (cases_Bool (is_for_uart access)
 event_is_calls resets (Line irq on) com1 =
     elim (cases_Bool (irq == com1_irq)) [ inl own ↦ rw own refl | inr other ↦ rw other refl ]
 event_is_calls resets (Memory access) com1 = refl
-event_is_calls resets (Wide access) com1 = refl
-event_is_calls resets (LookAt kind addr smm) com1 = refl
-event_is_calls resets Ack com1 = refl
-event_is_calls resets (Pulses count) com1 = refl
-event_is_calls resets (Time moment) com1 = refl
-event_is_calls resets (Wire dev on) com1 = refl
-event_is_calls resets (BadSector sector) com1 = refl
+event_is_calls resets _ com1 = refl
 
 event_brings_nothing : (resets : Bool) (event : Event) → all_brought (calls_of resets event) ≡ []
 event_brings_nothing resets (Port access) = elim (cases_Bool (is_for_uart access)) [
@@ -111,14 +90,7 @@ event_brings_nothing resets (Port access) = elim (cases_Bool (is_for_uart access
   | inr board ↦ elim (cases_Bool resets) [ inl hard ↦ rw (board, hard) refl | inr soft ↦ rw (board, soft) refl ]
 ]
 event_brings_nothing resets (Line irq on) = refl
-event_brings_nothing resets (Memory access) = refl
-event_brings_nothing resets (Wide access) = refl
-event_brings_nothing resets (LookAt kind addr smm) = refl
-event_brings_nothing resets Ack = refl
-event_brings_nothing resets (Pulses count) = refl
-event_brings_nothing resets (Time moment) = refl
-event_brings_nothing resets (Wire dev on) = refl
-event_brings_nothing resets (BadSector sector) = refl
+event_brings_nothing resets _ = refl
 
 calls_in_turn : (uart : Uart) (first later : List Call) →
     after_calls uart (first ++ later) ≡ after_calls (after_calls uart first) later

@@ -1,11 +1,10 @@
 -- The reset control register of a board with a serial port.
 use Rattle.std.proofs.Common.{◌≡◌, ℕ, Bool, true, false, ◌&&◌, List, [], ◌∷◌, ◌++◌, inl, inr, refl, sym, ap, ◌∙◌, ◌==◌}
 use Rattle.std.proofs.Common.{nat_le, if◌then◌else◌, Some, None}
-use Rattle.board_prelude.proofs.Common.{cases_Bool, ne_eqb, PortAccess, bytes_of, Event, Memory, Wide, Port, Ack}
-use Rattle.board_prelude.proofs.Common.{Pulses, Time, Wire, Line, BadSector, Entry, Statement, reset_control_port}
+use Rattle.board_prelude.proofs.Common.{cases_Bool, ne_eqb, PortAccess, bytes_of, Event, Memory, Port}
+use Rattle.board_prelude.proofs.Common.{Entry, Statement, reset_control_port}
 use Rattle.board_prelude.proofs.Common.{control_written, control_after, reset_control, is_hard_reset, statement_of}
 use Rattle.board_prelude.proofs.Common.{statements_of}
-use Rattle.board_spec.specs.declared.event.Event.TheVariants.{Look as LookAt}
 use Rattle.board_spec.proofs.OrderLawProofs.{statements-append}
 use Rattle.uart_16550.specs.declared.com1.Com1.{Com1}
 use Rattle.uart_16550.specs.Common.{differ, is_for_uart, level_of, line_steps, com1_after, board_steps, uart_after}
@@ -74,14 +73,7 @@ control_stepped control actor resets (Port access) com1 =
           (level_of (if resets then record com1 { uart = uart_at_reset } else com1)))
     ]
 control_stepped control actor resets (Memory access) com1 = refl
-control_stepped control actor resets (Wide access) com1 = refl
-control_stepped control actor resets (LookAt kind addr smm) com1 = refl
-control_stepped control actor resets Ack com1 = refl
-control_stepped control actor resets (Pulses count) com1 = refl
-control_stepped control actor resets (Time moment) com1 = refl
-control_stepped control actor resets (Wire dev on) com1 = refl
-control_stepped control actor resets (Line irq on) com1 = refl
-control_stepped control actor resets (BadSector sector) com1 = refl
+control_stepped control actor resets _ com1 = refl
 
 pub control_follows : ControlFollows
 control_follows history after actor event com1 goes_on =
