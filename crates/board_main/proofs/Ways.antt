@@ -3,7 +3,8 @@ use Rattle.std.proofs.Common.{◌≡◌, ◌≢◌, ◌↔◌, ◌⊎◌, ℕ, L
 use Rattle.board_prelude.proofs.Common.{Keeps}
 use Rattle.command_words.specs.Words.{Command, command_of}
 use Rattle.command_files.specs.declared.status.Status.{Status}
-use Rattle.command_files.specs.declared.status.Status.TheVariants.{Done, Usage}
+use Rattle.command_files.specs.declared.status.Status.TheVariants.{Done, Usage, ReadFault, WriteFault, TooLong}
+use Rattle.command_files.specs.declared.status.Status.TheVariants.{BadScript, BadImage, Differs, NoMemory, OtherBoard}
 use Rattle.command_files.specs.Common.{Files, ShelfCall}
 use Rattle.command_files.specs.FaultText.{text_of}
 use Rattle.board_commands.specs.Outcomes.{SinkCall}
@@ -14,8 +15,16 @@ use Rattle.board_main.specs.Ends.{AreFetchesFor}
 
 -- an answer of the program's own is no faulty command line
 written_is_no_usage : (status : Status) (text : List ℕ) (sink : SinkCall) → IsWritten status text sink → status ≢ Usage
+written_is_no_usage Done text sink written is = absurd (cc is)
 written_is_no_usage Usage text sink written is = absurd written
-written_is_no_usage _ text sink written is = absurd (cc is)
+written_is_no_usage (ReadFault which) text sink written is = absurd (cc is)
+written_is_no_usage WriteFault text sink written is = absurd (cc is)
+written_is_no_usage (TooLong which) text sink written is = absurd (cc is)
+written_is_no_usage (BadScript line why) text sink written is = absurd (cc is)
+written_is_no_usage (BadImage which) text sink written is = absurd (cc is)
+written_is_no_usage (Differs line) text sink written is = absurd (cc is)
+written_is_no_usage NoMemory text sink written is = absurd (cc is)
+written_is_no_usage OtherBoard text sink written is = absurd (cc is)
 
 not_none : (own : OwnAnswer) → ¬ (◌≡◌ {A = Option OwnAnswer} (Some own) None)
 not_none own is = absurd (cc is)
