@@ -9,9 +9,9 @@ use Rattle.board_outside.specs.Outside.{Fetch}
 use Rattle.script_spec.specs.ScriptText.{IsScriptBad}
 use Rattle.command_words.specs.Words.{Command}
 use Rattle.command_files.specs.declared.status.Which.{Which}
-use Rattle.command_files.specs.declared.status.Which.TheVariants.{Script, Rom, Disk}
+use Rattle.command_files.specs.declared.status.Which.TheVariants.{Script, Rom, Disk, Log, Image, Input}
 use Rattle.command_files.specs.declared.status.Status.{Status}
-use Rattle.command_files.specs.declared.status.Status.TheVariants.{ReadFault, TooLong}
+use Rattle.command_files.specs.declared.status.Status.TheVariants.{Done, Usage, ReadFault, WriteFault, TooLong}
 use Rattle.command_files.specs.declared.status.Status.TheVariants.{BadScript, BadImage, Differs, OtherBoard, NoMemory}
 use Rattle.command_files.specs.Common.{files_of, name_in_words, limit_of, Files, Known, nothing_known, file_name}
 use Rattle.command_files.specs.Common.{Learns, Passes, AreReadAs, ComesTo, ReadsFile, FitsFile, IsNoImage, ShelfCall}
@@ -71,9 +71,12 @@ in_words :
     (command : Command) (known : Known) (which : Which) (name other : List ℕ)
     → file_name command known which ≡ Some name →
     name_in_words command which ≡ Some other → other ≡ name
+in_words command known Script name other named is = cc
 in_words command known Rom name other named is = absurd cc
 in_words command known Disk name other named is = absurd cc
-in_words command known _ name other named is = cc
+in_words command known Log name other named is = cc
+in_words command known Image name other named is = cc
+in_words command known Input name other named is = cc
 
 -- the fetches of these files, the latest first, read each to its end, whatever is read later
 abbrev pub WholeBefore : Command → Option Files → List Which → List Fetch → Type 0
@@ -142,6 +145,9 @@ module _ (command : Command) (told : Option Files) (which : Which) (before later
     }
 
     not_taken : (status : Status) → IsNotTaken which name Call status → IsRefused command Call status
+    not_taken Done is = is
+    not_taken Usage is = is
+    not_taken WriteFault is = is
     not_taken (ReadFault other) (same, rose, names) =
         subst (λ (which' : Which). FailsAt which' Call command) (sym same) (fails rose names)
     not_taken (TooLong other) (same, holds) =
@@ -152,7 +158,6 @@ module _ (command : Command) (told : Option Files) (which : Which) (before later
       subst (λ (which' : Which). OfFiles told
           (λ files. ReadsFile command files which' (FitsFile Script (λ bytes. IsScriptBad bytes line why)))) same
           (reads (FitsFile Script (λ bytes. IsScriptBad bytes line why)) holds),
-    not_taken _ is = is
     )
     not_taken (BadImage other) (same, kind, holds) =
         subst (λ (which' : Which). IsRefused command Call (BadImage which')) (sym same)
