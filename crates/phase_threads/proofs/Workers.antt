@@ -1,5 +1,5 @@
 -- What the workers of a phase leave, put together.
-use Rattle.std.proofs.Common.{◌≡◌, ℕ, ◌+◌, ◌<◌, ◌≤◌, ◌==◌, false, List, [], ◌∷◌, map, length, All, Option, Some, refl}
+use Rattle.std.proofs.Common.{◌≡◌, ℕ, ◌+◌, ◌<◌, ◌≤◌, ◌==◌, Bool, IsFalse, false, List, [], ◌∷◌, map, length, All, Option, Some, refl}
 use Rattle.std.proofs.Common.{sym, ◌∙◌, ap, subst, arith, inl, inr, reverse}
 use Rattle.board_prelude.proofs.Common.{Any, range_with_len, cases_lt, nat_tests, length-map, length-reverse, All-head}
 use Rattle.board_prelude.proofs.Common.{All-tail, Entry, Statement, MapChange, Setup, IsInRange, entries_by}
@@ -17,10 +17,13 @@ use Rattle.run_order.specs.Common.{done_by, IsWork, Begins, HasMoreWrites, IsDon
 use Rattle.run_order.proofs.Common.{begins_trans, all_reverse, all_turned}
 use Rattle.phase_work.specs.declared.worker.Work.{Work}
 use Rattle.phase_threads.specs.declared.jobs.Job.{Job}
-use Rattle.phase_threads.specs.Jobs.{IsReadyToWork, IsRun, AreAsked, AreDue, HasRun, done_in}
+use Rattle.phase_threads.specs.declared.run.Run.{Run}
+use Rattle.phase_threads.specs.Jobs.{IsReadyToWork, IsRun, IsStatement, AreAsked, AreDue, CanDoPhase, GrowsBy, HasRun}
+use Rattle.phase_threads.specs.Jobs.{done_in}
+use Rattle.phase_threads.specs.Shifts.{AreReady, HasWorked, IsRenewed}
 use Rattle.phase_threads.proofs.Due.{due_by_number}
 use Rattle.phase_threads.proofs.Numbers.{map_reverse, all_mapped, map_twice, same_lengths, numbered_length}
-use Rattle.phase_threads.proofs.Numbers.{numbers_below, same_numbers, by_number}
+use Rattle.phase_threads.proofs.Numbers.{numbers_below, same_numbers, by_number, asked_again}
 
 abbrev cpu_in : Job → Cpu
 cpu_in job = job.cpu
@@ -83,7 +86,7 @@ ready live board n cpus works jobs phase before o are_cpus are_works empty due a
     }
 
 -- the numbers of the callers are those before
-numbers_again : (cpus cpus1 : List Cpu) (jobs jobs1 : List Job) → map cpu_in (reverse jobs) ≡ cpus
+pub numbers_again : (cpus cpus1 : List Cpu) (jobs jobs1 : List Job) → map cpu_in (reverse jobs) ≡ cpus
     → map cpu_in (reverse jobs1) ≡ cpus1
     → map number_in jobs1 ≡ map number_in jobs → map number_by cpus1 ≡ map number_by cpus
 numbers_again cpus cpus1 jobs jobs1 are_cpus are_cpus1 same =
@@ -91,13 +94,15 @@ numbers_again cpus cpus1 jobs jobs1 are_cpus are_cpus1 same =
     ∙ (ap reverse same ∙ (sym (map_reverse number_in jobs)
     ∙ (sym (map_twice cpu_in number_by (reverse jobs)) ∙ ap (map number_by) are_cpus)))))
 
-pub all_again : (live : Live) (board : Standing) (n : ℕ) (cpus cpus1 : List Cpu) (jobs jobs1 : List Job)
-    (phase : List Statement) (before : ℕ)
-    → (o : AreOpened board n live cpus) → map cpu_in (reverse jobs) ≡ cpus → map cpu_in (reverse jobs1) ≡ cpus1
-    → map number_in jobs1 ≡ map number_in jobs
-    → All (IsRun live board (Some o.all.opened) phase before) jobs1 → AreAllOf live cpus1
-all_again live board n cpus cpus1 jobs jobs1 phase before o are_cpus are_cpus1 same run =
-    let numbers = numbers_again cpus cpus1 jobs jobs1 are_cpus are_cpus1 same in
+pub all_again : (live : Live) (board : Standing) (n : ℕ) (cpus cpus1 : List Cpu) (works1 : List Work)
+    (phase : List Statement) (before : ℕ) (refused : Bool)
+    → (o : AreOpened board n live cpus)
+    → HasWorked live board (Some o.all.opened) phase before refused cpus cpus1 works1 → AreAllOf live cpus1
+all_again live board n cpus cpus1 works1 phase before refused o w =
+    let jobs1 : List Job = w.jobs in
+    let are_cpus1 = w.cpus in
+    let run = w.run in
+    let numbers = w.numbers in
     let size : length cpus1 ≡ length cpus = same_lengths number_by number_by cpus1 cpus numbers in
     record {
       opened = o.all.opened;
@@ -164,16 +169,17 @@ none_by n actor (entry ∷ entries) past all =
     rw not (none_by n actor entries past (All-tail (λ (e : Entry). e.actor < n) entry entries all))
 
 pub has_run : (live : Live) (board now : Standing) (n : ℕ) (cpus cpus1 : List Cpu) (works1 : List Work)
-    (jobs jobs1 : List Job) (phase : List Statement) (before : ℕ)
-    → (o : AreOpened board n live cpus) → map cpu_in (reverse jobs) ≡ cpus → map cpu_in (reverse jobs1) ≡ cpus1
-    → map work_in (reverse jobs1) ≡ works1
-    → map number_in jobs1 ≡ map number_in jobs → All (IsRun live board (Some o.all.opened) phase before) jobs1
-    → All (λ job. job.refused ≡ false) jobs1
+    (phase : List Statement) (before : ℕ) (refused : Bool)
+    → (o : AreOpened board n live cpus)
+    → HasWorked live board (Some o.all.opened) phase before refused cpus cpus1 works1 → IsFalse refused
     → All (ClosesBoard now) cpus1 → 1 ≤ n → HasRun board now phase works1
-has_run live board now n cpus cpus1 works1 jobs jobs1 phase before o are_cpus are_cpus1 are_works1 same run fine closes
-    some =
-    let numbers : map number_by cpus1 ≡ range_with_len 0 n = numbers_again cpus cpus1 jobs jobs1 are_cpus are_cpus1 same
-    ∙ o.numbers in
+has_run live board now n cpus cpus1 works1 phase before refused o w not closes some =
+    let jobs1 : List Job = w.jobs in
+    let are_cpus1 = w.cpus in
+    let are_works1 = w.works in
+    let run = w.run in
+    let fine = w.fine not in
+    let numbers : map number_by cpus1 ≡ range_with_len 0 n = w.numbers ∙ o.numbers in
     let named : map number_in (reverse jobs1) ≡ range_with_len 0 n = job_numbers cpus1 jobs1 n are_cpus1 numbers in
     let size : length (reverse jobs1) ≡ n = numbered_length number_in (reverse jobs1) n named in
     let many : 0 < length jobs1 = omega (arith, size, length-reverse jobs1, some) in
@@ -195,17 +201,18 @@ has_run live board now n cpus cpus1 works1 jobs jobs1 phase before o are_cpus ar
     }
 
 pub are_asked : (live : Live) (board now : Standing) (n : ℕ) (cpus cpus1 : List Cpu) (works1 : List Work)
-    (jobs jobs1 : List Job) (phase : List Statement) (before : ℕ)
-    → (o : AreOpened board n live cpus) → map cpu_in (reverse jobs) ≡ cpus → map cpu_in (reverse jobs1) ≡ cpus1
-    → map work_in (reverse jobs1) ≡ works1
-    → map number_in jobs1 ≡ map number_in jobs → All (IsRun live board (Some o.all.opened) phase before) jobs1
-    → All (λ job. job.refused ≡ false) jobs1
+    (phase : List Statement) (before : ℕ) (refused : Bool)
+    → (o : AreOpened board n live cpus)
+    → HasWorked live board (Some o.all.opened) phase before refused cpus cpus1 works1 → IsFalse refused
     → All (ClosesBoard now) cpus1 → All (λ entry. Any (λ cpu. cpu.number ≡ entry.actor) cpus1) now.entries
     → AreAsked (before + length phase) now.entries works1
-are_asked live board now n cpus cpus1 works1 jobs jobs1 phase before o are_cpus are_cpus1 are_works1 same run fine
-    closes callers =
-    let numbers : map number_by cpus1 ≡ range_with_len 0 n = numbers_again cpus cpus1 jobs jobs1 are_cpus are_cpus1 same
-    ∙ o.numbers in
+are_asked live board now n cpus cpus1 works1 phase before refused o w not closes callers =
+    let jobs1 : List Job = w.jobs in
+    let are_cpus1 = w.cpus in
+    let are_works1 = w.works in
+    let run = w.run in
+    let fine = w.fine not in
+    let numbers : map number_by cpus1 ≡ range_with_len 0 n = w.numbers ∙ o.numbers in
     let named : map number_in (reverse jobs1) ≡ range_with_len 0 n = job_numbers cpus1 jobs1 n are_cpus1 numbers in
     let size : length (reverse jobs1) ≡ n = numbered_length number_in (reverse jobs1) n named in
     let closed = from_cpus (ClosesBoard now) jobs1 cpus1 are_cpus1 closes in
@@ -228,3 +235,75 @@ are_asked live board now n cpus cpus1 works1 jobs jobs1 phase before o are_cpus 
       asked = to_works (λ work. work.asked ≤ before + length phase) jobs1 works1 are_works1
           (λ k d less. (run k d less).asked);
     }
+
+-- callers that were just opened are ready, with works as many
+pub ready_all : (live : Live) (board : Standing) (n : ℕ) (cpus : List Cpu) (works : List Work) (phase : List Statement)
+    (before : ℕ) → n ≡ length works → AreOpened board n live cpus
+    → All (λ statement. IsInRange board.setup statement.event) phase → All (λ work. work.done.items ≡ []) works
+    → AreDue phase works → AreAsked before board.entries works → before + length phase ≤ most_statements
+    → AreReady live board phase before cpus works
+ready_all live board n cpus works phase before size opened in_range empty due asked room = record {
+  opened = subst (λ (m : ℕ). AreOpened board m live cpus) size opened;
+  in_range = in_range;
+  empty = empty;
+  due = due;
+  mine = asked.mine;
+  asked = asked.asked;
+  room = room;
+}
+
+-- ---- a run with the works of the next phase
+
+-- the callers and works are as many as before
+pub as_many : (live : Live) (board : Standing) (n : ℕ) (cpus cpus1 : List Cpu) (works1 : List Work)
+    (phase : List Statement) (before : ℕ) (refused : Bool)
+    → (o : AreOpened board n live cpus)
+    → HasWorked live board (Some o.all.opened) phase before refused cpus cpus1 works1 → length works1 ≡ n
+as_many live board n cpus cpus1 works1 phase before refused o w =
+    let size : length cpus1 ≡ n = numbered_length number_by cpus1 n (w.numbers ∙ o.numbers) in
+    let cpus = ap length w.cpus in
+    let works = ap length w.works in
+    omega (arith, size, cpus, works, length-map (reverse w.jobs) cpu_in, length-map (reverse w.jobs) work_in)
+
+same_count : (phase : List Statement) (before now : Run) → IsRenewed phase before now
+    → length now.works.items ≡ length before.works.items
+same_count phase before now r =
+    same_lengths (λ (w : Work). w.asked) (λ (w : Work). w.asked) now.works.items before.works.items r.asked
+
+same_asked : (phase : List Statement) (before now : Run) (most : ℕ) → IsRenewed phase before now
+    → AreAsked most before.board.entries before.works.items → AreAsked most now.board.entries now.works.items
+same_asked phase before now most r asked =
+    let entries : now.board.entries ≡ before.board.entries = ap (λ (board : Standing). board.entries) r.board in
+    let counted : All (λ entry. entry.actor < length now.works.items) before.board.entries =
+    subst (λ (n : ℕ). All (λ (entry : Entry). entry.actor < n) before.board.entries)
+    (sym (same_count phase before now r)) asked.actors in
+    record {
+      actors = subst (All (λ (entry : Entry). entry.actor < length now.works.items)) (sym entries) counted;
+      mine = subst (λ (list : List Entry). (actor : ℕ) → length (entries_by actor list) ≤ most) (sym entries) asked.mine;
+      asked = asked_again most before.works.items now.works.items r.asked asked.asked;
+    }
+
+-- it can do a phase too
+pub can_again : (phase for : List Statement) (before now : Run) → IsRenewed for before now → CanDoPhase before phase
+    → CanDoPhase now phase
+can_again phase for before now r can =
+    let count = same_count for before now r in
+    let same : now.board.setup ≡ before.board.setup = ap (λ (board : Standing). board.setup) r.board in
+    record {
+      some = omega (arith, count, can.some);
+      few = omega (arith, count, can.few);
+      in_range = subst (λ (n : ℕ). All (IsStatement now.board.setup n) phase) (sym count)
+          (subst (λ (setup : Setup). All (IsStatement setup (length before.works.items)) phase) (sym same)
+          can.in_range);
+      most = can.most;
+      asked = same_asked for before now can.most r can.asked;
+      room = can.room;
+    }
+
+-- it grows as the one before
+pub grows_again : (phase for : List Statement) (before now last : Run) → IsRenewed for before now
+    → GrowsBy phase now last → GrowsBy phase before last
+grows_again phase for before now last r grows = record {
+  count = grows.count ∙ same_count for before now r;
+  asked = λ most asked room. grows.asked most (same_asked for before now most r asked) room;
+}

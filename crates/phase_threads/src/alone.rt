@@ -6,8 +6,7 @@ ghost use Rattle.phase_threads.specs.Acts.{CanAct, HasActed};
 ghost use Rattle.phase_threads.specs.Jobs.{CanDoPhase, GrowsBy};
 ghost use Rattle.phase_threads.specs.Unseen.{HasRunSo};
 
-use crate::jobs::next_works;
-use crate::run::Run;
+use crate::run::{Run, renewed};
 use board_base::{Kind, NoMemory};
 use board_core::Board;
 use board_outside::Gate;
@@ -119,8 +118,7 @@ pub(crate) fn run_alone<R: Wait, G: Gate>(
     ensures goes_on { IfOk result (GrowsBy phase.now run) }
     ensures run { IfOk result (λ next. HasRunSo run.board next.board phase.now next.works.items) }
 {
-    let Run { board, works } = run;
-    let mut works = next_works(alloc, phase, &works)?;
+    let Run { board, mut works } = renewed(alloc, run, phase)?;
     let mut alone = Alone {
         board,
         number: actor,

@@ -1,11 +1,13 @@
 //! The workers of a phase: each has a caller of the shared board.
 
 ghost use Rattle.std.specs.Prelude.{◌≡◌, ◌<◌, ◌≤◌, ℕ, [], All, false, length, map, reverse, slice_index, vec_capacity};
-ghost use Rattle.std.specs.Prelude.{IfOk, IsTrue, IsFalse};
+ghost use Rattle.std.specs.Prelude.{IfOk, IsTrue, IsFalse, Some};
 ghost use Rattle.std.specs.List.{AllZip};
 ghost use Rattle.std.specs.Thread.{IsSync};
 ghost use Rattle.board_prelude.specs.Common.{events_by};
+ghost use Rattle.board_core.specs.Kept.{Standing};
 ghost use Rattle.phase_threads.specs.Jobs.{CanRun, Runs, AreDue, done_in};
+ghost use Rattle.phase_threads.specs.Shifts.{AreReady, HasWorked};
 
 use board_base::NoMemory;
 use board_live::{Cpu, Live};
@@ -46,7 +48,7 @@ fn are_idle(jobs: &[Job]) -> bool
 /// Does a phase: each worker that has statements in it on a thread of its own, of which the calling thread is one. The
 /// others stay as they are. All have ended when it returns.
 #[cycle(halves)]
-pub(crate) fn run_jobs<R: Threads + Wait + Sync, G: Gate>(
+fn run_jobs<R: Threads + Wait + Sync, G: Gate>(
     rt: &R,
     live: &Live,
     phase: &[Statement],
@@ -152,7 +154,7 @@ pub(crate) fn next_works(
 }
 
 /// Gives each caller its work. What is left has room for as many.
-pub(crate) fn begin(cpus: &mut Vec<Cpu>, works: &mut Vec<Work>, jobs: &mut Vec<Job>)
+fn begin(cpus: &mut Vec<Cpu>, works: &mut Vec<Work>, jobs: &mut Vec<Job>)
     requires same { length works.old.items ≡ length cpus.old.items }
     requires none { jobs.old.items ≡ [] }
     requires room { length cpus.old.items ≤ vec_capacity jobs.old }
@@ -174,7 +176,7 @@ pub(crate) fn begin(cpus: &mut Vec<Cpu>, works: &mut Vec<Work>, jobs: &mut Vec<J
 }
 
 /// Takes the callers and the works back.
-pub(crate) fn end(jobs: Vec<Job>, cpus: &mut Vec<Cpu>, works: &mut Vec<Work>)
+fn end(jobs: Vec<Job>, cpus: &mut Vec<Cpu>, works: &mut Vec<Work>)
     requires none { (cpus.old.items ≡ []) × (works.old.items ≡ []) }
     requires cpus_room { length jobs.items ≤ vec_capacity cpus.old }
     requires works_room { length jobs.items ≤ vec_capacity works.old }
@@ -195,10 +197,38 @@ pub(crate) fn end(jobs: Vec<Job>, cpus: &mut Vec<Cpu>, works: &mut Vec<Work>)
 }
 
 /// Whether a worker was refused memory.
-pub(crate) fn is_refused(jobs: &[Job]) -> bool
+fn is_refused(jobs: &[Job]) -> bool
     ensures none { IsFalse result → All (λ job. job.refused ≡ false) jobs.now }
 {
     jobs.iter().any(|job| job.refused)
+}
+
+/// Does a phase by all callers, each with its own work, and tells whether one was refused memory. `jobs` is empty, with
+/// room for a job for each.
+pub(crate) fn work_all<R: Threads + Wait + Sync, G: Gate>(
+    rt: &R,
+    live: &Live,
+    phase: &[Statement],
+    gate: &G,
+    cpus: &mut Vec<Cpu>,
+    works: &mut Vec<Work>,
+    jobs: Vec<Job>,
+) -> bool
+    requires can { (board : Standing) × (before : ℕ)
+        × AreReady live.now board phase.now before cpus.old.items works.old.items }
+    requires none { jobs.items ≡ [] }
+    requires room { length cpus.old.items ≤ vec_capacity jobs }
+    ensures worked { (board : Standing) → (before : ℕ)
+        → (ready : AreReady live.now board phase.now before cpus.old.items works.old.items)
+        → HasWorked live.now board (Some ready.opened.all.opened) phase.now before result
+        cpus.old.items cpus.new.items works.new.items }
+{
+    let mut jobs = jobs;
+    begin(cpus, works, &mut jobs);
+    run_jobs(rt, live, phase, gate, &mut jobs);
+    let refused = is_refused(&jobs);
+    end(jobs, cpus, works);
+    refused
 }
 
 /// What each processor did, from processor 0 on.

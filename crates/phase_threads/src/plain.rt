@@ -8,8 +8,7 @@ ghost use Rattle.phase_threads.specs.Acts.{CanAct};
 ghost use Rattle.phase_threads.specs.Jobs.{CanDoPhase, GrowsBy};
 ghost use Rattle.phase_threads.specs.Unseen.{HasAdded, HasRunSo, HasStepped};
 
-use crate::jobs::next_works;
-use crate::run::Run;
+use crate::run::{Run, renewed};
 use board_base::NoMemory;
 use board_core::Board;
 use board_outside::Gate;
@@ -90,8 +89,10 @@ pub(crate) fn run_plain<G: Gate>(
     ensures goes_on { IfOk result (GrowsBy phase.now run) }
     ensures run { IfOk result (λ next. HasRunSo run.board next.board phase.now next.works.items) }
 {
-    let Run { mut board, works } = run;
-    let mut works = next_works(alloc, &[], &works)?;
+    let Run {
+        mut board,
+        mut works,
+    } = renewed(alloc, run, &[])?;
     step_works(&mut board, actor, &mut works, phase, gate)?;
     Ok(Run { board, works })
 }

@@ -1,15 +1,16 @@
 //! A script's phases, one after another.
 
-ghost use Rattle.std.specs.Prelude.{◌≡◌, ◌<◌, ◌≤◌, [], All, length, map, reverse, flat_map, IfOk};
+ghost use Rattle.std.specs.Prelude.{◌≡◌, ◌<◌, ◌≤◌, [], All, length, map, reverse, flat_map, vec_capacity, IfOk, None};
 ghost use Rattle.board_prelude.specs.Common.{IsCardList, IsLegal, IsCompleteFor, most_statements};
 ghost use Rattle.run_order.specs.Common.{bare, AreAllInPlace};
 ghost use Rattle.phase_threads.specs.Placed.{entries_of, IsUpTo};
-ghost use Rattle.phase_threads.specs.Jobs.{IsStatement, CanDoPhase, GrowsBy, TakesIn};
+ghost use Rattle.phase_threads.specs.Jobs.{AreDue, IsStatement, CanDoPhase, GrowsBy, TakesIn};
+ghost use Rattle.phase_threads.specs.Shifts.{IsRenewed};
 ghost use Rattle.phase_threads.specs.Unseen.{HasRunSo};
 
 use crate::alone::{only_actor, run_alone};
 use crate::ended::EndedRun;
-use crate::jobs::{begin, end, first_works, is_refused, next_works, run_jobs, works_of};
+use crate::jobs::{Job, first_works, next_works, work_all, works_of};
 use crate::placing::Placing;
 use crate::plain::{has_looks, run_plain};
 use board_base::NoMemory;
@@ -30,7 +31,48 @@ pub(crate) struct Run {
     pub works: Vec<Work>,
 }
 
-/// Runs a phase: shares the board among the workers, and takes it back when all have ended.
+/// A board between two phases with the works of its processors for the next phase, in place of those of the last.
+pub(crate) fn renewed(alloc: Global, run: Run, phase: &[Statement]) -> Result<Run, NoMemory>
+    requires few { length run.works.items ≤ 8 }
+    ensures renewed { IfOk result (IsRenewed phase.now run) }
+{
+    let Run { board, works } = run;
+    let works = next_works(alloc, phase, &works)?;
+    Ok(Run { board, works })
+}
+
+/// Runs a phase with these works: shares the board among the workers, and takes it back when all have ended. `jobs` is
+/// empty, with room for a job for each.
+fn run_shared<R: Threads + Wait + Sync, G: Gate>(
+    rt: &R,
+    alloc: Global,
+    run: Run,
+    jobs: Vec<Job>,
+    phase: &[Statement],
+    gate: &G,
+) -> Result<Run, NoMemory>
+    requires can { CanDoPhase run phase.now }
+    requires empty { All (λ work. work.done.items ≡ []) run.works.items }
+    requires due { AreDue phase.now run.works.items }
+    requires none { jobs.items ≡ [] }
+    requires room { length run.works.items ≤ vec_capacity jobs }
+    ensures goes_on { IfOk result (GrowsBy phase.now run) }
+    ensures run { IfOk result (λ next. HasRunSo run.board next.board phase.now next.works.items) }
+{
+    let Run { board, mut works } = run;
+    let Ok((live, mut cpus)) = Live::open(rt, alloc, board, works.len() as u8) else {
+        jobs.destroy_empty();
+        return Err(NoMemory);
+    };
+    let refused = work_all(rt, &live, phase, gate, &mut cpus, &mut works, jobs);
+    let board = live.close(rt, cpus);
+    if refused {
+        return Err(NoMemory);
+    }
+    Ok(Run { board, works })
+}
+
+/// Runs a phase by all processors, at a board that they share.
 fn run_workers<R: Threads + Wait + Sync, G: Gate>(
     rt: &R,
     alloc: Global,
@@ -42,22 +84,9 @@ fn run_workers<R: Threads + Wait + Sync, G: Gate>(
     ensures goes_on { IfOk result (GrowsBy phase.now run) }
     ensures run { IfOk result (λ next. HasRunSo run.board next.board phase.now next.works.items) }
 {
-    let Run { board, works } = run;
-    let mut works = next_works(alloc, phase, &works)?;
-    let mut jobs = Vec::with_capacity(alloc, works.len())?;
-    let Ok((live, mut cpus)) = Live::open(rt, alloc, board, works.len() as u8) else {
-        jobs.destroy_empty();
-        return Err(NoMemory);
-    };
-    begin(&mut cpus, &mut works, &mut jobs);
-    run_jobs(rt, &live, phase, gate, &mut jobs);
-    let refused = is_refused(&jobs);
-    end(jobs, &mut cpus, &mut works);
-    let board = live.close(rt, cpus);
-    if refused {
-        return Err(NoMemory);
-    }
-    Ok(Run { board, works })
+    let run = renewed(alloc, run, phase)?;
+    let jobs = Vec::with_capacity(alloc, run.works.len())?;
+    run_shared(rt, alloc, run, jobs, phase, gate)
 }
 
 /// Runs a phase in which this is the only processor that acts: nothing is shared.
@@ -100,6 +129,21 @@ fn run_any<R: Threads + Wait + Sync, G: Gate>(
     }
 }
 
+/// The same, where the memory of the phase's statements is given back at its end.
+fn run_owned<R: Threads + Wait + Sync, G: Gate>(
+    rt: &R,
+    alloc: Global,
+    run: Run,
+    phase: Vec<Statement>,
+    gate: &G,
+) -> Result<Run, NoMemory>
+    requires can { CanDoPhase run phase.items }
+    ensures goes_on { IfOk result (GrowsBy phase.items run) }
+    ensures run { IfOk result (λ next. HasRunSo run.board next.board phase.items next.works.items) }
+{
+    run_any(rt, alloc, run, &phase, gate)
+}
+
 /// Runs a phase, and adds what it did to the order of the run. The memory of its statements is given back before.
 fn run_phase<R: Threads + Wait + Sync, G: Gate>(
     rt: &R,
@@ -122,8 +166,7 @@ fn run_phase<R: Threads + Wait + Sync, G: Gate>(
 {
     let version = run.board.map().version();
     let opened = run.board.history().entries().len();
-    let run = run_any(rt, alloc, run, &phase, gate)?;
-    drop(phase);
+    let run = run_owned(rt, alloc, run, phase, gate)?;
     let entries = run.board.history().entries();
     placing.add(alloc, version, opened, &entries, works_of(&run.works))?;
     law_phase_runs();
@@ -140,6 +183,54 @@ fn statements_in(phases: &[Vec<Statement>]) -> u32
         count += statements.len() as u32;
     }
     count
+}
+
+/// A fresh board before the first phase of `cpus` processors, with room for `most` entries.
+fn first_run(alloc: Global, board: Board, cpus: u8, most: u32) -> Result<Run, NoMemory>
+    requires fresh { board.entries ≡ [] }
+    requires few { most ≤ most_statements }
+    ensures fresh { IfOk result (λ run. run.board.entries ≡ []) }
+    ensures setup { IfOk result (λ run. run.board.setup ≡ board.setup) }
+    ensures count { IfOk result (λ run. length run.works.items ≡ cpus) }
+    ensures asked { IfOk result (λ run. All (λ work. work.asked ≡ 0) run.works.items) }
+{
+    let mut board = board;
+    board.reserve(most)?;
+    let works = first_works(alloc, cpus)?;
+    Ok(Run { board, works })
+}
+
+/// Runs phases one after another, from a fresh board on, and puts what they did in order.
+fn run_each<R: Threads + Wait + Sync, G: Gate>(
+    rt: &R,
+    alloc: Global,
+    run: Run,
+    phases: Vec<Vec<Statement>>,
+    gate: &G,
+    placing: &mut Placing,
+) -> Result<Run, NoMemory>
+    requires fresh { run.board.entries ≡ [] }
+    requires unplaced { placing.old.order ≡ None }
+    requires cards { IsCardList run.board.setup.cards }
+    requires some { 1 ≤ length run.works.items }
+    requires few { length run.works.items ≤ 8 }
+    requires asked { All (λ work. work.asked ≡ 0) run.works.items }
+    requires in_range { All (λ phase. All (IsStatement run.board.setup (length run.works.items)) phase.items)
+        phases.items }
+    requires statements { length (flat_map (λ phase. phase.items) phases.items) ≤ most_statements }
+    ensures legal { IfOk result (λ next. IsLegal run.board.setup
+        (entries_of placing.new.order next.board.entries)) }
+    ensures complete { IfOk result (λ next. IsCompleteFor (map (λ phase. phase.items) phases.items)
+        (entries_of placing.new.order next.board.entries)) }
+    ensures places { IfOk result (λ next. AreAllInPlace run.board.setup
+        (reverse (map (λ phase. phase.items) phases.items)) (entries_of placing.new.order next.board.entries)) }
+    ensures up_to { IfOk result (λ next. IsUpTo placing.new.order next.board.entries) }
+{
+    let mut run = run;
+    for phase in phases {
+        run = run_phase(rt, alloc, run, phase, gate, placing)?;
+    }
+    Ok(run)
 }
 
 /// Runs the phases of a script on a fresh board, with 1 to 8 processors. In each phase every processor does its own
@@ -165,21 +256,15 @@ pub fn run_phases<R: Threads + Wait + Sync, G: Gate>(
     ensures places { IfOk result (λ history. AreAllInPlace board.setup
         (reverse (map (λ phase. phase.items) phases.items)) history.entries) }
 {
-    let mut board = board;
     let most = statements_in(&phases);
-    board.reserve(most)?;
-    let works = first_works(alloc, cpus)?;
-    let mut run = Run { board, works };
+    let run = first_run(alloc, board, cpus, most)?;
     let mut placing = Placing {
         most: most as usize,
         order: None,
     };
-    for phase in phases {
-        run = run_phase(rt, alloc, run, phase, gate, &mut placing)?;
-    }
     let Run {
         board,
         works: _works,
-    } = run;
+    } = run_each(rt, alloc, run, phases, gate, &mut placing)?;
     Ok(EndedRun::new(board, placing.order))
 }

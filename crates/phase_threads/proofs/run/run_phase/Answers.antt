@@ -4,8 +4,7 @@ use Rattle.board_prelude.proofs.Common.{Entry, Statement, version_of, IsLegal, l
 use Rattle.run_order.specs.declared.done.Done.{Done}
 use Rattle.run_order.specs.Common.{placed}
 use Rattle.phase_work.specs.declared.worker.Work.{Work}
-use Rattle.phase_threads.specs.Common.{IsStatement, GrowsBy, done_in, IsUpTo, entries_of}
-use Rattle.phase_threads.specs.Unseen.{HasRunSo}
+use Rattle.phase_threads.specs.Common.{IsStatement, done_in, IsUpTo, entries_of}
 use Rattle.phase_threads.proofs.Phases.{gained, gained_all, gained_within, front_is, front_all, back_is, phase_is_run}
 use Rattle.phase_threads.proofs.Phases.{takes_in}
 use Rattle.phase_threads.proofs.run.run_phase.Goals as goal
@@ -22,9 +21,8 @@ add-requires g c =
     let is : entries ≡ reverse now.entries = c.entries-entries.ensures.entries
     ∙ ap (λ (past : Past). reverse past.entries) c.history-2.ensures.history in
     let are : map (λ (done : Bor (List Done)). done.now) c.works_of.result.items ≡ done_in works =
-    c.works_of.ensures.done ∙ ap done_in c.deref-2.ensures.value in
-    let goes_on = subst (λ (phase : List Statement). GrowsBy phase c.args.run c.in_ok-run.run') c.deref.ensures.value
-    c.in_ok-run.ensures.goes_on in
+    c.works_of.ensures.done ∙ ap done_in c.deref.ensures.value in
+    let goes_on = c.in_ok-run.ensures.goes_on in
     let asked = goes_on.asked c.requires.can.most c.requires.can.asked c.requires.can.room in
     let count : length c.works_of.result.items ≡ length works =
     sym (length-map c.works_of.result.items (λ (done : Bor (List Done)). done.now))
@@ -47,10 +45,6 @@ add-requires g c =
           (gained_all (λ (entry : Entry). entry.actor < length works) now.entries opened entries is asked.actors));
     }
 
-pub returns-clause-goes_on : goal.returns-clause-goes_on
-returns-clause-goes_on g c = subst (λ (phase : List Statement). GrowsBy phase c.args.run c.in_ok-run.run')
-    c.deref.ensures.value c.in_ok-run.ensures.goes_on
-
 pub returns-clause-takes_in : goal.returns-clause-takes_in
 returns-clause-takes_in g c =
     let before = c.args.run.board in
@@ -63,13 +57,11 @@ returns-clause-takes_in g c =
     ∙ ap (λ (past : Past). reverse past.entries) c.history.ensures.history in
     let is : entries ≡ reverse now.entries = c.entries-entries.ensures.entries
     ∙ ap (λ (past : Past). reverse past.entries) c.history-2.ensures.history in
-    let are : lists ≡ done_in works = c.works_of.ensures.done ∙ ap done_in c.deref-2.ensures.value in
-    let goes_on = subst (λ (phase : List Statement). GrowsBy phase c.args.run c.in_ok-run.run') c.deref.ensures.value
-    c.in_ok-run.ensures.goes_on in
+    let are : lists ≡ done_in works = c.works_of.ensures.done ∙ ap done_in c.deref.ensures.value in
+    let goes_on = c.in_ok-run.ensures.goes_on in
     let asked = goes_on.asked c.requires.can.most c.requires.can.asked c.requires.can.room in
     let count : length c.args.run.works.items ≡ length works = sym goes_on.count in
-    let ran = subst (λ (phase : List Statement). HasRunSo before now phase works) c.deref.ensures.value
-    c.in_ok-run.ensures.run in
+    let ran = c.in_ok-run.ensures.run in
     let speakers = subst (λ (n : ℕ). All (IsStatement before.setup n) c.args.phase.items) count
     c.requires.can.in_range in
     let run = phase_is_run before now opened entries c.args.phase.items works ran old is c.requires.cards

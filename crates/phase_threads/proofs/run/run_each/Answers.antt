@@ -5,7 +5,7 @@ use Rattle.board_prelude.proofs.Common.{statements_of, HasPhases, most_statement
 use Rattle.run_order.specs.Places.{AreInPlace, AreAllInPlace}
 use Rattle.phase_threads.specs.Common.{AreAsked, IsStatement, entries_of}
 use Rattle.phase_threads.proofs.Phases.{phases_more, newest_first, all_in_place, statements_more, statements_within}
-use Rattle.phase_threads.proofs.run.run_phases.Goals as goal
+use Rattle.phase_threads.proofs.run.run_each.Goals as goal
 
 abbrev Phase : Type 0
 Phase = Vec Statement Global
@@ -38,15 +38,15 @@ run_phase-requires-clause-can g c κs within =
     let steps : into_iter_items l.phase-iterator ≡ phase ∷ rest = c.in-Some.ensures.steps.0 in
     let whole : l.yielded ++ phase ∷ rest ≡ c.args.phases.items =
     ap (λ (phases : List Phase). l.yielded ++ phases) (sym steps) ∙ l.invariant.left in
-    let ranges = of_one (λ (one : Phase). All (IsStatement c.args.board.setup c.args.cpus) one.items) l.yielded phase
+    let ranges = of_one (λ (one : Phase). All (IsStatement c.args.run.board.setup (length c.args.run.works.items)) one.items) l.yielded phase
     rest
-    (subst (All (λ (one : Phase). All (IsStatement c.args.board.setup c.args.cpus) one.items)) (sym whole)
+    (subst (All (λ (one : Phase). All (IsStatement c.args.run.board.setup (length c.args.run.works.items)) one.items)) (sym whole)
     c.requires.in_range) in
     record {
       some = search rules;
       few = search rules;
       in_range = subst (λ (n : ℕ). All (IsStatement l.run.board.setup n) phase.items) (sym l.invariant.count)
-          (subst (λ (setup : Setup). All (IsStatement setup c.args.cpus) phase.items) (sym l.invariant.setup) ranges);
+          (subst (λ (setup : Setup). All (IsStatement setup (length c.args.run.works.items)) phase.items) (sym l.invariant.setup) ranges);
       most = length (flat_map in_phase l.yielded);
       asked = l.invariant.asked;
       room = room_for l.yielded phase rest c.args.phases.items whole c.requires.statements;
@@ -80,10 +80,10 @@ loop-phase-preserved g c =
       phases = subst (λ (ps : List (List Statement)). HasPhases ps
           (statements_of (entries_of c.run_phase.new.placing.order next.board.entries)))
           (sym (phases_more l.yielded phase)) (c.in_ok-run.ensures.takes_in.phases _ l.invariant.phases);
-      places = subst (λ (ps : List (List Statement)). AreAllInPlace c.args.board.setup ps
+      places = subst (λ (ps : List (List Statement)). AreAllInPlace c.args.run.board.setup ps
           (entries_of c.run_phase.new.placing.order next.board.entries))
           (sym (newest_first l.yielded phase))
-          (all_in_place c.args.board.setup phase.items _ taken.added _ _ taken.adds taken.size
+          (all_in_place c.args.run.board.setup phase.items _ taken.added _ _ taken.adds taken.size
           (subst (λ (setup : Setup). AreInPlace setup (entries_of l.placing.order l.run.board.entries) taken.added)
           l.invariant.setup taken.places)
           l.invariant.places);

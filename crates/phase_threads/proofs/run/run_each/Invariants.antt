@@ -3,20 +3,20 @@ use Rattle.board_prelude.proofs.Common.{into_iter_items, IsLegal, statements_of,
 use Rattle.std.specs.Vec.Iter.{into_iter_len}
 use Rattle.run_order.specs.Common.{bare, AreAllInPlace}
 use Rattle.phase_threads.specs.Common.{AreAsked, entries_of, IsUpTo}
-use Rattle.phase_threads.proofs.run.run_phases.Given as goal
+use Rattle.phase_threads.proofs.run.run_each.Given as goal
 
 abbrev pub invariant-loop-phase : goal.invariant-loop-phase
 invariant-loop-phase g l = record {
   left : l.yielded ++ into_iter_items l.phase-iterator ≡ l.fn.phases.items;
   len : into_iter_len l.phase-iterator ≡ length (into_iter_items l.phase-iterator);
-  setup : l.run.board.setup ≡ l.fn.board.setup;
-  count : length l.run.works.items ≡ l.fn.cpus;
-  legal : IsLegal l.fn.board.setup (entries_of l.placing.order l.run.board.entries);
+  setup : l.run.board.setup ≡ l.fn.run.board.setup;
+  count : length l.run.works.items ≡ length l.fn.run.works.items;
+  legal : IsLegal l.fn.run.board.setup (entries_of l.placing.order l.run.board.entries);
   same : bare (entries_of l.placing.order l.run.board.entries) ≡ bare l.run.board.entries;
   up_to : IsUpTo l.placing.order l.run.board.entries;
   phases : HasPhases (map (λ phase. phase.items) l.yielded)
       (statements_of (entries_of l.placing.order l.run.board.entries));
-  places : AreAllInPlace l.fn.board.setup (reverse (map (λ phase. phase.items) l.yielded))
+  places : AreAllInPlace l.fn.run.board.setup (reverse (map (λ phase. phase.items) l.yielded))
       (entries_of l.placing.order l.run.board.entries);
   asked : AreAsked (length (flat_map (λ phase. phase.items) l.yielded)) l.run.board.entries l.run.works.items;
 }
