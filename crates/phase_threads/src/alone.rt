@@ -118,7 +118,8 @@ pub(crate) fn run_alone<R: Wait, G: Gate>(
     ensures goes_on { IfOk result (GrowsBy phase.now run) }
     ensures run { IfOk result (λ next. HasRunSo run.board next.board phase.now next.works.items) }
 {
-    let Run { board, mut works } = renewed(alloc, run, phase)?;
+    let run = renewed(alloc, run, phase)?;
+    let Run { board, mut works } = run;
     let mut alone = Alone {
         board,
         number: actor,

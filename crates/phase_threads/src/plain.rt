@@ -89,10 +89,11 @@ pub(crate) fn run_plain<G: Gate>(
     ensures goes_on { IfOk result (GrowsBy phase.now run) }
     ensures run { IfOk result (λ next. HasRunSo run.board next.board phase.now next.works.items) }
 {
+    let run = renewed(alloc, run, &[])?;
     let Run {
         mut board,
         mut works,
-    } = renewed(alloc, run, &[])?;
+    } = run;
     step_works(&mut board, actor, &mut works, phase, gate)?;
     Ok(Run { board, works })
 }

@@ -8,22 +8,22 @@ use Rattle.phase_threads.proofs.alone.run_alone.Goals as goal
 pub do_all-requires : goal.do_all-requires
 do_all-requires g c =
     let works = c.args.run.works.items in
-    let next = c.in_ok-board.works.items in
-    let same = c.in_ok-board.ensures.renewed.asked in
+    let next = c.in_ok-run.run'.works.items in
+    let same = c.in_ok-run.ensures.renewed.asked in
     let size = same_lengths (λ (w : Work). w.asked) (λ (w : Work). w.asked) next works same in
     let can = c.requires.can in (
       search rules,
       can_act c.args.actor can.most c.args.run.board works next c.args.phase.now can.some can.few
           (λ k d less. (can.in_range k d less).event) (omega (arith, size, c.requires.below))
-          c.in_ok-board.ensures.renewed.empty
+          c.in_ok-run.ensures.renewed.empty
           (asked_again can.most works next same can.asked.asked) can.asked can.room,
     )
 
 pub returns-clause-goes_on : goal.returns-clause-goes_on
 returns-clause-goes_on g c =
     let works = c.args.run.works.items in
-    let next = c.in_ok-board.works.items in
-    let same = c.in_ok-board.ensures.renewed.asked in
+    let next = c.in_ok-run.run'.works.items in
+    let same = c.in_ok-run.ensures.renewed.asked in
     let size = same_lengths (λ (w : Work). w.asked) (λ (w : Work). w.asked) next works same in
     let acted = c.in_ok-do_all.ensures.acted in
     record {
@@ -37,10 +37,10 @@ returns-clause-goes_on g c =
 pub returns-clause-run : goal.returns-clause-run
 returns-clause-run g c =
     let works = c.args.run.works.items in
-    let next = c.in_ok-board.works.items in
-    let same = c.in_ok-board.ensures.renewed.asked in
+    let next = c.in_ok-run.run'.works.items in
+    let same = c.in_ok-run.ensures.renewed.asked in
     let size = same_lengths (λ (w : Work). w.asked) (λ (w : Work). w.asked) next works same in
     so c.args.run.board c.do_all.new.alone.board c.args.phase.now c.do_all.new.works.items
     (alone_has_run c.args.actor c.args.run.board c.do_all.new.alone.board c.args.phase.now next
-    c.do_all.new.works.items (omega (arith, size, c.requires.below)) c.in_ok-board.ensures.renewed.empty c.requires.only
+    c.do_all.new.works.items (omega (arith, size, c.requires.below)) c.in_ok-run.ensures.renewed.empty c.requires.only
     c.in_ok-do_all.ensures.acted)
