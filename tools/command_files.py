@@ -5,6 +5,7 @@ FILES = {
     "run": ["script"],
     "map": ["script"],
     "blame": ["script"],
+    "count": ["script"],
     "save": ["script"],
     "check": ["script", "log"],
     "resume": ["image", "script"],

@@ -5,7 +5,8 @@ use Rattle.run_order.specs.Places.{AreAllInPlace}
 use Rattle.script_spec.specs.ScriptText.{Script as Said}
 use Rattle.command_texts.specs.Common.{IsReplayText, IsMapText, IsLegalText, IsMakeText, IsTransferText, IsSaveText}
 use Rattle.command_texts.specs.Common.{IsResumeText, IsSerialText, IsBlameText}
-use Rattle.command_words.specs.Words.{Command, Replay, Run, Map, Check, Make, Dma, Save, Resume, Serial, Blame}
+use Rattle.command_texts.specs.Count.{IsCountText}
+use Rattle.command_words.specs.Words.{Command, Replay, Run, Map, Check, Make, Dma, Save, Resume, Serial, Blame, Count}
 use Rattle.command_files.specs.Common.{Files, Known, AllRead, board_of, OfScript, OfImage, CanBeDone}
 
 -- the log of a run of a script: of a legal history that has, phase by phase, each processor's statements once each in
@@ -35,6 +36,7 @@ IsTextFor (Resume image script) known text =
     OfScript known (λ said. OfImage known (λ saved. IsResumeText saved said text))
 IsTextFor (Serial script input) known text = OnBoard known (λ setup said. IsSerialText setup said known.input) text
 IsTextFor (Blame script) known text = OnBoard known IsBlameText text
+IsTextFor (Count script) known text = OnBoard known IsCountText text
 
 -- what each command puts, where its files are these: all are good, and nothing is asked for but that it is done
 pub record IsCommandText (command : Command) (files : Files) (text : List ℕ) : Type 0 where

@@ -3,6 +3,7 @@
 ghost use Rattle.std.specs.Prelude.{ℕ, List, IfOk, IfErr};
 ghost use Rattle.command_texts.specs.Common.{IsReplayText, IsMapText, IsLegalText, IsTransferText, IsSaveText};
 ghost use Rattle.command_texts.specs.Common.{IsSerialText, IsBlameText};
+ghost use Rattle.command_texts.specs.Count.{IsCountText};
 ghost use Rattle.command_words.specs.Common.{IsTransfer, IsCommand, Check, Resume, said_alone, said_by};
 ghost use Rattle.command_files.specs.Common.{HasBoard, HasImage, HasRead, CanBeDone};
 ghost use Rattle.board_commands.specs.Texts.{OnBoard, IsRunText, IsTextFor};
@@ -14,8 +15,9 @@ use board_base::NoMemory;
 use board_outside::Gate;
 use command_files::{Read, Status};
 use command_texts::{
-    blame_after_replay, image_of_replay, is_same_board, log_of_replay, log_of_resumed,
-    map_after_replay, sent_in_replay, summary_of_made, transfer_after_replay, verdict_on_log,
+    blame_after_replay, counts_after_replay, image_of_replay, is_same_board, log_of_replay,
+    log_of_resumed, map_after_replay, sent_in_replay, summary_of_made, transfer_after_replay,
+    verdict_on_log,
 };
 use command_words::{Alone, Command, Transfer};
 use log_pieces::Text;
@@ -83,6 +85,15 @@ fn blame(alloc: Global, read: Read) -> Result<Text, NoMemory>
     blame_after_replay(alloc, &mut prepared.board, &prepared.script)
 }
 
+/// How many statements each processor did in the replay of a script.
+fn count(alloc: Global, read: Read) -> Result<Text, NoMemory>
+    requires board { HasBoard read }
+    ensures text { IfOk result (OnBoard read IsCountText) }
+{
+    let mut prepared = prepare(alloc, read)?;
+    counts_after_replay(alloc, &mut prepared.board, &prepared.script)
+}
+
 /// How many entries a log has, where it is that of a legal and complete history of a script.
 fn verdict(alloc: Global, read: Read) -> Result<Text, Status>
     requires board { HasBoard read }
@@ -132,6 +143,7 @@ fn text_alone(alloc: Global, command: &Alone, read: Read) -> Result<Text, Status
         Alone::Save(_) => save(alloc, read),
         Alone::Serial { .. } => serial(alloc, read),
         Alone::Blame(_) => blame(alloc, read),
+        Alone::Count(_) => count(alloc, read),
     };
     Ok(text?)
 }

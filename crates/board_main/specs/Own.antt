@@ -36,7 +36,8 @@ help_images =
     ++ (codes "                  and writes the bytes that it sends\n"
     ++ (codes "  blame FILE      writes the address map after the replay, with the map write that made each\n"
     ++ (codes "                  range, and then which map writes are enough for it\n"
-    ++ help_ends)))))))
+    ++ (codes "  count FILE      writes how many statements each processor did in the replay\n"
+    ++ help_ends))))))))
 
 abbrev pub help_transfer : List ℕ
 help_transfer =

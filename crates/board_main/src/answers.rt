@@ -38,6 +38,7 @@ const COMMANDS: &str = "
                   and writes the bytes that it sends
   blame FILE      writes the address map after the replay, with the map write that made each
                   range, and then which map writes are enough for it
+  count FILE      writes how many statements each processor did in the replay
   --help          writes this text
   --version       writes the version
 

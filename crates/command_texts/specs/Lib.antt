@@ -5,6 +5,7 @@ pub mod ReplayLog
 pub mod Done
 pub mod Images
 pub mod Blame
+pub mod Count
 pub mod Writes
 pub mod Laws
 pub mod Transfers

@@ -3,6 +3,7 @@
 
 mod blame;
 mod board;
+mod count;
 mod images;
 pub mod laws;
 mod made;
@@ -14,6 +15,7 @@ mod writes;
 
 pub use blame::blame_after_replay;
 pub use board::open_board;
+pub use count::counts_after_replay;
 pub use images::{image_of_replay, is_same_board, log_of_resumed};
 pub use made::summary_of_made;
 pub use replay::{check_log, map_after_replay, replay_script, verdict_on_log};

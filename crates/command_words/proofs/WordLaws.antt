@@ -6,7 +6,7 @@ use Rattle.script_spec.specs.Common.{IsDecimal, parse_decimal, parse_hex}
 use Rattle.script_spec.proofs.Common.{some_is, guarded, then_said, word_is, decimal_read, decimal_back}
 use Rattle.make_script.specs.Laws.{most_rounds}
 use Rattle.command_words.specs.declared.transfer.Transfer.{Transfer}
-use Rattle.command_words.specs.Words.{Command, Replay, Run, Map, Check, Make, Dma, Save, Resume, Serial, Blame}
+use Rattle.command_words.specs.Words.{Command, Replay, Run, Map, Check, Make, Dma, Save, Resume, Serial, Blame, Count}
 use Rattle.command_words.specs.Words.{IsTransfer, IsCommand, direction_word, AreWordsOf, with_name, with_names}
 use Rattle.command_words.specs.Words.{is_round_count, make_of, is_transfer, direction_of, dma_of, command_of}
 use Rattle.command_words.specs.Words.{WordsDecide, OneCommand}
@@ -133,7 +133,8 @@ all_read (verb ∷ words) command e =
     (verb_read verb (codes "resume") words command (two_read (codes "resume") Resume (λ _ _. (tt, refl)) words command)
     (verb_read verb (codes "serial") words command (two_read (codes "serial") Serial (λ _ _. (tt, refl)) words command)
     (verb_read verb (codes "blame") words command (one_read (codes "blame") Blame (λ _. (tt, refl)) words command)
-    (λ none. absurd (cc none))))))))))) e
+    (verb_read verb (codes "count") words command (one_read (codes "count") Count (λ _. (tt, refl)) words command)
+    (λ none. absurd (cc none)))))))))))) e
 
 -- ---- back
 

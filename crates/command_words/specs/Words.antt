@@ -18,6 +18,7 @@ pub data Command : Type 0 where
   Resume : (image script : List ℕ) → Command
   Serial : (script input : List ℕ) → Command
   Blame : (script : List ℕ) → Command
+  Count : (script : List ℕ) → Command
 
 -- the script that a command names
 abbrev pub script_name : Command → Option (List ℕ)
@@ -31,6 +32,7 @@ script_name (Save script) = Some script
 script_name (Resume image script) = Some script
 script_name (Serial script input) = Some script
 script_name (Blame script) = Some script
+script_name (Count script) = Some script
 
 -- ---- the numbers that words can say
 
@@ -75,11 +77,12 @@ AreWordsOf words (Save script) = words ≡ codes "save" ∷ script ∷ []
 AreWordsOf words (Resume image script) = words ≡ codes "resume" ∷ image ∷ script ∷ []
 AreWordsOf words (Serial script input) = words ≡ codes "serial" ∷ script ∷ input ∷ []
 AreWordsOf words (Blame script) = words ≡ codes "blame" ∷ script ∷ []
+AreWordsOf words (Count script) = words ≡ codes "count" ∷ script ∷ []
 
 -- the commands, as a user is told of them where the words are none
 abbrev pub usage_text : List ℕ
 usage_text =
-    codes "usage: board replay FILE, run FILE, map FILE, check FILE LOG, make N, dma FILE in|out TABLE LBA COUNT, save FILE, resume IMAGE FILE, serial FILE INPUT, blame FILE"
+    codes "usage: board replay FILE, run FILE, map FILE, check FILE LOG, make N, dma FILE in|out TABLE LBA COUNT, save FILE, resume IMAGE FILE, serial FILE INPUT, blame FILE, count FILE"
 
 -- ---- the command that words are
 
@@ -141,7 +144,8 @@ command_of (verb ∷ words) =
     if bytes_eq verb (codes "save") then with_name Save words else
     if bytes_eq verb (codes "resume") then with_names Resume words else
     if bytes_eq verb (codes "serial") then with_names Serial words else
-    if bytes_eq verb (codes "blame") then with_name Blame words else None
+    if bytes_eq verb (codes "blame") then with_name Blame words else
+    if bytes_eq verb (codes "count") then with_name Count words else None
 
 -- the command that the words ask for
 abbrev pub command_said : List (String Global) → Option Command

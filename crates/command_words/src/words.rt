@@ -12,7 +12,7 @@ use script_lines::{parse_decimal, parse_hex};
 
 /// The usage text: the form of each command. Standard error gets it where the words are no command.
 pub const USAGE: &str =
-    "usage: board replay FILE, run FILE, map FILE, check FILE LOG, make N, dma FILE in|out TABLE LBA COUNT, save FILE, resume IMAGE FILE, serial FILE INPUT, blame FILE";
+    "usage: board replay FILE, run FILE, map FILE, check FILE LOG, make N, dma FILE in|out TABLE LBA COUNT, save FILE, resume IMAGE FILE, serial FILE INPUT, blame FILE, count FILE";
 
 /// A command, with the file names and numbers that its words give.
 #[derive(Clone, Copy)]
@@ -44,6 +44,8 @@ pub enum Alone<'a> {
     Serial { script: &'a str, input: &'a str },
     /// Writes the address map after a replay with the map writes that made it.
     Blame(&'a str),
+    /// Writes how many statements each processor did in the replay of a script.
+    Count(&'a str),
 }
 
 /// The script that a command names.
@@ -60,7 +62,7 @@ pub fn script_name<'a>(command: &'a Command) -> Option<&'a str>
         Command::Alone(Alone::Save(script)) => Some(script),
         Command::Alone(Alone::Resume { script, .. }) => Some(script),
         Command::Alone(Alone::Serial { script, .. }) => Some(script),
-        Command::Alone(Alone::Blame(script)) => Some(script),
+        Command::Alone(Alone::Blame(script) | Alone::Count(script)) => Some(script),
     }
 }
 
@@ -243,6 +245,7 @@ pub fn command_of(words: &[String]) -> Option<Command<'_>>
         "resume" => resume_of(words),
         "serial" => serial_of(words),
         "blame" => Some(Command::Alone(Alone::Blame(name_of(words)?))),
+        "count" => Some(Command::Alone(Alone::Count(name_of(words)?))),
         _ => None,
     }
 }
