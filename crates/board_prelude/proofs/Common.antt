@@ -147,3 +147,7 @@ pub use Rattle.board_spec.proofs.Common.{take_rest, third, timer-alone, timer-pu
 pub use Rattle.board_spec.proofs.Common.{triggers-pulsed, true≢false, untouched, whole_front, whole_is_complete}
 pub use Rattle.board_spec.proofs.Common.{whole_is_front, wire-alone, with_items_is}
 unfoldable pub use Rattle.board_spec.proofs.Common.{made, scan}
+pub use Rattle.board_spec.proofs.Common.{applied_again, code_finds, code_found, find_passes, word_finds, word_found}
+pub use Rattle.board_prelude.specs.Common.{answers_outside, applied, applied_by, applied_text, event_applied, last_sector}
+pub use Rattle.board_prelude.specs.Common.{most_pulses_at_once, stimuli, stimulus_form, stimulus_of_code, stimulus_of_word}
+pub use Rattle.board_prelude.specs.Common.{Applied, Stimulus}

@@ -127,3 +127,7 @@ pub use Rattle.board_spec.specs.declared.event.Reply.TheVariants.{Bus, Saw}
 pub use Rattle.board_spec.specs.declared.event.Statement.{Statement}
 pub use Rattle.board_spec.specs.declared.map_change.MapChange.{MapChange}
 pub use Rattle.board_spec.specs.declared.map_change.MapChange.TheVariants.{Reset, Store}
+pub use Rattle.board_spec.specs.Common.{answers_outside, applied, applied_by, applied_text, event_applied, last_sector}
+pub use Rattle.board_spec.specs.Common.{most_pulses_at_once, stimuli, stimulus_form, stimulus_of_code, stimulus_of_word}
+pub use Rattle.board_spec.specs.declared.stimulus.Applied.{Applied}
+pub use Rattle.board_spec.specs.declared.stimulus.Stimulus.{Stimulus}

@@ -1,3 +1,4 @@
+pub mod StimulusLaws
 pub mod StoreLemmas
 pub mod TableLemmas
 pub mod WideLemmas

@@ -1,7 +1,7 @@
 -- The answer to an event after a history.
 use Rattle.std.specs.Prelude.{ℕ, ◌≡◌, ◌%◌, ◌^◌, ◌==◌, Bool, if◌then◌else◌, List, length, slice_get, slice_index, Option}
 use Rattle.std.specs.Prelude.{Some, None, is_some, unwrap_or, map}
-use Rattle.device_spec.specs.Common.{Width, Kind, PortAccess, WideAccess, Area, Dev, Reset, Pit, Keyboard, Ata, Wires}
+use Rattle.device_spec.specs.Common.{Width, Kind, PortAccess, WideAccess, Area, Dev, Reset, Keyboard, option_map_or}
 use Rattle.device_spec.specs.Common.{Target, Dram, Shadow, Smram, Rom, Card, Device, Config, Abort, Denial, largest_of}
 use Rattle.board_base.specs.declared.access.Access.{Access}
 use Rattle.board_base.specs.declared.target.Area.TheVariants.{Dram as DramArea, Shadow as ShadowArea}
@@ -9,8 +9,7 @@ use Rattle.board_base.specs.declared.target.Area.TheVariants.{Smram as SmramArea
 use Rattle.board_base.specs.declared.target.Area.TheVariants.{Abort as AbortArea}
 use Rattle.board_base.specs.declared.target.Dev.TheVariants.{Confadd, Clock}
 use Rattle.board_spec.specs.declared.event.Event.{Event}
-use Rattle.board_spec.specs.declared.event.Event.TheVariants.{Memory, Wide, Port, Look as LookAt, Ack, Pulses, Time}
-use Rattle.board_spec.specs.declared.event.Event.TheVariants.{Wire, Line, BadSector}
+use Rattle.board_spec.specs.declared.event.Event.TheVariants.{Memory, Wide, Port, Look as LookAt, Ack}
 use Rattle.board_spec.specs.declared.event.Look.{Look}
 use Rattle.board_spec.specs.declared.event.Reply.{Reply}
 use Rattle.board_spec.specs.declared.event.Part.{Part}
@@ -25,6 +24,7 @@ use Rattle.board_spec.specs.MapWrites.{version_of}
 use Rattle.board_spec.specs.Decode.{area_of, denial_of}
 use Rattle.board_spec.specs.Ports.{port_target_of}
 use Rattle.board_spec.specs.FlatMap.{IsSpan}
+use Rattle.board_spec.specs.Stimuli.{stimulus_form, applied_by}
 use Rattle.board_spec.specs.Stored.{dram_byte, card_byte, is_write}
 use Rattle.board_spec.specs.WideParts.{parts_of, parts_list, joined}
 use Rattle.board_spec.specs.Interrupts.{device_value, vector_of, acknowledged_by}
@@ -126,9 +126,12 @@ port_answer setup before access =
     port_target_of setup (byte_of setup before) (config_address before) (is_some setup.disk) access.port access.width in
     bus_reply setup before access.write decoded.target decoded.denial access.port access.width
 
--- an event from outside the bus
+-- an event from outside the bus: a stimulus, or else a moment
 abbrev pub outside_answer : Dev → Reply
 outside_answer dev = Bus None (Device dev) None
+
+abbrev pub answers_outside : Event → Dev
+answers_outside event = option_map_or (λ said. (stimulus_form said.stimulus).answers) (applied_by event) Clock
 
 -- a look gives the version and the span of the map of the registers as they stand
 pub record IsLookAnswer (setup : Setup) (before : List Entry) (kind : Kind) (addr : ℕ) (smm : Bool)
@@ -152,8 +155,4 @@ IsAnswer setup before (Port access) reply = reply ≡ port_answer setup before a
 IsAnswer setup before (LookAt kind addr smm) reply = IsSeen (IsLookAnswer setup before kind addr smm) reply
 IsAnswer setup before Ack reply =
     reply ≡ Bus (Some (vector_of setup before)) (Device (acknowledged_by setup before)) None
-IsAnswer setup before (Pulses count) reply = reply ≡ outside_answer Pit
-IsAnswer setup before (Time moment) reply = reply ≡ outside_answer Clock
-IsAnswer setup before (Wire dev on) reply = reply ≡ outside_answer Wires
-IsAnswer setup before (Line irq on) reply = reply ≡ outside_answer Wires
-IsAnswer setup before (BadSector sector) reply = reply ≡ outside_answer Ata
+IsAnswer setup before event reply = reply ≡ outside_answer (answers_outside event)

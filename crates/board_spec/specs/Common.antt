@@ -140,3 +140,9 @@ unfoldable pub use Rattle.device_spec.specs.Common.{status_byte, take_byte, take
 unfoldable pub use Rattle.device_spec.specs.Common.{word_written, write, write_control}
 pub use Rattle.device_spec.specs.declared.port.Select.{Select}
 pub use Rattle.device_spec.specs.declared.port.Select.TheVariants.{Always, IdeChannel, XbcsBit0, XbcsBit1}
+pub use Rattle.board_spec.specs.Answer.{answers_outside}
+pub use Rattle.board_spec.specs.LogText.{applied_text}
+pub use Rattle.board_spec.specs.Stimuli.{applied, applied_by, event_applied, last_sector, most_pulses_at_once, stimuli}
+pub use Rattle.board_spec.specs.Stimuli.{stimulus_form, stimulus_of_code, stimulus_of_word}
+pub use Rattle.board_spec.specs.declared.stimulus.Applied.{Applied}
+pub use Rattle.board_spec.specs.declared.stimulus.Stimulus.{Stimulus}

@@ -14,6 +14,7 @@ pub mod FlatMap
 pub mod WideParts
 pub mod Stored
 pub mod InRange
+pub mod Stimuli
 pub mod Devices
 pub mod Interrupts
 pub mod Answer

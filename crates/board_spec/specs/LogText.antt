@@ -2,16 +2,17 @@
 use Rattle.std.specs.Prelude.{ℕ, ◌+◌, ◌/◌, ◌%◌, ◌==◌, ◌++◌, Bool, true, false, List, [], ◌∷◌, length, flat_map}
 use Rattle.std.specs.Prelude.{if◌then◌else◌, Option, Some, None, codes, decimal}
 use Rattle.device_spec.specs.Common.{Width, bytes_of, Kind, Fetch, Read, Write, WideAccess, PortAccess, Moment, Target}
-use Rattle.device_spec.specs.Common.{Denial}
+use Rattle.device_spec.specs.Common.{Denial, option_map_or}
 use Rattle.board_base.specs.declared.access.Access.{Access}
 use Rattle.board_spec.specs.declared.event.Event.{Event}
-use Rattle.board_spec.specs.declared.event.Event.TheVariants.{Memory, Wide, Port, Look as LookAt, Ack, Pulses, Time}
-use Rattle.board_spec.specs.declared.event.Event.TheVariants.{Wire, Line, BadSector}
+use Rattle.board_spec.specs.declared.event.Event.TheVariants.{Memory, Wide, Port, Look as LookAt, Ack, Time}
 use Rattle.board_spec.specs.declared.event.Look.{Look}
 use Rattle.board_spec.specs.declared.event.Reply.{Reply}
 use Rattle.board_spec.specs.declared.event.Reply.TheVariants.{Bus, Parts, Saw}
 use Rattle.board_spec.specs.declared.event.Entry.{Entry}
+use Rattle.board_spec.specs.declared.stimulus.Applied.{Applied}
 use Rattle.board_spec.specs.Stored.{is_write}
+use Rattle.board_spec.specs.Stimuli.{stimulus_form, applied_by}
 use Rattle.board_spec.specs.WideParts.{parts_list}
 use Rattle.board_spec.specs.Text.{space, line_feed, hex_number, hex_word, hex_long, area_text, target_text, denial_text}
 
@@ -73,17 +74,21 @@ moment_text moment =
     ++ two_digits moment.minute ++ codes ":"
     ++ two_digits moment.second
 
+-- a stimulus: its word, its number, and its level where it has one
+abbrev pub applied_text : Applied → List ℕ
+applied_text said =
+    let line = stimulus_form said.stimulus in
+    line.word ++ space ∷
+    (if line.has_level then decimal said.number ++ space ∷ level_text said.on else decimal said.number)
+
 unfoldable pub event_text : Event → List ℕ
 event_text (Memory access) = access_text access
 event_text (Wide access) = wide_text access
 event_text (Port access) = port_text access
 event_text (LookAt kind addr smm) = codes "look " ++ kind_text kind ++ space ∷ hex_long addr ++ smm_text smm
 event_text Ack = codes "ack"
-event_text (Pulses count) = codes "pulse " ++ decimal count
 event_text (Time moment) = codes "moment " ++ moment_text moment
-event_text (Wire dev on) = codes "wire " ++ decimal dev ++ space ∷ level_text on
-event_text (Line irq on) = codes "irq " ++ decimal irq ++ space ∷ level_text on
-event_text (BadSector sector) = codes "bad " ++ decimal sector
+event_text event = option_map_or applied_text (applied_by event) []
 
 -- ---- replies
 

@@ -9,9 +9,11 @@ pub mod limits;
 mod map_change;
 pub mod offset;
 pub mod range;
+pub mod stimulus;
 pub mod wide;
 
 pub use board_base::bits;
 pub use device_spec::port;
 pub use event::{Entry, Event, Look, Part, Parts, Reply, Statement};
 pub use map_change::MapChange;
+pub use stimulus::{Applied, Stimulus};
