@@ -2,8 +2,7 @@
 use Rattle.std.specs.Prelude.{ℕ, ◌≡◌, ◌≢◌, ◌+◌, ◌%◌, ◌^◌, ◌<◌, ◌≤◌, ◌⊎◌, ◌==◌, Bool, true, false, ◌||◌, is_some}
 use Rattle.device_spec.specs.Common.{Width, WideAccess, bytes_of, largest_of, IsMoment}
 use Rattle.board_spec.specs.declared.event.Event.{Event}
-use Rattle.board_spec.specs.declared.event.Event.TheVariants.{Memory, Wide, Port, Look as LookAt, Ack, Pulses, Time}
-use Rattle.board_spec.specs.declared.event.Event.TheVariants.{Wire, Line, BadSector}
+use Rattle.board_spec.specs.declared.event.Event.TheVariants.{Memory, Wide, Port, Pulses, Time, Wire, Line, BadSector}
 use Rattle.board_spec.specs.declared.event.Statement.{Statement}
 use Rattle.board_spec.specs.Setup.{Setup, card_at}
 use Rattle.board_spec.specs.Bits.{is_within}
@@ -39,13 +38,11 @@ abbrev pub IsInRange : Setup → Event → Type 0
 IsInRange setup (Memory access) = IsBusAccess (is_write access.kind) access.addr access.width access.value
 IsInRange setup (Wide access) = IsWideAccess access
 IsInRange setup (Port access) = IsBusAccess access.write access.port access.width access.value
-IsInRange setup (LookAt kind addr smm) = Unit {0}
-IsInRange setup Ack = Unit {0}
 IsInRange setup (Pulses count) = (1 ≤ count) × (count ≤ 1_000_000)
 IsInRange setup (Time moment) = IsMoment moment
 IsInRange setup (Wire dev on) = is_some (card_at setup dev) ≡ true
 IsInRange setup (Line line on) = is_free_line line ≡ true
-IsInRange setup (BadSector sector) = Unit {0}
+IsInRange setup _ = Unit {0}
 
 -- ---- what a script promises besides
 
