@@ -13,6 +13,7 @@ pub mod GoesOnProofs
 pub mod OrderLengths
 pub mod PartLemmas
 pub mod PartLawProofs
+mod WordProofs
 pub mod DeviceAlone
 pub mod LineProofs
 pub mod PairProofs

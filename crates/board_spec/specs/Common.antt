@@ -79,6 +79,7 @@ pub use Rattle.board_spec.specs.Setup.{kept_size, memory_of_cards, memory_size, 
 pub use Rattle.board_spec.specs.Stored.{CardCell, Cell, DramCell, byte_put, card_byte, distance, dram_byte, entry_put}
 pub use Rattle.board_spec.specs.Stored.{expansion_byte, first_cell, is_write, memory_put, port_put}
 unfoldable pub use Rattle.board_spec.specs.Stored.{parts_put, stored_of}
+pub use Rattle.board_spec.specs.Text.{WordsApart, chip_text, device_word, device_worded, has_one_name, named_devices}
 pub use Rattle.board_spec.specs.Text.{area_text, base_text, denial_text, device_text, hex_byte, hex_digit, hex_long}
 pub use Rattle.board_spec.specs.Text.{hex_number, hex_offset, hex_word, line_feed, register_text, space, target_text}
 pub use Rattle.board_spec.specs.WideParts.{joined, longest_at, part_at, parts_list, parts_of}

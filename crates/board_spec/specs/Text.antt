@@ -1,6 +1,6 @@
 -- Words of the texts: hexadecimal digits in upper case, areas, registers, targets and denials.
-use Rattle.std.specs.Prelude.{ℕ, zero, suc, ◌+◌, ◌/◌, ◌%◌, ◌++◌, List, [], ◌∷◌, nat_lt, if◌then◌else◌, Option, Some}
-use Rattle.std.specs.Prelude.{None, codes, decimal}
+use Rattle.std.specs.Prelude.{◌≡◌, ℕ, zero, suc, ◌+◌, ◌/◌, ◌%◌, ◌++◌, List, [], ◌∷◌, nat_lt, if◌then◌else◌, Option}
+use Rattle.std.specs.Prelude.{Some, None, codes, decimal, bytes_eq, find, Bool, true, false}
 use Rattle.device_spec.specs.Common.{Reg, Dev, Reset, Pic0, Pic1, Pit, System, Keyboard, Elcr, Ata, Wires, Vector}
 use Rattle.device_spec.specs.Common.{Spurious, Area, Target, Dram, Shadow, Smram, Rom, Card, Device, Config, Abort}
 use Rattle.device_spec.specs.Common.{Denial, Register, Confadd, NoRegister}
@@ -56,20 +56,48 @@ area_text RomArea = codes "rom"
 area_text (CardArea dev base) = base_text dev base
 area_text AbortArea = codes "abort"
 
+-- the devices with one name, in the order of their numbers for C
+abbrev pub named_devices : List Dev
+named_devices =
+    AddressPort ∷ Reset ∷ Pic0 ∷ Pic1 ∷ Pit ∷ System ∷ Keyboard ∷ Clock ∷ Elcr ∷ Ata ∷ Wires ∷ []
+
+-- the word of a device, and of an acknowledge, which the number of a chip follows
+abbrev pub device_word : Dev → List ℕ
+device_word AddressPort = codes "confadd"
+device_word Reset = codes "reset"
+device_word Pic0 = codes "pic0"
+device_word Pic1 = codes "pic1"
+device_word Pit = codes "pit"
+device_word System = codes "sys"
+device_word Keyboard = codes "kbd"
+device_word Clock = codes "clock"
+device_word Elcr = codes "elcr"
+device_word Ata = codes "ata"
+device_word Wires = codes "wires"
+device_word (Vector chip) = codes "vec"
+device_word (Spurious chip) = codes "spur"
+
+abbrev pub chip_text : Dev → List ℕ
+chip_text (Vector chip) = decimal chip
+chip_text (Spurious chip) = decimal chip
+chip_text _ = []
+
 abbrev pub device_text : Dev → List ℕ
-device_text AddressPort = codes "confadd"
-device_text Reset = codes "reset"
-device_text Pic0 = codes "pic0"
-device_text Pic1 = codes "pic1"
-device_text Pit = codes "pit"
-device_text System = codes "sys"
-device_text Keyboard = codes "kbd"
-device_text Clock = codes "clock"
-device_text Elcr = codes "elcr"
-device_text Ata = codes "ata"
-device_text Wires = codes "wires"
-device_text (Vector chip) = codes "vec" ++ decimal chip
-device_text (Spurious chip) = codes "spur" ++ decimal chip
+device_text dev = device_word dev ++ chip_text dev
+
+-- the device with one name that a word names
+abbrev pub device_worded : List ℕ → Option Dev
+device_worded field = find (λ dev. bytes_eq field (device_word dev)) named_devices
+
+-- all but an acknowledge
+abbrev pub has_one_name : Dev → Bool
+has_one_name (Vector chip) = false
+has_one_name (Spurious chip) = false
+has_one_name _ = true
+
+-- the text of a device with one name is read as this device
+abbrev pub WordsApart : Type 0
+WordsApart = (dev : Dev) → has_one_name dev ≡ true → device_worded (device_text dev) ≡ Some dev
 
 abbrev pub target_text : Target → List ℕ
 target_text (Dram row) = codes "dram:" ++ decimal row

@@ -3,6 +3,7 @@
 #![tactic(auto)]
 
 pub mod command;
+pub mod device;
 mod event;
 pub mod laws;
 pub mod limits;

@@ -1,0 +1,10 @@
+-- The words of two devices differ.
+use Rattle.std.proofs.Common.{refl}
+use Rattle.board_base.proofs.Common.{false≢true}
+use Rattle.board_spec.specs.Text.{WordsApart}
+use Rattle.device_spec.specs.Common.{Vector, Spurious}
+
+pub words_apart : WordsApart
+words_apart (Vector chip) is = absurd (false≢true is)
+words_apart (Spurious chip) is = absurd (false≢true is)
+words_apart _ is = refl
