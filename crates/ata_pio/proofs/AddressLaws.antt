@@ -1,6 +1,6 @@
 -- The registers that are written back for a sector name it.
-use Rattle.std.proofs.Common.{◌≡◌, ℕ, ◌+◌, ◌-◌, ◌*◌, ◌/◌, ◌%◌, ◌≤◌, Bool, true, false, ◌||◌, ltb, eqb, cond, Some, inl}
-use Rattle.std.proofs.Common.{inr, refl, ap, ◌∙◌, arith}
+use Rattle.std.proofs.Common.{◌≡◌, ℕ, ◌+◌, ◌-◌, ◌*◌, ◌/◌, ◌%◌, ◌≤◌, Bool, true, false, ◌||◌, ltb, eqb, cond, Some}
+use Rattle.std.proofs.Common.{inl, inr, refl, ap, ◌∙◌, arith}
 use Rattle.device_spec.proofs.Common.{cases_Bool, cond-true, cond-false, nat_tests, is_bit, Registers, is_lba}
 use Rattle.device_spec.proofs.Common.{is_drive_one, with_head, named, naming}
 use Rattle.ata_pio.specs.Ata.Laws.{WrittenBackNames}

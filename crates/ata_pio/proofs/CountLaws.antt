@@ -2,11 +2,11 @@
 use Rattle.std.proofs.Common.{◌≡◌, ◌≢◌, ℕ, zero, suc, ◌+◌, ◌*◌, ◌%◌, ◌<◌, ◌≤◌, ◌⊎◌, Bool, true, false, eqb, ltb, List}
 use Rattle.std.proofs.Common.{[], ◌∷◌, ◌++◌, length, Some, Result, Ok, Err, inl, inr, refl, ap, subst, ◌∙◌, arith}
 use Rattle.std.proofs.Common.{length-set}
-use Rattle.device_spec.proofs.Common.{cond-true, cond-false, eq-eqb, ne_eqb, lt-ltb, Medium, Activity, Reading, Writing}
-use Rattle.device_spec.proofs.Common.{Drive, Disk, sectors_of, sector_bytes, stored, named, naming, counted, left_of}
-use Rattle.device_spec.proofs.Common.{readable, found, reads_found, writes_found, finished, ended, begin_read}
-use Rattle.device_spec.proofs.Common.{begin_write, sector_read, sector_written, verified, counted_down, moved_to}
-use Rattle.device_spec.proofs.Common.{word_of, word_read, word_written, with_drive}
+use Rattle.device_spec.proofs.Common.{cond-true, cond-false, eq-eqb, ne_eqb, lt-ltb, Medium, Activity, Reading}
+use Rattle.device_spec.proofs.Common.{Writing, Drive, Disk, sectors_of, sector_bytes, stored, named, naming, counted}
+use Rattle.device_spec.proofs.Common.{left_of, readable, found, reads_found, writes_found, finished, ended}
+use Rattle.device_spec.proofs.Common.{begin_read, begin_write, sector_read, sector_written, verified, counted_down}
+use Rattle.device_spec.proofs.Common.{moved_to, word_of, word_read, word_written, with_drive}
 use Rattle.ata_pio.specs.Ata.Laws.{IsWhole, IsChosen, words_read, after_words_read, after_words_written, sector_words}
 use Rattle.ata_pio.specs.Ata.Laws.{bytes_of_words, moved_on, AllReadable, MovesOn, words_of_sectors, reading_disk}
 use Rattle.ata_pio.specs.Ata.Laws.{ReadMovesItsSectors, VerifyLooksAtItsSectors, writing_disk, all_stored, AreSectors}

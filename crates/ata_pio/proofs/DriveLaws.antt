@@ -1,14 +1,14 @@
 -- What is under way stays one of the disk's sectors.
-use Rattle.std.proofs.Common.{◌≡◌, ℕ, zero, suc, ◌+◌, ◌<◌, Bool, true, false, cond, ltb, eqb, ◌||◌, ◌&&◌, ◌==◌, Option}
-use Rattle.std.proofs.Common.{Some, None, Result, Ok, Err, refl, sym, subst}
+use Rattle.std.proofs.Common.{◌≡◌, ℕ, zero, suc, ◌+◌, ◌<◌, Bool, true, false, cond, ltb, eqb, ◌||◌, ◌&&◌, ◌==◌}
+use Rattle.std.proofs.Common.{Option, Some, None, Result, Ok, Err, refl, sym, subst}
 use Rattle.device_spec.proofs.Common.{cond_both, ltb-true, is_bit, Medium, Activity, Ready, Failed, Reading, Writing}
 use Rattle.device_spec.proofs.Common.{Identifying, Drive, sectors_of, is_bad, is_drq, named, head_of, left_of, found}
 use Rattle.device_spec.proofs.Common.{readable, counted_down, moved_to, reads_found, writes_found, begin_read}
 use Rattle.device_spec.proofs.Common.{begin_write, sector_read, sector_written, verified, is_feature, obeyed, begun}
 use Rattle.device_spec.proofs.Common.{is_ignored, commanded, read_sectors, read_verify_sectors, write_sectors}
 use Rattle.device_spec.proofs.Common.{execute_device_diagnostic, initialize_device_parameters, flush_cache}
-use Rattle.device_spec.proofs.Common.{identify_device, set_features, after_activity_word, after_word, register_written}
-use Rattle.device_spec.proofs.Common.{control_written}
+use Rattle.device_spec.proofs.Common.{identify_device, set_features, after_activity_word, after_word}
+use Rattle.device_spec.proofs.Common.{register_written, control_written}
 use Rattle.ata_pio.specs.Ata.Laws.{IsUnderWay}
 use Rattle.ata_pio.proofs.Verifies.{verified-fails, verified-end, verified-next}
 

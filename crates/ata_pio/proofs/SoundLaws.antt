@@ -1,13 +1,13 @@
 -- A sound disk stays sound, and only a store changes a sector.
-use Rattle.std.proofs.Common.{ltb, leb, ◌≡◌, ◌≢◌, ℕ, ◌*◌, ◌/◌, ◌%◌, ◌<◌, ◌≤◌, Bool, true, false, cond, eqb, ◌&&◌, List}
-use Rattle.std.proofs.Common.{[], ◌∷◌, ◌++◌, length, inl, inr, refl, ap, sym, subst, ◌∙◌, arith, length-set}
+use Rattle.std.proofs.Common.{ltb, leb, ◌≡◌, ◌≢◌, ℕ, ◌*◌, ◌/◌, ◌%◌, ◌<◌, ◌≤◌, Bool, true, false, cond, eqb, ◌&&◌}
+use Rattle.std.proofs.Common.{List, [], ◌∷◌, ◌++◌, length, inl, inr, refl, ap, sym, subst, ◌∙◌, arith, length-set}
 use Rattle.std.proofs.Common.{length-append}
 use Rattle.device_spec.proofs.Common.{and_parts, ltb-true, leb-true, cases_Bool, cond-true, cond-false, eqb-true}
 use Rattle.device_spec.proofs.Common.{eqb-false, or_parts, true≢false, length-replicate, One, Two, Four, power_on}
-use Rattle.device_spec.proofs.Common.{Activity, Writing, Drive, Disk, sectors_of}
-use Rattle.device_spec.proofs.Common.{sector_bytes, stored, is_drq, ended, sector_written, commanded, bytes_written}
-use Rattle.device_spec.proofs.Common.{activity_written, word_written, word_read, with_drive, after_word, byte_written}
-use Rattle.device_spec.proofs.Common.{control_written, register_written, disk_status_port, disk_control_port}
+use Rattle.device_spec.proofs.Common.{Activity, Writing, Drive, Disk, sectors_of, sector_bytes, stored, is_drq, ended}
+use Rattle.device_spec.proofs.Common.{sector_written, commanded, bytes_written, activity_written, word_written}
+use Rattle.device_spec.proofs.Common.{word_read, with_drive, after_word, byte_written, control_written}
+use Rattle.device_spec.proofs.Common.{register_written, disk_status_port, disk_control_port}
 use Rattle.ata_pio.specs.Ata.Laws.{PowerOnIsSound, IsUnderWay, IsSound, Access, Read, Write, Spoil, Restart, stepped}
 use Rattle.ata_pio.specs.Ata.Laws.{activity_stores, word_stores, stores, StaysSound, OnlyStoresChange, after_all}
 use Rattle.ata_pio.specs.Ata.Laws.{NoneStores}

@@ -2,11 +2,12 @@
 use Rattle.std.proofs.Common.{◌≡◌, ℕ, ◌+◌, ◌*◌, ◌%◌, ◌<◌, ◌≤◌, Bool, true, eqb, ltb, leb, ◌&&◌, List, [], ◌∷◌, length}
 use Rattle.std.proofs.Common.{map, flat_map, refl, ap, ◌∙◌, arith}
 use Rattle.device_spec.proofs.Common.{and_parts, ltb-true, leb-true, eqb-true, flat_map-cons}
-use Rattle.device_spec.specs.Common.{Medium, Disk, is_disk_length}
+use Rattle.device_spec.specs.Common.{is_disk_length}
 use Rattle.byte_fields.specs.Fields.{Reading as Reader, flag_byte, flag_field}
 use Rattle.byte_fields.specs.Loads.{OneSpelling}
 use Rattle.byte_fields.proofs.Loops.{IsLoop}
-use Rattle.byte_fields.proofs.Formats.{IsFormat, format_as, then_format, last_format, many_format, AreGood}
+use Rattle.byte_fields.proofs.Formats.{IsFormat, format_as, fields_format, ◌then◌, ◌&◌, last_field, many_format}
+use Rattle.byte_fields.proofs.Formats.{AreGood}
 use Rattle.byte_fields.proofs.Numbers.{Any, flag_format}
 use Rattle.byte_fields.proofs.PageFormats.{pages_format}
 use Rattle.byte_fields.proofs.Loaded.{one_spelling}
@@ -56,15 +57,9 @@ medium_format : (fitted : List ℕ) →
     IsFormat (2 * length fitted + count_of fitted) (medium_fields fitted) (medium_bytes fitted) (IsMedium fitted)
 unfolding medium_fields
 medium_format fitted =
-    format_as (2 * length fitted + count_of fitted) (medium_bytes fitted) (IsMedium fitted)
-    (then_format (λ (m : Medium). m.bytes) (pages_format sector_size fitted (omega arith)) (λ bytes good.
-    last_format (λ (m : Medium). m.bad) (λ bad. record { bytes = bytes; bad = bad }) (flags_format (count_of fitted))
-    (λ bad good. refl))
-    (λ bytes m any good. ap (λ (m : Medium). m.bytes) good.1))
-    (omega arith)
-    (λ m is. (is.bytes, (is.bad, refl)))
-    (λ m good. record { bytes = good.0; bad = good.1.0 })
-    (λ m good. refl)
+    fields_format (pages_format sector_size fitted (omega arith) then λ bytes good. last_field _ (flags_format (count_of fitted)))
+    (λ m is. ((m.bytes, is.bytes) & (m.bad, is.bad), refl))
+    (λ t. (record { bytes = t.1; bad = t.2.1 }, refl))
 
 -- ---- the disk
 
@@ -91,15 +86,9 @@ pub disk_format : (fitted : List ℕ) → is_disk_length (length fitted) ≡ tru
 unfolding disk_fields
 disk_format fitted size =
     let has = sectors_of_length fitted size in
-    format_as (most_bytes fitted) (disk_bytes fitted) (IsDisk fitted)
-    (then_format (λ (d : Disk). d.drive) (drive_format (count_of fitted) has.some has.few) (λ drive good.
-    last_format (λ (d : Disk). d.medium) (λ medium. record { medium = medium; drive = drive }) (medium_format fitted)
-    (λ medium good. refl))
-    (λ drive d any good. ap (λ (d : Disk). d.drive) good.1))
-    (omega arith)
-    (λ d is. (is.drive, (is.medium, refl)))
-    (λ d good. record { size = size; drive = good.0; medium = good.1.0 })
-    (λ d good. refl)
+    fields_format (drive_format (count_of fitted) has.some has.few then λ drive good. last_field _ (medium_format fitted))
+    (λ d is. ((d.drive, is.drive) & (d.medium, is.medium), refl))
+    (λ t. (record { size = size; drive = t.1; medium = t.2.1 }, refl))
 
 pub one_disk : (fitted : List ℕ) → OneSpelling (disk_bytes fitted) (IsDisk fitted)
 one_disk fitted left right of_left of_right same =

@@ -1,12 +1,12 @@
 -- A format: how values are spelled and how they are read, and that each undoes the other.
 use Rattle.std.proofs.Common.{◌≡◌, ℕ, zero, suc, ◌+◌, ◌*◌, ◌≤◌, ◌⊎◌, inl, inr, Bool, true, false, cond, List, [], ◌∷◌}
-use Rattle.std.proofs.Common.{◌++◌, length, take, drop, Result, Ok, Err, refl, sym, ap, subst, ◌∙◌, append_assoc, arith}
-use Rattle.std.proofs.Common.{nat_lt, flat_map}
+use Rattle.std.proofs.Common.{◌++◌, length, take, drop, Result, Ok, Err, refl, sym, ap, subst, ◌∙◌, append_assoc}
+use Rattle.std.proofs.Common.{arith, nat_lt, flat_map, Option, Some, None}
 use Rattle.board_base.proofs.Common.{flat_map-cons, ltb-false, le-ltb, take_at, drop_at, length-append, length-take}
-use Rattle.board_base.proofs.Common.{take-append-drop, append-nil}
+use Rattle.board_base.proofs.Common.{take-append-drop, get_or-take, get_or_past, cases_lt, nil_from_length}
 use Rattle.std.proofs.Math.Nat.{mul-suc}
-use Rattle.byte_fields.specs.Fields.{AreBytes, Reading, then_read, gives, plain, ◌>>=◌}
-use Rattle.byte_fields.proofs.Loops.{IsLoop, with_later}
+use Rattle.byte_fields.specs.Fields.{AreBytes, Reading, then_read, gives, said, plain, ◌>>=◌}
+use Rattle.byte_fields.proofs.Loops.{IsLoop}
 
 -- values that are good are spelled in at most so many bytes, and read back whatever follows. What is read was spelled
 -- so and is good. A bad field begins after at most so many bytes
@@ -51,33 +51,98 @@ pub then_err :
 then_err (Ok got) next left is = inr (got, refl, is)
 then_err {B = B} (Err other) next left is = inl (ap (λ (n : ℕ). Err n) (err_is {X = B × List ℕ} other left is))
 
--- a field, and then those that its value calls for: the value of the whole tells that of the field
-pub then_format :
-    {A C : Type 0} {n m : ℕ} {first : Reading A} {next : A → Reading C} {a_spelled : A → List ℕ} {IsGoodA : A → Type 0}
-    {c_spelled : A → C → List ℕ} {IsGoodC : A → C → Type 0} (part : C → A) →
-    IsFormat n first a_spelled IsGoodA →
-    ((a : A) → IsGoodA a → IsFormat m (next a) (c_spelled a) (IsGoodC a)) →
-    ((a : A) (c : C) → IsGoodA a → IsGoodC a c → part c ≡ a) →
-    IsFormat (n + m) (first >>= next) (λ c. a_spelled (part c) ++ c_spelled (part c) c)
-    (λ c. IsGoodA (part c) × IsGoodC (part c) c)
-then_format {n = n} {m = m} {first = first} {next = next} {a_spelled = a_spelled}
-    {IsGoodA = IsGoodA} {c_spelled = c_spelled} {IsGoodC = IsGoodC} part one other same =
+-- ---- fields in a row
+
+-- what fields say together, with that each is good, tells the value that they make and how they are spelled
+pub record AreFields {T C : Type 0} (most : ℕ) (reads : Reading C) (make : T → C) (spelled : T → List ℕ) :
+    Type 0 where
+  pub back : (t : T) (rest : List ℕ) → reads (spelled t ++ rest) ≡ Ok (make t, rest)
+  pub taken : (bytes : List ℕ) (value : C) (rest : List ℕ) → AreBytes bytes → reads bytes ≡ Ok (value, rest) →
+      (t : T) × (bytes ≡ spelled t ++ rest) × (make t ≡ value)
+  pub bad : (bytes : List ℕ) (left : ℕ) → AreBytes bytes → reads bytes ≡ Err left →
+      (left ≤ length bytes) × (length bytes ≤ left + most)
+  pub size : (t : T) → length (spelled t) ≤ most
+
+-- the fields of a value
+pub fields_format :
+    {T C : Type 0} {most : ℕ} {reads : Reading C} {make : T → C} {spelled : T → List ℕ} {other : C → List ℕ}
+    {IsGood : C → Type 0} → AreFields most reads make spelled → ((c : C) → IsGood c → (t : T) × (c ≡ make t)) →
+    ((t : T) → IsGood (make t) × (other (make t) ≡ spelled t)) → IsFormat most reads other IsGood
+fields_format {most = most} {reads = reads} {other = other} {IsGood = IsGood} fields to from = record {
+  back = λ value rest good.
+      let t = to value good in
+      subst (λ c. reads (other c ++ rest) ≡ Ok (c, rest)) (sym t.1) (rw (from t.0).1 (fields.back t.0 rest));
+  taken = λ bytes value rest are is.
+      let got = fields.taken bytes value rest are is in
+      subst (λ c. (bytes ≡ other c ++ rest) × IsGood c) got.2 (rw (from got.0).1 got.1, (from got.0).0);
+  bad = fields.bad;
+  size = λ value good.
+      let t = to value good in
+      subst (λ c. length (other c) ≤ most) (sym t.1) (rw (from t.0).1 (fields.size t.0));
+}
+
+-- the last field
+pub last_field :
+    {A C : Type 0} {n : ℕ} {first : Reading A} {spelled : A → List ℕ} {IsGood : A → Type 0} (make : A → C) →
+    IsFormat n first spelled IsGood →
+    AreFields n (first >>= λ a. gives (make a)) (λ (t : (a : A) × IsGood a). make t.0) (λ t. spelled t.0)
+last_field {C = C} {first = first} {spelled = spelled} make one = record {
+  back = λ t rest. rw (one.back t.0 rest t.1) refl;
+  taken = λ bytes value rest are is.
+      let got = then_ok (first bytes) (λ a. gives (make a)) value rest is in
+      let a = one.taken bytes got.0.0 got.0.1 are got.1 in
+      let told = ok_is (make got.0.0, got.0.1) (value, rest) got.2 in (
+        (got.0.0, a.1),
+        a.0 ∙ ap (λ (pair : C × List ℕ). spelled got.0.0 ++ pair.1) told,
+        ap (λ (pair : C × List ℕ). pair.0) told,
+      );
+  bad = λ bytes left are is.
+      elim (then_err (first bytes) (λ a. gives (make a)) left is) [
+        | inl early ↦ one.bad bytes left are early
+        | inr late ↦ absurd (not_err (make late.0.0, late.0.1) left late.2)
+      ];
+  size = λ t. one.size t.0 t.1;
+}
+
+-- all of a value at once
+pub whole_field :
+    {C : Type 0} {n : ℕ} {reads : Reading C} {spelled : C → List ℕ} {IsGood : C → Type 0} →
+    IsFormat n reads spelled IsGood → AreFields n reads (λ (t : (c : C) × IsGood c). t.0) (λ t. spelled t.0)
+whole_field one = record {
+  back = λ t rest. one.back t.0 rest t.1;
+  taken = λ bytes value rest are is.
+      let c = one.taken bytes value rest are is in
+      ((value, c.1), c.0, refl);
+  bad = one.bad;
+  size = λ t. one.size t.0 t.1;
+}
+
+-- a value that is good, and what the fields after it say
+infixr 5 ◌&◌
+abbrev pub ◌&◌ : {A : Type 0} {IsGood T : A → Type 0} (a : (a : A) × IsGood a) → T a.0 → (a : A) × IsGood a × T a
+a & later = (a.0, a.1, later)
+
+-- a field, and then those that its value calls for
+infixr 20 ◌then◌
+pub ◌then◌ :
+    {A C : Type 0} {n m : ℕ} {first : Reading A} {next : A → Reading C} {a_spelled : A → List ℕ} {IsGood : A → Type 0}
+    {T : A → Type 0} {make : (a : A) → T a → C} {spelled : (a : A) → T a → List ℕ} →
+    IsFormat n first a_spelled IsGood → ((a : A) → IsGood a → AreFields m (next a) (make a) (spelled a)) →
+    AreFields (n + m) (first >>= next) (λ (t : (a : A) × IsGood a × T a). make t.0 t.2)
+    (λ t. a_spelled t.0 ++ spelled t.0 t.2)
+◌then◌ {n = n} {m = m} {first = first} {next = next} {a_spelled = a_spelled} {spelled = spelled} one other =
     record {
-      back = λ value rest good.
-          rw (
-            append_assoc (a_spelled (part value)) (c_spelled (part value) value) rest,
-            one.back (part value) (c_spelled (part value) value ++ rest) good.0,
-          )
-          ((other (part value) good.0).back value rest good.1);
+      back = λ t rest.
+          rw (append_assoc (a_spelled t.0) (spelled t.0 t.2) rest, one.back t.0 (spelled t.0 t.2 ++ rest) t.1)
+          ((other t.0 t.1).back t.2 rest);
       taken = λ bytes value rest are is.
           let got = then_ok (first bytes) next value rest is in
           let a = one.taken bytes got.0.0 got.0.1 are got.1 in
-          let c = (other got.0.0 a.1).taken got.0.1 value rest (rest_of bytes _ _ are a.0) got.2 in
-          let told = same got.0.0 value a.1 c.1 in
-          rw told (
-            a.0 ∙ (ap (λ (later : List ℕ). a_spelled got.0.0 ++ later) c.0
-                ∙ sym (append_assoc (a_spelled got.0.0) (c_spelled got.0.0 value) rest)),
-            (a.1, c.1),
+          let c = (other got.0.0 a.1).taken got.0.1 value rest (rest_of bytes _ _ are a.0) got.2 in (
+            (got.0.0, a.1, c.0),
+            a.0 ∙ (ap (λ (later : List ℕ). a_spelled got.0.0 ++ later) c.1
+                ∙ sym (append_assoc (a_spelled got.0.0) (spelled got.0.0 c.0) rest)),
+            c.2,
           );
       bad = λ bytes left are is.
           elim (then_err (first bytes) next left is) [
@@ -93,12 +158,26 @@ then_format {n = n} {m = m} {first = first} {next = next} {a_spelled = a_spelled
                 let few = one.size late.0.0 a.1 in
                 (omega (arith, bound.0, whole), omega (arith, bound.1, whole, few))
           ];
-      size = λ value good.
-          let whole = length-append (a_spelled (part value)) (c_spelled (part value) value) in
-          let a = one.size (part value) good.0 in
-          let c = (other (part value) good.0).size value good.1 in
+      size = λ t.
+          let whole = length-append (a_spelled t.0) (spelled t.0 t.2) in
+          let a = one.size t.0 t.1 in
+          let c = (other t.0 t.1).size t.2 in
           omega (arith, whole, a, c);
     }
+
+-- a field, and then those that its value calls for: the value of the whole tells that of the field
+pub then_format :
+    {A C : Type 0} {n m : ℕ} {first : Reading A} {next : A → Reading C} {a_spelled : A → List ℕ} {IsGoodA : A → Type 0}
+    {c_spelled : A → C → List ℕ} {IsGoodC : A → C → Type 0} (part : C → A) →
+    IsFormat n first a_spelled IsGoodA →
+    ((a : A) → IsGoodA a → IsFormat m (next a) (c_spelled a) (IsGoodC a)) →
+    ((a : A) (c : C) → IsGoodA a → IsGoodC a c → part c ≡ a) →
+    IsFormat (n + m) (first >>= next) (λ c. a_spelled (part c) ++ c_spelled (part c) c)
+    (λ c. IsGoodA (part c) × IsGoodC (part c) c)
+then_format part one other same =
+    fields_format (one then λ a good. whole_field (other a good))
+    (λ c good. ((part c, good.0, (c, good.1)), refl))
+    (λ t. rw (same t.0 t.2.0 t.1 t.2.1) ((t.1, t.2.1), refl))
 
 -- no field
 pub done_format : {C : Type 0} (c : C) → IsFormat 0 (gives c) (λ value. []) (λ value. value ≡ c)
@@ -132,40 +211,35 @@ format_as m {reads = reads} other IsOther is few to from same = record {
       omega (arith, bound, few, ap length (same value (to value good)));
 }
 
+-- the same reading in other words
+pub read_as :
+    {C : Type 0} {n : ℕ} {reads other : Reading C} {spelled : C → List ℕ} {IsGood : C → Type 0} →
+    ((bytes : List ℕ) → other bytes ≡ reads bytes) → IsFormat n reads spelled IsGood →
+    IsFormat n other spelled IsGood
+read_as {spelled = spelled} same is = record {
+  back = λ value rest good. same (spelled value ++ rest) ∙ is.back value rest good;
+  taken = λ bytes value rest are read. is.taken bytes value rest are (sym (same bytes) ∙ read);
+  bad = λ bytes left are read. is.bad bytes left are (sym (same bytes) ∙ read);
+  size = is.size;
+}
+
 -- the last field of a value
 pub last_format :
     {A C : Type 0} {n : ℕ} {first : Reading A} {a_spelled : A → List ℕ} {IsGood : A → Type 0} (part : C → A)
     (make : A → C) → IsFormat n first a_spelled IsGood → ((a : A) → IsGood a → part (make a) ≡ a) →
     IsFormat n (first >>= λ a. gives (make a)) (λ c. a_spelled (part c)) (λ c. IsGood (part c) × (c ≡ make (part c)))
-last_format {A} {C} {n} {a_spelled = a_spelled} {IsGood = IsGood} part make one same =
-    format_as n (λ c. a_spelled (part c)) (λ c. IsGood (part c) × (c ≡ make (part c)))
-    (then_format part one (λ a good. done_format (make a)) (λ a c good is. ap part is ∙ same a good)) (omega arith)
-    (λ c good. good) (λ c good. good) (λ c good. append-nil (a_spelled (part c)))
+last_format part make one same =
+    fields_format (last_field make one) (λ c good. ((part c, good.0), good.1))
+    (λ t. rw (same t.0 t.1) ((t.1, refl), refl))
 
 -- a value made of the one that is read
 pub made_format :
     {A C : Type 0} {n : ℕ} {first : Reading A} {a_spelled : A → List ℕ} {IsGood : A → Type 0} (make : A → C)
     (other : C → List ℕ) → IsFormat n first a_spelled IsGood → ((a : A) → other (make a) ≡ a_spelled a) →
     IsFormat n (first >>= λ a. gives (make a)) other (λ c. (a : A) × IsGood a × (c ≡ make a))
-made_format {A} {C} {first = first} {a_spelled = a_spelled} make other one same = record {
-  back = λ value rest good. rw (good.2, same good.0, one.back good.0 rest good.1) refl;
-  taken = λ bytes value rest are is.
-      let got = then_ok (first bytes) (λ a. gives (make a)) value rest is in
-      let a = one.taken bytes got.0.0 got.0.1 are got.1 in
-      let told = ok_is (make got.0.0, got.0.1) (value, rest) got.2 in
-      let made : make got.0.0 ≡ value = ap (λ (pair : C × List ℕ). pair.0) told in
-      let after : got.0.1 ≡ rest = ap (λ (pair : C × List ℕ). pair.1) told in (
-        a.0 ∙ (ap (λ (front : List ℕ). front ++ got.0.1) (sym (same got.0.0) ∙ ap other made)
-            ∙ ap (λ (last : List ℕ). other value ++ last) after),
-        (got.0.0, a.1, sym made),
-      );
-  bad = λ bytes left are is.
-      elim (then_err (first bytes) (λ a. gives (make a)) left is) [
-        | inl early ↦ one.bad bytes left are early
-        | inr late ↦ absurd (not_err (make late.0.0, late.0.1) left late.2)
-      ];
-  size = λ value good. rw (good.2, same good.0) (one.size good.0 good.1);
-}
+made_format make other one same =
+    fields_format (last_field make one) (λ c good. ((good.0, good.1), good.2))
+    (λ t. ((t.0, t.1, refl), same t.0))
 
 -- ---- many values
 
@@ -177,144 +251,86 @@ AreGood next IsGood s (value ∷ later) = IsGood s value × AreGood next IsGood 
 abbrev pub AreMany : {S A : Type 0} → (S → A → S) → (S → A → Type 0) → S → ℕ → List A → Type 0
 AreMany next IsGood s count values = (length values ≡ count) × AreGood next IsGood s values
 
-many_back :
-    {S A : Type 0} {n : ℕ} {one : S → Reading A} {next : S → A → S} {many : S → ℕ →
-    Reading (List A)} {spelled : A → List ℕ}
-    {IsGood : S → A → Type 0} → IsLoop one next many → ((s : S) → IsFormat n (one s) spelled (IsGood s)) →
-    (values : List A) (s : S) (rest : List ℕ) → AreGood next IsGood s values →
-    many s (length values) (flat_map spelled values ++ rest) ≡ Ok (values, rest)
-many_back loop each [] s rest good = loop.none s rest
-many_back {one = one} {next = next} {many = many} {spelled = spelled} loop each (value ∷ later) s rest good =
-    let joined : flat_map spelled (value ∷ later) ++ rest ≡ spelled value ++ (flat_map spelled later ++ rest) =
-    ap (λ (bytes : List ℕ). bytes ++ rest) (flat_map-cons spelled value later)
-    ∙ append_assoc (spelled value) (flat_map spelled later) rest in
-    rw (
-      joined,
-      loop.more s (length later) (spelled value ++ (flat_map spelled later ++ rest)),
-      (each s).back value (flat_map spelled later ++ rest) good.0,
-      many_back loop each later (next s value) rest good.1,
-    ) refl
-
-many_taken :
-    {S A : Type 0} {n : ℕ} {one : S → Reading A} {next : S → A → S} {many : S → ℕ →
-    Reading (List A)} {spelled : A → List ℕ}
-    {IsGood : S → A → Type 0} → IsLoop one next many → ((s : S) → IsFormat n (one s) spelled (IsGood s)) →
-    (count : ℕ) (s : S) (bytes : List ℕ) (values : List A) (rest : List ℕ) → AreBytes bytes →
-    many s count bytes ≡ Ok (values, rest) →
-    (bytes ≡ flat_map spelled values ++ rest) × AreMany next IsGood s count values
-many_taken {A = A} {next = next} {spelled = spelled} {IsGood = IsGood} loop each zero s bytes values rest are is =
-    let told = ok_is ([], bytes) (values, rest) (sym (loop.none s bytes) ∙ is) in
-    let none : [] ≡ values = ap (λ (pair : List A × List ℕ). pair.0) told in
-    let after : bytes ≡ rest = ap (λ (pair : List A × List ℕ). pair.1) told in
-    subst (λ (values : List A). (bytes ≡ flat_map spelled values ++ rest) × AreMany next IsGood s 0 values) none
-    (after, (refl, tt))
-many_taken {A = A} {one = one} {next = next} {many = many} {spelled = spelled}
-    {IsGood = IsGood} loop each (suc count) s bytes values rest are is =
-    let first = then_ok (one s bytes) (with_later (λ value. many (next s value) count)) values rest
-    (sym (loop.more s count bytes) ∙ is) in
-    let value = first.0.0 in
-    let a = (each s).taken bytes value first.0.1 are first.1 in
-    let second = then_ok (many (next s value) count first.0.1) (λ later. gives (value ∷ later)) values rest first.2 in
-    let b = many_taken loop each count (next s value) first.0.1 second.0.0 second.0.1
-    (rest_of bytes _ _ are a.0) second.1 in
-    let told = ok_is (value ∷ second.0.0, second.0.1) (values, rest) second.2 in
-    let made : value ∷ second.0.0 ≡ values = ap (λ (pair : List A × List ℕ). pair.0) told in
-    let after : second.0.1 ≡ rest = ap (λ (pair : List A × List ℕ). pair.1) told in
-    let joined : bytes ≡ flat_map spelled (value ∷ second.0.0) ++ rest =
-    a.0 ∙ (ap (λ (later : List ℕ). spelled value ++ later) b.0
-    ∙ (sym (append_assoc (spelled value) (flat_map spelled second.0.0) second.0.1)
-    ∙ (ap (λ (front : List ℕ). front ++ second.0.1) (sym (flat_map-cons spelled value second.0.0))
-    ∙ ap (λ (last : List ℕ). flat_map spelled (value ∷ second.0.0) ++ last) after))) in
-    subst (λ (values : List A). (bytes ≡ flat_map spelled values ++ rest) × AreMany next IsGood s (suc count) values)
-    made
-    (joined, (ap suc b.1.0, (a.1, b.1.1)))
-
-many_bad :
-    {S A : Type 0} {n : ℕ} {one : S → Reading A} {next : S → A → S} {many : S → ℕ →
-    Reading (List A)} {spelled : A → List ℕ}
-    {IsGood : S → A → Type 0} → IsLoop one next many → ((s : S) → IsFormat n (one s) spelled (IsGood s)) →
-    (count : ℕ) (s : S) (bytes : List ℕ) (left : ℕ) → AreBytes bytes → many s count bytes ≡ Err left →
-    (left ≤ length bytes) × (length bytes ≤ left + n * count)
-many_bad {A = A} loop each zero s bytes left are is =
-    absurd (not_err {A = List A × List ℕ} ([], bytes) left (sym (loop.none s bytes) ∙ is))
-many_bad {A = A} {n = n} {one = one} {next = next} {many = many} {spelled = spelled} loop
-    each (suc count) s bytes left are is =
-    elim (then_err (one s bytes) (with_later (λ value. many (next s value) count)) left
-    (sym (loop.more s count bytes) ∙ is)) [
-      | inl early ↦
-          let bound = (each s).bad bytes left are early in
-          (bound.0, omega (arith, bound.1, mul-suc n count))
-      | inr late ↦
-          let value = late.0.0 in
-          let a = (each s).taken bytes value late.0.1 are late.1 in
-          let whole : length bytes ≡ length (spelled value) + length late.0.1 =
-          ap length a.0 ∙ length-append (spelled value) late.0.1 in
-          let few = (each s).size value a.1 in
-          elim (then_err (many (next s value) count late.0.1) (λ later. gives (value ∷ later)) left late.2) [
-            | inl within ↦
-                let bound : (left ≤ length late.0.1) × (length late.0.1 ≤ left + n * count) =
-                many_bad loop each count (next s value) late.0.1 left (rest_of bytes _ _ are a.0) within in
-                (omega (arith, bound.0, whole), omega (arith, bound.1, whole, few, mul-suc n count))
-            | inr never ↦ absurd (not_err {A = List A × List ℕ} (value ∷ never.0.0, never.0.1) left never.2)
-          ]
-    ]
-
-many_size :
-    {S A : Type 0} {n : ℕ} {one : S → Reading A} (next : S → A → S) {spelled : A → List ℕ} {IsGood : S → A → Type 0} →
-    ((s : S) → IsFormat n (one s) spelled (IsGood s)) → (values : List A) (s : S) → AreGood next IsGood s values →
-    length (flat_map spelled values) ≤ n * length values
-many_size next each [] s good = omega arith
-many_size {n = n} next {spelled = spelled} each (value ∷ later) s good =
-    let joined = ap length (flat_map-cons spelled value later)
-    ∙ length-append (spelled value) (flat_map spelled later) in
-    let first = (each s).size value good.0 in
-    let rest = many_size next each later (next s value) good.1 in
-    omega (arith, joined, first, rest, mul-suc n (length later))
+many_to :
+    {S A : Type 0} (next : S → A → S) (IsGood : S → A → Type 0) (s : S) (count : ℕ) (values : List A) →
+    AreMany next IsGood s (suc count) values →
+    (t : (value : A) × IsGood s value × ((later : List A) × AreMany next IsGood (next s value) count later))
+    × (values ≡ t.0 ∷ t.2.0)
+many_to next IsGood s count [] are = absurd (omega (arith, are.0))
+many_to next IsGood s count (value ∷ later) are =
+    ((value, are.1.0, (later, (omega (arith, are.0), are.1.1))), refl)
 
 pub many_format :
     {S A : Type 0} {n : ℕ} {one : S → Reading A} {next : S → A → S} {many : S → ℕ →
     Reading (List A)} {spelled : A → List ℕ}
     {IsGood : S → A → Type 0} → IsLoop one next many → ((s : S) → IsFormat n (one s) spelled (IsGood s)) →
     (s : S) (count : ℕ) → IsFormat (n * count) (many s count) (flat_map spelled) (AreMany next IsGood s count)
-many_format {n = n} {next = next} {many = many} {spelled = spelled} loop each s count = record {
-  back = λ values rest good.
-      subst (λ (count : ℕ). many s count (flat_map spelled values ++ rest) ≡ Ok (values, rest)) good.0
-      (many_back loop each values s rest good.1);
-  taken = λ bytes values rest are is. many_taken loop each count s bytes values rest are is;
-  bad = λ bytes left are is. many_bad loop each count s bytes left are is;
-  size = λ values good.
-      subst (λ (count : ℕ). length (flat_map spelled values) ≤ n * count) good.0 (many_size next each values s good.1);
+many_format {n = n} {next = next} {spelled = spelled} {IsGood = IsGood} loop each s zero =
+    format_as (n * 0) (flat_map spelled) (AreMany next IsGood s 0) (read_as (loop.none s) (done_format []))
+    (omega arith) (λ values are. nil_from_length values are.0) (λ values none. rw none (refl, tt))
+    (λ values none. rw none refl)
+many_format {n = n} {next = next} {spelled = spelled} {IsGood = IsGood} loop each s (suc count) =
+    format_as (n * suc count) (flat_map spelled) (AreMany next IsGood s (suc count))
+    (read_as (loop.more s count)
+    (fields_format
+    (each s then λ value good. last_field (λ later. value ∷ later) (many_format loop each (next s value) count))
+    (many_to next IsGood s count)
+    (λ t. ((ap suc t.2.1.0, (t.1, t.2.1.1)), flat_map-cons spelled t.0 t.2.0))))
+    (omega (arith, mul-suc n count)) (λ values are. are) (λ values are. are) (λ values are. refl)
+
+-- ---- so many bytes
+
+front_bytes : (n : ℕ) (bytes : List ℕ) → AreBytes bytes → AreBytes (take n bytes)
+front_bytes n bytes are k =
+    elim (cases_lt k n) [
+      | inl below ↦ rw (get_or-take n bytes k 0 below) (are k)
+      | inr past ↦ rw (get_or_past (take n bytes) k 0 (omega (arith, length-take n bytes, past))) (omega arith)
+    ]
+
+cut_ok : {A : Type 0} (short : Bool) (value : Option A) (bytes after : List ℕ) (given : A) (rest : List ℕ) →
+    cond short (Err (length bytes)) (said value bytes after) ≡ Ok (given, rest) →
+    (short ≡ false) × (value ≡ Some given) × (after ≡ rest)
+cut_ok true value bytes after given rest is = absurd cc
+cut_ok false None bytes after given rest is = absurd cc
+cut_ok {A} false (Some value) bytes after given rest is =
+    let same = ok_is (value, after) (given, rest) is in
+    (refl, ap (λ (got : A × List ℕ). Some got.0) same, ap (λ (got : A × List ℕ). got.1) same)
+
+cut_bad : {A : Type 0} (short : Bool) (value : Option A) (bytes after : List ℕ) (left : ℕ) →
+    cond short (Err (length bytes)) (said value bytes after) ≡ Err left → length bytes ≡ left
+cut_bad {A} true value bytes after left is = err_is {X = A × List ℕ} _ _ is
+cut_bad {A} false None bytes after left is = err_is {X = A × List ℕ} _ _ is
+cut_bad false (Some value) bytes after left is = absurd cc
+
+-- bytes of a fixed number that say a value, or are bad
+abbrev pub cut_field : {A : Type 0} → (size : ℕ) → (List ℕ → Option A) → Reading A
+cut_field size says bytes =
+    cond (nat_lt (length bytes) size) (Err (length bytes)) (said (says (take size bytes)) bytes (drop size bytes))
+
+pub cut_format :
+    {A : Type 0} {size : ℕ} {says : List ℕ → Option A} (spelled : A → List ℕ) (IsGood : A → Type 0) →
+    ((a : A) → IsGood a → (length (spelled a) ≡ size) × (says (spelled a) ≡ Some a)) →
+    ((front : List ℕ) (a : A) → length front ≡ size → AreBytes front → says front ≡ Some a →
+    (front ≡ spelled a) × IsGood a) → IsFormat size (cut_field size says) spelled IsGood
+cut_format {size = size} {says = says} spelled IsGood to from = record {
+  back = λ value rest good.
+      let told = to value good in
+      let long : nat_lt (length (spelled value ++ rest)) size ≡ false =
+      le-ltb _ _ (omega (arith, length-append (spelled value) rest, told.0)) in
+      rw (long, take_at (spelled value) rest size told.0, drop_at (spelled value) rest size told.0, told.1) refl;
+  taken = λ bytes value rest are is.
+      let got = cut_ok (nat_lt (length bytes) size) (says (take size bytes)) bytes (drop size bytes) value rest is in
+      let long : size ≤ length bytes = ltb-false _ _ got.0 in
+      let meant = from (take size bytes) value (omega (arith, length-take size bytes, long))
+      (front_bytes size bytes are) got.1 in
+      (rw (← meant.0, ← got.2) (sym (take-append-drop size bytes)), meant.1);
+  bad = λ bytes left are is.
+      let same = cut_bad (nat_lt (length bytes) size) (says (take size bytes)) bytes (drop size bytes) left is in
+      (omega (arith, same), omega (arith, same));
+  size = λ value good. omega (arith, (to value good).0);
 }
-
--- ---- bytes
-
-pub cut_ok : {X : Type 0} (short : Bool) (left : ℕ) (value : X) (given : X) →
-    cond short (Err left) (Ok value) ≡ Ok given → (short ≡ false) × (value ≡ given)
-cut_ok true left value given is = absurd cc
-cut_ok false left value given is = (refl, ok_is value given is)
-
-pub cut_bad : {X : Type 0} (short : Bool) (size : ℕ) (value : X) (left : ℕ) →
-    cond short (Err size) (Ok value) ≡ Err left → size ≡ left
-cut_bad {X} true size value left is = err_is {X = X} size left is
-cut_bad false size value left is = absurd cc
 
 pub plain_format : (size : ℕ) → IsFormat size (plain size) (λ bytes. bytes) (λ bytes. length bytes ≡ size)
-plain_format size = record {
-  back = λ value rest long.
-      let enough : nat_lt (length (value ++ rest)) size ≡ false =
-      le-ltb _ _ (omega (arith, length-append value rest, long)) in
-      rw (enough, take_at value rest size long, drop_at value rest size long) refl;
-  taken = λ bytes value rest are is.
-      let told = cut_ok (nat_lt (length bytes) size) (length bytes) (take size bytes, drop size bytes)
-      (value, rest) is in
-      let front : take size bytes ≡ value = ap (λ (pair : List ℕ × List ℕ). pair.0) told.1 in
-      let after : drop size bytes ≡ rest = ap (λ (pair : List ℕ × List ℕ). pair.1) told.1 in
-      let long : size ≤ length bytes = ltb-false _ _ told.0 in (
-        rw (← front, ← after) (sym (take-append-drop size bytes)),
-        rw (← front) (omega (arith, length-take size bytes, long)),
-      );
-  bad = λ bytes left are is.
-      let same = cut_bad (nat_lt (length bytes) size) (length bytes) (take size bytes, drop size bytes) left is in
-      (omega (arith, same), omega (arith, same));
-  size = λ value long. omega (arith, long);
-}
+plain_format size =
+    cut_format (λ bytes. bytes) (λ bytes. length bytes ≡ size) (λ bytes long. (long, refl))
+    (λ front bytes long are is. let same : front ≡ bytes = cc in (same, rw (← same) long))

@@ -1,17 +1,15 @@
 -- Numbers as fields.
-use Rattle.std.proofs.Common.{◌≡◌, ℕ, zero, suc, ◌+◌, ◌^◌, ◌<◌, ◌≤◌, inl, inr, Bool, true, false, cond, List, [], ◌∷◌}
-use Rattle.std.proofs.Common.{◌++◌, length, take, drop, Option, Some, None, Result, Ok, Err, refl, sym, ap, subst, ◌∙◌}
-use Rattle.std.proofs.Common.{arith, nat_lt, nat_le, is_some, unwrap_or, ◌==◌, ◌&&◌, if◌then◌else◌}
+use Rattle.std.proofs.Common.{◌≡◌, ℕ, zero, suc, ◌+◌, ◌-◌, ◌^◌, ◌<◌, ◌≤◌, inl, inr, Bool, true, false, List, [], ◌∷◌}
+use Rattle.std.proofs.Common.{length, Option, Some, None, refl, sym, ap, subst, ◌∙◌, arith, nat_le, is_some}
+use Rattle.std.proofs.Common.{unwrap_or, ◌==◌, ◌&&◌, if◌then◌else◌}
 use Rattle.std.specs.Int.{Width as Size, byte_len}
 use Rattle.board_base.specs.Common.{w8, w16, w32, w64, to_le_bytes, from_le_bytes}
-use Rattle.board_base.proofs.Common.{cases_eq, eq-eqb, ne_eqb, ltb-false, le-ltb, leb-true, le-leb, and_from, and_parts}
-use Rattle.board_base.proofs.Common.{take_at, drop_at, take-append-drop, length-append, length-take, get_or-take}
-use Rattle.board_base.proofs.Common.{get_or_past, cases_lt}
+use Rattle.board_base.proofs.Common.{cases_eq, eq-eqb, ne_eqb, leb-true, le-leb, and_from, and_parts}
 use Rattle.std.proofs.lemmas.Nat.{le_bytes_2, le_bytes_4, le_bytes_8, from_le_bytes-to_le_bytes_2}
 use Rattle.std.proofs.lemmas.Nat.{from_le_bytes-to_le_bytes_4, from_le_bytes-to_le_bytes_8}
-use Rattle.byte_fields.specs.Fields.{AreBytes, Reading, said, number, number_where, within, where_true, flag_byte}
-use Rattle.byte_fields.specs.Fields.{flag_of, flag_field, flag_where, optional, bound_where, some_where, IsWithin}
-use Rattle.byte_fields.proofs.Formats.{IsFormat, format_as, then_format, last_format, ok_is, err_is}
+use Rattle.byte_fields.specs.Fields.{AreBytes, Reading, number, number_where, within, where_true, flag_byte, flag_of}
+use Rattle.byte_fields.specs.Fields.{flag_field, flag_where, optional, bound_where, some_where, IsWithin}
+use Rattle.byte_fields.proofs.Formats.{IsFormat, format_as, cut_format, ◌then◌, ◌&◌, last_field, fields_format}
 
 -- ---- the sizes
 
@@ -61,69 +59,27 @@ wide64 = record {
 
 -- ---- a number that says a value
 
-front_bytes : (n : ℕ) (bytes : List ℕ) → AreBytes bytes → AreBytes (take n bytes)
-front_bytes n bytes are k =
-    elim (cases_lt k n) [
-      | inl below ↦ rw (get_or-take n bytes k 0 below) (are k)
-      | inr past ↦ rw (get_or_past (take n bytes) k 0 (omega (arith, length-take n bytes, past))) (omega arith)
-    ]
-
-pub whole_ok : {X : Type 0} (short : Bool) (left : ℕ) (read : Result X ℕ) (y : X) →
-    cond short (Err left) read ≡ Ok y → (short ≡ false) × (read ≡ Ok y)
-whole_ok true left read y is = absurd cc
-whole_ok false left read y is = (refl, is)
-
-said_ok : {A : Type 0} (value : Option A) (bytes after : List ℕ) (given : A) (rest : List ℕ) →
-    said value bytes after ≡ Ok (given, rest) → (value ≡ Some given) × (after ≡ rest)
-said_ok None bytes after given rest is = absurd cc
-said_ok {A} (Some value) bytes after given rest is =
-    let same = ok_is (value, after) (given, rest) is in
-    (ap (λ (got : A × List ℕ). Some got.0) same, ap (λ (got : A × List ℕ). got.1) same)
-
-said_bad : {A : Type 0} (short : Bool) (value : Option A) (bytes after : List ℕ) (left : ℕ) →
-    cond short (Err (length bytes)) (said value bytes after) ≡ Err left → length bytes ≡ left
-said_bad {A} true value bytes after left is = err_is {X = A × List ℕ} _ _ is
-said_bad {A} false None bytes after left is = err_is {X = A × List ℕ} _ _ is
-said_bad false (Some value) bytes after left is = absurd cc
-
 pub number_format :
     {size : Size} {limit : ℕ} → IsWide size limit → {A : Type 0} {says : ℕ → Option A} (code : A → ℕ)
     (IsGood : A → Type 0) → ((a : A) → IsGood a → (code a < limit) × (says (code a) ≡ Some a)) →
     ((n : ℕ) (a : A) → n < limit → says n ≡ Some a → (n ≡ code a) × IsGood a) →
     IsFormat (byte_len size) (number size says) (λ a. to_le_bytes size (code a)) IsGood
-number_format {size} {limit} wide {A} {says} code IsGood to from = record {
-  back = λ value rest good.
-      let bytes = to_le_bytes size (code value) in
-      let long : nat_lt (length (bytes ++ rest)) (byte_len size) ≡ false =
-      le-ltb _ _ (omega (arith, length-append bytes rest, wide.len (code value))) in
-      rw (
-        long,
-        take_at bytes rest (byte_len size) (wide.len (code value)),
-        drop_at bytes rest (byte_len size) (wide.len (code value)),
-        wide.again (code value) (to value good).0,
-        (to value good).1,
-      ) refl;
-  taken = λ bytes value rest are is.
-      let front = take (byte_len size) bytes in
-      let n = from_le_bytes size front in
-      let whole = whole_ok (nat_lt (length bytes) (byte_len size)) (length bytes)
-      (said (says n) bytes (drop (byte_len size) bytes)) (value, rest) is in
-      let told = said_ok (says n) bytes (drop (byte_len size) bytes) value rest whole.1 in
-      let long : byte_len size ≤ length bytes = ltb-false _ _ whole.0 in
-      let meant = from n value (wide.below front (front_bytes (byte_len size) bytes are)) told.0 in
-      let spelled : to_le_bytes size (code value) ≡ front =
-      ap (to_le_bytes size) (sym meant.0)
-      ∙ wide.back front (omega (arith, length-take (byte_len size) bytes, long))
-      (front_bytes (byte_len size) bytes are) in
-      (rw (spelled, ← told.1) (sym (take-append-drop (byte_len size) bytes)), meant.1);
-  bad = λ bytes left are is.
-      let same = said_bad (nat_lt (length bytes) (byte_len size))
-      (says (from_le_bytes size (take (byte_len size) bytes))) bytes (drop (byte_len size) bytes) left is in
-      (omega (arith, same), omega (arith, same));
-  size = λ value good. omega (arith, wide.len (code value));
-}
+number_format {size} wide {says = says} code IsGood to from =
+    cut_format (λ a. to_le_bytes size (code a)) IsGood
+    (λ a good. (wide.len (code a), rw (wide.again (code a) (to a good).0) (to a good).1))
+    (λ front a long are is.
+    let meant = from (from_le_bytes size front) a (wide.below front are) is in
+    (sym (wide.back front long are) ∙ ap (to_le_bytes size) meant.0, meant.1))
 
 -- ---- of one byte
+
+as_byte :
+    {A : Type 0} {reads : Reading A} {code : A → ℕ} {IsGood : A → Type 0} →
+    IsFormat 1 reads (λ a. to_le_bytes w8 (code a)) IsGood → ((a : A) → IsGood a → code a < 2 ^ 8) →
+    IsFormat 1 reads (λ a. code a ∷ []) IsGood
+as_byte is small =
+    format_as _ _ _ is (omega arith) (λ a good. good) (λ a good. good)
+    (λ a good. ap (λ (b : ℕ). b ∷ []) (omega (arith, small a good)))
 
 pub byte_format :
     {A : Type 0} {says : ℕ → Option A} (code : A → ℕ) (IsGood : A → Type 0) →
@@ -131,8 +87,7 @@ pub byte_format :
     ((n : ℕ) (a : A) → n < 2 ^ 8 → says n ≡ Some a → (n ≡ code a) × IsGood a) →
     IsFormat 1 (number w8 says) (λ a. code a ∷ []) IsGood
 byte_format code IsGood to from =
-    format_as 1 (λ a. code a ∷ []) IsGood (number_format wide8 code IsGood to from) (omega arith) (λ a good. good)
-    (λ a good. good) (λ a good. ap (λ (b : ℕ). b ∷ []) (omega (arith, (to a good).0)))
+    as_byte (number_format wide8 code IsGood to from) (λ a good. (to a good).0)
 
 -- a table of numbers and values
 abbrev pub Tells : {A : Type 0} → (ℕ → Option A) → (A → ℕ) → Type 0
@@ -199,8 +154,7 @@ where_format {limit = limit} wide is_good =
 
 pub byte_where : (is_good : ℕ → Bool) →
     IsFormat 1 (number_where w8 is_good) (λ n. n ∷ []) (IsGoodNumber (2 ^ 8) is_good)
-byte_where is_good =
-    byte_format (λ n. n) (IsGoodNumber (2 ^ 8) is_good) (good_to (2 ^ 8) is_good) (good_from (2 ^ 8) is_good)
+byte_where is_good = as_byte (where_format wide8 is_good) (λ n good. good.0)
 
 abbrev pub Ranges : (low high n : ℕ) → Type 0
 Ranges low high n = (low ≤ n) × (n ≤ high)
@@ -224,9 +178,29 @@ within_format {size} {limit} wide low high fits =
     (λ n is. range_to limit low high n fits is) (λ n good. range_from limit low high n good) (λ n good. refl)
 
 pub byte_within : (low high : ℕ) → high < 2 ^ 8 → IsFormat 1 (within w8 low high) (λ n. n ∷ []) (Ranges low high)
-byte_within low high fits =
-    format_as 1 (λ n. n ∷ []) (Ranges low high) (byte_where (λ n. nat_le low n && nat_le n high)) (omega arith)
-    (λ n is. range_to (2 ^ 8) low high n fits is) (λ n good. range_from (2 ^ 8) low high n good) (λ n good. refl)
+byte_within low high fits = as_byte (within_format wide8 low high fits) (λ n good. omega arith)
+
+-- numbers from 0
+pub number_to :
+    {size : Size} {limit : ℕ} → IsWide size limit → (high : ℕ) → high < limit →
+    IsFormat (byte_len size) (within size 0 high) (to_le_bytes size) (λ n. n ≤ high)
+number_to wide high fits =
+    format_as _ _ _ (within_format wide 0 high fits) (omega arith) (λ n few. (omega arith, few)) (λ n good. good.1)
+    (λ n few. refl)
+
+pub byte_to : (high : ℕ) → high < 2 ^ 8 → IsFormat 1 (within w8 0 high) (λ n. n ∷ []) (λ n. n ≤ high)
+byte_to high fits = as_byte (number_to wide8 high fits) (λ n good. omega arith)
+
+-- all numbers of a size
+pub any_number :
+    {size : Size} {limit : ℕ} → IsWide size limit → 0 < limit →
+    IsFormat (byte_len size) (within size 0 (limit - 1)) (to_le_bytes size) (λ n. n < limit)
+any_number {limit = limit} wide some =
+    format_as _ _ _ (number_to wide (limit - 1) (omega arith)) (omega arith) (λ n few. omega arith)
+    (λ n good. omega arith) (λ n few. refl)
+
+pub any_byte : IsFormat 1 (within w8 0 255) (λ n. n ∷ []) (λ n. n < 2 ^ 8)
+any_byte = as_byte (any_number wide8 (omega arith)) (λ n small. small)
 
 -- ---- flags that are 1 only where that is allowed
 
@@ -252,24 +226,11 @@ pub flag_where_format : (allowed : Bool) →
     IsFormat 1 (flag_where allowed) (λ flag. flag_byte flag ∷ []) (λ flag. flag_byte flag ≤ flag_byte allowed)
 unfolding flag_where
 flag_where_format allowed =
-    format_as 1 (λ flag. flag_byte flag ∷ []) (λ flag. flag_byte flag ≤ flag_byte allowed)
-    (last_format flag_byte (λ n. n == 1) (byte_within 0 (flag_byte allowed) (flag_small allowed))
-    (λ n good. flag_again allowed n good.1))
-    (omega arith)
-    (λ flag few. ((omega arith, few), flag_is flag))
-    (λ flag good. good.0.1)
-    (λ flag good. refl)
+    fields_format (last_field _ (byte_within 0 (flag_byte allowed) (flag_small allowed)))
+    (λ flag few. ((flag_byte flag, (omega arith, few)), flag_is flag))
+    (λ t. rw (flag_again allowed t.0 t.1.1) (t.1.1, refl))
 
 -- ---- numbers that may be absent
-
-some_of : (there : Bool) (n low high : ℕ) → Ranges (bound_where there low) (bound_where there high) n →
-    unwrap_or (some_where there n) 0 ≡ n
-some_of true n low high good = refl
-some_of false n low high good = omega (arith, good.1)
-
-there_of : (there : Bool) (n : ℕ) → is_some (some_where there n) ≡ there
-there_of true n = refl
-there_of false n = refl
 
 optional_to : (low high : ℕ) (o : Option ℕ) → IsWithin low high o →
     Ranges (bound_where (is_some o) low) (bound_where (is_some o) high) (unwrap_or o 0)
@@ -277,10 +238,14 @@ optional_to : (low high : ℕ) (o : Option ℕ) → IsWithin low high o →
 optional_to low high None is = ((omega arith, omega arith), refl)
 optional_to low high (Some n) is = (is, refl)
 
-optional_from : (low high : ℕ) (o : Option ℕ) →
-    Ranges (bound_where (is_some o) low) (bound_where (is_some o) high) (unwrap_or o 0) → IsWithin low high o
-optional_from low high None is = tt
-optional_from low high (Some n) is = is
+some_from :
+    (spelled : ℕ → List ℕ) (low high : ℕ) (there : Bool) (n : ℕ) →
+    Ranges (bound_where there low) (bound_where there high) n →
+    IsWithin low high (some_where there n)
+    × (flag_byte (is_some (some_where there n)) ∷ spelled (unwrap_or (some_where there n) 0)
+    ≡ flag_byte there ∷ spelled n)
+some_from spelled low high false n is = (tt, ap (λ n. 0 ∷ spelled n) (omega (arith, is.1)))
+some_from spelled low high true n is = (is, refl)
 
 bound_small : (there : Bool) (high limit : ℕ) → high < limit → bound_where there high < limit
 bound_small true high limit few = few
@@ -293,14 +258,9 @@ pub optional_format :
     IsFormat (1 + n) (optional number_from low high) (λ o. flag_byte (is_some o) ∷ spelled (unwrap_or o 0))
     (IsWithin low high)
 unfolding optional
-optional_format {n} {limit} {spelled = spelled} format low high few =
-    format_as (1 + n) (λ o. flag_byte (is_some o) ∷ spelled (unwrap_or o 0)) (IsWithin low high)
-    (then_format (λ (o : Option ℕ). is_some o) flag_format (λ there any.
-    last_format (λ (o : Option ℕ). unwrap_or o 0) (some_where there)
-    (format (bound_where there low) (bound_where there high) (bound_small there high limit few))
-    (λ value good. some_of there value low high good))
-    (λ there o any good. ap (λ (o : Option ℕ). is_some o) good.1 ∙ there_of there (unwrap_or o 0)))
-    (omega arith)
-    (λ o is. (tt, optional_to low high o is))
-    (λ o good. optional_from low high o good.1.0)
-    (λ o good. refl)
+optional_format {limit = limit} {spelled = spelled} format low high few =
+    fields_format
+    (flag_format then λ there any.
+    last_field _ (format (bound_where there low) (bound_where there high) (bound_small there high limit few)))
+    (λ o is. let told = optional_to low high o is in ((is_some o, tt) & (unwrap_or o 0, told.0), told.1))
+    (λ t. some_from spelled low high t.0 t.2.0 t.2.1)

@@ -1,56 +1,49 @@
 -- Bytes beside plain ones are spelled page by page, and read back.
 use Rattle.std.proofs.Common.{◌≡◌, ℕ, zero, suc, ◌+◌, ◌-◌, ◌*◌, ◌≤◌, ◌<◌, inl, inr, min, Bool, true, false, not, cond}
-use Rattle.std.proofs.Common.{List, [], ◌∷◌, ◌++◌, length, take, drop, replicate, Result, Ok, Err, refl, sym, ap, subst}
-use Rattle.std.proofs.Common.{◌∙◌, append_assoc, arith, nat_lt, bytes_eq}
+use Rattle.std.proofs.Common.{List, [], ◌∷◌, ◌++◌, length, take, drop, replicate, Some, None, Result, Ok, Err, refl}
+use Rattle.std.proofs.Common.{sym, ap, subst, ◌∙◌, append_assoc, arith, nat_lt, bytes_eq}
 use Rattle.std.specs.List.{concat}
-use Rattle.board_base.proofs.Common.{ltb-false, le-ltb, take_at, drop_at, length-append, length-take, length-drop}
-use Rattle.board_base.proofs.Common.{take-append-drop, nil_from_length, bytes_eq-Decides, cases_lt, drop-drop, drop_all}
-use Rattle.board_base.proofs.Common.{take_all, append-nil, take-append-le, drop-append-le}
+use Rattle.board_base.proofs.Common.{take_at, drop_at, length-append, length-take, length-drop, take-append-drop}
+use Rattle.board_base.proofs.Common.{nil_from_length, bytes_eq-Decides, cases_lt, drop-drop, drop_all, take_all}
+use Rattle.board_base.proofs.Common.{append-nil, take-append-le, drop-append-le}
 use Rattle.std.proofs.lemmas.List.{take_min, take-replicate, drop-replicate, length-replicate}
 use Rattle.std.proofs.lemmas.List.{replicate-append-replicate}
 use Rattle.std.proofs.Math.Nat.{suc-mul, zero-mul}
-use Rattle.byte_fields.specs.Fields.{Reading, then_read, gives, ◌>>=◌, flag_byte, other_than}
-use Rattle.byte_fields.specs.Pages.{page_bytes, page_where, page_field, each_page_bytes, each_page_field, cut, pages_of}
-use Rattle.byte_fields.specs.Pages.{pages_bytes, pages_fields, memory_page, memory_bytes, memory_fields}
-use Rattle.byte_fields.proofs.Formats.{IsFormat, format_as, then_format, last_format, done_format, cut_ok, cut_bad}
-use Rattle.byte_fields.proofs.Formats.{err_is}
+use Rattle.byte_fields.specs.Fields.{Reading, then_read, gives, said, ◌>>=◌, flag_byte, other_than}
+use Rattle.byte_fields.specs.Pages.{page_bytes, page_where, page_field, each_page_bytes, each_page_field, cut}
+use Rattle.byte_fields.specs.Pages.{pages_of, pages_bytes, pages_fields, memory_page, memory_bytes, memory_fields}
+use Rattle.byte_fields.proofs.Formats.{IsFormat, format_as, fields_format, ◌then◌, ◌&◌, last_field, whole_field}
+use Rattle.byte_fields.proofs.Formats.{done_format, read_as, cut_format}
 use Rattle.byte_fields.proofs.Loops.{with_front}
-use Rattle.byte_fields.proofs.Numbers.{flag_format, whole_ok}
+use Rattle.byte_fields.proofs.Numbers.{flag_format}
 
 -- ---- one page
 
 abbrev IsOther : (plain page : List ℕ) → Type 0
 IsOther plain page = (length page ≡ length plain) × (bytes_eq page plain ≡ false)
 
-other_bad : {X : Type 0} (short same : Bool) (size : ℕ) (value : X) (left : ℕ) →
-    cond short (Err size) (cond same (Err size) (Ok value)) ≡ Err left → size ≡ left
-other_bad {X} true same size value left is = err_is {X = X} size left is
-other_bad false same size value left is = cut_bad same size value left is
+other_cut : (same : Bool) (bytes page after : List ℕ) →
+    cond same (Err (length bytes)) (Ok (page, after)) ≡ said (cond same None (Some page)) bytes after
+other_cut true bytes page after = refl
+other_cut false bytes page after = refl
+
+other_is : (same : Bool) (front page : List ℕ) → cond same None (Some front) ≡ Some page →
+    (same ≡ false) × (front ≡ page)
+other_is true front page is = absurd cc
+other_is false front page is = (refl, cc)
 
 other_format : (plain : List ℕ) → IsFormat (length plain) (other_than plain) (λ page. page) (IsOther plain)
-other_format plain = record {
-  back = λ page rest good.
-      let enough : nat_lt (length (page ++ rest)) (length plain) ≡ false =
-      le-ltb _ _ (omega (arith, length-append page rest, good.0)) in
-      rw (enough, take_at page rest (length plain) good.0, drop_at page rest (length plain) good.0, good.1) refl;
-  taken = λ bytes page rest are is.
-      let n = length plain in
-      let got : List ℕ × List ℕ = (take n bytes, drop n bytes) in
-      let whole = whole_ok (nat_lt (length bytes) n) (length bytes)
-      (cond (bytes_eq (take n bytes) plain) (Err (length bytes)) (Ok got)) (page, rest) is in
-      let told = cut_ok (bytes_eq (take n bytes) plain) (length bytes) got (page, rest) whole.1 in
-      let front : take n bytes ≡ page = ap (λ (pair : List ℕ × List ℕ). pair.0) told.1 in
-      let after : drop n bytes ≡ rest = ap (λ (pair : List ℕ × List ℕ). pair.1) told.1 in
-      let long : n ≤ length bytes = ltb-false _ _ whole.0 in (
-        rw (← front, ← after) (sym (take-append-drop n bytes)),
-        (rw (← front) (omega (arith, length-take n bytes, long)), rw (← front) told.0),
-      );
-  bad = λ bytes left are is.
-      let same = other_bad (nat_lt (length bytes) (length plain)) (bytes_eq (take (length plain) bytes) plain)
-      (length bytes) (take (length plain) bytes, drop (length plain) bytes) left is in
-      (omega (arith, same), omega (arith, same));
-  size = λ page good. omega (arith, good.0);
-}
+other_format plain =
+    read_as
+    (λ bytes.
+    let n = length plain in
+    ap (cond (nat_lt (length bytes) n) (Err (length bytes)))
+    (other_cut (bytes_eq (take n bytes) plain) bytes (take n bytes) (drop n bytes)))
+    (cut_format {says = λ front. cond (bytes_eq front plain) None (Some front)} (λ page. page) (IsOther plain)
+    (λ page good. (good.0, rw good.1 refl))
+    (λ front page long are is.
+    let told = other_is (bytes_eq front plain) front page is in
+    (told.1, rw (← told.1) (long, told.0))))
 
 abbrev where_bytes : (differs : Bool) → (page : List ℕ) → List ℕ
 where_bytes true page = page
@@ -72,33 +65,19 @@ where_to : (same : Bool) (plain page : List ℕ) → bytes_eq page plain ≡ sam
 where_to true plain page is long = (bytes_eq-Decides page plain).0 is
 where_to false plain page is long = (long, is)
 
-where_from : (differs : Bool) (plain page : List ℕ) → IsWhere plain differs page → length page ≡ length plain
-where_from true plain page good = good.0
-where_from false plain page good = ap length good
-
-differs_is : (differs : Bool) (plain page : List ℕ) → IsWhere plain differs page → not (bytes_eq page plain) ≡ differs
-differs_is true plain page good = rw good.1 refl
-differs_is false plain page good =
-    let same : bytes_eq page plain ≡ true = (bytes_eq-Decides page plain).1 good in
-    rw same refl
-
-spelled_where : (same : Bool) (page : List ℕ) →
-    (flag_byte (not same) ∷ []) ++ where_bytes (not same) page ≡ cond same (0 ∷ []) (1 ∷ page)
-spelled_where true page = refl
-spelled_where false page = refl
+where_from : (differs : Bool) (plain page : List ℕ) → IsWhere plain differs page →
+    (length page ≡ length plain) × (page_bytes plain page ≡ flag_byte differs ∷ where_bytes differs page)
+where_from true plain page good = (good.0, rw good.1 refl)
+where_from false plain page good = (ap length good, rw ((bytes_eq-Decides page plain).1 good) refl)
 
 pub page_format : (plain : List ℕ) →
     IsFormat (1 + length plain) (page_field plain) (page_bytes plain) (λ page. length page ≡ length plain)
 unfolding page_field
 page_format plain =
-    format_as (1 + length plain) (page_bytes plain) (λ page. length page ≡ length plain)
-    (then_format (λ (page : List ℕ). not (bytes_eq page plain)) flag_format
-    (λ differs any. where_format plain differs)
-    (λ differs page any good. differs_is differs plain page good))
-    (omega arith)
-    (λ page long. (tt, where_to (bytes_eq page plain) plain page refl long))
-    (λ page good. where_from (not (bytes_eq page plain)) plain page good.1)
-    (λ page good. spelled_where (bytes_eq page plain) page)
+    fields_format (flag_format then λ differs any. whole_field (where_format plain differs))
+    (λ page long.
+    ((not (bytes_eq page plain), tt) & (page, where_to (bytes_eq page plain) plain page refl long), refl))
+    (λ t. where_from t.0 plain t.2.0 t.2.1)
 
 -- ---- page after page
 
@@ -118,21 +97,16 @@ each_format [] =
 each_format (plain ∷ later) =
     let n = length plain in
     let both : length (concat (plain ∷ later)) ≡ n + length (concat later) = length-append plain (concat later) in
-    format_as (most_of (plain ∷ later)) (each_page_bytes (plain ∷ later))
-    (λ bytes. length bytes ≡ length (concat (plain ∷ later)))
-    (then_format (λ (bytes : List ℕ). take n bytes) (page_format plain) (λ page long.
-    last_format (λ (bytes : List ℕ). drop n bytes) (λ rest. page ++ rest) (each_format later)
-    (λ rest good. drop_at page rest n long))
-    (λ page bytes long good. ap (take n) good.1 ∙ take_at page (drop n bytes) n long))
-    (omega arith)
+    fields_format (page_format plain then λ page long. last_field (λ rest. page ++ rest) (each_format later))
     (λ bytes long. (
-      omega (arith, length-take n bytes, long, both),
-      (omega (arith, length-drop n bytes, long, both), sym (take-append-drop n bytes)),
+      (take n bytes, omega (arith, length-take n bytes, long, both))
+          & (drop n bytes, omega (arith, length-drop n bytes, long, both)),
+      sym (take-append-drop n bytes),
     ))
-    (λ bytes good.
-    let whole = ap length (take-append-drop n bytes) in
-    omega (arith, whole, length-append (take n bytes) (drop n bytes), good.0, good.1.0, both))
-    (λ bytes good. refl)
+    (λ t. (
+      omega (arith, length-append t.0 t.2.0, t.1, t.2.1, both),
+      rw (take_at t.0 t.2.0 n t.1, drop_at t.0 t.2.0 n t.1) refl,
+    ))
 
 -- ---- bytes cut into pages
 

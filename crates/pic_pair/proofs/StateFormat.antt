@@ -1,16 +1,13 @@
 -- The state of the pair is spelled and read back.
 use Rattle.std.proofs.Common.{◌≡◌, ℕ, zero, suc, ◌+◌, ◌*◌, ◌/◌, ◌%◌, ◌^◌, ◌<◌, ◌≤◌, Bool, true, false, eqb, List, []}
-use Rattle.std.proofs.Common.{◌∷◌, ◌++◌, length, take, drop, refl, sym, ap, subst, ◌∙◌, arith, if◌then◌else◌}
+use Rattle.std.proofs.Common.{◌∷◌, length, take, drop, refl, sym, ap, subst, ◌∙◌, arith, if◌then◌else◌}
 use Rattle.std.proofs.Math.Nat.{pow-succ'}
 use Rattle.device_spec.proofs.Common.{take_at, drop_at, take-append-drop, length-take, length-drop, length-append}
 use Rattle.device_spec.proofs.Common.{agree_below_at, eqb-true, get_or_past, is_bit, has, levels_where}
 use Rattle.device_spec.proofs.Common.{levels_where-same, levels_where-has, levels_of_byte, byte_of_levels, Levels}
-use Rattle.device_spec.specs.Pic.{Chip, Word}
-use Rattle.device_spec.specs.Pair.{Pair}
-use Rattle.byte_fields.proofs.Formats.{IsFormat, format_as, then_format, last_format}
-use Rattle.byte_fields.proofs.Numbers.{Any, byte_within, flag_format}
-use Rattle.pic_pair.specs.declared.state.Sets.{Sets}
-use Rattle.pic_pair.specs.declared.state.Modes.{Modes}
+use Rattle.device_spec.specs.Pic.{Word}
+use Rattle.byte_fields.proofs.Formats.{IsFormat, fields_format, ◌then◌, ◌&◌, last_field}
+use Rattle.byte_fields.proofs.Numbers.{Any, byte_to, flag_format}
 use Rattle.pic_pair.specs.State.{awaited_byte, words_of, AreAwaited, sets_of, modes_of, AreSets, sets_bytes}
 use Rattle.pic_pair.specs.State.{modes_bytes, sets_fields, modes_fields, IsChip, chip_bytes, chip_fields, IsPair}
 use Rattle.pic_pair.specs.State.{pair_bytes, pair_fields, AreLines, lines_bytes, lines_fields}
@@ -68,108 +65,67 @@ set_few set eight =
     let most : byte_of_levels set + 1 ≤ 2 ^ 8 = subst (λ n. byte_of_levels set + 1 ≤ 2 ^ n) eight (few set) in
     omega (arith, most)
 
-set_eight : (set : Levels) (n : ℕ) → set ≡ levels_of_byte n → length set ≡ 8
+eight : (n : ℕ) → length (levels_of_byte n) ≡ 8
 unfolding levels_where
-set_eight set n is = rw is refl
+eight n = refl
 
-abbrev sets_with : (masked in_service latches inputs triggers : Levels) → Sets
-sets_with masked in_service latches inputs triggers = record {
-  masked = masked;
-  in_service = in_service;
-  latches = latches;
-  inputs = inputs;
-  triggers = triggers;
-}
-
-same_sets :
-    (a b c d e v w x y z : Levels) → a ≡ v → b ≡ w → c ≡ x → d ≡ y → e ≡ z → sets_with a b c d e ≡ sets_with v w x y z
-same_sets a b c d e v w x y z one two three four five = rw (one, two, three, four, five) refl
-
-made_sets : (s : Sets) → AreSets s →
-    s ≡ sets_with (levels_of_byte (byte_of_levels s.masked)) (levels_of_byte (byte_of_levels s.in_service))
-    (levels_of_byte (byte_of_levels s.latches)) (levels_of_byte (byte_of_levels s.inputs))
-    (levels_of_byte (byte_of_levels s.triggers))
-made_sets s is =
-    same_sets s.masked s.in_service s.latches s.inputs s.triggers _ _ _ _ _ (set_again s.masked is.masked)
-    (set_again s.in_service is.in_service) (set_again s.latches is.latches) (set_again s.inputs is.inputs)
-    (set_again s.triggers is.triggers)
+abbrev set_field : (set : Levels) → length set ≡ 8 → (n : ℕ) × (n ≤ 255)
+set_field set eight = (byte_of_levels set, set_few set eight)
 
 sets_format : IsFormat 5 sets_fields sets_bytes AreSets
 unfolding sets_fields
 sets_format =
-    format_as 5 sets_bytes AreSets
-    (then_format (λ (s : Sets). byte_of_levels s.masked) (byte_within 0 255 (omega arith)) (λ masked good_masked.
-    (then_format (λ (s : Sets). byte_of_levels s.in_service) (byte_within 0 255 (omega arith))
-    (λ in_service good_in_service.
-    (then_format (λ (s : Sets). byte_of_levels s.latches) (byte_within 0 255 (omega arith)) (λ latches good_latches.
-    (then_format (λ (s : Sets). byte_of_levels s.inputs) (byte_within 0 255 (omega arith)) (λ inputs good_inputs.
-    (last_format (λ (s : Sets). byte_of_levels s.triggers)
-    (λ triggers. record {
-      masked = levels_of_byte masked;
-      in_service = levels_of_byte in_service;
-      latches = levels_of_byte latches;
-      inputs = levels_of_byte inputs;
-      triggers = levels_of_byte triggers;
-    })
-    (byte_within 0 255 (omega arith)) (λ triggers good. byte_again triggers good.1)))
-    (λ inputs s any good. ap (λ (s : Sets). byte_of_levels s.inputs) good.1 ∙ byte_again inputs any.1)))
-    (λ latches s any good. ap (λ (s : Sets). byte_of_levels s.latches) good.1.1 ∙ byte_again latches any.1)))
-    (λ in_service s any good. ap (λ (s : Sets). byte_of_levels s.in_service) good.1.1.1 ∙ byte_again in_service any.1)))
-    (λ masked s any good. ap (λ (s : Sets). byte_of_levels s.masked) good.1.1.1.1 ∙ byte_again masked any.1))
-    (omega arith)
+    fields_format
+    (byte_to 255 (omega arith) then λ masked good.
+    byte_to 255 (omega arith) then λ in_service good.
+    byte_to 255 (omega arith) then λ latches good.
+    byte_to 255 (omega arith) then λ inputs good.
+    last_field _ (byte_to 255 (omega arith)))
     (λ s is. (
-      (omega arith, set_few s.masked is.masked),
-      (
-        (omega arith, set_few s.in_service is.in_service),
-        (
-          (omega arith, set_few s.latches is.latches),
-          (
-            (omega arith, set_few s.inputs is.inputs),
-            ((omega arith, set_few s.triggers is.triggers), made_sets s is),
-          ),
-        ),
-      ),
+      set_field s.masked is.masked & set_field s.in_service is.in_service & set_field s.latches is.latches
+          & set_field s.inputs is.inputs & set_field s.triggers is.triggers,
+      rw (
+        ← set_again s.masked is.masked,
+        ← set_again s.in_service is.in_service,
+        ← set_again s.latches is.latches,
+        ← set_again s.inputs is.inputs,
+        ← set_again s.triggers is.triggers,
+      ) refl,
     ))
-    (λ s good. record {
-      masked = set_eight s.masked _ (ap (λ (s : Sets). s.masked) good.1.1.1.1.1);
-      in_service = set_eight s.in_service _ (ap (λ (s : Sets). s.in_service) good.1.1.1.1.1);
-      latches = set_eight s.latches _ (ap (λ (s : Sets). s.latches) good.1.1.1.1.1);
-      inputs = set_eight s.inputs _ (ap (λ (s : Sets). s.inputs) good.1.1.1.1.1);
-      triggers = set_eight s.triggers _ (ap (λ (s : Sets). s.triggers) good.1.1.1.1.1);
-    })
-    (λ s good. refl)
+    (λ t. (
+      record {
+        masked = eight t.0;
+        in_service = eight t.2.0;
+        latches = eight t.2.2.0;
+        inputs = eight t.2.2.2.0;
+        triggers = eight t.2.2.2.2.0;
+      },
+      rw (
+        byte_again t.0 t.1,
+        byte_again t.2.0 t.2.1,
+        byte_again t.2.2.0 t.2.2.1,
+        byte_again t.2.2.2.0 t.2.2.2.1,
+        byte_again t.2.2.2.2.0 t.2.2.2.2.1,
+      ) refl,
+    ))
 
 modes_format : IsFormat 7 modes_fields modes_bytes Any
 unfolding modes_fields
 modes_format =
-    format_as 7 modes_bytes Any
-    (then_format (λ (m : Modes). m.is_ready) flag_format (λ is_ready good_is_ready.
-    (then_format (λ (m : Modes). m.auto_eoi) flag_format (λ auto_eoi good_auto_eoi.
-    (then_format (λ (m : Modes). m.fully_nested) flag_format (λ fully_nested good_fully_nested.
-    (then_format (λ (m : Modes). m.rotates) flag_format (λ rotates good_rotates.
-    (then_format (λ (m : Modes). m.special_mask) flag_format (λ special_mask good_special_mask.
-    (then_format (λ (m : Modes). m.polls) flag_format (λ polls good_polls.
-    (last_format (λ (m : Modes). m.reads_in_service)
-    (λ reads_in_service. record {
-      is_ready = is_ready;
-      auto_eoi = auto_eoi;
-      fully_nested = fully_nested;
-      rotates = rotates;
-      special_mask = special_mask;
-      polls = polls;
-      reads_in_service = reads_in_service;
-    })
-    flag_format (λ reads_in_service good. refl)))
-    (λ polls m any good. ap (λ (m : Modes). m.polls) good.1)))
-    (λ special_mask m any good. ap (λ (m : Modes). m.special_mask) good.1.1)))
-    (λ rotates m any good. ap (λ (m : Modes). m.rotates) good.1.1.1)))
-    (λ fully_nested m any good. ap (λ (m : Modes). m.fully_nested) good.1.1.1.1)))
-    (λ auto_eoi m any good. ap (λ (m : Modes). m.auto_eoi) good.1.1.1.1.1)))
-    (λ is_ready m any good. ap (λ (m : Modes). m.is_ready) good.1.1.1.1.1.1))
-    (omega arith)
-    (λ m any. (tt, (tt, (tt, (tt, (tt, (tt, (tt, refl))))))))
-    (λ m good. tt)
-    (λ m good. refl)
+    fields_format
+    (flag_format then λ is_ready good.
+    flag_format then λ auto_eoi good.
+    flag_format then λ fully_nested good.
+    flag_format then λ rotates good.
+    flag_format then λ special_mask good.
+    flag_format then λ polls good.
+    last_field _ flag_format)
+    (λ m any. (
+      (m.is_ready, tt) & (m.auto_eoi, tt) & (m.fully_nested, tt) & (m.rotates, tt) & (m.special_mask, tt)
+          & (m.polls, tt) & (m.reads_in_service, tt),
+      refl,
+    ))
+    (λ t. (tt, refl))
 
 -- ---- a chip
 
@@ -181,26 +137,6 @@ unfolding is_own_words awaited_byte
 words_again n few =
     sym (eqb-true n (awaited_byte (words_of n)) (agree_below_at is_own_words (λ _. true) 8 n refl (omega (arith, few))))
 
-abbrev made_chip : Bool → ℕ → Sets → ℕ → Modes → ℕ → Chip
-made_chip has_slave base sets awaited modes lowest = record {
-  has_slave = has_slave;
-  base = base;
-  masked = sets.masked;
-  in_service = sets.in_service;
-  latches = sets.latches;
-  inputs = sets.inputs;
-  triggers = sets.triggers;
-  awaited = words_of awaited;
-  is_ready = modes.is_ready;
-  auto_eoi = modes.auto_eoi;
-  fully_nested = modes.fully_nested;
-  rotates = modes.rotates;
-  special_mask = modes.special_mask;
-  lowest = lowest;
-  polls = modes.polls;
-  reads_in_service = modes.reads_in_service;
-}
-
 -- the byte of words that are awaited
 awaited_few : (words : List Word) → AreAwaited words → awaited_byte words ≤ 7
 awaited_few words are = omega (arith, ap awaited_byte are.2 ∙ words_again are.0 (omega (arith, are.1)), are.1)
@@ -209,106 +145,58 @@ awaited_again : (words : List Word) → AreAwaited words → words ≡ words_of 
 awaited_again words are =
     are.2 ∙ ap words_of (sym (ap awaited_byte are.2 ∙ words_again are.0 (omega (arith, are.1))))
 
-same_chip : (has_slave : Bool) (c : Chip) → IsChip has_slave c →
-    c ≡ made_chip has_slave c.base (sets_of c) (awaited_byte c.awaited) (modes_of c) c.lowest
-same_chip has_slave c is =
-    ap (λ (b : Bool). record c { has_slave = b }) is.slave
-    ∙ ap (λ (words : List Word). record c { has_slave = has_slave; awaited = words })
-    (awaited_again c.awaited is.awaited)
-
 pub chip_format : (has_slave : Bool) → IsFormat 15 (chip_fields has_slave) chip_bytes (IsChip has_slave)
 unfolding chip_fields
 chip_format has_slave =
-    format_as 15 chip_bytes (IsChip has_slave)
-    (then_format (λ (c : Chip). c.base) (byte_within 0 248 (omega arith)) (λ base good_base.
-    (then_format sets_of sets_format (λ sets good_sets.
-    (then_format (λ (c : Chip). awaited_byte c.awaited) (byte_within 0 7 (omega arith)) (λ awaited good_awaited.
-    (then_format modes_of modes_format (λ modes good_modes.
-    (last_format (λ (c : Chip). c.lowest) (λ lowest. made_chip has_slave base sets awaited modes lowest)
-    (byte_within 0 7 (omega arith)) (λ lowest good. refl)))
-    (λ modes c any good. ap modes_of good.1)))
-    (λ awaited c any good. ap (λ (c : Chip). awaited_byte c.awaited) good.1.1 ∙ words_again awaited any.1)))
-    (λ sets c any good. ap sets_of good.1.1.1)))
-    (λ base c any good. ap (λ (c : Chip). c.base) good.1.1.1.1))
-    (omega arith)
+    fields_format
+    (byte_to 248 (omega arith) then λ base good.
+    sets_format then λ sets good.
+    byte_to 7 (omega arith) then λ awaited good.
+    modes_format then λ modes good.
+    last_field _ (byte_to 7 (omega arith)))
     (λ c is. (
-      (omega arith, is.base),
-      (
-        is.sets,
-        (
-          (omega arith, awaited_few c.awaited is.awaited),
-          (tt, ((omega arith, omega (arith, is.lowest)), same_chip has_slave c is)),
-        ),
-      ),
+      (c.base, is.base) & (sets_of c, is.sets) & (awaited_byte c.awaited, awaited_few c.awaited is.awaited)
+          & (modes_of c, tt) & (c.lowest, omega (arith, is.lowest)),
+      rw (← is.slave, ← awaited_again c.awaited is.awaited) refl,
     ))
-    (λ c good. record {
-      slave = ap (λ (c : Chip). c.has_slave) good.1.1.1.1.1;
-      base = good.0.1;
-      sets = good.1.0;
-      awaited =
-          (awaited_byte c.awaited, omega (arith, good.1.1.0.1), ap (λ (c : Chip). c.awaited) good.1.1.1.1.1);
-      lowest = omega (arith, good.1.1.1.1.0.1);
-    })
-    (λ c good. refl)
+    (λ t. (
+      record {
+        slave = refl;
+        base = t.1;
+        sets = t.2.1;
+        awaited = (t.2.2.0, omega (arith, t.2.2.1), refl);
+        lowest = omega (arith, t.2.2.2.2.1);
+      },
+      rw (words_again t.2.2.0 t.2.2.1) refl,
+    ))
 
 pub pair_format : IsFormat 30 pair_fields pair_bytes IsPair
 unfolding pair_fields
 pair_format =
-    format_as 30 pair_bytes IsPair
-    (then_format (λ (p : Pair). p.master) (chip_format true) (λ master good.
-    last_format (λ (p : Pair). p.slave) (λ slave. record { master = master; slave = slave }) (chip_format false)
-    (λ slave good. refl))
-    (λ master p any good. ap (λ (p : Pair). p.master) good.1))
-    (omega arith)
-    (λ p is. (is.master, (is.slave, refl)))
-    (λ p good. record { master = good.0; slave = good.1.0 })
-    (λ p good. refl)
+    fields_format (chip_format true then λ master good. last_field _ (chip_format false))
+    (λ p is. ((p.master, is.master) & (p.slave, is.slave), refl))
+    (λ t. (record { master = t.1; slave = t.2.1 }, refl))
 
 -- ---- the sixteen lines
-
-eight : (n : ℕ) → length (levels_of_byte n) ≡ 8
-eight n = set_eight (levels_of_byte n) n refl
-
-front_again : (low high : ℕ) → low ≤ 255 → byte_of_levels (take 8 (levels_of_byte low ++ levels_of_byte high)) ≡ low
-front_again low high few =
-    ap byte_of_levels (take_at (levels_of_byte low) (levels_of_byte high) 8 (eight low)) ∙ byte_again low few
-
-back_again : (low high : ℕ) → high ≤ 255 → byte_of_levels (drop 8 (levels_of_byte low ++ levels_of_byte high)) ≡ high
-back_again low high few =
-    ap byte_of_levels (drop_at (levels_of_byte low) (levels_of_byte high) 8 (eight low)) ∙ byte_again high few
-
-front_eight : (lines : List Bool) → length lines ≡ 16 → length (take 8 lines) ≡ 8
-front_eight lines is = omega (arith, length-take 8 lines, is)
-
-back_eight : (lines : List Bool) → length lines ≡ 16 → length (drop 8 lines) ≡ 8
-back_eight lines is = omega (arith, length-drop 8 lines, is)
-
-lines_again : (lines : List Bool) → length lines ≡ 16 →
-    lines ≡ levels_of_byte (byte_of_levels (take 8 lines)) ++ levels_of_byte (byte_of_levels (drop 8 lines))
-lines_again lines is =
-    sym (take-append-drop 8 lines)
-    ∙ (ap (λ (front : List Bool). front ++ drop 8 lines) (set_again (take 8 lines) (front_eight lines is))
-    ∙ ap (λ (back : List Bool). levels_of_byte (byte_of_levels (take 8 lines)) ++ back)
-    (set_again (drop 8 lines) (back_eight lines is)))
-
-sixteen_of : (lines : List Bool) (low high : ℕ) → lines ≡ levels_of_byte low ++ levels_of_byte high → length lines ≡ 16
-sixteen_of lines low high is =
-    omega (arith, ap length is, length-append (levels_of_byte low) (levels_of_byte high), eight low, eight high)
 
 pub lines_format : IsFormat 2 lines_fields lines_bytes AreLines
 unfolding lines_fields
 lines_format =
-    format_as 2 lines_bytes AreLines
-    (then_format (λ (l : List Bool). byte_of_levels (take 8 l)) (byte_within 0 255 (omega arith)) (λ low good.
-    last_format (λ (l : List Bool). byte_of_levels (drop 8 l)) (λ high. levels_of_byte low ++ levels_of_byte high)
-    (byte_within 0 255 (omega arith)) (λ high good. back_again low high good.1))
-    (λ low l any good.
-    ap (λ (l : List Bool). byte_of_levels (take 8 l)) good.1
-    ∙ front_again low (byte_of_levels (drop 8 l)) any.1))
-    (omega arith)
-    (λ l is. (
-      (omega arith, set_few (take 8 l) (front_eight l is)),
-      ((omega arith, set_few (drop 8 l) (back_eight l is)), lines_again l is),
+    fields_format (byte_to 255 (omega arith) then λ low good. last_field _ (byte_to 255 (omega arith)))
+    (λ l is.
+    let front : length (take 8 l) ≡ 8 = omega (arith, length-take 8 l, is) in
+    let back : length (drop 8 l) ≡ 8 = omega (arith, length-drop 8 l, is) in (
+      set_field (take 8 l) front & set_field (drop 8 l) back,
+      rw (← set_again (take 8 l) front, ← set_again (drop 8 l) back) (sym (take-append-drop 8 l)),
     ))
-    (λ l good. sixteen_of l (byte_of_levels (take 8 l)) (byte_of_levels (drop 8 l)) good.1.1)
-    (λ l good. refl)
+    (λ t.
+    let low = levels_of_byte t.0 in
+    let high = levels_of_byte t.2.0 in (
+      omega (arith, length-append low high, eight t.0, eight t.2.0),
+      rw (
+        take_at low high 8 (eight t.0),
+        drop_at low high 8 (eight t.0),
+        byte_again t.0 t.1,
+        byte_again t.2.0 t.2.1,
+      ) refl,
+    ))
