@@ -2,7 +2,7 @@
 use Rattle.std.proofs.Common.{◌≡◌, ℕ, suc, ◌+◌, ◌-◌, ◌*◌, ◌/◌, ◌%◌, ◌^◌, ◌≤◌, ◌<◌, ◌⊎◌, inl, inr, true, List, [], ◌∷◌}
 use Rattle.std.proofs.Common.{Option, Some, None, refl, sym, ◌∙◌, ap, subst, arith, ◌==◌, nat_le, nat_lt, if◌then◌else◌}
 use Rattle.std.proofs.Common.{All, map, option_and_then}
-use Rattle.board_prelude.proofs.Common.{option_or, cases_Bool, cases_eq, cases_lt, cond-true, cond-false, le-leb}
+use Rattle.board_prelude.proofs.Common.{option_or, cases_Bool, cases_lt, cond-true, cond-false, le-leb}
 use Rattle.board_prelude.proofs.Common.{lt-leb, lt-ltb, le-ltb, All-head, All-tail, Width, One, WideAccess, Target}
 use Rattle.board_prelude.proofs.Common.{Dram, Shadow, Smram, Card, bytes_of, Event, Wide}
 use Rattle.board_prelude.proofs.Common.{Part, Reply, Bus, Saw, Entry, Setup, byte, wide, part_at, parts_of, joined}
@@ -151,53 +151,12 @@ memory_put-outside access target addr writes lands (inr past) =
     (cond-true (nat_le access.addr addr) (Some (addr - access.addr)) None (le-leb _ _ (omega arith)))
     ∙ cond-false (nat_lt (addr - access.addr) (bytes_of access.width)) _ None (le-ltb _ _ (omega arith))
 
-low_of_one : (n : ℕ) → byte (n % 256) 0 ≡ byte n 0
-low_of_one n = omega arith
-
-low_of_two : (n : ℕ) → byte (n % 65536) 0 ≡ byte n 0
-low_of_two n = omega arith
-
-second_of_two : (n : ℕ) → byte (n % 65536) 1 ≡ byte n 1
-second_of_two n = omega arith
-
-low_of_four : (n : ℕ) → byte (n % 4294967296) 0 ≡ byte n 0
-low_of_four n = omega arith
-
-second_of_four : (n : ℕ) → byte (n % 4294967296) 1 ≡ byte n 1
-second_of_four n = omega arith
-
-third_of_four : (n : ℕ) → byte (n % 4294967296) 2 ≡ byte n 2
-third_of_four n = omega arith
-
-fourth_of_four : (n : ℕ) → byte (n % 4294967296) 3 ≡ byte n 3
-fourth_of_four n = omega arith
-
 -- byte k of the low bytes of a number is its own byte k
 byte-low : (width : Width) (n k : ℕ) → k < bytes_of width → byte (n % 256 ^ bytes_of width) k ≡ byte n k
-byte-low One n k below =
-    let e : k ≡ 0 = omega arith in ap (λ (j : ℕ). byte (n % 256) j) e ∙ low_of_one n ∙ sym (ap (byte n) e)
-byte-low Two n k below =
-    elim (cases_eq k 0) [
-      | inl e ↦ ap (λ (j : ℕ). byte (n % 65536) j) e ∙ low_of_two n ∙ sym (ap (byte n) e)
-      | inr apart ↦
-          let e : k ≡ 1 = omega arith in ap (λ (j : ℕ). byte (n % 65536) j) e ∙ second_of_two n
-          ∙ sym (ap (byte n) e)
-    ]
-byte-low Four n k below =
-    elim (cases_eq k 0) [
-      | inl e ↦ ap (λ (j : ℕ). byte (n % 4294967296) j) e ∙ low_of_four n ∙ sym (ap (byte n) e)
-      | inr apart ↦
-          elim (cases_eq k 1) [
-            | inl e ↦ ap (λ (j : ℕ). byte (n % 4294967296) j) e ∙ second_of_four n ∙ sym (ap (byte n) e)
-            | inr apart' ↦
-                elim (cases_eq k 2) [
-                  | inl e ↦ ap (λ (j : ℕ). byte (n % 4294967296) j) e ∙ third_of_four n ∙ sym (ap (byte n) e)
-                  | inr apart'' ↦
-                      let e : k ≡ 3 = omega arith in ap (λ (j : ℕ). byte (n % 4294967296) j) e ∙ fourth_of_four n
-                      ∙ sym (ap (byte n) e)
-                ]
-          ]
-    ]
+byte-low One n (suc k) below = absurd (omega arith)
+byte-low Two n (suc (suc k)) below = absurd (omega arith)
+byte-low Four n (suc (suc (suc (suc k)))) below = absurd (omega arith)
+byte-low _ n _ below = omega arith
 
 -- the byte that a part puts in a cell is that of the whole
 byte-part :
