@@ -11,12 +11,7 @@ use Rattle.board_laws.specs.RegisterLaws.{IsNear, TargetReaches, ReachesNear, Re
 near_of : (named reg : Reg) (width : Width) → covers named width reg ≡ true → IsNear named reg
 near_of named reg width inside =
     let most : bytes_of width ≤ 4 = bytes_few width in
-    record {
-      dev = grind (arith, nat_tests);
-      fun = grind (arith, nat_tests);
-      from = grind (arith, nat_tests);
-      below = grind (arith, nat_tests);
-    }
+    grind (arith, nat_tests)
 
 -- what a store does not reach stays
 stored_elsewhere :

@@ -1,8 +1,8 @@
 -- A hard reset puts registers and devices in their reset state, and keeps what is stored.
-use Rattle.std.proofs.Common.{◌≡◌, ℕ, ◌+◌, ◌*◌, Bool, true, false, not, ◌||◌, ◌&&◌, List, ◌∷◌, Option, Some, None}
-use Rattle.std.proofs.Common.{is_some, take, drop, refl, sym, ◌∙◌, ap, inl, inr, ◌==◌, unwrap_or}
-use Rattle.board_prelude.proofs.Common.{cases_Bool, cond-true, cond-false, and_parts, eqb-true, false≢true, Width}
-use Rattle.board_prelude.proofs.Common.{PortAccess, Target, Device, bytes_of, Triggers, triggers_at_reset, Levels, has}
+use Rattle.std.proofs.Common.{◌≡◌, ℕ, ◌+◌, ◌*◌, Bool, true, false, List, ◌∷◌, Option, Some, None}
+use Rattle.std.proofs.Common.{is_some, arith, take, drop, refl, ◌∙◌, ap, unwrap_or}
+use Rattle.board_prelude.proofs.Common.{cond-true, nat_tests, false≢true, Width}
+use Rattle.board_prelude.proofs.Common.{PortAccess, Target, Device, bytes_of, Triggers, triggers_at_reset, Levels}
 use Rattle.board_prelude.proofs.Common.{no_levels, levels_where, Chip, chip_at_reset, chip_after_inputs, latches_after}
 use Rattle.board_prelude.proofs.Common.{Pair, pair_at_reset, master_inputs, pair_after_lines, levels_where-same}
 use Rattle.board_prelude.proofs.Common.{has-levels_where, Event, Port, Wire, Line, Pulses, Reply, Entry, MapChange}
@@ -25,14 +25,8 @@ reset_value control (Some value) hard = cond-true (is_hard_value control value) 
 
 -- ---- the pair
 
-no_rise : (level : Bool) → ((false || (level && not level)) && not (level && not level)) ≡ false
-no_rise true = refl
-no_rise false = refl
-
 no_latches : (inputs : Levels) → latches_after no_levels inputs inputs ≡ no_levels
-no_latches inputs =
-    levels_where-same _ (λ level. false)
-    (λ level small. rw (has-levels_where (λ l. false) level small) (no_rise (has inputs level)))
+no_latches inputs = levels_where-same _ (λ level. false) (λ level small. grind (arith, nat_tests, has-levels_where))
 
 chip-reset :
     (has_slave : Bool) (inputs : Levels) →
@@ -107,22 +101,7 @@ record WritesControl (access : PortAccess) : Type 0 where
 
 writes_control :
     (before : List Entry) (access : PortAccess) → is_hard_reset before (Port access) ≡ true → WritesControl access
-writes_control before access hard =
-    elim (cases_Bool (access.write && access.port == reset_control_port && bytes_of access.width == 1)) [
-      | inl writes ↦
-          let parts =
-          and_parts (access.write && access.port == reset_control_port) (bytes_of access.width == 1) writes in
-          let first = and_parts access.write (access.port == reset_control_port) parts.0 in
-          record {
-            port = eqb-true access.port reset_control_port first.1;
-            size = eqb-true
-                (bytes_of access.width) 1 parts.1;
-          }
-      | inr not_so ↦
-          absurd (false≢true (sym (ap (resets_hard (reset_control before))
-          (cond-false (access.write && access.port == reset_control_port && bytes_of access.width == 1)
-          (Some access.value) None not_so)) ∙ hard))
-    ]
+writes_control before access hard = grind (arith, nat_tests)
 
 decoded-reset :
     (setup : Setup) (bytes : Bytes) (address : ℕ) (disk : Bool) (port : ℕ) (width : Width) →
@@ -134,12 +113,7 @@ decoded-reset setup bytes address disk port width is size = rw (is, size) refl
 no_put :
     (access : PortAccess) (target : Target) (cell : Cell) → target ≡ Device ResetPort →
     port_put access target cell ≡ None
-no_put access target cell is =
-    ap (λ (t : Target). port_put access t cell) is
-    ∙ elim (cases_Bool access.write) [
-      | inl writes ↦ cond-true access.write _ None writes
-      | inr reads ↦ cond-false access.write _ None reads
-    ]
+no_put access target cell is = rw is (grind (arith, nat_tests))
 
 nothing_put :
     (setup : Setup) (before : List Entry) (event : Event) (reply : Reply) (cell : Cell) →
