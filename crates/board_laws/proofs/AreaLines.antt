@@ -1,16 +1,27 @@
 -- Each line of the memory map, and what follows where the lines before it do not hold.
-use Rattle.std.proofs.Common.{◌≡◌, ℕ, ◌<◌, Bool, true, false, List, [], ◌∷◌, ◌++◌, Option, Some, None}
-use Rattle.std.proofs.Common.{is_some, refl, ◌∙◌, ap, find, unwrap_or, All, arith}
-use Rattle.board_prelude.proofs.Common.{nat_tests}
-use Rattle.board_prelude.proofs.Common.{All-head, All-tail, Kind, Setup}
-use Rattle.board_prelude.proofs.Common.{Bytes, top_of, row_of}
-use Rattle.board_prelude.proofs.Common.{Window, memory_claim, area_of}
-use Rattle.board_prelude.proofs.Common.{is_bios_selected}
+use Rattle.std.proofs.Common.{◌≡◌, ℕ, ◌<◌, Bool, true, false, List, [], ◌∷◌, ◌++◌, Option, Some, None, option_map}
+use Rattle.std.proofs.Common.{is_some, refl, ◌∙◌, ap, find, unwrap_or, All, arith, ◌&&◌, not}
+use Rattle.board_prelude.proofs.Common.{nat_tests, All-head, All-tail, Kind, Setup, Bytes, top_of, row_of, Window}
+use Rattle.board_prelude.proofs.Common.{memory_claim, area_of, first_of, line_where, card_area, is_bios_selected}
+use Rattle.board_prelude.proofs.Common.{is_smram_range, upper_memory, is_smram_open, is_shadowed, lies_in, is_in_hole}
+use Rattle.board_base.specs.declared.target.Area.TheVariants.{Rom, Abort}
 use Rattle.std.proofs.lemmas.Bool.{false_from_ne_true}
 use Rattle.board_laws.specs.AreaLaws.{IsRow, IsInSmram, IsInShadow, IsInDram, IsPastDram, claims, memory_windows_of}
 use Rattle.board_laws.specs.AreaLaws.{NoneClaims, WhoAnswers}
-use Rattle.board_laws.proofs.AreaProofs.{row-is, row_below_top, is_some-row, table, smram_line, shadow_line, dram_line}
-use Rattle.board_laws.proofs.AreaProofs.{area-table, table-is}
+use Rattle.board_laws.proofs.AreaProofs.{row-is, row_below_top, is_some-row}
+
+-- ---- the lines of the map that are of DRAM
+
+abbrev smram_line : Bytes → ℕ → Kind → Bool → Bool
+smram_line bytes addr kind smm =
+    is_smram_range addr && is_some (row_of bytes addr) && is_smram_open bytes kind smm
+
+abbrev shadow_line : Bytes → ℕ → Kind → Bool
+shadow_line bytes addr kind = is_some (row_of bytes addr) && is_shadowed bytes addr kind
+
+abbrev dram_line : Bytes → ℕ → Bool
+dram_line bytes addr =
+    not (lies_in upper_memory addr) && is_some (row_of bytes addr) && not (is_in_hole bytes addr)
 
 -- ---- the lines that hold
 
@@ -88,48 +99,36 @@ claim-none setup bytes addr none = find-none (claims bytes addr) (memory_windows
 
 -- ---- the map
 
-area-is :
-    (setup : Setup) (bytes : Bytes) (addr : ℕ) (kind : Kind) (smm : Bool) (a b c d : Bool) (row : ℕ)
-    (claim : Option Window) →
-    smram_line bytes addr kind smm ≡ a → shadow_line bytes addr kind ≡ b → dram_line bytes addr ≡ c →
-    is_bios_selected bytes addr ≡ d → unwrap_or (row_of bytes addr) 0 ≡ row → memory_claim setup bytes addr
-    ≡ claim →
-    area_of setup bytes addr kind smm ≡ table a b c d row claim
-area-is setup bytes addr kind smm a b c d row claim ea eb ec ed er e =
-    area-table setup bytes addr kind smm
-    ∙ table-is (smram_line bytes addr kind smm) (shadow_line bytes addr kind) (dram_line bytes addr)
-    (is_bios_selected bytes addr)
-    (unwrap_or (row_of bytes addr) 0) (memory_claim setup bytes addr) a b c d row claim ea eb ec ed er e
-
 row_read : (bytes : Bytes) (addr row : ℕ) → IsRow bytes addr row → unwrap_or (row_of bytes addr) 0 ≡ row
 row_read bytes addr row is = ap (λ (r : Option ℕ). unwrap_or r 0) (row-is bytes addr row is)
 
+past_dram :
+    (setup : Setup) (bytes : Bytes) (addr : ℕ) (kind : Kind) (smm : Bool) → IsPastDram bytes addr kind smm →
+    area_of setup bytes addr kind smm
+    ≡ first_of
+    (line_where (is_bios_selected bytes addr) Rom ∷ option_map card_area (memory_claim setup bytes addr) ∷ []) Abort
+unfolding area_of
+past_dram setup bytes addr kind smm past =
+    rw (no_smram_line bytes addr kind smm past.no_smram, no_shadow_line bytes addr kind past.no_shadow,
+      no_dram_line bytes addr past.no_dram) refl
+
 pub who_answers : WhoAnswers
-unfolding table
-who_answers setup bytes addr kind smm =
-    let past_dram : (d : Bool) (claim : Option Window) → IsPastDram bytes addr kind smm →
-    is_bios_selected bytes addr ≡ d →
-    memory_claim setup bytes addr ≡ claim → area_of setup bytes addr kind smm
-    ≡ table false false false d (unwrap_or (row_of bytes addr) 0) claim =
-    λ d claim past ed e.
-    area-is setup bytes addr kind smm false false false d (unwrap_or (row_of bytes addr) 0) claim
-    (no_smram_line bytes addr kind smm past.no_smram) (no_shadow_line bytes addr kind past.no_shadow)
-    (no_dram_line bytes addr past.no_dram) ed refl e in
-    record {
-      in_smram = λ is.
-          area-is setup bytes addr kind smm true _ _ _ _ _
-          (smram_holds bytes addr kind smm is) refl refl refl refl refl;
-      in_shadow = λ row here is.
-          area-is setup bytes addr kind smm false true _ _ row _
-          (let opened = is.opened in grind (arith, nat_tests))
-          (shadow_holds bytes addr kind is) refl refl (row_read bytes addr row here) refl;
-      in_dram = λ row here is.
-          area-is setup bytes addr kind smm false false true _ row _
-          (let range = is.range in grind (arith, nat_tests)) (let range = is.range in grind (arith, nat_tests))
-          (dram_holds bytes addr is) refl (row_read bytes addr row here) refl;
-      in_rom = λ past selected. past_dram true _ past selected refl;
-      in_card = λ earlier later window past are none here.
-          past_dram false (Some window) past.past past.no_rom
-          (claim-first setup bytes addr earlier later window are none here);
-      nowhere = λ past none. past_dram false None past.past past.no_rom (claim-none setup bytes addr none);
-    }
+unfolding area_of
+who_answers setup bytes addr kind smm = record {
+  in_smram = λ is. rw (smram_holds bytes addr kind smm is) refl;
+  in_shadow = λ row here is.
+      let opened = is.opened in
+      let outside : smram_line bytes addr kind smm ≡ false = grind (arith, nat_tests) in
+      rw (outside, shadow_holds bytes addr kind is, row_read bytes addr row here) refl;
+  in_dram = λ row here is.
+      let range = is.range in
+      let outside : smram_line bytes addr kind smm ≡ false = grind (arith, nat_tests) in
+      let closed : shadow_line bytes addr kind ≡ false = grind (arith, nat_tests) in
+      rw (outside, closed, dram_holds bytes addr is, row_read bytes addr row here) refl;
+  in_rom = λ past selected. past_dram setup bytes addr kind smm past ∙ rw selected refl;
+  in_card = λ earlier later window past are none here.
+      past_dram setup bytes addr kind smm past.past
+      ∙ rw (past.no_rom, claim-first setup bytes addr earlier later window are none here) refl;
+  nowhere = λ past none.
+      past_dram setup bytes addr kind smm past.past ∙ rw (past.no_rom, claim-none setup bytes addr none) refl;
+}

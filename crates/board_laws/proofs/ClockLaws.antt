@@ -13,26 +13,12 @@ use Rattle.board_laws.specs.ClockLaws.{number_read, hour_read, Shows, IsShowable
 use Rattle.board_laws.specs.ClockLaws.{same_time_of_day, RingsAtItsTime, ReadingQuiets, ResetKeepsTheTime, MemoryKeeps}
 use Rattle.board_laws.specs.ClockLaws.{IsSound, StaysSound}
 
--- two digits are read as they were written
-bcd_back : (n : ℕ) → n < 100 → bcd n / 16 * 10 + bcd n % 16 ≡ n
-bcd_back n h = omega arith
-
+-- numbers and hours are read as they were written
 number_back : (control n : ℕ) → n < 100 → number_read control (number_byte control n) ≡ n
-number_back control n h =
-    elim (cases_Bool (is_binary control)) [
-      | inl e ↦ rw e refl
-      | inr e ↦ rw e (bcd_back n h)
-    ]
+number_back control n h = grind (arith, nat_tests)
 
 hour_back : (control hour : ℕ) → hour < 24 → hour_read control (hour_byte control hour) ≡ hour
-hour_back control hour h =
-    elim (cases_Bool (is_24_hour control)) [
-      | inl e ↦ rw e (number_back control hour (omega arith))
-      | inr e ↦ elim (cases_Bool (is_binary control)) [
-        | inl b ↦ rw (e, b) (grind (arith, nat_tests))
-        | inr b ↦ rw (e, b) (grind (arith, nat_tests))
-      ]
-    ]
+hour_back control hour h = grind (arith, nat_tests)
 
 -- bytes with others at the seven places of the time and the calendar, and what stays
 record Timed (bytes after : List ℕ) (second minute hour weekday day month year : ℕ) : Type 0 where
@@ -92,20 +78,10 @@ shows clock time size showable =
 pub shows_the_moment : ShowsTheMoment
 shows_the_moment clock time size let_in showable = rw let_in (shows clock time size showable)
 
--- what is read back as it was written is equal where the bytes are
-same_bytes : (f g : ℕ → ℕ) (a n : ℕ) → g (f a) ≡ a → g (f n) ≡ n → (f a == f n) ≡ (a == n)
-same_bytes f g a n back_a back_n =
-    elim (cases_eq a n) [
-      | inl e ↦ rw e (eq-eqb (f n) (f n) refl ∙ sym (eq-eqb n n refl))
-      | inr e ↦ ne_eqb (f a) (f n) (λ same. e (sym back_a ∙ ap g same ∙ back_n)) ∙ sym (ne_eqb a n e)
-    ]
-
--- an alarm byte below C0h fits the bytes of its own time
+-- an alarm byte below C0h fits the bytes of its own time, where what is read back is as it was written
 fits_its_own : (f g : ℕ → ℕ) (a n alarm time : ℕ) → alarm ≡ f a → time ≡ f n → f a < 192 → g (f a) ≡ a → g (f n) ≡ n →
     alarm_fits alarm time ≡ (a == n)
-fits_its_own f g a n alarm time is_alarm is_time low back_a back_n =
-    let never : nat_le 192 (f a) ≡ false = grind (arith, nat_tests) in
-    rw (is_alarm, is_time, never) (same_bytes f g a n back_a back_n)
+fits_its_own f g a n alarm time is_alarm is_time low back_a back_n = grind (arith, nat_tests)
 
 number_byte_low : (control n : ℕ) → n < 100 → number_byte control n < 192
 number_byte_low control n h = grind (arith, nat_tests)
@@ -185,24 +161,17 @@ sound_power_on : IsSound power_on
 unfolding power_on
 sound_power_on = record { size = refl; within = omega arith; no_update = omega arith; stopped = λ never. refl }
 
--- a byte of register A or B as written, and any other byte
-written_no_update : (bytes : List ℕ) (k byte : ℕ) → length bytes ≡ 128 → get_or bytes 10 0 < 128 →
-    get_or (set bytes k (written k (get_or bytes k 0) byte)) 10 0 < 128
-written_no_update bytes k byte size was =
-    elim (cases_eq 10 k) [
-      | inl e ↦ rw (← e, get_or-set_same bytes 10 (byte % 128) 0 (omega arith)) (omega arith)
-      | inr e ↦ rw (get_or-set_other bytes k 10 (written k (get_or bytes k 0) byte) 0 e) was
-    ]
-
 abbrev stops : ℕ → Type 0
 stops control = holds_time control ≡ true → update_interrupts control ≡ false
 
-written_stops : (bytes : List ℕ) (k byte : ℕ) → length bytes ≡ 128 → stops (get_or bytes 11 0) →
-    stops (get_or (set bytes k (written k (get_or bytes k 0) byte)) 11 0)
-written_stops bytes k byte size was =
-    elim (cases_eq 11 k) [
-      | inl e ↦ rw (← e, get_or-set_same bytes 11 (control_written byte) 0 (omega arith)) (written_stopped byte)
-      | inr e ↦ rw (get_or-set_other bytes k 11 (written k (get_or bytes k 0) byte) 0 e) was
+-- what holds of a byte of a register as written, and held of it before, holds after a write of any byte
+holds_after : (P : ℕ → Type 0) (register : ℕ) (bytes : List ℕ) (k byte : ℕ) → register < length bytes →
+    P (written register (get_or bytes register 0) byte) → P (get_or bytes register 0) →
+    P (get_or (set bytes k (written k (get_or bytes k 0) byte)) register 0)
+holds_after P register bytes k byte inside now was =
+    elim (cases_eq register k) [
+      | inl e ↦ rw (← e, get_or-set_same bytes register (written register (get_or bytes register 0) byte) 0 inside) now
+      | inr e ↦ rw (get_or-set_other bytes k register (written k (get_or bytes k 0) byte) 0 e) was
     ]
 
 sound_read : (clock : Clock) (port : ℕ) → IsSound clock → IsSound (after_read clock port)
@@ -225,8 +194,10 @@ sound_write clock port byte was =
         | inl f ↦ rw (e, f) (record {
           size = size_kept clock.bytes clock.index _ was.size;
           within = was.within;
-          no_update = written_no_update clock.bytes clock.index byte was.size was.no_update;
-          stopped = written_stops clock.bytes clock.index byte was.size was.stopped;
+          no_update = holds_after (λ a. a < 128) 10 clock.bytes clock.index byte (omega (arith, was.size)) (omega arith)
+              was.no_update;
+          stopped = holds_after stops 11 clock.bytes clock.index byte (omega (arith, was.size)) (written_stopped byte)
+              was.stopped;
         })
         | inr f ↦ rw (e, f) was
       ]

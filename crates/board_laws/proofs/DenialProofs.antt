@@ -2,18 +2,15 @@
 use Rattle.std.proofs.Common.{◌≡◌, ℕ, zero, suc, ◌+◌, ◌-◌, Bool, true, false, List, [], ◌∷◌, Option, Some, None}
 use Rattle.std.proofs.Common.{is_some, refl, sym, subst, inl, inr, ◌==◌, if◌then◌else◌, map, option_map, unwrap_or, All}
 use Rattle.board_prelude.proofs.Common.{cases_Bool, cond-false, false≢true, All-nil, All-cons, Width, Kind, Fetch, Read}
-use Rattle.board_prelude.proofs.Common.{Write, WideAccess, Reg, Area, Dev, Target, Device, Denial, NoRegister}
-use Rattle.board_prelude.proofs.Common.{bytes_of, Select, Always, IdeChannel, device_at, select_of}
-use Rattle.board_prelude.proofs.Common.{Memory, Wide, Port, Ack, Part, Reply, Bus}
-use Rattle.board_prelude.proofs.Common.{Entry, Setup, is_config_port}
-use Rattle.board_prelude.proofs.Common.{config_address, config_register, byte_of, Bytes, Window, denial_in, denial_of}
-use Rattle.board_prelude.proofs.Common.{io_claim, io_shut, command_of, Decoded, device, nobody, card_port, config_port}
-use Rattle.board_prelude.proofs.Common.{selected_by, device_port, port_target_of, is_write}
-use Rattle.board_prelude.proofs.Common.{longest_at, part_at, parts_from, target_at, memory_target, memory_denial}
-use Rattle.board_prelude.proofs.Common.{memory_answer, part_answer, port_answer}
+use Rattle.board_prelude.proofs.Common.{Write, WideAccess, Reg, Area, Dev, Target, Device, Denial, NoRegister, bytes_of}
+use Rattle.board_prelude.proofs.Common.{Select, Always, IdeChannel, device_at, select_of, Memory, Wide, Port, Ack, Part}
+use Rattle.board_prelude.proofs.Common.{Reply, Bus, Entry, Setup, is_config_port, config_address, config_register}
+use Rattle.board_prelude.proofs.Common.{byte_of, Bytes, Window, denial_in, denial_of, io_claim, io_shut, command_of}
+use Rattle.board_prelude.proofs.Common.{Decoded, device, nobody, card_port, config_port, selected_by, device_port}
+use Rattle.board_prelude.proofs.Common.{port_target_of, is_write, longest_at, part_at, parts_from, target_at}
+use Rattle.board_prelude.proofs.Common.{memory_target, memory_denial, memory_answer, part_answer, port_answer}
 use Rattle.board_base.specs.declared.access.Access.{Access}
-use Rattle.board_base.specs.declared.target.Area.TheVariants.{Rom as RomArea}
-use Rattle.board_base.specs.declared.target.Area.TheVariants.{Abort as AbortArea}
+use Rattle.board_base.specs.declared.target.Area.TheVariants.{Rom as RomArea, Abort as AbortArea}
 use Rattle.board_spec.specs.declared.event.Event.TheVariants.{Look as LookAt}
 use Rattle.board_laws.specs.DenialLaws.{ReachesNothing, IsDeniedExactly, DeniedOnBus, DeniedInParts}
 

@@ -1,13 +1,13 @@
 -- The laws of specs/Laws.antt.
-use Rattle.std.proofs.Common.{lit<, ◌≡◌, ℕ, ◌+◌, ◌/◌, ◌%◌, ◌<◌, Bool, true, false, not, eqb, ◌||◌, ◌&&◌, Option}
-use Rattle.std.proofs.Common.{Some, None, List, [], ◌∷◌, get_or, refl, sym, ap, ◌∙◌, inl, inr, arith, is_some}
+use Rattle.std.proofs.Common.{lit<, ◌≡◌, ℕ, ◌+◌, ◌/◌, ◌%◌, ◌<◌, Bool, true, false, not, eqb, ◌||◌, ◌&&◌, Option, Some}
+use Rattle.std.proofs.Common.{None, List, [], ◌∷◌, get_or, refl, sym, ap, ◌∙◌, inl, inr, arith, is_some}
 use Rattle.board_prelude.proofs.Common.{cases_Bool, cases_lt, agree_below_at, eqb-true, eq-eqb, and_parts, nat_tests}
-use Rattle.board_prelude.proofs.Common.{not-true, both_ways, false≢true, Levels, has, levels_where}
-use Rattle.board_prelude.proofs.Common.{with_level, without_level, Chip, pending, priority_order, is_blocking}
-use Rattle.board_prelude.proofs.Common.{blocks_itself, is_requested, request, interrupt, acknowledged, acknowledged_if}
-use Rattle.board_prelude.proofs.Common.{chip_after_write, get_or_past, Pair, answer_of, pair_after_acknowledge}
-use Rattle.board_prelude.proofs.Common.{settled, pair_written, pair_read, pair_acknowledged, answer_at}
-use Rattle.board_prelude.proofs.Common.{pair_acknowledged_at, has-levels_where, scan, request-is}
+use Rattle.board_prelude.proofs.Common.{not-true, both_ways, false≢true, Levels, has, levels_where, with_level}
+use Rattle.board_prelude.proofs.Common.{without_level, Chip, pending, priority_order, is_blocking, blocks_itself}
+use Rattle.board_prelude.proofs.Common.{is_requested, request, interrupt, acknowledged, acknowledged_if}
+use Rattle.board_prelude.proofs.Common.{chip_after_write, get_or_past, Pair, answer_of, pair_after_acknowledge, settled}
+use Rattle.board_prelude.proofs.Common.{pair_written, pair_read, pair_acknowledged, answer_at, pair_acknowledged_at}
+use Rattle.board_prelude.proofs.Common.{has-levels_where, scan, request-is}
 use Rattle.std.proofs.lemmas.Bool.{agree_below}
 use Rattle.board_base.specs.Bits.{is_bit}
 use Rattle.board_laws.specs.PicLaws.{IsFirstInOrder, EndsOne, IsSpuriousAt, SlaveIsLatched, StaysLatched}

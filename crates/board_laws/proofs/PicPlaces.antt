@@ -1,13 +1,13 @@
 -- What INT stands for, and what a non-specific end of interrupt ends, by places in the order of priorities.
 use Rattle.std.proofs.Common.{◌≡◌, ◌≢◌, ℕ, zero, suc, ◌+◌, ◌/◌, ◌<◌, ◌≤◌, Bool, true, false, not, cond, eqb, ◌&&◌, Some}
-use Rattle.std.proofs.Common.{None, List, [], ◌∷◌, length, get_or, drop, refl, sym, ap, subst, ◌∙◌, inl, inr, arith, is_some}
-use Rattle.std.proofs.Common.{length-append}
-use Rattle.board_prelude.proofs.Common.{find, list_all, cases_Bool, cases_lt, agree_below_at, eqb-true}
-use Rattle.board_prelude.proofs.Common.{nat_tests, and_parts, false≢true, drop_of_length-le}
-use Rattle.board_prelude.proofs.Common.{get_or-append_seam, get_or_append_left, without_level, Chip}
-use Rattle.board_prelude.proofs.Common.{priority_order, is_blocking, blocks_itself, is_requested, request}
-use Rattle.board_prelude.proofs.Common.{first_blocking, chip_after_write, scan, request-is, scan-found, scan-past}
-use Rattle.board_prelude.proofs.Common.{find-past, find-here, first_blocking-is, priority_order-small}
+use Rattle.std.proofs.Common.{None, List, [], ◌∷◌, length, get_or, drop, refl, sym, ap, subst, ◌∙◌, inl, inr, arith}
+use Rattle.std.proofs.Common.{is_some, length-append}
+use Rattle.board_prelude.proofs.Common.{find, list_all, cases_Bool, cases_lt, agree_below_at, eqb-true, nat_tests}
+use Rattle.board_prelude.proofs.Common.{and_parts, false≢true, drop_of_length-le, get_or-append_seam}
+use Rattle.board_prelude.proofs.Common.{get_or_append_left, without_level, Chip, priority_order, is_blocking}
+use Rattle.board_prelude.proofs.Common.{blocks_itself, is_requested, request, first_blocking, chip_after_write, scan}
+use Rattle.board_prelude.proofs.Common.{request-is, scan-found, scan-past, find-past, find-here, first_blocking-is}
+use Rattle.board_prelude.proofs.Common.{priority_order-small}
 use Rattle.board_base.specs.Bits.{is_bit}
 use Rattle.device_spec.specs.Pic.{ended}
 use Rattle.board_laws.specs.PicLaws.{place_of, CanBeSelected, InterruptIsSelected, SelectedInterrupts, IsServedFirst}

@@ -1,7 +1,6 @@
 -- The bytes of a count.
 use Rattle.std.proofs.Common.{arith}
-use Rattle.board_prelude.proofs.Common.{nat_tests, count_of_number, Binary, Decimal}
-use Rattle.board_prelude.proofs.Common.{count_of_number, low_byte, high_byte}
+use Rattle.board_prelude.proofs.Common.{nat_tests, count_of_number, Binary, Decimal, low_byte, high_byte}
 use Rattle.board_laws.specs.PitLaws.{CountReadsAsWritten}
 
 pub count_reads_as_written : CountReadsAsWritten

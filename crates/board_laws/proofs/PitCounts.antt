@@ -1,10 +1,10 @@
 -- Whole counts of modes 0, 1, 4 and 5, and the pulse that loads.
-use Rattle.std.proofs.Common.{◌≡◌, ℕ, zero, suc, ◌+◌, ◌-◌, ◌<◌, ◌≤◌, not, Bool, true, false}
-use Rattle.std.proofs.Common.{inl, inr, refl, ap, sym, ◌∙◌, arith, add-zero, add-suc}
-use Rattle.board_prelude.proofs.Common.{cases_lt, nat_tests, Mode, TerminalCount}
-use Rattle.board_prelude.proofs.Common.{OneShot, SquareWave, SoftwareStrobe, HardwareStrobe}
-use Rattle.board_prelude.proofs.Common.{CounterState, load, count_down, count_to_end, count_to_strobe, pulse_by_mode}
-use Rattle.board_prelude.proofs.Common.{pulse, pulses_of, IsAtLoad, phase, phase-self, is_periodic, false≢true, cases_eq}
+use Rattle.std.proofs.Common.{◌≡◌, ℕ, zero, suc, ◌+◌, ◌-◌, ◌<◌, ◌≤◌, not, Bool, true, false, inl, inr, refl, ap, sym}
+use Rattle.std.proofs.Common.{◌∙◌, arith, add-zero, add-suc}
+use Rattle.board_prelude.proofs.Common.{cases_lt, nat_tests, Mode, TerminalCount, OneShot, SquareWave, SoftwareStrobe}
+use Rattle.board_prelude.proofs.Common.{HardwareStrobe, CounterState, load, count_down, count_to_end, count_to_strobe}
+use Rattle.board_prelude.proofs.Common.{pulse_by_mode, pulse, pulses_of, IsAtLoad, phase, phase-self, is_periodic}
+use Rattle.board_prelude.proofs.Common.{false≢true, cases_eq}
 use Rattle.board_laws.specs.PitCounts.{PulseLoads, EndsOnce, CountsEndOnce, StrobesOnce, CountsStrobeOnce, out_at_load}
 
 -- THE PULSE THAT LOADS

@@ -1,14 +1,12 @@
 -- A latched count stays until it is read.
-use Rattle.std.proofs.Common.{◌≡◌, ℕ, Bool, List, [], ◌∷◌, length, None, refl, ap, sym}
-use Rattle.std.proofs.Common.{◌∙◌, arith}
+use Rattle.std.proofs.Common.{◌≡◌, ℕ, Bool, List, [], ◌∷◌, length, None, refl, ap, sym, ◌∙◌, arith}
 use Rattle.board_prelude.proofs.Common.{nat_tests}
-use Rattle.device_spec.specs.Pit.{Mode, TerminalCount}
-use Rattle.device_spec.specs.Pit.{Access, LowByte, HighByte, LowThenHigh, CounterState, low_byte}
+use Rattle.device_spec.specs.Pit.{Mode, TerminalCount, Access, LowByte, HighByte, LowThenHigh, CounterState, low_byte}
 use Rattle.device_spec.specs.Pit.{high_byte, element_bytes, latch_count, latch_status, read_back, read, complete}
 use Rattle.device_spec.specs.Pit.{take_low, take_byte, write, gate_rises, gate_falls, load, count_down, count_to_end}
 use Rattle.device_spec.specs.Pit.{count_to_reload, count_half, count_to_strobe, pulse_by_mode, pulse}
-use Rattle.board_laws.specs.PitLaws.{Write, Pulse, after, Step, step_of}
-use Rattle.board_laws.specs.PitLaws.{bytes_read, LatchedCountStays, LatchedCountIsRead}
+use Rattle.board_laws.specs.PitLaws.{Write, Pulse, after, Step, step_of, bytes_read, LatchedCountStays}
+use Rattle.board_laws.specs.PitLaws.{LatchedCountIsRead}
 
 -- WHAT LEAVES THE LATCH OF THE COUNT ALONE
 

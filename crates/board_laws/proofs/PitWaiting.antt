@@ -1,11 +1,10 @@
 -- In modes 2 and 3 a count that is written waits for the next load.
-use Rattle.std.proofs.Common.{◌≡◌, ℕ, zero, suc, ◌==◌, ◌&&◌, ◌||◌, Bool, true, false, ◌⊎◌, inl, inr, Option}
-use Rattle.std.proofs.Common.{Some, None, unwrap_or, refl, ap, sym, ◌∙◌, arith}
+use Rattle.std.proofs.Common.{◌≡◌, ℕ, zero, suc, ◌==◌, ◌&&◌, ◌||◌, Bool, true, false, ◌⊎◌, inl, inr, Option, Some, None}
+use Rattle.std.proofs.Common.{unwrap_or, refl, ap, sym, ◌∙◌, arith}
 use Rattle.board_prelude.proofs.Common.{nat_tests, cases_Bool, false≢true, Mode, TerminalCount, SoftwareStrobe}
-use Rattle.board_prelude.proofs.Common.{RateGenerator, Access}
-use Rattle.board_prelude.proofs.Common.{LowThenHigh, CounterState, is_periodic, is_terminal_count}
-use Rattle.board_prelude.proofs.Common.{asks_for_load, complete, take_low, take_byte, write}
-use Rattle.board_prelude.proofs.Common.{load, count_down, count_to_reload, half_end, count_half, pulse_by_mode, pulse}
+use Rattle.board_prelude.proofs.Common.{RateGenerator, Access, LowThenHigh, CounterState, is_periodic}
+use Rattle.board_prelude.proofs.Common.{is_terminal_count, asks_for_load, complete, take_low, take_byte, write, load}
+use Rattle.board_prelude.proofs.Common.{count_down, count_to_reload, half_end, count_half, pulse_by_mode, pulse}
 use Rattle.board_prelude.proofs.Common.{pulses_of}
 use Rattle.board_laws.specs.PitCounts.{CountWaits, CountIsTaken}
 

@@ -1,17 +1,17 @@
 -- A hard reset puts registers and devices in their reset state, and keeps what is stored.
-use Rattle.std.proofs.Common.{◌≡◌, ℕ, ◌+◌, ◌*◌, Bool, true, false, List, ◌∷◌, Option, Some, None}
-use Rattle.std.proofs.Common.{is_some, arith, take, drop, refl, ◌∙◌, ap, unwrap_or}
-use Rattle.board_prelude.proofs.Common.{cond-true, nat_tests, false≢true, Width}
-use Rattle.board_prelude.proofs.Common.{PortAccess, Target, Device, bytes_of, Triggers, triggers_at_reset, Levels}
-use Rattle.board_prelude.proofs.Common.{no_levels, levels_where, Chip, chip_at_reset, chip_after_inputs, latches_after}
-use Rattle.board_prelude.proofs.Common.{Pair, pair_at_reset, master_inputs, pair_after_lines, levels_where-same}
-use Rattle.board_prelude.proofs.Common.{has-levels_where, Event, Port, Wire, Line, Pulses, Reply, Entry, MapChange}
-use Rattle.board_prelude.proofs.Common.{Reset, Setup, reset_control_port, control_written, is_hard_value, resets_hard}
-use Rattle.board_prelude.proofs.Common.{control_after, is_hard_reset, reset_control, config_address, byte_with, byte_of}
-use Rattle.board_prelude.proofs.Common.{Cell, port_put, entry_put, Bytes, Decoded, device, port_target_of, wire_set}
-use Rattle.board_prelude.proofs.Common.{line_set, wire_of, irq_of, triggers_of, system_of, timer_of, clock_of}
-use Rattle.board_prelude.proofs.Common.{disk_with, levels_of, elcr_of, pair_stepped, pair_reset_or_after, pair_of}
-use Rattle.board_prelude.proofs.Common.{port_answer, IsAnswer}
+use Rattle.std.proofs.Common.{◌≡◌, ℕ, ◌+◌, ◌*◌, Bool, true, false, List, ◌∷◌, Option, Some, None, is_some, arith, take}
+use Rattle.std.proofs.Common.{drop, refl, ◌∙◌, ap, unwrap_or}
+use Rattle.board_prelude.proofs.Common.{cond-true, nat_tests, false≢true, Width, PortAccess, Target, Device, bytes_of}
+use Rattle.board_prelude.proofs.Common.{Triggers, triggers_at_reset, Levels, no_levels, levels_where, Chip}
+use Rattle.board_prelude.proofs.Common.{chip_at_reset, chip_after_inputs, latches_after, Pair, pair_at_reset}
+use Rattle.board_prelude.proofs.Common.{master_inputs, pair_after_lines, levels_where-same, has-levels_where, Event}
+use Rattle.board_prelude.proofs.Common.{Port, Wire, Line, Pulses, Reply, Entry, MapChange, Reset, Setup}
+use Rattle.board_prelude.proofs.Common.{reset_control_port, control_written, is_hard_value, resets_hard, control_after}
+use Rattle.board_prelude.proofs.Common.{is_hard_reset, reset_control, config_address, byte_with, byte_of, Cell}
+use Rattle.board_prelude.proofs.Common.{port_put, entry_put, Bytes, Decoded, device, port_target_of, wire_set, line_set}
+use Rattle.board_prelude.proofs.Common.{wire_of, irq_of, triggers_of, system_of, timer_of, clock_of, disk_with}
+use Rattle.board_prelude.proofs.Common.{levels_of, elcr_of, pair_stepped, pair_reset_or_after, pair_of, port_answer}
+use Rattle.board_prelude.proofs.Common.{IsAnswer}
 use Rattle.board_base.specs.declared.target.Dev.TheVariants.{Reset as ResetPort}
 use Rattle.board_laws.specs.ResetLaws.{HardResetResets, HardResetKeeps}
 use Rattle.board_laws.proofs.StoredLaws.{stored-left}

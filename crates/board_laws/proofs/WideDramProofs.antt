@@ -1,12 +1,11 @@
 -- A wide access to DRAM reads and writes the bytes from its address on.
 use Rattle.std.proofs.Common.{◌≡◌, ℕ, suc, ◌+◌, ◌-◌, ◌*◌, ◌/◌, ◌%◌, ◌^◌, ◌≤◌, ◌<◌, ◌⊎◌, inl, inr, true, List, [], ◌∷◌}
-use Rattle.std.proofs.Common.{Option, Some, None, refl, sym, ◌∙◌, ap, subst, arith, nat_lt, if◌then◌else◌}
-use Rattle.std.proofs.Common.{All, map, option_and_then}
-use Rattle.board_prelude.proofs.Common.{option_or, cases_lt, cond-true, cond-false}
-use Rattle.board_prelude.proofs.Common.{nat_tests, All-head, All-tail, Width, One, WideAccess, Target}
-use Rattle.board_prelude.proofs.Common.{Dram, Shadow, Smram, Card, bytes_of, Event, Wide}
-use Rattle.board_prelude.proofs.Common.{Part, Reply, Bus, Saw, Entry, Setup, byte, wide, part_at, parts_of, joined}
-use Rattle.board_prelude.proofs.Common.{Cell, DramCell, CardCell, first_cell, distance, memory_put, parts_put}
+use Rattle.std.proofs.Common.{Option, Some, None, refl, sym, ◌∙◌, ap, subst, arith, nat_lt, if◌then◌else◌, All, map}
+use Rattle.std.proofs.Common.{option_and_then}
+use Rattle.board_prelude.proofs.Common.{option_or, cases_lt, cond-true, cond-false, nat_tests, All-head, All-tail}
+use Rattle.board_prelude.proofs.Common.{Width, One, WideAccess, Target, Dram, Shadow, Smram, Card, bytes_of, Event}
+use Rattle.board_prelude.proofs.Common.{Wide, Part, Reply, Bus, Saw, Entry, Setup, byte, wide, part_at, parts_of}
+use Rattle.board_prelude.proofs.Common.{joined, Cell, DramCell, CardCell, first_cell, distance, memory_put, parts_put}
 use Rattle.board_prelude.proofs.Common.{entry_put, is_write, dram_byte, memory_target, part_answer, value_at}
 use Rattle.board_prelude.proofs.Common.{wide_value, IsAnswer, made, total, is_cut, further}
 use native.Mathlib.Numerals.{unary_clauses}

@@ -1,10 +1,10 @@
 -- A card's INTA# and the line to which it is routed.
 use Rattle.std.proofs.Common.{◌≡◌, ℕ, ◌≤◌, ◌<◌, inl, inr, Bool, true, false, ◌||◌, ◌&&◌, List, get_or, Option, Some}
 use Rattle.std.proofs.Common.{None, refl, sym, ◌∙◌, ap, subst, arith, ◌==◌}
-use Rattle.board_prelude.proofs.Common.{nat_tests, cases_Bool, and_from, and_parts, eq-eqb, eqb-true, false≢true, drives, or_right}
-use Rattle.board_prelude.proofs.Common.{line_of_route, is_line_driven, Entry, Setup, pirq, byte_of, wire_of, timer_of}
-use Rattle.board_prelude.proofs.Common.{pirq_of_card, own_level, level_with, levels_with, levels_of, pirq_level}
-use Rattle.board_prelude.proofs.Common.{pirq_levels, routes_of}
+use Rattle.board_prelude.proofs.Common.{nat_tests, cases_Bool, and_from, and_parts, eq-eqb, eqb-true, false≢true}
+use Rattle.board_prelude.proofs.Common.{drives, or_right, line_of_route, is_line_driven, Entry, Setup, pirq, byte_of}
+use Rattle.board_prelude.proofs.Common.{wire_of, timer_of, pirq_of_card, own_level, level_with, levels_with, levels_of}
+use Rattle.board_prelude.proofs.Common.{pirq_level, pirq_levels, routes_of}
 use Rattle.board_laws.specs.DeviceLaws.{SomeWire, WireReachesLine, LineHasDriver}
 use Rattle.board_laws.proofs.Numbers.{numbers_from, map-number, any-number, Passes, passing}
 
