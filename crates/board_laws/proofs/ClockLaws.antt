@@ -1,6 +1,6 @@
 -- The laws of the clock's machine.
-use Rattle.std.proofs.Common.{◌≡◌, ◌≢◌, ℕ, ◌+◌, ◌*◌, ◌/◌, ◌%◌, ◌<◌, ◌≤◌, inl, inr, Bool, true, false, ◌&&◌, ◌||◌, List}
-use Rattle.std.proofs.Common.{nat_le, ◌==◌, if◌then◌else◌, zero, suc, length, get_or, set, refl, sym, ap, ◌∙◌, arith}
+use Rattle.std.proofs.Common.{◌≡◌, ℕ, ◌+◌, ◌*◌, ◌/◌, ◌%◌, ◌<◌, ◌≤◌, inl, inr, Bool, true, false, ◌&&◌, ◌||◌, List}
+use Rattle.std.proofs.Common.{nat_le, ◌==◌, if◌then◌else◌, suc, length, get_or, set, refl, sym, ap, ◌∙◌, arith}
 use Rattle.std.proofs.Common.{get_or-set_other, get_or-set_same}
 use Rattle.board_prelude.proofs.Common.{cases_Bool, cases_eq, eq-eqb, ne_eqb, nat_tests, get_or-set_at, length-set}
 use Rattle.board_prelude.proofs.Common.{CivilTime, Clock, bcd, number_byte, hour_byte, control_of, holds_time}
@@ -13,56 +13,42 @@ use Rattle.board_laws.specs.ClockLaws.{number_read, hour_read, Shows, IsShowable
 use Rattle.board_laws.specs.ClockLaws.{same_time_of_day, RingsAtItsTime, ReadingQuiets, ResetKeepsTheTime, MemoryKeeps}
 use Rattle.board_laws.specs.ClockLaws.{IsSound, StaysSound}
 
--- two digits are read as they were written
-bcd_back : (n : ℕ) → n < 100 → bcd n / 16 * 10 + bcd n % 16 ≡ n
-bcd_back n h = omega arith
-
+-- numbers and hours are read as they were written
 number_back : (control n : ℕ) → n < 100 → number_read control (number_byte control n) ≡ n
-number_back control n h =
-    elim (cases_Bool (is_binary control)) [
-      | inl e ↦ rw e refl
-      | inr e ↦ rw e (bcd_back n h)
-    ]
+number_back control n h = grind (arith, nat_tests)
 
 hour_back : (control hour : ℕ) → hour < 24 → hour_read control (hour_byte control hour) ≡ hour
-hour_back control hour h =
-    elim (cases_Bool (is_24_hour control)) [
-      | inl e ↦ rw e (number_back control hour (omega arith))
-      | inr e ↦ elim (cases_Bool (is_binary control)) [
-        | inl b ↦ rw (e, b) (grind (arith, nat_tests))
-        | inr b ↦ rw (e, b) (grind (arith, nat_tests))
-      ]
-    ]
+hour_back control hour h = grind (arith, nat_tests)
 
--- the bytes, with seven others at the places of the time and the calendar
-abbrev timed : List ℕ → (second minute hour weekday day month year : ℕ) → List ℕ
-timed bytes second minute hour weekday day month year =
-    set (set (set (set (set (set (set bytes 0 second) 2 minute) 4 hour) 6 weekday) 7 day) 8 month) 9 year
+-- bytes with others at the seven places of the time and the calendar, and what stays
+record Timed (bytes after : List ℕ) (second minute hour weekday day month year : ℕ) : Type 0 where
+  seconds : get_or after 0 0 ≡ second
+  second_alarm : get_or after 1 0 ≡ get_or bytes 1 0
+  minutes : get_or after 2 0 ≡ minute
+  minute_alarm : get_or after 3 0 ≡ get_or bytes 3 0
+  hours : get_or after 4 0 ≡ hour
+  hour_alarm : get_or after 5 0 ≡ get_or bytes 5 0
+  weekdays : get_or after 6 0 ≡ weekday
+  days : get_or after 7 0 ≡ day
+  months : get_or after 8 0 ≡ month
+  years : get_or after 9 0 ≡ year
+  register_a : get_or after 10 0 ≡ get_or bytes 10 0
+  control : get_or after 11 0 ≡ get_or bytes 11 0
+  size : length after ≡ 128
 
-timed-second : (bytes : List ℕ) (s m h w d n y : ℕ) → length bytes ≡ 128 → get_or (timed bytes s m h w d n y) 0 0 ≡ s
-timed-second bytes s m h w d n y size = grind (arith, get_or-set_at, get_or-set_other, length-set)
+timed : (bytes : List ℕ) (s m h w d n y : ℕ) → length bytes ≡ 128 →
+    Timed bytes (set (set (set (set (set (set (set bytes 0 s) 2 m) 4 h) 6 w) 7 d) 8 n) 9 y) s m h w d n y
+timed bytes s m h w d n y size = grind (arith, get_or-set_at, get_or-set_other, length-set)
 
-timed-minute : (bytes : List ℕ) (s m h w d n y : ℕ) → length bytes ≡ 128 → get_or (timed bytes s m h w d n y) 2 0 ≡ m
-timed-minute bytes s m h w d n y size = grind (arith, get_or-set_at, get_or-set_other, length-set)
+abbrev Told : Clock → CivilTime → Type 0
+Told clock time =
+    let c = control_of clock in
+    Timed clock.bytes (put (time_bytes c time) clock.bytes) (number_byte c time.second) (number_byte c time.minute)
+    (hour_byte c time.hour) (number_byte c time.weekday) (number_byte c time.day) (number_byte c time.month)
+    (number_byte c (time.year % 100))
 
-timed-hour : (bytes : List ℕ) (s m h w d n y : ℕ) → length bytes ≡ 128 → get_or (timed bytes s m h w d n y) 4 0 ≡ h
-timed-hour bytes s m h w d n y size = grind (arith, get_or-set_at, get_or-set_other, length-set)
-
-timed-weekday : (bytes : List ℕ) (s m h w d n y : ℕ) → length bytes ≡ 128 → get_or (timed bytes s m h w d n y) 6 0 ≡ w
-timed-weekday bytes s m h w d n y size = grind (arith, get_or-set_at, get_or-set_other, length-set)
-
-timed-day : (bytes : List ℕ) (s m h w d n y : ℕ) → length bytes ≡ 128 → get_or (timed bytes s m h w d n y) 7 0 ≡ d
-timed-day bytes s m h w d n y size = grind (arith, get_or-set_at, get_or-set_other, length-set)
-
-timed-month : (bytes : List ℕ) (s m h w d n y : ℕ) → length bytes ≡ 128 → get_or (timed bytes s m h w d n y) 8 0 ≡ n
-timed-month bytes s m h w d n y size = grind (arith, get_or-set_at, get_or-set_other, length-set)
-
-timed-year : (bytes : List ℕ) (s m h w d n y : ℕ) → length bytes ≡ 128 → get_or (timed bytes s m h w d n y) 9 0 ≡ y
-timed-year bytes s m h w d n y size = grind (arith, get_or-set_at, get_or-set_other, length-set)
-
-timed-other : (bytes : List ℕ) (s m h w d n y k : ℕ) → length bytes ≡ 128 → k ≢ 0 → k ≢ 2 → k ≢ 4 → k ≢ 6 → k ≢ 7 →
-    k ≢ 8 → k ≢ 9 → get_or (timed bytes s m h w d n y) k 0 ≡ get_or bytes k 0
-timed-other bytes s m h w d n y k size a b c e f g i = grind (arith, get_or-set_at, get_or-set_other, length-set)
+told : (clock : Clock) (time : CivilTime) → length clock.bytes ≡ 128 → Told clock time
+told clock time size = timed clock.bytes _ _ _ _ _ _ _ size
 
 pub reading_quiets : ReadingQuiets
 reading_quiets clock is_c = rw is_c (record { flags = refl; line = refl })
@@ -78,43 +64,24 @@ shows : (clock : Clock) (time : CivilTime) → length clock.bytes ≡ 128 → Is
     Shows (tell clock (put (time_bytes (control_of clock) time) clock.bytes)) time
 shows clock time size showable =
     let c = control_of clock in
-    let b = clock.bytes in
-    let s = number_byte c time.second in
-    let m = number_byte c time.minute in
-    let h = hour_byte c time.hour in
-    let w = number_byte c time.weekday in
-    let d = number_byte c time.day in
-    let n = number_byte c time.month in
-    let y = number_byte c (time.year % 100) in
-    let same = timed-other b s m h w d n y 11 size (omega arith) (omega arith) (omega arith) (omega arith) (omega arith)
-    (omega arith) (omega arith) in
+    let is = told clock time size in
     record {
-      seconds = read_as _ _ c time.second same (timed-second b s m h w d n y size) (omega (arith, showable.seconds));
-      minutes = read_as _ _ c time.minute same (timed-minute b s m h w d n y size) (omega (arith, showable.minutes));
-      hours = hour_read_as _ _ c time.hour same (timed-hour b s m h w d n y size) showable.hours;
-      weekdays = read_as _ _ c time.weekday same (timed-weekday b s m h w d n y size) showable.weekdays;
-      days = read_as _ _ c time.day same (timed-day b s m h w d n y size) showable.days;
-      months = read_as _ _ c time.month same (timed-month b s m h w d n y size) showable.months;
-      years = read_as _ _ c (time.year % 100) same (timed-year b s m h w d n y size) (omega arith);
+      seconds = read_as _ _ c time.second is.control is.seconds (omega (arith, showable.seconds));
+      minutes = read_as _ _ c time.minute is.control is.minutes (omega (arith, showable.minutes));
+      hours = hour_read_as _ _ c time.hour is.control is.hours showable.hours;
+      weekdays = read_as _ _ c time.weekday is.control is.weekdays showable.weekdays;
+      days = read_as _ _ c time.day is.control is.days showable.days;
+      months = read_as _ _ c time.month is.control is.months showable.months;
+      years = read_as _ _ c (time.year % 100) is.control is.years (omega arith);
     }
 
 pub shows_the_moment : ShowsTheMoment
 shows_the_moment clock time size let_in showable = rw let_in (shows clock time size showable)
 
--- what is read back as it was written is equal where the bytes are
-same_bytes : (f g : ℕ → ℕ) (a n : ℕ) → g (f a) ≡ a → g (f n) ≡ n → (f a == f n) ≡ (a == n)
-same_bytes f g a n back_a back_n =
-    elim (cases_eq a n) [
-      | inl e ↦ rw e (eq-eqb (f n) (f n) refl ∙ sym (eq-eqb n n refl))
-      | inr e ↦ ne_eqb (f a) (f n) (λ same. e (sym back_a ∙ ap g same ∙ back_n)) ∙ sym (ne_eqb a n e)
-    ]
-
--- an alarm byte below C0h fits the bytes of its own time
+-- an alarm byte below C0h fits the bytes of its own time, where what is read back is as it was written
 fits_its_own : (f g : ℕ → ℕ) (a n alarm time : ℕ) → alarm ≡ f a → time ≡ f n → f a < 192 → g (f a) ≡ a → g (f n) ≡ n →
     alarm_fits alarm time ≡ (a == n)
-fits_its_own f g a n alarm time is_alarm is_time low back_a back_n =
-    let never : nat_le 192 (f a) ≡ false = grind (arith, nat_tests) in
-    rw (is_alarm, is_time, never) (same_bytes f g a n back_a back_n)
+fits_its_own f g a n alarm time is_alarm is_time low back_a back_n = grind (arith, nat_tests)
 
 number_byte_low : (control n : ℕ) → n < 100 → number_byte control n < 192
 number_byte_low control n h = grind (arith, nat_tests)
@@ -130,30 +97,17 @@ rings : (clock : Clock) (time alarm : CivilTime) → length clock.bytes ≡ 128 
     ≡ same_time_of_day alarm time
 rings clock time alarm size now due set_to =
     let c = control_of clock in
-    let b = clock.bytes in
-    let s = number_byte c time.second in
-    let m = number_byte c time.minute in
-    let h = hour_byte c time.hour in
-    let w = number_byte c time.weekday in
-    let d = number_byte c time.day in
-    let n = number_byte c time.month in
-    let y = number_byte c (time.year % 100) in
-    let second_alarm = timed-other b s m h w d n y 1 size (omega arith) (omega arith) (omega arith) (omega arith)
-    (omega arith) (omega arith) (omega arith) ∙ set_to.seconds in
-    let minute_alarm = timed-other b s m h w d n y 3 size (omega arith) (omega arith) (omega arith) (omega arith)
-    (omega arith) (omega arith) (omega arith) ∙ set_to.minutes in
-    let hour_alarm = timed-other b s m h w d n y 5 size (omega arith) (omega arith) (omega arith) (omega arith)
-    (omega arith) (omega arith) (omega arith) ∙ set_to.hours in
+    let is = told clock time size in
     all_three _ _ _ _ _ _
-    (fits_its_own (number_byte c) (number_read c) alarm.second time.second _ _ second_alarm
-    (timed-second b s m h w d n y size) (number_byte_low c alarm.second (omega (arith, due.seconds)))
+    (fits_its_own (number_byte c) (number_read c) alarm.second time.second _ _ (is.second_alarm ∙ set_to.seconds)
+    is.seconds (number_byte_low c alarm.second (omega (arith, due.seconds)))
     (number_back c alarm.second (omega (arith, due.seconds)))
     (number_back c time.second (omega (arith, now.seconds))))
-    (fits_its_own (number_byte c) (number_read c) alarm.minute time.minute _ _ minute_alarm
-    (timed-minute b s m h w d n y size) (number_byte_low c alarm.minute (omega (arith, due.minutes)))
+    (fits_its_own (number_byte c) (number_read c) alarm.minute time.minute _ _ (is.minute_alarm ∙ set_to.minutes)
+    is.minutes (number_byte_low c alarm.minute (omega (arith, due.minutes)))
     (number_back c alarm.minute (omega (arith, due.minutes)))
     (number_back c time.minute (omega (arith, now.minutes))))
-    (fits_its_own (hour_byte c) (hour_read c) alarm.hour time.hour _ _ hour_alarm (timed-hour b s m h w d n y size)
+    (fits_its_own (hour_byte c) (hour_read c) alarm.hour time.hour _ _ (is.hour_alarm ∙ set_to.hours) is.hours
     (hour_byte_low c alarm.hour due.hours) (hour_back c alarm.hour due.hours) (hour_back c time.hour now.hours))
 
 pub rings_at_its_time : RingsAtItsTime
@@ -161,15 +115,8 @@ rings_at_its_time clock time alarm size let_in now due set_to =
     rw let_in (ap (λ ringing. clock.alarm_flag || ringing) (rings clock time alarm size now due set_to))
 
 reset_bit : (b k : ℕ) → k < 8 → is_bit (control_reset b) k ≡ (if nat_le 3 k && nat_le k 6 then false else is_bit b k)
-reset_bit b zero h = grind (arith, nat_tests)
-reset_bit b (suc zero) h = grind (arith, nat_tests)
-reset_bit b (suc (suc zero)) h = grind (arith, nat_tests)
-reset_bit b (suc (suc (suc zero))) h = grind (arith, nat_tests)
-reset_bit b (suc (suc (suc (suc zero)))) h = grind (arith, nat_tests)
-reset_bit b (suc (suc (suc (suc (suc zero))))) h = grind (arith, nat_tests)
-reset_bit b (suc (suc (suc (suc (suc (suc zero)))))) h = grind (arith, nat_tests)
-reset_bit b (suc (suc (suc (suc (suc (suc (suc zero))))))) h = grind (arith, nat_tests)
 reset_bit b (suc (suc (suc (suc (suc (suc (suc (suc k)))))))) h = absurd (omega arith)
+reset_bit b _ h = grind (arith, nat_tests)
 
 pub reset_keeps_the_time : ResetKeepsTheTime
 reset_keeps_the_time clock size =
@@ -210,31 +157,21 @@ written_stopped byte set_now = grind (arith, nat_tests)
 size_kept : (bytes : List ℕ) (k byte : ℕ) → length bytes ≡ 128 → length (set bytes k byte) ≡ 128
 size_kept bytes k byte size = simp length-set size
 
-timed-size : (bytes : List ℕ) (s m h w d n y : ℕ) → length bytes ≡ 128 → length (timed bytes s m h w d n y) ≡ 128
-timed-size bytes s m h w d n y size = simp length-set size
-
 sound_power_on : IsSound power_on
 unfolding power_on
 sound_power_on = record { size = refl; within = omega arith; no_update = omega arith; stopped = λ never. refl }
 
--- a byte of register A or B as written, and any other byte
-written_no_update : (bytes : List ℕ) (k byte : ℕ) → length bytes ≡ 128 → get_or bytes 10 0 < 128 →
-    get_or (set bytes k (written k (get_or bytes k 0) byte)) 10 0 < 128
-written_no_update bytes k byte size was =
-    elim (cases_eq 10 k) [
-      | inl e ↦ rw (← e, get_or-set_same bytes 10 (byte % 128) 0 (omega arith)) (omega arith)
-      | inr e ↦ rw (get_or-set_other bytes k 10 (written k (get_or bytes k 0) byte) 0 e) was
-    ]
-
 abbrev stops : ℕ → Type 0
 stops control = holds_time control ≡ true → update_interrupts control ≡ false
 
-written_stops : (bytes : List ℕ) (k byte : ℕ) → length bytes ≡ 128 → stops (get_or bytes 11 0) →
-    stops (get_or (set bytes k (written k (get_or bytes k 0) byte)) 11 0)
-written_stops bytes k byte size was =
-    elim (cases_eq 11 k) [
-      | inl e ↦ rw (← e, get_or-set_same bytes 11 (control_written byte) 0 (omega arith)) (written_stopped byte)
-      | inr e ↦ rw (get_or-set_other bytes k 11 (written k (get_or bytes k 0) byte) 0 e) was
+-- what holds of a byte of a register as written, and held of it before, holds after a write of any byte
+holds_after : (P : ℕ → Type 0) (register : ℕ) (bytes : List ℕ) (k byte : ℕ) → register < length bytes →
+    P (written register (get_or bytes register 0) byte) → P (get_or bytes register 0) →
+    P (get_or (set bytes k (written k (get_or bytes k 0) byte)) register 0)
+holds_after P register bytes k byte inside now was =
+    elim (cases_eq register k) [
+      | inl e ↦ rw (← e, get_or-set_same bytes register (written register (get_or bytes register 0) byte) 0 inside) now
+      | inr e ↦ rw (get_or-set_other bytes k register (written k (get_or bytes k 0) byte) 0 e) was
     ]
 
 sound_read : (clock : Clock) (port : ℕ) → IsSound clock → IsSound (after_read clock port)
@@ -257,8 +194,10 @@ sound_write clock port byte was =
         | inl f ↦ rw (e, f) (record {
           size = size_kept clock.bytes clock.index _ was.size;
           within = was.within;
-          no_update = written_no_update clock.bytes clock.index byte was.size was.no_update;
-          stopped = written_stops clock.bytes clock.index byte was.size was.stopped;
+          no_update = holds_after (λ a. a < 128) 10 clock.bytes clock.index byte (omega (arith, was.size)) (omega arith)
+              was.no_update;
+          stopped = holds_after stops 11 clock.bytes clock.index byte (omega (arith, was.size)) (written_stopped byte)
+              was.stopped;
         })
         | inr f ↦ rw (e, f) was
       ]
@@ -266,26 +205,14 @@ sound_write clock port byte was =
 
 sound_moment : (clock : Clock) (time : CivilTime) → IsSound clock → IsSound (after_moment clock time)
 sound_moment clock time was =
-    let c = control_of clock in
-    let b = clock.bytes in
-    let s = number_byte c time.second in
-    let m = number_byte c time.minute in
-    let h = hour_byte c time.hour in
-    let w = number_byte c time.weekday in
-    let d = number_byte c time.day in
-    let n = number_byte c time.month in
-    let y = number_byte c (time.year % 100) in
-    let a_same = timed-other b s m h w d n y 10 was.size (omega arith) (omega arith) (omega arith) (omega arith)
-    (omega arith) (omega arith) (omega arith) in
-    let b_same = timed-other b s m h w d n y 11 was.size (omega arith) (omega arith) (omega arith) (omega arith)
-    (omega arith) (omega arith) (omega arith) in
-    elim (cases_Bool (holds_time c)) [
+    let is = told clock time was.size in
+    elim (cases_Bool (holds_time (control_of clock))) [
       | inl e ↦ rw e was
       | inr e ↦ rw e (record {
-        size = timed-size b s m h w d n y was.size;
+        size = is.size;
         within = was.within;
-        no_update = rw a_same was.no_update;
-        stopped = rw b_same was.stopped;
+        no_update = rw (is.register_a) was.no_update;
+        stopped = rw (is.control) was.stopped;
       })
     ]
 

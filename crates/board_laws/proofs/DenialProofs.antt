@@ -1,19 +1,16 @@
 -- A denial is given exactly where nobody answers, and where the ROM is written.
-use Rattle.std.proofs.Common.{◌≡◌, ℕ, zero, suc, ◌+◌, ◌-◌, Bool, true, false, not, List, [], ◌∷◌, Option, Some, None}
+use Rattle.std.proofs.Common.{◌≡◌, ℕ, zero, suc, ◌+◌, ◌-◌, Bool, true, false, List, [], ◌∷◌, Option, Some, None}
 use Rattle.std.proofs.Common.{is_some, refl, sym, subst, inl, inr, ◌==◌, if◌then◌else◌, map, option_map, unwrap_or, All}
 use Rattle.board_prelude.proofs.Common.{cases_Bool, cond-false, false≢true, All-nil, All-cons, Width, Kind, Fetch, Read}
-use Rattle.board_prelude.proofs.Common.{Write, WideAccess, Reg, Area, Dev, Target, Device, Denial, Register, NoRegister}
-use Rattle.board_prelude.proofs.Common.{bytes_of, Select, Always, XbcsBit0, XbcsBit1, IdeChannel, device_at, select_of}
-use Rattle.board_prelude.proofs.Common.{Memory, Wide, Port, Ack, Part, Reply, Bus}
-use Rattle.board_prelude.proofs.Common.{Entry, Setup, is_bit, xbcs, ide_command, idetim, idetim_high, is_config_port}
-use Rattle.board_prelude.proofs.Common.{config_address, config_register, byte_of, Bytes, Window, denial_in, denial_of}
-use Rattle.board_prelude.proofs.Common.{io_claim, io_shut, command_of, Decoded, device, nobody, card_port, config_port}
-use Rattle.board_prelude.proofs.Common.{by_xbcs, by_channel, selected_by, device_port, port_target_of, is_write}
-use Rattle.board_prelude.proofs.Common.{longest_at, part_at, parts_from, target_at, memory_target, memory_denial}
-use Rattle.board_prelude.proofs.Common.{memory_answer, part_answer, port_answer}
+use Rattle.board_prelude.proofs.Common.{Write, WideAccess, Reg, Area, Dev, Target, Device, Denial, NoRegister, bytes_of}
+use Rattle.board_prelude.proofs.Common.{Select, Always, IdeChannel, device_at, select_of, Memory, Wide, Port, Ack, Part}
+use Rattle.board_prelude.proofs.Common.{Reply, Bus, Entry, Setup, is_config_port, config_address, config_register}
+use Rattle.board_prelude.proofs.Common.{byte_of, Bytes, Window, denial_in, denial_of, io_claim, io_shut, command_of}
+use Rattle.board_prelude.proofs.Common.{Decoded, device, nobody, card_port, config_port, selected_by, device_port}
+use Rattle.board_prelude.proofs.Common.{port_target_of, is_write, longest_at, part_at, parts_from, target_at}
+use Rattle.board_prelude.proofs.Common.{memory_target, memory_denial, memory_answer, part_answer, port_answer}
 use Rattle.board_base.specs.declared.access.Access.{Access}
-use Rattle.board_base.specs.declared.target.Area.TheVariants.{Rom as RomArea}
-use Rattle.board_base.specs.declared.target.Area.TheVariants.{Abort as AbortArea}
+use Rattle.board_base.specs.declared.target.Area.TheVariants.{Rom as RomArea, Abort as AbortArea}
 use Rattle.board_spec.specs.declared.event.Event.TheVariants.{Look as LookAt}
 use Rattle.board_laws.specs.DenialLaws.{ReachesNothing, IsDeniedExactly, DeniedOnBus, DeniedInParts}
 
@@ -67,29 +64,12 @@ right_config : (address : ℕ) (reg : Option Reg) → IsRight (config_port addre
 right_config address None = refused false _ _ tt
 right_config address (Some reg) = answered false _ (λ r. r)
 
-right_xbcs :
-    (bit : ℕ) (dev : Dev) (setup : Setup) (bytes : Bytes) (port : ℕ) → IsRight (by_xbcs bit dev setup bytes port)
-right_xbcs bit dev setup bytes port =
-    right_choice (is_bit (bytes xbcs) bit) _ _ (right_device dev)
-    (right_unclaimed port (io_claim setup bytes port) _)
-
-right_channel :
-    (disk : Bool) (dev : Dev) (setup : Setup) (bytes : Bytes) (port : ℕ) →
-    IsRight (by_channel disk dev setup bytes port)
-right_channel false dev setup bytes port = right_unclaimed port (io_claim setup bytes port) _
-right_channel true dev setup bytes port =
-    right_choice (not (is_bit (bytes ide_command) 0)) _ _
-    (right_unclaimed port (io_claim setup bytes port) (Register ide_command))
-    (right_choice (not (is_bit (bytes idetim_high) 7)) _ _
-    (right_unclaimed port (io_claim setup bytes port) (Register idetim)) (right_device dev))
-
 right_selected :
     (select : Select) (disk : Bool) (dev : Dev) (setup : Setup) (bytes : Bytes) (port : ℕ) →
     IsRight (selected_by select disk dev setup bytes port)
 right_selected Always disk dev setup bytes port = right_device dev
-right_selected XbcsBit0 disk dev setup bytes port = right_xbcs 0 dev setup bytes port
-right_selected XbcsBit1 disk dev setup bytes port = right_xbcs 1 dev setup bytes port
-right_selected IdeChannel disk dev setup bytes port = right_channel disk dev setup bytes port
+right_selected IdeChannel false dev setup bytes port = right_unclaimed port (io_claim setup bytes port) _
+right_selected _ disk dev setup bytes port = search (right_choice, right_device, right_unclaimed)
 
 right_port :
     (found : Option Dev) (disk : Bool) (setup : Setup) (bytes : Bytes) (port : ℕ) →

@@ -1,14 +1,14 @@
 -- The laws of specs/Laws.antt.
-use Rattle.std.proofs.Common.{lit<, ◌≡◌, ℕ, ◌+◌, ◌/◌, ◌%◌, ◌<◌, Bool, true, false, not, cond, eqb, ◌||◌, ◌&&◌, Option}
-use Rattle.std.proofs.Common.{Some, None, List, [], ◌∷◌, get_or, refl, sym, ap, ◌∙◌, inl, inr, arith, is_some}
-use Rattle.board_prelude.proofs.Common.{cases_Bool, cases_lt, agree_below_at, eqb-true, eq-eqb, ne_eqb, and_parts}
-use Rattle.board_prelude.proofs.Common.{and_from, and_left, not-true, both_ways, false≢true, Levels, has, levels_where}
-use Rattle.board_prelude.proofs.Common.{with_level, without_level, Chip, pending, priority_order, is_blocking}
-use Rattle.board_prelude.proofs.Common.{blocks_itself, is_requested, request, interrupt, acknowledged, acknowledged_if}
-use Rattle.board_prelude.proofs.Common.{chip_after_write, get_or_past, Pair, Answer, answer_of, pair_after_acknowledge}
-use Rattle.board_prelude.proofs.Common.{settled, chip_answer, pair_written, pair_read, pair_acknowledged, answer_at}
-use Rattle.board_prelude.proofs.Common.{pair_acknowledged_at, has-levels_where, scan, request-is}
-use Rattle.std.proofs.lemmas.Bool.{agree_below, and_cases, not_from_false}
+use Rattle.std.proofs.Common.{lit<, ◌≡◌, ℕ, ◌+◌, ◌/◌, ◌%◌, ◌<◌, Bool, true, false, not, eqb, ◌||◌, ◌&&◌, Option, Some}
+use Rattle.std.proofs.Common.{None, List, [], ◌∷◌, get_or, refl, sym, ap, ◌∙◌, inl, inr, arith, is_some}
+use Rattle.board_prelude.proofs.Common.{cases_Bool, cases_lt, agree_below_at, eqb-true, eq-eqb, and_parts, nat_tests}
+use Rattle.board_prelude.proofs.Common.{not-true, both_ways, false≢true, Levels, has, levels_where, with_level}
+use Rattle.board_prelude.proofs.Common.{without_level, Chip, pending, priority_order, is_blocking, blocks_itself}
+use Rattle.board_prelude.proofs.Common.{is_requested, request, interrupt, acknowledged, acknowledged_if}
+use Rattle.board_prelude.proofs.Common.{chip_after_write, get_or_past, Pair, answer_of, pair_after_acknowledge, settled}
+use Rattle.board_prelude.proofs.Common.{pair_written, pair_read, pair_acknowledged, answer_at, pair_acknowledged_at}
+use Rattle.board_prelude.proofs.Common.{has-levels_where, scan, request-is}
+use Rattle.std.proofs.lemmas.Bool.{agree_below}
 use Rattle.board_base.specs.Bits.{is_bit}
 use Rattle.board_laws.specs.PicLaws.{IsFirstInOrder, EndsOne, IsSpuriousAt, SlaveIsLatched, StaysLatched}
 
@@ -29,17 +29,17 @@ priorities lowest place hl hp =
 
 -- ---- the level that INT stands for
 
--- a level that does not ask, and does not block, is not requested
-quiet-level : (chip : Chip) (level : ℕ) → (is_requested chip level && not (blocks_itself chip level)) ≡ false →
-    is_blocking chip level ≡ false → is_requested chip level ≡ false
-quiet-level chip level silent idle =
-    let free : blocks_itself chip level ≡ false = and_left (is_blocking chip level)
-    (not (chip.fully_nested && (chip.has_slave && eqb level 2))) idle in
-    elim (and_cases (is_requested chip level) (not (blocks_itself chip level)) silent) [
-      | inl quiet ↦ quiet
-      | inr blocked ↦
-          absurd (both_ways (not (blocks_itself chip level)) blocked (not_from_false (blocks_itself chip level) free))
-    ]
+-- a quiet level before others changes nothing
+after-quiet : (chip : Chip) (x : ℕ) (xs : List ℕ) (level : ℕ) → is_requested chip x ≡ false →
+    is_blocking chip x ≡ false → IsFirstInOrder chip xs level → IsFirstInOrder chip (x ∷ xs) level
+after-quiet chip x xs level quiet idle rest = record {
+  higher = x ∷ rest.higher;
+  lower = rest.lower;
+  place = ap (λ ys. x ∷ ys) rest.place;
+  asks = rest.asks;
+  free = rest.free;
+  first = rw (quiet, idle) rest.first;
+}
 
 -- what a search finds is first in the order
 found-first : (chip : Chip) (order : List ℕ) (level : ℕ) → scan chip order ≡ Some level →
@@ -49,42 +49,23 @@ found-first chip [] level e = cc
 found-first chip (x ∷ xs) level e =
     elim (cases_Bool (is_requested chip x && not (blocks_itself chip x))) [
       | inl found ↦
-          let both = and_parts (is_requested chip x) (not (blocks_itself chip x)) found in
-          let here : x ≡ level = let e' = rw found at e in cc in
+          let here : x ≡ level = (let e' = rw found at e in cc) in
           record {
             higher = [];
             lower = xs;
-            place = ap (λ y. y ∷ xs) here;
-            asks = rw (← here) both.0;
-            free = rw (← here) (not-true (blocks_itself chip x) both.1);
+            place = ap (λ y. y ∷ xs) {y = level} here;
+            asks = rw (← here) (grind (arith, nat_tests));
+            free = rw (← here) (grind (arith, nat_tests));
             first = refl;
           }
       | inr not_here ↦
-          let e' = rw not_here at e in
-          elim (cases_Bool (is_blocking chip x)) [
-            | inl blocking ↦ let e'' = rw blocking at e' in cc
-            | inr open_level ↦
-                let e'' : scan chip xs ≡ Some level = rw open_level at e' in
-                let rest = found-first chip xs level e'' in
-                let quiet : is_requested chip x ≡ false = quiet-level chip x not_here open_level in
-                record {
-                  higher = x ∷ rest.higher;
-                  lower = rest.lower;
-                  place = ap (λ ys. x ∷ ys) rest.place;
-                  asks = rest.asks;
-                  free = rest.free;
-                  first = and_from _ _ (and_from _ _ (not_from_false _ quiet) (not_from_false _ open_level)) rest.first;
-                }
-          ]
+          let open_level : is_blocking chip x ≡ false = grind (arith, nat_tests) in
+          after-quiet chip x xs level (grind (arith, nat_tests)) open_level
+          (found-first chip xs level (rw (not_here, open_level) at e))
     ]
 
-pub interrupt-request : (chip : Chip) (level : ℕ) → interrupt chip ≡ Some level → request chip ≡ Some level
-interrupt-request chip level e =
-    elim (cases_Bool chip.is_ready) [
-      | inl ready ↦ sym (ap (λ b. cond b (request chip) None) ready) ∙ e
-      | inr not_ready ↦ let none : ◌≡◌ {A = Option ℕ} None (Some level) =
-          sym (ap (λ b. cond b (request chip) None) not_ready) ∙ e in cc
-    ]
+interrupt-request : (chip : Chip) (level : ℕ) → interrupt chip ≡ Some level → request chip ≡ Some level
+interrupt-request chip level e = grind (arith, nat_tests)
 
 pub interrupt-first : (chip : Chip) (level : ℕ) → interrupt chip ≡ Some level →
     IsFirstInOrder chip (priority_order chip.lowest) level
@@ -123,93 +104,50 @@ in_service-acknowledged chip level small manual = rw manual (with_level-has chip
 
 -- the slave's INT changes nothing of what is in service
 settled-in_service : (pair : Pair) → (settled pair).master.in_service ≡ pair.master.in_service
-settled-in_service pair =
-    elim (cases_Bool (is_some (interrupt pair.slave))) [ inl asks ↦ rw asks refl | inr quiet ↦ rw quiet refl ]
+settled-in_service pair = grind (arith, nat_tests)
 
 pub settled-slave : (pair : Pair) → (settled pair).slave ≡ pair.slave
-settled-slave pair =
-    elim (cases_Bool (is_some (interrupt pair.slave))) [ inl asks ↦ rw asks refl | inr quiet ↦ rw quiet refl ]
-
--- the pair after an acknowledge, where the master has a level
-after-level : (pair : Pair) (level : ℕ) → interrupt pair.master ≡ Some level →
-    pair_after_acknowledge pair ≡ settled (pair_acknowledged pair level)
-unfolding pair_after_acknowledge
-after-level pair level e = ap (pair_acknowledged_at pair) e
-
-pub acknowledged-in_service : (pair : Pair) (level : ℕ) → interrupt pair.master ≡ Some level →
-    pair.master.auto_eoi ≡ false → has (pair_after_acknowledge pair).master.in_service level ≡ true
-acknowledged-in_service pair level e manual =
-    ap (λ (p : Pair). has p.master.in_service level) (after-level pair level e)
-    ∙ ap (λ set. has set level) (settled-in_service (pair_acknowledged pair level))
-    ∙ in_service-acknowledged pair.master level (interrupt-small pair.master level e) manual
-
-pub slave-in_service : (pair : Pair) (level : ℕ) → interrupt pair.master ≡ Some 2 → interrupt pair.slave ≡ Some level →
-    pair.slave.auto_eoi ≡ false → has (pair_after_acknowledge pair).slave.in_service level ≡ true
-slave-in_service pair level e s manual =
-    ap (λ (p : Pair). has p.slave.in_service level) (after-level pair 2 e)
-    ∙ ap (λ (c : Chip). has c.in_service level) (settled-slave (pair_acknowledged pair 2))
-    ∙ ap (λ o. has (acknowledged_if pair.slave o).in_service level) s
-    ∙ in_service-acknowledged pair.slave level (interrupt-small pair.slave level s) manual
-
--- ---- spurious answers
-
-answer-level : (pair : Pair) (o : Option ℕ) → interrupt pair.master ≡ o → answer_of pair ≡ answer_at pair o
-unfolding answer_of
-answer-level pair o e = ap (answer_at pair) e
+settled-slave pair = grind (arith, nat_tests)
 
 after-at : (pair : Pair) (o : Option ℕ) → interrupt pair.master ≡ o →
     pair_after_acknowledge pair ≡ pair_acknowledged_at pair o
 unfolding pair_after_acknowledge
 after-at pair o e = ap (pair_acknowledged_at pair) e
 
--- of a master with no level
-spurious-none : (pair : Pair) → interrupt pair.master ≡ None → IsSpuriousAt pair
-spurious-none pair e =
-    let answer = answer-level pair None e in
-    record {
-      master = λ _. (after-at pair None e, ap (λ (a : Answer). a.vector) answer);
-      slave = λ one. let other : 0 ≡ 1 = sym (ap (λ (a : Answer). a.chip) answer) ∙ one in absurd (omega arith);
-    }
+pub acknowledged-in_service : (pair : Pair) (level : ℕ) → interrupt pair.master ≡ Some level →
+    pair.master.auto_eoi ≡ false → has (pair_after_acknowledge pair).master.in_service level ≡ true
+acknowledged-in_service pair level e manual =
+    ap (λ (p : Pair). has p.master.in_service level) (after-at pair (Some level) e)
+    ∙ ap (λ set. has set level) (settled-in_service (pair_acknowledged pair level))
+    ∙ in_service-acknowledged pair.master level (interrupt-small pair.master level e) manual
 
--- of a master with a level that is not the slave's: the answer is not spurious
-spurious-other : (pair : Pair) (level : ℕ) → interrupt pair.master ≡ Some level → eqb level 2 ≡ false →
+pub slave-in_service : (pair : Pair) (level : ℕ) → interrupt pair.master ≡ Some 2 → interrupt pair.slave ≡ Some level →
+    pair.slave.auto_eoi ≡ false → has (pair_after_acknowledge pair).slave.in_service level ≡ true
+slave-in_service pair level e s manual =
+    ap (λ (p : Pair). has p.slave.in_service level) (after-at pair (Some 2) e)
+    ∙ ap (λ (c : Chip). has c.in_service level) (settled-slave (pair_acknowledged pair 2))
+    ∙ ap (λ o. has (acknowledged_if pair.slave o).in_service level) s
+    ∙ in_service-acknowledged pair.slave level (interrupt-small pair.slave level s) manual
+
+-- ---- spurious answers
+
+answer-at : (pair : Pair) (o : Option ℕ) → interrupt pair.master ≡ o → answer_of pair ≡ answer_at pair o
+unfolding answer_of
+answer-at pair o e = ap (answer_at pair) e
+
+spurious-by : (pair : Pair) (master slave : Option ℕ) → interrupt pair.master ≡ master → interrupt pair.slave ≡ slave →
     (answer_of pair).is_spurious ≡ true → IsSpuriousAt pair
-spurious-other pair level e other spurious =
-    let answer = answer-level pair (Some level) e
-    ∙ ap (λ b. cond b (chip_answer 1 pair.slave (interrupt pair.slave)) (chip_answer 0 pair.master (Some level)))
-    other in
-    absurd (false≢true (sym (ap (λ (a : Answer). a.is_spurious) answer) ∙ spurious))
-
--- of a master with the slave's level: the slave has none
-spurious-slave : (pair : Pair) (o : Option ℕ) → interrupt pair.master ≡ Some 2 → interrupt pair.slave ≡ o →
-    (answer_of pair).is_spurious ≡ true → IsSpuriousAt pair
-spurious-slave pair None e s spurious =
-    let answer = answer-level pair (Some 2) e ∙ ap (chip_answer 1 pair.slave) s in
-    record {
-      master = λ zero_chip. let other : 1 ≡ 0 = sym (ap (λ (a : Answer). a.chip) answer) ∙ zero_chip in
-          absurd (omega arith);
-      slave = λ _. (
-        ap (λ (p : Pair). p.slave) (after-level pair 2 e) ∙ settled-slave (pair_acknowledged pair 2)
-            ∙ ap (acknowledged_if pair.slave) s,
-        ap (λ (a : Answer). a.vector) answer,
-      );
-    }
-spurious-slave pair (Some level) e s spurious =
-    let answer = answer-level pair (Some 2) e ∙ ap (chip_answer 1 pair.slave) s in
-    absurd (false≢true (sym (ap (λ (a : Answer). a.is_spurious) answer) ∙ spurious))
-
-spurious-at : (pair : Pair) (o : Option ℕ) → interrupt pair.master ≡ o → (answer_of pair).is_spurious ≡ true →
-    IsSpuriousAt pair
-spurious-at pair None e spurious = spurious-none pair e
-spurious-at pair (Some level) e spurious =
-    elim (cases_Bool (eqb level 2)) [
-      | inl cascade ↦ spurious-slave pair (interrupt pair.slave)
-          (e ∙ ap (λ l. Some l) (eqb-true level 2 cascade)) refl spurious
-      | inr other ↦ spurious-other pair level e other spurious
-    ]
+spurious-by pair None slave e s spurious =
+    let answer = answer-at pair None e in
+    let after = after-at pair None e in
+    grind (arith, nat_tests)
+spurious-by pair (Some level) slave e s spurious =
+    let answer = answer-at pair (Some level) e in
+    let after = after-at pair (Some level) e in
+    grind (arith, nat_tests, settled-slave)
 
 pub spurious-leaves : (pair : Pair) → (answer_of pair).is_spurious ≡ true → IsSpuriousAt pair
-spurious-leaves pair spurious = spurious-at pair (interrupt pair.master) refl spurious
+spurious-leaves pair spurious = spurious-by pair _ _ refl refl spurious
 
 -- ---- a specific end of interrupt
 
@@ -221,13 +159,7 @@ specific-end chip byte b4 b3 command = rw (b4, b3, command) refl
 -- a set without a level, in the place of the set in service
 pub without-one : (chip : Chip) (level : ℕ) → level < 8 →
     EndsOne chip (record chip { in_service = without_level chip.in_service level }) level
-without-one chip level small = record {
-  ended = has-levels_where (λ l. not (eqb l level) && has chip.in_service l) level small
-      ∙ ap (λ b. not b && has chip.in_service level) (eq-eqb level level refl);
-  others = λ other inside apart. has-levels_where (λ l. not (eqb l level) && has chip.in_service l) other inside
-      ∙ ap (λ b. not b && has chip.in_service other) (ne_eqb other level apart);
-  rest = refl;
-}
+without-one chip level small = grind (arith, nat_tests, has-levels_where)
 
 pub specific-end-one : (chip : Chip) (byte : ℕ) → is_bit byte 4 ≡ false → is_bit byte 3 ≡ false → byte / 32 ≡ 3 →
     EndsOne chip (chip_after_write chip false byte) (byte % 8)

@@ -1,13 +1,13 @@
 -- What INT stands for, and what a non-specific end of interrupt ends, by places in the order of priorities.
 use Rattle.std.proofs.Common.{◌≡◌, ◌≢◌, ℕ, zero, suc, ◌+◌, ◌/◌, ◌<◌, ◌≤◌, Bool, true, false, not, cond, eqb, ◌&&◌, Some}
-use Rattle.std.proofs.Common.{None, List, [], ◌∷◌, length, get_or, drop, refl, sym, ap, ◌∙◌, inl, inr, arith, is_some}
-use Rattle.std.proofs.Common.{length-append}
-use Rattle.board_prelude.proofs.Common.{find, list_all, cases_Bool, cases_lt, cases_eq, agree_below_at, eqb-true}
-use Rattle.board_prelude.proofs.Common.{and_parts, and_from, not-true, false≢true, drop_of_length-le}
-use Rattle.board_prelude.proofs.Common.{get_or-append_seam, get_or_append_left, has, without_level, Chip, pending}
-use Rattle.board_prelude.proofs.Common.{priority_order, is_blocking, blocks_itself, is_requested, request, interrupt}
-use Rattle.board_prelude.proofs.Common.{first_blocking, chip_after_write, scan, request-is, scan-found, scan-past}
-use Rattle.board_prelude.proofs.Common.{find-past, find-here, first_blocking-is, priority_order-small}
+use Rattle.std.proofs.Common.{None, List, [], ◌∷◌, length, get_or, drop, refl, sym, ap, subst, ◌∙◌, inl, inr, arith}
+use Rattle.std.proofs.Common.{is_some, length-append}
+use Rattle.board_prelude.proofs.Common.{find, list_all, cases_Bool, cases_lt, agree_below_at, eqb-true, nat_tests}
+use Rattle.board_prelude.proofs.Common.{and_parts, false≢true, drop_of_length-le, get_or-append_seam}
+use Rattle.board_prelude.proofs.Common.{get_or_append_left, without_level, Chip, priority_order, is_blocking}
+use Rattle.board_prelude.proofs.Common.{blocks_itself, is_requested, request, first_blocking, chip_after_write, scan}
+use Rattle.board_prelude.proofs.Common.{request-is, scan-found, scan-past, find-past, find-here, first_blocking-is}
+use Rattle.board_prelude.proofs.Common.{priority_order-small}
 use Rattle.board_base.specs.Bits.{is_bit}
 use Rattle.device_spec.specs.Pic.{ended}
 use Rattle.board_laws.specs.PicLaws.{place_of, CanBeSelected, InterruptIsSelected, SelectedInterrupts, IsServedFirst}
@@ -38,9 +38,7 @@ place_at lowest place h g = ap (place_of lowest) (priorities lowest place h g) �
 
 can-asks : (chip : Chip) (level : ℕ) → CanBeSelected chip level →
     (is_requested chip level && not (blocks_itself chip level)) ≡ true
-can-asks chip level can =
-    let requested : is_requested chip level ≡ true = rw (can.asks, can.unmasked) refl in
-    and_from _ _ requested (ap not can.free)
+can-asks chip level can = grind (arith, nat_tests, can.asks, can.unmasked, can.free)
 
 -- the search from a place on finds a level, where one that can be selected is still to come
 found : (d i : ℕ) (chip : Chip) (level : ℕ) → chip.lowest < 8 → CanBeSelected chip level →
@@ -85,13 +83,9 @@ quiet-before : (chip : Chip) (higher : List ℕ) (i : ℕ) →
     list_all (λ other. not (is_requested chip other) && not (is_blocking chip other)) higher ≡ true →
     i < length higher → IsQuiet chip (get_or higher i 0)
 quiet-before chip [] i all h = absurd (omega arith)
-quiet-before chip (x ∷ xs) zero all h =
-    let both = and_parts (not (is_requested chip x) && not (is_blocking chip x)) _ all in
-    let quiet = and_parts (not (is_requested chip x)) (not (is_blocking chip x)) both.0 in
-    record { silent = not-true _ quiet.0; idle = not-true _ quiet.1 }
+quiet-before chip (x ∷ xs) zero all h = grind (arith, nat_tests)
 quiet-before chip (x ∷ xs) (suc i) all h =
-    let both = and_parts (not (is_requested chip x) && not (is_blocking chip x)) _ all in
-    quiet-before chip xs i both.1 (omega arith)
+    quiet-before chip xs i (and_parts (not (is_requested chip x) && not (is_blocking chip x)) _ all).1 (omega arith)
 
 -- a level before the one that INT stands for is quiet
 earlier-quiet : (chip : Chip) (level other : ℕ) (first : IsFirstInOrder chip (priority_order chip.lowest) level) →
@@ -102,10 +96,7 @@ earlier-quiet chip level other first h inside early =
     ∙ (sym (ap (λ order. get_or order (place_of chip.lowest other) 0) first.place)
     ∙ level_at chip.lowest other h inside) in
     let quiet = quiet-before chip first.higher (place_of chip.lowest other) first.first early in
-    record {
-      silent = ap (is_requested chip) (sym at_place) ∙ quiet.silent;
-      idle = ap (is_blocking chip) (sym at_place) ∙ quiet.idle;
-    }
+    subst (IsQuiet chip) at_place quiet
 
 first-place : (chip : Chip) (level : ℕ) (first : IsFirstInOrder chip (priority_order chip.lowest) level) →
     chip.lowest < 8 → place_of chip.lowest level ≡ length first.higher
@@ -118,42 +109,32 @@ first-place chip level first h =
     ∙ get_or-append_seam first.higher level first.lower 0 in
     ap (place_of chip.lowest) (sym is) ∙ place_at chip.lowest (length first.higher) h before
 
-ready-interrupt : (chip : Chip) (level : ℕ) → interrupt chip ≡ Some level → chip.is_ready ≡ true
-ready-interrupt chip level e = elim (cases_Bool chip.is_ready) [
-  | inl ready ↦ ready
-  | inr not_ready ↦ (let e' = rw not_ready at e in cc)
-]
-
 pub interrupt-selected : InterruptIsSelected
 interrupt-selected chip level h e =
     let first = interrupt-first chip level e in
     let place = first-place chip level first h in
     let small = interrupt-small chip level e in
+    let quiet : (other : ℕ) → other < 8 → place_of chip.lowest other < place_of chip.lowest level → IsQuiet chip other =
+    λ other inside early. earlier-quiet chip level other first h inside (rw (← place) early) in
     record {
-      ready = ready-interrupt chip level e;
+      ready = grind (arith, nat_tests);
       can = record {
         inside = small;
-        asks = (and_parts (has (pending chip) level) (not (has chip.masked level)) first.asks).0;
+        asks = grind (arith, nat_tests, first.asks);
         unmasked = interrupt-unmasked chip level e;
         free = first.free;
         first = λ other inside apart blocks. elim (cases_lt (place_of chip.lowest level) (place_of chip.lowest other)) [
           | inl after ↦ after
-          | inr not_after ↦ elim (cases_eq (place_of chip.lowest other) (length first.higher)) [
-            | inl same ↦
-                absurd (apart (sym (level_at chip.lowest other h inside)
-                ∙ (ap (λ k. get_or (priority_order chip.lowest) k 0) (same ∙ sym place)
-                ∙ level_at chip.lowest level h small)))
-            | inr other_place ↦
-                absurd (false≢true (sym (earlier-quiet chip level other first h inside (omega arith)).idle ∙ blocks))
+          | inr not_after ↦ elim (cases_lt (place_of chip.lowest other) (place_of chip.lowest level)) [
+            | inl early ↦ absurd (false≢true (sym (quiet other inside early).idle ∙ blocks))
+            | inr late ↦ let same : other ≡ level = omega arith in absurd (apart same)
           ]
         ];
       };
-      first = λ other can. elim (cases_lt (place_of chip.lowest other) (length first.higher)) [
-        | inl before ↦
-            let quiet = earlier-quiet chip level other first h can.inside before in
-            let asks : is_requested chip other ≡ true = rw (can.asks, can.unmasked) refl in
-            absurd (false≢true (sym quiet.silent ∙ asks))
-        | inr not_before ↦ omega arith
+      first = λ other can. elim (cases_lt (place_of chip.lowest other) (place_of chip.lowest level)) [
+        | inl early ↦ absurd (let q = (quiet other can.inside early).silent in
+          grind (arith, nat_tests, q, can.asks, can.unmasked))
+        | inr late ↦ late
       ];
     }
 

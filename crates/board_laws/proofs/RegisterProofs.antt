@@ -1,8 +1,8 @@
 -- Only an entry whose reply names a register changes registers in configuration space.
 use Rattle.std.proofs.Common.{◌≡◌, ℕ, ◌≤◌, Bool, true, ◌&&◌, List, Option, Some, None, is_some, refl, sym, ◌∙◌, ap}
 use Rattle.std.proofs.Common.{subst, inl, inr, arith, option_map}
-use Rattle.board_prelude.proofs.Common.{cases_Bool, cond-true, cond-false, and_parts, nat_tests, Width, PortAccess}
-use Rattle.board_prelude.proofs.Common.{Reg, bytes_of, Event, Port, Reply, Entry, MapChange, Store, Reset, Setup}
+use Rattle.board_prelude.proofs.Common.{cases_Bool, cond-true, cond-false, and_parts, nat_tests, Width, PortAccess, Reg}
+use Rattle.board_prelude.proofs.Common.{bytes_of, Event, Port, Reply, Entry, MapChange, Store, Reset, Setup}
 use Rattle.board_prelude.proofs.Common.{is_hard_reset, is_config_port, config_register, config_store, config_address}
 use Rattle.board_prelude.proofs.Common.{covers, byte_with, byte_of, Bytes, Decoded, config_port, port_target_of}
 use Rattle.board_prelude.proofs.Common.{port_answer, IsAnswer, bytes_few}
@@ -11,12 +11,7 @@ use Rattle.board_laws.specs.RegisterLaws.{IsNear, TargetReaches, ReachesNear, Re
 near_of : (named reg : Reg) (width : Width) → covers named width reg ≡ true → IsNear named reg
 near_of named reg width inside =
     let most : bytes_of width ≤ 4 = bytes_few width in
-    record {
-      dev = grind (arith, nat_tests);
-      fun = grind (arith, nat_tests);
-      from = grind (arith, nat_tests);
-      below = grind (arith, nat_tests);
-    }
+    grind (arith, nat_tests)
 
 -- what a store does not reach stays
 stored_elsewhere :

@@ -1,17 +1,17 @@
 -- A hard reset puts registers and devices in their reset state, and keeps what is stored.
-use Rattle.std.proofs.Common.{◌≡◌, ℕ, ◌+◌, ◌*◌, Bool, true, false, not, ◌||◌, ◌&&◌, List, ◌∷◌, Option, Some, None}
-use Rattle.std.proofs.Common.{is_some, take, drop, refl, sym, ◌∙◌, ap, inl, inr, ◌==◌, unwrap_or}
-use Rattle.board_prelude.proofs.Common.{cases_Bool, cond-true, cond-false, and_parts, eqb-true, false≢true, Width}
-use Rattle.board_prelude.proofs.Common.{PortAccess, Target, Device, bytes_of, Triggers, triggers_at_reset, Levels, has}
-use Rattle.board_prelude.proofs.Common.{no_levels, levels_where, Chip, chip_at_reset, chip_after_inputs, latches_after}
-use Rattle.board_prelude.proofs.Common.{Pair, pair_at_reset, master_inputs, pair_after_lines, levels_where-same}
-use Rattle.board_prelude.proofs.Common.{has-levels_where, Event, Port, Wire, Line, Pulses, Reply, Entry, MapChange}
-use Rattle.board_prelude.proofs.Common.{Reset, Setup, reset_control_port, control_written, is_hard_value, resets_hard}
-use Rattle.board_prelude.proofs.Common.{control_after, is_hard_reset, reset_control, config_address, byte_with, byte_of}
-use Rattle.board_prelude.proofs.Common.{Cell, port_put, entry_put, Bytes, Decoded, device, port_target_of, wire_set}
-use Rattle.board_prelude.proofs.Common.{line_set, wire_of, irq_of, triggers_of, system_of, timer_of, clock_of}
-use Rattle.board_prelude.proofs.Common.{disk_with, levels_of, elcr_of, pair_stepped, pair_reset_or_after, pair_of}
-use Rattle.board_prelude.proofs.Common.{port_answer, IsAnswer}
+use Rattle.std.proofs.Common.{◌≡◌, ℕ, ◌+◌, ◌*◌, Bool, true, false, List, ◌∷◌, Option, Some, None, is_some, arith, take}
+use Rattle.std.proofs.Common.{drop, refl, ◌∙◌, ap, unwrap_or}
+use Rattle.board_prelude.proofs.Common.{cond-true, nat_tests, false≢true, Width, PortAccess, Target, Device, bytes_of}
+use Rattle.board_prelude.proofs.Common.{Triggers, triggers_at_reset, Levels, no_levels, levels_where, Chip}
+use Rattle.board_prelude.proofs.Common.{chip_at_reset, chip_after_inputs, latches_after, Pair, pair_at_reset}
+use Rattle.board_prelude.proofs.Common.{master_inputs, pair_after_lines, levels_where-same, has-levels_where, Event}
+use Rattle.board_prelude.proofs.Common.{Port, Wire, Line, Pulses, Reply, Entry, MapChange, Reset, Setup}
+use Rattle.board_prelude.proofs.Common.{reset_control_port, control_written, is_hard_value, resets_hard, control_after}
+use Rattle.board_prelude.proofs.Common.{is_hard_reset, reset_control, config_address, byte_with, byte_of, Cell}
+use Rattle.board_prelude.proofs.Common.{port_put, entry_put, Bytes, Decoded, device, port_target_of, wire_set, line_set}
+use Rattle.board_prelude.proofs.Common.{wire_of, irq_of, triggers_of, system_of, timer_of, clock_of, disk_with}
+use Rattle.board_prelude.proofs.Common.{levels_of, elcr_of, pair_stepped, pair_reset_or_after, pair_of, port_answer}
+use Rattle.board_prelude.proofs.Common.{IsAnswer}
 use Rattle.board_base.specs.declared.target.Dev.TheVariants.{Reset as ResetPort}
 use Rattle.board_laws.specs.ResetLaws.{HardResetResets, HardResetKeeps}
 use Rattle.board_laws.proofs.StoredLaws.{stored-left}
@@ -25,14 +25,8 @@ reset_value control (Some value) hard = cond-true (is_hard_value control value) 
 
 -- ---- the pair
 
-no_rise : (level : Bool) → ((false || (level && not level)) && not (level && not level)) ≡ false
-no_rise true = refl
-no_rise false = refl
-
 no_latches : (inputs : Levels) → latches_after no_levels inputs inputs ≡ no_levels
-no_latches inputs =
-    levels_where-same _ (λ level. false)
-    (λ level small. rw (has-levels_where (λ l. false) level small) (no_rise (has inputs level)))
+no_latches inputs = levels_where-same _ (λ level. false) (λ level small. grind (arith, nat_tests, has-levels_where))
 
 chip-reset :
     (has_slave : Bool) (inputs : Levels) →
@@ -107,22 +101,7 @@ record WritesControl (access : PortAccess) : Type 0 where
 
 writes_control :
     (before : List Entry) (access : PortAccess) → is_hard_reset before (Port access) ≡ true → WritesControl access
-writes_control before access hard =
-    elim (cases_Bool (access.write && access.port == reset_control_port && bytes_of access.width == 1)) [
-      | inl writes ↦
-          let parts =
-          and_parts (access.write && access.port == reset_control_port) (bytes_of access.width == 1) writes in
-          let first = and_parts access.write (access.port == reset_control_port) parts.0 in
-          record {
-            port = eqb-true access.port reset_control_port first.1;
-            size = eqb-true
-                (bytes_of access.width) 1 parts.1;
-          }
-      | inr not_so ↦
-          absurd (false≢true (sym (ap (resets_hard (reset_control before))
-          (cond-false (access.write && access.port == reset_control_port && bytes_of access.width == 1)
-          (Some access.value) None not_so)) ∙ hard))
-    ]
+writes_control before access hard = grind (arith, nat_tests)
 
 decoded-reset :
     (setup : Setup) (bytes : Bytes) (address : ℕ) (disk : Bool) (port : ℕ) (width : Width) →
@@ -134,12 +113,7 @@ decoded-reset setup bytes address disk port width is size = rw (is, size) refl
 no_put :
     (access : PortAccess) (target : Target) (cell : Cell) → target ≡ Device ResetPort →
     port_put access target cell ≡ None
-no_put access target cell is =
-    ap (λ (t : Target). port_put access t cell) is
-    ∙ elim (cases_Bool access.write) [
-      | inl writes ↦ cond-true access.write _ None writes
-      | inr reads ↦ cond-false access.write _ None reads
-    ]
+no_put access target cell is = rw is (grind (arith, nat_tests))
 
 nothing_put :
     (setup : Setup) (before : List Entry) (event : Event) (reply : Reply) (cell : Cell) →

@@ -1,6 +1,6 @@
 -- The bits of the SMRAM register after a write.
-use Rattle.std.proofs.Common.{◌≡◌, ℕ, ◌+◌, ◌-◌, ◌*◌, ◌/◌, ◌%◌, ◌<◌, max, ◌||◌, eqb, cond, inl, inr, arith}
-use Rattle.board_prelude.proofs.Common.{cases_eq, nat_tests, bit, smram_after}
+use Rattle.std.proofs.Common.{◌≡◌, ℕ, suc, ◌+◌, ◌-◌, ◌*◌, ◌/◌, ◌%◌, ◌<◌, max, ◌||◌, eqb, cond, arith}
+use Rattle.board_prelude.proofs.Common.{nat_tests, bit, smram_after}
 use Rattle.board_laws.specs.SmramLaw.{SmramByBits}
 
 -- the register made of its four bits
@@ -15,40 +15,19 @@ record Made (lock opened closed enabled after : ℕ) : Type 0 where
   pub enabled_is : after / 8 % 2 ≡ enabled
   pub base : after % 8 ≡ 2
 
-made-unlocked :
-    (opened closed enabled : ℕ) → opened < 2 → closed < 2 → enabled < 2 →
-    Made 0 opened closed enabled (made 0 opened closed enabled)
-unfolding made
-made-unlocked opened closed enabled o c e = record {
-  reserved = omega arith;
-  locked = omega arith;
-  opened_is = omega arith;
-  closed_is = omega arith;
-  enabled_is = omega arith;
-  base = omega arith;
-}
-
-made-locked :
-    (opened closed enabled : ℕ) → opened < 2 → closed < 2 → enabled < 2 →
-    Made 1 opened closed enabled (made 1 opened closed enabled)
-unfolding made
-made-locked opened closed enabled o c e = record {
-  reserved = omega arith;
-  locked = omega arith;
-  opened_is = omega arith;
-  closed_is = omega arith;
-  enabled_is = omega arith;
-  base = omega arith;
-}
-
 made-bits :
     (lock opened closed enabled : ℕ) → lock < 2 → opened < 2 → closed < 2 → enabled < 2 →
     Made lock opened closed enabled (made lock opened closed enabled)
-made-bits lock opened closed enabled l o c e =
-    elim (cases_eq lock 0) [
-      | inl none ↦ rw none (made-unlocked opened closed enabled o c e)
-      | inr some ↦ let one : lock ≡ 1 = omega arith in rw one (made-locked opened closed enabled o c e)
-    ]
+unfolding made
+made-bits (suc (suc lock)) opened closed enabled l o c e = absurd (omega arith)
+made-bits _ opened closed enabled l o c e = record {
+  reserved = omega arith;
+  locked = omega arith;
+  opened_is = omega arith;
+  closed_is = omega arith;
+  enabled_is = omega arith;
+  base = omega arith;
+}
 
 one_of : (a b : ℕ) → a < 2 → b < 2 → eqb (max a b) 1 ≡ (eqb a 1 || eqb b 1)
 one_of a b below_a below_b = grind (arith, nat_tests)

@@ -1,8 +1,8 @@
 -- A cell holds the byte of the last entry that put one there.
 use Rattle.std.proofs.Common.{◌≡◌, ℕ, ◌+◌, List, [], ◌∷◌, ◌++◌, Some, None, ◌==◌, ◌<◌, false, Option, refl, ◌∙◌, ap}
 use Rattle.std.proofs.Common.{arith, unwrap_or}
-use Rattle.board_prelude.proofs.Common.{ne_eqb, le-ltb, All-head, All-tail, One, Entry, FittedCard, OutsideBase}
-use Rattle.board_prelude.proofs.Common.{Setup, card_at, kept_size, Cell, card_byte, stored_of}
+use Rattle.board_prelude.proofs.Common.{ne_eqb, le-ltb, All-head, All-tail, One, Entry, FittedCard, OutsideBase, Setup}
+use Rattle.board_prelude.proofs.Common.{card_at, kept_size, Cell, card_byte, stored_of}
 use Rattle.board_prelude.specs.Common.{base_of_card}
 use Rattle.board_base.specs.declared.access.Width.TheVariants.{Two, Four}
 use Rattle.board_laws.specs.StoreLaws.{put_by, LastStays, NothingStored, OutsideGivesOnes}

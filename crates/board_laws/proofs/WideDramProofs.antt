@@ -1,14 +1,14 @@
 -- A wide access to DRAM reads and writes the bytes from its address on.
 use Rattle.std.proofs.Common.{◌≡◌, ℕ, suc, ◌+◌, ◌-◌, ◌*◌, ◌/◌, ◌%◌, ◌^◌, ◌≤◌, ◌<◌, ◌⊎◌, inl, inr, true, List, [], ◌∷◌}
-use Rattle.std.proofs.Common.{Option, Some, None, refl, sym, ◌∙◌, ap, subst, arith, ◌==◌, nat_le, nat_lt, if◌then◌else◌}
-use Rattle.std.proofs.Common.{All, map, option_and_then}
-use Rattle.board_prelude.proofs.Common.{option_or, cases_Bool, cases_eq, cases_lt, cond-true, cond-false, le-leb}
-use Rattle.board_prelude.proofs.Common.{lt-leb, lt-ltb, le-ltb, All-head, All-tail, Width, One, WideAccess, Target}
-use Rattle.board_prelude.proofs.Common.{Dram, Shadow, Smram, Card, bytes_of, Event, Wide}
-use Rattle.board_prelude.proofs.Common.{Part, Reply, Bus, Saw, Entry, Setup, byte, wide, part_at, parts_of, joined}
-use Rattle.board_prelude.proofs.Common.{Cell, DramCell, CardCell, first_cell, distance, memory_put, parts_put}
+use Rattle.std.proofs.Common.{Option, Some, None, refl, sym, ◌∙◌, ap, subst, arith, nat_lt, if◌then◌else◌, All, map}
+use Rattle.std.proofs.Common.{option_and_then}
+use Rattle.board_prelude.proofs.Common.{option_or, cases_lt, cond-true, cond-false, nat_tests, All-head, All-tail}
+use Rattle.board_prelude.proofs.Common.{Width, One, WideAccess, Target, Dram, Shadow, Smram, Card, bytes_of, Event}
+use Rattle.board_prelude.proofs.Common.{Wide, Part, Reply, Bus, Saw, Entry, Setup, byte, wide, part_at, parts_of}
+use Rattle.board_prelude.proofs.Common.{joined, Cell, DramCell, CardCell, first_cell, distance, memory_put, parts_put}
 use Rattle.board_prelude.proofs.Common.{entry_put, is_write, dram_byte, memory_target, part_answer, value_at}
 use Rattle.board_prelude.proofs.Common.{wide_value, IsAnswer, made, total, is_cut, further}
+use native.Mathlib.Numerals.{unary_clauses}
 use Rattle.board_base.specs.declared.access.Width.TheVariants.{Two, Four}
 use Rattle.board_base.specs.declared.access.Access.{Access}
 use Rattle.board_spec.specs.declared.event.Reply.TheVariants.{Parts}
@@ -21,16 +21,10 @@ value_at-dram :
     (setup : Setup) (before : List Entry) (target : Target) (addr : ℕ) (width : Width) → first_cell target addr
     ≡ Some (DramCell addr) →
     value_at setup before target addr width ≡ wide (dram_byte setup before) addr width
+value_at-dram setup before (Card dev base off) addr width lands = grind (arith, nat_tests)
 value_at-dram setup before (Dram row) addr width lands = refl
 value_at-dram setup before (Shadow row) addr width lands = refl
 value_at-dram setup before Smram addr width lands = refl
-value_at-dram setup before (Card dev base off) addr width lands =
-    elim (cases_Bool (base == 6)) [
-      | inl rom ↦ let none : ◌≡◌ {A = Option Cell} None (Some (DramCell addr)) = rw rom at lands in cc
-      | inr other ↦
-          let card : ◌≡◌ {A = Option Cell} (Some (CardCell dev base off))
-          (Some (DramCell addr)) = rw other at lands in cc
-    ]
 value_at-dram setup before _ addr width lands = cc
 
 joined-same :
@@ -41,50 +35,13 @@ joined-same f g (part ∷ later) same =
     ∙ ap (λ (n : ℕ). g part + 256 ^ bytes_of part.width * n)
     (joined-same f g later (All-tail (λ part. f part ≡ g part) part later same))
 
-low-one :
-    (byte_at : ℕ → ℕ) (from count : ℕ) →
-    low_first byte_at from (1 + count) ≡ byte_at from + 0x100 * low_first byte_at (from + 1) count
-low-one byte_at from count = let e : 1 + count ≡ suc count = omega arith in ap (low_first byte_at from) e
-
-low-two :
-    (byte_at : ℕ → ℕ) (from count : ℕ) →
-    low_first byte_at from (2 + count)
-    ≡ byte_at from + 0x100 * byte_at (from + 1) + 0x1_0000 * low_first byte_at (from + 2) count
-low-two byte_at from count =
-    let e : 2 + count ≡ 1 + (1 + count) = omega arith in
-    let place : from + 1 + 1 ≡ from + 2 = omega arith in
-    let first : low_first byte_at from (2 + count)
-    ≡ byte_at from + 0x100 * low_first byte_at (from + 1) (1 + count) =
-    ap (low_first byte_at from) e ∙ low-one byte_at from (1 + count) in
-    let second : low_first byte_at (from + 1) (1 + count)
-    ≡ byte_at (from + 1) + 0x100 * low_first byte_at (from + 2) count =
-    low-one byte_at (from + 1) count ∙ ap (λ (n : ℕ). byte_at (from + 1) + 0x100 * low_first byte_at n count) place in
-    omega arith
-
-low-four :
-    (byte_at : ℕ → ℕ) (from count : ℕ) →
-    low_first byte_at from (4 + count) ≡ wide byte_at from Four + 0x1_0000_0000 * low_first byte_at (from + 4) count
-low-four byte_at from count =
-    let e : 4 + count ≡ 2 + (2 + count) = omega arith in
-    let third : from + 2 + 1 ≡ from + 3 = omega arith in
-    let place : from + 2 + 2 ≡ from + 4 = omega arith in
-    let first : low_first byte_at from (4 + count)
-    ≡ byte_at from + 0x100 * byte_at (from + 1) + 0x1_0000 * low_first byte_at (from + 2) (2 + count) =
-    ap (low_first byte_at from) e ∙ low-two byte_at from (2 + count) in
-    let second : low_first byte_at (from + 2) (2 + count)
-    ≡ byte_at (from + 2) + 0x100 * byte_at (from + 3) + 0x1_0000 * low_first byte_at (from + 4) count =
-    low-two byte_at (from + 2) count
-    ∙ ap (λ (n : ℕ). byte_at (from + 2) + 0x100 * byte_at n + 0x1_0000 * low_first byte_at (from + 2 + 2) count) third
-    ∙ ap (λ (n : ℕ). byte_at (from + 2) + 0x100 * byte_at (from + 3) + 0x1_0000 * low_first byte_at n count) place in
-    omega arith
-
 low-part :
     (byte_at : ℕ → ℕ) (from : ℕ) (width : Width) (count : ℕ) →
     wide byte_at from width + 256 ^ bytes_of width * low_first byte_at (from + bytes_of width) count
     ≡ low_first byte_at from (bytes_of width + count)
-low-part byte_at from One count = sym (low-one byte_at from count)
-low-part byte_at from Two count = sym (low-two byte_at from count)
-low-part byte_at from Four count = sym (low-four byte_at from count)
+low-part byte_at from One count = simp (unary_clauses) (grind (arith))
+low-part byte_at from Two count = simp (unary_clauses) (grind (arith))
+low-part byte_at from Four count = simp (unary_clauses) (grind (arith))
 
 joined-wide :
     (byte_at : ℕ → ℕ) (access : WideAccess) (from : ℕ) (widths : List Width) →
@@ -121,83 +78,22 @@ memory_put-within :
     ≡ Some (DramCell access.addr) →
     access.addr ≤ addr → addr < access.addr + bytes_of access.width → memory_put access target (DramCell addr)
     ≡ Some (byte access.value (addr - access.addr))
-memory_put-within access target addr writes lands from below =
-    cond-true (is_write access.kind) _ None writes
-    ∙ ap (λ (cell : Option Cell). option_and_then
-    (λ k. if nat_lt k (bytes_of access.width) then Some (byte access.value k) else None)
-    (option_and_then (λ first. distance first (DramCell addr)) cell)) lands
-    ∙ ap (option_and_then (λ k. if nat_lt k (bytes_of access.width) then Some (byte access.value k) else None))
-    (cond-true (nat_le access.addr addr) (Some (addr - access.addr)) None (le-leb _ _ from))
-    ∙ cond-true (nat_lt (addr - access.addr) (bytes_of access.width)) _ None (lt-ltb _ _ (omega arith))
+memory_put-within access target addr writes lands from below = rw (writes, lands) (grind (arith, nat_tests))
 
 memory_put-outside :
     (access : Access) (target : Target) (addr : ℕ) → is_write access.kind ≡ true → first_cell target access.addr
     ≡ Some (DramCell access.addr) →
     (addr < access.addr) ⊎ (access.addr + bytes_of access.width ≤ addr) → memory_put access target (DramCell addr)
     ≡ None
-memory_put-outside access target addr writes lands (inl below) =
-    cond-true (is_write access.kind) _ None writes
-    ∙ ap (λ (cell : Option Cell). option_and_then
-    (λ k. if nat_lt k (bytes_of access.width) then Some (byte access.value k) else None)
-    (option_and_then (λ first. distance first (DramCell addr)) cell)) lands
-    ∙ ap (option_and_then (λ k. if nat_lt k (bytes_of access.width) then Some (byte access.value k) else None))
-    (cond-false (nat_le access.addr addr) (Some (addr - access.addr)) None (lt-leb _ _ below))
-memory_put-outside access target addr writes lands (inr past) =
-    cond-true (is_write access.kind) _ None writes
-    ∙ ap (λ (cell : Option Cell). option_and_then
-    (λ k. if nat_lt k (bytes_of access.width) then Some (byte access.value k) else None)
-    (option_and_then (λ first. distance first (DramCell addr)) cell)) lands
-    ∙ ap (option_and_then (λ k. if nat_lt k (bytes_of access.width) then Some (byte access.value k) else None))
-    (cond-true (nat_le access.addr addr) (Some (addr - access.addr)) None (le-leb _ _ (omega arith)))
-    ∙ cond-false (nat_lt (addr - access.addr) (bytes_of access.width)) _ None (le-ltb _ _ (omega arith))
-
-low_of_one : (n : ℕ) → byte (n % 256) 0 ≡ byte n 0
-low_of_one n = omega arith
-
-low_of_two : (n : ℕ) → byte (n % 65536) 0 ≡ byte n 0
-low_of_two n = omega arith
-
-second_of_two : (n : ℕ) → byte (n % 65536) 1 ≡ byte n 1
-second_of_two n = omega arith
-
-low_of_four : (n : ℕ) → byte (n % 4294967296) 0 ≡ byte n 0
-low_of_four n = omega arith
-
-second_of_four : (n : ℕ) → byte (n % 4294967296) 1 ≡ byte n 1
-second_of_four n = omega arith
-
-third_of_four : (n : ℕ) → byte (n % 4294967296) 2 ≡ byte n 2
-third_of_four n = omega arith
-
-fourth_of_four : (n : ℕ) → byte (n % 4294967296) 3 ≡ byte n 3
-fourth_of_four n = omega arith
+memory_put-outside access target addr writes lands (inl below) = rw (writes, lands) (grind (arith, nat_tests))
+memory_put-outside access target addr writes lands (inr past) = rw (writes, lands) (grind (arith, nat_tests))
 
 -- byte k of the low bytes of a number is its own byte k
 byte-low : (width : Width) (n k : ℕ) → k < bytes_of width → byte (n % 256 ^ bytes_of width) k ≡ byte n k
-byte-low One n k below =
-    let e : k ≡ 0 = omega arith in ap (λ (j : ℕ). byte (n % 256) j) e ∙ low_of_one n ∙ sym (ap (byte n) e)
-byte-low Two n k below =
-    elim (cases_eq k 0) [
-      | inl e ↦ ap (λ (j : ℕ). byte (n % 65536) j) e ∙ low_of_two n ∙ sym (ap (byte n) e)
-      | inr apart ↦
-          let e : k ≡ 1 = omega arith in ap (λ (j : ℕ). byte (n % 65536) j) e ∙ second_of_two n
-          ∙ sym (ap (byte n) e)
-    ]
-byte-low Four n k below =
-    elim (cases_eq k 0) [
-      | inl e ↦ ap (λ (j : ℕ). byte (n % 4294967296) j) e ∙ low_of_four n ∙ sym (ap (byte n) e)
-      | inr apart ↦
-          elim (cases_eq k 1) [
-            | inl e ↦ ap (λ (j : ℕ). byte (n % 4294967296) j) e ∙ second_of_four n ∙ sym (ap (byte n) e)
-            | inr apart' ↦
-                elim (cases_eq k 2) [
-                  | inl e ↦ ap (λ (j : ℕ). byte (n % 4294967296) j) e ∙ third_of_four n ∙ sym (ap (byte n) e)
-                  | inr apart'' ↦
-                      let e : k ≡ 3 = omega arith in ap (λ (j : ℕ). byte (n % 4294967296) j) e ∙ fourth_of_four n
-                      ∙ sym (ap (byte n) e)
-                ]
-          ]
-    ]
+byte-low One n (suc k) below = absurd (omega arith)
+byte-low Two n (suc (suc k)) below = absurd (omega arith)
+byte-low Four n (suc (suc (suc (suc k)))) below = absurd (omega arith)
+byte-low _ n _ below = omega arith
 
 -- the byte that a part puts in a cell is that of the whole
 byte-part :

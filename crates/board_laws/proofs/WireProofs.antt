@@ -1,10 +1,10 @@
 -- A card's INTA# and the line to which it is routed.
 use Rattle.std.proofs.Common.{◌≡◌, ℕ, ◌≤◌, ◌<◌, inl, inr, Bool, true, false, ◌||◌, ◌&&◌, List, get_or, Option, Some}
 use Rattle.std.proofs.Common.{None, refl, sym, ◌∙◌, ap, subst, arith, ◌==◌}
-use Rattle.board_prelude.proofs.Common.{cases_Bool, and_from, and_parts, eq-eqb, eqb-true, false≢true, drives, or_right}
-use Rattle.board_prelude.proofs.Common.{line_of_route, is_line_driven, Entry, Setup, pirq, byte_of, wire_of, timer_of}
-use Rattle.board_prelude.proofs.Common.{pirq_of_card, own_level, level_with, levels_with, levels_of, pirq_level}
-use Rattle.board_prelude.proofs.Common.{pirq_levels, routes_of}
+use Rattle.board_prelude.proofs.Common.{nat_tests, cases_Bool, and_from, and_parts, eq-eqb, eqb-true, false≢true}
+use Rattle.board_prelude.proofs.Common.{drives, or_right, line_of_route, is_line_driven, Entry, Setup, pirq, byte_of}
+use Rattle.board_prelude.proofs.Common.{wire_of, timer_of, pirq_of_card, own_level, level_with, levels_with, levels_of}
+use Rattle.board_prelude.proofs.Common.{pirq_level, pirq_levels, routes_of}
 use Rattle.board_laws.specs.DeviceLaws.{SomeWire, WireReachesLine, LineHasDriver}
 use Rattle.board_laws.proofs.Numbers.{numbers_from, map-number, any-number, Passes, passing}
 
@@ -58,20 +58,13 @@ pin-is setup history line pin below =
     ∙ ap (λ (level : Bool). drives (line_of_route (byte_of setup history (pirq pin))) level line)
     (pirq-at history pin below)
 
-drives-routed :
-    (route : Option ℕ) (level : Bool) (line : ℕ) → route ≡ Some line → level ≡ true → drives route level line ≡ true
-drives-routed route level line routed high =
-    ap (λ (r : Option ℕ). drives r level line) routed ∙ and_from level (line == line) high (eq-eqb line line refl)
-
 record Driven (route : Option ℕ) (level : Bool) (line : ℕ) : Type 0 where
   pub routed : route ≡ Some line
   pub high : level ≡ true
 
 driven-by : (route : Option ℕ) (level : Bool) (line : ℕ) → drives route level line ≡ true → Driven route level line
 driven-by None level line is = absurd (false≢true is)
-driven-by (Some routed) level line is =
-    let parts = and_parts level (routed == line) is in
-    record { routed = ap (λ (l : ℕ). Some l) (eqb-true routed line parts.1); high = parts.0 }
+driven-by (Some routed) level line is = grind (arith, nat_tests)
 
 -- ---- both ways
 
@@ -81,8 +74,7 @@ wire_reaches_line setup history line dev below wire =
     let pin : ℕ = pirq_of_card dev in
     let here : pin_drives setup history line pin ≡ true =
     pin-is setup history line pin (omega arith)
-    ∙ drives-routed (line_of_route (byte_of setup history (pirq pin))) (pirq_level history pin) line wire.routed
-    (wire-pirq history dev wire.first wire.last wire.high) in
+    ∙ rw (wire.routed, wire-pirq history dev wire.first wire.last wire.high) (eq-eqb line line refl) in
     let driven : is_line_driven (routes_of setup history) (pirq_levels history) line ≡ true =
     any-number (pin_drives setup history line) 0 4 pin (omega arith) (omega arith) here in
     level-at setup history line below ∙ or_right (own_level setup history (timer_of history) line) _ driven
