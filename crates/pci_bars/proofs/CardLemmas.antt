@@ -6,7 +6,7 @@ use Rattle.board_prelude.proofs.Common.{and_left, ne_eqb, cases_eq, cases_lt, na
 use Rattle.board_prelude.proofs.Common.{MemoryBase, IoBase, OutsideBase, FittedCard, Setup, IsCard, card_at, byte}
 use Rattle.board_prelude.proofs.Common.{merged, wide, card_function, listed, base_reset, base_writable, rom_writable}
 use Rattle.board_prelude.proofs.Common.{reset_byte, reg_after, Bytes, card_register, base_register}
-use Rattle.board_prelude.proofs.Common.{expansion_rom, smram, is_same, merged-all, merged-none, changed_byte-one_same}
+use Rattle.board_prelude.proofs.Common.{smram, is_same, merged-all, merged-none, changed_byte-one_same}
 use Rattle.board_prelude.proofs.Common.{changed_byte-one_other}
 use Rattle.board_base.specs.declared.access.Width.TheVariants.{Four}
 use Rattle.pci_bars.specs.Common.{of_base, CardBytes, HoldsLong, HoldsRom, DecodesAs, IsCardOf, is_kept_offset}
@@ -107,62 +107,53 @@ card_at_reset setup card values fit fitted is_reset =
 
 -- ---- as they are read
 
--- what is not kept reads as after a reset
-pub read-fixed :
-    (setup : Setup) (bytes : Bytes) (card : CardBytes) (off : ℕ) → IsCard card.card → IsCardOf setup bytes card →
-    is_kept_offset card.card off
-    ≡ false →
-    bytes (card_register card.card.dev off) ≡ listed (λ entry. entry.reset) (card_function card.card) off
-read-fixed setup bytes card off fit is not_kept =
-    is.fixed off not_kept ∙ reset_byte-card setup card.card off fit.first is.decodes.fitted
-
-pub read-header :
-    (setup : Setup) (bytes : Bytes) (card : CardBytes) (off : ℕ) → IsCard card.card → IsCardOf setup bytes card → off
-    < 16 →
-    get_or (header_of card) off 0 ≡ bytes (card_register card.card.dev off)
-read-header setup bytes card off fit is below =
-    elim (cases_eq off 4) [
-      | inl command ↦ rw command (sym is.decodes.command)
-      | inr apart ↦
-          sym (reset-header card off below apart)
-          ∙ sym (read-fixed setup bytes card off fit is
-          (kept_nowhere card.card.rom off (grind (arith, nat_tests)) (inl (omega arith))))
-    ]
-
-pub read-rom :
-    (setup : Setup) (bytes : Bytes) (card : CardBytes) (off : ℕ) → IsCard card.card → IsCardOf setup bytes card → 0x30
-    ≤ off → off ≤ 0x33 →
-    byte card.rom (off - 0x30) ≡ bytes (card_register card.card.dev off)
-read-rom setup bytes card off fit is from to = of_rom card.card.rom refl is.decodes.rom
+module _ (setup : Setup) (bytes : Bytes) (card : CardBytes) (fit : IsCard card.card) (is : IsCardOf setup bytes card)
   where
-    place : 0x30 + (off - 0x30) ≡ off
-    place = omega arith
+    -- what is not kept reads as after a reset
+    read-fixed : (off : ℕ) → is_kept_offset card.card off ≡ false →
+        bytes (card_register card.card.dev off) ≡ listed (λ entry. entry.reset) (card_function card.card) off
+    read-fixed off not_kept = is.fixed off not_kept ∙ reset_byte-card setup card.card off fit.first is.decodes.fitted
 
-    of_rom :
-        (rom : Option ℕ) → card.card.rom ≡ rom → HoldsRom bytes card.card.dev card.rom rom →
+    pub read-header : (off : ℕ) → off < 16 → get_or (header_of card) off 0 ≡ bytes (card_register card.card.dev off)
+    read-header off below =
+        elim (cases_eq off 4) [
+          | inl command ↦ rw command (sym is.decodes.command)
+          | inr apart ↦
+              sym (reset-header card off below apart)
+              ∙ sym (read-fixed off
+              (kept_nowhere card.card.rom off (grind (arith, nat_tests)) (inl (omega arith))))
+        ]
+
+    pub read-rom : (off : ℕ) → 0x30 ≤ off → off ≤ 0x33 →
         byte card.rom (off - 0x30) ≡ bytes (card_register card.card.dev off)
-    of_rom None none held =
-        ap (λ n. byte n (off - 0x30)) (is.no_rom none)
-        ∙ byte_of_zero (off - 0x30)
-        ∙ sym (reset-rom card.card (off - 0x30) fit.count (omega arith))
-        ∙ ap (λ at. listed (λ entry. entry.reset) (card_function card.card) at) place
-        ∙ sym (read-fixed setup bytes card off fit is (rw none (grind (arith, nat_tests))))
-    of_rom (Some bits) some held =
-        sym (held.each (off - 0x30) (omega arith)) ∙ ap (λ at. bytes (card_register card.card.dev at)) place
+    read-rom off from to = of_rom card.card.rom refl is.decodes.rom
+      where
+        place : 0x30 + (off - 0x30) ≡ off
+        place = omega arith
 
-pub read-pin :
-    (setup : Setup) (bytes : Bytes) (card : CardBytes) → IsCard card.card → IsCardOf setup bytes card →
-    1 ≡ bytes (card_register card.card.dev 0x3D)
-read-pin setup bytes card fit is =
-    sym (reset-pin card.card fit.count)
-    ∙ sym (read-fixed setup bytes card 0x3D fit is (kept_nowhere card.card.rom 0x3D refl (inr (lit≤ tt))))
+        of_rom :
+            (rom : Option ℕ) → card.card.rom ≡ rom → HoldsRom bytes card.card.dev card.rom rom →
+            byte card.rom (off - 0x30) ≡ bytes (card_register card.card.dev off)
+        of_rom None none held =
+            ap (λ n. byte n (off - 0x30)) (is.no_rom none)
+            ∙ byte_of_zero (off - 0x30)
+            ∙ sym (reset-rom card.card (off - 0x30) fit.count (omega arith))
+            ∙ ap (λ at. listed (λ entry. entry.reset) (card_function card.card) at) place
+            ∙ sym (read-fixed off (rw none (grind (arith, nat_tests))))
+        of_rom (Some bits) some held =
+            sym (held.each (off - 0x30) (omega arith)) ∙ ap (λ at. bytes (card_register card.card.dev at)) place
 
-pub read-rest :
-    (setup : Setup) (bytes : Bytes) (card : CardBytes) (off : ℕ) → IsCard card.card → IsCardOf setup bytes card →
-    0x28 ≤ off → (off < 0x30) ⊎ (0x34 ≤ off) → off ≢ 0x3C → off ≢ 0x3D → 0 ≡ bytes (card_register card.card.dev off)
-read-rest setup bytes card off fit is above off_rom not_line not_pin =
-    sym (past_pin (λ entry. entry.reset) card.card off fit.count above off_rom not_line not_pin)
-    ∙ sym (read-fixed setup bytes card off fit is (kept_nowhere card.card.rom off (grind (arith, nat_tests)) off_rom))
+    pub read-pin : 1 ≡ bytes (card_register card.card.dev 0x3D)
+    read-pin =
+        sym (reset-pin card.card fit.count)
+        ∙ sym (read-fixed 0x3D (kept_nowhere card.card.rom 0x3D refl (inr (lit≤ tt))))
+
+    pub read-rest :
+        (off : ℕ) → 0x28 ≤ off → (off < 0x30) ⊎ (0x34 ≤ off) → off ≢ 0x3C → off ≢ 0x3D →
+        0 ≡ bytes (card_register card.card.dev off)
+    read-rest off above off_rom not_line not_pin =
+        sym (past_pin (λ entry. entry.reset) card.card off fit.count above off_rom not_line not_pin)
+        ∙ sym (read-fixed off (kept_nowhere card.card.rom off (grind (arith, nat_tests)) off_rom))
 
 -- ---- after a store of one byte
 
@@ -171,11 +162,29 @@ not_smram dev off above =
     let not_bridge : (dev == 0)
     ≡ false = ne_eqb dev 0 (λ (e : dev ≡ 0). omega arith) in and_left _ _ (and_left _ _ not_bridge)
 
-stored-other :
-    (setup : Setup) (bytes : Bytes) (dev off written at : ℕ) → at ≢ off →
-    stored setup bytes dev off written (card_register dev at) ≡ bytes (card_register dev at)
-stored-other setup bytes dev off written at apart =
-    changed_byte-one_other setup (card_register dev at) off (bytes (card_register dev at)) written apart
+-- an offset lies in none of the four registers from another on
+abbrev pub IsOffLong : (from off : ℕ) → Type 0
+IsOffLong from off = (off < from) ⊎ (from + 4 ≤ off)
+
+module _ (setup : Setup) (bytes : Bytes) (dev off written : ℕ) where
+  stored-other : (at : ℕ) → at ≢ off →
+      stored setup bytes dev off written (card_register dev at) ≡ bytes (card_register dev at)
+  stored-other at apart =
+      changed_byte-one_other setup (card_register dev at) off (bytes (card_register dev at)) written apart
+
+  -- a doubleword where the byte is stored elsewhere
+  long-apart : (from value : ℕ) → IsOffLong from off → HoldsLong bytes (card_register dev from) value →
+      HoldsLong (stored setup bytes dev off written) (card_register dev from) value
+  long-apart from value outside is =
+      holds-same bytes (stored setup bytes dev off written) (card_register dev from) value
+      (λ j below.
+      stored-other (from + j) (λ e. elim outside [ inl before ↦ omega arith | inr past ↦ omega arith ]))
+      is
+
+  rom-apart : (value : ℕ) → IsOffLong 0x30 off → (rom : Option ℕ) → HoldsRom bytes dev value rom →
+      HoldsRom (stored setup bytes dev off written) dev value rom
+  rom-apart value outside None is = is
+  rom-apart value outside (Some bits) is = long-apart 0x30 value outside is
 
 stored-same :
     (setup : Setup) (bytes : Bytes) (card : FittedCard) (off written : ℕ) → IsCard card →
@@ -188,72 +197,11 @@ stored-same setup bytes card off written fit fitted below =
     ∙ ap (λ mask. merged mask (bytes (card_register card.dev off)) written)
     (writable_bits-card setup card off fit.first fitted)
 
--- an offset lies in none of the four registers from another on
-abbrev pub IsOffLong : (from off : ℕ) → Type 0
-IsOffLong from off = (off < from) ⊎ (from + 4 ≤ off)
-
--- a doubleword where the byte is stored elsewhere
-long-apart :
-    (setup : Setup) (bytes : Bytes) (dev off written from value : ℕ) → IsOffLong from off → HoldsLong bytes
-    (card_register dev from) value →
-    HoldsLong (stored setup bytes dev off written) (card_register dev from) value
-long-apart setup bytes dev off written from value outside is =
-    holds-same bytes (stored setup bytes dev off written) (card_register dev from) value
-    (λ j below.
-    stored-other setup bytes dev off written (from + j)
-    (λ e. elim outside [ inl before ↦ omega arith | inr past ↦ omega arith ]))
-    is
-
-rom-apart :
-    (setup : Setup) (bytes : Bytes) (dev off written value : ℕ) → IsOffLong 0x30 off → (rom : Option ℕ) → HoldsRom
-    bytes dev value rom →
-    HoldsRom (stored setup bytes dev off written) dev value rom
-rom-apart setup bytes dev off written value outside None is = is
-rom-apart setup bytes dev off written value outside (Some bits) is =
-    long-apart setup bytes dev off written 0x30 value outside is
-
 -- an offset on which the address map does not depend
 pub record IsApart (off : ℕ) : Type 0 where
   pub command : off ≢ 0x04
   pub bases : (off < 0x10) ⊎ (0x28 ≤ off)
   pub rom : IsOffLong 0x30 off
-
-off_base : (off k : ℕ) → (off < 0x10) ⊎ (0x28 ≤ off) → k < 6 → IsOffLong (0x10 + 4 * k) off
-off_base off k (inl below) within = inl (omega arith)
-off_base off k (inr above) within = inr (omega arith)
-
-pub decodes-apart :
-    (setup : Setup) (bytes : Bytes) (card : CardBytes) (line off written : ℕ) → IsApart off → DecodesAs setup bytes
-    card →
-    DecodesAs setup (stored setup bytes card.card.dev off written) (record card { line = line })
-decodes-apart setup bytes card line off written apart is =
-    record {
-      fitted = is.fitted;
-      command = stored-other setup bytes card.card.dev off written 0x04 (λ e. apart.command (sym e)) ∙ is.command;
-      bases =
-          λ k below.
-          long-apart setup bytes card.card.dev off written (0x10 + 4 * k) (slice_index card.bases k)
-          (off_base off k apart.bases below) (is.bases k below);
-      rom = rom-apart setup bytes card.card.dev off written card.rom apart.rom card.card.rom is.rom;
-    }
-
-pub decodes-command :
-    (setup : Setup) (bytes : Bytes) (card : CardBytes) (written : ℕ) → IsCard card.card → written < 256 → DecodesAs
-    setup bytes card →
-    DecodesAs setup (stored setup bytes card.card.dev 0x04 written)
-    (record card { command = merged (command_writable card.card) card.command written })
-decodes-command setup bytes card written fit below is =
-    record {
-      fitted = is.fitted;
-      command =
-          stored-same setup bytes card.card 0x04 written fit is.fitted below
-          ∙ ap (λ old. merged (command_writable card.card) old written) is.command;
-      bases =
-          λ k k_below.
-          long-apart setup bytes card.card.dev 0x04 written (0x10 + 4 * k) (slice_index card.bases k)
-          (inl (omega arith)) (is.bases k k_below);
-      rom = rom-apart setup bytes card.card.dev 0x04 written card.rom (inl (lit< tt)) card.card.rom is.rom;
-    }
 
 -- a number after one of its four bytes was written
 pub record IsByteWrite (writable old lane written new : ℕ) : Type 0 where
@@ -280,19 +228,14 @@ long-stored setup bytes card from lane written mask old new fit fitted below in_
     here : stored setup bytes card.dev (from + lane) written (card_register card.dev (from + lane)) ≡ byte new lane
     here =
         stored-same setup bytes card (from + lane) written fit fitted below
-        ∙ ap (λ bits. merged bits (bytes (card_register card.dev (from + lane))) written) in_table
-        ∙ ap (λ byte_before. merged (byte mask lane) byte_before written) (is.each lane in_long)
-        ∙ sym write.here
+        ∙ rw (in_table, is.each lane in_long) (sym write.here)
 
     each :
         (j : ℕ) → j < 4 →
         stored setup bytes card.dev (from + lane) written (card_register card.dev (from + j)) ≡ byte new j
     each j j_below =
         elim (cases_eq j lane) [
-          | inl same ↦
-              subst
-              (λ i. stored setup bytes card.dev (from + lane) written (card_register card.dev (from + i)) ≡ byte new i)
-              (sym same) here
+          | inl same ↦ rw same here
           | inr apart ↦
               stored-other setup bytes card.dev (from + lane) written (from + j) (λ e. apart (omega arith))
               ∙ is.each j j_below
@@ -308,62 +251,101 @@ pub record IsBaseStore (card : CardBytes) (off index lane written new : ℕ) : T
   pub place : off ≡ 0x10 + 4 * index + lane
   pub write : IsByteWrite (of_base base_writable card.card.bases index) (slice_index card.bases index) lane written new
 
--- a base of the card after a byte is stored
-abbrev HeldAt : Setup → Bytes → (dev written off k value : ℕ) → Type 0
-HeldAt setup bytes dev written off k value = HoldsLong (stored setup bytes dev off written) (base_register dev k) value
-
-pub decodes-base_stored :
-    (setup : Setup) (bytes : Bytes) (card : CardBytes) (off index lane written new : ℕ) → IsCard card.card → written <
-    256 → length card.bases
-    ≡ 6 →
-    IsBaseStore card off index lane written new → DecodesAs setup bytes card →
-    DecodesAs setup (stored setup bytes card.card.dev off written) (record card { bases = set card.bases index new })
-decodes-base_stored setup bytes card off index lane written new fit below six store is =
-    record {
-      fitted = is.fitted;
-      command =
-          stored-other setup bytes card.card.dev off written 0x04 (λ e. let place = store.place in omega arith)
-          ∙ is.command;
-      bases = base_at;
-      rom =
-          rom-apart setup bytes card.card.dev off written card.rom
-          (inl (let place = store.place in let i = store.in_bases in let j = store.in_long in omega arith))
-          card.card.rom is.rom;
-    }
-  where
-    here : HeldAt setup bytes card.card.dev written off index new
-    here =
-        subst (λ at. HeldAt setup bytes card.card.dev written at index new) (sym store.place)
-        (long-stored setup bytes card.card (0x10 + 4 * index) lane written
-        (of_base base_writable card.card.bases index) (slice_index card.bases index) new fit is.fitted below
-        store.in_long
-        (writable-base card.card index lane store.in_bases store.in_long) store.write (is.bases index store.in_bases))
-
-    off_other : (k : ℕ) → k ≢ index → IsOffLong (0x10 + 4 * k) off
-    off_other k apart =
-        let place = store.place in let in_long = store.in_long in
-        elim (cases_lt k index) [ inl before ↦ inr (omega arith) | inr after ↦ inl (omega arith) ]
-
-    base_at :
-        (k : ℕ) → k < 6 → HeldAt setup bytes card.card.dev written off k (slice_index (set card.bases index new) k)
-    base_at k k_below =
-        elim (cases_eq k index) [
-          | inl same ↦
-              rw same
-              (subst (HeldAt setup bytes card.card.dev written off index)
-              (sym (get_or-set_same card.bases index new 0 (let i = store.in_bases in omega arith))) here)
-          | inr apart ↦
-              subst (HeldAt setup bytes card.card.dev written off k)
-              (sym (get_or-set_other card.bases index k new 0 apart))
-              (long-apart setup bytes card.card.dev off written (0x10 + 4 * k) (slice_index card.bases k)
-              (off_other k apart) (is.bases k k_below))
-        ]
-
 -- what the register of a card's expansion ROM is after a byte at an offset is written
 pub record IsRomStore (card : CardBytes) (off lane written new : ℕ) : Type 0 where
   pub in_long : lane < 4
   pub place : off ≡ 0x30 + lane
   pub write : IsByteWrite (rom_writable card.card.rom) card.rom lane written new
+
+module _ (setup : Setup) (bytes : Bytes) (card : CardBytes) (off written : ℕ) (is : DecodesAs setup bytes card) where
+  command-stays : off ≢ 0x04 →
+      stored setup bytes card.card.dev off written (card_register card.card.dev 0x04) ≡ card.command
+  command-stays apart = stored-other setup bytes card.card.dev off written 0x04 (λ e. apart (sym e)) ∙ is.command
+
+  base-stays : (k : ℕ) → k < 6 → IsOffLong (0x10 + 4 * k) off →
+      HoldsLong (stored setup bytes card.card.dev off written) (base_register card.card.dev k)
+      (slice_index card.bases k)
+  base-stays k below apart =
+      long-apart setup bytes card.card.dev off written (0x10 + 4 * k) (slice_index card.bases k) apart
+      (is.bases k below)
+
+  bases-stay : (off < 0x10) ⊎ (0x28 ≤ off) → (k : ℕ) → k < 6 →
+      HoldsLong (stored setup bytes card.card.dev off written) (base_register card.card.dev k)
+      (slice_index card.bases k)
+  bases-stay apart k below =
+      base-stays k below (elim apart [ inl before ↦ inl (omega arith) | inr past ↦ inr (omega arith) ])
+
+  rom-stays : IsOffLong 0x30 off →
+      HoldsRom (stored setup bytes card.card.dev off written) card.card.dev card.rom card.card.rom
+  rom-stays apart = rom-apart setup bytes card.card.dev off written card.rom apart card.card.rom is.rom
+
+  pub decodes-apart : (line : ℕ) → IsApart off →
+      DecodesAs setup (stored setup bytes card.card.dev off written) (record card { line = line })
+  decodes-apart line apart =
+      record {
+        fitted = is.fitted;
+        command = command-stays apart.command;
+        bases = bases-stay apart.bases;
+        rom = rom-stays apart.rom;
+      }
+
+  pub decodes-base_stored :
+      (index lane new : ℕ) → IsCard card.card → written < 256 → length card.bases ≡ 6 →
+      IsBaseStore card off index lane written new →
+      DecodesAs setup (stored setup bytes card.card.dev off written) (record card { bases = set card.bases index new })
+  decodes-base_stored index lane new fit below six store =
+      let in_bases = store.in_bases in let in_long = store.in_long in let place = store.place in
+      record {
+        fitted = is.fitted;
+        command = command-stays (λ e. omega arith);
+        bases = λ k k_below. elim (cases_eq k index) [
+          | inl same ↦
+              rw (same, get_or-set_same card.bases index new 0 (omega arith), place)
+              (long-stored setup bytes card.card (0x10 + 4 * index) lane written
+              (of_base base_writable card.card.bases index) (slice_index card.bases index) new fit is.fitted below
+              in_long (writable-base card.card index lane in_bases in_long) store.write (is.bases index in_bases))
+          | inr apart ↦
+              rw (get_or-set_other card.bases index k new 0 apart)
+              (base-stays k k_below
+              (elim (cases_lt k index) [ inl before ↦ inr (omega arith) | inr after ↦ inl (omega arith) ]))
+        ];
+        rom = rom-stays (inl (omega arith));
+      }
+
+  pub decodes-rom_stored :
+      (lane new : ℕ) → IsCard card.card → written < 256 → IsRomStore card off lane written new →
+      DecodesAs setup (stored setup bytes card.card.dev off written) (record card { rom = new })
+  decodes-rom_stored lane new fit below store =
+      let in_long = store.in_long in let place = store.place in
+      record {
+        fitted = is.fitted;
+        command = command-stays (λ e. omega arith);
+        bases = bases-stay (inr (omega arith));
+        rom = rom_held card.card.rom is.rom;
+      }
+    where
+      rom_held : (rom : Option ℕ) → HoldsRom bytes card.card.dev card.rom rom →
+          HoldsRom (stored setup bytes card.card.dev off written) card.card.dev new rom
+      rom_held None held = tt
+      rom_held (Some bits) held =
+          rw store.place
+          (long-stored setup bytes card.card 0x30 lane written (rom_writable card.card.rom) card.rom new fit is.fitted
+          below store.in_long (writable-rom card.card lane fit.count store.in_long) store.write held)
+
+pub decodes-command :
+    (setup : Setup) (bytes : Bytes) (card : CardBytes) (written : ℕ) → IsCard card.card → written < 256 →
+    DecodesAs setup bytes card →
+    DecodesAs setup (stored setup bytes card.card.dev 0x04 written)
+    (record card { command = merged (command_writable card.card) card.command written })
+decodes-command setup bytes card written fit below is =
+    record {
+      fitted = is.fitted;
+      command =
+          stored-same setup bytes card.card 0x04 written fit is.fitted below
+          ∙ ap (λ old. merged (command_writable card.card) old written) is.command;
+      bases = bases-stay setup bytes card 0x04 written is (inl (lit< tt));
+      rom = rom-stays setup bytes card 0x04 written is (inl (lit< tt));
+    }
 
 -- nothing is written to the register of a ROM that a card does not have
 none_written : (lane written new : ℕ) → lane < 4 → IsByteWrite 0 0 lane written new → new ≡ 0
@@ -379,155 +361,93 @@ none_written lane written new in_long write =
     let b0 = each 0 (lit< tt) in let b1 = each 1 (lit< tt) in let b2 = each 2 (lit< tt) in let b3 = each 3 (lit< tt) in
     omega arith
 
-rom-none :
-    (card : CardBytes) (off lane written new : ℕ) → IsRomStore card off lane written new → card.rom ≡ 0 →
-    card.card.rom ≡ None → new ≡ 0
-rom-none card off lane written new store held none =
-    none_written lane written new store.in_long
-    (subst (λ old. IsByteWrite 0 old lane written new) held
-    (subst (λ rom. IsByteWrite (rom_writable rom) card.rom lane written new) none store.write))
-
-pub decodes-rom_stored :
-    (setup : Setup) (bytes : Bytes) (card : CardBytes) (off lane written new : ℕ) → IsCard card.card → written < 256 →
-    IsRomStore card off lane written new → DecodesAs setup bytes card →
-    DecodesAs setup (stored setup bytes card.card.dev off written) (record card { rom = new })
-decodes-rom_stored setup bytes card off lane written new fit below store is =
-    record {
-      fitted = is.fitted;
-      command =
-          stored-other setup bytes card.card.dev off written 0x04 (λ e. let place = store.place in omega arith)
-          ∙ is.command;
-      bases =
-          λ k k_below.
-          long-apart setup bytes card.card.dev off written (0x10 + 4 * k) (slice_index card.bases k)
-          (inr (let place = store.place in omega arith)) (is.bases k k_below);
-      rom = rom_held card.card.rom refl is.rom;
-    }
-  where
-    rom_held :
-        (rom : Option ℕ) → card.card.rom ≡ rom → HoldsRom bytes card.card.dev card.rom rom →
-        HoldsRom (stored setup bytes card.card.dev off written) card.card.dev new rom
-    rom_held None none held = tt
-    rom_held (Some bits) some held =
-        subst (λ at. HoldsLong (stored setup bytes card.card.dev at written) (expansion_rom card.card.dev) new)
-        (sym store.place)
-        (long-stored setup bytes card.card 0x30 lane written (rom_writable card.card.rom) card.rom new fit is.fitted
-        below store.in_long
-        (writable-rom card.card lane fit.count store.in_long) store.write held)
-
 -- ---- all the registers of the card
 
--- what is not kept stays, wherever the byte is stored
-pub fixed-stored :
-    (setup : Setup) (bytes : Bytes) (card : CardBytes) (off written : ℕ) → IsCard card.card → written < 256 → IsCardOf
-    setup bytes card →
-    (at : ℕ) → is_kept_offset card.card at ≡ false →
-    stored setup bytes card.card.dev off written (card_register card.card.dev at)
-    ≡ reset_byte setup (card_register card.card.dev at)
-fixed-stored setup bytes card off written fit below is at not_kept =
-    elim (cases_eq at off) [
-      | inl same ↦
-          subst (λ o.
-          stored setup bytes card.card.dev o written (card_register card.card.dev at)
-          ≡ reset_byte setup (card_register card.card.dev at))
-          same (here at not_kept)
-      | inr apart ↦ stored-other setup bytes card.card.dev off written at apart ∙ is.fixed at not_kept
-    ]
-  where
-    here :
-        (at : ℕ) → is_kept_offset card.card at ≡ false →
-        stored setup bytes card.card.dev at written (card_register card.card.dev at)
-        ≡ reset_byte setup (card_register card.card.dev at)
-    here at not_kept =
-        let fixed = is_fixed card.card fit at not_kept in
-        let stands = is.fixed at not_kept in
-        let in_table = reset_byte-card setup card.card at fit.first is.decodes.fitted in
-        stored-same setup bytes card.card at written fit is.decodes.fitted below
-        ∙ ap (λ mask. merged mask (bytes (card_register card.card.dev at)) written) fixed.writable
-        ∙ merged-none (bytes (card_register card.card.dev at)) written
-        (subst (λ n. n < 256) (sym (stands ∙ in_table)) fixed.byte)
-        ∙ stands
+module _ (setup : Setup) (bytes : Bytes) (card : CardBytes) (off written : ℕ) (fit : IsCard card.card)
+    (below : written < 256) where
+  -- what is not kept stays, wherever the byte is stored
+  fixed-stored :
+      IsCardOf setup bytes card → (at : ℕ) → is_kept_offset card.card at ≡ false →
+      stored setup bytes card.card.dev off written (card_register card.card.dev at)
+      ≡ reset_byte setup (card_register card.card.dev at)
+  fixed-stored is at not_kept =
+      let fixed = is_fixed card.card fit at not_kept in
+      let stands = is.fixed at not_kept in
+      let in_table = reset_byte-card setup card.card at fit.first is.decodes.fitted in
+      elim (cases_eq at off) [
+        | inl same ↦
+            rw (← same)
+            (stored-same setup bytes card.card at written fit is.decodes.fitted below
+            ∙ ap (λ mask. merged mask (bytes (card_register card.card.dev at)) written) fixed.writable
+            ∙ merged-none (bytes (card_register card.card.dev at)) written
+            (subst (λ n. n < 256) (sym (stands ∙ in_table)) fixed.byte)
+            ∙ stands)
+        | inr apart ↦ stored-other setup bytes card.card.dev off written at apart ∙ stands
+      ]
 
-pub line-stored :
-    (setup : Setup) (bytes : Bytes) (card : CardBytes) (written : ℕ) → IsCard card.card → written < 256 → IsCardOf
-    setup bytes card →
-    stored setup bytes card.card.dev 0x3C written (card_register card.card.dev 0x3C) ≡ written
-line-stored setup bytes card written fit below is =
-    stored-same setup bytes card.card 0x3C written fit is.decodes.fitted below
-    ∙ ap (λ mask. merged mask (bytes (card_register card.card.dev 0x3C)) written) (writable-line card.card fit.count)
-    ∙ merged-all (bytes (card_register card.card.dev 0x3C)) written below
+  -- a store elsewhere than at the interrupt line
+  card-stored :
+      (new : CardBytes) → IsCardOf setup bytes card → off ≢ 0x3C → new.card ≡ card.card → new.line ≡ card.line →
+      (card.card.rom ≡ None → new.rom ≡ 0) → DecodesAs setup (stored setup bytes card.card.dev off written) new →
+      IsCardOf setup (stored setup bytes card.card.dev off written) new
+  card-stored new is apart same_card same_line no_rom decodes =
+      record {
+        decodes = decodes;
+        no_rom = rw same_card no_rom;
+        line =
+            rw (same_card, same_line)
+            (stored-other setup bytes card.card.dev off written 0x3C (λ e. apart (sym e)) ∙ is.line);
+        fixed = rw same_card (fixed-stored is);
+      }
 
--- a store elsewhere than at the interrupt line
-pub card-stored :
-    (setup : Setup) (bytes : Bytes) (card new : CardBytes) (off written : ℕ) → IsCard card.card → written < 256 →
-    IsCardOf setup bytes card →
-    off ≢ 0x3C → new.card ≡ card.card → new.line ≡ card.line → (card.card.rom ≡ None → new.rom ≡ 0) →
-    DecodesAs setup (stored setup bytes card.card.dev off written) new →
-    IsCardOf setup (stored setup bytes card.card.dev off written) new
-card-stored setup bytes card new off written fit below is apart same_card same_line no_rom decodes =
-    record {
-      decodes = decodes;
-      no_rom = rw same_card no_rom;
-      line =
-          rw (same_card, same_line)
-          (stored-other setup bytes card.card.dev off written 0x3C (λ e. apart (sym e)) ∙ is.line);
-      fixed = rw same_card (fixed-stored setup bytes card off written fit below is);
-    }
+  pub card-apart : IsApart off → off ≢ 0x3C → IsCardOf setup bytes card →
+      IsCardOf setup (stored setup bytes card.card.dev off written) card
+  card-apart apart not_line is =
+      card-stored card is not_line refl refl is.no_rom
+      (decodes-apart setup bytes card off written is.decodes card.line apart)
 
-pub card-line_stored :
-    (setup : Setup) (bytes : Bytes) (card : CardBytes) (written : ℕ) → IsCard card.card → written < 256 → IsCardOf
-    setup bytes card →
-    IsCardOf setup (stored setup bytes card.card.dev 0x3C written) (record card { line = written })
-card-line_stored setup bytes card written fit below is =
-    record {
-      decodes =
-          decodes-apart setup bytes card written 0x3C written
-          (record { command = λ e. grind arith; bases = inr (lit≤ tt); rom = inr (lit≤ tt) }) is.decodes;
-      line = line-stored setup bytes card written fit below is;
-      no_rom = is.no_rom;
-      fixed = fixed-stored setup bytes card 0x3C written fit below is;
-    }
+  pub card-base_stored :
+      (index lane new : ℕ) → length card.bases ≡ 6 → IsBaseStore card off index lane written new →
+      IsCardOf setup bytes card →
+      IsCardOf setup (stored setup bytes card.card.dev off written) (record card { bases = set card.bases index new })
+  card-base_stored index lane new six store is =
+      let in_bases = store.in_bases in
+      let in_long = store.in_long in
+      let place = store.place in
+      card-stored (record card { bases = set card.bases index new }) is (λ e. omega arith) refl refl is.no_rom
+      (decodes-base_stored setup bytes card off written is.decodes index lane new fit below six store)
 
-pub card-apart :
-    (setup : Setup) (bytes : Bytes) (card : CardBytes) (off written : ℕ) → IsCard card.card → written < 256 → IsApart
-    off → off ≢ 0x3C →
-    IsCardOf setup bytes card → IsCardOf setup (stored setup bytes card.card.dev off written) card
-card-apart setup bytes card off written fit below apart not_line is =
-    card-stored setup bytes card card off written fit below is not_line refl refl is.no_rom
-    (decodes-apart setup bytes card card.line off written apart is.decodes)
+  pub card-rom_stored :
+      (lane new : ℕ) → IsRomStore card off lane written new → IsCardOf setup bytes card →
+      IsCardOf setup (stored setup bytes card.card.dev off written) (record card { rom = new })
+  card-rom_stored lane new store is =
+      let in_long = store.in_long in
+      let place = store.place in
+      card-stored (record card { rom = new }) is (λ e. omega arith) refl refl
+      (λ none. none_written lane written new in_long (rw (is.no_rom none, none) at store.write))
+      (decodes-rom_stored setup bytes card off written is.decodes lane new fit below store)
 
-pub card-command :
-    (setup : Setup) (bytes : Bytes) (card : CardBytes) (written : ℕ) → IsCard card.card → written < 256 → IsCardOf
-    setup bytes card →
-    IsCardOf setup (stored setup bytes card.card.dev 0x04 written)
-    (record card { command = merged (command_writable card.card) card.command written })
-card-command setup bytes card written fit below is =
-    card-stored setup bytes card (record card { command = merged (command_writable card.card) card.command written })
-    0x04 written fit below
-    is (λ e. grind arith) refl refl is.no_rom
-    (decodes-command setup bytes card written fit below is.decodes)
+module _ (setup : Setup) (bytes : Bytes) (card : CardBytes) (written : ℕ) (fit : IsCard card.card)
+    (below : written < 256) (is : IsCardOf setup bytes card) where
+  pub card-line_stored : IsCardOf setup (stored setup bytes card.card.dev 0x3C written) (record card { line = written })
+  card-line_stored =
+      record {
+        decodes =
+            decodes-apart setup bytes card 0x3C written is.decodes written
+            (record { command = λ e. grind arith; bases = inr (lit≤ tt); rom = inr (lit≤ tt) });
+        line =
+            stored-same setup bytes card.card 0x3C written fit is.decodes.fitted below
+            ∙ ap (λ mask. merged mask (bytes (card_register card.card.dev 0x3C)) written)
+            (writable-line card.card fit.count)
+            ∙ merged-all (bytes (card_register card.card.dev 0x3C)) written below;
+        no_rom = is.no_rom;
+        fixed = fixed-stored setup bytes card 0x3C written fit below is;
+      }
 
-pub card-base_stored :
-    (setup : Setup) (bytes : Bytes) (card : CardBytes) (off index lane written new : ℕ) → IsCard card.card → written <
-    256 → length card.bases
-    ≡ 6 →
-    IsBaseStore card off index lane written new → IsCardOf setup bytes card →
-    IsCardOf setup (stored setup bytes card.card.dev off written) (record card { bases = set card.bases index new })
-card-base_stored setup bytes card off index lane written new fit below six store is =
-    let in_bases = store.in_bases in
-    let in_long = store.in_long in
-    let place = store.place in
-    card-stored setup bytes card (record card { bases = set card.bases index new }) off written fit below is
-    (λ e. omega arith) refl refl is.no_rom
-    (decodes-base_stored setup bytes card off index lane written new fit below six store is.decodes)
-
-pub card-rom_stored :
-    (setup : Setup) (bytes : Bytes) (card : CardBytes) (off lane written new : ℕ) → IsCard card.card → written < 256 →
-    IsRomStore card off lane written new → IsCardOf setup bytes card →
-    IsCardOf setup (stored setup bytes card.card.dev off written) (record card { rom = new })
-card-rom_stored setup bytes card off lane written new fit below store is =
-    let in_long = store.in_long in
-    let place = store.place in
-    card-stored setup bytes card (record card { rom = new }) off written fit below is (λ e. omega arith) refl refl
-    (λ none. rom-none card off lane written new store (is.no_rom none) none)
-    (decodes-rom_stored setup bytes card off lane written new fit below store is.decodes)
+  pub card-command : IsCardOf setup (stored setup bytes card.card.dev 0x04 written)
+      (record card { command = merged (command_writable card.card) card.command written })
+  card-command =
+      card-stored setup bytes card 0x04 written fit below
+      (record card { command = merged (command_writable card.card) card.command written })
+      is (λ e. grind arith) refl refl is.no_rom
+      (decodes-command setup bytes card written fit below is.decodes)

@@ -4,8 +4,8 @@ use Rattle.std.proofs.Common.{Global, length, get_or, set, take, drop, ◌++◌,
 use Rattle.std.proofs.Common.{arith, lit<, get_or-set_same, get_or-set_other, length-append, length-drop}
 use Rattle.std.proofs.Common.{length-take-le, ◌==◌, nat_le, nat_lt, find, if◌then◌else◌, slice_index, unwrap_or}
 use Rattle.std.proofs.Common.{vec_len}
-use Rattle.board_prelude.proofs.Common.{with_items, and_from, and_left, and_right, eq-eqb, ne_eqb, le-leb, lt-leb}
-use Rattle.board_prelude.proofs.Common.{lt-ltb, le-ltb, cases_lt, cases_eq, get_or_past}
+use Rattle.board_prelude.proofs.Common.{with_items, and_from, and_right, eq-eqb, ne_eqb}
+use Rattle.board_prelude.proofs.Common.{lt-ltb, le-ltb, cases_lt, cases_eq, nat_tests, get_or_past}
 use Rattle.board_prelude.proofs.Common.{length-replicate, length-map, map-set, get_or-map, with_items_is, drop-drop}
 use Rattle.board_prelude.proofs.Common.{Width, One, Card, bytes_of, largest_of, Entry, FittedCard, Setup, card_at}
 use Rattle.board_prelude.proofs.Common.{kept_size, byte, wide, CardCell, byte_put, card_byte, entry_put, stored_of}
@@ -51,33 +51,12 @@ written_here :
 written_here dev base off width value at old kept =
     let not_rom : (base == 6) ≡ false = ne_eqb base 6 kept in
     let same : (dev == dev && base == base) ≡ true = and_from _ _ (eq-eqb dev dev refl) (eq-eqb base base refl) in
-    elim (cases_lt at off) [
-      | inl before ↦ let not_from : nat_le off at ≡ false = lt-leb _ _ before in rw (not_rom, same, not_from) refl
-      | inr from ↦
-          let above : nat_le off at ≡ true = le-leb _ _ from in
-          elim (cases_lt at (off + bytes_of width)) [
-            | inl within ↦
-                let below : nat_lt at (off + bytes_of width) ≡ true = lt-ltb _ _ within in
-                let near : nat_lt (at - off) (bytes_of width) ≡ true = lt-ltb _ _ (omega arith) in
-                rw (not_rom, same, above, below, near) refl
-            | inr past ↦
-                let beyond : nat_lt at (off + bytes_of width) ≡ false = le-ltb _ _ past in
-                let far : nat_lt (at - off) (bytes_of width) ≡ false = le-ltb _ _ (omega arith) in
-                rw (not_rom, same, above, beyond, far) refl
-          ]
-    ]
+    rw (not_rom, same) (grind (arith, nat_tests))
 
 other_slot :
     (dev base d b : ℕ) → IsBaseNumber dev base → IsBaseNumber d b → slot_number d b ≢ slot_number dev base →
     (dev == d && base == b) ≡ false
-other_slot dev base d b place other apart =
-    elim (cases_eq dev d) [
-      | inl same ↦ elim (cases_eq base b) [
-        | inl same' ↦ absurd (apart (rw (same, same') refl))
-        | inr differ ↦ let e : (base == b) ≡ false = ne_eqb base b differ in and_right _ _ e
-      ]
-      | inr differ ↦ let e : (dev == d) ≡ false = ne_eqb dev d differ in and_left _ _ e
-    ]
+other_slot dev base d b place other apart = grind (arith, nat_tests)
 
 same_slot :
     (dev base d b : ℕ) → IsBaseNumber dev base → IsBaseNumber d b → slot_number d b ≡ slot_number dev base →
@@ -181,16 +160,13 @@ kept_read kept off width fits =
 -- where none are kept all ones are read
 pub none_read : (kept : List ℕ) (off : ℕ) (width : Width) → length kept ≡ 0 →
     largest_of width ≡ wide (kept_at kept) off width
-none_read kept off One none = sym (kept_past kept off (omega (arith, none)))
-none_read kept off Two none =
-    rw (kept_past kept off (omega (arith, none)), kept_past kept (off + 1) (omega (arith, none))) refl
-none_read kept off Four none =
-    rw (
-      kept_past kept off (omega (arith, none)),
-      kept_past kept (off + 1) (omega (arith, none)),
-      kept_past kept (off + 2) (omega (arith, none)),
-      kept_past kept (off + 3) (omega (arith, none)),
-    ) refl
+none_read kept off width none =
+    ones width ∙ wide_same (λ at. 0xFF) (kept_at kept) off width
+    (λ k below. sym (kept_past kept (off + k) (omega (arith, none))))
+  where
+    ones : (width : Width) → largest_of width ≡ wide (λ at. 0xFF) off width
+    ones One = refl
+    ones _ = refl
 
 pub held_read :
     (contents : List (List ℕ)) (dev base off : ℕ) (width : Width) → base ≢ 6 →
@@ -334,9 +310,8 @@ size_held cards contents is dev base number =
     ∙ ap (kept_size (find (λ card. card.dev == dev) cards)) in_device
 
 pub stored_at_first :
-    (setup : Setup) (cards : List FittedCard) (contents : List (List ℕ)) → IsFilled cards 64 contents → setup.cards
-    ≡ cards →
-    IsContentsOf setup [] contents
+    (setup : Setup) (cards : List FittedCard) (contents : List (List ℕ)) → IsFilled cards 64 contents →
+    setup.cards ≡ cards → IsContentsOf setup [] contents
 unfolding stored_of
 stored_at_first setup cards contents is same =
     contents_of

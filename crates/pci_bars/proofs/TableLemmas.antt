@@ -3,6 +3,7 @@ use Rattle.std.proofs.Common.{◌≡◌, ◌≢◌, ◌⊎◌, ℕ, zero, suc, �
 use Rattle.std.proofs.Common.{List, [], ◌∷◌, length, get_or, Some, inl, inr, ◌∙◌, refl, sym, ap, subst, arith, lit<}
 use Rattle.std.proofs.Common.{lit≤, ◌==◌, ◌&&◌, ◌||◌, flat_map, if◌then◌else◌, is_some, replicate}
 use Rattle.board_prelude.proofs.Common.{ne_eqb, cases_lt, cases_eq, nat_tests, get_or_append_left, get_or-append_right}
+use Rattle.board_prelude.proofs.Common.{get_or-replicate}
 use Rattle.board_prelude.proofs.Common.{Base, FittedCard, Setup, IsCard, card_at, byte, is_within, long_bytes, line}
 use Rattle.board_prelude.proofs.Common.{read_only, card_function, function_lines, listed, base_reset, base_writable}
 use Rattle.board_prelude.proofs.Common.{rom_writable, reset_byte, writable_bits, card_register, listed-past}
@@ -68,30 +69,11 @@ get_or-base_bytes number_of (base ∷ later) (suc k) j below =
     ∙ ap (λ i. get_or (base_bytes number_of later) i 0) (omega arith)
     ∙ get_or-base_bytes number_of later k j below
 
-base_line :
-    (column : Line → List ℕ) (number_of : Base → ℕ) (bases : List Base) (entry : Line) (later : List Line) (k j : ℕ) →
-    entry.first ≡ 0x10 → length entry.reset ≡ 4 * length bases → column entry ≡ base_bytes number_of bases → j < 4 →
-    listed column later (0x10 + 4 * k + j) ≡ 0 →
-    listed column (entry ∷ later) (0x10 + 4 * k + j) ≡ byte (of_base number_of bases k) j
-base_line column number_of bases entry later k j first count same below rest =
-    let inside : get_or (column entry) (0x10 + 4 * k + j - entry.first) 0 ≡ byte (of_base number_of bases k) j =
-    ap (λ i. get_or (column entry) i 0) (omega arith)
-    ∙ ap (λ bytes. get_or bytes (4 * k + j) 0) same
-    ∙ get_or-base_bytes number_of bases k j below in
-    elim (cases_lt (0x10 + 4 * k + j) (entry.first + length entry.reset)) [
-      | inl within ↦ listed-here column entry later (0x10 + 4 * k + j) (omega arith) within ∙ inside
-      | inr past ↦
-          listed-past column entry later (0x10 + 4 * k + j) past
-          ∙ rest
-          ∙ sym (past_bases number_of bases k j (omega arith))
-    ]
-  where
-    past_bases :
-        (number_of : Base → ℕ) (bases : List Base) (k j : ℕ) → length bases ≤ k →
-        byte (of_base number_of bases k) j ≡ 0
-    past_bases number_of [] k j past = byte_of_zero j
-    past_bases number_of (base ∷ later) zero j past = absurd (omega arith)
-    past_bases number_of (base ∷ later) (suc k) j past = past_bases number_of later k j (omega arith)
+past_last : (number_of : Base → ℕ) (bases : List Base) (k j : ℕ) → length bases ≤ k →
+    byte (of_base number_of bases k) j ≡ 0
+past_last number_of [] k j past = byte_of_zero j
+past_last number_of (base ∷ later) zero j past = absurd (omega arith)
+past_last number_of (base ∷ later) (suc k) j past = past_last number_of later k j (omega arith)
 
 abbrev base_entry : FittedCard → Line
 base_entry card = line 0x10 (base_bytes base_reset card.bases) (base_bytes base_writable card.bases)
@@ -126,24 +108,37 @@ before_rom :
 before_rom column card off below =
     listed-before column (rom_entry card) (last_entry ∷ []) off below ∙ before_last column off (omega arith)
 
+in_bases :
+    (column : Line → List ℕ) (number_of : Base → ℕ) (card : FittedCard) (k j : ℕ) →
+    column (base_entry card) ≡ base_bytes number_of card.bases → k < 6 → j < 4 →
+    listed column (card_function card) (0x10 + 4 * k + j) ≡ byte (of_base number_of card.bases k) j
+in_bases column number_of card k j same k_below j_below =
+    let later : List Line = rom_entry card ∷ last_entry ∷ [] in
+    let size : length (base_bytes base_reset card.bases) ≡ 4 * length card.bases =
+    length-base_bytes base_reset card.bases in
+    past_header column card (0x10 + 4 * k + j) (omega arith)
+    ∙ elim (cases_lt (4 * k + j) (4 * length card.bases)) [
+      | inl within ↦
+          listed-here column (base_entry card) later (0x10 + 4 * k + j) (omega arith) (omega (arith, within, size))
+          ∙ ap (λ i. get_or (column (base_entry card)) i 0) (omega arith)
+          ∙ ap (λ bytes. get_or bytes (4 * k + j) 0) same
+          ∙ get_or-base_bytes number_of card.bases k j j_below
+      | inr past ↦
+          listed-past column (base_entry card) later (0x10 + 4 * k + j) (omega (arith, past, size))
+          ∙ before_rom column card (0x10 + 4 * k + j) (omega arith)
+          ∙ sym (past_last number_of card.bases k j (omega (arith, past)))
+    ]
+
 pub reset-base :
     (card : FittedCard) (k j : ℕ) → k < 6 → j < 4 →
     listed (λ entry. entry.reset) (card_function card) (0x10 + 4 * k + j) ≡ byte (of_base base_reset card.bases k) j
-reset-base card k j k_below j_below =
-    past_header (λ entry. entry.reset) card (0x10 + 4 * k + j) (omega arith)
-    ∙ base_line (λ entry. entry.reset) base_reset card.bases (base_entry card) (rom_entry card ∷ last_entry ∷ []) k j
-    refl (length-base_bytes base_reset card.bases) refl j_below
-    (before_rom (λ entry. entry.reset) card (0x10 + 4 * k + j) (omega arith))
+reset-base card k j = in_bases (λ entry. entry.reset) base_reset card k j refl
 
 pub writable-base :
     (card : FittedCard) (k j : ℕ) → k < 6 → j < 4 →
     listed (λ entry. entry.writable) (card_function card) (0x10 + 4 * k + j)
     ≡ byte (of_base base_writable card.bases k) j
-writable-base card k j k_below j_below =
-    past_header (λ entry. entry.writable) card (0x10 + 4 * k + j) (omega arith)
-    ∙ base_line (λ entry. entry.writable) base_writable card.bases (base_entry card)
-    (rom_entry card ∷ last_entry ∷ []) k j refl (length-base_bytes base_reset card.bases) refl j_below
-    (before_rom (λ entry. entry.writable) card (0x10 + 4 * k + j) (omega arith))
+writable-base card k j = in_bases (λ entry. entry.writable) base_writable card k j refl
 
 -- past the bases
 past_bases :
@@ -178,56 +173,20 @@ class_byte : (vga : Bool) → (if vga then 0x03 else 0xFF) < 256
 class_byte true = lit< tt
 class_byte false = lit< tt
 
+fixed : {card : FittedCard} {off : ℕ} → listed (λ entry. entry.reset) (card_function card) off < 256 →
+    listed (λ entry. entry.writable) (card_function card) off ≡ 0 → IsFixed card off
+fixed byte writable = record { byte = byte; writable = writable }
+
 fixed-header : (card : FittedCard) → card.dev ≤ 9 → (off : ℕ) → off < 16 → off ≢ 4 → IsFixed card off
 unfolding card_function
 fixed-header card last off below =
     let dev : card.dev < 256 = omega arith in
-    each_below (λ off. off ≢ 4 → IsFixed card off) 16 off (
-      λ _. record { byte = lit< tt; writable = refl },
-      (
-        λ _. record { byte = lit< tt; writable = refl },
-        (
-          λ _. record { byte = dev; writable = refl },
-          (
-            λ _. record { byte = lit< tt; writable = refl },
-            (
-              λ apart. absurd (apart refl),
-              (
-                λ _. record { byte = lit< tt; writable = refl },
-                (
-                  λ _. record { byte = lit< tt; writable = refl },
-                  (
-                    λ _. record { byte = lit< tt; writable = refl },
-                    (
-                      λ _. record { byte = lit< tt; writable = refl },
-                      (
-                        λ _. record { byte = lit< tt; writable = refl },
-                        (
-                          λ _. record { byte = lit< tt; writable = refl },
-                          (
-                            λ _. record { byte = class_byte card.vga; writable = refl },
-                            (
-                              λ _. record { byte = lit< tt; writable = refl },
-                              (
-                                λ _. record { byte = lit< tt; writable = refl },
-                                (
-                                  λ _. record { byte = lit< tt; writable = refl },
-                                  (λ _. record { byte = lit< tt; writable = refl }, tt),
-                                ),
-                              ),
-                            ),
-                          ),
-                        ),
-                      ),
-                    ),
-                  ),
-                ),
-              ),
-            ),
-          ),
-        ),
-      ),
-    ) below
+    let Fixed : ℕ → Type 0 = λ off. off ≢ 4 → IsFixed card off in
+    let last : Each Fixed 13 3 = (λ _. fixed (lit< tt) refl, (λ _. fixed (lit< tt) refl, (λ _. fixed (lit< tt) refl, tt))) in
+    let class : Each Fixed 10 6 = (λ _. fixed (lit< tt) refl, (λ _. fixed (class_byte card.vga) refl, (λ _. fixed (lit< tt) refl, last))) in
+    let status : Each Fixed 7 9 = (λ _. fixed (lit< tt) refl, (λ _. fixed (lit< tt) refl, (λ _. fixed (lit< tt) refl, class))) in
+    let rest : Each Fixed 4 12 = (λ apart. absurd (apart refl), (λ _. fixed (lit< tt) refl, (λ _. fixed (lit< tt) refl, status))) in
+    each_below Fixed 16 off (λ _. fixed (lit< tt) refl, (λ _. fixed (lit< tt) refl, (λ _. fixed dev refl, (λ _. fixed (lit< tt) refl, rest)))) below
 
 -- ---- the expansion ROM, and past it
 
@@ -239,17 +198,10 @@ in_rom column card j count below =
     ∙ listed-here column (rom_entry card) (last_entry ∷ []) (0x30 + j) (omega arith) (omega arith)
     ∙ ap (λ i. get_or (column (rom_entry card)) i 0) (omega arith)
 
-no_byte : (j : ℕ) → j < 4 → ◌≡◌ {A = ℕ} (get_or (replicate 4 0x00) j 0x00) 0
-no_byte zero below = refl
-no_byte (suc zero) below = refl
-no_byte (suc (suc zero)) below = refl
-no_byte (suc (suc (suc zero))) below = refl
-no_byte (suc (suc (suc (suc j)))) below = absurd (omega arith)
-
 pub reset-rom :
     (card : FittedCard) (j : ℕ) → length card.bases ≤ 6 → j < 4 →
     listed (λ entry. entry.reset) (card_function card) (0x30 + j) ≡ 0
-reset-rom card j count below = in_rom (λ entry. entry.reset) card j count below ∙ no_byte j below
+reset-rom card j count below = in_rom (λ entry. entry.reset) card j count below ∙ get_or-replicate 4 j 0 0 below
 
 pub writable-rom :
     (card : FittedCard) (j : ℕ) → length card.bases ≤ 6 → j < 4 →
@@ -278,21 +230,18 @@ past_pin column card off count above (inr past) not_line not_pin =
       | inr beyond ↦ listed-past column last_entry [] off (omega arith)
     ]
 
-pub reset-pin :
-    (card : FittedCard) → length card.bases ≤ 6 → listed (λ entry. entry.reset) (card_function card) 0x3D ≡ 1
-reset-pin card count = past_rom (λ entry. entry.reset) card 0x3D count (lit≤ tt)
+module _ (card : FittedCard) (count : length card.bases ≤ 6) where
+  pub reset-pin : listed (λ entry. entry.reset) (card_function card) 0x3D ≡ 1
+  reset-pin = past_rom (λ entry. entry.reset) card 0x3D count (lit≤ tt)
 
-writable-pin :
-    (card : FittedCard) → length card.bases ≤ 6 → listed (λ entry. entry.writable) (card_function card) 0x3D ≡ 0
-writable-pin card count = past_rom (λ entry. entry.writable) card 0x3D count (lit≤ tt)
+  writable-pin : listed (λ entry. entry.writable) (card_function card) 0x3D ≡ 0
+  writable-pin = past_rom (λ entry. entry.writable) card 0x3D count (lit≤ tt)
 
-pub reset-line :
-    (card : FittedCard) → length card.bases ≤ 6 → listed (λ entry. entry.reset) (card_function card) 0x3C ≡ 0
-reset-line card count = past_rom (λ entry. entry.reset) card 0x3C count (lit≤ tt)
+  pub reset-line : listed (λ entry. entry.reset) (card_function card) 0x3C ≡ 0
+  reset-line = past_rom (λ entry. entry.reset) card 0x3C count (lit≤ tt)
 
-pub writable-line :
-    (card : FittedCard) → length card.bases ≤ 6 → listed (λ entry. entry.writable) (card_function card) 0x3C ≡ 0xFF
-writable-line card count = past_rom (λ entry. entry.writable) card 0x3C count (lit≤ tt)
+  pub writable-line : listed (λ entry. entry.writable) (card_function card) 0x3C ≡ 0xFF
+  writable-line = past_rom (λ entry. entry.writable) card 0x3C count (lit≤ tt)
 
 pub reset-command : (card : FittedCard) → listed (λ entry. entry.reset) (card_function card) 0x04 ≡ 0
 unfolding card_function
@@ -307,26 +256,20 @@ abbrev pub IsOffRom : FittedCard → ℕ → Type 0
 IsOffRom card off = ((off < 0x30) ⊎ (0x34 ≤ off)) ⊎ ((card.rom ≡ None) × (0x30 ≤ off) × (off ≤ 0x33))
 
 -- without a ROM its register is fixed
-no_rom : (card : FittedCard) (j : ℕ) → length card.bases ≤ 6 → card.rom ≡ None → j < 4 → IsFixed card (0x30 + j)
-no_rom card j count none below = record {
-  byte = rw (reset-rom card j count below) (lit< tt);
-  writable = writable-rom card j count below ∙ ap (λ rom. byte (rom_writable rom) j) none ∙ byte_of_zero j;
-}
-
 fixed-past :
     (card : FittedCard) (off : ℕ) → length card.bases ≤ 6 → 0x28 ≤ off → IsOffRom card off → off ≢ 0x3C →
     IsFixed card off
 fixed-past card off count above (inr (none, from, to)) not_line =
-    subst (IsFixed card) (omega arith) (no_rom card (off - 0x30) count none (omega arith))
+    let j : ℕ = off - 0x30 in
+    subst (IsFixed card) (omega arith)
+    (fixed (rw (reset-rom card j count (omega arith)) (lit< tt))
+    (writable-rom card j count (omega arith) ∙ ap (λ rom. byte (rom_writable rom) j) none ∙ byte_of_zero j))
 fixed-past card off count above (inl apart) not_line =
     elim (cases_eq off 0x3D) [
-      | inl pin ↦
-          subst (IsFixed card) (sym pin)
-          (record { byte = rw (reset-pin card count) (lit< tt); writable = writable-pin card count })
-      | inr not_pin ↦ record {
-        byte = rw (past_pin (λ entry. entry.reset) card off count above apart not_line not_pin) (lit< tt);
-        writable = past_pin (λ entry. entry.writable) card off count above apart not_line not_pin;
-      }
+      | inl pin ↦ rw pin (fixed (rw (reset-pin card count) (lit< tt)) (writable-pin card count))
+      | inr not_pin ↦
+          fixed (rw (past_pin (λ entry. entry.reset) card off count above apart not_line not_pin) (lit< tt))
+          (past_pin (λ entry. entry.writable) card off count above apart not_line not_pin)
     ]
 
 -- ---- kept offsets
@@ -336,9 +279,9 @@ pub kept_nowhere :
     (rom : Option ℕ) (off : ℕ) → (off == 0x04 || is_within 0x10 0x27 off || off == 0x3C) ≡ false →
     (off < 0x30) ⊎ (0x34 ≤ off) →
     (off == 0x04 || is_within 0x10 0x27 off || is_some rom && is_within 0x30 0x33 off || off == 0x3C) ≡ false
-kept_nowhere None off plain off_rom = grind (arith, nat_tests)
-kept_nowhere (Some bits) off plain (inl below) = grind (arith, nat_tests)
-kept_nowhere (Some bits) off plain (inr above) = grind (arith, nat_tests)
+kept_nowhere None off plain _ = grind (arith, nat_tests)
+kept_nowhere _ off plain (inl below) = grind (arith, nat_tests)
+kept_nowhere _ off plain (inr above) = grind (arith, nat_tests)
 
 pub record IsElsewhere (card : FittedCard) (off : ℕ) : Type 0 where
   pub command : off ≢ 0x04

@@ -1,7 +1,7 @@
 -- The window that claims a place has the size of its base, and an access that it claims lies in its contents.
-use Rattle.std.proofs.Common.{◌≡◌, ◌≢◌, ◌⊎◌, ℕ, ◌+◌, ◌-◌, ◌*◌, ◌/◌, ◌%◌, ◌^◌, ◌<◌, ◌≤◌, Bool, false, ◌&&◌, List, []}
-use Rattle.std.proofs.Common.{◌∷◌, ◌++◌, length, Option, None, Some, inl, inr, ◌∙◌, refl, sym, ap, subst, arith, lit<}
-use Rattle.std.proofs.Common.{lit≤, ◌==◌, All, find, flat_map, slice_get}
+use Rattle.std.proofs.Common.{◌≡◌, ◌≢◌, ◌⊎◌, ℕ, ◌+◌, ◌-◌, ◌*◌, ◌/◌, ◌%◌, ◌^◌, ◌<◌, ◌≤◌, Bool, true, false, ◌&&◌, List}
+use Rattle.std.proofs.Common.{[], ◌∷◌, ◌++◌, if◌then◌else◌, length, Option, None, Some, inl, inr, ◌∙◌, refl, sym, ap}
+use Rattle.std.proofs.Common.{subst, arith, lit<, lit≤, ◌==◌, All, find, flat_map, slice_get}
 use Rattle.board_prelude.proofs.Common.{cases_Bool, ne_eqb, nil_from_length, pow-add, pow_pos, All-nil, All-cons}
 use Rattle.board_prelude.proofs.Common.{All-head, All-tail, All-append, Base, MemoryBase, IoBase, OutsideBase}
 use Rattle.board_prelude.proofs.Common.{FittedCard, Setup, IsBase, IsExpansionRom, IsCard, card_at, kept_of_base}
@@ -46,9 +46,8 @@ least_bits (IoBase bits) fit = fit.0
 least_bits (OutsideBase bits) fit = omega (arith, fit.0)
 
 size_of_bits : (base : Base) → IsKeptAs (kept_of_base base) (bits_of_base (Some base))
-size_of_bits (MemoryBase bits) = inr refl
-size_of_bits (IoBase bits) = inr refl
 size_of_bits (OutsideBase bits) = inl refl
+size_of_bits _ = inr refl
 
 -- a window of base number k of a card
 sized :
@@ -66,140 +65,118 @@ sized setup card k value base fit fitted below at =
       size = λ _. rw (fitted, not_vga, at) (size_of_bits base);
     }
 
-sized_bases :
-    (windows : Windows) (setup : Setup) (bytes : Bytes) (card : FittedCard) → IsCard card → card_at setup card.dev
-    ≡ Some card →
-    (k : ℕ) (bases : List Base) → k + length bases ≤ 6 → ((i : ℕ) → slice_get card.bases (k + i) ≡ slice_get bases i) →
-    All (IsSized setup) (base_windows windows bytes card.dev k bases)
-sized_bases windows setup bytes card fit fitted k [] few same = All-nil (IsSized setup)
-sized_bases windows setup bytes card fit fitted k (base ∷ later) few same =
-    All-append (IsSized setup) (window_in windows bytes card.dev k base)
-    (base_windows windows bytes card.dev (k + 1) later)
-    (one windows base (ap (slice_get card.bases) (plus_zero k) ∙ same 0))
-    (sized_bases windows setup bytes card fit fitted (k + 1) later (omega arith)
-    (λ i. ap (slice_get card.bases) (omega arith) ∙ same (i + 1) ∙ next later base i))
-  where
-    plus_zero : (k : ℕ) → k ≡ k + 0
-    plus_zero k = omega arith
+either : (setup : Setup) (b : Bool) (xs ys : List Window) → All (IsSized setup) xs → All (IsSized setup) ys →
+    All (IsSized setup) (if b then xs else ys)
+either setup true xs ys first later = first
+either setup false xs ys first later = later
 
-    next : (later : List Base) (base : Base) (i : ℕ) → slice_get (base ∷ later) (i + 1) ≡ slice_get later i
-    next later base i = grind arith
+one_sized : (setup : Setup) (window : Window) → IsSized setup window → All (IsSized setup) (window ∷ [])
+one_sized setup window is = All-cons (IsSized setup) window [] is (All-nil (IsSized setup))
 
-    one :
-        (windows : Windows) (base : Base) → slice_get card.bases k ≡ Some base →
-        All (IsSized setup) (window_in windows bytes card.dev k base)
-    one Memory (MemoryBase bits) at =
-        All-cons (IsSized setup) _ []
-        (sized setup card k (base_value bytes card.dev k) (MemoryBase bits) fit fitted (omega arith) at)
-        (All-nil (IsSized setup))
-    one Memory (IoBase bits) at = All-nil (IsSized setup)
-    one Memory (OutsideBase bits) at =
-        All-cons (IsSized setup) _ []
-        (sized setup card k (base_value bytes card.dev k) (OutsideBase bits) fit fitted (omega arith) at)
-        (All-nil (IsSized setup))
-    one UnselectedRom base at = All-nil (IsSized setup)
-    one Ports (MemoryBase bits) at = All-nil (IsSized setup)
-    one Ports (IoBase bits) at =
-        All-cons (IsSized setup) _ []
-        (sized setup card k (base_value bytes card.dev k) (IoBase bits) fit fitted (omega arith) at)
-        (All-nil (IsSized setup))
-    one Ports (OutsideBase bits) at = All-nil (IsSized setup)
+module _ (setup : Setup) (bytes : Bytes) (card : FittedCard) (fit : IsCard card)
+    (fitted : card_at setup card.dev ≡ Some card) where
+  sized_base :
+      (windows : Windows) (k : ℕ) (base : Base) → k < 6 → slice_get card.bases k ≡ Some base →
+      All (IsSized setup) (window_in windows bytes card.dev k base)
+  sized_base Memory k (IoBase bits) below at = All-nil (IsSized setup)
+  sized_base Memory k (MemoryBase bits) below at =
+      one_sized setup _ (sized setup card k (base_value bytes card.dev k) (MemoryBase bits) fit fitted below at)
+  sized_base Memory k (OutsideBase bits) below at =
+      one_sized setup _ (sized setup card k (base_value bytes card.dev k) (OutsideBase bits) fit fitted below at)
+  sized_base Ports k (IoBase bits) below at =
+      one_sized setup _ (sized setup card k (base_value bytes card.dev k) (IoBase bits) fit fitted below at)
+  sized_base _ k _ below at = All-nil (IsSized setup)
 
-sized_vga :
-    (windows : Windows) (setup : Setup) (card : FittedCard) → IsCard card → card_at setup card.dev ≡ Some card →
-    All (IsSized setup) (vga_windows windows card)
-sized_vga Memory setup card fit fitted =
-    elim (cases_Bool card.vga) [
-      | inl vga ↦
-          rw vga (All-cons (IsSized setup) _ [] (record {
-            number = record { first = fit.first; last = fit.last; below = lit< tt };
-            least = lit≤ tt;
-            bits = refl;
-            size = λ _. rw (fitted, vga) (inr refl);
-          }) (All-nil (IsSized setup)))
-      | inr plain ↦ rw plain (All-nil (IsSized setup))
-    ]
-sized_vga UnselectedRom setup card fit fitted = All-nil (IsSized setup)
-sized_vga Ports setup card fit fitted = All-nil (IsSized setup)
+  sized_bases :
+      (windows : Windows) (k : ℕ) (bases : List Base) → k + length bases ≤ 6 →
+      ((i : ℕ) → slice_get card.bases (k + i) ≡ slice_get bases i) →
+      All (IsSized setup) (base_windows windows bytes card.dev k bases)
+  sized_bases windows k [] few same = All-nil (IsSized setup)
+  sized_bases windows k (base ∷ later) few same =
+      let next : (i : ℕ) → slice_get (base ∷ later) (i + 1) ≡ slice_get later i = λ i. grind arith in
+      All-append (IsSized setup) (window_in windows bytes card.dev k base)
+      (base_windows windows bytes card.dev (k + 1) later)
+      (sized_base windows k base (omega arith) (ap (slice_get card.bases) (omega arith) ∙ same 0))
+      (sized_bases windows (k + 1) later (omega arith)
+      (λ i. ap (slice_get card.bases) (omega arith) ∙ same (i + 1) ∙ next i))
 
-sized_rom_of :
-    (setup : Setup) (bytes : Bytes) (card : FittedCard) → IsCard card → card_at setup card.dev ≡ Some card →
-    (rom : Option ℕ) → card.rom ≡ rom → IsExpansionRom rom → All (IsSized setup) (rom_window_of bytes card.dev rom)
-sized_rom_of setup bytes card fit fitted None none size = All-nil (IsSized setup)
-sized_rom_of setup bytes card fit fitted (Some bits) some size =
-    All-cons (IsSized setup) _ [] (record {
-      number = record { first = fit.first; last = fit.last; below = lit< tt };
-      least = omega (arith, size.0);
-      bits = rw (fitted, some) refl;
-      size = λ not_rom. absurd (not_rom refl);
-    }) (All-nil (IsSized setup))
+  sized_vga : (windows : Windows) → All (IsSized setup) (vga_windows windows card)
+  sized_vga Memory =
+      elim (cases_Bool card.vga) [
+        | inl vga ↦
+            rw vga (one_sized setup _ (record {
+              number = record { first = fit.first; last = fit.last; below = lit< tt };
+              least = lit≤ tt;
+              bits = refl;
+              size = λ _. rw (fitted, vga) (inr refl);
+            }))
+        | inr plain ↦ rw plain (All-nil (IsSized setup))
+      ]
+  sized_vga _ = All-nil (IsSized setup)
 
-sized_rom :
-    (windows : Windows) (setup : Setup) (bytes : Bytes) (card : FittedCard) → IsCard card → card_at setup card.dev
-    ≡ Some card →
-    All (IsSized setup) (rom_windows windows bytes card)
-sized_rom Memory setup bytes card fit fitted =
-    elim (cases_Bool (is_rom_on bytes card.dev)) [
-      | inl selected ↦ rw selected (sized_rom_of setup bytes card fit fitted card.rom refl fit.rom)
-      | inr not ↦ rw not (All-nil (IsSized setup))
-    ]
-sized_rom UnselectedRom setup bytes card fit fitted =
-    elim (cases_Bool (is_rom_on bytes card.dev)) [
-      | inl selected ↦ rw selected (All-nil (IsSized setup))
-      | inr not ↦ rw not (sized_rom_of setup bytes card fit fitted card.rom refl fit.rom)
-    ]
-sized_rom Ports setup bytes card fit fitted = All-nil (IsSized setup)
+  sized_rom_of :
+      (rom : Option ℕ) → card.rom ≡ rom → IsExpansionRom rom → All (IsSized setup) (rom_window_of bytes card.dev rom)
+  sized_rom_of None none size = All-nil (IsSized setup)
+  sized_rom_of (Some bits) some size =
+      one_sized setup _ (record {
+        number = record { first = fit.first; last = fit.last; below = lit< tt };
+        least = omega (arith, size.0);
+        bits = rw (fitted, some) refl;
+        size = λ not_rom. absurd (not_rom refl);
+      })
 
-sized_card :
-    (windows : Windows) (setup : Setup) (bytes : Bytes) (card : FittedCard) → IsCard card → card_at setup card.dev
-    ≡ Some card →
-    All (IsSized setup) (windows_in windows bytes card)
-sized_card windows setup bytes card fit fitted =
-    All-append (IsSized setup) (base_windows windows bytes card.dev 0 card.bases ++ rom_windows windows bytes card)
-    (vga_windows windows card)
-    (All-append (IsSized setup) (base_windows windows bytes card.dev 0 card.bases) (rom_windows windows bytes card)
-    (sized_bases windows setup bytes card fit fitted 0 card.bases (let few = fit.count in omega arith)
-    (λ i. ap (slice_get card.bases) (omega arith)))
-    (sized_rom windows setup bytes card fit fitted))
-    (sized_vga windows setup card fit fitted)
+  sized_rom : (windows : Windows) → All (IsSized setup) (rom_windows windows bytes card)
+  sized_rom Ports = All-nil (IsSized setup)
+  sized_rom Memory =
+      either setup (is_rom_on bytes card.dev) _ [] (sized_rom_of card.rom refl fit.rom) (All-nil (IsSized setup))
+  sized_rom UnselectedRom =
+      either setup (is_rom_on bytes card.dev) [] _ (All-nil (IsSized setup)) (sized_rom_of card.rom refl fit.rom)
 
-sized_cards :
-    (windows : Windows) (setup : Setup) (bytes : Bytes) (cards : List CardBytes) → AreCards cards → All
-    (DecodesAs setup bytes) cards →
-    All (IsSized setup) (flat_map (windows_in windows bytes) (cards_of cards))
-sized_cards windows setup bytes [] fit are = All-nil (IsSized setup)
-sized_cards windows setup bytes (card ∷ later) fit are =
-    let is : DecodesAs setup bytes card = All-head (DecodesAs setup bytes) card later are in
-    All-append (IsSized setup) (windows_in windows bytes card.card)
-    (flat_map (windows_in windows bytes) (cards_of later))
-    (sized_card windows setup bytes card.card (All-head (λ card. IsCard card.card) card later fit) is.fitted)
-    (sized_cards windows setup bytes later (All-tail (λ card. IsCard card.card) card later fit)
-    (All-tail (DecodesAs setup bytes) card later are))
+  sized_card : (windows : Windows) → All (IsSized setup) (windows_in windows bytes card)
+  sized_card windows =
+      All-append (IsSized setup) (base_windows windows bytes card.dev 0 card.bases ++ rom_windows windows bytes card)
+      (vga_windows windows card)
+      (All-append (IsSized setup) (base_windows windows bytes card.dev 0 card.bases) (rom_windows windows bytes card)
+      (sized_bases windows 0 card.bases (let few = fit.count in omega arith)
+      (λ i. ap (slice_get card.bases) (omega arith)))
+      (sized_rom windows))
+      (sized_vga windows)
 
--- the window that claims an address is that of a base
-pub memory_claim_sized :
-    (setup : Setup) (bytes : Bytes) (cards : List CardBytes) (addr : ℕ) (window : Window) → AreCards cards →
-    AreDecoded setup bytes cards →
-    memory_claim setup bytes addr ≡ Some window → IsSized setup window
-unfolding memory_claim
-memory_claim_sized setup bytes cards addr window fit are found =
-    All-find (IsSized setup) (λ window. is_enabled_for 1 bytes window.dev && is_covered addr window)
-    (flat_map (windows_in Memory bytes) (cards_of cards)) window
-    (sized_cards Memory setup bytes cards fit are.1) (rw are.0 at found)
+module _ (setup : Setup) (bytes : Bytes) where
+  sized_cards :
+      (windows : Windows) (cards : List CardBytes) → AreCards cards → All (DecodesAs setup bytes) cards →
+      All (IsSized setup) (flat_map (windows_in windows bytes) (cards_of cards))
+  sized_cards windows [] fit are = All-nil (IsSized setup)
+  sized_cards windows (card ∷ later) fit are =
+      let is : DecodesAs setup bytes card = All-head (DecodesAs setup bytes) card later are in
+      All-append (IsSized setup) (windows_in windows bytes card.card)
+      (flat_map (windows_in windows bytes) (cards_of later))
+      (sized_card setup bytes card.card (All-head (λ card. IsCard card.card) card later fit) is.fitted windows)
+      (sized_cards windows later (All-tail (λ card. IsCard card.card) card later fit)
+      (All-tail (DecodesAs setup bytes) card later are))
 
--- and so is the window that claims a port
-pub io_claim_sized :
-    (setup : Setup) (bytes : Bytes) (cards : List CardBytes) (port : ℕ) (window : Window) → AreCards cards →
-    AreDecoded setup bytes cards →
-    io_claim setup bytes port ≡ Some window → IsSized setup window
-unfolding io_claim
-io_claim_sized setup bytes cards port window fit are found =
-    All-find (IsSized setup) (λ window. is_enabled_for 0 bytes window.dev && is_covered port window)
-    (flat_map (windows_in Ports bytes) (cards_of cards)) window
-    (sized_cards Ports setup bytes cards fit are.1)
-    (same_windows (is_enabled_for 0 bytes) port (windows_in Ports bytes) (io_windows bytes) (io_windows_are bytes)
-    (cards_of cards)
-    ∙ rw are.0 at found)
+  -- the window that claims an address is that of a base
+  pub memory_claim_sized :
+      (cards : List CardBytes) (addr : ℕ) (window : Window) → AreCards cards → AreDecoded setup bytes cards →
+      memory_claim setup bytes addr ≡ Some window → IsSized setup window
+  unfolding memory_claim
+  memory_claim_sized cards addr window fit are found =
+      All-find (IsSized setup) (λ window. is_enabled_for 1 bytes window.dev && is_covered addr window)
+      (flat_map (windows_in Memory bytes) (cards_of cards)) window
+      (sized_cards Memory cards fit are.1) (rw are.0 at found)
+
+  -- and so is the window that claims a port
+  pub io_claim_sized :
+      (cards : List CardBytes) (port : ℕ) (window : Window) → AreCards cards → AreDecoded setup bytes cards →
+      io_claim setup bytes port ≡ Some window → IsSized setup window
+  unfolding io_claim
+  io_claim_sized cards port window fit are found =
+      All-find (IsSized setup) (λ window. is_enabled_for 0 bytes window.dev && is_covered port window)
+      (flat_map (windows_in Ports bytes) (cards_of cards)) window
+      (sized_cards Ports cards fit are.1)
+      (same_windows (is_enabled_for 0 bytes) port (windows_in Ports bytes) (io_windows bytes) (io_windows_are bytes)
+      (cards_of cards)
+      ∙ rw are.0 at found)
 
 -- ---- an aligned access in a window
 

@@ -14,33 +14,25 @@ returns-in-61 c =
 
 pub returns-in-0-to-15 : goal.returns-in-0-to-15
 returns-in-0-to-15 c =
-    record {
-      byte =
-          rw (c.header.ensures.header, c.from.ensures)
-          (λ setup bytes is. read-header setup bytes c.args.self.now c.args.off c.requires.card is (omega arith));
-      decoded =
-          rw (c.header.ensures.header, c.from.ensures)
-          (λ setup bytes is in_map.
-          decoded-header setup bytes c.args.self.now c.args.off c.requires.card (omega arith) is in_map);
-    }
+    rw (c.header.ensures.header, c.from.ensures) (record {
+      byte = λ setup bytes is. read-header setup bytes c.args.self.now c.requires.card is c.args.off (omega arith);
+      decoded = λ setup bytes is in_map.
+          decoded-header setup bytes c.args.self.now c.args.off c.requires.card (omega arith) is in_map;
+    })
 
 pub returns-in-48-to-51 : goal.returns-in-48-to-51
 returns-in-48-to-51 c =
     let fit = rw (← c.self.view_is) at c.requires.card in
-    record {
-      byte =
-          rw (c.byte_of.ensures.byte, ← c.self.view_is)
-          (λ setup bytes is. read-rom setup bytes _ c.args.off fit is (omega arith) (omega arith));
-      decoded =
-          rw (c.byte_of.ensures.byte, ← c.self.view_is)
-          (λ setup bytes is in_map. decoded-rom setup bytes _ c.args.off fit (omega arith) (omega arith) is in_map);
-    }
+    rw (c.byte_of.ensures.byte, ← c.self.view_is) (record {
+      byte = λ setup bytes is. read-rom setup bytes _ fit is c.args.off (omega arith) (omega arith);
+      decoded = λ setup bytes is in_map. decoded-rom setup bytes _ c.args.off fit (omega arith) (omega arith) is in_map;
+    })
 
 pub returns-in_default : goal.returns-in_default
 returns-in_default c =
     record {
       byte = λ setup bytes is.
-          read-rest setup bytes c.args.self.now c.args.off c.requires.card is (omega arith) (inl (omega arith))
+          read-rest setup bytes c.args.self.now c.requires.card is c.args.off (omega arith) (inl (omega arith))
           (λ e. omega arith) (λ e. omega arith);
       decoded = λ setup bytes is in_map.
           decoded-rest setup bytes c.args.self.now c.args.off 0 c.requires.card (omega arith) (inl (omega arith)) is
@@ -51,7 +43,7 @@ pub returns-in_default-2 : goal.returns-in_default-2
 returns-in_default-2 c =
     record {
       byte = λ setup bytes is.
-          read-rest setup bytes c.args.self.now c.args.off c.requires.card is (omega arith) (inr (omega arith))
+          read-rest setup bytes c.args.self.now c.requires.card is c.args.off (omega arith) (inr (omega arith))
           (λ e. omega arith) (λ e. omega arith);
       decoded = λ setup bytes is in_map.
           decoded-rest setup bytes c.args.self.now c.args.off 0 c.requires.card (omega arith) (inr (omega arith)) is
