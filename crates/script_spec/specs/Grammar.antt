@@ -4,8 +4,9 @@ use Rattle.std.specs.Prelude.{ℕ, ◌≡◌, ◌≢◌, ◌+◌, ◌%◌, ◌^�
 use Rattle.std.specs.Prelude.{[], ◌∷◌, ◌++◌, length, flat_map, take, All, Option, Some, None, IfSome, codes, decimal}
 use Rattle.board_prelude.specs.Common.{AllZip, list_all, PortAccess, WideAccess, Moment, bytes_of, weekday_of, Event}
 use Rattle.board_prelude.specs.Common.{Memory, Wide, Port, Ack, Time, Stimulus, stimulus_form, applied_by}
-use Rattle.board_prelude.specs.Common.{Statement, Base, MemoryBase, IoBase, OutsideBase, FittedCard, is_within, is_write, FitsBytes}
-use Rattle.board_prelude.specs.Common.{space, event_text}
+use Rattle.board_prelude.specs.Common.{Statement, Base, MemoryBase, IoBase, OutsideBase, FittedCard, is_within}
+use Rattle.board_prelude.specs.Common.{is_write}
+use Rattle.board_prelude.specs.Common.{FitsBytes, space, event_text}
 use Rattle.board_base.specs.declared.access.Access.{Access}
 use Rattle.board_spec.specs.declared.event.Event.TheVariants.{Look as LookAt}
 
