@@ -6,8 +6,8 @@ use Rattle.board_prelude.proofs.Common.{bytes_of}
 use Rattle.std.proofs.lemmas.List.Splits.{slice_split_none, slice_split_at}
 use Rattle.script_spec.specs.Common.{HasForm, fields_of, parse_size, parse_width, parse_kind, parse_hex, parse_decimal}
 use Rattle.script_spec.specs.Common.{parse_digit, parse_digits, number_after, parse_smm, parse_read}
-use Rattle.script_spec.specs.Common.{parse_write, parse_in, parse_out, parse_look, parse_event, ask, is_skipped}
-use Rattle.script_spec.specs.Common.{parse_event_item, parse_by_verb, parse_statement_words, parse_item}
+use Rattle.script_spec.specs.Common.{parse_write, parse_in, parse_out, parse_look, ask, is_skipped}
+use Rattle.script_spec.specs.Common.{parse_by_verb, parse_statement_words, parse_item}
 use Rattle.script_spec.specs.Events.{read_event, write_event, in_event, out_event, look_event}
 use Rattle.script_spec.proofs.Chains.{guarded, then_said}
 use Rattle.script_spec.proofs.NumberTexts.{decimal_read}
@@ -151,7 +151,7 @@ matched N P (Some x) m = m
 
 asks_read : (version : ℕ) (words text : List ℕ) (event : Event) → words ≡ 114 ∷ 32 ∷ text
     → parse_read version Read (fields_of text) ≡ Some event → Asks version words event
-unfolding parse_statement_words parse_by_verb parse_event_item parse_event
+unfolding parse_statement_words parse_by_verb
 asks_read version words text event is said actor =
     ap (λ (t : List ℕ). parse_statement_words version actor (fields_of t)) is ∙ ap (option_map (ask actor)) said
 
@@ -162,7 +162,7 @@ each_read version words text (Some event) is said = asks_read version words text
 
 asks_fetch : (version : ℕ) (words text : List ℕ) (event : Event) → words ≡ 102 ∷ 32 ∷ text
     → parse_read version Fetch (fields_of text) ≡ Some event → Asks version words event
-unfolding parse_statement_words parse_by_verb parse_event_item parse_event
+unfolding parse_statement_words parse_by_verb
 asks_fetch version words text event is said actor =
     ap (λ (t : List ℕ). parse_statement_words version actor (fields_of t)) is ∙ ap (option_map (ask actor)) said
 
@@ -174,7 +174,7 @@ each_fetch version words text (Some event) is said = asks_fetch version words te
 pub write_straight : (version size : ℕ) (words text fields addr value : List ℕ) (found : Option Event)
     → words ≡ 119 ∷ 32 ∷ text → text ≡ size ∷ 32 ∷ fields → fields ≡ addr ++ 32 ∷ value
     → found ≡ write_event version (size ∷ []) addr value false → IfSome found (Asks version words)
-unfolding parse_statement_words parse_by_verb parse_event_item parse_event
+unfolding parse_statement_words parse_by_verb
 write_straight version size words text fields addr value None verb is cut made = tt
 write_straight version size words text fields addr value (Some event) verb is cut made = λ actor.
     ap (λ (t : List ℕ). parse_statement_words version actor (fields_of t)) verb
@@ -183,7 +183,7 @@ write_straight version size words text fields addr value (Some event) verb is cu
 pub in_straight : (version byte : ℕ) (words text port : List ℕ) (found : Option Event)
     → words ≡ 105 ∷ 110 ∷ 32 ∷ text → text ≡ byte ∷ 32 ∷ port → found ≡ in_event (byte ∷ []) port
     → IfSome found (Asks version words)
-unfolding parse_statement_words parse_by_verb parse_event_item parse_event
+unfolding parse_statement_words parse_by_verb
 in_straight version byte words text port None verb is made = tt
 in_straight version byte words text port (Some event) verb is made = λ actor.
     ap (λ (t : List ℕ). parse_statement_words version actor (fields_of t)) verb
@@ -192,7 +192,7 @@ in_straight version byte words text port (Some event) verb is made = λ actor.
 pub out_straight : (version byte : ℕ) (words text fields port value : List ℕ) (found : Option Event)
     → words ≡ 111 ∷ 117 ∷ 116 ∷ 32 ∷ text → text ≡ byte ∷ 32 ∷ fields → fields ≡ port ++ 32 ∷ value
     → found ≡ out_event (byte ∷ []) port value → IfSome found (Asks version words)
-unfolding parse_statement_words parse_by_verb parse_event_item parse_event
+unfolding parse_statement_words parse_by_verb
 out_straight version byte words text fields port value None verb is cut made = tt
 out_straight version byte words text fields port value (Some event) verb is cut made = λ actor.
     ap (λ (t : List ℕ). parse_statement_words version actor (fields_of t)) verb
@@ -201,7 +201,7 @@ out_straight version byte words text fields port value (Some event) verb is cut 
 pub look_straight : (version byte : ℕ) (words text addr : List ℕ) (found : Option Event)
     → words ≡ 108 ∷ 111 ∷ 111 ∷ 107 ∷ 32 ∷ text → text ≡ byte ∷ 32 ∷ addr → found ≡ look_event (byte ∷ []) addr false
     → IfSome found (Asks version words)
-unfolding parse_statement_words parse_by_verb parse_event_item parse_event
+unfolding parse_statement_words parse_by_verb
 look_straight version byte words text addr None verb is made = tt
 look_straight version byte words text addr (Some event) verb is made = λ actor.
     ap (λ (t : List ℕ). parse_statement_words version actor (fields_of t)) verb

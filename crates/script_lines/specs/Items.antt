@@ -2,11 +2,11 @@
 use Rattle.std.specs.Prelude.{ℕ, List, map}
 use Rattle.board_prelude.specs.Common.{Moment, moment_of, Time, Base, MemoryBase, IoBase, FittedCard}
 use Rattle.script_spec.specs.Common.{Item, SetCpus, SetMemory, SetRom, SetDisk, FitCard, BeginPhase, HasForm, Tail, ask}
-use Rattle.script_spec.specs.Common.{wire_item, line_item}
+use Rattle.script_spec.specs.Common.{stimulus_item}
 use Rattle.script_lines.specs.declared.item.Item.{Item as Line}
 use Rattle.script_lines.specs.declared.item.Item.TheVariants.{Cpus, Memory, Rom, Disk, Card, Phase, Statement as Asks}
 use Rattle.script_lines.specs.declared.item.Asked.{Asked}
-use Rattle.script_lines.specs.declared.item.Asked.TheVariants.{Event as AnEvent, Moment as AMoment, Wire, Line as ALine}
+use Rattle.script_lines.specs.declared.item.Asked.TheVariants.{Event as AnEvent, Moment as AMoment, Stimulus as Applies}
 use Rattle.script_lines.specs.declared.card.BaseField.{BaseField}
 use Rattle.script_lines.specs.declared.card.BaseField.TheVariants.{Memory as MemoryField, Io as IoField}
 use Rattle.script_lines.specs.declared.card.CardFields.{CardFields}
@@ -29,8 +29,7 @@ moment_said m = moment_of m.year m.month m.day m.hour m.minute m.second
 abbrev pub asked_said : (actor : ℕ) → Asked → Item
 asked_said actor (AnEvent event) = ask actor event
 asked_said actor (AMoment moment) = ask actor (Time (moment_said moment))
-asked_said actor (Wire dev level) = wire_item actor dev level
-asked_said actor (ALine irq level) = line_item actor irq level
+asked_said actor (Applies stimulus number level) = stimulus_item actor stimulus number level
 
 abbrev pub line_said : Line → Item
 line_said (Cpus count) = SetCpus count

@@ -1,18 +1,18 @@
 //! The event of a statement, read from the fields of its line after the processor's number.
 
-ghost use Rattle.std.specs.Prelude.{◌≡◌, ◌*◌, ◌<◌, ◌^◌, IfSome};
+ghost use Rattle.std.specs.Prelude.{◌≡◌, ◌*◌, ◌<◌, ◌^◌, option_map, IfSome};
 ghost use Rattle.board_base.specs.Access.{bytes_of};
 ghost use Rattle.script_spec.specs.Common.{parse_hex, IsSize, parse_width, quad_size, parse_size, width_with, is_wide};
 ghost use Rattle.script_spec.specs.Common.{memory_event, parse_kind, parse_smm, parse_read, parse_write, parse_in};
-ghost use Rattle.script_spec.specs.Common.{parse_out, parse_look, parse_ack, parse_number, parse_bad_sector};
-ghost use Rattle.script_spec.specs.Common.{parse_event};
-ghost use Rattle.script_spec.specs.Events.{read_event, write_event, in_event, out_event, look_event, parse_pulses};
+ghost use Rattle.script_spec.specs.Common.{parse_out, parse_look, parse_ack, parse_number, parse_two_numbers};
+ghost use Rattle.script_spec.specs.Common.{parse_given};
+ghost use Rattle.script_spec.specs.Events.{read_event, write_event, in_event, out_event, look_event};
 
 use crate::fields::Fields;
 use crate::item::is_word;
 use crate::numbers::{parse_decimal, parse_hex};
 use board_base::{Access, Kind, PortAccess, WideAccess, Width};
-use board_spec::Event;
+use board_spec::{Event, Stimulus};
 
 /// The width of an access to a port.
 fn parse_width(field: &[u8]) -> Option<Width>
@@ -163,7 +163,7 @@ pub(crate) fn read_event(
 
 /// `W ADDR` and the flag, after the word for a read or a fetch.
 #[tactic(auto, unfolding(script_spec::specs::Events::parse_read))]
-fn parse_read(version: u8, kind: Kind, words: Fields<'_>) -> Option<Event>
+pub(crate) fn parse_read(version: u8, kind: Kind, words: Fields<'_>) -> Option<Event>
     ensures event { result ≡ parse_read version kind words.entry }
 {
     let (size, words) = words.next()?;
@@ -192,7 +192,7 @@ pub(crate) fn write_event(
 
 /// `W ADDR VALUE` and the flag, after the word for a write.
 #[tactic(auto, unfolding(script_spec::specs::Events::parse_write))]
-fn parse_write(version: u8, words: Fields<'_>) -> Option<Event>
+pub(crate) fn parse_write(version: u8, words: Fields<'_>) -> Option<Event>
     ensures event { result ≡ parse_write version words.entry }
 {
     let (size, words) = words.next()?;
@@ -220,7 +220,7 @@ pub(crate) fn in_event(width: &[u8], port: &[u8]) -> Option<Event>
 
 /// `W PORT`, after `in`.
 #[tactic(auto, unfolding(script_spec::specs::Events::parse_in))]
-fn parse_in(words: Fields<'_>) -> Option<Event>
+pub(crate) fn parse_in(words: Fields<'_>) -> Option<Event>
     ensures event { result ≡ parse_in words.entry }
 {
     let (width, words) = words.next()?;
@@ -255,7 +255,7 @@ pub(crate) fn out_event(width: &[u8], port: &[u8], value: &[u8]) -> Option<Event
 
 /// `W PORT VALUE`, after `out`.
 #[tactic(auto, unfolding(script_spec::specs::Events::parse_out))]
-fn parse_out(words: Fields<'_>) -> Option<Event>
+pub(crate) fn parse_out(words: Fields<'_>) -> Option<Event>
     ensures event { result ≡ parse_out words.entry }
 {
     let (width, words) = words.next()?;
@@ -277,7 +277,7 @@ pub(crate) fn look_event(kind: &[u8], addr: &[u8], smm: bool) -> Option<Event>
 
 /// `K ADDR` and the flag, after `look`.
 #[tactic(auto, unfolding(script_spec::specs::Events::parse_look))]
-fn parse_look(words: Fields<'_>) -> Option<Event>
+pub(crate) fn parse_look(words: Fields<'_>) -> Option<Event>
     ensures event { result ≡ parse_look words.entry }
 {
     let (kind, words) = words.next()?;
@@ -288,7 +288,7 @@ fn parse_look(words: Fields<'_>) -> Option<Event>
 
 /// `ack` has no more fields.
 #[tactic(auto, unfolding(script_spec::specs::Events::parse_ack))]
-fn parse_ack(words: Fields<'_>) -> Option<Event>
+pub(crate) fn parse_ack(words: Fields<'_>) -> Option<Event>
     ensures event { result ≡ parse_ack words.entry }
 {
     words.end()?;
@@ -304,51 +304,32 @@ pub(crate) fn parse_number(words: Fields<'_>) -> Option<u32>
     parse_decimal(field)
 }
 
-fn parse_pulses(words: Fields<'_>) -> Option<Event>
-    ensures event { result ≡ parse_pulses words.entry }
+#[tactic(auto, unfolding(script_spec::specs::Events::parse_two_numbers))]
+fn parse_two_numbers(words: Fields<'_>) -> Option<(u32, u32)>
+    ensures numbers { result ≡ parse_two_numbers words.entry }
 {
-    let count = parse_number(words)?;
-    Some(Event::Pulses(count))
+    let (first, words) = words.next()?;
+    let second = words.only()?;
+    let first = parse_decimal(first)?;
+    let second = parse_decimal(second)?;
+    Some((first, second))
 }
 
-fn parse_bad_sector(words: Fields<'_>) -> Option<Event>
-    ensures event { result ≡ parse_bad_sector words.entry }
+fn parse_only_number(words: Fields<'_>) -> Option<(u32, u32)>
+    ensures numbers { result ≡ option_map (λ number. (number, 0)) (parse_number words.entry) }
 {
-    let sector = parse_number(words)?;
-    Some(Event::BadSector(sector))
+    let number = parse_number(words)?;
+    Some((number, 0))
 }
 
-/// The event of a statement that gives no moment and sets no line, by its verb and the fields after it.
-#[tactic(auto, unfolding(script_spec::specs::Events::parse_event))]
-pub(crate) fn parse_event(version: u8, verb: &[u8], words: Fields<'_>) -> Option<Event>
-    ensures event { result ≡ parse_event version verb.now words.entry }
+/// The number of a stimulus, and its level, which is 0 where it has none.
+#[tactic(auto, unfolding(script_spec::specs::Events::parse_given))]
+pub(crate) fn parse_given(stimulus: Stimulus, words: Fields<'_>) -> Option<(u32, u32)>
+    ensures given { result ≡ parse_given stimulus words.entry }
 {
-    if is_word(verb, "r") {
-        return parse_read(version, Kind::Read, words);
+    if stimulus.has_level() {
+        parse_two_numbers(words)
+    } else {
+        parse_only_number(words)
     }
-    if is_word(verb, "f") {
-        return parse_read(version, Kind::Fetch, words);
-    }
-    if is_word(verb, "w") {
-        return parse_write(version, words);
-    }
-    if is_word(verb, "in") {
-        return parse_in(words);
-    }
-    if is_word(verb, "out") {
-        return parse_out(words);
-    }
-    if is_word(verb, "look") {
-        return parse_look(words);
-    }
-    if is_word(verb, "ack") {
-        return parse_ack(words);
-    }
-    if is_word(verb, "pulse") {
-        return parse_pulses(words);
-    }
-    if is_word(verb, "bad") {
-        return parse_bad_sector(words);
-    }
-    None
 }

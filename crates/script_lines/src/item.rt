@@ -4,18 +4,21 @@ ghost use Rattle.std.specs.Prelude.{◌≡◌, ℕ, option_map, bytes_eq, IfSome
 ghost use Rattle.std.specs.Option.{IfNone};
 ghost use Rattle.std.specs.List.{list_all};
 ghost use Rattle.script_spec.specs.Common.{SetCpus, SetMemory, SetRom, SetDisk, FitCard, HasForm, is_name_start};
-ghost use Rattle.script_spec.specs.Common.{is_name_byte, parse_number, parse_card, parse_two_numbers};
-ghost use Rattle.script_spec.specs.Common.{parse_only_moment, parse_time_item, parse_wire_item, parse_line_item};
-ghost use Rattle.script_spec.specs.Common.{parse_event_item, parse_by_verb, parse_statement_words, is_name, parse_name};
+ghost use Rattle.script_spec.specs.Common.{is_name_byte, parse_number, parse_card, ask, parse_stimulus_item};
+ghost use Rattle.script_spec.specs.Common.{parse_only_moment, parse_time_item};
+ghost use Rattle.script_spec.specs.Common.{parse_by_verb, parse_statement_words, is_name, parse_name};
 ghost use Rattle.script_spec.specs.Common.{parse_phase, parse_statement, parse_by_key, parse_item};
 ghost use Rattle.script_lines.specs.Items.{moment_said, asked_said, line_said, HasNoForm};
 
 use crate::card::{CardFields, parse_card};
-use crate::event::{parse_event, parse_number};
+use crate::event::{
+    parse_ack, parse_given, parse_in, parse_look, parse_number, parse_out, parse_read, parse_write,
+};
 use crate::fields::Fields;
 use crate::moment::{MomentFields, parse_moment};
 use crate::numbers::parse_decimal;
-use board_spec::Event;
+use board_base::Kind;
+use board_spec::{Event, Stimulus};
 
 /// The longest name, in bytes.
 const LONGEST_NAME: usize = 64;
@@ -25,10 +28,12 @@ const LONGEST_NAME: usize = 64;
 pub enum Asked {
     Event(Event),
     Moment(MomentFields),
-    /// INTA# of the card at `dev` takes a level, which may be neither 0 nor 1.
-    Wire { dev: u32, level: u32 },
-    /// An interrupt request line takes a level, which may be neither 0 nor 1.
-    Line { irq: u32, level: u32 },
+    /// A stimulus with its number, and its level, which may be neither 0 nor 1. The level is 0 where it has none.
+    Stimulus {
+        stimulus: Stimulus,
+        number: u32,
+        level: u32,
+    },
 }
 
 /// What a line of a script says, with numbers that may be out of range.
@@ -52,17 +57,6 @@ pub fn is_word(field: &[u8], word: &str) -> bool
 
 // ---- statements
 
-#[tactic(auto, unfolding(script_spec::specs::Items::parse_two_numbers))]
-fn parse_two_numbers(words: Fields<'_>) -> Option<(u32, u32)>
-    ensures numbers { result ≡ parse_two_numbers words.entry }
-{
-    let (first, words) = words.next()?;
-    let second = words.only()?;
-    let first = parse_decimal(first)?;
-    let second = parse_decimal(second)?;
-    Some((first, second))
-}
-
 #[tactic(auto, unfolding(script_spec::specs::Items::parse_only_moment))]
 fn parse_only_moment(words: Fields<'_>) -> Option<MomentFields>
     ensures moment { option_map moment_said result ≡ parse_only_moment words.entry }
@@ -79,28 +73,26 @@ fn parse_time_item(words: Fields<'_>) -> Option<Asked>
     Some(Asked::Moment(moment))
 }
 
-#[tactic(auto, unfolding(script_spec::specs::Items::parse_wire_item))]
-fn parse_wire_item(words: Fields<'_>) -> Option<Asked>
-    ensures asked { (actor : ℕ) → option_map (asked_said actor) result ≡ parse_wire_item actor words.entry }
-{
-    let (dev, level) = parse_two_numbers(words)?;
-    Some(Asked::Wire { dev, level })
-}
-
-#[tactic(auto, unfolding(script_spec::specs::Items::parse_line_item))]
-fn parse_line_item(words: Fields<'_>) -> Option<Asked>
-    ensures asked { (actor : ℕ) → option_map (asked_said actor) result ≡ parse_line_item actor words.entry }
-{
-    let (irq, level) = parse_two_numbers(words)?;
-    Some(Asked::Line { irq, level })
-}
-
-#[tactic(auto, unfolding(script_spec::specs::Items::parse_event_item))]
-fn parse_event_item(version: u8, verb: &[u8], words: Fields<'_>) -> Option<Asked>
+#[tactic(auto, unfolding(script_spec::specs::Items::parse_stimulus_item))]
+fn parse_stimulus_item(verb: &[u8], words: Fields<'_>) -> Option<Asked>
     ensures asked { (actor : ℕ) → option_map (asked_said actor) result
-        ≡ parse_event_item version actor verb.now words.entry }
+        ≡ parse_stimulus_item actor verb.now words.entry }
 {
-    let event = parse_event(version, verb, words)?;
+    let stimulus = Stimulus::of_word(verb)?;
+    let (number, level) = parse_given(stimulus, words)?;
+    Some(Asked::Stimulus {
+        stimulus,
+        number,
+        level,
+    })
+}
+
+/// The event that was found.
+#[inline(always)]
+fn ask_event(found: Option<Event>) -> Option<Asked>
+    ensures asked { (actor : ℕ) → option_map (asked_said actor) result ≡ option_map (ask actor) found }
+{
+    let event = found?;
     Some(Asked::Event(event))
 }
 
@@ -109,16 +101,31 @@ fn parse_by_verb(version: u8, verb: &[u8], words: Fields<'_>) -> Option<Asked>
     ensures asked { (actor : ℕ) → option_map (asked_said actor) result
         ≡ parse_by_verb version actor verb.now words.entry }
 {
+    if is_word(verb, "r") {
+        return ask_event(parse_read(version, Kind::Read, words));
+    }
+    if is_word(verb, "f") {
+        return ask_event(parse_read(version, Kind::Fetch, words));
+    }
+    if is_word(verb, "w") {
+        return ask_event(parse_write(version, words));
+    }
+    if is_word(verb, "in") {
+        return ask_event(parse_in(words));
+    }
+    if is_word(verb, "out") {
+        return ask_event(parse_out(words));
+    }
+    if is_word(verb, "look") {
+        return ask_event(parse_look(words));
+    }
+    if is_word(verb, "ack") {
+        return ask_event(parse_ack(words));
+    }
     if is_word(verb, "moment") {
         return parse_time_item(words);
     }
-    if is_word(verb, "wire") {
-        return parse_wire_item(words);
-    }
-    if is_word(verb, "irq") {
-        return parse_line_item(words);
-    }
-    parse_event_item(version, verb, words)
+    parse_stimulus_item(verb, words)
 }
 
 /// The event of a statement, by the fields of its line after the processor's number.

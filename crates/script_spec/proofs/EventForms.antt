@@ -1,22 +1,23 @@
 -- Each event of a form is read again from the fields that spell it.
-use Rattle.std.proofs.Common.{◌≡◌, ℕ, ◌%◌, ◌^◌, ◌<◌, ◌⊎◌, inl, inr, Bool, true, false, not, eqb, ◌&&◌, Some, List, []}
-use Rattle.std.proofs.Common.{◌∷◌, refl, sym, ap, subst, ◌∙◌, arith, codes, decimal}
+use Rattle.std.proofs.Common.{◌≡◌, ℕ, ◌%◌, ◌^◌, ◌<◌, ◌⊎◌, inl, inr, Bool, true, false, not, eqb, ◌&&◌, Option, Some}
+use Rattle.std.proofs.Common.{List, None, IfSome, [], ◌∷◌, refl, sym, ap, subst, ◌∙◌, arith, codes, decimal}
 use Rattle.board_prelude.proofs.Common.{join_with_byte, option_map, cases_Bool, eqb-true, eq-eqb, ne_eqb, Kind, Fetch}
 use Rattle.board_prelude.proofs.Common.{Read, Write, Width, One, WideAccess, Moment, bytes_of, Event, Memory, Wide}
-use Rattle.board_prelude.proofs.Common.{Port, Ack, Pulses, Time, Wire, Line, BadSector, is_write, FitsBytes, space}
-use Rattle.board_prelude.proofs.Common.{hex_number, size_text, width_text, kind_text, level_text, memory_text}
-use Rattle.board_prelude.proofs.Common.{moment_text, event_text}
+use Rattle.board_prelude.proofs.Common.{Port, Ack, Time, Stimulus, Applied, stimulus_form, event_applied, applied_by}
+use Rattle.board_prelude.proofs.Common.{is_write, FitsBytes, space, hex_number, size_text, width_text, kind_text}
+use Rattle.board_prelude.proofs.Common.{level_text, memory_text, moment_text, event_text}
 use Rattle.board_base.specs.declared.access.Width.TheVariants.{Two, Four}
 use Rattle.board_spec.specs.declared.event.Event.TheVariants.{Look as LookAt}
+use Rattle.board_spec.specs.declared.stimulus.Stimulus.TheVariants.{Pulses}
 use Rattle.script_spec.specs.Common.{Item, IsDecimal, IsWideForm, IsMomentForm, IsEventForm, IsSize, memory_event}
-use Rattle.script_spec.specs.Common.{parse_read, parse_ack, parse_number, parse_event, ask, wire_item, line_item}
-use Rattle.script_spec.specs.Common.{parse_two_numbers, parse_only_moment, parse_time_item, parse_wire_item}
-use Rattle.script_spec.specs.Common.{parse_line_item, parse_event_item, parse_by_verb, parse_statement_words}
+use Rattle.script_spec.specs.Common.{parse_read, parse_ack, parse_number, ask, stimulus_item, parse_two_numbers}
+use Rattle.script_spec.specs.Common.{parse_given, parse_stimulus_item, parse_only_moment, parse_time_item}
+use Rattle.script_spec.specs.Common.{parse_by_verb, parse_statement_words}
 use Rattle.script_spec.proofs.Digits.{lacks, digits_of_decimal}
 use Rattle.script_spec.proofs.Joins.{Spells, Reads, smm_words, access_joined, write_joined, look_joined, port_joined}
 use Rattle.script_spec.proofs.Joins.{out_joined}
 use Rattle.script_spec.proofs.Splits.{Lack}
-use Rattle.script_spec.proofs.ItemTexts.{zero_text, one_text}
+use Rattle.script_spec.proofs.ItemTexts.{zero_text, one_text, given_words, given_joined}
 use Rattle.script_spec.proofs.NumberBack.{is_plain, plain_is, plain-digits, decimal_back}
 use Rattle.script_spec.proofs.EventBack.{read_spelled, write_spelled, in_spelled, out_spelled, look_spelled}
 use Rattle.script_spec.proofs.MomentBack.{moment_back}
@@ -111,7 +112,7 @@ IsAccess version kind bytes addr value smm event =
 
 asked_read : (version actor : ℕ) (kind : Kind) (words : List (List ℕ)) → is_write kind ≡ false
     → parse_by_verb version actor (kind_text kind) words ≡ option_map (ask actor) (parse_read version kind words)
-unfolding parse_by_verb parse_event_item parse_event
+unfolding parse_by_verb
 asked_read version actor Fetch words reads = refl
 asked_read version actor Read words reads = refl
 asked_read version actor Write words reads = absurd cc
@@ -134,7 +135,7 @@ read_back version actor kind bytes addr value smm event reads size small none is
 
 write_back : (version actor bytes addr value : ℕ) (smm : Bool) (event : Event) → IsSize version bytes → addr < 2 ^ 32
     → value < 256 ^ bytes → IsAccess version Write bytes addr value smm event → IsReadBack version actor event
-unfolding parse_by_verb parse_event_item parse_event
+unfolding parse_by_verb
 write_back version actor bytes addr value smm event size small fits is = record {
   verb = codes "w";
   words = size_text bytes ∷ hex_number 4 addr ∷ hex_number bytes value ∷ smm_words smm;
@@ -161,7 +162,7 @@ memory_back version actor Write bytes addr value smm event size small fits is =
 port_back : (version actor : ℕ) (write : Bool) (width : Width) (port value : ℕ) → port < 2 ^ 16
     → FitsBytes write (bytes_of width) value
     → IsReadBack version actor (Port (record { write = write; port = port; width = width; value = value }))
-unfolding event_text parse_by_verb parse_event_item parse_event
+unfolding event_text parse_by_verb
 port_back version actor false width port value small none = record {
   verb = codes "in";
   words = width_text width ∷ hex_number 2 port ∷ [];
@@ -182,7 +183,7 @@ port_back version actor true width port value small fits = record {
 
 look_back : (version actor : ℕ) (kind : Kind) (addr : ℕ) (smm : Bool) → addr < 2 ^ 32
     → IsReadBack version actor (LookAt kind addr smm)
-unfolding event_text parse_by_verb parse_event_item parse_event
+unfolding event_text parse_by_verb
 look_back version actor kind addr smm small = record {
   verb = codes "look";
   words = kind_text kind ∷ hex_number 4 addr ∷ smm_words smm;
@@ -243,37 +244,69 @@ lacks_level : (on : Bool) → lacks space (level_text on) ≡ true
 lacks_level false = refl
 lacks_level true = refl
 
-wire_level : (actor dev : ℕ) (on : Bool) → wire_item actor dev (level_of on) ≡ ask actor (Wire dev on)
-wire_level actor dev false = refl
-wire_level actor dev true = refl
+level_item : (actor : ℕ) (one : Stimulus) (number : ℕ) (on : Bool)
+    → stimulus_item actor one number (level_of on) ≡ ask actor (event_applied one number on)
+level_item actor one number false = refl
+level_item actor one number true = refl
 
-line_level : (actor irq : ℕ) (on : Bool) → line_item actor irq (level_of on) ≡ ask actor (Line irq on)
-line_level actor irq false = refl
-line_level actor irq true = refl
+-- a stimulus without a level
+level_free : (one : Stimulus) (number : ℕ) (on : Bool) → (stimulus_form one).has_level ≡ false
+    → event_applied one number false ≡ event_applied one number on
+level_free Pulses number on none = refl
+level_free _ number on none = cc
 
-wire_back : (version actor dev : ℕ) (on : Bool) → IsDecimal dev → IsReadBack version actor (Wire dev on)
-unfolding event_text parse_by_verb parse_wire_item
-wire_back version actor dev on small = record {
-  verb = codes "wire";
-  words = decimal dev ∷ level_text on ∷ [];
-  joined = refl;
-  lack = (refl, (lacks_decimal dev, (lacks_level on, tt)));
-  read = with_verb version actor (codes "wire") _ _ refl (λ rest reads.
-      ap (option_map (λ p. wire_item actor p.0 p.1)) (level_spelled dev on rest small reads)
-      ∙ ap (λ (i : Item). Some i) (wire_level actor dev on));
-}
+word_plain : (one : Stimulus) → is_plain (stimulus_form one).word ≡ true
+word_plain Pulses = refl
+word_plain _ = refl
 
-line_back : (version actor irq : ℕ) (on : Bool) → IsDecimal irq → IsReadBack version actor (Line irq on)
-unfolding event_text parse_by_verb parse_line_item
-line_back version actor irq on small = record {
-  verb = codes "irq";
-  words = decimal irq ∷ level_text on ∷ [];
-  joined = refl;
-  lack = (refl, (lacks_decimal irq, (lacks_level on, tt)));
-  read = with_verb version actor (codes "irq") _ _ refl (λ rest reads.
-      ap (option_map (λ p. line_item actor p.0 p.1)) (level_spelled irq on rest small reads)
-      ∙ ap (λ (i : Item). Some i) (line_level actor irq on));
-}
+pub lacks_stimulus : (one : Stimulus) → lacks space (stimulus_form one).word ≡ true
+lacks_stimulus Pulses = refl
+lacks_stimulus _ = refl
+
+pub by_stimulus : (version actor : ℕ) (one : Stimulus) (words : List (List ℕ)) (given : ℕ × ℕ)
+    → parse_given one words ≡ Some given
+    → parse_by_verb version actor (stimulus_form one).word words ≡ Some (stimulus_item actor one given.0 given.1)
+unfolding parse_by_verb parse_stimulus_item
+by_stimulus version actor Pulses words given e = rw e refl
+by_stimulus version actor _ words given e = rw e refl
+
+given_spelled : (actor : ℕ) (one : Stimulus) (has_level : Bool) (number : ℕ) (on : Bool) (words : List (List ℕ))
+    → (stimulus_form one).has_level ≡ has_level → IsDecimal number
+    → Reads words (given_words has_level (decimal number) (level_text on))
+    → (given : ℕ × ℕ) × (parse_given one words ≡ Some given)
+    × (stimulus_item actor one given.0 given.1 ≡ ask actor (event_applied one number on))
+unfolding parse_given
+given_spelled actor one true number on words is small reads =
+    ((number, level_of on), rw is (level_spelled number on words small reads), level_item actor one number on)
+given_spelled actor one false number on words is small reads = (
+  (number, 0),
+  rw (is, number_spelled number words small reads) refl,
+  ap (ask actor) (level_free one number on is),
+)
+
+lacks_given : (has_level : Bool) (number : ℕ) (on : Bool)
+    → Lack (given_words has_level (decimal number) (level_text on))
+lacks_given true number on = (lacks_decimal number, (lacks_level on, tt))
+lacks_given false number on = (lacks_decimal number, tt)
+
+stimulus_back : (version actor : ℕ) (one : Stimulus) (number : ℕ) (on : Bool) → IsDecimal number
+    → IsReadBack version actor (event_applied one number on)
+stimulus_back version actor one number on small =
+    let has_level : Bool = (stimulus_form one).has_level in
+    record {
+      verb = (stimulus_form one).word;
+      words = given_words has_level (decimal number) (level_text on);
+      joined = given_joined one has_level number on refl;
+      lack = (lacks_stimulus one, lacks_given has_level number on);
+      read = with_verb version actor (stimulus_form one).word _ _ (word_plain one) (λ rest reads.
+          let given = given_spelled actor one has_level number on rest refl small reads in
+          by_stimulus version actor one rest given.0 given.1 ∙ ap (λ (i : Item). Some i) given.2);
+    }
+
+applied_back : (version actor : ℕ) (found : Option Applied) → IfSome found (λ said. IsDecimal said.number)
+    → IfSome found (λ said. IsReadBack version actor (event_applied said.stimulus said.number said.on))
+applied_back version actor None small = tt
+applied_back version actor (Some said) small = stimulus_back version actor said.stimulus said.number said.on small
 
 -- ---- others
 
@@ -283,7 +316,7 @@ ack_spelled [] reads = refl
 ack_spelled (w ∷ words) reads = absurd reads
 
 ack_back : (version actor : ℕ) → IsReadBack version actor Ack
-unfolding event_text parse_by_verb parse_event_item parse_event
+unfolding event_text parse_by_verb
 ack_back version actor = record {
   verb = codes "ack";
   words = [];
@@ -291,28 +324,6 @@ ack_back version actor = record {
   lack = (refl, tt);
   read = with_verb version actor (codes "ack") _ _ refl
       (λ rest reads. ap (option_map (ask actor)) (ack_spelled rest reads));
-}
-
-pulses_back : (version actor count : ℕ) → IsDecimal count → IsReadBack version actor (Pulses count)
-unfolding event_text parse_by_verb parse_event_item parse_event
-pulses_back version actor count small = record {
-  verb = codes "pulse";
-  words = decimal count ∷ [];
-  joined = refl;
-  lack = (refl, (lacks_decimal count, tt));
-  read = with_verb version actor (codes "pulse") _ _ refl
-      (λ rest reads. rw (number_spelled count rest small reads) refl);
-}
-
-sector_back : (version actor sector : ℕ) → IsDecimal sector → IsReadBack version actor (BadSector sector)
-unfolding event_text parse_by_verb parse_event_item parse_event
-sector_back version actor sector small = record {
-  verb = codes "bad";
-  words = decimal sector ∷ [];
-  joined = refl;
-  lack = (refl, (lacks_decimal sector, tt));
-  read = with_verb version actor (codes "bad") _ _ refl
-      (λ rest reads. rw (number_spelled sector rest small reads) refl);
 }
 
 moment_spelled : (moment : Moment) (words : List (List ℕ)) → IsMomentForm moment → Reads words (moment_text moment ∷ [])
@@ -347,8 +358,5 @@ event_back version actor (Port access) form =
     port_back version actor access.write access.width access.port access.value form.port form.value
 event_back version actor (LookAt kind addr smm) form = look_back version actor kind addr smm form
 event_back version actor Ack form = ack_back version actor
-event_back version actor (Pulses count) form = pulses_back version actor count form
 event_back version actor (Time moment) form = time_back version actor moment form
-event_back version actor (Wire dev on) form = wire_back version actor dev on form
-event_back version actor (Line irq on) form = line_back version actor irq on form
-event_back version actor (BadSector sector) form = sector_back version actor sector form
+event_back version actor event form = applied_back version actor (applied_by event) form

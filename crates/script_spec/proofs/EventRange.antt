@@ -70,7 +70,7 @@ event_in_range version setup before (Line irq on) form range place there cards =
 event_in_range version setup before _ form range place there cards = tt
 
 pub sector_in_range : (event : Event) → is_event_in_range event ≡ true → IsScriptSector event
-sector_in_range (BadSector sector) range = let e = leb-true sector _ range in omega (arith, e)
+sector_in_range (BadSector sector) range = let e = (is_within_parts _ _ sector range).1 in omega (arith, e)
 sector_in_range _ range = tt
 
 pub event_in_version : (version : ℕ) (event : Event) → IsEventForm version event → IsInVersion version event

@@ -7,9 +7,8 @@ use Rattle.board_prelude.proofs.Common.{size_text, width_text, kind_text, memory
 use Rattle.board_base.specs.declared.access.Width.TheVariants.{Two, Four}
 use Rattle.script_spec.specs.Common.{IsDecimal, IsEventForm, parse_hex, parse_width, quad_size, parse_size, parse_kind}
 use Rattle.script_spec.specs.Common.{parse_smm, IsSize, width_with, is_wide, memory_event, parse_read, parse_write}
-use Rattle.script_spec.specs.Common.{parse_in, parse_out, parse_look, parse_ack, parse_number, parse_bad_sector}
-use Rattle.script_spec.specs.Common.{parse_event}
-use Rattle.script_spec.specs.Events.{read_event, write_event, in_event, out_event, look_event, parse_pulses}
+use Rattle.script_spec.specs.Common.{parse_in, parse_out, parse_look, parse_ack, parse_number}
+use Rattle.script_spec.specs.Events.{read_event, write_event, in_event, out_event, look_event}
 use Rattle.script_spec.proofs.Chains.{some_is, guarded, then_said}
 use Rattle.script_spec.proofs.NumberTexts.{decimal_read, hex_read}
 use Rattle.script_spec.proofs.Joins.{Reads, same, same_as, word_is, smm_words, smm_read, access_joined, write_joined}
@@ -156,7 +155,7 @@ is_access version kind bytes addr value smm size small fits = elim (cases_Bool (
 
 -- ---- statements
 
-read_read : (version : ℕ) (kind : Kind) (words : List (List ℕ)) (event : Event) → is_write kind ≡ false
+pub read_read : (version : ℕ) (kind : Kind) (words : List (List ℕ)) (event : Event) → is_write kind ≡ false
     → parse_read version kind words ≡ Some event → IsRead version (kind_text kind ∷ words) event
 unfolding parse_read read_event
 read_read version kind [] event reads e = absurd cc
@@ -177,7 +176,7 @@ read_read version kind (size ∷ addr ∷ flags) event reads e =
       form = access.1;
     })
 
-write_read : (version : ℕ) (words : List (List ℕ)) (event : Event)
+pub write_read : (version : ℕ) (words : List (List ℕ)) (event : Event)
     → parse_write version words ≡ Some event → IsRead version (codes "w" ∷ words) event
 unfolding parse_write write_event
 write_read version [] event e = absurd cc
@@ -203,7 +202,7 @@ write_read version (size ∷ addr ∷ value ∷ flags) event e =
       form = access.1;
     })
 
-in_read : (version : ℕ) (words : List (List ℕ)) (event : Event) → parse_in words ≡ Some event
+pub in_read : (version : ℕ) (words : List (List ℕ)) (event : Event) → parse_in words ≡ Some event
     → IsRead version (codes "in" ∷ words) event
 unfolding parse_in in_event event_text
 in_read version [] event e = absurd cc
@@ -221,7 +220,7 @@ in_read version (width ∷ port ∷ []) event e =
     })
 in_read version (_ ∷ _ ∷ _ ∷ _) event e = absurd cc
 
-out_read : (version : ℕ) (words : List (List ℕ)) (event : Event) → parse_out words ≡ Some event
+pub out_read : (version : ℕ) (words : List (List ℕ)) (event : Event) → parse_out words ≡ Some event
     → IsRead version (codes "out" ∷ words) event
 unfolding parse_out out_event event_text
 out_read version [] event e = absurd cc
@@ -245,7 +244,7 @@ out_read version (width ∷ port ∷ value ∷ []) event e =
     })
 out_read version (_ ∷ _ ∷ _ ∷ _ ∷ _) event e = absurd cc
 
-look_read : (version : ℕ) (words : List (List ℕ)) (event : Event) → parse_look words ≡ Some event
+pub look_read : (version : ℕ) (words : List (List ℕ)) (event : Event) → parse_look words ≡ Some event
     → IsRead version (codes "look" ∷ words) event
 unfolding parse_look look_event event_text
 look_read version [] event e = absurd cc
@@ -266,7 +265,7 @@ look_read version (kind ∷ addr ∷ flags) event e =
       form = omega (arith, addr_is.1);
     })
 
-ack_read : (version : ℕ) (words : List (List ℕ)) (event : Event) → parse_ack words ≡ Some event
+pub ack_read : (version : ℕ) (words : List (List ℕ)) (event : Event) → parse_ack words ≡ Some event
     → IsRead version (codes "ack" ∷ words) event
 unfolding parse_ack event_text
 ack_read version [] event e =
@@ -280,81 +279,3 @@ unfolding parse_number
 number_read [] n e = absurd cc
 number_read (field ∷ []) n e = let d = decimal_read field n e in (ap (λ (f : List ℕ). f ∷ []) d.0, d.1)
 number_read (_ ∷ _ ∷ _) n e = absurd cc
-
-number_spelled : (word : List ℕ) (words : List (List ℕ)) (n : ℕ) → words ≡ decimal n ∷ []
-    → Reads (word ∷ words) (word ∷ decimal n ∷ [])
-number_spelled word words n is =
-    subst (λ (w : List (List ℕ)). Reads (word ∷ w) (word ∷ decimal n ∷ [])) (sym is) (same word, (same (decimal n), tt))
-
-pulses_read : (version : ℕ) (words : List (List ℕ)) (event : Event) → parse_pulses words ≡ Some event
-    → IsRead version (codes "pulse" ∷ words) event
-unfolding event_text
-pulses_read version words event e =
-    let n = then_said (parse_number words) _ event e in
-    let d = number_read words n.0 n.1 in
-    subst (λ (x : Event). IsRead version (codes "pulse" ∷ words) x) (some_is _ event n.2)
-    (record {
-      texts = codes "pulse" ∷ decimal n.0 ∷ [];
-      reads = number_spelled (codes "pulse") words n.0 d.0;
-      joined =
-          refl;
-      form = d.1;
-    })
-
-sector_read : (version : ℕ) (words : List (List ℕ)) (event : Event) → parse_bad_sector words ≡ Some event
-    → IsRead version (codes "bad" ∷ words) event
-unfolding event_text
-sector_read version words event e =
-    let n = then_said (parse_number words) _ event e in
-    let d = number_read words n.0 n.1 in
-    subst (λ (x : Event). IsRead version (codes "bad" ∷ words) x) (some_is _ event n.2)
-    (record {
-      texts = codes "bad" ∷ decimal n.0 ∷ [];
-      reads = number_spelled (codes "bad") words n.0 d.0;
-      joined = refl;
-      form = d.1;
-    })
-
--- a verb that is this word
-of_verb : (version : ℕ) (verb word : List ℕ) (words : List (List ℕ)) (event : Event) → bytes_eq verb word ≡ true
-    → IsRead version (word ∷ words) event → IsRead version (verb ∷ words) event
-of_verb version verb word words event is read =
-    subst (λ (v : List ℕ). IsRead version (v ∷ words) event) (sym (word_is verb word is)) read
-
-pub event_read : (version : ℕ) (verb : List ℕ) (words : List (List ℕ)) (event : Event)
-    → parse_event version verb words ≡ Some event
-    → IsRead version (verb ∷ words) event
-unfolding parse_event
-event_read version verb words event e = elim (cases_Bool (bytes_eq verb (codes "r"))) [
-  | inl r ↦ of_verb version verb (codes "r") words event r (read_read version Read words event refl (rw r at e))
-  | inr r ↦ elim (cases_Bool (bytes_eq verb (codes "f"))) [
-    | inl f ↦ of_verb version verb (codes "f") words event f (read_read version Fetch words event refl (rw (r, f) at e))
-    | inr f ↦ elim (cases_Bool (bytes_eq verb (codes "w"))) [
-      | inl w ↦ of_verb version verb (codes "w") words event w (write_read version words event (rw (r, f, w) at e))
-      | inr w ↦ elim (cases_Bool (bytes_eq verb (codes "in"))) [
-        | inl i ↦ of_verb version verb (codes "in") words event i (in_read version words event (rw (r, f, w, i) at e))
-        | inr i ↦ elim (cases_Bool (bytes_eq verb (codes "out"))) [
-          | inl o ↦ of_verb version verb (codes "out") words event o
-              (out_read version words event (rw (r, f, w, i, o) at e))
-          | inr o ↦ elim (cases_Bool (bytes_eq verb (codes "look"))) [
-            | inl l ↦ of_verb version verb (codes "look") words event l
-                (look_read version words event (rw (r, f, w, i, o, l) at e))
-            | inr l ↦ elim (cases_Bool (bytes_eq verb (codes "ack"))) [
-              | inl a ↦ of_verb version verb (codes "ack") words event a
-                  (ack_read version words event (rw (r, f, w, i, o, l, a) at e))
-              | inr a ↦ elim (cases_Bool (bytes_eq verb (codes "pulse"))) [
-                | inl p ↦
-                    of_verb version verb (codes "pulse") words event p
-                    (pulses_read version words event (rw (r, f, w, i, o, l, a, p) at e))
-                | inr p ↦
-                    let b = guarded (bytes_eq verb (codes "bad")) (parse_bad_sector words) event
-                    (rw (r, f, w, i, o, l, a, p) at e) in
-                    of_verb version verb (codes "bad") words event b.0 (sector_read version words event b.1)
-              ]
-            ]
-          ]
-        ]
-      ]
-    ]
-  ]
-]

@@ -8,9 +8,9 @@ use Rattle.script_spec.specs.Common.{lines_of, text_of_lines, Item, number_after
 use Rattle.script_spec.specs.Common.{parse_moment_part, parse_year, parse_date, parse_time, whole_moment, parse_moment}
 use Rattle.script_spec.specs.Common.{parse_base, parse_rom_bits, with_base, with_rom, with_field, with_fields}
 use Rattle.script_spec.specs.Common.{parse_card, parse_smm, memory_event, parse_read, parse_write, parse_in, parse_out}
-use Rattle.script_spec.specs.Common.{parse_look, parse_ack, parse_number, parse_event, parse_two_numbers}
-use Rattle.script_spec.specs.Common.{parse_only_moment, parse_time_item, parse_wire_item, parse_line_item}
-use Rattle.script_spec.specs.Common.{parse_event_item, parse_by_verb, parse_statement_words, is_name, parse_name}
+use Rattle.script_spec.specs.Common.{parse_look, parse_ack, parse_number, parse_two_numbers}
+use Rattle.script_spec.specs.Common.{parse_only_moment, parse_time_item, parse_stimulus_item}
+use Rattle.script_spec.specs.Common.{parse_given, parse_by_verb, parse_statement_words, is_name, parse_name}
 use Rattle.script_spec.specs.Common.{parse_phase, parse_statement, parse_by_key, parse_item, least_reason, Script}
 use Rattle.script_spec.specs.Common.{IsSaidBy, IsScriptText, IsScriptBad, BadText, IsBadText, bad_texts, AreBad, Bound}
 use Rattle.script_spec.specs.Common.{with_line, IsBound, bounds, AreBounds, TwoProcessors, TwoOrders, WideScript}
@@ -42,8 +42,8 @@ pub are_bad : AreBad
 unfolding AreBad bad_texts lines_of digits judged_lines number_after parse_two_digits after_mark parse_moment_part
     parse_year parse_date parse_time whole_moment parse_moment parse_base parse_rom_bits with_base with_rom with_field
     with_fields parse_card parse_smm memory_event read_event write_event in_event out_event look_event parse_read
-    parse_write parse_in parse_out parse_look parse_ack parse_number parse_event parse_two_numbers parse_only_moment
-    parse_time_item parse_wire_item parse_line_item parse_event_item parse_by_verb parse_statement_words is_name
+    parse_write parse_in parse_out parse_look parse_ack parse_number parse_two_numbers parse_only_moment
+    parse_time_item parse_stimulus_item parse_given parse_by_verb parse_statement_words is_name
     parse_name parse_phase parse_statement parse_by_key parse_item least_reason weekday_of days_since_1980 days_of_years
     days_of_months
 are_bad = each_bad bad_texts refl
@@ -77,8 +77,8 @@ pub are_bounds : AreBounds
 unfolding AreBounds bounds lines_of digits judged_lines number_after parse_two_digits after_mark parse_moment_part
     parse_year parse_date parse_time whole_moment parse_moment parse_base parse_rom_bits with_base with_rom with_field
     with_fields parse_card parse_smm memory_event read_event write_event in_event out_event look_event parse_read
-    parse_write parse_in parse_out parse_look parse_ack parse_number parse_event parse_two_numbers parse_only_moment
-    parse_time_item parse_wire_item parse_line_item parse_event_item parse_by_verb parse_statement_words is_name
+    parse_write parse_in parse_out parse_look parse_ack parse_number parse_two_numbers parse_only_moment
+    parse_time_item parse_stimulus_item parse_given parse_by_verb parse_statement_words is_name
     parse_name parse_phase parse_statement parse_by_key parse_item least_reason weekday_of days_since_1980 days_of_years
     days_of_months
 are_bounds = each_bound bounds refl refl
@@ -115,8 +115,8 @@ pub two_processors : TwoProcessors
 unfolding TwoProcessors lines_of digits judged_lines number_after parse_two_digits after_mark parse_moment_part
     parse_year parse_date parse_time whole_moment parse_moment parse_base parse_rom_bits with_base with_rom with_field
     with_fields parse_card parse_smm memory_event read_event write_event in_event out_event look_event parse_read
-    parse_write parse_in parse_out parse_look parse_ack parse_number parse_event parse_two_numbers parse_only_moment
-    parse_time_item parse_wire_item parse_line_item parse_event_item parse_by_verb parse_statement_words is_name
+    parse_write parse_in parse_out parse_look parse_ack parse_number parse_two_numbers parse_only_moment
+    parse_time_item parse_stimulus_item parse_given parse_by_verb parse_statement_words is_name
     parse_name parse_phase parse_statement parse_by_key parse_item least_reason
 two_processors =
     says _ _ refl refl (record {
@@ -136,8 +136,8 @@ pub two_orders : TwoOrders
 unfolding TwoOrders lines_of digits judged_lines number_after parse_two_digits after_mark parse_moment_part parse_year
     parse_date parse_time whole_moment parse_moment parse_base parse_rom_bits with_base with_rom with_field with_fields
     parse_card parse_smm memory_event read_event write_event in_event out_event look_event parse_read parse_write
-    parse_in parse_out parse_look parse_ack parse_number parse_event parse_two_numbers parse_only_moment parse_time_item
-    parse_wire_item parse_line_item parse_event_item parse_by_verb parse_statement_words is_name parse_name parse_phase
+    parse_in parse_out parse_look parse_ack parse_number parse_two_numbers parse_only_moment parse_time_item
+    parse_stimulus_item parse_given parse_by_verb parse_statement_words is_name parse_name parse_phase
     parse_statement parse_by_key parse_item least_reason
 two_orders =
     says _ _ refl refl (record {
@@ -154,8 +154,8 @@ pub wide_script : WideScript
 unfolding WideScript lines_of digits judged_lines number_after parse_two_digits after_mark parse_moment_part parse_year
     parse_date parse_time whole_moment parse_moment parse_base parse_rom_bits with_base with_rom with_field with_fields
     parse_card parse_smm memory_event read_event write_event in_event out_event look_event parse_read parse_write
-    parse_in parse_out parse_look parse_ack parse_number parse_event parse_two_numbers parse_only_moment parse_time_item
-    parse_wire_item parse_line_item parse_event_item parse_by_verb parse_statement_words is_name parse_name parse_phase
+    parse_in parse_out parse_look parse_ack parse_number parse_two_numbers parse_only_moment parse_time_item
+    parse_stimulus_item parse_given parse_by_verb parse_statement_words is_name parse_name parse_phase
     parse_statement parse_by_key parse_item least_reason
 wide_script =
     says _ _ refl refl (record {

@@ -1,18 +1,18 @@
 -- Each line of a form is read as what it says.
-use Rattle.std.proofs.Common.{◌≡◌, ℕ, ◌≤◌, ◌⊎◌, inl, inr, true, Some, List, [], ◌∷◌, ◌++◌, refl, sym, ap, subst, ◌∙◌}
+use Rattle.std.proofs.Common.{◌≡◌, ℕ, ◌≤◌, true, Some, List, [], ◌∷◌, ◌++◌, refl, sym, ap, subst, ◌∙◌}
 use Rattle.std.proofs.Common.{arith, codes, decimal}
-use Rattle.board_prelude.proofs.Common.{option_map, ne_eqb, Event, space, event_text}
+use Rattle.board_prelude.proofs.Common.{ne_eqb, Event, Stimulus, stimulus_form, space, event_text}
 use Rattle.script_spec.specs.Common.{Item, SetCpus, SetMemory, SetRom, SetDisk, FitCard, BeginPhase, Ask, AskLevel}
 use Rattle.script_spec.specs.Common.{IsDecimal, IsForm, IsLevelForm, Says, HasForm, item_text, fields_of, ask}
-use Rattle.script_spec.specs.Common.{wire_item, line_item, parse_wire_item, parse_line_item, parse_by_verb}
-use Rattle.script_spec.specs.Common.{parse_statement_words, parse_statement, parse_by_key, parse_item}
-use Rattle.script_spec.proofs.Digits.{lacks}
+use Rattle.script_spec.specs.Common.{stimulus_item, parse_given, parse_statement_words, parse_statement, parse_by_key}
+use Rattle.script_spec.specs.Common.{parse_item}
 use Rattle.script_spec.proofs.Joins.{Spells, Reads}
 use Rattle.script_spec.proofs.ItemTexts.{level_joined}
 use Rattle.script_spec.proofs.Splits.{split}
 use Rattle.script_spec.proofs.NumberBack.{decimal_back}
 use Rattle.script_spec.proofs.FieldTexts.{lacks_decimal, no_word}
-use Rattle.script_spec.proofs.EventForms.{IsReadBack, event_back, number_is, two_back}
+use Rattle.script_spec.proofs.EventForms.{IsReadBack, event_back, number_is, two_back, by_stimulus}
+use Rattle.script_spec.proofs.EventForms.{lacks_stimulus}
 use Rattle.script_spec.proofs.SetupBack.{IsLineBack, exact_back, cpus_back, memory_back, phase_back, rom_back}
 use Rattle.script_spec.proofs.SetupBack.{disk_back, card_back}
 
@@ -52,43 +52,36 @@ statement_back version n event line small back spells =
     statement_fields version n event (fields_of line) small back reads
 
 -- a level that is neither 0 nor 1
-wire_high : (n dev level : ℕ) → 2 ≤ level → wire_item n dev level ≡ AskLevel n (codes "wire") dev level
-wire_high n dev level high = rw (
+high_item : (n : ℕ) (one : Stimulus) (number level : ℕ) → 2 ≤ level
+    → stimulus_item n one number level ≡ AskLevel n one number level
+high_item n one number level high = rw (
   ne_eqb level 0 (λ is. let none : ⊥ = omega (arith, high, is) in none),
   ne_eqb level 1 (λ is. let none : ⊥ = omega (arith, high, is) in none),
 ) refl
 
-line_high : (n irq level : ℕ) → 2 ≤ level → line_item n irq level ≡ AskLevel n (codes "irq") irq level
-line_high n irq level high = rw (
-  ne_eqb level 0 (λ is. let none : ⊥ = omega (arith, high, is) in none),
-  ne_eqb level 1 (λ is. let none : ⊥ = omega (arith, high, is) in none),
-) refl
+high_given : (one : Stimulus) (number level : ℕ) → (stimulus_form one).has_level ≡ true → IsDecimal number
+    → IsDecimal level → parse_given one (decimal number ∷ decimal level ∷ []) ≡ Some (number, level)
+unfolding parse_given
+high_given one number level known small few = rw known (two_back number level small few)
 
-level_words : (version n : ℕ) (verb : List ℕ) (number level : ℕ) → IsLevelForm n verb number level
-    → parse_statement_words version n (verb ∷ decimal number ∷ decimal level ∷ []) ≡ Some (AskLevel n verb number level)
-unfolding parse_statement_words parse_by_verb parse_wire_item parse_line_item
-level_words version n verb number level form = elim form.what [
-  | inl wire ↦ rw wire (
-      ap (option_map (λ p. wire_item n p.0 p.1)) (two_back number level form.which form.few)
-      ∙ ap (λ (i : Item). Some i) (wire_high n number level form.high))
-  | inr irq ↦ rw irq (
-      ap (option_map (λ p. line_item n p.0 p.1)) (two_back number level form.which form.few)
-      ∙ ap (λ (i : Item). Some i) (line_high n number level form.high))
-]
+level_words : (version n : ℕ) (one : Stimulus) (number level : ℕ) → IsLevelForm n one number level
+    → parse_statement_words version n ((stimulus_form one).word ∷ decimal number ∷ decimal level ∷ [])
+    ≡ Some (AskLevel n one number level)
+unfolding parse_statement_words
+level_words version n one number level form =
+    by_stimulus version n one (decimal number ∷ decimal level ∷ []) (number, level)
+    (high_given one number level form.what form.which form.few)
+    ∙ ap (λ (i : Item). Some i) (high_item n one number level form.high)
 
-lacks_verb : (verb : List ℕ) → (verb ≡ codes "wire") ⊎ (verb ≡ codes "irq") → lacks space verb ≡ true
-lacks_verb verb (inl wire) = rw wire refl
-lacks_verb verb (inr irq) = rw irq refl
-
-level_back : (version n : ℕ) (verb : List ℕ) (number level : ℕ) (line : List ℕ) → IsLevelForm n verb number level
-    → line ≡ item_text (AskLevel n verb number level) → IsLineBack version line (AskLevel n verb number level)
+level_back : (version n : ℕ) (one : Stimulus) (number level : ℕ) (line : List ℕ) → IsLevelForm n one number level
+    → line ≡ item_text (AskLevel n one number level) → IsLineBack version line (AskLevel n one number level)
 unfolding item_text
-level_back version n verb number level line form is =
-    exact_back version line (decimal n) (verb ∷ decimal number ∷ decimal level ∷ []) (AskLevel n verb number level)
-    (is ∙ sym (level_joined (decimal n) verb (decimal number) (decimal level)))
-    (lacks_decimal n, (lacks_verb verb form.what, (lacks_decimal number, (lacks_decimal level, tt))))
-    (number_first version n (verb ∷ decimal number ∷ decimal level ∷ []) _ form.who
-    (level_words version n verb number level form))
+level_back version n one number level line form is =
+    let words : List (List ℕ) = (stimulus_form one).word ∷ decimal number ∷ decimal level ∷ [] in
+    exact_back version line (decimal n) words (AskLevel n one number level)
+    (is ∙ sym (level_joined (decimal n) (stimulus_form one).word (decimal number) (decimal level)))
+    (lacks_decimal n, (lacks_stimulus one, (lacks_decimal number, (lacks_decimal level, tt))))
+    (number_first version n words _ form.who (level_words version n one number level form))
 
 -- ---- all lines
 
@@ -104,8 +97,8 @@ item_back version line BeginPhase form says = phase_back version line says
 item_back version line (Ask statement) form says =
     statement_back version statement.actor statement.event line form.0
     (event_back version statement.actor statement.event form.1) says
-item_back version line (AskLevel actor verb number level) form says = level_back version actor verb number level line
-    form says
+item_back version line (AskLevel actor one number level) form says =
+    level_back version actor one number level line form says
 
 -- a line that has a form is read as the item that it says
 pub line_back : (version : ℕ) (line : List ℕ) (item : Item) → HasForm version line item → IsLineBack version line item

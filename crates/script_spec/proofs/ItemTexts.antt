@@ -1,22 +1,26 @@
 -- The item that was read is the one that the line says.
-use Rattle.std.proofs.Common.{◌≡◌, ℕ, zero, suc, ◌≤◌, ◌⊎◌, ◌==◌, inl, inr, Bool, true, false, eqb, leb, ◌&&◌, Some}
-use Rattle.std.proofs.Common.{List, [], ◌∷◌, ◌++◌, length, take, refl, sym, ap, subst, ◌∙◌, append_assoc, arith, lit<}
-use Rattle.std.proofs.Common.{codes, decimal, bytes_eq, if◌then◌else◌}
-use Rattle.board_prelude.proofs.Common.{join_with_byte, list_all, option_map, cases_Bool, eqb-true, leb-true, Moment}
-use Rattle.board_prelude.proofs.Common.{Event, Time, Wire, Line, space, event_text, moment_text, level_text, and_parts}
+use Rattle.std.proofs.Common.{◌≡◌, ℕ, zero, suc, ◌≤◌, inl, inr, Bool, true, false, eqb, leb, ◌&&◌, Option, Some, List}
+use Rattle.std.proofs.Common.{[], ◌∷◌, ◌++◌, length, take, refl, sym, ap, subst, ◌∙◌, append_assoc, arith, lit<, codes}
+use Rattle.std.proofs.Common.{decimal}
+use Rattle.board_prelude.proofs.Common.{join_with_byte, list_all, option_map, cases_Bool, eqb-true, leb-true, Fetch}
+use Rattle.board_prelude.proofs.Common.{Read, Moment, Event, Time, Stimulus, stimulus_form, stimulus_of_word, applied}
+use Rattle.board_prelude.proofs.Common.{event_applied, applied_text, word_found, space, event_text, moment_text}
+use Rattle.board_prelude.proofs.Common.{level_text, and_parts}
+use Rattle.board_spec.specs.declared.stimulus.Stimulus.TheVariants.{Pulses}
 use Rattle.std.proofs.lemmas.Fmt.{decimal-digits_value}
 use Rattle.std.proofs.lemmas.List.Splits.{join_with_byte-slice_split}
 use Rattle.script_spec.specs.Common.{Item, IsEventForm, SetCpus, SetMemory, SetRom, SetDisk, FitCard, BeginPhase}
 use Rattle.script_spec.specs.Common.{AskLevel, IsDecimal, IsName, HasForm, item_text, is_name_start, is_name_byte}
-use Rattle.script_spec.specs.Common.{fields_of, parse_decimal, parse_event, parse_number, parse_card, parse_moment, ask}
-use Rattle.script_spec.specs.Common.{parse_two_numbers, parse_only_moment, parse_time_item, parse_wire_item}
-use Rattle.script_spec.specs.Common.{parse_line_item, parse_event_item, parse_by_verb, parse_statement_words, is_name}
+use Rattle.script_spec.specs.Common.{fields_of, parse_decimal, parse_number, parse_card, parse_moment, ask}
+use Rattle.script_spec.specs.Common.{parse_two_numbers, parse_given, stimulus_item, parse_stimulus_item}
+use Rattle.script_spec.specs.Common.{parse_only_moment, parse_time_item, parse_by_verb, parse_statement_words, is_name}
 use Rattle.script_spec.specs.Common.{parse_name, parse_phase, parse_statement, parse_by_key, parse_item}
 use Rattle.script_spec.proofs.Digits.{own}
 use Rattle.script_spec.proofs.Chains.{some_is, guarded, then_said, mapped}
 use Rattle.script_spec.proofs.NumberTexts.{decimal_read}
-use Rattle.script_spec.proofs.Joins.{Spells, same, same_as, joined, zipped, word_is}
-use Rattle.script_spec.proofs.EventTexts.{IsRead, event_read, number_read}
+use Rattle.script_spec.proofs.Joins.{Spells, Reads, same, same_as, joined, zipped, by_word}
+use Rattle.script_spec.proofs.EventTexts.{IsRead, read_read, write_read, in_read, out_read, look_read, ack_read}
+use Rattle.script_spec.proofs.EventTexts.{number_read}
 use Rattle.script_spec.proofs.MomentTexts.{moment_read}
 use Rattle.script_spec.proofs.CardTexts.{card_read}
 
@@ -88,132 +92,156 @@ level_joined n verb number level =
     sym (append_assoc (n ++ space ∷ verb) (space ∷ number) (space ∷ level)
     ∙ append_assoc n (space ∷ verb) (space ∷ (number ++ (space ∷ level))))
 
--- a level that is neither 0 nor 1
-high_read : (version n number level : ℕ) (actor verb : List ℕ) → parse_decimal actor ≡ Some n
-    → (verb ≡ codes "wire") ⊎ (verb ≡ codes "irq") → IsDecimal number → IsDecimal level → 2 ≤ level
-    → HasForm version (line (actor ∷ verb ∷ decimal number ∷ decimal level ∷ [])) (AskLevel n verb number level)
-unfolding item_text
-high_read version n number level actor verb e known small few high =
-    let d = decimal_read actor n e in
-    record {
-      form = record { who = d.1; what = known; which = small; few = few; high = high };
-      says = ap (λ (a : List ℕ). a ++ (space ∷ (verb ++ (space ∷ (decimal number ++ (space ∷ decimal level)))))) d.0
-          ∙ level_joined (decimal n) verb (decimal number) (decimal level);
-    }
-
 pub zero_text : decimal 0 ≡ codes "0"
 zero_text = decimal-digits_value own (48 ∷ []) (lit< tt, tt) (lit< tt) (λ _. refl) (lit< tt)
 
 pub one_text : decimal 1 ≡ codes "1"
 one_text = decimal-digits_value own (49 ∷ []) (lit< tt, tt) (lit< tt) (λ _. refl) (lit< tt)
 
--- an event with a level, spelled by its verb, a number and the level
-level_read : (version number : ℕ) (verb : List ℕ) (on : Bool) (event : Event) → IsEventForm version event
-    → event_text event ≡ line (verb ∷ decimal number ∷ level_text on ∷ [])
-    → IsRead version (verb ∷ decimal number ∷ level_text on ∷ []) event
-level_read version number verb on event form is = record {
-  texts = verb ∷ decimal number ∷ level_text on ∷ [];
-  reads = (same verb, (same (decimal number), (same (level_text on), tt)));
-  joined = sym is;
-  form = form;
-}
-
-wire_read : (version dev : ℕ) (on : Bool) → IsDecimal dev
-    → IsRead version (codes "wire" ∷ decimal dev ∷ level_text on ∷ []) (Wire dev on)
+-- a stimulus is spelled by its word, its number, and its level where it has one
+pub applied_is : (one : Stimulus) (number : ℕ) (on : Bool)
+    → event_text (event_applied one number on) ≡ applied_text (applied one number on)
 unfolding event_text
-wire_read version dev on small = level_read version dev (codes "wire") on (Wire dev on) small refl
+applied_is Pulses number on = refl
+applied_is _ number on = refl
 
-irq_read : (version irq : ℕ) (on : Bool) → IsDecimal irq
-    → IsRead version (codes "irq" ∷ decimal irq ∷ level_text on ∷ []) (Line irq on)
-unfolding event_text
-irq_read version irq on small = level_read version irq (codes "irq") on (Line irq on) small refl
+applied_form : (version : ℕ) (one : Stimulus) (number : ℕ) (on : Bool) → IsDecimal number
+    → IsEventForm version (event_applied one number on)
+applied_form version Pulses number on small = small
+applied_form version _ number on small = small
+
+-- the fields of a stimulus
+abbrev pub given_words : (has_level : Bool) → (number level : List ℕ) → List (List ℕ)
+given_words true number level = number ∷ level ∷ []
+given_words false number level = number ∷ []
+
+pub given_joined : (one : Stimulus) (has_level : Bool) (number : ℕ) (on : Bool)
+    → (stimulus_form one).has_level ≡ has_level
+    → line ((stimulus_form one).word ∷ given_words has_level (decimal number) (level_text on))
+    ≡ event_text (event_applied one number on)
+given_joined one true number on is = sym (applied_is one number on ∙ rw is refl)
+given_joined one false number on is = sym (applied_is one number on ∙ rw is refl)
+
+same_all : (texts : List (List ℕ)) → Reads texts texts
+same_all [] = tt
+same_all (text ∷ texts) = (same text, same_all texts)
+
+applied_read : (version : ℕ) (one : Stimulus) (has_level : Bool) (number : ℕ) (on : Bool)
+    → (stimulus_form one).has_level ≡ has_level → IsDecimal number
+    → IsRead version ((stimulus_form one).word ∷ given_words has_level (decimal number) (level_text on))
+    (event_applied one number on)
+applied_read version one has_level number on is small =
+    let texts : List (List ℕ) = (stimulus_form one).word ∷ given_words has_level (decimal number) (level_text on) in
+    record {
+      texts = texts;
+      reads = same_all texts;
+      joined = given_joined one has_level number on is;
+      form = applied_form version one number on small;
+    }
+
+-- a level that is neither 0 nor 1
+high_read : (version n number level : ℕ) (actor : List ℕ) (one : Stimulus) → parse_decimal actor ≡ Some n
+    → (stimulus_form one).has_level ≡ true → IsDecimal number → IsDecimal level → 2 ≤ level
+    → HasForm version (line (actor ∷ (stimulus_form one).word ∷ decimal number ∷ decimal level ∷ []))
+    (AskLevel n one number level)
+unfolding item_text
+high_read version n number level actor one e known small few high =
+    let d = decimal_read actor n e in
+    let later : List ℕ = (stimulus_form one).word ++ (space ∷ (decimal number ++ (space ∷ decimal level))) in
+    record {
+      form = record { who = d.1; what = known; which = small; few = few; high = high };
+      says = ap (λ (a : List ℕ). a ++ (space ∷ later)) d.0
+          ∙ level_joined (decimal n) (stimulus_form one).word (decimal number) (decimal level);
+    }
 
 at_least_two : (level : ℕ) → eqb level 0 ≡ false → eqb level 1 ≡ false → 2 ≤ level
 at_least_two zero a b = absurd cc
 at_least_two (suc zero) a b = absurd cc
 at_least_two (suc (suc n)) a b = omega arith
 
--- what is asked by a verb with a number and a level
-abbrev level_item : (verb : List ℕ) → (ℕ → Bool → Event) → (actor number level : ℕ) → Item
-level_item verb event actor number level =
-    if level == 0 then ask actor (event number false) else
-    if level == 1 then ask actor (event number true) else AskLevel actor verb number level
+level_asked : (version n number level : ℕ) (actor : List ℕ) (one : Stimulus) → parse_decimal actor ≡ Some n
+    → (stimulus_form one).has_level ≡ true → IsDecimal number → IsDecimal level
+    → HasForm version (line (actor ∷ (stimulus_form one).word ∷ decimal number ∷ decimal level ∷ []))
+    (stimulus_item n one number level)
+level_asked version n number level actor one d known small few =
+    let asked : (on : Bool) → HasForm version
+    (line (actor ∷ (stimulus_form one).word ∷ decimal number ∷ level_text on ∷ []))
+    (ask n (event_applied one number on)) =
+    λ on. ask_read version n actor (stimulus_form one).word (decimal number ∷ level_text on ∷ [])
+    (event_applied one number on) d (applied_read version one true number on known small) in
+    elim (cases_Bool (eqb level 0)) [
+      | inl off ↦ let is = eqb-true level 0 off in rw (is, zero_text) (asked false)
+      | inr off ↦ elim (cases_Bool (eqb level 1)) [
+        | inl on ↦ let is = eqb-true level 1 on in rw (is, one_text) (asked true)
+        | inr on ↦ rw (off, on) (high_read version n number level actor one d known small few
+            (at_least_two level off on))
+      ]
+    ]
 
-level_asked : (version n number level : ℕ) (actor verb : List ℕ) (event : ℕ → Bool → Event)
-    → parse_decimal actor ≡ Some n
-    → (verb ≡ codes "wire") ⊎ (verb ≡ codes "irq")
-    → ((on : Bool) → IsRead version (verb ∷ decimal number ∷ level_text on ∷ []) (event number on)) → IsDecimal number
-    → IsDecimal level
-    → HasForm version (line (actor ∷ verb ∷ decimal number ∷ decimal level ∷ [])) (level_item verb event n number level)
-level_asked version n number level actor verb event d known read small few = elim (cases_Bool (eqb level 0)) [
-  | inl off ↦
-      let is = eqb-true level 0 off in
-      rw (is, zero_text) (ask_read version n actor verb _ (event number false) d (read false))
-  | inr off ↦ elim (cases_Bool (eqb level 1)) [
-    | inl on ↦
-        let is = eqb-true level 1 on in
-        rw (is, one_text) (ask_read version n actor verb _ (event number true) d (read true))
-    | inr on ↦ rw (off, on) (high_read version n number level actor verb d known small few (at_least_two level off on))
-  ]
-]
+-- what the fields of a stimulus give, they say
+given_asked : (version n : ℕ) (actor : List ℕ) (one : Stimulus) (words : List (List ℕ)) (given : ℕ × ℕ)
+    → parse_decimal actor ≡ Some n → parse_given one words ≡ Some given
+    → HasForm version (line (actor ∷ (stimulus_form one).word ∷ words)) (stimulus_item n one given.0 given.1)
+unfolding parse_given
+given_asked version n actor one words given d e =
+    let word : List ℕ = (stimulus_form one).word in
+    elim (cases_Bool (stimulus_form one).has_level) [
+      | inl known ↦
+          let two = two_read words given (rw known at e) in
+          subst (λ (w : List (List ℕ)). HasForm version (line (actor ∷ word ∷ w))
+          (stimulus_item n one given.0 given.1)) (sym two.0)
+          (level_asked version n given.0 given.1 actor one d known two.1.0 two.1.1)
+      | inr none ↦
+          let m = mapped (parse_number words) (λ number. (number, 0)) given (rw none at e) in
+          let number = number_read words m.0 m.1 in
+          subst (λ (p : ℕ × ℕ). HasForm version (line (actor ∷ word ∷ words)) (stimulus_item n one p.0 p.1)) (sym m.2)
+          (subst (λ (w : List (List ℕ)). HasForm version (line (actor ∷ word ∷ w))
+          (ask n (event_applied one m.0 false))) (sym number.0)
+          (ask_read version n actor word (decimal m.0 ∷ []) (event_applied one m.0 false) d
+          (applied_read version one false m.0 false none number.1)))
+    ]
 
-level_asks : (version n : ℕ) (actor verb : List ℕ) (event : ℕ → Bool → Event) (words : List (List ℕ)) (item : Item)
-    → parse_decimal actor ≡ Some n
-    → (verb ≡ codes "wire") ⊎ (verb ≡ codes "irq")
-    → ((number : ℕ) (on : Bool) → IsDecimal number
-    → IsRead version (verb ∷ decimal number ∷ level_text on ∷ []) (event number on))
-    → option_map (λ p. level_item verb event n p.0 p.1) (parse_two_numbers words) ≡ Some item
+stimulus_read : (version n : ℕ) (actor verb : List ℕ) (words : List (List ℕ)) (item : Item)
+    → parse_decimal actor ≡ Some n → parse_stimulus_item n verb words ≡ Some item
     → HasForm version (line (actor ∷ verb ∷ words)) item
-level_asks version n actor verb event words item d known read e =
-    let p = mapped (parse_two_numbers words) _ item e in
-    let two = two_read words p.0 p.1 in
-    subst (HasForm version (line (actor ∷ verb ∷ words))) (sym p.2)
-    (subst (λ (w : List (List ℕ)). HasForm version (line (actor ∷ verb ∷ w)) (level_item verb event n p.0.0 p.0.1))
-    (sym two.0)
-    (level_asked version n p.0.0 p.0.1 actor verb event d known (λ on. read p.0.0 on two.1.0) two.1.0 two.1.1))
+unfolding parse_stimulus_item
+stimulus_read version n actor verb words item d e =
+    let one = then_said (stimulus_of_word verb) _ item e in
+    let given = then_said (parse_given one.0 words) _ item one.2 in
+    subst (λ (v : List ℕ). HasForm version (line (actor ∷ v ∷ words)) item) (sym (word_found verb one.0 one.1))
+    (subst (HasForm version (line (actor ∷ (stimulus_form one.0).word ∷ words))) (some_is _ item given.2)
+    (given_asked version n actor one.0 words given.0 d given.1))
 
-wire_asks : (version n : ℕ) (actor : List ℕ) (words : List (List ℕ)) (item : Item) → parse_decimal actor ≡ Some n
-    → parse_wire_item n words ≡ Some item → HasForm version (line (actor ∷ codes "wire" ∷ words)) item
-unfolding parse_wire_item
-wire_asks version n actor words item d =
-    level_asks version n actor (codes "wire") Wire words item d (inl refl) (wire_read version)
-
-line_asks : (version n : ℕ) (actor : List ℕ) (words : List (List ℕ)) (item : Item) → parse_decimal actor ≡ Some n
-    → parse_line_item n words ≡ Some item → HasForm version (line (actor ∷ codes "irq" ∷ words)) item
-unfolding parse_line_item
-line_asks version n actor words item d =
-    level_asks version n actor (codes "irq") Line words item d (inr refl) (irq_read version)
-
-event_asks : (version n : ℕ) (actor verb : List ℕ) (words : List (List ℕ)) (item : Item) → parse_decimal actor ≡ Some n
-    → parse_event_item version n verb words ≡ Some item → HasForm version (line (actor ∷ verb ∷ words)) item
-unfolding parse_event_item
-event_asks version n actor verb words item d e =
-    let m = mapped (parse_event version verb words) _ item e in
+event_asks : (version n : ℕ) (actor verb : List ℕ) (words : List (List ℕ)) (item : Item) (found : Option Event)
+    → parse_decimal actor ≡ Some n
+    → ((event : Event) → found ≡ Some event → IsRead version (verb ∷ words) event)
+    → option_map (ask n) found ≡ Some item → HasForm version (line (actor ∷ verb ∷ words)) item
+event_asks version n actor verb words item found d read e =
+    let m = mapped found (ask n) item e in
     subst (HasForm version (line (actor ∷ verb ∷ words))) (sym m.2)
-    (ask_read version n actor verb words m.0 d (event_read version verb words m.0 m.1))
-
--- a field that is this word
-of_verb : (version : ℕ) (actor verb word : List ℕ) (words : List (List ℕ)) (item : Item) → bytes_eq verb word ≡ true
-    → HasForm version (line (actor ∷ word ∷ words)) item → HasForm version (line (actor ∷ verb ∷ words)) item
-of_verb version actor verb word words item is read =
-    subst (λ (v : List ℕ). HasForm version (line (actor ∷ v ∷ words)) item) (sym (word_is verb word is)) read
+    (ask_read version n actor verb words m.0 d (read m.0 m.1))
 
 asked_read : (version n : ℕ) (actor verb : List ℕ) (words : List (List ℕ)) (item : Item) → parse_decimal actor ≡ Some n
     → parse_by_verb version n verb words ≡ Some item → HasForm version (line (actor ∷ verb ∷ words)) item
 unfolding parse_by_verb
-asked_read version n actor verb words item d e = elim (cases_Bool (bytes_eq verb (codes "moment"))) [
-  | inl m ↦ of_verb version actor verb (codes "moment") words item m
-      (moment_item version n actor words item d (rw m at e))
-  | inr m ↦ elim (cases_Bool (bytes_eq verb (codes "wire"))) [
-    | inl w ↦ of_verb version actor verb (codes "wire") words item w
-        (wire_asks version n actor words item d (rw (m, w) at e))
-    | inr w ↦ elim (cases_Bool (bytes_eq verb (codes "irq"))) [
-      | inl i ↦ of_verb version actor verb (codes "irq") words item i
-          (line_asks version n actor words item d (rw (m, w, i) at e))
-      | inr i ↦ event_asks version n actor verb words item d (rw (m, w, i) at e)
-    ]
-  ]
-]
+asked_read version n actor verb words item d =
+    let P : List ℕ → Type 0 = λ v. HasForm version (line (actor ∷ v ∷ words)) item in
+    by_word P verb (codes "r") _ _ item
+    (event_asks version n actor (codes "r") words item _ d (λ event. read_read version Read words event refl))
+    (by_word P verb (codes "f") _ _ item
+    (event_asks version n actor (codes "f") words item _ d (λ event. read_read version Fetch words event refl))
+    (by_word P verb (codes "w") _ _ item
+    (event_asks version n actor (codes "w") words item _ d (write_read version words))
+    (by_word P verb (codes "in") _ _ item
+    (event_asks version n actor (codes "in") words item _ d (in_read version words))
+    (by_word P verb (codes "out") _ _ item
+    (event_asks version n actor (codes "out") words item _ d (out_read version words))
+    (by_word P verb (codes "look") _ _ item
+    (event_asks version n actor (codes "look") words item _ d (look_read version words))
+    (by_word P verb (codes "ack") _ _ item
+    (event_asks version n actor (codes "ack") words item _ d (ack_read version words))
+    (by_word P verb (codes "moment") _ _ item (moment_item version n actor words item d)
+    (stimulus_read version n actor verb words item d))))))))
 
 statement_read : (version : ℕ) (actor : List ℕ) (words : List (List ℕ)) (item : Item)
     → parse_statement version actor words ≡ Some item
@@ -313,36 +341,19 @@ fitted_read version words item e =
     let c = card_read version words m.0 m.1 in
     subst (HasForm version (line (codes "card" ∷ words))) (sym m.2) (record { form = c.1; says = c.0 })
 
-of_key : (version : ℕ) (key word : List ℕ) (words : List (List ℕ)) (item : Item) → bytes_eq key word ≡ true
-    → HasForm version (line (word ∷ words)) item → HasForm version (line (key ∷ words)) item
-of_key version key word words item is read =
-    subst (λ (k : List ℕ). HasForm version (line (k ∷ words)) item) (sym (word_is key word is)) read
-
 with_read : (version : ℕ) (key : List ℕ) (words : List (List ℕ)) (item : Item)
     → parse_by_key version key words ≡ Some item
     → HasForm version (line (key ∷ words)) item
 unfolding parse_by_key
-with_read version key words item e = elim (cases_Bool (bytes_eq key (codes "phase"))) [
-  | inl p ↦ of_key version key (codes "phase") words item p (phase_read version words item (rw p at e))
-  | inr p ↦ elim (cases_Bool (bytes_eq key (codes "cpus"))) [
-    | inl c ↦ of_key version key (codes "cpus") words item c (cpus_read version words item (rw (p, c) at e))
-    | inr c ↦ elim (cases_Bool (bytes_eq key (codes "memory"))) [
-      | inl m ↦ of_key version key (codes "memory") words item m (memory_read version words item (rw (p, c, m) at e))
-      | inr m ↦ elim (cases_Bool (bytes_eq key (codes "rom"))) [
-        | inl r ↦ of_key version key (codes "rom") words item r (rom_read version words item (rw (p, c, m, r) at e))
-        | inr r ↦ elim (cases_Bool (bytes_eq key (codes "disk"))) [
-          | inl d ↦ of_key version key (codes "disk") words item d
-              (disk_read version words item (rw (p, c, m, r, d) at e))
-          | inr d ↦ elim (cases_Bool (bytes_eq key (codes "card"))) [
-            | inl k ↦ of_key version key (codes "card") words item k
-                (fitted_read version words item (rw (p, c, m, r, d, k) at e))
-            | inr k ↦ statement_read version key words item (rw (p, c, m, r, d, k) at e)
-          ]
-        ]
-      ]
-    ]
-  ]
-]
+with_read version key words item =
+    let P : List ℕ → Type 0 = λ k. HasForm version (line (k ∷ words)) item in
+    by_word P key (codes "phase") _ _ item (phase_read version words item)
+    (by_word P key (codes "cpus") _ _ item (cpus_read version words item)
+    (by_word P key (codes "memory") _ _ item (memory_read version words item)
+    (by_word P key (codes "rom") _ _ item (rom_read version words item)
+    (by_word P key (codes "disk") _ _ item (disk_read version words item)
+    (by_word P key (codes "card") _ _ item (fitted_read version words item)
+    (statement_read version key words item))))))
 
 fields_read : (version : ℕ) (fields : List (List ℕ)) (item : Item) → parse_item version fields ≡ Some item
     → HasForm version (line fields) item

@@ -1,7 +1,7 @@
 -- Fields that are spelled make a line that is spelled.
-use Rattle.std.proofs.Common.{◌≡◌, ℕ, Bool, true, false, Some, List, [], ◌∷◌, ◌++◌, inl, refl, sym, ap, subst, ◌∙◌}
-use Rattle.std.proofs.Common.{append_assoc, append-nil, codes, bytes_eq}
-use Rattle.board_prelude.proofs.Common.{AllZip, join_with_byte, bytes_eq-Decides, space, smm_text}
+use Rattle.std.proofs.Common.{◌≡◌, ℕ, Bool, true, false, cond, Option, Some, List, [], ◌∷◌, ◌++◌, inl, inr, refl, sym}
+use Rattle.std.proofs.Common.{ap, subst, ◌∙◌, append_assoc, append-nil, codes, bytes_eq}
+use Rattle.board_prelude.proofs.Common.{AllZip, cases_Bool, join_with_byte, bytes_eq-Decides, space, smm_text}
 use Rattle.script_spec.specs.Common.{StandsFor, parse_smm}
 use Rattle.script_spec.proofs.Chains.{some_is, guarded}
 
@@ -37,6 +37,15 @@ joined (f ∷ g ∷ fields) (t ∷ u ∷ texts) reads =
 
 pub word_is : (field word : List ℕ) → bytes_eq field word ≡ true → field ≡ word
 word_is field word e = (bytes_eq-Decides field word).0 e
+
+-- what was found by a word, or else by others
+pub by_word : {A : Type 0} (P : List ℕ → Type 0) (field word : List ℕ) (one other : Option A) (found : A)
+    → (one ≡ Some found → P word) → (other ≡ Some found → P field)
+    → cond (bytes_eq field word) one other ≡ Some found → P field
+by_word P field word one other found here there e = elim (cases_Bool (bytes_eq field word)) [
+  | inl is ↦ subst P (sym (word_is field word is)) (here (rw is at e))
+  | inr is ↦ there (rw is at e)
+]
 
 -- ---- the flag of an access
 

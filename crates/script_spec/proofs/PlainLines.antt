@@ -2,13 +2,15 @@
 use Rattle.std.proofs.Common.{ℕ, ◌≡◌, ◌+◌, ◌/◌, ◌%◌, ◌<◌, Bool, true, false, ◌||◌, eqb, Option, Some, None, List, []}
 use Rattle.std.proofs.Common.{◌∷◌, ◌++◌, flat_map, refl, inl, inr, arith, codes, decimal, if◌then◌else◌}
 use Rattle.board_prelude.proofs.Common.{cases_Bool, or_right, and_from, Kind, Fetch, Read, Write, Moment, Target}
-use Rattle.board_prelude.proofs.Common.{Denial, bytes_of, Event, Memory, Wide, Port, Ack, Pulses, Time, Wire, Line}
-use Rattle.board_prelude.proofs.Common.{BadSector, Part, Reply, Bus, Saw, is_write, parts_list, space, hex_number}
+use Rattle.board_prelude.proofs.Common.{Denial, bytes_of, Event, Memory, Wide, Port, Ack, Time, Stimulus, Applied}
+use Rattle.board_prelude.proofs.Common.{stimulus_form, applied_by, applied_text, option_map_or, Part, Reply, Bus, Saw}
+use Rattle.board_prelude.proofs.Common.{is_write, parts_list, space, hex_number}
 use Rattle.board_prelude.proofs.Common.{hex_word, hex_long, area_text, target_text, denial_text, size_text, kind_text}
 use Rattle.board_prelude.proofs.Common.{written_text, smm_text, memory_text, level_text, two_digits, moment_text}
 use Rattle.board_prelude.proofs.Common.{event_text, value_text, answered_text, reply_text}
 use Rattle.board_spec.specs.declared.event.Event.TheVariants.{Look as LookAt}
 use Rattle.board_spec.specs.declared.event.Reply.TheVariants.{Parts as InParts}
+use Rattle.board_spec.specs.declared.stimulus.Stimulus.TheVariants.{Pulses}
 use Rattle.script_spec.proofs.PlainText.{is_word_byte, is_word, is_plain, plain-append, plain-word, digit_byte}
 use Rattle.script_spec.proofs.PlainText.{hex_number_word, decimal_word, area_word, target_word, denial_word}
 
@@ -100,6 +102,24 @@ level_plain : (on : Bool) → is_plain (level_text on) ≡ true
 level_plain true = refl
 level_plain false = refl
 
+word_plain : (one : Stimulus) → is_plain (stimulus_form one).word ≡ true
+word_plain Pulses = refl
+word_plain _ = refl
+
+given_plain : (has_level : Bool) (number : ℕ) (on : Bool)
+    → is_plain (if has_level then decimal number ++ space ∷ level_text on else decimal number) ≡ true
+given_plain true number on =
+    plain-append (decimal number) (space ∷ level_text on) (decimal_plain number) (level_plain on)
+given_plain false number on = decimal_plain number
+
+applied_plain : (found : Option Applied) → is_plain (option_map_or applied_text found []) ≡ true
+applied_plain None = refl
+applied_plain (Some said) =
+    let one = stimulus_form said.stimulus in
+    plain-append one.word
+    (space ∷ (if one.has_level then decimal said.number ++ space ∷ level_text said.on else decimal said.number))
+    (word_plain said.stimulus) (given_plain one.has_level said.number said.on)
+
 pub event_plain : (event : Event) → is_plain (event_text event) ≡ true
 unfolding event_text
 event_plain (Memory access) = memory_plain access.kind (bytes_of access.width) access.addr access.value access.smm
@@ -113,11 +133,8 @@ event_plain (LookAt kind addr smm) =
     (plain-append (codes "look " ++ kind_text kind) (space ∷ hex_long addr) (kind_plain kind) (hex_plain 4 addr))
     (smm_plain smm)
 event_plain Ack = refl
-event_plain (Pulses count) = decimal_plain count
 event_plain (Time moment) = moment_plain moment
-event_plain (Wire dev on) = plain-append (decimal dev) (space ∷ level_text on) (decimal_plain dev) (level_plain on)
-event_plain (Line irq on) = plain-append (decimal irq) (space ∷ level_text on) (decimal_plain irq) (level_plain on)
-event_plain (BadSector sector) = decimal_plain sector
+event_plain event = applied_plain (applied_by event)
 
 -- ---- replies
 

@@ -181,13 +181,7 @@ all_cards version (FitCard card ∷ before) good =
       rom = rom_there card.rom parts.2;
     })
     (all_cards version before good.2)
-all_cards version (SetCpus count ∷ before) good = all_cards version before good.2
-all_cards version (SetMemory mib ∷ before) good = all_cards version before good.2
-all_cards version (SetRom name ∷ before) good = all_cards version before good.2
-all_cards version (SetDisk name ∷ before) good = all_cards version before good.2
-all_cards version (BeginPhase ∷ before) good = all_cards version before good.2
-all_cards version (Ask statement ∷ before) good = all_cards version before good.2
-all_cards version (AskLevel actor verb number level ∷ before) good = all_cards version before good.2
+all_cards version (_ ∷ before) good = all_cards version before good.2
 
 -- devices that rise up to 9 are few
 few_cards : (low : ℕ) (cards : List FittedCard) → low ≤ 10 → Rises cards → All (λ card. low ≤ card.dev) cards →
@@ -318,7 +312,7 @@ sum_of_zeros (x ∷ xs) = sum_by-cons (λ y. 0) x xs ∙ omega (arith, sum_of_ze
 
 no_statement : (item : Item) → is_setup item ≡ true → ◌≡◌ {A = ℕ} (cond {A = ℕ} (is_statement item) 1 0) 0
 no_statement (Ask statement) setup = absurd (false≢true setup)
-no_statement (AskLevel actor verb number level) setup = absurd (false≢true setup)
+no_statement (AskLevel actor one number level) setup = absurd (false≢true setup)
 no_statement item setup = refl
 
 no_phase : (item : Item) → is_setup item ≡ true → ◌≡◌ {A = ℕ} (cond {A = ℕ} (is_phase item) 1 0) 0

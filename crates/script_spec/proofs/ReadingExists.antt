@@ -141,13 +141,7 @@ in_order version (FitCard card ∷ before) good =
       rises = inserted_rises card rest.ordered rest.rises
           (λ k d inside. eqb-false (get_or rest.ordered k d).dev card.dev (apart k d inside));
     }
-in_order version (SetCpus count ∷ before) good = in_order version before good.2
-in_order version (SetMemory mib ∷ before) good = in_order version before good.2
-in_order version (SetRom name ∷ before) good = in_order version before good.2
-in_order version (SetDisk name ∷ before) good = in_order version before good.2
-in_order version (BeginPhase ∷ before) good = in_order version before good.2
-in_order version (Ask statement ∷ before) good = in_order version before good.2
-in_order version (AskLevel actor verb number level ∷ before) good = in_order version before good.2
+in_order version (_ ∷ before) good = in_order version before good.2
 
 -- ---- the phases
 
@@ -219,12 +213,8 @@ run : (version : ℕ) (items : List Item) → AreGood version items → Run item
 run version [] good = inl (refl, refl)
 run version (BeginPhase ∷ before) good = begin_phase before (run version before good.2)
 run version (Ask statement ∷ before) good = ask_more before statement good.1 (run version before good.2)
-run version (AskLevel actor verb number level ∷ before) good = absurd (false≢true good.1.range)
-run version (SetCpus count ∷ before) good = setup_more (SetCpus count) before refl refl (run version before good.2)
-run version (SetMemory mib ∷ before) good = setup_more (SetMemory mib) before refl refl (run version before good.2)
-run version (SetRom name ∷ before) good = setup_more (SetRom name) before refl refl (run version before good.2)
-run version (SetDisk name ∷ before) good = setup_more (SetDisk name) before refl refl (run version before good.2)
-run version (FitCard card ∷ before) good = setup_more (FitCard card) before refl refl (run version before good.2)
+run version (AskLevel actor one number level ∷ before) good = absurd (false≢true good.1.range)
+run version (item ∷ before) good = setup_more item before refl refl (run version before good.2)
 
 phases_there : (items : List Item) → Run items → (phases : List (List Statement)) × (run_of items ≡ phase_items phases)
 phases_there items (inl none) = ([], none.1)

@@ -7,10 +7,11 @@ pub use Rattle.script_spec.specs.Cuts.{if_byte}
 unfoldable pub use Rattle.script_spec.specs.Cuts.{cut, parse_one_digit}
 pub use Rattle.script_spec.specs.Entries.{Pieces, but_last}
 unfoldable pub use Rattle.script_spec.specs.Entries.{parse_actor, parse_pieces}
-pub use Rattle.script_spec.specs.Events.{IsSize, is_wide, parse_kind, quad_size, parse_bad_sector, parse_size}
+pub use Rattle.script_spec.specs.Events.{IsSize, is_wide, parse_kind, quad_size, parse_size}
 pub use Rattle.script_spec.specs.Events.{parse_width, width_with}
-unfoldable pub use Rattle.script_spec.specs.Events.{parse_ack, parse_event, parse_in, parse_look, memory_event}
-unfoldable pub use Rattle.script_spec.specs.Events.{parse_number, parse_out, parse_read, parse_smm, parse_write}
+unfoldable pub use Rattle.script_spec.specs.Events.{parse_ack, parse_given, parse_in, parse_look, memory_event}
+unfoldable pub use Rattle.script_spec.specs.Events.{parse_number, parse_out, parse_read, parse_smm, parse_two_numbers}
+unfoldable pub use Rattle.script_spec.specs.Events.{parse_write}
 pub use Rattle.script_spec.specs.ExampleScripts.{BadText, Bound, IsBadText, IsBound, with_line}
 unfoldable pub use Rattle.script_spec.specs.ExampleScripts.{AreBad, AreBounds, TwoOrders, TwoProcessors, WideScript}
 unfoldable pub use Rattle.script_spec.specs.ExampleScripts.{bad_texts, bounds}
@@ -20,11 +21,10 @@ pub use Rattle.script_spec.specs.Grammar.{IsDecimal, IsEventForm, IsForm, IsLeve
 pub use Rattle.script_spec.specs.Grammar.{IsWideForm, Item, Says, SetCpus, SetDisk, SetMemory, SetRom, StandsFor}
 pub use Rattle.script_spec.specs.Grammar.{base_text, card_text, is_name_byte, is_name_start, rom_text}
 unfoldable pub use Rattle.script_spec.specs.Grammar.{item_text}
-pub use Rattle.script_spec.specs.Items.{ask, line_item, parse_line, wire_item}
-unfoldable pub use Rattle.script_spec.specs.Items.{parse_statement_words, parse_by_verb, parse_event_item, is_name}
-unfoldable pub use Rattle.script_spec.specs.Items.{parse_item, parse_by_key, parse_line_item, parse_time_item}
+pub use Rattle.script_spec.specs.Items.{ask, parse_line, stimulus_item}
+unfoldable pub use Rattle.script_spec.specs.Items.{parse_statement_words, parse_by_verb, parse_stimulus_item, is_name}
+unfoldable pub use Rattle.script_spec.specs.Items.{parse_item, parse_by_key, parse_time_item}
 unfoldable pub use Rattle.script_spec.specs.Items.{parse_name, parse_only_moment, parse_phase, parse_statement}
-unfoldable pub use Rattle.script_spec.specs.Items.{parse_two_numbers, parse_wire_item}
 pub use Rattle.script_spec.specs.Laws.{LineSaysEntry, LogSaysAll, NotBoth, OneBadLog, OneDifference, OneItem}
 pub use Rattle.script_spec.specs.Laws.{OneRefusal, OneScript, ScriptsAreInRange, SomeReading}
 pub use Rattle.script_spec.specs.Lines.{IsOneLine, text_of_lines}
@@ -53,5 +53,6 @@ pub use Rattle.script_spec.specs.Targets.{parse_area_of_kind, parse_chip, denial
 pub use Rattle.script_spec.specs.Targets.{parse_named_device, parse_other_target, parse_target_of_kind}
 unfoldable pub use Rattle.script_spec.specs.Targets.{parse_area, parse_denial, parse_device, parse_placed_area}
 unfoldable pub use Rattle.script_spec.specs.Targets.{parse_placed_target, parse_register, parse_target}
-pub use Rattle.script_spec.specs.WellFormed.{FitsArea, FitsDenial, FitsDevice, FitsPart, FitsReg, FitsTarget, HasShape}
-pub use Rattle.script_spec.specs.WellFormed.{IsBusReply, IsLookReply, IsNamed, IsReplyValue, IsWellFormed, IsWideReply}
+pub use Rattle.script_spec.specs.WellFormed.{FitsArea, FitsDenial, FitsDevice, FitsLevel, FitsPart, FitsReg, FitsTarget}
+pub use Rattle.script_spec.specs.WellFormed.{HasShape, IsBusReply, IsLookReply, IsNamed, IsReplyValue, IsWellFormed}
+pub use Rattle.script_spec.specs.WellFormed.{IsWideReply}

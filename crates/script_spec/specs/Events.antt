@@ -1,8 +1,8 @@
 -- What a statement asks, by the fields of its line after the processor's number: the reader's way through the forms.
 use Rattle.std.specs.Prelude.{ℕ, ◌*◌, ◌%◌, ◌≡◌, ◌⊎◌, ◌==◌, Bool, true, false, not, ◌&&◌, ◌||◌, List, [], ◌∷◌}
-use Rattle.std.specs.Prelude.{if◌then◌else◌, Option, Some, None, codes, bytes_eq}
-use Rattle.board_prelude.specs.Common.{option_and_then, Width, One, bytes_of, Kind, Fetch, Read, Write, Event, Memory}
-use Rattle.board_prelude.specs.Common.{Wide, Port, Ack, Pulses, BadSector}
+use Rattle.std.specs.Prelude.{if◌then◌else◌, Option, Some, None, option_map, codes, bytes_eq}
+use Rattle.board_prelude.specs.Common.{Width, One, bytes_of, Kind, Fetch, Write, Event, Memory, Wide, Port, Ack}
+use Rattle.board_prelude.specs.Common.{Read, Stimulus, stimulus_form}
 use Rattle.board_base.specs.declared.access.Width.TheVariants.{Two, Four}
 use Rattle.board_spec.specs.declared.event.Event.TheVariants.{Look as LookAt}
 use Rattle.script_spec.specs.Numbers.{parse_hex, parse_decimal, ◌>>=◌}
@@ -143,21 +143,19 @@ parse_number [] = None
 parse_number (field ∷ []) = parse_decimal field
 parse_number (_ ∷ _ ∷ _) = None
 
-abbrev pub parse_pulses : List (List ℕ) → Option Event
-parse_pulses words = option_and_then (λ count. Some (Pulses count)) (parse_number words)
+-- the two numbers that are the only fields
+unfoldable pub parse_two_numbers : List (List ℕ) → Option (ℕ × ℕ)
+parse_two_numbers [] = None
+parse_two_numbers (_ ∷ []) = None
+parse_two_numbers (first ∷ second ∷ []) = do
+  first ← parse_decimal first
+  second ← parse_decimal second
+  Some (first, second)
+parse_two_numbers (_ ∷ _ ∷ _ ∷ _) = None
 
-abbrev pub parse_bad_sector : List (List ℕ) → Option Event
-parse_bad_sector words = option_and_then (λ sector. Some (BadSector sector)) (parse_number words)
-
--- the verb says what is asked
-unfoldable pub parse_event : (version : ℕ) → (verb : List ℕ) → (words : List (List ℕ)) → Option Event
-parse_event version verb words =
-    if bytes_eq verb (codes "r") then parse_read version Read words else
-    if bytes_eq verb (codes "f") then parse_read version Fetch words else
-    if bytes_eq verb (codes "w") then parse_write version words else
-    if bytes_eq verb (codes "in") then parse_in words else
-    if bytes_eq verb (codes "out") then parse_out words else
-    if bytes_eq verb (codes "look") then parse_look words else
-    if bytes_eq verb (codes "ack") then parse_ack words else
-    if bytes_eq verb (codes "pulse") then parse_pulses words else
-    if bytes_eq verb (codes "bad") then parse_bad_sector words else None
+-- the number of a stimulus, and its level, which is 0 where it has none
+unfoldable pub parse_given : Stimulus → List (List ℕ) → Option (ℕ × ℕ)
+parse_given stimulus words =
+    if (stimulus_form stimulus).has_level
+    then parse_two_numbers words
+    else option_map (λ number. (number, 0)) (parse_number words)

@@ -1,11 +1,12 @@
 -- What a line of a script says after its first line. A statement is spelled as the log spells it, with hexadecimal
 -- digits in either case, and everything else as it stands. The forms are those of a version of scripts, 1 or 2.
 use Rattle.std.specs.Prelude.{ℕ, ◌≡◌, ◌≢◌, ◌+◌, ◌%◌, ◌^◌, ◌≤◌, ◌<◌, ◌⊎◌, ◌==◌, Bool, true, ◌||◌, if◌then◌else◌, List}
-use Rattle.std.specs.Prelude.{[], ◌∷◌, ◌++◌, length, flat_map, take, All, Option, Some, None, codes, decimal}
+use Rattle.std.specs.Prelude.{[], ◌∷◌, ◌++◌, length, flat_map, take, All, Option, Some, None, IfSome, codes, decimal}
 use Rattle.board_prelude.specs.Common.{AllZip, list_all, PortAccess, WideAccess, Moment, bytes_of, weekday_of, Event}
-use Rattle.board_prelude.specs.Common.{Memory, Wide, Port, Ack, Pulses, Time, Wire, Line, BadSector, Statement, Base}
-use Rattle.board_prelude.specs.Common.{MemoryBase, IoBase, OutsideBase, FittedCard, is_within, is_write, FitsBytes}
-use Rattle.board_prelude.specs.Common.{space, event_text}
+use Rattle.board_prelude.specs.Common.{Memory, Wide, Port, Ack, Time, Stimulus, stimulus_form, applied_by}
+use Rattle.board_prelude.specs.Common.{Statement, Base, MemoryBase, IoBase, OutsideBase, FittedCard, is_within}
+use Rattle.board_prelude.specs.Common.{is_write}
+use Rattle.board_prelude.specs.Common.{FitsBytes, space, event_text}
 use Rattle.board_base.specs.declared.access.Access.{Access}
 use Rattle.board_spec.specs.declared.event.Event.TheVariants.{Look as LookAt}
 
@@ -18,8 +19,8 @@ pub data Item : Type 0 where
   FitCard : (card : FittedCard) → Item
   BeginPhase : Item
   Ask : (statement : Statement) → Item
-  -- `wire` or `irq` with a level that is neither 0 nor 1, by which no event is asked
-  AskLevel : (actor : ℕ) → (verb : List ℕ) → (number level : ℕ) → Item
+  -- a stimulus with a level that is neither 0 nor 1, by which no event is asked
+  AskLevel : (actor : ℕ) → (stimulus : Stimulus) → (number level : ℕ) → Item
 
 -- ---- how it is spelled
 
@@ -46,8 +47,8 @@ item_text (SetDisk name) = codes "disk " ++ name
 item_text (FitCard card) = codes "card " ++ card_text card
 item_text BeginPhase = codes "phase"
 item_text (Ask statement) = decimal statement.actor ++ space ∷ event_text statement.event
-item_text (AskLevel actor verb number level) =
-    decimal actor ++ space ∷ verb ++ space ∷ decimal number ++ space ∷ decimal level
+item_text (AskLevel actor stimulus number level) =
+    decimal actor ++ space ∷ (stimulus_form stimulus).word ++ space ∷ decimal number ++ space ∷ decimal level
 
 -- a byte stands for itself, and a small letter a to f for the digit A to F
 abbrev pub StandsFor : (written byte : ℕ) → Type 0
@@ -130,15 +131,12 @@ IsEventForm version (Wide access) = IsWideForm version access
 IsEventForm version (Port access) = IsPortForm access
 IsEventForm version (LookAt kind addr smm) = addr < 2 ^ 32
 IsEventForm version Ack = Unit {0}
-IsEventForm version (Pulses count) = IsDecimal count
 IsEventForm version (Time moment) = IsMomentForm moment
-IsEventForm version (Wire dev on) = IsDecimal dev
-IsEventForm version (Line irq on) = IsDecimal irq
-IsEventForm version (BadSector sector) = IsDecimal sector
+IsEventForm version event = IfSome (applied_by event) (λ said. IsDecimal said.number)
 
-pub record IsLevelForm (actor : ℕ) (verb : List ℕ) (number level : ℕ) : Type 0 where
+pub record IsLevelForm (actor : ℕ) (stimulus : Stimulus) (number level : ℕ) : Type 0 where
   pub who : IsDecimal actor
-  pub what : (verb ≡ codes "wire") ⊎ (verb ≡ codes "irq")
+  pub what : (stimulus_form stimulus).has_level ≡ true
   pub which : IsDecimal number
   pub few : IsDecimal level
   pub high : 2 ≤ level
@@ -151,7 +149,7 @@ IsForm version (SetDisk name) = IsName name
 IsForm version (FitCard card) = IsCardForm version card
 IsForm version BeginPhase = Unit {0}
 IsForm version (Ask statement) = IsDecimal statement.actor × IsEventForm version statement.event
-IsForm version (AskLevel actor verb number level) = IsLevelForm actor verb number level
+IsForm version (AskLevel actor stimulus number level) = IsLevelForm actor stimulus number level
 
 -- a line has a form of the version, which says this
 pub record HasForm (version : ℕ) (line : List ℕ) (item : Item) : Type 0 where

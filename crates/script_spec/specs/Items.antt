@@ -1,12 +1,14 @@
 -- What a line says, by its fields: the reader's way through the forms.
 use Rattle.std.specs.Prelude.{ℕ, ◌==◌, Bool, true, false, ◌&&◌, nat_le, List, [], ◌∷◌, length, if◌then◌else◌, Option}
 use Rattle.std.specs.Prelude.{Some, None, option_map, codes, bytes_eq}
-use Rattle.board_prelude.specs.Common.{list_all, Moment, Event, Time, Wire as SetWire, Line as SetLine}
+use Rattle.board_prelude.specs.Common.{list_all, Fetch, Read, Moment, Event, Time, Stimulus, event_applied}
+use Rattle.board_prelude.specs.Common.{stimulus_of_word}
 use Rattle.script_spec.specs.Grammar.{Item, SetCpus, SetMemory, SetRom, SetDisk, FitCard, BeginPhase, Ask, AskLevel}
 use Rattle.script_spec.specs.Grammar.{is_name_start, is_name_byte}
 use Rattle.script_spec.specs.Fields.{fields_of}
 use Rattle.script_spec.specs.Numbers.{parse_decimal, ◌>>=◌}
-use Rattle.script_spec.specs.Events.{parse_event, parse_number}
+use Rattle.script_spec.specs.Events.{parse_read, parse_write, parse_in, parse_out, parse_look, parse_ack, parse_number}
+use Rattle.script_spec.specs.Events.{parse_given}
 use Rattle.script_spec.specs.Cards.{parse_card}
 use Rattle.script_spec.specs.Moments.{parse_moment}
 
@@ -15,25 +17,17 @@ use Rattle.script_spec.specs.Moments.{parse_moment}
 abbrev pub ask : ℕ → Event → Item
 ask actor event = Ask (record { actor = actor; event = event })
 
--- `wire` and `irq` with a level
-abbrev pub wire_item : (actor dev level : ℕ) → Item
-wire_item actor dev level =
-    if level == 0 then ask actor (SetWire dev false) else
-    if level == 1 then ask actor (SetWire dev true) else AskLevel actor (codes "wire") dev level
+-- a stimulus with a number and a level
+abbrev pub stimulus_item : (actor : ℕ) → Stimulus → (number level : ℕ) → Item
+stimulus_item actor stimulus number level =
+    if level == 0 then ask actor (event_applied stimulus number false) else
+    if level == 1 then ask actor (event_applied stimulus number true) else AskLevel actor stimulus number level
 
-abbrev pub line_item : (actor irq level : ℕ) → Item
-line_item actor irq level =
-    if level == 0 then ask actor (SetLine irq false) else
-    if level == 1 then ask actor (SetLine irq true) else AskLevel actor (codes "irq") irq level
-
-unfoldable pub parse_two_numbers : List (List ℕ) → Option (ℕ × ℕ)
-parse_two_numbers [] = None
-parse_two_numbers (_ ∷ []) = None
-parse_two_numbers (first ∷ second ∷ []) = do
-  first ← parse_decimal first
-  second ← parse_decimal second
-  Some (first, second)
-parse_two_numbers (_ ∷ _ ∷ _ ∷ _) = None
+unfoldable pub parse_stimulus_item : (actor : ℕ) → (verb : List ℕ) → (words : List (List ℕ)) → Option Item
+parse_stimulus_item actor verb words = do
+  stimulus ← stimulus_of_word verb
+  given ← parse_given stimulus words
+  Some (stimulus_item actor stimulus given.0 given.1)
 
 unfoldable pub parse_only_moment : List (List ℕ) → Option Moment
 parse_only_moment [] = None
@@ -43,20 +37,17 @@ parse_only_moment (_ ∷ _ ∷ _) = None
 unfoldable pub parse_time_item : (actor : ℕ) → List (List ℕ) → Option Item
 parse_time_item actor words = option_map (λ moment. ask actor (Time moment)) (parse_only_moment words)
 
-unfoldable pub parse_wire_item : (actor : ℕ) → List (List ℕ) → Option Item
-parse_wire_item actor words = option_map (λ p. wire_item actor p.0 p.1) (parse_two_numbers words)
-
-unfoldable pub parse_line_item : (actor : ℕ) → List (List ℕ) → Option Item
-parse_line_item actor words = option_map (λ p. line_item actor p.0 p.1) (parse_two_numbers words)
-
-unfoldable pub parse_event_item : (version actor : ℕ) → (verb : List ℕ) → (words : List (List ℕ)) → Option Item
-parse_event_item version actor verb words = option_map (ask actor) (parse_event version verb words)
-
+-- the verb says what is asked
 unfoldable pub parse_by_verb : (version actor : ℕ) → (verb : List ℕ) → (words : List (List ℕ)) → Option Item
 parse_by_verb version actor verb words =
-    if bytes_eq verb (codes "moment") then parse_time_item actor words else
-    if bytes_eq verb (codes "wire") then parse_wire_item actor words else
-    if bytes_eq verb (codes "irq") then parse_line_item actor words else parse_event_item version actor verb words
+    if bytes_eq verb (codes "r") then option_map (ask actor) (parse_read version Read words) else
+    if bytes_eq verb (codes "f") then option_map (ask actor) (parse_read version Fetch words) else
+    if bytes_eq verb (codes "w") then option_map (ask actor) (parse_write version words) else
+    if bytes_eq verb (codes "in") then option_map (ask actor) (parse_in words) else
+    if bytes_eq verb (codes "out") then option_map (ask actor) (parse_out words) else
+    if bytes_eq verb (codes "look") then option_map (ask actor) (parse_look words) else
+    if bytes_eq verb (codes "ack") then option_map (ask actor) (parse_ack words) else
+    if bytes_eq verb (codes "moment") then parse_time_item actor words else parse_stimulus_item actor verb words
 
 unfoldable pub parse_statement_words : (version actor : ℕ) → List (List ℕ) → Option Item
 parse_statement_words version actor [] = None

@@ -2,9 +2,9 @@
 use Rattle.std.specs.Prelude.{ℕ, ◌+◌, ◌%◌, ◌==◌, nat_le, nat_lt, Bool, true, false, not, ◌&&◌, ◌||◌, List, [], ◌∷◌}
 use Rattle.std.specs.Prelude.{length, filter, sum_by, Option, option_map, if◌then◌else◌}
 use Rattle.board_prelude.specs.Common.{list_all, list_any, find, bytes_of, is_moment, Event, Memory, Wide, Port, Pulses}
-use Rattle.board_prelude.specs.Common.{Time, Wire, Line, BadSector, most_statements, most_phases, most_pulses}
-use Rattle.board_prelude.specs.Common.{most_card_memory, FittedCard, is_base_in_range, is_rom_in_range, memory_of_cards}
-use Rattle.board_prelude.specs.Common.{is_within, is_free_line}
+use Rattle.board_prelude.specs.Common.{Time, Wire, stimulus_form, applied_by, option_map_or, most_statements}
+use Rattle.board_prelude.specs.Common.{most_phases, most_pulses, most_card_memory, FittedCard, is_base_in_range}
+use Rattle.board_prelude.specs.Common.{is_rom_in_range, memory_of_cards, is_within}
 use Rattle.script_spec.specs.Grammar.{Item, SetCpus, SetMemory, SetRom, SetDisk, FitCard, BeginPhase, Ask, AskLevel}
 
 -- ---- kinds of items
@@ -15,7 +15,7 @@ is_phase _ = false
 
 abbrev pub is_statement : Item → Bool
 is_statement (Ask statement) = true
-is_statement (AskLevel actor verb number level) = true
+is_statement (AskLevel actor stimulus number level) = true
 is_statement _ = false
 
 abbrev pub is_setup : Item → Bool
@@ -72,33 +72,27 @@ lacks_setup before = not (list_any is_phase before) && not (has_setup before)
 
 -- ---- 7: a number is out of range, or the calendar has no such moment
 
--- the most processors and MiB of a script, and the most pulses of a statement
+-- the most processors and MiB of a script
 abbrev pub largest_cpus : ℕ
 largest_cpus = 8
 
 abbrev pub largest_mib : ℕ
 largest_mib = 64
 
-abbrev pub largest_pulses : ℕ
-largest_pulses = 1_000_000
-
 abbrev pub is_card_in_range : FittedCard → Bool
 is_card_in_range card = is_within 2 9 card.dev && list_all is_base_in_range card.bases && is_rom_in_range card.rom
 
 abbrev pub is_event_in_range : Event → Bool
-is_event_in_range (Pulses count) = is_within 1 largest_pulses count
 is_event_in_range (Time m) = is_moment m.year m.month m.day m.hour m.minute m.second
-is_event_in_range (Wire dev on) = is_within 2 9 dev
-is_event_in_range (Line irq on) = is_free_line irq
-is_event_in_range (BadSector sector) = nat_le sector 0xFFFF
-is_event_in_range _ = true
+is_event_in_range event =
+    option_map_or (λ said. (stimulus_form said.stimulus).numbers said.number) (applied_by event) true
 
 abbrev pub is_in_range : Item → Bool
 is_in_range (SetCpus count) = is_within 1 largest_cpus count
 is_in_range (SetMemory mib) = is_within 1 largest_mib mib
 is_in_range (FitCard card) = is_card_in_range card
 is_in_range (Ask statement) = is_event_in_range statement.event
-is_in_range (AskLevel actor verb number level) = false
+is_in_range (AskLevel actor stimulus number level) = false
 is_in_range _ = true
 
 -- ---- 8: the address or the port is not a multiple of the width, or a wide access passes FFFFFFFF
@@ -126,7 +120,7 @@ is_card_there before _ = true
 abbrev pub is_there : List Item → Item → Bool
 is_there before (Ask statement) =
     list_any (is_cpus_above statement.actor) before && is_card_there before statement.event
-is_there before (AskLevel actor verb number level) = list_any (is_cpus_above actor) before
+is_there before (AskLevel actor stimulus number level) = list_any (is_cpus_above actor) before
 is_there before _ = true
 
 -- ---- 10: statement 250,001, phase 1,001, pulses past 100,000,000, or memory bases past 64 MiB

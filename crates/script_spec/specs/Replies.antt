@@ -1,10 +1,9 @@
 -- What the words of a reply say, by its event: the reader's way through its shapes.
 use Rattle.std.specs.Prelude.{ℕ, zero, suc, ◌+◌, ◌-◌, ◌*◌, ◌==◌, ◌≤◌, Bool, false, List, [], ◌∷◌, length, if◌then◌else◌}
 use Rattle.std.specs.Prelude.{Option, Some, None, option_map, codes, bytes_eq}
-use Rattle.board_prelude.specs.Common.{WideAccess, Pit, Wires, Ata, bytes_of, Event, Memory, Wide, Port, Ack, Pulses}
-use Rattle.board_prelude.specs.Common.{Time, Wire, Line, BadSector, Part, Parts, Two, Three, Four, Reply, Bus, Saw}
-use Rattle.board_prelude.specs.Common.{is_write, longest_at, parts_list, outside_answer}
-use Rattle.board_base.specs.declared.target.Dev.TheVariants.{Clock}
+use Rattle.board_prelude.specs.Common.{WideAccess, bytes_of, Event, Memory, Wide, Port, Ack, Part, Parts, Two, Three}
+use Rattle.board_prelude.specs.Common.{Four, Reply, Bus, Saw, is_write, longest_at, parts_list, answers_outside}
+use Rattle.board_prelude.specs.Common.{outside_answer}
 use Rattle.board_spec.specs.declared.event.Event.TheVariants.{Look as LookAt}
 use Rattle.board_spec.specs.declared.event.Reply.TheVariants.{Parts as InParts}
 use Rattle.script_spec.specs.Numbers.{parse_hex, parse_decimal, ◌>>=◌}
@@ -118,11 +117,7 @@ parse_reply (Wide access) words = parse_wide_reply access words
 parse_reply (Port access) words = parse_bus_reply access.write (bytes_of access.width) words
 parse_reply (LookAt kind addr smm) words = parse_look_reply words
 parse_reply Ack words = parse_bus_reply false 1 words
-parse_reply (Pulses count) words = Some (outside_answer Pit)
-parse_reply (Time moment) words = Some (outside_answer Clock)
-parse_reply (Wire dev on) words = Some (outside_answer Wires)
-parse_reply (Line irq on) words = Some (outside_answer Wires)
-parse_reply (BadSector sector) words = Some (outside_answer Ata)
+parse_reply event words = Some (outside_answer (answers_outside event))
 
 -- after the `=` a space stands before the first word
 unfoldable pub parse_spaced_reply : Event → List (List ℕ) → Option Reply

@@ -1,10 +1,10 @@
 -- Entries whose line in the log of a version says all that they are.
-use Rattle.std.specs.Prelude.{ℕ, ◌≡◌, ◌<◌, ◌^◌, Bool, true, false, length, All, Option, Some, None}
-use Rattle.board_prelude.specs.Common.{Reg, Dev, Pit, Wires, Ata, Area, Target, Dram, Shadow, Rom, Card, Device, Config}
-use Rattle.board_prelude.specs.Common.{Denial, Register, IsMoment, bytes_of, Event, Memory, Wide, Port, Ack, Pulses}
-use Rattle.board_prelude.specs.Common.{Time, Wire, Line, BadSector, Look, Part, Reply, Bus, Saw, Entry, is_write}
-use Rattle.board_prelude.specs.Common.{parts_of, parts_list, outside_answer}
-use Rattle.board_base.specs.declared.target.Dev.TheVariants.{Clock}
+use Rattle.std.specs.Prelude.{ℕ, ◌≡◌, ◌<◌, ◌^◌, Bool, true, false, length, All, Option, Some, None, IfSome}
+use Rattle.board_prelude.specs.Common.{Reg, Dev, Area, Target, Dram, Shadow, Rom, Card, Device, Config, Denial}
+use Rattle.board_prelude.specs.Common.{Register, IsMoment, bytes_of, Event, Memory, Wide, Port, Ack, Time}
+use Rattle.board_prelude.specs.Common.{stimulus_form, applied_by, Look, Part, Reply, Bus, Saw, Entry, is_write}
+use Rattle.board_prelude.specs.Common.{parts_of, parts_list}
+use Rattle.board_prelude.specs.Common.{answers_outside, outside_answer}
 use Rattle.board_base.specs.declared.target.Dev.TheVariants as devices
 use Rattle.board_base.specs.declared.target.Area.TheVariants as areas
 use Rattle.board_spec.specs.declared.event.Event.TheVariants.{Look as LookAt}
@@ -79,18 +79,17 @@ HasShape (Wide access) reply = IsWideReply (is_write access.kind) access.bytes (
 HasShape (Port access) reply = IsBusReply access.write (bytes_of access.width) reply
 HasShape (LookAt kind addr smm) reply = IsLookReply reply
 HasShape Ack reply = IsBusReply false 1 reply
-HasShape (Pulses count) reply = reply ≡ outside_answer Pit
-HasShape (Time moment) reply = reply ≡ outside_answer Clock
-HasShape (Wire dev on) reply = reply ≡ outside_answer Wires
-HasShape (Line irq on) reply = reply ≡ outside_answer Wires
-HasShape (BadSector sector) reply = reply ≡ outside_answer Ata
+HasShape event reply = reply ≡ outside_answer (answers_outside event)
 
--- a device and a line are bytes, and a moment is one of the calendar
+-- what takes a level has a number of a byte
+abbrev pub FitsLevel : (has_level : Bool) → ℕ → Type 0
+FitsLevel true number = number < 0x100
+FitsLevel false number = Unit {0}
+
+-- a stimulus has such a number, and a moment is one of the calendar
 abbrev pub IsNamed : Event → Type 0
-IsNamed (Wire dev on) = dev < 0x100
-IsNamed (Line irq on) = irq < 0x100
 IsNamed (Time moment) = IsMoment moment
-IsNamed _ = Unit {0}
+IsNamed event = IfSome (applied_by event) (λ said. FitsLevel (stimulus_form said.stimulus).has_level said.number)
 
 -- the event is one of a statement's forms, in its place, and the reply has its shape
 pub record IsWellFormed (version : ℕ) (entry : Entry) : Type 0 where
