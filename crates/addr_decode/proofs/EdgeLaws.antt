@@ -7,7 +7,7 @@ use Rattle.board_prelude.proofs.Common.{pow_pos, recursion_from_All, Kind, Fetch
 use Rattle.board_prelude.proofs.Common.{IoBase, OutsideBase, FittedCard, Setup, lies_in, smram_range, upper_memory}
 use Rattle.board_prelude.proofs.Common.{shadow_range, hole_at_512_kib, hole_at_15_mib, system_bios, high_bios}
 use Rattle.board_prelude.proofs.Common.{lower_bios, lower_high_bios, extended_bios, is_within, Bytes, Window, boundary}
-use Rattle.board_prelude.proofs.Common.{row_of, is_in, hole_of, pam_register, is_high_window, nibble, is_open}
+use Rattle.board_prelude.proofs.Common.{row_of, is_in_hole, pam_register, is_high_window, nibble, is_open}
 use Rattle.board_prelude.proofs.Common.{is_shadow_range, is_shadowed, is_smram_range, is_rom_selected}
 use Rattle.board_prelude.proofs.Common.{is_covered, base_value, rom_value, memory_window, rom_window, rom_window_of}
 use Rattle.board_prelude.proofs.Common.{is_rom_on, vga_window, memory_windows, is_enabled_for, first_window}
@@ -108,9 +108,10 @@ high_hole_same setup bytes addr x between =
     (fixed_clear setup bytes addr x 17 0x100_0000 between (omega arith) refl)
 
 hole_same :
-    (setup : Setup) (bytes : Bytes) (addr x fdhc : ℕ) → Between setup bytes addr x →
-    is_in (hole_of fdhc) x ≡ is_in (hole_of fdhc) addr
-hole_same setup bytes addr x fdhc between =
+    (setup : Setup) (bytes : Bytes) (addr x : ℕ) → Between setup bytes addr x →
+    is_in_hole bytes x ≡ is_in_hole bytes addr
+hole_same setup bytes addr x between =
+    let fdhc : ℕ = bytes hole_register in
     elim (cases_Bool (fdhc / 0x40 == 1)) [
       | inl low ↦ rw low (low_hole_same setup bytes addr x between)
       | inr not_low ↦
@@ -442,7 +443,7 @@ unfolding area_of
 area_same setup bytes addr x kind smm between =
     table_same (is_smram_open bytes kind smm) _ _ _ _ _ _ _ _ _ _ _ _ _ _
     (row_same setup bytes addr x between) (shadowed_same setup bytes addr x kind between)
-    (hole_same setup bytes addr x (bytes hole_register) between)
+    (hole_same setup bytes addr x between)
     (rom_same setup bytes addr x (bytes select_register) between) (smram_range_same setup bytes addr x between)
     (upper_memory_same setup bytes addr x between)
     (claim_same setup bytes addr x between)

@@ -4,14 +4,13 @@ use Rattle.std.proofs.Common.{arith, is_some, unwrap_or, [], ◌∷◌, option_m
 use Rattle.board_prelude.proofs.Common.{nat_tests, Area, Denial, Kind, top_of, memory_shut, rom_unselected}
 use Rattle.board_prelude.proofs.Common.{abort_denial, rom_denial, denial_in, denial_of, Setup, lies_in, upper_memory}
 use Rattle.board_prelude.proofs.Common.{Window, first_of, line_where, is_smram_range, is_shadow_range, card_area}
-use Rattle.board_prelude.proofs.Common.{area_under, Bytes, row_of, is_in, hole_of, pam_register, is_high_window, nibble}
-use Rattle.board_prelude.proofs.Common.{is_open, is_shadowed, is_rom_selected, memory_claim, area_of}
-use Rattle.board_prelude.proofs.Common.{xbcs as select_register, fdhc as hole_register}
+use Rattle.board_prelude.proofs.Common.{area_under, Bytes, row_of, pam_register, is_high_window, nibble}
+use Rattle.board_prelude.proofs.Common.{is_open, is_shadowed, memory_claim, area_of, xbcs as select_register}
 use Rattle.board_prelude.proofs.Common.{is_in_hole, is_bios_selected, is_smram_open}
 use Rattle.board_base.specs.declared.target.Area.TheVariants.{Dram, Shadow, Smram, Rom, Abort}
 use Rattle.pmc_regs.specs.Pmc.{IsRowsOf}
 use Rattle.addr_decode.specs.Common.{MapBytes, StandsFor, dram_area, row_area, above_dram, beside_dram, area_by}
-use Rattle.addr_decode.specs.Common.{master_area}
+use Rattle.addr_decode.specs.Common.{master_area, AreSinglesOf}
 
 -- the table of the memory map over the ranges that the address lies in, SMRAM's and all of upper memory, and over what
 -- the registers say of it
@@ -89,11 +88,9 @@ by_parts setup bytes addr kind smm =
     (is_in_hole bytes addr) (is_bios_selected bytes addr)
     (memory_claim setup bytes addr) addr
 
-pub rom_answers : (setup : Setup) (bytes : Bytes) (addr xbcs : ℕ) → xbcs ≡ bytes select_register →
-    true ≡ is_rom_selected xbcs addr → Rom ≡ beside_dram setup bytes addr
-rom_answers setup bytes addr xbcs same rom =
-    ap (λ (selected : Bool). above_dram None selected (memory_claim setup bytes addr))
-    (rom ∙ ap (λ (n : ℕ). is_rom_selected n addr) same)
+pub rom_answers : (setup : Setup) (bytes : Bytes) (addr : ℕ) → true ≡ is_bios_selected bytes addr →
+    Rom ≡ beside_dram setup bytes addr
+rom_answers setup bytes addr rom = ap (λ (selected : Bool). above_dram None selected (memory_claim setup bytes addr)) rom
 
 claim_area :
     (claim : Option Window) →
@@ -102,15 +99,13 @@ claim_area None = refl
 claim_area (Some window) = refl
 
 pub claim_answers :
-    (setup : Setup) (bytes : Bytes) (addr xbcs : ℕ) (claim : Option (ℕ × ℕ)) → xbcs ≡ bytes select_register →
-    false ≡ is_rom_selected xbcs addr →
+    (setup : Setup) (bytes : Bytes) (addr : ℕ) (claim : Option (ℕ × ℕ)) → false ≡ is_bios_selected bytes addr →
     claim ≡ option_map (λ window. (window.dev, window.base)) (memory_claim setup bytes addr) →
     area_by claim ≡ beside_dram setup bytes addr
-claim_answers setup bytes addr xbcs claim same rom is =
+claim_answers setup bytes addr claim rom is =
     ap area_by is
     ∙ claim_area (memory_claim setup bytes addr)
-    ∙ ap (λ (selected : Bool). above_dram None selected (memory_claim setup bytes addr))
-    (rom ∙ ap (λ (n : ℕ). is_rom_selected n addr) same)
+    ∙ ap (λ (selected : Bool). above_dram None selected (memory_claim setup bytes addr)) rom
 
 -- where DRAM answers or not
 or_beside : (dram : Option Area) (rom : Bool) (claim : Option Window) →
@@ -170,31 +165,33 @@ dram_undenied setup bytes addr kind smm area is =
     (either_answers setup bytes addr kind smm (Some area) (beside_dram setup bytes addr) is refl)
 
 -- a row of ordinary DRAM
-plain_dram : (bytes : Bytes) (addr row fdhc : ℕ) (kind : Kind) (smm : Bool) → lies_in upper_memory addr ≡ false →
-    is_in (hole_of fdhc) addr ≡ false → fdhc ≡ bytes hole_register → Some row ≡ row_of bytes addr →
+plain_dram : (bytes : Bytes) (addr row : ℕ) (kind : Kind) (smm : Bool) → lies_in upper_memory addr ≡ false →
+    is_in_hole bytes addr ≡ false → Some row ≡ row_of bytes addr →
     Some (Dram row) ≡ dram_by bytes addr kind smm
-plain_dram bytes addr row fdhc kind smm outside no_hole same is =
+plain_dram bytes addr row kind smm outside no_hole is =
     let beside : is_smram_range addr ≡ false = grind (arith, nat_tests) in
     let unshadowed : is_shadow_range addr ≡ false = grind (arith, nat_tests) in
-    rw (← is, ← same, beside, unshadowed, no_hole) refl
+    rw (← is, beside, unshadowed, no_hole) refl
 
 pub if_plain_area : (regs : MapBytes) (addr : ℕ) (found : Option ℕ) → lies_in upper_memory addr ≡ false →
-    is_in (hole_of regs.fdhc) addr ≡ false → ((bytes : Bytes) → IsRowsOf bytes regs.drb → found ≡ row_of bytes addr) →
+    ((bytes : Bytes) → AreSinglesOf bytes regs.singles → is_in_hole bytes addr ≡ false) →
+    ((bytes : Bytes) → IsRowsOf bytes regs.drb → found ≡ row_of bytes addr) →
     IfSome found (λ row. (setup : Setup) (bytes : Bytes) (kind : Kind) (smm : Bool) → StandsFor setup bytes regs →
     area_of setup bytes addr kind smm ≡ Dram row)
 if_plain_area regs addr None outside no_hole is = tt
 if_plain_area regs addr (Some row) outside no_hole is = λ setup bytes kind smm stands.
     sym (either_answers setup bytes addr kind smm (Some (Dram row)) (beside_dram setup bytes addr)
-    (plain_dram bytes addr row regs.fdhc kind smm outside no_hole stands.hole (is bytes stands.rows)) refl)
+    (plain_dram bytes addr row kind smm outside (no_hole bytes stands.singles) (is bytes stands.rows)) refl)
 
 pub if_plain_undenied : (regs : MapBytes) (addr : ℕ) (found : Option ℕ) → lies_in upper_memory addr ≡ false →
-    is_in (hole_of regs.fdhc) addr ≡ false → ((bytes : Bytes) → IsRowsOf bytes regs.drb → found ≡ row_of bytes addr) →
+    ((bytes : Bytes) → AreSinglesOf bytes regs.singles → is_in_hole bytes addr ≡ false) →
+    ((bytes : Bytes) → IsRowsOf bytes regs.drb → found ≡ row_of bytes addr) →
     IfSome found (λ row. (setup : Setup) (bytes : Bytes) (kind : Kind) (smm : Bool) → StandsFor setup bytes regs →
     denial_of setup bytes addr kind smm ≡ None)
 if_plain_undenied regs addr None outside no_hole is = tt
 if_plain_undenied regs addr (Some row) outside no_hole is = λ setup bytes kind smm stands.
     sym (dram_undenied setup bytes addr kind smm (Dram row)
-    (plain_dram bytes addr row regs.fdhc kind smm outside no_hole stands.hole (is bytes stands.rows)))
+    (plain_dram bytes addr row kind smm outside (no_hole bytes stands.singles) (is bytes stands.rows)))
 
 -- at an address of a shadow window
 row_shadow : (row : ℕ) (opened shadowed hole : Bool) (addr : ℕ) → is_smram_range addr ≡ false →

@@ -2,26 +2,28 @@
 use Rattle.std.proofs.Common.{◌≡◌, ◌≢◌, ℕ, zero, suc, ◌+◌, ◌-◌, ◌<◌, ◌≤◌, Bool, true, false, ◌&&◌, ◌||◌, Option, Some}
 use Rattle.std.proofs.Common.{None, List, [], ◌∷◌, ◌++◌, length, get_or, inl, inr, refl, sym, ◌∙◌, ap, subst, arith}
 use Rattle.std.proofs.Common.{take, lit<, ◌==◌, map, find, is_some, unwrap_or, option_map, option_and_then}
-use Rattle.std.proofs.Common.{if◌then◌else◌}
+use Rattle.std.proofs.Common.{if◌then◌else◌, rules}
 use Rattle.board_prelude.proofs.Common.{position, AllByRecursion, list_any, and-true, and-false, cases_Bool, cases_eq}
 use Rattle.board_prelude.proofs.Common.{ne_eqb, eqb-true, nat_tests, get_or-map, Width, One, Reg, bytes_of, MapChange}
 use Rattle.board_prelude.proofs.Common.{Store, Reset, FittedCard, Setup, card_at, is_within, bridge, isa, card_register}
-use Rattle.board_prelude.proofs.Common.{has_rom, is_map_byte, reg_after, touches_map, bytes_few}
+use Rattle.board_prelude.proofs.Common.{has_rom, is_map_byte, reg_after, touches_map, bytes_few, each_below}
+use Rattle.board_prelude.proofs.Common.{third, fourth}
 use Rattle.std.proofs.lemmas.List.{map_more}
 use Rattle.std.proofs.lemmas.List.Quantifiers.{position-Some}
 use Rattle.std.proofs.lemmas.Option.{slice_get-get_or}
 use Rattle.pci_bars.proofs.CardListLemmas.{find-cards, at_position}
 use Rattle.board_base.specs.declared.access.Width.TheVariants.{Two, Four}
 use Rattle.addr_decode.specs.declared.register.MapRegister.{MapRegister}
-use Rattle.addr_decode.specs.declared.register.MapRegister.TheVariants.{Pam, RowBoundary, Hole, Smram, ChipSelects}
-use Rattle.addr_decode.specs.declared.register.MapRegister.TheVariants.{Card}
+use Rattle.addr_decode.specs.declared.register.MapRegister.TheVariants.{Pam, RowBoundary, Single, Card}
 use Rattle.addr_decode.specs.declared.register.CardRegister.{CardRegister}
 use Rattle.addr_decode.specs.declared.register.CardRegister.TheVariants.{Command, Base, ExpansionRom}
 use Rattle.addr_decode.specs.MapRegister.{place_of, IsNumbered, IsNumberedName, AreNumbered, in_bridge, in_isa_bridge}
-use Rattle.addr_decode.specs.MapRegister.{in_card, in_device, map_register, names_from, names_of}
+use Rattle.addr_decode.specs.MapRegister.{in_card, in_device, map_register, names_from, names_of, named_single}
+use Rattle.addr_decode.specs.Singles.{single, single_count, single_number}
 use Rattle.pci_bars.specs.Cards.{CardBytes, AreFitted, cards_of}
 use Rattle.addr_decode.proofs.StoreLemmas.{in_function_0}
 use Rattle.addr_decode.proofs.CardLemmas.{no_low_card}
+use Rattle.addr_decode.proofs.SingleLemmas.{number_stands, none_past_ff}
 
 -- ---- the map bytes of each function
 
@@ -37,14 +39,42 @@ no_rom : (card : Option FittedCard) → is_some card ≡ false → has_rom card 
 no_rom None none = refl
 no_rom (Some card) none = absurd (cc)
 
+-- the offsets of those of the host bridge, and of the ISA bridge
+abbrev pub is_host_byte : ℕ → Bool
+is_host_byte off = is_within 0x59 0x68 off || off == 0x72
+
+abbrev pub is_isa_byte : ℕ → Bool
+is_isa_byte off = off == 0x4E
+
 bridge_byte : (setup : Setup) (off : ℕ) → is_some (card_at setup 0) ≡ false →
-    is_map_byte setup (bridge off) ≡ (is_within 0x59 0x68 off || off == 0x72)
-bridge_byte setup off none =
-    rw (none, no_rom (card_at setup 0) none) (or_nothing (is_within 0x59 0x68 off || off == 0x72))
+    is_map_byte setup (bridge off) ≡ is_host_byte off
+bridge_byte setup off none = rw (none, no_rom (card_at setup 0) none) (or_nothing (is_host_byte off))
 
 isa_byte :
-    (setup : Setup) (off : ℕ) → is_some (card_at setup 1) ≡ false → is_map_byte setup (isa off) ≡ (off == 0x4E)
-isa_byte setup off none = rw (none, no_rom (card_at setup 1) none) (or_two (off == 0x4E))
+    (setup : Setup) (off : ℕ) → is_some (card_at setup 1) ≡ false → is_map_byte setup (isa off) ≡ is_isa_byte off
+isa_byte setup off none = rw (none, no_rom (card_at setup 1) none) (or_two (is_isa_byte off))
+
+-- PAM, the boundaries of rows and the registers of one byte are map bytes, and so are those of a fitted card
+pub block_is_byte : (setup : Setup) (off : ℕ) → 0x59 ≤ off → off ≤ 0x67 → is_map_byte setup (bridge off) ≡ true
+block_is_byte setup off from to =
+    let within : is_within 0x59 0x68 off ≡ true = grind (arith, nat_tests) in rw within refl
+
+pub single_is_byte : (setup : Setup) (k : ℕ) → k < single_count → is_map_byte setup (single k) ≡ true
+single_is_byte setup k below =
+    each_below (λ k. is_map_byte setup (single k) ≡ true) single_count k (search rules) below
+
+pub card_is_byte : (setup : Setup) (dev off : ℕ) → is_some (card_at setup dev) ≡ true →
+    (off == 0x04 || is_within 0x10 0x27 off) ≡ true → is_map_byte setup (card_register dev off) ≡ true
+card_is_byte setup dev off fitted is =
+    third (dev == 0 && 0 == 0 && is_host_byte off) (dev == 1 && 0 == 0 && is_isa_byte off) (is_some (card_at setup dev))
+    (off == 0x04 || is_within 0x10 0x27 off) _ fitted is
+
+pub rom_is_byte : (setup : Setup) (dev off : ℕ) → has_rom (card_at setup dev) ≡ true → is_within 0x30 0x33 off ≡ true →
+    is_map_byte setup (card_register dev off) ≡ true
+rom_is_byte setup dev off fitted is =
+    fourth (dev == 0 && 0 == 0 && is_host_byte off) (dev == 1 && 0 == 0 && is_isa_byte off)
+    (is_some (card_at setup dev) && true && (off == 0x04 || is_within 0x10 0x27 off)) (has_rom (card_at setup dev))
+    (is_within 0x30 0x33 off) fitted is
 
 card_byte : (setup : Setup) (dev off : ℕ) → dev ≢ 0 → dev ≢ 1 →
     is_map_byte setup (card_register dev off)
@@ -71,7 +101,7 @@ other_byte setup reg fun =
 
 -- ---- they have a name
 
-bridge_named : (off : ℕ) → is_some (in_bridge off) ≡ (is_within 0x59 0x68 off || off == 0x72)
+pub bridge_named : (off : ℕ) → is_some (in_bridge off) ≡ is_host_byte off
 bridge_named off =
     elim (cases_Bool (is_within 0x59 0x5F off)) [
       | inl pam ↦ let all : is_within 0x59 0x68 off ≡ true = grind (arith, nat_tests) in rw (pam, all) refl
@@ -91,7 +121,7 @@ bridge_named off =
       ]
     ]
 
-isa_named : (off : ℕ) → is_some (in_isa_bridge off) ≡ (off == 0x4E)
+pub isa_named : (off : ℕ) → is_some (in_isa_bridge off) ≡ is_isa_byte off
 isa_named off = elim (cases_Bool (off == 0x4E)) [ inl here ↦ rw here refl | inr beside ↦ rw beside refl ]
 
 named_by : (command base rom within : Bool) (dev : ℕ) (x y z : CardRegister) →
@@ -157,7 +187,17 @@ is_the_name : (first register : MapRegister) (reg : Reg) → Some first ≡ Some
 is_the_name first register reg same is =
     subst (λ (it : MapRegister). IsNameAt it reg) (ap (λ (it : Option MapRegister). unwrap_or it first) same) is
 
-bridge_place : (off : ℕ) (register : MapRegister) → in_bridge off ≡ Some register → IsNameAt register (bridge off)
+number_place : (number : Option ℕ) (reg : Reg) (register : MapRegister) → single_number reg ≡ number →
+    option_map Single number ≡ Some register → IsNameAt register reg
+number_place None reg register told is = absurd (cc)
+number_place (Some number) reg register told is =
+    let there = number_stands reg number told in
+    is_the_name (Single number) register reg is (record { place = there.1; number = there.0 })
+
+pub single_place : (reg : Reg) (register : MapRegister) → named_single reg ≡ Some register → IsNameAt register reg
+single_place reg register is = number_place (single_number reg) reg register refl is
+
+pub bridge_place : (off : ℕ) (register : MapRegister) → in_bridge off ≡ Some register → IsNameAt register (bridge off)
 bridge_place off register is =
     elim (cases_Bool (is_within 0x59 0x5F off)) [
       | inl pam ↦
@@ -171,30 +211,8 @@ bridge_place off register is =
             let to : off ≤ 0x67 = grind (arith, nat_tests) in
             is_the_name (RowBoundary (off - 0x60)) register (bridge off) (rw (not_pam, row) at is)
             (record { place = ap bridge (omega arith); number = omega arith })
-        | inr not_row ↦ elim (cases_Bool (off == 0x68)) [
-          | inl hole ↦
-              is_the_name Hole register (bridge off) (rw (not_pam, not_row, hole) at is)
-              (record { place = ap bridge (sym (eqb-true off 0x68 hole)); number = tt })
-          | inr not_hole ↦ elim (cases_Bool (off == 0x72)) [
-            | inl smram ↦
-                is_the_name Smram register (bridge off) (rw (not_pam, not_row, not_hole, smram) at is)
-                (record { place = ap bridge (sym (eqb-true off 0x72 smram)); number = tt })
-            | inr beside ↦
-                let none : ◌≡◌ {A = Option MapRegister} None (Some register) =
-                rw (not_pam, not_row, not_hole, beside) at is in
-                absurd (cc)
-          ]
-        ]
+        | inr not_row ↦ single_place (bridge off) register (rw (not_pam, not_row) at is)
       ]
-    ]
-
-isa_place : (off : ℕ) (register : MapRegister) → in_isa_bridge off ≡ Some register → IsNameAt register (isa off)
-isa_place off register is =
-    elim (cases_Bool (off == 0x4E)) [
-      | inl here ↦
-          is_the_name ChipSelects register (isa off) (rw here at is)
-          (record { place = ap isa (sym (eqb-true off 0x4E here)); number = tt })
-      | inr beside ↦ let none : ◌≡◌ {A = Option MapRegister} None (Some register) = rw beside at is in absurd (cc)
     ]
 
 device_place : (fitted : Option FittedCard) (dev off : ℕ) (register : MapRegister) → 2 ≤ dev →
@@ -242,7 +260,7 @@ is_name cards reg register is =
         | inr not0 ↦ elim (cases_eq reg.dev 1) [
           | inl second ↦
               subst (IsNameAt register) (in_function_0 reg 1 second function)
-              (isa_place reg.off register (rw (function, second) at is))
+              (single_place (isa reg.off) register (rw (function, second) at is))
           | inr not1 ↦
               subst (IsNameAt register) (in_function_0 reg reg.dev refl function)
               (device_place (find (λ card. card.dev == reg.dev) cards) reg.dev reg.off register (omega arith)
@@ -332,7 +350,7 @@ bridge_past : (off : ℕ) → 256 ≤ off → in_bridge off ≡ None
 bridge_past off past =
     let pam : is_within 0x59 0x5F off ≡ false = grind (arith, nat_tests) in
     let row : is_within 0x60 0x67 off ≡ false = grind (arith, nat_tests) in
-    rw (pam, row, ne_eqb off 0x68 (omega arith), ne_eqb off 0x72 (omega arith)) refl
+    rw (pam, row) (ap (option_map Single) (none_past_ff (bridge off) past))
 
 device_past : (fitted : Option FittedCard) (dev off : ℕ) → 256 ≤ off →
     option_map (Card dev) (option_and_then (in_card off) fitted) ≡ None
@@ -350,7 +368,7 @@ none_past cards reg past =
       | inl function ↦ elim (cases_eq reg.dev 0) [
         | inl first ↦ rw (function, first) (bridge_past reg.off past)
         | inr not0 ↦ elim (cases_eq reg.dev 1) [
-          | inl second ↦ rw (function, second, ne_eqb reg.off 0x4E (omega arith)) refl
+          | inl second ↦ rw (function, second) (ap (option_map Single) (none_past_ff (isa reg.off) past))
           | inr not1 ↦
               rw (function, ne_eqb reg.dev 0 not0, ne_eqb reg.dev 1 not1)
               (device_past (find (λ card. card.dev == reg.dev) cards) reg.dev reg.off past)

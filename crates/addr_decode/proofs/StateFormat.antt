@@ -1,7 +1,7 @@
 -- The state of the registers is spelled and read back.
 use Rattle.std.proofs.Common.{◌≡◌, ℕ, zero, suc, ◌+◌, ◌*◌, ◌^◌, ◌<◌, ◌≤◌, List, [], ◌∷◌, ◌++◌, length, Option, Some}
 use Rattle.std.proofs.Common.{None, Result, Ok, refl, sym, ap, subst, ◌∙◌, arith, slice_index, flat_map}
-use Rattle.std.proofs.Common.{get_or, drop, Err, false}
+use Rattle.std.proofs.Common.{get_or, take, drop, ◌-◌, Err, false}
 use Rattle.std.proofs.lemmas.List.{drop_more}
 use Rattle.std.proofs.lemmas.List.Concat.{flat_map-cons}
 use Rattle.std.proofs.lemmas.List.Elements.{All-from_recursion}
@@ -12,6 +12,7 @@ use Rattle.byte_fields.proofs.Loops.{with_later, with_front, front_joined}
 use Rattle.byte_fields.proofs.Numbers.{Ranges, byte_within, within_format, wide32}
 use Rattle.pci_bars.specs.Cards.{CardBytes, cards_of}
 use Rattle.addr_decode.specs.declared.regs.MapRegs.{MapRegs}
+use Rattle.addr_decode.specs.Singles.{single_count}
 use Rattle.addr_decode.specs.State.{any_byte, any_long, AreBases, bases_bytes, bases_fields, IsCardRegs, most_rom}
 use Rattle.addr_decode.specs.State.{card_bytes, card_fields, AreCardRegs, cards_fields, AreMapRegs, regs_bytes}
 use Rattle.addr_decode.specs.State.{regs_fields}
@@ -266,6 +267,34 @@ cards_format fitted =
     (λ cards good. record { same = good.0; each = All-from_recursion IsCardRegs cards good.1 })
     (λ cards good. refl)
 
+-- ---- the registers of one byte each: the first, and the others
+
+front_and_rest : (xs : List ℕ) → take 1 xs ++ drop 1 xs ≡ xs
+front_and_rest [] = refl
+front_and_rest (x ∷ later) = refl
+
+first_long : (xs : List ℕ) → length xs ≡ single_count → length (take 1 xs) ≡ 1
+first_long [] all = absurd (omega (arith, all))
+first_long (x ∷ later) all = refl
+
+others_long : (xs : List ℕ) → length xs ≡ single_count → length (drop 1 xs) ≡ single_count - 1
+others_long [] all = absurd (omega (arith, all))
+others_long (x ∷ later) all = omega (arith, all)
+
+all_long : (xs : List ℕ) → length (take 1 xs) ≡ 1 → length (drop 1 xs) ≡ single_count - 1 → length xs ≡ single_count
+all_long [] one others = absurd (omega (arith, one))
+all_long (x ∷ later) one others = omega (arith, others)
+
+first_same : (xs first others : List ℕ) → length first ≡ 1 → xs ≡ first ++ others → take 1 xs ≡ first
+first_same xs [] others one is = absurd (omega (arith, one))
+first_same xs (x ∷ []) others one is = ap (take 1) is
+first_same xs (x ∷ y ∷ later) others one is = absurd (omega (arith, one))
+
+others_same : (xs first others : List ℕ) → length first ≡ 1 → xs ≡ first ++ others → drop 1 xs ≡ others
+others_same xs [] others one is = absurd (omega (arith, one))
+others_same xs (x ∷ []) others one is = ap (drop 1) is
+others_same xs (x ∷ y ∷ later) others one is = absurd (omega (arith, one))
+
 -- ---- the whole
 
 pub regs_format : (fitted : List FittedCard) →
@@ -274,44 +303,38 @@ unfolding regs_fields
 regs_format fitted =
     format_as (18 + 30 * length fitted) regs_bytes (AreMapRegs fitted)
     (then_format (λ (r : MapRegs). r.drb) (plain_format 8) (λ drb good_drb.
-    (then_format (λ (r : MapRegs). r.fdhc) byte_format (λ fdhc good_fdhc.
+    (then_format (λ (r : MapRegs). take 1 r.singles) (plain_format 1) (λ first good_first.
     (then_format (λ (r : MapRegs). r.pam) (plain_format 7) (λ pam good_pam.
-    (then_format (λ (r : MapRegs). r.smram) byte_format (λ smram good_smram.
-    (then_format (λ (r : MapRegs). r.xbcs) byte_format (λ xbcs good_xbcs.
+    (then_format (λ (r : MapRegs). drop 1 r.singles) (plain_format (single_count - 1)) (λ others good_others.
     (last_format (λ (r : MapRegs). r.cards.items) (λ cards. record {
       drb = drb;
-      fdhc = fdhc;
       pam = pam;
-      smram = smram;
-      xbcs = xbcs;
+      singles = first ++ others;
       cards = record { items = cards };
     }) (cards_format fitted) (λ cards good. refl)))
-    (λ xbcs r any good. ap (λ (r : MapRegs). r.xbcs) good.1)))
-    (λ smram r any good. ap (λ (r : MapRegs). r.smram) good.1.1)))
-    (λ pam r any good. ap (λ (r : MapRegs). r.pam) good.1.1.1)))
-    (λ fdhc r any good. ap (λ (r : MapRegs). r.fdhc) good.1.1.1.1)))
-    (λ drb r any good. ap (λ (r : MapRegs). r.drb) good.1.1.1.1.1))
+    (λ others r any good. others_same r.singles first others good_first (ap (λ (r : MapRegs). r.singles) good.1))))
+    (λ pam r any good. ap (λ (r : MapRegs). r.pam) good.1.1)))
+    (λ first r any good. first_same r.singles first (drop 1 r.singles) any (ap (λ (r : MapRegs). r.singles) good.1.1.1))))
+    (λ drb r any good. ap (λ (r : MapRegs). r.drb) good.1.1.1.1))
     (omega arith)
     (λ r are. (
       are.drb,
       (
-        (omega arith, omega (arith, are.fdhc)),
+        first_long r.singles are.singles,
         (
           are.pam,
           (
-            (omega arith, omega (arith, are.smram)),
-            ((omega arith, omega (arith, are.xbcs)), (are.cards, refl)),
+            others_long r.singles are.singles,
+            (are.cards, ap (λ (held : List ℕ). record r { singles = held }) (sym (front_and_rest r.singles))),
           ),
         ),
       ),
     ))
     (λ r good. record {
       drb = good.0;
-      fdhc = omega (arith, good.1.0.1);
       pam = good.1.1.0;
-      smram = omega (arith, good.1.1.1.0.1);
-      xbcs = omega (arith, good.1.1.1.1.0.1);
-      cards = good.1.1.1.1.1.0;
+      singles = all_long r.singles good.1.0 good.1.1.1.0;
+      cards = good.1.1.1.1.0;
     })
     (λ r good. refl)
 

@@ -13,3 +13,4 @@ unfoldable pub use Rattle.addr_decode.specs.Master.{master_area, master_denial}
 pub use Rattle.addr_decode.specs.Memory.{above_dram, area_by, beside_dram, dram_area, row_area}
 pub use Rattle.addr_decode.specs.Onboard.{by_select, if_decoded, if_selected, response_of}
 pub use Rattle.addr_decode.specs.Ports.{after_onboard, as_decoded}
+pub use Rattle.addr_decode.specs.Singles.{AreSinglesOf, single, single_count, single_number, singles}

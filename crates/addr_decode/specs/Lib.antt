@@ -6,6 +6,7 @@ pub mod MapRegs
 pub mod Memory
 pub mod Onboard
 pub mod Ports
+pub mod Singles
 pub mod State
 pub mod Master
 pub mod Common

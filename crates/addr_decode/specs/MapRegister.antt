@@ -2,13 +2,13 @@
 use Rattle.std.specs.Prelude.{ℕ, ◌≡◌, ◌+◌, ◌-◌, ◌<◌, ◌≤◌, ◌==◌, Bool, true, false, not, ◌&&◌, if◌then◌else◌, List, []}
 use Rattle.std.specs.Prelude.{◌∷◌, length, take, map, find, Option, Some, None, is_some, option_map, option_and_then}
 use Rattle.board_prelude.specs.Common.{AllByRecursion, Width, Reg, bytes_of, MapChange, Store, Reset, FittedCard, Setup}
-use Rattle.board_prelude.specs.Common.{IsCardList, is_within, is_map_byte, reg_after, pam, drb, fdhc, smram, xbcs}
+use Rattle.board_prelude.specs.Common.{IsCardList, is_within, is_map_byte, reg_after, pam, drb, bridge, isa}
 use Rattle.board_prelude.specs.Common.{card_register, card_command, base_register, expansion_rom}
 use Rattle.addr_decode.specs.declared.register.MapRegister.{MapRegister}
-use Rattle.addr_decode.specs.declared.register.MapRegister.TheVariants.{Pam, RowBoundary, Hole, Smram, ChipSelects}
-use Rattle.addr_decode.specs.declared.register.MapRegister.TheVariants.{Card}
+use Rattle.addr_decode.specs.declared.register.MapRegister.TheVariants.{Pam, RowBoundary, Single, Card}
 use Rattle.addr_decode.specs.declared.register.CardRegister.{CardRegister}
 use Rattle.addr_decode.specs.declared.register.CardRegister.TheVariants.{Command, Base, ExpansionRom}
+use Rattle.addr_decode.specs.Singles.{single, single_count, single_number}
 
 -- ---- where the register of a name stands
 
@@ -20,12 +20,10 @@ offset_of (ExpansionRom k) = (expansion_rom 0).off + k
 abbrev pub place_of : MapRegister → Reg
 place_of (Pam k) = pam k
 place_of (RowBoundary row) = drb row
-place_of Hole = fdhc
-place_of Smram = smram
-place_of ChipSelects = xbcs
+place_of (Single number) = single number
 place_of (Card dev register) = card_register dev (offset_of register)
 
--- there are seven PAM, eight rows, and of a card 24 bytes of bases and four of the expansion ROM's register
+-- there are seven PAM, eight rows, the registers of one byte each, and of a card 24 bytes of bases and four of the expansion ROM's register
 abbrev pub IsCardNumber : CardRegister → Type 0
 IsCardNumber Command = Unit {0}
 IsCardNumber (Base k) = k < 24
@@ -34,8 +32,8 @@ IsCardNumber (ExpansionRom k) = k < 4
 abbrev pub IsNumbered : MapRegister → Type 0
 IsNumbered (Pam k) = k < 7
 IsNumbered (RowBoundary row) = row < 8
+IsNumbered (Single number) = number < single_count
 IsNumbered (Card dev register) = (2 ≤ dev) × IsCardNumber register
-IsNumbered _ = Unit {0}
 
 -- a change stores to at most four registers, and the names that they have are numbered so
 abbrev pub IsNumberedName : Option MapRegister → Type 0
@@ -52,16 +50,17 @@ is_of_card _ = false
 
 -- ---- the name of the register at a place
 
--- in the host bridge, in the ISA bridge, and in a card
+-- of one byte, in the host bridge, in the ISA bridge, and in a card
+abbrev pub named_single : Reg → Option MapRegister
+named_single reg = option_map Single (single_number reg)
+
 abbrev pub in_bridge : (off : ℕ) → Option MapRegister
 in_bridge off =
     if is_within (pam 0).off (pam 6).off off then Some (Pam (off - (pam 0).off)) else
-    if is_within (drb 0).off (drb 7).off off then Some (RowBoundary (off - (drb 0).off)) else
-    if off == fdhc.off then Some Hole else
-    if off == smram.off then Some Smram else None
+    if is_within (drb 0).off (drb 7).off off then Some (RowBoundary (off - (drb 0).off)) else named_single (bridge off)
 
 abbrev pub in_isa_bridge : (off : ℕ) → Option MapRegister
-in_isa_bridge off = if off == xbcs.off then Some ChipSelects else None
+in_isa_bridge off = named_single (isa off)
 
 abbrev pub in_card : (off : ℕ) → FittedCard → Option CardRegister
 in_card off card =

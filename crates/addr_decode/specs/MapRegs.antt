@@ -1,29 +1,26 @@
 -- The registers that the address map depends on.
 use Rattle.std.specs.Prelude.{◌≡◌, ℕ, ◌/◌, List}
-use Rattle.board_prelude.specs.Common.{One, Reg, Store, changed_byte, Setup, Bytes, fdhc, smram, xbcs}
+use Rattle.board_prelude.specs.Common.{One, Reg, Store, changed_byte, Setup, Bytes}
 use Rattle.board_prelude.specs.Common.{ide_command as command_register, idetim_high}
 use Rattle.pmc_regs.specs.Pmc.{IsRowsOf}
 use Rattle.pam_windows.specs.Pam.{IsPamOf}
 use Rattle.pci_bars.specs.Cards.{CardBytes, AreDecoded}
 use Rattle.addr_decode.specs.declared.regs.MapRegs.{MapRegs}
+use Rattle.addr_decode.specs.Singles.{AreSinglesOf}
 
--- what they hold: DRB0 to DRB7, FDHC, PAM0 to PAM6 and SMRAM of the host bridge, XBCS of the ISA bridge, and
--- the cards
+-- what they hold: DRB0 to DRB7 and PAM0 to PAM6 of the host bridge, the registers of one byte each by their
+-- numbers, and the cards
 pub record MapBytes : Type 0 where
   pub drb : List ℕ
-  pub fdhc : ℕ
   pub pam : List ℕ
-  pub smram : ℕ
-  pub xbcs : ℕ
+  pub singles : List ℕ
   pub cards : List CardBytes
 
 abbrev pub map_bytes : MapRegs → MapBytes
 map_bytes regs = record {
   drb = regs.drb;
-  fdhc = regs.fdhc;
   pam = regs.pam;
-  smram = regs.smram;
-  xbcs = regs.xbcs;
+  singles = regs.singles;
   cards = regs.cards.items;
 }
 
@@ -35,10 +32,8 @@ stored setup bytes at written = λ reg. changed_byte setup (Store at One written
 -- line of a card is none of these
 pub record StandsFor (setup : Setup) (bytes : Bytes) (regs : MapBytes) : Type 0 where
   pub rows : IsRowsOf bytes regs.drb
-  pub hole : regs.fdhc ≡ bytes fdhc
   pub windows : IsPamOf bytes regs.pam
-  pub smram : regs.smram ≡ bytes smram
-  pub xbcs : regs.xbcs ≡ bytes xbcs
+  pub singles : AreSinglesOf bytes regs.singles
   pub cards : AreDecoded setup bytes regs.cards
 
 -- these are the command and the timing of the IDE function. Of the timing the high byte alone decides

@@ -1,10 +1,11 @@
 -- The state of the registers that the address map depends on as bytes. The cards of the board are not in them.
 use Rattle.std.specs.Prelude.{ℕ, ◌≡◌, ◌<◌, ◌^◌, List, [], ◌∷◌, ◌++◌, length, slice_index, All, flat_map, Option, None}
-use Rattle.std.specs.Prelude.{Some}
+use Rattle.std.specs.Prelude.{Some, ◌-◌, take, drop}
 use Rattle.board_base.specs.Common.{w8, w32, to_le_bytes}
 use Rattle.board_spec.specs.Setup.{FittedCard}
 use Rattle.byte_fields.specs.Fields.{Reading, gives, ◌>>=◌, within, plain}
 use Rattle.pci_bars.specs.Cards.{CardBytes, cards_of}
+use Rattle.addr_decode.specs.Singles.{single_count}
 use Rattle.addr_decode.specs.declared.regs.MapRegs.{MapRegs}
 
 -- a byte, and a doubleword
@@ -78,34 +79,30 @@ cards_fields (card ∷ later) = do
   others ← cards_fields later
   gives (first ∷ others)
 
--- ---- the whole: DRB0 to DRB7, FDHC, PAM0 to PAM6, SMRAM, XBCS, and the cards
+-- ---- the whole: DRB0 to DRB7, the first register of one byte, PAM0 to PAM6, the other registers of one byte, and the
+-- cards
 
 pub record AreMapRegs (fitted : List FittedCard) (regs : MapRegs) : Type 0 where
   pub drb : length regs.drb ≡ 8
-  pub fdhc : regs.fdhc < 2 ^ 8
   pub pam : length regs.pam ≡ 7
-  pub smram : regs.smram < 2 ^ 8
-  pub xbcs : regs.xbcs < 2 ^ 8
+  pub singles : length regs.singles ≡ single_count
   pub cards : AreCardRegs fitted regs.cards.items
 
 abbrev pub regs_bytes : MapRegs → List ℕ
 regs_bytes regs =
     regs.drb
-    ++ (regs.fdhc ∷ (regs.pam ++ (regs.smram ∷ regs.xbcs ∷ flat_map card_bytes regs.cards.items)))
+    ++ (take 1 regs.singles ++ (regs.pam ++ (drop 1 regs.singles ++ flat_map card_bytes regs.cards.items)))
 
 unfoldable pub regs_fields : List FittedCard → Reading MapRegs
 regs_fields fitted = do
   drb ← plain 8
-  fdhc ← any_byte
+  first ← plain 1
   pam ← plain 7
-  smram ← any_byte
-  xbcs ← any_byte
+  others ← plain (single_count - 1)
   cards ← cards_fields fitted
   gives (record {
     drb = drb;
-    fdhc = fdhc;
     pam = pam;
-    smram = smram;
-    xbcs = xbcs;
+    singles = first ++ others;
     cards = record { items = cards };
   })

@@ -5,18 +5,17 @@ ghost use Rattle.board_prelude.specs.Common.{reg_after, touches_map};
 ghost use Rattle.pci_bars.specs.Cards.{AreCards, AreCardsOf, AreDecoded, AreFitted, cards_of};
 ghost use Rattle.addr_decode.specs.MapRegister.{IsNumbered, map_register, names_from, names_of, place_of};
 ghost use Rattle.addr_decode.specs.MapRegs.{StandsFor, map_bytes, stored};
+ghost use Rattle.addr_decode.specs.Singles.{single, single_count};
 
 use crate::cards::write_card;
 use crate::register::{MapRegister, touch_map};
 use crate::regs::MapRegs;
+use crate::singles::single_after;
 use board_base::{Reg, Width};
 use board_spec::MapChange;
 use board_spec::offset::{PAM0, SOUTH_BRIDGE};
 use pam_windows::store_pam;
 use pci_bars::{CardRegs, card_at};
-use pmc_regs::fdhc_after;
-use smram_ctl::smram_after;
-use xbus_select::xbcs_after;
 
 /// Whether a store covers a byte that the address map depends on, whether or not it changes it. Bytes past
 /// offset FFh do not count.
@@ -121,13 +120,23 @@ impl MapRegs {
         match register {
             MapRegister::Pam(number) => store_pam(&mut self.pam, PAM0 + number, byte),
             MapRegister::RowBoundary(row) => self.drb[usize::from(row)] = byte,
-            MapRegister::Hole => self.fdhc = fdhc_after(self.fdhc, byte),
-            MapRegister::Smram => self.smram = smram_after(self.smram, byte),
-            MapRegister::ChipSelects => self.xbcs = xbcs_after(self.xbcs, byte),
+            MapRegister::Single(number) => self.set_single(number.into(), byte),
             MapRegister::Card(dev, register) => {
                 write_card(&mut self.cards, dev, register.offset(), byte);
             }
         }
+    }
+
+    /// Stores a byte in the register of one byte that has a number.
+    #[inline(always)]
+    fn set_single(&mut self, number: usize, byte: u8)
+        requires cards { AreFitted self.old.cards.items }
+        requires number { number < single_count }
+        ensures stands { (setup : Setup) (bytes : Bytes) → StandsFor setup bytes (map_bytes self.old)
+            → StandsFor setup (stored setup bytes (single number) byte) (map_bytes self.new) }
+        ensures cards { self.new.cards ≡ self.old.cards }
+    {
+        self.singles[number] = single_after(number, self.singles[number], byte);
     }
 
     /// Stores a byte in the register `k` offsets after another, on which the address map does not depend. Of those the
@@ -161,9 +170,7 @@ impl MapRegs {
         match register {
             MapRegister::Pam(number) => self.pam[usize::from(number)],
             MapRegister::RowBoundary(row) => self.drb[usize::from(row)],
-            MapRegister::Hole => self.fdhc,
-            MapRegister::Smram => self.smram,
-            MapRegister::ChipSelects => self.xbcs,
+            MapRegister::Single(number) => self.singles[usize::from(number)],
             MapRegister::Card(dev, register) => byte_of(&self.cards, dev, register.offset()),
         }
     }

@@ -9,6 +9,7 @@ ghost use Rattle.addr_decode.specs.Memory.{board_denial, row_denial};
 
 use crate::denied_by::{card_command, expansion_rom, host_bridge, isa_bridge};
 use crate::regs::MapRegs;
+use crate::singles::chip_selects;
 use board_base::{Area, Denial, Kind};
 use board_spec::offset::{DRB7, FDHC, SMRAM, XBCS};
 use board_spec::range::{EXPANSION_RANGE, LARGEST_TOP, SELECTABLE_BIOS, SMRAM_RANGE};
@@ -28,7 +29,7 @@ pub fn denial_in(regs: &MapRegs, area: Area, addr: u32, kind: Kind) -> Option<De
 {
     match area {
         Area::Abort => Some(abort_denial(regs, addr)),
-        Area::Rom => rom_denial_in(regs.xbcs, kind),
+        Area::Rom => rom_denial_in(chip_selects(&regs.singles), kind),
         Area::Dram(_) | Area::Shadow(_) | Area::Smram | Area::Card(..) => None,
     }
 }

@@ -8,8 +8,9 @@ ghost use Rattle.addr_decode.specs.Memory.{dram_area, row_area};
 ghost use Rattle.addr_decode.specs.Master.{master_area, master_denial};
 
 use crate::denial::denial_in;
-use crate::memory::{area_beside_dram, is_in_hole, is_shadowed};
+use crate::memory::{area_beside_dram, is_shadowed};
 use crate::regs::MapRegs;
+use crate::singles::is_in_hole;
 use board_base::{Area, Denial, Kind};
 use board_spec::range::{SHADOW_RANGE, SMRAM_RANGE};
 use pmc_regs::row_of;
@@ -63,5 +64,5 @@ fn master_row(regs: &MapRegs, row: u8, addr: u32, kind: Kind) -> Option<Area>
     if SHADOW_RANGE.contains(addr) {
         return is_shadowed(&regs.pam, addr, kind).then_some(Area::Shadow(row));
     }
-    (!is_in_hole(regs.fdhc, addr)).then_some(Area::Dram(row))
+    (!is_in_hole(&regs.singles, addr)).then_some(Area::Dram(row))
 }

@@ -1,9 +1,9 @@
 //! The memory map of the 82441FX and the 82371SB: which area an access reaches, and what denies it.
 ghost use Rattle.std.specs.Prelude.{◌≡◌, Bool, true, false, Some, None, IfSome, unwrap_or};
-ghost use Rattle.board_prelude.specs.Common.{Kind, Read, Write, Setup, Bytes, line_where, is_in, hole_of as hole_by};
+ghost use Rattle.board_prelude.specs.Common.{Kind, Read, Write, Setup, Bytes, line_where};
 ghost use Rattle.board_prelude.specs.Common.{row_of as row_by, is_shadow_range, is_shadowed, area_of};
 ghost use Rattle.board_prelude.specs.Common.{denial_of, denial_in as denial_by, abort_denial, rom_denial, top_of};
-ghost use Rattle.board_prelude.specs.Common.{memory_shut, rom_unselected, fdhc, xbcs as select_register};
+ghost use Rattle.board_prelude.specs.Common.{memory_shut, rom_unselected, xbcs as select_register};
 ghost use Rattle.board_prelude.specs.Common.{is_in_hole, is_smram_open};
 ghost use Rattle.board_base.specs.declared.target.Area.TheVariants.{Dram, Shadow};
 ghost use Rattle.pam_windows.specs.Pam.{IsPamOf};
@@ -13,14 +13,13 @@ ghost use Rattle.addr_decode.specs.Memory.{beside_dram, dram_area, row_area};
 
 use crate::denial::denial_in;
 use crate::regs::MapRegs;
+use crate::singles::{is_bios_selected, is_in_hole, is_smram_open};
 use board_base::{Area, Denial, Kind};
 use board_spec::offset::PAM0;
 use board_spec::range::{AddressRange, SHADOW_RANGE, SMRAM_RANGE};
 use pam_windows::window_of;
 use pci_bars::claim_mem;
-use pmc_regs::{hole_of, row_of};
-use smram_ctl::smram_reaches;
-use xbus_select::rom_selected;
+use pmc_regs::row_of;
 
 /// SMRAM and all shadow windows of PAM: no address here is one of ordinary DRAM.
 const UPPER_MEMORY: AddressRange = AddressRange {
@@ -53,7 +52,7 @@ pub fn plain_row(regs: &MapRegs, addr: u32) -> Option<u8>
     ensures denial { IfSome result (λ row. (setup : Setup) (bytes : Bytes) (kind : Kind) (smm : Bool)
         → StandsFor setup bytes (map_bytes regs.now) → denial_of setup bytes addr kind smm ≡ None) }
 {
-    if UPPER_MEMORY.contains(addr) || is_in_hole(regs.fdhc, addr) {
+    if UPPER_MEMORY.contains(addr) || is_in_hole(&regs.singles, addr) {
         return None;
     }
     row_of(&regs.drb, addr)
@@ -102,7 +101,7 @@ pub(crate) fn area_beside_dram(regs: &MapRegs, addr: u32) -> Area
     ensures area { (setup : Setup) (bytes : Bytes) → StandsFor setup bytes (map_bytes regs.now)
         → result ≡ beside_dram setup bytes addr }
 {
-    if rom_selected(regs.xbcs, addr) {
+    if is_bios_selected(&regs.singles, addr) {
         return Area::Rom;
     }
     match claim_mem(&regs.cards, addr) {
@@ -131,12 +130,12 @@ fn row_area(regs: &MapRegs, row: u8, addr: u32, kind: Kind, smm: bool) -> Option
         (is_shadowed bytes addr kind) (is_in_hole bytes addr) addr }
 {
     if SMRAM_RANGE.contains(addr) {
-        return smram_reaches(regs.smram, kind, smm).then_some(Area::Smram);
+        return is_smram_open(&regs.singles, kind, smm).then_some(Area::Smram);
     }
     if SHADOW_RANGE.contains(addr) {
         return is_shadowed(&regs.pam, addr, kind).then_some(Area::Shadow(row));
     }
-    (!is_in_hole(regs.fdhc, addr)).then_some(Area::Dram(row))
+    (!is_in_hole(&regs.singles, addr)).then_some(Area::Dram(row))
 }
 
 /// What a read and a write reach at an address of a shadow window, where what answers beside DRAM is known.
@@ -191,16 +190,6 @@ pub(crate) fn is_shadowed(pam: &[u8; 7], addr: u32, kind: Kind) -> bool
 {
     match window_of(addr) {
         Some(window) => window.is_opened_by(pam[usize::from(window.off - PAM0)], kind),
-        None => false,
-    }
-}
-
-/// Whether an address lies in the hole that FDHC makes.
-pub(crate) fn is_in_hole(fdhc: u8, addr: u32) -> bool
-    ensures hole { result ≡ is_in (hole_by fdhc) addr }
-{
-    match hole_of(fdhc) {
-        Some((first, last)) => first <= addr && addr <= last,
         None => false,
     }
 }

@@ -12,6 +12,7 @@ use crate::denied_by::card_command;
 use crate::found::{ConfigRegister, Found, function_of};
 use crate::onboard::{Onboard, onboard_at};
 use crate::regs::MapRegs;
+use crate::singles::chip_selects;
 use board_base::{Denial, Target, Width};
 use cfg_ports::{Selected, kept, select};
 use device_spec::port::{CONFIG_DATA, CONFIG_DATA_END};
@@ -57,7 +58,7 @@ pub fn find_port(regs: &MapRegs, ports: &PortRegs, port: u16, width: Width) -> F
     if is_config_data(port) {
         return config_port(&regs.cards, ports.confadd, port);
     }
-    match onboard_at(regs.xbcs, ports, port, width) {
+    match onboard_at(chip_selects(&regs.singles), ports, port, width) {
         Onboard::Answers(dev) => Found::Device(dev),
         Onboard::Denied(denial) => claimed_or(&regs.cards, port, denial),
         Onboard::Absent => other_port(&regs.cards, port),

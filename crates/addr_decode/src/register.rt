@@ -3,19 +3,20 @@ ghost use Rattle.std.specs.Prelude.{◌≡◌, ◌≤◌, ◌==◌, [], ◌∷�
 ghost use Rattle.board_prelude.specs.Common.{One, list_any, position, reg_after};
 ghost use Rattle.pci_bars.specs.Cards.{cards_of};
 ghost use Rattle.addr_decode.specs.declared.register.CardRegister.TheVariants.{ExpansionRom};
-ghost use Rattle.addr_decode.specs.declared.register.MapRegister.TheVariants.{Card};
+ghost use Rattle.addr_decode.specs.declared.register.MapRegister.TheVariants.{Card, Single};
 ghost use Rattle.addr_decode.specs.Found.{HasRegister};
 ghost use Rattle.addr_decode.specs.MapRegister.{IsCardNumber, offset_of, is_of_card, in_bridge, in_isa_bridge, in_card};
 ghost use Rattle.addr_decode.specs.MapRegister.{in_device, map_register, names_from, names_of};
 
 use crate::found::{ConfigRegister, Function};
 use crate::regs::MapRegs;
+use crate::singles::{number_in_bridge, number_in_isa_bridge};
 use arrayvec::ArrayVec;
 use board_base::{Reg, Width};
 use board_spec::MapChange;
 use board_spec::offset::{
-    BASE0, BASE5_END, COMMAND, DRB0, DRB7, EXPANSION_ROM, EXPANSION_ROM_END, FDHC, HOST_BRIDGE,
-    PAM0, PAM6, SMRAM, SOUTH_BRIDGE, XBCS,
+    BASE0, BASE5_END, COMMAND, DRB0, DRB7, EXPANSION_ROM, EXPANSION_ROM_END, HOST_BRIDGE, PAM0,
+    PAM6, SOUTH_BRIDGE,
 };
 use pci_bars::{CardRegs, card_at};
 
@@ -26,12 +27,8 @@ pub enum MapRegister {
     Pam(u8),
     /// DRB0 to DRB7 of the host bridge, the boundary of a row of DRAM.
     RowBoundary(u8),
-    /// FDHC of the host bridge, the hole in DRAM.
-    Hole,
-    /// SMRAM control of the host bridge.
-    Smram,
-    /// XBCS of the ISA bridge, the chip selects.
-    ChipSelects,
+    /// A register of one byte of a bridge, by its number: FDHC, SMRAM or XBCS.
+    Single(u8),
     /// A register of the card at a device number.
     Card(u8, CardRegister),
 }
@@ -161,9 +158,7 @@ fn in_bridge(off: u8) -> Option<MapRegister>
     match off {
         PAM0..=PAM6 => Some(MapRegister::Pam(off - PAM0)),
         DRB0..=DRB7 => Some(MapRegister::RowBoundary(off - DRB0)),
-        FDHC => Some(MapRegister::Hole),
-        SMRAM => Some(MapRegister::Smram),
-        _ => None,
+        _ => named_single(number_in_bridge(off)),
     }
 }
 
@@ -171,9 +166,16 @@ fn in_bridge(off: u8) -> Option<MapRegister>
 fn in_isa_bridge(off: u8) -> Option<MapRegister>
     ensures named { result ≡ in_isa_bridge off }
 {
-    match off {
-        XBCS => Some(MapRegister::ChipSelects),
-        _ => None,
+    named_single(number_in_isa_bridge(off))
+}
+
+/// The name of a register of one byte that has a number.
+fn named_single(number: Option<u8>) -> Option<MapRegister>
+    ensures named { result ≡ option_map Single number }
+{
+    match number {
+        Some(number) => Some(MapRegister::Single(number)),
+        None => None,
     }
 }
 

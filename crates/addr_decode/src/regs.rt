@@ -4,22 +4,19 @@ ghost use Rattle.board_prelude.specs.Common.{Setup, IsCardList, reset_byte};
 ghost use Rattle.pci_bars.specs.Cards.{AreCardsOf, AreFitted, AreReset, cards_of};
 ghost use Rattle.addr_decode.specs.MapRegs.{StandsFor, map_bytes};
 
+use crate::singles::{Singles, reset_singles};
 use arrayvec::ArrayVec;
 use pam_windows::PAM_RESET;
 use pci_bars::{CARD_COUNT, CardRegs, CardSpec, push_card};
-use pmc_regs::{DRB_RESET, FDHC_RESET};
-use smram_ctl::SMRAM_RESET;
-use xbus_select::XBCS_RESET;
+use pmc_regs::DRB_RESET;
 
-/// The registers that the address map depends on: DRB0 to DRB7, FDHC, PAM0 to PAM6 and SMRAM of the host
-/// bridge, XBCS of the ISA bridge, and the cards in rising order of device.
+/// The registers that the address map depends on: DRB0 to DRB7 and PAM0 to PAM6 of the host bridge, the registers of
+/// one byte each by their numbers, and the cards in rising order of device.
 #[derive(Drop)]
 pub struct MapRegs {
     pub drb: [u8; 8],
-    pub fdhc: u8,
     pub pam: [u8; 7],
-    pub smram: u8,
-    pub xbcs: u8,
+    pub singles: Singles,
     pub cards: ArrayVec<CardRegs, CARD_COUNT>,
 }
 
@@ -51,10 +48,8 @@ impl MapRegs {
         }
         MapRegs {
             drb: self.drb,
-            fdhc: self.fdhc,
             pam: self.pam,
-            smram: self.smram,
-            xbcs: self.xbcs,
+            singles: self.singles,
             cards,
         }
     }
@@ -88,10 +83,8 @@ fn after_reset(cards: ArrayVec<CardRegs, CARD_COUNT>) -> MapRegs
 {
     MapRegs {
         drb: [DRB_RESET; 8],
-        fdhc: FDHC_RESET,
         pam: [PAM_RESET; 7],
-        smram: SMRAM_RESET,
-        xbcs: XBCS_RESET,
+        singles: reset_singles(),
         cards,
     }
 }

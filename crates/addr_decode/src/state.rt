@@ -10,9 +10,10 @@ ghost use Rattle.addr_decode.specs.State.{AreBases, bases_bytes, bases_fields, I
 ghost use Rattle.addr_decode.specs.State.{card_fields, cards_fields, AreMapRegs, regs_bytes, regs_fields};
 
 use crate::regs::MapRegs;
+use crate::singles::joined;
 use arrayvec::ArrayVec;
 use board_base::NoMemory;
-use byte_fields::{Bad, Fields, push_byte, push_bytes, push_word};
+use byte_fields::{Bad, Fields, push_bytes, push_word};
 use pci_bars::{BASE_COUNT, CARD_COUNT, CardRegs, CardSpec};
 
 /// Does nothing: its clause says that the registers of each card are as wide as their types.
@@ -151,13 +152,10 @@ impl MapRegs {
             → AreMapRegs setup.cards self.now }
     {
         are_wide(self.cards.as_slice());
-        is_byte(self.fdhc);
-        is_byte(self.smram);
-        is_byte(self.xbcs);
         push_bytes(into, &self.drb)?;
-        push_byte(into, self.fdhc)?;
+        push_bytes(into, &self.singles[..1])?;
         push_bytes(into, &self.pam)?;
-        push_bytes(into, &[self.smram, self.xbcs])?;
+        push_bytes(into, &self.singles[1..])?;
         push_cards(into, self.cards.as_slice())
     }
 
@@ -180,17 +178,14 @@ impl MapRegs {
         ensures took { Took (λ regs. regs) result fields.new (regs_fields specs.now fields.old) }
     {
         let drb = fields.array()?;
-        let fdhc = fields.byte(0, u8::MAX)?;
+        let first = fields.array()?;
         let pam = fields.array()?;
-        let smram = fields.byte(0, u8::MAX)?;
-        let xbcs = fields.byte(0, u8::MAX)?;
+        let others = fields.array()?;
         let cards = read_cards(specs, fields)?;
         Ok(MapRegs {
             drb,
-            fdhc,
             pam,
-            smram,
-            xbcs,
+            singles: joined(first, others),
             cards,
         })
     }

@@ -9,10 +9,8 @@ returns-clause-sound c = λ setup bytes are.
     subst (λ (cards : List CardBytes). All IsWideCard cards) c.as_slice.ensures.value c.are_wide.ensures.widths in
     record {
       drb = search rules;
-      fdhc = c.is_byte.ensures.byte;
       pam = search rules;
-      smram = c.is_byte-2.ensures.byte;
-      xbcs = c.is_byte-3.ensures.byte;
+      singles = search rules;
       cards = record {
         same = are.0;
         each = λ k d within. record { widths = wide k d within; no_rom = (are.1 k d within).no_rom };

@@ -1,9 +1,10 @@
 use Rattle.std.proofs.Common.{◌+◌, inl, arith}
-use Rattle.board_spec.specs.RegisterNames.{pam, drb, fdhc, smram, xbcs}
+use Rattle.board_spec.specs.RegisterNames.{pam, drb}
 use Rattle.addr_decode.specs.MapRegs.{map_bytes}
+use Rattle.addr_decode.specs.Singles.{single}
 use Rattle.addr_decode.proofs.CardLemmas.{cards_beside}
-use Rattle.addr_decode.proofs.StandsLemmas.{window_stored, row_stored, hole_stored, smram_stored}
-use Rattle.addr_decode.proofs.StandsLemmas.{xbcs_stored, card_stored}
+use Rattle.addr_decode.proofs.SingleLemmas.{single_is}
+use Rattle.addr_decode.proofs.StandsLemmas.{window_stored, row_stored, card_stored}
 use Rattle.addr_decode.proofs.regs.MapRegs.set.Goals as goal
 
 pub returns-in-Pam-clause-stands : goal.returns-in-Pam-clause-stands
@@ -32,45 +33,23 @@ returns-in-RowBoundary-clause-cards c = λ setup bytes are.
     (cards_beside setup bytes (drb c.in-RowBoundary.row) c.args.byte c.args.self.now.cards.items c.requires.cards.each
     (inl (omega arith)) are)
 
-pub returns-in-Hole-clause-stands : goal.returns-in-Hole-clause-stands
-returns-in-Hole-clause-stands c = λ setup bytes stands.
-    rw (c.in-Hole.is, c.fdhc_after-self.ensures.merged setup)
-    (hole_stored setup bytes (map_bytes c.args.self.now) c.args.byte c.requires.cards c.ranges.byte.fits stands)
+pub returns-in-Single-clause-stands : goal.returns-in-Single-clause-stands
+returns-in-Single-clause-stands c = λ setup bytes stands.
+    rw (c.in-Single.is, ← c.into.ensures) (c.set_single.ensures.stands setup bytes stands)
 
-pub returns-in-Hole-clause-cards : goal.returns-in-Hole-clause-cards
-returns-in-Hole-clause-cards c = λ setup bytes are.
-    rw c.in-Hole.is
-    (cards_beside setup bytes fdhc c.args.byte c.args.self.now.cards.items c.requires.cards.each
-    (inl (omega arith)) are)
-
-pub returns-in-Smram-clause-stands : goal.returns-in-Smram-clause-stands
-returns-in-Smram-clause-stands c = λ setup bytes stands.
-    rw (c.in-Smram.is, c.smram_after-self.ensures.after)
-    (smram_stored setup bytes (map_bytes c.args.self.now) c.args.byte c.requires.cards c.ranges.byte.fits stands)
-
-pub returns-in-Smram-clause-cards : goal.returns-in-Smram-clause-cards
-returns-in-Smram-clause-cards c = λ setup bytes are.
-    rw c.in-Smram.is
-    (cards_beside setup bytes smram c.args.byte c.args.self.now.cards.items c.requires.cards.each
-    (inl (omega arith)) are)
-
-pub returns-in-ChipSelects-clause-stands : goal.returns-in-ChipSelects-clause-stands
-returns-in-ChipSelects-clause-stands c = λ setup bytes stands.
-    rw (c.in-ChipSelects.is, c.xbcs_after-self.ensures.merged setup)
-    (xbcs_stored setup bytes (map_bytes c.args.self.now) c.args.byte c.requires.cards c.ranges.byte.fits stands)
-
-pub returns-in-ChipSelects-clause-cards : goal.returns-in-ChipSelects-clause-cards
-returns-in-ChipSelects-clause-cards c = λ setup bytes are.
-    rw c.in-ChipSelects.is
-    (cards_beside setup bytes xbcs c.args.byte c.args.self.now.cards.items c.requires.cards.each
-    (inl (omega arith)) are)
+pub returns-in-Single-clause-cards : goal.returns-in-Single-clause-cards
+returns-in-Single-clause-cards c = λ setup bytes are.
+    let number = rw c.in-Single.is at c.requires.number in
+    rw (c.in-Single.is, c.set_single.ensures.cards)
+    (cards_beside setup bytes (single c.in-Single.number) c.args.byte c.args.self.now.cards.items
+    c.requires.cards.each (inl (single_is c.in-Single.number number).low) are)
 
 pub returns-in-Card-clause-stands : goal.returns-in-Card-clause-stands
 returns-in-Card-clause-stands c = λ setup bytes stands.
     let number = rw c.in-Card.is at c.requires.number in
     rw (c.in-Card.is, ← c.offset.ensures.offset)
     (card_stored setup bytes (map_bytes c.args.self.now) c.write_card.new.cards.items c.in-Card.dev c.offset.result
-    c.args.byte (omega (arith, number.0)) (omega (arith, number.0))
+    c.args.byte number.0
     (c.write_card.ensures.decoded setup bytes stands.cards) stands)
 
 pub returns-in-Card-clause-cards : goal.returns-in-Card-clause-cards

@@ -4,14 +4,13 @@ use Rattle.pci_bars.specs.Cards.{AreCardsOf, cards_of}
 use Rattle.addr_decode.specs.MapRegs.{StandsFor, map_bytes, stored}
 use Rattle.addr_decode.proofs.CardLemmas.{cards_beside, cards_beyond}
 use Rattle.addr_decode.proofs.StoreLemmas.{in_function_0}
-use Rattle.addr_decode.proofs.StandsLemmas.{stands-same, nameless_beside, card_stored, beyond}
+use Rattle.addr_decode.proofs.StandsLemmas.{stored_apart, nameless_apart, card_stored, beyond_apart}
 use Rattle.addr_decode.proofs.regs.MapRegs.store_beside.Goals as goal
 
 pub returns-then-is_of_bridge-clause-stands : goal.returns-then-is_of_bridge-clause-stands
 returns-then-is_of_bridge-clause-stands c = λ setup bytes stands.
-    stands-same setup bytes (stored setup bytes (reg_after c.args.reg c.args.k) c.args.byte) (map_bytes c.args.self.now)
-    c.requires.cards
-    (nameless_beside setup bytes (cards_of c.args.self.now.cards.items) (reg_after c.args.reg c.args.k) c.args.byte
+    stored_apart setup bytes (map_bytes c.args.self.now) (reg_after c.args.reg c.args.k) c.args.byte c.requires.cards
+    (nameless_apart (cards_of c.args.self.now.cards.items) (reg_after c.args.reg c.args.k)
     (c.is_of_bridge.ensures.bridge c.if-is_of_bridge.true) c.requires.beside) stands
 
 pub returns-then-is_of_bridge-clause-cards : goal.returns-then-is_of_bridge-clause-cards
@@ -29,7 +28,7 @@ returns-in-Some-clause-stands c = λ setup bytes stands.
     (in_function_0 (reg_after c.args.reg c.args.k) c.args.reg.dev refl
     (c.is_of_bridge.ensures.card c.if-is_of_bridge.false).1)
     (rw (← place) (card_stored setup bytes (map_bytes c.args.self.now) c.write_card.new.cards.items c.args.reg.dev
-    c.in-Some.off c.args.byte (omega (arith, card.0)) (omega (arith, card.0))
+    c.in-Some.off c.args.byte card.0
     (c.write_card.ensures.decoded setup bytes stands.cards) stands))
 
 pub returns-in-Some-clause-cards : goal.returns-in-Some-clause-cards
@@ -43,9 +42,8 @@ returns-in-Some-clause-cards c = λ setup bytes are.
 pub returns-in-None-clause-stands : goal.returns-in-None-clause-stands
 returns-in-None-clause-stands c = λ setup bytes stands.
     let past : 256 ≤ c.args.reg.off + c.args.k = omega (arith, c.in-None.ensures) in
-    stands-same setup bytes (stored setup bytes (reg_after c.args.reg c.args.k) c.args.byte)
-    (map_bytes c.args.self.now) c.requires.cards
-    (beyond setup bytes (reg_after c.args.reg c.args.k) c.args.byte past) stands
+    stored_apart setup bytes (map_bytes c.args.self.now) (reg_after c.args.reg c.args.k) c.args.byte c.requires.cards
+    (beyond_apart (reg_after c.args.reg c.args.k) past) stands
 
 pub returns-in-None-clause-cards : goal.returns-in-None-clause-cards
 returns-in-None-clause-cards c = λ setup bytes are.

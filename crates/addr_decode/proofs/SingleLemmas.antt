@@ -1,0 +1,143 @@
+-- The registers of one byte each: their numbers, and that each stands beside all others.
+use Rattle.std.proofs.Common.{◌≡◌, ◌≢◌, ℕ, zero, suc, ◌+◌, ◌-◌, ◌<◌, ◌≤◌, Bool, true, false, not, ◌&&◌, Option, Some}
+use Rattle.std.proofs.Common.{None, List, [], ◌∷◌, length, get_or, inl, inr, refl, sym, ◌∙◌, ap, subst, arith, ◌==◌}
+use Rattle.std.proofs.Common.{nat_lt, unwrap_or, rules, map, slice_index}
+use Rattle.board_prelude.proofs.Common.{cases_Bool, nat_tests, and-false, false≢true, each_below, Reg, is_same}
+use Rattle.board_prelude.proofs.Common.{is_within, bridge, card_register, fdhc, Bytes, get_or-map}
+use Rattle.addr_decode.specs.Singles.{singles, single, single_count, number_from, single_number, AreSinglesOf}
+use Rattle.addr_decode.proofs.StoreLemmas.{Differs, same_register, same_or_apart}
+
+-- ---- their numbers
+
+same_itself : (reg : Reg) → is_same reg reg ≡ true
+same_itself reg = grind (arith, nat_tests)
+
+same_told : (reg other : Reg) → is_same reg other ≡ true → reg ≡ other
+same_told reg other is =
+    let devs : reg.dev ≡ other.dev = grind (arith, nat_tests) in
+    let funs : reg.fun ≡ other.fun = grind (arith, nat_tests) in
+    let offs : reg.off ≡ other.off = grind (arith, nat_tests) in
+    same_register reg other devs funs offs
+
+-- a register that has a number stands there
+pub number_told : (reg d : Reg) (first number : ℕ) (table : List Reg) → number_from first table reg ≡ Some number →
+    (first ≤ number) × (number < first + length table) × (get_or table (number - first) d ≡ reg)
+number_told reg d first number [] is = absurd (cc)
+number_told reg d first number (entry ∷ later) is =
+    elim (cases_Bool (is_same reg entry)) [
+      | inl here ↦
+          let some : Some first ≡ Some number = rw here at is in
+          let same : first ≡ number = ap (λ (it : Option ℕ). unwrap_or it first) some in
+          let none : number - first ≡ 0 = omega arith in
+          (omega arith, omega arith, rw none (sym (same_told reg entry here)))
+      | inr not_here ↦
+          let there = number_told reg d (first + 1) number later (rw not_here at is) in
+          let more : number - first ≡ suc (number - (first + 1)) = omega (arith, there.0) in
+          (omega (arith, there.0), omega (arith, there.1), rw more there.2)
+    ]
+
+-- one that has none is none of them
+none_told : (reg d : Reg) (first : ℕ) (table : List Reg) → number_from first table reg ≡ None → (k : ℕ) →
+    k < length table → reg ≢ get_or table k d
+none_told reg d first [] is k within same = absurd (omega arith)
+none_told reg d first (entry ∷ later) is zero within same =
+    let here : is_same reg entry ≡ true = subst (λ (it : Reg). is_same reg it ≡ true) same (same_itself reg) in
+    let some : Some first ≡ None = rw here at is in
+    absurd (cc)
+none_told reg d first (entry ∷ later) is (suc k) within same =
+    elim (cases_Bool (is_same reg entry)) [
+      | inl here ↦ let some : Some first ≡ None = rw here at is in absurd (cc)
+      | inr not_here ↦ none_told reg d (first + 1) later (rw not_here at is) k (omega arith) same
+    ]
+
+pub no_single : (reg : Reg) → single_number reg ≡ None → (k : ℕ) → k < single_count → Differs reg (single k)
+no_single reg none k below =
+    elim (same_or_apart reg (single k)) [
+      | inl same ↦ absurd (none_told reg fdhc 0 singles none k below same)
+      | inr apart ↦ apart
+    ]
+
+pub number_stands : (reg : Reg) (number : ℕ) → single_number reg ≡ Some number →
+    (number < single_count) × (single number ≡ reg)
+number_stands reg number is =
+    let told = number_told reg fdhc 0 number singles is in
+    (omega (arith, told.1), ap (λ (k : ℕ). get_or singles k fdhc) (omega arith) ∙ told.2)
+
+-- their bytes in a list
+pub singles_are : (bytes : Bytes) (held : List ℕ) → held ≡ map bytes singles → AreSinglesOf bytes held
+singles_are bytes held are k below =
+    ap (λ (list : List ℕ). slice_index list k) are ∙ get_or-map bytes singles k fdhc 0 below
+
+-- each has the number at which it stands
+pub numbered : (k : ℕ) → k < single_count → single_number (single k) ≡ Some k
+numbered k below = each_below (λ k. single_number (single k) ≡ Some k) single_count k (search rules) below
+
+pub singles_apart : (j k : ℕ) → j < single_count → k < single_count → j ≢ k → Differs (single j) (single k)
+singles_apart j k j_below k_below apart =
+    elim (same_or_apart (single j) (single k)) [
+      | inr differ ↦ differ
+      | inl same ↦
+          let names : Some j ≡ Some k =
+          sym (numbered j j_below) ∙ ap (λ (reg : Reg). single_number reg) same ∙ numbered k k_below in
+          absurd (apart (ap (λ (it : Option ℕ). unwrap_or it j) names))
+    ]
+
+-- ---- where they stand
+
+-- in function 0 of a bridge, beside the PAM and the boundaries of rows
+abbrev is_single : Reg → Bool
+is_single reg =
+    nat_lt reg.dev 2 && reg.fun == 0 && nat_lt reg.off 256 && not (reg.dev == 0 && is_within 0x59 0x67 reg.off)
+
+pub record IsSingle (reg : Reg) : Type 0 where
+  pub low : reg.dev < 2
+  pub function : reg.fun ≡ 0
+  pub byte : reg.off < 256
+  pub apart : (off : ℕ) → 0x59 ≤ off → off ≤ 0x67 → Differs (bridge off) reg
+
+single_told : (reg : Reg) → is_single reg ≡ true → IsSingle reg
+single_told reg is = record {
+  low = grind (arith, nat_tests);
+  function = grind (arith, nat_tests);
+  byte = grind (arith, nat_tests);
+  apart = λ off from to. elim (same_or_apart (bridge off) reg) [
+    | inr differ ↦ differ
+    | inl same ↦
+        let here : is_single (bridge off) ≡ true = subst (λ (it : Reg). is_single it ≡ true) (sym same) is in
+        let within : is_within 0x59 0x67 off ≡ true = grind (arith, nat_tests) in
+        let no : (nat_lt off 256 && false) ≡ true = rw within at here in
+        absurd (false≢true (sym (and-false (nat_lt off 256)) ∙ no))
+  ];
+}
+
+pub single_is : (k : ℕ) → k < single_count → IsSingle (single k)
+single_is k below =
+    single_told (single k) (each_below (λ k. is_single (single k) ≡ true) single_count k (search rules) below)
+
+-- a register that is none of them has no number: so PAM and the boundaries of rows, a card, and past offset FFh
+is_none : (reg : Reg) → ((k : ℕ) → k < single_count → single k ≢ reg) → (number : Option ℕ) →
+    single_number reg ≡ number → number ≡ None
+is_none reg other None is = refl
+is_none reg other (Some number) is = let there = number_stands reg number is in absurd (other number there.0 there.1)
+
+not_one : (at reg : Reg) → Differs at reg → reg ≢ at
+not_one at reg (inl dev) same = dev (ap (λ (it : Reg). it.dev) (sym same))
+not_one at reg (inr (inl fun)) same = fun (ap (λ (it : Reg). it.fun) (sym same))
+not_one at reg (inr (inr off)) same = off (ap (λ (it : Reg). it.off) (sym same))
+
+pub block_unnumbered : (off : ℕ) → 0x59 ≤ off → off ≤ 0x67 → single_number (bridge off) ≡ None
+block_unnumbered off from to =
+    is_none (bridge off)
+    (λ k below. not_one (bridge off) (single k) ((single_is k below).apart off from to))
+    (single_number (bridge off)) refl
+
+pub card_unnumbered : (dev off : ℕ) → 2 ≤ dev → single_number (card_register dev off) ≡ None
+card_unnumbered dev off above =
+    is_none (card_register dev off)
+    (λ k below. not_one (card_register dev off) (single k) (inl (omega (arith, (single_is k below).low))))
+    (single_number (card_register dev off)) refl
+
+pub none_past_ff : (reg : Reg) → 256 ≤ reg.off → single_number reg ≡ None
+none_past_ff reg past =
+    is_none reg (λ k below. not_one reg (single k) (inr (inr (omega (arith, (single_is k below).byte)))))
+    (single_number reg) refl

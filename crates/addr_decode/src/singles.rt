@@ -1,0 +1,113 @@
+//! The registers of one byte each that the address map depends on: FDHC and SMRAM of the host bridge, and XBCS of the
+//! ISA bridge. Each stands at its number in a table, and all that a register says of an address is told here.
+ghost use Rattle.std.specs.Prelude.{◌≡◌, ◌++◌, ◌<◌};
+ghost use Rattle.board_prelude.specs.Common.{One, Store, Setup, Bytes, changed_byte, reset_byte, is_in};
+ghost use Rattle.board_prelude.specs.Common.{hole_of as hole_by, bridge, isa, xbcs as select_register};
+ghost use Rattle.board_prelude.specs.Common.{is_in_hole, is_smram_open, is_bios_selected};
+ghost use Rattle.addr_decode.specs.Singles.{AreSinglesOf, single, single_count, single_number};
+
+use board_base::Kind;
+use board_spec::offset::{FDHC, SMRAM, XBCS};
+use pmc_regs::{FDHC_RESET, fdhc_after, hole_of};
+use smram_ctl::{SMRAM_RESET, smram_after, smram_reaches};
+use xbus_select::{XBCS_RESET, rom_selected, xbcs_after};
+
+/// The number of FDHC, the hole in DRAM.
+pub const HOLE: usize = 0;
+/// The number of SMRAM control.
+pub const SMRAM_CONTROL: usize = 1;
+/// The number of XBCS, the chip selects.
+pub const CHIP_SELECTS: usize = 2;
+
+/// How many there are.
+pub const SINGLE_COUNT: usize = 3;
+
+/// What they hold, by their numbers.
+pub type Singles = [u8; SINGLE_COUNT];
+
+/// What they hold after a reset.
+pub(crate) fn reset_singles() -> Singles
+    ensures reset { (setup : Setup) → AreSinglesOf (reset_byte setup) result }
+{
+    [FDHC_RESET, SMRAM_RESET, XBCS_RESET]
+}
+
+/// The number of a register of the host bridge. None where it is none of these.
+pub(crate) fn number_in_bridge(off: u8) -> Option<u8>
+    ensures number { result ≡ single_number (bridge off) }
+{
+    match off {
+        FDHC => Some(HOLE as u8),
+        SMRAM => Some(SMRAM_CONTROL as u8),
+        _ => None,
+    }
+}
+
+/// The number of a register of the ISA bridge. None where it is none of these.
+pub(crate) fn number_in_isa_bridge(off: u8) -> Option<u8>
+    ensures number { result ≡ single_number (isa off) }
+{
+    match off {
+        XBCS => Some(CHIP_SELECTS as u8),
+        _ => None,
+    }
+}
+
+/// The register of a number after a byte is written to it.
+pub(crate) fn single_after(number: usize, old: u8, written: u8) -> u8
+    requires number { number < single_count }
+    ensures after { (setup : Setup) → result ≡ changed_byte setup (Store (single number) One written) (single number) old }
+{
+    match number {
+        HOLE => fdhc_after(old, written),
+        SMRAM_CONTROL => smram_after(old, written),
+        _ => xbcs_after(old, written),
+    }
+}
+
+/// The first of them, and the others in their order.
+pub(crate) fn joined(first: [u8; 1], others: [u8; SINGLE_COUNT - 1]) -> Singles
+    ensures joined { result ≡ first ++ others }
+{
+    let [hole] = first;
+    let [smram, xbcs] = others;
+    [hole, smram, xbcs]
+}
+
+/// Whether an address lies in a hole of DRAM.
+pub(crate) fn is_in_hole(singles: &Singles, addr: u32) -> bool
+    ensures hole { (bytes : Bytes) → AreSinglesOf bytes singles.now → result ≡ is_in_hole bytes addr }
+{
+    is_in_hole_of(singles[HOLE], addr)
+}
+
+/// Whether an address lies in the hole that FDHC makes.
+fn is_in_hole_of(fdhc: u8, addr: u32) -> bool
+    ensures hole { result ≡ is_in (hole_by fdhc) addr }
+{
+    match hole_of(fdhc) {
+        Some((first, last)) => first <= addr && addr <= last,
+        None => false,
+    }
+}
+
+/// Whether an access in the range of SMRAM reaches it.
+pub(crate) fn is_smram_open(singles: &Singles, kind: Kind, smm: bool) -> bool
+    ensures opened { (bytes : Bytes) → AreSinglesOf bytes singles.now → result ≡ is_smram_open bytes kind smm }
+{
+    smram_reaches(singles[SMRAM_CONTROL], kind, smm)
+}
+
+/// Whether the ROM is selected at an address.
+pub(crate) fn is_bios_selected(singles: &Singles, addr: u32) -> bool
+    ensures selected { (bytes : Bytes) → AreSinglesOf bytes singles.now → result ≡ is_bios_selected bytes addr }
+{
+    rom_selected(singles[CHIP_SELECTS], addr)
+}
+
+/// What XBCS holds.
+pub fn chip_selects(singles: &Singles) -> u8
+    ensures byte { (bytes : Bytes) → AreSinglesOf bytes singles.now → result ≡ bytes select_register }
+{
+    singles[CHIP_SELECTS]
+}
