@@ -9,7 +9,7 @@ use Rattle.board_prelude.proofs.Common.{has-levels_where, Event, Port, Wire, Lin
 use Rattle.board_prelude.proofs.Common.{Reset, Setup, reset_control_port, control_written, is_hard_value, resets_hard}
 use Rattle.board_prelude.proofs.Common.{control_after, is_hard_reset, reset_control, config_address, byte_with, byte_of}
 use Rattle.board_prelude.proofs.Common.{Cell, port_put, entry_put, Bytes, Decoded, device, port_target_of, wire_set}
-use Rattle.board_prelude.proofs.Common.{line_set, wire_of, irq_of, triggers_of, system_of, timer_of, clock_of}
+use Rattle.board_prelude.proofs.Common.{line_set, wire_of, irq_of, triggers_of, plain_of, timer_of, clock_of}
 use Rattle.board_prelude.proofs.Common.{disk_with, levels_of, elcr_of, pair_stepped, pair_reset_or_after, pair_of}
 use Rattle.board_prelude.proofs.Common.{port_answer, IsAnswer}
 use Rattle.board_base.specs.declared.target.Dev.TheVariants.{Reset as ResetPort}
@@ -83,7 +83,7 @@ pair-hard setup before entry hard =
     ∙ pair-reset levels
 
 pub hard_reset_resets : HardResetResets
-unfolding byte_of config_address reset_control system_of timer_of clock_of disk_with
+unfolding byte_of config_address reset_control plain_of timer_of clock_of disk_with
 hard_reset_resets setup before entry hard = record {
   registers = λ reg.
       ap (λ (change : Option MapChange). byte_with setup change reg (byte_of setup before reg))
@@ -91,7 +91,7 @@ hard_reset_resets setup before entry hard = record {
   address = cond-true (is_hard_reset before entry.event) 0 _ hard;
   control = reset_value (reset_control before) (control_written entry.event) hard;
   triggers = triggers-reset before entry hard;
-  system = cond-true (is_hard_reset before entry.event) _ _ hard;
+  plain = cond-true (is_hard_reset before entry.event) _ _ hard;
   timer = cond-true (is_hard_reset before entry.event) _ _ hard;
   clock = cond-true (is_hard_reset before entry.event) _ _ hard;
   disk = λ bytes. cond-true (is_hard_reset before entry.event) _ _ hard;
