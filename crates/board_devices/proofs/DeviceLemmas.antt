@@ -6,7 +6,7 @@ use Rattle.std.proofs.Common.{eq-eqb, ne_eqb, get_or-set_same, get_or-set_other,
 use Rattle.std.proofs.Common.{◌==◌, unwrap_or, map, option_map, slice_index_or, slice_set, if◌then◌else◌}
 use Rattle.board_prelude.proofs.Common.{or-false, and-false, nat_tests, cases_eq, cases_Bool, lt-ltb, le-leb}
 use Rattle.board_prelude.proofs.Common.{get_or-replicate, ext_get_or, length-map, get_or-map, each_below, same-levels}
-use Rattle.board_prelude.proofs.Common.{pair_has_seen, PortAccess, Dev, Pic0, Pic1, Pit, System, Keyboard, Elcr, Ata}
+use Rattle.board_prelude.proofs.Common.{pair_has_seen, PortAccess, Dev, Pic0, Pic1, Pit, Elcr, Ata, PlainPorts}
 use Rattle.board_prelude.proofs.Common.{Wires, Vector, Spurious, PitState, out_of, reset as timer_at_reset}
 use Rattle.board_prelude.proofs.Common.{after_reset as clock_after_reset, triggers_at_reset, reserved-rest, Pair}
 use Rattle.board_prelude.proofs.Common.{levels_at_power_on, port_byte, pair_after_lines, pair_at_reset, port_read}
@@ -15,7 +15,7 @@ use Rattle.board_prelude.proofs.Common.{power_on as disk_at_power_on, Event, Mem
 use Rattle.board_prelude.proofs.Common.{BadSector, Reply, Entry, Setup, IsDisk, IsDiskSize, is_free_line, reset_control}
 use Rattle.board_prelude.proofs.Common.{control_written, resets_hard, is_hard_reset, plain_at_reset, device_reached}
 use Rattle.board_prelude.proofs.Common.{wire_set, wire_of, line_set, irq_of, triggers_after, triggers_of, plain_after}
-use Rattle.board_prelude.proofs.Common.{plain_of, timer_after, timer_of, clock_after, clock_of, disk_accessed}
+use Rattle.board_prelude.proofs.Common.{plain_of, plain_value, timer_after, timer_of, clock_after, clock_of, disk_accessed}
 use Rattle.board_prelude.proofs.Common.{disk_after, disk_with, disk_of, routes_of, pirq_levels, own_level, level_with}
 use Rattle.board_prelude.proofs.Common.{all_lines, levels_with, levels_of, elcr_of, device_value, pair_after}
 use Rattle.board_prelude.proofs.Common.{pair_reset_or_after, pair_stepped, pair_of, after_bad, byte_of, config_store}
@@ -288,7 +288,9 @@ value_at setup history Clock access devices are = ap (λ t. read_value t access.
 value_at setup history Elcr access devices are =
     ap (λ t. trigger_byte t (access.port == elcr_ports.1)) are.others.triggers
 value_at setup history Ata access devices are = rw are.others.disk refl
-value_at setup history _ access devices are = rw (are.others.plain, are.others.timer) refl
+value_at setup history dev access devices are =
+    ap (λ (p : PlainPorts). plain_value dev p (out_of 2 devices.timer) access.width) are.others.plain
+    ∙ ap (λ (t : PitState). plain_value dev (plain_of history) (out_of 2 t) access.width) are.others.timer
 
 -- ---- the lines
 
