@@ -6,16 +6,16 @@ use Rattle.std.proofs.Common.{eq-eqb, ne_eqb, get_or-set_same, get_or-set_other,
 use Rattle.std.proofs.Common.{◌==◌, unwrap_or, map, option_map, slice_index_or, slice_set, if◌then◌else◌}
 use Rattle.board_prelude.proofs.Common.{or-false, and-false, nat_tests, cases_eq, cases_Bool, lt-ltb, le-leb}
 use Rattle.board_prelude.proofs.Common.{get_or-replicate, ext_get_or, length-map, get_or-map, each_below, same-levels}
-use Rattle.board_prelude.proofs.Common.{pair_has_seen, PortAccess, Dev, Pic0, Pic1, Pit, System, Keyboard, Elcr, Ata}
+use Rattle.board_prelude.proofs.Common.{pair_has_seen, PortAccess, Dev, Pic0, Pic1, Pit, Elcr, Ata, PlainPorts}
 use Rattle.board_prelude.proofs.Common.{Wires, Vector, Spurious, PitState, out_of, reset as timer_at_reset}
 use Rattle.board_prelude.proofs.Common.{after_reset as clock_after_reset, triggers_at_reset, reserved-rest, Pair}
 use Rattle.board_prelude.proofs.Common.{levels_at_power_on, port_byte, pair_after_lines, pair_at_reset, port_read}
 use Rattle.board_prelude.proofs.Common.{read_value, trigger_byte, Disk, option_map_or, is_disk_length}
 use Rattle.board_prelude.proofs.Common.{power_on as disk_at_power_on, Event, Memory, Wide, Port, Pulses, Wire, Line}
 use Rattle.board_prelude.proofs.Common.{BadSector, Reply, Entry, Setup, IsDisk, IsDiskSize, is_free_line, reset_control}
-use Rattle.board_prelude.proofs.Common.{control_written, resets_hard, is_hard_reset, system_at_reset, device_reached}
-use Rattle.board_prelude.proofs.Common.{wire_set, wire_of, line_set, irq_of, triggers_after, triggers_of, system_after}
-use Rattle.board_prelude.proofs.Common.{system_of, timer_after, timer_of, clock_after, clock_of, disk_accessed}
+use Rattle.board_prelude.proofs.Common.{control_written, resets_hard, is_hard_reset, plain_at_reset, device_reached}
+use Rattle.board_prelude.proofs.Common.{wire_set, wire_of, line_set, irq_of, triggers_after, triggers_of, plain_after}
+use Rattle.board_prelude.proofs.Common.{plain_of, plain_value, timer_after, timer_of, clock_after, clock_of, disk_accessed}
 use Rattle.board_prelude.proofs.Common.{disk_after, disk_with, disk_of, routes_of, pirq_levels, own_level, level_with}
 use Rattle.board_prelude.proofs.Common.{all_lines, levels_with, levels_of, elcr_of, device_value, pair_after}
 use Rattle.board_prelude.proofs.Common.{pair_reset_or_after, pair_stepped, pair_of, after_bad, byte_of, config_store}
@@ -64,7 +64,7 @@ with_pair setup history devices pair is = record {
   clock = is.clock;
   disk = is.disk;
   triggers = is.triggers;
-  system = is.system;
+  plain = is.plain;
   wires = is.wires;
   irqs = is.irqs;
 }
@@ -160,7 +160,7 @@ devices_after event reply devices = record {
   clock = clock_after event reply devices.clock;
   disk = fitted_after event reply devices.disk;
   triggers = triggers_after event reply devices.triggers;
-  system = system_after event reply devices.system;
+  plain = plain_after event reply devices.plain;
   wires = wires_after event devices.wires;
   irqs = irqs_after event devices.irqs;
 }
@@ -177,7 +177,7 @@ module _ (setup : Setup) (history : List Entry) (entry : Entry) (soft : is_hard_
   -- what the entry leaves of all of them
   others_soft : (devices : DevicesValue) → HasRoom entry.event devices → AreAfter setup history devices →
       AreAfter setup (entry ∷ history) (devices_after entry.event entry.reply devices)
-  unfolding timer_of clock_of triggers_of system_of wire_of irq_of
+  unfolding timer_of clock_of triggers_of plain_of wire_of irq_of
   others_soft devices room are = record {
     timer = rw soft (ap (λ t. timer_after entry.event entry.reply t) are.timer);
     clock = rw soft (ap (λ t. clock_after entry.event entry.reply t) are.clock);
@@ -186,7 +186,7 @@ module _ (setup : Setup) (history : List Entry) (entry : Entry) (soft : is_hard_
         ∙ (ap (λ (d : Option Disk). option_map (λ disk. disk_after entry.event entry.reply disk) d) are.disk
         ∙ disk_soft setup.disk);
     triggers = rw soft (ap (λ t. triggers_after entry.event entry.reply t) are.triggers);
-    system = rw soft (ap (λ t. system_after entry.event entry.reply t) are.system);
+    plain = rw soft (ap (λ t. plain_after entry.event entry.reply t) are.plain);
     wires = λ n low high. wire_stepped entry.event devices n (wire_of history n) room (are.wires n low high);
     irqs = λ line below. irq_stepped entry.event devices line (irq_of history line) room (are.irqs line below);
   }
@@ -284,12 +284,13 @@ unfolding value_read device_value
 value_at setup history Pic0 access devices are = ap (λ (p : Pair). port_byte p access.port) are.pair
 value_at setup history Pic1 access devices are = ap (λ (p : Pair). port_byte p access.port) are.pair
 value_at setup history Pit access devices are = ap (λ t. (port_read access.port t).0) are.others.timer
-value_at setup history System access devices are = rw (are.others.system, are.others.timer) refl
 value_at setup history Clock access devices are = ap (λ t. read_value t access.port) are.others.clock
 value_at setup history Elcr access devices are =
     ap (λ t. trigger_byte t (access.port == elcr_ports.1)) are.others.triggers
 value_at setup history Ata access devices are = rw are.others.disk refl
-value_at setup history _ access devices are = refl
+value_at setup history dev access devices are =
+    ap (λ (p : PlainPorts). plain_value dev p (out_of 2 devices.timer) access.width) are.others.plain
+    ∙ ap (λ (t : PitState). plain_value dev (plain_of history) (out_of 2 t) access.width) are.others.timer
 
 -- ---- the lines
 
@@ -364,7 +365,7 @@ devices_of setup history = record {
   clock = clock_of history;
   disk = disk_of setup history;
   triggers = triggers_of history;
-  system = system_of history;
+  plain = plain_of history;
   wires = map (wire_of history) all_lines;
   irqs = map (λ line. is_free_line line && irq_of history line) all_lines;
 }
@@ -375,7 +376,7 @@ they_are setup history = record {
   clock = refl;
   disk = refl;
   triggers = refl;
-  system = refl;
+  plain = refl;
   wires = λ dev low high. level_numbered (wire_of history) dev (omega (arith, high));
   irqs = λ line below. level_numbered (λ line. is_free_line line && irq_of history line) line below;
 }
@@ -548,9 +549,9 @@ module _ (setup : Setup) (history : List Entry) (entry : Entry) (hard : is_hard_
         clock = clock_after_reset devices.clock;
         disk = option_map (λ disk. disk_after_reset disk) devices.disk;
         triggers = triggers_at_reset;
-        system = system_at_reset;
+        plain = plain_at_reset;
       } → AreAfter setup (entry ∷ history) after
-  unfolding timer_of clock_of triggers_of system_of
+  unfolding timer_of clock_of triggers_of plain_of
   reset_after devices after are is =
       subst (λ (d : DevicesValue). AreAfter setup (entry ∷ history) d) (sym is)
       (record {
@@ -559,7 +560,7 @@ module _ (setup : Setup) (history : List Entry) (entry : Entry) (hard : is_hard_
         disk =
             ap (λ (d : Option Disk). option_map (λ disk. disk_after_reset disk) d) are.disk ∙ disk_hard setup.disk;
         triggers = rw hard refl;
-        system = rw hard refl;
+        plain = rw hard refl;
         wires = λ dev low high. are.wires dev low high ∙ sym (wire_stays setup history entry no_level dev);
         irqs = λ line below.
             are.irqs line below
@@ -577,18 +578,18 @@ module _ (setup : Setup) (history : List Entry) (entry : Entry) (hard : is_hard_
 
 pub at_power_on : (setup : Setup) (devices : DevicesValue) → devices.timer ≡ timer_at_reset →
     devices.clock ≡ clock_at_power_on →
-    devices.triggers ≡ triggers_at_reset → devices.system ≡ system_at_reset → devices.disk ≡ disk_of setup [] →
+    devices.triggers ≡ triggers_at_reset → devices.plain ≡ plain_at_reset → devices.disk ≡ disk_of setup [] →
     devices.wires ≡ replicate 16 false → devices.irqs ≡ replicate 16 false →
     devices.pair ≡ pair_at_reset levels_at_power_on →
     AreDevicesOf setup [] devices
-unfolding timer_of clock_of triggers_of system_of wire_of irq_of pair_of
-at_power_on setup devices timer clock triggers system disk wires irqs pair = record {
+unfolding timer_of clock_of triggers_of plain_of wire_of irq_of pair_of
+at_power_on setup devices timer clock triggers plain disk wires irqs pair = record {
   others = record {
     timer = timer;
     clock = clock;
     disk = disk;
     triggers = triggers;
-    system = system;
+    plain = plain;
     wires = λ dev low high. rw wires (get_or-replicate 16 dev false false (omega (arith, high)));
     irqs = λ line below. rw irqs (get_or-replicate 16 line false false below ∙ sym (and-false (is_free_line line)));
   };

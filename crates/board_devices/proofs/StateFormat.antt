@@ -1,6 +1,6 @@
 -- The state of the devices is spelled and read back.
 use Rattle.std.proofs.Common.{◌≡◌, ℕ, ◌+◌, List, [], Option, Some, None, refl, sym, ap, ◌∙◌, arith}
-use Rattle.board_prelude.specs.Common.{Disk, SystemPort, IsDisk}
+use Rattle.board_prelude.specs.Common.{Disk, SystemPort, PlainPorts, IsDisk}
 use Rattle.byte_fields.proofs.Formats.{IsFormat, format_as, then_format, last_format, made_format, done_format}
 use Rattle.byte_fields.proofs.Numbers.{byte_within, flag_format}
 use Rattle.pic_pair.proofs.StateFormat.{pair_format, lines_format}
@@ -10,7 +10,8 @@ use Rattle.pirq_router.proofs.StateFormats.{triggers_format}
 use Rattle.ata_pio.specs.State.{IsDisk as IsDiskOver}
 use Rattle.ata_pio.proofs.StateFormats.{most_bytes, disk_format}
 use Rattle.board_devices.specs.Devices.{DevicesValue}
-use Rattle.board_devices.specs.State.{IsSystem, system_bytes, system_fields, AreMachines, machines_bytes}
+use Rattle.board_devices.specs.State.{IsSystem, system_bytes, system_fields, IsPlain, plain_bytes}
+use Rattle.board_devices.specs.State.{plain_fields, AreMachines, machines_bytes}
 use Rattle.board_devices.specs.State.{machines_fields, IsFittedDisk, fitted_bytes, fitted_fields, AreDevices}
 use Rattle.board_devices.specs.State.{devices_bytes, devices_fields}
 use Rattle.board_devices.proofs.DeviceLemmas.{disk_length}
@@ -30,20 +31,39 @@ system_format =
     (λ p good. omega (arith, good.0.1))
     (λ p good. refl)
 
+-- ---- the plain ports
+
+abbrev plain_most : ℕ
+plain_most = 2
+
+plain_format : IsFormat plain_most plain_fields plain_bytes IsPlain
+unfolding plain_fields
+plain_format =
+    format_as plain_most plain_bytes IsPlain
+    (last_format (λ (p : PlainPorts). p.system) (λ system. record { system = system }) system_format
+    (λ system good. refl))
+    (omega arith)
+    (λ p is. (is, refl))
+    (λ p good. good.0)
+    (λ p good. refl)
+
 -- ---- all but the disk
+
+abbrev machines_most : ℕ
+machines_most = 261 + plain_most
 
 abbrev AreBareMachines : DevicesValue → Type 0
 AreBareMachines devices = AreMachines devices × (devices.disk ≡ None)
 
-machines_format : IsFormat 263 machines_fields machines_bytes AreBareMachines
+machines_format : IsFormat machines_most machines_fields machines_bytes AreBareMachines
 unfolding machines_fields machines_bytes
 machines_format =
-    format_as 263 machines_bytes AreBareMachines
+    format_as machines_most machines_bytes AreBareMachines
     (then_format (λ (d : DevicesValue). d.pair) pair_format (λ pair good.
     then_format (λ (d : DevicesValue). d.timer) pit_format (λ timer good.
     then_format (λ (d : DevicesValue). d.clock) clock_format (λ clock good.
     then_format (λ (d : DevicesValue). d.triggers) triggers_format (λ triggers good.
-    then_format (λ (d : DevicesValue). d.system) system_format (λ system good.
+    then_format (λ (d : DevicesValue). d.plain) plain_format (λ plain good.
     then_format (λ (d : DevicesValue). d.wires) lines_format (λ wires good.
     last_format (λ (d : DevicesValue). d.irqs)
     (λ irqs. record {
@@ -52,13 +72,13 @@ machines_format =
       clock = clock;
       disk = None;
       triggers = triggers;
-      system = system;
+      plain = plain;
       wires = wires;
       irqs = irqs;
     })
     lines_format (λ irqs good. refl))
     (λ wires d any good. ap (λ (d : DevicesValue). d.wires) good.1))
-    (λ system d any good. ap (λ (d : DevicesValue). d.system) good.1.1))
+    (λ plain d any good. ap (λ (d : DevicesValue). d.plain) good.1.1))
     (λ triggers d any good. ap (λ (d : DevicesValue). d.triggers) good.1.1.1))
     (λ clock d any good. ap (λ (d : DevicesValue). d.clock) good.1.1.1.1))
     (λ timer d any good. ap (λ (d : DevicesValue). d.timer) good.1.1.1.1.1))
@@ -73,7 +93,7 @@ machines_format =
           m.clock,
           (
             m.triggers,
-            (m.system, (m.wires, (m.irqs, ap (λ (disk : Option Disk). record d { disk = disk }) is.1))),
+            (m.plain, (m.wires, (m.irqs, ap (λ (disk : Option Disk). record d { disk = disk }) is.1))),
           ),
         ),
       ),
@@ -84,7 +104,7 @@ machines_format =
         timer = good.1.0;
         clock = good.1.1.0;
         triggers = good.1.1.1.0;
-        system = good.1.1.1.1.0;
+        plain = good.1.1.1.1.0;
         wires = good.1.1.1.1.1.0;
         irqs = good.1.1.1.1.1.1.0;
       },
@@ -135,7 +155,7 @@ fitted_format (Some bytes) is =
 -- ---- all devices
 
 abbrev pub most_of : Option (List ℕ) → ℕ
-most_of fitted = 263 + fitted_most fitted
+most_of fitted = machines_most + fitted_most fitted
 
 with_disk : (machines devices : DevicesValue) → machines.disk ≡ None →
     devices ≡ record machines { disk = devices.disk } →
@@ -164,7 +184,7 @@ devices_format fitted is =
       timer = are.timer;
       clock = are.clock;
       triggers = are.triggers;
-      system = are.system;
+      plain = are.plain;
       wires = are.wires;
       irqs = are.irqs;
     }
@@ -175,7 +195,7 @@ devices_format fitted is =
       timer = are.timer;
       clock = are.clock;
       triggers = are.triggers;
-      system = are.system;
+      plain = are.plain;
       wires = are.wires;
       irqs = are.irqs;
     }

@@ -3,18 +3,18 @@ use Rattle.std.specs.Prelude.{ℕ, ◌≡◌, ◌*◌, ◌<◌, ◌≤◌, ◌&&
 use Rattle.std.specs.Prelude.{option_map}
 use Rattle.device_spec.specs.Common.{sectors_of}
 use Rattle.ata_pio.specs.Words.{with_all}
-use Rattle.board_prelude.specs.Common.{PitState, Pair, Clock, Triggers, Disk, Entry, Setup, is_free_line, SystemPort}
-use Rattle.board_prelude.specs.Common.{triggers_of, system_of, timer_of, clock_of, disk_of, wire_of, irq_of, routes_of}
+use Rattle.board_prelude.specs.Common.{PitState, Pair, Clock, Triggers, Disk, Entry, Setup, is_free_line, PlainPorts}
+use Rattle.board_prelude.specs.Common.{triggers_of, plain_of, timer_of, clock_of, disk_of, wire_of, irq_of, routes_of}
 use Rattle.board_prelude.specs.Common.{pair_of}
 
--- what the devices hold: the machines, port 61h, INTA# of the cards by device, and the lines that `irq` set
+-- what the devices hold: the machines, the plain ports, INTA# of the cards by device, and the lines that `irq` set
 pub record DevicesValue : Type 0 where
   pub pair : Pair
   pub timer : PitState
   pub clock : Clock
   pub disk : Option Disk
   pub triggers : Triggers
-  pub system : SystemPort
+  pub plain : PlainPorts
   pub wires : List Bool
   pub irqs : List Bool
 
@@ -34,7 +34,7 @@ pub record AreAfter (setup : Setup) (history : List Entry) (devices : DevicesVal
   pub clock : devices.clock ≡ clock_of history
   pub disk : devices.disk ≡ disk_of setup history
   pub triggers : devices.triggers ≡ triggers_of history
-  pub system : devices.system ≡ system_of history
+  pub plain : devices.plain ≡ plain_of history
   pub wires : AreWiresOf history devices.wires
   pub irqs : AreIrqsOf history devices.irqs
 

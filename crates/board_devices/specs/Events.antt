@@ -1,10 +1,11 @@
 -- What an entry asks of the devices.
-use Rattle.std.specs.Prelude.{ℕ, ◌≡◌, ◌&&◌, Bool, true, false, List, Option, Some}
-use Rattle.board_prelude.specs.Common.{PortAccess, Dev, Pic0, Pic1, Pit, System, Elcr, Ata, is_port_of, Event, Memory}
+use Rattle.std.specs.Prelude.{ℕ, ◌≡◌, ◌&&◌, Bool, true, false, List, Option, Some, None}
+use Rattle.board_prelude.specs.Common.{PortAccess, Dev, Pit, Keyboard, Elcr, Ata, Wires, Vector}
+use Rattle.board_prelude.specs.Common.{Spurious, is_port_of, Event, Memory}
 use Rattle.board_prelude.specs.Common.{Wide, Port, Entry, Setup, is_hard_reset, device_reached, option_map_or, out_of}
 use Rattle.board_prelude.specs.Common.{is_interrupt, timer_of, clock_of, disk_of}
 use Rattle.device_spec.specs.Clock.{interrupt_line}
-use Rattle.board_base.specs.declared.target.Dev.TheVariants.{Clock}
+use Rattle.board_base.specs.declared.target.Dev.TheVariants.{Confadd, Reset, Clock}
 use Rattle.board_spec.specs.declared.event.Event.TheVariants.{Look}
 
 -- an entry is an access that reached this device, and no hard reset
@@ -18,16 +19,17 @@ pub record Asks (history : List Entry) (entry : Entry) (event : Event) : Type 0 
   pub event_is : entry.event ≡ event
   pub soft : is_hard_reset history entry.event ≡ false
 
--- the devices whose state an access at a port can change
+-- the devices whose state an access at a port can change. The configuration address and reset control are no part of
+-- them, and behind the socket and the wires is nothing
 abbrev pub is_chip : Option Dev → Bool
-is_chip (Some Pic0) = true
-is_chip (Some Pic1) = true
-is_chip (Some Pit) = true
-is_chip (Some System) = true
-is_chip (Some Clock) = true
-is_chip (Some Elcr) = true
-is_chip (Some Ata) = true
-is_chip _ = false
+is_chip None = false
+is_chip (Some Confadd) = false
+is_chip (Some Reset) = false
+is_chip (Some Keyboard) = false
+is_chip (Some Wires) = false
+is_chip (Some (Vector chip)) = false
+is_chip (Some (Spurious chip)) = false
+is_chip _ = true
 
 -- such a device, and an access that the table gives to it
 abbrev pub is_chip_port : Dev → (port bytes : ℕ) → Bool

@@ -2,7 +2,7 @@
 use Rattle.std.specs.Prelude.{ℕ, ◌<◌, ◌++◌, List, [], ◌∷◌, Option, Some, None}
 use Rattle.board_base.specs.Common.{w8}
 use Rattle.byte_fields.specs.Fields.{Reading, gives, ◌>>=◌, within, flag_byte, flag_field}
-use Rattle.board_prelude.specs.Common.{Disk, SystemPort}
+use Rattle.board_prelude.specs.Common.{Disk, SystemPort, PlainPorts}
 use Rattle.pic_pair.specs.State.{IsPair, pair_bytes, pair_fields, AreLines, lines_bytes, lines_fields}
 use Rattle.pit_8254.specs.State.{IsPit, pit_bytes, pit_fields}
 use Rattle.cmos_clock.specs.State.{IsClock, clock_bytes, clock_fields}
@@ -24,7 +24,20 @@ system_fields = do
   flip ← flag_field
   gives (record { kept = kept; flip = flip })
 
--- ---- all but the disk: the pair, the timer, the clock, the edge and level control, port 61h, INTA# by device number,
+-- ---- the plain ports
+
+abbrev pub IsPlain : PlainPorts → Type 0
+IsPlain plain = IsSystem plain.system
+
+abbrev pub plain_bytes : PlainPorts → List ℕ
+plain_bytes plain = system_bytes plain.system
+
+unfoldable pub plain_fields : Reading PlainPorts
+plain_fields = do
+  system ← system_fields
+  gives (record { system = system })
+
+-- ---- all but the disk: the pair, the timer, the clock, the edge and level control, the plain ports, INTA# by device number,
 -- and the levels that were set from outside, by line
 
 pub record AreMachines (devices : DevicesValue) : Type 0 where
@@ -32,7 +45,7 @@ pub record AreMachines (devices : DevicesValue) : Type 0 where
   pub timer : IsPit devices.timer
   pub clock : IsClock devices.clock
   pub triggers : AreTriggers devices.triggers
-  pub system : IsSystem devices.system
+  pub plain : IsPlain devices.plain
   pub wires : AreLines devices.wires
   pub irqs : AreLines devices.irqs
 
@@ -42,7 +55,7 @@ machines_bytes devices =
     ++ (pit_bytes devices.timer
     ++ (clock_bytes devices.clock
     ++ (triggers_bytes devices.triggers
-    ++ (system_bytes devices.system ++ (lines_bytes devices.wires ++ lines_bytes devices.irqs)))))
+    ++ (plain_bytes devices.plain ++ (lines_bytes devices.wires ++ lines_bytes devices.irqs)))))
 
 -- the disk is still to be read
 unfoldable pub machines_fields : Reading DevicesValue
@@ -51,7 +64,7 @@ machines_fields = do
   timer ← pit_fields
   clock ← clock_fields
   triggers ← triggers_fields
-  system ← system_fields
+  plain ← plain_fields
   wires ← lines_fields
   irqs ← lines_fields
   gives (record {
@@ -60,7 +73,7 @@ machines_fields = do
     clock = clock;
     disk = None;
     triggers = triggers;
-    system = system;
+    plain = plain;
     wires = wires;
     irqs = irqs;
   })

@@ -1,9 +1,9 @@
 -- What an access at a port does to the devices, before the lines reach the pair.
 use Rattle.std.specs.Prelude.{ℕ, ◌==◌, Bool, true, false, Option, Some, option_map}
-use Rattle.board_prelude.specs.Common.{option_map_or, PortAccess, Dev, Pic0, Pic1, Pit, System, Elcr, Ata, Disk}
+use Rattle.board_prelude.specs.Common.{option_map_or, PortAccess, Dev, Pic0, Pic1, Pit, Elcr, Ata, Disk}
 use Rattle.board_prelude.specs.Common.{largest_of, port_byte, port_read, read_value, trigger_byte, read_of}
-use Rattle.board_prelude.specs.Common.{system_value, out_of, is_interrupt, pair_accessed, timer_accessed}
-use Rattle.board_prelude.specs.Common.{clock_accessed, disk_accessed, triggers_accessed, system_accessed}
+use Rattle.board_prelude.specs.Common.{plain_value, out_of, is_interrupt, pair_accessed, timer_accessed}
+use Rattle.board_prelude.specs.Common.{clock_accessed, disk_accessed, triggers_accessed, plain_accessed}
 use Rattle.device_spec.specs.Clock.{interrupt_line}
 use Rattle.board_base.specs.declared.target.Dev.TheVariants.{Clock}
 use Rattle.device_spec.specs.PortNames.{elcr_ports}
@@ -14,12 +14,11 @@ unfoldable pub value_read : Dev → PortAccess → DevicesValue → ℕ
 value_read Pic0 access devices = port_byte devices.pair access.port
 value_read Pic1 access devices = port_byte devices.pair access.port
 value_read Pit access devices = (port_read access.port devices.timer).0
-value_read System access devices = system_value devices.system devices.timer
 value_read Clock access devices = read_value devices.clock access.port
 value_read Elcr access devices = trigger_byte devices.triggers (access.port == elcr_ports.1)
 value_read Ata access devices =
     option_map_or (λ disk. read_of access.port access.width disk) devices.disk (largest_of access.width)
-value_read _ access devices = largest_of access.width
+value_read dev access devices = plain_value dev devices.plain (out_of 2 devices.timer) access.width
 
 -- the disk after an access that reached this device, where one is fitted
 abbrev pub fitted_accessed : Option Dev → PortAccess → Option Disk → Option Disk
@@ -34,7 +33,7 @@ devices_accessed reached access devices = record {
   clock = clock_accessed reached access devices.clock;
   disk = fitted_accessed reached access devices.disk;
   triggers = triggers_accessed reached access devices.triggers;
-  system = system_accessed reached access devices.system;
+  plain = plain_accessed reached access devices.plain;
   wires = devices.wires;
   irqs = devices.irqs;
 }

@@ -1,10 +1,10 @@
 //! Accesses at the ports of the devices.
 
-ghost use Rattle.std.specs.Prelude.{◌≡◌, ◌∷◌, ◌≤◌, List, true, false, ◌%◌, ◌&&◌, option_map};
+ghost use Rattle.std.specs.Prelude.{◌≡◌, ◌∷◌, ◌≤◌, List, Some, true, false, ◌&&◌, option_map};
 ghost use Rattle.board_prelude.specs.Common.{bytes_of, largest_of, Entry, Setup, device_value, vector_of};
 ghost use Rattle.board_prelude.specs.Common.{acknowledged_by, Ack as AckEvent, option_map_or, answer_of};
 ghost use Rattle.board_prelude.specs.Common.{pair_after_acknowledge, set_gate2, is_ata_port, read_of, is_bit};
-ghost use Rattle.board_prelude.specs.Common.{who_answered};
+ghost use Rattle.board_prelude.specs.Common.{who_answered, System, plain_accessed};
 ghost use Rattle.device_spec.specs.Ata.Steps.{after_read as disk_after_read, after_write as disk_after_write};
 ghost use Rattle.pic_pair.specs.View.{answer_shown};
 ghost use Rattle.board_devices.specs.Steps.{value_read, after_read, after_write, driven};
@@ -100,11 +100,10 @@ impl Devices {
             Dev::Pic0 => u32::from(self.pair.port_read(access.port)),
             Dev::Pic1 => u32::from(self.pair.port_read(access.port)),
             Dev::Pit => u32::from(self.timer.port_read(access.port)),
-            Dev::System => u32::from(self.system.read(self.timer.out(2))),
             Dev::Clock => u32::from(self.clock.port_read(access.port)),
             Dev::Elcr => u32::from(self.triggers.read(access.port == ELCR_HIGH)),
             Dev::Ata => self.read_disk(access),
-            _ => access.width.largest(),
+            _ => self.plain.read(dev, access, self.timer.out(2)),
         }
     }
 
@@ -134,25 +133,27 @@ impl Devices {
             Dev::Pic0 => self.pair.port_write(access.port, access.value as u8),
             Dev::Pic1 => self.pair.port_write(access.port, access.value as u8),
             Dev::Pit => self.timer.port_write(access.port, access.value as u8),
-            Dev::System => self.write_system(access.value as u8),
+            Dev::System => self.write_system(access),
             Dev::Clock => self.clock.port_write(access.port, access.value as u8),
             Dev::Elcr => self
                 .triggers
                 .write(access.port == ELCR_HIGH, access.value as u8),
             Dev::Ata => self.write_disk(access),
-            _ => {}
+            _ => self.plain.write(dev, access),
         }
     }
 
     /// Writes port 61h, whose bit 0 is the gate of counter 2.
-    fn write_system(&mut self, byte: u8)
+    fn write_system(&mut self, access: &PortAccess)
+        requires port { is_chip_port System access.now.port (bytes_of access.now.width) ≡ true }
+        requires fits { access.now.value ≤ largest_of access.now.width }
         ensures after { self.new ≡ record self.old {
-          system = record self.old.system { kept = byte % 4 };
-          timer = set_gate2 (is_bit byte 0) self.old.timer;
+          plain = plain_accessed (Some System) (record access.now { write = true }) self.old.plain;
+          timer = set_gate2 (is_bit access.now.value 0) self.old.timer;
         } }
     {
-        self.system.write(byte);
-        self.timer.gate2(is_set(byte.into(), GATE_2));
+        self.plain.write(Dev::System, access);
+        self.timer.gate2(is_set(access.value, GATE_2));
     }
 
     /// Writes a port of the disk, where one is fitted.

@@ -3,11 +3,11 @@
 ghost use Rattle.std.specs.Prelude.{◌≡◌, ◌↔◌, ◌∷◌, List, [], Err, IfOk, is_some, option_map, true};
 ghost use Rattle.board_prelude.specs.Common.{Entry, Setup, IsDisk, is_hard_reset, reset as timer_at_reset};
 ghost use Rattle.board_prelude.specs.Common.{pair_at_reset, after_reset as clock_after_reset, triggers_at_reset};
-ghost use Rattle.board_prelude.specs.Common.{system_at_reset, disk_of};
+ghost use Rattle.board_prelude.specs.Common.{plain_at_reset, disk_of};
 ghost use Rattle.device_spec.specs.Ata.Steps.{after_reset as disk_after_reset};
 ghost use Rattle.board_devices.specs.Devices.{AreDevicesOf, AreRoutesOf, sectors_fitted};
 
-use crate::system::SystemPort;
+use crate::plain::PlainPorts;
 use ata_pio::{Ata, AtaOpen};
 use cmos_clock::Cmos;
 use pic_pair::{Lines, PicPair};
@@ -24,7 +24,7 @@ pub struct Devices {
     pub(crate) clock: Cmos,
     pub(crate) disk: Option<Ata>,
     pub(crate) triggers: Elcr,
-    pub(crate) system: SystemPort,
+    pub(crate) plain: PlainPorts,
     /// INTA# of each card, by its device number, 2 to 9.
     pub(crate) wires: Lines,
     /// The levels that were set from outside, by line.
@@ -42,7 +42,7 @@ impl Model for Devices {
       clock = d.clock;
       disk = d.disk;
       triggers = d.triggers;
-      system = d.system;
+      plain = d.plain;
       wires = d.wires;
       irqs = d.irqs;
     } };
@@ -70,7 +70,7 @@ impl Devices {
             clock: Cmos::new(),
             disk,
             triggers: Elcr::new(),
-            system: SystemPort::new(),
+            plain: PlainPorts::new(),
             wires: Lines::low(),
             irqs: Lines::low(),
         }
@@ -113,14 +113,14 @@ impl Devices {
           clock = clock_after_reset self.old.clock;
           disk = option_map (λ disk. disk_after_reset disk) self.old.disk;
           triggers = triggers_at_reset;
-          system = system_at_reset;
+          plain = plain_at_reset;
         } }
     {
         self.timer.reset();
         self.clock.reset();
         self.reset_disk();
         self.triggers.reset();
-        self.system = SystemPort::new();
+        self.plain = PlainPorts::new();
     }
 
     /// Resets the disk, where one is fitted.

@@ -10,6 +10,7 @@ mod lines;
 mod monitor;
 mod outside;
 mod state;
+mod plain;
 mod system;
 mod told;
 

@@ -10,40 +10,20 @@ ghost use Rattle.cmos_clock.specs.State.{clock_fields};
 ghost use Rattle.pirq_router.specs.State.{triggers_fields};
 ghost use Rattle.ata_pio.specs.State.{IsDisk as IsDiskOver, disk_bytes, disk_fields};
 ghost use Rattle.board_devices.specs.Devices.{HasDisk};
-ghost use Rattle.board_devices.specs.State.{IsSystem, system_bytes, system_fields, AreMachines, machines_bytes};
+ghost use Rattle.board_devices.specs.State.{AreMachines, machines_bytes};
 ghost use Rattle.board_devices.specs.State.{machines_fields, IsFittedDisk, fitted_bytes, fitted_fields, AreDevices};
 ghost use Rattle.board_devices.specs.State.{devices_bytes, devices_fields};
 
 use crate::devices::Devices;
-use crate::system::{KEPT, SystemPort};
+use crate::plain::PlainPorts;
 use ata_pio::Ata;
 use board_base::NoMemory;
-use byte_fields::{Bad, Fault, Fields, push_bytes};
+use byte_fields::{Bad, Fault, Fields};
 use cmos_clock::Cmos;
 use pic_pair::{Lines, PicPair};
 use pirq_router::Elcr;
 use pit_8254::Pit;
 use std::alloc::Global;
-
-impl SystemPort {
-    /// Adds the 2 bytes of the state: the kept bits, and the bit that flips.
-    fn save_state(&self, into: &mut Vec<u8>) -> Result<(), NoMemory>
-        ensures saved { OnOk result (into.new.items ≡ into.old.items ++ system_bytes self.now) }
-        ensures sound { IsSystem self.now }
-    {
-        push_bytes(into, &[self.kept, u8::from(self.flip)])
-    }
-
-    /// Reads the fields one after another.
-    #[tactic(auto, unfolding(crate::specs::State::system_fields))]
-    fn read_state(fields: &mut Fields) -> Result<SystemPort, Bad>
-        ensures took { Took (λ port. port) result fields.new (system_fields fields.old) }
-    {
-        let kept = fields.byte(0, KEPT)?;
-        let flip = fields.flag()?;
-        Ok(SystemPort { kept, flip })
-    }
-}
 
 /// Reads the pair.
 fn pair(fields: &mut Fields) -> Result<PicPair, Bad>
@@ -156,7 +136,7 @@ impl Devices {
         self.timer.save_state(into)?;
         self.clock.save_state(into)?;
         self.triggers.save_state(into)?;
-        self.system.save_state(into)?;
+        self.plain.save_state(into)?;
         self.wires.save_state(into)?;
         self.irqs.save_state(into)
     }
@@ -184,7 +164,7 @@ impl Devices {
         let timer = timer(fields)?;
         let clock = clock(fields)?;
         let triggers = triggers(fields)?;
-        let system = SystemPort::read_state(fields)?;
+        let plain = PlainPorts::read_state(fields)?;
         let wires = lines(fields)?;
         let irqs = lines(fields)?;
         Ok(Devices {
@@ -193,7 +173,7 @@ impl Devices {
             clock,
             disk: None,
             triggers,
-            system,
+            plain,
             wires,
             irqs,
         })

@@ -7,13 +7,17 @@
 //! | 5    | OUT of counter 2                      | ignored |
 //! | else | 0                                     | ignored |
 
-ghost use Rattle.std.specs.Prelude.{◌≡◌, ◌%◌, ◌<◌, ◌+◌, not, if◌then◌else◌};
-ghost use Rattle.board_spec.specs.Devices.{system_at_reset};
+ghost use Rattle.std.specs.Prelude.{◌≡◌, ◌%◌, ◌<◌, ◌++◌, not, OnOk};
+ghost use Rattle.board_spec.specs.Devices.{system_at_reset, system_shown};
+ghost use Rattle.byte_fields.specs.Fields.{Took};
+ghost use Rattle.board_devices.specs.State.{IsSystem, system_bytes, system_fields};
 
+use board_base::NoMemory;
+use byte_fields::{Bad, Fields, push_bytes};
 use std::marker::Model;
 
 /// The bits that are kept as written: the gate of counter 2, and the speaker.
-pub(crate) const KEPT: u8 = 0x03;
+const KEPT: u8 = 0x03;
 /// The bit that flips after each read.
 const REFRESH: u8 = 1 << 4;
 /// The bit that shows OUT of counter 2.
@@ -22,8 +26,8 @@ const OUT_2: u8 = 1 << 5;
 /// Port 61h.
 #[derive(Drop)]
 pub struct SystemPort {
-    pub(crate) kept: u8,
-    pub(crate) flip: bool,
+    kept: u8,
+    flip: bool,
 }
 
 impl Model for SystemPort {
@@ -50,7 +54,7 @@ impl SystemPort {
 
     /// Reads the port, where OUT of counter 2 has this level. Bit 4 flips after each read.
     pub fn read(&mut self, out: bool) -> u8
-        ensures value { result ≡ self.old.kept + (if self.old.flip then 0x10 else 0) + (if out then 0x20 else 0) }
+        ensures value { result ≡ system_shown self.old out }
         ensures flips { self.new ≡ record self.old { flip = not self.old.flip } }
     {
         let mut byte = self.kept;
@@ -69,5 +73,23 @@ impl SystemPort {
         ensures written { self.new ≡ record self.old { kept = byte % 4 } }
     {
         self.kept = byte & KEPT;
+    }
+
+    /// Adds the 2 bytes of the state: the kept bits, and the bit that flips.
+    pub fn save_state(&self, into: &mut Vec<u8>) -> Result<(), NoMemory>
+        ensures saved { OnOk result (into.new.items ≡ into.old.items ++ system_bytes self.now) }
+        ensures sound { IsSystem self.now }
+    {
+        push_bytes(into, &[self.kept, u8::from(self.flip)])
+    }
+
+    /// Reads the fields one after another.
+    #[tactic(auto, unfolding(crate::specs::State::system_fields))]
+    pub fn read_state(fields: &mut Fields) -> Result<SystemPort, Bad>
+        ensures took { Took (λ port. port) result fields.new (system_fields fields.old) }
+    {
+        let kept = fields.byte(0, KEPT)?;
+        let flip = fields.flag()?;
+        Ok(SystemPort { kept, flip })
     }
 }

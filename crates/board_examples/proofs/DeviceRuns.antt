@@ -14,7 +14,7 @@ use Rattle.board_prelude.proofs.Common.{pulses as timer_pulses, rises, begin_rea
 use Rattle.board_prelude.proofs.Common.{begin_write, sector_written, verified, obeyed, commanded, after_word}
 use Rattle.board_prelude.proofs.Common.{word_written, register_written, reset_byte, writable_bits, isa_bridge}
 use Rattle.board_prelude.proofs.Common.{ide_function, byte_of, config_address, reset_control, io_claim, io_shut}
-use Rattle.board_prelude.proofs.Common.{port_target_of, port_answer, wire_of, irq_of, triggers_of, system_of, timer_of}
+use Rattle.board_prelude.proofs.Common.{port_target_of, port_answer, wire_of, irq_of, triggers_of, plain_of, timer_of}
 use Rattle.board_prelude.proofs.Common.{clock_of, disk_with, levels_with, pair_pulsed, pair_of, device_value}
 use Rattle.device_spec.specs.Clock.{power_on as clock_power_on}
 use Rattle.device_spec.specs.Ata.Steps.{control_written as disk_control_written}
@@ -52,7 +52,7 @@ all_run : AllRun
 unfolding TimerLatched SystemPort FallenLine NestedInterrupts Polled RoutedWire ClockTold EachPulse GatedCounter
     ClockInterrupts DiskInterrupts SharedWires FreeLines DevicesOverReset MaskBeforeIcw1 DiskOverReset WordsAtChips
     io_claim io_shut reset_byte writable_bits isa_bridge byte_of config_address reset_control port_target_of port_answer
-    wire_of irq_of triggers_of system_of timer_of clock_of levels_with pair_pulsed pair_of device_value levels_where
+    wire_of irq_of triggers_of plain_of timer_of clock_of levels_with pair_pulsed pair_of device_value levels_where
     byte_of_levels pending first_selectable pic_request first_blocking chip_after_write byte_read chip_after_read
     answer_of pair_after_acknowledge is_line_driven low_byte high_byte count_of_number mode_numbered access_numbered
     programmed element_bytes status_byte latch_count latch_status counter_control read_back read_live counter_read

@@ -4,7 +4,7 @@ use Rattle.board_prelude.proofs.Common.{length-map-range_with_len, get_or-map-ra
 use Rattle.board_prelude.proofs.Common.{programmed, out_of, reset_byte, writable_bits, host_bridge, isa_bridge}
 use Rattle.board_prelude.proofs.Common.{card_function, byte_of, config_address, reset_control, row_of, area_of}
 use Rattle.board_prelude.proofs.Common.{denial_of, memory_claim, memory_shut, rom_unselected, io_claim, io_shut}
-use Rattle.board_prelude.proofs.Common.{port_target_of, stored_of, port_answer, memory_answer, system_of, timer_of}
+use Rattle.board_prelude.proofs.Common.{port_target_of, stored_of, port_answer, memory_answer, plain_of, timer_of}
 use Rattle.board_prelude.proofs.Common.{clock_of, device_value}
 use Rattle.device_spec.specs.Clock.{power_on as clock_power_on}
 use Rattle.board_examples.specs.Common.{from_reset, board_of, small_board, vga_card, large_rom, large_rom_board}
@@ -86,7 +86,7 @@ card_ports_runs = legal port_card_board (from_reset card_ports) refl
 
 pub ports_under_xbcs_runs : PortsUnderXbcs
 unfolding PortsUnderXbcs byte_of config_address reset_control reset_byte writable_bits isa_bridge card_function io_claim
-    io_shut stored_of port_answer port_target_of device_value system_of timer_of clock_of timer_reset programmed out_of
+    io_shut stored_of port_answer port_target_of device_value plain_of timer_of clock_of timer_reset programmed out_of
     clock_power_on
 ports_under_xbcs_runs = legal port_card_board (from_reset ports_under_xbcs) refl
 

@@ -1,20 +1,21 @@
 -- An entry leaves the devices that its reply does not name, and with their drivers the lines.
 use Rattle.std.proofs.Common.{◌≡◌, Bool, false, List, ◌∷◌, Option, ◌∙◌, ap, inl, inr, unwrap_or}
 use Rattle.board_prelude.proofs.Common.{cond-false, out_of, Entry, is_hard_reset, wire_of, irq_of, triggers_of}
-use Rattle.board_prelude.proofs.Common.{system_of, timer_of, timer_after, clock_of, disk_with, triggers-alone}
+use Rattle.board_prelude.proofs.Common.{PlainPorts, plain_at_reset, plain_of, timer_of, timer_after, clock_of, disk_with, triggers-alone}
 use Rattle.board_prelude.proofs.Common.{system-alone, timer-alone, clock-alone, disk-alone, wire-alone, line-alone}
 use Rattle.board_prelude.proofs.Common.{out-alone, levels-same}
 use Rattle.board_laws.specs.DeviceLaws.{OthersStay, LinesStay}
 
 pub others_stay : OthersStay
-unfolding timer_of system_of triggers_of clock_of disk_with wire_of irq_of
+unfolding timer_of plain_of triggers_of clock_of disk_with wire_of irq_of
 others_stay setup before entry next soft = record {
   timer = λ apart no_gate.
       cond-false (is_hard_reset before entry.event) _ _ soft
       ∙ timer-alone setup before entry.event entry.reply (timer_of before) next.answer apart no_gate;
   system = λ apart.
-      cond-false (is_hard_reset before entry.event) _ _ soft
-      ∙ system-alone entry.event entry.reply (system_of before) apart;
+      ap (λ (plain : PlainPorts). plain.system)
+      (cond-false (is_hard_reset before entry.event) plain_at_reset _ soft)
+      ∙ system-alone entry.event entry.reply (plain_of before) apart;
   triggers = λ apart.
       cond-false (is_hard_reset before entry.event) _ _ soft
       ∙ triggers-alone entry.event entry.reply (triggers_of before) apart;

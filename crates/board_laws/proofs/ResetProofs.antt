@@ -9,7 +9,7 @@ use Rattle.board_prelude.proofs.Common.{Port, Wire, Line, Pulses, Reply, Entry, 
 use Rattle.board_prelude.proofs.Common.{reset_control_port, control_written, is_hard_value, resets_hard, control_after}
 use Rattle.board_prelude.proofs.Common.{is_hard_reset, reset_control, config_address, byte_with, byte_of, Cell}
 use Rattle.board_prelude.proofs.Common.{port_put, entry_put, Bytes, Decoded, device, port_target_of, wire_set, line_set}
-use Rattle.board_prelude.proofs.Common.{wire_of, irq_of, triggers_of, system_of, timer_of, clock_of, disk_with}
+use Rattle.board_prelude.proofs.Common.{wire_of, irq_of, triggers_of, plain_of, timer_of, clock_of, disk_with}
 use Rattle.board_prelude.proofs.Common.{levels_of, elcr_of, pair_stepped, pair_reset_or_after, pair_of, port_answer}
 use Rattle.board_prelude.proofs.Common.{IsAnswer}
 use Rattle.board_base.specs.declared.target.Dev.TheVariants.{Reset as ResetPort}
@@ -77,7 +77,7 @@ pair-hard setup before entry hard =
     ∙ pair-reset levels
 
 pub hard_reset_resets : HardResetResets
-unfolding byte_of config_address reset_control system_of timer_of clock_of disk_with
+unfolding byte_of config_address reset_control plain_of timer_of clock_of disk_with
 hard_reset_resets setup before entry hard = record {
   registers = λ reg.
       ap (λ (change : Option MapChange). byte_with setup change reg (byte_of setup before reg))

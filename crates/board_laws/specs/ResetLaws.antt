@@ -3,7 +3,7 @@ use Rattle.std.specs.Prelude.{ℕ, ◌≡◌, true, List, ◌∷◌}
 use Rattle.board_prelude.specs.Common.{Reg, triggers_at_reset, reset as timer_at_reset}
 use Rattle.board_prelude.specs.Common.{after_reset as clock_after_reset, pair_at_reset, Entry, Setup, reset_byte}
 use Rattle.board_prelude.specs.Common.{is_hard_reset, reset_control, config_address, byte_of, Cell, stored_of, wire_of}
-use Rattle.board_prelude.specs.Common.{irq_of, triggers_of, system_at_reset, system_of, timer_of, clock_of, disk_with}
+use Rattle.board_prelude.specs.Common.{irq_of, triggers_of, plain_at_reset, plain_of, timer_of, clock_of, disk_with}
 use Rattle.board_prelude.specs.Common.{levels_of, pair_of, IsNext}
 use Rattle.device_spec.specs.Ata.Steps.{after_reset as disk_after_reset}
 
@@ -13,7 +13,7 @@ pub record IsBoardAtReset (setup : Setup) (before history : List Entry) : Type 0
   pub address : config_address history ≡ 0
   pub control : reset_control history ≡ 0
   pub triggers : triggers_of history ≡ triggers_at_reset
-  pub system : system_of history ≡ system_at_reset
+  pub plain : plain_of history ≡ plain_at_reset
   pub timer : timer_of history ≡ timer_at_reset
   pub clock : clock_of history ≡ clock_after_reset (clock_of before)
   pub disk : (bytes : List ℕ) → disk_with bytes history ≡ disk_after_reset (disk_with bytes before)

@@ -18,6 +18,8 @@ pub use Rattle.board_prelude.specs.Common.{One, OneFlatMap, OneReplay, OneShot, 
 pub use Rattle.board_prelude.specs.Common.{Parts, Pic0, Pic1, Pit, PitState, Port, PortAccess, Pulses, PulsesAddUp}
 pub use Rattle.board_prelude.specs.Common.{RateGenerator, Read, Reg, Register, Reply, ReservedLinesRest, Reset, Rises}
 pub use Rattle.board_prelude.specs.Common.{Rom, Routes, SameDevices, SameMapBytes, Saw, Select, Setup, Shadow, Smram}
+pub use Rattle.board_prelude.specs.Common.{PlainPorts, plain_accessed, plain_after, plain_at_reset, plain_value}
+pub use Rattle.board_prelude.specs.Common.{chip_text, device_word, device_worded, has_one_name, named_devices}
 pub use Rattle.board_prelude.specs.Common.{SoftwareStrobe, Spurious, SquareWave, Statement, Store, System, SystemPort}
 pub use Rattle.board_prelude.specs.Common.{Target, TerminalCount, Three, Tiles, Time, Triggers, Two, Vec, Vector, Wide}
 pub use Rattle.board_prelude.specs.Common.{WideAccess, Width, Window, Wire, Wires, Word, Write, XbcsBit0, XbcsBit1}
@@ -80,8 +82,8 @@ pub use Rattle.board_prelude.specs.Common.{routes_of, sectors_of, select_of, sel
 pub use Rattle.board_prelude.specs.Common.{shadow_range, six_areas, size_text, slave_ports, smm_text, smram}
 pub use Rattle.board_prelude.specs.Common.{smram_after, smram_answers, smram_range, space, statement_of, statements_of}
 pub use Rattle.board_prelude.specs.Common.{is_bios_selected, is_in_hole, is_smram_open}
-pub use Rattle.board_prelude.specs.Common.{string_bytes, system_accessed, system_after, system_at_reset, system_bios}
-pub use Rattle.board_prelude.specs.Common.{system_port, system_value, target_at, target_text, tell, time_bytes}
+pub use Rattle.board_prelude.specs.Common.{string_bytes, system_accessed, system_at_reset, system_bios}
+pub use Rattle.board_prelude.specs.Common.{system_of, system_port, system_value, target_at, target_text, tell, time_bytes}
 pub use Rattle.board_prelude.specs.Common.{timer_accessed, timer_after, timer_ports, to_le_bytes, top_of, touches_map}
 pub use Rattle.board_prelude.specs.Common.{trigger_byte, triggers_accessed, triggers_after, triggers_at_reset}
 pub use Rattle.board_prelude.specs.Common.{two_digits, unselected, unselected_windows, update_interrupts, upper_memory}
@@ -108,7 +110,7 @@ unfoldable pub use Rattle.board_prelude.specs.Common.{pulse, pulse_all, pulse_by
 unfoldable pub use Rattle.board_prelude.specs.Common.{read_back, read_back_chosen, read_live, register_written}
 unfoldable pub use Rattle.board_prelude.specs.Common.{registers_after, reply_text, request, reset, reset_byte}
 unfoldable pub use Rattle.board_prelude.specs.Common.{reset_control, rises, rom_unselected, row_of, sector_read}
-unfoldable pub use Rattle.board_prelude.specs.Common.{sector_written, set_gate2, status_byte, stored_of, system_of}
+unfoldable pub use Rattle.board_prelude.specs.Common.{sector_written, set_gate2, status_byte, stored_of, plain_of}
 unfoldable pub use Rattle.board_prelude.specs.Common.{take_byte, take_low, timer_of, triggers_of, verified, weekday_of}
 unfoldable pub use Rattle.board_prelude.specs.Common.{wide_value, wire_of, word_written, writable_bits, write}
 unfoldable pub use Rattle.board_prelude.specs.Common.{write_control}

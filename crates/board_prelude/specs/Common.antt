@@ -18,6 +18,8 @@ pub use Rattle.board_spec.specs.Common.{OneAnswer, OneFlatMap, OneReplay, OneSho
 pub use Rattle.board_spec.specs.Common.{PairHasSeen, Pic0, Pic1, Pit, PitState, PortAccess, PulsesAddUp, RateGenerator}
 pub use Rattle.board_spec.specs.Common.{RateRepeats, Read, Reg, Register, ReservedLinesRest, Rises, Rom, Routes}
 pub use Rattle.board_spec.specs.Common.{SameDevices, SameMapBytes, Select, Setup, Shadow, Smram, SoftwareStrobe}
+pub use Rattle.board_spec.specs.Common.{PlainPorts, plain_accessed, plain_after, plain_at_reset, plain_value}
+pub use Rattle.board_spec.specs.Common.{WordsApart, chip_text, device_word, device_worded, has_one_name, named_devices}
 pub use Rattle.board_spec.specs.Common.{SomeAnswer, SomeSpan, Spurious, SquareRepeats, SquareWave, System, SystemPort}
 pub use Rattle.board_spec.specs.Common.{Target, TerminalCount, Tiles, Triggers, Vec, Vector, WideAccess, Width, Window}
 pub use Rattle.board_spec.specs.Common.{Wires, Word, Write, XbcsBit0, XbcsBit1, abort_denial, access_text, acknowledged}
@@ -83,7 +85,7 @@ pub use Rattle.board_spec.specs.Common.{sectors_of, select_of, selectable_bios, 
 pub use Rattle.board_spec.specs.Common.{six_areas, size_text, slave_ports, smm_text, smram, smram_after, smram_answers}
 pub use Rattle.board_spec.specs.Common.{is_bios_selected, is_in_hole, is_smram_open}
 pub use Rattle.board_spec.specs.Common.{smram_range, space, statement_of, statements_of, string_bytes, system_accessed}
-pub use Rattle.board_spec.specs.Common.{system_after, system_at_reset, system_bios, system_port, system_value}
+pub use Rattle.board_spec.specs.Common.{system_at_reset, system_bios, system_of, system_port, system_value}
 pub use Rattle.board_spec.specs.Common.{target_at, target_text, tell, time_bytes, timer_accessed, timer_after}
 pub use Rattle.board_spec.specs.Common.{timer_ports, to_le_bytes, top_of, touches_map, trigger_byte, triggers_accessed}
 pub use Rattle.board_spec.specs.Common.{triggers_after, triggers_after_write, triggers_at_reset, two_digits, unselected}
@@ -111,7 +113,7 @@ unfoldable pub use Rattle.board_spec.specs.Common.{pulse, pulse_all, pulse_by_mo
 unfoldable pub use Rattle.board_spec.specs.Common.{read_back_chosen, read_live, register_written, registers_after}
 unfoldable pub use Rattle.board_spec.specs.Common.{reply_text, request, reset, reset_byte, reset_control, rises}
 unfoldable pub use Rattle.board_spec.specs.Common.{rom_unselected, row_of, sector_read, sector_written, set_gate2}
-unfoldable pub use Rattle.board_spec.specs.Common.{status_byte, stored_of, system_of, take_byte, take_low, timer_of}
+unfoldable pub use Rattle.board_spec.specs.Common.{status_byte, stored_of, plain_of, take_byte, take_low, timer_of}
 unfoldable pub use Rattle.board_spec.specs.Common.{triggers_of, verified, weekday_of, wide_value, wire_of, word_written}
 unfoldable pub use Rattle.board_spec.specs.Common.{writable_bits, write, write_control}
 pub use Rattle.board_spec.specs.declared.event.Entry.{Entry}

@@ -66,7 +66,7 @@ whole_with dram fitted sectors chipset of_dram of_fitted of_sectors is = record 
         timer = is.whole.devices.machines.timer;
         clock = is.whole.devices.machines.clock;
         triggers = is.whole.devices.machines.triggers;
-        system = is.whole.devices.machines.system;
+        plain = is.whole.devices.machines.plain;
         wires = is.whole.devices.machines.wires;
         irqs = is.whole.devices.machines.irqs;
       };

@@ -1,5 +1,10 @@
 //! The numbers by which a record names the cases of an enum. 0 names none, so a record of zeros is that of no event.
 
+ghost use Rattle.std.specs.Prelude.{◌≡◌};
+ghost use Rattle.board_records.specs.Numbers.{device_number};
+
+use board_base::Dev;
+
 /// An access to memory.
 pub const MEMORY_EVENT: u8 = 1;
 /// An access to a port.
@@ -84,6 +89,29 @@ pub const SPURIOUS0_DEVICE: u8 = 14;
 pub const SPURIOUS1_DEVICE: u8 = 15;
 /// The UART of COM1.
 pub const UART_DEVICE: u8 = 16;
+
+/// The number of a device of the board.
+pub fn device_number(dev: Dev) -> u8
+    ensures number { result ≡ device_number dev }
+{
+    match dev {
+        Dev::Confadd => CONFADD_DEVICE,
+        Dev::Reset => RESET_DEVICE,
+        Dev::Pic0 => PIC0_DEVICE,
+        Dev::Pic1 => PIC1_DEVICE,
+        Dev::Pit => PIT_DEVICE,
+        Dev::System => SYSTEM_DEVICE,
+        Dev::Keyboard => KEYBOARD_DEVICE,
+        Dev::Clock => CLOCK_DEVICE,
+        Dev::Elcr => ELCR_DEVICE,
+        Dev::Ata => ATA_DEVICE,
+        Dev::Wires => WIRES_DEVICE,
+        Dev::Vector(0) => VECTOR0_DEVICE,
+        Dev::Vector(_) => VECTOR1_DEVICE,
+        Dev::Spurious(0) => SPURIOUS0_DEVICE,
+        Dev::Spurious(_) => SPURIOUS1_DEVICE,
+    }
+}
 
 /// A register denied the access.
 pub const REGISTER_DENIAL: u8 = 1;

@@ -5,22 +5,15 @@ ghost use Rattle.board_base.specs.declared.target.Denial.TheVariants.{Register};
 ghost use Rattle.board_prelude.specs.Common.{Dram, Entry};
 ghost use Rattle.board_chipset.specs.Common.{IsLeftBy as IsChipsetLeftBy};
 ghost use Rattle.board_chipset.specs.declared.reset_control.ResetKind.TheVariants.{None as NoReset};
-ghost use Rattle.board_records.specs.Numbers.{device_number, reset_number};
+ghost use Rattle.board_records.specs.Numbers.{reset_number};
 ghost use Rattle.board_records.specs.Replies.{placed, no_part, target_said, area_said, with_denial, part_said, blank};
 ghost use Rattle.board_records.specs.Replies.{with_value, with_parts, look_said, bus_said, wide_said, record_said};
 ghost use Rattle.board_records.specs.Replies.{of_part, uart_part, uart_said, serial_said, no_reply, with_cycle};
 ghost use Rattle.board_records.specs.Replies.{with_wide, without_value, beside_cycle};
 ghost use Rattle.board_records.specs.Steps.{after_step};
 
-use crate::numbers::{
-    ABORT_TARGET, ATA_DEVICE, BUS_REPLY, CARD_TARGET, CLOCK_DEVICE, CONFADD_DENIAL, CONFADD_DEVICE,
-    CONFIG_TARGET, DEVICE_TARGET, DRAM_TARGET, ELCR_DEVICE, HARD_RESET, KEYBOARD_DEVICE,
-    LOOK_REPLY, NO_REGISTER_DENIAL, NO_RESET, PARTS_REPLY, PIC0_DEVICE, PIC1_DEVICE, PIT_DEVICE,
-    REGISTER_DENIAL, RESET_DEVICE, ROM_TARGET, SHADOW_TARGET, SMRAM_TARGET, SOFT_RESET,
-    SPURIOUS0_DEVICE, SPURIOUS1_DEVICE, SYSTEM_DEVICE, UART_DEVICE, VECTOR0_DEVICE, VECTOR1_DEVICE,
-    WIRES_DEVICE,
-};
-use board_base::{Area, Denial, Dev, Reg, Target};
+use crate::numbers::{ABORT_TARGET, BUS_REPLY, CARD_TARGET, CONFADD_DENIAL, CONFIG_TARGET, DEVICE_TARGET, DRAM_TARGET, HARD_RESET, LOOK_REPLY, NO_REGISTER_DENIAL, NO_RESET, PARTS_REPLY, REGISTER_DENIAL, ROM_TARGET, SHADOW_TARGET, SMRAM_TARGET, SOFT_RESET, UART_DEVICE, device_number};
+use board_base::{Area, Denial, Reg, Target};
 use board_chipset::{BusReply, Chipset, ResetKind, WideReply};
 use board_spec::{Look, Part, Parts, Reply};
 use uart_16550::{SerialBoard, SerialReply};
@@ -509,28 +502,6 @@ fn placed(target: u8, unit: u8, base: u8, offset: u32) -> PartRecord
         unit,
         base,
         ..no_part()
-    }
-}
-
-fn device_number(dev: Dev) -> u8
-    ensures number { result ≡ device_number dev }
-{
-    match dev {
-        Dev::Confadd => CONFADD_DEVICE,
-        Dev::Reset => RESET_DEVICE,
-        Dev::Pic0 => PIC0_DEVICE,
-        Dev::Pic1 => PIC1_DEVICE,
-        Dev::Pit => PIT_DEVICE,
-        Dev::System => SYSTEM_DEVICE,
-        Dev::Keyboard => KEYBOARD_DEVICE,
-        Dev::Clock => CLOCK_DEVICE,
-        Dev::Elcr => ELCR_DEVICE,
-        Dev::Ata => ATA_DEVICE,
-        Dev::Wires => WIRES_DEVICE,
-        Dev::Vector(0) => VECTOR0_DEVICE,
-        Dev::Vector(_) => VECTOR1_DEVICE,
-        Dev::Spurious(0) => SPURIOUS0_DEVICE,
-        Dev::Spurious(_) => SPURIOUS1_DEVICE,
     }
 }
 

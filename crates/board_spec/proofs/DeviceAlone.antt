@@ -5,7 +5,8 @@ use Rattle.board_spec.specs.Common.{list_any, option_map_or, PortAccess, Dev, Pi
 use Rattle.board_spec.specs.Common.{Triggers, PitState, out_of, set_gate2, Clock, Disk, is_interrupt, Pair}
 use Rattle.board_spec.specs.Common.{is_line_driven, Setup, is_free_line, device_reached, wire_set, line_set, wire_of}
 use Rattle.board_spec.specs.Common.{irq_of, triggers_accessed, triggers_after, SystemPort, system_accessed}
-use Rattle.board_spec.specs.Common.{system_after, timer_accessed, timer_after, clock_accessed, clock_after, clock_of}
+use Rattle.board_spec.specs.Common.{PlainPorts, plain_after, timer_accessed, timer_after, clock_accessed, clock_after}
+use Rattle.board_spec.specs.Common.{clock_of}
 use Rattle.board_spec.specs.Common.{disk_accessed, disk_after, disk_with, disk_of, pirq_of_card, card_devices}
 use Rattle.board_spec.specs.Common.{pirq_level, pirqs, routes_of, pirq_levels, level_with, all_lines, levels_with}
 use Rattle.board_spec.specs.Common.{pair_accessed, pair_after, IsAnswer, NamesDevice, ActsOnPair}
@@ -57,10 +58,10 @@ triggers-alone (Port access) reply triggers apart = triggers-elsewhere (device_r
 triggers-alone event reply triggers apart = refl
 
 pub system-alone :
-    (event : Event) (reply : Reply) (port : SystemPort) → ¬ NamesDevice reply System →
-    system_after event reply port ≡ port
-system-alone (Port access) reply port apart = system-elsewhere (device_reached reply) access port apart
-system-alone event reply port apart = refl
+    (event : Event) (reply : Reply) (plain : PlainPorts) → ¬ NamesDevice reply System →
+    (plain_after event reply plain).system ≡ plain.system
+system-alone (Port access) reply plain apart = system-elsewhere (device_reached reply) access plain.system apart
+system-alone event reply plain apart = refl
 
 pub timer-alone :
     (setup : Setup) (before : List Entry) (event : Event) (reply : Reply) (timer : PitState) →

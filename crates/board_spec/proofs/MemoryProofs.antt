@@ -2,8 +2,8 @@
 use Rattle.std.proofs.Common.{◌≡◌, ℕ, Bool, false, List, ◌∷◌, refl, ◌∙◌, ap, unwrap_or, Option, None}
 use Rattle.std.proofs.lemmas.Bool.{cond-false}
 use Rattle.board_spec.specs.Common.{SameLevelsAgain, Triggers, Clock, Disk, PitState, out_of, Reg, Setup, is_hard_reset}
-use Rattle.board_spec.specs.Common.{byte_with, register_change, byte_of, pirq, SystemPort, wire_set, wire_of, line_set}
-use Rattle.board_spec.specs.Common.{irq_of, triggers_of, triggers_after, system_of, system_after, timer_of, timer_after}
+use Rattle.board_spec.specs.Common.{byte_with, register_change, byte_of, pirq, PlainPorts, wire_set, wire_of, line_set}
+use Rattle.board_spec.specs.Common.{irq_of, triggers_of, triggers_after, plain_of, plain_after, timer_of, timer_after}
 use Rattle.board_spec.specs.Common.{clock_of, clock_after, disk_with, disk_after, pirqs, levels_of, ActsOnPair}
 use Rattle.board_spec.specs.Common.{IsOfMemory, MemoryLeavesDevices}
 use Rattle.board_spec.specs.declared.event.Event.{Event}
@@ -31,10 +31,10 @@ timer-memory (Port access) reply timer is = absurd is
 timer-memory (Pulses count) reply timer is = absurd is
 timer-memory event reply timer is = refl
 
-system-memory :
-    (event : Event) (reply : Reply) (port : SystemPort) → IsOfMemory event → system_after event reply port ≡ port
-system-memory (Port access) reply port is = absurd is
-system-memory event reply port is = refl
+plain-memory :
+    (event : Event) (reply : Reply) (plain : PlainPorts) → IsOfMemory event → plain_after event reply plain ≡ plain
+plain-memory (Port access) reply plain is = absurd is
+plain-memory event reply plain is = refl
 
 triggers-memory :
     (event : Event) (reply : Reply) (triggers : Triggers) → IsOfMemory event →
@@ -125,13 +125,13 @@ lines-same setup before entry is =
     })
 
 pub memory_leaves_devices : SameLevelsAgain → MemoryLeavesDevices
-unfolding system_of triggers_of
+unfolding plain_of triggers_of
 memory_leaves_devices again setup before entry is = record {
   registers = λ reg. byte-same setup before entry reg is;
   timer = timer-same before entry is;
-  system =
+  plain =
       cond-false (is_hard_reset before entry.event) _ _ (soft-memory entry.event before is)
-      ∙ system-memory entry.event entry.reply (system_of before) is;
+      ∙ plain-memory entry.event entry.reply (plain_of before) is;
   triggers =
       cond-false (is_hard_reset before entry.event) _ _ (soft-memory entry.event before is)
       ∙ triggers-memory entry.event entry.reply (triggers_of before) is;

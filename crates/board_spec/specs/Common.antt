@@ -16,11 +16,13 @@ unfoldable pub use Rattle.board_spec.specs.Decode.{area_of, denial_of, io_claim,
 unfoldable pub use Rattle.board_spec.specs.Decode.{rom_unselected, row_of}
 pub use Rattle.board_spec.specs.DeviceLaws.{ActsOnPair, FirstLevels, IsOfMemory, MemoryLeavesDevices, NamesDevice}
 pub use Rattle.board_spec.specs.DeviceLaws.{PairHasSeen, PairStays, SameDevices}
+pub use Rattle.board_spec.specs.Devices.{PlainPorts, plain_accessed, plain_after, plain_at_reset, plain_value}
+pub use Rattle.board_spec.specs.Devices.{system_shown}
 pub use Rattle.board_spec.specs.Devices.{SystemPort, clock_accessed, clock_after, device_in, device_reached}
-pub use Rattle.board_spec.specs.Devices.{disk_accessed, disk_after, disk_of, line_set, system_accessed, system_after}
+pub use Rattle.board_spec.specs.Devices.{disk_accessed, disk_after, disk_of, line_set, system_accessed, system_of}
 pub use Rattle.board_spec.specs.Devices.{system_at_reset, timer_accessed, timer_after, triggers_accessed}
 pub use Rattle.board_spec.specs.Devices.{triggers_after, wire_set}
-unfoldable pub use Rattle.board_spec.specs.Devices.{clock_of, disk_with, irq_of, system_of, timer_of, triggers_of}
+unfoldable pub use Rattle.board_spec.specs.Devices.{clock_of, disk_with, irq_of, plain_of, timer_of, triggers_of}
 unfoldable pub use Rattle.board_spec.specs.Devices.{wire_of}
 pub use Rattle.board_spec.specs.FlatMap.{Differs, IsFlatMapOf, IsRight, IsSpan, MapRange, NeighboursDiffer, Tiles}
 pub use Rattle.board_spec.specs.FlatMap.{address_count, six_areas}

@@ -7,7 +7,7 @@ use Rattle.board_spec.specs.declared.event.Reply.{Reply}
 use Rattle.board_spec.specs.declared.event.Entry.{Entry}
 use Rattle.board_spec.specs.Setup.{Setup}
 use Rattle.board_spec.specs.Registers.{is_hard_reset, byte_of}
-use Rattle.board_spec.specs.Devices.{device_reached, wire_of, irq_of, triggers_of, system_of, timer_of, clock_of}
+use Rattle.board_spec.specs.Devices.{device_reached, wire_of, irq_of, triggers_of, plain_of, timer_of, clock_of}
 use Rattle.board_spec.specs.Devices.{disk_with}
 use Rattle.board_spec.specs.Interrupts.{levels_of, elcr_of, pair_of}
 
@@ -59,7 +59,7 @@ IsOfMemory _ = ⊥
 pub record SameDevices (setup : Setup) (before history : List Entry) : Type 0 where
   pub registers : (reg : Reg) → byte_of setup history reg ≡ byte_of setup before reg
   pub timer : timer_of history ≡ timer_of before
-  pub system : system_of history ≡ system_of before
+  pub plain : plain_of history ≡ plain_of before
   pub triggers : triggers_of history ≡ triggers_of before
   pub clock : clock_of history ≡ clock_of before
   pub disk : (bytes : List ℕ) → disk_with bytes history ≡ disk_with bytes before

@@ -1,8 +1,8 @@
 -- The devices after a history, each by itself, from its power-on state. An access acts on the device that its
 -- target names, by the machine of that device; a hard reset puts each in its reset state.
-use Rattle.std.specs.Prelude.{ℕ, ◌%◌, ◌==◌, Bool, false, not, if◌then◌else◌, List, [], ◌∷◌, Option, Some, None}
+use Rattle.std.specs.Prelude.{ℕ, ◌+◌, ◌%◌, ◌==◌, Bool, false, not, if◌then◌else◌, List, [], ◌∷◌, Option, Some, None}
 use Rattle.std.specs.Prelude.{unwrap_or, option_map}
-use Rattle.device_spec.specs.Common.{PortAccess, Dev, Pit, System, Elcr, Ata, Target, Device, Triggers}
+use Rattle.device_spec.specs.Common.{Width, largest_of, PortAccess, Dev, Pit, System, Elcr, Ata, Target, Device, Triggers}
 use Rattle.device_spec.specs.Common.{triggers_at_reset, triggers_after_write, PitState, reset as timer_at_reset}
 use Rattle.device_spec.specs.Common.{port_read, port_write, set_gate2, pulses, Clock, after_read, after_write}
 use Rattle.device_spec.specs.Common.{after_moment, after_reset as clock_after_reset, civil_time, Disk}
@@ -87,15 +87,39 @@ system_accessed (Some System) access port =
     if access.write then record port { kept = access.value % 4 } else record port { flip = not port.flip }
 system_accessed _ access port = port
 
-abbrev pub system_after : Event → Reply → SystemPort → SystemPort
-system_after (Port access) reply port = system_accessed (device_reached reply) access port
-system_after _ reply port = port
+-- ---- the plain ports: the registers of the board itself, which drive no line and change at accesses alone
 
-unfoldable pub system_of : List Entry → SystemPort
-system_of [] = system_at_reset
-system_of (entry ∷ before) =
-    if is_hard_reset before entry.event then system_at_reset
-    else system_after entry.event entry.reply (system_of before)
+pub record PlainPorts : Type 0 where
+  pub system : SystemPort
+
+abbrev pub plain_at_reset : PlainPorts
+plain_at_reset = record { system = system_at_reset }
+
+abbrev pub plain_accessed : Option Dev → PortAccess → PlainPorts → PlainPorts
+plain_accessed reached access plain = record { system = system_accessed reached access plain.system }
+
+abbrev pub plain_after : Event → Reply → PlainPorts → PlainPorts
+plain_after (Port access) reply plain = plain_accessed (device_reached reply) access plain
+plain_after _ reply plain = plain
+
+unfoldable pub plain_of : List Entry → PlainPorts
+plain_of [] = plain_at_reset
+plain_of (entry ∷ before) =
+    if is_hard_reset before entry.event then plain_at_reset
+    else plain_after entry.event entry.reply (plain_of before)
+
+abbrev pub system_of : List Entry → SystemPort
+system_of history = (plain_of history).system
+
+-- port 61h: bits 1 and 0 as written, bit 4 flips, bit 5 is OUT of counter 2 (82371SB, NMISC; that bit 4 flips with each
+-- read: profile)
+abbrev pub system_shown : SystemPort → (out : Bool) → ℕ
+system_shown port out = port.kept + (if port.flip then 0x10 else 0) + (if out then 0x20 else 0)
+
+-- what a read of a plain port gives, where OUT of counter 2 has this level. Of a device that has none all ones
+abbrev pub plain_value : Dev → PlainPorts → (out : Bool) → Width → ℕ
+plain_value System plain out width = system_shown plain.system out
+plain_value _ plain out width = largest_of width
 
 -- ---- the 8254, whose gate 2 is bit 0 of port 61h
 

@@ -1,7 +1,7 @@
 -- The sixteen interrupt lines and the 8259A pair after a history, and what the devices' ports read.
 use Rattle.std.specs.Prelude.{ℕ, zero, suc, ◌+◌, ◌-◌, ◌*◌, ◌%◌, ◌==◌, Bool, false, ◌&&◌, ◌||◌, if◌then◌else◌, List, []}
 use Rattle.std.specs.Prelude.{◌∷◌, map, Option, Some}
-use Rattle.device_spec.specs.Common.{list_any, option_map_or, Width, PortAccess, Dev, Pic0, Pic1, Pit, System, Elcr}
+use Rattle.device_spec.specs.Common.{list_any, option_map_or, Width, PortAccess, Dev, Pic0, Pic1, Pit, Elcr}
 use Rattle.device_spec.specs.Common.{Ata, Vector, Spurious, largest_of, Pair, Answer, pair_at_reset, levels_at_power_on}
 use Rattle.device_spec.specs.Common.{pair_after_lines, pair_after_read, pair_after_write, pair_after_acknowledge}
 use Rattle.device_spec.specs.Common.{port_byte, answer_of, trigger_byte, is_line_driven, PitState, out_of, port_read}
@@ -16,8 +16,8 @@ use Rattle.board_spec.specs.InRange.{is_free_line}
 use Rattle.board_spec.specs.RegisterNames.{pirq}
 use Rattle.board_spec.specs.PortNames.{elcr_ports}
 use Rattle.board_spec.specs.Registers.{is_hard_reset, byte_of}
-use Rattle.board_spec.specs.Devices.{device_reached, wire_of, irq_of, triggers_of, SystemPort, system_of, timer_of}
-use Rattle.board_spec.specs.Devices.{clock_of, disk_of}
+use Rattle.board_spec.specs.Devices.{device_reached, wire_of, irq_of, triggers_of, SystemPort, timer_of}
+use Rattle.board_spec.specs.Devices.{clock_of, disk_of, plain_of, plain_value, system_shown}
 
 -- ---- the lines
 
@@ -115,22 +115,19 @@ pair_of setup (entry ∷ before) = pair_stepped setup entry before entry.event (
 
 -- ---- what the devices give
 
--- port 61h: bits 1 and 0 as written, bit 4 flips, bit 5 is OUT of counter 2 (82371SB, NMISC; that bit 4 flips with each
--- read: profile)
 abbrev pub system_value : SystemPort → PitState → ℕ
-system_value port timer = port.kept + (if port.flip then 0x10 else 0) + (if out_of 2 timer then 0x20 else 0)
+system_value port timer = system_shown port (out_of 2 timer)
 
 -- what a read of a device's port gives after a history
 unfoldable pub device_value : Setup → List Entry → Dev → ℕ → Width → ℕ
 device_value setup history Pic0 port width = port_byte (pair_of setup history) port
 device_value setup history Pic1 port width = port_byte (pair_of setup history) port
 device_value setup history Pit port width = (port_read port (timer_of history)).0
-device_value setup history System port width = system_value (system_of history) (timer_of history)
 device_value setup history ClockChip port width = read_value (clock_of history) port
 device_value setup history Elcr port width = trigger_byte (triggers_of history) (port == elcr_ports.1)
 device_value setup history Ata port width =
     option_map_or (λ disk. read_of port width disk) (disk_of setup history) (largest_of width)
-device_value setup history _ port width = largest_of width
+device_value setup history dev port width = plain_value dev (plain_of history) (out_of 2 (timer_of history)) width
 
 -- the answer to an interrupt acknowledge
 abbrev pub vector_of : Setup → List Entry → ℕ

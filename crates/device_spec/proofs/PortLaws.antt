@@ -1,130 +1,92 @@
--- Each port is one device's.
-use Rattle.std.proofs.Common.{◌≡◌, ℕ, true, false, List, [], ◌∷◌, Option, Some, refl, ◌∙◌, arith}
-use Rattle.board_base.proofs.Common.{cond-true, cond-false, false≢true, nat_tests}
-use Rattle.device_spec.specs.Common.{Dev, Reset, Pic0, Pic1, Pit, System, Keyboard, Elcr, Ata, Wires, Vector, Spurious}
-use Rattle.device_spec.specs.Common.{is_port_of, first_with, PortsApart, ConfigApart}
-use Rattle.board_base.specs.declared.target.Dev.TheVariants.{Confadd, Clock}
+-- Each port is one device's: no two lines of the table meet, and none has a port of configuration data.
+use Rattle.std.proofs.Common.{◌≡◌, ℕ, Bool, true, false, ◌&&◌, ◌||◌, nat_le, List, [], ◌∷◌, Option, Some, None, refl, ◌∙◌}
+use Rattle.std.proofs.Common.{find, arith, inl, inr, ap, sym}
+use Rattle.std.specs.List.{list_any}
+use Rattle.board_base.proofs.Common.{cond-true, cond-false, false≢true, nat_tests, cases_Bool, and_parts}
+use Rattle.board_base.specs.Bits.{is_within}
+use Rattle.device_spec.specs.PortNames.{config_data_ports}
+use Rattle.device_spec.specs.PortTable.{Ports, is_size, takes, device_line, port_devices}
+use Rattle.device_spec.specs.Common.{Dev, Wires, Vector, Spurious, is_port_of, first_with, PortsApart, ConfigApart}
+use Rattle.board_base.specs.declared.target.Dev.TheVariants.{Confadd}
+
+-- an interval has one of these ports
+abbrev crosses : (first last : ℕ) → List Ports → Bool
+crosses first last [] = false
+crosses first last (some ∷ others) = nat_le first some.last && nat_le some.first last || crosses first last others
+
+abbrev meets : List Ports → List Ports → Bool
+meets [] others = false
+meets (some ∷ later) others = crosses some.first some.last others || meets later others
+
+-- the first device of a list with a port of this one
+abbrev first_met : List Dev → Dev → Option Dev
+first_met devices dev = find (λ other. meets (device_line dev).ports (device_line other).ports) devices
+
+neither : (x y : Bool) → (x || y) ≡ false → (x ≡ false) × (y ≡ false)
+neither false false is = (refl, refl)
+neither false true is = absurd (false≢true (sym is))
+neither true y is = absurd (false≢true (sym is))
+
+outside : (a b c d port : ℕ) → (nat_le a d && nat_le c b) ≡ false → is_within a b port ≡ true →
+    is_within c d port ≡ false
+outside a b c d port apart is = grind (arith, nat_tests)
 
 module _ (port size : ℕ) where
-  here : (dev : Dev) (later : List Dev) → is_port_of dev port size ≡ true →
-      first_with (dev ∷ later) port size ≡ Some dev
-  here dev later is = cond-true (is_port_of dev port size) (Some dev) _ is
+  untaken : (first last : ℕ) → is_within first last port ≡ true → (ports : List Ports) →
+      crosses first last ports ≡ false → takes ports port size ≡ false
+  untaken first last is [] apart = refl
+  untaken first last is (some ∷ others) apart =
+      let both = neither _ _ apart in
+      rw (outside first last some.first some.last port both.0 is, untaken first last is others both.1)
+      (and_false (is_size some.sizes size))
+    where
+      and_false : (x : Bool) → ((x && false) || false) ≡ false
+      and_false true = refl
+      and_false false = refl
 
-  past : {found : Option Dev} (dev : Dev) (later : List Dev) → is_port_of dev port size ≡ false →
-      first_with later port size ≡ found →
-      first_with (dev ∷ later) port size ≡ found
-  past dev later is_not later_is = cond-false (is_port_of dev port size) (Some dev) _ is_not ∙ later_is
+  apart_takes : (ports others : List Ports) → meets ports others ≡ false → takes ports port size ≡ true →
+      takes others port size ≡ false
+  apart_takes [] others apart is = absurd (false≢true is)
+  apart_takes (some ∷ later) others apart is =
+      let both = neither _ _ apart in
+      elim (cases_Bool (is_size some.sizes size && is_within some.first some.last port)) [
+        | inl here ↦
+            untaken some.first some.last (and_parts (is_size some.sizes size) _ here).1 others both.0
+        | inr not ↦ apart_takes later others both.1 (sym (ap (λ (b : Bool). b || takes later port size) not) ∙ is)
+      ]
 
--- the devices after each of the table's
-abbrev after_ata : List Dev
-after_ata = []
+  -- a device that is the first with a port of its own is the first that takes an access
+  first_takes : (devices : List Dev) (dev : Dev) → is_port_of dev port size ≡ true →
+      first_met devices dev ≡ Some dev → first_with devices port size ≡ Some dev
+  first_takes [] dev is first = absurd (cc)
+  first_takes (other ∷ later) dev is first =
+      elim (cases_Bool (meets (device_line dev).ports (device_line other).ports)) [
+        | inl met ↦
+            let found : Some other ≡ Some dev = sym (cond-true _ (Some other) _ met) ∙ first in
+            let same : is_port_of other port size ≡ true = cc in
+            cond-true (is_port_of other port size) (Some other) _ same ∙ found
+        | inr apart ↦
+            cond-false (is_port_of other port size) (Some other) _
+            (apart_takes (device_line dev).ports (device_line other).ports apart is)
+            ∙ first_takes later dev is (sym (cond-false _ (Some other) _ apart) ∙ first)
+      ]
 
-abbrev after_clock : List Dev
-after_clock = Ata ∷ after_ata
-
-abbrev after_keyboard : List Dev
-after_keyboard = Clock ∷ after_clock
-
-abbrev after_elcr : List Dev
-after_elcr = Keyboard ∷ after_keyboard
-
-abbrev after_system : List Dev
-after_system = Elcr ∷ after_elcr
-
-abbrev after_pit : List Dev
-after_pit = System ∷ after_system
-
-abbrev after_pic1 : List Dev
-after_pic1 = Pit ∷ after_pit
-
-abbrev after_pic0 : List Dev
-after_pic0 = Pic1 ∷ after_pic1
-
-abbrev after_reset : List Dev
-after_reset = Pic0 ∷ after_pic0
-
-abbrev after_confadd : List Dev
-after_confadd = Reset ∷ after_reset
+  none_takes : (first last : ℕ) → is_within first last port ≡ true → (devices : List Dev) →
+      list_any (λ dev. crosses first last (device_line dev).ports) devices ≡ false →
+      first_with devices port size ≡ None
+  none_takes first last is [] apart = refl
+  none_takes first last is (dev ∷ later) apart =
+      let both = neither _ _ apart in
+      cond-false (is_port_of dev port size) (Some dev) _ (untaken first last is (device_line dev).ports both.0)
+      ∙ none_takes first last is later both.1
 
 pub ports_apart : PortsApart
-ports_apart Confadd port size is =
-    here port size Confadd after_confadd is
-ports_apart Reset port size is =
-    past port size Confadd after_confadd (grind (arith, nat_tests))
-    (here port size Reset after_reset is)
-ports_apart Pic0 port size is =
-    past port size Confadd after_confadd (grind (arith, nat_tests))
-    (past port size Reset after_reset (grind (arith, nat_tests))
-    (here port size Pic0 after_pic0 is))
-ports_apart Pic1 port size is =
-    past port size Confadd after_confadd (grind (arith, nat_tests))
-    (past port size Reset after_reset (grind (arith, nat_tests))
-    (past port size Pic0 after_pic0 (grind (arith, nat_tests))
-    (here port size Pic1 after_pic1 is)))
-ports_apart Pit port size is =
-    past port size Confadd after_confadd (grind (arith, nat_tests))
-    (past port size Reset after_reset (grind (arith, nat_tests))
-    (past port size Pic0 after_pic0 (grind (arith, nat_tests))
-    (past port size Pic1 after_pic1 (grind (arith, nat_tests))
-    (here port size Pit after_pit is))))
-ports_apart System port size is =
-    past port size Confadd after_confadd (grind (arith, nat_tests))
-    (past port size Reset after_reset (grind (arith, nat_tests))
-    (past port size Pic0 after_pic0 (grind (arith, nat_tests))
-    (past port size Pic1 after_pic1 (grind (arith, nat_tests))
-    (past port size Pit after_pit (grind (arith, nat_tests))
-    (here port size System after_system is)))))
-ports_apart Elcr port size is =
-    past port size Confadd after_confadd (grind (arith, nat_tests))
-    (past port size Reset after_reset (grind (arith, nat_tests))
-    (past port size Pic0 after_pic0 (grind (arith, nat_tests))
-    (past port size Pic1 after_pic1 (grind (arith, nat_tests))
-    (past port size Pit after_pit (grind (arith, nat_tests))
-    (past port size System after_system (grind (arith, nat_tests))
-    (here port size Elcr after_elcr is))))))
-ports_apart Keyboard port size is =
-    past port size Confadd after_confadd (grind (arith, nat_tests))
-    (past port size Reset after_reset (grind (arith, nat_tests))
-    (past port size Pic0 after_pic0 (grind (arith, nat_tests))
-    (past port size Pic1 after_pic1 (grind (arith, nat_tests))
-    (past port size Pit after_pit (grind (arith, nat_tests))
-    (past port size System after_system (grind (arith, nat_tests))
-    (past port size Elcr after_elcr (grind (arith, nat_tests))
-    (here port size Keyboard after_keyboard is)))))))
-ports_apart Clock port size is =
-    past port size Confadd after_confadd (grind (arith, nat_tests))
-    (past port size Reset after_reset (grind (arith, nat_tests))
-    (past port size Pic0 after_pic0 (grind (arith, nat_tests))
-    (past port size Pic1 after_pic1 (grind (arith, nat_tests))
-    (past port size Pit after_pit (grind (arith, nat_tests))
-    (past port size System after_system (grind (arith, nat_tests))
-    (past port size Elcr after_elcr (grind (arith, nat_tests))
-    (past port size Keyboard after_keyboard (grind (arith, nat_tests))
-    (here port size Clock after_clock is))))))))
-ports_apart Ata port size is =
-    past port size Confadd after_confadd (grind (arith, nat_tests))
-    (past port size Reset after_reset (grind (arith, nat_tests))
-    (past port size Pic0 after_pic0 (grind (arith, nat_tests))
-    (past port size Pic1 after_pic1 (grind (arith, nat_tests))
-    (past port size Pit after_pit (grind (arith, nat_tests))
-    (past port size System after_system (grind (arith, nat_tests))
-    (past port size Elcr after_elcr (grind (arith, nat_tests))
-    (past port size Keyboard after_keyboard (grind (arith, nat_tests))
-    (past port size Clock after_clock (grind (arith, nat_tests))
-    (here port size Ata after_ata is)))))))))
 ports_apart Wires port size is = absurd (false≢true is)
 ports_apart (Vector chip) port size is = absurd (false≢true is)
 ports_apart (Spurious chip) port size is = absurd (false≢true is)
+ports_apart Confadd port size is = first_takes port size port_devices Confadd is refl
+ports_apart dev port size is = first_takes port size port_devices dev is refl
 
 pub config_apart : ConfigApart
 config_apart port size is =
-    past port size Confadd after_confadd (grind (arith, nat_tests))
-    (past port size Reset after_reset (grind (arith, nat_tests))
-    (past port size Pic0 after_pic0 (grind (arith, nat_tests))
-    (past port size Pic1 after_pic1 (grind (arith, nat_tests))
-    (past port size Pit after_pit (grind (arith, nat_tests))
-    (past port size System after_system (grind (arith, nat_tests))
-    (past port size Elcr after_elcr (grind (arith, nat_tests))
-    (past port size Keyboard after_keyboard (grind (arith, nat_tests))
-    (past port size Clock after_clock (grind (arith, nat_tests))
-    (past port size Ata after_ata (grind (arith, nat_tests)) refl)))))))))
+    none_takes port size config_data_ports.0 config_data_ports.1 is port_devices refl

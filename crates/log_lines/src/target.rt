@@ -4,12 +4,13 @@ ghost use Rattle.std.specs.Prelude.{◌≡◌, ◌<◌, IfSome, option_map};
 ghost use Rattle.script_spec.specs.Common.{FitsReg, FitsArea, FitsDevice, FitsTarget, FitsDenial, parse_hex};
 ghost use Rattle.script_spec.specs.Common.{parse_register, parse_denial_word, parse_denial, parse_area_of_kind};
 ghost use Rattle.script_spec.specs.Common.{parse_placed_area, parse_area, parse_target_of_kind, parse_placed_target};
-ghost use Rattle.script_spec.specs.Common.{parse_chip, parse_named_device, parse_device, parse_other_target};
+ghost use Rattle.script_spec.specs.Common.{parse_chip, parse_device, parse_other_target};
 ghost use Rattle.script_spec.specs.Common.{parse_target};
 ghost use Rattle.script_spec.specs.Targets.{parse_card_base, parse_card_target};
 
 use crate::cuts::{cut, parse_one_digit};
 use board_base::{Area, Denial, Dev, Reg, Target};
+use board_spec::device::with_word;
 use script_lines::{is_word, parse_hex};
 
 // ---- registers and denials
@@ -196,54 +197,16 @@ fn parse_chip(field: &[u8]) -> Option<Dev>
     None
 }
 
-/// A device with one name.
-fn parse_named_device(field: &[u8]) -> Option<Dev>
-    ensures device { result ≡ parse_named_device field.now }
-    ensures fits { IfSome result FitsDevice }
-{
-    if is_word(field, "kbd") {
-        return Some(Dev::Keyboard);
-    }
-    if is_word(field, "clock") {
-        return Some(Dev::Clock);
-    }
-    if is_word(field, "elcr") {
-        return Some(Dev::Elcr);
-    }
-    if is_word(field, "ata") {
-        return Some(Dev::Ata);
-    }
-    if is_word(field, "wires") {
-        return Some(Dev::Wires);
-    }
-    parse_chip(field)
-}
-
-/// A device of the board.
+/// A device of the board: one with a name of its own, or an acknowledge.
 #[tactic(auto, unfolding(script_spec::specs::Targets::parse_device))]
 fn parse_device(field: &[u8]) -> Option<Dev>
     ensures device { result ≡ parse_device field.now }
     ensures fits { IfSome result FitsDevice }
 {
-    if is_word(field, "confadd") {
-        return Some(Dev::Confadd);
+    match with_word(field) {
+        Some(dev) => Some(dev),
+        None => parse_chip(field),
     }
-    if is_word(field, "reset") {
-        return Some(Dev::Reset);
-    }
-    if is_word(field, "pic0") {
-        return Some(Dev::Pic0);
-    }
-    if is_word(field, "pic1") {
-        return Some(Dev::Pic1);
-    }
-    if is_word(field, "pit") {
-        return Some(Dev::Pit);
-    }
-    if is_word(field, "sys") {
-        return Some(Dev::System);
-    }
-    parse_named_device(field)
 }
 
 /// A target that is no device.

@@ -1,4 +1,5 @@
 pub mod Joined
+pub mod DeviceWords
 pub mod Digits
 pub mod Lines
 pub mod Pairs

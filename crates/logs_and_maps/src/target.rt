@@ -9,6 +9,7 @@ use crate::hex::{hex_digit, put_hex_byte, put_hex_long, put_hex_offset};
 use crate::tail::Tail;
 use crate::words::put_numbered;
 use board_base::{Area, Denial, Dev, NoMemory, Reg, Target};
+use board_spec::device::word;
 
 /// Puts a register as its device, its function and its offset, like `00.0.72`.
 pub(crate) fn put_register(line: &mut Tail, reg: Reg)
@@ -64,19 +65,9 @@ fn put_device(line: &mut Tail, dev: Dev)
     ensures length { GrowsBy line.old line.new 7 }
 {
     match dev {
-        Dev::Confadd => line.put(b"confadd"),
-        Dev::Reset => line.put(b"reset"),
-        Dev::Pic0 => line.put(b"pic0"),
-        Dev::Pic1 => line.put(b"pic1"),
-        Dev::Pit => line.put(b"pit"),
-        Dev::System => line.put(b"sys"),
-        Dev::Keyboard => line.put(b"kbd"),
-        Dev::Clock => line.put(b"clock"),
-        Dev::Elcr => line.put(b"elcr"),
-        Dev::Ata => line.put(b"ata"),
-        Dev::Wires => line.put(b"wires"),
-        Dev::Vector(chip) => put_numbered(line, b"vec", chip),
-        Dev::Spurious(chip) => put_numbered(line, b"spur", chip),
+        Dev::Vector(chip) => put_numbered(line, word(dev).as_bytes(), chip),
+        Dev::Spurious(chip) => put_numbered(line, word(dev).as_bytes(), chip),
+        _ => line.put(word(dev).as_bytes()),
     }
 }
 

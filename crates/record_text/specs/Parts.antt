@@ -1,6 +1,8 @@
 -- What one part of a reply's record names: none where a number of it names nothing, or does not fit where it goes.
-use Rattle.std.specs.Prelude.{ℕ, ◌==◌, nat_lt, if◌then◌else◌, Option, Some, None, option_map}
+use Rattle.std.specs.Prelude.{ℕ, ◌==◌, nat_lt, if◌then◌else◌, List, [], ◌∷◌, Option, Some, None, option_map, option_or}
+use Rattle.std.specs.Prelude.{find}
 use Rattle.board_prelude.specs.Common.{Dev, Area, Target, Denial, Register, Confadd, NoRegister, Part}
+use Rattle.board_prelude.specs.Common.{named_devices}
 use Rattle.board_base.specs.declared.target.Dev.TheVariants as devices
 use Rattle.board_base.specs.declared.target.Area.TheVariants as areas
 use Rattle.board_base.specs.declared.target.Target.TheVariants as targets
@@ -8,26 +10,18 @@ use Rattle.script_spec.specs.Numbers.{◌>>=◌}
 use Rattle.board_records.specs.declared.reply.PartRecord.{PartRecord}
 use Rattle.board_records.specs.Numbers.{dram_target, shadow_target, smram_target, rom_target, card_target}
 use Rattle.board_records.specs.Numbers.{device_target, config_target, abort_target, register_denial, confadd_denial}
-use Rattle.board_records.specs.Numbers.{no_register_denial}
+use Rattle.board_records.specs.Numbers.{no_register_denial, device_number}
 
--- the devices in the order of their numbers, from 1 on
+-- who answers an interrupt acknowledge
+abbrev pub acknowledges : List Dev
+acknowledges = devices.Vector 0 ∷ devices.Vector 1 ∷ devices.Spurious 0 ∷ devices.Spurious 1 ∷ []
+
+-- the one of these devices that has a number
+abbrev pub numbered : List Dev → (number : ℕ) → Option Dev
+numbered some number = find (λ dev. device_number dev == number) some
+
 unfoldable pub device_recorded : (number : ℕ) → Option Dev
-device_recorded number =
-    if number == 1 then Some devices.Confadd else
-    if number == 2 then Some devices.Reset else
-    if number == 3 then Some devices.Pic0 else
-    if number == 4 then Some devices.Pic1 else
-    if number == 5 then Some devices.Pit else
-    if number == 6 then Some devices.System else
-    if number == 7 then Some devices.Keyboard else
-    if number == 8 then Some devices.Clock else
-    if number == 9 then Some devices.Elcr else
-    if number == 10 then Some devices.Ata else
-    if number == 11 then Some devices.Wires else
-    if number == 12 then Some (devices.Vector 0) else
-    if number == 13 then Some (devices.Vector 1) else
-    if number == 14 then Some (devices.Spurious 0) else
-    if number == 15 then Some (devices.Spurious 1) else None
+device_recorded number = option_or (numbered named_devices number) (numbered acknowledges number)
 
 -- the first register of an access to configuration space, whose offset is a byte
 unfoldable pub config_recorded : PartRecord → Option Target

@@ -1,42 +1,43 @@
 //! What one part of a reply's record names.
 
 ghost use Rattle.std.specs.Prelude.{◌≡◌};
-ghost use Rattle.record_text.specs.Parts.{device_recorded, config_recorded, target_recorded, denial_recorded};
-ghost use Rattle.record_text.specs.Parts.{part_recorded, area_recorded};
+ghost use Rattle.record_text.specs.Parts.{numbered, device_recorded, config_recorded, target_recorded};
+ghost use Rattle.record_text.specs.Parts.{denial_recorded, part_recorded, area_recorded};
 
 use board_base::{Area, Denial, Dev, Reg, Target};
 use board_records::PartRecord;
 use board_records::numbers::{
-    ABORT_TARGET, ATA_DEVICE, CARD_TARGET, CLOCK_DEVICE, CONFADD_DENIAL, CONFADD_DEVICE,
-    CONFIG_TARGET, DEVICE_TARGET, DRAM_TARGET, ELCR_DEVICE, KEYBOARD_DEVICE, NO_REGISTER_DENIAL,
-    PIC0_DEVICE, PIC1_DEVICE, PIT_DEVICE, REGISTER_DENIAL, RESET_DEVICE, ROM_TARGET, SHADOW_TARGET,
-    SMRAM_TARGET, SPURIOUS0_DEVICE, SPURIOUS1_DEVICE, SYSTEM_DEVICE, VECTOR0_DEVICE,
-    VECTOR1_DEVICE, WIRES_DEVICE,
+    ABORT_TARGET, CARD_TARGET, CONFADD_DENIAL, CONFIG_TARGET, DEVICE_TARGET, DRAM_TARGET,
+    NO_REGISTER_DENIAL, REGISTER_DENIAL, ROM_TARGET, SHADOW_TARGET, SMRAM_TARGET, device_number,
 };
 use board_spec::Part;
+use board_spec::device::NAMED;
+
+/// Who answers an interrupt acknowledge.
+const ACKNOWLEDGES: [Dev; 4] = [
+    Dev::Vector(0),
+    Dev::Vector(1),
+    Dev::Spurious(0),
+    Dev::Spurious(1),
+];
+
+/// The one of these devices that has a number.
+fn numbered(some: &[Dev], number: u8) -> Option<Dev>
+    ensures device { result ≡ numbered some.now number }
+{
+    some.iter()
+        .copied()
+        .find(|dev| device_number(*dev) == number)
+}
 
 /// The device of a number.
 #[tactic(auto, unfolding(crate::specs::Parts::device_recorded))]
 fn device_recorded(number: u8) -> Option<Dev>
     ensures device { result ≡ device_recorded number }
 {
-    match number {
-        CONFADD_DEVICE => Some(Dev::Confadd),
-        RESET_DEVICE => Some(Dev::Reset),
-        PIC0_DEVICE => Some(Dev::Pic0),
-        PIC1_DEVICE => Some(Dev::Pic1),
-        PIT_DEVICE => Some(Dev::Pit),
-        SYSTEM_DEVICE => Some(Dev::System),
-        KEYBOARD_DEVICE => Some(Dev::Keyboard),
-        CLOCK_DEVICE => Some(Dev::Clock),
-        ELCR_DEVICE => Some(Dev::Elcr),
-        ATA_DEVICE => Some(Dev::Ata),
-        WIRES_DEVICE => Some(Dev::Wires),
-        VECTOR0_DEVICE => Some(Dev::Vector(0)),
-        VECTOR1_DEVICE => Some(Dev::Vector(1)),
-        SPURIOUS0_DEVICE => Some(Dev::Spurious(0)),
-        SPURIOUS1_DEVICE => Some(Dev::Spurious(1)),
-        _ => None,
+    match numbered(&NAMED, number) {
+        Some(dev) => Some(dev),
+        None => numbered(&ACKNOWLEDGES, number),
     }
 }
 

@@ -3,7 +3,7 @@ use Rattle.std.proofs.Common.{◌≡◌, ℕ, zero, suc, ◌==◌, nat_lt, Bool,
 use Rattle.std.proofs.Common.{ap, inl, inr, Option, Some, None, unwrap_or, option_map, option_and_then, if◌then◌else◌}
 use Rattle.board_prelude.proofs.Common.{option_to_list, option_map_or, cases_Bool, WideAccess, PortAccess, Kind, Width}
 use Rattle.board_prelude.proofs.Common.{Reg, Target, Rom, Card, Device, Config, Abort, Dev, Pic0}
-use Rattle.board_prelude.proofs.Common.{Pic1, Pit, System, Keyboard, Elcr, Ata, largest_of}
+use Rattle.board_prelude.proofs.Common.{Pic1, Pit, Keyboard, Elcr, Ata, largest_of}
 use Rattle.board_prelude.proofs.Common.{Triggers, triggers_at_reset, trigger_byte, PitState, out_of, pulses, port_read}
 use Rattle.board_prelude.proofs.Common.{reset as timer_at_reset, Clock, after_reset as clock_after_reset, read_value}
 use Rattle.board_prelude.proofs.Common.{Disk, read_of, Pair, pair_at_reset, pair_after_lines, port_byte, answer_of}
@@ -13,11 +13,11 @@ use Rattle.board_prelude.proofs.Common.{pirq, control_written, control_after, re
 use Rattle.board_prelude.proofs.Common.{address_written, kept_address, config_address, config_store, register_change}
 use Rattle.board_prelude.proofs.Common.{byte_with, byte_of, touches_map, map_change_of, map_writes_of, Cell, DramCell}
 use Rattle.board_prelude.proofs.Common.{CardCell, entry_put, stored_of, dram_byte, expansion_byte, parts_of, wire_set}
-use Rattle.board_prelude.proofs.Common.{wire_of, line_set, irq_of, triggers_after, triggers_of, SystemPort}
-use Rattle.board_prelude.proofs.Common.{system_at_reset, system_after, system_of, timer_after, timer_of, clock_after}
+use Rattle.board_prelude.proofs.Common.{wire_of, line_set, irq_of, triggers_after, triggers_of, PlainPorts}
+use Rattle.board_prelude.proofs.Common.{plain_at_reset, plain_after, plain_of, timer_after, timer_of, clock_after}
 use Rattle.board_prelude.proofs.Common.{clock_of, disk_after, disk_with, disk_of, pirqs, levels_with, levels_of}
 use Rattle.board_prelude.proofs.Common.{elcr_of, pair_after, pair_pulsed, pair_reset_or_after, pair_stepped, pair_of}
-use Rattle.board_prelude.proofs.Common.{device_value, system_value, who_answered, IsOfMemory, SameDevices}
+use Rattle.board_prelude.proofs.Common.{device_value, plain_value, who_answered, IsOfMemory, SameDevices}
 use Rattle.board_prelude.proofs.Common.{MemoryLeavesDevices, IsAnswer, memory_answer, part_answer, wide_value}
 use Rattle.board_prelude.proofs.Common.{IsWideAnswer, port_answer, port_value, value_at, IsLookAnswer, map-same}
 use Rattle.board_prelude.proofs.Common.{SameDrivers, levels-same, disk_of-same, elcr-same, card_at, card_byte}
@@ -158,11 +158,11 @@ unfolding timer_of
 timer_next entry before same = after_same (λ _. timer_at_reset) (timer_after entry.event entry.reply) entry.event before
     (timer_of before) (timer_of (bare before)) same
 
-system_next : (entry : Entry) (before : List Entry) → system_of before ≡ system_of (bare before)
-    → system_of (entry ∷ before) ≡ system_of (plain entry ∷ bare before)
-unfolding system_of
-system_next entry before same = after_same (λ _. system_at_reset) (system_after entry.event entry.reply) entry.event
-    before (system_of before) (system_of (bare before)) same
+plain_next : (entry : Entry) (before : List Entry) → plain_of before ≡ plain_of (bare before)
+    → plain_of (entry ∷ before) ≡ plain_of (plain entry ∷ bare before)
+unfolding plain_of
+plain_next entry before same = after_same (λ _. plain_at_reset) (plain_after entry.event entry.reply) entry.event before
+    (plain_of before) (plain_of (bare before)) same
 
 triggers_next : (entry : Entry) (before : List Entry) → triggers_of before ≡ triggers_of (bare before)
     → triggers_of (entry ∷ before) ≡ triggers_of (plain entry ∷ bare before)
@@ -200,8 +200,8 @@ module _ (leaves : MemoryLeavesDevices) (setup : Setup) where
   timer_bare : (h : List Entry) → timer_of h ≡ timer_of (bare h)
   timer_bare = along timer_of (λ entry before is. (left entry before is).timer) timer_next
 
-  system_bare : (h : List Entry) → system_of h ≡ system_of (bare h)
-  system_bare = along system_of (λ entry before is. (left entry before is).system) system_next
+  plain_bare : (h : List Entry) → plain_of h ≡ plain_of (bare h)
+  plain_bare = along plain_of (λ entry before is. (left entry before is).plain) plain_next
 
   triggers_bare : (h : List Entry) → triggers_of h ≡ triggers_of (bare h)
   triggers_bare = along triggers_of (λ entry before is. (left entry before is).triggers) triggers_next
@@ -340,15 +340,15 @@ module _ (leaves : MemoryLeavesDevices) (setup : Setup) (final before : List Ent
     device_same Pic0 port width = ap (λ (p : Pair). port_byte p port) pair_same
     device_same Pic1 port width = ap (λ (p : Pair). port_byte p port) pair_same
     device_same Pit port width = ap (λ (t : PitState). (port_read port t).0) timer_same
-    device_same System port width =
-        ap (λ (s : SystemPort). system_value s (timer_of final)) (both system_of (system_bare leaves setup))
-        ∙ ap (system_value (system_of before)) timer_same
     device_same ClockChip port width = ap (λ (c : Clock). read_value c port) (both clock_of (clock_bare leaves setup))
     device_same Elcr port width = ap (λ (t : Triggers). trigger_byte t (port == 0x4D1))
         (both triggers_of (triggers_bare leaves setup))
     device_same Ata port width =
         ap (λ (d : Option Disk). option_map_or (λ disk. read_of port width disk) d (largest_of width)) disk_same
-    device_same _ port width = refl
+    device_same dev port width =
+        ap (λ (p : PlainPorts). plain_value dev p (out_of 2 (timer_of final)) width)
+        (both plain_of (plain_bare leaves setup))
+        ∙ ap (λ (t : PitState). plain_value dev (plain_of before) (out_of 2 t) width) timer_same
 
     port_same : (dev : Dev) (port : ℕ) (width : Width)
         → port_value setup final dev port width ≡ port_value setup before dev port width

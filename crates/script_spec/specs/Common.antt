@@ -50,7 +50,7 @@ pub use Rattle.script_spec.specs.ScriptText.{AreRead, BeginsBadly, EndsBadly, Is
 pub use Rattle.script_spec.specs.ScriptText.{IsSaidBy, IsScriptBad, IsScriptText, IsSkipped, IsVersion, Script}
 pub use Rattle.script_spec.specs.ScriptText.{first_line, is_skipped, most_bytes, phase_items}
 pub use Rattle.script_spec.specs.Targets.{parse_area_of_kind, parse_chip, denial_with, parse_denial_word}
-pub use Rattle.script_spec.specs.Targets.{parse_named_device, parse_other_target, parse_target_of_kind}
+pub use Rattle.script_spec.specs.Targets.{parse_other_target, parse_target_of_kind}
 unfoldable pub use Rattle.script_spec.specs.Targets.{parse_area, parse_denial, parse_device, parse_placed_area}
 unfoldable pub use Rattle.script_spec.specs.Targets.{parse_placed_target, parse_register, parse_target}
 pub use Rattle.script_spec.specs.WellFormed.{FitsArea, FitsDenial, FitsDevice, FitsLevel, FitsPart, FitsReg, FitsTarget}

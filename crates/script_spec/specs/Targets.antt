@@ -1,6 +1,7 @@
 -- What the words of a reply name: the reader's way through them.
 use Rattle.std.specs.Prelude.{ℕ, List, if◌then◌else◌, Option, Some, None, option_map, codes, bytes_eq}
-use Rattle.board_prelude.specs.Common.{Reg, Dev, Area, Target, Denial, Register, Confadd, NoRegister}
+use Rattle.board_prelude.specs.Common.{Reg, Dev, Area, Target, Denial, Register, Confadd, NoRegister, option_or}
+use Rattle.board_prelude.specs.Common.{device_worded}
 use Rattle.board_base.specs.declared.target.Dev.TheVariants as devices
 use Rattle.board_base.specs.declared.target.Area.TheVariants as areas
 use Rattle.board_base.specs.declared.target.Target.TheVariants as targets
@@ -92,22 +93,9 @@ parse_chip field =
     if bytes_eq field (codes "spur0") then Some (devices.Spurious 0) else
     if bytes_eq field (codes "spur1") then Some (devices.Spurious 1) else None
 
-abbrev pub parse_named_device : List ℕ → Option Dev
-parse_named_device field =
-    if bytes_eq field (codes "kbd") then Some devices.Keyboard else
-    if bytes_eq field (codes "clock") then Some devices.Clock else
-    if bytes_eq field (codes "elcr") then Some devices.Elcr else
-    if bytes_eq field (codes "ata") then Some devices.Ata else
-    if bytes_eq field (codes "wires") then Some devices.Wires else parse_chip field
-
+-- a device with one name, or an acknowledge
 unfoldable pub parse_device : List ℕ → Option Dev
-parse_device field =
-    if bytes_eq field (codes "confadd") then Some devices.Confadd else
-    if bytes_eq field (codes "reset") then Some devices.Reset else
-    if bytes_eq field (codes "pic0") then Some devices.Pic0 else
-    if bytes_eq field (codes "pic1") then Some devices.Pic1 else
-    if bytes_eq field (codes "pit") then Some devices.Pit else
-    if bytes_eq field (codes "sys") then Some devices.System else parse_named_device field
+parse_device field = option_or (device_worded field) (parse_chip field)
 
 abbrev pub parse_other_target : List ℕ → Option Target
 parse_other_target field =

@@ -3,7 +3,7 @@ use Rattle.pic_pair.specs.State.{pair_bytes, lines_bytes}
 use Rattle.pit_8254.specs.State.{pit_bytes}
 use Rattle.cmos_clock.specs.State.{clock_bytes}
 use Rattle.pirq_router.specs.State.{triggers_bytes}
-use Rattle.board_devices.specs.State.{machines_bytes, system_bytes}
+use Rattle.board_devices.specs.State.{machines_bytes, plain_bytes}
 use Rattle.board_devices.proofs.devices.Devices.save_machines.Goals as goal
 
 pub returns-clause-saved : goal.returns-clause-saved
@@ -24,7 +24,7 @@ returns-clause-saved c =
     (joined result one two new (pit_bytes are.timer) _ c.in_ok-save_state-2.ensures.saved
     (joined result two three new (clock_bytes are.clock) _ c.in_ok-save_state-3.ensures.saved
     (joined result three four new (triggers_bytes are.triggers) _ c.in_ok-save_state-4.ensures.saved
-    (joined result four five new (system_bytes are.system) _ c.in_ok-save_state-5.ensures.saved
+    (joined result four five new (plain_bytes are.plain) _ c.in_ok-save_state-5.ensures.saved
     (joined result five six new (lines_bytes are.wires) (lines_bytes are.irqs) c.in_ok-save_state-6.ensures.saved
     c.save_state-7.ensures.saved))))))
 
@@ -37,7 +37,7 @@ returns-clause-sound c =
       timer = c.save_state-2.ensures.sound;
       clock = c.save_state-3.ensures.sound;
       triggers = c.save_state-4.ensures.sound;
-      system = c.save_state-5.ensures.sound;
+      plain = c.save_state-5.ensures.sound;
       wires = c.save_state-6.ensures.sound;
       irqs = c.save_state-7.ensures.sound;
     }))
