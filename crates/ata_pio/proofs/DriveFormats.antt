@@ -78,8 +78,10 @@ activity_from sectors zero sector word came some few at_most small long =
     (tt, spelled_same 0 0 sector 0 word [] came (omega arith) (omega arith) (sym (nil_from_length came long)))
 activity_from sectors (suc zero) sector word came some few at_most small long =
     (tt, spelled_same 1 0 sector 0 word [] came (omega arith) (omega arith) (sym (nil_from_length came long)))
-activity_from sectors (suc (suc zero)) sector word came some few at_most small long =
-    (omega (arith, small), spelled_same 2 0 sector word word [] came (omega arith) refl (sym (nil_from_length came long)))
+activity_from sectors (suc (suc zero)) sector word came some few at_most small long = (
+  omega (arith, small),
+  spelled_same 2 0 sector word word [] came (omega arith) refl (sym (nil_from_length came long)),
+)
 activity_from sectors (suc (suc (suc zero))) sector word came some few at_most small long = (
   (omega (arith, some, at_most), omega (arith, small)),
   spelled_same 3 sector sector word word [] came refl refl (sym (nil_from_length came long)),

@@ -57,7 +57,9 @@ medium_format : (fitted : List ℕ) →
     IsFormat (2 * length fitted + count_of fitted) (medium_fields fitted) (medium_bytes fitted) (IsMedium fitted)
 unfolding medium_fields
 medium_format fitted =
-    fields_format (pages_format sector_size fitted (omega arith) then λ bytes good. last_field _ (flags_format (count_of fitted)))
+    fields_format
+    (pages_format sector_size fitted (omega arith) then λ bytes good.
+    last_field _ (flags_format (count_of fitted)))
     (λ m is. ((m.bytes, is.bytes) & (m.bad, is.bad), refl))
     (λ t. (record { bytes = t.1; bad = t.2.1 }, refl))
 
@@ -86,7 +88,9 @@ pub disk_format : (fitted : List ℕ) → is_disk_length (length fitted) ≡ tru
 unfolding disk_fields
 disk_format fitted size =
     let has = sectors_of_length fitted size in
-    fields_format (drive_format (count_of fitted) has.some has.few then λ drive good. last_field _ (medium_format fitted))
+    fields_format
+    (drive_format (count_of fitted) has.some has.few then λ drive good.
+    last_field _ (medium_format fitted))
     (λ d is. ((d.drive, is.drive) & (d.medium, is.medium), refl))
     (λ t. (record { size = size; drive = t.1; medium = t.2.1 }, refl))
 
