@@ -108,7 +108,6 @@ denied_on_bus setup before (Port access) value target denial answer =
     subst (OfBus (IsDeniedExactly false)) (sym answer)
     (denied_port setup (byte_of setup before) (config_address before) (is_some setup.disk) access.port access.width)
 denied_on_bus setup before (LookAt kind addr smm) value target denial answer = absurd answer
-denied_on_bus setup before Ack value target denial answer = outside_right false _ (Bus value target denial) _ answer
 denied_on_bus setup before _ value target denial answer = outside_right false _ (Bus value target denial) _ answer
 
 abbrev IsRightPart : Bool → Part → Type 0
@@ -132,12 +131,8 @@ denied_from setup before access (suc most) addr left =
     elim (cases_Bool (left == 0)) [
       | inl none ↦ rw none (All-nil (IsRightPart (is_write access.kind)))
       | inr some ↦
-          subst (λ (parts : List Access). All (IsRightPart (is_write access.kind))
-          (map (part_answer setup before) parts))
-          (sym (cond-false (left == 0) [] (part ∷ later) some))
-          (All-cons (IsRightPart (is_write access.kind)) (part_answer setup before part)
-          (map (part_answer setup before) later)
-          (denied_part setup before part)
+          rw some (All-cons (IsRightPart (is_write access.kind)) (part_answer setup before part)
+          (map (part_answer setup before) later) (denied_part setup before part)
           (denied_from setup before access most (addr + bytes_of width) (left - bytes_of width)))
     ]
 

@@ -1,7 +1,7 @@
 -- An entry leaves the devices that its reply does not name, and with their drivers the lines.
-use Rattle.std.proofs.Common.{◌≡◌, Bool, false, List, ◌∷◌, Option, ◌∙◌, ap, inl, inr, unwrap_or}
+use Rattle.std.proofs.Common.{◌≡◌, Bool, false, List, ◌∷◌, Option, refl, ◌∙◌, ap, inl, inr, unwrap_or}
 use Rattle.board_prelude.proofs.Common.{cond-false, out_of, Entry, is_hard_reset, wire_of, irq_of, triggers_of}
-use Rattle.board_prelude.proofs.Common.{PlainPorts, plain_at_reset, plain_of, timer_of, timer_after, clock_of, disk_with, triggers-alone}
+use Rattle.board_prelude.proofs.Common.{plain_of, timer_of, timer_after, clock_of, disk_with, triggers-alone}
 use Rattle.board_prelude.proofs.Common.{system-alone, timer-alone, clock-alone, disk-alone, wire-alone, line-alone}
 use Rattle.board_prelude.proofs.Common.{out-alone, levels-same}
 use Rattle.board_laws.specs.DeviceLaws.{OthersStay, LinesStay}
@@ -10,27 +10,14 @@ pub others_stay : OthersStay
 unfolding timer_of plain_of triggers_of clock_of disk_with wire_of irq_of
 others_stay setup before entry next soft = record {
   timer = λ apart no_gate.
-      cond-false (is_hard_reset before entry.event) _ _ soft
-      ∙ timer-alone setup before entry.event entry.reply (timer_of before) next.answer apart no_gate;
-  system = λ apart.
-      ap (λ (plain : PlainPorts). plain.system)
-      (cond-false (is_hard_reset before entry.event) plain_at_reset _ soft)
-      ∙ system-alone entry.event entry.reply (plain_of before) apart;
-  triggers = λ apart.
-      cond-false (is_hard_reset before entry.event) _ _ soft
-      ∙ triggers-alone entry.event entry.reply (triggers_of before) apart;
-  clock = λ apart.
-      cond-false (is_hard_reset before entry.event) _ _ soft
-      ∙ clock-alone setup before entry.event entry.reply (clock_of before) next.answer apart;
+      rw soft (timer-alone setup before entry.event entry.reply (timer_of before) next.answer apart no_gate);
+  system = λ apart. rw soft (system-alone entry.event entry.reply (plain_of before) apart);
+  triggers = λ apart. rw soft (triggers-alone entry.event entry.reply (triggers_of before) apart);
+  clock = λ apart. rw soft (clock-alone setup before entry.event entry.reply (clock_of before) next.answer apart);
   disk = λ apart bytes.
-      cond-false (is_hard_reset before entry.event) _ _ soft
-      ∙ disk-alone setup before entry.event entry.reply (disk_with bytes before) next.answer apart;
-  wires = λ apart dev.
-      ap (λ (set : Option Bool). unwrap_or set (wire_of before dev))
-      (wire-alone setup before entry.event entry.reply dev next.answer apart);
-  lines = λ apart line.
-      ap (λ (set : Option Bool). unwrap_or set (irq_of before line))
-      (line-alone setup before entry.event entry.reply line next.answer apart);
+      rw soft (disk-alone setup before entry.event entry.reply (disk_with bytes before) next.answer apart);
+  wires = λ apart dev. rw (wire-alone setup before entry.event entry.reply dev next.answer apart) refl;
+  lines = λ apart line. rw (line-alone setup before entry.event entry.reply line next.answer apart) refl;
 }
 
 out-stays :

@@ -1,5 +1,5 @@
 -- Histories with the same map writes have the same map.
-use Rattle.std.proofs.Common.{◌≡◌, ℕ, ◌+◌, ◌-◌, ◌∙◌, Bool, true, false, List, sym, ap, inl, inr}
+use Rattle.std.proofs.Common.{◌≡◌, ℕ, ◌+◌, ◌-◌, ◌∙◌, Bool, true, false, List, refl, sym, ap, inl, inr}
 use Rattle.board_prelude.proofs.Common.{Kind, Fetch, Read, Write, Area, MapChange, Setup, byte_of, registers_after}
 use Rattle.board_prelude.proofs.Common.{Bytes, area_of, MapRange, IsFlatMapOf, IsSpan, six_areas, SameMapBytes}
 use Rattle.board_prelude.proofs.Common.{map_writes_decide, map_bytes_decide}
@@ -27,13 +27,8 @@ same_six :
     (setup : Setup) (bytes other : Bytes) → SameAreas setup bytes other → (addr : ℕ) →
     six_areas setup bytes addr ≡ six_areas setup other addr
 same_six setup bytes other same addr =
-    let a = same addr Fetch false in
-    let b = same addr Read false in
-    let c = same addr Write false in
-    let d = same addr Fetch true in
-    let e = same addr Read true in
-    let f = same addr Write true in
-    cc
+    rw (same addr Fetch false, same addr Read false, same addr Write false, same addr Fetch true, same addr Read true,
+      same addr Write true) refl
 
 same_flat_map :
     (setup : Setup) (bytes other : Bytes) → SameAreas setup bytes other → (ranges : List MapRange) →

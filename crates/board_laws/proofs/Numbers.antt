@@ -16,12 +16,9 @@ unfolding numbers_from
 find-number test from zero n above below here before = absurd (omega arith)
 find-number test from (suc count) n above below here before =
     elim (cases_eq from n) [
-      | inl first ↦
-          cond-true (test from) (Some from) _ (subst (λ (k : ℕ). test k ≡ true) (sym first) here)
-          ∙ ap (λ (k : ℕ). Some k) first
+      | inl first ↦ rw (first, here) refl
       | inr apart ↦
-          cond-false (test from) (Some from) _ (before from (omega arith))
-          ∙ find-number test (from + 1) count n (omega arith) (omega arith) here before
+          rw (before from (omega arith)) (find-number test (from + 1) count n (omega arith) (omega arith) here before)
     ]
 
 -- what a function gives at a place
@@ -42,7 +39,7 @@ unfolding numbers_from
 any-number test from zero n above below here = absurd (omega arith)
 any-number test from (suc count) n above below here =
     elim (cases_eq from n) [
-      | inl first ↦ rw (subst (λ (k : ℕ). test k ≡ true) (sym first) here) refl
+      | inl first ↦ rw (first, here) refl
       | inr apart ↦ or_right (test from) _ (any-number test (from + 1) count n (omega arith) (omega arith) here)
     ]
 

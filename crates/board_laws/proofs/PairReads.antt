@@ -1,6 +1,6 @@
 -- A read of one chip of the pair.
 use Rattle.std.proofs.Common.{◌≡◌, ℕ, Bool, true, false, cond, Option, Some, None, List, [], ◌∷◌, ◌++◌, refl, sym, ap}
-use Rattle.std.proofs.Common.{◌∙◌, inl, inr, is_some}
+use Rattle.std.proofs.Common.{subst, ◌∙◌, inl, inr, is_some}
 use Rattle.board_prelude.proofs.Common.{cases_Bool, Chip, pending, first_selectable, request, interrupt}
 use Rattle.board_prelude.proofs.Common.{acknowledged_if, chip_after_read, Pair, settled, pair_read, latched}
 use Rattle.board_prelude.proofs.Common.{settled-asks, settled-quiet}
@@ -35,22 +35,14 @@ still-quiet chip quiet =
 other-slave : (pair : Pair) (slave : Chip) (o : Option ℕ) → interrupt pair.slave ≡ o → settled pair ≡ pair →
     (interrupt pair.slave ≡ None → interrupt slave ≡ None) →
     (settled (record pair { slave = slave })).master ≡ pair.master
-other-slave pair slave None e is quiet =
-    ap (λ p. p.master) (settled-quiet (record pair { slave = slave }) (ap is_some (quiet e)))
+other-slave pair slave None e is quiet = rw (quiet e) refl
 other-slave pair slave (Some level) e is quiet =
     let held : (latched pair).master ≡ pair.master = ap (λ p. p.master) (sym (settled-asks pair (ap is_some e)) ∙ is) in
-    elim (cases_Bool (is_some (interrupt slave))) [
-      | inl asks ↦ ap (λ p. p.master) (settled-asks (record pair { slave = slave }) asks) ∙ held
-      | inr none ↦ ap (λ p. p.master) (settled-quiet (record pair { slave = slave }) none)
-    ]
+    elim (cases_Bool (is_some (interrupt slave))) [ inl asks ↦ rw asks held | inr none ↦ rw none refl ]
 
 pub reads-leave : ReadsLeaveTheOther
 reads-leave pair port = record {
-  slave = λ e. settled-slave (pair_read pair port)
-      ∙ ap (λ b. (cond b (record pair { slave = chip_after_read pair.slave })
-      (record pair { master = chip_after_read pair.master })).slave) e;
+  slave = λ e. rw e (settled-slave (record pair { master = chip_after_read pair.master }));
   master = λ e is.
-      ap (λ b. (settled (cond b (record pair { slave = chip_after_read pair.slave })
-      (record pair { master = chip_after_read pair.master }))).master) e
-      ∙ other-slave pair (chip_after_read pair.slave) (interrupt pair.slave) refl is (still-quiet pair.slave);
+      rw e (other-slave pair (chip_after_read pair.slave) (interrupt pair.slave) refl is (still-quiet pair.slave));
 }

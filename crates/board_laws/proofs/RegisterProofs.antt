@@ -6,6 +6,7 @@ use Rattle.board_prelude.proofs.Common.{bytes_of, Event, Port, Reply, Entry, Map
 use Rattle.board_prelude.proofs.Common.{is_hard_reset, is_config_port, config_register, config_store, config_address}
 use Rattle.board_prelude.proofs.Common.{covers, byte_with, byte_of, Bytes, Decoded, config_port, port_target_of}
 use Rattle.board_prelude.proofs.Common.{port_answer, IsAnswer, bytes_few}
+use Rattle.std.proofs.lemmas.Bool.{false_from_ne_true}
 use Rattle.board_laws.specs.RegisterLaws.{IsNear, TargetReaches, ReachesNear, RegistersStay}
 
 near_of : (named reg : Reg) (width : Width) → covers named width reg ≡ true → IsNear named reg
@@ -18,10 +19,7 @@ stored_elsewhere :
     (setup : Setup) (named reg : Reg) (width : Width) (value old : ℕ) → ¬ IsNear named reg →
     byte_with setup (Some (Store named width value)) reg old ≡ old
 stored_elsewhere setup named reg width value old far =
-    elim (cases_Bool (covers named width reg)) [
-      | inr outside ↦ cond-false (covers named width reg) _ old outside
-      | inl inside ↦ absurd (far (near_of named reg width inside))
-    ]
+    rw (false_from_ne_true (covers named width reg) (λ inside. far (near_of named reg width inside))) refl
 
 decoded-config :
     (setup : Setup) (bytes : Bytes) (address : ℕ) (disk : Bool) (port : ℕ) (width : Width) →
@@ -58,14 +56,10 @@ access_stays :
     byte_with setup (config_store setup (config_address before) (Port access)) reg old ≡ old
 access_stays setup before access reg old far =
     elim (cases_Bool (access.write && is_config_port access.port)) [
-      | inr not ↦
-          ap (λ (change : Option MapChange). byte_with setup change reg old)
-          (cond-false (access.write && is_config_port access.port) _ None not)
+      | inr not ↦ rw not refl
       | inl is ↦
-          ap (λ (change : Option MapChange). byte_with setup change reg old)
-          (cond-true (access.write && is_config_port access.port) _ None is)
-          ∙ store_stays setup before access reg old (config_register setup (config_address before) access.port)
-          (and_parts access.write (is_config_port access.port) is).1 refl far
+          rw is (store_stays setup before access reg old (config_register setup (config_address before) access.port)
+          (and_parts access.write (is_config_port access.port) is).1 refl far)
     ]
 
 event_stays :

@@ -2,9 +2,9 @@
 use Rattle.std.proofs.Common.{◌≡◌, ℕ, suc, ◌+◌, ◌-◌, ◌*◌, ◌/◌, ◌%◌, ◌^◌, ◌≤◌, ◌<◌, ◌⊎◌, inl, inr, true, List, [], ◌∷◌}
 use Rattle.std.proofs.Common.{Option, Some, None, refl, sym, ◌∙◌, ap, subst, arith, nat_lt, if◌then◌else◌, All, map}
 use Rattle.std.proofs.Common.{option_and_then}
-use Rattle.board_prelude.proofs.Common.{option_or, cases_lt, cond-true, cond-false, nat_tests, All-head, All-tail}
-use Rattle.board_prelude.proofs.Common.{Width, One, WideAccess, Target, Dram, Shadow, Smram, Card, bytes_of, Event}
-use Rattle.board_prelude.proofs.Common.{Wide, Part, Reply, Bus, Saw, Entry, Setup, byte, wide, part_at, parts_of}
+use Rattle.board_prelude.proofs.Common.{stored_of, option_or, cases_lt, cond-true, cond-false, nat_tests, All-head}
+use Rattle.board_prelude.proofs.Common.{All-tail, Width, One, WideAccess, Target, Dram, Shadow, Smram, Card, bytes_of}
+use Rattle.board_prelude.proofs.Common.{Event, Wide, Part, Reply, Bus, Saw, Entry, Setup, byte, wide, part_at, parts_of}
 use Rattle.board_prelude.proofs.Common.{joined, Cell, DramCell, CardCell, first_cell, distance, memory_put, parts_put}
 use Rattle.board_prelude.proofs.Common.{entry_put, is_write, dram_byte, memory_target, part_answer, value_at}
 use Rattle.board_prelude.proofs.Common.{wide_value, IsAnswer, made, total, is_cut, further}
@@ -31,9 +31,8 @@ joined-same :
     (f g : Access → ℕ) (parts : List Access) → All (λ part. f part ≡ g part) parts → joined f parts ≡ joined g parts
 joined-same f g [] same = refl
 joined-same f g (part ∷ later) same =
-    ap (λ (n : ℕ). n + 256 ^ bytes_of part.width * joined f later) (All-head (λ part. f part ≡ g part) part later same)
-    ∙ ap (λ (n : ℕ). g part + 256 ^ bytes_of part.width * n)
-    (joined-same f g later (All-tail (λ part. f part ≡ g part) part later same))
+    let here = All-head (λ part. f part ≡ g part) part later same in
+    rw (here, joined-same f g later (All-tail (λ part. f part ≡ g part) part later same)) refl
 
 low-part :
     (byte_at : ℕ → ℕ) (from : ℕ) (width : Width) (count : ℕ) →
@@ -80,13 +79,25 @@ memory_put-within :
     ≡ Some (byte access.value (addr - access.addr))
 memory_put-within access target addr writes lands from below = rw (writes, lands) (grind (arith, nat_tests))
 
-memory_put-outside :
-    (access : Access) (target : Target) (addr : ℕ) → is_write access.kind ≡ true → first_cell target access.addr
+-- a cell that is none of the bytes of DRAM from one address to another
+abbrev IsApart : (from to : ℕ) → Cell → Type 0
+IsApart from to (DramCell addr) = (addr < from) ⊎ (to ≤ addr)
+IsApart from to _ = Unit {0}
+
+apart-parts :
+    (cell : Cell) (from near far : ℕ) → IsApart from (from + (near + far)) cell →
+    IsApart from (from + near) cell × IsApart (from + near) (from + near + far) cell
+apart-parts (DramCell addr) from near far (inl below) = (inl below, inl (omega arith))
+apart-parts (DramCell addr) from near far (inr past) = (inr (omega arith), inr (omega arith))
+apart-parts (CardCell dev base off) from near far apart = (tt, tt)
+
+memory_put-apart :
+    (access : Access) (target : Target) (cell : Cell) → is_write access.kind ≡ true → first_cell target access.addr
     ≡ Some (DramCell access.addr) →
-    (addr < access.addr) ⊎ (access.addr + bytes_of access.width ≤ addr) → memory_put access target (DramCell addr)
-    ≡ None
-memory_put-outside access target addr writes lands (inl below) = rw (writes, lands) (grind (arith, nat_tests))
-memory_put-outside access target addr writes lands (inr past) = rw (writes, lands) (grind (arith, nat_tests))
+    IsApart access.addr (access.addr + bytes_of access.width) cell → memory_put access target cell ≡ None
+memory_put-apart access target (DramCell addr) writes lands (inl below) = rw (writes, lands) (grind (arith, nat_tests))
+memory_put-apart access target (DramCell addr) writes lands (inr past) = rw (writes, lands) (grind (arith, nat_tests))
+memory_put-apart access target (CardCell dev base off) writes lands apart = rw (writes, lands) refl
 
 -- byte k of the low bytes of a number is its own byte k
 byte-low : (width : Width) (n k : ℕ) → k < bytes_of width → byte (n % 256 ^ bytes_of width) k ≡ byte n k
@@ -113,34 +124,28 @@ Lands setup before part = first_cell (memory_target setup before part) part.addr
 abbrev put_by_parts : Setup → List Entry → List Access → Cell → Option ℕ
 put_by_parts setup before parts cell = parts_put parts (map (part_answer setup before) parts) cell
 
-abbrev put_of : Setup → List Entry → List Access → ℕ → Option ℕ
-put_of setup before parts addr = put_by_parts setup before parts (DramCell addr)
-
-put-outside :
-    (setup : Setup) (before : List Entry) (access : WideAccess) (from addr : ℕ) (widths : List Width) →
+put-apart :
+    (setup : Setup) (before : List Entry) (access : WideAccess) (from : ℕ) (cell : Cell) (widths : List Width) →
     is_write access.kind ≡ true →
-    All (Lands setup before) (made access from widths) → (addr < from) ⊎ (from + total widths ≤ addr) →
-    put_of setup before (made access from widths) addr ≡ None
+    All (Lands setup before) (made access from widths) → IsApart from (from + total widths) cell →
+    put_by_parts setup before (made access from widths) cell ≡ None
 unfolding made parts_put part_answer
-put-outside setup before access from addr [] writes lands apart = refl
-put-outside setup before access from addr (width ∷ later) writes lands apart =
+put-apart setup before access from cell [] writes lands apart = refl
+put-apart setup before access from cell (width ∷ later) writes lands apart =
     let part : Access = part_at access from width in
     let rest : List Access = made access (from + bytes_of width) later in
-    let here : (addr < from) ⊎ (from + bytes_of width ≤ addr) =
-    elim apart [ inl below ↦ inl below | inr past ↦ inr (omega arith) ] in
-    let after : (addr < from + bytes_of width) ⊎ (from + bytes_of width + total later ≤ addr) =
-    elim apart [ inl below ↦ inl (omega arith) | inr past ↦ inr (omega arith) ] in
-    ap (λ (put : Option ℕ). option_or put (memory_put part (memory_target setup before part) (DramCell addr)))
-    (put-outside setup before access (from + bytes_of width) addr later writes
-    (All-tail (Lands setup before) part rest lands) after)
-    ∙ memory_put-outside part (memory_target setup before part) addr writes
-    (All-head (Lands setup before) part rest lands) here
+    let both = apart-parts cell from (bytes_of width) (total later) apart in
+    rw (put-apart setup before access (from + bytes_of width) cell later writes
+      (All-tail (Lands setup before) part rest lands) both.1)
+    (memory_put-apart part (memory_target setup before part) cell writes
+    (All-head (Lands setup before) part rest lands) both.0)
 
 put-within :
     (setup : Setup) (before : List Entry) (access : WideAccess) (from addr : ℕ) (widths : List Width) →
     is_write access.kind ≡ true →
     All (Lands setup before) (made access from widths) → access.addr ≤ from → from ≤ addr → addr < from + total widths →
-    put_of setup before (made access from widths) addr ≡ Some (byte access.value (addr - access.addr))
+    put_by_parts setup before (made access from widths) (DramCell addr)
+    ≡ Some (byte access.value (addr - access.addr))
 unfolding made parts_put part_answer
 put-within setup before access from addr [] writes lands start above below = absurd (omega arith)
 put-within setup before access from addr (width ∷ later) writes lands start above below =
@@ -149,35 +154,14 @@ put-within setup before access from addr (width ∷ later) writes lands start ab
     let others : All (Lands setup before) rest = All-tail (Lands setup before) part rest lands in
     elim (cases_lt addr (from + bytes_of width)) [
       | inl here ↦
-          ap (λ (put : Option ℕ). option_or put (memory_put part (memory_target setup before part) (DramCell addr)))
-          (put-outside setup before access (from + bytes_of width) addr later writes others (inl here))
-          ∙ memory_put-within part (memory_target setup before part) addr writes
+          rw (put-apart setup before access (from + bytes_of width) (DramCell addr) later writes others (inl here))
+          (memory_put-within part (memory_target setup before part) addr writes
           (All-head (Lands setup before) part rest lands) above here
-          ∙ ap (λ (n : ℕ). Some n) (byte-part access from addr width start above here)
+          ∙ ap (λ (n : ℕ). Some n) (byte-part access from addr width start above here))
       | inr past ↦
-          ap (λ (put : Option ℕ). option_or put (memory_put part (memory_target setup before part) (DramCell addr)))
-          (put-within setup before access (from + bytes_of width) addr later writes others (omega arith) past
-          (omega arith))
+          rw (put-within setup before access (from + bytes_of width) addr later writes others (omega arith) past
+            (omega arith)) refl
     ]
-
--- the bytes of a card are none of these
-put-cards :
-    (setup : Setup) (before : List Entry) (access : WideAccess) (from dev base off : ℕ) (widths : List Width) →
-    is_write access.kind ≡ true → All (Lands setup before) (made access from widths) →
-    put_by_parts setup before (made access from widths) (CardCell dev base off) ≡ None
-unfolding made parts_put part_answer
-put-cards setup before access from dev base off [] writes lands = refl
-put-cards setup before access from dev base off (width ∷ later) writes lands =
-    let part : Access = part_at access from width in
-    let rest : List Access = made access (from + bytes_of width) later in
-    let cell : Cell = CardCell dev base off in
-    ap (λ (put : Option ℕ). option_or put (memory_put part (memory_target setup before part) cell))
-    (put-cards setup before access (from + bytes_of width) dev base off later writes
-    (All-tail (Lands setup before) part rest lands))
-    ∙ cond-true (is_write part.kind) _ None writes
-    ∙ ap (λ (first : Option Cell). option_and_then
-    (λ k. if nat_lt k (bytes_of part.width) then Some (byte part.value k) else None)
-    (option_and_then (λ it. distance it cell) first)) (All-head (Lands setup before) part rest lands)
 
 -- what the reply to a wide access puts in a cell
 put-answered :
@@ -203,6 +187,10 @@ wide_stored setup before entry access next is legal writes lands =
     ∙ put-answered setup before access entry.reply cell answer
     ∙ ap (λ (parts : List Access). put_by_parts setup before parts cell) cut.parts in
     let size : total cut.widths ≡ access.bytes = cut.total_is in
+    let left : (cell : Cell) → IsApart access.addr (access.addr + total cut.widths) cell →
+    stored_of (entry ∷ before) cell ≡ stored_of before cell =
+    λ cell apart.
+    stored-left entry before cell (put cell ∙ put-apart setup before access access.addr cell cut.widths writes landed apart) in
     record {
       within = λ k below.
           let place : access.addr + k - access.addr ≡ k = omega arith in
@@ -211,12 +199,6 @@ wide_stored setup before entry access next is legal writes lands =
           ∙ put-within setup before access access.addr (access.addr + k) cut.widths writes landed (omega arith)
           (omega arith) (omega arith)
           ∙ ap (λ (j : ℕ). Some (byte access.value j)) place);
-      outside = λ addr apart.
-          stored-left entry before (DramCell addr)
-          (put (DramCell addr) ∙ put-outside setup before access access.addr addr cut.widths writes landed
-          (elim apart [ inl below ↦ inl below | inr past ↦ inr (omega arith) ]));
-      cards = λ dev base off.
-          stored-left entry before (CardCell dev base off)
-          (put (CardCell dev base off)
-          ∙ put-cards setup before access access.addr dev base off cut.widths writes landed);
+      outside = λ addr apart. left (DramCell addr) (rw size apart);
+      cards = λ dev base off. left (CardCell dev base off) tt;
     }

@@ -16,6 +16,7 @@ pub mod machines;
 pub mod orders;
 
 /// The registers that the address map depends on are those after the map writes alone.
+#[tactic(auto, using(board_spec::proofs::MapWriteLaws::map_writes_decide))]
 pub fn law_map_registers()
     ensures decided { MapWritesDecide }
 {}
@@ -60,6 +61,7 @@ pub fn law_outside_bases()
 {}
 
 /// The SMRAM register after a write, bit by bit.
+#[tactic(auto, using(crate::proofs::SmramProofs::smram_by_bits))]
 pub fn law_smram()
     ensures bits { SmramByBits }
 {}
