@@ -6,3 +6,4 @@ pub mod Parts
 pub mod Places
 pub mod ReadLines
 pub mod ReadLogs
+pub mod StimulusWords
