@@ -2,6 +2,7 @@
 use Rattle.std.specs.Prelude.{ℕ, ◌≡◌, ◌≤◌, ◌%◌, ◌==◌, ◌↔◌, Bool, true, false, List, [], ◌∷◌, map, string_bytes, String}
 use Rattle.std.specs.Prelude.{Option, Some, None, option_map, codes, decimal, bytes_eq, if◌then◌else◌, ◌&&◌, nat_le}
 use Rattle.std.specs.Global.{Global}
+use Rattle.board_spec.specs.Stimuli.{last_sector}
 use Rattle.script_spec.specs.Numbers.{parse_decimal, parse_hex, ◌>>=◌}
 use Rattle.make_script.specs.Laws.{most_rounds}
 use Rattle.command_words.specs.declared.transfer.Transfer.{Transfer}
@@ -110,7 +111,7 @@ make_of _ = None
 
 abbrev pub is_transfer : Transfer → Bool
 is_transfer transfer =
-    transfer.table % 4 == 0 && nat_le transfer.lba 65_535 && nat_le 1 transfer.count && nat_le transfer.count 256
+    transfer.table % 4 == 0 && nat_le transfer.lba last_sector && nat_le 1 transfer.count && nat_le transfer.count 256
 
 -- a command of this transfer, where there is one
 abbrev pub dma_with : (script : List ℕ) → Transfer → Option Command

@@ -8,6 +8,7 @@ ghost use Rattle.command_words.specs.Words.{dma_of, IsCommand, WordsDecide, OneC
 ghost use Rattle.command_words.specs.Commands.{said_by};
 
 use crate::transfer::Transfer;
+use board_spec::stimulus::LAST_SECTOR;
 use script_lines::{parse_decimal, parse_hex};
 
 /// The usage text: the form of each command. Standard error gets it where the words are no command.
@@ -72,9 +73,6 @@ const ADDRESS_DIGITS: usize = 8;
 
 /// A descriptor table is at an address that is a multiple of this.
 const TABLE_ALIGNMENT: u32 = 4;
-
-/// The last sector of the largest disk.
-const LAST_SECTOR: u32 = 65_535;
 
 /// The most sectors that a transfer moves.
 const MOST_SECTORS: u32 = 256;

@@ -1,24 +1,9 @@
 -- What a line asks: a statement of a script, in range.
-use Rattle.std.specs.Prelude.{ℕ, ◌≡◌, true, ◌==◌, if◌then◌else◌, List, Option, Some, None, Bool, false}
-use Rattle.board_prelude.specs.Common.{Event, Wire as SetWire, Line as SetLine}
-use Rattle.script_spec.specs.Common.{HasForm, is_event_placed, IsNamed, ask, ◌>>=◌, if_byte}
+use Rattle.std.specs.Prelude.{ℕ, ◌≡◌, true, List}
+use Rattle.board_prelude.specs.Common.{Event}
+use Rattle.script_spec.specs.Common.{HasForm, is_event_placed, IsNamed, ask}
 use Rattle.script_lines.specs.declared.item.Asked.{Asked}
 use Rattle.script_lines.specs.Items.{asked_said}
-
-abbrev pub level_on : ℕ → Option Bool
-level_on level = if level == 0 then Some false else if level == 1 then Some true else None
-
-unfoldable pub wire_event : (dev level : ℕ) → Option Event
-wire_event dev level = do
-  dev ← if_byte dev
-  on ← level_on level
-  Some (SetWire dev on)
-
-unfoldable pub line_event : (irq level : ℕ) → Option Event
-line_event irq level = do
-  irq ← if_byte irq
-  on ← level_on level
-  Some (SetLine irq on)
 
 -- an event of a well-formed entry, whatever its digits are
 pub record IsPlacedEvent (event : Event) : Type 0 where

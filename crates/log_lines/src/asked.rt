@@ -3,45 +3,28 @@
 ghost use Rattle.std.specs.Prelude.{◌≡◌, ◌+◌, ◌↔◌, ℕ, IsTrue, MatchOption, nat_le};
 ghost use Rattle.board_prelude.specs.Common.{Event};
 ghost use Rattle.script_lines.specs.declared.item.Asked.{Asked};
-ghost use Rattle.log_lines.specs.Asked.{level_on, wire_event, line_event, IsPlacedEvent, IsEventOf, IsAsked};
+ghost use Rattle.log_lines.specs.Asked.{IsPlacedEvent, IsEventOf, IsAsked};
 
-use crate::cuts::if_byte;
 use board_base::{Moment, WideAccess};
-use board_spec::Event;
+use board_spec::{Event, Stimulus};
 use script_lines::{Asked, Item, MomentFields, parse_item};
 
 /// The first address past the last.
 const END: u64 = 1 << 32;
 
-/// Whether a line goes high.
-fn level_on(level: u32) -> Option<bool>
-    ensures level { result ≡ level_on level }
+/// The event of a stimulus, where its level is 0 or 1, and its number a byte if it has a level.
+fn stimulus_event(stimulus: Stimulus, number: u32, level: u32) -> Option<Event>
+    ensures event { MatchOption result
+        ((event : Event) → ¬ IsEventOf (Asked.Stimulus stimulus number level) event)
+        (IsEventOf (Asked.Stimulus stimulus number level)) }
 {
-    match level {
-        0 => Some(false),
-        1 => Some(true),
-        _ => None,
+    if level > 1 {
+        return None;
     }
-}
-
-/// The level of a card's INTA#, where the numbers are in range.
-#[tactic(auto, unfolding(crate::specs::Asked::wire_event))]
-fn wire_event(dev: u32, level: u32) -> Option<Event>
-    ensures event { result ≡ wire_event dev level }
-{
-    let dev = if_byte(dev)?;
-    let on = level_on(level)?;
-    Some(Event::Wire { dev, on })
-}
-
-/// The level of an interrupt line, where the numbers are in range.
-#[tactic(auto, unfolding(crate::specs::Asked::line_event))]
-fn line_event(irq: u32, level: u32) -> Option<Event>
-    ensures event { result ≡ line_event irq level }
-{
-    let irq = if_byte(irq)?;
-    let on = level_on(level)?;
-    Some(Event::Line { irq, on })
+    if stimulus.has_level() && number > 0xFF {
+        return None;
+    }
+    Some(stimulus.event(number, level == 1))
 }
 
 /// A moment of the calendar.
@@ -95,8 +78,11 @@ fn event_asked(asked: Asked) -> Option<Event>
     match asked {
         Asked::Event(event) => if_placed(event),
         Asked::Moment(moment) => time_event(moment),
-        Asked::Wire { dev, level } => wire_event(dev, level),
-        Asked::Line { irq, level } => line_event(irq, level),
+        Asked::Stimulus {
+            stimulus,
+            number,
+            level,
+        } => stimulus_event(stimulus, number, level),
     }
 }
 

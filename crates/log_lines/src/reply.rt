@@ -2,6 +2,7 @@
 
 ghost use Rattle.std.specs.Prelude.{◌≡◌, ◌≤◌, ◌<◌, ◌^◌, ◌∷◌, ℕ, false, length, IfSome};
 ghost use Rattle.board_prelude.specs.Common.{Reply, is_write, parts_of, outside_answer, space, value_bytes, reply_text};
+ghost use Rattle.board_prelude.specs.Common.{answers_outside};
 ghost use Rattle.script_spec.specs.Common.{IsDecimal, IsEventForm, IsReplyValue, IsBusReply, IsWideReply, IsLookReply};
 ghost use Rattle.script_spec.specs.Common.{HasShape, parse_decimal, parse_no_value, parse_value, parse_bus_reply};
 ghost use Rattle.script_spec.specs.Common.{parts_with, parse_wide_reply, parse_reply, parse_spaced_reply, IsNarrow};
@@ -172,6 +173,16 @@ fn outside(dev: Dev) -> Reply
     }
 }
 
+/// What answers an event from outside the bus: the clock, if it is no stimulus.
+fn answers_outside(event: &Event) -> Dev
+    ensures answers { result ≡ answers_outside event.now }
+{
+    match event.applied() {
+        Some(said) => said.stimulus.answers(),
+        None => Dev::Clock,
+    }
+}
+
 /// The reply to an event, by its words.
 #[tactic(auto, unfolding(script_spec::specs::Replies::parse_reply))]
 fn parse_reply(event: &Event, words: Fields<'_>) -> Option<Reply>
@@ -189,11 +200,7 @@ fn parse_reply(event: &Event, words: Fields<'_>) -> Option<Reply>
         Event::Port(access) => parse_bus_reply(access.write, access.width.bytes(), words),
         Event::Look { .. } => parse_look_reply(words),
         Event::Ack => parse_bus_reply(false, 1, words),
-        Event::Pulses(_) => Some(outside(Dev::Pit)),
-        Event::Time(_) => Some(outside(Dev::Clock)),
-        Event::Wire { .. } => Some(outside(Dev::Wires)),
-        Event::Line { .. } => Some(outside(Dev::Wires)),
-        Event::BadSector(_) => Some(outside(Dev::Ata)),
+        _ => Some(outside(answers_outside(event))),
     }
 }
 

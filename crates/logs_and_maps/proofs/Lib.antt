@@ -7,3 +7,4 @@ pub mod Parts
 pub mod Places
 pub mod ReadLines
 pub mod ReadLogs
+pub mod StimulusWords

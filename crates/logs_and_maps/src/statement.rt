@@ -1,17 +1,16 @@
 //! An event, as a script spells it.
 
 ghost use Rattle.std.specs.Prelude.{◌≡◌, [], ◌∷◌, ◌+◌, ◌++◌, ◌/◌, ◌%◌, ◌<◌, ◌≤◌, length, if◌then◌else◌, codes, decimal};
-ghost use Rattle.std.specs.Prelude.{IsAscii};
 ghost use Rattle.board_prelude.specs.Common.{space, hex_long, size_text, kind_text, written_text, smm_text};
 ghost use Rattle.board_prelude.specs.Common.{memory_text, access_text, wide_text, port_text, level_text, two_digits};
-ghost use Rattle.board_prelude.specs.Common.{moment_text, event_text};
+ghost use Rattle.board_prelude.specs.Common.{moment_text, event_text, option_map_or, stimulus_form, applied_text};
 ghost use Rattle.logs_and_maps.specs.Tails.{HasRoom, GrowsBy, HasShortValue};
 
 use crate::hex::{put_hex, put_hex_long, put_hex_word};
 use crate::tail::Tail;
-use crate::words::{put_numbered, put_two_digits};
+use crate::words::put_two_digits;
 use board_base::{Access, Kind, Moment, PortAccess, WideAccess};
-use board_spec::Event;
+use board_spec::{Applied, Event, Stimulus};
 
 /// The letter of a width in bytes.
 #[inline(always)]
@@ -209,32 +208,63 @@ fn put_time(line: &mut Tail, moment: Moment)
     line.put(b"moment ");
 }
 
-/// Puts words, the number of a line and the level that it takes.
-fn put_level(line: &mut Tail, words: &[u8], number: u8, on: bool)
-    requires ascii { IsAscii words.now }
-    requires short { length words.now ≤ 5 }
-    requires room { HasRoom line.old 30 }
-    ensures words { line.new ≡ words.now ++ decimal number ++ space ∷ level_text on ++ line.old }
-    ensures length { GrowsBy line.old line.new 10 }
+/// Puts a level, which is one digit.
+fn put_level(line: &mut Tail, on: bool)
+    requires room { HasRoom line.old 1 }
+    ensures words { line.new ≡ level_text on ++ line.old }
+    ensures length { GrowsBy line.old line.new 1 }
 {
     if on {
-        line.put(b" 1");
+        line.put(b"1");
     } else {
-        line.put(b" 0");
+        line.put(b"0");
     }
-    put_numbered(line, words, number);
 }
 
-/// Puts words and a count.
-fn put_count(line: &mut Tail, words: &[u8], count: u32)
-    requires ascii { IsAscii words.now }
-    requires short { length words.now ≤ 6 }
-    requires room { HasRoom line.old 26 }
-    ensures words { line.new ≡ words.now ++ decimal count ++ line.old }
-    ensures length { GrowsBy line.old line.new 26 }
+/// Puts the number of a stimulus, and its level where it has one.
+fn put_given(line: &mut Tail, has_level: bool, number: u32, on: bool)
+    requires room { HasRoom line.old 22 }
+    ensures words { line.new
+        ≡ (if has_level then decimal number ++ space ∷ level_text on else decimal number) ++ line.old }
+    ensures length { GrowsBy line.old line.new 22 }
 {
-    line.put_decimal(u64::from(count));
-    line.put(words);
+    if has_level {
+        put_level(line, on);
+        line.put(b" ");
+    }
+    line.put_decimal(u64::from(number));
+}
+
+/// Puts the word of a stimulus.
+#[tactic(auto, using(crate::proofs::StimulusWords::ascii_word, crate::proofs::StimulusWords::short_word))]
+fn put_word(line: &mut Tail, stimulus: Stimulus)
+    requires room { HasRoom line.old 6 }
+    ensures words { line.new ≡ (stimulus_form stimulus).word ++ line.old }
+    ensures length { GrowsBy line.old line.new 6 }
+{
+    line.put(stimulus.word().as_bytes());
+}
+
+/// Puts a stimulus, like `irq 5 1`.
+fn put_applied(line: &mut Tail, said: Applied)
+    requires room { HasRoom line.old 33 }
+    ensures words { line.new ≡ applied_text said ++ line.old }
+    ensures length { GrowsBy line.old line.new 33 }
+{
+    put_given(line, said.stimulus.has_level(), said.number, said.on);
+    line.put(b" ");
+    put_word(line, said.stimulus);
+}
+
+/// Puts the stimulus that was found, or nothing.
+fn put_found(line: &mut Tail, found: Option<Applied>)
+    requires room { HasRoom line.old 33 }
+    ensures words { line.new ≡ option_map_or applied_text found [] ++ line.old }
+    ensures length { GrowsBy line.old line.new 33 }
+{
+    if let Some(said) = found {
+        put_applied(line, said);
+    }
 }
 
 /// Puts an event as the statement that asks for it, without its processor.
@@ -251,10 +281,7 @@ pub(crate) fn put_event(line: &mut Tail, event: &Event)
         Event::Port(access) => put_port(line, access),
         Event::Look { kind, addr, smm } => put_look_at(line, *kind, *addr, *smm),
         Event::Ack => line.put(b"ack"),
-        Event::Pulses(count) => put_count(line, b"pulse ", *count),
         Event::Time(moment) => put_time(line, *moment),
-        Event::Wire { dev, on } => put_level(line, b"wire ", *dev, *on),
-        Event::Line { irq, on } => put_level(line, b"irq ", *irq, *on),
-        Event::BadSector(sector) => put_count(line, b"bad ", *sector),
+        _ => put_found(line, event.applied()),
     }
 }

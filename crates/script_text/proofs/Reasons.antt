@@ -1,10 +1,10 @@
 -- The least reason for an item, by what is kept of the lines before it.
 use Rattle.std.proofs.Common.{ℕ, ◌≡◌, ◌+◌, ◌<◌, ◌≤◌, Bool, true, false, not, ◌&&◌, ◌||◌, Option, Some, None, Result, Ok}
 use Rattle.std.proofs.Common.{Err, List, [], ◌∷◌, length, filter, flat_map, sum_by, refl, sym, ap, ◌∙◌, arith, ◌==◌}
-use Rattle.std.proofs.Common.{nat_le, nat_lt, is_some, if◌then◌else◌, codes}
+use Rattle.std.proofs.Common.{nat_le, nat_lt, is_some, if◌then◌else◌}
 use Rattle.board_prelude.proofs.Common.{option_map, find, list_any, false≢true, le-ltb, lt-ltb, leb-true, or_right}
 use Rattle.board_prelude.proofs.Common.{and_parts, none-some, sum_by-append, sum_by-cons, Event}
-use Rattle.board_prelude.proofs.Common.{Pulses, Time, Wire, Line, Statement, FittedCard, memory_size}
+use Rattle.board_prelude.proofs.Common.{Pulses, Time, Stimulus, event_applied, Statement, FittedCard, memory_size}
 use Rattle.board_prelude.proofs.Common.{memory_of_cards}
 use Rattle.std.specs.Result.{IsErr, IsErrAnd}
 use Rattle.std.proofs.lemmas.List.Sorted.{list_any-IsPermutation}
@@ -16,8 +16,7 @@ use Rattle.script_spec.specs.Common.{pulses_of, passes_limits, least_reason, ask
 use Rattle.script_spec.proofs.ReadingLaws.{same_some}
 use Rattle.script_spec.proofs.LeastReasons.{first_is}
 use Rattle.script_lines.specs.declared.item.Asked.{Asked}
-use Rattle.script_lines.specs.declared.item.Asked.TheVariants.{Event as AnEvent, Moment as AMoment, Wire as WireAt}
-use Rattle.script_lines.specs.declared.item.Asked.TheVariants.{Line as LineAt}
+use Rattle.script_lines.specs.declared.item.Asked.TheVariants.{Event as AnEvent, Moment as AMoment, Stimulus as Applies}
 use Rattle.script_lines.specs.Items.{asked_said, moment_said}
 use Rattle.script_text.specs.declared.fault.Reason.{Reason}
 use Rattle.script_text.specs.declared.reading.Reading.{Reading}
@@ -182,18 +181,16 @@ of_level P false true low high other p q r = q
 of_level P false false low high other p q r = r
 
 asked_all : (P : Item → Type 0) → ((statement : Statement) → P (Ask statement)) →
-    ((actor : ℕ) (verb : List ℕ) (number level : ℕ) → P (AskLevel actor verb number level)) →
+    ((actor : ℕ) (one : Stimulus) (number level : ℕ) → P (AskLevel actor one number level)) →
     (actor : ℕ) (asked : Asked) → P (asked_said actor asked)
 asked_all P asks levels actor (AnEvent event) = asks (record { actor = actor; event = event })
 asked_all P asks levels actor (AMoment moment) = asks (record { actor = actor; event = Time (moment_said moment) })
-asked_all P asks levels actor (WireAt dev level) =
-    of_level P (level == 0) (level == 1) (ask actor (Wire dev false)) (ask actor (Wire dev true))
-    (AskLevel actor (codes "wire") dev level) (asks (record { actor = actor; event = Wire dev false }))
-    (asks (record { actor = actor; event = Wire dev true })) (levels actor (codes "wire") dev level)
-asked_all P asks levels actor (LineAt irq level) =
-    of_level P (level == 0) (level == 1) (ask actor (Line irq false)) (ask actor (Line irq true))
-    (AskLevel actor (codes "irq") irq level) (asks (record { actor = actor; event = Line irq false }))
-    (asks (record { actor = actor; event = Line irq true })) (levels actor (codes "irq") irq level)
+asked_all P asks levels actor (Applies one number level) =
+    let off : Event = event_applied one number false in
+    let on : Event = event_applied one number true in
+    of_level P (level == 0) (level == 1) (ask actor off) (ask actor on) (AskLevel actor one number level)
+    (asks (record { actor = actor; event = off })) (asks (record { actor = actor; event = on }))
+    (levels actor one number level)
 
 -- of what a statement asks, in range or not
 pub asked_place : (items : List Item) (actor : ℕ) (asked : Asked) (any : Bool) → list_any is_phase items ≡ any →
@@ -201,17 +198,17 @@ pub asked_place : (items : List Item) (actor : ℕ) (asked : Asked) (any : Bool)
 asked_place items actor asked any e =
     asked_all (λ item. is_misplaced items item ≡ not any)
     (λ statement. statement_place items (Ask statement) any refl refl e)
-    (λ n verb number level. statement_place items (AskLevel n verb number level) any refl refl e) actor asked
+    (λ n one number level. statement_place items (AskLevel n one number level) any refl refl e) actor asked
 
 pub asked_repeated : (items : List Item) (actor : ℕ) (asked : Asked)
     → is_repeated items (asked_said actor asked) ≡ false
 asked_repeated items actor asked =
-    asked_all (λ item. is_repeated items item ≡ false) (λ statement. refl) (λ n verb number level. refl) actor asked
+    asked_all (λ item. is_repeated items item ≡ false) (λ statement. refl) (λ n one number level. refl) actor asked
 
 pub asked_begun : (items : List Item) (actor : ℕ) (asked : Asked) →
     (is_phase (asked_said actor asked) && lacks_setup items) ≡ false
 asked_begun items actor asked =
-    asked_all (λ item. (is_phase item && lacks_setup items) ≡ false) (λ statement. refl) (λ n verb number level. refl)
+    asked_all (λ item. (is_phase item && lacks_setup items) ≡ false) (λ statement. refl) (λ n one number level. refl)
     actor asked
 
 pub few_pulses : (event : Event) → is_event_in_range event ≡ true → pulses_of_event event ≤ 1_000_000

@@ -81,15 +81,7 @@ impl Reading {
     {
         match event {
             Event::Wire { dev, .. } => self.has_card(u32::from(*dev)),
-            Event::Memory(_)
-            | Event::Wide(_)
-            | Event::Port(_)
-            | Event::Look { .. }
-            | Event::Ack
-            | Event::Pulses(_)
-            | Event::Time(_)
-            | Event::Line { .. }
-            | Event::BadSector(_) => true,
+            _ => true,
         }
     }
 

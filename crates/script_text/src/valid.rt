@@ -1,8 +1,8 @@
 //! Items with their numbers in range.
 
-ghost use Rattle.std.specs.Prelude.{◌≡◌, ◌≤◌, ℕ, length, map, option_map, IfSome};
-ghost use Rattle.board_prelude.specs.Common.{list_all, is_free_line, IsCard, is_within, is_base_in_range};
-ghost use Rattle.board_prelude.specs.Common.{is_rom_in_range, is_moment};
+ghost use Rattle.std.specs.Prelude.{◌≡◌, ◌≤◌, ℕ, true, length, map, option_map, IfSome};
+ghost use Rattle.board_prelude.specs.Common.{list_all, option_map_or, IsCard, is_within, is_base_in_range};
+ghost use Rattle.board_prelude.specs.Common.{is_rom_in_range, is_moment, stimulus_form};
 ghost use Rattle.pci_bars.specs.Bases.{base_of};
 ghost use Rattle.script_spec.specs.Common.{is_card_in_range, is_event_in_range, is_event_placed, is_in_range};
 ghost use Rattle.script_spec.specs.Common.{pulses_of_event, ask};
@@ -11,14 +11,10 @@ ghost use Rattle.script_text.specs.Valid.{in_case};
 
 use arrayvec::ArrayVec;
 use board_base::Moment;
-use board_spec::{Event, Statement};
+use board_spec::stimulus::{FIRST_CARD, LAST_CARD};
+use board_spec::{Applied, Event, Statement, Stimulus};
 use pci_bars::{BASE_COUNT, BaseSpec, CardSpec};
 use script_lines::{Asked, BaseField, CardFields, MomentFields};
-
-/// The device numbers of cards.
-const FIRST_DEVICE: u32 = 2;
-
-const LAST_DEVICE: u32 = 9;
 
 /// The powers of two of memory bases: 16 bytes to 16 MiB.
 const LEAST_MEMORY_BITS: u32 = 4;
@@ -34,12 +30,6 @@ const MOST_PORTS: u32 = 8;
 const LEAST_ROM: u32 = 11;
 
 const MOST_ROM: u32 = 24;
-
-/// The most pulses of one statement.
-const MOST_PULSES_AT_ONCE: u32 = 1_000_000;
-
-/// The last sector of the largest disk.
-const LAST_SECTOR: u32 = 0xFFFF;
 
 /// One more than the last address.
 const END: u64 = 0x1_0000_0000;
@@ -136,7 +126,7 @@ pub(crate) fn valid_card(fields: &CardFields) -> Option<CardSpec>
     ensures card { result ≡ in_case (is_card_in_range (card_said fields.now)) (card_said fields.now) }
     ensures fits { IfSome result IsCard }
 {
-    if !is_within(FIRST_DEVICE, LAST_DEVICE, fields.dev) {
+    if !is_within(FIRST_CARD, LAST_CARD, fields.dev) {
         return None;
     }
     let bases = valid_bases(&fields.bases)?;
@@ -150,13 +140,6 @@ pub(crate) fn valid_card(fields: &CardFields) -> Option<CardSpec>
 }
 
 // ---- events
-
-/// The interrupt lines that a statement can set: those that no part of the board drives.
-fn is_free_line(irq: u32) -> bool
-    ensures free { result ≡ is_free_line irq }
-{
-    matches!(irq, 1 | 3..=7 | 9..=12 | 15)
-}
 
 /// Whether the calendar and the clock have this moment.
 fn is_moment(moment: &Moment) -> bool
@@ -176,19 +159,27 @@ fn is_moment(moment: &Moment) -> bool
     Moment::new(year, month, day, hour, minute, second).is_some()
 }
 
+/// Whether a stimulus has a number that it can have.
+fn has_its_number(said: Option<Applied>) -> bool
+    ensures in_range { result
+        ≡ option_map_or (λ said. (stimulus_form said.stimulus).numbers said.number) said true }
+{
+    match said {
+        Some(said) => said.stimulus.has_number(said.number),
+        None => true,
+    }
+}
+
 /// Whether the numbers of an event are in range.
 #[inline(always)]
 fn is_event_in_range(event: &Event) -> bool
     ensures in_range { result ≡ is_event_in_range event.now }
 {
     match event {
-        Event::Pulses(count) => is_within(1, MOST_PULSES_AT_ONCE, *count),
-        Event::Time(moment) => is_moment(moment),
-        Event::Wire { dev, .. } => is_within(FIRST_DEVICE, LAST_DEVICE, u32::from(*dev)),
-        Event::Line { irq, .. } => is_free_line(u32::from(*irq)),
-        Event::BadSector(sector) => *sector <= LAST_SECTOR,
         Event::Memory(_) | Event::Wide(_) | Event::Port(_) | Event::Look { .. } | Event::Ack =>
             true,
+        Event::Time(moment) => is_moment(moment),
+        _ => has_its_number(event.applied()),
     }
 }
 
@@ -218,30 +209,15 @@ fn valid_time(fields: MomentFields) -> Option<Event>
     Some(Event::Time(moment))
 }
 
-fn valid_wire(dev: u32, level: u32) -> Option<Event>
+fn valid_stimulus(stimulus: Stimulus, number: u32, level: u32) -> Option<Event>
     ensures event { (actor : ℕ) → option_map (ask actor) result
-        ≡ in_case (is_in_range (asked_said actor (Asked.Wire dev level))) (asked_said actor (Asked.Wire dev level)) }
+        ≡ in_case (is_in_range (asked_said actor (Asked.Stimulus stimulus number level)))
+        (asked_said actor (Asked.Stimulus stimulus number level)) }
 {
-    if !is_within(FIRST_DEVICE, LAST_DEVICE, dev) || level > 1 {
+    if !stimulus.has_number(number) || level > 1 {
         return None;
     }
-    Some(Event::Wire {
-        dev: dev as u8,
-        on: level == 1,
-    })
-}
-
-fn valid_line(irq: u32, level: u32) -> Option<Event>
-    ensures event { (actor : ℕ) → option_map (ask actor) result
-        ≡ in_case (is_in_range (asked_said actor (Asked.Line irq level))) (asked_said actor (Asked.Line irq level)) }
-{
-    if !is_free_line(irq) || level > 1 {
-        return None;
-    }
-    Some(Event::Line {
-        irq: irq as u8,
-        on: level == 1,
-    })
+    Some(stimulus.event(number, level == 1))
 }
 
 /// The event of a statement, where its numbers are in range.
@@ -253,8 +229,11 @@ pub(crate) fn valid_event(asked: Asked) -> Option<Event>
     match asked {
         Asked::Event(event) => event_in_range(event),
         Asked::Moment(fields) => valid_time(fields),
-        Asked::Wire { dev, level } => valid_wire(dev, level),
-        Asked::Line { irq, level } => valid_line(irq, level),
+        Asked::Stimulus {
+            stimulus,
+            number,
+            level,
+        } => valid_stimulus(stimulus, number, level),
     }
 }
 
@@ -267,13 +246,7 @@ pub(crate) fn is_placed(event: &Event) -> bool
         Event::Memory(access) => access.addr % access.width.bytes() == 0,
         Event::Wide(access) => u64::from(access.addr) + u64::from(access.bytes) <= END,
         Event::Port(access) => u32::from(access.port) % access.width.bytes() == 0,
-        Event::Look { .. }
-        | Event::Ack
-        | Event::Pulses(_)
-        | Event::Time(_)
-        | Event::Wire { .. }
-        | Event::Line { .. }
-        | Event::BadSector(_) => true,
+        _ => true,
     }
 }
 
@@ -283,14 +256,6 @@ pub(crate) fn pulses_of(event: &Event) -> u32
 {
     match event {
         Event::Pulses(count) => *count,
-        Event::Memory(_)
-        | Event::Wide(_)
-        | Event::Port(_)
-        | Event::Look { .. }
-        | Event::Ack
-        | Event::Time(_)
-        | Event::Wire { .. }
-        | Event::Line { .. }
-        | Event::BadSector(_) => 0,
+        _ => 0,
     }
 }
