@@ -4,8 +4,9 @@ use Rattle.std.proofs.Common.{◌∷◌, ◌==◌, nat_lt, option_map, if◌then
 use Rattle.board_prelude.proofs.Common.{nat_tests, Reg, Denial, Register, NoRegister, lies_in, selectable_bios}
 use Rattle.board_prelude.proofs.Common.{expansion_range, largest_top, Window, first_of, line_where, is_smram_range}
 use Rattle.board_prelude.proofs.Common.{command_of, rom_register_of, pam_register, abort_denial, drb}
-use Rattle.board_prelude.proofs.Common.{xbcs as select_register, smram as smram_register, fdhc as hole_register}
+use Rattle.board_prelude.proofs.Common.{xbcs as select_register, smram as smram_register}
 use Rattle.addr_decode.specs.Memory.{board_denial, card_denial}
+use Rattle.addr_decode.specs.Singles.{hole_denial}
 
 abbrev pub after_board : Option Denial → (shut rom : Option Window) → ℕ → Denial
 after_board (Some denial) shut rom addr = denial
@@ -17,25 +18,24 @@ rest shut rom dram =
     first_of (option_map command_of shut ∷ option_map rom_register_of rom ∷ line_where dram (Register (drb 7)) ∷ [])
     NoRegister
 
-abbrev lines : (high smram windows some low dram : Bool) → Reg → (shut rom : Option Window) → Denial
-lines high smram windows some low dram pam shut rom =
+abbrev lines : (high smram windows some low dram : Bool) → Reg → (hole : Denial) → (shut rom : Option Window) → Denial
+lines high smram windows some low dram pam hole shut rom =
     first_of
     (line_where high (Register select_register)
     ∷ line_where (smram && some) (Register smram_register)
     ∷ line_where (windows && some) (Register pam)
-    ∷ line_where low (Register hole_register)
+    ∷ line_where low hole
     ∷ option_map command_of shut
     ∷ option_map rom_register_of rom
     ∷ line_where dram (Register (drb 7))
     ∷ [])
     NoRegister
 
-abbrev board : (high none smram windows low : Bool) → Reg → Option Denial
-board high none smram windows low pam =
+abbrev board : (high none smram windows low : Bool) → Reg → (hole : Denial) → Option Denial
+board high none smram windows low pam hole =
     if high then Some (Register select_register) else
     if none then None else
-    if smram then Some (Register smram_register) else if windows then Some (Register pam) else line_where low
-    (Register hole_register)
+    if smram then Some (Register smram_register) else if windows then Some (Register pam) else line_where low hole
 
 by_dram : (dram : Bool) → rest None None dram ≡ (if dram then Register (drb 7) else NoRegister)
 by_dram true = refl
@@ -48,20 +48,20 @@ rest_in_order None (Some window) addr = refl
 rest_in_order None None addr = by_dram (nat_lt addr largest_top)
 
 in_order :
-    (high none smram windows some low : Bool) (pam : Reg) (shut rom : Option Window) (addr : ℕ) →
+    (high none smram windows some low : Bool) (pam : Reg) (hole : Denial) (shut rom : Option Window) (addr : ℕ) →
     some ≡ not none → (none && low) ≡ false →
-    lines high smram windows some low (nat_lt addr largest_top) pam shut rom
-    ≡ after_board (board high none smram windows low pam) shut rom addr
-in_order true none smram windows some low pam shut rom addr has apart = refl
-in_order false true true true some false pam shut rom addr has apart = rw has (rest_in_order shut rom addr)
-in_order false true true false some false pam shut rom addr has apart = rw has (rest_in_order shut rom addr)
-in_order false true false true some false pam shut rom addr has apart = rw has (rest_in_order shut rom addr)
-in_order false true false false some false pam shut rom addr has apart = rest_in_order shut rom addr
-in_order false true smram windows some true pam shut rom addr has apart = cc
-in_order false false true windows some low pam shut rom addr has apart = rw has refl
-in_order false false false true some low pam shut rom addr has apart = rw has refl
-in_order false false false false some true pam shut rom addr has apart = refl
-in_order false false false false some false pam shut rom addr has apart = rest_in_order shut rom addr
+    lines high smram windows some low (nat_lt addr largest_top) pam hole shut rom
+    ≡ after_board (board high none smram windows low pam hole) shut rom addr
+in_order true none smram windows some low pam hole shut rom addr has apart = refl
+in_order false true true true some false pam hole shut rom addr has apart = rw has (rest_in_order shut rom addr)
+in_order false true true false some false pam hole shut rom addr has apart = rw has (rest_in_order shut rom addr)
+in_order false true false true some false pam hole shut rom addr has apart = rw has (rest_in_order shut rom addr)
+in_order false true false false some false pam hole shut rom addr has apart = rest_in_order shut rom addr
+in_order false true smram windows some true pam hole shut rom addr has apart = cc
+in_order false false true windows some low pam hole shut rom addr has apart = rw has refl
+in_order false false false true some low pam hole shut rom addr has apart = rw has refl
+in_order false false false false some true pam hole shut rom addr has apart = refl
+in_order false false false false some false pam hole shut rom addr has apart = rest_in_order shut rom addr
 
 some_dram : (top : ℕ) → nat_lt 0 top ≡ not (top == 0)
 some_dram top = grind (arith, nat_tests)
@@ -76,7 +76,7 @@ unfolding board_denial
 denials_in_order top shut rom addr =
     in_order (lies_in selectable_bios addr) (top == 0) (is_smram_range addr) (lies_in expansion_range addr)
     (nat_lt 0 top) (nat_lt addr top)
-    (pam_register addr) shut rom addr (some_dram top) (none_below top addr)
+    (pam_register addr) (hole_denial addr) shut rom addr (some_dram top) (none_below top addr)
 
 -- a register of the board denies
 pub board_denies : (top by addr : ℕ) (shut rom : Option Window) (denial : Denial) →

@@ -1,7 +1,8 @@
 -- Between two edges all addresses have the same areas.
-use Rattle.std.proofs.Common.{◌≡◌, ℕ, zero, suc, ◌+◌, ◌-◌, ◌*◌, ◌/◌, ◌^◌, ◌<◌, ◌≤◌, inl, inr, Bool, true, false, List}
-use Rattle.std.proofs.Common.{[], ◌∷◌, ◌++◌, Option, Some, None, refl, arith, ◌==◌, nat_lt, nat_le, All, flat_map}
+use Rattle.std.proofs.Common.{◌≡◌, ℕ, ◌+◌, ◌-◌, ◌*◌, ◌/◌, ◌^◌, ◌<◌, ◌≤◌, inl, inr, Bool, true, false, List}
+use Rattle.std.proofs.Common.{[], ◌∷◌, ◌++◌, Option, Some, None, refl, sym, rules, arith, ◌==◌, nat_lt, nat_le, All, flat_map}
 use Rattle.std.proofs.Common.{unwrap_or, if◌then◌else◌, slice_index_or, IfSome, IsNone}
+use Rattle.board_prelude.proofs.Common.{eqb-true, list_any, each_below}
 use Rattle.board_prelude.proofs.Common.{Contains, AllByRecursion, enumerate_from, cases_Bool, cases_lt, nat_tests}
 use Rattle.board_prelude.proofs.Common.{pow_pos, recursion_from_All, Kind, Fetch, Read, Write, Reg, Base, MemoryBase}
 use Rattle.board_prelude.proofs.Common.{IoBase, OutsideBase, FittedCard, Setup, lies_in, smram_range, upper_memory}
@@ -30,14 +31,22 @@ record Between (setup : Setup) (bytes : Bytes) (addr x : ℕ) : Type 0 where
   pub last : x < address_count
   pub clear : (edge : ℕ) → Contains (edges_of setup bytes) edge → Clear addr x edge
 
+edge_listed : (edge : ℕ) (edges : List ℕ) → list_any (λ other. edge == other) edges ≡ true → Contains edges edge
+edge_listed edge [] is = absurd (cc)
+edge_listed edge (first ∷ later) is =
+    elim (cases_Bool (edge == first)) [
+      | inl here ↦ (0, omega arith, sym (eqb-true edge first here))
+      | inr not_here ↦ Contains-append_right (first ∷ []) later edge (edge_listed edge later (rw not_here at is))
+    ]
+
 fixed_clear :
-    (setup : Setup) (bytes : Bytes) (addr x k edge : ℕ) → Between setup bytes addr x → k < 21 →
-    slice_index_or fixed_edges k edge ≡ edge → Clear addr x edge
-unfolding edges_of fixed_edges
-fixed_clear setup bytes addr x k edge between within is =
+    (setup : Setup) (bytes : Bytes) (addr x edge : ℕ) → Between setup bytes addr x →
+    list_any (λ other. edge == other) fixed_edges ≡ true → Clear addr x edge
+unfolding edges_of
+fixed_clear setup bytes addr x edge between is =
     between.clear edge
     (Contains-append_left fixed_edges (row_edges bytes ++ flat_map (card_edges bytes) setup.cards) edge
-    (k, omega arith, is))
+    (edge_listed edge fixed_edges is))
 
 row_clear :
     (setup : Setup) (bytes : Bytes) (addr x k edge : ℕ) → Between setup bytes addr x → k < 8 →
@@ -68,8 +77,8 @@ smram_range_same :
 unfolding fixed_edges
 smram_range_same setup bytes addr x between =
     within_same smram_range.0 smram_range.1 addr x between.order
-    (fixed_clear setup bytes addr x 1 0xA_0000 between (omega arith) refl)
-    (fixed_clear setup bytes addr x 2 0xC_0000 between (omega arith) refl)
+    (fixed_clear setup bytes addr x 0xA_0000 between refl)
+    (fixed_clear setup bytes addr x 0xC_0000 between refl)
 
 upper_memory_same :
     (setup : Setup) (bytes : Bytes) (addr x : ℕ) → Between setup bytes addr x →
@@ -77,8 +86,8 @@ upper_memory_same :
 unfolding fixed_edges
 upper_memory_same setup bytes addr x between =
     within_same upper_memory.0 upper_memory.1 addr x between.order
-    (fixed_clear setup bytes addr x 1 0xA_0000 between (omega arith) refl)
-    (fixed_clear setup bytes addr x 15 0x10_0000 between (omega arith) refl)
+    (fixed_clear setup bytes addr x 0xA_0000 between refl)
+    (fixed_clear setup bytes addr x 0x10_0000 between refl)
 
 shadow_range_same :
     (setup : Setup) (bytes : Bytes) (addr x : ℕ) → Between setup bytes addr x →
@@ -86,8 +95,8 @@ shadow_range_same :
 unfolding fixed_edges
 shadow_range_same setup bytes addr x between =
     within_same shadow_range.0 shadow_range.1 addr x between.order
-    (fixed_clear setup bytes addr x 2 0xC_0000 between (omega arith) refl)
-    (fixed_clear setup bytes addr x 15 0x10_0000 between (omega arith) refl)
+    (fixed_clear setup bytes addr x 0xC_0000 between refl)
+    (fixed_clear setup bytes addr x 0x10_0000 between refl)
 
 low_hole_same :
     (setup : Setup) (bytes : Bytes) (addr x : ℕ) → Between setup bytes addr x →
@@ -95,8 +104,8 @@ low_hole_same :
 unfolding fixed_edges
 low_hole_same setup bytes addr x between =
     within_same hole_at_512_kib.0 hole_at_512_kib.1 addr x between.order
-    (fixed_clear setup bytes addr x 0 0x8_0000 between (omega arith) refl)
-    (fixed_clear setup bytes addr x 1 0xA_0000 between (omega arith) refl)
+    (fixed_clear setup bytes addr x 0x8_0000 between refl)
+    (fixed_clear setup bytes addr x 0xA_0000 between refl)
 
 high_hole_same :
     (setup : Setup) (bytes : Bytes) (addr x : ℕ) → Between setup bytes addr x →
@@ -104,8 +113,8 @@ high_hole_same :
 unfolding fixed_edges
 high_hole_same setup bytes addr x between =
     within_same hole_at_15_mib.0 hole_at_15_mib.1 addr x between.order
-    (fixed_clear setup bytes addr x 16 0xF0_0000 between (omega arith) refl)
-    (fixed_clear setup bytes addr x 17 0x100_0000 between (omega arith) refl)
+    (fixed_clear setup bytes addr x 0xF0_0000 between refl)
+    (fixed_clear setup bytes addr x 0x100_0000 between refl)
 
 hole_same :
     (setup : Setup) (bytes : Bytes) (addr x : ℕ) → Between setup bytes addr x →
@@ -129,51 +138,31 @@ unfolding fixed_edges
 rom_same setup bytes addr x xbcs between =
     rw (
       within_same system_bios.0 system_bios.1 addr x between.order
-          (fixed_clear setup bytes addr x 14 0xF_0000 between (omega arith) refl)
-          (fixed_clear setup bytes addr x 15 0x10_0000 between (omega arith) refl),
+          (fixed_clear setup bytes addr x 0xF_0000 between refl)
+          (fixed_clear setup bytes addr x 0x10_0000 between refl),
       within_same high_bios.0 high_bios.1 addr x between.order
-          (fixed_clear setup bytes addr x 20 0xFFFF_0000 between (omega arith) refl) (λ _. between.last),
+          (fixed_clear setup bytes addr x 0xFFFF_0000 between refl) (λ _. between.last),
       within_same lower_bios.0 lower_bios.1 addr x between.order
-          (fixed_clear setup bytes addr x 10 0xE_0000 between (omega arith) refl)
-          (fixed_clear setup bytes addr x 14 0xF_0000 between (omega arith) refl),
+          (fixed_clear setup bytes addr x 0xE_0000 between refl)
+          (fixed_clear setup bytes addr x 0xF_0000 between refl),
       within_same lower_high_bios.0 lower_high_bios.1 addr x between.order
-          (fixed_clear setup bytes addr x 19 0xFFFE_0000 between (omega arith) refl)
-          (fixed_clear setup bytes addr x 20 0xFFFF_0000 between (omega arith) refl),
+          (fixed_clear setup bytes addr x 0xFFFE_0000 between refl)
+          (fixed_clear setup bytes addr x 0xFFFF_0000 between refl),
       within_same extended_bios.0 extended_bios.1 addr x between.order
-          (fixed_clear setup bytes addr x 18 0xFFF8_0000 between (omega arith) refl)
-          (fixed_clear setup bytes addr x 19 0xFFFE_0000 between (omega arith) refl),
+          (fixed_clear setup bytes addr x 0xFFF8_0000 between refl)
+          (fixed_clear setup bytes addr x 0xFFFE_0000 between refl),
     ) refl
 
 -- ---- shadow windows
 
--- the starts of windows of 16 KiB
-abbrev starts : ℕ → ℕ → List ℕ
-starts from zero = []
-starts from (suc count) = from ∷ starts (from + 0x4000) count
-
-start_listed : (from count k edge : ℕ) → k < count → edge ≡ from + 0x4000 * k → Contains (starts from count) edge
-start_listed from zero k edge below is = absurd (omega arith)
-start_listed from (suc count) zero edge below is = (0, omega arith, omega arith)
-start_listed from (suc count) (suc k) edge below is =
-    Contains-append_right (from ∷ []) (starts (from + 0x4000) count) edge
-    (start_listed (from + 0x4000) count k edge (omega arith) (omega arith))
-
--- the fixed edges above the last start
-abbrev above_windows : List ℕ
-above_windows = 0x10_0000 ∷ 0xF0_0000 ∷ 0x100_0000 ∷ 0xFFF8_0000 ∷ 0xFFFE_0000 ∷ 0xFFFF_0000 ∷ []
-
--- every start from C0000h to F0000h is an edge
+-- every start of a window of 16 KiB from C0000h to F0000h is an edge
 window_clear :
     (setup : Setup) (bytes : Bytes) (addr x k : ℕ) → Between setup bytes addr x → k < 13 →
     Clear addr x (0xC_0000 + 0x4000 * k)
-unfolding edges_of fixed_edges
+unfolding fixed_edges
 window_clear setup bytes addr x k between below =
-    between.clear (0xC_0000 + 0x4000 * k)
-    (Contains-append_left fixed_edges (row_edges bytes ++ flat_map (card_edges bytes) setup.cards)
-    (0xC_0000 + 0x4000 * k)
-    (Contains-append_right (0x8_0000 ∷ 0xA_0000 ∷ []) (starts 0xC_0000 13 ++ above_windows) (0xC_0000 + 0x4000 * k)
-    (Contains-append_left (starts 0xC_0000 13) above_windows (0xC_0000 + 0x4000 * k)
-    (start_listed 0xC_0000 13 k (0xC_0000 + 0x4000 * k) below refl))))
+    fixed_clear setup bytes addr x (0xC_0000 + 0x4000 * k) between
+    (each_below (λ k. list_any (λ other. 0xC_0000 + 0x4000 * k == other) fixed_edges ≡ true) 13 k (search rules) below)
 
 window_same :
     (setup : Setup) (bytes : Bytes) (addr x : ℕ) → Between setup bytes addr x → 0xC_0000 ≤ addr → addr < 0xF_0000 →
@@ -193,7 +182,7 @@ governed_same setup bytes addr x between shadow =
     let above : 0xC_0000 ≤ addr = grind (arith, nat_tests) in
     elim (cases_lt addr 0xF_0000) [
       | inl below ↦
-          let still : x < 0xF_0000 = fixed_clear setup bytes addr x 14 0xF_0000 between (omega arith) refl below in
+          let still : x < 0xF_0000 = fixed_clear setup bytes addr x 0xF_0000 between refl below in
           let window : x / 0x4000 ≡ addr / 0x4000 = window_same setup bytes addr x between above below in
           let pair : (x - 0xC_0000) / 0x8000 ≡ (addr - 0xC_0000) / 0x8000 = omega arith in
           let low : nat_le 0xF_0000 addr ≡ false = grind (arith, nat_tests) in
@@ -300,8 +289,8 @@ vga_same :
 unfolding fixed_edges
 vga_same setup bytes addr x dev between =
     covered_same addr x (record { dev = dev; base = 7; inside = 0xA_0000; bits = 17 }) between.order
-    (fixed_clear setup bytes addr x 1 0xA_0000 between (omega arith) refl)
-    (fixed_clear setup bytes addr x 2 0xC_0000 between (omega arith) refl)
+    (fixed_clear setup bytes addr x 0xA_0000 between refl)
+    (fixed_clear setup bytes addr x 0xC_0000 between refl)
 
 -- ---- lists of windows
 

@@ -102,24 +102,7 @@ other_byte setup reg fun =
 -- ---- they have a name
 
 pub bridge_named : (off : ℕ) → is_some (in_bridge off) ≡ is_host_byte off
-bridge_named off =
-    elim (cases_Bool (is_within 0x59 0x5F off)) [
-      | inl pam ↦ let all : is_within 0x59 0x68 off ≡ true = grind (arith, nat_tests) in rw (pam, all) refl
-      | inr not_pam ↦ elim (cases_Bool (is_within 0x60 0x67 off)) [
-        | inl row ↦ let all : is_within 0x59 0x68 off ≡ true = grind (arith, nat_tests) in rw (not_pam, row, all) refl
-        | inr not_row ↦ elim (cases_Bool (off == 0x68)) [
-          | inl hole ↦
-              let all : is_within 0x59 0x68 off ≡ true = grind (arith, nat_tests) in
-              rw (not_pam, not_row, hole, all) refl
-          | inr not_hole ↦
-              let none : is_within 0x59 0x68 off ≡ false = grind (arith, nat_tests) in
-              elim (cases_Bool (off == 0x72)) [
-                | inl smram ↦ rw (not_pam, not_row, not_hole, none, smram) refl
-                | inr beside ↦ rw (not_pam, not_row, not_hole, none, beside) refl
-              ]
-        ]
-      ]
-    ]
+bridge_named off = grind (arith, nat_tests)
 
 pub isa_named : (off : ℕ) → is_some (in_isa_bridge off) ≡ is_isa_byte off
 isa_named off = elim (cases_Bool (off == 0x4E)) [ inl here ↦ rw here refl | inr beside ↦ rw beside refl ]

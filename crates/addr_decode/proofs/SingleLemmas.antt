@@ -1,5 +1,5 @@
 -- The registers of one byte each: their numbers, and that each stands beside all others.
-use Rattle.std.proofs.Common.{◌≡◌, ◌≢◌, ℕ, zero, suc, ◌+◌, ◌-◌, ◌<◌, ◌≤◌, Bool, true, false, not, ◌&&◌, Option, Some}
+use Rattle.std.proofs.Common.{◌≡◌, ◌≢◌, ℕ, suc, ◌+◌, ◌-◌, ◌<◌, ◌≤◌, Bool, true, false, not, ◌&&◌, Option, Some}
 use Rattle.std.proofs.Common.{None, List, [], ◌∷◌, length, get_or, inl, inr, refl, sym, ◌∙◌, ap, subst, arith, ◌==◌}
 use Rattle.std.proofs.Common.{nat_lt, unwrap_or, rules, map, slice_index}
 use Rattle.board_prelude.proofs.Common.{cases_Bool, nat_tests, and-false, false≢true, each_below, Reg, is_same}
@@ -8,9 +8,6 @@ use Rattle.addr_decode.specs.Singles.{singles, single, single_count, number_from
 use Rattle.addr_decode.proofs.StoreLemmas.{Differs, same_register, same_or_apart}
 
 -- ---- their numbers
-
-same_itself : (reg : Reg) → is_same reg reg ≡ true
-same_itself reg = grind (arith, nat_tests)
 
 same_told : (reg other : Reg) → is_same reg other ≡ true → reg ≡ other
 same_told reg other is =
@@ -36,27 +33,6 @@ number_told reg d first number (entry ∷ later) is =
           (omega (arith, there.0), omega (arith, there.1), rw more there.2)
     ]
 
--- one that has none is none of them
-none_told : (reg d : Reg) (first : ℕ) (table : List Reg) → number_from first table reg ≡ None → (k : ℕ) →
-    k < length table → reg ≢ get_or table k d
-none_told reg d first [] is k within same = absurd (omega arith)
-none_told reg d first (entry ∷ later) is zero within same =
-    let here : is_same reg entry ≡ true = subst (λ (it : Reg). is_same reg it ≡ true) same (same_itself reg) in
-    let some : Some first ≡ None = rw here at is in
-    absurd (cc)
-none_told reg d first (entry ∷ later) is (suc k) within same =
-    elim (cases_Bool (is_same reg entry)) [
-      | inl here ↦ let some : Some first ≡ None = rw here at is in absurd (cc)
-      | inr not_here ↦ none_told reg d (first + 1) later (rw not_here at is) k (omega arith) same
-    ]
-
-pub no_single : (reg : Reg) → single_number reg ≡ None → (k : ℕ) → k < single_count → Differs reg (single k)
-no_single reg none k below =
-    elim (same_or_apart reg (single k)) [
-      | inl same ↦ absurd (none_told reg fdhc 0 singles none k below same)
-      | inr apart ↦ apart
-    ]
-
 pub number_stands : (reg : Reg) (number : ℕ) → single_number reg ≡ Some number →
     (number < single_count) × (single number ≡ reg)
 number_stands reg number is =
@@ -71,6 +47,16 @@ singles_are bytes held are k below =
 -- each has the number at which it stands
 pub numbered : (k : ℕ) → k < single_count → single_number (single k) ≡ Some k
 numbered k below = each_below (λ k. single_number (single k) ≡ Some k) single_count k (search rules) below
+
+-- one that has none is none of them
+pub no_single : (reg : Reg) → single_number reg ≡ None → (k : ℕ) → k < single_count → Differs reg (single k)
+no_single reg none k below =
+    elim (same_or_apart reg (single k)) [
+      | inl same ↦
+          let no : None ≡ Some k = sym none ∙ ap (λ (it : Reg). single_number it) same ∙ numbered k below in
+          absurd (cc)
+      | inr apart ↦ apart
+    ]
 
 pub singles_apart : (j k : ℕ) → j < single_count → k < single_count → j ≢ k → Differs (single j) (single k)
 singles_apart j k j_below k_below apart =

@@ -5,7 +5,8 @@ use Rattle.std.proofs.Common.{get_or, take, drop, ◌-◌, Err, false}
 use Rattle.std.proofs.lemmas.List.{drop_more}
 use Rattle.std.proofs.lemmas.List.Concat.{flat_map-cons}
 use Rattle.std.proofs.lemmas.List.Elements.{All-from_recursion}
-use Rattle.board_prelude.proofs.Common.{AllByRecursion, append-nil, get_or_past, recursion_from_All, drop_all, w32}
+use Rattle.board_prelude.proofs.Common.{AllByRecursion, append-nil, get_or_past, recursion_from_All, drop_all, drop_at, take_at, w32}
+use Rattle.board_prelude.proofs.Common.{length-append, length-drop, length-take-le, take-append-drop}
 use Rattle.board_prelude.proofs.Common.{to_le_bytes, FittedCard}
 use Rattle.byte_fields.proofs.Formats.{IsFormat, format_as, then_format, last_format, done_format, plain_format}
 use Rattle.byte_fields.proofs.Loops.{with_later, with_front, front_joined}
@@ -267,34 +268,6 @@ cards_format fitted =
     (λ cards good. record { same = good.0; each = All-from_recursion IsCardRegs cards good.1 })
     (λ cards good. refl)
 
--- ---- the registers of one byte each: the first, and the others
-
-front_and_rest : (xs : List ℕ) → take 1 xs ++ drop 1 xs ≡ xs
-front_and_rest [] = refl
-front_and_rest (x ∷ later) = refl
-
-first_long : (xs : List ℕ) → length xs ≡ single_count → length (take 1 xs) ≡ 1
-first_long [] all = absurd (omega (arith, all))
-first_long (x ∷ later) all = refl
-
-others_long : (xs : List ℕ) → length xs ≡ single_count → length (drop 1 xs) ≡ single_count - 1
-others_long [] all = absurd (omega (arith, all))
-others_long (x ∷ later) all = omega (arith, all)
-
-all_long : (xs : List ℕ) → length (take 1 xs) ≡ 1 → length (drop 1 xs) ≡ single_count - 1 → length xs ≡ single_count
-all_long [] one others = absurd (omega (arith, one))
-all_long (x ∷ later) one others = omega (arith, others)
-
-first_same : (xs first others : List ℕ) → length first ≡ 1 → xs ≡ first ++ others → take 1 xs ≡ first
-first_same xs [] others one is = absurd (omega (arith, one))
-first_same xs (x ∷ []) others one is = ap (take 1) is
-first_same xs (x ∷ y ∷ later) others one is = absurd (omega (arith, one))
-
-others_same : (xs first others : List ℕ) → length first ≡ 1 → xs ≡ first ++ others → drop 1 xs ≡ others
-others_same xs [] others one is = absurd (omega (arith, one))
-others_same xs (x ∷ []) others one is = ap (drop 1) is
-others_same xs (x ∷ y ∷ later) others one is = absurd (omega (arith, one))
-
 -- ---- the whole
 
 pub regs_format : (fitted : List FittedCard) →
@@ -312,20 +285,20 @@ regs_format fitted =
       singles = first ++ others;
       cards = record { items = cards };
     }) (cards_format fitted) (λ cards good. refl)))
-    (λ others r any good. others_same r.singles first others good_first (ap (λ (r : MapRegs). r.singles) good.1))))
+    (λ others r any good. ap (λ (r : MapRegs). drop 1 r.singles) good.1 ∙ drop_at first others 1 good_first)))
     (λ pam r any good. ap (λ (r : MapRegs). r.pam) good.1.1)))
-    (λ first r any good. first_same r.singles first (drop 1 r.singles) any (ap (λ (r : MapRegs). r.singles) good.1.1.1))))
+    (λ first r any good. ap (λ (r : MapRegs). take 1 r.singles) good.1.1.1 ∙ take_at first (drop 1 r.singles) 1 any)))
     (λ drb r any good. ap (λ (r : MapRegs). r.drb) good.1.1.1.1))
     (omega arith)
     (λ r are. (
       are.drb,
       (
-        first_long r.singles are.singles,
+        length-take-le 1 r.singles (omega (arith, are.singles)),
         (
           are.pam,
           (
-            others_long r.singles are.singles,
-            (are.cards, ap (λ (held : List ℕ). record r { singles = held }) (sym (front_and_rest r.singles))),
+            omega (arith, length-drop 1 r.singles, are.singles),
+            (are.cards, ap (λ (held : List ℕ). record r { singles = held }) (sym (take-append-drop 1 r.singles))),
           ),
         ),
       ),
@@ -333,7 +306,14 @@ regs_format fitted =
     (λ r good. record {
       drb = good.0;
       pam = good.1.1.0;
-      singles = all_long r.singles good.1.0 good.1.1.1.0;
+      singles =
+          omega (
+            arith,
+            ap length (take-append-drop 1 r.singles),
+            length-append (take 1 r.singles) (drop 1 r.singles),
+            good.1.0,
+            good.1.1.1.0,
+          );
       cards = good.1.1.1.1.0;
     })
     (λ r good. refl)

@@ -3,6 +3,7 @@ pub use Rattle.addr_decode.specs.EdgeSearch.{ends_from, ends_of_card, ends_of_ro
 unfoldable pub use Rattle.addr_decode.specs.EdgeSearch.{nearest}
 pub use Rattle.addr_decode.specs.Edges.{IsEdge, IsNextEdge, NoEdgeAbove, SameAreas, card_edges, edges_after}
 pub use Rattle.addr_decode.specs.Edges.{first_address, row_edges, window_edges}
+pub use Rattle.addr_decode.specs.Edges.{most_edges}
 unfoldable pub use Rattle.addr_decode.specs.Edges.{edges_of, fixed_edges}
 pub use Rattle.addr_decode.specs.Found.{HasRegister, IsFoundIn, decoded_as, register_answers}
 pub use Rattle.addr_decode.specs.MapRegister.{AreNumbered, IsCardNumber, IsNumbered, IsNumberedName, in_bridge}

@@ -73,7 +73,10 @@ AreasChangeAtEdges =
     ((edge : ℕ) → IsEdge setup bytes edge → addr < edge → x < edge) →
     six_areas setup bytes x ≡ six_areas setup bytes addr
 
--- a board has at most 141 edges: 21 that are fixed, 8 of rows, and 2 of each of 6 bases and of the expansion ROM
+-- a board has at most so many edges: 21 that are fixed, 8 of rows, and 2 of each of 6 bases and of the expansion ROM
 -- of 8 cards
+abbrev pub most_edges : ℕ
+most_edges = 141
+
 abbrev pub FewEdges : Type 0
-FewEdges = (setup : Setup) (bytes : Bytes) → IsCardList setup.cards → length (edges_of setup bytes) ≤ 141
+FewEdges = (setup : Setup) (bytes : Bytes) → IsCardList setup.cards → length (edges_of setup bytes) ≤ most_edges

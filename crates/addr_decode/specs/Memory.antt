@@ -4,9 +4,10 @@ use Rattle.std.specs.Prelude.{unwrap_or}
 use Rattle.board_prelude.specs.Common.{Area, Denial, Register, NoRegister, Setup, lies_in, selectable_bios}
 use Rattle.board_prelude.specs.Common.{expansion_range, largest_top, Bytes, Window, line_where, is_smram_range}
 use Rattle.board_prelude.specs.Common.{is_shadow_range, card_area, memory_claim, pam_register, drb}
-use Rattle.board_prelude.specs.Common.{fdhc, smram, xbcs, card_command, expansion_rom}
+use Rattle.board_prelude.specs.Common.{smram, xbcs, card_command, expansion_rom}
 use Rattle.board_prelude.specs.Common.{is_bios_selected}
 use Rattle.board_base.specs.declared.target.Area.TheVariants.{Dram, Shadow, Smram, Rom, Card, Abort}
+use Rattle.addr_decode.specs.Singles.{hole_denial}
 
 -- where an access below the top of DRAM reaches it, over what the registers say of the address
 abbrev pub row_area : (row : ℕ) → (opened shadowed hole : Bool) → ℕ → Option Area
@@ -40,7 +41,7 @@ board_denial top addr =
     if top == 0 then None else
     if is_smram_range addr then Some (Register smram) else
     if lies_in expansion_range addr then Some (Register (pam_register addr)) else
-    line_where (nat_lt addr top) (Register fdhc)
+    line_where (nat_lt addr top) (hole_denial addr)
 
 -- what denies where no card does either
 abbrev pub row_denial : ℕ → Denial

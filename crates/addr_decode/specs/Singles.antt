@@ -1,7 +1,7 @@
 -- The registers of one byte each that the address map depends on: one table, in which each stands by its number.
 use Rattle.std.specs.Prelude.{◌≡◌, ℕ, ◌+◌, ◌<◌, if◌then◌else◌, List, [], ◌∷◌, length, get_or, slice_index, Option, Some}
 use Rattle.std.specs.Prelude.{None}
-use Rattle.board_prelude.specs.Common.{Reg, Bytes, is_same, fdhc, smram, xbcs}
+use Rattle.board_prelude.specs.Common.{Reg, Bytes, Denial, Register, is_same, fdhc, smram, xbcs}
 
 -- FDHC and SMRAM of the host bridge, and XBCS of the ISA bridge
 abbrev pub singles : List Reg
@@ -21,6 +21,10 @@ number_from first (entry ∷ later) reg = if is_same reg entry then Some first e
 
 abbrev pub single_number : Reg → Option ℕ
 single_number reg = number_from 0 singles reg
+
+-- what denies an access below the top of DRAM that a hole takes out
+abbrev pub hole_denial : (addr : ℕ) → Denial
+hole_denial addr = Register fdhc
 
 -- these are their bytes among a board's register bytes
 abbrev pub AreSinglesOf : Bytes → List ℕ → Type 0

@@ -9,9 +9,9 @@ ghost use Rattle.addr_decode.specs.Memory.{board_denial, row_denial};
 
 use crate::denied_by::{card_command, expansion_rom, host_bridge, isa_bridge};
 use crate::regs::MapRegs;
-use crate::singles::chip_selects;
+use crate::singles::{chip_selects, hole_denial};
 use board_base::{Area, Denial, Kind};
-use board_spec::offset::{DRB7, FDHC, SMRAM, XBCS};
+use board_spec::offset::{DRB7, SMRAM, XBCS};
 use board_spec::range::{EXPANSION_RANGE, LARGEST_TOP, SELECTABLE_BIOS, SMRAM_RANGE};
 use pam_windows::window_of;
 use pci_bars::{shut_mem, unselected_rom};
@@ -82,8 +82,8 @@ fn row_denial(addr: u32) -> Denial
     Denial::NoRegister
 }
 
-/// The register of the board that keeps an address from an answer, by the top of DRAM: XBCS, SMRAM, PAM
-/// or FDHC. None where it is none of these.
+/// The register of the board that keeps an address from an answer, by the top of DRAM: XBCS, SMRAM, PAM or that of a
+/// hole. None where it is none of these.
 #[tactic(auto, unfolding(crate::specs::Memory::board_denial))]
 fn board_denial(top: u32, addr: u32) -> Option<Denial>
     ensures denial { result ≡ board_denial top addr }
@@ -100,7 +100,7 @@ fn board_denial(top: u32, addr: u32) -> Option<Denial>
     if EXPANSION_RANGE.contains(addr) {
         return pam_denial(addr);
     }
-    (addr < top).then_some(host_bridge(FDHC))
+    (addr < top).then_some(hole_denial(addr))
 }
 
 /// The PAM register of an address. None outside the shadow windows.

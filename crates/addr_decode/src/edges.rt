@@ -19,7 +19,7 @@ use pmc_regs::end_of;
 
 /// The edges that no register moves: the ends of the hole at 512 KiB, of SMRAM, of the shadow windows, of the hole
 /// at 15 MiB, and of the ranges of the ROM below 4 GiB.
-const FIXED_EDGES: [u32; 21] = [
+const FIXED_EDGES: [u32; FIXED_COUNT] = [
     HOLE_AT_512_KIB.first,
     SMRAM_RANGE.first,
     EXPANSION_RANGE.first,
@@ -42,6 +42,13 @@ const FIXED_EDGES: [u32; 21] = [
     LOWER_HIGH_BIOS.first,
     HIGH_BIOS.first,
 ];
+
+/// How many edges no register moves.
+const FIXED_COUNT: usize = 21;
+
+/// The most edges of a board: beside those that are fixed 8 of rows, and 2 of each of 6 bases and of the expansion ROM
+/// of 8 cards.
+pub const MOST_EDGES: usize = FIXED_COUNT + 8 + 8 * 7 * 2;
 
 /// How many of the fixed edges come up to the first shadow window, and up to the end of the last.
 const UP_TO_EXPANSION: usize = 3;

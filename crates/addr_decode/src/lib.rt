@@ -22,7 +22,7 @@ mod state;
 pub use areas::{SixAreas, row};
 pub use board_spec::MapChange;
 pub use change::touches;
-pub use edges::next_edge;
+pub use edges::{MOST_EDGES, next_edge};
 pub use found::{ConfigRegister, Found, Function, function_of};
 pub use master::decode_master;
 pub use memory::{decode, plain_row};

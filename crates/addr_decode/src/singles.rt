@@ -4,9 +4,10 @@ ghost use Rattle.std.specs.Prelude.{◌≡◌, ◌++◌, ◌<◌};
 ghost use Rattle.board_prelude.specs.Common.{One, Store, Setup, Bytes, changed_byte, reset_byte, is_in};
 ghost use Rattle.board_prelude.specs.Common.{hole_of as hole_by, bridge, isa, xbcs as select_register};
 ghost use Rattle.board_prelude.specs.Common.{is_in_hole, is_smram_open, is_bios_selected};
-ghost use Rattle.addr_decode.specs.Singles.{AreSinglesOf, single, single_count, single_number};
+ghost use Rattle.addr_decode.specs.Singles.{AreSinglesOf, hole_denial, single, single_count, single_number};
 
-use board_base::Kind;
+use crate::denied_by::host_bridge;
+use board_base::{Denial, Kind};
 use board_spec::offset::{FDHC, SMRAM, XBCS};
 use pmc_regs::{FDHC_RESET, fdhc_after, hole_of};
 use smram_ctl::{SMRAM_RESET, smram_after, smram_reaches};
@@ -89,6 +90,13 @@ fn is_in_hole_of(fdhc: u8, addr: u32) -> bool
         Some((first, last)) => first <= addr && addr <= last,
         None => false,
     }
+}
+
+/// What denies an access below the top of DRAM that a hole takes out.
+pub(crate) fn hole_denial(_addr: u32) -> Denial
+    ensures denial { result ≡ hole_denial _addr }
+{
+    host_bridge(FDHC)
 }
 
 /// Whether an access in the range of SMRAM reaches it.

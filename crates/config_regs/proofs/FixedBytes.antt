@@ -1,5 +1,5 @@
 -- A register that nothing changes holds after every history what a reset leaves.
-use Rattle.std.proofs.Common.{◌≡◌, ◌<◌, ℕ, List, [], ◌∷◌, ◌⊎◌, false, Option, Some, None, refl, inl, inr, arith}
+use Rattle.std.proofs.Common.{◌≡◌, ◌≢◌, ◌<◌, ℕ, lit<, List, [], ◌∷◌, ◌⊎◌, false, Option, Some, None, refl, inl, inr, arith}
 use Rattle.board_prelude.proofs.Common.{cases_lt, ne_eqb, Reg, Entry, MapChange, Store, Reset, Setup, bridge, isa}
 use Rattle.board_prelude.proofs.Common.{smram, is_same, reset_byte, byte_with, register_change, byte_of}
 use Rattle.pmc_regs.specs.Pmc.{IsFixedOffset}
@@ -7,6 +7,7 @@ use Rattle.pmc_regs.proofs.Common.{writable_bits-fixed, reset_byte-small}
 use Rattle.xbus_select.specs.Piix.{IsIsaFixed}
 use Rattle.xbus_select.proofs.Common.{IsFixedAt, kept_byte, fixed_at}
 use Rattle.addr_decode.proofs.StandsLemmas.{IsBeside}
+use Rattle.addr_decode.proofs.StoreLemmas.{Differs}
 use Rattle.config_regs.specs.Config.{HasFixed}
 
 -- a register that cannot be written has its byte of a reset at all times
@@ -51,11 +52,18 @@ isa_always setup history off fixed =
 pub has_fixed : (setup : Setup) (history : List Entry) → HasFixed setup (byte_of setup history)
 has_fixed setup history = record { bridge_bytes = bridge_always setup history; isa_bytes = isa_always setup history }
 
+other_offset : (off at : ℕ) → Differs (bridge off) (bridge at) → off ≢ at
+other_offset off at (inl dev) same = dev refl
+other_offset off at (inr (inl fun)) same = fun refl
+other_offset off at (inr (inr apart)) same = apart same
+
 pub fixed_beside : (off : ℕ) → off < 256 → IsBeside off → IsFixedOffset off
 fixed_beside off small beside =
+    let not_hole : off ≢ 0x68 = other_offset off 0x68 (beside.singles 0 (lit< tt)) in
+    let not_smram : off ≢ 0x72 = other_offset off 0x72 (beside.singles 1 (lit< tt)) in
     let around_smram : (off < 0x72) ⊎ (0x72 < off) =
-    elim (cases_lt off 0x72) [ inl low ↦ inl low | inr high ↦ inr (let apart = beside.smram in omega arith) ] in
+    elim (cases_lt off 0x72) [ inl low ↦ inl low | inr high ↦ inr (omega arith) ] in
     elim beside.rows [
       | inl below ↦ ((small, beside.windows, around_smram), inl below)
-      | inr above ↦ ((small, beside.windows, around_smram), inr (let apart = beside.hole in omega arith))
+      | inr above ↦ ((small, beside.windows, around_smram), inr (omega arith))
     ]

@@ -7,7 +7,7 @@ ghost use Rattle.addr_decode.specs.Common.{HasRegister, StandsFor, map_bytes};
 ghost use Rattle.config_regs.specs.Config.{AreKeptOf, HasFixed, IsSouthOf};
 
 use crate::south::South;
-use addr_decode::{ConfigRegister, Function, MapRegs, function_of};
+use addr_decode::{ConfigRegister, Function, MapRegs, chip_selects, function_of};
 use board_base::{Reg, Width};
 use board_spec::offset::{HOST_BRIDGE, PIRQRCA, PIRQRCD, XBCS};
 use board_spec::wide::read_at;
@@ -81,7 +81,7 @@ fn isa_byte(regs: &MapRegs, south: &South, off: u8) -> u8
         → HasFixed setup bytes → result ≡ bytes (isa off) }
 {
     if off == XBCS {
-        return regs.xbcs;
+        return chip_selects(&regs.singles);
     }
     isa_byte_beside(south, off)
 }

@@ -5,19 +5,18 @@ use Rattle.std.proofs.Common.{length, get_or, Option, Some, None, refl, sym, ◌
 use Rattle.std.proofs.Common.{if◌then◌else◌, false, ◌&&◌, All, find, is_some, slice_index, option_map}
 use Rattle.board_prelude.proofs.Common.{option_map_or, cases_Bool, cond-true, cond-false, eq-eqb, ne_eqb, get_or-map}
 use Rattle.board_prelude.proofs.Common.{length-map, nat_tests, Setup, FittedCard, Rises, IsCard, IsCardList, byte}
-use Rattle.board_prelude.proofs.Common.{is_within, card_register, bridge, isa, Bytes}
+use Rattle.board_prelude.proofs.Common.{is_within, card_register, bridge, Bytes, Reg}
 use Rattle.pci_bars.specs.Cards.{CardBytes, HoldsLong, HoldsRom, DecodesAs, AreFitted, cards_of}
 use Rattle.pci_bars.proofs.CardLemmas.{wide_of_bytes}
-use Rattle.addr_decode.specs.MapRegs.{MapBytes, StandsFor}
+use Rattle.addr_decode.specs.Common.{MapBytes, StandsFor, AreSinglesOf, single, single_number}
+use Rattle.addr_decode.proofs.SingleLemmas.{numbered, block_unnumbered, card_unnumbered}
 use Rattle.map_builder.specs.Map.{IsOfSomeBoard, HoldsDoublewords, HaveWidths}
 
 -- ---- these registers at their places, and other bytes elsewhere
 
 pub bridge_byte : MapBytes → ℕ → ℕ
 bridge_byte regs off =
-    if nat_lt off 0x60 then slice_index regs.pam (off - 0x59) else
-    if nat_lt off 0x68 then slice_index regs.drb (off - 0x60) else
-    if off == 0x68 then regs.fdhc else regs.smram
+    if nat_lt off 0x60 then slice_index regs.pam (off - 0x59) else slice_index regs.drb (off - 0x60)
 
 pub card_byte : (other off : ℕ) → CardBytes → ℕ
 card_byte other off card =
@@ -28,39 +27,46 @@ card_byte other off card =
 pub card_with : ℕ → List CardBytes → Option CardBytes
 card_with dev cards = find (λ card. card.card.dev == dev) cards
 
+-- where no register of one byte stands
+unfoldable pub beside_singles : MapBytes → (others : Bytes) → Bytes
+beside_singles regs others reg =
+    if reg.dev == 0 then bridge_byte regs reg.off else
+    if reg.dev == 1 then others reg
+    else option_map_or (card_byte (others reg) reg.off) (card_with reg.dev regs.cards) (others reg)
+
 unfoldable pub overlaid : MapBytes → (others : Bytes) → Bytes
 overlaid regs others reg =
-    if reg.dev == 0 then bridge_byte regs reg.off else
-    if reg.dev == 1 then (if reg.fun == 0 && reg.off == 0x4E then regs.xbcs else others reg)
-    else option_map_or (card_byte (others reg) reg.off) (card_with reg.dev regs.cards) (others reg)
+    option_map_or (slice_index regs.singles) (single_number reg) (beside_singles regs others reg)
+
+unnumbered : (regs : MapBytes) (others : Bytes) (reg : Reg) → single_number reg ≡ None →
+    overlaid regs others reg ≡ beside_singles regs others reg
+unfolding overlaid
+unnumbered regs others reg none =
+    ap (λ (number : Option ℕ). option_map_or (slice_index regs.singles) number (beside_singles regs others reg)) none
 
 -- ---- the bridges
 
 rows_stand : (regs : MapBytes) (others : Bytes) (row : ℕ) → row < 8 →
     slice_index regs.drb row ≡ overlaid regs others (bridge (0x60 + row))
-unfolding overlaid bridge_byte
+unfolding beside_singles bridge_byte
 rows_stand regs others row below =
     let off : 0x60 + row - 0x60 ≡ row = omega arith in
-    sym (cond-false (nat_lt (0x60 + row) 0x60) _ _ (grind (arith, nat_tests))
-    ∙ cond-true (nat_lt (0x60 + row) 0x68) _ _ (grind (arith, nat_tests))
+    sym (unnumbered regs others (bridge (0x60 + row)) (block_unnumbered (0x60 + row) (omega arith) (omega arith))
+    ∙ cond-false (nat_lt (0x60 + row) 0x60) _ _ (grind (arith, nat_tests))
     ∙ ap (λ k. slice_index regs.drb k) off)
 
 windows_stand : (regs : MapBytes) (others : Bytes) (off : ℕ) → (0x59 ≤ off) × (off ≤ 0x5F) →
     slice_index regs.pam (off - 0x59) ≡ overlaid regs others (bridge off)
-unfolding overlaid bridge_byte
-windows_stand regs others off within = sym (cond-true (nat_lt off 0x60) _ _ (grind (arith, nat_tests, within.1)))
+unfolding beside_singles bridge_byte
+windows_stand regs others off within =
+    sym (unnumbered regs others (bridge off) (block_unnumbered off within.0 (omega (arith, within.1)))
+    ∙ cond-true (nat_lt off 0x60) _ _ (grind (arith, nat_tests, within.1)))
 
-hole_stands : (regs : MapBytes) (others : Bytes) → regs.fdhc ≡ overlaid regs others (bridge 0x68)
-unfolding overlaid bridge_byte
-hole_stands regs others = refl
-
-smram_stands : (regs : MapBytes) (others : Bytes) → regs.smram ≡ overlaid regs others (bridge 0x72)
-unfolding overlaid bridge_byte
-smram_stands regs others = refl
-
-xbcs_stands : (regs : MapBytes) (others : Bytes) → regs.xbcs ≡ overlaid regs others (isa 0x4E)
+singles_stand : (regs : MapBytes) (others : Bytes) → AreSinglesOf (overlaid regs others) regs.singles
 unfolding overlaid
-xbcs_stands regs others = refl
+singles_stand regs others k below =
+    sym (ap (λ (number : Option ℕ).
+    option_map_or (slice_index regs.singles) number (beside_singles regs others (single k))) (numbered k below))
 
 -- ---- the cards
 
@@ -128,10 +134,11 @@ module _ (regs : MapBytes) (others : Bytes) (card : CardBytes) (fit : IsCard car
     (at : card_with card.card.dev regs.cards ≡ Some card) where
   stands : (off : ℕ) → overlaid regs others (card_register card.card.dev off)
       ≡ card_byte (others (card_register card.card.dev off)) off card
-  unfolding overlaid
+  unfolding beside_singles
   stands off =
       let other : ℕ = others (card_register card.card.dev off) in
-      cond-false (card.card.dev == 0) _ _ (ne_eqb _ _ (omega (arith, fit.first)))
+      unnumbered regs others (card_register card.card.dev off) (card_unnumbered card.card.dev off fit.first)
+      ∙ cond-false (card.card.dev == 0) _ _ (ne_eqb _ _ (omega (arith, fit.first)))
       ∙ cond-false (card.card.dev == 1) _ _ (ne_eqb _ _ (omega (arith, fit.first)))
       ∙ ap (λ (it : Option CardBytes). option_map_or (card_byte other off) it other) at
 
@@ -174,10 +181,8 @@ pub overlaid_stands : (setup : Setup) (regs : MapBytes) (others : Bytes) → set
     AreFitted regs.cards → All HoldsDoublewords regs.cards → StandsFor setup (overlaid regs others) regs
 overlaid_stands setup regs others same fitted doublewords = record {
   rows = rows_stand regs others;
-  hole = hole_stands regs others;
   windows = windows_stand regs others;
-  smram = smram_stands regs others;
-  xbcs = xbcs_stands regs others;
+  singles = singles_stand regs others;
   cards = (
     same,
     (λ k d within.

@@ -1,19 +1,19 @@
 -- Each window that a change may change ends where it begins or above.
-use Rattle.std.proofs.Common.{◌≡◌, ℕ, ◌/◌, ◌≤◌, inl, inr, List, [], ◌∷◌, ◌++◌, map, take, Option, Some, None, refl, ◌∙◌}
-use Rattle.std.proofs.Common.{ap, arith, ◌==◌, flat_map, filter, min, max}
+use Rattle.std.proofs.Common.{◌≡◌, ℕ, zero, suc, ◌/◌, ◌≤◌, inl, inr, List, [], ◌∷◌, ◌++◌, map, take, Option, Some, None, refl, ◌∙◌}
+use Rattle.std.proofs.Common.{ap, arith, ◌==◌, flat_map, filter, min, max, get_or}
 use Rattle.board_prelude.proofs.Common.{AllByRecursion, option_map_or, cases_Bool, nat_tests, Reg, bytes_of, MapChange}
 use Rattle.board_prelude.proofs.Common.{Store, Reset, FittedCard, Setup, card_at, Bytes, Window, rom_window, vga_window}
 use Rattle.board_prelude.proofs.Common.{reg_after}
 use Rattle.map_ranges.specs.declared.range.Changed.{Changed}
 use Rattle.addr_decode.specs.declared.register.MapRegister.{MapRegister}
-use Rattle.addr_decode.specs.declared.register.MapRegister.TheVariants.{Pam, RowBoundary, Hole, Smram, ChipSelects}
-use Rattle.addr_decode.specs.declared.register.MapRegister.TheVariants.{Card}
+use Rattle.addr_decode.specs.declared.register.MapRegister.TheVariants.{Pam, RowBoundary, Single, Card}
 use Rattle.addr_decode.specs.declared.register.CardRegister.{CardRegister}
 use Rattle.addr_decode.specs.declared.register.CardRegister.TheVariants.{Command, Base, ExpansionRom}
 use Rattle.addr_decode.specs.MapRegister.{map_register}
 use Rattle.addr_decode.proofs.NameLemmas.{offsets}
 use Rattle.map_builder.specs.Changed.{decoded, base_windows, pam_windows, card_windows, register_windows, name_windows}
 use Rattle.map_builder.specs.Changed.{windows_of, windows_covered, after, changed_windows, both, joined, bounds}
+use Rattle.map_builder.specs.Changed.{windows_of_singles}
 
 abbrev pub IsOrdered : Changed → Type 0
 IsOrdered window = window.lo ≤ window.hi
@@ -52,13 +52,16 @@ pam_ordered : (number : ℕ) → IsOrdered (pam_windows number)
 pam_ordered number =
     elim (cases_Bool (number == 0)) [ inl first ↦ rw first (omega arith) | inr other ↦ rw other (omega arith) ]
 
+row_ordered : (rows : List (List Changed)) → AllByRecursion Ordered rows → (k : ℕ) → Ordered (get_or rows k [])
+row_ordered [] all k = tt
+row_ordered (row ∷ later) all zero = all.0
+row_ordered (row ∷ later) all (suc k) = row_ordered later all.1 k
+
 register_ordered : (setup : Setup) (bytes : Bytes) (register : MapRegister) →
     Ordered (register_windows setup bytes register)
 register_ordered setup bytes (Pam number) = (pam_ordered number, tt)
 register_ordered setup bytes (RowBoundary row) = (omega arith, tt)
-register_ordered setup bytes Hole = (omega arith, (omega arith, tt))
-register_ordered setup bytes Smram = (omega arith, tt)
-register_ordered setup bytes ChipSelects = (omega arith, (omega arith, tt))
+register_ordered setup bytes (Single number) = row_ordered windows_of_singles (search arith) number
 register_ordered setup bytes (Card dev register) = device_ordered bytes register (card_at setup dev)
 
 name_ordered : (setup : Setup) (bytes : Bytes) (name : Option MapRegister) → Ordered (name_windows setup bytes name)

@@ -6,6 +6,7 @@ use Rattle.board_prelude.proofs.Common.{Store, Reset, Setup, IsCardList, byte, h
 use Rattle.board_prelude.proofs.Common.{covers, byte_after, Bytes, top_of, bridge, reg_after, address_count, six_areas}
 use Rattle.board_prelude.proofs.Common.{merged-all}
 use Rattle.addr_decode.proofs.NameLemmas.{offsets, covered_offset}
+use Rattle.addr_decode.proofs.StoreLemmas.{same_register}
 use Rattle.map_ranges.specs.declared.range.Changed.{Changed}
 use Rattle.map_builder.specs.Common.{windows_of, windows_covered, after, changed_windows, IsOutside, WindowsHoldChanges}
 use Rattle.map_builder.specs.Common.{BoundsHoldChanges}
@@ -29,14 +30,6 @@ outside_of addr windows width k below out =
     let at = covered_offset width k below in
     subst (λ (j : ℕ). Outside addr (windows j)) at.1
     (outside_at addr windows (take (bytes_of width) offsets) k at.0 out)
-
-register : (dev fun off : ℕ) → Reg
-register dev fun off = record { dev = dev; fun = fun; off = off }
-
-pub same_register : (reg other : Reg) → reg.dev ≡ other.dev → reg.fun ≡ other.fun → reg.off ≡ other.off → reg ≡ other
-unfolding register
-same_register reg other devs funs offs =
-    let same : register reg.dev reg.fun reg.off ≡ register other.dev other.fun other.off = cc in same
 
 record IsCovered (at : Reg) (width : Width) (reg : Reg) : Type 0 where
   pub k : ℕ

@@ -1,44 +1,47 @@
 -- Boards that have the same registers have the same areas at each address.
 use Rattle.std.proofs.Common.{◌≡◌, ℕ, ◌+◌, ◌-◌, ◌*◌, ◌/◌, ◌%◌, ◌<◌, ◌≤◌, inl, inr, Bool, true, false, List, [], ◌∷◌}
 use Rattle.std.proofs.Common.{Option, Some, None, refl, sym, ◌∙◌, subst, arith, ◌==◌, ◌&&◌, ◌||◌, is_some, find}
-use Rattle.board_prelude.proofs.Common.{AllByRecursion, cases_Bool, cases_lt, false≢true, nat_tests, recursion_from_All}
+use Rattle.board_prelude.proofs.Common.{AllByRecursion, cases_Bool, false≢true, nat_tests, recursion_from_All}
 use Rattle.board_prelude.proofs.Common.{Kind, Fetch, Read, Write, Reg, FittedCard, Setup, IsCardList, card_at}
 use Rattle.board_prelude.proofs.Common.{is_within, Bytes, memory_claim, area_of, bridge, isa, card_register, six_areas}
 use Rattle.board_prelude.proofs.Common.{has_rom, touches_map, MapChange, untouched, SameMapBytes, map_bytes_decide}
 use Rattle.map_builder.specs.Changed.{after}
 use Rattle.pci_bars.specs.Cards.{CardBytes, HoldsRom, DecodesAs, cards_of}
+use Rattle.addr_decode.specs.declared.register.MapRegister.{MapRegister}
+use Rattle.addr_decode.specs.declared.register.MapRegister.TheVariants.{Pam, RowBoundary, Single, Card}
+use Rattle.addr_decode.specs.MapRegister.{place_of, IsNumbered, in_bridge, in_isa_bridge}
 use Rattle.addr_decode.specs.MapRegs.{MapBytes, StandsFor}
-use Rattle.map_builder.proofs.KeptStores.{same_register}
+use Rattle.addr_decode.proofs.NameLemmas.{IsNameAt, is_host_byte, is_isa_byte, bridge_named, isa_named, bridge_place}
+use Rattle.addr_decode.proofs.NameLemmas.{single_place}
+use Rattle.addr_decode.proofs.StoreLemmas.{same_register}
 
 module _ (regs : MapBytes) (setup setup' : Setup) (bytes bytes' : Bytes) (stands : StandsFor setup bytes regs)
     (stands' : StandsFor setup' bytes' regs) where
   -- ---- registers of the bridges
 
-  row_same : (row : ℕ) → row < 8 → bytes (bridge (0x60 + row)) ≡ bytes' (bridge (0x60 + row))
-  row_same row below = sym (stands.rows row below) ∙ stands'.rows row below
+  register_same : (register : MapRegister) → IsNumbered register → (place_of register).dev < 2 →
+      bytes (place_of register) ≡ bytes' (place_of register)
+  register_same (Pam k) number low =
+      sym (stands.windows (0x59 + k) (omega arith, omega arith))
+      ∙ stands'.windows (0x59 + k) (omega arith, omega arith)
+  register_same (RowBoundary row) number low = sym (stands.rows row number) ∙ stands'.rows row number
+  register_same (Single k) number low = sym (stands.singles k number) ∙ stands'.singles k number
+  register_same (Card dev register) number low = absurd (omega (arith, number.0))
 
-  bridge_same : (off : ℕ) → (is_within 0x59 0x68 off || off == 0x72) ≡ true → bytes (bridge off) ≡ bytes' (bridge off)
-  bridge_same off is =
-      elim (cases_Bool (off == 0x72)) [
-        | inl last ↦
-            let at : 0x72 ≡ off = grind (arith, nat_tests) in
-            subst (λ (k : ℕ). bytes (bridge k) ≡ bytes' (bridge k)) at (sym stands.smram ∙ stands'.smram)
-        | inr not_last ↦
-            let from : 0x59 ≤ off = grind (arith, nat_tests) in
-            let to : off ≤ 0x68 = grind (arith, nat_tests) in
-            elim (cases_lt off 0x60) [
-              | inl low ↦ sym (stands.windows off (from, omega arith)) ∙ stands'.windows off (from, omega arith)
-              | inr not_low ↦
-                  elim (cases_lt off 0x68) [
-                    | inl row ↦
-                        let at : 0x60 + (off - 0x60) ≡ off = omega arith in
-                        subst (λ (k : ℕ). bytes (bridge k) ≡ bytes' (bridge k)) at (row_same (off - 0x60) (omega arith))
-                    | inr not_row ↦
-                        let at : 0x68 ≡ off = omega arith in
-                        subst (λ (k : ℕ). bytes (bridge k) ≡ bytes' (bridge k)) at (sym stands.hole ∙ stands'.hole)
-                  ]
-            ]
-      ]
+  named_same : (reg : Reg) (name : Option MapRegister) → reg.dev < 2 → is_some name ≡ true →
+      ((register : MapRegister) → name ≡ Some register → IsNameAt register reg) → bytes reg ≡ bytes' reg
+  named_same reg None low is names = absurd (cc)
+  named_same reg (Some register) low is names =
+      let it = names register refl in
+      subst (λ (at : Reg). bytes at ≡ bytes' at) it.place
+      (register_same register it.number (subst (λ (at : Reg). at.dev < 2) (sym it.place) low))
+
+  bridge_same : (off : ℕ) → is_host_byte off ≡ true → bytes (bridge off) ≡ bytes' (bridge off)
+  bridge_same off is = named_same (bridge off) (in_bridge off) (omega arith) (bridge_named off ∙ is) (bridge_place off)
+
+  isa_same : (off : ℕ) → is_isa_byte off ≡ true → bytes (isa off) ≡ bytes' (isa off)
+  isa_same off is =
+      named_same (isa off) (in_isa_bridge off) (omega arith) (isa_named off ∙ is) (single_place (isa off))
 
   -- ---- registers of cards
 
@@ -130,20 +133,21 @@ module _ (regs : MapBytes) (setup setup' : Setup) (bytes bytes' : Bytes) (stands
 
   map_bytes_same : SameMapBytes setup bytes bytes'
   map_bytes_same reg is =
-      elim (cases_Bool (reg.dev == 0 && reg.fun == 0 && (is_within 0x59 0x68 reg.off || reg.off == 0x72))) [
+      elim (cases_Bool (reg.dev == 0 && reg.fun == 0 && is_host_byte reg.off)) [
         | inl host ↦
             let dev : 0 ≡ reg.dev = grind (arith, nat_tests) in
             let fun : 0 ≡ reg.fun = grind (arith, nat_tests) in
-            let within : (is_within 0x59 0x68 reg.off || reg.off == 0x72) ≡ true = grind (arith, nat_tests) in
+            let within : is_host_byte reg.off ≡ true = grind (arith, nat_tests) in
             at_register reg (bridge reg.off) (same_register (bridge reg.off) reg dev fun refl)
             (bridge_same reg.off within)
         | inr not_host ↦
-            elim (cases_Bool (reg.dev == 1 && reg.fun == 0 && reg.off == 0x4E)) [
+            elim (cases_Bool (reg.dev == 1 && reg.fun == 0 && is_isa_byte reg.off)) [
               | inl south ↦
                   let dev : 1 ≡ reg.dev = grind (arith, nat_tests) in
                   let fun : 0 ≡ reg.fun = grind (arith, nat_tests) in
-                  let off : 0x4E ≡ reg.off = grind (arith, nat_tests) in
-                  at_register reg (isa 0x4E) (same_register (isa 0x4E) reg dev fun off) (sym stands.xbcs ∙ stands'.xbcs)
+                  let within : is_isa_byte reg.off ≡ true = grind (arith, nat_tests) in
+                  at_register reg (isa reg.off) (same_register (isa reg.off) reg dev fun refl)
+                  (isa_same reg.off within)
               | inr not_south ↦
                   elim (cases_Bool (is_some (card_at setup reg.dev) && reg.fun
                   == 0 && (reg.off == 0x04 || is_within 0x10 0x27 reg.off))) [

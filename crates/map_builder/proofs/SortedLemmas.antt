@@ -1,12 +1,14 @@
 -- Windows in rising order hold the addresses of those that were sorted, and are no more than there are different ones.
 use Rattle.std.proofs.Common.{◌≡◌, ℕ, ◌+◌, ◌<◌, ◌≤◌, ◌⊎◌, inl, inr, Bool, true, false, List, [], ◌∷◌, ◌++◌, length}
-use Rattle.std.proofs.Common.{refl, ap, arith, ◌||◌, nat_lt, nat_le, min, max, filter}
+use Rattle.std.proofs.Common.{refl, ap, arith, ◌||◌, nat_lt, nat_le, min, max, filter, rules}
 use Rattle.board_prelude.proofs.Common.{list_any, cases_Bool, cases_lt, or_cases, or_left, or_right, false≢true}
-use Rattle.board_prelude.proofs.Common.{nat_tests, Setup, Bytes}
+use Rattle.board_prelude.proofs.Common.{nat_tests, Setup, Bytes, each_below}
 use Rattle.addr_decode.specs.Edges.{edges_of, edges_after}
+use Rattle.addr_decode.specs.Singles.{single_count}
 use Rattle.map_ranges.specs.declared.range.Changed.{Changed}
 use Rattle.map_builder.specs.Common.{both, is_above_first, is_inside, edges_inside, is_window, count_of, IsOutside}
 use Rattle.map_builder.specs.Common.{with_window, sorted, AreAbove, Rise, rows_in}
+use Rattle.map_builder.specs.Changed.{single_windows}
 use Rattle.map_builder.proofs.OutsideLemmas.{Outside, outside_both}
 use Rattle.map_builder.proofs.BoundsLemmas.{Ordered}
 
@@ -461,7 +463,8 @@ pub one_sorted : (window : Changed) → sorted (window ∷ []) ≡ window ∷ []
 unfolding sorted with_window
 one_sorted window = refl
 
-pub two_sorted : (window other : Changed) → nat_lt other.hi window.lo ≡ false → nat_lt window.hi other.lo ≡ true →
-    sorted (window ∷ other ∷ []) ≡ window ∷ other ∷ []
+-- each row of the table of the registers of one byte rises
+pub singles_sorted : (number : ℕ) → number < single_count → sorted (single_windows number) ≡ single_windows number
 unfolding sorted with_window
-two_sorted window other not_before behind = rw (not_before, behind) refl
+singles_sorted number below =
+    each_below (λ k. sorted (single_windows k) ≡ single_windows k) single_count number (search rules) below

@@ -7,7 +7,7 @@ use Rattle.board_base.specs.declared.access.Width.TheVariants.{Two, Four}
 use Rattle.addr_decode.specs.declared.register.MapRegister.{MapRegister}
 use Rattle.addr_decode.specs.MapRegister.{map_register, names_of}
 use Rattle.map_builder.specs.Common.{after, IsHeldAt}
-use Rattle.map_builder.proofs.KeptStores.{same_register}
+use Rattle.addr_decode.proofs.StoreLemmas.{same_register}
 use Rattle.map_builder.proofs.KeptLemmas.{areas_same}
 use Rattle.map_builder.proofs.MovedRows.{row_stays}
 

@@ -1,14 +1,13 @@
 -- The windows of the address map that each register byte governs, and the bounds of those that a change may change.
 use Rattle.std.specs.Prelude.{ℕ, ◌+◌, ◌-◌, ◌*◌, ◌/◌, ◌^◌, ◌<◌, ◌⊎◌, ◌==◌, nat_lt, nat_le, Bool, false, ◌&&◌}
 use Rattle.std.specs.Prelude.{length, if◌then◌else◌, List, [], ◌∷◌, ◌++◌, take, map, filter, flat_map, Option, Some}
-use Rattle.std.specs.Prelude.{None, unwrap_or}
+use Rattle.std.specs.Prelude.{None, unwrap_or, get_or}
 use Rattle.board_prelude.specs.Common.{option_map_or, enumerate_from, list_any, Reg, bytes_of, MapChange, Store, Reset}
 use Rattle.board_prelude.specs.Common.{FittedCard, Setup, card_at, Bytes, Window, memory_window, rom_window, vga_window}
 use Rattle.board_prelude.specs.Common.{smram_range, expansion_range, system_bios, hole_at_512_kib, hole_at_15_mib}
 use Rattle.board_prelude.specs.Common.{lower_bios, selectable_bios, largest_top, address_count, changed_byte, reg_after}
 use Rattle.addr_decode.specs.declared.register.MapRegister.{MapRegister}
-use Rattle.addr_decode.specs.declared.register.MapRegister.TheVariants.{Pam, RowBoundary, Hole, Smram, ChipSelects}
-use Rattle.addr_decode.specs.declared.register.MapRegister.TheVariants.{Card}
+use Rattle.addr_decode.specs.declared.register.MapRegister.TheVariants.{Pam, RowBoundary, Single, Card}
 use Rattle.addr_decode.specs.declared.register.CardRegister.{CardRegister}
 use Rattle.addr_decode.specs.declared.register.CardRegister.TheVariants.{Command, Base, ExpansionRom}
 use Rattle.addr_decode.specs.Common.{is_of_card, map_register, edges_of, first_address}
@@ -53,14 +52,23 @@ card_windows bytes Command card = map decoded (base_windows bytes card ++ rom_wi
 card_windows bytes (Base k) card = map decoded (filter (λ window. window.base == k / 4) (base_windows bytes card))
 card_windows bytes (ExpansionRom k) card = map decoded (rom_window bytes card)
 
--- where the registers hold these bytes. The boundaries: every address that a row can have. FDHC: the two holes. SMRAM:
--- where it can lie. XBCS: the ranges of the ROM that it selects
+-- those of each register of one byte, by its number. FDHC: the two holes. SMRAM: where it can lie. XBCS: the ranges of
+-- the ROM that it selects
+abbrev pub windows_of_singles : List (List Changed)
+windows_of_singles =
+    (whole hole_at_512_kib ∷ whole hole_at_15_mib ∷ [])
+    ∷ (whole smram_range ∷ [])
+    ∷ (whole lower_bios ∷ whole selectable_bios ∷ [])
+    ∷ []
+
+abbrev pub single_windows : (number : ℕ) → List Changed
+single_windows number = get_or windows_of_singles number []
+
+-- where the registers hold these bytes. The boundaries: every address that a row can have
 abbrev pub register_windows : Setup → Bytes → MapRegister → List Changed
 register_windows setup bytes (Pam number) = pam_windows number ∷ []
 register_windows setup bytes (RowBoundary row) = from_to 0 (largest_top - 1) ∷ []
-register_windows setup bytes Hole = whole hole_at_512_kib ∷ whole hole_at_15_mib ∷ []
-register_windows setup bytes Smram = whole smram_range ∷ []
-register_windows setup bytes ChipSelects = whole lower_bios ∷ whole selectable_bios ∷ []
+register_windows setup bytes (Single number) = single_windows number
 register_windows setup bytes (Card dev register) = option_map_or (card_windows bytes register) (card_at setup dev) []
 
 -- a register without a name governs none

@@ -2,6 +2,7 @@
 use Rattle.std.specs.Prelude.{ℕ, ◌+◌, ◌%◌, ◌^◌, ◌<◌, ◌≤◌, List, length, All, slice_index}
 use Rattle.board_prelude.specs.Common.{Setup, IsCardList, largest_top, Bytes, top_of, MapRange, Tiles, IsFlatMapOf}
 use Rattle.pci_bars.specs.Cards.{CardBytes, AreFitted}
+use Rattle.addr_decode.specs.Edges.{most_edges}
 use Rattle.addr_decode.specs.MapRegs.{MapBytes, StandsFor}
 use Rattle.map_ranges.specs.declared.range.Changed.{Changed}
 pub use Rattle.map_ranges.specs.Ranges.{range_of}
@@ -27,9 +28,9 @@ pub record IsOfSomeBoard (regs : MapBytes) : Type 0 where
   pub top : top_of bytes ≤ largest_top
   pub stands : StandsFor setup bytes regs
 
--- a range begins at the first address, and one at each of at most 141 edges
+-- a range begins at the first address, and one at each edge
 abbrev pub most_ranges : ℕ
-most_ranges = 142
+most_ranges = most_edges + 1
 
 -- the ranges are the flat map of every board that has these registers, and cover all addresses
 pub record IsMapOf (regs : MapBytes) (ranges : List MapRange) : Type 0 where

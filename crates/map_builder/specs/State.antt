@@ -53,10 +53,8 @@ windows_fields = do
 abbrev pub regs_of : MapBytes → MapRegs
 regs_of regs = record {
   drb = regs.drb;
-  fdhc = regs.fdhc;
   pam = regs.pam;
-  smram = regs.smram;
-  xbcs = regs.xbcs;
+  singles = regs.singles;
   cards = record { items = regs.cards };
 }
 

@@ -7,12 +7,9 @@ ghost use Rattle.map_builder.specs.Changed.{register_windows};
 ghost use Rattle.map_builder.specs.Rows.{AreMoved, is_row_name};
 ghost use Rattle.map_builder.specs.Sorted.{sorted as sorted_by};
 
-use crate::changed::{push_range, push_two, windows_of_pam};
+use crate::changed::{push_of_single, windows_of_pam};
 use crate::rows::choose_moved;
 use addr_decode::MapRegister;
-use board_spec::range::{
-    HOLE_AT_15_MIB, HOLE_AT_512_KIB, LOWER_BIOS, SELECTABLE_BIOS, SMRAM_RANGE,
-};
 use map_ranges::Windows;
 
 /// Sets `chosen` to the windows in which the areas are looked up anew after a store to one register of a bridge, in
@@ -51,9 +48,7 @@ fn choose_windows_of(chosen: &mut Windows, register: MapRegister, old: &[u8; 8],
     match register {
         MapRegister::Pam(number) => chosen.push(windows_of_pam(number)),
         MapRegister::RowBoundary(_) => choose_moved(chosen, old, new),
-        MapRegister::Hole => push_two(chosen, HOLE_AT_512_KIB, HOLE_AT_15_MIB),
-        MapRegister::Smram => push_range(chosen, SMRAM_RANGE),
-        MapRegister::ChipSelects => push_two(chosen, LOWER_BIOS, SELECTABLE_BIOS),
+        MapRegister::Single(number) => push_of_single(chosen, number.into()),
         MapRegister::Card(..) => {}
     }
 }

@@ -11,10 +11,13 @@ ghost use Rattle.map_builder.specs.Build.{IsWhole};
 ghost use Rattle.map_builder.specs.Sorted.{Rise, rows_in as rows_of};
 
 use crate::changed::EVERYTHING;
-use addr_decode::{MapRegs, next_edge, row};
+use addr_decode::{MOST_EDGES, MapRegs, next_edge, row};
 use board_base::Steps;
 use map_ranges::{CAPACITY, Changed, FixedList, LAST_ADDRESS, Range, Ranges, index_of, range_at};
 use std::sync::ledger::Ledger;
+
+/// The most ranges that a map has: one begins at the first address, and one at each edge.
+pub const MOST_RANGES: usize = MOST_EDGES + 1;
 
 /// The ranges of the flat map of these registers. At each edge, from address 0 on, the range below goes on where the
 /// areas are the same, and else a new range begins. Each row that is looked up is a step.

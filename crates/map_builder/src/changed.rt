@@ -4,12 +4,13 @@ ghost use Rattle.std.specs.Prelude.{map, flat_map};
 ghost use Rattle.board_prelude.specs.Common.{Setup, IsBase, IsCard, IsExpansionRom, Bytes};
 ghost use Rattle.pci_bars.specs.Common.{base_of, AreCards, AreFitted, cards_of};
 ghost use Rattle.addr_decode.specs.Common.{AreNumbered, IsCardNumber, IsNumbered, IsNumberedName, names_of, StandsFor};
-ghost use Rattle.addr_decode.specs.Common.{map_bytes};
+ghost use Rattle.addr_decode.specs.Common.{map_bytes, single_count};
 ghost use Rattle.map_builder.specs.Changed.{pam_windows, register_windows, name_windows, windows_covered, from_to};
-ghost use Rattle.map_builder.specs.Changed.{is_card_name, rest_on_registers};
+ghost use Rattle.map_builder.specs.Changed.{is_card_name, rest_on_registers, single_windows};
 ghost use Rattle.map_builder.specs.Held.{block, held_by, held_from, held_at, rom_held, vga_held, card_held};
 ghost use Rattle.map_builder.specs.Held.{device_held};
 
+use addr_decode::single::{HOLE, SMRAM_CONTROL};
 use addr_decode::{CardRegister, MapChange, MapRegister, MapRegs};
 use board_spec::range::{
     AddressRange, EXPANSION_RANGE, HOLE_AT_15_MIB, HOLE_AT_512_KIB, LARGEST_TOP, LOWER_BIOS,
@@ -144,15 +145,27 @@ fn push_of_register(windows: &mut Covered, regs: &MapRegs, register: MapRegister
     match register {
         MapRegister::Pam(number) => windows.push(windows_of_pam(number)),
         MapRegister::RowBoundary(_) => windows.push(ROWS),
-        MapRegister::Hole => push_two(windows, HOLE_AT_512_KIB, HOLE_AT_15_MIB),
-        MapRegister::Smram => push_range(windows, SMRAM_RANGE),
-        MapRegister::ChipSelects => push_two(windows, LOWER_BIOS, SELECTABLE_BIOS),
+        MapRegister::Single(number) => push_of_single(windows, number.into()),
         MapRegister::Card(dev, register) => push_of_device(windows, &regs.cards, dev, register),
     }
 }
 
+/// Adds the windows of the register of one byte that has a number.
+pub fn push_of_single(windows: &mut Covered, number: usize)
+    requires number { number < single_count }
+    requires room { length windows.old.items ≤ 56 }
+    ensures few { length windows.new.items ≤ length windows.old.items + 8 }
+    ensures windows { windows.new.items ≡ windows.old.items ++ single_windows number }
+{
+    match number {
+        HOLE => push_two(windows, HOLE_AT_512_KIB, HOLE_AT_15_MIB),
+        SMRAM_CONTROL => push_range(windows, SMRAM_RANGE),
+        _ => push_two(windows, LOWER_BIOS, SELECTABLE_BIOS),
+    }
+}
+
 /// Adds a range as a window.
-pub fn push_range(windows: &mut Covered, range: AddressRange)
+fn push_range(windows: &mut Covered, range: AddressRange)
     requires room { length windows.old.items ≤ 63 }
     ensures windows { windows.new.items ≡ windows.old.items ++ from_to range.first range.last ∷ [] }
 {
@@ -163,7 +176,7 @@ pub fn push_range(windows: &mut Covered, range: AddressRange)
 }
 
 /// Adds two ranges as windows.
-pub fn push_two(windows: &mut Covered, first: AddressRange, second: AddressRange)
+fn push_two(windows: &mut Covered, first: AddressRange, second: AddressRange)
     requires room { length windows.old.items ≤ 62 }
     ensures windows { windows.new.items
         ≡ windows.old.items ++ from_to first.first first.last ∷ from_to second.first second.last ∷ [] }

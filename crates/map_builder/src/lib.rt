@@ -11,6 +11,7 @@ mod state;
 mod unchanged;
 mod widths;
 
+pub use build::MOST_RANGES;
 pub use flat_map::FlatMap;
 pub use map_ranges::{Changed, Range, Span, index_of};
 pub use state::{law_one_map, law_same_map};

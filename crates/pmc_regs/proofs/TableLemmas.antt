@@ -1,6 +1,6 @@
 -- The registers of the host bridge in the table of registers.
 use Rattle.std.proofs.Common.{◌≡◌, ℕ, ◌+◌, ◌<◌, ◌≤◌, ◌⊎◌, List, [], ◌∷◌, length, ◌∙◌, refl, arith, inl, inr, lit<, map}
-use Rattle.std.proofs.Common.{slice_index}
+use Rattle.std.proofs.Common.{slice_index, drop}
 use Rattle.board_prelude.proofs.Common.{cases_lt, Setup, host_bridge, listed, reset_byte, writable_bits, Bytes, bridge}
 use Rattle.board_prelude.proofs.Common.{drb, listed-past, listed-before, Each, each_below}
 use Rattle.board_spec.specs.RegisterTable.{Line}
@@ -61,67 +61,39 @@ unlisted column (entry ∷ later) off (inl below, outside) =
 unlisted column (entry ∷ later) off (inr above, outside) =
     listed-past column entry later off above ∙ unlisted column later off outside
 
+below_or_past : (off first end : ℕ) → (first ≤ off → end ≤ off) → (off < first) ⊎ (end ≤ off)
+below_or_past off first end past =
+    elim (cases_lt off first) [ inl below ↦ inl below | inr from ↦ inr (past (omega arith)) ]
+
 -- a fixed offset past the header lies outside all lines
 outside : (off : ℕ) → IsFixedOffset off → 12 ≤ off → IsOutside off host_bridge
 unfolding host_bridge
 outside off fixed from =
-    elim fixed.1 [
-      | inl below_rows ↦
-          elim fixed.0.1 [
-            | inl below_pam ↦ (
-              inr (omega arith),
-              (
-                inr (omega arith),
-                (
-                  inr (omega arith),
-                  (
-                    inl (omega arith),
-                    (
-                      inl (omega arith),
-                      (inl (omega arith), (inl (omega arith), (inl (omega arith), tt))),
-                    ),
-                  ),
-                ),
-              ),
-            )
-            | inr above_pam ↦ absurd (omega arith)
-          ]
-      | inr above_hole ↦
-          elim fixed.0.2 [
-            | inl below_smram ↦ (
-              inr (omega arith),
-              (
-                inr (omega arith),
-                (
-                  inr (omega arith),
-                  (
-                    inr (omega arith),
-                    (
-                      inr (omega arith),
-                      (inr (omega arith), (inr (omega arith), (inl (omega arith), tt))),
-                    ),
-                  ),
-                ),
-              ),
-            )
-            | inr above_smram ↦ (
-              inr (omega arith),
-              (
-                inr (omega arith),
-                (
-                  inr (omega arith),
-                  (
-                    inr (omega arith),
-                    (
-                      inr (omega arith),
-                      (inr (omega arith), (inr (omega arith), (inr (omega arith), tt))),
-                    ),
-                  ),
-                ),
-              ),
-            )
-          ]
-    ]
+    let pam : 0x59 ≤ off → 0x60 ≤ off =
+    λ above. elim fixed.0.1 [ inl low ↦ omega (arith, low, above) | inr high ↦ omega (arith, high) ] in
+    let rows : 0x60 ≤ off → 0x69 ≤ off =
+    λ above. elim fixed.1 [ inl low ↦ omega (arith, low, above) | inr high ↦ omega (arith, high) ] in
+    let control : 0x72 ≤ off → 0x73 ≤ off =
+    λ above. elim fixed.0.2 [ inl low ↦ omega (arith, low, above) | inr high ↦ omega (arith, high) ] in
+    let later : IsOutside off (drop 5 host_bridge) = (
+      below_or_past off 0x60 0x68 (λ above. omega (arith, rows above)),
+      (
+        below_or_past off 0x68 0x69 (λ above. omega (arith, rows (omega (arith, above)))),
+        (below_or_past off 0x72 0x73 control, tt),
+      ),
+    ) in (
+      inr (omega arith),
+      (
+        inr (omega arith),
+        (
+          inr (omega arith),
+          (
+            below_or_past off 0x59 0x5A (λ above. omega (arith, pam above)),
+            (below_or_past off 0x5A 0x60 (λ above. pam (omega (arith, above))), later),
+          ),
+        ),
+      ),
+    )
 
 pub reset_byte-blank : (setup : Setup) (off : ℕ) → IsFixedOffset off → 12 ≤ off → reset_byte setup (bridge off) ≡ 0
 unfolding reset_byte

@@ -2,7 +2,7 @@
 //! boundaries of the DRAM rows, and the fixed DRAM hole.
 #![tactic(auto)]
 
-mod hole;
+pub mod hole;
 mod pmc;
 mod rows;
 
