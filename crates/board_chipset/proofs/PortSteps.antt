@@ -1,6 +1,6 @@
 -- The state after an access at a port.
 use Rattle.std.proofs.Common.{◌≡◌, ◌≢◌, ℕ, true, false, List, ◌∷◌, Option, None, refl, ◌∙◌, ap}
-use Rattle.board_prelude.proofs.Common.{cond_both, Width, PortAccess, Reg, Dev, Keyboard, Target, Device, Config, Card}
+use Rattle.board_prelude.proofs.Common.{cond_both, Width, PortAccess, Reg, Dev, Target, Device, Config, Card}
 use Rattle.board_prelude.proofs.Common.{Abort, bytes_of, Entry, Reply, Setup, config_address, is_hard_reset, Cell}
 use Rattle.board_prelude.proofs.Common.{entry_put, byte_put, port_put, device_in, device_reached, device_value, Decoded}
 use Rattle.board_prelude.proofs.Common.{port_value, bus_reply, port_answer, Bytes}
@@ -59,30 +59,27 @@ pub record IsChipAt (setup : Setup) (history : List Entry) (access : PortAccess)
   pub port : is_chip_port dev access.port (bytes_of access.width) ≡ true
 
 pub chip_at : (setup : Setup) (history : List Entry) (access : PortAccess) (dev : Dev) → dev ≢ AddressPort →
-    dev ≢ Reset → dev ≢ Keyboard →
+    dev ≢ Reset →
     Reached setup history access (Device dev) → IsChipAt setup history access dev
-chip_at setup history access AddressPort address control keyboard is = absurd (address refl)
-chip_at setup history access Reset address control keyboard is = absurd (control refl)
-chip_at setup history access Keyboard address control keyboard is = absurd (keyboard refl)
-chip_at setup history access _ address control keyboard is = record { beside = is.0; port = is.1 }
+chip_at setup history access AddressPort address control is = absurd (address refl)
+chip_at setup history access Reset address control is = absurd (control refl)
+chip_at setup history access _ address control is = record { beside = is.0; port = is.1 }
 
 -- the same where no history is known
 pub chip_in : (setup : Setup) (bytes : Bytes) (address : ℕ) (access : PortAccess) (dev : Dev) → dev ≢ AddressPort →
-    dev ≢ Reset → dev ≢ Keyboard →
+    dev ≢ Reset →
     IsReached setup bytes address access.port access.width (Device dev) →
     is_chip_port dev access.port (bytes_of access.width) ≡ true
-chip_in setup bytes address access AddressPort named control keyboard is = absurd (named refl)
-chip_in setup bytes address access Reset named control keyboard is = absurd (control refl)
-chip_in setup bytes address access Keyboard named control keyboard is = absurd (keyboard refl)
-chip_in setup bytes address access _ named control keyboard is = is.1
+chip_in setup bytes address access AddressPort named control is = absurd (named refl)
+chip_in setup bytes address access Reset named control is = absurd (control refl)
+chip_in setup bytes address access _ named control is = is.1
 
 pub chip_value : (setup : Setup) (history : List Entry) (dev : Dev) (port : ℕ) (width : Width) → dev ≢ AddressPort →
-    dev ≢ Reset → dev ≢ Keyboard →
+    dev ≢ Reset →
     device_value setup history dev port width ≡ port_value setup history dev port width
-chip_value setup history AddressPort port width address control keyboard = absurd (address refl)
-chip_value setup history Reset port width address control keyboard = absurd (control refl)
-chip_value setup history Keyboard port width address control keyboard = absurd (keyboard refl)
-chip_value setup history _ port width address control keyboard = refl
+chip_value setup history AddressPort port width address control = absurd (address refl)
+chip_value setup history Reset port width address control = absurd (control refl)
+chip_value setup history _ port width address control = refl
 
 -- ---- the state after an entry
 

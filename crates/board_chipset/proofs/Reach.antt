@@ -28,7 +28,6 @@ module _ (setup : Setup) (bytes : Bytes) (address port : ℕ) (width : Width) wh
   abbrev pub IsReached : Target → Type 0
   IsReached (Device AddressPort) = (port ≡ config_address_port) × (bytes_of width ≡ 4)
   IsReached (Device Reset) = (port ≡ reset_control_port) × (bytes_of width ≡ 1)
-  IsReached (Device Keyboard) = IsBeside setup address port width
   IsReached (Device dev) = IsBeside setup address port width × (is_chip_port dev port (bytes_of width) ≡ true)
   IsReached (Config reg) = (is_config_port port ≡ true) × (config_register setup address port ≡ Some reg)
   IsReached (Card dev base off) = IsBeside setup address port width × IsClaimed setup bytes port dev base off
@@ -101,7 +100,7 @@ module _ (setup : Setup) (bytes : Bytes) (address : ℕ) (disk : Bool) (port : �
       Finds (Some dev)
   at_device AddressPort by is = address_line port width is
   at_device Reset by is = control_line port width is
-  at_device Keyboard by is = cond_both (is_bit (bytes xbcs) 1) _ _ Lands (λ _. by) (λ _. others _ by)
+  at_device Keyboard by is = cond_both (is_bit (bytes xbcs) 1) _ _ Lands (λ _. (by, is)) (λ _. others _ by)
   at_device Clock by is = cond_both (is_bit (bytes xbcs) 0) _ _ Lands (λ _. (by, is)) (λ _. others _ by)
   at_device Ata by is = at_disk disk by is
   at_device Wires by is = absurd (false≢true is)

@@ -14,9 +14,6 @@ use crate::state::State;
 use addr_decode::{ConfigRegister, Found};
 use board_base::{Denial, Dev, PortAccess, Target};
 
-/// The byte that a read of the keyboard controller's empty socket gives.
-const EMPTY_SOCKET: u32 = 0xFF;
-
 /// Does an access at a port, and returns the reply: the value where it reads, what answered, and what denied it.
 pub fn access(state: &mut State, access: &PortAccess) -> BusReply
     requires bus { IsBusAccess access.now.write access.now.port access.now.width access.now.value }
@@ -186,7 +183,7 @@ fn read(state: &mut State, target: Target, access: &PortAccess) -> u32
         .read(target, u32::from(access.port), access.width)
 }
 
-/// The value of a read of a device's port. In place of the keyboard controller there is an empty socket.
+/// The value of a read of a device's port.
 fn read_device(state: &mut State, dev: Dev, access: &PortAccess) -> u32
     requires reaching { Reaching state.old access.now (Device dev) }
     requires reads { access.now.write ≡ false }
@@ -199,7 +196,6 @@ fn read_device(state: &mut State, dev: Dev, access: &PortAccess) -> u32
     match dev {
         Dev::Confadd => state.registers.address.read(),
         Dev::Reset => u32::from(state.registers.control.read()),
-        Dev::Keyboard => EMPTY_SOCKET,
         _ => state
             .devices
             .read(&state.registers.south.routes, dev, access),
@@ -237,7 +233,7 @@ fn write_register(state: &mut State, register: &ConfigRegister, access: &PortAcc
     }
 }
 
-/// Writes a port of a device. A write to the empty socket is lost.
+/// Writes a port of a device.
 fn write_device(state: &mut State, dev: Dev, access: &PortAccess)
     requires reaching { Reaching state.old access.now (Device dev) }
     requires writes { access.now.write ≡ true }
@@ -248,7 +244,6 @@ fn write_device(state: &mut State, dev: Dev, access: &PortAccess)
     match dev {
         Dev::Confadd => state.registers.write_address(access.value),
         Dev::Reset => write_control(state, access),
-        Dev::Keyboard => {}
         _ => state
             .devices
             .write(&state.registers.south.routes, dev, access),

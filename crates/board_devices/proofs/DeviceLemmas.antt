@@ -471,7 +471,6 @@ unfolding devices_accessed
 untouched None access devices none = refl
 untouched (Some Confadd) access devices none = refl
 untouched (Some Reset) access devices none = refl
-untouched (Some Keyboard) access devices none = refl
 untouched (Some Wires) access devices none = refl
 untouched (Some (Vector chip)) access devices none = refl
 untouched (Some (Spurious chip)) access devices none = refl

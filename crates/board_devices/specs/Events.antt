@@ -1,6 +1,6 @@
 -- What an entry asks of the devices.
 use Rattle.std.specs.Prelude.{ℕ, ◌≡◌, ◌&&◌, Bool, true, false, List, Option, Some, None}
-use Rattle.board_prelude.specs.Common.{PortAccess, Dev, Pit, Keyboard, Elcr, Ata, Wires, Vector}
+use Rattle.board_prelude.specs.Common.{PortAccess, Dev, Pit, Elcr, Ata, Wires, Vector}
 use Rattle.board_prelude.specs.Common.{Spurious, is_port_of, Event, Memory}
 use Rattle.board_prelude.specs.Common.{Wide, Port, Entry, Setup, is_hard_reset, device_reached, option_map_or, out_of}
 use Rattle.board_prelude.specs.Common.{is_interrupt, timer_of, clock_of, disk_of}
@@ -19,13 +19,11 @@ pub record Asks (history : List Entry) (entry : Entry) (event : Event) : Type 0 
   pub event_is : entry.event ≡ event
   pub soft : is_hard_reset history entry.event ≡ false
 
--- the devices whose state an access at a port can change. The configuration address and reset control are no part of
--- them, and behind the socket and the wires is nothing
+-- the devices that accesses at ports reach here. The configuration address and reset control stand elsewhere
 abbrev pub is_chip : Option Dev → Bool
 is_chip None = false
 is_chip (Some Confadd) = false
 is_chip (Some Reset) = false
-is_chip (Some Keyboard) = false
 is_chip (Some Wires) = false
 is_chip (Some (Vector chip)) = false
 is_chip (Some (Spurious chip)) = false

@@ -9,8 +9,8 @@ mod devices;
 mod lines;
 mod monitor;
 mod outside;
-mod state;
 mod plain;
+mod state;
 mod system;
 mod told;
 

@@ -1,4 +1,5 @@
-//! The plain ports: the registers of the board itself, which drive no line and change at accesses alone.
+//! The plain ports: the registers of the board itself, which drive no line and change at accesses alone. In place of the
+//! keyboard controller there is an empty socket.
 
 ghost use Rattle.std.specs.Prelude.{◌≡◌, ◌≤◌, ◌++◌, OnOk, Some, true, false};
 ghost use Rattle.board_prelude.specs.Common.{bytes_of, largest_of, plain_at_reset, plain_accessed, plain_value};
@@ -10,6 +11,9 @@ use crate::system::SystemPort;
 use board_base::{Dev, NoMemory, PortAccess};
 use byte_fields::{Bad, Fields};
 use std::marker::Model;
+
+/// What a read of the empty socket of a keyboard controller gives.
+const EMPTY_SOCKET: u32 = 0xFF;
 
 /// The plain ports.
 #[derive(Drop)]
@@ -35,13 +39,14 @@ impl PlainPorts {
         }
     }
 
-    /// Reads a plain port, where OUT of counter 2 has this level. Of a device that has none all ones.
+    /// Reads a plain port, where OUT of counter 2 has this level. All ones where there is none.
     pub fn read(&mut self, dev: Dev, access: &PortAccess, out: bool) -> u32
         ensures value { result ≡ plain_value dev self.old out access.now.width }
         ensures after { self.new ≡ plain_accessed (Some dev) (record access.now { write = false }) self.old }
     {
         match dev {
             Dev::System => u32::from(self.system.read(out)),
+            Dev::Keyboard => EMPTY_SOCKET,
             _ => access.width.largest(),
         }
     }

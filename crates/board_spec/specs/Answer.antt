@@ -1,7 +1,7 @@
 -- The answer to an event after a history.
 use Rattle.std.specs.Prelude.{ℕ, ◌≡◌, ◌%◌, ◌^◌, ◌==◌, Bool, if◌then◌else◌, List, length, slice_get, slice_index, Option}
 use Rattle.std.specs.Prelude.{Some, None, is_some, unwrap_or, map}
-use Rattle.device_spec.specs.Common.{Width, Kind, PortAccess, WideAccess, Area, Dev, Reset, Keyboard, option_map_or}
+use Rattle.device_spec.specs.Common.{Width, Kind, PortAccess, WideAccess, Area, Dev, Reset, option_map_or}
 use Rattle.device_spec.specs.Common.{Target, Dram, Shadow, Smram, Rom, Card, Device, Config, Abort, Denial, largest_of}
 use Rattle.board_base.specs.declared.access.Access.{Access}
 use Rattle.board_base.specs.declared.target.Area.TheVariants.{Dram as DramArea, Shadow as ShadowArea}
@@ -62,11 +62,10 @@ target_at setup AbortArea addr = Abort
 
 -- ---- values
 
--- what a device's port reads. The socket of the keyboard controller is empty
+-- what a device's port reads
 abbrev pub port_value : Setup → List Entry → Dev → ℕ → Width → ℕ
 port_value setup before Confadd port width = config_address before
 port_value setup before Reset port width = reset_control before
-port_value setup before Keyboard port width = 0xFF
 port_value setup before dev port width = device_value setup before dev port width
 
 -- what a read gives that has this target, at this address or port. Nobody's reads give all ones

@@ -2,7 +2,7 @@
 -- target names, by the machine of that device; a hard reset puts each in its reset state.
 use Rattle.std.specs.Prelude.{ℕ, ◌+◌, ◌%◌, ◌==◌, Bool, false, not, if◌then◌else◌, List, [], ◌∷◌, Option, Some, None}
 use Rattle.std.specs.Prelude.{unwrap_or, option_map}
-use Rattle.device_spec.specs.Common.{Width, largest_of, PortAccess, Dev, Pit, System, Elcr, Ata, Target, Device, Triggers}
+use Rattle.device_spec.specs.Common.{Width, largest_of, PortAccess, Dev, Pit, System, Keyboard, Elcr, Ata, Target, Device, Triggers}
 use Rattle.device_spec.specs.Common.{triggers_at_reset, triggers_after_write, PitState, reset as timer_at_reset}
 use Rattle.device_spec.specs.Common.{port_read, port_write, set_gate2, pulses, Clock, after_read, after_write}
 use Rattle.device_spec.specs.Common.{after_moment, after_reset as clock_after_reset, civil_time, Disk}
@@ -116,9 +116,11 @@ system_of history = (plain_of history).system
 abbrev pub system_shown : SystemPort → (out : Bool) → ℕ
 system_shown port out = port.kept + (if port.flip then 0x10 else 0) + (if out then 0x20 else 0)
 
--- what a read of a plain port gives, where OUT of counter 2 has this level. Of a device that has none all ones
+-- what a read of a plain port gives, where OUT of counter 2 has this level. The socket of the keyboard controller is
+-- empty, and a device that has no such port gives all ones
 abbrev pub plain_value : Dev → PlainPorts → (out : Bool) → Width → ℕ
 plain_value System plain out width = system_shown plain.system out
+plain_value Keyboard plain out width = 0xFF
 plain_value _ plain out width = largest_of width
 
 -- ---- the 8254, whose gate 2 is bit 0 of port 61h

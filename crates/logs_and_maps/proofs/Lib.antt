@@ -1,5 +1,4 @@
 pub mod Joined
-pub mod DeviceWords
 pub mod Digits
 pub mod Lines
 pub mod Pairs

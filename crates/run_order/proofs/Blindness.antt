@@ -3,7 +3,7 @@ use Rattle.std.proofs.Common.{◌≡◌, ℕ, zero, suc, ◌==◌, nat_lt, Bool,
 use Rattle.std.proofs.Common.{ap, inl, inr, Option, Some, None, unwrap_or, option_map, option_and_then, if◌then◌else◌}
 use Rattle.board_prelude.proofs.Common.{option_to_list, option_map_or, cases_Bool, WideAccess, PortAccess, Kind, Width}
 use Rattle.board_prelude.proofs.Common.{Reg, Target, Rom, Card, Device, Config, Abort, Dev, Pic0}
-use Rattle.board_prelude.proofs.Common.{Pic1, Pit, Keyboard, Elcr, Ata, largest_of}
+use Rattle.board_prelude.proofs.Common.{Pic1, Pit, Elcr, Ata, largest_of}
 use Rattle.board_prelude.proofs.Common.{Triggers, triggers_at_reset, trigger_byte, PitState, out_of, pulses, port_read}
 use Rattle.board_prelude.proofs.Common.{reset as timer_at_reset, Clock, after_reset as clock_after_reset, read_value}
 use Rattle.board_prelude.proofs.Common.{Disk, read_of, Pair, pair_at_reset, pair_after_lines, port_byte, answer_of}
@@ -354,7 +354,6 @@ module _ (leaves : MemoryLeavesDevices) (setup : Setup) (final before : List Ent
         → port_value setup final dev port width ≡ port_value setup before dev port width
     port_same Confadd port width = address_same
     port_same Reset port width = control_same
-    port_same Keyboard port width = refl
     port_same dev port width = device_same dev port width
 
     dram_same : dram_byte setup final ≡ dram_byte setup before

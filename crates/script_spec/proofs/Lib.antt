@@ -30,7 +30,6 @@ pub mod EventRange
 pub mod RangeLaws
 pub mod ReadingExists
 pub mod CutLemmas
-pub mod NamedDevices
 pub mod TargetBack
 pub mod ReplyBack
 pub mod LogReading

@@ -1,17 +1,17 @@
 -- At the ports of the keyboard controller, the clock and the primary IDE channel, the device answers
 -- exactly where the chip selects it.
-use Rattle.std.proofs.Common.{◌≡◌, ◌≢◌, ℕ, ◌↔◌, Bool, true, false, Option, Some, None, refl, sym, ap, subst, arith, inl}
-use Rattle.std.proofs.Common.{inr, ◌&&◌, not, if◌then◌else◌, unwrap_or, option_map}
-use Rattle.board_prelude.proofs.Common.{cases_eq, false≢true, nat_tests, One, Dev, Keyboard, Ata, Target, Device}
-use Rattle.board_prelude.proofs.Common.{Denial, Register, clock_index_port, clock_data_port, disk_error_port}
-use Rattle.board_prelude.proofs.Common.{disk_count_port, disk_low_port, disk_mid_port, disk_high_port, disk_device_port}
-use Rattle.board_prelude.proofs.Common.{disk_status_port, is_port_of, Setup, is_bit, Bytes, Window, io_claim}
-use Rattle.board_prelude.proofs.Common.{xbcs as select_register, ide_command, idetim, idetim_high, device, nobody}
-use Rattle.board_prelude.proofs.Common.{card_port, unselected, port_target_of}
-use Rattle.board_base.specs.declared.access.Width.TheVariants.{Two, Four}
+use Rattle.std.proofs.Common.{◌≡◌, ◌≢◌, ℕ, ◌↔◌, Bool, true, false, Option, Some, None, refl, ap, arith, inl, inr, ◌&&◌}
+use Rattle.std.proofs.Common.{not, if◌then◌else◌, unwrap_or, option_map, ◌∙◌}
+use Rattle.board_prelude.proofs.Common.{cases_Bool, cond-true, cond-false, false≢true, nat_tests, Width, One, Dev}
+use Rattle.board_prelude.proofs.Common.{Keyboard, Ata, Target, Device, Denial, Register, bytes_of, is_port_of, device_at}
+use Rattle.board_prelude.proofs.Common.{Setup, is_bit, Bytes, Window, io_claim, xbcs as select_register, ide_command}
+use Rattle.board_prelude.proofs.Common.{idetim, idetim_high, device, nobody, card_port, unselected, device_port}
+use Rattle.board_prelude.proofs.Common.{is_config_port, port_target_of}
 use Rattle.board_base.specs.declared.target.Dev.TheVariants.{Clock}
-use Rattle.device_spec.specs.PortNames.{keyboard_data_port, keyboard_command_port, disk_data_port, disk_control_port}
-use Rattle.xbus_select.specs.PortSelects.{AnswersAt, KeyboardAnswers, ClockAnswers, DiskAnswers}
+use Rattle.device_spec.specs.Common.{PortsApart, ConfigApart}
+use Rattle.xbus_select.specs.Ide.{is_ide_decoded}
+use Rattle.xbus_select.specs.Piix.{is_keyboard_port, is_clock_port, is_disk_port, is_selected}
+use Rattle.xbus_select.specs.PortSelects.{KeyboardAnswers, ClockAnswers, DiskAnswers}
 
 -- ---- a device is no card and not nobody
 
@@ -51,71 +51,47 @@ by_bits setup bytes port dev true false =
 by_bits setup bytes port dev false second =
     (λ is. absurd (not_device setup bytes port (Register ide_command) dev is), λ no. absurd (false≢true no))
 
--- ---- the ports one by one
+-- ---- the ports of a device
 
-at_or_else : (P : ℕ → Type 0) (place port : ℕ) → P place → (port ≢ place → P port) → P port
-at_or_else P place port here elsewhere =
-    elim (cases_eq port place) [ inl same ↦ subst P (sym same) here | inr apart ↦ elsewhere apart ]
+module _ (apart : PortsApart) (config : ConfigApart) where
+  -- an access that the table gives to a device reaches what selects it
+  at_its_port :
+      (setup : Setup) (bytes : Bytes) (address : ℕ) (disk : Bool) (dev : Dev) (port : ℕ) (width : Width) →
+      is_port_of dev port (bytes_of width) ≡ true →
+      port_target_of setup bytes address disk port width ≡ device_port (Some dev) disk setup bytes port
+  unfolding port_target_of
+  at_its_port setup bytes address disk dev port width is =
+      let found : device_at port (bytes_of width) ≡ Some dev = apart dev port (bytes_of width) is in
+      elim (cases_Bool (is_config_port port)) [
+        | inl within ↦
+            let none : device_at port (bytes_of width) ≡ None = config port (bytes_of width) within in absurd (cc)
+        | inr beyond ↦
+            cond-false (is_config_port port) _ _ beyond
+            ∙ ap (λ (found : Option Dev). device_port found disk setup bytes port) found
+      ]
 
-pub keyboard_answers : KeyboardAnswers
-unfolding port_target_of
-keyboard_answers setup bytes address disk port is =
-    let At : ℕ → Type 0 = AnswersAt setup bytes address disk One Keyboard in
-    let selected : Bool = is_bit (bytes select_register) 1 in
-    let denial : Denial = Register select_register in
-    at_or_else At keyboard_data_port port (by_bit setup bytes keyboard_data_port denial Keyboard selected)
-    (λ a. at_or_else At keyboard_command_port port (by_bit setup bytes keyboard_command_port denial Keyboard selected)
-    (λ b. absurd (grind (arith, nat_tests))))
+  pub keyboard_answers : KeyboardAnswers
+  keyboard_answers setup bytes address disk port is =
+      let selects : is_selected bytes port ≡ is_bit (bytes select_register) 1 =
+      cond-true (is_keyboard_port port) _ _ is in
+      rw (at_its_port setup bytes address disk Keyboard port One (grind (arith, nat_tests)), selects)
+      (by_bit setup bytes port (Register select_register) Keyboard (is_bit (bytes select_register) 1))
 
-pub clock_answers : ClockAnswers
-unfolding port_target_of
-clock_answers setup bytes address disk port is =
-    let At : ℕ → Type 0 = AnswersAt setup bytes address disk One Clock in
-    let selected : Bool = is_bit (bytes select_register) 0 in
-    let denial : Denial = Register select_register in
-    at_or_else At clock_index_port port (by_bit setup bytes clock_index_port denial Clock selected)
-    (λ a. at_or_else At clock_data_port port (by_bit setup bytes clock_data_port denial Clock selected)
-    (λ b. absurd (grind (arith, nat_tests))))
+  pub clock_answers : ClockAnswers
+  clock_answers setup bytes address disk port is =
+      let other : is_keyboard_port port ≡ false = grind (arith, nat_tests) in
+      let selects : is_selected bytes port ≡ is_bit (bytes select_register) 0 =
+      cond-false (is_keyboard_port port) _ _ other ∙ cond-true (is_clock_port port) _ _ is in
+      rw (at_its_port setup bytes address disk Clock port One (grind (arith, nat_tests)), selects)
+      (by_bit setup bytes port (Register select_register) Clock (is_bit (bytes select_register) 0))
 
--- the data port, in words and doublewords
-word_answers :
-    (setup : Setup) (bytes : Bytes) (address port : ℕ) → is_port_of Ata port 2 ≡ true →
-    AnswersAt setup bytes address true Two Ata port
-unfolding port_target_of
-word_answers setup bytes address port is =
-    at_or_else (AnswersAt setup bytes address true Two Ata) disk_data_port port
-    (by_bits setup bytes disk_data_port Ata (is_bit (bytes ide_command) 0) (is_bit (bytes idetim_high) 7))
-    (λ a. absurd (grind (arith, nat_tests)))
-
-long_answers :
-    (setup : Setup) (bytes : Bytes) (address port : ℕ) → is_port_of Ata port 4 ≡ true →
-    AnswersAt setup bytes address true Four Ata port
-unfolding port_target_of
-long_answers setup bytes address port is =
-    at_or_else (AnswersAt setup bytes address true Four Ata) disk_data_port port
-    (by_bits setup bytes disk_data_port Ata (is_bit (bytes ide_command) 0) (is_bit (bytes idetim_high) 7))
-    (λ a. absurd (grind (arith, nat_tests)))
-
--- the other registers of the channel, in bytes
-register_answers :
-    (setup : Setup) (bytes : Bytes) (address port : ℕ) → is_port_of Ata port 1 ≡ true →
-    AnswersAt setup bytes address true One Ata port
-unfolding port_target_of
-register_answers setup bytes address port is =
-    let At : ℕ → Type 0 = AnswersAt setup bytes address true One Ata in
-    let enabled : Bool = is_bit (bytes ide_command) 0 in
-    let decoded : Bool = is_bit (bytes idetim_high) 7 in
-    at_or_else At disk_error_port port (by_bits setup bytes disk_error_port Ata enabled decoded)
-    (λ a. at_or_else At disk_count_port port (by_bits setup bytes disk_count_port Ata enabled decoded)
-    (λ b. at_or_else At disk_low_port port (by_bits setup bytes disk_low_port Ata enabled decoded)
-    (λ c. at_or_else At disk_mid_port port (by_bits setup bytes disk_mid_port Ata enabled decoded)
-    (λ d. at_or_else At disk_high_port port (by_bits setup bytes disk_high_port Ata enabled decoded)
-    (λ e. at_or_else At disk_device_port port (by_bits setup bytes disk_device_port Ata enabled decoded)
-    (λ f. at_or_else At disk_status_port port (by_bits setup bytes disk_status_port Ata enabled decoded)
-    (λ g. at_or_else At disk_control_port port (by_bits setup bytes disk_control_port Ata enabled decoded)
-    (λ h. absurd (grind (arith, nat_tests))))))))))
-
-pub disk_answers : DiskAnswers
-disk_answers setup bytes address One port is = register_answers setup bytes address port is
-disk_answers setup bytes address Two port is = word_answers setup bytes address port is
-disk_answers setup bytes address Four port is = long_answers setup bytes address port is
+  pub disk_answers : DiskAnswers
+  disk_answers setup bytes address width port is =
+      let no_keyboard : is_keyboard_port port ≡ false = grind (arith, nat_tests) in
+      let no_clock : is_clock_port port ≡ false = grind (arith, nat_tests) in
+      let there : is_disk_port port ≡ true = grind (arith, nat_tests) in
+      let selects : is_selected bytes port ≡ is_ide_decoded bytes =
+      cond-false (is_keyboard_port port) _ _ no_keyboard
+      ∙ (cond-false (is_clock_port port) _ _ no_clock ∙ ap (λ (b : Bool). b && is_ide_decoded bytes) there) in
+      rw (at_its_port setup bytes address true Ata port width is, selects)
+      (by_bits setup bytes port Ata (is_bit (bytes ide_command) 0) (is_bit (bytes idetim_high) 7))

@@ -10,7 +10,7 @@ read-requires-in_default c =
     let reaching = c.requires.reaching in
     record {
       port = chip_in reaching.kept.setup reaching.kept.sound.registers.bytes c.args.state.now.registers.address
-          c.args.access.now c.args.dev c.in_default.not-Confadd c.in_default.not-Reset c.in_default.not-Keyboard
+          c.args.access.now c.args.dev c.in_default.not-Confadd c.in_default.not-Reset
           (reached_in reaching);
     }
 
@@ -22,10 +22,6 @@ pub returns-in-Reset-clause-board : goal.returns-in-Reset-clause-board
 returns-in-Reset-clause-board c = λ setup history entry kept is.
     read_stays leaves_devices c.requires.reads (rw c.in-Reset.is refl) kept is
 
-pub returns-in-Keyboard-clause-board : goal.returns-in-Keyboard-clause-board
-returns-in-Keyboard-clause-board c = λ setup history entry kept is.
-    read_stays leaves_devices c.requires.reads (rw c.in-Keyboard.is refl) kept is
-
 pub returns-in_default : goal.returns-in_default
 returns-in_default c =
     let access = c.args.access.now in
@@ -34,11 +30,10 @@ returns-in_default c =
       sound = λ setup sound. sound_devices sound c.read-in_default.ensures.fitted;
       value = λ setup history kept.
           c.read-in_default.ensures.value setup history kept.devices
-          ∙ chip_value setup history dev access.port access.width c.in_default.not-Confadd c.in_default.not-Reset
-          c.in_default.not-Keyboard;
+          ∙ chip_value setup history dev access.port access.width c.in_default.not-Confadd c.in_default.not-Reset;
       board = λ setup history entry kept is.
           chip_changed
-          (chip_at setup history access dev c.in_default.not-Confadd c.in_default.not-Reset c.in_default.not-Keyboard
+          (chip_at setup history access dev c.in_default.not-Confadd c.in_default.not-Reset
           (entry_reached refl is))
           kept is (λ reaches. c.read-in_default.ensures.devices setup history entry kept.devices reaches
           c.requires.reads);

@@ -3,8 +3,8 @@ use Rattle.board_prelude.proofs.Common.{Dev, Device}
 use Rattle.board_chipset.specs.Ports.{IsEntryOf}
 use Rattle.board_devices.proofs.DeviceLemmas.{leaves_devices}
 use Rattle.board_chipset.proofs.Effects.{reached_in, entry_reached, entry_writes}
-use Rattle.board_chipset.proofs.StateSteps.{soft, sound_devices, sound_registers, state_stays}
-use Rattle.board_chipset.proofs.PortSteps.{chip_at, chip_in, passes, puts_none, registers_move, chip_changed}
+use Rattle.board_chipset.proofs.StateSteps.{soft, sound_devices, sound_registers}
+use Rattle.board_chipset.proofs.PortSteps.{chip_at, chip_in, registers_move, chip_changed}
 use Rattle.board_chipset.proofs.ports.write_device.Goals as goal
 
 pub write-requires : goal.write-requires
@@ -13,7 +13,7 @@ write-requires c =
     let access = c.args.access.now in
     record {
       port = chip_in reaching.kept.setup reaching.kept.sound.registers.bytes c.args.state.now.registers.address access
-          c.args.dev c.in_default.not-Confadd c.in_default.not-Reset c.in_default.not-Keyboard (reached_in reaching);
+          c.args.dev c.in_default.not-Confadd c.in_default.not-Reset (reached_in reaching);
       fits = rw c.requires.writes at reaching.bus.fits;
     }
 
@@ -35,22 +35,12 @@ returns-in-Reset c = record {
       (subst (λ (dev : Dev). IsEntryOf setup history c.args.access.now (Device dev) entry) c.in-Reset.is is);
 }
 
-pub returns-in-Keyboard : goal.returns-in-Keyboard
-returns-in-Keyboard c = record {
-  sound = λ setup sound. sound;
-  board = λ setup history entry kept is.
-      state_stays leaves_devices kept
-      (entry_writes (ap (λ (dev : Dev). Device dev) c.in-Keyboard.is) c.requires.writes is)
-      (passes is (rw c.in-Keyboard.is refl)) (puts_none is (λ cell. refl));
-}
-
 pub returns-in_default : goal.returns-in_default
 returns-in_default c = record {
   sound = λ setup sound. sound_devices sound c.write.ensures.fitted;
   board = λ setup history entry kept is.
       chip_changed
       (chip_at setup history c.args.access.now c.args.dev c.in_default.not-Confadd c.in_default.not-Reset
-      c.in_default.not-Keyboard
       (entry_reached refl is))
       kept is (λ reaches. c.write.ensures.devices setup history entry kept.devices reaches c.requires.writes);
 }

@@ -2,4 +2,11 @@ use Rattle.xbus_select.proofs.PortLemmas.{keyboard_answers, clock_answers, disk_
 use Rattle.xbus_select.proofs.laws.law_selected_ports.Goals as goal
 
 pub returns : goal.returns
-returns c = record { keyboard = keyboard_answers; clock = clock_answers; disk = disk_answers }
+returns c =
+    let apart = c.ports_are_apart.ensures.devices in
+    let config = c.ports_are_apart.ensures.config in
+    record {
+      keyboard = keyboard_answers apart config;
+      clock = clock_answers apart config;
+      disk = disk_answers apart config;
+    }
