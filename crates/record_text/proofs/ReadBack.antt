@@ -1,11 +1,9 @@
 -- What the record of a reply says is this reply.
 use Rattle.std.proofs.Common.{◌≡◌, ℕ, ◌<◌, ◌≤◌, ◌^◌, Bool, false, Option, Some, None, [], ◌∷◌, length, All, refl, arith}
 use Rattle.std.proofs.Common.{IfSome}
-use Rattle.board_prelude.proofs.Common.{lt-ltb, All-head, All-tail, Dev, Pit, Wires, Ata, Target, Device, Denial}
-use Rattle.board_prelude.proofs.Common.{bytes_of, Event, Memory, Wide, Port, Ack, Pulses, Time, Wire, Line, BadSector}
-use Rattle.board_prelude.proofs.Common.{Parts, Two, Three, Four, Look, Reply, Bus, Saw, is_write, outside_answer}
-use Rattle.board_prelude.proofs.Common.{parts_list, parts_of as cut_of, bytes_few}
-use Rattle.board_base.specs.declared.target.Dev.TheVariants.{Clock}
+use Rattle.board_prelude.proofs.Common.{lt-ltb, All-head, All-tail, Dev, Target, Device, Denial, bytes_of, Event, Memory}
+use Rattle.board_prelude.proofs.Common.{Wide, Port, Ack, Parts, Two, Three, Four, Look, Reply, Bus, Saw, is_write}
+use Rattle.board_prelude.proofs.Common.{outside_answer, answers_outside, parts_list, parts_of as cut_of, bytes_few}
 use Rattle.board_spec.specs.declared.event.Event.TheVariants.{Look as LookAt}
 use Rattle.board_spec.specs.declared.event.Reply.TheVariants.{Parts as InParts}
 use Rattle.script_spec.specs.WellFormed.{FitsPart, FitsTarget, IsBusReply, IsWideReply, IsLookReply, HasShape}
@@ -124,11 +122,7 @@ reply_back (Port access) reply after shape =
     bus_back access.write (bytes_of access.width) reply after (bytes_few access.width) shape
 reply_back (LookAt kind addr smm) reply after shape = look_back reply after shape
 reply_back Ack reply after shape = bus_back false 1 reply after (omega arith) shape
-reply_back (Pulses count) reply after shape = outside_back Pit reply after tt shape
-reply_back (Time moment) reply after shape = outside_back Clock reply after tt shape
-reply_back (Wire dev on) reply after shape = outside_back Wires reply after tt shape
-reply_back (Line irq on) reply after shape = outside_back Wires reply after tt shape
-reply_back (BadSector sector) reply after shape = outside_back Ata reply after tt shape
+reply_back event reply after shape = outside_back (answers_outside event) reply after tt shape
 
 pub read_back : RecordSaysReply
 read_back version entry after formed = reply_back entry.event entry.reply after formed.shape
