@@ -1,9 +1,12 @@
 -- Events for the devices alone: they write no register and store nothing.
 use Rattle.std.proofs.Common.{◌≡◌, ◌≤◌, true, List, [], ◌∷◌, None, refl, sym, ◌∙◌, subst, inl, inr, ℕ, ◌==◌, All, find}
-use Rattle.std.proofs.Common.{is_some}
+use Rattle.std.proofs.Common.{is_some, Bool, Some}
+use Rattle.board_prelude.proofs.Common.{and_from, le-leb, Ack, IsAnswer, IsInRange, outside_answer, option_map_or}
+use Rattle.board_prelude.proofs.Common.{Applied, Stimulus, stimulus_form, applied_by, event_applied}
 use Rattle.board_prelude.proofs.Common.{cases_Bool, eqb-true, All-head, All-tail, Event, Memory, Wide, Port, Reply}
 use Rattle.board_prelude.proofs.Common.{Entry, Setup, FittedCard, IsCard, IsSetup, card_at, Cell, entry_put}
 use Rattle.board_spec.specs.declared.event.Event.TheVariants.{Look as LookAt}
+use Rattle.board_spec.specs.declared.stimulus.Stimulus.TheVariants as stimuli
 use Rattle.board_devices.specs.Common.{DevicesValue, AreDevicesOf, AreRoutesOf, Asks}
 use Rattle.board_chipset.specs.declared.state.State.{State}
 use Rattle.board_chipset.specs.Common.{IsStateOf, Writes, IsForDevices}
@@ -50,3 +53,31 @@ fitted_in (first ∷ later) dev each some =
 
 pub fitted_device : (setup : Setup) (dev : ℕ) → IsSetup setup → is_some (card_at setup dev) ≡ true → IsDevice dev
 fitted_device setup dev fits some = fitted_in setup.cards dev fits.cards.each some
+
+-- ---- what a stimulus applies
+
+-- an event that applies a stimulus is that of the stimulus
+said_again : (event : Event) →
+    option_map_or (λ said. event_applied said.stimulus said.number said.on) (applied_by event) event ≡ event
+said_again Ack = refl
+said_again _ = refl
+
+pub applied_is : (event : Event) (said : Applied) → applied_by event ≡ Some said →
+    event ≡ event_applied said.stimulus said.number said.on
+applied_is event said is = sym (rw is at (said_again event))
+
+-- it is for the devices, and what answers it is in the table
+pub applied_answer : (setup : Setup) (history : List Entry) (one : Stimulus) (number : ℕ) (on : Bool) →
+    IsForDevices (event_applied one number on)
+    × IsAnswer setup history (event_applied one number on) (outside_answer (stimulus_form one).answers)
+applied_answer setup history stimuli.Wire number on = (tt, refl)
+applied_answer setup history _ number on = (tt, refl)
+
+-- the number that a level follows is one that a script can give
+pub level_number : (setup : Setup) (one : Stimulus) (number : ℕ) (on : Bool) → IsSetup setup →
+    IsInRange setup (event_applied one number on) → (stimulus_form one).has_level ≡ true →
+    (stimulus_form one).numbers number ≡ true
+level_number setup stimuli.Wire number on fits is level =
+    let dev = fitted_device setup number fits is in
+    and_from _ _ (le-leb 2 number dev.low) (le-leb number 9 dev.high)
+level_number setup _ number on fits is level = cc

@@ -2,16 +2,15 @@
 
 ghost use Rattle.std.specs.Prelude.{◌↔◌, ◌≡◌, true, false, IsTrue, MatchResult};
 ghost use Rattle.board_prelude.specs.Common.{card_at, FitsAccess, FitsBytes, IsBusAccess, IsInRange, IsWideAccess};
-ghost use Rattle.board_prelude.specs.Common.{is_free_line, is_write};
+ghost use Rattle.board_prelude.specs.Common.{is_write};
 ghost use Rattle.board_chipset.specs.OutOfRange.{IsBusFault, IsFault, IsWideFault, IsWideSize};
 
 use crate::setup::Setup;
 use board_base::{Access, PortAccess, WideAccess, Width};
 use board_spec::Event;
+use board_spec::stimulus::{MOST_PULSES_AT_ONCE, is_free_line};
 use thiserror::Error;
 
-/// The largest count of pulses of one event.
-const MOST_PULSES: u32 = 1_000_000;
 /// How many addresses there are.
 const ADDRESSES: u64 = 0x1_0000_0000;
 
@@ -56,11 +55,14 @@ pub(crate) fn test(setup: &Setup, event: &Event) -> Result<(), OutOfRange>
         Event::Memory(access) => test_memory(access),
         Event::Wide(access) => test_wide(access),
         Event::Port(access) => test_port(access),
-        Event::Pulses(count) => in_case(1 <= *count && *count <= MOST_PULSES, OutOfRange::Pulses),
+        Event::Pulses(count) => in_case(
+            1 <= *count && *count <= MOST_PULSES_AT_ONCE,
+            OutOfRange::Pulses,
+        ),
         Event::Time(moment) => in_case(moment.is_real(), OutOfRange::Date),
         Event::Wire { dev, .. } => in_case(setup.has_card(*dev), OutOfRange::Device),
-        Event::Line { irq, .. } => in_case(is_free_line(*irq), OutOfRange::Line),
-        Event::Look { .. } | Event::Ack | Event::BadSector(_) => Ok(()),
+        Event::Line { irq, .. } => in_case(is_free_line(u32::from(*irq)), OutOfRange::Line),
+        _ => Ok(()),
     }
 }
 
@@ -160,12 +162,4 @@ fn fits_bytes(writes: bool, bytes: u8, value: u64) -> bool
         4 => value < 0x1_0000_0000,
         _ => true,
     }
-}
-
-/// Whether an interrupt request line can be set from outside: 1, 3 to 7, 9 to 12 and 15, which no part of the board
-/// drives.
-fn is_free_line(irq: u8) -> bool
-    ensures free { result ≡ is_free_line irq }
-{
-    matches!(irq, 1 | 3..=7 | 9..=12 | 15)
 }

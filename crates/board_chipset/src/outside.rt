@@ -28,27 +28,17 @@ pub fn answer(state: &mut State, event: &Event) -> BusReply
             let (vector, dev) = devices.acknowledge(routes);
             answered(Some(u32::from(vector)), dev)
         }
-        Event::Pulses(count) => {
-            devices.pulses(routes, *count);
-            answered(None, Dev::Pit)
-        }
         Event::Time(moment) => {
             devices.moment(routes, *moment);
             answered(None, Dev::Clock)
         }
-        Event::Wire { dev, on } => {
-            devices.set_wire(routes, *dev, *on);
-            answered(None, Dev::Wires)
-        }
-        Event::Line { irq, on } => {
-            devices.set_line(routes, *irq, *on);
-            answered(None, Dev::Wires)
-        }
-        Event::BadSector(sector) => {
-            devices.mark_bad(routes, *sector);
-            answered(None, Dev::Ata)
-        }
-        _ => unreachable!(),
+        _ => match event.applied() {
+            Some(said) => {
+                devices.apply(routes, said.stimulus, said.number, said.on);
+                answered(None, said.stimulus.answers())
+            }
+            None => unreachable!(),
+        },
     }
 }
 

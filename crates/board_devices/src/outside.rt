@@ -4,7 +4,7 @@
 ghost use Rattle.std.specs.Prelude.{◌≡◌, ◌<◌, ◌≤◌, ◌∷◌, List, length, nat_lt, slice_set, option_map, true, false};
 ghost use Rattle.board_prelude.specs.Common.{out_of, pulses, rises, after_moment, civil_time, after_bad, IsMoment};
 ghost use Rattle.board_prelude.specs.Common.{Entry, Pulses, Time, Wire, Line, BadSector, Setup, is_free_line};
-ghost use Rattle.board_prelude.specs.Common.{levels_of, elcr_of};
+ghost use Rattle.board_prelude.specs.Common.{levels_of, elcr_of, stimulus_form, event_applied};
 ghost use Rattle.board_devices.specs.Devices.{AreAfter, AreDevicesOf, AreRoutesOf, sectors_fitted};
 ghost use Rattle.board_devices.specs.Events.{Asks};
 ghost use Rattle.board_devices.specs.PulsedPair.{pair_after_run};
@@ -12,6 +12,7 @@ ghost use Rattle.board_devices.specs.PulsedPair.{pair_after_run};
 use crate::devices::Devices;
 use crate::lines::TIMER_LINE;
 use board_base::Moment;
+use board_spec::Stimulus;
 use pic_pair::{Lines, PicPair};
 use pirq_router::Pirq;
 use pit_8254::Rises;
@@ -78,6 +79,23 @@ impl Devices {
     {
         self.spoil(sector);
         self.settle(routes);
+    }
+
+    /// Does what a stimulus says, by the number and the level that it gives. A number that a level follows is one that a
+    /// script can give.
+    pub fn apply(&mut self, routes: &Pirq, one: Stimulus, number: u32, on: bool)
+        requires place { (stimulus_form one).has_level ≡ true → (stimulus_form one).numbers number ≡ true }
+        ensures devices { (setup : Setup) (history : List Entry) (entry : Entry) → AreDevicesOf setup history self.old
+            → Asks history entry (event_applied one number on) → AreRoutesOf setup history routes.now
+            → AreRoutesOf setup (entry ∷ history) routes.now → AreDevicesOf setup (entry ∷ history) self.new }
+        ensures fitted { sectors_fitted self.new.disk ≡ sectors_fitted self.old.disk }
+    {
+        match one {
+            Stimulus::Pulses => self.pulses(routes, number),
+            Stimulus::Wire => self.set_wire(routes, number as u8, on),
+            Stimulus::Line => self.set_line(routes, number as u8, on),
+            Stimulus::BadSector => self.mark_bad(routes, number),
+        }
     }
 }
 

@@ -1,6 +1,6 @@
 -- The fields of steps.
 use Rattle.std.proofs.Common.{◌≡◌, ℕ, ◌+◌, ◌%◌, ◌^◌, ◌<◌, ◌≤◌, inl, inr, Bool, true, false, [], ◌∷◌, Some, ◌⊎◌, refl}
-use Rattle.std.proofs.Common.{ap, arith, ◌≢◌, not, nat_le, ◌==◌, ◌||◌}
+use Rattle.std.proofs.Common.{Option, None, ◌∙◌, ap, arith, ◌≢◌, not, nat_le, ◌==◌, ◌||◌}
 use Rattle.board_prelude.proofs.Common.{and_from, and_parts, eq-eqb, ne_eqb, eqb-true, leb-true, le-leb, Kind, Fetch}
 use Rattle.board_prelude.proofs.Common.{Read, Write, Width, One, PortAccess, WideAccess, bytes_of, is_write}
 use Rattle.board_prelude.proofs.Common.{IsBusAccess, IsWideAccess, FitsBytes}
@@ -11,6 +11,8 @@ use Rattle.board_base.specs.declared.access.Access.{Access}
 use Rattle.board_image.specs.Common.{kind_byte, tag_byte, memory_bytes, port_bytes, wide_bytes, kind_of, kind_field}
 use Rattle.board_image.specs.Common.{width_of, width_field, tag_of, tag_field, most_value, is_wide_size, is_wide_place}
 use Rattle.board_image.specs.Common.{memory_fields, port_fields, wide_fields}
+use Rattle.board_prelude.proofs.Common.{Stimulus, stimulus_of_code, code_found, option_map}
+use Rattle.board_spec.specs.declared.stimulus.Stimulus.TheVariants.{Wire}
 use Rattle.image_writer.specs.declared.tag.Tag.{Tag}
 use Rattle.image_writer.specs.declared.tag.Tag.TheVariants as tags
 use Rattle.byte_fields.proofs.Formats.{IsFormat, format_as, then_format, last_format}
@@ -39,15 +41,28 @@ width_said Four any = (omega arith, refl)
 pub width_format : IsFormat 1 width_field (λ width. bytes_of width ∷ []) Any
 width_format = byte_format bytes_of Any width_said (λ n width below is. (width_tells n width is, tt))
 
+mapped : (found : Option Stimulus) (tag : Tag) → option_map (λ one. tags.Stimulus one) found ≡ Some tag →
+    (one : Stimulus) × (found ≡ Some one) × (tags.Stimulus one ≡ tag)
+mapped None tag is = absurd cc
+mapped (Some one) tag is = (one, refl, cc)
+
+stimulus_tells : Tells (λ n. option_map (λ one. tags.Stimulus one) (stimulus_of_code n)) tag_byte
+stimulus_tells n tag told =
+    let found = mapped (stimulus_of_code n) tag told in
+    code_found n found.0 found.1 ∙ ap tag_byte found.2
+
 tag_tells : Tells tag_of tag_byte
 tag_tells =
     row tag_byte 1 tags.Memory refl (row tag_byte 2 tags.Port refl (row tag_byte 3 tags.Look refl
-    (row tag_byte 4 tags.Ack refl (row tag_byte 5 tags.Pulses refl (row tag_byte 6 tags.Time refl
-    (row tag_byte 7 tags.Wire refl (row tag_byte 8 tags.Line refl (row tag_byte 9 tags.BadSector refl
-    (row tag_byte 10 tags.Wide refl (no_row tag_byte))))))))))
+    (row tag_byte 4 tags.Ack refl (row tag_byte 6 tags.Time refl (row tag_byte 10 tags.Wide refl stimulus_tells)))))
+
+stimulus_said : (one : Stimulus) →
+    (tag_byte (tags.Stimulus one) < 2 ^ 8) × (tag_of (tag_byte (tags.Stimulus one)) ≡ Some (tags.Stimulus one))
+stimulus_said Wire = (omega arith, refl)
+stimulus_said _ = (omega arith, refl)
 
 tag_said : (tag : Tag) → Any tag → (tag_byte tag < 2 ^ 8) × (tag_of (tag_byte tag) ≡ Some tag)
-tag_said tags.Memory any = (omega arith, refl)
+tag_said (tags.Stimulus one) any = stimulus_said one
 tag_said _ any = (omega arith, refl)
 
 pub tag_format : IsFormat 1 tag_field (λ tag. tag_byte tag ∷ []) Any

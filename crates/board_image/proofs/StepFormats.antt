@@ -1,18 +1,21 @@
 -- The fields of steps, by their tags.
-use Rattle.std.proofs.Common.{◌≡◌, ℕ, ◌^◌, ◌<◌, ◌≤◌, Bool, true, false, cond, refl, sym, ap, subst, arith, is_some}
-use Rattle.board_prelude.proofs.Common.{Kind, Fetch, PortAccess, WideAccess, Moment, IsMoment, days_in_month, is_leap}
-use Rattle.board_prelude.proofs.Common.{moment_of, Event, Memory, Wide, Port, Ack, Pulses, Time, Wire, Line, BadSector}
-use Rattle.board_prelude.proofs.Common.{Statement, Setup, card_at, IsWideAccess, is_free_line, IsInRange}
-use Rattle.board_prelude.proofs.Common.{IsScriptSector}
+use Rattle.std.proofs.Common.{◌≡◌, ℕ, ◌^◌, ◌<◌, ◌≤◌, ◌&&◌, Bool, true, false, cond, nat_le, Option, refl, sym, ap}
+use Rattle.std.proofs.Common.{subst, ◌∙◌, arith}
+use Rattle.board_prelude.proofs.Common.{and_from, and_parts, le-leb, leb-true, option_map_or, Kind, Fetch, PortAccess}
+use Rattle.board_prelude.proofs.Common.{WideAccess, Moment, IsMoment, days_in_month, is_leap, moment_of, Event, Memory}
+use Rattle.board_prelude.proofs.Common.{Wide, Port, Ack, Pulses, Time, BadSector, Statement, Setup, IsWideAccess}
+use Rattle.board_prelude.proofs.Common.{IsInRange, IsScriptSector, Stimulus, Applied, stimulus_form, applied, applied_by}
+use Rattle.board_prelude.proofs.Common.{applied_again, event_applied, most_pulses_at_once, last_sector}
 use Rattle.board_base.specs.declared.access.Access.{Access}
 use Rattle.board_spec.specs.declared.event.Event.TheVariants.{Look as LookAt}
+use Rattle.board_spec.specs.declared.stimulus.Stimulus.TheVariants as stimuli
 use Rattle.image_writer.specs.declared.tag.Tag.{Tag}
 use Rattle.image_writer.specs.declared.tag.Tag.TheVariants as tags
-use Rattle.board_image.specs.Common.{tag_of_event, look_bytes, moment_bytes, field_bytes, step_bytes, FitsField}
-use Rattle.board_image.specs.Common.{IsImageStep, Reading, look_fields, moment_fields, wire_fields, line_fields}
+use Rattle.board_image.specs.Common.{tag_of_event, look_bytes, moment_bytes, applied_bytes, field_bytes, step_bytes}
+use Rattle.board_image.specs.Common.{FitsField, IsImageStep, can_have, look_fields, moment_fields, applied_fields}
 use Rattle.board_image.specs.Common.{event_fields, step_fields}
 use Rattle.byte_fields.proofs.Formats.{IsFormat, format_as, then_format, last_format, made_format, done_format}
-use Rattle.byte_fields.proofs.Numbers.{flag_format, wide16, wide32, byte_where, byte_within, within_format, Ranges}
+use Rattle.byte_fields.proofs.Numbers.{flag_format, wide8, wide16, wide32, byte_within, where_format, within_format}
 use Rattle.board_image.proofs.EventFormats.{kind_format, tag_format, CanSpellMemory, CanSpellPort, memory_format}
 use Rattle.board_image.proofs.EventFormats.{port_format, wide_format}
 
@@ -81,7 +84,7 @@ moment_format =
     })
     (λ m good. refl)
 
--- ---- looks and levels
+-- ---- looks
 
 -- the parts of an event, and anything where it has none
 abbrev pub look_kind : Event → Kind
@@ -96,29 +99,9 @@ abbrev pub look_smm : Event → Bool
 look_smm (LookAt kind addr smm) = smm
 look_smm event = false
 
-abbrev pub level_number : Event → ℕ
-level_number (Wire dev on) = dev
-level_number (Line irq on) = irq
-level_number event = 0
-
-abbrev pub level : Event → Bool
-level (Wire dev on) = on
-level (Line irq on) = on
-level event = false
-
 abbrev pub IsLook : Event → Type 0
 IsLook event =
     (look_addr event < 2 ^ 32) × (event ≡ LookAt (look_kind event) (look_addr event) (look_smm event))
-
-abbrev pub IsWire : Setup → Event → Type 0
-IsWire setup event =
-    (level_number event < 2 ^ 8) × (is_some (card_at setup (level_number event)) ≡ true)
-    × (event ≡ Wire (level_number event) (level event))
-
-abbrev pub IsLine : Event → Type 0
-IsLine event =
-    (level_number event < 2 ^ 8) × (is_free_line (level_number event) ≡ true)
-    × (event ≡ Line (level_number event) (level event))
 
 look_format : IsFormat 15 look_fields field_bytes IsLook
 unfolding look_fields look_bytes field_bytes
@@ -135,29 +118,65 @@ look_format =
     (λ event good. (omega (arith, good.1.1.0.1), good.1.1.1))
     (λ event good. sym (ap field_bytes good.1.1.1))
 
-wire_format : (setup : Setup) → IsFormat 15 (wire_fields setup) field_bytes (IsWire setup)
-unfolding wire_fields field_bytes
-wire_format setup =
-    format_as 15 field_bytes (IsWire setup)
-    (then_format level_number (byte_where (λ dev. is_some (card_at setup dev))) (λ dev good.
-    last_format level (λ on. Wire dev on) flag_format (λ on good. refl))
-    (λ dev event any good. ap level_number good.1))
-    (omega arith)
-    (λ event is. ((is.0, is.1), (tt, is.2)))
-    (λ event good. (good.0.0, good.0.1, good.1.1))
-    (λ event good. sym (ap field_bytes good.1.1))
+-- ---- stimuli
 
-line_format : IsFormat 15 line_fields field_bytes IsLine
-unfolding line_fields field_bytes
-line_format =
-    format_as 15 field_bytes IsLine
-    (then_format level_number (byte_where is_free_line) (λ irq good.
-    last_format level (λ on. Line irq on) flag_format (λ on good. refl))
-    (λ irq event any good. ap level_number good.1))
+-- the number and the level that an event gives, and anything where it gives none
+abbrev pub number_of : Event → ℕ
+number_of event = option_map_or (λ said. said.number) (applied_by event) 0
+
+abbrev pub level_of : Event → Bool
+level_of event = option_map_or (λ said. said.on) (applied_by event) false
+
+abbrev pub limit : (has_level : Bool) → ℕ
+limit true = 2 ^ 8
+limit false = 2 ^ 32
+
+-- an event that is this stimulus, with a number that it can have
+abbrev pub IsStimulus : Setup → Stimulus → (has_level : Bool) → Event → Type 0
+IsStimulus setup one has_level event =
+    ((number_of event < limit has_level) × (can_have setup one (number_of event) ≡ true))
+    × (event ≡ event_applied one (number_of event) (has_level && level_of event))
+
+number_again : (one : Stimulus) (number : ℕ) (on : Bool) → number_of (event_applied one number on) ≡ number
+number_again one number on =
+    ap (λ (said : Option Applied). option_map_or (λ said. said.number) said 0) (applied_again one number on)
+
+level_again : (one : Stimulus) (number : ℕ) (on : Bool) → (stimulus_form one).has_level ≡ true →
+    level_of (event_applied one number on) ≡ on
+level_again one number on is =
+    ap (λ (said : Option Applied). option_map_or (λ said. said.on) said false) (applied_again one number on)
+    ∙ ap (λ (has_level : Bool). has_level && on) is
+
+tag_again : (one : Stimulus) (number : ℕ) (on : Bool) → tag_of_event (event_applied one number on) ≡ tags.Stimulus one
+tag_again stimuli.Wire number on = refl
+tag_again _ number on = refl
+
+bytes_again : (one : Stimulus) (number : ℕ) (on : Bool) →
+    field_bytes (event_applied one number on) ≡ applied_bytes (applied one number on)
+unfolding field_bytes
+bytes_again stimuli.Wire number on = refl
+bytes_again _ number on = refl
+
+applied_format : (setup : Setup) (one : Stimulus) (has_level : Bool) → (stimulus_form one).has_level ≡ has_level →
+    IsFormat 15 (applied_fields setup one has_level) field_bytes (IsStimulus setup one has_level)
+unfolding applied_fields
+applied_format setup one true is =
+    format_as 15 field_bytes (IsStimulus setup one true)
+    (then_format number_of (where_format wide8 (can_have setup one)) (λ number good.
+    last_format level_of (λ on. event_applied one number on) flag_format (λ on any. level_again one number on is))
+    (λ number event any good. ap number_of good.1 ∙ number_again one number (level_of event)))
     (omega arith)
-    (λ event is. ((is.0, is.1), (tt, is.2)))
-    (λ event good. (good.0.0, good.0.1, good.1.1))
-    (λ event good. sym (ap field_bytes good.1.1))
+    (λ event can. (can.0, (tt, can.1)))
+    (λ event good. (good.0, good.1.1))
+    (λ event good. sym (ap field_bytes good.1.1 ∙ bytes_again one (number_of event) (level_of event) ∙ rw is refl))
+applied_format setup one false is =
+    format_as 15 field_bytes (IsStimulus setup one false)
+    (last_format number_of (λ number. event_applied one number false) (where_format wide32 (can_have setup one))
+    (λ number good. number_again one number false))
+    (omega arith)
+    (λ event can. can)
+    (λ event good. good)
+    (λ event good. sym (ap field_bytes good.1 ∙ bytes_again one (number_of event) false ∙ rw is refl))
 
 -- ---- events
 
@@ -167,17 +186,9 @@ CanSpell setup tags.Memory event = (access : Access) × CanSpellMemory access ×
 CanSpell setup tags.Port event = (access : PortAccess) × CanSpellPort access × (event ≡ Port access)
 CanSpell setup tags.Look event = IsLook event
 CanSpell setup tags.Ack event = event ≡ Ack
-CanSpell setup tags.Pulses event = (count : ℕ) × Ranges 1 1_000_000 count × (event ≡ Pulses count)
 CanSpell setup tags.Time event = (moment : Moment) × IsMoment moment × (event ≡ Time moment)
-CanSpell setup tags.Wire event = IsWire setup event
-CanSpell setup tags.Line event = IsLine event
-CanSpell setup tags.BadSector event = (sector : ℕ) × Ranges 0 0xFFFF sector × (event ≡ BadSector sector)
 CanSpell setup tags.Wide event = (access : WideAccess) × IsWideAccess access × (event ≡ Wide access)
-
-number_size : {reads : Reading Event} {IsGood : Event → Type 0} → IsFormat 4 reads field_bytes IsGood →
-    IsFormat 15 reads field_bytes IsGood
-number_size {IsGood = IsGood} is =
-    format_as 15 field_bytes IsGood is (omega arith) (λ event good. good) (λ event good. good) (λ event good. refl)
+CanSpell setup (tags.Stimulus one) event = IsStimulus setup one (stimulus_form one).has_level event
 
 event_format : (setup : Setup) (tag : Tag) → IsFormat 15 (event_fields setup tag) field_bytes (CanSpell setup tag)
 unfolding event_fields field_bytes
@@ -187,19 +198,17 @@ event_format setup tags.Look = look_format
 event_format setup tags.Ack =
     format_as 15 field_bytes (CanSpell setup tags.Ack) (done_format Ack) (omega arith) (λ event good. good)
     (λ event good. good) (λ event good. sym (ap field_bytes good))
-event_format setup tags.Pulses =
-    number_size (made_format Pulses field_bytes (within_format wide32 1 1_000_000 (omega arith)) (λ count. refl))
 event_format setup tags.Time = made_format Time field_bytes moment_format (λ moment. refl)
-event_format setup tags.Wire = wire_format setup
-event_format setup tags.Line = line_format
-event_format setup tags.BadSector =
-    number_size (made_format BadSector field_bytes (within_format wide32 0 0xFFFF (omega arith)) (λ sector. refl))
 event_format setup tags.Wide = made_format Wide field_bytes wide_format (λ access. refl)
+event_format setup (tags.Stimulus one) = applied_format setup one (stimulus_form one).has_level refl
 
 -- the tag of such an event is that tag
 tag_told : (setup : Setup) (tag : Tag) (event : Event) → CanSpell setup tag event → tag_of_event event ≡ tag
 tag_told setup tags.Look event can = ap tag_of_event can.1
 tag_told setup tags.Ack event can = ap tag_of_event can
+tag_told setup (tags.Stimulus one) event can =
+    ap tag_of_event can.1
+    ∙ tag_again one (number_of event) ((stimulus_form one).has_level && level_of event)
 tag_told setup _ event can = ap tag_of_event can.2
 
 -- what an image step is, by the tag of its event
@@ -209,55 +218,38 @@ spelled_to setup (Memory access) fits is sector = (access, (fits, is), refl)
 spelled_to setup (Port access) fits is sector = (access, (fits, is), refl)
 spelled_to setup (LookAt kind addr smm) fits is sector = (fits, refl)
 spelled_to setup Ack fits is sector = refl
-spelled_to setup (Pulses count) fits is sector = (count, is, refl)
 spelled_to setup (Time moment) fits is sector = (moment, is, refl)
-spelled_to setup (Wire dev on) fits is sector = (fits, is, refl)
-spelled_to setup (Line irq on) fits is sector = (fits, is, refl)
-spelled_to setup (BadSector sector) fits is few = (sector, (omega arith, omega (arith, few)), refl)
 spelled_to setup (Wide access) fits is sector = (access, is, refl)
-
--- the value of an event is one alone
-memory_of : Event → Access → Access
-memory_of (Memory access) other = access
-memory_of event other = other
-
-port_of : Event → PortAccess → PortAccess
-port_of (Port access) other = access
-port_of event other = other
-
-wide_of : Event → WideAccess → WideAccess
-wide_of (Wide access) other = access
-wide_of event other = other
-
-moment_in : Event → Moment → Moment
-moment_in (Time moment) other = moment
-moment_in event other = other
-
-number_of : Event → ℕ
-number_of (Pulses count) = count
-number_of (BadSector sector) = sector
-number_of event = 0
+spelled_to setup (Pulses count) fits is sector =
+    ((omega arith, and_from _ _ (le-leb 1 count is.0) (le-leb count most_pulses_at_once is.1)), refl)
+spelled_to setup (BadSector sector) fits is few = (
+  (omega (arith, few), and_from _ _ (le-leb 0 sector (omega arith)) (le-leb sector last_sector (omega (arith, few)))),
+  refl,
+)
+spelled_to setup _ fits is sector = ((fits, is), refl)
 
 IsGoodEvent : Setup → Event → Type 0
 IsGoodEvent setup event = FitsField event × IsInRange setup event × IsScriptSector event
 
 spelled_from : (setup : Setup) (event : Event) → CanSpell setup (tag_of_event event) event → IsGoodEvent setup event
-unfolding memory_of port_of wide_of moment_in number_of IsGoodEvent
+unfolding IsGoodEvent
 spelled_from setup (Memory access) can =
-    let is = subst CanSpellMemory (sym (ap (λ event. memory_of event access) can.2)) can.1 in (is.0, is.1, tt)
+    let same : can.0 ≡ access = cc in
+    let is = subst CanSpellMemory same can.1 in (is.0, is.1, tt)
 spelled_from setup (Port access) can =
-    let is = subst CanSpellPort (sym (ap (λ event. port_of event access) can.2)) can.1 in (is.0, is.1, tt)
+    let same : can.0 ≡ access = cc in
+    let is = subst CanSpellPort same can.1 in (is.0, is.1, tt)
 spelled_from setup (LookAt kind addr smm) can = (can.0, tt, tt)
 spelled_from setup Ack can = (tt, tt, tt)
-spelled_from setup (Pulses count) can = (tt, subst (Ranges 1 1_000_000) (sym (ap number_of can.2)) can.1, tt)
-spelled_from setup (Time moment) can =
-    (tt, subst IsMoment (sym (ap (λ event. moment_in event moment) can.2)) can.1, tt)
-spelled_from setup (Wire dev on) can = (can.0, can.1, tt)
-spelled_from setup (Line irq on) can = (can.0, can.1, tt)
+spelled_from setup (Time moment) can = let same : can.0 ≡ moment = cc in (tt, subst IsMoment same can.1, tt)
+spelled_from setup (Wide access) can = let same : can.0 ≡ access = cc in (tt, subst IsWideAccess same can.1, tt)
+spelled_from setup (Pulses count) can =
+    let both = and_parts (nat_le 1 count) (nat_le count most_pulses_at_once) can.0.1 in
+    (tt, (leb-true 1 count both.0, leb-true count most_pulses_at_once both.1), tt)
 spelled_from setup (BadSector sector) can =
-    let is = subst (Ranges 0 0xFFFF) (sym (ap number_of can.2)) can.1 in (tt, tt, omega (arith, is.1))
-spelled_from setup (Wide access) can =
-    (tt, subst IsWideAccess (sym (ap (λ event. wide_of event access) can.2)) can.1, tt)
+    let few = leb-true sector last_sector (and_parts (nat_le 0 sector) (nat_le sector last_sector) can.0.1).1 in
+    (tt, tt, omega (arith, few))
+spelled_from setup _ can = (can.0.0, can.0.1, tt)
 
 pub step_format : (setup : Setup) → IsFormat 17 (step_fields setup) step_bytes (IsImageStep setup)
 unfolding step_fields IsGoodEvent

@@ -1,12 +1,12 @@
 -- The definitions that files above cite, passed on from one place. Declares nothing.
-pub use Rattle.board_image.specs.EventFields.{is_wide_place, is_wide_size, kind_field, kind_of, most_value, tag_field}
+pub use Rattle.board_image.specs.EventFields.{can_have, is_wide_place, is_wide_size, kind_field, kind_of, most_value, tag_field}
 pub use Rattle.board_image.specs.EventFields.{tag_of, width_field, width_of}
-unfoldable pub use Rattle.board_image.specs.EventFields.{event_fields, line_fields, look_fields, memory_fields}
+unfoldable pub use Rattle.board_image.specs.EventFields.{applied_fields, event_fields, look_fields, memory_fields}
 unfoldable pub use Rattle.board_image.specs.EventFields.{moment_fields, port_fields, step_fields, wide_fields}
-unfoldable pub use Rattle.board_image.specs.EventFields.{wire_fields}
 pub use Rattle.byte_fields.specs.Fields.{AreBytes, Reading, ended, exactly, flag_field, flag_of, gives, number}
 pub use Rattle.byte_fields.specs.Fields.{number_where, then_read, where_true, within}
-pub use Rattle.image_writer.specs.ImageBytes.{FitsField, IsImage, IsImageStep, Saved, base_byte, disk_bytes, flag_byte}
+pub use Rattle.image_writer.specs.ImageBytes.{FitsField, IsImage, IsImageStep, Saved, applied_bytes}
+pub use Rattle.image_writer.specs.ImageBytes.{base_byte, disk_bytes, flag_byte}
 pub use Rattle.image_writer.specs.ImageBytes.{image_version, io_base, kind_byte, magic, outside_base, step_bytes}
 pub use Rattle.image_writer.specs.ImageBytes.{tag_byte, tag_of_event}
 unfoldable pub use Rattle.image_writer.specs.ImageBytes.{card_bytes, field_bytes, head_bytes, image_bytes, look_bytes}

@@ -2,12 +2,13 @@
 use Rattle.std.specs.Prelude.{ℕ, ◌-◌, ◌+◌, ◌%◌, ◌^◌, ◌==◌, Bool, true, false, not, nat_le, ◌&&◌, ◌||◌, if◌then◌else◌}
 use Rattle.std.specs.Prelude.{Option, Some, None, is_some}
 use Rattle.board_prelude.specs.Common.{w8, w16, w32, w64, Kind, Fetch, Read, Write, Width, One, PortAccess, WideAccess}
-use Rattle.board_prelude.specs.Common.{Moment, bytes_of, days_in_month, moment_of, Event, Memory, Wide, Port, Ack}
-use Rattle.board_prelude.specs.Common.{Pulses, Time, Wire, Line, BadSector, Statement, Setup, card_at, is_write}
-use Rattle.board_prelude.specs.Common.{is_free_line}
+use Rattle.board_prelude.specs.Common.{Moment, bytes_of, days_in_month, moment_of, Event, Memory, Wide, Port, Ack, Time}
+use Rattle.board_prelude.specs.Common.{Statement, Setup, card_at, is_write, Stimulus, stimulus_form, stimulus_of_code}
+use Rattle.board_prelude.specs.Common.{event_applied, option_map}
 use Rattle.board_base.specs.declared.access.Width.TheVariants.{Two, Four}
 use Rattle.board_base.specs.declared.access.Access.{Access}
 use Rattle.board_spec.specs.declared.event.Event.TheVariants.{Look as LookAt}
+use Rattle.board_spec.specs.declared.stimulus.Stimulus.TheVariants.{Wire}
 use Rattle.image_writer.specs.declared.tag.Tag.{Tag}
 use Rattle.image_writer.specs.declared.tag.Tag.TheVariants as tags
 use Rattle.byte_fields.specs.Fields.{Reading, gives, ◌>>=◌, number, number_where, within, flag_field}
@@ -21,9 +22,8 @@ width_of n = if n == 1 then Some One else if n == 2 then Some Two else if n == 4
 abbrev pub tag_of : ℕ → Option Tag
 tag_of n =
     if n == 1 then Some tags.Memory else if n == 2 then Some tags.Port else if n == 3 then Some tags.Look
-    else if n == 4 then Some tags.Ack else if n == 5 then Some tags.Pulses else if n == 6 then Some tags.Time
-    else if n == 7 then Some tags.Wire else if n == 8 then Some tags.Line else if n == 9 then Some tags.BadSector
-    else if n == 10 then Some tags.Wide else None
+    else if n == 4 then Some tags.Ack else if n == 6 then Some tags.Time else if n == 10 then Some tags.Wide
+    else option_map (λ one. tags.Stimulus one) (stimulus_of_code n)
 
 abbrev pub kind_field : Reading Kind
 kind_field = number w8 kind_of
@@ -93,17 +93,20 @@ moment_fields = do
   second ← within w8 0 59
   gives (moment_of year month day hour minute second)
 
-unfoldable pub wire_fields : Setup → Reading Event
-wire_fields setup = do
-  dev ← number_where w8 (λ dev. is_some (card_at setup dev))
-  on ← flag_field
-  gives (Wire dev on)
+-- the numbers that a stimulus can have: those of a script, and of a wire those of the cards
+abbrev pub can_have : Setup → Stimulus → ℕ → Bool
+can_have setup Wire dev = is_some (card_at setup dev)
+can_have setup one number = (stimulus_form one).numbers number
 
-unfoldable pub line_fields : Reading Event
-line_fields = do
-  irq ← number_where w8 is_free_line
+-- a stimulus: a number of one byte and a level, or a number of four bytes
+unfoldable pub applied_fields : Setup → Stimulus → (has_level : Bool) → Reading Event
+applied_fields setup one true = do
+  number ← number_where w8 (can_have setup one)
   on ← flag_field
-  gives (Line irq on)
+  gives (event_applied one number on)
+applied_fields setup one false = do
+  number ← number_where w32 (can_have setup one)
+  gives (event_applied one number false)
 
 -- the fields after a tag
 unfoldable pub event_fields : Setup → Tag → Reading Event
@@ -115,20 +118,13 @@ event_fields setup tags.Port = do
   gives (Port access)
 event_fields setup tags.Look = look_fields
 event_fields setup tags.Ack = gives Ack
-event_fields setup tags.Pulses = do
-  count ← within w32 1 1_000_000
-  gives (Pulses count)
 event_fields setup tags.Time = do
   moment ← moment_fields
   gives (Time moment)
-event_fields setup tags.Wire = wire_fields setup
-event_fields setup tags.Line = line_fields
-event_fields setup tags.BadSector = do
-  sector ← within w32 0 0xFFFF
-  gives (BadSector sector)
 event_fields setup tags.Wide = do
   access ← wide_fields
   gives (Wide access)
+event_fields setup (tags.Stimulus one) = applied_fields setup one (stimulus_form one).has_level
 
 unfoldable pub step_fields : Setup → Reading Statement
 step_fields setup = do

@@ -1,25 +1,23 @@
 //! Reads the steps of an image: which processor did which event.
 
-ghost use Rattle.std.specs.Prelude.{◌≡◌, ◌≤◌, ◌-◌, ◌^◌, ◌%◌, ◌==◌, true, find, is_some, IfOk};
-ghost use Rattle.board_prelude.specs.Common.{w8, w16, w32, w64, bytes_of, Setup, is_free_line, days_in_month};
+ghost use Rattle.std.specs.Prelude.{◌≡◌, ◌≤◌, ◌-◌, ◌^◌, ◌%◌, ◌==◌, true, false, find, is_some, IfOk};
+ghost use Rattle.board_prelude.specs.Common.{w8, w16, w32, w64, bytes_of, Setup, days_in_month, stimulus_form};
+ghost use Rattle.board_prelude.specs.Common.{stimulus_of_code, option_map};
+ghost use Rattle.image_writer.specs.declared.tag.Tag.TheVariants as tags;
 ghost use Rattle.byte_fields.specs.Fields.{Took, number_where, within};
 ghost use Rattle.board_image.specs.EventFields.{kind_of, kind_field, width_of, width_field, tag_of, tag_field};
 ghost use Rattle.board_image.specs.EventFields.{is_wide_size, is_wide_place, most_value, memory_fields, port_fields};
-ghost use Rattle.board_image.specs.EventFields.{wide_fields, look_fields, moment_fields, wire_fields, line_fields};
+ghost use Rattle.board_image.specs.EventFields.{wide_fields, look_fields, moment_fields, can_have, applied_fields};
 ghost use Rattle.board_image.specs.EventFields.{event_fields, step_fields};
 
 use board_base::{Access, Kind, Moment, PortAccess, WideAccess, Width};
-use board_spec::{Event, Statement};
+use board_spec::{Event, Statement, Stimulus};
 use byte_fields::{Bad, Fields};
 use image_writer::Tag;
 use pci_bars::CardSpec;
 
 /// The highest number of a processor.
 const LAST_ACTOR: u8 = 7;
-/// The most pulses of a step.
-const MOST_PULSES: u32 = 1_000_000;
-/// The highest number of a sector.
-const LAST_SECTOR: u32 = 0xFFFF;
 /// The years of a moment.
 const FIRST_YEAR: u16 = 1980;
 
@@ -58,13 +56,18 @@ fn tag_of(byte: u8) -> Option<Tag>
         2 => Some(Tag::Port),
         3 => Some(Tag::Look),
         4 => Some(Tag::Ack),
-        5 => Some(Tag::Pulses),
         6 => Some(Tag::Time),
-        7 => Some(Tag::Wire),
-        8 => Some(Tag::Line),
-        9 => Some(Tag::BadSector),
         10 => Some(Tag::Wide),
-        _ => None,
+        _ => stimulus_of(byte),
+    }
+}
+
+fn stimulus_of(byte: u8) -> Option<Tag>
+    ensures said { result ≡ option_map (λ one. tags.Stimulus one) (stimulus_of_code byte) }
+{
+    match Stimulus::of_code(byte) {
+        Some(one) => Some(Tag::Stimulus(one)),
+        None => None,
     }
 }
 
@@ -251,50 +254,75 @@ fn moment(fields: &mut Fields) -> Result<Moment, Bad>
 }
 
 /// Whether there is a card at a device number.
-fn has_card(cards: &[CardSpec], dev: u8) -> bool
+fn has_card(cards: &[CardSpec], dev: u32) -> bool
     ensures card { result ≡ is_some (find (λ card. card.dev == dev) cards.now) }
 {
-    cards.iter().any(|card| card.dev == dev)
+    cards.iter().any(|card| u32::from(card.dev) == dev)
 }
 
-/// Reads the device number of a card.
-fn device(fields: &mut Fields, cards: &[CardSpec]) -> Result<u8, Bad>
-    ensures took { Took (λ n. n) result fields.new
-        (number_where w8 (λ dev. is_some (find (λ card. card.dev == dev) cards.now)) fields.old) }
+/// Whether a stimulus can have this number on a board with these cards.
+fn can_have(cards: &[CardSpec], one: Stimulus, number: u32) -> bool
+    ensures number { (setup : Setup) → setup.cards ≡ cards.now → result ≡ can_have setup one number }
 {
-    let dev = u8::from_le_bytes(fields.front()?);
-    fields.past(1, has_card(cards, dev))?;
-    Ok(dev)
+    match one {
+        Stimulus::Wire => has_card(cards, number),
+        _ => one.has_number(number),
+    }
 }
 
-/// Reads a level of the interrupt pin of a card.
-#[tactic(auto, unfolding(crate::specs::EventFields::wire_fields))]
-fn wire(fields: &mut Fields, cards: &[CardSpec]) -> Result<Event, Bad>
+/// Reads the number of a stimulus, in one byte.
+fn byte_number(fields: &mut Fields, cards: &[CardSpec], one: Stimulus) -> Result<u8, Bad>
     ensures took { (setup : Setup) → setup.cards ≡ cards.now
-        → Took (λ event. event) result fields.new (wire_fields setup fields.old) }
+        → Took (λ n. n) result fields.new (number_where w8 (can_have setup one) fields.old) }
 {
-    let dev = device(fields, cards)?;
-    let on = fields.flag()?;
-    Ok(Event::Wire { dev, on })
+    let number = u8::from_le_bytes(fields.front()?);
+    fields.past(1, can_have(cards, one, number.into()))?;
+    Ok(number)
 }
 
-/// Whether a line is one that the world outside sets: not that of the timer, the cascade, the clock, the coprocessor or
-/// the disk.
-fn is_free_line(line: u8) -> bool
-    ensures free { result ≡ is_free_line line }
+/// Reads the number of a stimulus, in four bytes.
+fn word_number(fields: &mut Fields, cards: &[CardSpec], one: Stimulus) -> Result<u32, Bad>
+    ensures took { (setup : Setup) → setup.cards ≡ cards.now
+        → Took (λ n. n) result fields.new (number_where w32 (can_have setup one) fields.old) }
 {
-    matches!(line, 1 | 3..=7 | 9..=12 | 15)
+    let number = u32::from_le_bytes(fields.front()?);
+    fields.past(4, can_have(cards, one, number))?;
+    Ok(number)
 }
 
-/// Reads a level of an interrupt request line.
-#[tactic(auto, unfolding(crate::specs::EventFields::line_fields))]
-fn line(fields: &mut Fields) -> Result<Event, Bad>
-    ensures took { Took (λ event. event) result fields.new (line_fields fields.old) }
+/// Reads a stimulus that has a level.
+#[tactic(auto, unfolding(crate::specs::EventFields::applied_fields))]
+fn level_applied(fields: &mut Fields, cards: &[CardSpec], one: Stimulus) -> Result<Event, Bad>
+    ensures took { (setup : Setup) → setup.cards ≡ cards.now
+        → Took (λ event. event) result fields.new (applied_fields setup one true fields.old) }
 {
-    let irq = u8::from_le_bytes(fields.front()?);
-    fields.past(1, is_free_line(irq))?;
+    let number = byte_number(fields, cards, one)?;
     let on = fields.flag()?;
-    Ok(Event::Line { irq, on })
+    Ok(one.event(number.into(), on))
+}
+
+/// Reads a stimulus that has none.
+#[tactic(auto, unfolding(crate::specs::EventFields::applied_fields))]
+fn number_applied(fields: &mut Fields, cards: &[CardSpec], one: Stimulus) -> Result<Event, Bad>
+    requires plain { (stimulus_form one).has_level ≡ false }
+    ensures took { (setup : Setup) → setup.cards ≡ cards.now
+        → Took (λ event. event) result fields.new (applied_fields setup one false fields.old) }
+{
+    let number = word_number(fields, cards, one)?;
+    Ok(one.event(number, false))
+}
+
+/// Reads what a stimulus gives.
+fn applied(fields: &mut Fields, cards: &[CardSpec], one: Stimulus) -> Result<Event, Bad>
+    ensures took { (setup : Setup) → setup.cards ≡ cards.now
+        → Took (λ event. event) result fields.new
+        (applied_fields setup one (stimulus_form one).has_level fields.old) }
+{
+    if one.has_level() {
+        level_applied(fields, cards, one)
+    } else {
+        number_applied(fields, cards, one)
+    }
 }
 
 /// Reads the fields after a tag, of a board with these cards.
@@ -308,12 +336,9 @@ fn event(fields: &mut Fields, cards: &[CardSpec], tag: Tag) -> Result<Event, Bad
         Tag::Port => Ok(Event::Port(port(fields)?)),
         Tag::Look => look(fields),
         Tag::Ack => Ok(Event::Ack),
-        Tag::Pulses => Ok(Event::Pulses(fields.word(1, MOST_PULSES)?)),
         Tag::Time => Ok(Event::Time(moment(fields)?)),
-        Tag::Wire => wire(fields, cards),
-        Tag::Line => line(fields),
-        Tag::BadSector => Ok(Event::BadSector(fields.word(0, LAST_SECTOR)?)),
         Tag::Wide => Ok(Event::Wide(wide(fields)?)),
+        Tag::Stimulus(one) => applied(fields, cards, one),
     }
 }
 

@@ -2,15 +2,16 @@
 use Rattle.std.specs.Prelude.{ℕ, ◌==◌, ◌%◌, ◌/◌, ◌^◌, nat_lt, nat_le, Bool, true, false, ◌&&◌, if◌then◌else◌, Option}
 use Rattle.std.specs.Prelude.{Some, None, option_map, option_and_then}
 use Rattle.board_prelude.specs.Common.{Kind, Fetch, Read, Write, Width, One, WideAccess, bytes_of, is_moment, moment_of}
-use Rattle.board_prelude.specs.Common.{Event, Memory, Wide, Port, Ack, Pulses, Time, Wire, Line, BadSector}
+use Rattle.board_prelude.specs.Common.{Event, Memory, Wide, Port, Ack, Time, Stimulus, stimulus_form}
+use Rattle.board_prelude.specs.Common.{stimulus_of_code, event_applied}
 use Rattle.board_base.specs.declared.access.Width.TheVariants.{Two, Four}
 use Rattle.board_spec.specs.declared.event.Event.TheVariants.{Look as LookAt}
+use Rattle.board_spec.specs.declared.stimulus.Stimulus.TheVariants.{Pulses}
 use Rattle.uart_16550.specs.declared.com1.Happening.{Happening}
 use Rattle.uart_16550.specs.declared.com1.Happening.TheVariants.{Comes, Happens}
 use Rattle.board_records.specs.declared.event.EventRecord.{EventRecord}
-use Rattle.board_records.specs.Numbers.{memory_event, port_event, look_event, ack_event, pulses_event, time_event}
-use Rattle.board_records.specs.Numbers.{wire_event, line_event, bad_sector_event, serial_event, fetch_kind, read_kind}
-use Rattle.board_records.specs.Numbers.{write_kind}
+use Rattle.board_records.specs.Numbers.{memory_event, port_event, look_event, ack_event, time_event, serial_event}
+use Rattle.board_records.specs.Numbers.{fetch_kind, read_kind, write_kind}
 
 unfoldable pub kind_said : ℕ → Option Kind
 kind_said number =
@@ -82,17 +83,24 @@ digits_said digits =
     moment_said (digits / 10 ^ 10) (two_digits digits 8) (two_digits digits 6)
     (two_digits digits 4) (two_digits digits 2) (two_digits digits 0)
 
--- a level, 0 or 1, of something that has a number of one byte
-unfoldable pub level_said : EventRecord → (ℕ → Bool → Event) → Option Event
-level_said said event =
-    if nat_lt said.addr 256 && nat_le said.value 1 then Some (event said.addr (said.value == 1)) else None
+-- where the number of a stimulus stands: a count is a value of at most 32 bits, another number is an address
+abbrev pub number_said : EventRecord → Stimulus → Option ℕ
+number_said said Pulses = if nat_lt said.value (2 ^ 32) then Some said.value else None
+number_said said _ = Some said.addr
 
-unfoldable pub pulses_said : (count : ℕ) → Option Event
-pulses_said count = if nat_lt count (2 ^ 32) then Some (Pulses count) else None
+-- a number of one byte and a level, 0 or 1, or a number alone
+abbrev pub applied_said : EventRecord → Stimulus → (number : ℕ) → Option Event
+applied_said said one number =
+    if (stimulus_form one).has_level
+    then (if nat_lt number 256 && nat_le said.value 1 then Some (event_applied one number (said.value == 1)) else None)
+    else Some (event_applied one number false)
+
+unfoldable pub stimulus_said : EventRecord → Stimulus → Option Event
+stimulus_said said one = option_and_then (applied_said said one) (number_said said one)
 
 -- ---- the event
 
--- by the number of what is asked
+-- by the number of what is asked: that of a stimulus is in the table of stimuli
 unfoldable pub asked_by : EventRecord → Option Event
 asked_by said =
     if said.what == memory_event then option_and_then (access_said said) (kind_said said.kind) else
@@ -102,11 +110,8 @@ asked_by said =
     if said.what == look_event then option_map (λ kind. LookAt kind said.addr (said.smm == 1)) (kind_said said.kind)
     else
     if said.what == ack_event then Some Ack else
-    if said.what == pulses_event then pulses_said said.value else
     if said.what == time_event then digits_said said.value else
-    if said.what == wire_event then level_said said Wire else
-    if said.what == line_event then level_said said Line else
-    if said.what == bad_sector_event then Some (BadSector said.addr) else None
+    option_and_then (stimulus_said said) (stimulus_of_code said.what)
 
 -- what is kept for later versions is 0, and the flag of management mode 0 or 1
 abbrev pub is_plain : EventRecord → Bool

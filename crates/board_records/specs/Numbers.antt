@@ -5,7 +5,7 @@ use Rattle.board_base.specs.declared.target.Dev.TheVariants.{Confadd, Reset, Clo
 use Rattle.board_chipset.specs.declared.reset_control.ResetKind.{ResetKind}
 use Rattle.board_chipset.specs.declared.reset_control.ResetKind.TheVariants.{None as NoReset, Soft, Hard}
 
--- ---- what is asked
+-- ---- what is asked: also each stimulus, by its number in the table of stimuli
 
 abbrev pub memory_event : ℕ
 memory_event = 1
@@ -19,20 +19,8 @@ look_event = 3
 abbrev pub ack_event : ℕ
 ack_event = 4
 
-abbrev pub pulses_event : ℕ
-pulses_event = 5
-
 abbrev pub time_event : ℕ
 time_event = 6
-
-abbrev pub wire_event : ℕ
-wire_event = 7
-
-abbrev pub line_event : ℕ
-line_event = 8
-
-abbrev pub bad_sector_event : ℕ
-bad_sector_event = 9
 
 -- COM1 receives a byte
 abbrev pub serial_event : ℕ

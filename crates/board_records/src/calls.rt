@@ -282,12 +282,9 @@ fn is_outside(event: &Event) -> bool
     ensures no_line { result ≡ true → (irq : ℕ) (on : Bool) → event.now ≡ Line irq on → ⊥ }
 {
     match event {
-        Event::Ack => true,
-        Event::Pulses(_) => true,
-        Event::Time(_) => true,
-        Event::Wire { .. } => true,
-        Event::BadSector(_) => true,
-        _ => false,
+        Event::Memory(_) | Event::Wide(_) | Event::Port(_) => false,
+        Event::Look { .. } | Event::Line { .. } => false,
+        _ => true,
     }
 }
 

@@ -1,19 +1,19 @@
 //! Events as records of numbers.
 
 ghost use Rattle.std.specs.Prelude.{◌≡◌, ◌==◌, IfSome, Some, option_map, option_and_then};
-ghost use Rattle.board_spec.specs.declared.event.Event.TheVariants.{Line, Look as LookAt, Memory, Port, Wide, Wire};
+ghost use Rattle.board_prelude.specs.Common.{stimulus_of_code};
+ghost use Rattle.board_spec.specs.declared.event.Event.TheVariants.{Look as LookAt, Memory, Port, Wide};
 ghost use Rattle.uart_16550.specs.declared.com1.Happening.TheVariants.{Happens};
 ghost use Rattle.board_records.specs.Numbers.{look_event, memory_event, port_event};
 ghost use Rattle.board_records.specs.Events.{asked_said, event_said, is_plain, asked_by, kind_said, direction_said};
 ghost use Rattle.board_records.specs.Events.{width_said, wide_access, cycle_said, access_said, port_said, moment_said};
-ghost use Rattle.board_records.specs.Events.{digits_said, level_said, pulses_said};
+ghost use Rattle.board_records.specs.Events.{digits_said, number_said, applied_said, stimulus_said};
 
 use crate::numbers::{
-    ACK_EVENT, BAD_SECTOR_EVENT, FETCH_KIND, LINE_EVENT, LOOK_EVENT, MEMORY_EVENT, PORT_EVENT,
-    PULSES_EVENT, READ_KIND, TIME_EVENT, WIRE_EVENT, WRITE_KIND,
+    ACK_EVENT, FETCH_KIND, LOOK_EVENT, MEMORY_EVENT, PORT_EVENT, READ_KIND, TIME_EVENT, WRITE_KIND,
 };
 use board_base::{Access, Kind, Moment, PortAccess, WideAccess, Width};
-use board_spec::Event;
+use board_spec::{Event, Stimulus};
 
 /// What is asked of a board, in numbers: what is asked (`MEMORY_EVENT` ..), the kind of an access (`FETCH_KIND` ..) and
 /// its count of bytes, an address, port, device, line or sector, and a value, count, moment or level. What an event
@@ -179,12 +179,8 @@ fn asked_by(record: &EventRecord) -> Option<Event>
         PORT_EVENT => port_event(record),
         LOOK_EVENT => look_event(record),
         ACK_EVENT => Some(Event::Ack),
-        PULSES_EVENT => pulses_event(record.value),
         TIME_EVENT => time_event(record.value),
-        WIRE_EVENT => wire_event(record),
-        LINE_EVENT => line_event(record),
-        BAD_SECTOR_EVENT => Some(Event::BadSector(record.addr)),
-        _ => None,
+        _ => other_event(record),
     }
 }
 
@@ -348,16 +344,6 @@ fn bus_access(record: &EventRecord, width: Width, write: bool) -> Option<PortAcc
     })
 }
 
-#[tactic(auto, unfolding(crate::specs::Events::pulses_said))]
-fn pulses_event(count: u64) -> Option<Event>
-    ensures said { result ≡ pulses_said count }
-{
-    match u32::try_from(count) {
-        Ok(count) => Some(Event::Pulses(count)),
-        Err(_) => None,
-    }
-}
-
 /// A moment as the digits of year, month, day, hour, minute and second.
 #[tactic(auto, unfolding(crate::specs::Events::digits_said))]
 fn time_event(digits: u64) -> Option<Event>
@@ -385,34 +371,45 @@ fn moment_event(year: u64, month: u8, day: u8, hour: u8, minute: u8, second: u8)
     }
 }
 
-#[tactic(auto, unfolding(crate::specs::Events::level_said))]
-fn wire_event(record: &EventRecord) -> Option<Event>
-    ensures said { result ≡ level_said record.now Wire }
+/// A stimulus, by its number in the table of stimuli.
+fn other_event(record: &EventRecord) -> Option<Event>
+    ensures said { result ≡ option_and_then (stimulus_said record.now) (stimulus_of_code record.now.what) }
 {
-    let Ok(dev) = u8::try_from(record.addr) else {
-        return None;
-    };
-    if record.value > 1 {
-        return None;
+    match Stimulus::of_code(record.what) {
+        Some(one) => stimulus_event(record, one),
+        None => None,
     }
-    Some(Event::Wire {
-        dev,
-        on: record.value == 1,
-    })
 }
 
-#[tactic(auto, unfolding(crate::specs::Events::level_said))]
-fn line_event(record: &EventRecord) -> Option<Event>
-    ensures said { result ≡ level_said record.now Line }
+#[tactic(auto, unfolding(crate::specs::Events::stimulus_said))]
+fn stimulus_event(record: &EventRecord, one: Stimulus) -> Option<Event>
+    ensures said { result ≡ stimulus_said record.now one }
 {
-    let Ok(irq) = u8::try_from(record.addr) else {
-        return None;
-    };
-    if record.value > 1 {
+    match number_of(record, one) {
+        Some(number) => applied_event(record, one, number),
+        None => None,
+    }
+}
+
+/// Where the number of a stimulus stands.
+fn number_of(record: &EventRecord, one: Stimulus) -> Option<u32>
+    ensures said { result ≡ number_said record.now one }
+{
+    match one {
+        Stimulus::Pulses => u32::try_from(record.value).ok(),
+        _ => Some(record.addr),
+    }
+}
+
+/// A stimulus of this number, with its level where it has one.
+fn applied_event(record: &EventRecord, one: Stimulus, number: u32) -> Option<Event>
+    ensures said { result ≡ applied_said record.now one number }
+{
+    if !one.has_level() {
+        return Some(one.event(number, false));
+    }
+    if number > 255 || record.value > 1 {
         return None;
     }
-    Some(Event::Line {
-        irq,
-        on: record.value == 1,
-    })
+    Some(one.event(number, record.value == 1))
 }

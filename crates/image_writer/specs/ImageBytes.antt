@@ -1,11 +1,11 @@
 -- A board image: what a board is fitted with, and then who asked what of it, in order. The replies follow from these.
 -- Numbers have their low byte first.
 use Rattle.std.specs.Prelude.{ℕ, ◌≤◌, ◌<◌, ◌+◌, ◌^◌, ◌++◌, Bool, List, [], ◌∷◌, length, map, flat_map, All, is_some}
-use Rattle.std.specs.Prelude.{unwrap_or, codes}
-use Rattle.board_prelude.specs.Common.{w16, w32, w64, to_le_bytes, Kind, Fetch, Read, Write, PortAccess, WideAccess}
-use Rattle.board_prelude.specs.Common.{Moment, bytes_of, Event, Memory, Wide, Port, Ack, Pulses, Time, Wire, Line}
-use Rattle.board_prelude.specs.Common.{BadSector, Statement, Base, MemoryBase, IoBase, OutsideBase, FittedCard, Setup}
-use Rattle.board_prelude.specs.Common.{IsSetup, IsInRange, IsScriptSector, most_statements}
+use Rattle.std.specs.Prelude.{unwrap_or, codes, true, false, if◌then◌else◌, IfSome}
+use Rattle.board_prelude.specs.Common.{w8, w16, w32, w64, to_le_bytes, Kind, Fetch, Read, Write, PortAccess}
+use Rattle.board_prelude.specs.Common.{WideAccess, Moment, bytes_of, Event, Memory, Wide, Port, Ack, Time, Applied}
+use Rattle.board_prelude.specs.Common.{applied_by, stimulus_form, option_map_or, Statement, Base, MemoryBase, IoBase, OutsideBase}
+use Rattle.board_prelude.specs.Common.{FittedCard, Setup, IsSetup, IsInRange, IsScriptSector, most_statements}
 use Rattle.board_base.specs.declared.access.Access.{Access}
 pub use Rattle.byte_fields.specs.Fields.{flag_byte}
 use Rattle.board_spec.specs.declared.event.Event.TheVariants.{Look as LookAt}
@@ -57,30 +57,23 @@ head_bytes setup steps =
 
 -- ---- who asked what
 
--- the number of each kind of event
+-- the number of each kind of event: that of a stimulus is in the table of stimuli
 abbrev pub tag_byte : Tag → ℕ
 tag_byte tags.Memory = 1
 tag_byte tags.Port = 2
 tag_byte tags.Look = 3
 tag_byte tags.Ack = 4
-tag_byte tags.Pulses = 5
 tag_byte tags.Time = 6
-tag_byte tags.Wire = 7
-tag_byte tags.Line = 8
-tag_byte tags.BadSector = 9
 tag_byte tags.Wide = 10
+tag_byte (tags.Stimulus one) = (stimulus_form one).code
 
 abbrev pub tag_of_event : Event → Tag
 tag_of_event (Memory access) = tags.Memory
 tag_of_event (Port access) = tags.Port
 tag_of_event (LookAt kind addr smm) = tags.Look
 tag_of_event Ack = tags.Ack
-tag_of_event (Pulses count) = tags.Pulses
-tag_of_event (Time moment) = tags.Time
-tag_of_event (Wire dev on) = tags.Wire
-tag_of_event (Line irq on) = tags.Line
-tag_of_event (BadSector sector) = tags.BadSector
 tag_of_event (Wide access) = tags.Wide
+tag_of_event event = option_map_or (λ said. tags.Stimulus said.stimulus) (applied_by event) tags.Time
 
 abbrev pub kind_byte : Kind → ℕ
 kind_byte Fetch = 0
@@ -109,18 +102,20 @@ unfoldable pub moment_bytes : Moment → List ℕ
 moment_bytes moment =
     to_le_bytes w16 moment.year ++ moment.month ∷ moment.day ∷ moment.hour ∷ moment.minute ∷ moment.second ∷ []
 
+-- of a stimulus its number, in one byte where a level follows it and else in four, and the level
+abbrev pub applied_bytes : Applied → List ℕ
+applied_bytes said =
+    if (stimulus_form said.stimulus).has_level then to_le_bytes w8 said.number ++ flag_byte said.on ∷ []
+    else to_le_bytes w32 said.number
+
 -- the fields of an event
 unfoldable pub field_bytes : Event → List ℕ
 field_bytes (Memory access) = memory_bytes access
 field_bytes (Port access) = port_bytes access
 field_bytes (LookAt kind addr smm) = look_bytes kind addr smm
-field_bytes Ack = []
-field_bytes (Pulses count) = to_le_bytes w32 count
 field_bytes (Time moment) = moment_bytes moment
-field_bytes (Wire dev on) = dev ∷ flag_byte on ∷ []
-field_bytes (Line irq on) = irq ∷ flag_byte on ∷ []
-field_bytes (BadSector sector) = to_le_bytes w32 sector
 field_bytes (Wide access) = wide_bytes access
+field_bytes event = option_map_or applied_bytes (applied_by event) []
 
 abbrev pub event_bytes : Event → List ℕ
 event_bytes event = tag_byte (tag_of_event event) ∷ field_bytes event
@@ -135,14 +130,17 @@ image_bytes setup steps =
     head_bytes setup (length steps)
     ++ (flat_map card_bytes setup.cards ++ (setup.rom ++ (disk_bytes setup ++ flat_map step_bytes steps)))
 
--- an address fits 32 bits, a port 16, a device number and a line 8
+-- an address fits 32 bits, a port 16, a number that a level follows 8
+abbrev pub FitsByteWhere : (has_level : Bool) → ℕ → Type 0
+FitsByteWhere true number = number < 2 ^ 8
+FitsByteWhere false number = Unit {0}
+
 abbrev pub FitsField : Event → Type 0
 FitsField (Memory access) = access.addr < 2 ^ 32
 FitsField (Port access) = access.port < 2 ^ 16
 FitsField (LookAt kind addr smm) = addr < 2 ^ 32
-FitsField (Wire dev on) = dev < 2 ^ 8
-FitsField (Line irq on) = irq < 2 ^ 8
-FitsField _ = Unit {0}
+FitsField event =
+    IfSome (applied_by event) (λ said. FitsByteWhere (stimulus_form said.stimulus).has_level said.number)
 
 -- a step that an image can say: of one of eight processors, and one that the board can do
 pub record IsImageStep (setup : Setup) (step : Statement) : Type 0 where

@@ -3,12 +3,12 @@
 ghost use Rattle.std.specs.Prelude.{◌≡◌, ◌++◌, ◌∷◌, [], map, flat_map, IfOk, OnOk};
 ghost use Rattle.board_prelude.specs.Common.{w32, to_le_bytes, bytes_of, statement_of};
 ghost use Rattle.image_writer.specs.ImageBytes.{flag_byte, kind_byte, memory_bytes, wide_bytes, port_bytes, look_bytes};
-ghost use Rattle.image_writer.specs.ImageBytes.{moment_bytes, field_bytes, step_bytes};
+ghost use Rattle.image_writer.specs.ImageBytes.{moment_bytes, applied_bytes, field_bytes, step_bytes};
 
 use crate::tag::Tag;
 use access_history::Entries;
 use board_base::{Access, Kind, Moment, NoMemory, PortAccess, WideAccess, Width};
-use board_spec::{Entry, Event};
+use board_spec::{Applied, Entry, Event};
 use std::alloc::Global;
 
 /// The most bytes of a step: those of a wide access, with its processor and its tag.
@@ -122,21 +122,23 @@ fn push_fields(out: &mut Vec<u8>, event: &Event) -> Result<(), NoMemory>
         Event::Wide(access) => push_wide(out, access),
         Event::Port(access) => push_port(out, access),
         Event::Look { kind, addr, smm } => push_look(out, *kind, *addr, *smm),
-        Event::Ack => Ok(()),
-        Event::Pulses(count) => push_word(out, *count),
         Event::Time(moment) => push_moment(out, moment),
-        Event::Wire { dev, on } => push_level(out, *dev, *on),
-        Event::Line { irq, on } => push_level(out, *irq, *on),
-        Event::BadSector(sector) => push_word(out, *sector),
+        _ => match event.applied() {
+            Some(said) => push_applied(out, said),
+            None => Ok(()),
+        },
     }
 }
 
-/// Adds a device or a line, and its level.
-fn push_level(out: &mut Vec<u8>, number: u8, on: bool) -> Result<(), NoMemory>
-    ensures added { OnOk result (out.new.items ≡ out.old.items ++ number ∷ flag_byte on ∷ []) }
+/// Adds what a stimulus gives: its number, and its level where it has one.
+fn push_applied(out: &mut Vec<u8>, said: Applied) -> Result<(), NoMemory>
+    ensures added { OnOk result (out.new.items ≡ out.old.items ++ applied_bytes said) }
 {
-    out.extend_from_slice(&[number, u8::from(on)])?;
-    Ok(())
+    if said.stimulus.has_level() {
+        out.extend_from_slice(&[(said.number % 256) as u8, u8::from(said.on)])?;
+        return Ok(());
+    }
+    push_word(out, said.number)
 }
 
 /// Adds an entry as a step: its processor and its event.

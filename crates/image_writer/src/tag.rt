@@ -3,7 +3,7 @@
 ghost use Rattle.std.specs.Prelude.{◌≡◌};
 ghost use Rattle.image_writer.specs.ImageBytes.{tag_byte, tag_of_event};
 
-use board_spec::Event;
+use board_spec::{Event, Stimulus};
 
 /// What kind of event a step has.
 #[derive(Clone, Copy)]
@@ -12,16 +12,13 @@ pub enum Tag {
     Port,
     Look,
     Ack,
-    Pulses,
     Time,
-    Wire,
-    Line,
-    BadSector,
     Wide,
+    Stimulus(Stimulus),
 }
 
 impl Tag {
-    /// Its number in an image, 1 to 10.
+    /// Its number in an image.
     pub fn byte(self) -> u8
         ensures byte { result ≡ tag_byte self }
     {
@@ -30,12 +27,9 @@ impl Tag {
             Tag::Port => 2,
             Tag::Look => 3,
             Tag::Ack => 4,
-            Tag::Pulses => 5,
             Tag::Time => 6,
-            Tag::Wire => 7,
-            Tag::Line => 8,
-            Tag::BadSector => 9,
             Tag::Wide => 10,
+            Tag::Stimulus(one) => one.code(),
         }
     }
 
@@ -49,11 +43,10 @@ impl Tag {
             Event::Port(_) => Tag::Port,
             Event::Look { .. } => Tag::Look,
             Event::Ack => Tag::Ack,
-            Event::Pulses(_) => Tag::Pulses,
-            Event::Time(_) => Tag::Time,
-            Event::Wire { .. } => Tag::Wire,
-            Event::Line { .. } => Tag::Line,
-            Event::BadSector(_) => Tag::BadSector,
+            _ => match event.applied() {
+                Some(said) => Tag::Stimulus(said.stimulus),
+                None => Tag::Time,
+            },
         }
     }
 }

@@ -1,10 +1,9 @@
 -- What the record of a reply says is this reply.
 use Rattle.std.proofs.Common.{◌≡◌, ℕ, ◌<◌, ◌≤◌, ◌^◌, Bool, false, Option, Some, None, [], ◌∷◌, length, All, refl, arith}
 use Rattle.std.proofs.Common.{IfSome}
-use Rattle.board_prelude.proofs.Common.{lt-ltb, All-head, All-tail, Dev, Target, Device, Denial}
-use Rattle.board_prelude.proofs.Common.{bytes_of, Event, Memory, Wide, Port, Ack, answers_outside}
-use Rattle.board_prelude.proofs.Common.{Parts, Two, Three, Four, Look, Reply, Bus, Saw, is_write, outside_answer}
-use Rattle.board_prelude.proofs.Common.{parts_list, parts_of as cut_of, bytes_few}
+use Rattle.board_prelude.proofs.Common.{lt-ltb, All-head, All-tail, Dev, Target, Device, Denial, bytes_of, Event, Memory}
+use Rattle.board_prelude.proofs.Common.{Wide, Port, Ack, Parts, Two, Three, Four, Look, Reply, Bus, Saw, is_write}
+use Rattle.board_prelude.proofs.Common.{outside_answer, answers_outside, parts_list, parts_of as cut_of, bytes_few}
 use Rattle.board_spec.specs.declared.event.Event.TheVariants.{Look as LookAt}
 use Rattle.board_spec.specs.declared.event.Reply.TheVariants.{Parts as InParts}
 use Rattle.script_spec.specs.WellFormed.{FitsPart, FitsTarget, IsBusReply, IsWideReply, IsLookReply, HasShape}

@@ -5,8 +5,8 @@ use Rattle.std.proofs.Common.{nat_lt, map}
 use Rattle.board_prelude.proofs.Common.{and_parts, and_right, eqb-true, cases_Bool, cond-true, cond-false, eq-eqb}
 use Rattle.board_prelude.proofs.Common.{le-ltb, lt-ltb, Width, One, Kind, WideAccess, bytes_of, Area, Target}
 use Rattle.board_prelude.proofs.Common.{Card, Device, Config, Denial, Register}
-use Rattle.board_prelude.proofs.Common.{Entry, Setup, IsSetup, IsInRange, Memory, Wide, Port, Ack, Pulses}
-use Rattle.board_prelude.proofs.Common.{Time, Wire, Line, BadSector, Part, Parts, Reply, Bus, Saw, Bytes, byte}
+use Rattle.board_prelude.proofs.Common.{Entry, Setup, IsSetup, IsInRange, Memory, Wide, Part, Parts, Reply, Bus, Saw}
+use Rattle.board_prelude.proofs.Common.{Bytes, byte}
 use Rattle.board_prelude.proofs.Common.{is_write, memory_target, memory_denial, parts_of, parts_list, joined, value_at}
 use Rattle.board_prelude.proofs.Common.{target_at, longest_at, address_count, expansion_byte, IsPart, AreParts, Covers}
 use Rattle.board_prelude.proofs.Common.{IsAnswer, IsWideAnswer}
@@ -318,21 +318,7 @@ reads_byte_by_byte setup before roms said (Wide access) read reply after k fits 
           read_in_wide setup before roms fits bytes said access reply after k reads addr count says.range answer below)
           says.addr says.bytes says.address within
     ]
-reads_byte_by_byte setup before roms said (Port access) read reply after k fits bytes says answer within =
-    let none : ◌≡◌ {A = Option WideAccess} None (Some read) = says.reads in absurd (cc)
-reads_byte_by_byte setup before roms said (LookAt kind addr smm) read reply after k fits bytes says answer within =
-    let none : ◌≡◌ {A = Option WideAccess} None (Some read) = says.reads in absurd (cc)
-reads_byte_by_byte setup before roms said Ack read reply after k fits bytes says answer within =
-    let none : ◌≡◌ {A = Option WideAccess} None (Some read) = says.reads in absurd (cc)
-reads_byte_by_byte setup before roms said (Pulses count) read reply after k fits bytes says answer within =
-    let none : ◌≡◌ {A = Option WideAccess} None (Some read) = says.reads in absurd (cc)
-reads_byte_by_byte setup before roms said (Time moment) read reply after k fits bytes says answer within =
-    let none : ◌≡◌ {A = Option WideAccess} None (Some read) = says.reads in absurd (cc)
-reads_byte_by_byte setup before roms said (Wire dev on) read reply after k fits bytes says answer within =
-    let none : ◌≡◌ {A = Option WideAccess} None (Some read) = says.reads in absurd (cc)
-reads_byte_by_byte setup before roms said (Line irq on) read reply after k fits bytes says answer within =
-    let none : ◌≡◌ {A = Option WideAccess} None (Some read) = says.reads in absurd (cc)
-reads_byte_by_byte setup before roms said (BadSector sector) read reply after k fits bytes says answer within =
+reads_byte_by_byte setup before roms said _ read reply after k fits bytes says answer within =
     let none : ◌≡◌ {A = Option WideAccess} None (Some read) = says.reads in absurd (cc)
 
 not_given : (roms : List (List ℕ)) (part : PartRecord) → ¬ IsOfGivenRom roms part → is_given roms part ≡ false

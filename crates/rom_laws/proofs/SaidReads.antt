@@ -2,18 +2,18 @@
 use Rattle.std.proofs.Common.{◌≡◌, ℕ, ◌%◌, ◌^◌, ◌==◌, Bool, true, false, ◌&&◌, nat_lt, if◌then◌else◌, ◌/◌, Option, Some}
 use Rattle.std.proofs.Common.{None, option_map, option_and_then, inl, inr, refl, sym, ap, ◌∙◌}
 use Rattle.board_prelude.proofs.Common.{cases_Bool, eqb-true, Kind, Width, One, WideAccess, bytes_of, is_write, Event}
-use Rattle.board_prelude.proofs.Common.{Memory, Wide, Ack}
-use Rattle.board_spec.specs.declared.event.Event.TheVariants.{Look as LookAt, Wire, Line, Pulses, BadSector}
+use Rattle.board_prelude.proofs.Common.{Memory, Wide, Ack, Stimulus, stimulus_form, stimulus_of_code, event_applied}
+use Rattle.board_spec.specs.declared.event.Event.TheVariants.{Look as LookAt}
+use Rattle.board_spec.specs.declared.stimulus.Stimulus.TheVariants.{Pulses}
 use Rattle.board_base.specs.declared.access.Width.TheVariants.{Two, Four}
 use Rattle.board_base.specs.declared.access.Access.{Access}
 use Rattle.uart_16550.specs.declared.com1.Happening.{Happening}
 use Rattle.uart_16550.specs.declared.com1.Happening.TheVariants.{Comes, Happens}
 use Rattle.board_records.specs.declared.event.EventRecord.{EventRecord}
-use Rattle.board_records.specs.Events.{access_said, asked_by, asked_said, byte_said, cycle_said, digits_said}
-use Rattle.board_records.specs.Events.{direction_said, event_said, is_plain, kind_said, level_said, moment_said}
-use Rattle.board_records.specs.Events.{port_said, pulses_said, two_digits, width_said}
-use Rattle.board_records.specs.Numbers.{ack_event, bad_sector_event, line_event, look_event, memory_event, port_event}
-use Rattle.board_records.specs.Numbers.{pulses_event, serial_event, time_event, wire_event}
+use Rattle.board_records.specs.Events.{access_said, applied_said, asked_by, asked_said, byte_said, cycle_said}
+use Rattle.board_records.specs.Events.{digits_said, direction_said, event_said, is_plain, kind_said, moment_said}
+use Rattle.board_records.specs.Events.{number_said, port_said, stimulus_said, two_digits, width_said}
+use Rattle.board_records.specs.Numbers.{ack_event, look_event, memory_event, port_event, serial_event, time_event}
 use Rattle.rom_laws.specs.RomReads.{read_by}
 
 -- these bytes are those that a record says
@@ -133,14 +133,18 @@ module _ (said : EventRecord) where
   unfolding moment_said
   of_moment year month day hour minute second = either _ _ _ (reads_none _ refl) no_event
 
-  of_level : (event : ℕ → Bool → Event) → ((number : ℕ) (on : Bool) → read_by (event number on) ≡ None) →
-      ReadsSaid said (level_said said event)
-  unfolding level_said
-  of_level event none = either _ _ _ (reads_none _ (none said.addr (said.value == 1))) no_event
+  no_read : (one : Stimulus) (number : ℕ) (on : Bool) → read_by (event_applied one number on) ≡ None
+  no_read Pulses number on = refl
+  no_read _ number on = refl
 
-  of_pulses : ReadsSaid said (pulses_said said.value)
-  unfolding pulses_said
-  of_pulses = either (nat_lt said.value (2 ^ 32)) _ _ (reads_none (Pulses said.value) refl) no_event
+  of_applied : (one : Stimulus) (number : ℕ) → ReadsSaid said (applied_said said one number)
+  of_applied one number =
+      either (stimulus_form one).has_level _ _ (either _ _ _ (reads_none _ (no_read one number _)) no_event)
+      (reads_none _ (no_read one number false))
+
+  of_stimulus : (one : Stimulus) → ReadsSaid said (stimulus_said said one)
+  unfolding stimulus_said
+  of_stimulus one = followed (applied_said said one) (number_said said one) (of_applied one)
 
   of_digits : ReadsSaid said (digits_said said.value)
   unfolding digits_said
@@ -157,11 +161,8 @@ module _ (said : EventRecord) where
       (mapped (λ (kind : Kind). LookAt kind said.addr (said.smm == 1)) (kind_said said.kind)
       (λ kind. reads_none _ refl))
       (either (said.what == ack_event) _ _ (reads_none Ack refl)
-      (either (said.what == pulses_event) _ _ of_pulses
       (either (said.what == time_event) _ _ of_digits
-      (either (said.what == wire_event) _ _ (of_level Wire (λ number on. refl))
-      (either (said.what == line_event) _ _ (of_level Line (λ number on. refl))
-      (either (said.what == bad_sector_event) _ _ (reads_none (BadSector said.addr) refl) no_event))))))))
+      (followed (stimulus_said said) (stimulus_of_code said.what) of_stimulus)))))
 
   of_event : ReadsSaid said (event_said said)
   unfolding event_said

@@ -2,8 +2,7 @@
 use Rattle.std.proofs.Common.{◌≡◌, ℕ, ◌+◌, ◌<◌, ◌==◌, false, List, Option, Some, None, refl, sym, ap, subst, ◌∙◌, arith}
 use Rattle.board_prelude.proofs.Common.{WideAccess, Target, Device, Config}
 use Rattle.board_prelude.proofs.Common.{Denial, Register, Entry, Setup, IsSetup, IsAnswer, Event}
-use Rattle.board_prelude.proofs.Common.{Memory, Wide, Port, Ack, Pulses, Time, Wire, Line, BadSector, Parts, Reply, Bus}
-use Rattle.board_prelude.proofs.Common.{Saw, byte, memory_target, memory_denial}
+use Rattle.board_prelude.proofs.Common.{Memory, Wide, Parts, Reply, Bus, Saw, byte, memory_target, memory_denial}
 use Rattle.board_base.specs.declared.access.Access.{Access}
 use Rattle.board_spec.specs.Common.{memory_answer}
 use Rattle.board_spec.specs.declared.event.Event.TheVariants.{Look as LookAt}
@@ -115,14 +114,7 @@ module _ (setup : Setup) (before : List Entry) (roms : List (List ℕ)) (fits : 
   by_reply serial same (Wide access) (OfBoard reply) says answer =
       by_parts access reply says (subst (λ (it : Setup). IsAnswer it before (Wide access) reply) same answer)
   by_reply serial same (Wide access) (OfUart value sent) says answer = absurd answer
-  by_reply serial same (Port access) reply says answer = absurd (no_read (Port access) refl says)
-  by_reply serial same (LookAt kind addr smm) reply says answer = absurd (no_read (LookAt kind addr smm) refl says)
-  by_reply serial same Ack reply says answer = absurd (no_read Ack refl says)
-  by_reply serial same (Pulses count) reply says answer = absurd (no_read (Pulses count) refl says)
-  by_reply serial same (Time moment) reply says answer = absurd (no_read (Time moment) refl says)
-  by_reply serial same (Wire dev on) reply says answer = absurd (no_read (Wire dev on) refl says)
-  by_reply serial same (Line irq on) reply says answer = absurd (no_read (Line irq on) refl says)
-  by_reply serial same (BadSector sector) reply says answer = absurd (no_read (BadSector sector) refl says)
+  by_reply serial same event reply says answer = absurd (no_read event refl says)
 
 pub step_reads : StepReadsByteByByte
 step_reads old new said reply event read history k asks step left within =

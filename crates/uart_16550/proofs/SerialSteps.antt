@@ -1,10 +1,8 @@
 -- How the histories go on that leave a board with a serial port.
 use Rattle.std.proofs.Common.{◌≡◌, ℕ, ◌<◌, Bool, true, false, List, [], ◌∷◌, ◌++◌, refl, sym, ap, subst}
 use Rattle.std.proofs.Common.{◌∙◌, append_assoc, lt_irrefl, ◌==◌, None, unwrap_or}
-use Rattle.board_prelude.proofs.Common.{ne_eqb, PortAccess, Event, Memory, Wide, Port, Ack}
-use Rattle.board_prelude.proofs.Common.{Pulses, Time, Wire, Line, BadSector, Reply, Entry, Statement, Setup, line_set}
-use Rattle.board_prelude.proofs.Common.{irq_of, next_entry, statements_of}
-use Rattle.board_spec.specs.declared.event.Event.TheVariants.{Look as LookAt}
+use Rattle.board_prelude.proofs.Common.{ne_eqb, PortAccess, Event, Port, Line, Reply, Entry, Statement, Setup}
+use Rattle.board_prelude.proofs.Common.{line_set, irq_of, next_entry, statements_of}
 use Rattle.board_spec.proofs.OrderLawProofs.{statements-append}
 use Rattle.uart_16550.specs.declared.com1.Com1.{Com1}
 use Rattle.uart_16550.specs.Common.{com1_irq, com1_actor, level_of, board_event, line_steps, change_steps, com1_after}
@@ -61,56 +59,7 @@ pub is_plain : (event : Event) → ((access : PortAccess) → event ≡ Port acc
     ((irq : ℕ) (on : Bool) → event ≡ Line irq on → ⊥) → IsPlain event
 is_plain (Port access) no_port no_line = absurd (no_port access refl)
 is_plain (Line irq on) no_port no_line = absurd (no_line irq on refl)
-is_plain (Memory access) no_port no_line = record {
-  access = refl;
-  after = λ resets com1. refl;
-  heard = λ com1. refl;
-  alone = λ actor resets com1. refl;
-  unset = refl;
-}
-is_plain (Wide access) no_port no_line = record {
-  access = refl;
-  after = λ resets com1. refl;
-  heard = λ com1. refl;
-  alone = λ actor resets com1. refl;
-  unset = refl;
-}
-is_plain (LookAt kind addr smm) no_port no_line = record {
-  access = refl;
-  after = λ resets com1. refl;
-  heard = λ com1. refl;
-  alone = λ actor resets com1. refl;
-  unset = refl;
-}
-is_plain Ack no_port no_line = record {
-  access = refl;
-  after = λ resets com1. refl;
-  heard = λ com1. refl;
-  alone = λ actor resets com1. refl;
-  unset = refl;
-}
-is_plain (Pulses count) no_port no_line = record {
-  access = refl;
-  after = λ resets com1. refl;
-  heard = λ com1. refl;
-  alone = λ actor resets com1. refl;
-  unset = refl;
-}
-is_plain (Time moment) no_port no_line = record {
-  access = refl;
-  after = λ resets com1. refl;
-  heard = λ com1. refl;
-  alone = λ actor resets com1. refl;
-  unset = refl;
-}
-is_plain (Wire dev on) no_port no_line = record {
-  access = refl;
-  after = λ resets com1. refl;
-  heard = λ com1. refl;
-  alone = λ actor resets com1. refl;
-  unset = refl;
-}
-is_plain (BadSector sector) no_port no_line = record {
+is_plain _ no_port no_line = record {
   access = refl;
   after = λ resets com1. refl;
   heard = λ com1. refl;

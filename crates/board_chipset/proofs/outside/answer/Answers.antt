@@ -1,54 +1,49 @@
-use Rattle.std.proofs.Common.{◌∙◌}
-use Rattle.board_chipset.proofs.OutsideSteps.{outside_done, fitted_device}
+use Rattle.std.proofs.Common.{sym, subst, ◌∙◌}
+use Rattle.board_prelude.proofs.Common.{Event, IsAnswer, IsInRange}
+use Rattle.board_chipset.specs.Common.{reply_of}
+use Rattle.board_chipset.proofs.OutsideSteps.{outside_done, applied_is, applied_answer, level_number}
 use Rattle.board_chipset.proofs.StateSteps.{sound_devices}
 use Rattle.board_chipset.proofs.outside.answer.Goals as goal
 
-pub set_wire-requires : goal.set_wire-requires
-set_wire-requires c =
+pub apply-requires : goal.apply-requires
+apply-requires c =
     let kept = c.requires.in_range.1.kept in
-    let is = fitted_device kept.setup c.in-Wire.dev kept.sound.fits
-    (rw c.in-Wire.is at c.requires.in_range.1.in_range) in
-    record { low = is.low; high = is.high }
+    let said = c.in-Some.said in
+    let is = applied_is c.args.event.now said (sym c.in-Some.ensures.applied) in
+    record {
+      place = level_number kept.setup said.stimulus said.number said.on kept.sound.fits
+          (subst (IsInRange kept.setup) is c.requires.in_range.1.in_range);
+    }
 
 pub returns-in-Ack-clause-board : goal.returns-in-Ack-clause-board
 returns-in-Ack-clause-board c = λ setup history entry kept event.
     outside_done (event ∙ c.in-Ack.is) tt kept (c.acknowledge-vector.ensures.devices setup history entry kept.devices)
 
-pub returns-in-Pulses-clause-board : goal.returns-in-Pulses-clause-board
-returns-in-Pulses-clause-board c = λ setup history entry kept event.
-    outside_done (event ∙ c.in-Pulses.is) tt kept
-    (λ asks _. c.pulses.ensures.devices setup history entry kept.devices asks kept.registers.kept.south.routes)
-
 pub returns-in-Time-clause-board : goal.returns-in-Time-clause-board
 returns-in-Time-clause-board c = λ setup history entry kept event.
     outside_done (event ∙ c.in-Time.is) tt kept (c.moment.ensures.devices setup history entry kept.devices)
 
-pub returns-in-Wire-clause-board : goal.returns-in-Wire-clause-board
-returns-in-Wire-clause-board c = λ setup history entry kept event.
-    outside_done (event ∙ c.in-Wire.is) tt kept (c.set_wire.ensures.devices setup history entry kept.devices)
+pub returns-in-Some-clause-board : goal.returns-in-Some-clause-board
+returns-in-Some-clause-board c = λ setup history entry kept event.
+    let said = c.in-Some.said in
+    let is = applied_is c.args.event.now said (sym c.in-Some.ensures.applied) in
+    outside_done (event ∙ is) (applied_answer setup history said.stimulus said.number said.on).0 kept
+    (λ asks routes. c.apply.ensures.devices setup history entry kept.devices asks
+    kept.registers.kept.south.routes routes)
 
-pub returns-in-Line-clause-board : goal.returns-in-Line-clause-board
-returns-in-Line-clause-board c = λ setup history entry kept event.
-    outside_done (event ∙ c.in-Line.is) tt kept (c.set_line.ensures.devices setup history entry kept.devices)
-
-pub returns-in-BadSector-clause-board : goal.returns-in-BadSector-clause-board
-returns-in-BadSector-clause-board c = λ setup history entry kept event.
-    outside_done (event ∙ c.in-BadSector.is) tt kept (c.mark_bad.ensures.devices setup history entry kept.devices)
+pub returns-in-Some-clause-answer : goal.returns-in-Some-clause-answer
+returns-in-Some-clause-answer c = λ setup history kept.
+    let said = c.in-Some.said in
+    let is = applied_is c.args.event.now said (sym c.in-Some.ensures.applied) in
+    let answer = applied_answer setup history said.stimulus said.number said.on in
+    subst (λ (event : Event). IsAnswer setup history event (reply_of c.answered-in-Some.result)) (sym is)
+    (rw (c.answered-in-Some.ensures.reply, c.answers.ensures.answers) answer.1)
 
 pub returns-in-Ack-clause-sound : goal.returns-in-Ack-clause-sound
 returns-in-Ack-clause-sound c = λ setup sound. sound_devices sound c.acknowledge-vector.ensures.fitted
 
-pub returns-in-Pulses-clause-sound : goal.returns-in-Pulses-clause-sound
-returns-in-Pulses-clause-sound c = λ setup sound. sound_devices sound c.pulses.ensures.fitted
-
 pub returns-in-Time-clause-sound : goal.returns-in-Time-clause-sound
 returns-in-Time-clause-sound c = λ setup sound. sound_devices sound c.moment.ensures.fitted
 
-pub returns-in-Wire-clause-sound : goal.returns-in-Wire-clause-sound
-returns-in-Wire-clause-sound c = λ setup sound. sound_devices sound c.set_wire.ensures.fitted
-
-pub returns-in-Line-clause-sound : goal.returns-in-Line-clause-sound
-returns-in-Line-clause-sound c = λ setup sound. sound_devices sound c.set_line.ensures.fitted
-
-pub returns-in-BadSector-clause-sound : goal.returns-in-BadSector-clause-sound
-returns-in-BadSector-clause-sound c = λ setup sound. sound_devices sound c.mark_bad.ensures.fitted
+pub returns-in-Some-clause-sound : goal.returns-in-Some-clause-sound
+returns-in-Some-clause-sound c = λ setup sound. sound_devices sound c.apply.ensures.fitted
