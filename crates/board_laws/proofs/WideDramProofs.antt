@@ -136,7 +136,7 @@ put-apart setup before access from cell (width ∷ later) writes lands apart =
     let rest : List Access = made access (from + bytes_of width) later in
     let both = apart-parts cell from (bytes_of width) (total later) apart in
     rw (put-apart setup before access (from + bytes_of width) cell later writes
-      (All-tail (Lands setup before) part rest lands) both.1)
+    (All-tail (Lands setup before) part rest lands) both.1)
     (memory_put-apart part (memory_target setup before part) cell writes
     (All-head (Lands setup before) part rest lands) both.0)
 
@@ -160,7 +160,7 @@ put-within setup before access from addr (width ∷ later) writes lands start ab
           ∙ ap (λ (n : ℕ). Some n) (byte-part access from addr width start above here))
       | inr past ↦
           rw (put-within setup before access (from + bytes_of width) addr later writes others (omega arith) past
-            (omega arith)) refl
+          (omega arith)) refl
     ]
 
 -- what the reply to a wide access puts in a cell
