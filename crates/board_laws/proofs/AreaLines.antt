@@ -109,8 +109,11 @@ past_dram :
     (line_where (is_bios_selected bytes addr) Rom ∷ option_map card_area (memory_claim setup bytes addr) ∷ []) Abort
 unfolding area_of
 past_dram setup bytes addr kind smm past =
-    rw (no_smram_line bytes addr kind smm past.no_smram, no_shadow_line bytes addr kind past.no_shadow,
-      no_dram_line bytes addr past.no_dram) refl
+    rw (
+      no_smram_line bytes addr kind smm past.no_smram,
+      no_shadow_line bytes addr kind past.no_shadow,
+      no_dram_line bytes addr past.no_dram,
+    ) refl
 
 pub who_answers : WhoAnswers
 unfolding area_of

@@ -1,12 +1,9 @@
 -- Who answers at an address of memory.
-use Rattle.std.proofs.Common.{◌≡◌, ℕ, zero, suc, ◌+◌, ◌≤◌, ◌<◌, Bool, true, false, not, ◌&&◌, [], ◌∷◌, Option, Some}
-use Rattle.std.proofs.Common.{None, is_some, refl, sym, ◌∙◌, ap, subst, inl, inr, arith, nat_lt, unwrap_or, option_map}
-use Rattle.board_prelude.proofs.Common.{cases_eq, cases_lt, cond-true, cond-false, lt-ltb, le-ltb, false≢true}
-use Rattle.board_prelude.proofs.Common.{nat_tests, Kind, Area, Setup, lies_in, smram_range, shadow_range, upper_memory}
-use Rattle.board_prelude.proofs.Common.{Bytes, first_of, line_where, boundary, top_of, row_of, is_smram_range}
-use Rattle.board_prelude.proofs.Common.{is_shadowed, Window, card_area, memory_claim, area_of, is_in_hole}
-use Rattle.board_prelude.proofs.Common.{is_bios_selected, is_smram_open}
-use Rattle.board_base.specs.declared.target.Area.TheVariants.{Dram, Shadow, Smram, Rom, Abort}
+use Rattle.std.proofs.Common.{◌≡◌, ℕ, zero, suc, ◌+◌, ◌≤◌, ◌<◌, true, Some}
+use Rattle.std.proofs.Common.{None, is_some, refl, ◌∙◌, inl, inr, arith, nat_lt}
+use Rattle.board_prelude.proofs.Common.{cases_lt, cond-true, lt-ltb, le-ltb}
+use Rattle.board_prelude.proofs.Common.{nat_tests}
+use Rattle.board_prelude.proofs.Common.{Bytes, boundary, top_of, row_of}
 use borrow.Author.Count.{below_more}
 use Rattle.board_laws.proofs.Numbers.{numbers_from, find-number}
 use Rattle.board_laws.specs.AreaLaws.{IsRow, HasRow, RowBelowTop}

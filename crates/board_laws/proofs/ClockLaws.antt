@@ -1,10 +1,10 @@
 -- The laws of the clock's machine.
-use Rattle.std.proofs.Common.{◌≡◌, ℕ, ◌+◌, ◌*◌, ◌/◌, ◌%◌, ◌<◌, ◌≤◌, inl, inr, Bool, true, false, ◌&&◌, ◌||◌, List}
-use Rattle.std.proofs.Common.{nat_le, ◌==◌, if◌then◌else◌, suc, length, get_or, set, refl, sym, ap, ◌∙◌, arith}
+use Rattle.std.proofs.Common.{◌≡◌, ℕ, ◌%◌, ◌<◌, ◌≤◌, inl, inr, Bool, true, false, ◌&&◌, ◌||◌, List}
+use Rattle.std.proofs.Common.{nat_le, ◌==◌, if◌then◌else◌, suc, length, get_or, set, refl, ap, ◌∙◌, arith}
 use Rattle.std.proofs.Common.{get_or-set_other, get_or-set_same}
-use Rattle.board_prelude.proofs.Common.{cases_Bool, cases_eq, eq-eqb, ne_eqb, nat_tests, get_or-set_at, length-set}
-use Rattle.board_prelude.proofs.Common.{CivilTime, Clock, bcd, number_byte, hour_byte, control_of, holds_time}
-use Rattle.board_prelude.proofs.Common.{is_binary, is_24_hour, time_bytes, put, tell, byte_at, alarm_fits, alarm_rings}
+use Rattle.board_prelude.proofs.Common.{cases_Bool, cases_eq, ne_eqb, nat_tests, get_or-set_at, length-set}
+use Rattle.board_prelude.proofs.Common.{CivilTime, Clock, number_byte, hour_byte, control_of, holds_time}
+use Rattle.board_prelude.proofs.Common.{time_bytes, put, tell, byte_at, alarm_fits, alarm_rings}
 use Rattle.board_prelude.proofs.Common.{control_reset, written, data_byte, update_interrupts, after_write, after_reset}
 use Rattle.board_prelude.proofs.Common.{after_moment, register_c, after_read, clock_index_port, clock_data_port}
 use Rattle.board_base.specs.Bits.{is_bit}

@@ -1,5 +1,5 @@
 -- An entry leaves the devices that its reply does not name, and with their drivers the lines.
-use Rattle.std.proofs.Common.{◌≡◌, Bool, false, List, ◌∷◌, Option, refl, ◌∙◌, ap, inl, inr, unwrap_or}
+use Rattle.std.proofs.Common.{◌≡◌, false, List, ◌∷◌, refl, ◌∙◌, ap, inl, inr}
 use Rattle.board_prelude.proofs.Common.{cond-false, out_of, Entry, is_hard_reset, wire_of, irq_of, triggers_of}
 use Rattle.board_prelude.proofs.Common.{plain_of, timer_of, timer_after, clock_of, disk_with, triggers-alone}
 use Rattle.board_prelude.proofs.Common.{system-alone, timer-alone, clock-alone, disk-alone, wire-alone, line-alone}

@@ -27,8 +27,14 @@ same_six :
     (setup : Setup) (bytes other : Bytes) → SameAreas setup bytes other → (addr : ℕ) →
     six_areas setup bytes addr ≡ six_areas setup other addr
 same_six setup bytes other same addr =
-    rw (same addr Fetch false, same addr Read false, same addr Write false, same addr Fetch true, same addr Read true,
-      same addr Write true) refl
+    rw (
+      same addr Fetch false,
+      same addr Read false,
+      same addr Write false,
+      same addr Fetch true,
+      same addr Read true,
+      same addr Write true,
+    ) refl
 
 same_flat_map :
     (setup : Setup) (bytes other : Bytes) → SameAreas setup bytes other → (ranges : List MapRange) →

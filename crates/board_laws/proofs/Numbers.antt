@@ -1,7 +1,7 @@
 -- Lists of numbers that follow one another, and tests on them.
 use Rattle.std.proofs.Common.{◌≡◌, ℕ, zero, suc, ◌+◌, ◌≤◌, ◌<◌, Bool, true, false, List, [], ◌∷◌, get_or, Some, refl}
-use Rattle.std.proofs.Common.{sym, ◌∙◌, ap, subst, inl, inr, arith, find, map}
-use Rattle.board_prelude.proofs.Common.{list_any, cases_Bool, cases_eq, cond-true, cond-false, false≢true, or_right}
+use Rattle.std.proofs.Common.{ap, inl, inr, arith, find, map}
+use Rattle.board_prelude.proofs.Common.{list_any, cases_Bool, cases_eq, false≢true, or_right}
 
 -- this many numbers from one on
 unfoldable pub numbers_from : (from count : ℕ) → List ℕ

@@ -1,9 +1,9 @@
 -- A read of one chip of the pair.
 use Rattle.std.proofs.Common.{◌≡◌, ℕ, Bool, true, false, cond, Option, Some, None, List, [], ◌∷◌, ◌++◌, refl, sym, ap}
-use Rattle.std.proofs.Common.{subst, ◌∙◌, inl, inr, is_some}
+use Rattle.std.proofs.Common.{◌∙◌, inl, inr, is_some}
 use Rattle.board_prelude.proofs.Common.{cases_Bool, Chip, pending, first_selectable, request, interrupt}
-use Rattle.board_prelude.proofs.Common.{acknowledged_if, chip_after_read, Pair, settled, pair_read, latched}
-use Rattle.board_prelude.proofs.Common.{settled-asks, settled-quiet}
+use Rattle.board_prelude.proofs.Common.{acknowledged_if, chip_after_read, Pair, settled, latched}
+use Rattle.board_prelude.proofs.Common.{settled-asks}
 use Rattle.board_laws.specs.PicLaws.{ReadsLeaveTheOther}
 use Rattle.board_laws.proofs.PicLaws.{settled-slave}
 

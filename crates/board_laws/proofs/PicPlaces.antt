@@ -133,7 +133,7 @@ interrupt-selected chip level h e =
       };
       first = λ other can. elim (cases_lt (place_of chip.lowest other) (place_of chip.lowest level)) [
         | inl early ↦ absurd (let q = (quiet other can.inside early).silent in
-          grind (arith, nat_tests, q, can.asks, can.unmasked))
+            grind (arith, nat_tests, q, can.asks, can.unmasked))
         | inr late ↦ late
       ];
     }

@@ -1,11 +1,10 @@
 -- A wide access to DRAM reads and writes the bytes from its address on.
 use Rattle.std.proofs.Common.{◌≡◌, ℕ, suc, ◌+◌, ◌-◌, ◌*◌, ◌/◌, ◌%◌, ◌^◌, ◌≤◌, ◌<◌, ◌⊎◌, inl, inr, true, List, [], ◌∷◌}
-use Rattle.std.proofs.Common.{Option, Some, None, refl, sym, ◌∙◌, ap, subst, arith, nat_lt, if◌then◌else◌, All, map}
-use Rattle.std.proofs.Common.{option_and_then}
-use Rattle.board_prelude.proofs.Common.{stored_of, option_or, cases_lt, cond-true, cond-false, nat_tests, All-head}
+use Rattle.std.proofs.Common.{Option, Some, None, refl, sym, ◌∙◌, ap, subst, arith, All, map}
+use Rattle.board_prelude.proofs.Common.{stored_of, cases_lt, cond-false, nat_tests, All-head}
 use Rattle.board_prelude.proofs.Common.{All-tail, Width, One, WideAccess, Target, Dram, Shadow, Smram, Card, bytes_of}
 use Rattle.board_prelude.proofs.Common.{Event, Wide, Part, Reply, Bus, Saw, Entry, Setup, byte, wide, part_at, parts_of}
-use Rattle.board_prelude.proofs.Common.{joined, Cell, DramCell, CardCell, first_cell, distance, memory_put, parts_put}
+use Rattle.board_prelude.proofs.Common.{joined, Cell, DramCell, CardCell, first_cell, memory_put, parts_put}
 use Rattle.board_prelude.proofs.Common.{entry_put, is_write, dram_byte, memory_target, part_answer, value_at}
 use Rattle.board_prelude.proofs.Common.{wide_value, IsAnswer, made, total, is_cut, further}
 use native.Mathlib.Numerals.{unary_clauses}
@@ -136,7 +135,7 @@ put-apart setup before access from cell (width ∷ later) writes lands apart =
     let rest : List Access = made access (from + bytes_of width) later in
     let both = apart-parts cell from (bytes_of width) (total later) apart in
     rw (put-apart setup before access (from + bytes_of width) cell later writes
-      (All-tail (Lands setup before) part rest lands) both.1)
+    (All-tail (Lands setup before) part rest lands) both.1)
     (memory_put-apart part (memory_target setup before part) cell writes
     (All-head (Lands setup before) part rest lands) both.0)
 
@@ -160,7 +159,7 @@ put-within setup before access from addr (width ∷ later) writes lands start ab
           ∙ ap (λ (n : ℕ). Some n) (byte-part access from addr width start above here))
       | inr past ↦
           rw (put-within setup before access (from + bytes_of width) addr later writes others (omega arith) past
-            (omega arith)) refl
+          (omega arith)) refl
     ]
 
 -- what the reply to a wide access puts in a cell
