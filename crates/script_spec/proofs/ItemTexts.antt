@@ -62,13 +62,19 @@ time_read version words moment e =
       form = m.1;
     })
 
+-- an item made of what was found
+made_item : {X : Type 0} (version : ℕ) (text : List ℕ) (found : Option X) (make : X → Item) (item : Item)
+    → ((x : X) → found ≡ Some x → HasForm version text (make x)) → option_map make found ≡ Some item
+    → HasForm version text item
+made_item version text found make item has e =
+    let m = mapped found make item e in subst (HasForm version text) (sym m.2) (has m.0 m.1)
+
 moment_item : (version n : ℕ) (actor : List ℕ) (words : List (List ℕ)) (item : Item) → parse_decimal actor ≡ Some n
     → parse_time_item n words ≡ Some item → HasForm version (line (actor ∷ codes "moment" ∷ words)) item
 unfolding parse_time_item
-moment_item version n actor words item d e =
-    let m = mapped (parse_only_moment words) _ item e in
-    subst (HasForm version (line (actor ∷ codes "moment" ∷ words))) (sym m.2)
-    (ask_read version n actor (codes "moment") words (Time m.0) d (time_read version words m.0 m.1))
+moment_item version n actor words item d =
+    made_item version (line (actor ∷ codes "moment" ∷ words)) (parse_only_moment words) (λ m. ask n (Time m)) item
+    (λ m e. ask_read version n actor (codes "moment") words (Time m) d (time_read version words m e))
 
 two_read : (words : List (List ℕ)) (p : ℕ × ℕ) → parse_two_numbers words ≡ Some p
     → (words ≡ decimal p.0 ∷ decimal p.1 ∷ []) × (IsDecimal p.0 × IsDecimal p.1)
@@ -216,10 +222,9 @@ event_asks : (version n : ℕ) (actor verb : List ℕ) (words : List (List ℕ))
     → parse_decimal actor ≡ Some n
     → ((event : Event) → found ≡ Some event → IsRead version (verb ∷ words) event)
     → option_map (ask n) found ≡ Some item → HasForm version (line (actor ∷ verb ∷ words)) item
-event_asks version n actor verb words item found d read e =
-    let m = mapped found (ask n) item e in
-    subst (HasForm version (line (actor ∷ verb ∷ words))) (sym m.2)
-    (ask_read version n actor verb words m.0 d (read m.0 m.1))
+event_asks version n actor verb words item found d read =
+    made_item version (line (actor ∷ verb ∷ words)) found (ask n) item
+    (λ event e. ask_read version n actor verb words event d (read event e))
 
 asked_read : (version n : ℕ) (actor verb : List ℕ) (words : List (List ℕ)) (item : Item) → parse_decimal actor ≡ Some n
     → parse_by_verb version n verb words ≡ Some item → HasForm version (line (actor ∷ verb ∷ words)) item
@@ -291,68 +296,41 @@ phase_read version [] item e =
     subst (HasForm version (line (codes "phase" ∷ []))) (some_is BeginPhase item e) (record { form = tt; says = refl })
 phase_read version (_ ∷ _) item e = absurd cc
 
-cpus_read : (version : ℕ) (words : List (List ℕ)) (item : Item) → option_map SetCpus (parse_number words) ≡ Some item
-    → HasForm version (line (codes "cpus" ∷ words)) item
-unfolding item_text
-cpus_read version words item e =
-    let m = mapped (parse_number words) SetCpus item e in
-    let n = number_read words m.0 m.1 in
-    subst (HasForm version (line (codes "cpus" ∷ words))) (sym m.2)
-    (subst (λ (w : List (List ℕ)). HasForm version (line (codes "cpus" ∷ w)) (SetCpus m.0)) (sym n.0)
-    (record { form = n.1; says = refl }))
+-- a key and a number, and a key and a name
+number_item : (version : ℕ) (key : List ℕ) (words : List (List ℕ)) (make : ℕ → Item) (item : Item)
+    → ((n : ℕ) → IsDecimal n → HasForm version (line (key ∷ decimal n ∷ [])) (make n))
+    → option_map make (parse_number words) ≡ Some item → HasForm version (line (key ∷ words)) item
+number_item version key words make item has =
+    made_item version (line (key ∷ words)) (parse_number words) make item (λ n e.
+    let is = number_read words n e in
+    subst (λ (w : List (List ℕ)). HasForm version (line (key ∷ w)) (make n)) (sym is.0) (has n is.1))
 
-memory_read : (version : ℕ) (words : List (List ℕ)) (item : Item)
-    → option_map SetMemory (parse_number words) ≡ Some item
-    → HasForm version (line (codes "memory" ∷ words)) item
-unfolding item_text
-memory_read version words item e =
-    let m = mapped (parse_number words) SetMemory item e in
-    let n = number_read words m.0 m.1 in
-    subst (HasForm version (line (codes "memory" ∷ words))) (sym m.2)
-    (subst (λ (w : List (List ℕ)). HasForm version (line (codes "memory" ∷ w)) (SetMemory m.0)) (sym n.0)
-    (record { form = n.1; says = refl }))
-
-rom_read : (version : ℕ) (words : List (List ℕ)) (item : Item) → option_map SetRom (parse_name words) ≡ Some item
-    → HasForm version (line (codes "rom" ∷ words)) item
-unfolding item_text
-rom_read version words item e =
-    let m = mapped (parse_name words) SetRom item e in
-    let n = name_read words m.0 m.1 in
-    subst (HasForm version (line (codes "rom" ∷ words))) (sym m.2)
-    (subst (λ (w : List (List ℕ)). HasForm version (line (codes "rom" ∷ w)) (SetRom m.0)) (sym n.0)
-    (record { form = n.1; says = refl }))
-
-disk_read : (version : ℕ) (words : List (List ℕ)) (item : Item) → option_map SetDisk (parse_name words) ≡ Some item
-    → HasForm version (line (codes "disk" ∷ words)) item
-unfolding item_text
-disk_read version words item e =
-    let m = mapped (parse_name words) SetDisk item e in
-    let n = name_read words m.0 m.1 in
-    subst (HasForm version (line (codes "disk" ∷ words))) (sym m.2)
-    (subst (λ (w : List (List ℕ)). HasForm version (line (codes "disk" ∷ w)) (SetDisk m.0)) (sym n.0)
-    (record { form = n.1; says = refl }))
-
-fitted_read : (version : ℕ) (words : List (List ℕ)) (item : Item)
-    → option_map FitCard (parse_card version words) ≡ Some item
-    → HasForm version (line (codes "card" ∷ words)) item
-unfolding item_text
-fitted_read version words item e =
-    let m = mapped (parse_card version words) FitCard item e in
-    let c = card_read version words m.0 m.1 in
-    subst (HasForm version (line (codes "card" ∷ words))) (sym m.2) (record { form = c.1; says = c.0 })
+name_item : (version : ℕ) (key : List ℕ) (words : List (List ℕ)) (make : List ℕ → Item) (item : Item)
+    → ((name : List ℕ) → IsName name → HasForm version (line (key ∷ name ∷ [])) (make name))
+    → option_map make (parse_name words) ≡ Some item → HasForm version (line (key ∷ words)) item
+name_item version key words make item has =
+    made_item version (line (key ∷ words)) (parse_name words) make item (λ name e.
+    let is = name_read words name e in
+    subst (λ (w : List (List ℕ)). HasForm version (line (key ∷ w)) (make name)) (sym is.0) (has name is.1))
 
 with_read : (version : ℕ) (key : List ℕ) (words : List (List ℕ)) (item : Item)
     → parse_by_key version key words ≡ Some item
     → HasForm version (line (key ∷ words)) item
-unfolding parse_by_key
+unfolding parse_by_key item_text
 with_read version key words item =
     let P : List ℕ → Type 0 = λ k. HasForm version (line (k ∷ words)) item in
     by_word P key (codes "phase") _ _ item (phase_read version words item)
-    (by_word P key (codes "cpus") _ _ item (cpus_read version words item)
-    (by_word P key (codes "memory") _ _ item (memory_read version words item)
-    (by_word P key (codes "rom") _ _ item (rom_read version words item)
-    (by_word P key (codes "disk") _ _ item (disk_read version words item)
-    (by_word P key (codes "card") _ _ item (fitted_read version words item)
+    (by_word P key (codes "cpus") _ _ item
+    (number_item version (codes "cpus") words SetCpus item (λ n small. record { form = small; says = refl }))
+    (by_word P key (codes "memory") _ _ item
+    (number_item version (codes "memory") words SetMemory item (λ n small. record { form = small; says = refl }))
+    (by_word P key (codes "rom") _ _ item
+    (name_item version (codes "rom") words SetRom item (λ name is. record { form = is; says = refl }))
+    (by_word P key (codes "disk") _ _ item
+    (name_item version (codes "disk") words SetDisk item (λ name is. record { form = is; says = refl }))
+    (by_word P key (codes "card") _ _ item
+    (made_item version (line (codes "card" ∷ words)) (parse_card version words) FitCard item (λ card e.
+    let c = card_read version words card e in record { form = c.1; says = c.0 }))
     (statement_read version key words item))))))
 
 fields_read : (version : ℕ) (fields : List (List ℕ)) (item : Item) → parse_item version fields ≡ Some item
