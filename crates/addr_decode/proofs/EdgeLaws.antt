@@ -1,6 +1,7 @@
 -- Between two edges all addresses have the same areas.
 use Rattle.std.proofs.Common.{◌≡◌, ℕ, ◌+◌, ◌-◌, ◌*◌, ◌/◌, ◌^◌, ◌<◌, ◌≤◌, inl, inr, Bool, true, false, List}
-use Rattle.std.proofs.Common.{[], ◌∷◌, ◌++◌, Option, Some, None, refl, sym, rules, arith, ◌==◌, nat_lt, nat_le, All, flat_map}
+use Rattle.std.proofs.Common.{[], ◌∷◌, ◌++◌, Option, Some, None, refl, sym, rules, arith, ◌==◌, nat_lt, nat_le, All}
+use Rattle.std.proofs.Common.{flat_map}
 use Rattle.std.proofs.Common.{unwrap_or, if◌then◌else◌, slice_index_or, IfSome, IsNone}
 use Rattle.board_prelude.proofs.Common.{eqb-true, list_any, each_below}
 use Rattle.board_prelude.proofs.Common.{Contains, AllByRecursion, enumerate_from, cases_Bool, cases_lt, nat_tests}

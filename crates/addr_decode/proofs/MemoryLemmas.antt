@@ -90,7 +90,8 @@ by_parts setup bytes addr kind smm =
 
 pub rom_answers : (setup : Setup) (bytes : Bytes) (addr : ℕ) → true ≡ is_bios_selected bytes addr →
     Rom ≡ beside_dram setup bytes addr
-rom_answers setup bytes addr rom = ap (λ (selected : Bool). above_dram None selected (memory_claim setup bytes addr)) rom
+rom_answers setup bytes addr rom =
+    ap (λ (selected : Bool). above_dram None selected (memory_claim setup bytes addr)) rom
 
 claim_area :
     (claim : Option Window) →

@@ -5,7 +5,8 @@ use Rattle.std.proofs.Common.{get_or, take, drop, ◌-◌, Err, false}
 use Rattle.std.proofs.lemmas.List.{drop_more}
 use Rattle.std.proofs.lemmas.List.Concat.{flat_map-cons}
 use Rattle.std.proofs.lemmas.List.Elements.{All-from_recursion}
-use Rattle.board_prelude.proofs.Common.{AllByRecursion, append-nil, get_or_past, recursion_from_All, drop_all, drop_at, take_at, w32}
+use Rattle.board_prelude.proofs.Common.{AllByRecursion, append-nil, get_or_past, recursion_from_All, drop_all}
+use Rattle.board_prelude.proofs.Common.{drop_at, take_at, w32}
 use Rattle.board_prelude.proofs.Common.{length-append, length-drop, length-take-le, take-append-drop}
 use Rattle.board_prelude.proofs.Common.{to_le_bytes, FittedCard}
 use Rattle.byte_fields.proofs.Formats.{IsFormat, format_as, then_format, last_format, done_format, plain_format}

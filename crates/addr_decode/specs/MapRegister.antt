@@ -23,7 +23,8 @@ place_of (RowBoundary row) = drb row
 place_of (Single number) = single number
 place_of (Card dev register) = card_register dev (offset_of register)
 
--- there are seven PAM, eight rows, the registers of one byte each, and of a card 24 bytes of bases and four of the expansion ROM's register
+-- there are seven PAM, eight rows, the registers of one byte each, and of a card 24 bytes of bases and four of the
+-- expansion ROM's register
 abbrev pub IsCardNumber : CardRegister → Type 0
 IsCardNumber Command = Unit {0}
 IsCardNumber (Base k) = k < 24

@@ -57,7 +57,8 @@ pub(crate) fn number_in_isa_bridge(off: u8) -> Option<u8>
 /// The register of a number after a byte is written to it.
 pub(crate) fn single_after(number: usize, old: u8, written: u8) -> u8
     requires number { number < single_count }
-    ensures after { (setup : Setup) → result ≡ changed_byte setup (Store (single number) One written) (single number) old }
+    ensures after { (setup : Setup)
+        → result ≡ changed_byte setup (Store (single number) One written) (single number) old }
 {
     match number {
         HOLE => fdhc_after(old, written),

@@ -10,7 +10,6 @@ use Rattle.board_chipset.specs.Alone.{alone}
 use Rattle.board_chipset.specs.Chipset.{Running}
 use Rattle.board_chipset.specs.ChipsetState.{IsChipset, bare_chipset, chipset_bytes, chipset_fields, LoadsChipset}
 use Rattle.board_chipset.specs.ChipsetState.{IsBadStateAt, is_other_version}
-use Rattle.board_chipset.specs.declared.state_fault.StateFault.TheVariants.{Bad, NoMemory}
 use Rattle.board_chipset.proofs.Marks.{alone_bad}
 use Rattle.board_chipset.proofs.ChipsetFormats.{chipset_format}
 use Rattle.board_chipset.proofs.ChipsetLoads.{of_version}

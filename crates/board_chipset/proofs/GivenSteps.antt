@@ -60,10 +60,8 @@ module _ (bytes : List ℕ) (setup : Setup) where
       StandsFor (fitted_with bytes setup) registers regs
   stands_as registers regs is = record {
     rows = is.rows;
-    hole = is.hole;
     windows = is.windows;
-    smram = is.smram;
-    xbcs = is.xbcs;
+    singles = is.singles;
     cards = (is.cards.0, All-weaker _ _ (decodes_as registers) regs.cards is.cards.1);
   }
 

@@ -2,7 +2,7 @@
 use Rattle.std.proofs.Common.{◌≡◌, ℕ, ◌+◌, ◌%◌, ◌^◌, ◌≤◌, Bool, true, false, ◌&&◌, not, List, [], ◌∷◌, length, Option}
 use Rattle.std.proofs.Common.{Some, None, inl, inr, refl, sym, subst, arith, is_some, unwrap_or, option_map}
 use Rattle.board_prelude.proofs.Common.{Kind, Width, One, Dev, Reg, Area, Target, Device, Config, Card, Abort, bytes_of}
-use Rattle.board_prelude.proofs.Common.{Part, Setup, IsRomSize, IsBusAccess, is_write, smram, lies_in}
+use Rattle.board_prelude.proofs.Common.{Part, Setup, IsRomSize, IsBusAccess, is_write, lies_in}
 use Rattle.board_prelude.proofs.Common.{upper_memory, Bytes, Window, first_of, line_where, card_area, row_of}
 use Rattle.board_prelude.proofs.Common.{is_smram_range, is_shadowed}
 use Rattle.board_prelude.proofs.Common.{memory_claim, area_of, window_bits, target_at}

@@ -1,9 +1,9 @@
 -- Registers of the right number and widths are those of a board of their setup: each stands for a byte of its own.
-use Rattle.std.proofs.Common.{◌≡◌, ◌≢◌, ℕ, ◌+◌, ◌-◌, ◌*◌, ◌/◌, ◌%◌, ◌^◌, ◌<◌, ◌≤◌, false, ◌&&◌, List, [], ◌∷◌, length}
+use Rattle.std.proofs.Common.{◌≡◌, ◌≢◌, ℕ, ◌-◌, false, ◌&&◌, List, [], ◌∷◌, length}
 use Rattle.std.proofs.Common.{get_or, Option, Some, None, refl, ◌∙◌, ap, arith, ◌==◌, if◌then◌else◌, All}
 use Rattle.std.proofs.Common.{is_some, map, slice_index}
 use Rattle.board_prelude.proofs.Common.{and-false, or_parts, option_map_or, cond-false, ne_eqb}
-use Rattle.board_prelude.proofs.Common.{Setup, IsCard, Bytes, byte, is_within, reset_byte}
+use Rattle.board_prelude.proofs.Common.{Setup, IsCard, Bytes, is_within, reset_byte}
 use Rattle.board_prelude.proofs.Common.{card_register, ide, pirq, pirqs}
 use Rattle.pci_bars.specs.Cards.{CardBytes, IsCardOf, AreFitted, is_kept_offset}
 use Rattle.pci_bars.specs.Cards.{cards_of}

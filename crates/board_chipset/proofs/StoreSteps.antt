@@ -1,5 +1,5 @@
 -- The bytes behind the addresses after one more entry.
-use Rattle.std.proofs.Common.{◌≡◌, ℕ, ◌<◌, List, ◌∷◌, length, Option, None, refl, sym, ◌∙◌, arith, ◌==◌}
+use Rattle.std.proofs.Common.{◌≡◌, ℕ, ◌<◌, List, ◌∷◌, length, Option, None, refl, sym, ◌∙◌, arith}
 use Rattle.board_prelude.proofs.Common.{Entry, Setup, Cell, DramCell, CardCell, entry_put, stored_of}
 use Rattle.pci_bars.specs.Contents.{held, held_byte}
 use Rattle.pci_bars.proofs.ContentsLemmas.{contents_of, held_within, stored_byte}

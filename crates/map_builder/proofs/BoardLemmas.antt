@@ -28,7 +28,7 @@ pub card_with : ℕ → List CardBytes → Option CardBytes
 card_with dev cards = find (λ card. card.card.dev == dev) cards
 
 -- where no register of one byte stands
-unfoldable pub beside_singles : MapBytes → (others : Bytes) → Bytes
+abbrev pub beside_singles : MapBytes → (others : Bytes) → Bytes
 beside_singles regs others reg =
     if reg.dev == 0 then bridge_byte regs reg.off else
     if reg.dev == 1 then others reg
@@ -48,7 +48,7 @@ unnumbered regs others reg none =
 
 rows_stand : (regs : MapBytes) (others : Bytes) (row : ℕ) → row < 8 →
     slice_index regs.drb row ≡ overlaid regs others (bridge (0x60 + row))
-unfolding beside_singles bridge_byte
+unfolding bridge_byte
 rows_stand regs others row below =
     let off : 0x60 + row - 0x60 ≡ row = omega arith in
     sym (unnumbered regs others (bridge (0x60 + row)) (block_unnumbered (0x60 + row) (omega arith) (omega arith))
@@ -57,7 +57,7 @@ rows_stand regs others row below =
 
 windows_stand : (regs : MapBytes) (others : Bytes) (off : ℕ) → (0x59 ≤ off) × (off ≤ 0x5F) →
     slice_index regs.pam (off - 0x59) ≡ overlaid regs others (bridge off)
-unfolding beside_singles bridge_byte
+unfolding bridge_byte
 windows_stand regs others off within =
     sym (unnumbered regs others (bridge off) (block_unnumbered off within.0 (omega (arith, within.1)))
     ∙ cond-true (nat_lt off 0x60) _ _ (grind (arith, nat_tests, within.1)))
@@ -134,7 +134,6 @@ module _ (regs : MapBytes) (others : Bytes) (card : CardBytes) (fit : IsCard car
     (at : card_with card.card.dev regs.cards ≡ Some card) where
   stands : (off : ℕ) → overlaid regs others (card_register card.card.dev off)
       ≡ card_byte (others (card_register card.card.dev off)) off card
-  unfolding beside_singles
   stands off =
       let other : ℕ = others (card_register card.card.dev off) in
       unnumbered regs others (card_register card.card.dev off) (card_unnumbered card.card.dev off fit.first)

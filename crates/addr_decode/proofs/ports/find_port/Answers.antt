@@ -16,7 +16,8 @@ returns-in-Answers-clause-decoded c = λ setup bytes stands ide.
     onboard_target setup bytes (kept_address c.args.ports.now.confadd) c.args.ports.now.disk c.args.port
     c.args.width c.chip_selects.result
     c.args.ports.now.ide_command c.args.ports.now.idetim (Answers c.in-Answers.dev)
-    c.if-is_config_data.ensures.data (c.chip_selects.ensures.byte bytes stands.singles) ide c.in-Answers.ensures.response
+    c.if-is_config_data.ensures.data (c.chip_selects.ensures.byte bytes stands.singles) ide
+    c.in-Answers.ensures.response
 
 pub returns-in-Denied-clause-decoded : goal.returns-in-Denied-clause-decoded
 returns-in-Denied-clause-decoded c = λ setup bytes stands ide.
