@@ -2,6 +2,7 @@
 use Rattle.std.proofs.Common.{◌≡◌, ◌≢◌, ℕ, true, false, List, ◌∷◌, Option, None, refl, ◌∙◌, ap}
 use Rattle.board_prelude.proofs.Common.{cond_both, Width, PortAccess, Reg, Dev, Target, Device, Config, Card}
 use Rattle.board_prelude.proofs.Common.{Abort, bytes_of, Entry, Reply, Setup, config_address, is_hard_reset, Cell}
+use Rattle.board_prelude.proofs.Common.{byte_of}
 use Rattle.board_prelude.proofs.Common.{entry_put, byte_put, port_put, device_in, device_reached, device_value, Decoded}
 use Rattle.board_prelude.proofs.Common.{port_value, bus_reply, port_answer, Bytes}
 use Rattle.board_base.specs.declared.target.Dev.TheVariants.{Confadd as AddressPort, Reset}
@@ -54,25 +55,19 @@ beside_found setup history access (FoundCard dev base off) device register is = 
 beside_found setup history access (Nobody denial) device register is = is
 
 -- a device with ports of its own
-pub record IsChipAt (setup : Setup) (history : List Entry) (access : PortAccess) (dev : Dev) : Type 0 where
-  pub beside : IsBeside setup (config_address history) access.port access.width
-  pub port : is_chip_port dev access.port (bytes_of access.width) ≡ true
-
-pub chip_at : (setup : Setup) (history : List Entry) (access : PortAccess) (dev : Dev) → dev ≢ AddressPort →
-    dev ≢ Reset →
-    Reached setup history access (Device dev) → IsChipAt setup history access dev
-chip_at setup history access AddressPort address control is = absurd (address refl)
-chip_at setup history access Reset address control is = absurd (control refl)
-chip_at setup history access _ address control is = record { beside = is.0; port = is.1 }
-
--- the same where no history is known
 pub chip_in : (setup : Setup) (bytes : Bytes) (address : ℕ) (access : PortAccess) (dev : Dev) → dev ≢ AddressPort →
-    dev ≢ Reset →
-    IsReached setup bytes address access.port access.width (Device dev) →
-    is_chip_port dev access.port (bytes_of access.width) ≡ true
+    dev ≢ Reset → IsReached setup bytes address access.port access.width (Device dev) →
+    IsBeside setup address access.port access.width
+    × (is_chip_port dev access.port (bytes_of access.width) ≡ true)
 chip_in setup bytes address access AddressPort named control is = absurd (named refl)
 chip_in setup bytes address access Reset named control is = absurd (control refl)
-chip_in setup bytes address access _ named control is = is.1
+chip_in setup bytes address access _ named control is = is
+
+pub chip_beside : (setup : Setup) (history : List Entry) (access : PortAccess) (dev : Dev) → dev ≢ AddressPort →
+    dev ≢ Reset → Reached setup history access (Device dev) →
+    IsBeside setup (config_address history) access.port access.width
+chip_beside setup history access dev named control is =
+    (chip_in setup (byte_of setup history) (config_address history) access dev named control is).0
 
 pub chip_value : (setup : Setup) (history : List Entry) (dev : Dev) (port : ℕ) (width : Width) → dev ≢ AddressPort →
     dev ≢ Reset →
@@ -130,14 +125,14 @@ module _ {setup : Setup} {history : List Entry} {access : PortAccess} {target : 
 pub chip_changed :
     {setup : Setup} {history : List Entry} {access : PortAccess} {dev : Dev} {entry : Entry} {old : State}
     {devices : DevicesValue} →
-    IsChipAt setup history access dev → IsStateOf setup history old →
+    IsBeside setup (config_address history) access.port access.width → IsStateOf setup history old →
     IsEntryOf setup history access (Device dev) entry →
     (ReachesDevice history entry dev access → AreRoutesOf setup (entry ∷ history) old.registers.south.routes →
     AreDevicesOf setup (entry ∷ history) devices) →
     IsStateOf setup (entry ∷ history) (record old { devices = devices })
-chip_changed {setup} {history} {access} {dev} {entry} at kept is after =
+chip_changed {setup} {history} {access} {dev} {entry} beside kept is after =
     let none : Writes setup history entry.event None None None =
-    rw (is.event) (writes_beside setup history access at.beside) in
+    rw (is.event) (writes_beside setup history access beside) in
     devices_move kept none (puts_none is (λ cell. refl))
     (after (record { event = is.event; device = rw (is.reply) refl; soft = soft none }))
 

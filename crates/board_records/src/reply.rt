@@ -12,7 +12,12 @@ ghost use Rattle.board_records.specs.Replies.{of_part, uart_part, uart_said, ser
 ghost use Rattle.board_records.specs.Replies.{with_wide, without_value, beside_cycle};
 ghost use Rattle.board_records.specs.Steps.{after_step};
 
-use crate::numbers::{ABORT_TARGET, BUS_REPLY, CARD_TARGET, CONFADD_DENIAL, CONFIG_TARGET, DEVICE_TARGET, DRAM_TARGET, HARD_RESET, LOOK_REPLY, NO_REGISTER_DENIAL, NO_RESET, PARTS_REPLY, REGISTER_DENIAL, ROM_TARGET, SHADOW_TARGET, SMRAM_TARGET, SOFT_RESET, UART_DEVICE, device_number};
+use crate::numbers::{
+    ABORT_TARGET, BUS_REPLY, CARD_TARGET, CONFADD_DENIAL, CONFIG_TARGET, DEVICE_TARGET,
+    DRAM_TARGET, HARD_RESET, LOOK_REPLY, NO_REGISTER_DENIAL, NO_RESET, PARTS_REPLY,
+    REGISTER_DENIAL, ROM_TARGET, SHADOW_TARGET, SMRAM_TARGET, SOFT_RESET, UART_DEVICE,
+    device_number,
+};
 use board_base::{Area, Denial, Reg, Target};
 use board_chipset::{BusReply, Chipset, ResetKind, WideReply};
 use board_spec::{Look, Part, Parts, Reply};

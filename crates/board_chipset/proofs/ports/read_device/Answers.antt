@@ -2,16 +2,15 @@ use Rattle.std.proofs.Common.{◌∙◌, refl}
 use Rattle.board_devices.proofs.DeviceLemmas.{leaves_devices}
 use Rattle.board_chipset.proofs.Effects.{reached_in, entry_reached}
 use Rattle.board_chipset.proofs.StateSteps.{sound_devices}
-use Rattle.board_chipset.proofs.PortSteps.{chip_at, chip_in, chip_value, read_stays, chip_changed}
+use Rattle.board_chipset.proofs.PortSteps.{chip_beside, chip_in, chip_value, read_stays, chip_changed}
 use Rattle.board_chipset.proofs.ports.read_device.Goals as goal
 
 pub read-requires-in_default : goal.read-requires-in_default
 read-requires-in_default c =
     let reaching = c.requires.reaching in
     record {
-      port = chip_in reaching.kept.setup reaching.kept.sound.registers.bytes c.args.state.now.registers.address
-          c.args.access.now c.args.dev c.in_default.not-Confadd c.in_default.not-Reset
-          (reached_in reaching);
+      port = (chip_in reaching.kept.setup reaching.kept.sound.registers.bytes c.args.state.now.registers.address
+          c.args.access.now c.args.dev c.in_default.not-Confadd c.in_default.not-Reset (reached_in reaching)).1;
     }
 
 pub returns-in-Confadd-clause-board : goal.returns-in-Confadd-clause-board
@@ -33,8 +32,7 @@ returns-in_default c =
           ∙ chip_value setup history dev access.port access.width c.in_default.not-Confadd c.in_default.not-Reset;
       board = λ setup history entry kept is.
           chip_changed
-          (chip_at setup history access dev c.in_default.not-Confadd c.in_default.not-Reset
-          (entry_reached refl is))
+          (chip_beside setup history access dev c.in_default.not-Confadd c.in_default.not-Reset (entry_reached refl is))
           kept is (λ reaches. c.read-in_default.ensures.devices setup history entry kept.devices reaches
           c.requires.reads);
     }

@@ -4,7 +4,7 @@ use Rattle.board_chipset.specs.Ports.{IsEntryOf}
 use Rattle.board_devices.proofs.DeviceLemmas.{leaves_devices}
 use Rattle.board_chipset.proofs.Effects.{reached_in, entry_reached, entry_writes}
 use Rattle.board_chipset.proofs.StateSteps.{soft, sound_devices, sound_registers}
-use Rattle.board_chipset.proofs.PortSteps.{chip_at, chip_in, registers_move, chip_changed}
+use Rattle.board_chipset.proofs.PortSteps.{chip_beside, chip_in, registers_move, chip_changed}
 use Rattle.board_chipset.proofs.ports.write_device.Goals as goal
 
 pub write-requires : goal.write-requires
@@ -12,8 +12,8 @@ write-requires c =
     let reaching = c.requires.reaching in
     let access = c.args.access.now in
     record {
-      port = chip_in reaching.kept.setup reaching.kept.sound.registers.bytes c.args.state.now.registers.address access
-          c.args.dev c.in_default.not-Confadd c.in_default.not-Reset (reached_in reaching);
+      port = (chip_in reaching.kept.setup reaching.kept.sound.registers.bytes c.args.state.now.registers.address access
+          c.args.dev c.in_default.not-Confadd c.in_default.not-Reset (reached_in reaching)).1;
       fits = rw c.requires.writes at reaching.bus.fits;
     }
 
@@ -40,7 +40,7 @@ returns-in_default c = record {
   sound = λ setup sound. sound_devices sound c.write.ensures.fitted;
   board = λ setup history entry kept is.
       chip_changed
-      (chip_at setup history c.args.access.now c.args.dev c.in_default.not-Confadd c.in_default.not-Reset
+      (chip_beside setup history c.args.access.now c.args.dev c.in_default.not-Confadd c.in_default.not-Reset
       (entry_reached refl is))
       kept is (λ reaches. c.write.ensures.devices setup history entry kept.devices reaches c.requires.writes);
 }
