@@ -1,6 +1,6 @@
 -- The definitions that files above cite, passed on from one place. Declares nothing.
-pub use Rattle.board_image.specs.EventFields.{can_have, is_wide_place, is_wide_size, kind_field, kind_of, most_value, tag_field}
-pub use Rattle.board_image.specs.EventFields.{tag_of, width_field, width_of}
+pub use Rattle.board_image.specs.EventFields.{can_have, is_wide_place, is_wide_size, kind_field, kind_of, most_value}
+pub use Rattle.board_image.specs.EventFields.{tag_field, tag_of, width_field, width_of}
 unfoldable pub use Rattle.board_image.specs.EventFields.{applied_fields, event_fields, look_fields, memory_fields}
 unfoldable pub use Rattle.board_image.specs.EventFields.{moment_fields, port_fields, step_fields, wide_fields}
 pub use Rattle.byte_fields.specs.Fields.{AreBytes, Reading, ended, exactly, flag_field, flag_of, gives, number}
