@@ -12,9 +12,9 @@ use board_base::Dev;
 pub const MOST_PULSES_AT_ONCE: u32 = 1_000_000;
 /// The last sector of the largest disk.
 pub const LAST_SECTOR: u32 = 0xFFFF;
-/// The device numbers that cards can have: the first and the last.
+/// The first device number that a card can have.
 pub const FIRST_CARD: u32 = 2;
-
+/// The last device number that a card can have.
 pub const LAST_CARD: u32 = 9;
 
 /// What the world outside does, by a number and for some a level.
