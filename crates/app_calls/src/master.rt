@@ -13,6 +13,7 @@ use board_base::Width::{self, Four, One};
 use board_base::{Access, Kind, NoMemory, PortAccess};
 use board_chipset::{Chipset, Setup, Store};
 use board_spec::Event;
+use board_spec::stimulus::LAST_SECTOR;
 use bus_master::{BusMaster, Done};
 use call_words::{byte, number};
 use pci_bars::CardSpec;
@@ -20,9 +21,6 @@ use std::alloc::{AllocError, Global};
 
 /// How many registers there are.
 const REGISTERS: u8 = 8;
-
-/// The largest number of a sector.
-const LAST_SECTOR: u32 = 0xFFFF;
 
 /// How many words a sector has.
 const SECTOR_WORDS: u32 = 256;

@@ -15,7 +15,8 @@ use Rattle.board_prelude.proofs.Common.{power_on as disk_at_power_on, Event, Mem
 use Rattle.board_prelude.proofs.Common.{BadSector, Reply, Entry, Setup, IsDisk, IsDiskSize, is_free_line, reset_control}
 use Rattle.board_prelude.proofs.Common.{control_written, resets_hard, is_hard_reset, plain_at_reset, device_reached}
 use Rattle.board_prelude.proofs.Common.{wire_set, wire_of, line_set, irq_of, triggers_after, triggers_of, plain_after}
-use Rattle.board_prelude.proofs.Common.{plain_of, plain_value, timer_after, timer_of, clock_after, clock_of, disk_accessed}
+use Rattle.board_prelude.proofs.Common.{plain_of, plain_value, timer_after, timer_of, clock_after, clock_of}
+use Rattle.board_prelude.proofs.Common.{disk_accessed}
 use Rattle.board_prelude.proofs.Common.{disk_after, disk_with, disk_of, routes_of, pirq_levels, own_level, level_with}
 use Rattle.board_prelude.proofs.Common.{all_lines, levels_with, levels_of, elcr_of, device_value, pair_after}
 use Rattle.board_prelude.proofs.Common.{pair_reset_or_after, pair_stepped, pair_of, after_bad, byte_of, config_store}

@@ -37,8 +37,8 @@ plain_fields = do
   system ← system_fields
   gives (record { system = system })
 
--- ---- all but the disk: the pair, the timer, the clock, the edge and level control, the plain ports, INTA# by device number,
--- and the levels that were set from outside, by line
+-- ---- all but the disk: the pair, the timer, the clock, the edge and level control, the plain ports, INTA# by device
+-- number, and the levels that were set from outside, by line
 
 pub record AreMachines (devices : DevicesValue) : Type 0 where
   pub pair : IsPair devices.pair

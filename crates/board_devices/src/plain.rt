@@ -1,5 +1,5 @@
-//! The plain ports: the registers of the board itself, which drive no line and change at accesses alone. In place of the
-//! keyboard controller there is an empty socket.
+//! The plain ports: the registers of the board itself, which drive no line and change at accesses alone. In place of
+//! the keyboard controller there is an empty socket.
 
 ghost use Rattle.std.specs.Prelude.{◌≡◌, ◌≤◌, ◌++◌, OnOk, Some, true, false};
 ghost use Rattle.board_prelude.specs.Common.{bytes_of, largest_of, plain_at_reset, plain_accessed, plain_value};

@@ -81,7 +81,8 @@ IsWaiting c d = d ≡ waiting c (unwrap_or d.count 0) d.null_count d.low_written
 waits_by : (a : Access) (low : Option ℕ) (byte n : ℕ) (c : CounterState) → GoesRound c.mode → c.started ≡ true →
     c.count ≡ Some n → c.access ≡ a → c.low_written ≡ low → IsWaiting c (write byte c)
 unfolding write take_byte take_low complete
-waits_by LowThenHigh None byte n c round started count a l = rw (a, l) (grind (arith, nat_tests, round.ends, round.asks))
+waits_by LowThenHigh None byte n c round started count a l =
+    rw (a, l) (grind (arith, nat_tests, round.ends, round.asks))
 waits_by LowThenHigh _ byte n c round started count a l = rw (a, l) (grind (arith, nat_tests, round.ends, round.asks))
 waits_by _ low byte n c round started count a l = rw a (grind (arith, nat_tests, round.ends, round.asks))
 
@@ -106,12 +107,14 @@ goes_on gate n m null low c r (suc k) =
 -- after a write
 after_write : (gate : Bool) (byte n k : ℕ) (c : CounterState) → is_periodic c.mode ≡ true → c.started ≡ true →
     c.count ≡ Some n → let d = write byte c in
-    IsWaiting c d × ((pulses_of gate k d ≡ waiting (pulses_of gate k c) (unwrap_or d.count 0) d.null_count d.low_written)
+    IsWaiting c d
+    × ((pulses_of gate k d ≡ waiting (pulses_of gate k c) (unwrap_or d.count 0) d.null_count d.low_written)
     ⊎ HasTaken (unwrap_or d.count 0) (pulses_of gate k d))
 after_write gate byte n k c p started count =
     let d = write byte c in
     let is = waits_by c.access c.low_written byte n c (goes_round c.mode p) started count refl refl in
-    let on = goes_on gate n (unwrap_or d.count 0) d.null_count d.low_written c (record { periodic = p; count = count }) k in
+    let on =
+    goes_on gate n (unwrap_or d.count 0) d.null_count d.low_written c (record { periodic = p; count = count }) k in
     (is, rw (← is) at on)
 
 pub count_waits : CountWaits

@@ -189,7 +189,8 @@ wide_stored setup before entry access next is legal writes lands =
     let left : (cell : Cell) → IsApart access.addr (access.addr + total cut.widths) cell →
     stored_of (entry ∷ before) cell ≡ stored_of before cell =
     λ cell apart.
-    stored-left entry before cell (put cell ∙ put-apart setup before access access.addr cell cut.widths writes landed apart) in
+    stored-left entry before cell
+    (put cell ∙ put-apart setup before access access.addr cell cut.widths writes landed apart) in
     record {
       within = λ k below.
           let place : access.addr + k - access.addr ≡ k = omega arith in

@@ -83,7 +83,8 @@ pub use Rattle.board_prelude.specs.Common.{shadow_range, six_areas, size_text, s
 pub use Rattle.board_prelude.specs.Common.{smram_after, smram_answers, smram_range, space, statement_of, statements_of}
 pub use Rattle.board_prelude.specs.Common.{is_bios_selected, is_in_hole, is_smram_open}
 pub use Rattle.board_prelude.specs.Common.{string_bytes, system_accessed, system_at_reset, system_bios}
-pub use Rattle.board_prelude.specs.Common.{system_of, system_port, system_value, target_at, target_text, tell, time_bytes}
+pub use Rattle.board_prelude.specs.Common.{system_of, system_port, system_value, target_at, target_text, tell}
+pub use Rattle.board_prelude.specs.Common.{time_bytes}
 pub use Rattle.board_prelude.specs.Common.{timer_accessed, timer_after, timer_ports, to_le_bytes, top_of, touches_map}
 pub use Rattle.board_prelude.specs.Common.{trigger_byte, triggers_accessed, triggers_after, triggers_at_reset}
 pub use Rattle.board_prelude.specs.Common.{two_digits, unselected, unselected_windows, update_interrupts, upper_memory}
@@ -150,6 +151,8 @@ pub use Rattle.board_spec.proofs.Common.{triggers-pulsed, true≢false, untouche
 pub use Rattle.board_spec.proofs.Common.{whole_is_front, wire-alone, with_items_is}
 unfoldable pub use Rattle.board_spec.proofs.Common.{made, scan}
 pub use Rattle.board_spec.proofs.Common.{applied_again, code_finds, code_found, find_passes, word_finds, word_found}
-pub use Rattle.board_prelude.specs.Common.{answers_outside, applied, applied_by, applied_text, event_applied, last_sector}
-pub use Rattle.board_prelude.specs.Common.{most_pulses_at_once, stimuli, stimulus_form, stimulus_of_code, stimulus_of_word}
+pub use Rattle.board_prelude.specs.Common.{answers_outside, applied, applied_by, applied_text, event_applied}
+pub use Rattle.board_prelude.specs.Common.{last_sector}
+pub use Rattle.board_prelude.specs.Common.{most_pulses_at_once, stimuli, stimulus_form, stimulus_of_code}
+pub use Rattle.board_prelude.specs.Common.{stimulus_of_word}
 pub use Rattle.board_prelude.specs.Common.{Applied, Stimulus}

@@ -24,7 +24,8 @@ word_finds _ = refl
 
 pub word_found : (word : List ℕ) (one : Stimulus) → stimulus_of_word word ≡ Some one → word ≡ (stimulus_form one).word
 word_found word one is =
-    (bytes_eq-Decides word (stimulus_form one).word).0 (find_passes (λ one. bytes_eq word (stimulus_form one).word) stimuli one is)
+    (bytes_eq-Decides word (stimulus_form one).word).0
+    (find_passes (λ one. bytes_eq word (stimulus_form one).word) stimuli one is)
 
 pub code_finds : (one : Stimulus) → stimulus_of_code (stimulus_form one).code ≡ Some one
 code_finds Pulses = refl

@@ -2,7 +2,8 @@
 -- target names, by the machine of that device; a hard reset puts each in its reset state.
 use Rattle.std.specs.Prelude.{ℕ, ◌+◌, ◌%◌, ◌==◌, Bool, false, not, if◌then◌else◌, List, [], ◌∷◌, Option, Some, None}
 use Rattle.std.specs.Prelude.{unwrap_or, option_map}
-use Rattle.device_spec.specs.Common.{Width, largest_of, PortAccess, Dev, Pit, System, Keyboard, Elcr, Ata, Target, Device, Triggers}
+use Rattle.device_spec.specs.Common.{Width, largest_of, PortAccess, Dev, Pit, System, Keyboard, Elcr, Ata, Target}
+use Rattle.device_spec.specs.Common.{Device, Triggers}
 use Rattle.device_spec.specs.Common.{triggers_at_reset, triggers_after_write, PitState, reset as timer_at_reset}
 use Rattle.device_spec.specs.Common.{port_read, port_write, set_gate2, pulses, Clock, after_read, after_write}
 use Rattle.device_spec.specs.Common.{after_moment, after_reset as clock_after_reset, civil_time, Disk}

@@ -3,7 +3,8 @@
 
 ghost use Rattle.std.specs.Prelude.{◌≡◌, ◌<◌, ◌^◌, true};
 ghost use Rattle.board_spec.specs.InRange.{is_free_line};
-ghost use Rattle.board_spec.specs.Stimuli.{stimulus_form, stimulus_of_word, stimulus_of_code, event_applied, applied, applied_by};
+ghost use Rattle.board_spec.specs.Stimuli.{stimulus_form, stimulus_of_word, stimulus_of_code, event_applied, applied};
+ghost use Rattle.board_spec.specs.Stimuli.{applied_by};
 
 use crate::event::Event;
 use board_base::Dev;
@@ -138,8 +139,8 @@ impl Stimulus {
     }
 }
 
-/// Whether an interrupt request line is one that the world outside sets: not that of the timer, the cascade, the clock, the
-/// coprocessor or the disk.
+/// Whether an interrupt request line is one that the world outside sets: not that of the timer, the cascade, the clock,
+/// the coprocessor or the disk.
 pub fn is_free_line(irq: u32) -> bool
     ensures free { result ≡ is_free_line irq }
 {

@@ -182,11 +182,17 @@ unfolding card_function
 fixed-header card last off below =
     let dev : card.dev < 256 = omega arith in
     let Fixed : ℕ → Type 0 = λ off. off ≢ 4 → IsFixed card off in
-    let last : Each Fixed 13 3 = (λ _. fixed (lit< tt) refl, (λ _. fixed (lit< tt) refl, (λ _. fixed (lit< tt) refl, tt))) in
-    let class : Each Fixed 10 6 = (λ _. fixed (lit< tt) refl, (λ _. fixed (class_byte card.vga) refl, (λ _. fixed (lit< tt) refl, last))) in
-    let status : Each Fixed 7 9 = (λ _. fixed (lit< tt) refl, (λ _. fixed (lit< tt) refl, (λ _. fixed (lit< tt) refl, class))) in
-    let rest : Each Fixed 4 12 = (λ apart. absurd (apart refl), (λ _. fixed (lit< tt) refl, (λ _. fixed (lit< tt) refl, status))) in
-    each_below Fixed 16 off (λ _. fixed (lit< tt) refl, (λ _. fixed (lit< tt) refl, (λ _. fixed dev refl, (λ _. fixed (lit< tt) refl, rest)))) below
+    let last : Each Fixed 13 3 =
+    (λ _. fixed (lit< tt) refl, (λ _. fixed (lit< tt) refl, (λ _. fixed (lit< tt) refl, tt))) in
+    let class : Each Fixed 10 6 =
+    (λ _. fixed (lit< tt) refl, (λ _. fixed (class_byte card.vga) refl, (λ _. fixed (lit< tt) refl, last))) in
+    let status : Each Fixed 7 9 =
+    (λ _. fixed (lit< tt) refl, (λ _. fixed (lit< tt) refl, (λ _. fixed (lit< tt) refl, class))) in
+    let rest : Each Fixed 4 12 =
+    (λ apart. absurd (apart refl), (λ _. fixed (lit< tt) refl, (λ _. fixed (lit< tt) refl, status))) in
+    let whole : Each Fixed 0 16 =
+    (λ _. fixed (lit< tt) refl, (λ _. fixed (lit< tt) refl, (λ _. fixed dev refl, (λ _. fixed (lit< tt) refl, rest)))) in
+    each_below Fixed 16 off whole below
 
 -- ---- the expansion ROM, and past it
 

@@ -2,7 +2,8 @@
 use Rattle.std.proofs.Common.{◌≡◌, ℕ, ◌<◌, ◌≤◌, ◌^◌, Bool, false, Option, Some, None, [], ◌∷◌, length, All, refl, arith}
 use Rattle.std.proofs.Common.{IfSome}
 use Rattle.board_prelude.proofs.Common.{lt-ltb, All-head, All-tail, Dev, Target, Device, Denial, bytes_of, Event}
-use Rattle.board_prelude.proofs.Common.{Memory, Wide, Port, Ack, Parts, Two, Three, Four, Look, Reply, Bus, Saw, is_write}
+use Rattle.board_prelude.proofs.Common.{Memory, Wide, Port, Ack, Parts, Two, Three, Four, Look, Reply, Bus, Saw}
+use Rattle.board_prelude.proofs.Common.{is_write}
 use Rattle.board_prelude.proofs.Common.{outside_answer, answers_outside, parts_list, parts_of as cut_of, bytes_few}
 use Rattle.board_spec.specs.declared.event.Event.TheVariants.{Look as LookAt}
 use Rattle.board_spec.specs.declared.event.Reply.TheVariants.{Parts as InParts}

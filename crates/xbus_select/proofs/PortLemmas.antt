@@ -3,7 +3,8 @@
 use Rattle.std.proofs.Common.{◌≡◌, ◌≢◌, ℕ, ◌↔◌, Bool, true, false, Option, Some, None, refl, ap, arith, inl, inr, ◌&&◌}
 use Rattle.std.proofs.Common.{not, if◌then◌else◌, unwrap_or, option_map, ◌∙◌}
 use Rattle.board_prelude.proofs.Common.{cases_Bool, cond-true, cond-false, false≢true, nat_tests, Width, One, Dev}
-use Rattle.board_prelude.proofs.Common.{Keyboard, Ata, Target, Device, Denial, Register, bytes_of, is_port_of, device_at}
+use Rattle.board_prelude.proofs.Common.{Keyboard, Ata, Target, Device, Denial, Register, bytes_of, is_port_of}
+use Rattle.board_prelude.proofs.Common.{device_at}
 use Rattle.board_prelude.proofs.Common.{Setup, is_bit, Bytes, Window, io_claim, xbcs as select_register, ide_command}
 use Rattle.board_prelude.proofs.Common.{idetim, idetim_high, device, nobody, card_port, unselected, device_port}
 use Rattle.board_prelude.proofs.Common.{is_config_port, port_target_of}
