@@ -190,8 +190,16 @@ fixed-header card last off below =
     (λ _. fixed (lit< tt) refl, (λ _. fixed (lit< tt) refl, (λ _. fixed (lit< tt) refl, class))) in
     let rest : Each Fixed 4 12 =
     (λ apart. absurd (apart refl), (λ _. fixed (lit< tt) refl, (λ _. fixed (lit< tt) refl, status))) in
-    let whole : Each Fixed 0 16 =
-    (λ _. fixed (lit< tt) refl, (λ _. fixed (lit< tt) refl, (λ _. fixed dev refl, (λ _. fixed (lit< tt) refl, rest)))) in
+    let whole : Each Fixed 0 16 = (
+      λ _. fixed (lit< tt) refl,
+      (
+        λ _. fixed (lit< tt) refl,
+        (
+          λ _. fixed dev refl,
+          (λ _. fixed (lit< tt) refl, rest),
+        ),
+      ),
+    ) in
     each_below Fixed 16 off whole below
 
 -- ---- the expansion ROM, and past it
