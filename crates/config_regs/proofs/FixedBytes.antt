@@ -1,5 +1,6 @@
 -- A register that nothing changes holds after every history what a reset leaves.
-use Rattle.std.proofs.Common.{◌≡◌, ◌≢◌, ◌<◌, ℕ, lit<, List, [], ◌∷◌, ◌⊎◌, false, Option, Some, None, refl, inl, inr, arith}
+use Rattle.std.proofs.Common.{◌≡◌, ◌≢◌, ◌<◌, ℕ, lit<, List, [], ◌∷◌, ◌⊎◌, false, Option, Some, None, refl, inl, inr}
+use Rattle.std.proofs.Common.{arith}
 use Rattle.board_prelude.proofs.Common.{cases_lt, ne_eqb, Reg, Entry, MapChange, Store, Reset, Setup, bridge, isa}
 use Rattle.board_prelude.proofs.Common.{smram, is_same, reset_byte, byte_with, register_change, byte_of}
 use Rattle.pmc_regs.specs.Pmc.{IsFixedOffset}
