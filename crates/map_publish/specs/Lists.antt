@@ -10,7 +10,7 @@ use Rattle.map_publish.specs.Changes.{bytes_after, IsMapAfter}
 -- what stands for the opened map of a list that does not begin with one
 abbrev pub no_map : Mapped
 no_map = record {
-  regs = record { drb = []; fdhc = 0; pam = []; smram = 0; xbcs = 0; cards = [] };
+  regs = record { drb = []; pam = []; singles = []; cards = [] };
   ranges = [];
   version = 0;
   changed = [];

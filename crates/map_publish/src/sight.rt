@@ -5,11 +5,8 @@ ghost use Rattle.addr_decode.specs.Common.{StandsFor};
 ghost use Rattle.map_builder.specs.Map.{most_ranges};
 
 use board_base::{Area, Kind};
-use map_builder::{FlatMap, Range, Span};
+use map_builder::{FlatMap, MOST_RANGES, Range, Span};
 use std::marker::Model;
-
-/// The most ranges that a map has.
-const MOST_RANGES: usize = 142;
 
 /// No address lies in it.
 const NOTHING: Span = Span {
