@@ -76,7 +76,7 @@ unfolding board_denial
 denials_in_order top shut rom addr =
     in_order (lies_in selectable_bios addr) (top == 0) (is_smram_range addr) (lies_in expansion_range addr)
     (nat_lt 0 top) (nat_lt addr top)
-    (pam_register addr) (hole_denial addr) shut rom addr (some_dram top) (none_below top addr)
+    (pam_register addr) hole_denial shut rom addr (some_dram top) (none_below top addr)
 
 -- a register of the board denies
 pub board_denies : (top by addr : ℕ) (shut rom : Option Window) (denial : Denial) →

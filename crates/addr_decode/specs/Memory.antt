@@ -41,7 +41,7 @@ board_denial top addr =
     if top == 0 then None else
     if is_smram_range addr then Some (Register smram) else
     if lies_in expansion_range addr then Some (Register (pam_register addr)) else
-    line_where (nat_lt addr top) (hole_denial addr)
+    line_where (nat_lt addr top) hole_denial
 
 -- what denies where no card does either
 abbrev pub row_denial : ℕ → Denial

@@ -23,8 +23,8 @@ abbrev pub single_number : Reg → Option ℕ
 single_number reg = number_from 0 singles reg
 
 -- what denies an access below the top of DRAM that a hole takes out
-abbrev pub hole_denial : (addr : ℕ) → Denial
-hole_denial addr = Register fdhc
+abbrev pub hole_denial : Denial
+hole_denial = Register fdhc
 
 -- these are their bytes among a board's register bytes
 abbrev pub AreSinglesOf : Bytes → List ℕ → Type 0

@@ -100,7 +100,7 @@ fn board_denial(top: u32, addr: u32) -> Option<Denial>
     if EXPANSION_RANGE.contains(addr) {
         return pam_denial(addr);
     }
-    (addr < top).then_some(hole_denial(addr))
+    (addr < top).then_some(hole_denial())
 }
 
 /// The PAM register of an address. None outside the shadow windows.

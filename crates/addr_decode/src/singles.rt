@@ -94,8 +94,8 @@ fn is_in_hole_of(fdhc: u8, addr: u32) -> bool
 }
 
 /// What denies an access below the top of DRAM that a hole takes out.
-pub(crate) fn hole_denial(_addr: u32) -> Denial
-    ensures denial { result ≡ hole_denial _addr }
+pub(crate) fn hole_denial() -> Denial
+    ensures denial { result ≡ hole_denial }
 {
     host_bridge(FDHC)
 }
