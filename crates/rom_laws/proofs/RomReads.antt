@@ -12,7 +12,6 @@ use Rattle.board_prelude.proofs.Common.{target_at, longest_at, address_count, ex
 use Rattle.board_prelude.proofs.Common.{IsAnswer, IsWideAnswer}
 use Rattle.board_spec.specs.Common.{area_of, memory_answer, part_answer, parts_from, wide_value}
 use Rattle.board_spec.specs.Registers.{byte_of as register_byte}
-use Rattle.board_spec.specs.declared.event.Event.TheVariants.{Look as LookAt}
 use Rattle.board_spec.specs.declared.event.Parts.TheVariants as parts
 use Rattle.board_spec.specs.declared.event.Reply.TheVariants as replies
 use Rattle.board_spec.proofs.PartLawProofs.{cut_into_parts}

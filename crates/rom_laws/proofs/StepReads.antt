@@ -5,7 +5,6 @@ use Rattle.board_prelude.proofs.Common.{Denial, Register, Entry, Setup, IsSetup,
 use Rattle.board_prelude.proofs.Common.{Memory, Wide, Parts, Reply, Bus, Saw, byte, memory_target, memory_denial}
 use Rattle.board_base.specs.declared.access.Access.{Access}
 use Rattle.board_spec.specs.Common.{memory_answer}
-use Rattle.board_spec.specs.declared.event.Event.TheVariants.{Look as LookAt}
 use Rattle.board_spec.specs.declared.event.Parts.TheVariants as parts
 use Rattle.board_spec.specs.declared.event.Reply.TheVariants as replies
 use Rattle.board_chipset.specs.Common.{Running}
