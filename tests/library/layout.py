@@ -17,9 +17,10 @@ STRUCTS = {"Handle": "board", "EventRecord": "board_event", "PartRecord": "board
 FIELDS = {("Handle", "full"): "open", ("RangeRecord", "areas"): "area",
           **{(record, f"part{k}"): f"part[{k}]" for record in ("ReplyRecord", "PieceRecord") for k in range(4)}}
 # numbers that have a name of their own there
-NUMBERS = {"PULSES_EVENT": "BOARD_PULSE", "LINE_EVENT": "BOARD_IRQ", "DEVICE_TARGET": "BOARD_IS_DEVICE",
+NUMBERS = {"DEVICE_TARGET": "BOARD_IS_DEVICE",
            "RESET_DEVICE": "BOARD_RESET_CONTROL", "OUTSIDE_BASE": "BOARD_OUTSIDE",
            "ABORT_END": "BOARD_ABORTED", "SECTOR_END": "BOARD_MISSING"}
+STIMULI = {"Pulses": "BOARD_PULSE", "Wire": "BOARD_WIRE", "Line": "BOARD_IRQ", "BadSector": "BOARD_BAD_SECTOR"}
 # statuses of events that no record says, which have no name there
 NOT_GIVEN = {"BYTES", "ALIGNED", "DATE"}
 
@@ -97,6 +98,9 @@ def main():
             c = in_c(constant, is_status)
             print(f'_Static_assert({c} == {value}, "{constant}");')
             count += 1
+    for stimulus, value in re.findall(r"Stimulus::(\w+) => (\d+),", (crates / "board_spec/src/stimulus.rt").read_text()):
+        print(f'_Static_assert({STIMULI[stimulus]} == {value}, "{stimulus}");')
+        count += 1
     if count < 74:
         sys.exit(f"layout: only {count} numbers were found")
     print("int main(void) { return 0; }")

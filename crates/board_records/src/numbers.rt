@@ -1,4 +1,5 @@
-//! The numbers by which a record names the cases of an enum. 0 names none, so a record of zeros is that of no event.
+//! The numbers by which a record names the cases of an enum. 0 names none, so a record of zeros is that of no event. The
+//! number of a stimulus is that of `board_spec::Stimulus`.
 
 ghost use Rattle.std.specs.Prelude.{◌≡◌};
 ghost use Rattle.board_records.specs.Numbers.{device_number};
@@ -13,16 +14,8 @@ pub const PORT_EVENT: u8 = 2;
 pub const LOOK_EVENT: u8 = 3;
 /// An interrupt acknowledge.
 pub const ACK_EVENT: u8 = 4;
-/// Pulses of the timer's clock.
-pub const PULSES_EVENT: u8 = 5;
 /// A moment that the clock is to show.
 pub const TIME_EVENT: u8 = 6;
-/// A level of INTA# of a card.
-pub const WIRE_EVENT: u8 = 7;
-/// A level of an interrupt request line.
-pub const LINE_EVENT: u8 = 8;
-/// A sector that goes bad.
-pub const BAD_SECTOR_EVENT: u8 = 9;
 /// A byte that COM1 receives.
 pub const SERIAL_EVENT: u8 = 10;
 
