@@ -81,8 +81,8 @@ impl Devices {
         self.settle(routes);
     }
 
-    /// Does what a stimulus says, by the number and the level that it gives. A number that a level follows is one that a
-    /// script can give.
+    /// Does what a stimulus says, by the number and the level that it gives. A number that a level follows is one that
+    /// a script can give.
     pub fn apply(&mut self, routes: &Pirq, one: Stimulus, number: u32, on: bool)
         requires place { (stimulus_form one).has_level ≡ true → (stimulus_form one).numbers number ≡ true }
         ensures devices { (setup : Setup) (history : List Entry) (entry : Entry) → AreDevicesOf setup history self.old
