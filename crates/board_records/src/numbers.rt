@@ -1,5 +1,5 @@
-//! The numbers by which a record names the cases of an enum. 0 names none, so a record of zeros is that of no event. The
-//! number of a stimulus is that of `board_spec::Stimulus`.
+//! The numbers by which a record names the cases of an enum. 0 names none, so a record of zeros is that of no event.
+//! The number of a stimulus is that of `board_spec::Stimulus`.
 
 ghost use Rattle.std.specs.Prelude.{◌≡◌};
 ghost use Rattle.board_records.specs.Numbers.{device_number};
