@@ -1,6 +1,7 @@
 -- An entry leaves the devices that its reply does not name, and with their drivers the lines.
 use Rattle.std.proofs.Common.{◌≡◌, false, List, ◌∷◌, refl, ◌∙◌, ap, inl, inr}
 use Rattle.board_prelude.proofs.Common.{cond-false, out_of, Entry, is_hard_reset, wire_of, irq_of, triggers_of}
+use Rattle.board_prelude.proofs.Common.{PlainPorts, plain_at_reset}
 use Rattle.board_prelude.proofs.Common.{plain_of, timer_of, timer_after, clock_of, disk_with, triggers-alone}
 use Rattle.board_prelude.proofs.Common.{system-alone, timer-alone, clock-alone, disk-alone, wire-alone, line-alone}
 use Rattle.board_prelude.proofs.Common.{out-alone, levels-same}
@@ -11,7 +12,10 @@ unfolding timer_of plain_of triggers_of clock_of disk_with wire_of irq_of
 others_stay setup before entry next soft = record {
   timer = λ apart no_gate.
       rw soft (timer-alone setup before entry.event entry.reply (timer_of before) next.answer apart no_gate);
-  system = λ apart. rw soft (system-alone entry.event entry.reply (plain_of before) apart);
+  system = λ apart.
+      ap (λ (plain : PlainPorts). plain.system)
+      (cond-false (is_hard_reset before entry.event) plain_at_reset _ soft)
+      ∙ system-alone entry.event entry.reply (plain_of before) apart;
   triggers = λ apart. rw soft (triggers-alone entry.event entry.reply (triggers_of before) apart);
   clock = λ apart. rw soft (clock-alone setup before entry.event entry.reply (clock_of before) next.answer apart);
   disk = λ apart bytes.
