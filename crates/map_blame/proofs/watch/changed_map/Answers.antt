@@ -1,4 +1,4 @@
-use Rattle.std.proofs.Common.{subst, sym, List, take, reverse}
+use Rattle.std.proofs.Common.{subst, sym, List, take, take_all, reverse, arith}
 use Rattle.board_spec.specs.declared.map_change.MapChange.{MapChange}
 use Rattle.map_blame.specs.Watch.{IsAfter}
 use Rattle.map_blame.proofs.KeptLemmas.{no_change}
@@ -13,4 +13,12 @@ loop-change-preserved c = record {
       (after_change setup (reverse (take c.loop-change.change-index c.args.changes.now)) _ c.loop-change.map
       c.apply.new.self
       c.apply.result c.apply.ensures.applied (c.loop-change.invariant.after setup start));
+}
+
+pub returns : goal.returns
+returns c = record {
+  after = λ setup start.
+      subst (λ (changes : List MapChange). IsAfter setup (reverse changes) c.loop-change.map)
+      (take_all c.loop-change.change-index c.args.changes.now (omega (arith, c.loop-change-test.false)))
+      (c.loop-change.invariant.after setup start);
 }
