@@ -2,7 +2,7 @@
 use Rattle.std.proofs.Common.{refl}
 use Rattle.board_prelude.proofs.Common.{weekday_of, days_since_1980, days_of_years, days_of_months}
 use Rattle.board_records.specs.Events.{kind_said, direction_said, width_said, cycle_said, access_said, port_said}
-use Rattle.board_records.specs.Events.{moment_said, digits_said, level_said, pulses_said, asked_by, event_said}
+use Rattle.board_records.specs.Events.{moment_said, digits_said, stimulus_said, asked_by, event_said}
 use Rattle.board_records.specs.Events.{byte_said, asked_said}
 use Rattle.library_examples.specs.Records.{MemorySaid, OthersSaid, RecordBorders, TimeSaid}
 
@@ -22,7 +22,7 @@ memory_said = record {
 }
 
 pub others_said : OthersSaid
-unfolding kind_said direction_said width_said port_said level_said pulses_said asked_by event_said byte_said asked_said
+unfolding kind_said direction_said width_said port_said stimulus_said asked_by event_said byte_said asked_said
 others_said = record {
   input = refl;
   output = refl;
@@ -43,7 +43,7 @@ unfolding moment_said digits_said asked_by event_said weekday_of days_since_1980
 time_said = record { moment = refl; last_hour = refl; last_minute = refl }
 
 pub record_borders : RecordBorders
-unfolding kind_said direction_said width_said cycle_said access_said port_said level_said pulses_said asked_by
+unfolding kind_said direction_said width_said cycle_said access_said port_said stimulus_said asked_by
     event_said byte_said asked_said
 record_borders = record {
   port = refl;
