@@ -4,7 +4,8 @@ use Rattle.std.proofs.Common.{Some, None, arith, nat_lt, All, filter, flat_map, 
 use Rattle.board_prelude.proofs.Common.{Contains, enumerate_from, cases_Bool, nat_tests, length-append, All-head}
 use Rattle.board_prelude.proofs.Common.{All-tail, Base, MemoryBase, IoBase, OutsideBase, FittedCard, Setup, IsCard}
 use Rattle.board_prelude.proofs.Common.{IsCardList, Bytes, memory_window, rom_window, rom_window_of}
-use Rattle.addr_decode.specs.Edges.{fixed_edges, window_edges, card_edges, edges_of, edges_after, IsNextEdge, FewEdges}
+use Rattle.addr_decode.specs.Edges.{fixed_edges, window_edges, card_edges, edges_of, edges_after, IsNextEdge, most_edges}
+use Rattle.addr_decode.specs.Edges.{FewEdges}
 use Rattle.addr_decode.proofs.EdgeSearchLemmas.{contains_cases}
 
 few_of_bases :
@@ -61,9 +62,9 @@ few_kept addr (edge ∷ later) =
       | inr dropped ↦ rw dropped (omega (arith, few_kept addr later))
     ]
 
--- a board has at most 141 edges above an address
+-- a board has no more edges above an address
 pub few_edges_after :
-    (setup : Setup) (bytes : Bytes) (addr : ℕ) → IsCardList setup.cards → edges_after setup bytes addr ≤ 141
+    (setup : Setup) (bytes : Bytes) (addr : ℕ) → IsCardList setup.cards → edges_after setup bytes addr ≤ most_edges
 few_edges_after setup bytes addr cards =
     omega (arith, few_kept addr (edges_of setup bytes), few_edges setup bytes cards)
 

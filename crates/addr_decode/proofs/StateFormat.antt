@@ -271,11 +271,15 @@ cards_format fitted =
 
 -- ---- the whole
 
+-- how many bytes they take
+abbrev pub regs_size : List FittedCard → ℕ
+regs_size fitted = 15 + single_count + 30 * length fitted
+
 pub regs_format : (fitted : List FittedCard) →
-    IsFormat (18 + 30 * length fitted) (regs_fields fitted) regs_bytes (AreMapRegs fitted)
+    IsFormat (regs_size fitted) (regs_fields fitted) regs_bytes (AreMapRegs fitted)
 unfolding regs_fields
 regs_format fitted =
-    format_as (18 + 30 * length fitted) regs_bytes (AreMapRegs fitted)
+    format_as (regs_size fitted) regs_bytes (AreMapRegs fitted)
     (then_format (λ (r : MapRegs). r.drb) (plain_format 8) (λ drb good_drb.
     (then_format (λ (r : MapRegs). take 1 r.singles) (plain_format 1) (λ first good_first.
     (then_format (λ (r : MapRegs). r.pam) (plain_format 7) (λ pam good_pam.

@@ -9,7 +9,7 @@ pub fn law_areas_change_at_edges()
     ensures equal { AreasChangeAtEdges }
 {}
 
-/// A board has at most 141 edges, so that its memory map has at most 142 ranges.
+/// A board has at most `MOST_EDGES` edges, so that its memory map has at most one range more.
 pub fn law_few_edges()
     ensures few { FewEdges }
 {}

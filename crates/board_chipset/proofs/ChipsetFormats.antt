@@ -12,7 +12,7 @@ use Rattle.pci_bars.proofs.StateFormats.{contents_format}
 use Rattle.config_regs.specs.State.{IsSouth}
 use Rattle.config_regs.proofs.StateFormat.{south_format}
 use Rattle.map_builder.specs.State.{IsBare}
-use Rattle.map_builder.proofs.StateFormat.{mapped_format}
+use Rattle.map_builder.proofs.StateFormat.{mapped_format, most_mapped}
 use Rattle.board_stores.specs.declared.stores.Stores.{Stores}
 use Rattle.board_devices.proofs.StateFormat.{most_of, devices_format}
 use Rattle.cfg_ports.specs.State.{IsAddress}
@@ -100,7 +100,7 @@ pub record AreBareRegisters (cards : List FittedCard) (registers : Registers) : 
   pub south : IsSouth registers.south
 
 abbrev most_registers : List FittedCard → ℕ
-most_registers cards = 547 + 30 * length cards
+most_registers cards = 12 + most_mapped cards
 
 registers_format : (cards : List FittedCard) →
     IsFormat (most_registers cards) (registers_fields cards) registers_bytes (AreBareRegisters cards)

@@ -15,7 +15,7 @@ use Rattle.byte_fields.proofs.Numbers.{byte_within}
 use Rattle.addr_decode.specs.MapRegs.{MapBytes, StandsFor, map_bytes}
 use Rattle.addr_decode.specs.declared.regs.MapRegs.{MapRegs}
 use Rattle.addr_decode.specs.State.{any_long, regs_fields}
-use Rattle.addr_decode.proofs.StateFormat.{regs_format, long_format}
+use Rattle.addr_decode.proofs.StateFormat.{regs_format, regs_size, long_format}
 use Rattle.map_ranges.specs.declared.range.Changed.{Changed}
 use Rattle.map_builder.specs.Map.{Mapped, IsMapOf}
 use Rattle.map_builder.specs.State.{IsWindow, AreWindows, window_bytes, window_fields, windows_bytes, so_many_windows}
@@ -94,11 +94,14 @@ bare_same : (map : Mapped) → map.ranges ≡ [] →
     map ≡ record { regs = map_bytes (regs_of map.regs); ranges = []; version = map.version; changed = map.changed }
 bare_same map none = ap (λ (ranges : List MapRange). record map { ranges = ranges }) none
 
+abbrev pub most_mapped : List FittedCard → ℕ
+most_mapped fitted = 517 + regs_size fitted
+
 pub mapped_format : (fitted : List FittedCard) →
-    IsFormat (535 + 30 * length fitted) (mapped_fields fitted) mapped_bytes (IsBare fitted)
+    IsFormat (most_mapped fitted) (mapped_fields fitted) mapped_bytes (IsBare fitted)
 unfolding mapped_fields
 mapped_format fitted =
-    format_as (535 + 30 * length fitted) mapped_bytes (IsBare fitted)
+    format_as (most_mapped fitted) mapped_bytes (IsBare fitted)
     (then_format (λ (m : Mapped). regs_of m.regs) (regs_format fitted) (λ regs good_regs.
     (then_format (λ (m : Mapped). m.version) long_format (λ version good_version.
     (last_format (λ (m : Mapped). m.changed)
