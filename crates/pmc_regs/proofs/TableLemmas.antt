@@ -1,8 +1,8 @@
 -- The registers of the host bridge in the table of registers.
-use Rattle.std.proofs.Common.{◌≡◌, ℕ, ◌+◌, ◌<◌, ◌≤◌, ◌⊎◌, List, [], ◌∷◌, length, ◌∙◌, refl, arith, inl, inr, lit<, map}
-use Rattle.std.proofs.Common.{slice_index, drop}
+use Rattle.std.proofs.Common.{◌≡◌, ℕ, ◌+◌, ◌<◌, ◌≤◌, List, [], ◌∷◌, length, ◌∙◌, refl, arith, inl, inr, lit<, map}
+use Rattle.std.proofs.Common.{slice_index, Bool, true, nat_lt, nat_le, ◌&&◌, ◌||◌}
 use Rattle.board_prelude.proofs.Common.{cases_lt, Setup, host_bridge, listed, reset_byte, writable_bits, Bytes, bridge}
-use Rattle.board_prelude.proofs.Common.{drb, listed-past, listed-before, Each, each_below}
+use Rattle.board_prelude.proofs.Common.{drb, listed-past, listed-before, Each, each_below, and_parts, or_cases, nat_tests}
 use Rattle.board_spec.specs.RegisterTable.{Line}
 use Rattle.pmc_regs.specs.Pmc.{IsFixedOffset, IsRowsOf}
 
@@ -50,50 +50,27 @@ header_byte off below =
     (lit< tt, (lit< tt, (lit< tt, (lit< tt, (lit< tt, (lit< tt, later)))))) below
 
 -- an offset lies outside all lines
-abbrev IsOutside : ℕ → List Line → Type 0
-IsOutside off [] = Unit {0}
-IsOutside off (entry ∷ later) = ((off < entry.first) ⊎ (entry.first + length entry.reset ≤ off)) × IsOutside off later
+abbrev is_outside : ℕ → List Line → Bool
+is_outside off [] = true
+is_outside off (entry ∷ later) =
+    (nat_lt off entry.first || nat_le (entry.first + length entry.reset) off) && is_outside off later
 
-unlisted : (column : Line → List ℕ) (lines : List Line) (off : ℕ) → IsOutside off lines → listed column lines off ≡ 0
+unlisted :
+    (column : Line → List ℕ) (lines : List Line) (off : ℕ) → is_outside off lines ≡ true → listed column lines off ≡ 0
 unlisted column [] off outside = refl
-unlisted column (entry ∷ later) off (inl below, outside) =
-    listed-before column entry later off below ∙ unlisted column later off outside
-unlisted column (entry ∷ later) off (inr above, outside) =
-    listed-past column entry later off above ∙ unlisted column later off outside
-
-below_or_past : (off first end : ℕ) → (first ≤ off → end ≤ off) → (off < first) ⊎ (end ≤ off)
-below_or_past off first end past =
-    elim (cases_lt off first) [ inl below ↦ inl below | inr from ↦ inr (past (omega arith)) ]
+unlisted column (entry ∷ later) off outside =
+    let end : ℕ = entry.first + length entry.reset in
+    let both = and_parts (nat_lt off entry.first || nat_le end off) (is_outside off later) outside in
+    let rest = unlisted column later off both.1 in
+    elim (or_cases (nat_lt off entry.first) (nat_le end off) both.0) [
+      | inl below ↦ listed-before column entry later off (grind (arith, nat_tests)) ∙ rest
+      | inr above ↦ listed-past column entry later off (grind (arith, nat_tests)) ∙ rest
+    ]
 
 -- a fixed offset past the header lies outside all lines
-outside : (off : ℕ) → IsFixedOffset off → 12 ≤ off → IsOutside off host_bridge
+outside : (off : ℕ) → IsFixedOffset off → 12 ≤ off → is_outside off host_bridge ≡ true
 unfolding host_bridge
-outside off fixed from =
-    let pam : 0x59 ≤ off → 0x60 ≤ off =
-    λ above. elim fixed.0.1 [ inl low ↦ omega (arith, low, above) | inr high ↦ omega (arith, high) ] in
-    let rows : 0x60 ≤ off → 0x69 ≤ off =
-    λ above. elim fixed.1 [ inl low ↦ omega (arith, low, above) | inr high ↦ omega (arith, high) ] in
-    let control : 0x72 ≤ off → 0x73 ≤ off =
-    λ above. elim fixed.0.2 [ inl low ↦ omega (arith, low, above) | inr high ↦ omega (arith, high) ] in
-    let later : IsOutside off (drop 5 host_bridge) = (
-      below_or_past off 0x60 0x68 (λ above. omega (arith, rows above)),
-      (
-        below_or_past off 0x68 0x69 (λ above. omega (arith, rows (omega (arith, above)))),
-        (below_or_past off 0x72 0x73 control, tt),
-      ),
-    ) in (
-      inr (omega arith),
-      (
-        inr (omega arith),
-        (
-          inr (omega arith),
-          (
-            below_or_past off 0x59 0x5A (λ above. omega (arith, pam above)),
-            (below_or_past off 0x5A 0x60 (λ above. pam (omega (arith, above))), later),
-          ),
-        ),
-      ),
-    )
+outside off fixed from = grind (arith, nat_tests)
 
 pub reset_byte-blank : (setup : Setup) (off : ℕ) → IsFixedOffset off → 12 ≤ off → reset_byte setup (bridge off) ≡ 0
 unfolding reset_byte
