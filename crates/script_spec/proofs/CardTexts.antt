@@ -1,12 +1,12 @@
 -- The card that was read is the one that the fields spell.
+use Rattle.board_prelude.proofs.Common.{nat_tests, join_with_byte, option_map, cases_Bool, eqb-true, length-append}
+use Rattle.board_prelude.proofs.Common.{All-nil, All-cons, Base, MemoryBase, IoBase, FittedCard, space}
 use Rattle.std.proofs.Common.{◌≡◌, ℕ, ◌<◌, ◌≤◌, ◌⊎◌, inl, inr, Bool, true, false, cond, eqb, Option, Some, None, List}
 use Rattle.std.proofs.Common.{[], ◌∷◌, ◌++◌, length, flat_map, All, refl, sym, ap, subst, ◌∙◌, append_assoc, append-nil}
 use Rattle.std.proofs.Common.{arith, codes, decimal, bytes_eq, if◌then◌else◌}
-use Rattle.board_prelude.proofs.Common.{join_with_byte, option_map, cases_Bool, eqb-true, ltb-true, length-append}
-use Rattle.board_prelude.proofs.Common.{All-nil, All-cons, Base, MemoryBase, IoBase, FittedCard, space}
 use Rattle.script_spec.specs.Common.{IsBaseForm, IsRomForm, IsCardForm, base_text, rom_text, card_text, parse_decimal}
-use Rattle.script_spec.specs.Common.{parse_base, Tail, parse_rom_bits, has_room, with_base, with_rom, with_field}
-use Rattle.script_spec.specs.Common.{with_fields, no_tail, parse_vga, parse_card}
+use Rattle.script_spec.specs.Common.{parse_base, Tail, parse_rom_bits, with_base, with_rom, with_field, with_fields}
+use Rattle.script_spec.specs.Common.{no_tail, parse_vga, parse_card}
 use Rattle.script_spec.proofs.Chains.{some_is, guarded, then_said, mapped}
 use Rattle.script_spec.proofs.NumberTexts.{decimal_read}
 use Rattle.script_spec.proofs.Joins.{word_is}
@@ -89,12 +89,7 @@ next_cases : (version : ℕ) (before : List Base) (field : List ℕ) (rom : Opti
     → parse_rom_bits version field ≡ rom
     → with_rom (fresh before) rom field ≡ Some next → IsRomNext version before field next ⊎ IsBaseNext before field next
 unfolding with_rom with_base
-next_cases version before field (Some bits) next read e =
-    inl (record { bits = bits; read = read; is = some_is _ next e })
-next_cases version before field None next read e =
-    let g = guarded (has_room (fresh before)) _ next e in
-    let b = mapped (parse_base field) _ next g.1 in
-    inr (record { base = b.0; read = b.1; is = sym b.2; room = ltb-true (length before) 6 g.0 })
+next_cases version before field rom next read e = grind (arith, nat_tests)
 
 field_read : (version : ℕ) (before : List Base) (field : List ℕ) (next : Tail)
     → with_field version (fresh before) field ≡ Some next
@@ -105,17 +100,7 @@ field_read version before field next e = next_cases version before field (parse_
 tail_read : (version : ℕ) (before : List Base) (fields : List (List ℕ)) (tail : Tail) → length before ≤ 6
     → with_fields version (fresh before) fields ≡ Some tail → IsTail version before fields tail
 unfolding with_fields
-tail_read version before [] tail few e =
-    subst (IsTail version before []) (some_is (fresh before) tail e)
-    (record {
-      more = [];
-      bases = sym (append-nil before);
-      text = refl;
-      each = All-nil IsBaseForm;
-      rom = tt;
-      count =
-          few;
-    })
+tail_read version before [] tail few e = grind (arith, nat_tests, some_is, append-nil, All-nil)
 tail_read version before (field ∷ fields) tail few e =
     let s = then_said (with_field version (fresh before) field) _ tail e in
     elim (field_read version before field s.0 s.1) [
@@ -165,12 +150,8 @@ vga_read field vga e = elim (cases_Bool (bytes_eq field (codes "vga"))) [
 pub card_parts : (dev : ℕ) (vga : Bool) (bases : List Base) (rom : Option ℕ)
     → decimal dev ++ (space ∷ (kind_word vga ++ (flat_map base_text bases ++ rom_text rom)))
     ≡ card_text (record { dev = dev; vga = vga; bases = bases; rom = rom })
-card_parts dev true bases rom =
-    sym (append_assoc (decimal dev ++ codes " vga") (flat_map base_text bases) (rom_text rom)
-    ∙ append_assoc (decimal dev) (codes " vga") (flat_map base_text bases ++ rom_text rom))
-card_parts dev false bases rom =
-    sym (append_assoc (decimal dev ++ codes " plain") (flat_map base_text bases) (rom_text rom)
-    ∙ append_assoc (decimal dev) (codes " plain") (flat_map base_text bases ++ rom_text rom))
+card_parts dev true bases rom = simp (append_assoc)
+card_parts dev false bases rom = simp (append_assoc)
 
 pub card_read : (version : ℕ) (words : List (List ℕ)) (card : FittedCard) → parse_card version words ≡ Some card
     → (join_with_byte space (codes "card" ∷ words) ≡ codes "card " ++ card_text card) × IsCardForm version card

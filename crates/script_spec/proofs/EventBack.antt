@@ -1,9 +1,7 @@
 -- Fields that spell an event are read as that event.
-use Rattle.std.proofs.Common.{◌≡◌, ℕ, ◌^◌, ◌<◌, inl, inr, Bool, true, false, Some, List, [], ◌∷◌, refl, ap, ◌∙◌, arith}
-use Rattle.std.proofs.Common.{codes}
-use Rattle.board_prelude.proofs.Common.{eq-eqb, Kind, Fetch, Read, Write, Width, One, bytes_of, Port, hex_number}
-use Rattle.board_prelude.proofs.Common.{size_text, width_text, kind_text}
-use Rattle.board_base.specs.declared.access.Width.TheVariants.{Two, Four}
+use Rattle.board_prelude.proofs.Common.{nat_tests, Kind, Write, Width, bytes_of, Port, hex_number, size_text}
+use Rattle.board_prelude.proofs.Common.{width_text, kind_text}
+use Rattle.std.proofs.Common.{◌≡◌, ℕ, ◌^◌, ◌<◌, Bool, true, false, Some, List, [], ◌∷◌, refl, ap, ◌∙◌, arith}
 use Rattle.board_spec.specs.declared.event.Event.TheVariants.{Look as LookAt}
 use Rattle.script_spec.specs.Events.{parse_width, parse_size, parse_kind, parse_smm, IsSize, memory_event, parse_read}
 use Rattle.script_spec.specs.Events.{parse_write, parse_in, parse_out, parse_look, read_event, write_event, in_event}
@@ -14,19 +12,11 @@ use Rattle.script_spec.proofs.NumberBack.{plain_is, hex_back}
 -- ---- letters
 
 size_back : (version bytes : ℕ) → IsSize version bytes → parse_size version (size_text bytes) ≡ Some bytes
-size_back version bytes (inl one) = rw one refl
-size_back version bytes (inr (inl two)) = rw two refl
-size_back version bytes (inr (inr (inl four))) = rw four refl
-size_back version bytes (inr (inr (inr eight))) = rw (eight.0, eq-eqb version 2 eight.1) refl
+size_back version bytes given = grind (arith, nat_tests)
 
 size_plain : (version bytes : ℕ) (field : List ℕ) → IsSize version bytes → Spells field (size_text bytes)
     → field ≡ size_text bytes
-size_plain version bytes field (inl one) spells = rw one (plain_is field (codes "b") refl (rw one at spells))
-size_plain version bytes field (inr (inl two)) spells = rw two (plain_is field (codes "w") refl (rw two at spells))
-size_plain version bytes field (inr (inr (inl four))) spells =
-    rw four (plain_is field (codes "d") refl (rw four at spells))
-size_plain version bytes field (inr (inr (inr eight))) spells =
-    rw eight.0 (plain_is field (codes "q") refl (rw eight.0 at spells))
+size_plain version bytes field given spells = grind (arith, nat_tests, plain_is)
 
 pub size_spelled : (version bytes : ℕ) (field : List ℕ) → IsSize version bytes → Spells field (size_text bytes)
     → parse_size version field ≡ Some bytes
@@ -34,22 +24,14 @@ size_spelled version bytes field size spells =
     ap (parse_size version) (size_plain version bytes field size spells) ∙ size_back version bytes size
 
 pub width_spelled : (width : Width) (field : List ℕ) → Spells field (width_text width) → parse_width field ≡ Some width
-width_spelled One field spells = rw (plain_is field (codes "b") refl spells) refl
-width_spelled Two field spells = rw (plain_is field (codes "w") refl spells) refl
-width_spelled Four field spells = rw (plain_is field (codes "d") refl spells) refl
+width_spelled width field spells = grind (arith, nat_tests, plain_is)
 
 pub kind_spelled : (kind : Kind) (field : List ℕ) → Spells field (kind_text kind) → parse_kind field ≡ Some kind
-kind_spelled Fetch field spells = rw (plain_is field (codes "f") refl spells) refl
-kind_spelled Read field spells = rw (plain_is field (codes "r") refl spells) refl
-kind_spelled Write field spells = rw (plain_is field (codes "w") refl spells) refl
+kind_spelled kind field spells = grind (arith, nat_tests, plain_is)
 
 pub smm_spelled : (smm : Bool) (flags : List (List ℕ)) → Reads flags (smm_words smm) → parse_smm flags ≡ Some smm
 unfolding parse_smm
-smm_spelled false [] reads = refl
-smm_spelled false (f ∷ flags) reads = absurd reads
-smm_spelled true [] reads = absurd reads
-smm_spelled true (f ∷ []) reads = rw (plain_is f (codes "smm") refl reads.0) refl
-smm_spelled true (f ∷ g ∷ flags) reads = absurd reads.1
+smm_spelled smm flags reads = grind (arith, nat_tests, plain_is)
 
 -- ---- statements
 

@@ -1,14 +1,12 @@
 -- Each event of a form is read again from the fields that spell it.
-use Rattle.std.proofs.Common.{◌≡◌, ℕ, ◌%◌, ◌^◌, ◌<◌, ◌⊎◌, inl, inr, Bool, true, false, not, eqb, ◌&&◌, Option, Some}
-use Rattle.std.proofs.Common.{List, None, IfSome, [], ◌∷◌, refl, sym, ap, subst, ◌∙◌, arith, codes, decimal}
-use Rattle.board_prelude.proofs.Common.{join_with_byte, option_map, cases_Bool, eqb-true, eq-eqb, ne_eqb, Kind, Fetch}
-use Rattle.board_prelude.proofs.Common.{Read, Write, Width, One, WideAccess, Moment, bytes_of, Event, Memory, Wide}
-use Rattle.board_prelude.proofs.Common.{Port, Ack, Time, Stimulus, Applied, stimulus_form, event_applied, applied_by}
-use Rattle.board_prelude.proofs.Common.{is_write, FitsBytes, space, hex_number, size_text, width_text, kind_text}
-use Rattle.board_prelude.proofs.Common.{level_text, memory_text, moment_text, event_text}
-use Rattle.board_base.specs.declared.access.Width.TheVariants.{Two, Four}
+use Rattle.board_prelude.proofs.Common.{nat_tests, join_with_byte, option_map, Kind, Write, Width, WideAccess, Moment}
+use Rattle.board_prelude.proofs.Common.{bytes_of, Event, Memory, Wide, Port, Ack, Time, Stimulus, Applied}
+use Rattle.board_prelude.proofs.Common.{stimulus_form, event_applied, applied_by, is_write, FitsBytes, space}
+use Rattle.board_prelude.proofs.Common.{hex_number, size_text, width_text, kind_text, level_text, memory_text}
+use Rattle.board_prelude.proofs.Common.{moment_text, event_text}
+use Rattle.std.proofs.Common.{◌≡◌, ℕ, ◌%◌, ◌^◌, ◌<◌, ◌⊎◌, Bool, true, false, Option, Some, List, IfSome, [], ◌∷◌, refl}
+use Rattle.std.proofs.Common.{sym, ap, ◌∙◌, arith, codes, decimal}
 use Rattle.board_spec.specs.declared.event.Event.TheVariants.{Look as LookAt}
-use Rattle.board_spec.specs.declared.stimulus.Stimulus.TheVariants.{Pulses}
 use Rattle.script_spec.specs.Common.{Item, IsDecimal, IsWideForm, IsMomentForm, IsEventForm, IsSize, memory_event}
 use Rattle.script_spec.specs.Common.{parse_read, parse_ack, parse_number, ask, stimulus_item, parse_two_numbers}
 use Rattle.script_spec.specs.Common.{parse_given, parse_stimulus_item, parse_only_moment, parse_time_item}
@@ -37,72 +35,42 @@ with_verb : (version actor : ℕ) (verb : List ℕ) (words : List (List ℕ)) (i
     → ((rest : List (List ℕ)) → Reads rest words → parse_by_verb version actor verb rest ≡ Some item)
     → (fields : List (List ℕ)) → Reads fields (verb ∷ words) → parse_statement_words version actor fields ≡ Some item
 unfolding parse_statement_words
-with_verb version actor verb words item plain read [] reads = absurd reads
-with_verb version actor verb words item plain read (v ∷ rest) reads =
-    ap (λ (v : List ℕ). parse_by_verb version actor v rest) (plain_is v verb plain reads.0) ∙ read rest reads.1
+with_verb version actor verb words item plain read fields reads = grind (arith, nat_tests, plain_is)
 
 -- ---- memory
-
-not_moved : (version rest : ℕ) → (version ≡ 2 → rest ≡ 0) → (eqb version 2 && not (eqb rest 0)) ≡ false
-not_moved version rest aligned = elim (cases_Bool (eqb version 2)) [
-  | inl second ↦ rw (second, aligned (eqb-true version 2 second)) refl
-  | inr first ↦ rw first refl
-]
 
 narrow_event : (version : ℕ) (kind : Kind) (width : Width) (addr value : ℕ) (smm : Bool)
     → (version ≡ 2 → addr % bytes_of width ≡ 0)
     → memory_event version kind (bytes_of width) addr value smm
     ≡ Memory (record { kind = kind; addr = addr; width = width; smm = smm; value = value })
 unfolding memory_event
-narrow_event version kind One addr value smm aligned = rw (not_moved version (addr % 1) aligned) refl
-narrow_event version kind Two addr value smm aligned = rw (not_moved version (addr % 2) aligned) refl
-narrow_event version kind Four addr value smm aligned = rw (not_moved version (addr % 4) aligned) refl
+narrow_event version kind width addr value smm aligned = grind (arith, nat_tests)
 
 wide_event : (version : ℕ) (access : WideAccess) → IsWideForm version access
     → memory_event version access.kind access.bytes access.addr access.value access.smm ≡ Wide access
 unfolding memory_event
-wide_event version access form = elim form.wide [
-  | inl eight ↦ rw (eq-eqb version 2 form.second, eq-eqb access.bytes 8 eight) refl
-  | inr moved ↦ elim (cases_Bool (eqb access.bytes 8)) [
-    | inl eight ↦ rw (eq-eqb version 2 form.second, eight) refl
-    | inr other ↦ rw (eq-eqb version 2 form.second, other, ne_eqb (access.addr % access.bytes) 0 moved) refl
-  ]
-]
+wide_event version access form = grind (arith, nat_tests)
 
 width_size : (version : ℕ) (width : Width) → IsSize version (bytes_of width)
-width_size version One = inl refl
-width_size version Two = inr (inl refl)
-width_size version Four = inr (inr (inl refl))
+width_size version width = grind (arith, nat_tests)
 
 wide_size : (version bytes : ℕ) → version ≡ 2 → (bytes ≡ 2) ⊎ (bytes ≡ 4) ⊎ (bytes ≡ 8) → IsSize version bytes
-wide_size version bytes second (inl two) = inr (inl two)
-wide_size version bytes second (inr (inl four)) = inr (inr (inl four))
-wide_size version bytes second (inr (inr eight)) = inr (inr (inr (eight, second)))
+wide_size version bytes second given = grind (arith, nat_tests)
 
 lacks_size : (version bytes : ℕ) → IsSize version bytes → lacks space (size_text bytes) ≡ true
-lacks_size version bytes (inl one) = rw one refl
-lacks_size version bytes (inr (inl two)) = rw two refl
-lacks_size version bytes (inr (inr (inl four))) = rw four refl
-lacks_size version bytes (inr (inr (inr eight))) = rw eight.0 refl
+lacks_size version bytes given = grind (arith, nat_tests)
 
 lacks_width : (width : Width) → lacks space (width_text width) ≡ true
-lacks_width One = refl
-lacks_width Two = refl
-lacks_width Four = refl
+lacks_width width = grind (arith, nat_tests)
 
 lacks_kind : (kind : Kind) → lacks space (kind_text kind) ≡ true
-lacks_kind Fetch = refl
-lacks_kind Read = refl
-lacks_kind Write = refl
+lacks_kind kind = grind (arith, nat_tests)
 
 plain_kind : (kind : Kind) → is_plain (kind_text kind) ≡ true
-plain_kind Fetch = refl
-plain_kind Read = refl
-plain_kind Write = refl
+plain_kind kind = grind (arith, nat_tests)
 
 lacks_smm : (smm : Bool) → Lack (smm_words smm)
-lacks_smm false = tt
-lacks_smm true = (refl, tt)
+lacks_smm smm = grind (arith, nat_tests)
 
 -- an access of so many bytes, which is a wide one or not
 abbrev IsAccess : (version : ℕ) → Kind → (bytes addr value : ℕ) → Bool → Event → Type 0
@@ -113,9 +81,7 @@ IsAccess version kind bytes addr value smm event =
 asked_read : (version actor : ℕ) (kind : Kind) (words : List (List ℕ)) → is_write kind ≡ false
     → parse_by_verb version actor (kind_text kind) words ≡ option_map (ask actor) (parse_read version kind words)
 unfolding parse_by_verb
-asked_read version actor Fetch words reads = refl
-asked_read version actor Read words reads = refl
-asked_read version actor Write words reads = absurd cc
+asked_read version actor kind words reads = grind (arith, nat_tests)
 
 read_back : (version actor : ℕ) (kind : Kind) (bytes addr value : ℕ) (smm : Bool) (event : Event)
     → is_write kind ≡ false
@@ -150,12 +116,8 @@ memory_back : (version actor : ℕ) (kind : Kind) (bytes addr value : ℕ) (smm 
     → IsSize version bytes
     → addr < 2 ^ 32 → FitsBytes (is_write kind) bytes value → IsAccess version kind bytes addr value smm event
     → IsReadBack version actor event
-memory_back version actor Fetch bytes addr value smm event size small fits is =
-    read_back version actor Fetch bytes addr value smm event refl size small fits is
-memory_back version actor Read bytes addr value smm event size small fits is =
-    read_back version actor Read bytes addr value smm event refl size small fits is
-memory_back version actor Write bytes addr value smm event size small fits is =
-    write_back version actor bytes addr value smm event size small fits is
+memory_back version actor kind bytes addr value smm event size small fits is =
+    grind (arith, nat_tests, read_back, write_back)
 
 -- ---- ports and looks
 
@@ -197,15 +159,12 @@ look_back version actor kind addr smm small = record {
 
 -- a decimal stands for itself alone
 pub number_is : (n : ℕ) (field : List ℕ) → IsDecimal n → Spells field (decimal n) → field ≡ decimal n
-number_is n field small spells = plain_is field (decimal n) (plain-digits (decimal n) (digits_of_decimal n small))
-    spells
+number_is n field small spells = grind (arith, nat_tests, plain_is, plain-digits, digits_of_decimal)
 
 number_spelled : (n : ℕ) (words : List (List ℕ)) → IsDecimal n → Reads words (decimal n ∷ [])
     → parse_number words ≡ Some n
 unfolding parse_number
-number_spelled n [] small reads = absurd reads
-number_spelled n (field ∷ []) small reads = rw (number_is n field small reads.0) (decimal_back n small)
-number_spelled n (field ∷ other ∷ words) small reads = absurd reads.1
+number_spelled n words small reads = grind (arith, nat_tests, number_is, decimal_back)
 
 -- a number and a level
 pub two_back : (m n : ℕ) → IsDecimal m → IsDecimal n → parse_two_numbers (decimal m ∷ decimal n ∷ []) ≡ Some (m, n)
@@ -216,8 +175,7 @@ two_spelled : (m n : ℕ) (words : List (List ℕ)) → IsDecimal m → IsDecima
     → parse_two_numbers words ≡ Some (m, n)
 two_spelled m n [] small few reads = absurd reads
 two_spelled m n (first ∷ []) small few reads = absurd reads.1
-two_spelled m n (first ∷ second ∷ []) small few reads =
-    rw (number_is m first small reads.0, number_is n second few reads.1.0) (two_back m n small few)
+two_spelled m n (first ∷ second ∷ []) small few reads = grind (arith, nat_tests, number_is, two_back)
 two_spelled m n (first ∷ second ∷ third ∷ words) small few reads = absurd reads.1.1
 
 -- a level as a number
@@ -226,49 +184,39 @@ level_of false = 0
 level_of true = 1
 
 level_number : (on : Bool) → level_text on ≡ decimal (level_of on)
-level_number false = sym zero_text
-level_number true = sym one_text
+level_number on = grind (arith, nat_tests, zero_text, one_text)
 
 level_small : (on : Bool) → IsDecimal (level_of on)
-level_small false = omega arith
-level_small true = omega arith
+level_small on = grind (arith, nat_tests)
 
 level_spelled : (dev : ℕ) (on : Bool) (words : List (List ℕ)) → IsDecimal dev
     → Reads words (decimal dev ∷ level_text on ∷ [])
     → parse_two_numbers words ≡ Some (dev, level_of on)
-level_spelled dev on words small reads =
-    two_spelled dev (level_of on) words small (level_small on)
-    (subst (λ (t : List ℕ). Reads words (decimal dev ∷ t ∷ [])) (level_number on) reads)
+level_spelled dev on words small reads = grind (arith, nat_tests, two_spelled, level_small, level_number)
 
 lacks_level : (on : Bool) → lacks space (level_text on) ≡ true
-lacks_level false = refl
-lacks_level true = refl
+lacks_level on = grind (arith, nat_tests)
 
 level_item : (actor : ℕ) (one : Stimulus) (number : ℕ) (on : Bool)
     → stimulus_item actor one number (level_of on) ≡ ask actor (event_applied one number on)
-level_item actor one number false = refl
-level_item actor one number true = refl
+level_item actor one number on = grind (arith, nat_tests)
 
 -- a stimulus without a level
 level_free : (one : Stimulus) (number : ℕ) (on : Bool) → (stimulus_form one).has_level ≡ false
     → event_applied one number false ≡ event_applied one number on
-level_free Pulses number on none = refl
-level_free _ number on none = cc
+level_free one number on none = grind (arith, nat_tests)
 
 word_plain : (one : Stimulus) → is_plain (stimulus_form one).word ≡ true
-word_plain Pulses = refl
-word_plain _ = refl
+word_plain one = grind (arith, nat_tests)
 
 pub lacks_stimulus : (one : Stimulus) → lacks space (stimulus_form one).word ≡ true
-lacks_stimulus Pulses = refl
-lacks_stimulus _ = refl
+lacks_stimulus one = grind (arith, nat_tests)
 
 pub by_stimulus : (version actor : ℕ) (one : Stimulus) (words : List (List ℕ)) (given : ℕ × ℕ)
     → parse_given one words ≡ Some given
     → parse_by_verb version actor (stimulus_form one).word words ≡ Some (stimulus_item actor one given.0 given.1)
 unfolding parse_by_verb parse_stimulus_item
-by_stimulus version actor Pulses words given e = rw e refl
-by_stimulus version actor _ words given e = rw e refl
+by_stimulus version actor one words given e = grind (arith, nat_tests)
 
 given_spelled : (actor : ℕ) (one : Stimulus) (has_level : Bool) (number : ℕ) (on : Bool) (words : List (List ℕ))
     → (stimulus_form one).has_level ≡ has_level → IsDecimal number
@@ -286,8 +234,7 @@ given_spelled actor one false number on words is small reads = (
 
 lacks_given : (has_level : Bool) (number : ℕ) (on : Bool)
     → Lack (given_words has_level (decimal number) (level_text on))
-lacks_given true number on = (lacks_decimal number, (lacks_level on, tt))
-lacks_given false number on = (lacks_decimal number, tt)
+lacks_given has_level number on = grind (arith, nat_tests, lacks_decimal, lacks_level)
 
 stimulus_back : (version actor : ℕ) (one : Stimulus) (number : ℕ) (on : Bool) → IsDecimal number
     → IsReadBack version actor (event_applied one number on)
@@ -305,15 +252,13 @@ stimulus_back version actor one number on small =
 
 applied_back : (version actor : ℕ) (found : Option Applied) → IfSome found (λ said. IsDecimal said.number)
     → IfSome found (λ said. IsReadBack version actor (event_applied said.stimulus said.number said.on))
-applied_back version actor None small = tt
-applied_back version actor (Some said) small = stimulus_back version actor said.stimulus said.number said.on small
+applied_back version actor found small = grind (arith, nat_tests, stimulus_back)
 
 -- ---- others
 
 ack_spelled : (words : List (List ℕ)) → Reads words [] → parse_ack words ≡ Some Ack
 unfolding parse_ack
-ack_spelled [] reads = refl
-ack_spelled (w ∷ words) reads = absurd reads
+ack_spelled words reads = grind (arith, nat_tests)
 
 ack_back : (version actor : ℕ) → IsReadBack version actor Ack
 unfolding event_text parse_by_verb
@@ -330,8 +275,7 @@ moment_spelled : (moment : Moment) (words : List (List ℕ)) → IsMomentForm mo
     → parse_only_moment words ≡ Some moment
 unfolding parse_only_moment
 moment_spelled moment [] form reads = absurd reads
-moment_spelled moment (field ∷ []) form reads =
-    rw (plain_is field (moment_text moment) (plain_moment moment) reads.0) (moment_back moment form)
+moment_spelled moment (field ∷ []) form reads = grind (arith, nat_tests, plain_is, plain_moment, moment_back)
 moment_spelled moment (field ∷ other ∷ words) form reads = absurd reads.1
 
 time_back : (version actor : ℕ) (moment : Moment) → IsMomentForm moment → IsReadBack version actor (Time moment)

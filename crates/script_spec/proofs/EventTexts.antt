@@ -1,13 +1,12 @@
 -- The events that were read are those that the fields spell.
-use Rattle.std.proofs.Common.{◌≡◌, ℕ, ◌*◌, ◌%◌, ◌^◌, ◌<◌, ◌⊎◌, inl, inr, Bool, true, false, not, eqb, ◌||◌, Some, List}
-use Rattle.std.proofs.Common.{[], ◌∷◌, refl, sym, ap, subst, ◌∙◌, arith, codes, decimal, bytes_eq}
-use Rattle.board_prelude.proofs.Common.{join_with_byte, cases_Bool, eqb-true, eq-eqb, true≢false, Kind, Fetch, Read}
-use Rattle.board_prelude.proofs.Common.{Write, Width, One, bytes_of, Event, Ack, is_write, FitsBytes, space, hex_number}
+use Rattle.board_prelude.proofs.Common.{nat_tests, join_with_byte, cases_Bool, eqb-true, eq-eqb, true≢false, Kind}
+use Rattle.board_prelude.proofs.Common.{Write, Width, bytes_of, Event, Ack, is_write, FitsBytes, space, hex_number}
 use Rattle.board_prelude.proofs.Common.{size_text, width_text, kind_text, memory_text, event_text, and_parts}
-use Rattle.board_base.specs.declared.access.Width.TheVariants.{Two, Four}
-use Rattle.script_spec.specs.Common.{IsDecimal, IsEventForm, parse_hex, parse_width, quad_size, parse_size, parse_kind}
-use Rattle.script_spec.specs.Common.{parse_smm, IsSize, width_with, is_wide, memory_event, parse_read, parse_write}
-use Rattle.script_spec.specs.Common.{parse_in, parse_out, parse_look, parse_ack, parse_number}
+use Rattle.std.proofs.Common.{◌≡◌, ℕ, ◌*◌, ◌%◌, ◌^◌, ◌<◌, ◌⊎◌, inl, inr, Bool, true, false, not, eqb, ◌||◌, Some, List}
+use Rattle.std.proofs.Common.{[], ◌∷◌, refl, sym, ap, subst, ◌∙◌, arith, codes, decimal}
+use Rattle.script_spec.specs.Common.{IsDecimal, IsEventForm, parse_hex, parse_width, parse_size, parse_kind, parse_smm}
+use Rattle.script_spec.specs.Common.{IsSize, width_with, is_wide, memory_event, parse_read, parse_write, parse_in}
+use Rattle.script_spec.specs.Common.{parse_out, parse_look, parse_ack, parse_number}
 use Rattle.script_spec.specs.Events.{read_event, write_event, in_event, out_event, look_event}
 use Rattle.script_spec.proofs.Chains.{some_is, guarded, then_said}
 use Rattle.script_spec.proofs.NumberTexts.{decimal_read, hex_read}
@@ -25,55 +24,13 @@ pub record IsRead (version : ℕ) (fields : List (List ℕ)) (event : Event) : T
 
 size_read : (version : ℕ) (field : List ℕ) (bytes : ℕ) → parse_size version field ≡ Some bytes
     → (field ≡ size_text bytes) × IsSize version bytes
-size_read version field bytes e = elim (cases_Bool (bytes_eq field (codes "b"))) [
-  | inl one ↦
-      let is : 1 ≡ bytes = some_is 1 bytes (rw one at e) in
-      subst (λ (n : ℕ). (field ≡ size_text n) × IsSize version n) is (word_is field (codes "b") one, inl refl)
-  | inr b ↦ elim (cases_Bool (bytes_eq field (codes "w"))) [
-    | inl two ↦
-        let is : 2 ≡ bytes = some_is 2 bytes (rw (b, two) at e) in
-        subst (λ (n : ℕ). (field ≡ size_text n) × IsSize version n) is (word_is field (codes "w") two, inr (inl refl))
-    | inr w ↦ elim (cases_Bool (bytes_eq field (codes "d"))) [
-      | inl four ↦
-          let is : 4 ≡ bytes = some_is 4 bytes (rw (b, w, four) at e) in
-          subst (λ (n : ℕ). (field ≡ size_text n) × IsSize version n) is (
-            word_is field (codes "d") four,
-            inr (inr (inl refl)),
-          )
-      | inr d ↦
-          let q = guarded (bytes_eq field (codes "q")) (quad_size version) bytes (rw (b, w, d) at e) in
-          let v = guarded (eqb version 2) (Some 8) bytes q.1 in
-          let is : 8 ≡ bytes = some_is 8 bytes v.1 in
-          subst (λ (n : ℕ). (field ≡ size_text n) × IsSize version n) is
-          (word_is field (codes "q") q.0, inr (inr (inr (refl, eqb-true version 2 v.0))))
-    ]
-  ]
-]
+size_read version field bytes e = grind (arith, nat_tests, some_is, word_is, guarded, eqb-true)
 
 width_read : (field : List ℕ) (width : Width) → parse_width field ≡ Some width → field ≡ width_text width
-width_read field width e = elim (cases_Bool (bytes_eq field (codes "b"))) [
-  | inl one ↦ subst (λ (w : Width). field ≡ width_text w) (some_is One width (rw one at e))
-      (word_is field (codes "b") one)
-  | inr b ↦ elim (cases_Bool (bytes_eq field (codes "w"))) [
-    | inl two ↦ subst (λ (w : Width). field ≡ width_text w) (some_is Two width (rw (b, two) at e))
-        (word_is field (codes "w") two)
-    | inr w ↦
-        let d = guarded (bytes_eq field (codes "d")) (Some Four) width (rw (b, w) at e) in
-        subst (λ (w : Width). field ≡ width_text w) (some_is Four width d.1) (word_is field (codes "d") d.0)
-  ]
-]
+width_read field width e = grind (arith, nat_tests, some_is, word_is, guarded)
 
 kind_read : (field : List ℕ) (kind : Kind) → parse_kind field ≡ Some kind → field ≡ kind_text kind
-kind_read field kind e = elim (cases_Bool (bytes_eq field (codes "f"))) [
-  | inl f ↦ subst (λ (k : Kind). field ≡ kind_text k) (some_is Fetch kind (rw f at e)) (word_is field (codes "f") f)
-  | inr f ↦ elim (cases_Bool (bytes_eq field (codes "r"))) [
-    | inl r ↦ subst (λ (k : Kind). field ≡ kind_text k) (some_is Read kind (rw (f, r) at e))
-        (word_is field (codes "r") r)
-    | inr r ↦
-        let w = guarded (bytes_eq field (codes "w")) (Some Write) kind (rw (f, r) at e) in
-        subst (λ (k : Kind). field ≡ kind_text k) (some_is Write kind w.1) (word_is field (codes "w") w.0)
-  ]
-]
+kind_read field kind e = grind (arith, nat_tests, some_is, word_is, guarded)
 
 -- ---- an access to memory is a wide one or not
 
@@ -82,48 +39,17 @@ IsAccess version kind bytes addr value smm =
     (memory_text kind bytes addr value smm ≡ event_text (memory_event version kind bytes addr value smm))
     × IsEventForm version (memory_event version kind bytes addr value smm)
 
--- what is not wide is aligned in version 2
-aligned_if : (version bytes addr : ℕ) → is_wide version bytes addr ≡ false → version ≡ 2 → addr % bytes ≡ 0
-aligned_if version bytes addr narrow second = elim (cases_Bool (eqb (addr % bytes) 0)) [
-  | inl yes_aligned ↦ eqb-true (addr % bytes) 0 yes_aligned
-  | inr moved ↦ elim (cases_Bool (eqb bytes 8)) [
-    | inl eight ↦ (let f = rw (eq-eqb version 2 second, eight) at narrow in absurd (true≢false f))
-    | inr other ↦ (let f = rw (eq-eqb version 2 second, other, moved) at narrow in absurd (true≢false f))
-  ]
-]
-
 narrow_access : (version : ℕ) (kind : Kind) (bytes addr value : ℕ) (smm : Bool) → is_wide version bytes addr ≡ false
     → bytes_of (width_with bytes) ≡ bytes → addr < 2 ^ 32 → FitsBytes (is_write kind) bytes value
     → IsAccess version kind bytes addr value smm
 unfolding memory_event event_text
-narrow_access version kind bytes addr value smm narrow same_size small fits =
-    rw narrow (
-      ap (λ (n : ℕ). memory_text kind n addr value smm) (sym same_size),
-      record {
-        addr = small;
-        value = subst (λ (n : ℕ). FitsBytes (is_write kind) n value) (sym same_size) fits;
-        aligned = λ second. subst (λ (n : ℕ). addr % n ≡ 0) (sym same_size)
-            (aligned_if version bytes addr narrow second);
-      },
-    )
-
-not_aligned : (rest : ℕ) → not (eqb rest 0) ≡ true → rest ≡ 0 → ⊥
-not_aligned rest e is = let f = rw (eq-eqb rest 0 is) at e in true≢false (sym f)
+narrow_access version kind bytes addr value smm narrow same_size small fits = grind (arith, nat_tests)
 
 wide_access : (version : ℕ) (kind : Kind) (bytes addr value : ℕ) (smm : Bool) → is_wide version bytes addr ≡ true
     → (bytes ≡ 2) ⊎ (bytes ≡ 4) ⊎ (bytes ≡ 8) → addr < 2 ^ 32 → FitsBytes (is_write kind) bytes value
     → IsAccess version kind bytes addr value smm
 unfolding memory_event event_text
-wide_access version kind bytes addr value smm wide sizes small fits =
-    let parts = and_parts (eqb version 2) (eqb bytes 8 || not (eqb (addr % bytes) 0)) wide in
-    let moved : (bytes ≡ 8) ⊎ (addr % bytes ≡ 0 → ⊥) = elim (cases_Bool (eqb bytes 8)) [
-      | inl eight ↦ inl (eqb-true bytes 8 eight)
-      | inr other ↦ inr (not_aligned (addr % bytes) (rw other at parts.1))
-    ] in
-    rw wide (
-      refl,
-      record { second = eqb-true version 2 parts.0; addr = small; bytes = sizes; wide = moved; value = fits },
-    )
+wide_access version kind bytes addr value smm wide sizes small fits = grind (arith, nat_tests)
 
 is_access : (version : ℕ) (kind : Kind) (bytes addr value : ℕ) (smm : Bool) → IsSize version bytes
     → addr < 2 ^ 32 → FitsBytes (is_write kind) bytes value → IsAccess version kind bytes addr value smm

@@ -1,7 +1,6 @@
 -- Each line of a form is read as what it says.
-use Rattle.std.proofs.Common.{◌≡◌, ℕ, ◌≤◌, true, Some, List, [], ◌∷◌, ◌++◌, refl, sym, ap, subst, ◌∙◌}
-use Rattle.std.proofs.Common.{arith, codes, decimal}
-use Rattle.board_prelude.proofs.Common.{ne_eqb, Event, Stimulus, stimulus_form, space, event_text}
+use Rattle.board_prelude.proofs.Common.{nat_tests, Event, Stimulus, stimulus_form, space, event_text}
+use Rattle.std.proofs.Common.{◌≡◌, ℕ, ◌≤◌, true, Some, List, [], ◌∷◌, ◌++◌, sym, ap, subst, ◌∙◌, arith, decimal}
 use Rattle.script_spec.specs.Common.{Item, SetCpus, SetMemory, SetRom, SetDisk, FitCard, BeginPhase, Ask, AskLevel}
 use Rattle.script_spec.specs.Common.{IsDecimal, IsForm, IsLevelForm, Says, HasForm, item_text, fields_of, ask}
 use Rattle.script_spec.specs.Common.{stimulus_item, parse_given, parse_statement_words, parse_statement, parse_by_key}
@@ -11,8 +10,7 @@ use Rattle.script_spec.proofs.ItemTexts.{level_joined}
 use Rattle.script_spec.proofs.Splits.{split}
 use Rattle.script_spec.proofs.NumberBack.{decimal_back}
 use Rattle.script_spec.proofs.FieldTexts.{lacks_decimal, no_word}
-use Rattle.script_spec.proofs.EventForms.{IsReadBack, event_back, number_is, two_back, by_stimulus}
-use Rattle.script_spec.proofs.EventForms.{lacks_stimulus}
+use Rattle.script_spec.proofs.EventForms.{IsReadBack, event_back, number_is, two_back, by_stimulus, lacks_stimulus}
 use Rattle.script_spec.proofs.SetupBack.{IsLineBack, exact_back, cpus_back, memory_back, phase_back, rom_back}
 use Rattle.script_spec.proofs.SetupBack.{disk_back, card_back}
 
@@ -23,24 +21,13 @@ pub number_first : (version n : ℕ) (words : List (List ℕ)) (item : Item) →
     → parse_statement_words version n words ≡ Some item
     → parse_item version (decimal n ∷ words) ≡ Some item
 unfolding parse_item parse_by_key parse_statement
-number_first version n words item small read =
-    rw (
-      no_word n (codes "phase") small (λ d. absurd (omega (arith, d.0))),
-      no_word n (codes "cpus") small (λ d. absurd (omega (arith, d.0))),
-      no_word n (codes "memory") small (λ d. absurd (omega (arith, d.0))),
-      no_word n (codes "rom") small (λ d. absurd (omega (arith, d.0))),
-      no_word n (codes "disk") small (λ d. absurd (omega (arith, d.0))),
-      no_word n (codes "card") small (λ d. absurd (omega (arith, d.0))),
-      decimal_back n small,
-    ) read
+number_first version n words item small read = grind (arith, nat_tests, no_word, decimal_back)
 
 statement_fields : (version n : ℕ) (event : Event) (fields : List (List ℕ)) → IsDecimal n
     → (back : IsReadBack version n event)
     → Reads fields (decimal n ∷ back.verb ∷ back.words) → parse_item version fields ≡ Some (ask n event)
 statement_fields version n event [] small back reads = absurd reads
-statement_fields version n event (key ∷ words) small back reads =
-    ap (λ (k : List ℕ). parse_item version (k ∷ words)) (number_is n key small reads.0)
-    ∙ number_first version n words (ask n event) small (back.read words reads.1)
+statement_fields version n event (key ∷ words) small back reads = grind (arith, nat_tests, number_is, number_first)
 
 statement_back : (version n : ℕ) (event : Event) (line : List ℕ) → IsDecimal n → IsReadBack version n event
     → Spells line (decimal n ++ space ∷ event_text event) → IsLineBack version line (ask n event)
@@ -54,10 +41,7 @@ statement_back version n event line small back spells =
 -- a level that is neither 0 nor 1
 high_item : (n : ℕ) (one : Stimulus) (number level : ℕ) → 2 ≤ level
     → stimulus_item n one number level ≡ AskLevel n one number level
-high_item n one number level high = rw (
-  ne_eqb level 0 (λ is. let none : ⊥ = omega (arith, high, is) in none),
-  ne_eqb level 1 (λ is. let none : ⊥ = omega (arith, high, is) in none),
-) refl
+high_item n one number level high = grind (arith, nat_tests)
 
 high_given : (one : Stimulus) (number level : ℕ) → (stimulus_form one).has_level ≡ true → IsDecimal number
     → IsDecimal level → parse_given one (decimal number ∷ decimal level ∷ []) ≡ Some (number, level)
@@ -97,8 +81,7 @@ item_back version line BeginPhase form says = phase_back version line says
 item_back version line (Ask statement) form says =
     statement_back version statement.actor statement.event line form.0
     (event_back version statement.actor statement.event form.1) says
-item_back version line (AskLevel actor one number level) form says =
-    level_back version actor one number level line form says
+item_back version line (AskLevel actor one number level) form says = grind (arith, nat_tests, level_back)
 
 -- a line that has a form is read as the item that it says
 pub line_back : (version : ℕ) (line : List ℕ) (item : Item) → HasForm version line item → IsLineBack version line item

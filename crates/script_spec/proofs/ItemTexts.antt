@@ -1,20 +1,18 @@
 -- The item that was read is the one that the line says.
-use Rattle.std.proofs.Common.{◌≡◌, ℕ, zero, suc, ◌≤◌, inl, inr, Bool, true, false, eqb, leb, ◌&&◌, Option, Some, List}
-use Rattle.std.proofs.Common.{[], ◌∷◌, ◌++◌, length, take, refl, sym, ap, subst, ◌∙◌, append_assoc, arith, lit<, codes}
-use Rattle.std.proofs.Common.{decimal}
-use Rattle.board_prelude.proofs.Common.{join_with_byte, list_all, option_map, cases_Bool, eqb-true, leb-true, Fetch}
-use Rattle.board_prelude.proofs.Common.{Read, Moment, Event, Time, Stimulus, stimulus_form, stimulus_of_word, applied}
+use Rattle.board_prelude.proofs.Common.{nat_tests, join_with_byte, option_map, cases_Bool, eqb-true, Fetch, Read}
+use Rattle.board_prelude.proofs.Common.{Moment, Event, Time, Stimulus, stimulus_form, stimulus_of_word, applied}
 use Rattle.board_prelude.proofs.Common.{event_applied, applied_text, word_found, space, event_text, moment_text}
-use Rattle.board_prelude.proofs.Common.{level_text, and_parts}
-use Rattle.board_spec.specs.declared.stimulus.Stimulus.TheVariants.{Pulses}
+use Rattle.board_prelude.proofs.Common.{level_text}
+use Rattle.std.proofs.Common.{◌≡◌, ℕ, ◌≤◌, inl, inr, Bool, true, false, eqb, Option, Some, List, [], ◌∷◌, ◌++◌, refl}
+use Rattle.std.proofs.Common.{sym, ap, subst, ◌∙◌, append_assoc, arith, lit<, codes, decimal}
 use Rattle.std.proofs.lemmas.Fmt.{decimal-digits_value}
 use Rattle.std.proofs.lemmas.List.Splits.{join_with_byte-slice_split}
-use Rattle.script_spec.specs.Common.{Item, IsEventForm, SetCpus, SetMemory, SetRom, SetDisk, FitCard, BeginPhase}
-use Rattle.script_spec.specs.Common.{AskLevel, IsDecimal, IsName, HasForm, item_text, is_name_start, is_name_byte}
-use Rattle.script_spec.specs.Common.{fields_of, parse_decimal, parse_number, parse_card, parse_moment, ask}
-use Rattle.script_spec.specs.Common.{parse_two_numbers, parse_given, stimulus_item, parse_stimulus_item}
-use Rattle.script_spec.specs.Common.{parse_only_moment, parse_time_item, parse_by_verb, parse_statement_words, is_name}
-use Rattle.script_spec.specs.Common.{parse_name, parse_phase, parse_statement, parse_by_key, parse_item}
+use Rattle.script_spec.specs.Common.{Item, IsEventForm, SetCpus, SetMemory, SetRom, SetDisk, FitCard, AskLevel}
+use Rattle.script_spec.specs.Common.{IsDecimal, IsName, HasForm, item_text, fields_of, parse_decimal, parse_number}
+use Rattle.script_spec.specs.Common.{parse_card, parse_moment, ask, parse_two_numbers, parse_given, stimulus_item}
+use Rattle.script_spec.specs.Common.{parse_stimulus_item, parse_only_moment, parse_time_item, parse_by_verb}
+use Rattle.script_spec.specs.Common.{parse_statement_words, is_name, parse_name, parse_phase, parse_statement}
+use Rattle.script_spec.specs.Common.{parse_by_key, parse_item}
 use Rattle.script_spec.proofs.Digits.{own}
 use Rattle.script_spec.proofs.Chains.{some_is, guarded, then_said, mapped}
 use Rattle.script_spec.proofs.NumberTexts.{decimal_read}
@@ -44,9 +42,7 @@ ask_read version n actor verb words event e read =
 only_read : (words : List (List ℕ)) (moment : Moment) → parse_only_moment words ≡ Some moment
     → (field : List ℕ) × (words ≡ field ∷ []) × (parse_moment field ≡ Some moment)
 unfolding parse_only_moment
-only_read [] moment e = absurd cc
-only_read (field ∷ []) moment e = (field, refl, e)
-only_read (_ ∷ _ ∷ _) moment e = absurd cc
+only_read words moment e = grind (arith, nat_tests)
 
 time_read : (version : ℕ) (words : List (List ℕ)) (moment : Moment) → parse_only_moment words ≡ Some moment
     → IsRead version (codes "moment" ∷ words) (Time moment)
@@ -66,8 +62,7 @@ time_read version words moment e =
 made_item : {X : Type 0} (version : ℕ) (text : List ℕ) (found : Option X) (make : X → Item) (item : Item)
     → ((x : X) → found ≡ Some x → HasForm version text (make x)) → option_map make found ≡ Some item
     → HasForm version text item
-made_item version text found make item has e =
-    let m = mapped found make item e in subst (HasForm version text) (sym m.2) (has m.0 m.1)
+made_item version text found make item has e = grind (arith, nat_tests)
 
 moment_item : (version n : ℕ) (actor : List ℕ) (words : List (List ℕ)) (item : Item) → parse_decimal actor ≡ Some n
     → parse_time_item n words ≡ Some item → HasForm version (line (actor ∷ codes "moment" ∷ words)) item
@@ -94,9 +89,7 @@ two_read (_ ∷ _ ∷ _ ∷ _) p e = absurd cc
 -- a number and a level
 pub level_joined : (n verb number level : List ℕ) → line (n ∷ verb ∷ number ∷ level ∷ [])
     ≡ n ++ space ∷ verb ++ space ∷ number ++ space ∷ level
-level_joined n verb number level =
-    sym (append_assoc (n ++ space ∷ verb) (space ∷ number) (space ∷ level)
-    ∙ append_assoc n (space ∷ verb) (space ∷ (number ++ (space ∷ level))))
+level_joined n verb number level = simp append_assoc
 
 pub zero_text : decimal 0 ≡ codes "0"
 zero_text = decimal-digits_value own (48 ∷ []) (lit< tt, tt) (lit< tt) (λ _. refl) (lit< tt)
@@ -108,13 +101,11 @@ one_text = decimal-digits_value own (49 ∷ []) (lit< tt, tt) (lit< tt) (λ _. r
 pub applied_is : (one : Stimulus) (number : ℕ) (on : Bool)
     → event_text (event_applied one number on) ≡ applied_text (applied one number on)
 unfolding event_text
-applied_is Pulses number on = refl
-applied_is _ number on = refl
+applied_is one number on = grind (arith, nat_tests)
 
 applied_form : (version : ℕ) (one : Stimulus) (number : ℕ) (on : Bool) → IsDecimal number
     → IsEventForm version (event_applied one number on)
-applied_form version Pulses number on small = small
-applied_form version _ number on small = small
+applied_form version one number on small = grind (arith, nat_tests)
 
 -- the fields of a stimulus
 abbrev pub given_words : (has_level : Bool) → (number level : List ℕ) → List (List ℕ)
@@ -125,8 +116,7 @@ pub given_joined : (one : Stimulus) (has_level : Bool) (number : ℕ) (on : Bool
     → (stimulus_form one).has_level ≡ has_level
     → line ((stimulus_form one).word ∷ given_words has_level (decimal number) (level_text on))
     ≡ event_text (event_applied one number on)
-given_joined one true number on is = sym (applied_is one number on ∙ rw is refl)
-given_joined one false number on is = sym (applied_is one number on ∙ rw is refl)
+given_joined one has_level number on is = grind (arith, nat_tests, applied_is)
 
 same_all : (texts : List (List ℕ)) → Reads texts texts
 same_all [] = tt
@@ -161,9 +151,7 @@ high_read version n number level actor one e known small few high =
     }
 
 at_least_two : (level : ℕ) → eqb level 0 ≡ false → eqb level 1 ≡ false → 2 ≤ level
-at_least_two zero a b = absurd cc
-at_least_two (suc zero) a b = absurd cc
-at_least_two (suc (suc n)) a b = omega arith
+at_least_two level a b = grind (arith, nat_tests)
 
 level_asked : (version n number level : ℕ) (actor : List ℕ) (one : Stimulus) → parse_decimal actor ≡ Some n
     → (stimulus_form one).has_level ≡ true → IsDecimal number → IsDecimal level
@@ -252,31 +240,16 @@ statement_read : (version : ℕ) (actor : List ℕ) (words : List (List ℕ)) (i
     → parse_statement version actor words ≡ Some item
     → HasForm version (line (actor ∷ words)) item
 unfolding parse_statement parse_statement_words
-statement_read version actor [] item e =
-    let a = then_said (parse_decimal actor) _ item e in let f = a.2 in absurd cc
+statement_read version actor [] item e = grind (arith, nat_tests)
 statement_read version actor (verb ∷ words) item e =
     let a = then_said (parse_decimal actor) _ item e in
     asked_read version a.0 actor verb words item a.1 a.2
 
 -- ---- names
 
-first_start : (first : ℕ) (rest : List ℕ) → is_name_start first ≡ true
-    → list_all is_name_start (take 1 (first ∷ rest)) ≡ true
-first_start first rest e = rw e refl
-
 name_is : (name : List ℕ) → is_name name ≡ true → IsName name
 unfolding is_name
-name_is [] e = absurd cc
-name_is (first ∷ rest) e =
-    let all = and_parts (leb (length (first ∷ rest)) 64 && is_name_start first)
-    (list_all is_name_byte (first ∷ rest)) e in
-    let front = and_parts (leb (length (first ∷ rest)) 64) (is_name_start first) all.0 in
-    record {
-      some = omega arith;
-      few = leb-true (length (first ∷ rest)) 64 front.0;
-      first = first_start first rest front.1;
-      each = all.1;
-    }
+name_is name e = grind (arith, nat_tests)
 
 name_read : (words : List (List ℕ)) (name : List ℕ) → parse_name words ≡ Some name → (words ≡ name ∷ []) × IsName name
 unfolding parse_name
@@ -292,26 +265,18 @@ name_read (_ ∷ _ ∷ _) name e = absurd cc
 phase_read : (version : ℕ) (words : List (List ℕ)) (item : Item) → parse_phase words ≡ Some item
     → HasForm version (line (codes "phase" ∷ words)) item
 unfolding parse_phase item_text
-phase_read version [] item e =
-    subst (HasForm version (line (codes "phase" ∷ []))) (some_is BeginPhase item e) (record { form = tt; says = refl })
-phase_read version (_ ∷ _) item e = absurd cc
+phase_read version words item e = grind (arith, nat_tests)
 
 -- a key and a number, and a key and a name
 number_item : (version : ℕ) (key : List ℕ) (words : List (List ℕ)) (make : ℕ → Item) (item : Item)
     → ((n : ℕ) → IsDecimal n → HasForm version (line (key ∷ decimal n ∷ [])) (make n))
     → option_map make (parse_number words) ≡ Some item → HasForm version (line (key ∷ words)) item
-number_item version key words make item has =
-    made_item version (line (key ∷ words)) (parse_number words) make item (λ n e.
-    let is = number_read words n e in
-    subst (λ (w : List (List ℕ)). HasForm version (line (key ∷ w)) (make n)) (sym is.0) (has n is.1))
+number_item version key words make item has = grind (arith, nat_tests, made_item, number_read)
 
 name_item : (version : ℕ) (key : List ℕ) (words : List (List ℕ)) (make : List ℕ → Item) (item : Item)
     → ((name : List ℕ) → IsName name → HasForm version (line (key ∷ name ∷ [])) (make name))
     → option_map make (parse_name words) ≡ Some item → HasForm version (line (key ∷ words)) item
-name_item version key words make item has =
-    made_item version (line (key ∷ words)) (parse_name words) make item (λ name e.
-    let is = name_read words name e in
-    subst (λ (w : List (List ℕ)). HasForm version (line (key ∷ w)) (make name)) (sym is.0) (has name is.1))
+name_item version key words make item has = grind (arith, nat_tests, made_item, name_read)
 
 with_read : (version : ℕ) (key : List ℕ) (words : List (List ℕ)) (item : Item)
     → parse_by_key version key words ≡ Some item

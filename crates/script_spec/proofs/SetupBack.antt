@@ -1,12 +1,10 @@
 -- Each line of a form that asks nothing is read again from its fields.
-use Rattle.std.proofs.Common.{◌≡◌, ℕ, Bool, true, false, Option, Some, None, List, [], ◌∷◌, ◌++◌, length, flat_map, map}
-use Rattle.std.proofs.Common.{leb, ◌&&◌, refl, sym, ap, ◌∙◌, append_assoc, append-nil, arith, codes, decimal}
-use Rattle.board_prelude.proofs.Common.{join_with_byte, list_all, option_map, and_parts, and_from, le-leb, Base}
-use Rattle.board_prelude.proofs.Common.{MemoryBase, IoBase, OutsideBase, FittedCard, space}
+use Rattle.board_prelude.proofs.Common.{nat_tests, join_with_byte, option_map, Base, FittedCard, space}
+use Rattle.std.proofs.Common.{◌≡◌, ℕ, Bool, true, false, Option, Some, None, List, [], ◌∷◌, ◌++◌, flat_map, map, refl}
+use Rattle.std.proofs.Common.{sym, ap, ◌∙◌, append_assoc, append-nil, arith, codes, decimal}
 use Rattle.script_spec.specs.Common.{Item, SetCpus, SetMemory, SetRom, SetDisk, FitCard, BeginPhase, IsDecimal, IsName}
-use Rattle.script_spec.specs.Common.{IsCardForm, base_text, rom_text, item_text, is_name_start, is_name_byte}
-use Rattle.script_spec.specs.Common.{parse_number, parse_card, fields_of, is_name, parse_name, parse_phase}
-use Rattle.script_spec.specs.Common.{parse_by_key, parse_item}
+use Rattle.script_spec.specs.Common.{IsCardForm, base_text, rom_text, item_text, parse_number, parse_card, fields_of}
+use Rattle.script_spec.specs.Common.{is_name, parse_name, parse_phase, parse_by_key, parse_item}
 use Rattle.script_spec.proofs.Digits.{lacks}
 use Rattle.script_spec.proofs.Splits.{Lack, split_exact}
 use Rattle.script_spec.proofs.NumberBack.{decimal_back}
@@ -22,8 +20,7 @@ IsLineBack version line item = parse_item version (fields_of line) ≡ Some item
 pub exact_back : (version : ℕ) (line key : List ℕ) (words : List (List ℕ)) (item : Item)
     → line ≡ join_with_byte space (key ∷ words)
     → Lack (key ∷ words) → parse_item version (key ∷ words) ≡ Some item → IsLineBack version line item
-exact_back version line key words item is lack read =
-    ap (parse_item version) (ap fields_of is ∙ split_exact key words lack) ∙ read
+exact_back version line key words item is lack read = grind (arith, nat_tests, split_exact)
 
 -- ---- numbers
 
@@ -53,12 +50,7 @@ phase_back version line is = exact_back version line (codes "phase") [] BeginPha
 
 is_so : (name : List ℕ) → IsName name → is_name name ≡ true
 unfolding is_name
-is_so [] form = absurd (omega (arith, form.some))
-is_so (first ∷ rest) form =
-    let start = and_parts (is_name_start first) true form.first in
-    and_from (leb (length (first ∷ rest)) 64 && is_name_start first) (list_all is_name_byte (first ∷ rest))
-    (and_from (leb (length (first ∷ rest)) 64) (is_name_start first) (le-leb (length (first ∷ rest)) 64 form.few)
-    start.0) form.each
+is_so name form = grind (arith, nat_tests)
 
 name_back : (name : List ℕ) → IsName name → parse_name (name ∷ []) ≡ Some name
 unfolding parse_name
@@ -85,23 +77,16 @@ abbrev tail_words : List Base → Option ℕ → List (List ℕ)
 tail_words bases rom = map base_word bases ++ rom_words rom
 
 spaced_base : (base : Base) → space ∷ base_word base ≡ base_text base
-spaced_base (MemoryBase bits) = refl
-spaced_base (IoBase bits) = refl
-spaced_base (OutsideBase bits) = refl
+spaced_base base = grind (arith, nat_tests)
 
 spaced_tail : (bases : List Base) (rom : Option ℕ)
     → spaced (tail_words bases rom) ≡ flat_map base_text bases ++ rom_text rom
 spaced_tail [] None = refl
 spaced_tail [] (Some bits) = append-nil (codes " x" ++ decimal bits)
-spaced_tail (base ∷ bases) rom =
-    ap (λ (later : List ℕ). (space ∷ base_word base) ++ later) (spaced_tail bases rom)
-    ∙ ap (λ (first : List ℕ). first ++ (flat_map base_text bases ++ rom_text rom)) (spaced_base base)
-    ∙ sym (append_assoc (base_text base) (flat_map base_text bases) (rom_text rom))
+spaced_tail (base ∷ bases) rom = grind (arith, nat_tests, spaced_base, append_assoc, spaced_tail bases rom)
 
 lacks_base : (base : Base) → lacks space (base_word base) ≡ true
-lacks_base (MemoryBase bits) = lacks_decimal bits
-lacks_base (IoBase bits) = lacks_decimal bits
-lacks_base (OutsideBase bits) = lacks_decimal bits
+lacks_base base = grind (arith, nat_tests, lacks_decimal)
 
 lacks_kind : (vga : Bool) → lacks space (kind_word vga) ≡ true
 lacks_kind true = refl
@@ -117,10 +102,8 @@ fitted_back : (version dev : ℕ) (vga : Bool) (bases : List Base) (rom : Option
     → parse_card version (decimal dev ∷ kind_word vga ∷ tail_words bases rom)
     ≡ Some (record { dev = dev; vga = vga; bases = bases; rom = rom })
 unfolding parse_card
-fitted_back version dev true bases rom form =
-    rw (decimal_back dev form.dev, tail_back version [] bases rom (omega (arith, form.count)) form.each form.rom) refl
-fitted_back version dev false bases rom form =
-    rw (decimal_back dev form.dev, tail_back version [] bases rom (omega (arith, form.count)) form.each form.rom) refl
+fitted_back version dev true bases rom form = grind (arith, nat_tests, decimal_back, tail_back)
+fitted_back version dev false bases rom form = grind (arith, nat_tests, decimal_back, tail_back)
 
 pub card_back : (version : ℕ) (card : FittedCard) (line : List ℕ) → IsCardForm version card
     → line ≡ item_text (FitCard card)
