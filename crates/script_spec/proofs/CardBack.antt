@@ -1,21 +1,12 @@
 -- Fields that spell the bases and the expansion ROM of a card are read as them.
-use Rattle.board_prelude.proofs.Common.{nat_tests, eq-eqb, lt-ltb, length-append, All-head, All-tail, Base, MemoryBase}
-use Rattle.board_prelude.proofs.Common.{IoBase, OutsideBase}
+use Rattle.board_prelude.proofs.Common.{nat_tests, eq-eqb, lt-ltb, length-append, All-head, All-tail, Base}
 use Rattle.std.proofs.Common.{◌≡◌, ℕ, ◌+◌, ◌<◌, ◌≤◌, Option, Some, None, List, [], ◌∷◌, ◌++◌, length, map, All, refl}
-use Rattle.std.proofs.Common.{sym, ap, append_assoc, append-nil, arith, codes, decimal}
+use Rattle.std.proofs.Common.{sym, ap, append_assoc, append-nil, arith, codes, decimal, Bool, true, false}
 use Rattle.script_spec.specs.Common.{IsBaseForm, IsRomForm, parse_base, parse_rom_bits, with_base, with_rom, with_field}
-use Rattle.script_spec.specs.Common.{with_fields}
+use Rattle.script_spec.specs.Common.{with_fields, IsCardForm, parse_card}
 use Rattle.script_spec.proofs.NumberBack.{decimal_back}
+use Rattle.script_spec.proofs.ItemWords.{kind_word, base_word, rom_words, tail_words}
 use Rattle.script_spec.proofs.CardTexts.{fresh}
-
-abbrev pub base_word : Base → List ℕ
-base_word (MemoryBase bits) = codes "m" ++ decimal bits
-base_word (IoBase bits) = codes "i" ++ decimal bits
-base_word (OutsideBase bits) = codes "o" ++ decimal bits
-
-abbrev pub rom_words : Option ℕ → List (List ℕ)
-rom_words None = []
-rom_words (Some bits) = (codes "x" ++ decimal bits) ∷ []
 
 base_back : (base : Base) → IsBaseForm base → parse_base (base_word base) ≡ Some base
 unfolding parse_base
@@ -35,7 +26,7 @@ rom_back : (version : ℕ) (before : List Base) (bits : ℕ) → IsRomForm versi
 unfolding with_field with_rom parse_rom_bits
 rom_back version before bits form = rw (eq-eqb version 2 form.0, decimal_back bits form.1) refl
 
-pub tail_back : (version : ℕ) (before more : List Base) (rom : Option ℕ) → length before + length more ≤ 6
+tail_back : (version : ℕ) (before more : List Base) (rom : Option ℕ) → length before + length more ≤ 6
     → All IsBaseForm more
     → IsRomForm version rom
     → with_fields version (fresh before) (map base_word more ++ rom_words rom) ≡ Some
@@ -56,3 +47,11 @@ tail_back version before (base ∷ more) rom few each form =
           base ∷ []) more rom (omega (arith, few, length-append before (base ∷ []))) (All-tail IsBaseForm base more each)
           form,
     )
+
+pub fitted_back : (version dev : ℕ) (vga : Bool) (bases : List Base) (rom : Option ℕ)
+    → IsCardForm version (record { dev = dev; vga = vga; bases = bases; rom = rom })
+    → parse_card version (decimal dev ∷ kind_word vga ∷ tail_words bases rom)
+    ≡ Some (record { dev = dev; vga = vga; bases = bases; rom = rom })
+unfolding parse_card
+fitted_back version dev true bases rom form = grind (arith, nat_tests, decimal_back, tail_back)
+fitted_back version dev false bases rom form = grind (arith, nat_tests, decimal_back, tail_back)

@@ -15,7 +15,7 @@ use Rattle.script_spec.specs.Common.{parse_by_key, parse_item, least_reason, Scr
 use Rattle.script_spec.specs.Common.{IsScriptBad, BadText, IsBadText, bad_texts, AreBad, Bound, with_line, IsBound}
 use Rattle.script_spec.specs.Common.{bounds, AreBounds, TwoProcessors, TwoOrders, WideScript}
 use Rattle.script_spec.specs.Events.{read_event, write_event, in_event, out_event, look_event}
-use Rattle.script_spec.proofs.ReadingLaws.{same_head, same_tail}
+use Rattle.script_spec.proofs.Lists.{same_head, same_tail}
 use Rattle.script_spec.proofs.Decision.{judged, judged_lines, AreJudged, judged_is}
 use Rattle.script_spec.proofs.ReadingExists.{text_said}
 

@@ -1,9 +1,8 @@
 -- Fields that are spelled make a line that is spelled.
-use Rattle.board_prelude.proofs.Common.{nat_tests, AllZip, join_with_byte, bytes_eq-Decides, space, smm_text}
-use Rattle.std.proofs.Common.{arith, ◌≡◌, ℕ, Bool, true, false, cond, Option, Some, List, [], ◌∷◌, ◌++◌, inl, refl, sym}
-use Rattle.std.proofs.Common.{subst, ◌∙◌, append_assoc, append-nil, codes, bytes_eq}
-use Rattle.script_spec.specs.Common.{StandsFor, parse_smm}
-use Rattle.script_spec.proofs.Chains.{some_is, guarded}
+use Rattle.board_prelude.proofs.Common.{nat_tests, AllZip, join_with_byte, bytes_eq-Decides, space}
+use Rattle.std.proofs.Common.{arith, ◌≡◌, ℕ, true, cond, Option, Some, List, [], ◌∷◌, ◌++◌, inl, refl}
+use Rattle.std.proofs.Common.{subst, bytes_eq}
+use Rattle.script_spec.specs.Common.{StandsFor}
 
 abbrev pub Spells : List ℕ → List ℕ → Type 0
 Spells field text = AllZip StandsFor field text
@@ -45,40 +44,3 @@ pub by_word : {A : Type 0} (P : List ℕ → Type 0) (field word : List ℕ) (on
 by_word P field word one other found here there e = grind (arith, nat_tests, word_is)
 
 -- ---- the flag of an access
-
-abbrev pub smm_words : Bool → List (List ℕ)
-smm_words false = []
-smm_words true = codes "smm" ∷ []
-
-pub smm_read : (flags : List (List ℕ)) (smm : Bool) → parse_smm flags ≡ Some smm → Reads flags (smm_words smm)
-unfolding parse_smm
-smm_read flags smm e = grind (arith, nat_tests, some_is, guarded, same_as, word_is)
-
-read_parts : (k s h m : List ℕ) → k ++ space ∷ s ++ space ∷ h ++ [] ++ m ≡ k ++ (space ∷ (s ++ (space ∷ (h ++ m))))
-read_parts k s h m = simp (append-nil, append_assoc)
-
-pub access_joined : (k s h : List ℕ) (smm : Bool) → join_with_byte space (k ∷ s ∷ h ∷ smm_words smm)
-    ≡ k ++ space ∷ s ++ space ∷ h ++ [] ++ smm_text smm
-access_joined k s h smm = grind (arith, nat_tests, read_parts, append-nil)
-
-write_parts : (k s h v m : List ℕ)
-    → k ++ space ∷ s ++ space ∷ h ++ (space ∷ v) ++ m ≡ k ++ (space ∷ (s ++ (space ∷ (h ++ (space ∷ (v ++ m))))))
-write_parts k s h v m = simp append_assoc
-
-pub write_joined : (k s h v : List ℕ) (smm : Bool) → join_with_byte space (k ∷ s ∷ h ∷ v ∷ smm_words smm)
-    ≡ k ++ space ∷ s ++ space ∷ h ++ (space ∷ v) ++ smm_text smm
-write_joined k s h v smm = grind (arith, nat_tests, write_parts, append-nil)
-
-look_parts : (k h m : List ℕ) → codes "look " ++ k ++ space ∷ h ++ m ≡ codes "look " ++ (k ++ (space ∷ (h ++ m)))
-look_parts k h m = simp append_assoc
-
-pub look_joined : (k h : List ℕ) (smm : Bool) → join_with_byte space (codes "look" ∷ k ∷ h ∷ smm_words smm)
-    ≡ codes "look " ++ k ++ space ∷ h ++ smm_text smm
-look_joined k h smm = grind (arith, nat_tests, look_parts, append-nil)
-
-pub port_joined : (verb s h : List ℕ) → join_with_byte space (verb ∷ s ∷ h ∷ []) ≡ verb ++ space ∷ s ++ space ∷ h ++ []
-port_joined verb s h = sym (append-nil (verb ++ space ∷ s ++ space ∷ h) ∙ append_assoc verb (space ∷ s) (space ∷ h))
-
-pub out_joined : (verb s h v : List ℕ)
-    → join_with_byte space (verb ∷ s ∷ h ∷ v ∷ []) ≡ verb ++ space ∷ s ++ space ∷ h ++ (space ∷ v)
-out_joined verb s h v = simp append_assoc

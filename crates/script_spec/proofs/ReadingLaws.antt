@@ -2,7 +2,7 @@
 use Rattle.board_prelude.proofs.Common.{nat_tests}
 use Rattle.std.proofs.Common.{arith, ℕ, ◌≡◌, Result, Ok, Err, List, [], ◌∷◌, ◌++◌, sym, ap, ◌∙◌, inl, inr}
 use Rattle.script_spec.specs.Common.{lines_of, Item, IsSkipped, IsGoodLine, AreRead, NotBoth, OneRefusal}
-pub use Rattle.script_spec.proofs.Lists.{same_head, same_tail, not_nil, same_some}
+pub use Rattle.script_spec.proofs.Lists.{same_head, not_nil, same_some}
 use Rattle.script_spec.proofs.Decision.{text_decided, bad_decided}
 
 -- one line more is read

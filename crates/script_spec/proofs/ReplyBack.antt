@@ -17,7 +17,7 @@ use Rattle.script_spec.proofs.PlainText.{is_word, lacks-word, hex_number_word, d
 use Rattle.script_spec.proofs.PlainText.{denial_word}
 use Rattle.script_spec.proofs.PlainLines.{value_word}
 use Rattle.script_spec.proofs.Digits.{lacks}
-use Rattle.script_spec.proofs.CardTexts.{spaced, line_spaced}
+use Rattle.script_spec.proofs.Words.{spaced, line_spaced}
 use Rattle.script_spec.proofs.Splits.{Lack, split_exact}
 use Rattle.script_spec.proofs.NumberTexts.{decimal_read}
 use Rattle.script_spec.proofs.NumberBack.{decimal_back}
