@@ -1,8 +1,8 @@
 -- A text leaves a kind of texts at one line.
-use Rattle.std.proofs.Common.{ℕ, ◌≡◌, ◌≢◌, ◌+◌, ◌⊎◌, true, List, [], ◌∷◌, ◌++◌, length, All, refl, sym, ap, ◌∙◌, inl}
-use Rattle.std.proofs.Common.{inr, append_assoc}
-use Rattle.board_prelude.proofs.Common.{ne_eqb, eqb-false, flat_map-append, All-nil, All-cons, All-head, All-tail}
-use Rattle.board_prelude.proofs.Common.{line_feed}
+use Rattle.board_prelude.proofs.Common.{nat_tests, common_steps, ne_eqb, eqb-false, flat_map-append, All-nil, All-cons}
+use Rattle.board_prelude.proofs.Common.{All-head, All-tail, line_feed}
+use Rattle.std.proofs.Common.{arith, ℕ, ◌≡◌, ◌≢◌, ◌+◌, ◌⊎◌, true, List, [], ◌∷◌, ◌++◌, length, All, refl, sym, ap, ◌∙◌}
+use Rattle.std.proofs.Common.{inl, inr, append_assoc}
 use Rattle.script_spec.specs.Common.{text_of_lines, IsOneLine, AreBegun, LeavesAt, IsSomeLog, IsLogOf, OneBadLog}
 use Rattle.script_spec.specs.Common.{OneDifference}
 use Rattle.script_spec.proofs.Digits.{lacks}
@@ -11,16 +11,10 @@ use Rattle.script_spec.proofs.Fields.{front, back, front-field, back-field, lack
 pub lacks-line : (line : List ℕ) → IsOneLine line → lacks line_feed line ≡ true
 lacks-line [] each = refl
 lacks-line (c ∷ cs) each =
-    rw (
-      ne_eqb c line_feed (All-head (λ byte. byte ≢ line_feed) c cs each),
-      lacks-line cs (All-tail (λ byte. byte ≢ line_feed) c cs each),
-    ) refl
+    grind (arith, nat_tests, ne_eqb, All-head, All-tail, lacks-line cs (All-tail (λ byte. byte ≢ line_feed) c cs each))
 
 pub one_line : (line : List ℕ) → lacks line_feed line ≡ true → IsOneLine line
-one_line [] lack = All-nil (λ byte. byte ≢ line_feed)
-one_line (c ∷ cs) lack =
-    All-cons (λ byte. byte ≢ line_feed) c cs (eqb-false c line_feed (lacks-first line_feed c cs lack))
-    (one_line cs (lacks-later line_feed c cs lack))
+one_line line lack = grind (arith, nat_tests, common_steps, All-nil, All-cons, eqb-false, lacks-first, lacks-later)
 
 -- lines go on as other lines do
 pub record GoesOn (lines : List (List ℕ)) (rest : List ℕ) (others : List (List ℕ)) (after : List ℕ) : Type 0 where
@@ -34,27 +28,13 @@ abbrev pub Compared : List (List ℕ) → List ℕ → List (List ℕ) → List 
 Compared lines rest others after =
     (lines ≡ others) ⊎ GoesOn lines rest others after ⊎ GoesOn others after lines rest
 
-goes_on_more :
-    (line : List ℕ) (lines : List (List ℕ)) (rest : List ℕ) (others : List (List ℕ)) (after : List ℕ) →
-    GoesOn lines rest others after → GoesOn (line ∷ lines) rest (line ∷ others) after
-goes_on_more line lines rest others after on = record {
-  this = on.this;
-  more = on.more;
-  is = ap (λ ls. line ∷ ls) on.is;
-  one = on.one;
-  whole = on.whole;
-}
-
 compared_more :
     (line : List ℕ) (lines : List (List ℕ)) (rest : List ℕ) (others : List (List ℕ)) (after : List ℕ) →
     Compared lines rest others after → Compared (line ∷ lines) rest (line ∷ others) after
-compared_more line lines rest others after (inl same) = inl (ap (λ ls. line ∷ ls) same)
-compared_more line lines rest others after (inr (inl on)) = inr (inl (goes_on_more line lines rest others after on))
-compared_more line lines rest others after (inr (inr on)) = inr (inr (goes_on_more line others after lines rest on))
+compared_more line lines rest others after given = grind (arith, nat_tests)
 
 line_parts : (line text rest : List ℕ) → (line ++ line_feed ∷ []) ++ text ++ rest ≡ line ++ line_feed ∷ (text ++ rest)
-line_parts line text rest =
-    append_assoc (line ++ line_feed ∷ []) text rest ∙ append_assoc line (line_feed ∷ []) (text ++ rest)
+line_parts line text rest = simp append_assoc
 
 pub compared :
     (lines : List (List ℕ)) (rest : List ℕ) (others : List (List ℕ)) (after : List ℕ) →
@@ -114,10 +94,7 @@ not_longer :
     (IsText : List ℕ → Type 0) (bytes : List ℕ) (line place : ℕ) (one : LeavesAt IsText bytes line)
     (two : LeavesAt IsText bytes place) →
     GoesOn one.before one.rest two.before two.rest → ⊥
-not_longer IsText bytes line place one two on =
-    let begun = rw on.is at two.begun in
-    one.leaves on.this (text_of_lines on.more ++ two.rest) on.one on.whole
-    (begun_front IsText one.before on.this on.more begun)
+not_longer IsText bytes line place one two on = grind (arith, nat_tests, begun_front)
 
 one_leaving : (IsText : List ℕ → Type 0) (bytes : List ℕ) (line place : ℕ) →
     LeavesAt IsText bytes line → LeavesAt IsText bytes place → line ≡ place

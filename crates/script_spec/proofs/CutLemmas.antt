@@ -1,9 +1,10 @@
 -- A text that is cut at a mark.
-use Rattle.std.proofs.Common.{◌≡◌, ℕ, eqb, Some, List, [], ◌∷◌, ◌++◌, refl, sym, ap, ◌∙◌, inl, inr, true}
+use Rattle.board_prelude.proofs.Common.{nat_tests}
+use Rattle.std.proofs.Common.{arith, ◌≡◌, ℕ, eqb, Some, List, [], ◌∷◌, ◌++◌, refl, sym, ap, ◌∙◌, inl, inr, true}
 use Rattle.std.proofs.lemmas.Bool.{cases_Bool, eq-eqb, eqb-true}
 use Rattle.script_spec.specs.Cuts.{cut}
 use Rattle.script_spec.proofs.Digits.{lacks}
-use Rattle.script_spec.proofs.Fields.{lacks-first, lacks-later}
+use Rattle.script_spec.proofs.Fields.{lacks-later}
 use Rattle.script_spec.proofs.Chains.{some_is, mapped}
 
 -- after a text without the mark
@@ -11,8 +12,7 @@ pub cut_field : (mark : ℕ) (field rest : List ℕ) → lacks mark field ≡ tr
     → cut mark (field ++ mark ∷ rest) ≡ Some (field, rest)
 unfolding cut
 cut_field mark [] rest lack = rw (eq-eqb mark mark refl) refl
-cut_field mark (c ∷ cs) rest lack =
-    rw (lacks-first mark c cs lack, cut_field mark cs rest (lacks-later mark c cs lack)) refl
+cut_field mark (c ∷ cs) rest lack = grind (arith, nat_tests, cut_field mark cs rest (lacks-later mark c cs lack))
 
 -- the two parts and the mark between them are the text
 pub cut_joined : (mark : ℕ) (text front rest : List ℕ) → cut mark text ≡ Some (front, rest)

@@ -1,8 +1,8 @@
 -- What a text says is found line by line: the items of a script, or the first bad line and the least reason.
+use Rattle.board_prelude.proofs.Common.{nat_tests, digits, lt-ltb, le-ltb, bytes_eq-Decides}
 use Rattle.std.proofs.Common.{ℕ, ◌≡◌, ◌⊎◌, ◌+◌, false, Option, Some, None, Result, Ok, Err, List, [], ◌∷◌, ◌++◌, length}
-use Rattle.std.proofs.Common.{refl, sym, ap, subst, ◌∙◌, inl, inr, append-nil, arith, ◌<◌, nat_lt, if◌then◌else◌}
-use Rattle.std.proofs.Common.{bytes_eq, ◌≤◌}
-use Rattle.board_prelude.proofs.Common.{digits, cases_Bool, cases_lt, lt-ltb, le-ltb, true≢false, bytes_eq-Decides}
+use Rattle.std.proofs.Common.{refl, sym, ap, ◌∙◌, inl, inr, append-nil, arith, ◌<◌, nat_lt, if◌then◌else◌, bytes_eq}
+use Rattle.std.proofs.Common.{◌≤◌}
 use Rattle.script_spec.specs.Common.{lines_of, Item, HasForm, parse_line, lacks_setup, least_reason, most_bytes}
 use Rattle.script_spec.specs.Common.{is_skipped, IsBadLine, AreRead, EndsBadly, IsVersion, first_line, BeginsBadly}
 use Rattle.script_spec.specs.Common.{IsBadLater, Script, IsScriptText}
@@ -39,24 +39,11 @@ reason_is version before line item short read e (Some why) least =
 
 form_is : (version : ℕ) (before : List Item) (line : List ℕ) → length line ≤ most_bytes → is_skipped line ≡ false →
     (found : Option Item) → parse_line version line ≡ found → IsLine version before line (judged_form before found)
-form_is version before line short read None e =
-    inr (inl (record { short = short; read = read; none = nothing_said version line e }, refl))
-form_is version before line short read (Some item) e =
-    reason_is version before line item short read e (least_reason before item) refl
+form_is version before line short read found e = grind (arith, nat_tests, nothing_said, reason_is)
 
 line_is : (version : ℕ) (before : List Item) (line : List ℕ)
     → IsLine version before line (judged_line version before line)
-line_is version before line =
-    elim (cases_lt most_bytes (length line)) [
-      | inl long ↦ rw (lt-ltb most_bytes (length line) long) (inl (long, refl))
-      | inr short ↦
-          rw (le-ltb most_bytes (length line) short) (
-          elim (cases_Bool (is_skipped line)) [
-            | inl skipped ↦ rw skipped (inl (record { short = short; skipped = skipped }, refl))
-            | inr read ↦ rw read (form_is version before line short read (parse_line version line) refl)
-          ]
-          )
-    ]
+line_is version before line = grind (arith, nat_tests, lt-ltb, le-ltb, form_is)
 
 -- ---- the lines after the first, of which the next has this number
 
@@ -86,16 +73,12 @@ AreLines version before lines number (Err end) = Stops version before lines numb
 after_line : (version : ℕ) (line : List ℕ) (later : List (List ℕ)) (before items ends : List Item) →
     AreRead version before (line ∷ []) items → AreRead version items later ends
     → AreRead version before (line ∷ later) ends
-after_line version line later before items ends (inl skipped) read =
-    inl (skipped.0, subst (λ (b : List Item). AreRead version b later ends) skipped.1 read)
-after_line version line later before items ends (inr one) read =
-    inr (one.0, one.1, subst (λ (b : List Item). AreRead version b later ends) one.2 read)
+after_line version line later before items ends given read = grind (arith, nat_tests)
 
 later_are : (version number : ℕ) (line : List ℕ) (later : List (List ℕ)) (before items : List Item) →
     AreRead version before (line ∷ []) items → (result : Result (List Item) (ℕ × ℕ)) →
     AreLines version items later (number + 1) result → AreLines version before (line ∷ later) number result
-later_are version number line later before items one (Ok ends) all =
-    (after_line version line later before items ends one all.0, all.1)
+later_are version number line later before items one (Ok ends) all = grind (arith, nat_tests)
 later_are version number line later before items one (Err end) stops = record {
   good = line ∷ stops.good;
   rest = stops.rest;
@@ -111,34 +94,12 @@ next_are : (version number : ℕ) (line : List ℕ) (later : List (List ℕ)) (b
     →
     ((items : List Item) → AreLines version items later (number + 1) (next items)) →
     AreLines version before (line ∷ later) number (goes_on result number next)
-next_are version number line later before next (Ok items) one rest =
-    later_are version number line later before items one (next items) (rest items)
-next_are version number line later before next (Err why) bad rest = record {
-  good = [];
-  rest = line ∷ later;
-  cut = refl;
-  items = before;
-  read = refl;
-  bad = bad;
-  place = omega arith;
-}
+next_are version number line later before next result one rest = grind (arith, nat_tests, later_are)
 
 lines_are : (version number : ℕ) (lines : List (List ℕ)) (before : List Item) →
     AreLines version before lines number (judged_lines version before number lines)
 unfolding judged_lines
-lines_are version number [] before =
-    elim (cases_Bool (lacks_setup before)) [
-      | inl lacks ↦ rw lacks (record {
-        good = [];
-        rest = [];
-        cut = refl;
-        items = before;
-        read = refl;
-        bad = (lacks, refl);
-        place = omega arith;
-      })
-      | inr whole ↦ rw whole (refl, whole)
-    ]
+lines_are version number [] before = grind (arith, nat_tests)
 lines_are version number (line ∷ later) before =
     next_are version number line later before (λ items. judged_lines version items (number + 1) later)
     (judged_line version before line) (line_is version before line)
@@ -172,51 +133,14 @@ AreJudged lines (Err end) = (BeginsBadly lines × (end.0 ≡ 1) × (end.1 ≡ 1)
 version_is : (version : ℕ) (first : List ℕ) (later : List (List ℕ)) → IsVersion version → first ≡ first_line version →
     (result : Result (List Item) (ℕ × ℕ)) → AreLines version [] later 2 result →
     AreJudged (first ∷ later) (with_version version result)
-version_is version first later known is (Ok items) all = record {
-  known = known;
-  later = later;
-  cut = ap (λ l. l ∷ later) is;
-  read = all.0;
-  whole = all.1;
-}
-version_is version first later known is (Err end) stops = inr (record {
-  version = version;
-  known = known;
-  good = stops.good;
-  rest = stops.rest;
-  cut = ap (λ l. l ∷ later) is ∙ ap (λ ls. first_line version ∷ ls) stops.cut;
-  items = stops.items;
-  read = stops.read;
-  bad = stops.bad;
-  place = stops.place;
-})
+version_is version first later known is result all = grind (arith, nat_tests)
 
 no_version : (first : List ℕ) (later : List (List ℕ)) → bytes_eq first (first_line 1) ≡ false →
     bytes_eq first (first_line 2) ≡ false → BeginsBadly (first ∷ later)
-no_version first later one two version rest (inl is) e =
-    true≢false (sym ((bytes_eq-Decides first (first_line 1)).1
-    (same_head first (first_line version) later rest e ∙ ap first_line is)) ∙ one)
-no_version first later one two version rest (inr is) e =
-    true≢false (sym ((bytes_eq-Decides first (first_line 2)).1
-    (same_head first (first_line version) later rest e ∙ ap first_line is)) ∙ two)
+no_version first later one two version rest given e = grind (arith, nat_tests, bytes_eq-Decides, same_head)
 
 pub judged_is : (lines : List (List ℕ)) → AreJudged lines (judged lines)
-judged_is [] = inl (λ version later known e. not_nil (first_line version) later e, refl, refl)
-judged_is (first ∷ later) =
-    elim (cases_Bool (bytes_eq first (first_line 1))) [
-      | inl one ↦
-          rw one (version_is 1 first later (inl refl) ((bytes_eq-Decides first (first_line 1)).0 one)
-          (judged_lines 1 [] 2 later) (lines_are 1 2 later []))
-      | inr not_one ↦
-          rw not_one (
-          elim (cases_Bool (bytes_eq first (first_line 2))) [
-            | inl two ↦
-                rw two (version_is 2 first later (inr refl) ((bytes_eq-Decides first (first_line 2)).0 two)
-                (judged_lines 2 [] 2 later) (lines_are 2 2 later []))
-            | inr not_two ↦ rw not_two (inl (no_version first later not_one not_two, refl, refl))
-          ]
-          )
-    ]
+judged_is lines = grind (arith, nat_tests, not_nil, version_is, bytes_eq-Decides, lines_are, no_version)
 
 -- ---- what holds is decided so
 
@@ -231,8 +155,7 @@ read_so version before line short read = rw (le-ltb most_bytes (length line) sho
 item_so : (version : ℕ) (before : List Item) (line : List ℕ) (item : Item) → length line ≤ most_bytes →
     is_skipped line ≡ false → HasForm version line item →
     judged_line version before line ≡ judged_item before item (least_reason before item)
-item_so version before line item short read has =
-    read_so version before line short read ∙ ap (judged_form before) (line_back version line item has)
+item_so version before line item short read has = grind (arith, nat_tests, read_so, line_back)
 
 -- a line of which nothing is read has no form
 no_form : (version : ℕ) (line : List ℕ) (found : Option Item) → parse_line version line ≡ found →
@@ -242,8 +165,7 @@ no_form version line (Some item) e none = absurd (none item (read_says version l
 
 line_decided : (version : ℕ) (before items : List Item) (line : List ℕ) → AreRead version before (line ∷ []) items →
     judged_line version before line ≡ Ok items
-line_decided version before items line (inl skipped) =
-    rw (le-ltb most_bytes (length line) skipped.0.short, skipped.0.skipped) (ap (λ is. Ok is) (sym skipped.1))
+line_decided version before items line (inl skipped) = grind (arith, nat_tests)
 line_decided version before items line (inr one) =
     item_so version before line one.0 one.1.short one.1.read one.1.has
     ∙ ap (judged_item before one.0) one.1.none ∙ ap (λ is. Ok is) (sym one.2)
@@ -263,17 +185,14 @@ bad_line version before line why (inr (inr refused)) =
 first_read : (version : ℕ) (line : List ℕ) (later : List (List ℕ)) (before items : List Item) →
     AreRead version before (line ∷ later) items →
     (next : List Item) × AreRead version before (line ∷ []) next × AreRead version next later items
-first_read version line later before items (inl skipped) = (before, inl (skipped.0, refl), skipped.1)
-first_read version line later before items (inr one) = (one.0 ∷ before, inr (one.0, one.1, refl), one.2)
+first_read version line later before items given = grind (arith, nat_tests)
 
 -- the lines that are read first leave the rest to be judged
 front_decided : (version number : ℕ) (good rest : List (List ℕ)) (before items : List Item) →
     AreRead version before good items →
     judged_lines version before number (good ++ rest) ≡ judged_lines version items (number + length good) rest
 unfolding judged_lines
-front_decided version number [] rest before items read =
-    let e : number ≡ number + 0 = omega arith in
-    ap (λ is. judged_lines version is number rest) (sym read) ∙ ap (λ n. judged_lines version items n rest) e
+front_decided version number [] rest before items read = grind (arith, nat_tests)
 front_decided version number (line ∷ good) rest before items read =
     let one = first_read version line good before items read in
     let e : number + 1 + length good ≡ number + length (line ∷ good) = omega arith in
@@ -284,8 +203,7 @@ end_decided : (version number : ℕ) (items : List Item) (rest : List (List ℕ)
     → EndsBadly version items rest why →
     judged_lines version items number rest ≡ Err (number, why)
 unfolding judged_lines
-end_decided version number items [] why bad = rw bad.0 (ap (λ w. Err (number, w)) (sym bad.1))
-end_decided version number items (line ∷ later) why bad = rw (bad_line version items line why bad) refl
+end_decided version number items rest why bad = grind (arith, nat_tests, bad_line)
 
 -- the version of a first line
 first_decided : (version : ℕ) (later : List (List ℕ)) → IsVersion version →
@@ -307,17 +225,7 @@ text_decided bytes script text =
 
 -- lines of no version
 begins_badly : (lines : List (List ℕ)) → BeginsBadly lines → judged lines ≡ Err (1, 1)
-begins_badly [] none = refl
-begins_badly (first ∷ later) none =
-    elim (cases_Bool (bytes_eq first (first_line 1))) [
-      | inl one ↦ absurd (none 1 later (inl refl) (ap (λ l. l ∷ later) ((bytes_eq-Decides first (first_line 1)).0 one)))
-      | inr not_one ↦
-          elim (cases_Bool (bytes_eq first (first_line 2))) [
-            | inl two ↦ absurd (none 2 later (inr refl)
-                (ap (λ l. l ∷ later) ((bytes_eq-Decides first (first_line 2)).0 two)))
-            | inr not_two ↦ rw (not_one, not_two) refl
-          ]
-    ]
+begins_badly lines none = grind (arith, nat_tests, bytes_eq-Decides)
 
 pub bad_decided : (lines : List (List ℕ)) (line why : ℕ) →
     (BeginsBadly lines × (line ≡ 1) × (why ≡ 1)) ⊎ IsBadLater lines line why → judged lines ≡ Err (line, why)

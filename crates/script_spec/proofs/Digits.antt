@@ -1,7 +1,7 @@
 -- Numbers are read back from their digits.
+use Rattle.board_prelude.proofs.Common.{nat_tests, list_all, AllDigits, digits_value}
 use Rattle.std.proofs.Common.{ℕ, ◌≡◌, ◌<◌, ◌⊎◌, Bool, true, not, eqb, List, [], ◌∷◌, refl, arith, decimal}
-use Rattle.board_prelude.proofs.Common.{list_all, AllDigits, digits_value, ne_eqb}
-use Rattle.std.proofs.lemmas.Str.Parse.{IsNumeralModel, digit_from_value}
+use Rattle.std.proofs.lemmas.Str.Parse.{IsNumeralModel}
 use Rattle.std.proofs.lemmas.Fmt.{digits_decimal, digits_value-decimal}
 
 -- a byte does not stand in a list
@@ -19,8 +19,4 @@ digits_of_decimal n small = digits_decimal own n (omega arith)
 
 pub lacks-digits : (byte : ℕ) (ds : List ℕ) → (byte < 48) ⊎ (57 < byte) → AllDigits 10 ds → lacks byte ds ≡ true
 lacks-digits byte [] outside digits = refl
-lacks-digits byte (c ∷ cs) outside digits =
-    rw (
-      ne_eqb c byte (λ is. grind (arith, outside, is, digit_from_value c digits.0)),
-      lacks-digits byte cs outside digits.1,
-    ) refl
+lacks-digits byte (c ∷ cs) outside digits = grind (arith, nat_tests, lacks-digits byte cs outside digits.1)

@@ -1,281 +1,140 @@
 -- The events that were read are those that the fields spell.
-use Rattle.std.proofs.Common.{◌≡◌, ℕ, ◌*◌, ◌%◌, ◌^◌, ◌<◌, ◌⊎◌, inl, inr, Bool, true, false, not, eqb, ◌||◌, Some, List}
-use Rattle.std.proofs.Common.{[], ◌∷◌, refl, sym, ap, subst, ◌∙◌, arith, codes, decimal, bytes_eq}
-use Rattle.board_prelude.proofs.Common.{join_with_byte, cases_Bool, eqb-true, eq-eqb, true≢false, Kind, Fetch, Read}
-use Rattle.board_prelude.proofs.Common.{Write, Width, One, bytes_of, Event, Ack, is_write, FitsBytes, space, hex_number}
-use Rattle.board_prelude.proofs.Common.{size_text, width_text, kind_text, memory_text, event_text, and_parts}
-use Rattle.board_base.specs.declared.access.Width.TheVariants.{Two, Four}
-use Rattle.script_spec.specs.Common.{IsDecimal, IsEventForm, parse_hex, parse_width, quad_size, parse_size, parse_kind}
-use Rattle.script_spec.specs.Common.{parse_smm, IsSize, width_with, is_wide, memory_event, parse_read, parse_write}
-use Rattle.script_spec.specs.Common.{parse_in, parse_out, parse_look, parse_ack, parse_number}
+use Rattle.std.proofs.Common.{◌≡◌, ℕ, ◌*◌, ◌^◌, ◌<◌, Bool, false, Some, List, [], ◌∷◌, refl, ap, arith, codes, decimal}
+use Rattle.board_prelude.proofs.Common.{nat_tests, Kind, Write, Width, bytes_of, Event, Ack, is_write, FitsBytes}
+use Rattle.board_prelude.proofs.Common.{size_text, width_text, kind_text, Moment, Time}
+use Rattle.script_spec.specs.Common.{IsDecimal, IsEventForm, parse_hex, parse_width, parse_size, parse_kind, parse_smm}
+use Rattle.script_spec.specs.Common.{IsSize, memory_event, parse_read, parse_write, parse_in, parse_out, parse_look}
+use Rattle.script_spec.specs.Common.{parse_ack, parse_number, parse_only_moment, parse_two_numbers, parse_decimal}
+use Rattle.script_spec.proofs.MomentTexts.{moment_read}
 use Rattle.script_spec.specs.Events.{read_event, write_event, in_event, out_event, look_event}
-use Rattle.script_spec.proofs.Chains.{some_is, guarded, then_said}
+use Rattle.script_spec.proofs.Chains.{some_is, then_read}
 use Rattle.script_spec.proofs.NumberTexts.{decimal_read, hex_read}
-use Rattle.script_spec.proofs.Joins.{Reads, same, same_as, word_is, smm_words, smm_read, access_joined, write_joined}
-use Rattle.script_spec.proofs.Joins.{look_joined, port_joined, out_joined}
+use Rattle.script_spec.proofs.Joins.{Reads, same, same_as, word_is}
+use Rattle.script_spec.proofs.Words.{smm_words, access_words, event_words}
 
 -- fields spell an event
-pub record IsRead (version : ℕ) (fields : List (List ℕ)) (event : Event) : Type 0 where
-  pub texts : List (List ℕ)
-  pub reads : Reads fields texts
-  pub joined : join_with_byte space texts ≡ event_text event
-  pub form : IsEventForm version event
+abbrev pub IsRead : (version : ℕ) → (fields : List (List ℕ)) → Event → Type 0
+IsRead version fields event = Reads fields (event_words event) × IsEventForm version event
 
 -- ---- letters
 
 size_read : (version : ℕ) (field : List ℕ) (bytes : ℕ) → parse_size version field ≡ Some bytes
     → (field ≡ size_text bytes) × IsSize version bytes
-size_read version field bytes e = elim (cases_Bool (bytes_eq field (codes "b"))) [
-  | inl one ↦
-      let is : 1 ≡ bytes = some_is 1 bytes (rw one at e) in
-      subst (λ (n : ℕ). (field ≡ size_text n) × IsSize version n) is (word_is field (codes "b") one, inl refl)
-  | inr b ↦ elim (cases_Bool (bytes_eq field (codes "w"))) [
-    | inl two ↦
-        let is : 2 ≡ bytes = some_is 2 bytes (rw (b, two) at e) in
-        subst (λ (n : ℕ). (field ≡ size_text n) × IsSize version n) is (word_is field (codes "w") two, inr (inl refl))
-    | inr w ↦ elim (cases_Bool (bytes_eq field (codes "d"))) [
-      | inl four ↦
-          let is : 4 ≡ bytes = some_is 4 bytes (rw (b, w, four) at e) in
-          subst (λ (n : ℕ). (field ≡ size_text n) × IsSize version n) is (
-            word_is field (codes "d") four,
-            inr (inr (inl refl)),
-          )
-      | inr d ↦
-          let q = guarded (bytes_eq field (codes "q")) (quad_size version) bytes (rw (b, w, d) at e) in
-          let v = guarded (eqb version 2) (Some 8) bytes q.1 in
-          let is : 8 ≡ bytes = some_is 8 bytes v.1 in
-          subst (λ (n : ℕ). (field ≡ size_text n) × IsSize version n) is
-          (word_is field (codes "q") q.0, inr (inr (inr (refl, eqb-true version 2 v.0))))
-    ]
-  ]
-]
+size_read version field bytes e = grind (arith, nat_tests, word_is)
 
 width_read : (field : List ℕ) (width : Width) → parse_width field ≡ Some width → field ≡ width_text width
-width_read field width e = elim (cases_Bool (bytes_eq field (codes "b"))) [
-  | inl one ↦ subst (λ (w : Width). field ≡ width_text w) (some_is One width (rw one at e))
-      (word_is field (codes "b") one)
-  | inr b ↦ elim (cases_Bool (bytes_eq field (codes "w"))) [
-    | inl two ↦ subst (λ (w : Width). field ≡ width_text w) (some_is Two width (rw (b, two) at e))
-        (word_is field (codes "w") two)
-    | inr w ↦
-        let d = guarded (bytes_eq field (codes "d")) (Some Four) width (rw (b, w) at e) in
-        subst (λ (w : Width). field ≡ width_text w) (some_is Four width d.1) (word_is field (codes "d") d.0)
-  ]
-]
+width_read field width e = grind (arith, nat_tests, word_is)
 
 kind_read : (field : List ℕ) (kind : Kind) → parse_kind field ≡ Some kind → field ≡ kind_text kind
-kind_read field kind e = elim (cases_Bool (bytes_eq field (codes "f"))) [
-  | inl f ↦ subst (λ (k : Kind). field ≡ kind_text k) (some_is Fetch kind (rw f at e)) (word_is field (codes "f") f)
-  | inr f ↦ elim (cases_Bool (bytes_eq field (codes "r"))) [
-    | inl r ↦ subst (λ (k : Kind). field ≡ kind_text k) (some_is Read kind (rw (f, r) at e))
-        (word_is field (codes "r") r)
-    | inr r ↦
-        let w = guarded (bytes_eq field (codes "w")) (Some Write) kind (rw (f, r) at e) in
-        subst (λ (k : Kind). field ≡ kind_text k) (some_is Write kind w.1) (word_is field (codes "w") w.0)
-  ]
-]
+kind_read field kind e = grind (arith, nat_tests, word_is)
 
--- ---- an access to memory is a wide one or not
+smm_read : (flags : List (List ℕ)) (smm : Bool) → parse_smm flags ≡ Some smm → Reads flags (smm_words smm)
+unfolding parse_smm
+smm_read flags smm e = grind (arith, nat_tests, same_as, word_is)
 
-abbrev IsAccess : (version : ℕ) → Kind → (bytes addr value : ℕ) → Bool → Type 0
-IsAccess version kind bytes addr value smm =
-    (memory_text kind bytes addr value smm ≡ event_text (memory_event version kind bytes addr value smm))
-    × IsEventForm version (memory_event version kind bytes addr value smm)
+access_is : (version : ℕ) (kind : Kind) (bytes addr value : ℕ) (smm : Bool) → IsSize version bytes
+    → event_words (memory_event version kind bytes addr value smm) ≡ access_words kind bytes addr value smm
+unfolding memory_event
+access_is version kind bytes addr value smm size = grind (arith, nat_tests)
 
--- what is not wide is aligned in version 2
-aligned_if : (version bytes addr : ℕ) → is_wide version bytes addr ≡ false → version ≡ 2 → addr % bytes ≡ 0
-aligned_if version bytes addr narrow second = elim (cases_Bool (eqb (addr % bytes) 0)) [
-  | inl yes_aligned ↦ eqb-true (addr % bytes) 0 yes_aligned
-  | inr moved ↦ elim (cases_Bool (eqb bytes 8)) [
-    | inl eight ↦ (let f = rw (eq-eqb version 2 second, eight) at narrow in absurd (true≢false f))
-    | inr other ↦ (let f = rw (eq-eqb version 2 second, other, moved) at narrow in absurd (true≢false f))
-  ]
-]
+access_form : (version : ℕ) (kind : Kind) (bytes addr value : ℕ) (smm : Bool) → IsSize version bytes
+    → addr < 2 ^ 32 → FitsBytes (is_write kind) bytes value
+    → IsEventForm version (memory_event version kind bytes addr value smm)
+unfolding memory_event
+access_form version kind bytes addr value smm size small fits = grind (arith, nat_tests)
 
-narrow_access : (version : ℕ) (kind : Kind) (bytes addr value : ℕ) (smm : Bool) → is_wide version bytes addr ≡ false
-    → bytes_of (width_with bytes) ≡ bytes → addr < 2 ^ 32 → FitsBytes (is_write kind) bytes value
-    → IsAccess version kind bytes addr value smm
-unfolding memory_event event_text
-narrow_access version kind bytes addr value smm narrow same_size small fits =
-    rw narrow (
-      ap (λ (n : ℕ). memory_text kind n addr value smm) (sym same_size),
-      record {
-        addr = small;
-        value = subst (λ (n : ℕ). FitsBytes (is_write kind) n value) (sym same_size) fits;
-        aligned = λ second. subst (λ (n : ℕ). addr % n ≡ 0) (sym same_size)
-            (aligned_if version bytes addr narrow second);
-      },
-    )
-
-not_aligned : (rest : ℕ) → not (eqb rest 0) ≡ true → rest ≡ 0 → ⊥
-not_aligned rest e is = let f = rw (eq-eqb rest 0 is) at e in true≢false (sym f)
-
-wide_access : (version : ℕ) (kind : Kind) (bytes addr value : ℕ) (smm : Bool) → is_wide version bytes addr ≡ true
-    → (bytes ≡ 2) ⊎ (bytes ≡ 4) ⊎ (bytes ≡ 8) → addr < 2 ^ 32 → FitsBytes (is_write kind) bytes value
-    → IsAccess version kind bytes addr value smm
-unfolding memory_event event_text
-wide_access version kind bytes addr value smm wide sizes small fits =
-    let parts = and_parts (eqb version 2) (eqb bytes 8 || not (eqb (addr % bytes) 0)) wide in
-    let moved : (bytes ≡ 8) ⊎ (addr % bytes ≡ 0 → ⊥) = elim (cases_Bool (eqb bytes 8)) [
-      | inl eight ↦ inl (eqb-true bytes 8 eight)
-      | inr other ↦ inr (not_aligned (addr % bytes) (rw other at parts.1))
-    ] in
-    rw wide (
-      refl,
-      record { second = eqb-true version 2 parts.0; addr = small; bytes = sizes; wide = moved; value = fits },
-    )
-
-is_access : (version : ℕ) (kind : Kind) (bytes addr value : ℕ) (smm : Bool) → IsSize version bytes
-    → addr < 2 ^ 32 → FitsBytes (is_write kind) bytes value → IsAccess version kind bytes addr value smm
-is_access version kind bytes addr value smm size small fits = elim (cases_Bool (is_wide version bytes addr)) [
-  | inl wide ↦ elim size [
-    | inl one ↦
-        let parts = and_parts (eqb version 2) (eqb bytes 8 || not (eqb (addr % bytes) 0)) wide in
-        let none : eqb (addr % bytes) 0 ≡ true = eq-eqb (addr % bytes) 0 (rw one (omega arith)) in
-        let f = rw (none, one) at parts in absurd (true≢false (sym f.1))
-    | inr more ↦ elim more [
-      | inl two ↦ wide_access version kind bytes addr value smm wide (inl two) small fits
-      | inr more ↦ elim more [
-        | inl four ↦ wide_access version kind bytes addr value smm wide (inr (inl four)) small fits
-        | inr eight ↦ wide_access version kind bytes addr value smm wide (inr (inr eight.0)) small fits
-      ]
-    ]
-  ]
-  | inr narrow ↦ elim size [
-    | inl one ↦ narrow_access version kind bytes addr value smm narrow (rw one refl) small fits
-    | inr more ↦ elim more [
-      | inl two ↦ narrow_access version kind bytes addr value smm narrow (rw two refl) small fits
-      | inr more ↦ elim more [
-        | inl four ↦ narrow_access version kind bytes addr value smm narrow (rw four refl) small fits
-        | inr eight ↦ let f = rw (eq-eqb version 2 eight.1, eq-eqb bytes 8 eight.0) at narrow in absurd (true≢false f)
-      ]
-    ]
-  ]
-]
-
--- ---- statements
+access_read : (version : ℕ) (kind : Kind) (bytes addr value : ℕ) (smm : Bool) (fields : List (List ℕ))
+    → IsSize version bytes → addr < 2 ^ 32 → FitsBytes (is_write kind) bytes value
+    → Reads fields (access_words kind bytes addr value smm)
+    → IsRead version fields (memory_event version kind bytes addr value smm)
+access_read version kind bytes addr value smm fields size small fits reads =
+    (rw (access_is version kind bytes addr value smm size) reads, access_form version kind bytes addr value smm size small fits)
 
 pub read_read : (version : ℕ) (kind : Kind) (words : List (List ℕ)) (event : Event) → is_write kind ≡ false
     → parse_read version kind words ≡ Some event → IsRead version (kind_text kind ∷ words) event
 unfolding parse_read read_event
-read_read version kind [] event reads e = absurd cc
-read_read version kind (_ ∷ []) event reads e = absurd cc
 read_read version kind (size ∷ addr ∷ flags) event reads e =
-    let s = then_said (parse_smm flags) _ event e in
-    let b = then_said (parse_size version size) _ event s.2 in
-    let a = then_said (parse_hex 8 addr) _ event b.2 in
-    let size_is = size_read version size b.0 b.1 in
-    let addr_is = hex_read 4 addr a.0 a.1 in
-    let fits : FitsBytes (is_write kind) b.0 0 = rw reads refl in
-    let access = is_access version kind b.0 a.0 0 s.0 size_is.1 (omega (arith, addr_is.1)) fits in
-    subst (λ (x : Event). IsRead version (kind_text kind ∷ size ∷ addr ∷ flags) x) (some_is _ event a.2)
-    (record {
-      texts = kind_text kind ∷ size_text b.0 ∷ hex_number 4 a.0 ∷ smm_words s.0;
-      reads = (same (kind_text kind), (same_as size (size_text b.0) size_is.0, (addr_is.0, smm_read flags s.0 s.1)));
-      joined = access_joined (kind_text kind) (size_text b.0) (hex_number 4 a.0) s.0 ∙ (rw reads at access).0;
-      form = access.1;
-    })
+    let s = then_read (parse_smm flags) _ event (smm_read flags) e in
+    let b = then_read (parse_size version size) _ event (size_read version size) s.2 in
+    let a = then_read (parse_hex 8 addr) _ event (hex_read 4 addr) b.2 in
+    rw (← some_is _ event a.2) (access_read version kind b.0 a.0 0 s.0 (kind_text kind ∷ size ∷ addr ∷ flags) b.1.1 (omega (arith, a.1.1)) (rw reads refl)
+    (rw reads (same _, (same_as _ _ b.1.0, (a.1.0, s.1)))))
+read_read version kind _ event reads e = absurd cc
 
 pub write_read : (version : ℕ) (words : List (List ℕ)) (event : Event)
     → parse_write version words ≡ Some event → IsRead version (codes "w" ∷ words) event
 unfolding parse_write write_event
-write_read version [] event e = absurd cc
-write_read version (_ ∷ []) event e = absurd cc
-write_read version (_ ∷ _ ∷ []) event e = absurd cc
 write_read version (size ∷ addr ∷ value ∷ flags) event e =
-    let s = then_said (parse_smm flags) _ event e in
-    let b = then_said (parse_size version size) _ event s.2 in
-    let a = then_said (parse_hex 8 addr) _ event b.2 in
-    let v = then_said (parse_hex (2 * b.0) value) _ event a.2 in
-    let size_is = size_read version size b.0 b.1 in
-    let addr_is = hex_read 4 addr a.0 a.1 in
-    let value_is = hex_read b.0 value v.0 v.1 in
-    let access = is_access version Write b.0 a.0 v.0 s.0 size_is.1 (omega (arith, addr_is.1)) value_is.1 in
-    subst (λ (x : Event). IsRead version (codes "w" ∷ size ∷ addr ∷ value ∷ flags) x) (some_is _ event v.2)
-    (record {
-      texts = codes "w" ∷ size_text b.0 ∷ hex_number 4 a.0 ∷ hex_number b.0 v.0 ∷ smm_words s.0;
-      reads = (
-        same (codes "w"),
-        (same_as size (size_text b.0) size_is.0, (addr_is.0, (value_is.0, smm_read flags s.0 s.1))),
-      );
-      joined = write_joined (codes "w") (size_text b.0) (hex_number 4 a.0) (hex_number b.0 v.0) s.0 ∙ access.0;
-      form = access.1;
-    })
+    let s = then_read (parse_smm flags) _ event (smm_read flags) e in
+    let b = then_read (parse_size version size) _ event (size_read version size) s.2 in
+    let a = then_read (parse_hex 8 addr) _ event (hex_read 4 addr) b.2 in
+    let v = then_read (parse_hex (2 * b.0) value) _ event (hex_read b.0 value) a.2 in
+    rw (← some_is _ event v.2) (access_read version Write b.0 a.0 v.0 s.0 (codes "w" ∷ size ∷ addr ∷ value ∷ flags) b.1.1 (omega (arith, a.1.1)) v.1.1
+    (same (codes "w"), (same_as _ _ b.1.0, (a.1.0, (v.1.0, s.1)))))
+write_read version _ event e = absurd cc
 
 pub in_read : (version : ℕ) (words : List (List ℕ)) (event : Event) → parse_in words ≡ Some event
     → IsRead version (codes "in" ∷ words) event
-unfolding parse_in in_event event_text
-in_read version [] event e = absurd cc
-in_read version (_ ∷ []) event e = absurd cc
+unfolding parse_in in_event
 in_read version (width ∷ port ∷ []) event e =
-    let w = then_said (parse_width width) _ event e in
-    let p = then_said (parse_hex 4 port) _ event w.2 in
-    let port_is = hex_read 2 port p.0 p.1 in
-    subst (λ (x : Event). IsRead version (codes "in" ∷ width ∷ port ∷ []) x) (some_is _ event p.2)
-    (record {
-      texts = codes "in" ∷ width_text w.0 ∷ hex_number 2 p.0 ∷ [];
-      reads = (same (codes "in"), (same_as width (width_text w.0) (width_read width w.0 w.1), (port_is.0, tt)));
-      joined = port_joined (codes "in") (width_text w.0) (hex_number 2 p.0);
-      form = record { port = omega (arith, port_is.1); value = refl };
-    })
-in_read version (_ ∷ _ ∷ _ ∷ _) event e = absurd cc
+    let w = then_read (parse_width width) _ event (width_read width) e in
+    let p = then_read (parse_hex 4 port) _ event (hex_read 2 port) w.2 in
+    rw (← some_is _ event p.2) (
+      (same (codes "in"), (same_as _ _ w.1, (p.1.0, tt))),
+      record { port = omega (arith, p.1.1); value = refl },
+    )
+in_read version _ event e = absurd cc
 
 pub out_read : (version : ℕ) (words : List (List ℕ)) (event : Event) → parse_out words ≡ Some event
     → IsRead version (codes "out" ∷ words) event
-unfolding parse_out out_event event_text
-out_read version [] event e = absurd cc
-out_read version (_ ∷ []) event e = absurd cc
-out_read version (_ ∷ _ ∷ []) event e = absurd cc
+unfolding parse_out out_event
 out_read version (width ∷ port ∷ value ∷ []) event e =
-    let w = then_said (parse_width width) _ event e in
-    let p = then_said (parse_hex 4 port) _ event w.2 in
-    let v = then_said (parse_hex (2 * bytes_of w.0) value) _ event p.2 in
-    let port_is = hex_read 2 port p.0 p.1 in
-    let value_is = hex_read (bytes_of w.0) value v.0 v.1 in
-    subst (λ (x : Event). IsRead version (codes "out" ∷ width ∷ port ∷ value ∷ []) x) (some_is _ event v.2)
-    (record {
-      texts = codes "out" ∷ width_text w.0 ∷ hex_number 2 p.0 ∷ hex_number (bytes_of w.0) v.0 ∷ [];
-      reads = (
-        same (codes "out"),
-        (same_as width (width_text w.0) (width_read width w.0 w.1), (port_is.0, (value_is.0, tt))),
-      );
-      joined = out_joined (codes "out") (width_text w.0) (hex_number 2 p.0) (hex_number (bytes_of w.0) v.0);
-      form = record { port = omega (arith, port_is.1); value = value_is.1 };
-    })
-out_read version (_ ∷ _ ∷ _ ∷ _ ∷ _) event e = absurd cc
+    let w = then_read (parse_width width) _ event (width_read width) e in
+    let p = then_read (parse_hex 4 port) _ event (hex_read 2 port) w.2 in
+    let v = then_read (parse_hex (2 * bytes_of w.0) value) _ event (hex_read (bytes_of w.0) value) p.2 in
+    rw (← some_is _ event v.2) (
+      (same (codes "out"), (same_as _ _ w.1, (p.1.0, (v.1.0, tt)))),
+      record { port = omega (arith, p.1.1); value = v.1.1 },
+    )
+out_read version _ event e = absurd cc
 
 pub look_read : (version : ℕ) (words : List (List ℕ)) (event : Event) → parse_look words ≡ Some event
     → IsRead version (codes "look" ∷ words) event
-unfolding parse_look look_event event_text
-look_read version [] event e = absurd cc
-look_read version (_ ∷ []) event e = absurd cc
+unfolding parse_look look_event
 look_read version (kind ∷ addr ∷ flags) event e =
-    let s = then_said (parse_smm flags) _ event e in
-    let k = then_said (parse_kind kind) _ event s.2 in
-    let a = then_said (parse_hex 8 addr) _ event k.2 in
-    let addr_is = hex_read 4 addr a.0 a.1 in
-    subst (λ (x : Event). IsRead version (codes "look" ∷ kind ∷ addr ∷ flags) x) (some_is _ event a.2)
-    (record {
-      texts = codes "look" ∷ kind_text k.0 ∷ hex_number 4 a.0 ∷ smm_words s.0;
-      reads = (
-        same (codes "look"),
-        (same_as kind (kind_text k.0) (kind_read kind k.0 k.1), (addr_is.0, smm_read flags s.0 s.1)),
-      );
-      joined = look_joined (kind_text k.0) (hex_number 4 a.0) s.0;
-      form = omega (arith, addr_is.1);
-    })
+    let s = then_read (parse_smm flags) _ event (smm_read flags) e in
+    let k = then_read (parse_kind kind) _ event (kind_read kind) s.2 in
+    let a = then_read (parse_hex 8 addr) _ event (hex_read 4 addr) k.2 in
+    rw (← some_is _ event a.2) ((same (codes "look"), (same_as _ _ k.1, (a.1.0, s.1))), omega (arith, a.1.1))
+look_read version _ event e = absurd cc
 
 pub ack_read : (version : ℕ) (words : List (List ℕ)) (event : Event) → parse_ack words ≡ Some event
     → IsRead version (codes "ack" ∷ words) event
-unfolding parse_ack event_text
-ack_read version [] event e =
-    subst (λ (x : Event). IsRead version (codes "ack" ∷ []) x) (some_is Ack event e)
-    (record { texts = codes "ack" ∷ []; reads = (same (codes "ack"), tt); joined = refl; form = tt })
+unfolding parse_ack
+ack_read version [] event e = rw (← some_is Ack event e) ((same (codes "ack"), tt), tt)
 ack_read version (_ ∷ _) event e = absurd cc
+
+pub time_read : (version : ℕ) (words : List (List ℕ)) (moment : Moment) → parse_only_moment words ≡ Some moment
+    → IsRead version (codes "moment" ∷ words) (Time moment)
+unfolding parse_only_moment
+time_read version (field ∷ []) moment e =
+    let m = moment_read field moment e in
+    ((same (codes "moment"), (same_as _ _ m.0, tt)), m.1)
+time_read version _ moment e = absurd cc
+
+-- ---- numbers, and levels
 
 -- the only field is a decimal
 pub number_read : (words : List (List ℕ)) (n : ℕ) → parse_number words ≡ Some n → (words ≡ decimal n ∷ []) × IsDecimal n
 unfolding parse_number
-number_read [] n e = absurd cc
 number_read (field ∷ []) n e = let d = decimal_read field n e in (ap (λ (f : List ℕ). f ∷ []) d.0, d.1)
-number_read (_ ∷ _ ∷ _) n e = absurd cc
+number_read _ n e = absurd cc
+
+pub two_read : (words : List (List ℕ)) (p : ℕ × ℕ) → parse_two_numbers words ≡ Some p
+    → (words ≡ decimal p.0 ∷ decimal p.1 ∷ []) × (IsDecimal p.0 × IsDecimal p.1)
+unfolding parse_two_numbers
+two_read (first ∷ second ∷ []) p e =
+    let a = then_read (parse_decimal first) _ p (decimal_read first) e in
+    let b = then_read (parse_decimal second) _ p (decimal_read second) a.2 in
+    rw (← some_is _ p b.2) ((λ i. a.1.0 i ∷ b.1.0 i ∷ []), (a.1.1, b.1.1))
+two_read _ p e = absurd cc

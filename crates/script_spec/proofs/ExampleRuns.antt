@@ -8,14 +8,14 @@ use Rattle.script_spec.specs.Common.{lines_of, text_of_lines, Item, number_after
 use Rattle.script_spec.specs.Common.{parse_moment_part, parse_year, parse_date, parse_time, whole_moment, parse_moment}
 use Rattle.script_spec.specs.Common.{parse_base, parse_rom_bits, with_base, with_rom, with_field, with_fields}
 use Rattle.script_spec.specs.Common.{parse_card, parse_smm, memory_event, parse_read, parse_write, parse_in, parse_out}
-use Rattle.script_spec.specs.Common.{parse_look, parse_ack, parse_number, parse_two_numbers}
-use Rattle.script_spec.specs.Common.{parse_only_moment, parse_time_item, parse_stimulus_item}
-use Rattle.script_spec.specs.Common.{parse_given, parse_by_verb, parse_statement_words, is_name, parse_name}
-use Rattle.script_spec.specs.Common.{parse_phase, parse_statement, parse_by_key, parse_item, least_reason, Script}
-use Rattle.script_spec.specs.Common.{IsSaidBy, IsScriptText, IsScriptBad, BadText, IsBadText, bad_texts, AreBad, Bound}
-use Rattle.script_spec.specs.Common.{with_line, IsBound, bounds, AreBounds, TwoProcessors, TwoOrders, WideScript}
+use Rattle.script_spec.specs.Common.{parse_look, parse_ack, parse_number, parse_two_numbers, parse_only_moment}
+use Rattle.script_spec.specs.Common.{parse_time_item, parse_stimulus_item, parse_given, parse_by_verb}
+use Rattle.script_spec.specs.Common.{parse_statement_words, is_name, parse_name, parse_phase, parse_statement}
+use Rattle.script_spec.specs.Common.{parse_by_key, parse_item, least_reason, Script, IsSaidBy, IsScriptText}
+use Rattle.script_spec.specs.Common.{IsScriptBad, BadText, IsBadText, bad_texts, AreBad, Bound, with_line, IsBound}
+use Rattle.script_spec.specs.Common.{bounds, AreBounds, TwoProcessors, TwoOrders, WideScript}
 use Rattle.script_spec.specs.Events.{read_event, write_event, in_event, out_event, look_event}
-use Rattle.script_spec.proofs.ReadingLaws.{same_head, same_tail}
+use Rattle.script_spec.proofs.Lists.{same_head, same_tail}
 use Rattle.script_spec.proofs.Decision.{judged, judged_lines, AreJudged, judged_is}
 use Rattle.script_spec.proofs.ReadingExists.{text_said}
 

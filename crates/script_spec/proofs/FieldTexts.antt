@@ -1,10 +1,8 @@
 -- The texts of fields have no space, and a number is no word.
-use Rattle.std.proofs.Common.{◌≡◌, ℕ, ◌+◌, ◌/◌, ◌%◌, ◌<◌, inl, inr, Bool, true, false, not, eqb, leb, ◌||◌, List, []}
-use Rattle.std.proofs.Common.{◌∷◌, ◌++◌, refl, sym, ap, subst, ◌∙◌, arith, decimal, bytes_eq}
-use Rattle.board_base.proofs.CalendarLemmas.{is_within_parts}
-use Rattle.board_prelude.proofs.Common.{list_all, AllDigits, cases_Bool, and_parts, and_from, or_left, or_cases, ne_eqb}
-use Rattle.board_prelude.proofs.Common.{eqb-true, le-leb, lt-leb, true≢false, Moment, is_within, space, hex_number}
-use Rattle.board_prelude.proofs.Common.{two_digits, moment_text}
+use Rattle.board_prelude.proofs.Common.{nat_tests, list_all, AllDigits, cases_Bool, and_parts, and_from, ne_eqb}
+use Rattle.board_prelude.proofs.Common.{true≢false, Moment, space, hex_number, moment_text}
+use Rattle.std.proofs.Common.{◌≡◌, ℕ, inl, inr, Bool, true, false, not, eqb, List, [], ◌∷◌, refl, sym, ap, subst, ◌∙◌}
+use Rattle.std.proofs.Common.{arith, decimal, bytes_eq}
 use Rattle.script_spec.specs.Grammar.{IsDecimal, is_name_byte}
 use Rattle.script_spec.proofs.Digits.{lacks, digits_of_decimal}
 use Rattle.script_spec.proofs.PlainText.{hex_number_word, decimal_word, lacks-word}
@@ -36,48 +34,11 @@ lacks_name name each = all_so is_name_byte (λ b. not (eqb b space)) (no_space i
 
 -- ---- a moment
 
--- a digit, a mark between two parts, or `T`
-abbrev is_stamp_byte : ℕ → Bool
-is_stamp_byte byte = is_within 0x2D 0x3A byte || eqb byte 0x54
-
-digit_stamp : (d : ℕ) → d < 10 → is_stamp_byte (0x30 + d) ≡ true
-digit_stamp d small =
-    or_left (is_within 0x2D 0x3A (0x30 + d)) _
-    (and_from (leb 0x2D (0x30 + d)) (leb (0x30 + d) 0x3A) (le-leb 0x2D (0x30 + d) (omega arith))
-    (le-leb (0x30 + d) 0x3A (omega arith)))
-
-two_stamps : (n : ℕ) (rest : List ℕ) → list_all is_stamp_byte rest ≡ true
-    → list_all is_stamp_byte (two_digits n ++ rest) ≡ true
-two_stamps n rest each =
-    and_from (is_stamp_byte (0x30 + n / 10 % 10)) _ (digit_stamp (n / 10 % 10) (omega arith))
-    (and_from (is_stamp_byte (0x30 + n % 10)) (list_all is_stamp_byte rest) (digit_stamp (n % 10) (omega arith)) each)
-
-moment_stamp : (moment : Moment) → list_all is_stamp_byte (moment_text moment) ≡ true
-moment_stamp moment =
-    let second : List ℕ = two_digits moment.second in
-    let minute : List ℕ = two_digits moment.minute ++ 0x3A ∷ second in
-    let hour : List ℕ = two_digits moment.hour ++ 0x3A ∷ minute in
-    let day : List ℕ = two_digits moment.day ++ 0x54 ∷ hour in
-    let month : List ℕ = two_digits moment.month ++ 0x2D ∷ day in
-    two_stamps (moment.year / 100) (two_digits (moment.year % 100) ++ 0x2D ∷ month)
-    (two_stamps (moment.year % 100) (0x2D ∷ month) (two_stamps moment.month (0x2D ∷ day)
-    (two_stamps moment.day (0x54 ∷ hour) (two_stamps moment.hour (0x3A ∷ minute)
-    (two_stamps moment.minute (0x3A ∷ second) (two_stamps moment.second [] refl))))))
-
 pub lacks_moment : (moment : Moment) → lacks space (moment_text moment) ≡ true
-lacks_moment moment =
-    all_so is_stamp_byte (λ b. not (eqb b space)) (no_space is_stamp_byte refl) (moment_text moment)
-    (moment_stamp moment)
-
-stamp_plain : (b : ℕ) → is_stamp_byte b ≡ true → not (is_within 0x41 0x46 b) ≡ true
-stamp_plain b stamp = elim (or_cases (is_within 0x2D 0x3A b) (eqb b 0x54) stamp) [
-  | inl low ↦ rw (lt-leb 0x41 b (omega (arith, (is_within_parts 0x2D 0x3A b low).1))) refl
-  | inr letter ↦ rw (eqb-true b 0x54 letter) refl
-]
+lacks_moment moment = grind (arith, nat_tests)
 
 pub plain_moment : (moment : Moment) → is_plain (moment_text moment) ≡ true
-plain_moment moment =
-    all_so is_stamp_byte (λ b. not (is_within 0x41 0x46 b)) stamp_plain (moment_text moment) (moment_stamp moment)
+plain_moment moment = grind (arith, nat_tests)
 
 -- ---- a number is no word
 

@@ -1,5 +1,6 @@
 -- A text is cut at a byte.
-use Rattle.std.proofs.Common.{ℕ, ◌≡◌, ◌<◌, ◌⊎◌, true, false, not, cond, eqb, List, [], ◌∷◌, ◌++◌, refl, decimal}
+use Rattle.board_prelude.proofs.Common.{nat_tests, common_steps}
+use Rattle.std.proofs.Common.{arith, ℕ, ◌≡◌, ◌<◌, ◌⊎◌, true, false, not, cond, eqb, List, [], ◌∷◌, ◌++◌, refl, decimal}
 use Rattle.std.proofs.lemmas.Bool.{eq-eqb, and_parts, not-true}
 use Rattle.script_spec.specs.Grammar.{IsDecimal}
 use Rattle.script_spec.proofs.Digits.{lacks, lacks-digits, digits_of_decimal}
@@ -21,19 +22,15 @@ lacks-later byte c cs lack = (and_parts (not (eqb c byte)) (lacks byte cs) lack)
 
 pub front-field : (byte : ℕ) (field rest : List ℕ) → lacks byte field ≡ true → front byte (field ++ byte ∷ rest) ≡ field
 front-field byte [] rest lack = rw (eq-eqb byte byte refl) refl
-front-field byte (c ∷ cs) rest lack =
-    rw (lacks-first byte c cs lack, front-field byte cs rest (lacks-later byte c cs lack)) refl
+front-field byte (c ∷ cs) rest lack = grind (arith, nat_tests, front-field byte cs rest (lacks-later byte c cs lack))
 
 pub back-field : (byte : ℕ) (field rest : List ℕ) → lacks byte field ≡ true → back byte (field ++ byte ∷ rest) ≡ rest
 back-field byte [] rest lack = rw (eq-eqb byte byte refl) refl
-back-field byte (c ∷ cs) rest lack = rw (lacks-first byte c cs lack) (back-field byte cs rest
-    (lacks-later byte c cs lack))
+back-field byte (c ∷ cs) rest lack = grind (arith, nat_tests, back-field byte cs rest (lacks-later byte c cs lack))
 
 pub lacks-append : (byte : ℕ) (xs ys : List ℕ) → lacks byte xs ≡ true → lacks byte ys ≡ true →
     lacks byte (xs ++ ys) ≡ true
-lacks-append byte [] ys one two = two
-lacks-append byte (c ∷ cs) ys one two =
-    rw (lacks-first byte c cs one, lacks-append byte cs ys (lacks-later byte c cs one) two) refl
+lacks-append byte xs ys one two = grind (arith, nat_tests, common_steps, lacks-first, lacks-later)
 
 -- ---- a decimal field
 

@@ -1,340 +1,190 @@
--- The item that was read is the one that the line says.
-use Rattle.std.proofs.Common.{◌≡◌, ℕ, zero, suc, ◌≤◌, inl, inr, Bool, true, false, eqb, leb, ◌&&◌, Option, Some, List}
-use Rattle.std.proofs.Common.{[], ◌∷◌, ◌++◌, length, take, refl, sym, ap, subst, ◌∙◌, append_assoc, arith, lit<, codes}
-use Rattle.std.proofs.Common.{decimal}
-use Rattle.board_prelude.proofs.Common.{join_with_byte, list_all, option_map, cases_Bool, eqb-true, leb-true, Fetch}
-use Rattle.board_prelude.proofs.Common.{Read, Moment, Event, Time, Stimulus, stimulus_form, stimulus_of_word, applied}
-use Rattle.board_prelude.proofs.Common.{event_applied, applied_text, word_found, space, event_text, moment_text}
-use Rattle.board_prelude.proofs.Common.{level_text, and_parts}
-use Rattle.board_spec.specs.declared.stimulus.Stimulus.TheVariants.{Pulses}
-use Rattle.std.proofs.lemmas.Fmt.{decimal-digits_value}
+-- The item that was read is the one that the fields say.
+use Rattle.std.proofs.Common.{◌≡◌, ℕ, inl, inr, Bool, true, false, eqb, Option, Some, List, [], ◌∷◌, refl, sym, ap}
+use Rattle.std.proofs.Common.{subst, ◌∙◌, arith, codes, decimal}
+use Rattle.board_prelude.proofs.Common.{nat_tests, cases_Bool, eqb-true, option_map, Fetch, Read, Event, Time, Stimulus}
+use Rattle.board_prelude.proofs.Common.{stimulus_form, stimulus_of_word, applied, event_applied, word_found, space}
+use Rattle.board_prelude.proofs.Common.{level_text}
 use Rattle.std.proofs.lemmas.List.Splits.{join_with_byte-slice_split}
-use Rattle.script_spec.specs.Common.{Item, IsEventForm, SetCpus, SetMemory, SetRom, SetDisk, FitCard, BeginPhase}
-use Rattle.script_spec.specs.Common.{AskLevel, IsDecimal, IsName, HasForm, item_text, is_name_start, is_name_byte}
-use Rattle.script_spec.specs.Common.{fields_of, parse_decimal, parse_number, parse_card, parse_moment, ask}
-use Rattle.script_spec.specs.Common.{parse_two_numbers, parse_given, stimulus_item, parse_stimulus_item}
-use Rattle.script_spec.specs.Common.{parse_only_moment, parse_time_item, parse_by_verb, parse_statement_words, is_name}
-use Rattle.script_spec.specs.Common.{parse_name, parse_phase, parse_statement, parse_by_key, parse_item}
-use Rattle.script_spec.proofs.Digits.{own}
+use Rattle.script_spec.specs.Common.{Item, SetCpus, SetMemory, SetRom, SetDisk, FitCard, IsDecimal, IsName, IsForm}
+use Rattle.script_spec.specs.Common.{IsEventForm, HasForm, fields_of, parse_decimal, parse_number, parse_card, ask}
+use Rattle.script_spec.specs.Common.{parse_given, stimulus_item, parse_stimulus_item, parse_only_moment}
+use Rattle.script_spec.specs.Common.{parse_time_item, parse_by_verb, parse_statement_words, is_name, parse_name}
+use Rattle.script_spec.specs.Common.{parse_phase, parse_statement, parse_by_key, parse_item}
 use Rattle.script_spec.proofs.Chains.{some_is, guarded, then_said, mapped}
 use Rattle.script_spec.proofs.NumberTexts.{decimal_read}
-use Rattle.script_spec.proofs.Joins.{Spells, Reads, same, same_as, joined, zipped, by_word}
+use Rattle.script_spec.proofs.Joins.{Reads, same, same_as, by_word}
+use Rattle.script_spec.proofs.Words.{given_words, applied_words, applied_is, zero_text, one_text}
+use Rattle.script_spec.proofs.ItemWords.{AreFields, fields_say}
 use Rattle.script_spec.proofs.EventTexts.{IsRead, read_read, write_read, in_read, out_read, look_read, ack_read}
-use Rattle.script_spec.proofs.EventTexts.{number_read}
-use Rattle.script_spec.proofs.MomentTexts.{moment_read}
+use Rattle.script_spec.proofs.EventTexts.{time_read, number_read, two_read}
 use Rattle.script_spec.proofs.CardTexts.{card_read}
 
--- the line of these fields
-abbrev line : List (List ℕ) → List ℕ
-line fields = join_with_byte space fields
-
--- ---- statements
-
-ask_read : (version n : ℕ) (actor verb : List ℕ) (words : List (List ℕ)) (event : Event) → parse_decimal actor ≡ Some n
-    → IsRead version (verb ∷ words) event → HasForm version (line (actor ∷ verb ∷ words)) (ask n event)
-unfolding item_text
-ask_read version n actor verb words event e read =
-    let d = decimal_read actor n e in
-    record {
-      form = (d.1, read.form);
-      says = zipped actor (decimal n) _ _ (same_as actor (decimal n) d.0)
-          (inl refl, subst (Spells (line (verb ∷ words))) read.joined (joined (verb ∷ words) read.texts read.reads));
-    }
-
-only_read : (words : List (List ℕ)) (moment : Moment) → parse_only_moment words ≡ Some moment
-    → (field : List ℕ) × (words ≡ field ∷ []) × (parse_moment field ≡ Some moment)
-unfolding parse_only_moment
-only_read [] moment e = absurd cc
-only_read (field ∷ []) moment e = (field, refl, e)
-only_read (_ ∷ _ ∷ _) moment e = absurd cc
-
-time_read : (version : ℕ) (words : List (List ℕ)) (moment : Moment) → parse_only_moment words ≡ Some moment
-    → IsRead version (codes "moment" ∷ words) (Time moment)
-unfolding event_text
-time_read version words moment e =
-    let o = only_read words moment e in
-    let m = moment_read o.0 moment o.2 in
-    subst (λ (w : List (List ℕ)). IsRead version (codes "moment" ∷ w) (Time moment)) (sym o.1)
-    (record {
-      texts = codes "moment" ∷ moment_text moment ∷ [];
-      reads = (same (codes "moment"), (same_as o.0 (moment_text moment) m.0, tt));
-      joined = refl;
-      form = m.1;
-    })
-
--- an item made of what was found
-made_item : {X : Type 0} (version : ℕ) (text : List ℕ) (found : Option X) (make : X → Item) (item : Item)
-    → ((x : X) → found ≡ Some x → HasForm version text (make x)) → option_map make found ≡ Some item
-    → HasForm version text item
-made_item version text found make item has e =
-    let m = mapped found make item e in subst (HasForm version text) (sym m.2) (has m.0 m.1)
-
-moment_item : (version n : ℕ) (actor : List ℕ) (words : List (List ℕ)) (item : Item) → parse_decimal actor ≡ Some n
-    → parse_time_item n words ≡ Some item → HasForm version (line (actor ∷ codes "moment" ∷ words)) item
-unfolding parse_time_item
-moment_item version n actor words item d =
-    made_item version (line (actor ∷ codes "moment" ∷ words)) (parse_only_moment words) (λ m. ask n (Time m)) item
-    (λ m e. ask_read version n actor (codes "moment") words (Time m) d (time_read version words m e))
-
-two_read : (words : List (List ℕ)) (p : ℕ × ℕ) → parse_two_numbers words ≡ Some p
-    → (words ≡ decimal p.0 ∷ decimal p.1 ∷ []) × (IsDecimal p.0 × IsDecimal p.1)
-unfolding parse_two_numbers
-two_read [] p e = absurd cc
-two_read (_ ∷ []) p e = absurd cc
-two_read (first ∷ second ∷ []) p e =
-    let a = then_said (parse_decimal first) _ p e in
-    let b = then_said (parse_decimal second) _ p a.2 in
-    let first_is = decimal_read first a.0 a.1 in
-    let second_is = decimal_read second b.0 b.1 in
-    subst (λ (p : ℕ × ℕ). (first ∷ second ∷ [] ≡ decimal p.0 ∷ decimal p.1 ∷ []) × (IsDecimal p.0 × IsDecimal p.1))
-    (some_is (a.0, b.0) p b.2)
-    ((λ i. first_is.0 i ∷ second_is.0 i ∷ []), (first_is.1, second_is.1))
-two_read (_ ∷ _ ∷ _ ∷ _) p e = absurd cc
-
--- a number and a level
-pub level_joined : (n verb number level : List ℕ) → line (n ∷ verb ∷ number ∷ level ∷ [])
-    ≡ n ++ space ∷ verb ++ space ∷ number ++ space ∷ level
-level_joined n verb number level =
-    sym (append_assoc (n ++ space ∷ verb) (space ∷ number) (space ∷ level)
-    ∙ append_assoc n (space ∷ verb) (space ∷ (number ++ (space ∷ level))))
-
-pub zero_text : decimal 0 ≡ codes "0"
-zero_text = decimal-digits_value own (48 ∷ []) (lit< tt, tt) (lit< tt) (λ _. refl) (lit< tt)
-
-pub one_text : decimal 1 ≡ codes "1"
-one_text = decimal-digits_value own (49 ∷ []) (lit< tt, tt) (lit< tt) (λ _. refl) (lit< tt)
-
--- a stimulus is spelled by its word, its number, and its level where it has one
-pub applied_is : (one : Stimulus) (number : ℕ) (on : Bool)
-    → event_text (event_applied one number on) ≡ applied_text (applied one number on)
-unfolding event_text
-applied_is Pulses number on = refl
-applied_is _ number on = refl
-
-applied_form : (version : ℕ) (one : Stimulus) (number : ℕ) (on : Bool) → IsDecimal number
-    → IsEventForm version (event_applied one number on)
-applied_form version Pulses number on small = small
-applied_form version _ number on small = small
-
--- the fields of a stimulus
-abbrev pub given_words : (has_level : Bool) → (number level : List ℕ) → List (List ℕ)
-given_words true number level = number ∷ level ∷ []
-given_words false number level = number ∷ []
-
-pub given_joined : (one : Stimulus) (has_level : Bool) (number : ℕ) (on : Bool)
-    → (stimulus_form one).has_level ≡ has_level
-    → line ((stimulus_form one).word ∷ given_words has_level (decimal number) (level_text on))
-    ≡ event_text (event_applied one number on)
-given_joined one true number on is = sym (applied_is one number on ∙ rw is refl)
-given_joined one false number on is = sym (applied_is one number on ∙ rw is refl)
+-- fields say an item of a form
+abbrev IsSaid : (version : ℕ) → List (List ℕ) → Item → Type 0
+IsSaid version fields item = IsForm version item × AreFields fields item
 
 same_all : (texts : List (List ℕ)) → Reads texts texts
 same_all [] = tt
 same_all (text ∷ texts) = (same text, same_all texts)
 
-applied_read : (version : ℕ) (one : Stimulus) (has_level : Bool) (number : ℕ) (on : Bool)
-    → (stimulus_form one).has_level ≡ has_level → IsDecimal number
-    → IsRead version ((stimulus_form one).word ∷ given_words has_level (decimal number) (level_text on))
-    (event_applied one number on)
-applied_read version one has_level number on is small =
-    let texts : List (List ℕ) = (stimulus_form one).word ∷ given_words has_level (decimal number) (level_text on) in
-    record {
-      texts = texts;
-      reads = same_all texts;
-      joined = given_joined one has_level number on is;
-      form = applied_form version one number on small;
-    }
+applied_form : (version : ℕ) (one : Stimulus) (number : ℕ) (on : Bool) → IsDecimal number
+    → IsEventForm version (event_applied one number on)
+applied_form version one number on small = grind (arith, nat_tests)
 
--- a level that is neither 0 nor 1
-high_read : (version n number level : ℕ) (actor : List ℕ) (one : Stimulus) → parse_decimal actor ≡ Some n
-    → (stimulus_form one).has_level ≡ true → IsDecimal number → IsDecimal level → 2 ≤ level
-    → HasForm version (line (actor ∷ (stimulus_form one).word ∷ decimal number ∷ decimal level ∷ []))
-    (AskLevel n one number level)
-unfolding item_text
-high_read version n number level actor one e known small few high =
-    let d = decimal_read actor n e in
-    let later : List ℕ = (stimulus_form one).word ++ (space ∷ (decimal number ++ (space ∷ decimal level))) in
-    record {
-      form = record { who = d.1; what = known; which = small; few = few; high = high };
-      says = ap (λ (a : List ℕ). a ++ (space ∷ later)) d.0
-          ∙ level_joined (decimal n) (stimulus_form one).word (decimal number) (decimal level);
-    }
+-- an item made of what was found
+made_item : {X : Type 0} (P : Item → Type 0) (found : Option X) (make : X → Item) (item : Item)
+    → ((x : X) → found ≡ Some x → P (make x)) → option_map make found ≡ Some item → P item
+made_item P found make item has e = grind (arith, nat_tests, mapped)
 
-at_least_two : (level : ℕ) → eqb level 0 ≡ false → eqb level 1 ≡ false → 2 ≤ level
-at_least_two zero a b = absurd cc
-at_least_two (suc zero) a b = absurd cc
-at_least_two (suc (suc n)) a b = omega arith
+-- ---- statements, after the processor's number
 
-level_asked : (version n number level : ℕ) (actor : List ℕ) (one : Stimulus) → parse_decimal actor ≡ Some n
-    → (stimulus_form one).has_level ≡ true → IsDecimal number → IsDecimal level
-    → HasForm version (line (actor ∷ (stimulus_form one).word ∷ decimal number ∷ decimal level ∷ []))
-    (stimulus_item n one number level)
-level_asked version n number level actor one d known small few =
-    let asked : (on : Bool) → HasForm version
-    (line (actor ∷ (stimulus_form one).word ∷ decimal number ∷ level_text on ∷ []))
-    (ask n (event_applied one number on)) =
-    λ on. ask_read version n actor (stimulus_form one).word (decimal number ∷ level_text on ∷ [])
-    (event_applied one number on) d (applied_read version one true number on known small) in
-    elim (cases_Bool (eqb level 0)) [
-      | inl off ↦ let is = eqb-true level 0 off in rw (is, zero_text) (asked false)
-      | inr off ↦ elim (cases_Bool (eqb level 1)) [
-        | inl on ↦ let is = eqb-true level 1 on in rw (is, one_text) (asked true)
-        | inr on ↦ rw (off, on) (high_read version n number level actor one d known small few
-            (at_least_two level off on))
+module _ (version n : ℕ) (actor : List ℕ) (said : parse_decimal actor ≡ Some n) where
+  ask_read : (words : List (List ℕ)) (event : Event) → IsRead version words event
+      → IsSaid version (actor ∷ words) (ask n event)
+  ask_read words event read =
+      let d = decimal_read actor n said in
+      ((d.1, read.1), (same_as actor (decimal n) d.0, read.0))
+
+  asks : (verb : List ℕ) (words : List (List ℕ)) (found : Option Event) (item : Item)
+      → ((event : Event) → found ≡ Some event → IsRead version (verb ∷ words) event)
+      → option_map (ask n) found ≡ Some item → IsSaid version (actor ∷ verb ∷ words) item
+  asks verb words found item read =
+      made_item (IsSaid version (actor ∷ verb ∷ words)) found (ask n) item
+      (λ event e. ask_read (verb ∷ words) event (read event e))
+
+  -- the number of a stimulus, and its level where it has one
+  applied_read : (one : Stimulus) (number : ℕ) (on : Bool) (words : List (List ℕ))
+      → words ≡ given_words (stimulus_form one).has_level (decimal number) (level_text on) → IsDecimal number
+      → IsSaid version (actor ∷ (stimulus_form one).word ∷ words) (ask n (event_applied one number on))
+  applied_read one number on words is small =
+      subst (λ (w : List (List ℕ)). IsSaid version (actor ∷ (stimulus_form one).word ∷ w)
+      (ask n (event_applied one number on))) (sym is)
+      (ask_read (applied_words (applied one number on)) (event_applied one number on) (
+        rw (applied_is one number on) (same_all (applied_words (applied one number on))),
+        applied_form version one number on small,
+      ))
+
+  level_read : (one : Stimulus) (number level : ℕ) → (stimulus_form one).has_level ≡ true → IsDecimal number
+      → IsDecimal level
+      → IsSaid version (actor ∷ (stimulus_form one).word ∷ decimal number ∷ decimal level ∷ [])
+      (stimulus_item n one number level)
+  level_read one number level known small few =
+      let d = decimal_read actor n said in
+      let words : List (List ℕ) = decimal number ∷ decimal level ∷ [] in
+      elim (cases_Bool (eqb level 0)) [
+        | inl off ↦
+            rw off (applied_read one number false words (rw (known, eqb-true level 0 off, zero_text) refl) small)
+        | inr some ↦ elim (cases_Bool (eqb level 1)) [
+          | inl on ↦
+              rw (some, on) (applied_read one number true words (rw (known, eqb-true level 1 on, one_text) refl) small)
+          | inr more ↦ rw (some, more) (
+            record { who = d.1; what = known; which = small; few = few; high = grind (arith, nat_tests) },
+            ap (λ (a : List ℕ). a ∷ (stimulus_form one).word ∷ words) d.0,
+          )
+        ]
       ]
-    ]
 
--- what the fields of a stimulus give, they say
-given_asked : (version n : ℕ) (actor : List ℕ) (one : Stimulus) (words : List (List ℕ)) (given : ℕ × ℕ)
-    → parse_decimal actor ≡ Some n → parse_given one words ≡ Some given
-    → HasForm version (line (actor ∷ (stimulus_form one).word ∷ words)) (stimulus_item n one given.0 given.1)
-unfolding parse_given
-given_asked version n actor one words given d e =
-    let word : List ℕ = (stimulus_form one).word in
-    elim (cases_Bool (stimulus_form one).has_level) [
-      | inl known ↦
-          let two = two_read words given (rw known at e) in
-          subst (λ (w : List (List ℕ)). HasForm version (line (actor ∷ word ∷ w))
-          (stimulus_item n one given.0 given.1)) (sym two.0)
-          (level_asked version n given.0 given.1 actor one d known two.1.0 two.1.1)
-      | inr none ↦
-          let m = mapped (parse_number words) (λ number. (number, 0)) given (rw none at e) in
-          let number = number_read words m.0 m.1 in
-          subst (λ (p : ℕ × ℕ). HasForm version (line (actor ∷ word ∷ words)) (stimulus_item n one p.0 p.1)) (sym m.2)
-          (subst (λ (w : List (List ℕ)). HasForm version (line (actor ∷ word ∷ w))
-          (ask n (event_applied one m.0 false))) (sym number.0)
-          (ask_read version n actor word (decimal m.0 ∷ []) (event_applied one m.0 false) d
-          (applied_read version one false m.0 false none number.1)))
-    ]
+  -- what the fields of a stimulus give, they say
+  given_read : (one : Stimulus) (words : List (List ℕ)) (given : ℕ × ℕ) → parse_given one words ≡ Some given
+      → IsSaid version (actor ∷ (stimulus_form one).word ∷ words) (stimulus_item n one given.0 given.1)
+  unfolding parse_given
+  given_read one words given e = elim (cases_Bool (stimulus_form one).has_level) [
+    | inl known ↦
+        let two = two_read words given (rw known at e) in
+        rw two.0 (level_read one given.0 given.1 known two.1.0 two.1.1)
+    | inr none ↦
+        let m = mapped (parse_number words) (λ number. (number, 0)) given (rw none at e) in
+        let number = number_read words m.0 m.1 in
+        let free : decimal m.0 ∷ [] ≡ given_words (stimulus_form one).has_level (decimal m.0) (codes "0") =
+        rw none refl in
+        rw m.2 (applied_read one m.0 false words (number.0 ∙ free) number.1)
+  ]
 
-stimulus_read : (version n : ℕ) (actor verb : List ℕ) (words : List (List ℕ)) (item : Item)
-    → parse_decimal actor ≡ Some n → parse_stimulus_item n verb words ≡ Some item
-    → HasForm version (line (actor ∷ verb ∷ words)) item
-unfolding parse_stimulus_item
-stimulus_read version n actor verb words item d e =
-    let one = then_said (stimulus_of_word verb) _ item e in
-    let given = then_said (parse_given one.0 words) _ item one.2 in
-    subst (λ (v : List ℕ). HasForm version (line (actor ∷ v ∷ words)) item) (sym (word_found verb one.0 one.1))
-    (subst (HasForm version (line (actor ∷ (stimulus_form one.0).word ∷ words))) (some_is _ item given.2)
-    (given_asked version n actor one.0 words given.0 d given.1))
+  stimulus_read : (verb : List ℕ) (words : List (List ℕ)) (item : Item) → parse_stimulus_item n verb words ≡ Some item
+      → IsSaid version (actor ∷ verb ∷ words) item
+  unfolding parse_stimulus_item
+  stimulus_read verb words item e =
+      let one = then_said (stimulus_of_word verb) _ item e in
+      let given = then_said (parse_given one.0 words) _ item one.2 in
+      rw (word_found verb one.0 one.1)
+      (subst (IsSaid version (actor ∷ (stimulus_form one.0).word ∷ words)) (some_is _ item given.2)
+      (given_read one.0 words given.0 given.1))
 
-event_asks : (version n : ℕ) (actor verb : List ℕ) (words : List (List ℕ)) (item : Item) (found : Option Event)
-    → parse_decimal actor ≡ Some n
-    → ((event : Event) → found ≡ Some event → IsRead version (verb ∷ words) event)
-    → option_map (ask n) found ≡ Some item → HasForm version (line (actor ∷ verb ∷ words)) item
-event_asks version n actor verb words item found d read =
-    made_item version (line (actor ∷ verb ∷ words)) found (ask n) item
-    (λ event e. ask_read version n actor verb words event d (read event e))
-
-asked_read : (version n : ℕ) (actor verb : List ℕ) (words : List (List ℕ)) (item : Item) → parse_decimal actor ≡ Some n
-    → parse_by_verb version n verb words ≡ Some item → HasForm version (line (actor ∷ verb ∷ words)) item
-unfolding parse_by_verb
-asked_read version n actor verb words item d =
-    let P : List ℕ → Type 0 = λ v. HasForm version (line (actor ∷ v ∷ words)) item in
-    by_word P verb (codes "r") _ _ item
-    (event_asks version n actor (codes "r") words item _ d (λ event. read_read version Read words event refl))
-    (by_word P verb (codes "f") _ _ item
-    (event_asks version n actor (codes "f") words item _ d (λ event. read_read version Fetch words event refl))
-    (by_word P verb (codes "w") _ _ item
-    (event_asks version n actor (codes "w") words item _ d (write_read version words))
-    (by_word P verb (codes "in") _ _ item
-    (event_asks version n actor (codes "in") words item _ d (in_read version words))
-    (by_word P verb (codes "out") _ _ item
-    (event_asks version n actor (codes "out") words item _ d (out_read version words))
-    (by_word P verb (codes "look") _ _ item
-    (event_asks version n actor (codes "look") words item _ d (look_read version words))
-    (by_word P verb (codes "ack") _ _ item
-    (event_asks version n actor (codes "ack") words item _ d (ack_read version words))
-    (by_word P verb (codes "moment") _ _ item (moment_item version n actor words item d)
-    (stimulus_read version n actor verb words item d))))))))
+  verb_read : (verb : List ℕ) (words : List (List ℕ)) (item : Item) → parse_by_verb version n verb words ≡ Some item
+      → IsSaid version (actor ∷ verb ∷ words) item
+  unfolding parse_by_verb parse_time_item
+  verb_read verb words item =
+      let P : List ℕ → Type 0 = λ v. IsSaid version (actor ∷ v ∷ words) item in
+      by_word P verb (codes "r") _ _ item (asks _ words _ item (λ event. read_read version Read words event refl))
+      (by_word P verb (codes "f") _ _ item (asks _ words _ item (λ event. read_read version Fetch words event refl))
+      (by_word P verb (codes "w") _ _ item (asks _ words _ item (write_read version words))
+      (by_word P verb (codes "in") _ _ item (asks _ words _ item (in_read version words))
+      (by_word P verb (codes "out") _ _ item (asks _ words _ item (out_read version words))
+      (by_word P verb (codes "look") _ _ item (asks _ words _ item (look_read version words))
+      (by_word P verb (codes "ack") _ _ item (asks _ words _ item (ack_read version words))
+      (by_word P verb (codes "moment") _ _ item
+      (made_item (IsSaid version (actor ∷ codes "moment" ∷ words)) (parse_only_moment words) (λ m. ask n (Time m)) item
+      (λ m e. ask_read (codes "moment" ∷ words) (Time m) (time_read version words m e)))
+      (stimulus_read verb words item))))))))
 
 statement_read : (version : ℕ) (actor : List ℕ) (words : List (List ℕ)) (item : Item)
-    → parse_statement version actor words ≡ Some item
-    → HasForm version (line (actor ∷ words)) item
+    → parse_statement version actor words ≡ Some item → IsSaid version (actor ∷ words) item
 unfolding parse_statement parse_statement_words
 statement_read version actor [] item e =
     let a = then_said (parse_decimal actor) _ item e in let f = a.2 in absurd cc
 statement_read version actor (verb ∷ words) item e =
-    let a = then_said (parse_decimal actor) _ item e in
-    asked_read version a.0 actor verb words item a.1 a.2
-
--- ---- names
-
-first_start : (first : ℕ) (rest : List ℕ) → is_name_start first ≡ true
-    → list_all is_name_start (take 1 (first ∷ rest)) ≡ true
-first_start first rest e = rw e refl
-
-name_is : (name : List ℕ) → is_name name ≡ true → IsName name
-unfolding is_name
-name_is [] e = absurd cc
-name_is (first ∷ rest) e =
-    let all = and_parts (leb (length (first ∷ rest)) 64 && is_name_start first)
-    (list_all is_name_byte (first ∷ rest)) e in
-    let front = and_parts (leb (length (first ∷ rest)) 64) (is_name_start first) all.0 in
-    record {
-      some = omega arith;
-      few = leb-true (length (first ∷ rest)) 64 front.0;
-      first = first_start first rest front.1;
-      each = all.1;
-    }
-
-name_read : (words : List (List ℕ)) (name : List ℕ) → parse_name words ≡ Some name → (words ≡ name ∷ []) × IsName name
-unfolding parse_name
-name_read [] name e = absurd cc
-name_read (field ∷ []) name e =
-    let g = guarded (is_name field) (Some field) name e in
-    let is = some_is field name g.1 in
-    (ap (λ (f : List ℕ). f ∷ []) is, subst IsName is (name_is field g.0))
-name_read (_ ∷ _ ∷ _) name e = absurd cc
+    let a = then_said (parse_decimal actor) _ item e in verb_read version a.0 actor a.1 verb words item a.2
 
 -- ---- all lines
 
+name_is : (name : List ℕ) → is_name name ≡ true → IsName name
+unfolding is_name
+name_is name e = grind (arith, nat_tests)
+
+name_read : (words : List (List ℕ)) (name : List ℕ) → parse_name words ≡ Some name → (words ≡ name ∷ []) × IsName name
+unfolding parse_name
+name_read (field ∷ []) name e =
+    let g = guarded (is_name field) (Some field) name e in
+    let is = some_is field name g.1 in
+    (ap (λ (f : List ℕ). f ∷ []) is, rw is at (name_is field g.0))
+name_read _ name e = absurd cc
+
 phase_read : (version : ℕ) (words : List (List ℕ)) (item : Item) → parse_phase words ≡ Some item
-    → HasForm version (line (codes "phase" ∷ words)) item
-unfolding parse_phase item_text
-phase_read version [] item e =
-    subst (HasForm version (line (codes "phase" ∷ []))) (some_is BeginPhase item e) (record { form = tt; says = refl })
-phase_read version (_ ∷ _) item e = absurd cc
+    → IsSaid version (codes "phase" ∷ words) item
+unfolding parse_phase
+phase_read version words item e = grind (arith, nat_tests)
 
--- a key and a number, and a key and a name
-number_item : (version : ℕ) (key : List ℕ) (words : List (List ℕ)) (make : ℕ → Item) (item : Item)
-    → ((n : ℕ) → IsDecimal n → HasForm version (line (key ∷ decimal n ∷ [])) (make n))
-    → option_map make (parse_number words) ≡ Some item → HasForm version (line (key ∷ words)) item
-number_item version key words make item has =
-    made_item version (line (key ∷ words)) (parse_number words) make item (λ n e.
-    let is = number_read words n e in
-    subst (λ (w : List (List ℕ)). HasForm version (line (key ∷ w)) (make n)) (sym is.0) (has n is.1))
-
-name_item : (version : ℕ) (key : List ℕ) (words : List (List ℕ)) (make : List ℕ → Item) (item : Item)
-    → ((name : List ℕ) → IsName name → HasForm version (line (key ∷ name ∷ [])) (make name))
-    → option_map make (parse_name words) ≡ Some item → HasForm version (line (key ∷ words)) item
-name_item version key words make item has =
-    made_item version (line (key ∷ words)) (parse_name words) make item (λ name e.
-    let is = name_read words name e in
-    subst (λ (w : List (List ℕ)). HasForm version (line (key ∷ w)) (make name)) (sym is.0) (has name is.1))
+-- a key, and what its words say
+key_read : {X : Type 0} (version : ℕ) (key : List ℕ) (words : List (List ℕ)) (found : Option X) (make : X → Item)
+    (item : Item) (IsGood : X → Type 0) (texts : X → List (List ℕ))
+    → ((x : X) → found ≡ Some x → (words ≡ texts x) × IsGood x)
+    → ((x : X) → IsGood x → IsSaid version (key ∷ texts x) (make x))
+    → option_map make found ≡ Some item → IsSaid version (key ∷ words) item
+key_read version key words found make item IsGood texts read has =
+    made_item (IsSaid version (key ∷ words)) found make item
+    (λ x e. let is = read x e in rw is.0 (has x is.1))
 
 with_read : (version : ℕ) (key : List ℕ) (words : List (List ℕ)) (item : Item)
-    → parse_by_key version key words ≡ Some item
-    → HasForm version (line (key ∷ words)) item
-unfolding parse_by_key item_text
+    → parse_by_key version key words ≡ Some item → IsSaid version (key ∷ words) item
+unfolding parse_by_key
 with_read version key words item =
-    let P : List ℕ → Type 0 = λ k. HasForm version (line (k ∷ words)) item in
+    let P : List ℕ → Type 0 = λ k. IsSaid version (k ∷ words) item in
     by_word P key (codes "phase") _ _ item (phase_read version words item)
     (by_word P key (codes "cpus") _ _ item
-    (number_item version (codes "cpus") words SetCpus item (λ n small. record { form = small; says = refl }))
+    (key_read version _ words _ SetCpus item IsDecimal (λ n. decimal n ∷ []) (number_read words) (λ n is. (is, refl)))
     (by_word P key (codes "memory") _ _ item
-    (number_item version (codes "memory") words SetMemory item (λ n small. record { form = small; says = refl }))
+    (key_read version _ words _ SetMemory item IsDecimal (λ n. decimal n ∷ []) (number_read words) (λ n is. (is, refl)))
     (by_word P key (codes "rom") _ _ item
-    (name_item version (codes "rom") words SetRom item (λ name is. record { form = is; says = refl }))
+    (key_read version _ words _ SetRom item IsName (λ n. n ∷ []) (name_read words) (λ n is. (is, refl)))
     (by_word P key (codes "disk") _ _ item
-    (name_item version (codes "disk") words SetDisk item (λ name is. record { form = is; says = refl }))
+    (key_read version _ words _ SetDisk item IsName (λ n. n ∷ []) (name_read words) (λ n is. (is, refl)))
     (by_word P key (codes "card") _ _ item
-    (made_item version (line (codes "card" ∷ words)) (parse_card version words) FitCard item (λ card e.
-    let c = card_read version words card e in record { form = c.1; says = c.0 }))
+    (made_item (IsSaid version (codes "card" ∷ words)) (parse_card version words) FitCard item (λ card e.
+    let c = card_read version words card e in (c.1, ap (λ (w : List (List ℕ)). codes "card" ∷ w) c.0)))
     (statement_read version key words item))))))
 
 fields_read : (version : ℕ) (fields : List (List ℕ)) (item : Item) → parse_item version fields ≡ Some item
-    → HasForm version (line fields) item
+    → IsSaid version fields item
 unfolding parse_item
 fields_read version [] item e = absurd cc
 fields_read version (key ∷ words) item e = with_read version key words item e
@@ -343,5 +193,8 @@ fields_read version (key ∷ words) item e = with_read version key words item e
 pub item_read : (version : ℕ) (text : List ℕ) (item : Item) → parse_item version (fields_of text) ≡ Some item
     → HasForm version text item
 item_read version text item e =
-    subst (λ (t : List ℕ). HasForm version t item) (join_with_byte-slice_split space text)
-    (fields_read version (fields_of text) item e)
+    let said = fields_read version (fields_of text) item e in
+    record {
+      form = said.0;
+      says = rw (join_with_byte-slice_split space text) at (fields_say (fields_of text) item said.1);
+    }

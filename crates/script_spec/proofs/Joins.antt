@@ -1,9 +1,8 @@
 -- Fields that are spelled make a line that is spelled.
-use Rattle.std.proofs.Common.{◌≡◌, ℕ, Bool, true, false, cond, Option, Some, List, [], ◌∷◌, ◌++◌, inl, inr, refl, sym}
-use Rattle.std.proofs.Common.{ap, subst, ◌∙◌, append_assoc, append-nil, codes, bytes_eq}
-use Rattle.board_prelude.proofs.Common.{AllZip, cases_Bool, join_with_byte, bytes_eq-Decides, space, smm_text}
-use Rattle.script_spec.specs.Common.{StandsFor, parse_smm}
-use Rattle.script_spec.proofs.Chains.{some_is, guarded}
+use Rattle.board_prelude.proofs.Common.{nat_tests, AllZip, join_with_byte, bytes_eq-Decides, space}
+use Rattle.std.proofs.Common.{arith, ◌≡◌, ℕ, true, cond, Option, Some, List, [], ◌∷◌, ◌++◌, inl, refl}
+use Rattle.std.proofs.Common.{subst, bytes_eq}
+use Rattle.script_spec.specs.Common.{StandsFor}
 
 abbrev pub Spells : List ℕ → List ℕ → Type 0
 Spells field text = AllZip StandsFor field text
@@ -42,67 +41,6 @@ word_is field word e = (bytes_eq-Decides field word).0 e
 pub by_word : {A : Type 0} (P : List ℕ → Type 0) (field word : List ℕ) (one other : Option A) (found : A)
     → (one ≡ Some found → P word) → (other ≡ Some found → P field)
     → cond (bytes_eq field word) one other ≡ Some found → P field
-by_word P field word one other found here there e = elim (cases_Bool (bytes_eq field word)) [
-  | inl is ↦ subst P (sym (word_is field word is)) (here (rw is at e))
-  | inr is ↦ there (rw is at e)
-]
+by_word P field word one other found here there e = grind (arith, nat_tests, word_is)
 
 -- ---- the flag of an access
-
-abbrev pub smm_words : Bool → List (List ℕ)
-smm_words false = []
-smm_words true = codes "smm" ∷ []
-
-pub smm_read : (flags : List (List ℕ)) (smm : Bool) → parse_smm flags ≡ Some smm → Reads flags (smm_words smm)
-unfolding parse_smm
-smm_read [] smm e = subst (λ (b : Bool). Reads [] (smm_words b)) (some_is false smm e) tt
-smm_read (field ∷ []) smm e =
-    let g = guarded (bytes_eq field (codes "smm")) (Some true) smm e in
-    subst (λ (b : Bool). Reads (field ∷ []) (smm_words b)) (some_is true smm g.1)
-    (same_as field (codes "smm") (word_is field (codes "smm") g.0), tt)
-smm_read (_ ∷ _ ∷ _) smm e = absurd cc
-
-read_parts : (k s h m : List ℕ) → k ++ space ∷ s ++ space ∷ h ++ [] ++ m ≡ k ++ (space ∷ (s ++ (space ∷ (h ++ m))))
-read_parts k s h m =
-    ap (λ (t : List ℕ). t ++ m) (append-nil (k ++ space ∷ s ++ space ∷ h))
-    ∙ append_assoc (k ++ space ∷ s) (space ∷ h) m
-    ∙ append_assoc k (space ∷ s) (space ∷ (h ++ m))
-
-pub access_joined : (k s h : List ℕ) (smm : Bool) → join_with_byte space (k ∷ s ∷ h ∷ smm_words smm)
-    ≡ k ++ space ∷ s ++ space ∷ h ++ [] ++ smm_text smm
-access_joined k s h true = sym (read_parts k s h (smm_text true))
-access_joined k s h false =
-    sym (read_parts k s h [] ∙ ap (λ (t : List ℕ). k ++ (space ∷ (s ++ (space ∷ t)))) (append-nil h))
-
-write_parts : (k s h v m : List ℕ)
-    → k ++ space ∷ s ++ space ∷ h ++ (space ∷ v) ++ m ≡ k ++ (space ∷ (s ++ (space ∷ (h ++ (space ∷ (v ++ m))))))
-write_parts k s h v m =
-    append_assoc (k ++ space ∷ s ++ space ∷ h) (space ∷ v) m
-    ∙ append_assoc (k ++ space ∷ s) (space ∷ h) (space ∷ (v ++ m))
-    ∙ append_assoc k (space ∷ s) (space ∷ (h ++ (space ∷ (v ++ m))))
-
-pub write_joined : (k s h v : List ℕ) (smm : Bool) → join_with_byte space (k ∷ s ∷ h ∷ v ∷ smm_words smm)
-    ≡ k ++ space ∷ s ++ space ∷ h ++ (space ∷ v) ++ smm_text smm
-write_joined k s h v true = sym (write_parts k s h v (smm_text true))
-write_joined k s h v false =
-    sym (write_parts k s h v [] ∙ ap (λ (t : List ℕ). k ++ (space ∷ (s ++ (space ∷ (h ++ (space ∷ t))))))
-    (append-nil v))
-
-look_parts : (k h m : List ℕ) → codes "look " ++ k ++ space ∷ h ++ m ≡ codes "look " ++ (k ++ (space ∷ (h ++ m)))
-look_parts k h m =
-    append_assoc (codes "look " ++ k) (space ∷ h) m ∙ append_assoc (codes "look ") k (space ∷ (h ++ m))
-
-pub look_joined : (k h : List ℕ) (smm : Bool) → join_with_byte space (codes "look" ∷ k ∷ h ∷ smm_words smm)
-    ≡ codes "look " ++ k ++ space ∷ h ++ smm_text smm
-look_joined k h true = sym (look_parts k h (smm_text true))
-look_joined k h false =
-    sym (look_parts k h [] ∙ ap (λ (t : List ℕ). codes "look " ++ (k ++ (space ∷ t))) (append-nil h))
-
-pub port_joined : (verb s h : List ℕ) → join_with_byte space (verb ∷ s ∷ h ∷ []) ≡ verb ++ space ∷ s ++ space ∷ h ++ []
-port_joined verb s h = sym (append-nil (verb ++ space ∷ s ++ space ∷ h) ∙ append_assoc verb (space ∷ s) (space ∷ h))
-
-pub out_joined : (verb s h v : List ℕ)
-    → join_with_byte space (verb ∷ s ∷ h ∷ v ∷ []) ≡ verb ++ space ∷ s ++ space ∷ h ++ (space ∷ v)
-out_joined verb s h v =
-    sym (append_assoc (verb ++ space ∷ s) (space ∷ h) (space ∷ v)
-    ∙ append_assoc verb (space ∷ s) (space ∷ (h ++ (space ∷ v))))

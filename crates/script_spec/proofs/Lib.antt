@@ -3,6 +3,8 @@ pub mod Fields
 pub mod Chains
 pub mod NumberTexts
 pub mod Joins
+pub mod Words
+pub mod ItemWords
 pub mod EventTexts
 pub mod MomentTexts
 pub mod CardTexts
@@ -15,8 +17,6 @@ pub mod ItemTexts
 pub mod EventBack
 pub mod MomentBack
 pub mod CardBack
-pub mod EventForms
-pub mod SetupBack
 pub mod ItemBack
 pub mod LineReading
 pub mod Lists

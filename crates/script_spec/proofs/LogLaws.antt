@@ -1,12 +1,11 @@
 -- A line of the log says its entry, and a log its version and its history.
-use Rattle.std.proofs.Common.{ℕ, ◌≡◌, ◌+◌, true, Option, Some, None, List, [], ◌∷◌, ◌++◌, length, map, reverse, get_or}
-use Rattle.std.proofs.Common.{drop, All, refl, sym, ap, ◌∙◌, inl, inr, append_assoc, append-nil, arith, codes, decimal}
-use Rattle.board_prelude.proofs.Common.{digits, flat_map-append, map-append, reverse-append, reverse-reverse, All-nil}
-use Rattle.board_prelude.proofs.Common.{All-head, All-tail, All-push, Pit, Ack, Entry, outside_answer, space, line_feed}
-use Rattle.board_prelude.proofs.Common.{event_text, value_bytes, reply_text, line_text, lines_text, log_text}
+use Rattle.board_prelude.proofs.Common.{nat_tests, common_steps, digits, flat_map-append, map-append, reverse-append}
+use Rattle.board_prelude.proofs.Common.{reverse-reverse, All-nil, All-head, All-tail, All-push, Pit, Ack, Entry}
+use Rattle.board_prelude.proofs.Common.{outside_answer, space, line_feed, line_text, lines_text, log_text}
+use Rattle.std.proofs.Common.{ℕ, ◌≡◌, ◌+◌, Option, Some, None, List, [], ◌∷◌, ◌++◌, length, map, reverse, All, refl}
+use Rattle.std.proofs.Common.{sym, ap, ◌∙◌, inl, inr, append_assoc, append-nil, arith, decimal}
 use Rattle.std.proofs.lemmas.Fmt.{decimal_injective}
 use Rattle.script_spec.specs.Common.{text_of_lines, IsOneLine, IsVersion, IsWellFormed, LineSaysEntry, LogSaysAll}
-use Rattle.script_spec.proofs.Digits.{lacks}
 use Rattle.script_spec.proofs.Fields.{front, front-field, lacks-append}
 use Rattle.script_spec.proofs.Chains.{some_is}
 use Rattle.script_spec.proofs.ReadingLaws.{not_nil}
@@ -20,15 +19,7 @@ use Rattle.script_spec.proofs.LogReading.{seven_parts, entry_in, entry_read}
 -- the number is the first field
 number_read : (n : ℕ) (entry : Entry) → front space (line_text n entry) ≡ decimal n
 unfolding line_text
-number_read n entry =
-    let event : List ℕ = event_text entry.event in
-    let reply : List ℕ = reply_text (value_bytes entry.event) entry.reply in
-    let numbered : List ℕ = decimal entry.seq ++ space ∷ (event ++ (codes " = " ++ reply)) in
-    ap (front space)
-    (seven_parts (decimal n) (space ∷ decimal entry.actor) (codes ".") (decimal entry.seq) (space ∷ event)
-    (codes " = ") reply)
-    ∙ front-field space (decimal n) (decimal entry.actor ++ 0x2E ∷ numbered) (lacks-word space (decimal n) refl
-    (decimal_word n))
+number_read n entry = simp (seven_parts, front-field, lacks-word, decimal_word)
 
 pub line_says_entry : LineSaysEntry
 line_says_entry version n m entry other formed others same = (
@@ -49,41 +40,17 @@ log_lines (entry ∷ before) = log_lines before ++ line_text (length before + 1)
 pub lines_joined : (history : List Entry) → lines_text history ≡ text_of_lines (log_lines history)
 unfolding lines_text
 lines_joined [] = refl
-lines_joined (entry ∷ before) =
-    let line : List ℕ = line_text (length before + 1) entry in
-    append_assoc (lines_text before) line (line_feed ∷ [])
-    ∙ ap (λ (text : List ℕ). text ++ (line ++ line_feed ∷ [])) (lines_joined before)
-    ∙ ap (λ (text : List ℕ). text_of_lines (log_lines before) ++ text) (sym (append-nil (line ++ line_feed ∷ [])))
-    ∙ sym (flat_map-append (λ l. l ++ line_feed ∷ []) (log_lines before) (line ∷ []))
+lines_joined (entry ∷ before) = simp (append_assoc, append-nil, flat_map-append, lines_joined before)
 
 -- a line of the log is one line
 pub line_whole : (n : ℕ) (entry : Entry) → IsOneLine (line_text n entry)
 unfolding line_text
 line_whole n entry =
-    let event : List ℕ = event_text entry.event in
-    let reply : List ℕ = reply_text (value_bytes entry.event) entry.reply in
-    let one : List ℕ = decimal n ++ space ∷ decimal entry.actor in
-    let two : List ℕ = one ++ codes "." ++ decimal entry.seq in
-    let three : List ℕ = two ++ space ∷ event ++ codes " = " in
-    let number : (m : ℕ) → lacks line_feed (decimal m) ≡ true = λ m. lacks-word line_feed (decimal m) refl
-    (decimal_word m) in
-    one_line (three ++ reply)
-    (lacks-append line_feed three reply
-    (lacks-append line_feed (two ++ space ∷ event) (codes " = ")
-    (lacks-append line_feed two (space ∷ event)
-    (lacks-append line_feed (one ++ codes ".") (decimal entry.seq)
-    (lacks-append line_feed one (codes ".")
-    (lacks-append line_feed (decimal n) (space ∷ decimal entry.actor) (number n) (number entry.actor)) refl)
-    (number entry.seq))
-    (lacks-plain line_feed event refl (event_plain entry.event)))
-    refl)
-    (lacks-plain line_feed reply refl (reply_plain (value_bytes entry.event) entry.reply)))
+    grind (arith, nat_tests, lacks-word, decimal_word, one_line, lacks-append, lacks-plain, event_plain, reply_plain)
 
 pub lines_whole : (history : List Entry) → All IsOneLine (log_lines history)
 lines_whole [] = All-nil IsOneLine
-lines_whole (entry ∷ before) =
-    All-push IsOneLine (log_lines before) (line_text (length before + 1) entry) (lines_whole before) (line_whole
-    (length before + 1) entry)
+lines_whole (entry ∷ before) = grind (arith, nat_tests, common_steps, All-push, line_whole, lines_whole before)
 
 pub nothing_more : (this after : List ℕ) → [] ≡ this ++ line_feed ∷ after → ⊥
 nothing_more [] after e = not_nil line_feed after e
@@ -138,8 +105,7 @@ same_history version left right one two same =
 
 versions_differ : (left right : List Entry) → log_text 1 left ≡ log_text 2 right → ⊥
 unfolding digits
-versions_differ left right same = let digit : 0x31 ≡ 0x32 = ap (λ (text : List ℕ). get_or text 11 0) same in omega
-    (arith, digit)
+versions_differ left right same = grind (arith, nat_tests)
 
 same_version : (version other : ℕ) (left right : List Entry) → IsVersion version → IsVersion other →
     log_text version left ≡ log_text other right → version ≡ other
@@ -154,10 +120,7 @@ same_version version other left right (inr one) (inr two) same = one ∙ sym two
 same_rest : (version : ℕ) (left right : List Entry) → IsVersion version →
     log_text version left ≡ log_text version right → lines_text left ≡ lines_text right
 unfolding digits
-same_rest version left right (inl one) same =
-    ap (drop 13) (ap (λ v. log_text v left) (sym one) ∙ same ∙ ap (λ v. log_text v right) one)
-same_rest version left right (inr two) same =
-    ap (drop 13) (ap (λ v. log_text v left) (sym two) ∙ same ∙ ap (λ v. log_text v right) two)
+same_rest version left right given same = grind (arith, nat_tests)
 
 pub log_says_all : LogSaysAll
 log_says_all bytes version other left right one two =

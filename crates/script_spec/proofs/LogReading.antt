@@ -1,8 +1,8 @@
 -- A line of the log is taken apart, and its entry is read from it.
-use Rattle.std.proofs.Common.{◌≡◌, ℕ, ◌<◌, true, Option, Some, None, List, [], ◌∷◌, ◌++◌, refl, sym, ap, ◌∙◌, inl, inr}
+use Rattle.board_prelude.proofs.Common.{nat_tests, lt-ltb, common_steps, Event, Statement, Entry, space, event_text}
+use Rattle.board_prelude.proofs.Common.{value_bytes, reply_text, line_text}
+use Rattle.std.proofs.Common.{◌≡◌, ℕ, ◌<◌, true, Option, Some, None, List, [], ◌∷◌, ◌++◌, refl, ap, ◌∙◌, inl, inr}
 use Rattle.std.proofs.Common.{append_assoc, arith, codes, decimal}
-use Rattle.board_prelude.proofs.Common.{lt-ltb, common_steps, Event, Statement, Entry, space, event_text, value_bytes}
-use Rattle.board_prelude.proofs.Common.{reply_text, line_text}
 use Rattle.script_spec.specs.Common.{Item, Ask, HasForm, item_text, IsWellFormed, fields_of, ◌>>=◌, ask, parse_line}
 use Rattle.script_spec.specs.Common.{cut, parse_spaced_reply, Pieces, but_last, parse_pieces, parse_actor}
 use Rattle.script_spec.proofs.Digits.{lacks}
@@ -16,12 +16,7 @@ use Rattle.script_spec.proofs.ItemBack.{line_back}
 use Rattle.script_spec.proofs.ReplyBack.{reply_read}
 
 pub seven_parts : (a b c d e f g : List ℕ) → a ++ b ++ c ++ d ++ e ++ f ++ g ≡ a ++ (b ++ (c ++ (d ++ (e ++ (f ++ g)))))
-seven_parts a b c d e f g =
-    append_assoc (a ++ b ++ c ++ d ++ e) f g
-    ∙ append_assoc (a ++ b ++ c ++ d) e (f ++ g)
-    ∙ append_assoc (a ++ b ++ c) d (e ++ (f ++ g))
-    ∙ append_assoc (a ++ b) c (d ++ (e ++ (f ++ g)))
-    ∙ append_assoc a b (c ++ (d ++ (e ++ (f ++ g))))
+seven_parts a b c d e f g = simp append_assoc
 
 -- `S STATEMENT`
 abbrev pub asked_text : (seq : ℕ) → Event → List ℕ
@@ -44,17 +39,12 @@ pieces_said : (line number rest actor later asked replied : List ℕ) → cut sp
     → cut 0x2E rest ≡ Some (actor, later) → cut 0x3D later ≡ Some (asked ++ space ∷ [], replied)
     → parse_pieces line ≡ Some (record { actor = actor; asked = asked; replied = replied })
 unfolding parse_pieces
-pieces_said line number rest actor later asked replied one two three =
-    rw (one, two, three) (ap (λ (text : List ℕ). Some (record { actor = actor; asked = text; replied = replied }))
-    (but_last_push asked space))
+pieces_said line number rest actor later asked replied one two three = grind (arith, nat_tests, but_last_push)
 
 -- what stands after the point, cut before its `=`
 later_parts : (seq event reply : List ℕ)
     → seq ++ (space ∷ event ++ (codes " = " ++ reply)) ≡ (seq ++ space ∷ event ++ space ∷ []) ++ 0x3D ∷ (space ∷ reply)
-later_parts seq event reply =
-    ap (λ (text : List ℕ). seq ++ (space ∷ text)) (sym (append_assoc event (space ∷ []) (0x3D ∷ space ∷ reply)))
-    ∙ sym (append_assoc seq (space ∷ event ++ space ∷ []) (0x3D ∷ space ∷ reply))
-    ∙ ap (λ (text : List ℕ). text ++ 0x3D ∷ space ∷ reply) (sym (append_assoc seq (space ∷ event) (space ∷ [])))
+later_parts seq event reply = simp append_assoc
 
 pub line_pieces : (version n : ℕ) (entry : Entry) → IsWellFormed version entry
     → parse_pieces (line_text n entry) ≡ Some (pieces entry)
@@ -88,8 +78,7 @@ actor_said actor small = rw (decimal_back actor (omega (arith, small)), lt-ltb a
 pub asked_said : (version : ℕ) (entry : Entry) → IsWellFormed version entry
     → HasForm version (asked_text entry.seq entry.event) (ask entry.seq entry.event)
 unfolding item_text
-asked_said version entry formed =
-    record { form = (formed.seq, formed.form); says = same (asked_text entry.seq entry.event) }
+asked_said version entry formed = grind (arith, nat_tests, same)
 
 -- ---- an entry is read from its line
 

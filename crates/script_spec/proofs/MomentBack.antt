@@ -1,18 +1,12 @@
 -- A field that spells a moment is read as that moment.
-use Rattle.std.proofs.Common.{◌≡◌, ℕ, ◌+◌, ◌*◌, ◌/◌, ◌%◌, ◌<◌, Some, List, [], ◌∷◌, ◌++◌, refl, sym, ap, arith}
-use Rattle.board_prelude.proofs.Common.{eq-eqb, Moment, moment_of, two_digits, moment_text}
+use Rattle.board_prelude.proofs.Common.{nat_tests, eq-eqb, Moment, moment_of, two_digits, moment_text}
+use Rattle.std.proofs.Common.{◌≡◌, ℕ, ◌/◌, ◌%◌, ◌<◌, Some, List, [], ◌∷◌, ◌++◌, refl, sym, ap, arith}
 use Rattle.script_spec.specs.Common.{IsMomentForm, parse_two_digits, after_mark, parse_moment_part, parse_year}
 use Rattle.script_spec.specs.Common.{parse_date, parse_time, whole_moment, parse_moment}
-use Rattle.script_spec.proofs.NumberBack.{digit_so}
 
 two_back : (n : ℕ) (rest : List ℕ) → n < 100 → parse_two_digits (two_digits n ++ rest) ≡ Some (n, rest)
 unfolding parse_two_digits
-two_back n rest small =
-    let whole : n / 10 % 10 * 10 + n % 10 ≡ n = omega (arith, small) in
-    rw (
-      digit_so (0x30 + n / 10 % 10) (n / 10 % 10) (omega arith) (omega arith) (omega arith) (omega arith),
-      digit_so (0x30 + n % 10) (n % 10) (omega arith) (omega arith) (omega arith) (omega arith),
-    ) (ap (λ (x : ℕ). Some (x, rest)) whole)
+two_back n rest small = grind (arith, nat_tests)
 
 part_back : (mark n : ℕ) (rest : List ℕ) → n < 100
     → parse_moment_part mark (mark ∷ (two_digits n ++ rest)) ≡ Some (n, rest)
@@ -22,36 +16,20 @@ part_back mark n rest small = rw (eq-eqb mark mark refl) (two_back n rest small)
 year_back : (year : ℕ) (rest : List ℕ) → year < 10_000
     → parse_year (two_digits (year / 100) ++ (two_digits (year % 100) ++ rest)) ≡ Some (year, rest)
 unfolding parse_year
-year_back year rest small =
-    let whole : year / 100 * 100 + year % 100 ≡ year = omega arith in
-    rw (
-      two_back (year / 100) (two_digits (year % 100) ++ rest) (omega (arith, small)),
-      two_back (year % 100) rest (omega arith),
-    )
-    (ap (λ (x : ℕ). Some (x, rest)) whole)
+year_back year rest small = grind (arith, nat_tests, two_back)
 
 date_back : (year month day : ℕ) (rest : List ℕ) → year < 10_000 → month < 100 → day < 100
     → parse_date (two_digits
     (year / 100) ++ (two_digits (year % 100) ++ 0x2D ∷ (two_digits month ++ 0x2D ∷ (two_digits day ++ rest))))
     ≡ Some (record { first = year; second = month; third = day; rest = rest })
 unfolding parse_date
-date_back year month day rest y m d =
-    rw (
-      year_back year (0x2D ∷ (two_digits month ++ 0x2D ∷ (two_digits day ++ rest))) y,
-      part_back 0x2D month (0x2D ∷ (two_digits day ++ rest)) m,
-      part_back 0x2D day rest d,
-    ) refl
+date_back year month day rest y m d = simp (year_back, part_back)
 
 time_back : (hour minute second : ℕ) → hour < 100 → minute < 100 → second < 100
     → parse_time (0x54 ∷ (two_digits hour ++ 0x3A ∷ (two_digits minute ++ 0x3A ∷ (two_digits second ++ []))))
     ≡ Some (record { first = hour; second = minute; third = second; rest = [] })
 unfolding parse_time
-time_back hour minute second h m s =
-    rw (
-      part_back 0x54 hour (0x3A ∷ (two_digits minute ++ 0x3A ∷ (two_digits second ++ []))) h,
-      part_back 0x3A minute (0x3A ∷ (two_digits second ++ [])) m,
-      part_back 0x3A second [] s,
-    ) refl
+time_back hour minute second h m s = simp part_back
 
 weekday : (moment : Moment) → IsMomentForm moment
     → moment_of moment.year moment.month moment.day moment.hour moment.minute moment.second ≡ moment

@@ -1,39 +1,19 @@
 -- The moment that was read is the one that the field spells.
-use Rattle.std.proofs.Common.{◌≡◌, ℕ, ◌+◌, ◌*◌, ◌/◌, ◌%◌, ◌<◌, eqb, Some, List, [], ◌∷◌, ◌++◌, refl, sym, ap, subst}
-use Rattle.std.proofs.Common.{◌∙◌, arith}
-use Rattle.board_prelude.proofs.Common.{eqb-true, Moment, moment_of, two_digits, moment_text}
-use Rattle.script_spec.specs.Common.{IsMomentForm, parse_digit, parse_two_digits, after_mark, parse_moment_part}
-use Rattle.script_spec.specs.Common.{parse_year, Three, parse_date, parse_time, whole_moment, parse_moment}
-use Rattle.script_spec.proofs.Chains.{some_is, guarded, then_said}
-use Rattle.script_spec.proofs.NumberTexts.{ten_is}
-
-digits_again : (high low n : ℕ) → high < 10 → low < 10 → n ≡ high * 10 + low
-    → (0x30 + n / 10 % 10 ≡ 48 + high) × (0x30 + n % 10 ≡ 48 + low)
-digits_again high low n a b is = (omega (arith, is), omega (arith, is))
+use Rattle.board_prelude.proofs.Common.{nat_tests, Moment, moment_of, two_digits, moment_text}
+use Rattle.std.proofs.Common.{◌≡◌, ℕ, ◌+◌, ◌*◌, ◌/◌, ◌%◌, ◌<◌, Some, List, [], ◌∷◌, ◌++◌, refl, sym, ap, subst, ◌∙◌}
+use Rattle.std.proofs.Common.{arith}
+use Rattle.script_spec.specs.Common.{IsMomentForm, parse_two_digits, after_mark, parse_moment_part, parse_year, Three}
+use Rattle.script_spec.specs.Common.{parse_date, parse_time, whole_moment, parse_moment}
+use Rattle.script_spec.proofs.Chains.{some_is, then_said}
 
 two_read : (text : List ℕ) (p : ℕ × List ℕ) → parse_two_digits text ≡ Some p
     → (text ≡ two_digits p.0 ++ p.1) × (p.0 < 100)
 unfolding parse_two_digits
-two_read [] p e = absurd cc
-two_read (_ ∷ []) p e = absurd cc
-two_read (high ∷ low ∷ rest) p e =
-    let h = then_said (parse_digit 10 high) _ p e in
-    let l = then_said (parse_digit 10 low) _ p h.2 in
-    let is : (h.0 * 10 + l.0, rest) ≡ p = some_is (h.0 * 10 + l.0, rest) p l.2 in
-    let high_is = ten_is high h.0 h.1 in
-    let low_is = ten_is low l.0 l.1 in
-    let again = digits_again h.0 l.0 (h.0 * 10 + l.0) high_is.1 low_is.1 refl in
-    subst (λ (p : ℕ × List ℕ). (high ∷ low ∷ rest ≡ two_digits p.0 ++ p.1) × (p.0 < 100)) is
-    ((λ i. (high_is.0 ∙ sym again.0) i ∷ (low_is.0 ∙ sym again.1) i ∷ rest), omega (arith, high_is.1, low_is.1))
+two_read text p e = grind (arith, nat_tests)
 
 after_mark_read : (mark : ℕ) (text rest : List ℕ) → after_mark mark text ≡ Some rest → text ≡ mark ∷ rest
 unfolding after_mark
-after_mark_read mark [] rest e = absurd cc
-after_mark_read mark (c ∷ cs) rest e =
-    let g = guarded (eqb c mark) (Some cs) rest e in
-    let first = eqb-true c mark g.0 in
-    let later = some_is cs rest g.1 in
-    λ i. first i ∷ later i
+after_mark_read mark text rest e = grind (arith, nat_tests)
 
 part_read : (mark : ℕ) (text : List ℕ) (p : ℕ × List ℕ) → parse_moment_part mark text ≡ Some p
     → (text ≡ mark ∷ (two_digits p.0 ++ p.1)) × (p.0 < 100)
@@ -120,8 +100,7 @@ time_read text t e =
 with_read : (date time : Three) (rest : List ℕ) (moment : Moment) → whole_moment date time rest ≡ Some moment
     → (rest ≡ []) × (moment_of date.first date.second date.third time.first time.second time.third ≡ moment)
 unfolding whole_moment
-with_read date time [] moment e = (refl, some_is _ moment e)
-with_read date time (_ ∷ _) moment e = absurd cc
+with_read date time rest moment e = grind (arith, nat_tests)
 
 pub moment_read : (field : List ℕ) (moment : Moment) → parse_moment field ≡ Some moment
     → (field ≡ moment_text moment) × IsMomentForm moment

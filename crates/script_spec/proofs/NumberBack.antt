@@ -1,14 +1,11 @@
 -- A field that spells a number is read as that number.
+use Rattle.board_prelude.proofs.Common.{nat_tests, list_all, AllDigits, lt-ltb, le-leb, eq-eqb, and_parts, true≢false}
+use Rattle.board_prelude.proofs.Common.{not-true, byte, is_within, hex_digit, hex_number}
 use Rattle.std.proofs.Common.{◌≡◌, ℕ, zero, suc, ◌+◌, ◌-◌, ◌*◌, ◌/◌, ◌%◌, ◌^◌, ◌<◌, ◌≤◌, inl, inr, Bool, true, false}
-use Rattle.std.proofs.Common.{not, eqb, leb, Some, List, [], ◌∷◌, length, get_or, refl, sym, ap, subst, ◌∙◌, arith}
-use Rattle.std.proofs.Common.{pow-suc, lit<, decimal}
-use Rattle.board_prelude.proofs.Common.{list_all, AllDigits, cases_Bool, cases_lt, leb-true, lt-ltb, le-ltb, le-leb}
-use Rattle.board_prelude.proofs.Common.{lt-leb, eq-eqb, eqb-true, and_parts, true≢false, not-true, byte, is_within}
-use Rattle.board_prelude.proofs.Common.{hex_digit, hex_number}
+use Rattle.std.proofs.Common.{not, Some, List, [], ◌∷◌, length, get_or, refl, sym, ap, subst, ◌∙◌, arith, pow-suc, lit<}
+use Rattle.std.proofs.Common.{decimal}
 use Rattle.std.specs.Char.{digit_value as value_of_digit}
 use Rattle.std.specs.Str.Parse.{digits_value_after}
-use Rattle.std.proofs.lemmas.Str.Parse.{digit_from_value}
-use Rattle.std.proofs.lemmas.Str.{digit_value_digit}
 use Rattle.std.proofs.lemmas.Fmt.{digits_value-decimal, length-decimal-le, first_decimal, decimal_nonempty}
 use Rattle.std.proofs.lemmas.Fmt.{decimal_digit}
 use Rattle.std.proofs.lemmas.List.Elements.{length_all_zip}
@@ -37,39 +34,24 @@ plain_is (c ∷ cs) (t ∷ ts) plain spells =
 
 pub plain-digits : (ds : List ℕ) → AllDigits 10 ds → is_plain ds ≡ true
 plain-digits [] digits = refl
-plain-digits (c ∷ cs) digits =
-    let range = digit_from_value c digits.0 in
-    rw (lt-leb 0x41 c (omega (arith, range)), plain-digits cs digits.1) refl
+plain-digits (c ∷ cs) digits = grind (arith, nat_tests, plain-digits cs digits.1)
 
 -- ---- decimals
 
 pub digit_so : (c d : ℕ) → 48 ≤ c → c ≤ 57 → c - 48 ≡ d → d < 10 → parse_digit 10 c ≡ Some d
 digit_so c d low high is small = rw (le-leb 0x30 c low, le-leb c 0x39 high, is, lt-ltb d 10 small) refl
 
-digit_read : (c : ℕ) → value_of_digit c < 10 → parse_digit 10 c ≡ Some (value_of_digit c)
-digit_read c small =
-    let range = digit_from_value c small in
-    digit_so c (value_of_digit c) range.0 (omega (arith, range.1)) (omega (arith, digit_value_digit c range)) small
-
 digits_read : (high : ℕ) (ds : List ℕ) → AllDigits 10 ds
     → number_after 10 high ds ≡ Some (digits_value_after 10 high ds)
 unfolding number_after
 digits_read high [] digits = refl
-digits_read high (c ∷ cs) digits =
-    rw (digit_read c digits.0) (digits_read (high * 10 + value_of_digit c) cs digits.1)
+digits_read high (c ∷ cs) digits = grind (arith, nat_tests, digits_read (high * 10 + value_of_digit c) cs digits.1)
 
 no_leading : (field : List ℕ) → (2 ≤ length field → 48 < get_or field 0 0) → has_leading_zero field ≡ false
-no_leading field first = elim (cases_Bool (has_leading_zero field)) [
-  | inl zero_first ↦
-      let parts = and_parts (leb 2 (length field)) (eqb (get_or field 0 0) 48) zero_first in
-      let above = first (leb-true 2 (length field) parts.0) in
-      absurd (omega (arith, above, eqb-true (get_or field 0 0) 48 parts.1))
-  | inr none ↦ none
-]
+no_leading field first = grind (arith, nat_tests)
 
 first_digit : (n : ℕ) → IsDecimal n → 2 ≤ length (decimal n) → 48 < get_or (decimal n) 0 0
-first_digit zero small long = let one = ap length (decimal_digit 0 (lit< tt)) in absurd (omega (arith, long, one))
-first_digit (suc n) small long = first_decimal (suc n) (omega arith) (omega (arith, small))
+first_digit n small long = grind (arith, nat_tests, decimal_digit, first_decimal)
 
 pub decimal_back : (n : ℕ) → IsDecimal n → parse_decimal (decimal n) ≡ Some n
 decimal_back n small =
@@ -88,50 +70,7 @@ decimal_back n small =
 
 -- what stands for a digit of so much is read as so much
 pub hex_digit_read : (c d : ℕ) → d < 16 → StandsFor c (hex_digit d) → parse_digit 16 c ≡ Some d
-hex_digit_read c d small stands = elim (cases_lt d 10) [
-  | inl low ↦
-      let e : d % 16 ≡ d = omega (arith, small) in
-      let text : hex_digit d ≡ 48 + d = rw (e, lt-ltb d 10 low) refl in
-      elim stands [
-        | inl is ↦
-            let c_is : c ≡ 48 + d = is ∙ text in
-            let value : c - 0x30 ≡ d = omega (arith, c_is) in
-            rw (le-leb 0x30 c (omega (arith, c_is)), le-leb c 0x39 (omega (arith, c_is, low)), value, lt-ltb d 16 small)
-            refl
-        | inr lower ↦
-            let parts = and_parts (leb 0x41 (hex_digit d)) (leb (hex_digit d) 0x46) lower.0 in
-            absurd (omega (arith, leb-true 0x41 (hex_digit d) parts.0, text, low))
-      ]
-  | inr high ↦
-      let e : d % 16 ≡ d = omega (arith, small) in
-      let text : hex_digit d ≡ 55 + d = rw (e, le-ltb d 10 high) refl in
-      elim stands [
-        | inl is ↦
-            let c_is : c ≡ 55 + d = is ∙ text in
-            let value : c - 0x41 + 10 ≡ d = omega (arith, c_is, high) in
-            rw (
-              lt-leb c 0x39 (omega (arith, c_is, high)),
-              le-leb 0x30 c (omega (arith, c_is)),
-              le-leb 0x41 c (omega (arith, c_is, high)),
-              le-leb c 0x46 (omega (arith, c_is, small)),
-              value,
-              lt-ltb d 16 small,
-            ) refl
-        | inr lower ↦
-            let c_is : c ≡ 87 + d = omega (arith, lower.1, text) in
-            let value : c - 0x61 + 10 ≡ d = omega (arith, c_is, high) in
-            rw (
-              le-leb 0x30 c (omega (arith, c_is)),
-              lt-leb c 0x39 (omega (arith, c_is, high)),
-              le-leb 0x41 c (omega (arith, c_is)),
-              lt-leb c 0x46 (omega (arith, c_is, high)),
-              le-leb 0x61 c (omega (arith, c_is, high)),
-              le-leb c 0x66 (omega (arith, c_is, small)),
-              value,
-              lt-ltb d 16 small,
-            ) refl
-      ]
-]
+hex_digit_read c d small stands = grind (arith, nat_tests)
 
 next_value : (q high b : ℕ) → high ≡ q / 256 → b ≡ q % 256 → (high * 16 + b / 16) * 16 + b % 16 ≡ q
 next_value q high b one two = omega (arith, one, two)

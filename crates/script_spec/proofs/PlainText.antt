@@ -1,16 +1,12 @@
 -- The bytes of the log's words: spaces, letters, digits and a few marks, but no line feed and no `=`.
-use Rattle.std.proofs.Common.{ℕ, zero, suc, ◌≡◌, ◌+◌, ◌/◌, ◌%◌, ◌<◌, Bool, true, false, ◌||◌, cond, eqb, leb, ltb}
-use Rattle.std.proofs.Common.{Option, Some, List, [], ◌∷◌, ◌++◌, refl, sym, ap, ◌∙◌, inl, inr, arith, codes}
-use Rattle.std.proofs.Common.{decimal}
-use Rattle.board_prelude.proofs.Common.{digits, list_all, le-leb, lt-ltb, le-ltb, ne_eqb, cases_lt, cases_Bool}
-use Rattle.board_prelude.proofs.Common.{and_from, and_parts, or_right, or_left, true≢false, Reg, Dev, Area, Target}
-use Rattle.board_prelude.proofs.Common.{Denial, Register, byte, is_within, space, hex_digit}
+use Rattle.board_prelude.proofs.Common.{nat_tests, digits, list_all, lt-ltb, ne_eqb, cases_Bool, and_from, and_parts}
+use Rattle.board_prelude.proofs.Common.{or_right, true≢false, Reg, Dev, Area, Target, Denial, byte, is_within, space}
 use Rattle.board_prelude.proofs.Common.{hex_number, hex_offset, register_text, base_text, area_text, device_text}
 use Rattle.board_prelude.proofs.Common.{target_text, denial_text}
+use Rattle.std.proofs.Common.{ℕ, zero, suc, ◌≡◌, ◌+◌, ◌/◌, ◌%◌, ◌<◌, Bool, true, false, ◌||◌, eqb, Option, List, []}
+use Rattle.std.proofs.Common.{◌∷◌, ◌++◌, refl, sym, ap, ◌∙◌, inl, inr, arith, decimal}
 use Rattle.std.specs.Fmt.{digits_onto, digit_glyph}
 use Rattle.std.proofs.lemmas.List.Folds.{list_all-append}
-use Rattle.board_base.specs.declared.target.Dev.TheVariants as devices
-use Rattle.board_base.specs.declared.target.Area.TheVariants as areas
 use Rattle.board_base.specs.declared.target.Target.TheVariants as targets
 use Rattle.script_spec.proofs.Digits.{lacks}
 
@@ -39,33 +35,11 @@ lacks-word mark (c ∷ cs) outside word =
 -- ---- digits
 
 pub digit_byte : (d : ℕ) → d < 10 → is_word_byte (0x30 + d) ≡ true
-digit_byte d small =
-    or_left (is_within 0x2D 0x3A (0x30 + d)) _
-    (and_from (leb 0x2D (0x30 + d)) (leb (0x30 + d) 0x3A) (le-leb 0x2D (0x30 + d) (omega arith)) (le-leb
-    (0x30 + d) 0x3A (omega arith)))
-
-hex_byte_word : (d : ℕ) → d < 16 → is_word_byte (cond (ltb d 10) (0x30 + d) (0x37 + d)) ≡ true
-hex_byte_word d small =
-    elim (cases_lt d 10) [
-      | inl digit ↦ rw (lt-ltb d 10 digit) (digit_byte d digit)
-      | inr letter ↦
-          rw (le-ltb d 10 letter) (
-          or_right (is_within 0x2D 0x3A (0x37 + d)) (is_within 0x41 0x7A (0x37 + d))
-          (and_from (leb 0x41 (0x37 + d)) (leb (0x37 + d) 0x7A) (le-leb 0x41 (0x37 + d) (omega arith)) (le-leb
-          (0x37 + d) 0x7A (omega arith)))
-          )
-    ]
-
-pub hex_digit_word : (n : ℕ) → is_word_byte (hex_digit n) ≡ true
-hex_digit_word n = hex_byte_word (n % 0x10) (omega arith)
+digit_byte d small = grind (arith, nat_tests)
 
 pub hex_number_word : (bytes n : ℕ) → is_word (hex_number bytes n) ≡ true
 hex_number_word zero n = refl
-hex_number_word (suc bytes) n =
-    word-more (hex_digit (byte n bytes / 0x10)) (hex_digit (byte n bytes) ∷ hex_number bytes n) (hex_digit_word
-    (byte n bytes / 0x10))
-    (word-more (hex_digit (byte n bytes)) (hex_number bytes n) (hex_digit_word (byte n bytes))
-    (hex_number_word bytes n))
+hex_number_word (suc bytes) n = grind (arith, nat_tests, hex_number_word bytes n)
 
 glyph_word : (d : ℕ) → d < 10 → is_word_byte (digit_glyph false d) ≡ true
 glyph_word d small = rw (lt-ltb d 10 small) (digit_byte d small)
@@ -89,50 +63,32 @@ decimal_word n = digits_word 64 n [] refl
 -- ---- who answers
 
 register_word : (reg : Reg) → is_word (register_text reg) ≡ true
-register_word reg =
-    let last : List ℕ = hex_digit (reg.off / 0x10) ∷ hex_digit reg.off ∷ [] in
-    let later : List ℕ = 0x2E ∷ hex_digit reg.fun ∷ 0x2E ∷ last in
-    word-more (hex_digit (reg.dev / 0x10)) (hex_digit reg.dev ∷ later) (hex_digit_word (reg.dev / 0x10))
-    (word-more (hex_digit reg.dev) later (hex_digit_word reg.dev)
-    (word-more (hex_digit reg.fun) (0x2E ∷ last) (hex_digit_word reg.fun)
-    (word-more (hex_digit (reg.off / 0x10)) (hex_digit reg.off ∷ []) (hex_digit_word (reg.off / 0x10))
-    (word-more (hex_digit reg.off) [] (hex_digit_word reg.off) refl))))
+register_word reg = grind (arith, nat_tests)
 
 base_word_text : (dev base : ℕ) → is_word (base_text dev base) ≡ true
-base_word_text dev base =
-    word-append (codes "card:" ++ decimal dev ++ codes ".") (decimal base)
-    (word-append (codes "card:" ++ decimal dev) (codes ".") (decimal_word dev) refl) (decimal_word base)
+base_word_text dev base = simp (word-append, decimal_word)
 
 offset_word : (off : ℕ) → is_word (hex_offset off) ≡ true
-offset_word off = word-more (hex_digit (byte off 2)) (hex_number 2 off) (hex_digit_word (byte off 2))
-    (hex_number_word 2 off)
+offset_word off = grind (arith, nat_tests)
 
 device_word : (dev : Dev) → is_word (device_text dev) ≡ true
-device_word (devices.Vector chip) = decimal_word chip
-device_word (devices.Spurious chip) = decimal_word chip
-device_word _ = refl
+device_word dev = grind (arith, nat_tests, decimal_word)
 
 pub area_word : (area : Area) → is_word (area_text area) ≡ true
-area_word (areas.Dram row) = decimal_word row
-area_word (areas.Shadow row) = decimal_word row
-area_word (areas.Card dev base) = base_word_text dev base
-area_word _ = refl
+area_word area = grind (arith, nat_tests, decimal_word, base_word_text)
 
 pub target_word : (target : Target) → is_word (target_text target) ≡ true
 target_word (targets.Dram row) = decimal_word row
 target_word (targets.Shadow row) = decimal_word row
 target_word targets.Smram = refl
 target_word (targets.Rom off) = offset_word off
-target_word (targets.Card dev base off) =
-    word-append (base_text dev base ++ codes ":") (hex_number 4 off)
-    (word-append (base_text dev base) (codes ":") (base_word_text dev base) refl) (hex_number_word 4 off)
+target_word (targets.Card dev base off) = simp (word-append, base_word_text, hex_number_word)
 target_word (targets.Device dev) = device_word dev
 target_word (targets.Config reg) = register_word reg
 target_word targets.Abort = refl
 
 pub denial_word : (denial : Option Denial) → is_word (denial_text denial) ≡ true
-denial_word (Some (Register reg)) = register_word reg
-denial_word _ = refl
+denial_word denial = grind (arith, nat_tests, register_word)
 
 -- ---- words and spaces
 
@@ -140,8 +96,7 @@ abbrev pub is_plain : List ℕ → Bool
 is_plain bytes = list_all (λ b. eqb b space || is_word_byte b) bytes
 
 pub plain-append : (xs ys : List ℕ) → is_plain xs ≡ true → is_plain ys ≡ true → is_plain (xs ++ ys) ≡ true
-plain-append xs ys one two = list_all-append (λ b. eqb b space || is_word_byte b) xs ys
-    ∙ and_from (is_plain xs) (is_plain ys) one two
+plain-append xs ys one two = simp (list_all-append, and_from)
 
 pub plain-word : (xs : List ℕ) → is_word xs ≡ true → is_plain xs ≡ true
 plain-word [] word = refl

@@ -1,22 +1,22 @@
 -- What a text says is in range.
-use Rattle.std.proofs.Common.{ℕ, ◌≡◌, ◌+◌, ◌-◌, ◌*◌, ◌<◌, ◌≤◌, Bool, true, false, not, ◌&&◌, ◌||◌, cond, ltb, Option}
-use Rattle.std.proofs.Common.{Some, None, List, [], ◌∷◌, ◌++◌, length, map, reverse, All, filter, flat_map, refl, sym}
-use Rattle.std.proofs.Common.{ap, ◌∙◌, inl, inr, get_or, add-one, arith, is_some, ◌==◌}
-use Rattle.board_prelude.proofs.Common.{option_map, find, list_any, list_all, IsPermutation, true≢false, false≢true}
-use Rattle.board_prelude.proofs.Common.{or_parts, or_cases, or_right, and_parts, cases_Bool, ltb-true, ltb-false}
-use Rattle.board_prelude.proofs.Common.{All-nil, All-cons, All-head, All-tail, All-append, sum_by-cons, sum_by-append}
-use Rattle.board_prelude.proofs.Common.{All-permutation, IsPermutation-sym, Statement, most_statements, most_phases}
-use Rattle.board_prelude.proofs.Common.{most_pulses, most_card_memory, Setup, Base, MemoryBase, IoBase, OutsideBase}
-use Rattle.board_prelude.proofs.Common.{FittedCard, IsBase, IsExpansionRom, IsCard, Rises, memory_size, memory_of_cards}
-use Rattle.board_prelude.proofs.Common.{IsScripted, is_base_in_range, is_rom_in_range}
+use Rattle.board_prelude.proofs.Common.{nat_tests, common_steps, option_map, find, list_any, list_all, IsPermutation}
+use Rattle.board_prelude.proofs.Common.{true≢false, false≢true, or_parts, or_cases, or_right, and_parts, cases_Bool}
+use Rattle.board_prelude.proofs.Common.{ltb-true, All-nil, All-cons, All-head, All-tail, All-append, sum_by-cons}
+use Rattle.board_prelude.proofs.Common.{sum_by-append, All-permutation, IsPermutation-sym, Statement, most_statements}
+use Rattle.board_prelude.proofs.Common.{most_phases, most_pulses, most_card_memory, Setup, Base, FittedCard, IsBase}
+use Rattle.board_prelude.proofs.Common.{IsExpansionRom, IsCard, Rises, memory_size, memory_of_cards, IsScripted}
+use Rattle.board_prelude.proofs.Common.{is_base_in_range, is_rom_in_range}
+use Rattle.std.proofs.Common.{ℕ, ◌≡◌, ◌+◌, ◌-◌, ◌*◌, ◌<◌, ◌≤◌, Bool, true, false, not, ◌&&◌, cond, ltb, Option, Some}
+use Rattle.std.proofs.Common.{None, List, [], ◌∷◌, ◌++◌, length, map, reverse, All, filter, flat_map, refl, sym, ap}
+use Rattle.std.proofs.Common.{◌∙◌, inl, inr, get_or, add-one, arith, is_some, ◌==◌}
 use Rattle.std.specs.List.{sum_by}
 use Rattle.std.proofs.lemmas.List.Elements.{All-filter}
 use Rattle.std.proofs.lemmas.List.Folds.{list_any_none}
 use Rattle.std.proofs.lemmas.List.Sums.{length-filter}
 use Rattle.std.proofs.lemmas.List.Sorted.{IsPermutation-reverse, sum_by-IsPermutation}
 use Rattle.board_base.proofs.CalendarLemmas.{is_within_parts}
-use Rattle.script_spec.specs.Common.{Item, SetCpus, SetMemory, SetRom, SetDisk, FitCard, BeginPhase, Ask, AskLevel}
-use Rattle.script_spec.specs.Common.{IsForm, is_phase, is_statement, is_setup, is_cpus, is_memory, is_rom, is_disk}
+use Rattle.script_spec.specs.Common.{Item, SetCpus, SetMemory, SetRom, SetDisk, FitCard, BeginPhase, Ask, IsForm}
+use Rattle.script_spec.specs.Common.{is_phase, is_statement, is_setup, is_cpus, is_memory, is_rom, is_disk}
 use Rattle.script_spec.specs.Common.{is_cpus_above, has_card, cards_of, pulses_of, pulses_of_event, is_card_there}
 use Rattle.script_spec.specs.Common.{Script, IsVersion, phase_items, IsSaidBy, IsDiskName, statements_in}
 use Rattle.script_spec.specs.Common.{IsInRangeScript, ScriptsAreInRange}
@@ -52,8 +52,7 @@ OnAsk P _ = Unit {0}
 
 has_card_more : (item : Item) (before : List Item) (dev : ℕ) → has_card before dev ≡ true →
     has_card (item ∷ before) dev ≡ true
-has_card_more (FitCard card) before dev has = or_right (card.dev == dev) (has_card before dev) has
-has_card_more _ before dev has = has
+has_card_more item before dev has = grind (arith, nat_tests)
 
 scripted :
     (version cpus : ℕ) (setup : Setup) (before : List Item) (item : Item) →
@@ -93,10 +92,15 @@ phase_asks :
     All P phase × All (OnAsk P) later
 phase_asks P [] later all = (All-nil P, all)
 phase_asks P (statement ∷ phase) later all =
-    let rest : All P phase × All (OnAsk P) later =
-    phase_asks P phase later (All-tail (OnAsk P) (Ask statement) (map Ask phase ++ later) all)
-    in
-    (All-cons P statement phase (All-head (OnAsk P) (Ask statement) (map Ask phase ++ later) all) rest.0, rest.1)
+    grind (
+      arith,
+      nat_tests,
+      All-tail,
+      All-cons,
+      All-head,
+      phase_asks P phase later (All-tail (OnAsk P) (Ask statement)
+          (map Ask phase ++ later) all),
+    )
 
 all_asks :
     (P : Statement → Type 0) (phases : List (List Statement)) → All (OnAsk P) (phase_items phases) →
@@ -111,10 +115,7 @@ all_asks P (phase ∷ later) all =
 -- ---- cards
 
 pub none_any : {X : Type 0} (p : X → Bool) (xs : List X) → list_any p xs ≡ false → All (λ x. p x ≡ false) xs
-none_any p [] none = All-nil (λ x. p x ≡ false)
-none_any p (x ∷ xs) none =
-    let both : (p x ≡ false) × (list_any p xs ≡ false) = or_parts (p x) (list_any p xs) none in
-    All-cons (λ y. p y ≡ false) x xs both.0 (none_any p xs both.1)
+none_any p xs none = grind (arith, nat_tests, common_steps, All-nil, or_parts, All-cons)
 
 any_permutation : {X : Type 0} (p : X → Bool) (xs ys : List X) → IsPermutation xs ys → list_any p xs ≡ true →
     list_any p ys ≡ true
@@ -146,41 +147,18 @@ has_cards items cards setup same is dev has =
     (cards_of items) cards same has))
 
 all_bases : (bases : List Base) → list_all is_base_in_range bases ≡ true → All IsBase bases
-all_bases [] test = All-nil IsBase
-all_bases (MemoryBase bits ∷ bases) test =
-    let both = and_parts _ (list_all is_base_in_range bases) test in
-    All-cons IsBase (MemoryBase bits) bases (is_within_parts _ _ bits both.0) (all_bases bases both.1)
-all_bases (IoBase bits ∷ bases) test =
-    let both = and_parts _ (list_all is_base_in_range bases) test in
-    All-cons IsBase (IoBase bits) bases (is_within_parts _ _ bits both.0) (all_bases bases both.1)
-all_bases (OutsideBase bits ∷ bases) test =
-    let both = and_parts _ (list_all is_base_in_range bases) test in
-    All-cons IsBase (OutsideBase bits) bases (is_within_parts _ _ bits both.0) (all_bases bases both.1)
+all_bases bases test = grind (arith, nat_tests, common_steps, All-nil, and_parts, All-cons, is_within_parts)
 
 rom_there : (rom : Option ℕ) → is_rom_in_range rom ≡ true → IsExpansionRom rom
-rom_there None test = tt
-rom_there (Some bits) test = is_within_parts _ _ bits test
+rom_there rom test = grind (arith, nat_tests)
 
 three : (a b c : Bool) → (a && b && c) ≡ true → (a ≡ true) × (b ≡ true) × (c ≡ true)
-three false b c test = absurd (false≢true test)
-three true false c test = absurd (false≢true test)
-three true true false test = absurd (false≢true test)
-three true true true test = (refl, refl, refl)
+three a b c test = grind (arith, nat_tests)
 
 all_cards : (version : ℕ) (items : List Item) → AreGood version items → All IsCard (cards_of items)
 all_cards version [] good = All-nil IsCard
 all_cards version (FitCard card ∷ before) good =
-    let parts = three _ (list_all is_base_in_range card.bases) (is_rom_in_range card.rom) good.1.range in
-    let dev = is_within_parts _ _ card.dev parts.0 in
-    All-cons IsCard card (cards_of before)
-    (record {
-      first = dev.0;
-      last = dev.1;
-      count = good.0.count;
-      each = all_bases card.bases parts.1;
-      rom = rom_there card.rom parts.2;
-    })
-    (all_cards version before good.2)
+    grind (arith, nat_tests, three, is_within_parts, All-cons, all_bases, rom_there, all_cards version before good.2)
 all_cards version (_ ∷ before) good = all_cards version before good.2
 
 -- devices that rise up to 9 are few
@@ -201,25 +179,13 @@ few_cards low (card ∷ later) below rises from each =
 
 sum_of_cards : (cards : List FittedCard) → memory_of_cards cards ≡ sum_by (λ card. sum_by memory_size card.bases) cards
 sum_of_cards [] = refl
-sum_of_cards (card ∷ later) =
-    sum_by-append memory_size card.bases (flat_map (λ c. c.bases) later)
-    ∙ ap (λ (n : ℕ). sum_by memory_size card.bases + n) (sum_of_cards later)
-    ∙ sym (sum_by-cons (λ c. sum_by memory_size c.bases) card later)
+sum_of_cards (card ∷ later) = simp (sum_by-append, sum_by-cons, sum_of_cards later)
 
 same_memory : (cards others : List FittedCard) → IsPermutation cards others →
     memory_of_cards others ≡ memory_of_cards cards
-same_memory cards others same =
-    sum_of_cards others ∙ sum_by-IsPermutation (λ card. sum_by memory_size card.bases) cards others same
-    ∙ sym (sum_of_cards cards)
+same_memory cards others same = grind (arith, nat_tests, sum_of_cards, sum_by-IsPermutation)
 
 -- ---- limits
-
-four : (a b c d : Bool) → (a || b || c || d) ≡ false → (a ≡ false) × (b ≡ false) × (c ≡ false) × (d ≡ false)
-four false false false false test = (refl, refl, refl, refl)
-four true b c d test = absurd (true≢false test)
-four false true c d test = absurd (true≢false test)
-four false false true d test = absurd (true≢false test)
-four false false false true test = absurd (true≢false test)
 
 record IsWithinLimits (items : List Item) : Type 0 where
   statements : length (filter is_statement items) ≤ most_statements
@@ -228,20 +194,8 @@ record IsWithinLimits (items : List Item) : Type 0 where
   memory : memory_of_cards (cards_of items) ≤ most_card_memory
 
 within_limits : (version : ℕ) (items : List Item) → AreGood version items → IsWithinLimits items
-within_limits version [] good = record {
-  statements = omega arith;
-  phases = omega arith;
-  pulses = omega arith;
-  memory = omega arith;
-}
-within_limits version (item ∷ before) good =
-    let parts = four _ _ _ _ good.1.limits in
-    record {
-      statements = ltb-false most_statements _ parts.0;
-      phases = ltb-false most_phases _ parts.1;
-      pulses = ltb-false most_pulses _ parts.2;
-      memory = ltb-false most_card_memory _ parts.3;
-    }
+within_limits version [] good = grind (arith, nat_tests)
+within_limits version (item ∷ before) good = grind (arith, nat_tests)
 
 -- ---- sums over items and over phases
 
@@ -249,27 +203,13 @@ sum_kept :
     (f : Item → ℕ) (items : List Item) → ((item : Item) → is_setup item ≡ true → f item ≡ 0) →
     sum_by f (filter (λ item. not (is_setup item)) items) ≡ sum_by f items
 sum_kept f [] none = refl
-sum_kept f (item ∷ before) none =
-    elim (cases_Bool (is_setup item)) [
-      | inl setup ↦ rw setup (omega (arith, sum_kept f before none, none item setup, sum_by-cons f item before))
-      | inr other ↦
-          rw other (
-          sum_by-cons f item (filter (λ i. not (is_setup i)) before)
-          ∙ ap (λ (n : ℕ). f item + n) (sum_kept f before none)
-          ∙ sym (sum_by-cons f item before)
-          )
-    ]
+sum_kept f (item ∷ before) none = grind (arith, nat_tests, sum_by-cons, sum_kept f before none)
 
 sum_asks :
     (f : Item → ℕ) (g : Statement → ℕ) (phase : List Statement) → ((statement : Statement) →
     f (Ask statement) ≡ g statement) →
     sum_by f (map Ask phase) ≡ sum_by g phase
-sum_asks f g [] same = refl
-sum_asks f g (statement ∷ phase) same =
-    sum_by-cons f (Ask statement) (map Ask phase)
-    ∙ ap (λ (n : ℕ). n + sum_by f (map Ask phase)) (same statement)
-    ∙ ap (λ (n : ℕ). g statement + n) (sum_asks f g phase same)
-    ∙ sym (sum_by-cons g statement phase)
+sum_asks f g phase same = grind (arith, nat_tests, common_steps, sum_by-cons)
 
 sum_phases :
     (f : Item → ℕ) (g : Statement → ℕ) (phases : List (List Statement)) → ((statement : Statement) →
@@ -277,17 +217,7 @@ sum_phases :
     sum_by f (phase_items phases) ≡ length phases * f BeginPhase + sum_by g (flat_map (λ phase. phase) phases)
 sum_phases f g [] same = omega arith
 sum_phases f g (phase ∷ later) same =
-    let whole : sum_by f (phase_items (phase ∷ later)) ≡ f BeginPhase + sum_by f (map Ask phase ++ phase_items later) =
-    sum_by-cons f BeginPhase (map Ask phase ++ phase_items later)
-    in
-    let parts : sum_by f (map Ask phase ++ phase_items later) ≡ sum_by f (map Ask phase) + sum_by f
-    (phase_items later) =
-    sum_by-append f (map Ask phase) (phase_items later)
-    in
-    let joined : sum_by g (phase ++ flat_map (λ p. p) later) ≡ sum_by g phase + sum_by g (flat_map (λ p. p) later) =
-    sum_by-append g phase (flat_map (λ p. p) later)
-    in
-    grind (arith, whole, parts, joined, sum_asks f g phase same, sum_phases f g later same)
+    grind (arith, nat_tests, sum_by-cons, sum_by-append, sum_asks, sum_phases f g later same)
 
 -- a sum over all items is one over the phases, where setup lines count nothing
 sum_items :
@@ -311,17 +241,13 @@ sum_of_zeros [] = refl
 sum_of_zeros (x ∷ xs) = sum_by-cons (λ y. 0) x xs ∙ omega (arith, sum_of_zeros xs)
 
 no_statement : (item : Item) → is_setup item ≡ true → ◌≡◌ {A = ℕ} (cond {A = ℕ} (is_statement item) 1 0) 0
-no_statement (Ask statement) setup = absurd (false≢true setup)
-no_statement (AskLevel actor one number level) setup = absurd (false≢true setup)
-no_statement item setup = refl
+no_statement item setup = grind (arith, nat_tests)
 
 no_phase : (item : Item) → is_setup item ≡ true → ◌≡◌ {A = ℕ} (cond {A = ℕ} (is_phase item) 1 0) 0
-no_phase BeginPhase setup = absurd (false≢true setup)
-no_phase item setup = refl
+no_phase item setup = grind (arith, nat_tests)
 
 no_pulses : (item : Item) → is_setup item ≡ true → pulses_of item ≡ 0
-no_pulses (Ask statement) setup = absurd (false≢true setup)
-no_pulses item setup = refl
+no_pulses item setup = grind (arith, nat_tests)
 
 -- ---- the whole
 
@@ -395,5 +321,4 @@ in_range items script good version said =
     }
 
 pub scripts_are_in_range : ScriptsAreInRange
-scripts_are_in_range bytes script text =
-    in_range text.items script (read_good script.version text.later [] text.items text.read tt) text.version text.said
+scripts_are_in_range bytes script text = grind (arith, nat_tests, in_range, read_good)

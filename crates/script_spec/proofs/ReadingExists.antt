@@ -1,11 +1,11 @@
 -- Each text is a script's, or bad.
+use Rattle.board_prelude.proofs.Common.{nat_tests, option_map, find, list_any, IsPermutation, true≢false, false≢true}
+use Rattle.board_prelude.proofs.Common.{and_parts, cases_Bool, ltb-true, ltb-false, eqb-false, flat_map-append}
+use Rattle.board_prelude.proofs.Common.{map-append, reverse-append, All-nil, All-cons, All-head, All-tail}
+use Rattle.board_prelude.proofs.Common.{All-permutation, IsPermutation-sym, Statement, FittedCard, Rises}
 use Rattle.std.proofs.Common.{ℕ, ◌≡◌, ◌≢◌, ◌<◌, ◌≤◌, ◌⊎◌, Bool, true, false, not, ◌&&◌, ◌||◌, cond, ltb, Option, Some}
-use Rattle.std.proofs.Common.{None, Result, Ok, Err, List, [], ◌∷◌, ◌++◌, map, reverse, get_or, All, filter, refl, sym}
-use Rattle.std.proofs.Common.{ap, ◌∙◌, inl, inr, append_assoc, append-nil, arith, ◌==◌}
-use Rattle.board_prelude.proofs.Common.{option_map, find, list_any, IsPermutation, true≢false, false≢true, or_right}
-use Rattle.board_prelude.proofs.Common.{or_from, and_parts, and_from, cases_Bool, ltb-true, ltb-false, eqb-false}
-use Rattle.board_prelude.proofs.Common.{flat_map-append, map-append, reverse-append, All-nil, All-cons, All-head}
-use Rattle.board_prelude.proofs.Common.{All-tail, All-permutation, IsPermutation-sym, Statement, FittedCard, Rises}
+use Rattle.std.proofs.Common.{None, Result, List, [], ◌∷◌, ◌++◌, map, reverse, get_or, All, filter, refl, sym, ap, ◌∙◌}
+use Rattle.std.proofs.Common.{inl, inr, append_assoc, append-nil, arith, ◌==◌}
 use Rattle.std.proofs.lemmas.List.Sorted.{IsPermutation-refl, IsPermutation-trans, IsPermutation-cons}
 use Rattle.std.proofs.lemmas.List.Sorted.{IsPermutation-middle}
 use Rattle.script_spec.specs.Common.{lines_of, Item, SetCpus, SetMemory, SetRom, SetDisk, FitCard, BeginPhase, Ask}
@@ -18,27 +18,14 @@ use Rattle.script_spec.proofs.Decision.{judged, AreGoodLines, AreJudged, judged_
 
 -- ---- the setup is whole
 
-three_more : (a b c x y z : Bool) → (x && y && z) ≡ true → ((a || x) && (b || y) && (c || z)) ≡ true
-three_more a b c true true true all =
-    and_from ((a || true) && (b || true)) (c || true)
-    (and_from (a || true) (b || true) (or_right a true refl) (or_right b true refl)) (or_right c true refl)
-three_more a b c false y z all = absurd (false≢true all)
-three_more a b c true false z all = absurd (false≢true all)
-three_more a b c true true false all = absurd (false≢true all)
-
 more_setup : (item : Item) (before : List Item) → has_setup before ≡ true → has_setup (item ∷ before) ≡ true
-more_setup item before has =
-    three_more (is_cpus item) (is_memory item) (is_rom item) (list_any is_cpus before) (list_any is_memory before)
-    (list_any is_rom before) has
+more_setup item before has = grind (arith, nat_tests)
 
 -- by the first phase the setup is whole
 by_phase : (phase any before_has has : Bool) → (not (phase || any) && not has) ≡ false →
     ((not any && not before_has) ≡ false → before_has ≡ true) → (phase && (not any && not before_has)) ≡ false →
     (before_has ≡ true → has ≡ true) → has ≡ true
-by_phase phase any before_has true whole front begun more = refl
-by_phase true any before_has false whole front begun more = more (front begun)
-by_phase false true before_has false whole front begun more = more (front refl)
-by_phase false false before_has false whole front begun more = absurd (true≢false whole)
+by_phase phase any before_has has whole front begun more = grind (arith, nat_tests)
 
 whole_setup : (version : ℕ) (items : List Item) → AreGood version items → lacks_setup items ≡ false →
     has_setup items ≡ true
@@ -163,9 +150,7 @@ reverse_more item items = reverse-append (item ∷ []) items
 -- the phases with one more
 pub phases_more : (front : List (List Statement)) (last : List Statement) →
     phase_items (front ++ last ∷ []) ≡ phase_items front ++ (BeginPhase ∷ map Ask last)
-phases_more front last =
-    flat_map-append (λ phase. BeginPhase ∷ map Ask phase) front (last ∷ [])
-    ∙ ap (λ (items : List Item). phase_items front ++ BeginPhase ∷ items) (append-nil (map Ask last))
+phases_more front last = simp (flat_map-append, append-nil)
 
 begin_phase : (before : List Item) → Run before → Run (BeginPhase ∷ before)
 begin_phase before (inl none) = inr (record {
@@ -183,8 +168,7 @@ begin_phase before (inr some) = inr (record {
 
 ask_more : (before : List Item) (statement : Statement) → NoReason before (Ask statement) → Run before →
     Run (Ask statement ∷ before)
-ask_more before statement none (inl no_phase) =
-    let place = rw no_phase.0 at none.place in absurd (true≢false place)
+ask_more before statement none (inl no_phase) = grind (arith, nat_tests)
 ask_more before statement none (inr some) = inr (record {
   front = some.front;
   last = some.last ++ statement ∷ [];
@@ -197,17 +181,7 @@ ask_more before statement none (inr some) = inr (record {
 
 setup_more : (item : Item) (before : List Item) → is_phase item ≡ false → run_of (item ∷ before) ≡ run_of before →
     Run before → Run (item ∷ before)
-setup_more item before no_phase same (inl none) = inl (
-  or_from (is_phase item)
-      (list_any is_phase before) no_phase none.0,
-  same ∙ none.1,
-)
-setup_more item before no_phase same (inr some) = inr (record {
-  front = some.front;
-  last = some.last;
-  is = same
-      ∙ some.is;
-})
+setup_more item before no_phase same given = grind (arith, nat_tests)
 
 run : (version : ℕ) (items : List Item) → AreGood version items → Run items
 run version [] good = inl (refl, refl)
@@ -267,27 +241,11 @@ Reading bytes = ((script : Script) × IsScriptText bytes script) ⊎ ((line : �
 
 pub text_said : (bytes : List ℕ) (version : ℕ) (items : List Item) → AreGoodLines (lines_of bytes) version items →
     (script : Script) × IsScriptText bytes script
-text_said bytes version items good =
-    let said : (script : Script) × (script.version ≡ version) × IsSaidBy script items =
-    said_by version items (read_good version good.later [] items good.read tt) good.whole
-    in
-    let same : version ≡ said.0.version = sym said.1 in (
-      said.0,
-      record {
-        version = rw (← same) good.known;
-        later = good.later;
-        lines = rw (← same) good.cut;
-        items = items;
-        read = rw (← same) good.read;
-        whole = good.whole;
-        said = said.2;
-      },
-    )
+text_said bytes version items good = grind (arith, nat_tests, said_by, read_good)
 
 reading_of : (bytes : List ℕ) (result : Result (ℕ × List Item) (ℕ × ℕ)) → AreJudged (lines_of bytes) result
     → Reading bytes
-reading_of bytes (Ok found) good = inl (text_said bytes found.0 found.1 good)
-reading_of bytes (Err end) bad = inr (end.0, end.1, bad)
+reading_of bytes result good = grind (arith, nat_tests, text_said)
 
 pub some_reading : SomeReading
 some_reading bytes = reading_of bytes (judged (lines_of bytes)) (judged_is (lines_of bytes))

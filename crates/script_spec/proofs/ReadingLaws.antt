@@ -1,16 +1,15 @@
 -- A text says at most one script, and is bad at one line for one reason, but not both: it is decided.
-use Rattle.std.proofs.Common.{ℕ, ◌≡◌, Result, Ok, Err, List, [], ◌∷◌, ◌++◌, sym, ap, ◌∙◌, inl, inr}
+use Rattle.board_prelude.proofs.Common.{nat_tests}
+use Rattle.std.proofs.Common.{arith, ℕ, ◌≡◌, Result, Ok, Err, List, [], ◌∷◌, ◌++◌, sym, ap, ◌∙◌, inl, inr}
 use Rattle.script_spec.specs.Common.{lines_of, Item, IsSkipped, IsGoodLine, AreRead, NotBoth, OneRefusal}
-pub use Rattle.script_spec.proofs.Lists.{same_head, same_tail, not_nil, same_some}
+pub use Rattle.script_spec.proofs.Lists.{same_head, not_nil, same_some}
 use Rattle.script_spec.proofs.Decision.{text_decided, bad_decided}
 
 -- one line more is read
 pub read_more : (version : ℕ) (lines : List (List ℕ)) (line : List ℕ) (before items : List Item) (item : Item) →
     AreRead version before lines items → IsGoodLine version items line item →
     AreRead version before (lines ++ line ∷ []) (item ∷ items)
-read_more version [] line before items item read good =
-    let here = rw read at good in
-    inr (item, here, ap (λ is. item ∷ is) read)
+read_more version [] line before items item read good = grind (arith, nat_tests)
 read_more version (first ∷ later) line before items item (inl skipped) good =
     inl (skipped.0, read_more version later line before items item skipped.1 good)
 read_more version (first ∷ later) line before items item (inr one) good =

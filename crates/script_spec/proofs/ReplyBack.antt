@@ -1,13 +1,12 @@
 -- A reply is read back from its words, and what is read has the shape of its event.
-use Rattle.std.proofs.Common.{◌≡◌, ℕ, zero, suc, ◌+◌, ◌-◌, ◌^◌, ◌<◌, ◌≤◌, ◌↔◌, Bool, true, false, eqb, Option, Some}
-use Rattle.std.proofs.Common.{None, List, [], ◌∷◌, ◌++◌, length, All, flat_map, refl, sym, ap, ◌∙◌, inl, inr}
-use Rattle.std.proofs.Common.{append_assoc, append-nil, arith, lit<, decimal, IfSome, IsTrue}
-use Rattle.board_prelude.proofs.Common.{option_map, pow-le-pow_right, cases_Bool, eq-eqb, eqb-true, true≢false}
-use Rattle.board_prelude.proofs.Common.{All-head, All-tail, Kind, Fetch, Read, Write, WideAccess, Target, Denial}
-use Rattle.board_prelude.proofs.Common.{bytes_of, Event, Memory, Wide, Port, Ack}
+use Rattle.board_prelude.proofs.Common.{nat_tests, pow-le-pow_right, cases_Bool, eqb-true, All-head, All-tail, Kind}
+use Rattle.board_prelude.proofs.Common.{Write, WideAccess, Target, Denial, bytes_of, Event, Memory, Wide, Port, Ack}
 use Rattle.board_prelude.proofs.Common.{Look, Part, Parts, Two, Three, Four, Reply, Bus, Saw, is_write, longest_at}
 use Rattle.board_prelude.proofs.Common.{parts_from, parts_of, parts_list, space, hex_long, area_text, target_text}
 use Rattle.board_prelude.proofs.Common.{denial_text, value_bytes, value_text, answered_text, reply_text}
+use Rattle.std.proofs.Common.{◌≡◌, ℕ, zero, suc, ◌+◌, ◌-◌, ◌^◌, ◌<◌, ◌≤◌, ◌↔◌, Bool, true, false, eqb, Option, Some}
+use Rattle.std.proofs.Common.{None, List, [], ◌∷◌, length, All, flat_map, refl, sym, ap, ◌∙◌, inl, inr, append_assoc}
+use Rattle.std.proofs.Common.{append-nil, arith, decimal, IfSome, IsTrue}
 use Rattle.board_spec.specs.declared.event.Event.TheVariants.{Look as LookAt}
 use Rattle.board_spec.specs.declared.event.Reply.TheVariants.{Parts as InParts}
 use Rattle.script_spec.specs.Common.{IsDecimal, FitsPart, IsReplyValue, IsBusReply, IsWideReply, IsLookReply, HasShape}
@@ -18,7 +17,7 @@ use Rattle.script_spec.proofs.PlainText.{is_word, lacks-word, hex_number_word, d
 use Rattle.script_spec.proofs.PlainText.{denial_word}
 use Rattle.script_spec.proofs.PlainLines.{value_word}
 use Rattle.script_spec.proofs.Digits.{lacks}
-use Rattle.script_spec.proofs.CardTexts.{spaced, line_spaced}
+use Rattle.script_spec.proofs.Words.{spaced, line_spaced}
 use Rattle.script_spec.proofs.Splits.{Lack, split_exact}
 use Rattle.script_spec.proofs.NumberTexts.{decimal_read}
 use Rattle.script_spec.proofs.NumberBack.{decimal_back}
@@ -39,45 +38,22 @@ words_in bytes (Saw look) = decimal look.version ∷ hex_long look.lo ∷ hex_lo
 parts_spaced : (parts : List Part)
     → flat_map (λ part. answered_text part.target part.denial) parts ≡ spaced (words_of parts)
 parts_spaced [] = refl
-parts_spaced (part ∷ later) =
-    append_assoc (space ∷ target_text part.target) (space ∷ denial_text part.denial) (flat_map
-    (λ p. answered_text p.target p.denial) later)
-    ∙ ap (λ (rest : List ℕ). (space ∷ target_text part.target) ++ ((space ∷ denial_text part.denial) ++ rest))
-    (parts_spaced later)
+parts_spaced (part ∷ later) = grind (arith, nat_tests, append_assoc, parts_spaced later)
 
 reply_spaced : (bytes : ℕ) (reply : Reply) → space ∷ reply_text bytes reply ≡ spaced (words_in bytes reply)
 unfolding reply_text
-reply_spaced bytes (Bus value target denial) =
-    ap (λ (rest : List ℕ). (space ∷ value_text bytes value) ++ ((space ∷ target_text target) ++ rest))
-    (sym (append-nil (space ∷ denial_text denial)))
-reply_spaced bytes (InParts parts value) =
-    ap (λ (rest : List ℕ). (space ∷ value_text bytes value) ++ rest) (parts_spaced (parts_list parts))
-reply_spaced bytes (Saw look) =
-    let version : List ℕ = decimal look.version in
-    let lo : List ℕ = space ∷ hex_long look.lo in
-    let hi : List ℕ = space ∷ hex_long look.hi in
-    ap (λ (text : List ℕ). space ∷ text)
-    (append_assoc (version ++ lo) hi (space ∷ area_text look.area)
-    ∙ append_assoc version lo (hi ++ space ∷ area_text look.area))
-    ∙ ap (λ (rest : List ℕ). (space ∷ version) ++ (lo ++ (hi ++ rest))) (sym (append-nil (space ∷ area_text look.area)))
+reply_spaced bytes reply = grind (arith, nat_tests, append-nil, parts_spaced, append_assoc)
 
 lack : (word : List ℕ) → is_word word ≡ true → lacks space word ≡ true
 lack word is = lacks-word space word refl is
 
 parts_lack : (parts : List Part) → Lack (words_of parts)
 parts_lack [] = tt
-parts_lack (part ∷ later) = (
-  lack (target_text part.target) (target_word part.target),
-  (lack (denial_text part.denial) (denial_word part.denial), parts_lack later),
-)
+parts_lack (part ∷ later) = grind (arith, nat_tests, lack, target_word, denial_word, parts_lack later)
 
 words_lack : (bytes : ℕ) (reply : Reply) → Lack (words_in bytes reply)
-words_lack bytes (Bus value target denial) = (
-  lack (value_text bytes value) (value_word bytes value),
-  (lack (target_text target) (target_word target), (lack (denial_text denial) (denial_word denial), tt)),
-)
-words_lack bytes (InParts parts value) =
-    (lack (value_text bytes value) (value_word bytes value), parts_lack (parts_list parts))
+words_lack bytes (Bus value target denial) = grind (arith, nat_tests, lack, value_word, target_word, denial_word)
+words_lack bytes (InParts parts value) = grind (arith, nat_tests, lack, value_word, parts_lack)
 words_lack bytes (Saw look) = (
   lack (decimal look.version) (decimal_word look.version),
   (
@@ -96,9 +72,7 @@ reply_fields bytes reply =
 
 value_back : (writes : Bool) (bytes : ℕ) (value : Option ℕ) → IsReplyValue writes bytes value
     → parse_value writes bytes (value_text bytes value) ≡ Some value
-value_back true bytes value fits = rw fits refl
-value_back false bytes None fits = absurd fits
-value_back false bytes (Some n) fits = ap (option_map Some) (hex_read bytes n fits)
+value_back writes bytes value fits = grind (arith, nat_tests, hex_read)
 
 bus_said : (writes : Bool) (bytes : ℕ) (v t d : List ℕ) (value : Option ℕ) (target : Target) (denial : Option Denial)
     → parse_value writes bytes v ≡ Some value → parse_target t ≡ Some target → parse_denial d ≡ Some denial
@@ -108,11 +82,7 @@ bus_said writes bytes v t d value target denial one two three = rw (one, two, th
 
 bus_back : (writes : Bool) (bytes : ℕ) (reply : Reply) → IsBusReply writes bytes reply
     → parse_bus_reply writes bytes (words_in bytes reply) ≡ Some reply
-bus_back writes bytes (Bus value target denial) fits =
-    bus_said writes bytes (value_text bytes value) (target_text target) (denial_text denial) value target denial
-    (value_back writes bytes value fits.0) (target_back target fits.1) (denial_back denial fits.2)
-bus_back writes bytes (InParts parts value) fits = absurd fits
-bus_back writes bytes (Saw look) fits = absurd fits
+bus_back writes bytes reply fits = grind (arith, nat_tests, bus_said, value_back, target_back, denial_back)
 
 part_said : (t d : List ℕ) (target : Target) (denial : Option Denial) → parse_target t ≡ Some target
     → parse_denial d ≡ Some denial
@@ -121,9 +91,7 @@ unfolding parse_part
 part_said t d target denial one two = rw (one, two) refl
 
 part_back : (part : Part) → FitsPart part → parse_part (target_text part.target) (denial_text part.denial) ≡ Some part
-part_back part fits =
-    part_said (target_text part.target) (denial_text part.denial) part.target part.denial
-    (target_back part.target fits.0) (denial_back part.denial fits.1)
+part_back part fits = grind (arith, nat_tests, part_said, target_back, denial_back)
 
 parts_back : (parts : Parts) → All FitsPart (parts_list parts) → parse_parts (words_of (parts_list parts)) ≡ Some parts
 unfolding parse_parts parse_more_parts parse_last_parts
@@ -166,8 +134,7 @@ wide_said : (access : WideAccess) (v : List ℕ) (words : List (List ℕ)) (valu
     → length (parts_list parts) ≡ part_count 4 access.addr access.bytes
     → parse_wide_reply access (v ∷ words) ≡ Some (InParts parts value)
 unfolding parse_wide_reply
-wide_said access v words value parts one two three =
-    rw (one, two, eq-eqb (length (parts_list parts)) (part_count 4 access.addr access.bytes) three) refl
+wide_said access v words value parts one two three = grind (arith, nat_tests)
 
 wide_back : (access : WideAccess) (reply : Reply) → IsWideReply (is_write access.kind) access.bytes
     (length (parts_of access)) reply
@@ -207,41 +174,23 @@ reply_back _ reply shape = ap Some (sym shape)
 pub reply_read : (event : Event) (reply : Reply) → HasShape event reply
     → parse_spaced_reply event (fields_of (space ∷ reply_text (value_bytes event) reply)) ≡ Some reply
 unfolding parse_spaced_reply
-reply_read event reply shape =
-    ap (parse_spaced_reply event) (reply_fields (value_bytes event) reply) ∙ reply_back event reply shape
+reply_read event reply shape = grind (arith, nat_tests, reply_fields, reply_back)
 
 -- ---- the shape of what was read
 
 pub narrow_value : (writes : Bool) (bytes : ℕ) (value : Option ℕ) → bytes ≤ 4 → IsReplyValue writes bytes value
     → IfSome value (λ v. v < 2 ^ 32)
-narrow_value true bytes value few fits = rw fits tt
-narrow_value false bytes None few fits = tt
-narrow_value false bytes (Some n) few fits = omega (arith, fits, pow-le-pow_right {n = 256} (lit< tt) few)
+narrow_value writes bytes value few fits = grind (arith, nat_tests, pow-le-pow_right)
 
 pub wide_shape : (access : WideAccess) (value : Option ℕ) (parts : Parts)
     → IsReplyValue (is_write access.kind) access.bytes value
     → All FitsPart (parts_list parts)
     → IfSome (parts_with access value parts) (IsWideReply (is_write access.kind) access.bytes
     (length (parts_of access)))
-wide_shape access value parts fits each =
-    elim (cases_Bool (eqb (length (parts_list parts)) (part_count 4 access.addr access.bytes))) [
-      | inl same ↦
-          rw same (
-            fits,
-            each,
-            eqb-true (length (parts_list parts)) (part_count 4 access.addr access.bytes) same
-                ∙ sym (counted access 4 access.addr access.bytes),
-          )
-      | inr other ↦ rw other tt
-    ]
+wide_shape access value parts fits each = grind (arith, nat_tests, eqb-true, counted)
 
 pub writes_is : (kind : Kind) (writes : Bool) → (IsTrue writes ↔ kind ≡ Write) → writes ≡ is_write kind
-writes_is Fetch true same = absurd (true≢false (sym (ap is_write (same.0 refl))))
-writes_is Fetch false same = refl
-writes_is Read true same = absurd (true≢false (sym (ap is_write (same.0 refl))))
-writes_is Read false same = refl
-writes_is Write true same = refl
-writes_is Write false same = absurd (true≢false (sym (same.1 refl)))
+writes_is kind writes same = grind (arith, nat_tests)
 
 pub decimal_below : (field : List ℕ) (found : Option ℕ) → found ≡ parse_decimal field → IfSome found IsDecimal
 decimal_below field None is = tt

@@ -1,8 +1,8 @@
 -- A text says at most one script.
+use Rattle.board_prelude.proofs.Common.{nat_tests, option_map, IsPermutation, All-head, All-tail, All-nil}
+use Rattle.board_prelude.proofs.Common.{All-permutation, IsPermutation-sym, Statement, FittedCard, Rises}
 use Rattle.std.proofs.Common.{ℕ, ◌≡◌, ◌<◌, ◌⊎◌, Option, Some, None, Result, Ok, List, [], ◌∷◌, ◌++◌, get_or, map, All}
 use Rattle.std.proofs.Common.{refl, sym, ap, ◌∙◌, inl, inr, append-nil, arith}
-use Rattle.board_prelude.proofs.Common.{option_map, IsPermutation, All-head, All-tail, All-nil, All-cons}
-use Rattle.board_prelude.proofs.Common.{All-permutation, IsPermutation-sym, Statement, FittedCard, Rises}
 use Rattle.script_spec.specs.Common.{Item, SetCpus, SetMemory, SetRom, SetDisk, BeginPhase, Ask, cards_of, Script}
 use Rattle.script_spec.specs.Common.{phase_items, IsSaidBy, OneScript}
 use Rattle.script_spec.proofs.Decision.{text_decided}
@@ -15,8 +15,7 @@ In (first ∷ later) card = (card ≡ first) ⊎ In later card
 
 pub all_in : (cards : List FittedCard) → All (In cards) cards
 all_in [] = All-nil (In [])
-all_in (first ∷ later) =
-    All-cons (In (first ∷ later)) first later (inl refl) (λ k d below. inr (all_in later k d below))
+all_in (first ∷ later) = grind (arith, nat_tests, all_in later)
 
 pub in_all : (P : FittedCard → Type 0) (cards : List FittedCard) (card : FittedCard) → All P cards →
     In cards card → P card
@@ -86,18 +85,11 @@ cut_phases (_ ∷ later) = cut_phases later
 cut_statements : (phase : List Statement) (later : List Item) →
     cut_phases (map Ask phase ++ later) ≡ (phase ++ (cut_phases later).0, (cut_phases later).1)
 cut_statements [] later = refl
-cut_statements (statement ∷ phase) later =
-    ap (λ (p : List Statement × List (List Statement)). (statement ∷ p.0, p.1)) (cut_statements phase later)
+cut_statements (statement ∷ phase) later = grind (arith, nat_tests, cut_statements phase later)
 
 phases_cut : (phases : List (List Statement)) → cut_phases (phase_items phases) ≡ ([], phases)
 phases_cut [] = refl
-phases_cut (phase ∷ later) =
-    let rest : cut_phases (map Ask phase ++ phase_items later) ≡ (phase ++ [], later) =
-    cut_statements phase (phase_items later)
-    ∙ ap (λ (p : List Statement × List (List Statement)). (phase ++ p.0, p.1)) (phases_cut later)
-    in
-    ap (λ (p : List Statement × List (List Statement)). ([], p.0 ∷ p.1)) rest
-    ∙ ap (λ (p : List Statement). ([], p ∷ later)) (append-nil phase)
+phases_cut (phase ∷ later) = simp (cut_statements, append-nil, phases_cut later)
 
 pub one_cutting : (left right : List (List Statement)) → phase_items left ≡ phase_items right → left ≡ right
 one_cutting left right e = ap (λ p. p.1) (sym (phases_cut left) ∙ ap cut_phases e ∙ phases_cut right)
@@ -118,15 +110,13 @@ disk_of (Some (SetDisk name)) = Some name
 disk_of _ = None
 
 disk_said : (disk : Option (List ℕ)) → disk_of (option_map SetDisk disk) ≡ disk
-disk_said None = refl
-disk_said (Some name) = refl
+disk_said disk = grind (arith, nat_tests)
 
 scripts_equal :
     (left right : Script) → left.version ≡ right.version → left.cpus ≡ right.cpus → left.mib ≡ right.mib →
     left.rom ≡ right.rom →
     left.disk ≡ right.disk → left.cards ≡ right.cards → left.phases ≡ right.phases → left ≡ right
-scripts_equal left right e1 e2 e3 e4 e5 e6 e7 =
-    λ i. record { version = e1 i; cpus = e2 i; mib = e3 i; rom = e4 i; disk = e5 i; cards = e6 i; phases = e7 i }
+scripts_equal left right e1 e2 e3 e4 e5 e6 e7 = grind (arith, nat_tests)
 
 one_meaning : (items : List Item) (left right : Script) → left.version ≡ right.version →
     IsSaidBy left items → IsSaidBy right items → left ≡ right

@@ -1,8 +1,6 @@
 -- A line that spells fields has just those fields.
-use Rattle.std.proofs.Common.{◌≡◌, ℕ, inl, inr, Bool, true, false, eqb, leb, List, [], ◌∷◌, ◌++◌, refl, sym, ap, subst}
-use Rattle.std.proofs.Common.{◌∙◌, All, arith}
-use Rattle.board_prelude.proofs.Common.{join_with_byte, and_parts, leb-true, ne_eqb, true≢false, All-nil, All-cons}
-use Rattle.board_prelude.proofs.Common.{space}
+use Rattle.board_prelude.proofs.Common.{nat_tests, common_steps, join_with_byte, All-nil, All-cons, space}
+use Rattle.std.proofs.Common.{◌≡◌, ℕ, Bool, true, false, eqb, List, [], ◌∷◌, ◌++◌, refl, ap, All, arith}
 use Rattle.std.proofs.lemmas.List.Splits.{slice_split_none, slice_split_at}
 use Rattle.script_spec.specs.Common.{StandsFor, fields_of}
 use Rattle.script_spec.proofs.Digits.{lacks}
@@ -12,21 +10,13 @@ use Rattle.script_spec.proofs.Joins.{Spells, Reads}
 abbrev is_space : ℕ → Bool
 is_space byte = eqb byte 32
 
-no_space : (written byte : ℕ) → StandsFor written byte → is_space byte ≡ false → is_space written ≡ false
-no_space written byte (inl is) other = rw is other
-no_space written byte (inr small) other =
-    let parts = and_parts (leb 0x41 byte) (leb byte 0x46) small.0 in
-    let low = leb-true 0x41 byte parts.0 in
-    ne_eqb written 32 (λ is. let none : ⊥ = omega (arith, low, small.1, is) in none)
-
 -- a field that spells a text without spaces has none
 spelled_lacks : (field text : List ℕ) → Spells field text → lacks space text ≡ true
     → All (λ byte. is_space byte ≡ false) field
 spelled_lacks [] text spells lack = All-nil (λ byte. is_space byte ≡ false)
 spelled_lacks (c ∷ cs) [] spells lack = absurd spells
 spelled_lacks (c ∷ cs) (t ∷ ts) spells lack =
-    All-cons (λ byte. is_space byte ≡ false) c cs (no_space c t spells.0 (lacks-first space t ts lack))
-    (spelled_lacks cs ts spells.1 (lacks-later space t ts lack))
+    grind (arith, nat_tests, spelled_lacks cs ts spells.1 (lacks-later space t ts lack))
 
 -- a line that spells two texts is cut in two
 record IsCut (line first second : List ℕ) : Type 0 where
@@ -51,8 +41,7 @@ cut (c ∷ cs) (t ∷ ts) second spells =
 
 -- only a space stands for a space
 space_is : (written : ℕ) → StandsFor written 32 → written ≡ 32
-space_is written (inl is) = is
-space_is written (inr small) = let f = small.0 in absurd (true≢false (sym f))
+space_is written given = grind (arith, nat_tests)
 
 abbrev pub Lack : List (List ℕ) → Type 0
 Lack [] = Unit {0}
@@ -66,18 +55,12 @@ split_at : (line front rest text next : List ℕ) (texts : List (List ℕ)) → 
     → Reads (fields_of line) (text ∷ next ∷ texts)
 split_at line front [] text next texts lack reads_later is spells later = absurd later
 split_at line front (c ∷ rest) text next texts lack reads_later is spells later =
-    let first : c ≡ 32 = space_is c later.0 in
-    let whole : line ≡ front ++ 32 ∷ rest = is ∙ ap (λ (b : ℕ). front ++ b ∷ rest) first in
-    subst (λ (fields : List (List ℕ)). Reads fields (text ∷ next ∷ texts))
-    (sym (ap fields_of whole ∙ slice_split_at is_space front 32 rest (spelled_lacks front text spells lack) refl))
-    (spells, reads_later rest later.1)
+    grind (arith, nat_tests, space_is, slice_split_at, spelled_lacks)
 
 pub split : (line text : List ℕ) (texts : List (List ℕ)) → Lack (text ∷ texts)
     → Spells line (join_with_byte space (text ∷ texts))
     → Reads (fields_of line) (text ∷ texts)
-split line text [] lack spells =
-    subst (λ (fields : List (List ℕ)). Reads fields (text ∷ []))
-    (sym (slice_split_none is_space line (spelled_lacks line text spells lack.0))) (spells, tt)
+split line text [] lack spells = grind (arith, nat_tests, slice_split_none, spelled_lacks)
 split line text (next ∷ texts) lack spells =
     let k = cut line text (space ∷ join_with_byte space (next ∷ texts)) spells in
     split_at line k.front k.rest text next texts lack.0 (λ later spells. split later next texts lack.1 spells) k.is
@@ -86,14 +69,10 @@ split line text (next ∷ texts) lack spells =
 -- ---- a line that is fields joined
 
 own_bytes : (field : List ℕ) → lacks space field ≡ true → All (λ byte. is_space byte ≡ false) field
-own_bytes [] lack = All-nil (λ byte. is_space byte ≡ false)
-own_bytes (c ∷ cs) lack =
-    All-cons (λ byte. is_space byte ≡ false) c cs (lacks-first space c cs lack)
-    (own_bytes cs (lacks-later space c cs lack))
+own_bytes field lack = grind (arith, nat_tests, common_steps, All-nil, All-cons, lacks-first, lacks-later)
 
 pub split_exact : (field : List ℕ) (fields : List (List ℕ)) → Lack (field ∷ fields)
     → fields_of (join_with_byte space (field ∷ fields)) ≡ field ∷ fields
 split_exact field [] lack = slice_split_none is_space field (own_bytes field lack.0)
 split_exact field (next ∷ fields) lack =
-    slice_split_at is_space field 32 (join_with_byte space (next ∷ fields)) (own_bytes field lack.0) refl
-    ∙ ap (λ (later : List (List ℕ)). field ∷ later) (split_exact next fields lack.1)
+    grind (arith, nat_tests, slice_split_at, own_bytes, split_exact next fields lack.1)

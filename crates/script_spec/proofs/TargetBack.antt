@@ -1,23 +1,20 @@
 -- A word of a reply is read as what it names.
+use Rattle.board_prelude.proofs.Common.{nat_tests, digits, option_map, ne_eqb, Reg, Dev, Area, Target, Denial, byte}
+use Rattle.board_prelude.proofs.Common.{hex_digit, hex_byte, hex_number, hex_long, hex_offset, register_text, area_text}
+use Rattle.board_prelude.proofs.Common.{device_text, target_text, denial_text}
 use Rattle.std.proofs.Common.{◌≡◌, ℕ, zero, suc, ◌+◌, ◌*◌, ◌/◌, ◌%◌, ◌^◌, ◌<◌, ◌⊎◌, true, false, cond, eqb, ltb, Option}
 use Rattle.std.proofs.Common.{Some, List, [], ◌∷◌, ◌++◌, refl, sym, ap, ◌∙◌, inl, inr, append_assoc, arith, codes}
 use Rattle.std.proofs.Common.{decimal}
-use Rattle.board_prelude.proofs.Common.{digits, option_map, lt-ltb, le-ltb, ne_eqb, cases_lt, Reg, Dev, Area, Target}
-use Rattle.board_prelude.proofs.Common.{Denial, Register, byte, hex_digit, hex_byte, hex_number}
-use Rattle.board_prelude.proofs.Common.{hex_long, hex_offset, register_text, area_text, device_text, target_text}
-use Rattle.board_prelude.proofs.Common.{denial_text}
 use Rattle.std.proofs.lemmas.Fmt.{decimal_digit}
 use Rattle.board_base.specs.declared.target.Dev.TheVariants as devices
-use Rattle.board_base.specs.declared.target.Area.TheVariants as areas
 use Rattle.board_base.specs.declared.target.Target.TheVariants as targets
 use Rattle.script_spec.specs.Common.{FitsReg, FitsArea, FitsDevice, FitsTarget, FitsDenial, parse_digit, number_after}
-use Rattle.script_spec.specs.Common.{parse_hex, cut, parse_one_digit, parse_register, denial_with, parse_denial}
-use Rattle.script_spec.specs.Common.{parse_placed_area, parse_area, parse_placed_target, parse_device, parse_target}
+use Rattle.script_spec.specs.Common.{parse_hex, cut, parse_one_digit, parse_register, parse_denial, parse_placed_area}
+use Rattle.script_spec.specs.Common.{parse_area, parse_placed_target, parse_device, parse_target}
 use Rattle.script_spec.proofs.Digits.{lacks}
 use Rattle.script_spec.proofs.Fields.{lacks-append, lacks-decimal}
 use Rattle.script_spec.proofs.Joins.{same}
-use Rattle.script_spec.proofs.NumberTexts.{digit_again}
-use Rattle.script_spec.proofs.NumberBack.{digit_so, hex_digit_read, hex_after, hex_back}
+use Rattle.script_spec.proofs.NumberBack.{digit_so, hex_after, hex_back}
 use Rattle.script_spec.specs.Targets.{parse_card_base, parse_card_target}
 use Rattle.script_spec.proofs.CutLemmas.{cut_field}
 
@@ -27,9 +24,7 @@ pub hex_read : (bytes n : ℕ) → n < 256 ^ bytes → parse_hex (2 * bytes) (he
 hex_read bytes n small = hex_back bytes n (hex_number bytes n) small (same (hex_number bytes n))
 
 hex_digit_back : (n : ℕ) → parse_digit 16 (hex_digit n) ≡ Some (n % 16)
-hex_digit_back n =
-    ap (parse_digit 16) (digit_again n (n % 16) refl)
-    ∙ hex_digit_read (hex_digit (n % 16)) (n % 16) (omega arith) (inl refl)
+hex_digit_back n = grind (arith, nat_tests)
 
 byte_back : (n : ℕ) → n < 0x100 → parse_hex 2 (hex_byte n) ≡ Some n
 byte_back n small =
@@ -38,30 +33,20 @@ byte_back n small =
 
 nibble_back : (n : ℕ) → n < 16 → parse_hex 1 (hex_digit n ∷ []) ≡ Some n
 unfolding number_after
-nibble_back n small =
-    let e : 0 * 16 + n % 16 ≡ n = omega (arith, small) in
-    rw (hex_digit_back n) (ap (λ (x : ℕ). Some x) e)
+nibble_back n small = grind (arith, nat_tests)
 
 offset_back : (n : ℕ) → n < 0x10_0000 → parse_hex 5 (hex_offset n) ≡ Some n
 unfolding number_after
-offset_back n small =
-    let d : ℕ = byte n 2 in
-    let e : 0 * 16 + d % 16 ≡ n / 256 ^ 2 = omega (arith, small) in
-    rw (hex_digit_back d) (hex_after 2 (0 * 16 + d % 16) n (hex_number 2 n) e (same (hex_number 2 n)))
+offset_back n small = grind (arith, nat_tests, hex_digit_back, hex_after, same)
 
 digit_back : (n : ℕ) → n < 10 → parse_one_digit (decimal n) ≡ Some n
 unfolding parse_one_digit
-digit_back n small =
-    rw (decimal_digit n small) (digit_so (48 + n) n (omega arith) (omega (arith, small)) (omega arith) small)
+digit_back n small = grind (arith, nat_tests, decimal_digit, digit_so)
 
 -- ---- registers and denials
 
 digit_is_not : (d mark : ℕ) → d < 16 → (mark < 0x30) ⊎ (0x46 < mark) → cond (ltb d 10) (0x30 + d) (0x37 + d) ≡ mark → ⊥
-digit_is_not d mark small outside =
-    elim (cases_lt d 10) [
-      | inl digit ↦ rw (lt-ltb d 10 digit) (λ same. grind (arith, outside, same))
-      | inr letter ↦ rw (le-ltb d 10 letter) (λ same. grind (arith, outside, same))
-    ]
+digit_is_not d mark small outside = grind (arith, nat_tests)
 
 digit_not : (n mark : ℕ) → (mark < 0x30) ⊎ (0x46 < mark) → eqb (hex_digit n) mark ≡ false
 digit_not n mark outside = ne_eqb (hex_digit n) mark (digit_is_not (n % 0x10) mark (omega arith) outside)
@@ -90,9 +75,7 @@ register_back reg fits =
 
 pub denial_back : (denial : Option Denial) → FitsDenial denial → parse_denial (denial_text denial) ≡ Some denial
 unfolding parse_denial parse_register cut
-denial_back (Some (Register reg)) fits = ap (λ (r : Option Reg). denial_with r (register_text reg))
-    (register_back reg fits)
-denial_back _ fits = refl
+denial_back denial fits = grind (arith, nat_tests, register_back)
 
 -- ---- areas
 
@@ -111,15 +94,11 @@ base_back dev base one two =
 
 base_parts : (dev base : ℕ) → dev < 10 → base < 10 → parse_card_base (decimal dev ++ codes "." ++ decimal base) ≡ Some
     (dev, base)
-base_parts dev base one two = ap parse_card_base (append_assoc (decimal dev) (codes ".") (decimal base))
-    ∙ base_back dev base one two
+base_parts dev base one two = simp (append_assoc, base_back)
 
 pub area_back : (area : Area) → FitsArea area → parse_area (area_text area) ≡ Some area
 unfolding parse_area parse_placed_area cut
-area_back (areas.Dram row) fits = ap (option_map areas.Dram) (digit_back row fits)
-area_back (areas.Shadow row) fits = ap (option_map areas.Shadow) (digit_back row fits)
-area_back (areas.Card dev base) fits = ap (option_map (λ p. areas.Card p.0 p.1)) (base_parts dev base fits.0 fits.1)
-area_back _ fits = refl
+area_back area fits = grind (arith, nat_tests, digit_back, base_parts)
 
 -- ---- targets
 

@@ -1,0 +1,116 @@
+-- The fields of each item, which its line joins.
+use Rattle.std.proofs.Common.{◌≡◌, ℕ, Bool, true, false, Option, Some, None, List, [], ◌∷◌, ◌++◌, flat_map, map, refl}
+use Rattle.std.proofs.Common.{sym, ap, ◌∙◌, append_assoc, append-nil, arith, codes, decimal, if◌then◌else◌}
+use Rattle.board_prelude.proofs.Common.{join_with_byte, nat_tests, Base, MemoryBase, IoBase, OutsideBase, Event, Ack}
+use Rattle.board_prelude.proofs.Common.{stimulus_form, space}
+use Rattle.script_spec.specs.Common.{Item, SetCpus, SetMemory, SetRom, SetDisk, FitCard, BeginPhase, Ask, AskLevel}
+use Rattle.script_spec.specs.Common.{IsForm, Says, base_text, rom_text, card_text, item_text, fields_of}
+use Rattle.script_spec.proofs.Digits.{lacks}
+use Rattle.script_spec.proofs.Joins.{Reads, joined}
+use Rattle.script_spec.proofs.Splits.{Lack, split, split_exact}
+use Rattle.script_spec.proofs.FieldTexts.{lacks_decimal, lacks_name}
+use Rattle.script_spec.proofs.Words.{spaced, line_spaced, event_words, event_joined, event_lacks, lacks_stimulus}
+
+-- ---- cards
+
+abbrev pub kind_word : Bool → List ℕ
+kind_word vga = codes (if vga then "vga" else "plain")
+
+abbrev pub base_word : Base → List ℕ
+base_word (MemoryBase bits) = codes "m" ++ decimal bits
+base_word (IoBase bits) = codes "i" ++ decimal bits
+base_word (OutsideBase bits) = codes "o" ++ decimal bits
+
+abbrev pub rom_words : Option ℕ → List (List ℕ)
+rom_words None = []
+rom_words (Some bits) = (codes "x" ++ decimal bits) ∷ []
+
+-- the words of a card after its kind
+abbrev pub tail_words : List Base → Option ℕ → List (List ℕ)
+tail_words bases rom = map base_word bases ++ rom_words rom
+
+spaced_base : (base : Base) → space ∷ base_word base ≡ base_text base
+spaced_base base = grind (arith, nat_tests)
+
+spaced_tail : (bases : List Base) (rom : Option ℕ)
+    → spaced (tail_words bases rom) ≡ flat_map base_text bases ++ rom_text rom
+spaced_tail [] None = refl
+spaced_tail [] (Some bits) = append-nil (codes " x" ++ decimal bits)
+spaced_tail (base ∷ bases) rom = grind (arith, nat_tests, spaced_base, append_assoc, spaced_tail bases rom)
+
+card_joined : (dev : ℕ) (vga : Bool) (bases : List Base) (rom : Option ℕ)
+    → join_with_byte space (decimal dev ∷ kind_word vga ∷ tail_words bases rom)
+    ≡ card_text (record { dev = dev; vga = vga; bases = bases; rom = rom })
+card_joined dev true bases rom = simp (line_spaced, spaced_tail, append_assoc)
+card_joined dev false bases rom = simp (line_spaced, spaced_tail, append_assoc)
+
+-- ---- items
+
+abbrev pub item_words : Item → List (List ℕ)
+item_words (SetCpus count) = codes "cpus" ∷ decimal count ∷ []
+item_words (SetMemory mib) = codes "memory" ∷ decimal mib ∷ []
+item_words (SetRom name) = codes "rom" ∷ name ∷ []
+item_words (SetDisk name) = codes "disk" ∷ name ∷ []
+item_words (FitCard card) =
+    codes "card" ∷ decimal card.dev ∷ kind_word card.vga ∷ tail_words card.bases card.rom
+item_words BeginPhase = codes "phase" ∷ []
+item_words (Ask statement) = decimal statement.actor ∷ event_words statement.event
+item_words (AskLevel actor one number level) =
+    decimal actor ∷ (stimulus_form one).word ∷ decimal number ∷ decimal level ∷ []
+
+-- these fields say an item
+abbrev pub AreFields : List (List ℕ) → Item → Type 0
+AreFields fields (Ask statement) = Reads fields (item_words (Ask statement))
+AreFields fields item = fields ≡ item_words item
+
+event_after : (first : List ℕ) (event : Event)
+    → join_with_byte space (first ∷ event_words event) ≡ first ++ space ∷ join_with_byte space (event_words event)
+event_after first Ack = refl
+event_after first _ = refl
+
+pub item_joined : (item : Item) → join_with_byte space (item_words item) ≡ item_text item
+unfolding item_text
+item_joined (FitCard card) =
+    ap (λ (text : List ℕ). codes "card " ++ text) (card_joined card.dev card.vga card.bases card.rom)
+item_joined (Ask statement) = rw (event_after, event_joined) refl
+item_joined (AskLevel actor one number level) = simp append_assoc
+item_joined _ = refl
+
+lacks_base : (base : Base) → lacks space (base_word base) ≡ true
+lacks_base base = grind (arith, nat_tests, lacks_decimal)
+
+lacks_kind : (vga : Bool) → lacks space (kind_word vga) ≡ true
+lacks_kind true = refl
+lacks_kind false = refl
+
+lacks_tail : (bases : List Base) (rom : Option ℕ) → Lack (tail_words bases rom)
+lacks_tail [] None = tt
+lacks_tail [] (Some bits) = (lacks_decimal bits, tt)
+lacks_tail (base ∷ bases) rom = (lacks_base base, lacks_tail bases rom)
+
+item_lacks : (version : ℕ) (item : Item) → IsForm version item → Lack (item_words item)
+item_lacks version (SetCpus count) form = (refl, (lacks_decimal count, tt))
+item_lacks version (SetMemory mib) form = (refl, (lacks_decimal mib, tt))
+item_lacks version (SetRom name) form = (refl, (lacks_name name form.each, tt))
+item_lacks version (SetDisk name) form = (refl, (lacks_name name form.each, tt))
+item_lacks version (FitCard card) form =
+    (refl, (lacks_decimal card.dev, (lacks_kind card.vga, lacks_tail card.bases card.rom)))
+item_lacks version BeginPhase form = (refl, tt)
+item_lacks version (Ask statement) form = (lacks_decimal statement.actor, event_lacks statement.event)
+item_lacks version (AskLevel actor one number level) form =
+    (lacks_decimal actor, (lacks_stimulus one, (lacks_decimal number, (lacks_decimal level, tt))))
+
+-- ---- a line that says an item is its fields joined
+
+pub fields_say : (fields : List (List ℕ)) (item : Item) → AreFields fields item
+    → Says (join_with_byte space fields) item
+fields_say fields (Ask statement) are =
+    rw (← item_joined (Ask statement)) (joined fields (item_words (Ask statement)) are)
+fields_say fields item are = ap (join_with_byte space) are ∙ item_joined item
+
+pub fields_said : (version : ℕ) (line : List ℕ) (item : Item) → IsForm version item → Says line item
+    → AreFields (fields_of line) item
+fields_said version line (Ask statement) form says =
+    split line _ _ (item_lacks version (Ask statement) form) (rw (item_joined (Ask statement)) says)
+fields_said version line item form says =
+    ap fields_of (says ∙ sym (item_joined item)) ∙ split_exact _ _ (item_lacks version item form)
