@@ -1,6 +1,6 @@
 -- The cards in a list by their device numbers, and the bytes of their registers.
-use Rattle.std.proofs.Common.{◌≡◌, ◌≢◌, ℕ, zero, suc, ◌+◌, ◌*◌, ◌<◌, ◌≤◌, ◌⊎◌, inl, inr, false, List, [], ◌∷◌}
-use Rattle.std.proofs.Common.{◌++◌, take, length, get_or, set, Option, Some, None, refl, sym, ◌∙◌, ap, subst, arith}
+use Rattle.std.proofs.Common.{◌≡◌, ◌≢◌, ℕ, zero, suc, ◌+◌, ◌*◌, ◌<◌, ◌≤◌, ◌⊎◌, inl, inr, false, List, [], ◌∷◌, ◌++◌}
+use Rattle.std.proofs.Common.{take, length, get_or, set, Option, Some, None, refl, sym, ◌∙◌, ap, subst, arith}
 use Rattle.std.proofs.Common.{get_or-set_same, get_or-set_other, length-set, ◌==◌, All, is_some, find, slice_index}
 use Rattle.board_prelude.proofs.Common.{position, cases_Bool, cases_eq, cases_lt, eq-eqb, ne_eqb, All-head, All-tail}
 use Rattle.board_prelude.proofs.Common.{eqb-true, true≢false, get_or-map, length-map, take_all, take_more, Setup}
@@ -84,7 +84,8 @@ abbrev card_of : CardBytes → FittedCard
 card_of card = card.card
 
 -- what holds of each card of the board
-each_card : (P : FittedCard → Type 0) (cards : List CardBytes) → All P (cards_of cards) → All (λ card. P card.card) cards
+each_card :
+    (P : FittedCard → Type 0) (cards : List CardBytes) → All P (cards_of cards) → All (λ card. P card.card) cards
 each_card P cards all k d within =
     subst P (get_or-map card_of cards k d d.card within) (all k d.card (rw (length-map cards card_of) within))
 

@@ -1,24 +1,20 @@
 -- Between two edges all addresses have the same areas.
-use Rattle.std.proofs.Common.{◌≡◌, ℕ, ◌+◌, ◌-◌, ◌*◌, ◌/◌, ◌^◌, ◌<◌, ◌≤◌, inl, inr, Bool, true, false, List}
-use Rattle.std.proofs.Common.{[], ◌∷◌, ◌++◌, Option, Some, None, refl, rules, arith, ◌==◌, nat_lt, nat_le, All}
-use Rattle.std.proofs.Common.{flat_map}
+use Rattle.std.proofs.Common.{◌≡◌, ℕ, ◌+◌, ◌-◌, ◌*◌, ◌/◌, ◌^◌, ◌<◌, ◌≤◌, inl, inr, Bool, true, false, List, [], ◌∷◌}
+use Rattle.std.proofs.Common.{◌++◌, Option, Some, None, refl, rules, arith, ◌==◌, nat_lt, nat_le, All, flat_map}
 use Rattle.std.proofs.Common.{unwrap_or, IfSome, IsNone, if◌then◌else◌, slice_index_or}
 use Rattle.std.proofs.Math.Nat.{div-lt_iff_lt-mul}
-use Rattle.board_prelude.proofs.Common.{list_any, each_below, cases_eq, ne_eqb}
-use Rattle.board_prelude.proofs.Common.{AllByRecursion, enumerate_from, cases_Bool, cases_lt, nat_tests}
-use Rattle.board_prelude.proofs.Common.{pow_pos, recursion_from_All, Kind, Fetch, Read, Write}
-use Rattle.board_prelude.proofs.Common.{FittedCard, Setup, smram_range, upper_memory}
-use Rattle.board_prelude.proofs.Common.{shadow_range, hole_at_512_kib, hole_at_15_mib, system_bios, high_bios}
-use Rattle.board_prelude.proofs.Common.{lower_bios, lower_high_bios, extended_bios, is_within, Bytes, Window}
-use Rattle.board_prelude.proofs.Common.{row_of, is_in_hole, pam_register, is_high_window}
-use Rattle.board_prelude.proofs.Common.{is_shadow_range, is_shadowed, is_rom_selected}
-use Rattle.board_prelude.proofs.Common.{is_covered, memory_window, rom_window}
-use Rattle.board_prelude.proofs.Common.{is_rom_on, vga_window, memory_windows, is_enabled_for, first_window}
-use Rattle.board_prelude.proofs.Common.{memory_claim, area_of, xbcs as select_register}
+use Rattle.board_prelude.proofs.Common.{list_any, each_below, cases_eq, ne_eqb, AllByRecursion, enumerate_from}
+use Rattle.board_prelude.proofs.Common.{cases_Bool, cases_lt, nat_tests, pow_pos, recursion_from_All, Kind, Fetch, Read}
+use Rattle.board_prelude.proofs.Common.{Write, FittedCard, Setup, smram_range, upper_memory, shadow_range}
+use Rattle.board_prelude.proofs.Common.{hole_at_512_kib, hole_at_15_mib, system_bios, high_bios, lower_bios}
+use Rattle.board_prelude.proofs.Common.{lower_high_bios, extended_bios, is_within, Bytes, Window, row_of, is_in_hole}
+use Rattle.board_prelude.proofs.Common.{pam_register, is_high_window, is_shadow_range, is_shadowed, is_rom_selected}
+use Rattle.board_prelude.proofs.Common.{is_covered, memory_window, rom_window, is_rom_on, vga_window, memory_windows}
+use Rattle.board_prelude.proofs.Common.{is_enabled_for, first_window, memory_claim, area_of, xbcs as select_register}
 use Rattle.board_prelude.proofs.Common.{fdhc as hole_register, address_count, six_areas}
 use Rattle.std.proofs.lemmas.List.Elements.{All-contains_itself}
-use Rattle.addr_decode.specs.Edges.{fixed_edges, row_edges, window_edges, card_edges, edges_of}
-use Rattle.addr_decode.specs.Edges.{IsNextEdge, NoEdgeAbove, SameAreas, AreasChangeAtEdges}
+use Rattle.addr_decode.specs.Edges.{fixed_edges, row_edges, window_edges, card_edges, edges_of, IsNextEdge, NoEdgeAbove}
+use Rattle.addr_decode.specs.Edges.{SameAreas, AreasChangeAtEdges}
 
 -- ---- what holds of each of a list
 

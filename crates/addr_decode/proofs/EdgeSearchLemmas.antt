@@ -3,9 +3,8 @@ use Rattle.std.proofs.Common.{◌≡◌, ℕ, zero, suc, ◌+◌, ◌*◌, ◌<�
 use Rattle.std.proofs.Common.{map, Option, Some, None, refl, sym, ◌∙◌, arith, nat_lt, min, subst, All, flat_map}
 use Rattle.std.proofs.Common.{slice_index, unwrap_or, IfSome, IsNone, ◌↔◌}
 use Rattle.board_prelude.proofs.Common.{Contains, enumerate_from, cases_Bool, cases_lt, nat_tests, All-head, All-tail}
-use Rattle.board_prelude.proofs.Common.{Base, IoBase, Setup, IsCard, boundary_unit}
-use Rattle.board_prelude.proofs.Common.{Bytes, base_value, memory_window, rom_window_of}
-use Rattle.board_prelude.proofs.Common.{address_count, none-some}
+use Rattle.board_prelude.proofs.Common.{Base, IoBase, Setup, IsCard, boundary_unit, Bytes, base_value, memory_window}
+use Rattle.board_prelude.proofs.Common.{rom_window_of, address_count, none-some}
 use Rattle.std.proofs.lemmas.List.Elements.{Contains-append_cases, Contains-append_left, Contains-append_right}
 use Rattle.std.proofs.lemmas.List.Sums.{fold-append}
 use Rattle.std.proofs.lemmas.Option.{same_Some}

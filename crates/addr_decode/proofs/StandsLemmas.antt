@@ -1,19 +1,17 @@
 -- The registers of the address map among those of a board: after a reset, and where a byte is stored.
-use Rattle.std.proofs.Common.{◌≡◌, ◌≢◌, ℕ, ◌+◌, ◌<◌, ◌≤◌, ◌⊎◌, inl, inr, Option, Some, None, false, List}
-use Rattle.std.proofs.Common.{length, set, refl, sym, ◌∙◌, subst, arith, add-one, slice_index}
-use Rattle.std.proofs.Common.{get_or-set_other, get_or-set_same, option_map, Bool, true, if◌then◌else◌}
-use Rattle.board_prelude.proofs.Common.{cases_eq, cases_lt, nat_tests, Width, bytes_of, One}
-use Rattle.board_prelude.proofs.Common.{Reg, Store, FittedCard, Setup, byte, is_within, reset_byte}
-use Rattle.board_prelude.proofs.Common.{changed_byte, Bytes, bridge, isa, drb}
-use Rattle.board_prelude.proofs.Common.{card_register, reg_after, after_stores}
-use Rattle.board_prelude.proofs.Common.{byte_by_byte}
+use Rattle.std.proofs.Common.{◌≡◌, ◌≢◌, ℕ, ◌+◌, ◌<◌, ◌≤◌, ◌⊎◌, inl, inr, Option, Some, None, false, List, length, set}
+use Rattle.std.proofs.Common.{refl, sym, ◌∙◌, subst, arith, add-one, slice_index, get_or-set_other, get_or-set_same}
+use Rattle.std.proofs.Common.{option_map, Bool, true, if◌then◌else◌}
+use Rattle.board_prelude.proofs.Common.{cases_eq, cases_lt, nat_tests, Width, bytes_of, One, Reg, Store, FittedCard}
+use Rattle.board_prelude.proofs.Common.{Setup, byte, is_within, reset_byte, changed_byte, Bytes, bridge, isa, drb}
+use Rattle.board_prelude.proofs.Common.{card_register, reg_after, after_stores, byte_by_byte}
 use Rattle.pmc_regs.proofs.Common.{row_bytes, rows_are, rows_after_store}
 use Rattle.pam_windows.specs.Pam.{IsPamOffset, IsPamOf}
 use Rattle.pam_windows.proofs.PamLemmas.{pam_bytes, pam_are}
 use Rattle.pci_bars.specs.Cards.{CardBytes, AreCards, AreCardsOf, AreDecoded, cards_of, AreFitted, AreReset}
 use Rattle.addr_decode.specs.declared.register.MapRegister.TheVariants.{Single}
-use Rattle.addr_decode.specs.Common.{in_bridge, map_register, MapBytes, StandsFor, stored}
-use Rattle.addr_decode.specs.Common.{AreSinglesOf, single, single_count, single_number}
+use Rattle.addr_decode.specs.Common.{in_bridge, map_register, MapBytes, StandsFor, stored, AreSinglesOf, single}
+use Rattle.addr_decode.specs.Common.{single_count, single_number}
 use Rattle.addr_decode.proofs.StoreLemmas.{Differs, differs_back, stored-elsewhere, in_function_0}
 use Rattle.addr_decode.proofs.CardLemmas.{cards_agree, cards_beside, cards_decoded, of_decoded, of_registers}
 use Rattle.addr_decode.proofs.CardLemmas.{reset_cards}

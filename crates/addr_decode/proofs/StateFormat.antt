@@ -1,20 +1,18 @@
 -- The state of the registers is spelled and read back.
 use Rattle.std.proofs.Common.{◌≡◌, ℕ, zero, suc, ◌+◌, ◌*◌, ◌^◌, ◌<◌, ◌≤◌, List, [], ◌∷◌, ◌++◌, length, Option, Some}
-use Rattle.std.proofs.Common.{None, Result, Ok, refl, sym, ap, ◌∙◌, arith, slice_index, flat_map}
-use Rattle.std.proofs.Common.{get_or, take, drop, ◌-◌, Err}
+use Rattle.std.proofs.Common.{None, Result, Ok, refl, sym, ap, ◌∙◌, arith, slice_index, flat_map, get_or, take, drop}
+use Rattle.std.proofs.Common.{◌-◌, Err}
 use Rattle.board_prelude.proofs.Common.{AllByRecursion, All-cons, All-head, All-nil, All-tail, append-nil, get_or_past}
-use Rattle.board_prelude.proofs.Common.{drop_all, drop_at, drop_more, flat_map-cons, take_at, w32}
-use Rattle.board_prelude.proofs.Common.{length-append, length-drop, length-take-le, take-append-drop}
-use Rattle.board_prelude.proofs.Common.{to_le_bytes, FittedCard}
+use Rattle.board_prelude.proofs.Common.{drop_all, drop_at, drop_more, flat_map-cons, take_at, w32, length-append}
+use Rattle.board_prelude.proofs.Common.{length-drop, length-take-le, take-append-drop, to_le_bytes, FittedCard}
 use Rattle.byte_fields.proofs.Formats.{IsFormat, fields_format, ◌then◌, ◌&◌, last_field, whole_field, done_format}
 use Rattle.byte_fields.proofs.Formats.{plain_format}
 use Rattle.byte_fields.proofs.Loops.{with_front, front_joined}
 use Rattle.byte_fields.proofs.Numbers.{Ranges, any_byte, any_number, number_to, within_format, wide32}
 use Rattle.pci_bars.specs.Cards.{CardBytes}
 use Rattle.addr_decode.specs.Singles.{single_count}
-use Rattle.addr_decode.specs.State.{any_long, AreBases, bases_bytes, bases_fields, IsCardRegs, most_rom}
-use Rattle.addr_decode.specs.State.{card_bytes, card_fields, AreCardRegs, cards_fields, AreMapRegs, regs_bytes}
-use Rattle.addr_decode.specs.State.{regs_fields}
+use Rattle.addr_decode.specs.State.{any_long, AreBases, bases_bytes, bases_fields, IsCardRegs, most_rom, card_bytes}
+use Rattle.addr_decode.specs.State.{card_fields, AreCardRegs, cards_fields, AreMapRegs, regs_bytes, regs_fields}
 
 pub long_format : IsFormat 4 any_long (to_le_bytes w32) (Ranges 0 0xFFFF_FFFF)
 long_format = within_format wide32 0 0xFFFF_FFFF (omega arith)
@@ -171,7 +169,8 @@ regs_format fitted =
 -- ---- the loop over the cards
 
 module _ (fitted : List FittedCard) (i : ℕ) (front : List CardBytes) (now : List ℕ)
-    (total : Result (List CardBytes × List ℕ) ℕ) (so_far : with_front front (cards_fields (drop i fitted) now) ≡ total) where
+    (total : Result (List CardBytes × List ℕ) ℕ)
+    (so_far : with_front front (cards_fields (drop i fitted) now) ≡ total) where
   module _ (own : FittedCard) (below : i < length fitted) (at_i : own ≡ get_or fitted i own) where
     still : drop i fitted ≡ own ∷ drop (i + 1) fitted
     still = let left = drop_more fitted i own below in cc
