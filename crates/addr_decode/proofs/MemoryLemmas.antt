@@ -12,62 +12,18 @@ use Rattle.pmc_regs.specs.Pmc.{IsRowsOf}
 use Rattle.addr_decode.specs.Common.{MapBytes, StandsFor, dram_area, above_dram, beside_dram, area_by, master_area}
 use Rattle.addr_decode.specs.Common.{AreSinglesOf}
 
--- the table of the memory map over the ranges that the address lies in, SMRAM's and all of upper memory, and over what
--- the registers say of it
-abbrev table : Option ℕ → (smram legacy answers shadowed hole rom : Bool) → Option Window → Area
-table row smram legacy answers shadowed hole rom claim =
-    first_of
-    (line_where (smram && is_some row && answers) Smram
-    ∷ line_where (is_some row && shadowed) (Shadow (unwrap_or row 0))
-    ∷ line_where (not legacy && is_some row && not hole) (Dram (unwrap_or row 0))
-    ∷ line_where rom Rom
-    ∷ option_map card_area claim
-    ∷ [])
-    Abort
-
-abbrev code : Option ℕ → (smram shadow answers open' hole rom : Bool) → Option Window → Area
-code None smram shadow answers open' hole rom claim = above_dram None rom claim
-code (Some row) smram shadow answers open' hole rom claim =
-    above_dram
-    (if smram then line_where answers Smram else
-    if shadow then line_where (shadow && open') (Shadow row) else line_where (not hole) (Dram row))
-    rom claim
-
 no_dram : (rom : Bool) (claim : Option Window) →
     first_of (line_where rom Rom ∷ option_map card_area claim ∷ []) Abort ≡ above_dram None rom claim
 no_dram true claim = refl
 no_dram false None = refl
 no_dram false (Some window) = refl
 
-same : (row : Option ℕ) (smram shadow legacy answers open' hole rom : Bool) (claim : Option Window) →
-    legacy ≡ (if smram then true else shadow) → (smram && shadow) ≡ false →
-    table row smram legacy answers (shadow && open') hole rom claim
-    ≡ code row smram shadow answers open' hole rom claim
-same None true shadow legacy answers open' hole rom claim l apart = rw l (no_dram rom claim)
-same None false true legacy answers open' hole rom claim l apart = rw l (no_dram rom claim)
-same None false false legacy answers open' hole rom claim l apart = rw l (no_dram rom claim)
-same (Some row) true true legacy answers open' hole rom claim l apart = cc
-same (Some row) true false legacy true open' hole rom claim l apart = refl
-same (Some row) true false legacy false open' hole rom claim l apart = rw l (no_dram rom claim)
-same (Some row) false true legacy answers true hole rom claim l apart = refl
-same (Some row) false true legacy answers false hole rom claim l apart = rw l (no_dram rom claim)
-same (Some row) false false legacy answers open' true rom claim l apart = rw l (no_dram rom claim)
-same (Some row) false false legacy answers open' false rom claim l apart = rw l refl
-
 area_in_order :
     (row : Option ℕ) (smram open' hole rom : Bool) (claim : Option Window) (addr : ℕ) →
     area_under row smram (is_shadow_range addr && open') hole rom claim addr
     ≡ above_dram (dram_area row smram (is_shadow_range addr && open') hole addr) rom claim
-area_in_order row smram open' hole rom claim addr =
-    let legacy : lies_in upper_memory addr ≡ (if is_smram_range addr then true else is_shadow_range addr) =
-    grind (arith, nat_tests) in
-    same row (is_smram_range addr) (is_shadow_range addr) (lies_in upper_memory addr) smram open' hole rom claim legacy
-    (grind (arith, nat_tests)) ∙ in_range row
-  where
-    in_range : (row : Option ℕ) → code row (is_smram_range addr) (is_shadow_range addr) smram open' hole rom claim
-        ≡ above_dram (dram_area row smram (is_shadow_range addr && open') hole addr) rom claim
-    in_range None = refl
-    in_range (Some row) = refl
+area_in_order None smram open' hole rom claim addr = grind (arith, nat_tests, no_dram)
+area_in_order (Some row) smram open' hole rom claim addr = grind (arith, nat_tests, no_dram)
 
 -- where DRAM answers, over the register bytes
 abbrev pub dram_by : Bytes → ℕ → Kind → Bool → Option Area
