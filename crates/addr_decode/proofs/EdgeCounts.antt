@@ -4,8 +4,8 @@ use Rattle.std.proofs.Common.{Some, None, arith, nat_lt, All, filter, flat_map, 
 use Rattle.board_prelude.proofs.Common.{Contains, enumerate_from, cases_Bool, nat_tests, length-append, All-head}
 use Rattle.board_prelude.proofs.Common.{All-tail, Base, MemoryBase, IoBase, OutsideBase, FittedCard, Setup, IsCard}
 use Rattle.board_prelude.proofs.Common.{IsCardList, Bytes, memory_window, rom_window, rom_window_of}
-use Rattle.addr_decode.specs.Edges.{fixed_edges, window_edges, card_edges, edges_of, edges_after, IsNextEdge, most_edges}
-use Rattle.addr_decode.specs.Edges.{FewEdges}
+use Rattle.addr_decode.specs.Edges.{fixed_edges, window_edges, card_edges, edges_of, edges_after, IsNextEdge}
+use Rattle.addr_decode.specs.Edges.{most_edges, FewEdges}
 use Rattle.addr_decode.proofs.EdgeSearchLemmas.{contains_cases}
 
 few_of_bases :

@@ -1,39 +1,30 @@
 -- The names of the registers: exactly the map bytes have one, and each stands for one register.
-use Rattle.std.proofs.Common.{◌≡◌, ◌≢◌, ℕ, zero, suc, ◌+◌, ◌-◌, ◌<◌, ◌≤◌, Bool, true, false, ◌&&◌, ◌||◌, Option, Some}
-use Rattle.std.proofs.Common.{None, List, [], ◌∷◌, ◌++◌, length, get_or, inl, inr, refl, sym, ◌∙◌, ap, subst, arith}
-use Rattle.std.proofs.Common.{take, lit<, ◌==◌, map, find, is_some, unwrap_or, option_map, option_and_then}
-use Rattle.std.proofs.Common.{if◌then◌else◌, rules}
+use Rattle.std.proofs.Common.{◌≡◌, ◌≢◌, ℕ, ◌+◌, ◌-◌, ◌<◌, ◌≤◌, Bool, true, false, ◌&&◌, ◌||◌, Option, Some, None, List}
+use Rattle.std.proofs.Common.{[], ◌∷◌, ◌++◌, length, get_or, inl, inr, refl, sym, ◌∙◌, ap, arith, take, lit<, ◌==◌, map}
+use Rattle.std.proofs.Common.{find, is_some, option_map, option_and_then, if◌then◌else◌, rules, IfSome}
 use Rattle.board_prelude.proofs.Common.{position, AllByRecursion, list_any, and-true, and-false, cases_Bool, cases_eq}
 use Rattle.board_prelude.proofs.Common.{ne_eqb, eqb-true, nat_tests, get_or-map, Width, One, Reg, bytes_of, MapChange}
 use Rattle.board_prelude.proofs.Common.{Store, Reset, FittedCard, Setup, card_at, is_within, bridge, isa, card_register}
-use Rattle.board_prelude.proofs.Common.{has_rom, is_map_byte, reg_after, touches_map, bytes_few, each_below}
-use Rattle.board_prelude.proofs.Common.{third, fourth}
+use Rattle.board_prelude.proofs.Common.{has_rom, is_map_byte, reg_after, touches_map, bytes_few, each_below, third}
+use Rattle.board_prelude.proofs.Common.{fourth, or-false, get_or-take, length-take}
 use Rattle.std.proofs.lemmas.List.{map_more}
 use Rattle.std.proofs.lemmas.List.Quantifiers.{position-Some}
 use Rattle.std.proofs.lemmas.Option.{slice_get-get_or}
 use Rattle.pci_bars.proofs.CardListLemmas.{find-cards, at_position}
-use Rattle.board_base.specs.declared.access.Width.TheVariants.{Two, Four}
 use Rattle.addr_decode.specs.declared.register.MapRegister.{MapRegister}
 use Rattle.addr_decode.specs.declared.register.MapRegister.TheVariants.{Pam, RowBoundary, Single, Card}
 use Rattle.addr_decode.specs.declared.register.CardRegister.{CardRegister}
 use Rattle.addr_decode.specs.declared.register.CardRegister.TheVariants.{Command, Base, ExpansionRom}
-use Rattle.addr_decode.specs.MapRegister.{place_of, IsNumbered, IsNumberedName, AreNumbered, in_bridge, in_isa_bridge}
-use Rattle.addr_decode.specs.MapRegister.{in_card, in_device, map_register, names_from, names_of, named_single}
+use Rattle.addr_decode.specs.MapRegister.{offset_of, IsCardNumber, place_of, IsNumbered, IsNumberedName, AreNumbered}
+use Rattle.addr_decode.specs.MapRegister.{in_bridge, in_isa_bridge, in_card, in_device, map_register, names_from}
+use Rattle.addr_decode.specs.MapRegister.{names_of, named_single}
 use Rattle.addr_decode.specs.Singles.{single, single_count, single_number}
 use Rattle.pci_bars.specs.Cards.{CardBytes, AreFitted, cards_of}
 use Rattle.addr_decode.proofs.StoreLemmas.{in_function_0}
 use Rattle.addr_decode.proofs.CardLemmas.{no_low_card}
-use Rattle.addr_decode.proofs.SingleLemmas.{number_stands, none_past_ff}
+use Rattle.addr_decode.proofs.SingleLemmas.{number_stands, single_is}
 
 -- ---- the map bytes of each function
-
-or_nothing : (a : Bool) → (((a || false) || false) || false) ≡ a
-or_nothing true = refl
-or_nothing false = refl
-
-or_two : (a : Bool) → ((a || false) || false) ≡ a
-or_two true = refl
-or_two false = refl
 
 no_rom : (card : Option FittedCard) → is_some card ≡ false → has_rom card ≡ false
 no_rom None none = refl
@@ -48,11 +39,11 @@ is_isa_byte off = off == 0x4E
 
 bridge_byte : (setup : Setup) (off : ℕ) → is_some (card_at setup 0) ≡ false →
     is_map_byte setup (bridge off) ≡ is_host_byte off
-bridge_byte setup off none = rw (none, no_rom (card_at setup 0) none) (or_nothing (is_host_byte off))
+bridge_byte setup off none = simp (none, no_rom (card_at setup 0) none, or-false)
 
 isa_byte :
     (setup : Setup) (off : ℕ) → is_some (card_at setup 1) ≡ false → is_map_byte setup (isa off) ≡ is_isa_byte off
-isa_byte setup off none = rw (none, no_rom (card_at setup 1) none) (or_two (is_isa_byte off))
+isa_byte setup off none = simp (none, no_rom (card_at setup 1) none, or-false)
 
 -- PAM, the boundaries of rows and the registers of one byte are map bytes, and so are those of a fitted card
 pub block_is_byte : (setup : Setup) (off : ℕ) → 0x59 ≤ off → off ≤ 0x67 → is_map_byte setup (bridge off) ≡ true
@@ -76,28 +67,49 @@ rom_is_byte setup dev off fitted is =
     (is_some (card_at setup dev) && true && (off == 0x04 || is_within 0x10 0x27 off)) (has_rom (card_at setup dev))
     (is_within 0x30 0x33 off) fitted is
 
-card_byte : (setup : Setup) (dev off : ℕ) → dev ≢ 0 → dev ≢ 1 →
-    is_map_byte setup (card_register dev off)
-    ≡
-    (is_some (card_at setup dev) && (off == 0x04 || is_within 0x10 0x27 off) || has_rom (card_at setup dev)
-    && is_within 0x30 0x33 off)
-card_byte setup dev off not0 not1 =
-    rw (
-      ne_eqb dev 0 not0,
-      ne_eqb dev 1 not1,
-      and-true (is_some (card_at setup dev)),
-      and-true (has_rom (card_at setup dev)),
-    ) refl
-
 other_byte : (setup : Setup) (reg : Reg) → reg.fun ≢ 0 → is_map_byte setup reg ≡ false
-other_byte setup reg fun =
-    rw (
-      ne_eqb reg.fun 0 fun,
-      and-false (reg.dev == 0),
-      and-false (reg.dev == 1),
-      and-false (is_some (card_at setup reg.dev)),
-      and-false (has_rom (card_at setup reg.dev)),
-    ) refl
+other_byte setup reg fun = simp (ne_eqb reg.fun 0 fun, and-false)
+
+-- ---- each kind of register and its name
+
+-- what holds of a register and its name, by the function that has the register
+by_function :
+    (P : Reg → Option MapRegister → Type 0) (cards : List FittedCard) → ((reg : Reg) → reg.fun ≢ 0 → P reg None) →
+    ((off : ℕ) → P (bridge off) (in_bridge off)) → ((off : ℕ) → P (isa off) (in_isa_bridge off)) →
+    ((dev off : ℕ) → 2 ≤ dev → P (card_register dev off) (in_device cards dev off)) →
+    (reg : Reg) → P reg (map_register cards reg)
+unfolding map_register
+by_function P cards other host south device reg =
+    elim (cases_eq reg.fun 0) [
+      | inr apart ↦ rw (ne_eqb reg.fun 0 apart) (other reg apart)
+      | inl function ↦ elim (cases_eq reg.dev 0) [
+        | inl first ↦ rw (← in_function_0 reg 0 first function) (host reg.off)
+        | inr not0 ↦ elim (cases_eq reg.dev 1) [
+          | inl second ↦ rw (← in_function_0 reg 1 second function) (south reg.off)
+          | inr not1 ↦
+              rw (← in_function_0 reg reg.dev refl function, ne_eqb reg.dev 0 not0, ne_eqb reg.dev 1 not1)
+              (device reg.dev reg.off (omega arith))
+        ]
+      ]
+    ]
+
+-- of a name that a test gives, of one by another, and of one by what was found
+if_test : {X : Type 0} (P : X → Type 0) (test : Bool) (name : X) (later : Option X) → (test ≡ true → P name) →
+    (test ≡ false → IfSome later P) → IfSome (if test then Some name else later) P
+if_test P true name later here beside = here refl
+if_test P false name later here beside = beside refl
+
+if_named : {X Y : Type 0} (P : Y → Type 0) (f : X → Y) (name : Option X) → IfSome name (λ x. P (f x)) →
+    IfSome (option_map f name) P
+if_named P f None is = tt
+if_named P f (Some x) is = is
+
+if_some : {X : Type 0} (P : X → Type 0) (found : Option X) (x : X) → IfSome found P → found ≡ Some x → P x
+if_some P found x is same = rw same at is
+
+is_named : {X Y : Type 0} (f : X → Y) (name : Option X) → is_some (option_map f name) ≡ is_some name
+is_named f None = refl
+is_named f (Some x) = refl
 
 -- ---- they have a name
 
@@ -107,56 +119,25 @@ bridge_named off = grind (arith, nat_tests)
 pub isa_named : (off : ℕ) → is_some (in_isa_bridge off) ≡ is_isa_byte off
 isa_named off = elim (cases_Bool (off == 0x4E)) [ inl here ↦ rw here refl | inr beside ↦ rw beside refl ]
 
-named_by : (command base rom within : Bool) (dev : ℕ) (x y z : CardRegister) →
-    is_some (option_map (Card dev) (if command then Some x else if base then Some y else if rom && within
-    then Some z else None))
-    ≡ (command || base || rom && within)
-named_by true base rom within dev x y z = refl
-named_by false true rom within dev x y z = refl
-named_by false false true true dev x y z = refl
-named_by false false true false dev x y z = refl
-named_by false false false within dev x y z = refl
-
 device_named : (fitted : Option FittedCard) (dev off : ℕ) →
     is_some (option_map (Card dev) (option_and_then (in_card off) fitted))
     ≡ (is_some fitted && (off == 0x04 || is_within 0x10 0x27 off) || has_rom fitted && is_within 0x30 0x33 off)
 device_named None dev off = refl
 device_named (Some card) dev off =
-    named_by (off == 0x04) (is_within 0x10 0x27 off) (is_some card.rom) (is_within 0x30 0x33 off) dev Command
-    (Base (off - 0x10)) (ExpansionRom (off - 0x30))
+    is_named (Card dev) (in_card off card) ∙ grind (arith, nat_tests)
 
 pub named : (setup : Setup) (reg : Reg) → is_some (card_at setup 0) ≡ false → is_some (card_at setup 1) ≡ false →
     is_some (map_register setup.cards reg) ≡ is_map_byte setup reg
-unfolding map_register
 named setup reg none0 none1 =
-    elim (cases_eq reg.fun 0) [
-      | inr other ↦
-          let none : map_register setup.cards reg ≡ None = rw (ne_eqb reg.fun 0 other) refl in
-          ap (λ (name : Option MapRegister). is_some name) none ∙ sym (other_byte setup reg other)
-      | inl function ↦ elim (cases_eq reg.dev 0) [
-        | inl first ↦
-            let here : map_register setup.cards reg ≡ in_bridge reg.off = rw (function, first) refl in
-            ap (λ (name : Option MapRegister). is_some name) here
-            ∙ bridge_named reg.off
-            ∙ sym (bridge_byte setup reg.off none0)
-            ∙ ap (λ (at : Reg). is_map_byte setup at) (in_function_0 reg 0 first function)
-        | inr not0 ↦ elim (cases_eq reg.dev 1) [
-          | inl second ↦
-              let here : map_register setup.cards reg ≡ in_isa_bridge reg.off = rw (function, second) refl in
-              ap (λ (name : Option MapRegister). is_some name) here
-              ∙ isa_named reg.off
-              ∙ sym (isa_byte setup reg.off none1)
-              ∙ ap (λ (at : Reg). is_map_byte setup at) (in_function_0 reg 1 second function)
-          | inr not1 ↦
-              let here : map_register setup.cards reg ≡ in_device setup.cards reg.dev reg.off =
-              rw (function, ne_eqb reg.dev 0 not0, ne_eqb reg.dev 1 not1) refl in
-              ap (λ (name : Option MapRegister). is_some name) here
-              ∙ device_named (card_at setup reg.dev) reg.dev reg.off
-              ∙ sym (card_byte setup reg.dev reg.off not0 not1)
-              ∙ ap (λ (at : Reg). is_map_byte setup at) (in_function_0 reg reg.dev refl function)
-        ]
-      ]
-    ]
+    by_function (λ reg name. is_some name ≡ is_map_byte setup reg) setup.cards
+    (λ reg other. sym (other_byte setup reg other))
+    (λ off. bridge_named off ∙ sym (bridge_byte setup off none0))
+    (λ off. isa_named off ∙ sym (isa_byte setup off none1))
+    (λ dev off above. device_named (card_at setup dev) dev off ∙ sym (simp (
+      ne_eqb dev 0 (omega arith),
+      ne_eqb dev 1 (omega arith),
+      and-true,
+    ))) reg
 
 -- ---- a name stands for one register
 
@@ -165,92 +146,61 @@ pub record IsNameAt (register : MapRegister) (reg : Reg) : Type 0 where
   pub place : place_of register ≡ reg
   pub number : IsNumbered register
 
-is_the_name : (first register : MapRegister) (reg : Reg) → Some first ≡ Some register → IsNameAt first reg →
-    IsNameAt register reg
-is_the_name first register reg same is =
-    subst (λ (it : MapRegister). IsNameAt it reg) (ap (λ (it : Option MapRegister). unwrap_or it first) same) is
+abbrev AreNamed : Option MapRegister → Reg → Type 0
+AreNamed name reg = IfSome name (λ register. IsNameAt register reg)
 
-number_place : (number : Option ℕ) (reg : Reg) (register : MapRegister) → single_number reg ≡ number →
-    option_map Single number ≡ Some register → IsNameAt register reg
-number_place None reg register told is = absurd (cc)
-number_place (Some number) reg register told is =
+single_names : (reg : Reg) (number : Option ℕ) → single_number reg ≡ number → AreNamed (option_map Single number) reg
+single_names reg None told = tt
+single_names reg (Some number) told =
     let there = number_stands reg number told in
-    is_the_name (Single number) register reg is (record { place = there.1; number = there.0 })
+    record { place = there.1; number = there.0 }
+
+bridge_names : (off : ℕ) → AreNamed (in_bridge off) (bridge off)
+bridge_names off =
+    if_test (λ register. IsNameAt register (bridge off)) (is_within 0x59 0x5F off) (Pam (off - 0x59)) _
+    (λ pam. record { place = ap bridge (grind (arith, nat_tests)); number = grind (arith, nat_tests) })
+    (λ _. if_test (λ register. IsNameAt register (bridge off)) (is_within 0x60 0x67 off) (RowBoundary (off - 0x60)) _
+    (λ row. record { place = ap bridge (grind (arith, nat_tests)); number = grind (arith, nat_tests) })
+    (λ _. single_names (bridge off) _ refl))
+
+card_names : (off : ℕ) (card : FittedCard) →
+    IfSome (in_card off card) (λ register. (offset_of register ≡ off) × IsCardNumber register)
+card_names off card =
+    if_test (λ register. (offset_of register ≡ off) × IsCardNumber register) (off == 0x04) Command _
+    (λ command. (sym (eqb-true off 0x04 command), tt))
+    (λ _. if_test (λ register. (offset_of register ≡ off) × IsCardNumber register) (is_within 0x10 0x27 off)
+    (Base (off - 0x10)) _ (λ base. (grind (arith, nat_tests), grind (arith, nat_tests)))
+    (λ _. if_test (λ register. (offset_of register ≡ off) × IsCardNumber register)
+    (is_some card.rom && is_within 0x30 0x33 off) (ExpansionRom (off - 0x30)) None
+    (λ rom. (grind (arith, nat_tests), grind (arith, nat_tests))) (λ _. tt)))
+
+device_names : (fitted : Option FittedCard) (dev off : ℕ) → 2 ≤ dev →
+    AreNamed (option_map (Card dev) (option_and_then (in_card off) fitted)) (card_register dev off)
+device_names None dev off above = tt
+device_names (Some card) dev off above =
+    if_named (λ register. IsNameAt register (card_register dev off)) (Card dev) (in_card off card)
+    (either (in_card off card) (card_names off card))
+  where
+    either : (name : Option CardRegister) →
+        IfSome name (λ register. (offset_of register ≡ off) × IsCardNumber register) →
+        IfSome name (λ register. IsNameAt (Card dev register) (card_register dev off))
+    either None is = tt
+    either (Some register) is = record { place = ap (card_register dev) is.0; number = (above, is.1) }
+
+names_at : (cards : List FittedCard) (reg : Reg) → AreNamed (map_register cards reg) reg
+names_at cards =
+    by_function (λ reg name. AreNamed name reg) cards (λ _ _. tt) bridge_names (λ off. single_names (isa off) _ refl)
+    (λ dev off above. device_names (find (λ card. card.dev == dev) cards) dev off above)
 
 pub single_place : (reg : Reg) (register : MapRegister) → named_single reg ≡ Some register → IsNameAt register reg
-single_place reg register is = number_place (single_number reg) reg register refl is
+single_place reg register = if_some (λ register. IsNameAt register reg) _ register (single_names reg _ refl)
 
 pub bridge_place : (off : ℕ) (register : MapRegister) → in_bridge off ≡ Some register → IsNameAt register (bridge off)
-bridge_place off register is =
-    elim (cases_Bool (is_within 0x59 0x5F off)) [
-      | inl pam ↦
-          let from : 0x59 ≤ off = grind (arith, nat_tests) in
-          let to : off ≤ 0x5F = grind (arith, nat_tests) in
-          is_the_name (Pam (off - 0x59)) register (bridge off) (rw pam at is)
-          (record { place = ap bridge (omega arith); number = omega arith })
-      | inr not_pam ↦ elim (cases_Bool (is_within 0x60 0x67 off)) [
-        | inl row ↦
-            let from : 0x60 ≤ off = grind (arith, nat_tests) in
-            let to : off ≤ 0x67 = grind (arith, nat_tests) in
-            is_the_name (RowBoundary (off - 0x60)) register (bridge off) (rw (not_pam, row) at is)
-            (record { place = ap bridge (omega arith); number = omega arith })
-        | inr not_row ↦ single_place (bridge off) register (rw (not_pam, not_row) at is)
-      ]
-    ]
-
-device_place : (fitted : Option FittedCard) (dev off : ℕ) (register : MapRegister) → 2 ≤ dev →
-    option_map (Card dev) (option_and_then (in_card off) fitted) ≡ Some register →
-    IsNameAt register (card_register dev off)
-device_place None dev off register above is = absurd (cc)
-device_place (Some card) dev off register above is =
-    elim (cases_Bool (off == 0x04)) [
-      | inl command ↦
-          is_the_name (Card dev Command) register (card_register dev off) (rw command at is)
-          (record { place = ap (card_register dev) (sym (eqb-true off 0x04 command)); number = (above, tt) })
-      | inr not_command ↦ elim (cases_Bool (is_within 0x10 0x27 off)) [
-        | inl base ↦
-            let from : 0x10 ≤ off = grind (arith, nat_tests) in
-            let to : off ≤ 0x27 = grind (arith, nat_tests) in
-            is_the_name (Card dev (Base (off - 0x10))) register (card_register dev off) (rw (not_command, base) at is)
-            (record { place = ap (card_register dev) (omega arith); number = (above, omega arith) })
-        | inr not_base ↦ elim (cases_Bool (is_some card.rom && is_within 0x30 0x33 off)) [
-          | inl rom ↦
-              let from : 0x30 ≤ off = grind (arith, nat_tests) in
-              let to : off ≤ 0x33 = grind (arith, nat_tests) in
-              is_the_name (Card dev (ExpansionRom (off - 0x30))) register (card_register dev off)
-              (rw (not_command, not_base, rom) at is)
-              (record { place = ap (card_register dev) (omega arith); number = (above, omega arith) })
-          | inr beside ↦
-              let none : ◌≡◌ {A = Option MapRegister} None (Some register) =
-              rw (not_command, not_base, beside) at is in
-              absurd (cc)
-        ]
-      ]
-    ]
+bridge_place off register = if_some (λ register. IsNameAt register (bridge off)) _ register (bridge_names off)
 
 pub is_name : (cards : List FittedCard) (reg : Reg) (register : MapRegister) → map_register cards reg ≡ Some register →
     IsNameAt register reg
-unfolding map_register
-is_name cards reg register is =
-    elim (cases_eq reg.fun 0) [
-      | inr other ↦
-          let none : ◌≡◌ {A = Option MapRegister} None (Some register) = rw (ne_eqb reg.fun 0 other) at is in
-          absurd (cc)
-      | inl function ↦ elim (cases_eq reg.dev 0) [
-        | inl first ↦
-            subst (IsNameAt register) (in_function_0 reg 0 first function)
-            (bridge_place reg.off register (rw (function, first) at is))
-        | inr not0 ↦ elim (cases_eq reg.dev 1) [
-          | inl second ↦
-              subst (IsNameAt register) (in_function_0 reg 1 second function)
-              (single_place (isa reg.off) register (rw (function, second) at is))
-          | inr not1 ↦
-              subst (IsNameAt register) (in_function_0 reg reg.dev refl function)
-              (device_place (find (λ card. card.dev == reg.dev) cards) reg.dev reg.off register (omega arith)
-              (rw (function, ne_eqb reg.dev 0 not0, ne_eqb reg.dev 1 not1) at is))
-        ]
-      ]
-    ]
+is_name cards reg register = if_some (λ register. IsNameAt register reg) _ register (names_at cards reg)
 
 -- ---- the names of the registers that a store covers
 
@@ -258,30 +208,20 @@ abbrev pub offsets : List ℕ
 offsets = 0 ∷ 1 ∷ 2 ∷ 3 ∷ []
 
 pub offset_at : (k : ℕ) → k < 4 → get_or offsets k 0 ≡ k
-offset_at zero below = refl
-offset_at (suc zero) below = refl
-offset_at (suc (suc zero)) below = refl
-offset_at (suc (suc (suc zero))) below = refl
-offset_at (suc (suc (suc (suc k)))) below = absurd (omega arith)
+offset_at k below = each_below (λ k. get_or offsets k 0 ≡ k) 4 k (search rules) below
 
 pub covered_offset : (width : Width) (k : ℕ) → k < bytes_of width →
     (k < length (take (bytes_of width) offsets)) × (get_or (take (bytes_of width) offsets) k 0 ≡ k)
-covered_offset One zero below = (omega arith, refl)
-covered_offset One (suc k) below = absurd (omega arith)
-covered_offset Two zero below = (omega arith, refl)
-covered_offset Two (suc zero) below = (omega arith, refl)
-covered_offset Two (suc (suc k)) below = absurd (omega arith)
-covered_offset Four zero below = (omega arith, refl)
-covered_offset Four (suc zero) below = (omega arith, refl)
-covered_offset Four (suc (suc zero)) below = (omega arith, refl)
-covered_offset Four (suc (suc (suc zero))) below = (omega arith, refl)
-covered_offset Four (suc (suc (suc (suc k)))) below = absurd (omega arith)
+covered_offset width k below =
+    let few = bytes_few width in (
+      omega (arith, length-take (bytes_of width) offsets),
+      get_or-take (bytes_of width) offsets k 0 below ∙ offset_at k (omega arith),
+    )
 
 pub count_names : (cards : List FittedCard) (reg : Reg) (width : Width) →
     length (names_from cards reg width) ≡ bytes_of width
 count_names cards reg One = refl
-count_names cards reg Two = refl
-count_names cards reg Four = refl
+count_names cards reg _ = refl
 
 pub name_at : (cards : List FittedCard) (reg : Reg) (width : Width) (k : ℕ) (d : Option MapRegister) →
     k < bytes_of width →
@@ -294,9 +234,7 @@ name_at cards reg width k d below =
 any_same : (name : ℕ → Option MapRegister) (is : ℕ → Bool) (xs : List ℕ) → ((k : ℕ) → is_some (name k) ≡ is k) →
     list_any is_some (map name xs) ≡ list_any is xs
 any_same name is [] same = refl
-any_same name is (k ∷ later) same =
-    ap (λ (b : Bool). b || list_any is_some (map name later)) (same k)
-    ∙ ap (λ (b : Bool). is k || b) (any_same name is later same)
+any_same name is (k ∷ later) same = rw (same k, any_same name is later same) refl
 
 pub names_touch : (setup : Setup) (reg : Reg) (width : Width) (value : ℕ) → is_some (card_at setup 0) ≡ false →
     is_some (card_at setup 1) ≡ false →
@@ -311,11 +249,13 @@ pub named_byte : (setup : Setup) (cards : List CardBytes) (reg : Reg) (register 
     setup.cards ≡ cards_of cards → map_register (cards_of cards) reg ≡ Some register →
     is_map_byte setup (place_of register) ≡ true
 named_byte setup cards reg register fitted same is =
-    ap (λ (at : Reg). is_map_byte setup at) (is_name (cards_of cards) reg register is).place
-    ∙ sym (named setup reg (no_low_card setup cards 0 (lit< tt) fitted.each same)
-    (no_low_card setup cards 1 (lit< tt) fitted.each same))
-    ∙ ap (λ (list : List FittedCard). is_some (map_register list reg)) same
-    ∙ ap (λ (name : Option MapRegister). is_some name) is
+    let low = λ (dev : ℕ) (below : dev < 2). no_low_card setup cards dev below fitted.each same in
+    rw (
+      (is_name (cards_of cards) reg register is).place,
+      ← named setup reg (low 0 (lit< tt)) (low 1 (lit< tt)),
+      same,
+      is,
+    ) refl
 
 -- the name of a register among those of a store, where the cards are still the same
 pub named_so_far : (cards cards' : List CardBytes) (reg : Reg) (width : Width) (k : ℕ)
@@ -324,40 +264,24 @@ pub named_so_far : (cards cards' : List CardBytes) (reg : Reg) (width : Width) (
     names ≡ names_from (cards_of cards) reg width →
     get_or names k d ≡ map_register (cards_of cards') (reg_after reg k)
 named_so_far cards cards' reg width k names d below same are =
-    ap (λ (list : List (Option MapRegister)). get_or list k d) are
-    ∙ name_at (cards_of cards) reg width k d below
-    ∙ ap (λ (fitted : List FittedCard). map_register fitted (reg_after reg k)) (sym same)
+    rw (are, same) (name_at (cards_of cards) reg width k d below)
 
 -- no register past offset FFh has a name
-bridge_past : (off : ℕ) → 256 ≤ off → in_bridge off ≡ None
-bridge_past off past =
-    let pam : is_within 0x59 0x5F off ≡ false = grind (arith, nat_tests) in
-    let row : is_within 0x60 0x67 off ≡ false = grind (arith, nat_tests) in
-    rw (pam, row) (ap (option_map Single) (none_past_ff (bridge off) past))
+small : (register : MapRegister) → IsNumbered register → (place_of register).off < 256
+small (Pam k) is = omega arith
+small (RowBoundary row) is = omega arith
+small (Single number) is = (single_is number is).byte
+small (Card dev Command) is = omega arith
+small (Card dev (Base k)) is = omega (arith, is.1)
+small (Card dev (ExpansionRom k)) is = omega (arith, is.1)
 
-device_past : (fitted : Option FittedCard) (dev off : ℕ) → 256 ≤ off →
-    option_map (Card dev) (option_and_then (in_card off) fitted) ≡ None
-device_past None dev off past = refl
-device_past (Some card) dev off past =
-    let bases : is_within 0x10 0x27 off ≡ false = grind (arith, nat_tests) in
-    let rom : is_within 0x30 0x33 off ≡ false = grind (arith, nat_tests) in
-    rw (ne_eqb off 0x04 (omega arith), bases, rom, and-false (is_some card.rom)) refl
+no_name : (name : Option MapRegister) (reg : Reg) → 256 ≤ reg.off → AreNamed name reg → name ≡ None
+no_name None reg past is = refl
+no_name (Some register) reg past is =
+    absurd (omega (arith, small register is.number, ap (λ (at : Reg). at.off) is.place))
 
 pub none_past : (cards : List FittedCard) (reg : Reg) → 256 ≤ reg.off → map_register cards reg ≡ None
-unfolding map_register
-none_past cards reg past =
-    elim (cases_eq reg.fun 0) [
-      | inr other ↦ rw (ne_eqb reg.fun 0 other) refl
-      | inl function ↦ elim (cases_eq reg.dev 0) [
-        | inl first ↦ rw (function, first) (bridge_past reg.off past)
-        | inr not0 ↦ elim (cases_eq reg.dev 1) [
-          | inl second ↦ rw (function, second) (ap (option_map Single) (none_past_ff (isa reg.off) past))
-          | inr not1 ↦
-              rw (function, ne_eqb reg.dev 0 not0, ne_eqb reg.dev 1 not1)
-              (device_past (find (λ card. card.dev == reg.dev) cards) reg.dev reg.off past)
-        ]
-      ]
-    ]
+none_past cards reg past = no_name _ reg past (names_at cards reg)
 
 -- one more name
 pub one_more_named : (cards : List FittedCard) (reg : Reg) (k : ℕ) (names names' : List (Option MapRegister))
@@ -365,24 +289,20 @@ pub one_more_named : (cards : List FittedCard) (reg : Reg) (k : ℕ) (names name
     name ≡ map_register cards (reg_after reg k) → names' ≡ names ++ name ∷ [] →
     names' ≡ map (λ k. map_register cards (reg_after reg k)) (take (k + 1) offsets)
 one_more_named cards reg k names names' name below so_far is pushed =
+    rw (map_more (λ k. map_register cards (reg_after reg k)) offsets k 0 below, offset_at k below, ← so_far, ← is)
     pushed
-    ∙ ap (λ (list : List (Option MapRegister)). list ++ name ∷ []) so_far
-    ∙ ap (λ (it : Option MapRegister). map (λ k. map_register cards (reg_after reg k)) (take k offsets) ++ it ∷ [])
-    (is ∙ ap (λ (j : ℕ). map_register cards (reg_after reg j)) (sym (offset_at k below)))
-    ∙ sym (map_more (λ k. map_register cards (reg_after reg k)) offsets k 0 below)
 
 -- ---- they are numbered
 
-name_numbered : (name : Option MapRegister) (cards : List FittedCard) (reg : Reg) → name ≡ map_register cards reg →
-    IsNumberedName name
-name_numbered None cards reg is = tt
-name_numbered (Some register) cards reg is = (is_name cards reg register (sym is)).number
+name_numbered : (name : Option MapRegister) (reg : Reg) → AreNamed name reg → IsNumberedName name
+name_numbered None reg is = tt
+name_numbered (Some register) reg is = is.number
 
 all_numbered : (cards : List FittedCard) (reg : Reg) (ks : List ℕ) →
     AllByRecursion IsNumberedName (map (λ k. map_register cards (reg_after reg k)) ks)
 all_numbered cards reg [] = tt
 all_numbered cards reg (k ∷ later) =
-    (name_numbered (map_register cards (reg_after reg k)) cards (reg_after reg k) refl, all_numbered cards reg later)
+    (name_numbered _ (reg_after reg k) (names_at cards (reg_after reg k)), all_numbered cards reg later)
 
 pub names_numbered : (cards : List FittedCard) (change : MapChange) → AreNumbered (names_of cards change)
 names_numbered cards Reset = record { few = omega arith; each = tt }
@@ -393,24 +313,25 @@ names_numbered cards (Store reg width value) = record {
 
 -- ---- the name of a register by its function
 
-pub one_name : (cards : List FittedCard) (reg : Reg) → map_register cards reg ∷ [] ≡ names_from cards reg One
-one_name cards reg =
-    let same : reg.off ≡ reg.off + 0 = omega arith in
-    ap (λ (off : ℕ). map_register cards (record reg { off = off }) ∷ []) same
+pub one_name : (cards : List FittedCard) (reg : Reg) (name : Option MapRegister) → name ≡ map_register cards reg →
+    name ∷ [] ≡ names_from cards reg One
+one_name cards reg name is =
+    let same : reg.off + 0 ≡ reg.off = omega arith in
+    rw (same, is) refl
 
-pub bridge_name : (cards : List FittedCard) (reg : Reg) → reg.dev ≡ 0 → reg.fun ≡ 0 →
+pub bridge_name : (cards : List FittedCard) (reg : Reg) → (reg.dev ≡ 0) × (reg.fun ≡ 0) →
     in_bridge reg.off ≡ map_register cards reg
 unfolding map_register
-bridge_name cards reg dev fun = rw (fun, dev) refl
+bridge_name cards reg of = rw (of.1, of.0) refl
 
-pub isa_name : (cards : List FittedCard) (reg : Reg) → reg.dev ≡ 1 → reg.fun ≡ 0 →
+pub isa_name : (cards : List FittedCard) (reg : Reg) → (reg.dev ≡ 1) × (reg.fun ≡ 0) →
     in_isa_bridge reg.off ≡ map_register cards reg
 unfolding map_register
-isa_name cards reg dev fun = rw (fun, dev) refl
+isa_name cards reg of = rw (of.1, of.0) refl
 
-pub ide_name : (cards : List FittedCard) (reg : Reg) → reg.fun ≡ 1 → None ≡ map_register cards reg
+pub ide_name : (cards : List FittedCard) (reg : Reg) → (reg.dev ≡ 1) × (reg.fun ≡ 1) → None ≡ map_register cards reg
 unfolding map_register
-ide_name cards reg fun = rw fun refl
+ide_name cards reg of = rw of.1 refl
 
 -- the card at a place has the device number that is found there
 card_found : (cards : List CardBytes) (dev place : ℕ) (d : CardBytes) →
@@ -418,9 +339,7 @@ card_found : (cards : List CardBytes) (dev place : ℕ) (d : CardBytes) →
     Some (get_or cards place d).card ≡ find (λ card. card.dev == dev) (cards_of cards)
 card_found cards dev place d at =
     let within : place < length cards = (position-Some (λ card. card.card.dev == dev) cards place d at).0 in
-    ap (option_map (λ (card : CardBytes). card.card))
-    (sym (slice_get-get_or cards place d within) ∙ at_position cards dev place (sym at))
-    ∙ find-cards cards dev
+    rw (← find-cards cards dev, ← at_position cards dev place (sym at), slice_get-get_or cards place d within) refl
 
 pub card_name : (cards : List CardBytes) (reg : Reg) (place : ℕ) (d : CardBytes) → 2 ≤ reg.dev → reg.fun ≡ 0 →
     position (λ card. card.card.dev == reg.dev) cards ≡ Some place →

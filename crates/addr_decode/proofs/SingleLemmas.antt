@@ -1,7 +1,8 @@
 -- The registers of one byte each: their numbers, and that each stands beside all others.
-use Rattle.std.proofs.Common.{◌≡◌, ◌≢◌, ℕ, suc, ◌+◌, ◌-◌, ◌<◌, ◌≤◌, Bool, true, false, not, ◌&&◌, Option, Some}
-use Rattle.std.proofs.Common.{None, List, [], ◌∷◌, length, get_or, inl, inr, refl, sym, ◌∙◌, ap, subst, arith, ◌==◌}
-use Rattle.std.proofs.Common.{nat_lt, unwrap_or, rules, map, slice_index}
+use Rattle.std.proofs.Common.{◌≡◌, ◌≢◌, ℕ, suc, ◌+◌, ◌-◌, ◌<◌, ◌≤◌, Bool, true, false, not, ◌&&◌, Option, Some, None}
+use Rattle.std.proofs.Common.{List, [], ◌∷◌, length, get_or, inl, inr, refl, sym, ◌∙◌, ap, subst, arith, ◌==◌, nat_lt}
+use Rattle.std.proofs.Common.{rules, map, slice_index}
+use Rattle.std.proofs.lemmas.Option.{same_Some}
 use Rattle.board_prelude.proofs.Common.{cases_Bool, nat_tests, and-false, false≢true, each_below, Reg, is_same}
 use Rattle.board_prelude.proofs.Common.{is_within, bridge, card_register, fdhc, Bytes, get_or-map}
 use Rattle.addr_decode.specs.Singles.{singles, single, single_count, number_from, single_number, AreSinglesOf}
@@ -11,10 +12,7 @@ use Rattle.addr_decode.proofs.StoreLemmas.{Differs, same_register, same_or_apart
 
 same_told : (reg other : Reg) → is_same reg other ≡ true → reg ≡ other
 same_told reg other is =
-    let devs : reg.dev ≡ other.dev = grind (arith, nat_tests) in
-    let funs : reg.fun ≡ other.fun = grind (arith, nat_tests) in
-    let offs : reg.off ≡ other.off = grind (arith, nat_tests) in
-    same_register reg other devs funs offs
+    same_register reg other (grind (arith, nat_tests)) (grind (arith, nat_tests)) (grind (arith, nat_tests))
 
 -- a register that has a number stands there
 pub number_told : (reg d : Reg) (first number : ℕ) (table : List Reg) → number_from first table reg ≡ Some number →
@@ -23,8 +21,7 @@ number_told reg d first number [] is = absurd (cc)
 number_told reg d first number (entry ∷ later) is =
     elim (cases_Bool (is_same reg entry)) [
       | inl here ↦
-          let some : Some first ≡ Some number = rw here at is in
-          let same : first ≡ number = ap (λ (it : Option ℕ). unwrap_or it first) some in
+          let same : first ≡ number = same_Some _ _ (rw here at is) in
           let none : number - first ≡ 0 = omega arith in
           (omega arith, omega arith, rw none (sym (same_told reg entry here)))
       | inr not_here ↦
@@ -53,7 +50,7 @@ pub no_single : (reg : Reg) → single_number reg ≡ None → (k : ℕ) → k <
 no_single reg none k below =
     elim (same_or_apart reg (single k)) [
       | inl same ↦
-          let no : None ≡ Some k = sym none ∙ ap (λ (it : Reg). single_number it) same ∙ numbered k below in
+          let told = numbered k below in
           absurd (cc)
       | inr apart ↦ apart
     ]
@@ -63,9 +60,9 @@ singles_apart j k j_below k_below apart =
     elim (same_or_apart (single j) (single k)) [
       | inr differ ↦ differ
       | inl same ↦
-          let names : Some j ≡ Some k =
-          sym (numbered j j_below) ∙ ap (λ (reg : Reg). single_number reg) same ∙ numbered k k_below in
-          absurd (apart (ap (λ (it : Option ℕ). unwrap_or it j) names))
+          let told_j = numbered j j_below in
+          let told_k = numbered k k_below in
+          absurd (apart cc)
     ]
 
 -- ---- where they stand
@@ -100,7 +97,7 @@ pub single_is : (k : ℕ) → k < single_count → IsSingle (single k)
 single_is k below =
     single_told (single k) (each_below (λ k. is_single (single k) ≡ true) single_count k (search rules) below)
 
--- a register that is none of them has no number: so PAM and the boundaries of rows, a card, and past offset FFh
+-- a register that is none of them has no number: so PAM and the boundaries of rows, and a card
 is_none : (reg : Reg) → ((k : ℕ) → k < single_count → single k ≢ reg) → (number : Option ℕ) →
     single_number reg ≡ number → number ≡ None
 is_none reg other None is = refl
@@ -122,8 +119,3 @@ card_unnumbered dev off above =
     is_none (card_register dev off)
     (λ k below. not_one (card_register dev off) (single k) (inl (omega (arith, (single_is k below).low))))
     (single_number (card_register dev off)) refl
-
-pub none_past_ff : (reg : Reg) → 256 ≤ reg.off → single_number reg ≡ None
-none_past_ff reg past =
-    is_none reg (λ k below. not_one reg (single k) (inr (inr (omega (arith, (single_is k below).byte)))))
-    (single_number reg) refl

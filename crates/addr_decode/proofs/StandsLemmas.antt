@@ -1,22 +1,21 @@
 -- The registers of the address map among those of a board: after a reset, and where a byte is stored.
-use Rattle.std.proofs.Common.{◌≡◌, ◌≢◌, ℕ, ◌+◌, ◌-◌, ◌<◌, ◌≤◌, ◌⊎◌, inl, inr, Option, Some, None, false, List}
-use Rattle.std.proofs.Common.{length, get_or, set, refl, sym, ◌∙◌, ap, subst, arith, add-one, slice_index}
-use Rattle.std.proofs.Common.{get_or-set_other, get_or-set_same, option_map}
-use Rattle.board_prelude.proofs.Common.{cases_Bool, cases_eq, cases_lt, nat_tests, Width, bytes_of, One}
-use Rattle.board_prelude.proofs.Common.{Reg, Store, FittedCard, Setup, byte, is_within, reset_byte}
-use Rattle.board_prelude.proofs.Common.{changed_byte, Bytes, bridge, isa, drb}
-use Rattle.board_prelude.proofs.Common.{card_register, reg_after, after_stores}
-use Rattle.board_prelude.proofs.Common.{byte_by_byte}
-use Rattle.pmc_regs.specs.Pmc.{IsRowsOf}
+use Rattle.std.proofs.Common.{◌≡◌, ◌≢◌, ℕ, ◌+◌, ◌<◌, ◌≤◌, ◌⊎◌, inl, inr, Option, Some, None, false, List, length, set}
+use Rattle.std.proofs.Common.{refl, sym, ◌∙◌, subst, arith, add-one, slice_index, get_or-set_other, get_or-set_same}
+use Rattle.std.proofs.Common.{option_map, Bool, true, if◌then◌else◌}
+use Rattle.board_prelude.proofs.Common.{cases_eq, cases_lt, nat_tests, Width, bytes_of, One, Reg, Store, FittedCard}
+use Rattle.board_prelude.proofs.Common.{Setup, byte, is_within, reset_byte, changed_byte, Bytes, bridge, isa, drb}
+use Rattle.board_prelude.proofs.Common.{card_register, reg_after, after_stores, byte_by_byte}
 use Rattle.pmc_regs.proofs.Common.{row_bytes, rows_are, rows_after_store}
 use Rattle.pam_windows.specs.Pam.{IsPamOffset, IsPamOf}
 use Rattle.pam_windows.proofs.PamLemmas.{pam_bytes, pam_are}
 use Rattle.pci_bars.specs.Cards.{CardBytes, AreCards, AreCardsOf, AreDecoded, cards_of, AreFitted, AreReset}
-use Rattle.addr_decode.specs.declared.register.MapRegister.TheVariants.{Pam, RowBoundary, Single}
-use Rattle.addr_decode.specs.Common.{in_bridge, map_register, MapBytes, StandsFor, stored}
-use Rattle.addr_decode.specs.Common.{AreSinglesOf, single, single_count, single_number}
+use Rattle.addr_decode.specs.declared.register.MapRegister.TheVariants.{Single}
+use Rattle.addr_decode.specs.Common.{in_bridge, map_register, MapBytes, StandsFor, stored, AreSinglesOf, single}
+use Rattle.addr_decode.specs.Common.{single_count, single_number}
 use Rattle.addr_decode.proofs.StoreLemmas.{Differs, differs_back, stored-elsewhere, in_function_0}
-use Rattle.addr_decode.proofs.CardLemmas.{IsMapOffset, decodes-same, cards_agree, reset_decoded}
+use Rattle.addr_decode.proofs.CardLemmas.{cards_agree, cards_beside, cards_decoded, of_decoded, of_registers}
+use Rattle.addr_decode.proofs.CardLemmas.{reset_cards}
+use Rattle.addr_decode.specs.declared.register.MapRegister.{MapRegister}
 use Rattle.addr_decode.proofs.SingleLemmas.{no_single, singles_apart, single_is}
 
 -- the registers of the bridges that a board's registers give
@@ -33,165 +32,111 @@ stands_at_reset setup regs are fitted reset same = record {
   rows = rows_are (reset_byte setup) regs.drb are.rows;
   windows = pam_are (reset_byte setup) regs.pam are.windows;
   singles = are.singles;
-  cards = reset_decoded setup regs.cards fitted reset same;
-}
-
--- ---- registers that agree
-
-cards-same :
-    (setup : Setup) (bytes bytes' : Bytes) (cards : List CardBytes) → AreCards cards →
-    ((rom : Option ℕ) (dev off : ℕ) → 2 ≤ dev → IsMapOffset rom off →
-    bytes' (card_register dev off) ≡ bytes (card_register dev off)) →
-    AreDecoded setup bytes cards → AreDecoded setup bytes' cards
-cards-same setup bytes bytes' cards each same are = (
-  are.0,
-  (λ k d within.
-      let card : CardBytes = get_or cards k d in
-      decodes-same setup bytes bytes' card
-      (λ off inside. same card.card.rom card.card.dev off (each k d within).first inside)
-      (are.1 k d within)),
-)
-
-stands-same :
-    (setup : Setup) (bytes bytes' : Bytes) (regs : MapBytes) → AreFitted regs.cards →
-    ((reg : Reg) → bytes' reg ≡ bytes reg) →
-    StandsFor setup bytes regs → StandsFor setup bytes' regs
-stands-same setup bytes bytes' regs fitted same stands = record {
-  rows = λ row below. stands.rows row below ∙ sym (same (drb row));
-  windows = λ off within. stands.windows off within ∙ sym (same (bridge off));
-  singles = λ k below. stands.singles k below ∙ sym (same (single k));
-  cards = cards-same setup bytes bytes' regs.cards fitted.each (λ _ dev off _ _. same (card_register dev off))
-      stands.cards;
+  cards = cards_decoded setup (reset_byte setup) regs.cards (reset_cards setup regs.cards fitted reset same);
 }
 
 -- ---- a byte is stored in one register: each kind of the others stays
 
-module _ (setup : Setup) (bytes : Bytes) (at : Reg) (written : ℕ) where
-  rows_stay : ((row : ℕ) → row < 8 → Differs at (drb row)) → (drb : List ℕ) → IsRowsOf bytes drb →
-      IsRowsOf (stored setup bytes at written) drb
-  rows_stay apart held are row below =
-      are row below ∙ sym (stored-elsewhere setup bytes at written (drb row) (apart row below))
-
-  windows_stay : ((off : ℕ) → IsPamOffset off → Differs at (bridge off)) → (pam : List ℕ) → IsPamOf bytes pam →
-      IsPamOf (stored setup bytes at written) pam
-  windows_stay apart pam are off within =
-      are off within ∙ sym (stored-elsewhere setup bytes at written (bridge off) (apart off within))
-
-  singles_stay : ((k : ℕ) → k < single_count → Differs at (single k)) → (held : List ℕ) → AreSinglesOf bytes held →
-      AreSinglesOf (stored setup bytes at written) held
-  singles_stay apart held are k below =
-      are k below ∙ sym (stored-elsewhere setup bytes at written (single k) (apart k below))
-
-  cards_stay : at.dev < 2 → (cards : List CardBytes) → AreCards cards → AreDecoded setup bytes cards →
-      AreDecoded setup (stored setup bytes at written) cards
-  cards_stay low cards each =
-      cards-same setup bytes (stored setup bytes at written) cards each
-      (λ _ dev off above _. stored-elsewhere setup bytes at written (card_register dev off) (inl (omega arith)))
-
--- a window of PAM, a boundary of a row, and a register of one byte
-pub window_stored :
-    (setup : Setup) (bytes : Bytes) (regs : MapBytes) (pam : List ℕ) (off written : ℕ) → AreFitted regs.cards →
-    IsPamOffset off →
-    IsPamOf (stored setup bytes (bridge off) written) pam → StandsFor setup bytes regs →
-    StandsFor setup (stored setup bytes (bridge off) written) (record regs { pam = pam })
-window_stored setup bytes regs pam off written fitted within is stands = record {
-  rows = rows_stay setup bytes (bridge off) written (λ row _. inr (inr (omega (arith, within.1)))) regs.drb stands.rows;
-  windows = is;
-  singles =
-      singles_stay setup bytes (bridge off) written
-      (λ k below. (single_is k below).apart off within.0 (omega (arith, within.1))) regs.singles stands.singles;
-  cards = cards_stay setup bytes (bridge off) written (omega arith) regs.cards fitted.each stands.cards;
-}
-
-pub row_stored :
-    (setup : Setup) (bytes : Bytes) (regs : MapBytes) (row written : ℕ) → AreFitted regs.cards →
-    length regs.drb ≡ 8 → row < 8 → written < 256 → StandsFor setup bytes regs →
-    StandsFor setup (stored setup bytes (drb row) written) (record regs { drb = set regs.drb row written })
-row_stored setup bytes regs row written fitted eight within below stands = record {
-  rows = rows_after_store setup bytes regs.drb row written eight within below stands.rows;
-  windows =
-      windows_stay setup bytes (drb row) written (λ off inside. inr (inr (omega (arith, inside.1)))) regs.pam
-      stands.windows;
-  singles =
-      singles_stay setup bytes (drb row) written
-      (λ k few. (single_is k few).apart (0x60 + row) (omega arith) (omega arith)) regs.singles stands.singles;
-  cards = cards_stay setup bytes (drb row) written (omega arith) regs.cards fitted.each stands.cards;
-}
-
-pub single_stored :
-    (setup : Setup) (bytes : Bytes) (regs : MapBytes) (number written after : ℕ) → AreFitted regs.cards →
-    length regs.singles ≡ single_count → number < single_count →
-    after ≡ changed_byte setup (Store (single number) One written) (single number) (slice_index regs.singles number) →
-    StandsFor setup bytes regs →
-    StandsFor setup (stored setup bytes (single number) written)
-    (record regs { singles = set regs.singles number after })
-single_stored setup bytes regs number written after fitted all within is stands =
-    let new : Bytes = stored setup bytes (single number) written in
-    let place = single_is number within in
-    record {
-      rows =
-          rows_stay setup bytes (single number) written
-          (λ row below. differs_back (drb row) (single number) (place.apart (0x60 + row) (omega arith) (omega arith)))
-          regs.drb stands.rows;
-      windows =
-          windows_stay setup bytes (single number) written
-          (λ off inside. differs_back (bridge off) (single number)
-          (place.apart off inside.0 (omega (arith, inside.1)))) regs.pam stands.windows;
-      singles = λ k below.
-          elim (cases_eq k number) [
-            | inl same ↦
-                subst (λ (j : ℕ). slice_index (set regs.singles number after) j ≡ new (single j)) (sym same)
-                (get_or-set_same regs.singles number after 0 (omega arith)
-                ∙ is
-                ∙ ap (changed_byte setup (Store (single number) One written) (single number))
-                (stands.singles number within))
-            | inr apart ↦
-                get_or-set_other regs.singles number k after 0 apart
-                ∙ stands.singles k below
-                ∙ sym (stored-elsewhere setup bytes (single number) written (single k)
-                (singles_apart number k within below (λ e. apart (sym e))))
-          ];
-      cards = cards_stay setup bytes (single number) written place.low regs.cards fitted.each stands.cards;
-    }
-
--- the registers of the bridges stay where a byte is stored in a card
-pub card_stored :
-    (setup : Setup) (bytes : Bytes) (regs : MapBytes) (cards : List CardBytes) (dev off written : ℕ) → 2 ≤ dev →
-    AreDecoded setup (stored setup bytes (card_register dev off) written) cards →
-    StandsFor setup bytes regs → StandsFor setup (stored setup bytes (card_register dev off) written)
-    (record regs { cards = cards })
-card_stored setup bytes regs cards dev off written above are stands =
-    let at : Reg = card_register dev off in
-    record {
-      rows = rows_stay setup bytes at written (λ row _. inl (omega arith)) regs.drb stands.rows;
-      windows = windows_stay setup bytes at written (λ at _. inl (omega arith)) regs.pam stands.windows;
-      singles =
-          singles_stay setup bytes at written
-          (λ k below. inl (omega (arith, (single_is k below).low))) regs.singles stands.singles;
-      cards = are;
-    }
-
--- ---- a register without a name is none of those that the address map depends on
-
--- a register is none of them
+-- a register is none of those of the bridges
 pub record IsApart (at : Reg) : Type 0 where
   pub rows : (row : ℕ) → row < 8 → Differs at (drb row)
   pub windows : (off : ℕ) → IsPamOffset off → Differs at (bridge off)
   pub singles : (k : ℕ) → k < single_count → Differs at (single k)
-  pub cards : (rom : Option ℕ) (dev off : ℕ) → 2 ≤ dev → IsMapOffset rom off → Differs at (card_register dev off)
 
-pub stored_apart :
-    (setup : Setup) (bytes : Bytes) (regs : MapBytes) (at : Reg) (written : ℕ) → AreFitted regs.cards → IsApart at →
-    StandsFor setup bytes regs → StandsFor setup (stored setup bytes at written) regs
-stored_apart setup bytes regs at written fitted apart stands = record {
-  rows = rows_stay setup bytes at written apart.rows regs.drb stands.rows;
-  windows = windows_stay setup bytes at written apart.windows regs.pam stands.windows;
-  singles = singles_stay setup bytes at written apart.singles regs.singles stands.singles;
-  cards =
-      cards-same setup bytes (stored setup bytes at written) regs.cards fitted.each
-      (λ rom dev off above inside.
-      stored-elsewhere setup bytes at written (card_register dev off) (apart.cards rom dev off above inside))
-      stands.cards;
+module _ (setup : Setup) (bytes : Bytes) (regs : MapBytes) (stands : StandsFor setup bytes regs) (written : ℕ) where
+  stays : (at reg : Reg) (held : ℕ) → held ≡ bytes reg → Differs at reg → held ≡ stored setup bytes at written reg
+  stays at reg held is apart = is ∙ sym (stored-elsewhere setup bytes at written reg apart)
+
+  -- a register that is none of the bridges'
+  pub stored_apart : (at : Reg) (cards : List CardBytes) → IsApart at →
+      AreDecoded setup (stored setup bytes at written) cards →
+      StandsFor setup (stored setup bytes at written) (record regs { cards = cards })
+  stored_apart at cards apart are = record {
+    rows = λ row below. stays at (drb row) _ (stands.rows row below) (apart.rows row below);
+    windows = λ off inside. stays at (bridge off) _ (stands.windows off inside) (apart.windows off inside);
+    singles = λ k below. stays at (single k) _ (stands.singles k below) (apart.singles k below);
+    cards = are;
+  }
+
+  -- a window of PAM, a boundary of a row, and a register of one byte
+  module _ (fitted : AreFitted regs.cards) where
+    cards_stay : (at : Reg) → at.dev < 2 → AreDecoded setup (stored setup bytes at written) regs.cards
+    cards_stay at low = cards_beside (of_decoded setup) bytes regs.cards stands.cards at written fitted.each (inl low)
+
+    pub window_stored : (pam : List ℕ) (off : ℕ) → IsPamOffset off →
+        IsPamOf (stored setup bytes (bridge off) written) pam →
+        StandsFor setup (stored setup bytes (bridge off) written) (record regs { pam = pam })
+    window_stored pam off within is = record {
+      rows = λ row below.
+          stays (bridge off) (drb row) _ (stands.rows row below) (inr (inr (omega (arith, within.1))));
+      windows = is;
+      singles = λ k below.
+          stays (bridge off) (single k) _ (stands.singles k below)
+          ((single_is k below).apart off within.0 (omega (arith, within.1)));
+      cards = cards_stay (bridge off) (omega arith);
+    }
+
+    pub row_stored : (row : ℕ) → length regs.drb ≡ 8 → row < 8 → written < 256 →
+        StandsFor setup (stored setup bytes (drb row) written) (record regs { drb = set regs.drb row written })
+    row_stored row eight within below = record {
+      rows = rows_after_store setup bytes regs.drb row written eight within below stands.rows;
+      windows = λ off inside.
+          stays (drb row) (bridge off) _ (stands.windows off inside) (inr (inr (omega (arith, inside.1))));
+      singles = λ k few.
+          stays (drb row) (single k) _ (stands.singles k few)
+          ((single_is k few).apart (0x60 + row) (omega arith) (omega arith));
+      cards = cards_stay (drb row) (omega arith);
+    }
+
+    pub single_stored : (number after : ℕ) → length regs.singles ≡ single_count → number < single_count →
+        after
+        ≡ changed_byte setup (Store (single number) One written) (single number) (slice_index regs.singles number) →
+        StandsFor setup (stored setup bytes (single number) written)
+        (record regs { singles = set regs.singles number after })
+    single_stored number after all within is =
+        let place = single_is number within in
+        record {
+          rows = λ row below.
+              stays (single number) (drb row) _ (stands.rows row below)
+              (differs_back (drb row) (single number) (place.apart (0x60 + row) (omega arith) (omega arith)));
+          windows = λ off inside.
+              stays (single number) (bridge off) _ (stands.windows off inside)
+              (differs_back (bridge off) (single number) (place.apart off inside.0 (omega (arith, inside.1))));
+          singles = λ k below.
+              elim (cases_eq k number) [
+                | inl same ↦
+                    rw (same, get_or-set_same regs.singles number after 0 (omega arith), ← stands.singles number within)
+                    is
+                | inr apart ↦
+                    get_or-set_other regs.singles number k after 0 apart
+                    ∙ stays (single number) (single k) _ (stands.singles k below)
+                    (singles_apart number k within below (λ e. apart (sym e)))
+              ];
+          cards = cards_stay (single number) place.low;
+        }
+
+-- ---- a register without a name is none of those that the address map depends on
+
+-- a card has none of the bridges' registers, nor has a function other than 0, nor are any past offset FFh
+pub card_apart : (at : Reg) → 2 ≤ at.dev → IsApart at
+card_apart at above = record {
+  rows = λ row _. inl (omega arith);
+  windows = λ off _. inl (omega arith);
+  singles = λ k below. inl (omega (arith, (single_is k below).low));
+}
+
+function_apart : (at : Reg) → at.fun ≢ 0 → IsApart at
+function_apart at fun = record {
+  rows = λ row _. inr (inl fun);
+  windows = λ off _. inr (inl fun);
+  singles = λ k below. inr (inl (λ e. fun (e ∙ (single_is k below).function)));
+}
+
+pub beyond_apart : (at : Reg) → 256 ≤ at.off → IsApart at
+beyond_apart at past = record {
+  rows = λ row below. inr (inr (omega arith));
+  windows = λ off inside. inr (inr (omega (arith, inside.1)));
+  singles = λ k below. inr (inr (omega (arith, (single_is k below).byte)));
 }
 
 -- none of the registers of the map has this offset in the host bridge
@@ -202,13 +147,12 @@ pub record IsBeside (off : ℕ) : Type 0 where
 
 bridge_apart : (off : ℕ) → IsBeside off → IsApart (bridge off)
 bridge_apart off beside = record {
-  rows = λ row below. elim beside.rows [ inl low ↦ inr (inr (omega arith)) | inr high ↦ inr (inr (omega arith)) ];
-  windows = λ at inside. elim beside.windows [
-    | inl low ↦ inr (inr (omega (arith, inside.0)))
-    | inr high ↦ inr (inr (omega (arith, inside.1)))
-  ];
+  rows = λ row below. inr (inr (λ same. elim beside.rows [ inl low ↦ omega arith | inr high ↦ omega arith ]));
+  windows = λ at inside. inr (inr (λ same. elim beside.windows [
+    | inl low ↦ omega (arith, inside.0)
+    | inr high ↦ omega (arith, inside.1)
+  ]));
   singles = beside.singles;
-  cards = λ _ dev at above _. inl (omega arith);
 }
 
 isa_apart : (off : ℕ) → single_number (isa off) ≡ None → IsApart (isa off)
@@ -216,30 +160,6 @@ isa_apart off none = record {
   rows = λ row _. inl (omega arith);
   windows = λ at _. inl (omega arith);
   singles = no_single (isa off) none;
-  cards = λ _ dev at above _. inl (omega arith);
-}
-
--- a function other than 0 has no register of the map
-function_apart : (at : Reg) → at.fun ≢ 0 → IsApart at
-function_apart at fun = record {
-  rows = λ row _. inr (inl fun);
-  windows = λ off _. inr (inl fun);
-  singles = λ k below. inr (inl (λ e. fun (e ∙ (single_is k below).function)));
-  cards = λ _ dev off _ _. inr (inl fun);
-}
-
-below_256 : (rom : Option ℕ) (at off : ℕ) → 256 ≤ at → IsMapOffset rom off → at ≢ off
-below_256 rom at off past (inl command) = omega arith
-below_256 rom at off past (inr (inl bases)) = omega (arith, bases.1)
-below_256 rom at off past (inr (inr in_rom)) = omega (arith, in_rom.2)
-
--- nor has a byte past offset FFh
-pub beyond_apart : (at : Reg) → 256 ≤ at.off → IsApart at
-beyond_apart at past = record {
-  rows = λ row below. inr (inr (omega arith));
-  windows = λ off inside. inr (inr (omega (arith, inside.1)));
-  singles = λ k below. inr (inr (omega (arith, (single_is k below).byte)));
-  cards = λ rom dev off _ inside. inr (inr (below_256 rom at.off off past inside));
 }
 
 -- the name of a register of one byte
@@ -247,22 +167,20 @@ named_none : (number : Option ℕ) → option_map Single number ≡ None → num
 named_none None is = refl
 named_none (Some number) is = absurd (cc)
 
+-- a test that gives no name fails
+not_named : (test : Bool) (name : MapRegister) (later : Option MapRegister) →
+    (if test then Some name else later) ≡ None → (test ≡ false) × (later ≡ None)
+not_named true name later is = absurd cc
+not_named false name later is = (refl, is)
+
 bridge_beside : (off : ℕ) → in_bridge off ≡ None → IsBeside off
 bridge_beside off none =
-    let not_pam : is_within 0x59 0x5F off ≡ false =
-    elim (cases_Bool (is_within 0x59 0x5F off)) [
-      | inr not ↦ not
-      | inl here ↦ let some : Some (Pam (off - 0x59)) ≡ None = rw here at none in absurd (cc)
-    ] in
-    let not_row : is_within 0x60 0x67 off ≡ false =
-    elim (cases_Bool (is_within 0x60 0x67 off)) [
-      | inr not ↦ not
-      | inl here ↦ let some : Some (RowBoundary (off - 0x60)) ≡ None = rw (not_pam, here) at none in absurd (cc)
-    ] in
+    let pam = not_named (is_within 0x59 0x5F off) _ _ none in
+    let row = not_named (is_within 0x60 0x67 off) _ _ pam.1 in
     record {
-      windows = elim (cases_lt off 0x59) [ inl below ↦ inl below | inr from ↦ inr (grind (arith, nat_tests)) ];
-      rows = elim (cases_lt off 0x60) [ inl below ↦ inl below | inr from ↦ inr (grind (arith, nat_tests)) ];
-      singles = no_single (bridge off) (named_none (single_number (bridge off)) (rw (not_pam, not_row) at none));
+      windows = elim (cases_lt off 0x59) [ inl below ↦ inl below | inr from ↦ inr (grind (arith, nat_tests, pam.0)) ];
+      rows = elim (cases_lt off 0x60) [ inl below ↦ inl below | inr from ↦ inr (grind (arith, nat_tests, row.0)) ];
+      singles = no_single (bridge off) (named_none (single_number (bridge off)) row.1);
     }
 
 pub nameless_in_bridge : (cards : List FittedCard) (at : Reg) → at.dev ≡ 0 → at.fun ≡ 0 → map_register cards at ≡ None →
@@ -270,14 +188,9 @@ pub nameless_in_bridge : (cards : List FittedCard) (at : Reg) → at.dev ≡ 0 �
 unfolding map_register
 nameless_in_bridge cards at first function none = bridge_beside at.off (rw (function, first) at none)
 
-nameless_in_isa : (cards : List FittedCard) (at : Reg) → at.dev ≡ 1 → at.fun ≡ 0 → map_register cards at ≡ None →
-    single_number (isa at.off) ≡ None
-unfolding map_register
-nameless_in_isa cards at second function none =
-    named_none (single_number (isa at.off)) (rw (function, second) at none)
-
 pub nameless_apart : (cards : List FittedCard) (at : Reg) → (at.dev < 2) ⊎ (at.fun ≢ 0) →
     map_register cards at ≡ None → IsApart at
+unfolding map_register
 nameless_apart cards at (inr fun) none = function_apart at fun
 nameless_apart cards at (inl low) none =
     elim (cases_eq at.fun 0) [
@@ -289,7 +202,7 @@ nameless_apart cards at (inl low) none =
         | inr not0 ↦
             let second : at.dev ≡ 1 = omega arith in
             subst IsApart (in_function_0 at 1 second function)
-            (isa_apart at.off (nameless_in_isa cards at second function none))
+            (isa_apart at.off (named_none (single_number (isa at.off)) (rw (function, second) at none)))
       ]
     ]
 
@@ -298,49 +211,39 @@ nameless_apart cards at (inl low) none =
 abbrev pub stored_so_far : Setup → Bytes → (at : Reg) → (value count : ℕ) → Bytes
 stored_so_far setup bytes at value count = λ reg. after_stores setup at value count reg (bytes reg)
 
-pub none_stored :
-    (setup : Setup) (bytes : Bytes) (at : Reg) (value : ℕ) (regs : MapBytes) → AreFitted regs.cards →
-    StandsFor setup bytes regs →
-    StandsFor setup (stored_so_far setup bytes at value 0) regs
-unfolding after_stores
-none_stored setup bytes at value regs fitted stands = stands
+-- what holds of the registers holds before the first, and goes on by one byte
+module _ (P : Bytes → Type 0) (setup : Setup) (bytes : Bytes) (at : Reg) (value : ℕ) where
+  pub none_stored : P bytes → P (stored_so_far setup bytes at value 0)
+  unfolding after_stores
+  none_stored is = is
 
-pub one_more_stored : (setup : Setup) (bytes : Bytes) (at : Reg) (value count : ℕ) (regs : MapBytes) →
-    StandsFor setup (stored setup (stored_so_far setup bytes at value count) (reg_after at count) (byte value count))
-    regs →
-    StandsFor setup (stored_so_far setup bytes at value (count + 1)) regs
-unfolding after_stores
-one_more_stored setup bytes at value count regs stands = rw (add-one count) stands
+  pub one_more_stored : (count written : ℕ) → written ≡ byte value count →
+      P (stored setup (stored_so_far setup bytes at value count) (reg_after at count) written) →
+      P (stored_so_far setup bytes at value (count + 1))
+  unfolding after_stores
+  one_more_stored count written same is = rw (add-one count) (rw same at is)
 
-pub all_stored :
-    (setup : Setup) (bytes : Bytes) (at : Reg) (width : Width) (value : ℕ) (regs : MapBytes) → AreFitted regs.cards →
-    StandsFor setup (stored_so_far setup bytes at value (bytes_of width)) regs →
-    StandsFor setup (λ reg. changed_byte setup (Store at width value) reg (bytes reg)) regs
-all_stored setup bytes at width value regs fitted stands =
-    let new : Bytes = λ reg. changed_byte setup (Store at width value) reg (bytes reg) in
-    let far : Bytes = stored_so_far setup bytes at value (bytes_of width) in
-    let same : (reg : Reg) → new reg ≡ far reg = λ reg. byte_by_byte setup at width value reg (bytes reg) in
-    stands-same setup far new regs fitted same stands
+-- all of them
+module _ (setup : Setup) (bytes : Bytes) (at : Reg) (width : Width) (value count : ℕ) (all : count ≡ bytes_of width)
+  where
+    whole : (reg : Reg) →
+        changed_byte setup (Store at width value) reg (bytes reg) ≡ stored_so_far setup bytes at value count reg
+    whole reg = rw all (byte_by_byte setup at width value reg (bytes reg))
 
--- and those of the cards
-pub no_cards_stored :
-    (setup : Setup) (bytes : Bytes) (at : Reg) (value : ℕ) (cards : List CardBytes) → AreCardsOf setup bytes cards →
-    AreCardsOf setup (stored_so_far setup bytes at value 0) cards
-unfolding after_stores
-no_cards_stored setup bytes at value cards are = are
+    pub all_stored : (regs : MapBytes) → AreFitted regs.cards →
+        StandsFor setup (stored_so_far setup bytes at value count) regs →
+        StandsFor setup (λ reg. changed_byte setup (Store at width value) reg (bytes reg)) regs
+    all_stored regs fitted stands = record {
+      rows = λ row below. stands.rows row below ∙ sym (whole (drb row));
+      windows = λ off within. stands.windows off within ∙ sym (whole (bridge off));
+      singles = λ k below. stands.singles k below ∙ sym (whole (single k));
+      cards =
+          cards_agree (of_decoded setup) _ regs.cards stands.cards _ fitted.each
+          (λ dev off _. whole (card_register dev off));
+    }
 
-pub more_cards_stored : (setup : Setup) (bytes : Bytes) (at : Reg) (value count : ℕ) (cards : List CardBytes) →
-    AreCardsOf setup (stored setup (stored_so_far setup bytes at value count) (reg_after at count) (byte value count))
-    cards →
-    AreCardsOf setup (stored_so_far setup bytes at value (count + 1)) cards
-unfolding after_stores
-more_cards_stored setup bytes at value count cards are = rw (add-one count) are
-
-pub all_cards_stored :
-    (setup : Setup) (bytes : Bytes) (at : Reg) (width : Width) (value : ℕ) (cards : List CardBytes) → AreCards cards →
-    AreCardsOf setup (stored_so_far setup bytes at value (bytes_of width)) cards →
-    AreCardsOf setup (λ reg. changed_byte setup (Store at width value) reg (bytes reg)) cards
-all_cards_stored setup bytes at width value cards each are =
-    cards_agree setup (stored_so_far setup bytes at value (bytes_of width))
-    (λ reg. changed_byte setup (Store at width value) reg (bytes reg)) cards each
-    (λ dev off _. byte_by_byte setup at width value (card_register dev off) (bytes (card_register dev off))) are
+    pub all_cards_stored : (cards : List CardBytes) → AreCards cards →
+        AreCardsOf setup (stored_so_far setup bytes at value count) cards →
+        AreCardsOf setup (λ reg. changed_byte setup (Store at width value) reg (bytes reg)) cards
+    all_cards_stored cards each are =
+        cards_agree (of_registers setup) _ cards are _ each (λ dev off _. whole (card_register dev off))

@@ -1,5 +1,5 @@
 -- A byte that is stored in one register leaves all others, and a register takes it under its mask.
-use Rattle.std.proofs.Common.{◌≡◌, ◌≢◌, ℕ, List, ◌<◌, false, ◌⊎◌, inl, inr, sym, ◌∙◌, ap, arith, slice_index}
+use Rattle.std.proofs.Common.{◌≡◌, ◌≢◌, ℕ, List, ◌<◌, false, ◌⊎◌, inl, inr, refl, sym, ◌∙◌, ap, arith, slice_index}
 use Rattle.board_prelude.proofs.Common.{w32, to_le_bytes, cond-false, cases_eq, nat_tests, One, Reg, Setup, byte}
 use Rattle.board_prelude.proofs.Common.{covers, Bytes, card_register}
 use Rattle.pci_bars.proofs.BaseLemmas.{long_byte}
@@ -21,17 +21,16 @@ stored-elsewhere setup bytes at written reg apart = cond-false (covers at One re
 abbrev pub reg_made : (dev fun off : ℕ) → Reg
 reg_made dev fun off = record { dev = dev; fun = fun; off = off }
 
--- a register of function 0 by its device
-pub in_function_0 : (reg : Reg) (dev : ℕ) → reg.dev ≡ dev → reg.fun ≡ 0 → card_register dev reg.off ≡ reg
-in_function_0 reg dev is_dev is_fun =
-    ap (λ (d : ℕ). reg_made d 0 reg.off) (sym is_dev) ∙ ap (λ (f : ℕ). reg_made reg.dev f reg.off) (sym is_fun)
-
 -- a register by its three numbers
 pub same_register : (reg other : Reg) → reg.dev ≡ other.dev → reg.fun ≡ other.fun → reg.off ≡ other.off → reg ≡ other
 same_register reg other devs funs offs =
     ap (λ (d : ℕ). reg_made d reg.fun reg.off) devs
     ∙ ap (λ (f : ℕ). reg_made other.dev f reg.off) funs
     ∙ ap (λ (o : ℕ). reg_made other.dev other.fun o) offs
+
+-- a register of function 0 by its device
+pub in_function_0 : (reg : Reg) (dev : ℕ) → reg.dev ≡ dev → reg.fun ≡ 0 → card_register dev reg.off ≡ reg
+in_function_0 reg dev is_dev is_fun = same_register (card_register dev reg.off) reg (sym is_dev) (sym is_fun) refl
 
 -- two registers are one, or differ
 pub same_or_apart : (at reg : Reg) → (at ≡ reg) ⊎ Differs at reg

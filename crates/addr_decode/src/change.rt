@@ -55,6 +55,7 @@ impl MapRegs {
 
     /// Makes a change as `apply` does, where the names of the registers that it stores to are known.
     #[inline(always)]
+    #[tactic(auto, using(crate::proofs::CardLemmas::fitted_same))]
     pub fn apply_named(&mut self, change: &MapChange, names: &[Option<MapRegister>])
         requires cards { AreFitted self.old.cards.items }
         requires names { names.now ≡ names_of (cards_of self.old.cards.items) change.now }

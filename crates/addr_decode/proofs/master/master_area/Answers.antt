@@ -1,18 +1,16 @@
-use Rattle.std.proofs.Common.{Some, None, refl}
-use Rattle.addr_decode.specs.Memory.{beside_dram}
+use Rattle.std.proofs.Common.{refl}
 use Rattle.addr_decode.proofs.MemoryLemmas.{master_answers}
 use Rattle.addr_decode.proofs.master.master_area.Goals as goal
 
 pub returns-in-Some : goal.returns-in-Some
 returns-in-Some c = record {
   area = λ setup bytes stands.
-      master_answers setup bytes c.args.addr c.args.kind (Some c.in-Some.area) (beside_dram setup bytes c.args.addr)
-      (c.in-Some.ensures.dram setup bytes stands) refl;
+      master_answers setup bytes c.args.addr c.args.kind _ _ (c.in-Some.ensures.dram setup bytes stands) refl;
 }
 
 pub returns-in-None : goal.returns-in-None
 returns-in-None c = record {
   area = λ setup bytes stands.
-      master_answers setup bytes c.args.addr c.args.kind None c.area_beside_dram.result
-      (c.in-None.ensures.dram setup bytes stands) (c.area_beside_dram.ensures.area setup bytes stands);
+      master_answers setup bytes c.args.addr c.args.kind _ _ (c.in-None.ensures.dram setup bytes stands)
+      (c.area_beside_dram.ensures.area setup bytes stands);
 }

@@ -6,6 +6,6 @@ pub returns : goal.returns
 returns c = record {
   area = λ setup bytes stands.
       c.unwrap_or.ensures
-      ∙ either_answers setup bytes c.args.addr c.args.kind c.args.smm c.dram_area.result c.args.beside
-      (c.dram_area.ensures.dram setup bytes stands) (c.requires.beside setup bytes stands);
+      ∙ either_answers setup bytes c.args.addr c.args.kind c.args.smm _ _ (c.dram_area.ensures.dram setup bytes stands)
+      (c.requires.beside setup bytes stands);
 }

@@ -7,22 +7,22 @@ pub returns-in-Some : goal.returns-in-Some
 returns-in-Some c = record {
   read = λ setup bytes stands.
       c.shadow_or.ensures.area
-      ∙ shadow_answers setup bytes c.args.addr c.in-Some.row Read false c.shadows-reads.result.0 c.args.beside
-      c.requires.window (c.in-Some.ensures.row bytes stands.rows)
-      (c.shadows-reads.ensures.reads bytes stands.windows) (c.requires.beside setup bytes stands);
+      ∙ shadow_answers setup bytes c.args.addr Read false _ _ _ c.requires.window
+      (c.in-Some.ensures.row bytes stands.rows) (c.shadows-reads.ensures.reads bytes stands.windows)
+      (c.requires.beside setup bytes stands);
   write = λ setup bytes stands.
       c.shadow_or-in-Some.ensures.area
-      ∙ shadow_answers setup bytes c.args.addr c.in-Some.row Write false c.shadows-reads.result.1 c.args.beside
-      c.requires.window (c.in-Some.ensures.row bytes stands.rows)
-      (c.shadows-reads.ensures.writes bytes stands.windows) (c.requires.beside setup bytes stands);
+      ∙ shadow_answers setup bytes c.args.addr Write false _ _ _ c.requires.window
+      (c.in-Some.ensures.row bytes stands.rows) (c.shadows-reads.ensures.writes bytes stands.windows)
+      (c.requires.beside setup bytes stands);
 }
 
 pub returns-in-None : goal.returns-in-None
 returns-in-None c = record {
   read = λ setup bytes stands.
-      no_row_answers setup bytes c.args.addr Read false c.args.beside (c.in-None.ensures.row bytes stands.rows)
+      no_row_answers setup bytes c.args.addr Read false _ (c.in-None.ensures.row bytes stands.rows)
       (c.requires.beside setup bytes stands);
   write = λ setup bytes stands.
-      no_row_answers setup bytes c.args.addr Write false c.args.beside (c.in-None.ensures.row bytes stands.rows)
+      no_row_answers setup bytes c.args.addr Write false _ (c.in-None.ensures.row bytes stands.rows)
       (c.requires.beside setup bytes stands);
 }

@@ -6,10 +6,10 @@ use Rattle.addr_decode.proofs.regs.after_reset.Goals as goal
 
 pub returns-clause-stands : goal.returns-clause-stands
 unfolding reset_byte host_bridge
-returns-clause-stands c = λ setup same.
+returns-clause-stands c = λ setup.
     stands_at_reset setup _
     (record { rows = refl; windows = refl; singles = c.reset_singles.ensures.reset setup })
-    c.requires.cards c.requires.reset same
+    c.requires.cards c.requires.reset
 
 pub returns-clause-reset : goal.returns-clause-reset
-returns-clause-reset c = λ setup same. reset_cards setup c.args.cards.items c.requires.cards c.requires.reset same
+returns-clause-reset c = λ setup. reset_cards setup _ c.requires.cards c.requires.reset

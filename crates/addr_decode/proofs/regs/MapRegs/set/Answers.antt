@@ -1,37 +1,36 @@
-use Rattle.std.proofs.Common.{◌+◌, inl, arith}
-use Rattle.board_spec.specs.RegisterNames.{pam, drb}
+use Rattle.std.proofs.Common.{◌+◌, inl, arith, rules}
+use Rattle.board_spec.specs.RegisterNames.{bridge, drb}
 use Rattle.addr_decode.specs.MapRegs.{map_bytes}
 use Rattle.addr_decode.specs.Singles.{single}
-use Rattle.addr_decode.proofs.CardLemmas.{cards_beside}
+use Rattle.addr_decode.proofs.CardLemmas.{cards_beside, of_registers}
 use Rattle.addr_decode.proofs.SingleLemmas.{single_is}
-use Rattle.addr_decode.proofs.StandsLemmas.{window_stored, row_stored, card_stored}
+use Rattle.addr_decode.proofs.StandsLemmas.{window_stored, row_stored, stored_apart, card_apart}
 use Rattle.addr_decode.proofs.regs.MapRegs.set.Goals as goal
 
 pub returns-in-Pam-clause-stands : goal.returns-in-Pam-clause-stands
 returns-in-Pam-clause-stands c = λ setup bytes stands.
     let small = rw c.in-Pam.is at c.requires.number in
     rw c.in-Pam.is
-    (window_stored setup bytes (map_bytes c.args.self.now) c.store_pam.new.pam (0x59 + c.in-Pam.number) c.args.byte
-    c.requires.cards (omega (arith, small), omega (arith, small))
-    (c.store_pam.ensures.stored setup bytes stands.windows) stands)
+    (window_stored setup bytes _ stands c.args.byte c.requires.cards c.store_pam.new.pam (0x59 + c.in-Pam.number)
+    (omega (arith, small), omega (arith, small)) (c.store_pam.ensures.stored setup bytes stands.windows))
 
 pub returns-in-Pam-clause-cards : goal.returns-in-Pam-clause-cards
 returns-in-Pam-clause-cards c = λ setup bytes are.
     rw c.in-Pam.is
-    (cards_beside setup bytes (pam c.in-Pam.number) c.args.byte c.args.self.now.cards.items c.requires.cards.each
-    (inl (omega arith)) are)
+    (cards_beside (of_registers setup) bytes _ are (bridge (0x59 + c.in-Pam.number)) c.args.byte
+    c.requires.cards.each (inl (omega arith)))
 
 pub returns-in-RowBoundary-clause-stands : goal.returns-in-RowBoundary-clause-stands
 returns-in-RowBoundary-clause-stands c = λ setup bytes stands.
     rw (c.in-RowBoundary.is, c.from.ensures)
-    (row_stored setup bytes (map_bytes c.args.self.now) c.in-RowBoundary.row c.args.byte c.requires.cards c.told-self.0
-    (rw c.in-RowBoundary.is at c.requires.number) c.ranges.byte.fits stands)
+    (row_stored setup bytes (map_bytes c.args.self.now) stands c.args.byte c.requires.cards c.in-RowBoundary.row
+    (search rules) (rw c.in-RowBoundary.is at c.requires.number) c.ranges.byte.fits)
 
 pub returns-in-RowBoundary-clause-cards : goal.returns-in-RowBoundary-clause-cards
 returns-in-RowBoundary-clause-cards c = λ setup bytes are.
     rw c.in-RowBoundary.is
-    (cards_beside setup bytes (drb c.in-RowBoundary.row) c.args.byte c.args.self.now.cards.items c.requires.cards.each
-    (inl (omega arith)) are)
+    (cards_beside (of_registers setup) bytes _ are (drb c.in-RowBoundary.row) c.args.byte c.requires.cards.each
+    (inl (omega arith)))
 
 pub returns-in-Single-clause-stands : goal.returns-in-Single-clause-stands
 returns-in-Single-clause-stands c = λ setup bytes stands.
@@ -39,18 +38,17 @@ returns-in-Single-clause-stands c = λ setup bytes stands.
 
 pub returns-in-Single-clause-cards : goal.returns-in-Single-clause-cards
 returns-in-Single-clause-cards c = λ setup bytes are.
-    let number = rw c.in-Single.is at c.requires.number in
+    let place = single_is c.in-Single.number (rw c.in-Single.is at c.requires.number) in
     rw (c.in-Single.is, c.set_single.ensures.cards)
-    (cards_beside setup bytes (single c.in-Single.number) c.args.byte c.args.self.now.cards.items
-    c.requires.cards.each (inl (single_is c.in-Single.number number).low) are)
+    (cards_beside (of_registers setup) bytes _ are (single c.in-Single.number) c.args.byte c.requires.cards.each
+    (inl place.low))
 
 pub returns-in-Card-clause-stands : goal.returns-in-Card-clause-stands
 returns-in-Card-clause-stands c = λ setup bytes stands.
     let number = rw c.in-Card.is at c.requires.number in
     rw (c.in-Card.is, ← c.offset.ensures.offset)
-    (card_stored setup bytes (map_bytes c.args.self.now) c.write_card.new.cards.items c.in-Card.dev c.offset.result
-    c.args.byte number.0
-    (c.write_card.ensures.decoded setup bytes stands.cards) stands)
+    (stored_apart setup bytes _ stands c.args.byte _ _ (card_apart _ number.0)
+    (c.write_card.ensures.decoded setup bytes stands.cards))
 
 pub returns-in-Card-clause-cards : goal.returns-in-Card-clause-cards
 returns-in-Card-clause-cards c = λ setup bytes are.

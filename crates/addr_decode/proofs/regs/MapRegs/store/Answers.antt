@@ -1,25 +1,27 @@
-use Rattle.std.proofs.Common.{◌≡◌, ◌∙◌, ℕ, refl, subst, arith, slice_index}
-use Rattle.board_prelude.proofs.Common.{byte, reg_after, bytes_few}
+use Rattle.std.proofs.Common.{◌≡◌, ◌∙◌, refl, arith, slice_index}
+use Rattle.board_prelude.proofs.Common.{Bytes, byte, bytes_few}
 use Rattle.pci_bars.specs.Cards.{AreCardsOf}
-use Rattle.addr_decode.specs.MapRegs.{StandsFor, map_bytes, stored}
+use Rattle.addr_decode.specs.MapRegs.{StandsFor, map_bytes}
 use Rattle.addr_decode.proofs.StoreLemmas.{byte_in_list}
 use Rattle.addr_decode.proofs.CardLemmas.{fitted_same}
 use Rattle.addr_decode.proofs.NameLemmas.{named_so_far}
-use Rattle.addr_decode.proofs.StandsLemmas.{stored_so_far, none_stored, one_more_stored, all_stored, no_cards_stored}
-use Rattle.addr_decode.proofs.StandsLemmas.{more_cards_stored, all_cards_stored}
+use Rattle.addr_decode.proofs.StandsLemmas.{none_stored, one_more_stored, all_stored, all_cards_stored}
 use Rattle.addr_decode.proofs.regs.MapRegs.store.Goals as goal
 
 pub loop-k-init : goal.loop-k-init
 loop-k-init c = record {
   stands = λ setup bytes stands.
-      none_stored setup bytes c.args.reg c.args.value (map_bytes c.args.self.now) c.requires.cards stands;
-  cards = λ setup bytes are. no_cards_stored setup bytes c.args.reg c.args.value c.args.self.now.cards.items are;
+      none_stored (λ (b : Bytes). StandsFor setup b (map_bytes c.args.self.now)) setup bytes c.args.reg c.args.value
+      stands;
+  cards = λ setup bytes are.
+      none_stored (λ (b : Bytes). AreCardsOf setup b c.args.self.now.cards.items) setup bytes c.args.reg c.args.value
+      are;
   same = refl;
 }
 
 pub store_after-requires : goal.store_after-requires
 store_after-requires c = record {
-  cards = fitted_same c.args.self.now.cards.items c.loop-k.self.cards.items c.loop-k.invariant.same c.requires.cards;
+  cards = fitted_same _ _ c.loop-k.invariant.same c.requires.cards;
   name =
       rw (c.from-place.ensures)
       (named_so_far c.args.self.now.cards.items c.loop-k.self.cards.items c.args.reg c.args.width c.loop-k.k
@@ -36,37 +38,22 @@ this_byte c =
 pub loop-k-preserved : goal.loop-k-preserved
 loop-k-preserved c = record {
   stands = λ setup bytes stands.
-      one_more_stored setup bytes c.args.reg c.args.value c.loop-k.k (map_bytes c.store_after.new.self)
-      (subst (λ (stored_byte : ℕ). StandsFor setup
-      (stored setup (stored_so_far setup bytes c.args.reg c.args.value c.loop-k.k) (reg_after c.args.reg c.loop-k.k)
-      stored_byte) (map_bytes c.store_after.new.self))
-      (this_byte c)
-      (c.store_after.ensures.stands setup (stored_so_far setup bytes c.args.reg c.args.value c.loop-k.k)
-      (c.loop-k.invariant.stands setup bytes stands)));
+      one_more_stored (λ (b : Bytes). StandsFor setup b (map_bytes c.store_after.new.self)) setup bytes c.args.reg
+      c.args.value c.loop-k.k _ (this_byte c)
+      (c.store_after.ensures.stands setup _ (c.loop-k.invariant.stands setup bytes stands));
   cards = λ setup bytes are.
-      more_cards_stored setup bytes c.args.reg c.args.value c.loop-k.k c.store_after.new.self.cards.items
-      (subst (λ (stored_byte : ℕ). AreCardsOf setup
-      (stored setup (stored_so_far setup bytes c.args.reg c.args.value c.loop-k.k) (reg_after c.args.reg c.loop-k.k)
-      stored_byte) c.store_after.new.self.cards.items)
-      (this_byte c)
-      (c.store_after.ensures.cards setup (stored_so_far setup bytes c.args.reg c.args.value c.loop-k.k)
-      (c.loop-k.invariant.cards setup bytes are)));
+      one_more_stored (λ (b : Bytes). AreCardsOf setup b c.store_after.new.self.cards.items) setup bytes c.args.reg
+      c.args.value c.loop-k.k _ (this_byte c)
+      (c.store_after.ensures.cards setup _ (c.loop-k.invariant.cards setup bytes are));
   same = c.store_after.ensures.same_cards ∙ c.loop-k.invariant.same;
 }
 
 pub returns-clause-stands : goal.returns-clause-stands
 returns-clause-stands c = λ setup bytes stands.
-    all_stored setup bytes c.args.reg c.args.width c.args.value (map_bytes c.loop-k.self)
-    (fitted_same c.args.self.now.cards.items c.loop-k.self.cards.items c.loop-k.invariant.same c.requires.cards)
-    (subst
-    (λ (count : ℕ). StandsFor setup (stored_so_far setup bytes c.args.reg c.args.value count) (map_bytes c.loop-k.self))
-    (omega arith)
-    (c.loop-k.invariant.stands setup bytes stands))
+    all_stored setup bytes c.args.reg c.args.width c.args.value c.loop-k.k (omega arith) (map_bytes c.loop-k.self)
+    (fitted_same _ _ c.loop-k.invariant.same c.requires.cards) (c.loop-k.invariant.stands setup bytes stands)
 
 pub returns-clause-cards : goal.returns-clause-cards
 returns-clause-cards c = λ setup bytes are.
-    all_cards_stored setup bytes c.args.reg c.args.width c.args.value c.loop-k.self.cards.items
-    (fitted_same c.args.self.now.cards.items c.loop-k.self.cards.items c.loop-k.invariant.same c.requires.cards).each
-    (subst (λ (count : ℕ). AreCardsOf setup (stored_so_far setup bytes c.args.reg c.args.value count)
-    c.loop-k.self.cards.items) (omega arith)
-    (c.loop-k.invariant.cards setup bytes are))
+    all_cards_stored setup bytes c.args.reg c.args.width c.args.value c.loop-k.k (omega arith) c.loop-k.self.cards.items
+    (fitted_same _ _ c.loop-k.invariant.same c.requires.cards).each (c.loop-k.invariant.cards setup bytes are)
