@@ -1,6 +1,6 @@
 -- The ranges as they are built, from the first address on: the last of them may still go on.
 use Rattle.std.proofs.Common.{◌≡◌, ◌≢◌, ℕ, ◌+◌, ◌-◌, ◌<◌, ◌≤◌, inl, inr, List, [], ◌∷◌, ◌++◌, length, refl, sym, ◌∙◌}
-use Rattle.std.proofs.Common.{ap, subst, arith, append_assoc}
+use Rattle.std.proofs.Common.{ap, arith, append_assoc}
 use Rattle.board_prelude.proofs.Common.{cases_lt, length-append, All-nil, All-cons, All-append, Area, Setup, Bytes}
 use Rattle.board_prelude.proofs.Common.{address_count, six_areas, MapRange, Tiles, NeighboursDiffer, IsRight}
 use Rattle.board_prelude.proofs.Common.{IsFlatMapOf}
@@ -50,35 +50,30 @@ built_cut : (ranges : List MapRange) (last : MapRange) (addr edge : ℕ) (areas 
     Built ranges last addr → addr < edge → edge ≤ 0xFFFF_FFFF → areas ≢ last.areas →
     Built (ranges ++ range last.lo (edge - 1) last.areas ∷ []) (range edge 0xFFFF_FFFF areas) edge
 built_cut ranges last addr edge areas built above below other =
-    let high : last.hi ≡ 0xFFFF_FFFF = built.open_end in
     let joined : (ranges ++ range last.lo (edge - 1) last.areas ∷ []) ++ range edge 0xFFFF_FFFF areas ∷ []
     ≡ ranges ++ cut_at edge areas last =
-    append_assoc ranges (range last.lo (edge - 1) last.areas ∷ []) (range edge 0xFFFF_FFFF areas ∷ [])
-    ∙ ap (λ (hi : ℕ). ranges ++ (range last.lo (edge - 1) last.areas ∷ range edge hi areas ∷ [])) (sym high) in
+    rw built.open_end (append_assoc ranges (range last.lo (edge - 1) last.areas ∷ [])
+    (range edge 0xFFFF_FFFF areas ∷ [])) in
     record {
-      tiles = subst (Tiles 0) (sym joined)
-          (tiles_cut 0 ranges last edge areas (omega (arith, built.begun)) (omega arith) built.tiles);
-      least = subst NeighboursDiffer (sym joined) (differ_cut ranges last edge areas other built.least);
+      tiles = rw joined (tiles_cut 0 ranges last edge areas (omega (arith, built.begun))
+          (omega (arith, built.open_end)) built.tiles);
+      least = rw joined (differ_cut ranges last edge areas other built.least);
       begun = omega arith;
       open_end = refl;
     }
 
-pub built_on : (ranges ranges' : List MapRange) (last last' : MapRange) (addr edge : ℕ) (areas : List Area) →
+pub built_on : {ranges ranges' : List MapRange} {last last' : MapRange} {addr edge : ℕ} (areas : List Area) →
     Built ranges last addr → addr < edge → edge ≤ 0xFFFF_FFFF → ContinuesAt ranges ranges' last last' edge areas →
     Built ranges' last' edge
-built_on ranges ranges' last last' addr edge areas built above below (inl (same, is, last_is)) =
-    subst (λ (xs : List MapRange). Built xs last' edge) (sym is)
-    (subst (λ (x : MapRange). Built ranges x edge) (sym last_is)
-    (record {
+built_on areas built above below (inl (same, is, last_is)) =
+    rw (is, last_is) (record {
       tiles = built.tiles;
       least = built.least;
       begun = omega (arith, built.begun);
       open_end = built.open_end;
-    }))
-built_on ranges ranges' last last' addr edge areas built above below (inr (other, is, last_is)) =
-    subst (λ (xs : List MapRange). Built xs last' edge) (sym is)
-    (subst (λ (x : MapRange). Built (ranges ++ range last.lo (edge - 1) last.areas ∷ []) x edge) (sym last_is)
-    (built_cut ranges last addr edge areas built above below other))
+    })
+built_on {ranges} {last = last} {addr = addr} {edge = edge} areas built above below (inr (other, is, last_is)) =
+    rw (is, last_is) (built_cut ranges last addr edge areas built above below other)
 
 -- the areas up to an edge
 pub up_to_edge : (setup : Setup) (bytes : Bytes) (last : MapRange) (addr edge : ℕ) → last.lo ≤ addr →
@@ -92,48 +87,40 @@ up_to_edge setup bytes last addr edge begun same so_far x low high =
     ]
 
 pub built_of_on :
-    (setup : Setup) (bytes : Bytes) (ranges ranges' : List MapRange) (last last' : MapRange) (addr edge : ℕ)
-    (areas : List Area) →
-    last.lo ≤ addr → addr < edge → SameAreas setup bytes addr edge → areas ≡ six_areas setup bytes edge →
-    ContinuesAt ranges ranges' last last' edge areas → BuiltOf setup bytes ranges last addr →
-    BuiltOf setup bytes ranges' last' edge
-built_of_on setup bytes ranges ranges' last last' addr edge areas begun above same row (inl (here, is, last_is)) built =
-    subst (λ (xs : List MapRange). BuiltOf setup bytes xs last' edge) (sym is)
-    (subst (λ (x : MapRange). BuiltOf setup bytes ranges x edge) (sym last_is)
-    (record {
+    (setup : Setup) (bytes : Bytes) {ranges ranges' : List MapRange} {last last' : MapRange} {addr edge : ℕ}
+    (areas : List Area) → last.lo ≤ addr → addr < edge → SameAreas setup bytes addr edge →
+    areas ≡ six_areas setup bytes edge → ContinuesAt ranges ranges' last last' edge areas →
+    BuiltOf setup bytes ranges last addr → BuiltOf setup bytes ranges' last' edge
+built_of_on setup bytes {last = last} {addr = addr} {edge = edge} areas begun above same row (inl (here, is, last_is))
+    built =
+    rw (is, last_is) (record {
       right = built.right;
       so_far = λ x low high.
           elim (cases_lt x edge) [
             | inl below ↦ up_to_edge setup bytes last addr edge begun same built.so_far x low below
-            | inr not_below ↦ let at_edge : x ≡ edge = omega arith in
-                ap (six_areas setup bytes) at_edge ∙ sym row ∙ here
+            | inr not_below ↦ let at_edge : x ≡ edge = omega arith in rw at_edge (sym row ∙ here)
           ];
-    }))
-built_of_on setup bytes ranges ranges' last last' addr edge areas begun above same row (inr (other, is, last_is))
-    built =
+    })
+built_of_on setup bytes {ranges} {last = last} {addr = addr} {edge = edge} areas begun above same row
+    (inr (other, is, last_is)) built =
     let ended : MapRange = range last.lo (edge - 1) last.areas in
     let one : IsRight setup bytes ended = record {
       at_each = λ x low high. up_to_edge setup bytes last addr edge begun same built.so_far x low (omega arith);
     } in
-    subst (λ (xs : List MapRange). BuiltOf setup bytes xs last' edge) (sym is)
-    (subst (λ (x : MapRange). BuiltOf setup bytes (ranges ++ ended ∷ []) x edge) (sym last_is)
-    (record {
+    rw (is, last_is) (record {
       right = All-append (IsRight setup bytes) ranges (ended ∷ []) built.right
           (All-cons (IsRight setup bytes) ended [] one (All-nil (IsRight setup bytes)));
-      so_far = λ x low high. let at_edge : x ≡ edge = omega arith in ap (six_areas setup bytes) at_edge ∙ sym row;
-    }))
+      so_far = λ x low high. let at_edge : x ≡ edge = omega arith in rw at_edge (sym row);
+    })
 
 -- each step adds at most one range, and then leaves fewer edges
 pub few_on : (ranges ranges' : List MapRange) (last last' : MapRange) (edge : ℕ) (areas : List Area)
     (before after : ℕ) →
     ContinuesAt ranges ranges' last last' edge areas → after ≤ before → (areas ≢ last.areas → after < before) →
     length ranges + before < most_ranges → length ranges' + after < most_ranges
-few_on ranges ranges' last last' edge areas before after (inl (here, is, last_is)) left fewer few =
-    omega (arith, ap (λ (xs : List MapRange). length xs) is)
+few_on ranges ranges' last last' edge areas before after (inl (here, is, last_is)) left fewer few = rw is (omega arith)
 few_on ranges ranges' last last' edge areas before after (inr (other, is, last_is)) left fewer few =
-    let long : length ranges' ≡ length ranges + 1 =
-    ap (λ (xs : List MapRange). length xs) is ∙ length-append ranges (range last.lo (edge - 1) last.areas ∷ []) in
-    omega (arith, fewer other)
+    rw (is, length-append ranges (range last.lo (edge - 1) last.areas ∷ [])) (omega (arith, fewer other))
 
 -- where no edge is left, they are the map
 pub built_all : (setup : Setup) (bytes : Bytes) (ranges : List MapRange) (last : MapRange) (addr : ℕ) →

@@ -1,6 +1,6 @@
 -- The ranges of a map between two addresses, as they follow those that were built.
 use Rattle.std.proofs.Common.{◌≡◌, ◌≢◌, ℕ, zero, suc, ◌+◌, ◌-◌, ◌<◌, ◌≤◌, inl, inr, List, [], ◌∷◌, ◌++◌, length, map}
-use Rattle.std.proofs.Common.{take, drop, refl, sym, ◌∙◌, ap, subst, arith, append_assoc, min}
+use Rattle.std.proofs.Common.{take, drop, refl, sym, ◌∙◌, arith, append_assoc, min}
 use Rattle.board_prelude.proofs.Common.{append-nil, drop_more, map-append, Area, address_count, MapRange}
 use Rattle.addr_decode.specs.MapRegs.{MapBytes}
 use Rattle.map_ranges.specs.declared.range.Range.{Range}
@@ -11,12 +11,10 @@ use Rattle.map_builder.proofs.RebuildLemmas.{row_at, open_at, differ_at, right_a
 use Rattle.map_builder.proofs.StepLemmas.{AreasAt, built_range}
 
 -- the last range has the areas at which it went on
-pub areas_on : (ranges ranges' : List MapRange) (last last' : MapRange) (addr : ℕ) (areas : List Area) →
-    ContinuesAt ranges ranges' last last' addr areas →
-    last'.areas ≡ areas
-areas_on ranges ranges' last last' addr areas (inl (here, is, last_is)) =
-    ap (λ (it : MapRange). it.areas) last_is ∙ sym here
-areas_on ranges ranges' last last' addr areas (inr (other, is, last_is)) = ap (λ (it : MapRange). it.areas) last_is
+pub areas_on : {ranges ranges' : List MapRange} {last last' : MapRange} (addr : ℕ) {areas : List Area} →
+    ContinuesAt ranges ranges' last last' addr areas → last'.areas ≡ areas
+areas_on addr (inl (here, is, last_is)) = rw last_is (sym here)
+areas_on addr (inr (other, is, last_is)) = rw last_is refl
 
 module _ (regs : MapBytes) (after until : ℕ) (address : until < address_count) (old : List Range)
     (agrees : IsMapWhere regs (IsBetween after until) (map range_of old)) where
@@ -26,16 +24,14 @@ module _ (regs : MapBytes) (after until : ℕ) (address : until < address_count)
   right_between : (k addr : ℕ) → k < length old → (range_at old k).lo ≤ addr → addr ≤ (range_at old k).hi →
       after < addr → addr ≤ until → AreasAt regs addr (row_at old k)
   right_between k addr within low high above below setup bytes stands =
-      sym ((right_at regs (IsBetween after until) old agrees setup bytes k stands within).at_each addr low high (
-        above,
-        below,
-      ))
+      sym ((right_at old agrees setup bytes k stands within).at_each addr low high (above, below))
 
   -- a later range begins after an earlier one ends
   rises : (d k j : ℕ) → j ≡ k + d + 1 → j < length old → (range_at old k).hi < (range_at old j).lo
   rises zero k j place within =
-      let at : j ≡ k + 1 = omega arith in
-      let joined : (range_at old j).lo ≡ (range_at old k).hi + 1 = rw at (is.next k (omega arith)) in omega arith
+      let next : k + 1 ≡ j = omega arith in
+      let joined = rw next at (is.next k (omega arith)) in
+      omega arith
   rises (suc d) k j place within =
       omega (arith, is.next k (omega arith), is.whole (k + 1) (omega arith), rises d (k + 1) j (omega arith) within)
 
@@ -48,14 +44,10 @@ module _ (regs : MapBytes) (after until : ℕ) (address : until < address_count)
   next_built k j addr ranges last place within from same low high below built =
       let joined : (range_at old j).lo ≡ (range_at old k).hi + 1 = rw place (is.next k (omega arith)) in
       let other : row_at old j ≢ row_at old k = rw place (differ_at old k agrees.least (omega arith)) in
-      let pushed : ranges ++ range last.lo (range_at old k).hi last.areas ∷ []
-      ≡ ranges ++ range last.lo ((range_at old j).lo - 1) last.areas ∷ [] =
-      ap (λ (hi : ℕ). ranges ++ range last.lo hi last.areas ∷ []) (omega arith) in
-      built_range regs ranges (ranges ++ range last.lo (range_at old k).hi last.areas ∷ []) last (open_at old j)
-      (range_of (range_at old j)) (range_at old k).hi addr
-      joined low (omega arith) (λ x from_x to_x. right_between j x within from_x (omega arith) (omega arith)
-      (omega arith))
-      (inr ((λ alike. other (alike ∙ same)), pushed, refl)) built
+      let end : (range_at old k).hi ≡ (range_at old j).lo - 1 = omega arith in
+      built_range (range_at old j).lo (row_at old j) joined low (omega arith)
+      (λ x from_x to_x. right_between j x within from_x (omega arith) (omega arith) (omega arith))
+      (inr ((λ alike. other (alike ∙ same)), rw end refl, refl)) built
 
   -- and so do some ranges and one more
   copied : (c k j addr : ℕ) (ranges : List MapRange) (last : MapRange) → j ≡ k + c + 1 → j < length old →
@@ -70,18 +62,15 @@ module _ (regs : MapBytes) (after until : ℕ) (address : until < address_count)
   copied (suc c) k j addr ranges last place within from same low high below inside built =
       let front : List MapRange = ranges ++ range last.lo (range_at old k).hi last.areas ∷ [] in
       let next : MapRange = range_of (range_at old (k + 1)) in
-      let later : List MapRange = map range_of (take c (drop (k + 1 + 1) old)) in
       let joined : next.lo ≡ (range_at old k).hi + 1 = is.next k (omega arith) in
       let order : next.lo ≤ next.hi = is.whole (k + 1) (omega arith) in
       let beneath : next.hi ≤ until = omega (arith, rises c (k + 1) j (omega arith) within) in
-      let one : IsBuilt regs front (open_at old (k + 1)) next.hi =
-      next_built k (k + 1) next.hi ranges last refl (omega arith) from same order (omega arith) beneath built in
-      let all : IsBuilt regs ((front ++ next ∷ []) ++ later) (open_at old j) addr =
-      copied c (k + 1) j addr front (open_at old (k + 1)) (omega arith) within (omega arith) refl low high below beneath
-      one in
-      let moved : front ++ map range_of (take (suc c) (drop (k + 1) old)) ≡ (front ++ next ∷ []) ++ later =
-      rw (drop_more old (k + 1) no_range (omega arith)) (sym (append_assoc front (next ∷ []) later)) in
-      subst (λ (all : List MapRange). IsBuilt regs all (open_at old j) addr) (sym moved) all
+      rw (
+        drop_more old (k + 1) no_range (omega arith),
+        ← append_assoc front (next ∷ []) (map range_of (take c (drop (k + 1 + 1) old))),
+      )
+      (copied c (k + 1) j addr front (open_at old (k + 1)) (omega arith) within (omega arith) refl low high below beneath
+      (next_built k (k + 1) next.hi ranges last refl (omega arith) from same order (omega arith) beneath built))
 
   -- the ranges up to an address that lies in a later one
   kept_run : (k end : ℕ) (ranges items : List Range) (last : Range) →
@@ -91,39 +80,27 @@ module _ (regs : MapBytes) (after until : ℕ) (address : until < address_count)
       items ≡ (ranges ++ record last { hi = (range_at old k).hi } ∷ []) ++ take (end - (k + 1)) (drop (k + 1) old) →
       IsBuilt regs (map range_of items) (open_at old end) until
   kept_run k end ranges items last built same from low order holds is_items =
-      let more : List Range = take (end - (k + 1)) (drop (k + 1) old) in
-      let one : Range = record last { hi = (range_at old k).hi } in
-      let mapped : map range_of items ≡ (map range_of ranges ++ range_of one ∷ []) ++ map range_of more =
-      ap (λ (all : List Range). map range_of all) is_items
-      ∙ map-append range_of (ranges ++ one ∷ []) more
-      ∙ ap (λ (front : List MapRange). front ++ map range_of more) (map-append range_of ranges (one ∷ [])) in
-      subst (λ (all : List MapRange). IsBuilt regs all (open_at old end) until) (sym mapped)
+      rw (is_items, map-append, map-append)
       (copied (end - (k + 1)) k end until (map range_of ranges) (range_of last) (omega arith) holds.within from same
       holds.above holds.below (omega arith) (omega arith) built)
 
 -- ---- from the address after the one up to which they are built
 
-module _ (regs : MapBytes) (after until k : ℕ) (ranges ranges' old : List Range) (last last' : Range)
+module _ {regs : MapBytes} (after until : ℕ) {k : ℕ} (ranges ranges' : List Range) {old : List Range} (last last' : Range)
     (address : until < address_count) (order : after < until)
     (agrees : IsMapWhere regs (IsBetween after until) (map range_of old)) (holds : Holds old k (after + 1))
     (on : ContinuesAt (map range_of ranges) (map range_of ranges') (range_of last) (range_of last') (after + 1)
-    (row_at old k))
-    (built : IsBuilt regs (map range_of ranges) (range_of last) after) where
+    (row_at old k)) (built : IsBuilt regs (map range_of ranges) (range_of last) after) where
   -- to the end of its range, or up to the last address
   pub kept_first : IsBuilt regs (map range_of ranges') (range_of last') (min until (range_at old k).hi)
-  kept_first =
-      kept_on regs (map range_of ranges) (map range_of ranges') (range_of last) (range_of last') old k after after until
-      agrees holds (omega arith) order address
-      on built
+  kept_first = kept_on after until agrees holds (omega arith) order address on built
 
   -- and on to a later range
   pub kept_later : (end : ℕ) (items : List Range) → (range_at old k).hi < until → k + 1 ≤ end → Holds old end until →
       items ≡ (ranges' ++ record last' { hi = (range_at old k).hi } ∷ []) ++ take (end - (k + 1)) (drop (k + 1) old) →
       IsBuilt regs (map range_of items) (open_at old end) until
   kept_later end items more from there is_items =
-      let below : after + 1 ≤ (range_at old k).hi = holds.below in
-      let at : min until (range_at old k).hi ≡ (range_at old k).hi = omega arith in
-      kept_run regs after until address old agrees k end ranges' items last'
-      (subst (λ (addr : ℕ). IsBuilt regs (map range_of ranges') (range_of last') addr) at kept_first)
-      (areas_on (map range_of ranges) (map range_of ranges') (range_of last) (range_of last') (after + 1) (row_at old k)
-      on) (omega arith) more from there is_items
+      let below = holds.below in
+      let first : min until (range_at old k).hi ≡ (range_at old k).hi = omega arith in
+      kept_run regs after until address old agrees k end ranges' items last' (rw first at kept_first)
+      (areas_on (after + 1) on) (omega arith) more from there is_items

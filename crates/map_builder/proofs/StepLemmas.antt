@@ -1,9 +1,9 @@
 -- A step to a later address, which need not be an edge: how many edges it leaves above it, and what holds of the
 -- ranges.
-use Rattle.std.proofs.Common.{◌≡◌, ◌≢◌, ℕ, ◌+◌, ◌<◌, ◌≤◌, inl, inr, true, List, [], ◌∷◌, ◌++◌, length, map, refl, sym}
-use Rattle.std.proofs.Common.{◌∙◌, ap, arith, nat_lt, filter}
-use Rattle.board_prelude.proofs.Common.{Contains, cases_Bool, cases_lt, nat_tests, length-map, length_push, Area, Setup}
-use Rattle.board_prelude.proofs.Common.{Bytes, address_count, six_areas, MapRange}
+use Rattle.std.proofs.Common.{◌≡◌, ◌≢◌, ℕ, ◌+◌, ◌<◌, ◌≤◌, inl, inr, List, [], ◌∷◌, ◌++◌, length, map, refl, sym, ◌∙◌}
+use Rattle.std.proofs.Common.{arith, nat_lt, filter}
+use Rattle.board_prelude.proofs.Common.{Contains, cases_lt, nat_tests, length-map, length_push, Area, Setup, Bytes}
+use Rattle.board_prelude.proofs.Common.{address_count, six_areas, MapRange}
 use Rattle.std.proofs.lemmas.List.{map_push}
 use Rattle.addr_decode.specs.Common.{MapBytes, StandsFor, edges_of, edges_after, SameAreas}
 use Rattle.addr_decode.proofs.Common.{contains_cases, no_more, few_edges_after, areas_change_at_edges}
@@ -20,22 +20,11 @@ none_between : (low high : ℕ) (edges : List ℕ) → low ≤ high →
     (edge : ℕ) → Contains edges edge → low < edge → high < edge
 none_between low high [] order as_many edge (k, within, is) above = absurd (omega arith)
 none_between low high (first ∷ later) order as_many edge has above =
-    elim (cases_Bool (nat_lt high first)) [
-      | inl kept ↦
-          let also : nat_lt low first ≡ true = grind (arith, nat_tests) in
-          elim (contains_cases first edge later has) [
-            | inl here ↦ grind (arith, nat_tests)
-            | inr there ↦ none_between low high later order (omega (arith, rw (kept, also) at as_many)) edge there above
-          ]
-      | inr dropped ↦
-          elim (cases_Bool (nat_lt low first)) [
-            | inl kept ↦ absurd (omega (arith, rw (dropped, kept) at as_many, no_more low high later order))
-            | inr gone ↦
-                elim (contains_cases first edge later has) [
-                  | inl here ↦ absurd (grind (arith, nat_tests))
-                  | inr there ↦ none_between low high later order (rw (dropped, gone) at as_many) edge there above
-                ]
-          ]
+    let more = no_more low high later order in
+    let fewer : length (filter (nat_lt low) later) ≤ length (filter (nat_lt high) later) = grind (arith, nat_tests) in
+    elim (contains_cases first edge later has) [
+      | inl here ↦ grind (arith, nat_tests)
+      | inr there ↦ none_between low high later order fewer edge there above
     ]
 
 pub edges_left : (setup : Setup) (bytes : Bytes) (addr next : ℕ) → addr ≤ next →
@@ -66,43 +55,38 @@ abbrev pub StaySame : MapBytes → (addr end : ℕ) → Type 0
 StaySame regs addr end = (setup : Setup) (bytes : Bytes) → StandsFor setup bytes regs → SameAreas setup bytes addr end
 
 pub one_address : (regs : MapBytes) (addr end : ℕ) → end ≡ addr + 1 → StaySame regs addr end
-one_address regs addr end next setup bytes stands x low high = let one : x ≡ addr = omega arith in
-    ap (six_areas setup bytes) one
+one_address regs addr end next setup bytes stands x low high = let one : x ≡ addr = omega arith in rw one refl
 
-pub is_built_first : (regs : MapBytes) (areas : List Area) → AreasAt regs 0 areas →
+pub is_built_first : {regs : MapBytes} (areas : List Area) → AreasAt regs 0 areas →
     IsBuilt regs [] (range 0 0xFFFF_FFFF areas) 0
-is_built_first regs areas at_first = record {
+is_built_first areas at_first = record {
   built = built_first areas;
   of_board = λ setup bytes stands. built_of_first setup bytes areas (at_first setup bytes stands);
   few = λ board. omega (arith, few_edges_after board.setup board.bytes 0 board.cards);
 }
 
-pub built_step : (regs : MapBytes) (ranges ranges' : List MapRange) (last last' : MapRange) (addr next : ℕ)
-    (areas : List Area) →
-    addr < next → next < address_count → StaySame regs addr next → AreasAt regs next areas →
+pub built_step : {regs : MapBytes} {ranges ranges' : List MapRange} {last last' : MapRange} {addr next : ℕ}
+    (areas : List Area) → addr < next → next < address_count → StaySame regs addr next → AreasAt regs next areas →
     ContinuesAt ranges ranges' last last' next areas → IsBuilt regs ranges last addr → IsBuilt regs ranges' last' next
-built_step regs ranges ranges' last last' addr next areas above address same at_next on is = record {
-  built = built_on ranges ranges' last last' addr next areas is.built above (omega arith) on;
-  of_board = λ setup bytes stands.
-      built_of_on setup bytes ranges ranges' last last' addr next areas is.built.begun above (same setup bytes stands)
-      (at_next setup bytes stands) on
-      (is.of_board setup bytes stands);
-  few = λ board.
-      let here : six_areas board.setup board.bytes addr ≡ last.areas =
-      (is.of_board board.setup board.bytes board.stands).so_far addr is.built.begun (omega arith) in
-      few_on ranges ranges' last last' next areas (edges_after board.setup board.bytes addr)
-      (edges_after board.setup board.bytes next) on
-      (edges_left board.setup board.bytes addr next (omega arith))
-      (λ other. fewer_left board.setup board.bytes addr next (omega arith) address
-      (λ alike. other (at_next board.setup board.bytes board.stands ∙ alike ∙ here)))
-      (is.few board);
-}
+built_step {ranges = ranges} {ranges' = ranges'} {last = last} {last' = last'} {addr = addr} {next = next} areas above
+    address same at_next on is = record {
+      built = built_on areas is.built above (omega arith) on;
+      of_board = λ setup bytes stands.
+          built_of_on setup bytes areas is.built.begun above (same setup bytes stands) (at_next setup bytes stands) on
+          (is.of_board setup bytes stands);
+      few = λ board.
+          let here = (is.of_board board.setup board.bytes board.stands).so_far addr is.built.begun (omega arith) in
+          few_on ranges ranges' last last' next areas (edges_after board.setup board.bytes addr)
+          (edges_after board.setup board.bytes next) on (edges_left board.setup board.bytes addr next (omega arith))
+          (λ other. fewer_left board.setup board.bytes addr next (omega arith) address
+          (λ alike. other (at_next board.setup board.bytes board.stands ∙ alike ∙ here)))
+          (is.few board);
+    }
 
 -- they need no step where the areas stay the same
-pub built_over : (regs : MapBytes) (ranges : List MapRange) (last : MapRange) (addr hi : ℕ) → addr ≤ hi →
-    StaySame regs addr (hi + 1) →
-    IsBuilt regs ranges last addr → IsBuilt regs ranges last hi
-built_over regs ranges last addr hi order same is = record {
+pub built_over : {regs : MapBytes} {ranges : List MapRange} {last : MapRange} {addr hi : ℕ} → addr ≤ hi →
+    StaySame regs addr (hi + 1) → IsBuilt regs ranges last addr → IsBuilt regs ranges last hi
+built_over {last = last} {addr = addr} {hi = hi} order same is = record {
   built = record {
     tiles = is.built.tiles;
     least = is.built.least;
@@ -121,36 +105,28 @@ built_over regs ranges last addr hi order same is = record {
 }
 
 pub same_at_each : (regs : MapBytes) (lo hi : ℕ) (areas : List Area) → lo ≤ hi →
-    ((x : ℕ) → lo ≤ x → x ≤ hi → AreasAt regs x areas) →
-    StaySame regs lo (hi + 1)
+    ((x : ℕ) → lo ≤ x → x ≤ hi → AreasAt regs x areas) → StaySame regs lo (hi + 1)
 same_at_each regs lo hi areas order each setup bytes stands x low high =
     sym (each x low (omega arith) setup bytes stands) ∙ each lo (omega arith) order setup bytes stands
 
 -- on through a range that begins after an address, up to another up to which it is right
-pub built_range : (regs : MapBytes) (ranges ranges' : List MapRange) (last last' next : MapRange) (addr hi : ℕ) →
-    next.lo ≡ addr + 1 → next.lo ≤ hi → hi < address_count →
-    ((x : ℕ) → next.lo ≤ x → x ≤ hi → AreasAt regs x next.areas) →
-    ContinuesAt ranges ranges' last last' next.lo next.areas → IsBuilt regs ranges last addr →
-    IsBuilt regs ranges' last' hi
-built_range regs ranges ranges' last last' next addr hi joined order address each on is =
-    built_over regs ranges' last' next.lo hi order (same_at_each regs next.lo hi next.areas order each)
-    (built_step regs ranges ranges' last last' addr next.lo next.areas (omega arith) (omega arith)
-    (one_address regs addr next.lo joined)
-    (each next.lo (omega arith) order) on is)
+pub built_range : {regs : MapBytes} {ranges ranges' : List MapRange} {last last' : MapRange} {addr hi : ℕ} (lo : ℕ)
+    (areas : List Area) → lo ≡ addr + 1 → lo ≤ hi → hi < address_count →
+    ((x : ℕ) → lo ≤ x → x ≤ hi → AreasAt regs x areas) → ContinuesAt ranges ranges' last last' lo areas →
+    IsBuilt regs ranges last addr → IsBuilt regs ranges' last' hi
+built_range {regs} {addr = addr} {hi = hi} lo areas joined order address each on is =
+    built_over order (same_at_each regs lo hi areas order each)
+    (built_step areas (omega arith) (omega arith) (one_address regs addr lo joined) (each lo (omega arith) order) on is)
 
 -- ---- the ranges built up to the last address
 
-pub is_whole : (regs : MapBytes) (board : IsOfSomeBoard regs) (ranges : List Range) (last : Range) →
+pub is_whole : {regs : MapBytes} (board : IsOfSomeBoard regs) (ranges : List Range) (last : Range) →
     IsBuilt regs (map range_of ranges) (range_of last) 0xFFFF_FFFF → IsWhole regs (ranges ++ last ∷ [])
-is_whole regs board ranges last is =
-    let pushed : map range_of (ranges ++ last ∷ []) ≡ map range_of ranges ++ range_of last ∷ [] =
-    map_push range_of ranges last in
-    record {
-      tiles = rw pushed is.built.tiles;
-      is_map = λ setup bytes stands.
-          rw pushed
-          (built_all setup bytes (map range_of ranges) (range_of last) 0xFFFF_FFFF is.built
-          (is.of_board setup bytes stands)
-          (one_address regs 0xFFFF_FFFF address_count refl setup bytes stands));
-      few = omega (arith, length_push ranges last, length-map ranges range_of, is.few board);
-    }
+is_whole {regs} board ranges last is = record {
+  tiles = rw (map_push range_of ranges last) is.built.tiles;
+  is_map = λ setup bytes stands.
+      rw (map_push range_of ranges last)
+      (built_all setup bytes (map range_of ranges) (range_of last) 0xFFFF_FFFF is.built (is.of_board setup bytes stands)
+      (one_address regs 0xFFFF_FFFF address_count refl setup bytes stands));
+  few = omega (arith, length_push ranges last, length-map ranges range_of, is.few board);
+}

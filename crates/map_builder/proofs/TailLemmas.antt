@@ -1,6 +1,6 @@
 -- The ranges of a map that follow the last window, as they end those that were built.
-use Rattle.std.proofs.Common.{◌≡◌, ℕ, zero, suc, ◌+◌, ◌-◌, ◌<◌, ◌≤◌, inr, List, [], ◌∷◌, ◌++◌, length, map, take}
-use Rattle.std.proofs.Common.{drop, get_or, refl, sym, ◌∙◌, ap, subst, arith, append_assoc, min}
+use Rattle.std.proofs.Common.{◌≡◌, ℕ, zero, suc, ◌+◌, ◌-◌, ◌<◌, ◌≤◌, inr, List, [], ◌∷◌, ◌++◌, length, map, take, drop}
+use Rattle.std.proofs.Common.{get_or, refl, sym, ◌∙◌, arith, append_assoc, min}
 use Rattle.board_prelude.proofs.Common.{AllByRecursion, length_push, length-map, get_or-map, map-append, length-append}
 use Rattle.board_prelude.proofs.Common.{length-drop, take_all, recursion_from_All, All-drop, Setup, Bytes}
 use Rattle.board_prelude.proofs.Common.{address_count, MapRange, Tiles, Differs, NeighboursDiffer, IsFlatMapOf}
@@ -41,10 +41,9 @@ pub record IsWholeOf (regs : MapBytes) (ranges : List MapRange) : Type 0 where
   pub is_map : (setup : Setup) (bytes : Bytes) → StandsFor setup bytes regs → IsFlatMapOf setup bytes ranges
   pub few : length ranges ≤ most_ranges
 
-pub whole_last : (regs : MapBytes) (board : IsOfSomeBoard regs) (ranges : List MapRange) (last : MapRange) →
-    IsBuilt regs ranges last 0xFFFF_FFFF →
-    IsWholeOf regs (ranges ++ last ∷ [])
-whole_last regs board ranges last is = record {
+pub whole_last : {regs : MapBytes} {ranges : List MapRange} {last : MapRange} → IsOfSomeBoard regs →
+    IsBuilt regs ranges last 0xFFFF_FFFF → IsWholeOf regs (ranges ++ last ∷ [])
+whole_last {regs} {ranges} {last} board is = record {
   tiles = is.built.tiles;
   is_map = λ setup bytes stands.
       built_all setup bytes ranges last 0xFFFF_FFFF is.built (is.of_board setup bytes stands)
@@ -53,99 +52,70 @@ whole_last regs board ranges last is = record {
 }
 
 -- the ranges that are built up to an address, and those that follow
-pub whole_tail : (regs : MapBytes) (board : IsOfSomeBoard regs) (Where : ℕ → Type 0) (rest : List MapRange)
-    (ranges : List MapRange) (last : MapRange) (hi : ℕ) →
+pub whole_tail : {regs : MapBytes} → IsOfSomeBoard regs → (Where : ℕ → Type 0) (rest : List MapRange)
+    {ranges : List MapRange} {last : MapRange} {hi : ℕ} →
     IsBuilt regs ranges last hi → hi < address_count → Tiles (hi + 1) rest → Differs last rest → NeighboursDiffer rest →
     ((x : ℕ) → hi < x → x < address_count → Where x) →
     ((setup : Setup) (bytes : Bytes) → StandsFor setup bytes regs →
     AllByRecursion (IsRightWhere setup bytes Where) rest) →
     IsWholeOf regs (ranges ++ range last.lo hi last.areas ∷ rest)
-whole_tail regs board Where [] ranges last hi built address tiles differs least there right =
-    let end : 0xFFFF_FFFF ≡ hi = omega arith in
-    let open_end : last.hi ≡ hi = built.built.open_end ∙ end in
-    subst (λ (h : ℕ). IsWholeOf regs (ranges ++ range last.lo h last.areas ∷ [])) open_end
-    (whole_last regs board ranges last (subst (λ (h : ℕ). IsBuilt regs ranges last h) (sym end) built))
-whole_tail regs board Where (next ∷ later) ranges last hi built address tiles differs least there right =
-    let joined : next.lo ≡ hi + 1 = tiles.0 in
-    let order : next.lo ≤ next.hi = tiles.1 in
+whole_tail board Where [] {last = last} {hi = hi} built address tiles differs least there right =
+    let end : hi ≡ 0xFFFF_FFFF = omega arith in
+    let open_end : 0xFFFF_FFFF ≡ last.hi = sym built.built.open_end in
+    rw (end, open_end) (whole_last board (rw end at built))
+whole_tail {regs} board Where (next ∷ later) {ranges} {last} {hi} built address tiles differs least there right =
     let below : next.hi < address_count = omega (arith, tiles_below (next.hi + 1) later tiles.2) in
+    let same_end : hi ≡ next.lo - 1 = omega (arith, tiles.0) in
     let ended : MapRange = range last.lo (next.lo - 1) last.areas in
-    let on : ContinuesAt ranges (ranges ++ ended ∷ []) last (range next.lo 0xFFFF_FFFF next.areas) next.lo next.areas =
-    inr ((λ same. differs (sym same)), refl, refl) in
-    let further : IsBuilt regs (ranges ++ ended ∷ []) (range next.lo 0xFFFF_FFFF next.areas) next.hi =
-    built_range regs ranges (ranges ++ ended ∷ []) last (range next.lo 0xFFFF_FFFF next.areas) next hi next.hi joined
-    order below
+    let onward : MapRange = range next.lo 0xFFFF_FFFF next.areas in
+    let further : IsBuilt regs (ranges ++ ended ∷ []) onward next.hi =
+    built_range next.lo next.areas tiles.0 tiles.1 below
     (λ x low high setup bytes stands.
-    sym ((right setup bytes stands).0.at_each x low high (there x (omega arith) (omega arith)))) on built in
-    let whole = whole_tail regs board Where later (ranges ++ ended ∷ []) (range next.lo 0xFFFF_FFFF next.areas) next.hi
-    further below tiles.2
-    (differs_as (range next.lo 0xFFFF_FFFF next.areas) next later refl least.0) least.1
-    (λ x above address. there x (omega arith) address)
+    sym ((right setup bytes stands).0.at_each x low high (there x (omega (arith, tiles.0)) (omega arith))))
+    (inr ((λ same. differs (sym same)), refl, refl)) built in
+    let whole = whole_tail board Where later further below tiles.2 (differs_as onward next later refl least.0) least.1
+    (λ x above address. there x (omega (arith, tiles.0, tiles.1)) address)
     (λ setup bytes stands. (right setup bytes stands).1) in
-    let same_end : next.lo - 1 ≡ hi = omega arith in
-    subst (IsWholeOf regs)
-    (append_assoc ranges (ended ∷ []) (next ∷ later)
-    ∙ ap (λ (h : ℕ). ranges ++ range last.lo h last.areas ∷ next ∷ later) same_end) whole
+    rw (same_end, ← append_assoc ranges (ended ∷ []) (next ∷ later)) whole
 
-pub whole_from : (regs : MapBytes) (board : IsOfSomeBoard regs) (ranges ranges' : List MapRange) (last last' : MapRange)
-    (old : List Range) (k after : ℕ) →
-    IsMapWhere regs (IsBetween after 0xFFFF_FFFF) (map range_of old) → Holds old k (after + 1) → after < 0xFFFF_FFFF →
+pub whole_from : {regs : MapBytes} {ranges ranges' : List MapRange} {last last' : MapRange} {old : List Range} {k : ℕ} →
+    IsOfSomeBoard regs → (after : ℕ) → IsMapWhere regs (IsBetween after 0xFFFF_FFFF) (map range_of old) →
+    Holds old k (after + 1) → after < 0xFFFF_FFFF →
     ContinuesAt ranges ranges' last last' (after + 1) (range_at old k).row.areas → IsBuilt regs ranges last after →
     IsWholeOf regs (ranges' ++ range last'.lo (range_at old k).hi last'.areas ∷ drop (k + 1) (map range_of old))
-whole_from regs board ranges ranges' last last' old k after agrees holds more on built =
+whole_from {last' = last'} {old = old} {k = k} board after agrees holds more on built =
     let all : List MapRange = map range_of old in
-    let long : length all ≡ length old = length-map old range_of in
+    let within : k < length all = omega (arith, length-map old range_of, holds.within) in
     let here : get_or all k (range_of no_range) ≡ range_of (range_at old k) =
     get_or-map range_of old k no_range (range_of no_range) holds.within in
-    let tiles : Tiles ((range_at old k).hi + 1) (drop (k + 1) all) =
-    subst (λ (at : MapRange). Tiles (at.hi + 1) (drop (k + 1) all)) here
-    (tiles_drop 0 all k (range_of no_range) agrees.tiles (omega (arith, holds.within))) in
-    let differ = differ_drop all k (range_of no_range) agrees.least (omega (arith, holds.within)) in
-    let fits : (range_at old k).hi < address_count =
-    omega (arith, tiles_below ((range_at old k).hi + 1) (drop (k + 1) all) tiles) in
+    let tiles = rw here at (tiles_drop 0 all k (range_of no_range) agrees.tiles within) in
+    let differ = rw here at (differ_drop all k (range_of no_range) agrees.least within) in
+    let fits = tiles_below ((range_at old k).hi + 1) (drop (k + 1) all) tiles in
+    let beyond = holds.below in
     let end : min 0xFFFF_FFFF (range_at old k).hi ≡ (range_at old k).hi = omega arith in
-    let further : IsBuilt regs ranges' last' (range_at old k).hi =
-    subst (λ (hi : ℕ). IsBuilt regs ranges' last' hi) end
-    (kept_on regs ranges ranges' last last' old k after after 0xFFFF_FFFF agrees holds (omega arith) more (omega arith)
-    on built) in
-    let same : last'.areas ≡ (get_or all k (range_of no_range)).areas =
-    areas_on ranges ranges' last last' (after + 1) (range_at old k).row.areas on
-    ∙ sym (ap (λ (it : MapRange). it.areas) here) in
-    let beyond : after < (range_at old k).hi = omega (arith, holds.below) in
-    whole_tail regs board (IsBetween after 0xFFFF_FFFF) (drop (k + 1) all) ranges' last' (range_at old k).hi further
-    fits tiles
-    (differs_as last' (get_or all k (range_of no_range)) (drop (k + 1) all) same differ.0) differ.1
-    (λ x above address. (omega (arith, beyond), omega arith))
+    let further = rw end
+    at (kept_on after 0xFFFF_FFFF agrees holds (omega arith) more (omega arith) on built) in
+    whole_tail board (IsBetween after 0xFFFF_FFFF) (drop (k + 1) all) further (omega arith) tiles
+    (differs_as last' (range_of (range_at old k)) (drop (k + 1) all) (areas_on (after + 1) on) differ.0) differ.1
+    (λ x above address. (omega arith, omega arith))
     (λ setup bytes stands.
     recursion_from_All (IsRightWhere setup bytes (IsBetween after 0xFFFF_FFFF)) (drop (k + 1) all)
     (All-drop (IsRightWhere setup bytes (IsBetween after 0xFFFF_FFFF)) (k + 1) all (agrees.right setup bytes stands)))
 
-pub whole_ranges : (regs : MapBytes) (front : List Range) (one : Range) (old : List Range) (k : ℕ)
-    (ranges : List Range) →
-    ranges ≡ (front ++ one ∷ []) ++ drop (k + 1) old →
+pub whole_ranges : {regs : MapBytes} (front : List Range) (one : Range) (old : List Range) (k : ℕ) →
     IsWholeOf regs (map range_of front ++ range_of one ∷ drop (k + 1) (map range_of old)) →
-    IsWhole regs ranges
-whole_ranges regs front one old k ranges is whole =
-    let parts : map range_of ranges ≡ map range_of front ++ range_of one ∷ drop (k + 1) (map range_of old) =
-    ap (λ (all : List Range). map range_of all) is
-    ∙ ap (λ (all : List Range). map range_of all) (append_assoc front (one ∷ []) (drop (k + 1) old))
-    ∙ map-append range_of front (one ∷ drop (k + 1) old)
-    ∙ ap (λ (rest : List MapRange). map range_of front ++ range_of one ∷ rest) (sym (drop-map range_of (k + 1) old)) in
-    let made : IsWholeOf regs (map range_of ranges) = subst (IsWholeOf regs) (sym parts) whole in
+    IsWhole regs ((front ++ one ∷ []) ++ drop (k + 1) old)
+whole_ranges {regs} front one old k whole =
+    let ranges : List Range = (front ++ one ∷ []) ++ drop (k + 1) old in
+    let made : IsWholeOf regs (map range_of ranges) =
+    rw (append_assoc front (one ∷ []) (drop (k + 1) old), map-append, ← drop-map range_of (k + 1) old) whole in
     record { tiles = made.tiles; is_map = made.is_map; few = omega (arith, made.few, length-map ranges range_of) }
 
-pub few_from : (regs : MapBytes) (front : List Range) (one : MapRange) (old : List Range) (k : ℕ) →
+pub few_from : {regs : MapBytes} (front : List Range) (one : MapRange) (old : List Range) (k : ℕ) →
     IsWholeOf regs (map range_of front ++ one ∷ drop (k + 1) (map range_of old)) →
     length front + 1 + length (drop (k + 1) old) ≤ most_ranges
-few_from regs front one old k whole =
-    let rest : length (drop (k + 1) (map range_of old)) ≡ length (drop (k + 1) old) =
-    ap (λ (all : List MapRange). length all) (drop-map range_of (k + 1) old) ∙ length-map (drop (k + 1) old) range_of in
-    omega (
-      arith,
-      whole.few,
-      length-append (map range_of front) (one ∷ drop (k + 1) (map range_of old)),
-      length-map front range_of,
-    )
+few_from front one old k whole =
+    let few = simp (length-append, length-map, drop-map) at whole.few in omega arith
 
 pub rest_of : (old : List Range) (n : ℕ) → take (length old - n) (drop n old) ≡ drop n old
 rest_of old n = take_all (length old - n) (drop n old) (omega (arith, length-drop n old))

@@ -1,5 +1,4 @@
-use Rattle.std.proofs.Common.{subst, sym}
-use Rattle.board_prelude.proofs.Common.{Width, Store}
+use Rattle.board_prelude.proofs.Common.{Store}
 use Rattle.map_builder.specs.Applied.{IsStored}
 use Rattle.map_builder.proofs.flat_map.FlatMap.store.Goals.{After-store_byte}
 use Rattle.map_builder.proofs.flat_map.FlatMap.store.Goals as goal
@@ -8,9 +7,7 @@ use Rattle.map_builder.proofs.flat_map.FlatMap.store.Goals as goal
 stored : (c : After-store_byte) → IsStored c.args.self.now c.store_byte.new.self
     (Store c.args.reg c.args.width c.args.value)
 stored c =
-    subst (λ (width : Width). IsStored c.args.self.now c.store_byte.new.self (Store c.args.reg width c.args.value))
-    (sym c.in-One.is)
-    c.store_byte.ensures.stored
+    rw c.in-One.is c.store_byte.ensures.stored
 
 pub returns-in-One-clause-stands : goal.returns-in-One-clause-stands
 returns-in-One-clause-stands c = (stored (goal.at.returns-in-One-clause-stands c).After-store_byte).stands
