@@ -69,8 +69,8 @@ module _ (regs : MapBytes) (after until : ℕ) (address : until < address_count)
         drop_more old (k + 1) no_range (omega arith),
         ← append_assoc front (next ∷ []) (map range_of (take c (drop (k + 1 + 1) old))),
       )
-      (copied c (k + 1) j addr front (open_at old (k + 1)) (omega arith) within (omega arith) refl low high below beneath
-      (next_built k (k + 1) next.hi ranges last refl (omega arith) from same order (omega arith) beneath built))
+      (copied c (k + 1) j addr front (open_at old (k + 1)) (omega arith) within (omega arith) refl low high below
+      beneath (next_built k (k + 1) next.hi ranges last refl (omega arith) from same order (omega arith) beneath built))
 
   -- the ranges up to an address that lies in a later one
   kept_run : (k end : ℕ) (ranges items : List Range) (last : Range) →
@@ -86,8 +86,8 @@ module _ (regs : MapBytes) (after until : ℕ) (address : until < address_count)
 
 -- ---- from the address after the one up to which they are built
 
-module _ {regs : MapBytes} (after until : ℕ) {k : ℕ} (ranges ranges' : List Range) {old : List Range} (last last' : Range)
-    (address : until < address_count) (order : after < until)
+module _ {regs : MapBytes} (after until : ℕ) {k : ℕ} (ranges ranges' : List Range) {old : List Range}
+    (last last' : Range) (address : until < address_count) (order : after < until)
     (agrees : IsMapWhere regs (IsBetween after until) (map range_of old)) (holds : Holds old k (after + 1))
     (on : ContinuesAt (map range_of ranges) (map range_of ranges') (range_of last) (range_of last') (after + 1)
     (row_at old k)) (built : IsBuilt regs (map range_of ranges) (range_of last) after) where

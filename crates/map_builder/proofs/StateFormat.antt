@@ -66,7 +66,8 @@ unfolding windows_fields
 windows_format =
     fields_format (byte_to 64 (omega arith) then λ count few. last_field _ (so_many_format count few))
     (λ windows are. (
-      (length windows, are.count) & (windows, (refl, good_windows windows (recursion_from_All IsWindow windows are.each))),
+      (length windows, are.count)
+          & (windows, (refl, good_windows windows (recursion_from_All IsWindow windows are.each))),
       refl,
     ))
     (λ t. (

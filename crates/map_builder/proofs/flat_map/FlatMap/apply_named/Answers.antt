@@ -105,6 +105,7 @@ returns-clause-rows g c = λ setup bytes stands.
     let new : Bytes = after setup c.args.change.now bytes in
     omega (
       arith,
-      rw c.as_slice-2.ensures.items at (c.rebuild.ensures.rows setup new (c.apply_named.ensures.stands setup bytes here)),
+      rw c.as_slice-2.ensures.items
+          at (c.rebuild.ensures.rows setup new (c.apply_named.ensures.stands setup bytes here)),
       build_few setup bytes here (choice g (goal.at.returns-clause-rows g c).After-choose_windows),
     )
