@@ -5,7 +5,7 @@ use Rattle.std.proofs.Common.{flat_map, is_some, map, subst}
 use Rattle.board_spec.proofs.FlatMapLaws.{tiles_below}
 use Rattle.board_prelude.proofs.Common.{cases_Bool, true≢false, append-nil, list_any, Width, One, Reg, MapChange, Store}
 use Rattle.board_prelude.proofs.Common.{Reset, FittedCard, Setup, touches_map, reg_after, bytes_of, Bytes}
-use Rattle.board_prelude.proofs.Common.{address_count, six_areas, MapRange, Tiles, entry_limit, nat_tests}
+use Rattle.board_prelude.proofs.Common.{address_count, six_areas, MapRange, Tiles, entry_limit, nat_tests, false≢true}
 use Rattle.pci_bars.specs.Cards.{CardBytes, AreFitted, cards_of}
 use Rattle.addr_decode.proofs.Common.{no_low_card, names_touch}
 use Rattle.addr_decode.specs.declared.register.MapRegister.{MapRegister}
@@ -16,6 +16,7 @@ use Rattle.map_builder.specs.Changed.{register_windows}
 use Rattle.map_builder.specs.Common.{next_version, IsOfSomeBoard, IsMapOf, IsMapWhere, IsBeside, sorted, Rise, rows_in}
 use Rattle.map_builder.specs.Common.{AreChanged, after, bounds, is_card_name, rest_on_registers, name_windows}
 use Rattle.map_builder.specs.Common.{windows_covered, changed_windows, most_rows, AreMoved, IsHeldAt, IsSameByte}
+use Rattle.map_builder.specs.Common.{Mapped}
 use Rattle.map_builder.proofs.BoundsLemmas.{covered_ordered, changed_ordered, bounds_twice}
 use Rattle.map_builder.proofs.SortedLemmas.{rise_sorted, outside_sorted, beside_sorted, rows_few, sorted_twice}
 use Rattle.map_builder.proofs.MovedRows.{covers_rows, rows_keep, moved_rise, moved_within, moved_few}
@@ -24,6 +25,7 @@ use Rattle.map_builder.proofs.KeptStores.{top_after, changes_keep}
 use Rattle.map_builder.proofs.WindowLemmas.{covered_by_names}
 use Rattle.map_builder.proofs.SameBoards.{boards_same, untouched_areas}
 use Rattle.map_builder.proofs.RebuildLemmas.{all_right}
+use Rattle.map_builder.specs.Applied.{IsChangedBy, IsStored}
 
 -- the last address of a range is an address
 range_below : (from : ℕ) (ranges : List MapRange) → Tiles from ranges → (k : ℕ) (d : MapRange) → k < length ranges →
@@ -303,6 +305,19 @@ pub names_touched : (setup : Setup) (cards : List CardBytes) (reg : Reg) (width 
 names_touched setup cards reg width value names fitted same named =
     rw (named, ← same) (names_touch setup reg width value (no_low_card setup cards 0 (omega arith) fitted.each same)
     (no_low_card setup cards 1 (omega arith) fitted.each same))
+
+-- a change that touches the map of each board with its cards is a store
+pub stored_if : {old new : Mapped} {store : MapChange} → IsChangedBy old new store →
+    ((setup : Setup) → setup.cards ≡ cards_of old.regs.cards → touches_map setup store ≡ true) → IsStored old new store
+stored_if changed touched = record {
+  stands = changed.stands;
+  cards = changed.cards;
+  same_cards = changed.same_cards;
+  version = λ setup same. rw (touched setup same) changed.version;
+  windows = λ setup bytes stands is. changed.windows setup bytes stands;
+  same_windows = λ setup same not. absurd (false≢true (sym not ∙ touched setup same));
+  map = changed.map;
+}
 
 -- below the limit of a history's entries the next version is one more
 pub next_below : (version : ℕ) → version < entry_limit → next_version version ≡ version + 1

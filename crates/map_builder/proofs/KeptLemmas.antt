@@ -1,15 +1,17 @@
 -- The areas of an address are the same before and after a change that moves nothing round it.
-use Rattle.std.proofs.Common.{◌≡◌, ℕ, ◌+◌, ◌-◌, ◌*◌, ◌/◌, ◌<◌, ◌≤◌, ◌⊎◌, inl, inr, Bool, true, false, [], ◌∷◌, None}
-use Rattle.std.proofs.Common.{refl, sym, ◌∙◌, ap, arith, lit<, ◌==◌, ◌&&◌, ◌||◌, nat_le, nat_lt, if◌then◌else◌}
+use Rattle.std.proofs.Common.{◌≡◌, ℕ, ◌+◌, ◌-◌, ◌/◌, ◌<◌, ◌≤◌, ◌⊎◌, inl, inr, Bool, true, false, [], ◌∷◌, None, refl}
+use Rattle.std.proofs.Common.{sym, ◌∙◌, ap, arith, ◌==◌, ◌&&◌, ◌||◌, nat_le, nat_lt, if◌then◌else◌, find, List, zero}
+use Rattle.std.proofs.Common.{suc, map, slice_index, rules}
 use Rattle.board_prelude.proofs.Common.{cases_Bool, ne_eqb, nat_tests, Kind, Fetch, Read, Write, Reg, Setup, IsCardList}
-use Rattle.board_prelude.proofs.Common.{is_bit, is_within, Bytes, boundary, top_of, row_of, is_in, hole_of}
-use Rattle.board_prelude.proofs.Common.{is_high_window, nibble, is_open, is_shadow_range, is_shadowed, is_smram_range}
-use Rattle.board_prelude.proofs.Common.{is_rom_selected, pam_register, area_of, bridge, isa, card_register, six_areas}
-use Rattle.board_prelude.proofs.Common.{or-false, and-false}
+use Rattle.board_prelude.proofs.Common.{is_bit, is_within, Bytes, top_of, row_of, is_in, hole_of, is_high_window}
+use Rattle.board_prelude.proofs.Common.{nibble, is_open, is_shadow_range, is_shadowed, is_smram_range, is_rom_selected}
+use Rattle.board_prelude.proofs.Common.{pam_register, area_of, bridge, isa, card_register, six_areas, or-false}
+use Rattle.board_prelude.proofs.Common.{and-false, each_below}
 use Rattle.addr_decode.specs.MapRegister.{map_register}
 use Rattle.map_builder.specs.Changed.{from_to, pam_windows, windows_of, IsOutside}
 use Rattle.map_builder.proofs.OutsideLemmas.{Outside}
 use Rattle.map_builder.proofs.KeptCards.{Kept, claim_same, each_or}
+use Rattle.map_builder.specs.Common.{is_below}
 
 outside_range : (addr lo hi : ℕ) → IsOutside addr (from_to lo hi) → is_within lo hi addr ≡ false
 outside_range addr lo hi (inl below) = grind (arith, nat_tests)
@@ -93,27 +95,34 @@ no_row : (bytes : Bytes) (addr : ℕ) → top_of bytes ≤ 0x7F80_0000 → 0x7F8
 unfolding row_of
 no_row bytes addr top high = let past : nat_lt addr (top_of bytes) ≡ false = grind (arith, nat_tests) in rw past refl
 
--- where each boundary stays, so does the row of an address
-pub row_stays : (bytes new : Bytes) (addr : ℕ) → ((row : ℕ) → row < 8 → boundary new row ≡ boundary bytes row) →
-    row_of new addr ≡ row_of bytes addr
+-- so many rows, from one on
+abbrev pub rows_from : (first count : ℕ) → List ℕ
+rows_from first zero = []
+rows_from first (suc count) = first ∷ rows_from (first + 1) count
+
+-- the row of an address by the boundaries that are kept
+pub row_by : (bytes : Bytes) (kept : List ℕ) (addr : ℕ) →
+    ((row : ℕ) → row < 8 → slice_index kept row ≡ bytes (bridge (0x60 + row))) →
+    row_of bytes addr ≡ (if is_below kept addr 7 then find (is_below kept addr) (rows_from 0 8) else None)
 unfolding row_of
+row_by bytes kept addr are = grind (arith, are)
+
+-- where each boundary stays, so does the row of an address
+pub row_stays : (bytes new : Bytes) (addr : ℕ) →
+    ((row : ℕ) → row < 8 → new (bridge (0x60 + row)) ≡ bytes (bridge (0x60 + row))) →
+    row_of new addr ≡ row_of bytes addr
 row_stays bytes new addr same =
-    rw (
-      same 0 (lit< tt),
-      same 1 (lit< tt),
-      same 2 (lit< tt),
-      same 3 (lit< tt),
-      same 4 (lit< tt),
-      same 5 (lit< tt),
-      same 6 (lit< tt),
-      same 7 (lit< tt),
-    ) refl
+    let kept : List ℕ = map (λ row. bytes (bridge (0x60 + row))) (rows_from 0 8) in
+    let are : (row : ℕ) → row < 8 → slice_index kept row ≡ bytes (bridge (0x60 + row)) =
+    λ row below. each_below (λ row. slice_index kept row ≡ bytes (bridge (0x60 + row))) 8 row (search rules) below in
+    row_by new kept addr (λ row below. are row below ∙ sym (same row below)) ∙ sym (row_by bytes kept addr are)
 
 module _ (setup : Setup) (bytes new : Bytes) (addr : ℕ) (kept : (reg : Reg) → Kept setup bytes new addr reg) where
-  row_kept : (row : ℕ) → row < 8 → (boundary new row ≡ boundary bytes row) ⊎ (0x7F80_0000 ≤ addr)
+  row_kept : (row : ℕ) → row < 8 →
+      (new (bridge (0x60 + row)) ≡ bytes (bridge (0x60 + row))) ⊎ (0x7F80_0000 ≤ addr)
   row_kept row below =
       elim (kept (bridge (0x60 + row))) [
-        | inl same ↦ inl (ap (λ byte. byte * 0x80_0000) same)
+        | inl same ↦ inl same
         | inr out ↦
             let here = rw (row_window setup bytes row below) at out.0 in
             elim here.0 [ inl lower ↦ absurd (omega arith) | inr higher ↦ inr (omega arith) ]
@@ -121,7 +130,8 @@ module _ (setup : Setup) (bytes new : Bytes) (addr : ℕ) (kept : (reg : Reg) �
 
   pub row_same : top_of bytes ≤ 0x7F80_0000 → top_of new ≤ 0x7F80_0000 → row_of new addr ≡ row_of bytes addr
   row_same top top' =
-      elim (each_or (λ row. boundary new row ≡ boundary bytes row) (0x7F80_0000 ≤ addr) 8 row_kept) [
+      elim (each_or (λ row. new (bridge (0x60 + row)) ≡ bytes (bridge (0x60 + row))) (0x7F80_0000 ≤ addr) 8
+      row_kept) [
         | inr high ↦ no_row new addr top' high ∙ sym (no_row bytes addr top high)
         | inl same ↦ row_stays bytes new addr same
       ]

@@ -1,8 +1,8 @@
 -- What a store to the boundaries of the rows of DRAM moves, and that no more rows are looked up for it than the bound
 -- says.
 use Rattle.std.proofs.Common.{◌≡◌, ℕ, zero, suc, ◌⊎◌, Bool, ◌+◌, ◌-◌, ◌*◌, ◌<◌, ◌≤◌, inl, inr, true, false, List, []}
-use Rattle.std.proofs.Common.{◌∷◌, ◌++◌, take, refl, sym, ◌∙◌, ap, arith, lit<, ◌==◌, ◌&&◌, nat_le, if◌then◌else◌}
-use Rattle.std.proofs.Common.{Option, Some, None, min, max, slice_index, find, flat_map}
+use Rattle.std.proofs.Common.{◌∷◌, ◌++◌, take, refl, sym, ◌∙◌, ap, arith, ◌==◌, ◌&&◌, nat_le, if◌then◌else◌, Option}
+use Rattle.std.proofs.Common.{Some, None, min, max, slice_index, find, flat_map}
 use Rattle.board_prelude.proofs.Common.{AllByRecursion, list_any, cases_Bool, cases_lt, false≢true, and_parts}
 use Rattle.board_prelude.proofs.Common.{nat_tests, Width, One, Reg, bytes_of, some_bytes, MapChange, Store, Reset}
 use Rattle.board_prelude.proofs.Common.{FittedCard, Setup, IsCardList, covers, Bytes, row_of, reg_after, six_areas}
@@ -15,7 +15,7 @@ use Rattle.map_ranges.specs.declared.range.Changed.{Changed}
 use Rattle.map_builder.specs.Common.{from_to, windows_of, windows_covered, after, changed_windows, is_above_first}
 use Rattle.map_builder.specs.Common.{is_inside, edges_inside, is_window, count_of, IsOutside, is_row_name, stores_rows}
 use Rattle.map_builder.specs.Common.{is_below, IsHidden, StaysOrHidden, RowStays, IsInRows, AreMoved, Rise, rows_in}
-use Rattle.map_builder.proofs.KeptLemmas.{is_boundary, areas_same, row_window}
+use Rattle.map_builder.proofs.KeptLemmas.{is_boundary, areas_same, row_window, row_by, rows_from}
 use Rattle.map_builder.proofs.SortedLemmas.{filter_more, one_window}
 use borrow.Author.Count.{below_more}
 
@@ -86,11 +86,6 @@ beside : (at : Reg) (width : Width) (value : ℕ) (reg : Reg) → covers_rows (S
     is_boundary reg ≡ false → covers at width reg ≡ false
 beside at width value reg rows other = grind (arith, nat_tests)
 
--- so many rows, from one on
-abbrev rows_from : (first count : ℕ) → List ℕ
-rows_from first zero = []
-rows_from first (suc count) = first ∷ rows_from (first + 1) count
-
 -- two tests of rows, of which the one fails where the other does, find the same row first
 same_first : (old new : List ℕ) (addr first count : ℕ) → ((row : ℕ) → row < first → is_below old addr row ≡ false) →
     ((row : ℕ) → row < first + count → StaysOrHidden old new addr row) →
@@ -115,29 +110,11 @@ where_same : (a b : Bool) (x y : Option ℕ) → b ≡ a → (a ≡ true → y �
 where_same true b x y is same = rw is (same refl)
 where_same false b x y is same = rw is refl
 
--- the row of an address by the boundaries in the registers
-row_by : (regs : MapBytes) (setup : Setup) (bytes : Bytes) (addr : ℕ) → StandsFor setup bytes regs →
-    row_of bytes addr
-    ≡ (if is_below regs.drb addr 7 then find (is_below regs.drb addr) (rows_from 0 8) else None)
-unfolding row_of
-row_by regs setup bytes addr stands =
-    let held = stands.rows in
-    rw (
-      held 0 (lit< tt),
-      held 1 (lit< tt),
-      held 2 (lit< tt),
-      held 3 (lit< tt),
-      held 4 (lit< tt),
-      held 5 (lit< tt),
-      held 6 (lit< tt),
-      held 7 (lit< tt),
-    ) refl
-
 row_kept : (old new : MapBytes) (setup : Setup) (bytes later : Bytes) (addr : ℕ) → StandsFor setup bytes old →
     StandsFor setup later new →
     RowStays old.drb new.drb addr → row_of later addr ≡ row_of bytes addr
 row_kept old new setup bytes later addr stands stands' stays =
-    rw (row_by old setup bytes addr stands, row_by new setup later addr stands')
+    rw (row_by bytes old.drb addr stands.rows, row_by later new.drb addr stands'.rows)
     (where_same (is_below old.drb addr 7) (is_below new.drb addr 7) _ _ stays.top
     (λ below.
     same_first old.drb new.drb addr 0 8 (λ row none. absurd (omega arith))

@@ -258,13 +258,7 @@ sorted_twice windows ordered =
 pub filter_more : (p q : ℕ → Bool) (xs : List ℕ) → ((x : ℕ) → q x ≡ false → p x ≡ false) →
     length (filter p xs) ≤ length (filter q xs)
 filter_more p q [] more = omega arith
-filter_more p q (x ∷ xs) more =
-    let rest = filter_more p q xs more in
-    elim (cases_Bool (q x)) [
-      | inl there ↦
-          rw there (elim (cases_Bool (p x)) [ inl here ↦ rw here (omega arith) | inr not ↦ rw not (omega arith) ])
-      | inr not ↦ rw (not, more x not) rest
-    ]
+filter_more p q (x ∷ xs) more = grind (arith, nat_tests, filter_more p q xs more, more x)
 
 -- the edges above the first address of a window lie in it or above it
 pub one_window : (window : Changed) (edges : List ℕ) →
@@ -277,26 +271,14 @@ none_inside : (addr edge : ℕ) (windows : List Changed) → edge ≤ addr → A
     is_inside windows edge ≡ false
 none_inside addr edge [] low above = refl
 none_inside addr edge (window ∷ later) low above =
-    let first : addr < window.lo = above.0 in
-    let not : nat_lt window.lo edge ≡ false = grind (arith, nat_tests) in
-    rw not (none_inside addr edge later low above.1)
+    grind (arith, nat_tests, none_inside addr edge later low above.1, above.0)
 
 two_counts : (window : Changed) (windows : List Changed) (edges : List ℕ) → AreAbove window.hi windows →
     length (filter (λ edge. is_above_first edge window) edges) + length (filter (is_inside windows) edges)
     ≤ length (filter (is_inside (window ∷ windows)) edges)
 two_counts window windows [] above = omega arith
 two_counts window windows (edge ∷ later) above =
-    let rest = two_counts window windows later above in
-    elim (cases_Bool (is_above_first edge window)) [
-      | inl inside ↦
-          let low : edge ≤ window.hi = grind (arith, nat_tests) in
-          rw (inside, none_inside window.hi edge windows low above) (omega arith)
-      | inr not ↦
-          elim (cases_Bool (is_inside windows edge)) [
-            | inl there ↦ rw (not, there) (omega arith)
-            | inr neither ↦ rw (not, neither) rest
-          ]
-    ]
+    grind (arith, nat_tests, two_counts window windows later above, none_inside window.hi edge windows)
 
 rows_rise : (windows : List Changed) (edges : List ℕ) → Rise windows →
     rows_in (λ addr. length (filter (nat_lt addr) edges)) windows

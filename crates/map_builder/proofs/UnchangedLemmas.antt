@@ -1,5 +1,5 @@
 -- A store of one byte to a register that keeps its byte changes no area.
-use Rattle.std.proofs.Common.{◌≡◌, ℕ, ◌+◌, ◌*◌, List, Option, None, length, get_or, inl, inr, refl, sym, ◌∙◌, ap, arith}
+use Rattle.std.proofs.Common.{◌≡◌, ℕ, ◌+◌, List, Option, None, length, get_or, inl, inr, refl, sym, ◌∙◌, ap, arith}
 use Rattle.std.proofs.Common.{IfSome, subst}
 use Rattle.board_prelude.proofs.Common.{cases_Bool, nat_tests, One, Reg, MapChange, Store, FittedCard, Setup}
 use Rattle.board_prelude.proofs.Common.{IsCardList, covers, Bytes, bridge, six_areas}
@@ -30,8 +30,7 @@ pub unchanged_keep : (setup : Setup) (bytes : Bytes) (change : MapChange) (addr 
 unchanged_keep setup bytes change addr held list before later =
     let same = same_bytes setup bytes change held before later in
     areas_same setup bytes (after setup change bytes) addr (λ reg other. inl (same reg))
-    (row_stays bytes (after setup change bytes) addr
-    (λ row below. ap (λ (byte : ℕ). byte * 0x80_0000) (same (bridge (0x60 + row))))) list
+    (row_stays bytes (after setup change bytes) addr (λ row below. same (bridge (0x60 + row)))) list
 
 -- the byte of the one register that a change names is the byte that it stores to
 pub held_alone : (bytes : Bytes) (change : MapChange) (cards : List FittedCard) (names : List (Option MapRegister))
