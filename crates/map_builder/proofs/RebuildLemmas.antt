@@ -10,10 +10,9 @@ use Rattle.map_ranges.specs.declared.range.Range.{Range}
 use Rattle.map_builder.specs.Common.{range_of, no_range, range_at, BeginsBelow, Holds, ContinuesAt, IsBuilt}
 use Rattle.map_builder.specs.Common.{IsRightWhere, IsMapWhere, IsBelow, IsBetween, IsBeside, from_to, AreAbove, Rise}
 use Rattle.map_builder.specs.Common.{rows_in}
-use Rattle.map_builder.proofs.BuildLemmas.{range}
+use Rattle.map_builder.proofs.BuildLemmas.{range, AreasAt, one_address, same_at_each, is_built_first, built_step}
+use Rattle.map_builder.proofs.BuildLemmas.{built_over, built_range}
 use Rattle.map_ranges.proofs.FindLemmas.{Placed, placed}
-use Rattle.map_builder.proofs.StepLemmas.{AreasAt, one_address, same_at_each, is_built_first, built_step, built_over}
-use Rattle.map_builder.proofs.StepLemmas.{built_range}
 
 -- ---- ranges by their indices
 

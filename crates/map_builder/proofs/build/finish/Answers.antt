@@ -1,9 +1,9 @@
 use Rattle.std.proofs.Common.{◌≡◌, ◌+◌, arith, lit<}
 use Rattle.std.proofs.lemmas.List.{length-map, length_push}
 use Rattle.map_builder.specs.Common.{range_of}
-use Rattle.map_builder.proofs.StepLemmas.{is_whole}
+use Rattle.map_builder.proofs.BuildLemmas.{is_whole}
 use Rattle.map_builder.proofs.RebuildLemmas.{begins_later}
-use Rattle.map_builder.proofs.TailLemmas.{whole_from, whole_ranges, few_from, rest_of}
+use Rattle.map_builder.proofs.KeepLemmas.{whole_from, whole_ranges, few_from, rest_of}
 use Rattle.map_builder.proofs.build.finish.Goals as goal
 
 pub push-requires : goal.push-requires

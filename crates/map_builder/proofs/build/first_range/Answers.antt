@@ -1,4 +1,4 @@
-use Rattle.map_builder.proofs.StepLemmas.{is_built_first}
+use Rattle.map_builder.proofs.BuildLemmas.{is_built_first}
 use Rattle.map_builder.proofs.build.first_range.Goals as goal
 
 pub returns : goal.returns

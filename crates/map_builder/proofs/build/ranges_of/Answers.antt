@@ -1,7 +1,7 @@
 use Rattle.std.proofs.Common.{arith, lit<}
 use Rattle.std.proofs.lemmas.List.{length-map}
 use Rattle.map_builder.specs.Common.{range_of}
-use Rattle.map_builder.proofs.StepLemmas.{is_whole}
+use Rattle.map_builder.proofs.BuildLemmas.{is_whole}
 use Rattle.map_builder.proofs.build.ranges_of.Goals as goal
 
 pub push-requires : goal.push-requires

@@ -2,7 +2,7 @@ use Rattle.std.proofs.Common.{◌-◌, arith}
 use Rattle.std.proofs.lemmas.List.{length-map}
 use Rattle.addr_decode.specs.MapRegs.{map_bytes}
 use Rattle.map_builder.specs.Map.{range_of}
-use Rattle.map_builder.proofs.StepLemmas.{built_step, one_address}
+use Rattle.map_builder.proofs.BuildLemmas.{built_step, one_address}
 use Rattle.map_builder.proofs.build.row_at.Goals as goal
 
 pub range_at-requires-clause-room : goal.range_at-requires-clause-room

@@ -1,7 +1,7 @@
 use Rattle.std.proofs.Common.{arith}
 use Rattle.std.proofs.lemmas.List.{length-map}
 use Rattle.map_builder.specs.Map.{range_of}
-use Rattle.map_builder.proofs.StepLemmas.{built_step, built_over, edges_left}
+use Rattle.map_builder.proofs.BuildLemmas.{built_step, built_over, edges_left}
 use Rattle.map_builder.proofs.build.rows_in.Goals as goal
 
 pub range_at-last-requires-clause-room : goal.range_at-last-requires-clause-room
