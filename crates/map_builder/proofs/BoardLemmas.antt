@@ -1,14 +1,14 @@
 -- Registers of the address map are those of some board, whatever its other registers hold: each stands for a byte of
 -- its own.
 use Rattle.std.proofs.Common.{◌≡◌, ℕ, zero, suc, ◌+◌, ◌-◌, ◌*◌, ◌/◌, ◌%◌, ◌^◌, ◌<◌, ◌≤◌, inl, inr, List, [], ◌∷◌}
-use Rattle.std.proofs.Common.{length, get_or, Option, Some, None, refl, sym, ◌∙◌, ap, subst, arith, ◌==◌, nat_lt}
-use Rattle.std.proofs.Common.{if◌then◌else◌, false, ◌&&◌, All, find, is_some, slice_index, option_map}
-use Rattle.board_prelude.proofs.Common.{option_map_or, cases_Bool, cond-true, cond-false, eq-eqb, ne_eqb, get_or-map}
-use Rattle.board_prelude.proofs.Common.{length-map, nat_tests, Setup, FittedCard, Rises, IsCard, IsCardList, byte}
-use Rattle.board_prelude.proofs.Common.{is_within, card_register, bridge, Bytes, Reg}
+use Rattle.std.proofs.Common.{length, get_or, Option, Some, None, refl, ◌∙◌, arith, ◌==◌, nat_lt, if◌then◌else◌, false}
+use Rattle.std.proofs.Common.{◌&&◌, All, find, is_some, slice_index, option_map, true}
+use Rattle.board_prelude.proofs.Common.{option_map_or, cases_Bool, eq-eqb, ne_eqb, get_or-map, length-map, nat_tests}
+use Rattle.board_prelude.proofs.Common.{Setup, Rises, IsCard, IsCardList, byte, is_within, card_register, bridge, Bytes}
+use Rattle.board_prelude.proofs.Common.{Reg}
 use Rattle.pci_bars.specs.Cards.{CardBytes, HoldsLong, HoldsRom, DecodesAs, AreFitted, cards_of}
 use Rattle.pci_bars.proofs.CardLemmas.{wide_of_bytes}
-use Rattle.addr_decode.specs.Common.{MapBytes, StandsFor, AreSinglesOf, single, single_number}
+use Rattle.addr_decode.specs.Common.{MapBytes, StandsFor, AreSinglesOf, single_number}
 use Rattle.addr_decode.proofs.SingleLemmas.{numbered, block_unnumbered, card_unnumbered}
 use Rattle.map_builder.specs.Map.{IsOfSomeBoard, HoldsDoublewords, HaveWidths}
 
@@ -41,8 +41,7 @@ overlaid regs others reg =
 unnumbered : (regs : MapBytes) (others : Bytes) (reg : Reg) → single_number reg ≡ None →
     overlaid regs others reg ≡ beside_singles regs others reg
 unfolding overlaid
-unnumbered regs others reg none =
-    ap (λ (number : Option ℕ). option_map_or (slice_index regs.singles) number (beside_singles regs others reg)) none
+unnumbered regs others reg none = rw none refl
 
 -- ---- the bridges
 
@@ -50,23 +49,24 @@ rows_stand : (regs : MapBytes) (others : Bytes) (row : ℕ) → row < 8 →
     slice_index regs.drb row ≡ overlaid regs others (bridge (0x60 + row))
 unfolding bridge_byte
 rows_stand regs others row below =
-    let off : 0x60 + row - 0x60 ≡ row = omega arith in
-    sym (unnumbered regs others (bridge (0x60 + row)) (block_unnumbered (0x60 + row) (omega arith) (omega arith))
-    ∙ cond-false (nat_lt (0x60 + row) 0x60) _ _ (grind (arith, nat_tests))
-    ∙ ap (λ k. slice_index regs.drb k) off)
+    let place : 0x60 + row - 0x60 ≡ row = omega arith in
+    let high : nat_lt (0x60 + row) 0x60 ≡ false = grind (arith, nat_tests) in
+    rw (
+      unnumbered regs others (bridge (0x60 + row)) (block_unnumbered (0x60 + row) (omega arith) (omega arith)),
+      high,
+      place,
+    ) refl
 
 windows_stand : (regs : MapBytes) (others : Bytes) (off : ℕ) → (0x59 ≤ off) × (off ≤ 0x5F) →
     slice_index regs.pam (off - 0x59) ≡ overlaid regs others (bridge off)
 unfolding bridge_byte
 windows_stand regs others off within =
-    sym (unnumbered regs others (bridge off) (block_unnumbered off within.0 (omega (arith, within.1)))
-    ∙ cond-true (nat_lt off 0x60) _ _ (grind (arith, nat_tests, within.1)))
+    let low : nat_lt off 0x60 ≡ true = grind (arith, nat_tests, within.1) in
+    rw (unnumbered regs others (bridge off) (block_unnumbered off within.0 (omega (arith, within.1))), low) refl
 
 singles_stand : (regs : MapBytes) (others : Bytes) → AreSinglesOf (overlaid regs others) regs.singles
 unfolding overlaid
-singles_stand regs others k below =
-    sym (ap (λ (number : Option ℕ).
-    option_map_or (slice_index regs.singles) number (beside_singles regs others (single k))) (numbered k below))
+singles_stand regs others k below = rw (numbered k below) refl
 
 -- ---- the cards
 
@@ -74,18 +74,11 @@ pub found : (cards : List CardBytes) → Rises (cards_of cards) → (k : ℕ) (d
     card_with (get_or cards k d).card.dev cards ≡ Some (get_or cards k d)
 unfolding card_with
 found [] rises k d within = absurd (omega arith)
-found (card ∷ later) rises zero d within =
-    cond-true (card.card.dev == card.card.dev) (Some card) (find (λ other. other.card.dev == card.card.dev) later)
-    (eq-eqb card.card.dev card.card.dev refl)
+found (card ∷ later) rises zero d within = rw (eq-eqb card.card.dev card.card.dev refl) refl
 found (card ∷ later) rises (suc k) d within =
-    let place : get_or (cards_of later) k d.card ≡ (get_or later k d).card =
-    get_or-map (λ (it : CardBytes). it.card) later k d d.card (omega arith) in
-    let above : card.card.dev < (get_or later k d).card.dev =
-    subst (λ (other : FittedCard). card.card.dev < other.dev) place
-    (rises.0 k d.card (omega (arith, length-map later (λ (it : CardBytes). it.card)))) in
-    cond-false (card.card.dev == (get_or later k d).card.dev) (Some card)
-    (find (λ other. other.card.dev == (get_or later k d).card.dev) later) (ne_eqb _ _ (omega arith))
-    ∙ found later rises.1 k d (omega arith)
+    let above = rw (get_or-map (λ (it : CardBytes). it.card) later k d d.card (omega arith))
+    at (rises.0 k d.card (omega (arith, length-map later (λ (it : CardBytes). it.card)))) in
+    rw (ne_eqb card.card.dev (get_or later k d).card.dev (omega arith)) (found later rises.1 k d (omega arith))
 
 pub find-map : (dev : ℕ) (cards : List CardBytes) →
     find (λ card. card.dev == dev) (cards_of cards) ≡ option_map (λ (card : CardBytes). card.card) (card_with dev cards)
@@ -106,19 +99,17 @@ unfolding card_byte
 base_byte other card k j few below =
     let quotient : (0x10 + 4 * k + j - 0x10) / 4 ≡ k = omega arith in
     let rest : (0x10 + 4 * k + j - 0x10) % 4 ≡ j = omega arith in
-    cond-false (0x10 + 4 * k + j == 0x04) _ _ (ne_eqb _ _ (omega arith))
-    ∙ cond-true (is_within 0x10 0x27 (0x10 + 4 * k + j)) _ _ (grind (arith, nat_tests))
-    ∙ rw (quotient, rest) refl
+    let base : is_within 0x10 0x27 (0x10 + 4 * k + j) ≡ true = grind (arith, nat_tests) in
+    rw (ne_eqb (0x10 + 4 * k + j) 0x04 (omega arith), base, quotient, rest) refl
 
 rom_byte : (other : ℕ) (card : CardBytes) (bits j : ℕ) → card.card.rom ≡ Some bits → j < 4 →
     card_byte other (0x30 + j) card ≡ byte card.rom j
 unfolding card_byte
 rom_byte other card bits j is below =
     let place : 0x30 + j - 0x30 ≡ j = omega arith in
-    cond-false (0x30 + j == 0x04) _ _ (ne_eqb _ _ (omega arith))
-    ∙ cond-false (is_within 0x10 0x27 (0x30 + j)) _ _ (grind (arith, nat_tests))
-    ∙ cond-true (is_some card.card.rom && is_within 0x30 0x33 (0x30 + j)) _ _ (rw is (grind (arith, nat_tests)))
-    ∙ ap (λ k. byte card.rom k) place
+    let base : is_within 0x10 0x27 (0x30 + j) ≡ false = grind (arith, nat_tests) in
+    let rom : is_within 0x30 0x33 (0x30 + j) ≡ true = grind (arith, nat_tests) in
+    rw (ne_eqb (0x30 + j) 0x04 (omega arith), base, is, rom, place) refl
 
 -- four registers that hold the bytes of a doubleword hold it
 long_held : (bytes : Bytes) (dev from value : ℕ) → value < 2 ^ 32 →
@@ -131,26 +122,24 @@ long_held bytes dev from value below each = record {
 
 -- a card that is found
 module _ (regs : MapBytes) (others : Bytes) (card : CardBytes) (fit : IsCard card.card)
-    (at : card_with card.card.dev regs.cards ≡ Some card) where
+    (there : card_with card.card.dev regs.cards ≡ Some card) where
   stands : (off : ℕ) → overlaid regs others (card_register card.card.dev off)
       ≡ card_byte (others (card_register card.card.dev off)) off card
   stands off =
-      let other : ℕ = others (card_register card.card.dev off) in
-      unnumbered regs others (card_register card.card.dev off) (card_unnumbered card.card.dev off fit.first)
-      ∙ cond-false (card.card.dev == 0) _ _ (ne_eqb _ _ (omega (arith, fit.first)))
-      ∙ cond-false (card.card.dev == 1) _ _ (ne_eqb _ _ (omega (arith, fit.first)))
-      ∙ ap (λ (it : Option CardBytes). option_map_or (card_byte other off) it other) at
+      let dev : ℕ = card.card.dev in
+      rw (
+        unnumbered regs others (card_register dev off) (card_unnumbered dev off fit.first),
+        ne_eqb dev 0 (omega (arith, fit.first)),
+        ne_eqb dev 1 (omega (arith, fit.first)),
+        there,
+      ) refl
 
   -- what is no part of the map
   pub other_stands : (off : ℕ) → (off == 0x04) ≡ false → is_within 0x10 0x27 off ≡ false →
       (is_some card.card.rom && is_within 0x30 0x33 off) ≡ false →
       overlaid regs others (card_register card.card.dev off) ≡ others (card_register card.card.dev off)
   unfolding card_byte
-  other_stands off no_command no_base no_rom =
-      stands off
-      ∙ cond-false (off == 0x04) _ _ no_command
-      ∙ cond-false (is_within 0x10 0x27 off) _ _ no_base
-      ∙ cond-false (is_some card.card.rom && is_within 0x30 0x33 off) _ _ no_rom
+  other_stands off no_command no_base no_rom = stands off ∙ rw (no_command, no_base, no_rom) refl
 
   rom_held : (rom : Option ℕ) → card.card.rom ≡ rom → card.rom < 2 ^ 32 →
       HoldsRom (overlaid regs others) card.card.dev card.rom rom
@@ -162,10 +151,7 @@ module _ (regs : MapBytes) (others : Bytes) (card : CardBytes) (fit : IsCard car
   pub decodes : (setup : Setup) → setup.cards ≡ cards_of regs.cards → HoldsDoublewords card →
       DecodesAs setup (overlaid regs others) card
   decodes setup same doublewords = record {
-    fitted =
-        ap (λ (cards : List FittedCard). find (λ other. other.dev == card.card.dev) cards) same
-        ∙ (find-map card.card.dev regs.cards
-        ∙ ap (λ (it : Option CardBytes). option_map (λ (card : CardBytes). card.card) it) at);
+    fitted = rw (same, find-map card.card.dev regs.cards, there) refl;
     command = stands 0x04 ∙ command_byte _ card;
     bases = λ k few.
         long_held (overlaid regs others) card.card.dev (0x10 + 4 * k) (slice_index card.bases k)
@@ -190,34 +176,24 @@ overlaid_stands setup regs others same fitted doublewords = record {
   );
 }
 
--- a board with these registers, and 0 in all others
-board_setup : MapBytes → Setup
-board_setup regs = record { mib = 1; cards = cards_of regs.cards; rom = []; disk = None }
-
-cards_fitted : (regs : MapBytes) → (board_setup regs).cards ≡ cards_of regs.cards
-unfolding board_setup
-cards_fitted regs = refl
-
 fitted_cards : (regs : MapBytes) → length regs.cards ≤ 8 → AreFitted regs.cards → IsCardList (cards_of regs.cards)
 fitted_cards regs few fitted = record {
   count = omega (arith, length-map regs.cards (λ (it : CardBytes). it.card));
   each = λ k d within.
-      let long : length (cards_of regs.cards) ≡ length regs.cards =
-      length-map regs.cards (λ (it : CardBytes). it.card) in
       let card : CardBytes = record { card = d; command = 0; line = 0; bases = []; rom = 0 } in
-      subst IsCard (sym (get_or-map (λ (it : CardBytes). it.card) regs.cards k card d (omega arith)))
-      (fitted.each k card (omega arith));
+      let below : k < length regs.cards = omega (arith, length-map regs.cards (λ (it : CardBytes). it.card)) in
+      rw (get_or-map (λ (it : CardBytes). it.card) regs.cards k card d below) (fitted.each k card below);
   rises = fitted.rises;
 }
 
--- the registers of cards that can be fitted to a board are those of a board
+-- the registers of cards that can be fitted to a board are those of a board, which has 0 in all others
 pub has_board : (regs : MapBytes) → AreFitted regs.cards → HaveWidths regs → IsOfSomeBoard regs
-has_board regs fitted widths = record {
-  setup = board_setup regs;
-  bytes = overlaid regs (λ reg. 0);
-  cards = subst IsCardList (sym (cards_fitted regs)) (fitted_cards regs widths.count fitted);
-  top = omega (arith, rows_stand regs (λ reg. 0) 7 (omega arith), widths.rows 7);
-  stands =
-      overlaid_stands (board_setup regs) regs (λ reg. 0) (cards_fitted regs) fitted
-      (λ k d within. widths.cards k d within);
-}
+has_board regs fitted widths =
+    let setup : Setup = record { mib = 1; cards = cards_of regs.cards; rom = []; disk = None } in
+    record {
+      setup = setup;
+      bytes = overlaid regs (λ reg. 0);
+      cards = fitted_cards regs widths.count fitted;
+      top = omega (arith, rows_stand regs (λ reg. 0) 7 (omega arith), widths.rows 7);
+      stands = overlaid_stands setup regs (λ reg. 0) refl fitted (λ k d within. widths.cards k d within);
+    }

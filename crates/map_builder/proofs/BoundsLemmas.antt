@@ -1,9 +1,8 @@
 -- Each window that a change may change ends where it begins or above.
-use Rattle.std.proofs.Common.{◌≡◌, ℕ, zero, suc, ◌/◌, ◌≤◌, inl, inr, List, [], ◌∷◌, ◌++◌, map, take, Option, Some}
-use Rattle.std.proofs.Common.{None, refl, ◌∙◌}
-use Rattle.std.proofs.Common.{ap, arith, ◌==◌, flat_map, filter, min, max, get_or}
-use Rattle.board_prelude.proofs.Common.{AllByRecursion, option_map_or, cases_Bool, nat_tests, Reg, bytes_of, MapChange}
-use Rattle.board_prelude.proofs.Common.{Store, Reset, FittedCard, Setup, card_at, Bytes, Window, rom_window, vga_window}
+use Rattle.std.proofs.Common.{◌≡◌, ℕ, zero, suc, ◌/◌, ◌≤◌, inl, inr, List, [], ◌∷◌, ◌++◌, map, take, Option, Some, None}
+use Rattle.std.proofs.Common.{refl, ◌∙◌, ap, arith, ◌==◌, flat_map, filter, min, max, get_or}
+use Rattle.board_prelude.proofs.Common.{AllByRecursion, option_map_or, cases_Bool, Reg, bytes_of, MapChange, Store}
+use Rattle.board_prelude.proofs.Common.{Reset, FittedCard, Setup, card_at, Bytes, Window, rom_window, vga_window}
 use Rattle.board_prelude.proofs.Common.{reg_after}
 use Rattle.map_ranges.specs.declared.range.Changed.{Changed}
 use Rattle.addr_decode.specs.declared.register.MapRegister.{MapRegister}
@@ -95,8 +94,8 @@ joined_maybe (Some here) there = Some (joined here there)
 
 both_on : (a b c : Changed) → both a (both b c) ≡ both (both a b) c
 both_on a b c =
-    let lows : min a.lo (min b.lo c.lo) ≡ min (min a.lo b.lo) c.lo = grind (arith, nat_tests) in
-    let highs : max a.hi (max b.hi c.hi) ≡ max (max a.hi b.hi) c.hi = grind (arith, nat_tests) in
+    let lows : min a.lo (min b.lo c.lo) ≡ min (min a.lo b.lo) c.lo = omega arith in
+    let highs : max a.hi (max b.hi c.hi) ≡ max (max a.hi b.hi) c.hi = omega arith in
     rw (lows, highs) refl
 
 joined_on : (window : Changed) (here there : Option Changed) →
@@ -108,16 +107,14 @@ joined_on window (Some here) (Some there) = both_on window here there
 bounds_two : (xs ys : List Changed) → bounds (xs ++ ys) ≡ joined_maybe (bounds xs) (bounds ys)
 unfolding bounds
 bounds_two [] ys = refl
-bounds_two (window ∷ xs) ys =
-    ap (λ (rest : Option Changed). Some (joined window rest)) (bounds_two xs ys)
-    ∙ ap Some (joined_on window (bounds xs) (bounds ys))
+bounds_two (window ∷ xs) ys = rw (bounds_two xs ys) (ap Some (joined_on window (bounds xs) (bounds ys)))
 
 joined_same : (it : Option Changed) → joined_maybe it it ≡ it
 joined_same None = refl
 joined_same (Some window) =
-    let low : min window.lo window.lo ≡ window.lo = grind (arith, nat_tests) in
-    let high : max window.hi window.hi ≡ window.hi = grind (arith, nat_tests) in
-    ap Some (rw (low, high) refl)
+    let low : min window.lo window.lo ≡ window.lo = omega arith in
+    let high : max window.hi window.hi ≡ window.hi = omega arith in
+    rw (low, high) refl
 
 pub bounds_twice : (xs : List Changed) → bounds (xs ++ xs) ≡ bounds xs
 bounds_twice xs = bounds_two xs xs ∙ joined_same (bounds xs)

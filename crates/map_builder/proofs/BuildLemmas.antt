@@ -1,11 +1,17 @@
--- The ranges as they are built, from the first address on: the last of them may still go on.
+-- The ranges as they are built, from the first address on: the last of them may still go on. A step goes to a later
+-- address, which need not be an edge.
 use Rattle.std.proofs.Common.{◌≡◌, ◌≢◌, ℕ, ◌+◌, ◌-◌, ◌<◌, ◌≤◌, inl, inr, List, [], ◌∷◌, ◌++◌, length, refl, sym, ◌∙◌}
-use Rattle.std.proofs.Common.{ap, subst, arith, append_assoc}
+use Rattle.std.proofs.Common.{ap, arith, append_assoc, map, nat_lt, filter}
 use Rattle.board_prelude.proofs.Common.{cases_lt, length-append, All-nil, All-cons, All-append, Area, Setup, Bytes}
 use Rattle.board_prelude.proofs.Common.{address_count, six_areas, MapRange, Tiles, NeighboursDiffer, IsRight}
-use Rattle.board_prelude.proofs.Common.{IsFlatMapOf}
+use Rattle.board_prelude.proofs.Common.{IsFlatMapOf, Contains, nat_tests, length-map, length_push}
 use Rattle.addr_decode.specs.Edges.{SameAreas}
-use Rattle.map_builder.specs.Common.{most_ranges, ContinuesAt, Built, BuiltOf}
+use Rattle.map_builder.specs.Common.{most_ranges, ContinuesAt, Built, BuiltOf, range_of, IsOfSomeBoard, IsBuilt}
+use Rattle.map_builder.specs.Common.{IsWhole}
+use Rattle.std.proofs.lemmas.List.{map_push}
+use Rattle.addr_decode.specs.Common.{MapBytes, StandsFor, edges_of, edges_after}
+use Rattle.addr_decode.proofs.Common.{contains_cases, no_more, few_edges_after, areas_change_at_edges}
+use Rattle.map_ranges.specs.declared.range.Range.{Range}
 
 abbrev pub range : ℕ → ℕ → List Area → MapRange
 range lo hi areas = record { lo = lo; hi = hi; areas = areas }
@@ -50,35 +56,30 @@ built_cut : (ranges : List MapRange) (last : MapRange) (addr edge : ℕ) (areas 
     Built ranges last addr → addr < edge → edge ≤ 0xFFFF_FFFF → areas ≢ last.areas →
     Built (ranges ++ range last.lo (edge - 1) last.areas ∷ []) (range edge 0xFFFF_FFFF areas) edge
 built_cut ranges last addr edge areas built above below other =
-    let high : last.hi ≡ 0xFFFF_FFFF = built.open_end in
     let joined : (ranges ++ range last.lo (edge - 1) last.areas ∷ []) ++ range edge 0xFFFF_FFFF areas ∷ []
     ≡ ranges ++ cut_at edge areas last =
-    append_assoc ranges (range last.lo (edge - 1) last.areas ∷ []) (range edge 0xFFFF_FFFF areas ∷ [])
-    ∙ ap (λ (hi : ℕ). ranges ++ (range last.lo (edge - 1) last.areas ∷ range edge hi areas ∷ [])) (sym high) in
+    rw built.open_end (append_assoc ranges (range last.lo (edge - 1) last.areas ∷ [])
+    (range edge 0xFFFF_FFFF areas ∷ [])) in
     record {
-      tiles = subst (Tiles 0) (sym joined)
-          (tiles_cut 0 ranges last edge areas (omega (arith, built.begun)) (omega arith) built.tiles);
-      least = subst NeighboursDiffer (sym joined) (differ_cut ranges last edge areas other built.least);
+      tiles = rw joined (tiles_cut 0 ranges last edge areas (omega (arith, built.begun))
+          (omega (arith, built.open_end)) built.tiles);
+      least = rw joined (differ_cut ranges last edge areas other built.least);
       begun = omega arith;
       open_end = refl;
     }
 
-pub built_on : (ranges ranges' : List MapRange) (last last' : MapRange) (addr edge : ℕ) (areas : List Area) →
+pub built_on : {ranges ranges' : List MapRange} {last last' : MapRange} {addr edge : ℕ} (areas : List Area) →
     Built ranges last addr → addr < edge → edge ≤ 0xFFFF_FFFF → ContinuesAt ranges ranges' last last' edge areas →
     Built ranges' last' edge
-built_on ranges ranges' last last' addr edge areas built above below (inl (same, is, last_is)) =
-    subst (λ (xs : List MapRange). Built xs last' edge) (sym is)
-    (subst (λ (x : MapRange). Built ranges x edge) (sym last_is)
-    (record {
+built_on areas built above below (inl (same, is, last_is)) =
+    rw (is, last_is) (record {
       tiles = built.tiles;
       least = built.least;
       begun = omega (arith, built.begun);
       open_end = built.open_end;
-    }))
-built_on ranges ranges' last last' addr edge areas built above below (inr (other, is, last_is)) =
-    subst (λ (xs : List MapRange). Built xs last' edge) (sym is)
-    (subst (λ (x : MapRange). Built (ranges ++ range last.lo (edge - 1) last.areas ∷ []) x edge) (sym last_is)
-    (built_cut ranges last addr edge areas built above below other))
+    })
+built_on {ranges} {last = last} {addr = addr} {edge = edge} areas built above below (inr (other, is, last_is)) =
+    rw (is, last_is) (built_cut ranges last addr edge areas built above below other)
 
 -- the areas up to an edge
 pub up_to_edge : (setup : Setup) (bytes : Bytes) (last : MapRange) (addr edge : ℕ) → last.lo ≤ addr →
@@ -92,48 +93,40 @@ up_to_edge setup bytes last addr edge begun same so_far x low high =
     ]
 
 pub built_of_on :
-    (setup : Setup) (bytes : Bytes) (ranges ranges' : List MapRange) (last last' : MapRange) (addr edge : ℕ)
-    (areas : List Area) →
-    last.lo ≤ addr → addr < edge → SameAreas setup bytes addr edge → areas ≡ six_areas setup bytes edge →
-    ContinuesAt ranges ranges' last last' edge areas → BuiltOf setup bytes ranges last addr →
-    BuiltOf setup bytes ranges' last' edge
-built_of_on setup bytes ranges ranges' last last' addr edge areas begun above same row (inl (here, is, last_is)) built =
-    subst (λ (xs : List MapRange). BuiltOf setup bytes xs last' edge) (sym is)
-    (subst (λ (x : MapRange). BuiltOf setup bytes ranges x edge) (sym last_is)
-    (record {
+    (setup : Setup) (bytes : Bytes) {ranges ranges' : List MapRange} {last last' : MapRange} {addr edge : ℕ}
+    (areas : List Area) → last.lo ≤ addr → addr < edge → SameAreas setup bytes addr edge →
+    areas ≡ six_areas setup bytes edge → ContinuesAt ranges ranges' last last' edge areas →
+    BuiltOf setup bytes ranges last addr → BuiltOf setup bytes ranges' last' edge
+built_of_on setup bytes {last = last} {addr = addr} {edge = edge} areas begun above same row (inl (here, is, last_is))
+    built =
+    rw (is, last_is) (record {
       right = built.right;
       so_far = λ x low high.
           elim (cases_lt x edge) [
             | inl below ↦ up_to_edge setup bytes last addr edge begun same built.so_far x low below
-            | inr not_below ↦ let at_edge : x ≡ edge = omega arith in
-                ap (six_areas setup bytes) at_edge ∙ sym row ∙ here
+            | inr not_below ↦ let at_edge : x ≡ edge = omega arith in rw at_edge (sym row ∙ here)
           ];
-    }))
-built_of_on setup bytes ranges ranges' last last' addr edge areas begun above same row (inr (other, is, last_is))
-    built =
+    })
+built_of_on setup bytes {ranges} {last = last} {addr = addr} {edge = edge} areas begun above same row
+    (inr (other, is, last_is)) built =
     let ended : MapRange = range last.lo (edge - 1) last.areas in
     let one : IsRight setup bytes ended = record {
       at_each = λ x low high. up_to_edge setup bytes last addr edge begun same built.so_far x low (omega arith);
     } in
-    subst (λ (xs : List MapRange). BuiltOf setup bytes xs last' edge) (sym is)
-    (subst (λ (x : MapRange). BuiltOf setup bytes (ranges ++ ended ∷ []) x edge) (sym last_is)
-    (record {
+    rw (is, last_is) (record {
       right = All-append (IsRight setup bytes) ranges (ended ∷ []) built.right
           (All-cons (IsRight setup bytes) ended [] one (All-nil (IsRight setup bytes)));
-      so_far = λ x low high. let at_edge : x ≡ edge = omega arith in ap (six_areas setup bytes) at_edge ∙ sym row;
-    }))
+      so_far = λ x low high. let at_edge : x ≡ edge = omega arith in rw at_edge (sym row);
+    })
 
 -- each step adds at most one range, and then leaves fewer edges
 pub few_on : (ranges ranges' : List MapRange) (last last' : MapRange) (edge : ℕ) (areas : List Area)
     (before after : ℕ) →
     ContinuesAt ranges ranges' last last' edge areas → after ≤ before → (areas ≢ last.areas → after < before) →
     length ranges + before < most_ranges → length ranges' + after < most_ranges
-few_on ranges ranges' last last' edge areas before after (inl (here, is, last_is)) left fewer few =
-    omega (arith, ap (λ (xs : List MapRange). length xs) is)
+few_on ranges ranges' last last' edge areas before after (inl (here, is, last_is)) left fewer few = rw is (omega arith)
 few_on ranges ranges' last last' edge areas before after (inr (other, is, last_is)) left fewer few =
-    let long : length ranges' ≡ length ranges + 1 =
-    ap (λ (xs : List MapRange). length xs) is ∙ length-append ranges (range last.lo (edge - 1) last.areas ∷ []) in
-    omega (arith, fewer other)
+    rw (is, length-append ranges (range last.lo (edge - 1) last.areas ∷ [])) (omega (arith, fewer other))
 
 -- where no edge is left, they are the map
 pub built_all : (setup : Setup) (bytes : Bytes) (ranges : List MapRange) (last : MapRange) (addr : ℕ) →
@@ -151,3 +144,122 @@ built_all setup bytes ranges last addr built of_board same =
           (All-cons (IsRight setup bytes) last [] one (All-nil (IsRight setup bytes)));
       least = built.least;
     }
+
+-- ---- edges above an address
+
+-- where as many lie above the higher address as above the lower, none lies between them
+none_between : (low high : ℕ) (edges : List ℕ) → low ≤ high →
+    length (filter (nat_lt low) edges) ≤ length (filter (nat_lt high) edges) →
+    (edge : ℕ) → Contains edges edge → low < edge → high < edge
+none_between low high [] order as_many edge (k, within, is) above = absurd (omega arith)
+none_between low high (first ∷ later) order as_many edge has above =
+    let more = no_more low high later order in
+    let fewer : length (filter (nat_lt low) later) ≤ length (filter (nat_lt high) later) = grind (arith, nat_tests) in
+    elim (contains_cases first edge later has) [
+      | inl here ↦ grind (arith, nat_tests)
+      | inr there ↦ none_between low high later order fewer edge there above
+    ]
+
+pub edges_left : (setup : Setup) (bytes : Bytes) (addr next : ℕ) → addr ≤ next →
+    edges_after setup bytes next ≤ edges_after setup bytes addr
+edges_left setup bytes addr next order = no_more addr next (edges_of setup bytes) order
+
+-- other areas cost an edge
+pub fewer_left : (setup : Setup) (bytes : Bytes) (addr next : ℕ) → addr ≤ next → next < address_count →
+    six_areas setup bytes next ≢ six_areas setup bytes addr →
+    edges_after setup bytes next < edges_after setup bytes addr
+fewer_left setup bytes addr next order address other =
+    elim (cases_lt (edges_after setup bytes next) (edges_after setup bytes addr)) [
+      | inl fewer ↦ fewer
+      | inr as_many ↦
+          absurd (other (areas_change_at_edges setup bytes addr next order address
+          (λ edge there above. none_between addr next (edges_of setup bytes) order as_many edge there.listed above)))
+    ]
+
+-- ---- what holds of the ranges at each step
+
+-- every board that has these registers has these areas at an address
+abbrev pub AreasAt : MapBytes → ℕ → List Area → Type 0
+AreasAt regs addr areas = (setup : Setup) (bytes : Bytes) → StandsFor setup bytes regs →
+    areas ≡ six_areas setup bytes addr
+
+-- and the same areas from one address to below another
+abbrev pub StaySame : MapBytes → (addr end : ℕ) → Type 0
+StaySame regs addr end = (setup : Setup) (bytes : Bytes) → StandsFor setup bytes regs → SameAreas setup bytes addr end
+
+pub one_address : (regs : MapBytes) (addr end : ℕ) → end ≡ addr + 1 → StaySame regs addr end
+one_address regs addr end next setup bytes stands x low high = let one : x ≡ addr = omega arith in rw one refl
+
+pub is_built_first : {regs : MapBytes} (areas : List Area) → AreasAt regs 0 areas →
+    IsBuilt regs [] (range 0 0xFFFF_FFFF areas) 0
+is_built_first areas at_first = record {
+  built = built_first areas;
+  of_board = λ setup bytes stands. built_of_first setup bytes areas (at_first setup bytes stands);
+  few = λ board. omega (arith, few_edges_after board.setup board.bytes 0 board.cards);
+}
+
+pub built_step : {regs : MapBytes} {ranges ranges' : List MapRange} {last last' : MapRange} {addr next : ℕ}
+    (areas : List Area) → addr < next → next < address_count → StaySame regs addr next → AreasAt regs next areas →
+    ContinuesAt ranges ranges' last last' next areas → IsBuilt regs ranges last addr → IsBuilt regs ranges' last' next
+built_step {ranges = ranges} {ranges' = ranges'} {last = last} {last' = last'} {addr = addr} {next = next} areas above
+    address same at_next on is = record {
+      built = built_on areas is.built above (omega arith) on;
+      of_board = λ setup bytes stands.
+          built_of_on setup bytes areas is.built.begun above (same setup bytes stands) (at_next setup bytes stands) on
+          (is.of_board setup bytes stands);
+      few = λ board.
+          let here = (is.of_board board.setup board.bytes board.stands).so_far addr is.built.begun (omega arith) in
+          few_on ranges ranges' last last' next areas (edges_after board.setup board.bytes addr)
+          (edges_after board.setup board.bytes next) on (edges_left board.setup board.bytes addr next (omega arith))
+          (λ other. fewer_left board.setup board.bytes addr next (omega arith) address
+          (λ alike. other (at_next board.setup board.bytes board.stands ∙ alike ∙ here)))
+          (is.few board);
+    }
+
+-- they need no step where the areas stay the same
+pub built_over : {regs : MapBytes} {ranges : List MapRange} {last : MapRange} {addr hi : ℕ} → addr ≤ hi →
+    StaySame regs addr (hi + 1) → IsBuilt regs ranges last addr → IsBuilt regs ranges last hi
+built_over {last = last} {addr = addr} {hi = hi} order same is = record {
+  built = record {
+    tiles = is.built.tiles;
+    least = is.built.least;
+    begun = omega (arith, is.built.begun);
+    open_end = is.built.open_end;
+  };
+  of_board = λ setup bytes stands.
+      let of_board = is.of_board setup bytes stands in
+      record {
+        right = of_board.right;
+        so_far = λ x low high.
+            up_to_edge setup bytes last addr (hi + 1) is.built.begun (same setup bytes stands) of_board.so_far x low
+            (omega arith);
+      };
+  few = λ board. omega (arith, is.few board, edges_left board.setup board.bytes addr hi order);
+}
+
+pub same_at_each : (regs : MapBytes) (lo hi : ℕ) (areas : List Area) → lo ≤ hi →
+    ((x : ℕ) → lo ≤ x → x ≤ hi → AreasAt regs x areas) → StaySame regs lo (hi + 1)
+same_at_each regs lo hi areas order each setup bytes stands x low high =
+    sym (each x low (omega arith) setup bytes stands) ∙ each lo (omega arith) order setup bytes stands
+
+-- on through a range that begins after an address, up to another up to which it is right
+pub built_range : {regs : MapBytes} {ranges ranges' : List MapRange} {last last' : MapRange} {addr hi : ℕ} (lo : ℕ)
+    (areas : List Area) → lo ≡ addr + 1 → lo ≤ hi → hi < address_count →
+    ((x : ℕ) → lo ≤ x → x ≤ hi → AreasAt regs x areas) → ContinuesAt ranges ranges' last last' lo areas →
+    IsBuilt regs ranges last addr → IsBuilt regs ranges' last' hi
+built_range {regs} {addr = addr} {hi = hi} lo areas joined order address each on is =
+    built_over order (same_at_each regs lo hi areas order each)
+    (built_step areas (omega arith) (omega arith) (one_address regs addr lo joined) (each lo (omega arith) order) on is)
+
+-- ---- the ranges built up to the last address
+
+pub is_whole : {regs : MapBytes} (board : IsOfSomeBoard regs) (ranges : List Range) (last : Range) →
+    IsBuilt regs (map range_of ranges) (range_of last) 0xFFFF_FFFF → IsWhole regs (ranges ++ last ∷ [])
+is_whole {regs} board ranges last is = record {
+  tiles = rw (map_push range_of ranges last) is.built.tiles;
+  is_map = λ setup bytes stands.
+      rw (map_push range_of ranges last)
+      (built_all setup bytes (map range_of ranges) (range_of last) 0xFFFF_FFFF is.built (is.of_board setup bytes stands)
+      (one_address regs 0xFFFF_FFFF address_count refl setup bytes stands));
+  few = omega (arith, length_push ranges last, length-map ranges range_of, is.few board);
+}

@@ -1,17 +1,16 @@
 -- The windows that the registers of a card govern are those that the code finds by the values of its bases.
 use Rattle.std.proofs.Common.{◌≡◌, ◌≢◌, ℕ, zero, suc, ◌+◌, ◌/◌, ◌<◌, ◌≤◌, inl, inr, Bool, List, [], ◌∷◌, ◌++◌, length}
-use Rattle.std.proofs.Common.{map, filter, Option, Some, None, refl, ◌∙◌, ap, arith, ◌==◌, All, find, flat_map}
-use Rattle.std.proofs.Common.{slice_get, slice_index}
+use Rattle.std.proofs.Common.{map, filter, Option, Some, None, refl, arith, ◌==◌, All, find, flat_map, slice_get}
+use Rattle.std.proofs.Common.{slice_index}
 use Rattle.board_prelude.proofs.Common.{option_map_or, enumerate_from, cases_Bool, eq-eqb, ne_eqb, map-append, All-head}
-use Rattle.board_prelude.proofs.Common.{All-tail, Reg, Base, MemoryBase, IoBase, OutsideBase, FittedCard, Setup, IsCard}
-use Rattle.board_prelude.proofs.Common.{card_at, Bytes, Window, base_value, memory_window, rom_value, rom_window}
-use Rattle.board_prelude.proofs.Common.{rom_window_of, vga_window}
+use Rattle.board_prelude.proofs.Common.{All-tail, Reg, Base, IoBase, FittedCard, Setup, IsCard, card_at, Bytes, Window}
+use Rattle.board_prelude.proofs.Common.{base_value, memory_window, rom_window, rom_window_of, vga_window}
 use Rattle.pci_bars.specs.Cards.{CardBytes, HoldsRom, DecodesAs, AreCards, AreDecoded, cards_of}
 use Rattle.addr_decode.specs.declared.register.CardRegister.{CardRegister}
 use Rattle.addr_decode.specs.declared.register.CardRegister.TheVariants.{Command, Base as BaseByte, ExpansionRom}
 use Rattle.addr_decode.specs.MapRegister.{IsCardNumber, in_device, map_register}
-use Rattle.map_builder.specs.Common.{decoded, card_windows, name_windows, windows_of, block, held_by, held_from}
-use Rattle.map_builder.specs.Common.{rom_held, vga_held, card_held, device_held}
+use Rattle.map_builder.specs.Common.{decoded, card_windows, name_windows, windows_of, held_by, held_from, rom_held}
+use Rattle.map_builder.specs.Common.{vga_held, card_held, device_held}
 
 -- the windows of bases, the first of them base number `first`
 abbrev pub from_base : Bytes → (dev first : ℕ) → List Base → List Window
@@ -29,8 +28,7 @@ HoldRom bytes dev register rom = map decoded (rom_window_of bytes dev rom) ≡ r
 pub rom_is : (bytes : Bytes) (dev register : ℕ) (rom : Option ℕ) → HoldsRom bytes dev register rom →
     HoldRom bytes dev register rom
 rom_is bytes dev register None holds = refl
-rom_is bytes dev register (Some bits) holds =
-    let same : rom_value bytes dev ≡ register = holds.number in ap (λ inside. block inside bits ∷ []) same
+rom_is bytes dev register (Some bits) holds = rw holds.number refl
 
 -- ---- the command governs them all
 
@@ -38,11 +36,9 @@ all_held : (bytes : Bytes) (dev : ℕ) (values : List ℕ) (first : ℕ) (bases 
     first + length bases ≤ 6 →
     map decoded (from_base bytes dev first bases) ≡ held_from values first bases
 all_held bytes dev values first [] hold few = refl
-all_held bytes dev values first (MemoryBase bits ∷ later) hold few =
-    rw (hold first (omega arith), all_held bytes dev values (first + 1) later hold (omega arith)) refl
 all_held bytes dev values first (IoBase bits ∷ later) hold few =
     all_held bytes dev values (first + 1) later hold (omega arith)
-all_held bytes dev values first (OutsideBase bits ∷ later) hold few =
+all_held bytes dev values first (base ∷ later) hold few =
     rw (hold first (omega arith), all_held bytes dev values (first + 1) later hold (omega arith)) refl
 
 vga_is : (card : FittedCard) → map decoded (vga_window card) ≡ vga_held card.vga
@@ -56,10 +52,8 @@ numbered k window = window.base == k
 none_below : (bytes : Bytes) (dev k first : ℕ) (bases : List Base) → k < first →
     filter (numbered k) (from_base bytes dev first bases) ≡ []
 none_below bytes dev k first [] below = refl
-none_below bytes dev k first (MemoryBase bits ∷ later) below =
-    rw (ne_eqb first k (omega arith)) (none_below bytes dev k (first + 1) later (omega arith))
 none_below bytes dev k first (IoBase bits ∷ later) below = none_below bytes dev k (first + 1) later (omega arith)
-none_below bytes dev k first (OutsideBase bits ∷ later) below =
+none_below bytes dev k first (base ∷ later) below =
     rw (ne_eqb first k (omega arith)) (none_below bytes dev k (first + 1) later (omega arith))
 
 one_held : (bytes : Bytes) (dev : ℕ) (values : List ℕ) (k j first : ℕ) (bases : List Base) → Hold bytes dev values →
@@ -67,19 +61,14 @@ one_held : (bytes : Bytes) (dev : ℕ) (values : List ℕ) (k j first : ℕ) (ba
     map decoded (filter (numbered k) (from_base bytes dev first bases))
     ≡ option_map_or (λ base. held_by base (slice_index values k)) (slice_get bases j) []
 one_held bytes dev values k j first [] hold below at = refl
-one_held bytes dev values k zero first (MemoryBase bits ∷ later) hold below at =
-    let here : first ≡ k = omega arith in
-    rw (here, eq-eqb k k refl, none_below bytes dev k (k + 1) later (omega arith), hold k below) refl
 one_held bytes dev values k zero first (IoBase bits ∷ later) hold below at =
     rw (none_below bytes dev k (first + 1) later (omega arith)) refl
-one_held bytes dev values k zero first (OutsideBase bits ∷ later) hold below at =
+one_held bytes dev values k zero first (base ∷ later) hold below at =
     let here : first ≡ k = omega arith in
     rw (here, eq-eqb k k refl, none_below bytes dev k (k + 1) later (omega arith), hold k below) refl
-one_held bytes dev values k (suc j) first (MemoryBase bits ∷ later) hold below at =
-    rw (ne_eqb first k (omega arith)) (one_held bytes dev values k j (first + 1) later hold below (omega arith))
 one_held bytes dev values k (suc j) first (IoBase bits ∷ later) hold below at =
     one_held bytes dev values k j (first + 1) later hold below (omega arith)
-one_held bytes dev values k (suc j) first (OutsideBase bits ∷ later) hold below at =
+one_held bytes dev values k (suc j) first (base ∷ later) hold below at =
     rw (ne_eqb first k (omega arith)) (one_held bytes dev values k j (first + 1) later hold below (omega arith))
 
 -- ---- a card
@@ -89,11 +78,13 @@ pub card_is : (bytes : Bytes) (card : CardBytes) (register : CardRegister) → I
     Hold bytes card.card.dev card.bases → HoldRom bytes card.card.dev card.rom card.card.rom →
     card_windows bytes register card.card ≡ card_held register card
 card_is bytes card Command number few hold hold_rom =
+    let dev : ℕ = card.card.dev in
+    let bases : List Window = from_base bytes dev 0 card.card.bases in
+    let rom : List Window = rom_window bytes card.card in
     rw (
-      map-append decoded (from_base bytes card.card.dev 0 card.card.bases ++ rom_window bytes card.card)
-          (vga_window card.card),
-      map-append decoded (from_base bytes card.card.dev 0 card.card.bases) (rom_window bytes card.card),
-      all_held bytes card.card.dev card.bases 0 card.card.bases hold (omega arith),
+      map-append decoded (bases ++ rom) (vga_window card.card),
+      map-append decoded bases rom,
+      all_held bytes dev card.bases 0 card.card.bases hold (omega arith),
       hold_rom,
       vga_is card.card,
     ) refl
@@ -126,9 +117,7 @@ pub device_is : (setup : Setup) (bytes : Bytes) (cards : List CardBytes) (dev : 
     AreDecoded setup bytes cards →
     option_map_or (card_windows bytes register) (card_at setup dev) [] ≡ device_held dev register cards
 device_is setup bytes cards dev register number fit are =
-    ap (λ (fitted : List FittedCard). option_map_or (card_windows bytes register)
-    (find (λ card. card.dev == dev) fitted) []) are.0
-    ∙ cards_are setup bytes cards dev register number fit are.1
+    rw are.0 (cards_are setup bytes cards dev register number fit are.1)
 
 -- ---- a register of a card
 

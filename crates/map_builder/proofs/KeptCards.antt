@@ -1,14 +1,14 @@
 -- The card that answers at an address is the same before and after a change that moves no window round it.
-use Rattle.std.proofs.Common.{◌≡◌, ℕ, zero, suc, ◌+◌, ◌-◌, ◌*◌, ◌/◌, ◌<◌, ◌≤◌, ◌⊎◌, inl, inr, Bool, true, false, cond}
-use Rattle.std.proofs.Common.{List, [], ◌∷◌, ◌++◌, length, map, get_or, Option, Some, None, refl, sym, ◌∙◌, ap, subst}
-use Rattle.std.proofs.Common.{arith, ◌&&◌, All, find, flat_map, slice_get, if◌then◌else◌, is_some, option_map}
-use Rattle.std.proofs.Common.{option_and_then}
-use Rattle.board_prelude.proofs.Common.{and-true, option_map_or, AllByRecursion, cases_Bool, cases_lt, and-false}
-use Rattle.board_prelude.proofs.Common.{ne_eqb, nat_tests, recursion_from_All, map-append}
-use Rattle.board_prelude.proofs.Common.{find-append, Reg, Base, MemoryBase, IoBase, OutsideBase, FittedCard, Setup}
-use Rattle.board_prelude.proofs.Common.{IsCard, IsCardList, card_at, is_bit, is_within, Bytes, Window}
-use Rattle.board_prelude.proofs.Common.{base_value, is_covered, rom_value, rom_window, rom_window_of, is_rom_on}
+use Rattle.std.proofs.Common.{◌≡◌, ℕ, zero, suc, ◌+◌, ◌-◌, ◌*◌, ◌/◌, ◌<◌, ◌≤◌, ◌⊎◌, inl, inr, Bool, true, false, List}
+use Rattle.std.proofs.Common.{[], ◌∷◌, ◌++◌, length, map, get_or, Option, Some, None, refl, sym, ◌∙◌, ap, arith, ◌&&◌}
+use Rattle.std.proofs.Common.{All, find, flat_map, slice_get, if◌then◌else◌, is_some, option_map, lit<, rules}
+use Rattle.std.proofs.Common.{slice_index}
+use Rattle.board_prelude.proofs.Common.{and-true, AllByRecursion, cases_Bool, and-false, ne_eqb, nat_tests}
+use Rattle.board_prelude.proofs.Common.{recursion_from_All, find-append, Reg, Base, MemoryBase, IoBase, OutsideBase}
+use Rattle.board_prelude.proofs.Common.{FittedCard, Setup, IsCard, IsCardList, card_at, is_bit, is_within, Bytes}
+use Rattle.board_prelude.proofs.Common.{Window, base_value, is_covered, rom_value, rom_window, rom_window_of, is_rom_on}
 use Rattle.board_prelude.proofs.Common.{vga_window, memory_windows, is_enabled_for, memory_claim, card_register}
+use Rattle.board_prelude.proofs.Common.{each_below}
 use Rattle.std.proofs.lemmas.Option.{slice_get_within}
 use Rattle.pci_bars.specs.Cards.{CardBytes}
 use Rattle.addr_decode.specs.declared.register.CardRegister.{CardRegister}
@@ -17,14 +17,30 @@ use Rattle.addr_decode.specs.declared.register.MapRegister.TheVariants.{Card}
 use Rattle.addr_decode.specs.MapRegister.{IsCardNumber, in_card}
 use Rattle.addr_decode.proofs.CardLemmas.{find_at}
 use Rattle.map_builder.specs.Common.{decoded, base_windows, card_windows, name_windows, windows_of, held_by, card_held}
-use Rattle.map_builder.proofs.OutsideLemmas.{Outside, outside_left, outside_right, not_covered, none_covered}
+use Rattle.map_builder.proofs.OutsideLemmas.{Outside, not_covered, none_covered, outside_decoded}
 use Rattle.map_builder.proofs.DeviceLemmas.{from_base, Hold, HoldRom, card_is, windows_of_card}
+use borrow.Author.Count.{below_more}
+use Rattle.map_ranges.specs.declared.range.Changed.{Changed}
 
 -- a register keeps its byte, or an address lies outside the windows that it governs, by what the registers held before
 -- and hold after
 abbrev pub Kept : Setup → (bytes new : Bytes) → (addr : ℕ) → Reg → Type 0
 Kept setup bytes new addr reg =
     (new reg ≡ bytes reg) ⊎ (Outside addr (windows_of setup bytes reg) × Outside addr (windows_of setup new reg))
+
+-- of so many, each holds, or something else does
+pub each_or : (P : ℕ → Type 0) (Q : Type 0) (count : ℕ) → ((k : ℕ) → k < count → P k ⊎ Q) →
+    ((k : ℕ) → k < count → P k) ⊎ Q
+each_or P Q zero each = inl (λ k below. absurd (omega arith))
+each_or P Q (suc n) each =
+    elim (each_or P Q n (λ k below. each k (omega arith))) [
+      | inr other ↦ inr other
+      | inl before ↦
+          elim (each n (omega arith)) [
+            | inr other ↦ inr other
+            | inl here ↦ inl (λ k below. below_more P n before here k (omega arith))
+          ]
+    ]
 
 -- ---- what the bases of a card hold
 
@@ -35,13 +51,8 @@ values bytes dev =
 
 values_hold : (bytes : Bytes) (dev : ℕ) → Hold bytes dev (values bytes dev)
 unfolding values
-values_hold bytes dev zero below = refl
-values_hold bytes dev (suc zero) below = refl
-values_hold bytes dev (suc (suc zero)) below = refl
-values_hold bytes dev (suc (suc (suc zero))) below = refl
-values_hold bytes dev (suc (suc (suc (suc zero)))) below = refl
-values_hold bytes dev (suc (suc (suc (suc (suc zero))))) below = refl
-values_hold bytes dev (suc (suc (suc (suc (suc (suc k)))))) below = absurd (omega arith)
+values_hold bytes dev k below =
+    each_below (λ k. base_value bytes dev k ≡ slice_index (values bytes dev) k) 6 k (search rules) below
 
 state : Bytes → FittedCard → CardBytes
 state bytes card = record {
@@ -108,25 +119,19 @@ fitted setup list k d within =
 abbrev window : (dev k inside bits : ℕ) → Window
 window dev k inside bits = record { dev = dev; base = k; inside = inside; bits = bits }
 
--- ---- one step of the search
-
-step_same : (e e' c c' : Bool) (w w' r r' : Option Window) → e' ≡ e → c' ≡ c → w' ≡ w → r' ≡ r →
-    cond (e' && c') w' r' ≡ cond (e && c) w r
-step_same e e' c c' w w' r r' same_e same_c same_w same_r = rw (same_e, same_c, same_w, same_r) refl
-
-step_past : (e e' c c' : Bool) (w w' r r' : Option Window) → c ≡ false → c' ≡ false → r' ≡ r →
-    cond (e' && c') w' r' ≡ cond (e && c) w r
-step_past e e' c c' w w' r r' none none' same_r = rw (none, none', and-false e, and-false e') same_r
-
 module _ (setup : Setup) (bytes new : Bytes) (addr : ℕ)
     (kept : (dev off : ℕ) → 2 ≤ dev → Kept setup bytes new addr (card_register dev off)) where
   abbrev claims : Bytes → Window → Bool
   claims registers = λ window. is_enabled_for 1 registers window.dev && is_covered addr window
 
+  -- an address lies outside windows before and after
+  abbrev pub OutsideBoth : (Bytes → List Changed) → Type 0
+  OutsideBoth windows = Outside addr (windows bytes) × Outside addr (windows new)
+
   abbrev pub BaseKept : ℕ → ℕ → Base → Type 0
   BaseKept dev k base =
       (base_value new dev k ≡ base_value bytes dev k)
-      ⊎ (Outside addr (held_by base (base_value bytes dev k)) × Outside addr (held_by base (base_value new dev k)))
+      ⊎ OutsideBoth (λ registers. held_by base (base_value registers dev k))
 
   windows_at : (registers : Bytes) (card : FittedCard) (off : ℕ) (named : Option CardRegister) → IsFitted setup card →
       in_card off card ≡ named →
@@ -135,16 +140,13 @@ module _ (setup : Setup) (bytes new : Bytes) (addr : ℕ)
   windows_at registers card off named is name =
       windows_of_card setup registers (card_register card.dev off) (omega (arith, is.first)) (omega (arith, is.first))
       refl
-      ∙ ap (λ (at : Option FittedCard). name_windows setup registers
-      (option_map (Card card.dev) (option_and_then (in_card off) at))) is.at
-      ∙ ap (λ (found : Option CardRegister). name_windows setup registers (option_map (Card card.dev) found)) name
+      ∙ rw (is.at, name) refl
 
   windows_named : (registers : Bytes) (card : FittedCard) (off : ℕ) (register : CardRegister) → IsFitted setup card →
       in_card off card ≡ Some register →
       windows_of setup registers (card_register card.dev off) ≡ card_windows registers register card
   windows_named registers card off register is name =
-      windows_at registers card off (Some register) is name
-      ∙ ap (λ (at : Option FittedCard). option_map_or (card_windows registers register) at []) is.at
+      windows_at registers card off (Some register) is name ∙ rw is.at refl
 
   -- the four registers of the expansion ROM
   rom_governed : (registers : Bytes) (card : FittedCard) (off : ℕ) → IsFitted setup card → 0x30 ≤ off → off ≤ 0x33 →
@@ -152,13 +154,12 @@ module _ (setup : Setup) (bytes new : Bytes) (addr : ℕ)
   rom_governed registers card off is from to =
       elim (cases_Bool (is_some card.rom)) [
         | inl some ↦
-            windows_named registers card off (ExpansionRom (off - 0x30)) is
-            (let named : in_card off card ≡ Some (ExpansionRom (off - 0x30)) =
-            named_rom card off from to ∙ rw some refl in named)
+            let named : in_card off card ≡ Some (ExpansionRom (off - 0x30)) =
+            named_rom card off from to ∙ rw some refl in
+            windows_named registers card off (ExpansionRom (off - 0x30)) is named
         | inr none ↦
-            windows_at registers card off None is
-            (let named : in_card off card ≡ None = named_rom card off from to ∙ rw none refl in named)
-            ∙ sym (no_rom_window registers card.dev card.rom none)
+            let named : in_card off card ≡ None = named_rom card off from to ∙ rw none refl in
+            windows_at registers card off None is named ∙ sym (no_rom_window registers card.dev card.rom none)
       ]
 
   outside_base : (registers : Bytes) (card : FittedCard) (off k : ℕ) (base : Base) → IsFitted setup card →
@@ -166,74 +167,49 @@ module _ (setup : Setup) (bytes new : Bytes) (addr : ℕ)
       slice_get card.bases k ≡ Some base → Outside addr (windows_of setup registers (card_register card.dev off)) →
       Outside addr (held_by base (base_value registers card.dev k))
   outside_base registers card off k base is from to below at out =
-      subst (Outside addr)
-      (windows_named registers card off (BaseByte (off - 0x10)) is (named_base card off (omega arith) (omega arith))
-      ∙ state_is registers card (BaseByte (off - 0x10)) (omega arith) is.few
-      ∙ base_held registers card (off - 0x10) k base (omega arith) below at) out
-
-  base_moved : (card : FittedCard) (off k : ℕ) (base : Base) → IsFitted setup card → 0x10 + 4 * k ≤ off →
-      off ≤ 0x13 + 4 * k → k < 6 →
-      slice_get card.bases k ≡ Some base →
-      (new (card_register card.dev off) ≡ bytes (card_register card.dev off)) ⊎ BaseKept card.dev k base
-  base_moved card off k base is from to below at =
-      elim (kept card.dev off is.first) [
-        | inl same ↦ inl same
-        | inr out ↦ inr (inr (
-          outside_base bytes card off k base is from to below at out.0,
-          outside_base new card off k base is from to below at out.1,
-        ))
-      ]
+      rw (
+        windows_named registers card off (BaseByte (off - 0x10)) is (named_base card off (omega arith) (omega arith)),
+        state_is registers card (BaseByte (off - 0x10)) (omega arith) is.few,
+        base_held registers card (off - 0x10) k base (omega arith) below at,
+      ) at out
 
   base_kept : (card : FittedCard) (k : ℕ) (base : Base) → IsFitted setup card → k < 6 →
       slice_get card.bases k ≡ Some base → BaseKept card.dev k base
   base_kept card k base is below at =
-      elim (base_moved card (0x10 + 4 * k) k base is (omega arith) (omega arith) below at) [
-        | inr moved ↦ moved
-        | inl b0 ↦
-            elim (base_moved card (0x10 + 4 * k + 1) k base is (omega arith) (omega arith) below at) [
-              | inr moved ↦ moved
-              | inl b1 ↦
-                  elim (base_moved card (0x10 + 4 * k + 2) k base is (omega arith) (omega arith) below at) [
-                    | inr moved ↦ moved
-                    | inl b2 ↦
-                        elim (base_moved card (0x10 + 4 * k + 3) k base is (omega arith) (omega arith) below at) [
-                          | inr moved ↦ moved
-                          | inl b3 ↦ inl (rw (b0, b1, b2, b3) refl)
-                        ]
-                  ]
-            ]
+      let register : ℕ → Reg = λ j. card_register card.dev (0x10 + 4 * k + j) in
+      let first : 0x10 + 4 * k + 0 ≡ 0x10 + 4 * k = omega arith in
+      elim (each_or (λ j. new (register j) ≡ bytes (register j)) (OutsideBoth (λ it. held_by base
+      (base_value it card.dev k))) 4
+      (λ j few.
+      elim (kept card.dev (0x10 + 4 * k + j) is.first) [
+        | inl same ↦ inl same
+        | inr out ↦ inr (
+          outside_base bytes card _ k base is (omega arith) (omega arith) below at out.0,
+          outside_base new card _ k base is (omega arith) (omega arith) below at out.1,
+        )
+      ])) [
+        | inr out ↦ inr out
+        | inl same ↦
+            let b0 = rw first at (same 0 (lit< tt)) in
+            inl (rw (b0, same 1 (lit< tt), same 2 (lit< tt), same 3 (lit< tt)) refl)
       ]
 
   -- a base in memory and those after it
   base_then : (dev first bits : ℕ) (later : List Base) → is_enabled_for 1 new dev ≡ is_enabled_for 1 bytes dev →
       (base_value new dev first ≡ base_value bytes dev first)
-      ⊎ (Outside addr (held_by (MemoryBase bits) (base_value bytes dev first))
-      × Outside addr (held_by (MemoryBase bits) (base_value new dev first))) →
+      ⊎ OutsideBoth (λ it. held_by (MemoryBase bits) (base_value it dev first)) →
       find (claims new) (from_base new dev (first + 1) later)
       ≡ find (claims bytes) (from_base bytes dev (first + 1) later) →
       find (claims new) (window dev first (base_value new dev first) bits ∷ from_base new dev (first + 1) later)
       ≡ find (claims bytes) (window dev first (base_value bytes dev first) bits ∷ from_base bytes dev (first + 1) later)
-  base_then dev first bits later enabled here rest =
-      let old : Option Window = find (claims bytes) (from_base bytes dev (first + 1) later) in
-      let next : Option Window = find (claims new) (from_base new dev (first + 1) later) in
-      elim here [
-        | inl same ↦
-            step_same (is_enabled_for 1 bytes dev) (is_enabled_for 1 new dev)
-            (is_covered addr (window dev first (base_value bytes dev first) bits))
-            (is_covered addr (window dev first (base_value new dev first) bits))
-            (Some (window dev first (base_value bytes dev first) bits))
-            (Some (window dev first (base_value new dev first) bits)) old next
-            enabled (ap (λ v. is_covered addr (window dev first v bits)) same)
-            (ap (λ v. Some (window dev first v bits)) same) rest
-        | inr out ↦
-            step_past (is_enabled_for 1 bytes dev) (is_enabled_for 1 new dev)
-            (is_covered addr (window dev first (base_value bytes dev first) bits))
-            (is_covered addr (window dev first (base_value new dev first) bits))
-            (Some (window dev first (base_value bytes dev first) bits))
-            (Some (window dev first (base_value new dev first) bits)) old next
-            (not_covered addr (window dev first (base_value bytes dev first) bits) out.0.0)
-            (not_covered addr (window dev first (base_value new dev first) bits) out.1.0) rest
-      ]
+  base_then dev first bits later enabled (inl same) rest = rw (same, enabled, rest) refl
+  base_then dev first bits later enabled (inr out) rest =
+      rw (
+        not_covered addr (window dev first (base_value bytes dev first) bits) out.0.0,
+        not_covered addr (window dev first (base_value new dev first) bits) out.1.0,
+        and-false (is_enabled_for 1 bytes dev),
+        and-false (is_enabled_for 1 new dev),
+      ) rest
 
   base_same : (dev first : ℕ) (base : Base) (later : List Base) →
       is_enabled_for 1 new dev ≡ is_enabled_for 1 bytes dev →
@@ -251,45 +227,26 @@ module _ (setup : Setup) (bytes new : Bytes) (addr : ℕ)
       find (claims new) (from_base new dev first bases) ≡ find (claims bytes) (from_base bytes dev first bases)
   bases_same dev first [] enabled each = refl
   bases_same dev first (base ∷ later) enabled each =
-      let here : BaseKept dev first base =
-      let place : first + 0 ≡ first = omega arith in subst (λ (k : ℕ). BaseKept dev k base) place (each 0 base refl) in
-      base_same dev first base later enabled here
+      let here : first + 0 ≡ first = omega arith in
+      base_same dev first base later enabled (rw here at (each 0 base refl))
       (bases_same dev (first + 1) later enabled
-      (λ j other at. let place : first + suc j ≡ first + 1 + j = omega arith in
-      subst (λ (k : ℕ). BaseKept dev k other) place (each (suc j) other at)))
+      (λ j other at. let place : first + suc j ≡ first + 1 + j = omega arith in rw place at (each (suc j) other at)))
 
   -- the registers of the expansion ROM are the same, or the address lies outside it
-  abbrev pub RomKept : FittedCard → Type 0
-  RomKept card =
+  rom_kept : (card : FittedCard) → IsFitted setup card →
       ((j : ℕ) → j < 4 → new (card_register card.dev (0x30 + j)) ≡ bytes (card_register card.dev (0x30 + j)))
-      ⊎ (Outside addr (map decoded (rom_window bytes card)) × Outside addr (map decoded (rom_window new card)))
-
-  rom_kept_below : (card : FittedCard) → IsFitted setup card → (n : ℕ) → n ≤ 4 →
-      ((j : ℕ) → j < n → new (card_register card.dev (0x30 + j)) ≡ bytes (card_register card.dev (0x30 + j)))
-      ⊎ (Outside addr (map decoded (rom_window bytes card)) × Outside addr (map decoded (rom_window new card)))
-  rom_kept_below card is zero few = inl (λ j below. absurd (omega arith))
-  rom_kept_below card is (suc n) few =
-      elim (rom_kept_below card is n (omega arith)) [
-        | inr out ↦ inr out
-        | inl before ↦
-            elim (kept card.dev (0x30 + n) is.first) [
-              | inr out ↦ inr (
-                subst (Outside addr) (rom_governed bytes card (0x30 + n) is (omega arith) (omega arith)) out.0,
-                subst (Outside addr) (rom_governed new card (0x30 + n) is (omega arith) (omega arith)) out.1,
-              )
-              | inl here ↦ inl (λ j below.
-                  elim (cases_lt j n) [
-                    | inl less ↦ before j less
-                    | inr not_less ↦
-                        let at : n ≡ j = omega arith in
-                        subst (λ (k : ℕ). new (card_register card.dev (0x30 + k))
-                        ≡ bytes (card_register card.dev (0x30 + k))) at here
-                  ])
-            ]
-      ]
-
-  rom_kept : (card : FittedCard) → IsFitted setup card → RomKept card
-  rom_kept card is = rom_kept_below card is 4 (omega arith)
+      ⊎ OutsideBoth (λ it. map decoded (rom_window it card))
+  rom_kept card is =
+      each_or (λ j. new (card_register card.dev (0x30 + j)) ≡ bytes (card_register card.dev (0x30 + j)))
+      (OutsideBoth (λ it. map decoded (rom_window it card))) 4
+      (λ j few.
+      elim (kept card.dev (0x30 + j) is.first) [
+        | inl same ↦ inl same
+        | inr out ↦ inr (
+          rw (rom_governed bytes card (0x30 + j) is (omega arith) (omega arith)) at out.0,
+          rw (rom_governed new card (0x30 + j) is (omega arith) (omega arith)) at out.1,
+        )
+      ])
 
   -- an address outside the expansion ROM is not answered by it
   rom_outside : (registers : Bytes) (card : FittedCard) → Outside addr (map decoded (rom_window registers card)) →
@@ -304,21 +261,14 @@ module _ (setup : Setup) (bytes new : Bytes) (addr : ℕ)
   rom_alike : (dev : ℕ) (rom : Option ℕ) → is_enabled_for 1 new dev ≡ is_enabled_for 1 bytes dev →
       find (claims new) (rom_window_of bytes dev rom) ≡ find (claims bytes) (rom_window_of bytes dev rom)
   rom_alike dev None enabled = refl
-  rom_alike dev (Some bits) enabled =
-      step_same (is_enabled_for 1 bytes dev) (is_enabled_for 1 new dev)
-      (is_covered addr (window dev 6 (rom_value bytes dev) bits))
-      (is_covered addr (window dev 6 (rom_value bytes dev) bits))
-      (Some (window dev 6 (rom_value bytes dev) bits)) (Some (window dev 6 (rom_value bytes dev) bits)) None None
-      enabled refl refl refl
+  rom_alike dev (Some bits) enabled = rw enabled refl
 
   rom_windows : (dev : ℕ) (rom : Option ℕ) →
       ((j : ℕ) → j < 4 → new (card_register dev (0x30 + j)) ≡ bytes (card_register dev (0x30 + j))) →
       rom_window_of new dev rom ≡ rom_window_of bytes dev rom
   rom_windows dev None same = refl
   rom_windows dev (Some bits) same =
-      let value : rom_value new dev ≡ rom_value bytes dev =
-      rw (same 0 (omega arith), same 1 (omega arith), same 2 (omega arith), same 3 (omega arith)) refl in
-      ap (λ inside. window dev 6 inside bits ∷ []) value
+      rw (same 0 (lit< tt), same 1 (lit< tt), same 2 (lit< tt), same 3 (lit< tt)) refl
 
   rom_same : (card : FittedCard) → IsFitted setup card →
       is_enabled_for 1 new card.dev ≡ is_enabled_for 1 bytes card.dev →
@@ -327,29 +277,18 @@ module _ (setup : Setup) (bytes new : Bytes) (addr : ℕ)
       elim (rom_kept card is) [
         | inr out ↦ rom_outside new card out.1 ∙ sym (rom_outside bytes card out.0)
         | inl same ↦
-            let selected : is_rom_on new card.dev ≡ is_rom_on bytes card.dev =
-            ap (λ register. is_bit register 0) (same 0 (omega arith)) in
-            let windows : rom_part new card ≡ rom_part bytes card =
-            rw (selected, rom_windows card.dev card.rom same) refl in
-            ap (λ (found : List Window). find (claims new) found) windows
-            ∙ elim (cases_Bool (is_rom_on bytes card.dev)) [
-              | inl selected ↦ rw selected (rom_alike card.dev card.rom enabled)
-              | inr unselected ↦ rw unselected refl
-            ]
+            let windows = rom_windows card.dev card.rom same in
+            rw (same 0 (lit< tt), windows)
+            (elim (cases_Bool (is_rom_on bytes card.dev)) [
+              | inl on ↦ rw on (rom_alike card.dev card.rom enabled)
+              | inr off ↦ rw off refl
+            ])
       ]
 
   vga_same : (card : FittedCard) → is_enabled_for 1 new card.dev ≡ is_enabled_for 1 bytes card.dev →
       find (claims new) (vga_window card) ≡ find (claims bytes) (vga_window card)
   vga_same card enabled =
-      elim (cases_Bool card.vga) [
-        | inr plain ↦ rw plain refl
-        | inl vga ↦
-            rw vga
-            (step_same (is_enabled_for 1 bytes card.dev) (is_enabled_for 1 new card.dev)
-            (is_covered addr (window card.dev 7 0xA_0000 17)) (is_covered addr (window card.dev 7 0xA_0000 17))
-            (Some (window card.dev 7 0xA_0000 17)) (Some (window card.dev 7 0xA_0000 17)) None None enabled refl refl
-            refl)
-      ]
+      elim (cases_Bool card.vga) [ inr plain ↦ rw plain refl | inl vga ↦ rw (vga, enabled) refl ]
 
   -- the windows of a card of which its command is none
   command_outside : (registers : Bytes) (card : FittedCard) → IsFitted setup card →
@@ -359,20 +298,15 @@ module _ (setup : Setup) (bytes new : Bytes) (addr : ℕ)
       let counts : ℕ → Bool = λ dev. is_enabled_for 1 registers dev in
       let bases : List Window = base_windows registers card in
       let rom : List Window = rom_window registers card in
-      let vga : List Window = vga_window card in
-      let all : Outside addr (map decoded (bases ++ rom ++ vga)) =
-      subst (Outside addr) (windows_named registers card 0x04 Command is refl) out in
-      let parts : Outside addr (map decoded (bases ++ rom) ++ map decoded vga) =
-      subst (Outside addr) (map-append decoded (bases ++ rom) vga) all in
-      let first : Outside addr (map decoded bases ++ map decoded rom) =
-      subst (Outside addr) (map-append decoded bases rom)
-      (outside_left addr (map decoded (bases ++ rom)) (map decoded vga) parts) in
+      let all = rw (windows_named registers card 0x04 Command is refl) at out in
+      let parts = outside_decoded addr (bases ++ rom) (vga_window card) all in
+      let first = outside_decoded addr bases rom parts.0 in
       rw (
-        find-append (claims registers) (bases ++ rom_part registers card) vga,
+        find-append (claims registers) (bases ++ rom_part registers card) (vga_window card),
         find-append (claims registers) bases (rom_part registers card),
-        none_covered addr bases counts (outside_left addr (map decoded bases) (map decoded rom) first),
-        rom_outside registers card (outside_right addr (map decoded bases) (map decoded rom) first),
-        none_covered addr vga counts (outside_right addr (map decoded (bases ++ rom)) (map decoded vga) parts),
+        none_covered addr bases counts first.0,
+        rom_outside registers card first.1,
+        none_covered addr (vga_window card) counts parts.1,
       ) refl
 
   card_same : (card : FittedCard) → IsFitted setup card →
@@ -383,23 +317,11 @@ module _ (setup : Setup) (bytes new : Bytes) (addr : ℕ)
         | inl same ↦
             let enabled : is_enabled_for 1 new card.dev ≡ is_enabled_for 1 bytes card.dev =
             ap (λ command. is_bit command 1) same in
-            let bases : find (claims new) (from_base new card.dev 0 card.bases)
-            ≡ find (claims bytes) (from_base bytes card.dev 0 card.bases) =
-            bases_same card.dev 0 card.bases enabled
+            let bases = bases_same card.dev 0 card.bases enabled
             (λ j base at.
             let place : j ≡ 0 + j = omega arith in
-            subst (λ (k : ℕ). BaseKept card.dev k base) place
-            (base_kept card j base is (omega (arith, slice_get_within card.bases j base at, is.few)) at)) in
-            rw (
-              find-append (claims new) (from_base new card.dev 0 card.bases ++ rom_part new card) (vga_window card),
-              find-append (claims new) (from_base new card.dev 0 card.bases) (rom_part new card),
-              find-append (claims bytes) (from_base bytes card.dev 0 card.bases ++ rom_part bytes card)
-                  (vga_window card),
-              find-append (claims bytes) (from_base bytes card.dev 0 card.bases) (rom_part bytes card),
-              bases,
-              rom_same card is enabled,
-              vga_same card enabled,
-            ) refl
+            rw place at (base_kept card j base is (omega (arith, slice_get_within card.bases j base at, is.few)) at)) in
+            simp find-append (rw (bases, rom_same card is enabled, vga_same card enabled) refl)
       ]
 
   cards_same : (cards : List FittedCard) → AllByRecursion (IsFitted setup) cards →

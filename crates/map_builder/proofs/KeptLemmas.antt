@@ -1,16 +1,17 @@
 -- The areas of an address are the same before and after a change that moves nothing round it.
-use Rattle.std.proofs.Common.{◌≡◌, ℕ, zero, suc, ◌+◌, ◌-◌, ◌*◌, ◌/◌, ◌<◌, ◌≤◌, ◌⊎◌, inl, inr, Bool, true, false, []}
-use Rattle.std.proofs.Common.{◌∷◌, None, refl, sym, ◌∙◌, ap, subst, arith, lit<, ◌==◌, ◌&&◌, ◌||◌, nat_le, nat_lt}
-use Rattle.std.proofs.Common.{if◌then◌else◌}
-use Rattle.board_prelude.proofs.Common.{cases_Bool, cases_lt, ne_eqb, nat_tests, Kind, Fetch, Read, Write, Reg, Setup}
-use Rattle.board_prelude.proofs.Common.{IsCardList, is_bit, is_within, Bytes, boundary, top_of, row_of, is_in, hole_of}
-use Rattle.board_prelude.proofs.Common.{is_high_window, nibble, is_open, is_shadow_range, is_shadowed, is_smram_range}
-use Rattle.board_prelude.proofs.Common.{is_rom_selected, pam_register, area_of, bridge, isa, card_register, six_areas}
-use Rattle.board_prelude.proofs.Common.{or-false, and-false}
+use Rattle.std.proofs.Common.{◌≡◌, ℕ, ◌+◌, ◌-◌, ◌/◌, ◌<◌, ◌≤◌, ◌⊎◌, inl, inr, Bool, true, false, [], ◌∷◌, None, refl}
+use Rattle.std.proofs.Common.{sym, ◌∙◌, ap, arith, ◌==◌, ◌&&◌, ◌||◌, nat_le, nat_lt, if◌then◌else◌, find, List, zero}
+use Rattle.std.proofs.Common.{suc, map, slice_index, rules}
+use Rattle.board_prelude.proofs.Common.{cases_Bool, ne_eqb, nat_tests, Kind, Fetch, Read, Write, Reg, Setup, IsCardList}
+use Rattle.board_prelude.proofs.Common.{is_bit, is_within, Bytes, top_of, row_of, is_in, hole_of, is_high_window}
+use Rattle.board_prelude.proofs.Common.{nibble, is_open, is_shadow_range, is_shadowed, is_smram_range, is_rom_selected}
+use Rattle.board_prelude.proofs.Common.{pam_register, area_of, bridge, isa, card_register, six_areas, or-false}
+use Rattle.board_prelude.proofs.Common.{and-false, each_below}
 use Rattle.addr_decode.specs.MapRegister.{map_register}
 use Rattle.map_builder.specs.Changed.{from_to, pam_windows, windows_of, IsOutside}
 use Rattle.map_builder.proofs.OutsideLemmas.{Outside}
-use Rattle.map_builder.proofs.KeptCards.{Kept, claim_same}
+use Rattle.map_builder.proofs.KeptCards.{Kept, claim_same, each_or}
+use Rattle.map_builder.specs.Common.{is_below}
 
 outside_range : (addr lo hi : ℕ) → IsOutside addr (from_to lo hi) → is_within lo hi addr ≡ false
 outside_range addr lo hi (inl below) = grind (arith, nat_tests)
@@ -22,14 +23,9 @@ in_no_hole : (fdhc addr : ℕ) → IsOutside addr (from_to 0x8_0000 0x9_FFFF) �
     IsOutside addr (from_to 0xF0_0000 0xFF_FFFF) →
     is_in (hole_of fdhc) addr ≡ false
 in_no_hole fdhc addr low high =
-    elim (cases_Bool (fdhc / 0x40 == 1)) [
-      | inl first ↦ rw first (outside_range addr 0x8_0000 0x9_FFFF low)
-      | inr not_first ↦
-          elim (cases_Bool (fdhc / 0x40 == 2)) [
-            | inl second ↦ rw (not_first, second) (outside_range addr 0xF0_0000 0xFF_FFFF high)
-            | inr not_second ↦ rw (not_first, not_second) refl
-          ]
-    ]
+    let first = outside_range addr 0x8_0000 0x9_FFFF low in
+    let second = outside_range addr 0xF0_0000 0xFF_FFFF high in
+    grind (arith, nat_tests)
 
 always_rom : ℕ → Bool
 always_rom addr = is_within 0xF_0000 0xF_FFFF addr || is_within 0xFFFF_0000 0xFFFF_FFFF addr
@@ -39,19 +35,12 @@ rom_outside : (xbcs addr : ℕ) → IsOutside addr (from_to 0xE_0000 0xE_FFFF) �
     is_rom_selected xbcs addr ≡ always_rom addr
 unfolding always_rom
 rom_outside xbcs addr low high =
+    let outside : is_within 0xE_0000 0xE_FFFF addr ≡ false = outside_range addr 0xE_0000 0xE_FFFF low in
     let last : is_within 0xFFFE_0000 0xFFFE_FFFF addr ≡ false =
     outside_range addr 0xFFFE_0000 0xFFFE_FFFF (elim high [ inl below ↦ inl (omega arith) | inr above ↦ inr above ]) in
     let rest : is_within 0xFFF8_0000 0xFFFD_FFFF addr ≡ false =
     outside_range addr 0xFFF8_0000 0xFFFD_FFFF (elim high [ inl below ↦ inl below | inr above ↦ inr (omega arith) ]) in
-    rw (
-      outside_range addr 0xE_0000 0xE_FFFF low,
-      last,
-      rest,
-      and-false (is_bit xbcs 6),
-      and-false (is_bit xbcs 7),
-      or-false (is_within 0xF_0000 0xF_FFFF addr || is_within 0xFFFF_0000 0xFFFF_FFFF addr),
-      or-false (is_within 0xF_0000 0xF_FFFF addr || is_within 0xFFFF_0000 0xFFFF_FFFF addr),
-    ) refl
+    rw (outside, last, rest, and-false (is_bit xbcs 6), and-false (is_bit xbcs 7)) (simp or-false)
 
 -- ---- the windows of PAM
 
@@ -71,9 +60,7 @@ pam_window setup bytes off from to = let within : is_within 0x59 0x5F off ≡ tr
 pam_window_low : (number addr : ℕ) → number ≡ 1 + (addr - 0xC_0000) / 0x8000 → 0xC_0000 ≤ addr → addr < 0xF_0000 →
     Outside addr (pam_windows number ∷ []) → ⊥
 pam_window_low number addr is above below out =
-    let other : (number == 0) ≡ false = ne_eqb number 0 (omega arith) in
-    let here : Outside addr (from_to (0xC_0000 + 0x8000 * (number - 1)) (0xC_7FFF + 0x8000 * (number - 1)) ∷ []) =
-    rw other at out in
+    let here = rw (ne_eqb number 0 (omega arith)) at out in
     elim here.0 [ inl lower ↦ omega arith | inr higher ↦ omega arith ]
 
 in_pam_window : (setup : Setup) (bytes : Bytes) (addr : ℕ) → is_shadow_range addr ≡ true →
@@ -85,16 +72,13 @@ in_pam_window setup bytes addr shadow out =
     elim (cases_Bool (nat_le 0xF_0000 addr)) [
       | inl high ↦
           let from : 0xF_0000 ≤ addr = grind (arith, nat_tests) in
-          let there : Outside addr (windows_of setup bytes (bridge 0x59)) = rw high at out in
-          let here : Outside addr (pam_windows 0 ∷ []) =
-          subst (Outside addr) (pam_window setup bytes 0x59 (omega arith) (omega arith)) there in
+          let here = rw (high, pam_window setup bytes 0x59 (omega arith) (omega arith)) at out in
           elim here.0 [ inl lower ↦ omega arith | inr higher ↦ omega arith ]
       | inr low ↦
           let from : addr < 0xF_0000 = grind (arith, nat_tests) in
           let off : ℕ = 0x5A + (addr - 0xC_0000) / 0x8000 in
-          let there : Outside addr (windows_of setup bytes (bridge off)) = rw low at out in
           pam_window_low (off - 0x59) addr (omega arith) above from
-          (subst (Outside addr) (pam_window setup bytes off (omega arith) (omega arith)) there)
+          (rw (low, pam_window setup bytes off (omega arith) (omega arith)) at out)
     ]
 
 -- ---- rows of DRAM
@@ -111,50 +95,45 @@ no_row : (bytes : Bytes) (addr : ℕ) → top_of bytes ≤ 0x7F80_0000 → 0x7F8
 unfolding row_of
 no_row bytes addr top high = let past : nat_lt addr (top_of bytes) ≡ false = grind (arith, nat_tests) in rw past refl
 
+-- so many rows, from one on
+abbrev pub rows_from : (first count : ℕ) → List ℕ
+rows_from first zero = []
+rows_from first (suc count) = first ∷ rows_from (first + 1) count
+
+-- the row of an address by the boundaries that are kept
+pub row_by : (bytes : Bytes) (kept : List ℕ) (addr : ℕ) →
+    ((row : ℕ) → row < 8 → slice_index kept row ≡ bytes (bridge (0x60 + row))) →
+    row_of bytes addr ≡ (if is_below kept addr 7 then find (is_below kept addr) (rows_from 0 8) else None)
+unfolding row_of
+row_by bytes kept addr are = grind (arith, are)
+
+-- where each boundary stays, so does the row of an address
+pub row_stays : (bytes new : Bytes) (addr : ℕ) →
+    ((row : ℕ) → row < 8 → new (bridge (0x60 + row)) ≡ bytes (bridge (0x60 + row))) →
+    row_of new addr ≡ row_of bytes addr
+row_stays bytes new addr same =
+    let kept : List ℕ = map (λ row. bytes (bridge (0x60 + row))) (rows_from 0 8) in
+    let are : (row : ℕ) → row < 8 → slice_index kept row ≡ bytes (bridge (0x60 + row)) =
+    λ row below. each_below (λ row. slice_index kept row ≡ bytes (bridge (0x60 + row))) 8 row (search rules) below in
+    row_by new kept addr (λ row below. are row below ∙ sym (same row below)) ∙ sym (row_by bytes kept addr are)
+
 module _ (setup : Setup) (bytes new : Bytes) (addr : ℕ) (kept : (reg : Reg) → Kept setup bytes new addr reg) where
-  row_kept : (row : ℕ) → row < 8 → (boundary new row ≡ boundary bytes row) ⊎ (0x7F80_0000 ≤ addr)
+  row_kept : (row : ℕ) → row < 8 →
+      (new (bridge (0x60 + row)) ≡ bytes (bridge (0x60 + row))) ⊎ (0x7F80_0000 ≤ addr)
   row_kept row below =
       elim (kept (bridge (0x60 + row))) [
-        | inl same ↦ inl (ap (λ byte. byte * 0x80_0000) same)
+        | inl same ↦ inl same
         | inr out ↦
-            let here : Outside addr (from_to 0 0x7F7F_FFFF ∷ []) =
-            subst (Outside addr) (row_window setup bytes row below) out.0 in
+            let here = rw (row_window setup bytes row below) at out.0 in
             elim here.0 [ inl lower ↦ absurd (omega arith) | inr higher ↦ inr (omega arith) ]
       ]
 
-  rows_kept : (n : ℕ) → n ≤ 8 → ((row : ℕ) → row < n → boundary new row ≡ boundary bytes row) ⊎ (0x7F80_0000 ≤ addr)
-  rows_kept zero few = inl (λ row below. absurd (omega arith))
-  rows_kept (suc n) few =
-      elim (rows_kept n (omega arith)) [
-        | inr high ↦ inr high
-        | inl before ↦
-            elim (row_kept n (omega arith)) [
-              | inr high ↦ inr high
-              | inl here ↦ inl (λ row below.
-                  elim (cases_lt row n) [
-                    | inl less ↦ before row less
-                    | inr not_less ↦ let at : row ≡ n = omega arith in
-                        subst (λ (k : ℕ). boundary new k ≡ boundary bytes k) (sym at) here
-                  ])
-            ]
-      ]
-
   pub row_same : top_of bytes ≤ 0x7F80_0000 → top_of new ≤ 0x7F80_0000 → row_of new addr ≡ row_of bytes addr
-  unfolding row_of
   row_same top top' =
-      elim (rows_kept 8 (omega arith)) [
+      elim (each_or (λ row. new (bridge (0x60 + row)) ≡ bytes (bridge (0x60 + row))) (0x7F80_0000 ≤ addr) 8
+      row_kept) [
         | inr high ↦ no_row new addr top' high ∙ sym (no_row bytes addr top high)
-        | inl same ↦
-            rw (
-              same 0 (lit< tt),
-              same 1 (lit< tt),
-              same 2 (lit< tt),
-              same 3 (lit< tt),
-              same 4 (lit< tt),
-              same 5 (lit< tt),
-              same 6 (lit< tt),
-              same 7 (lit< tt),
-            ) refl
+        | inl same ↦ row_stays bytes new addr same
       ]
 
 -- a register is the boundary of a row
@@ -168,13 +147,7 @@ not_of_pam : (addr : ℕ) → is_shadow_range addr ≡ true → is_boundary (bri
 unfolding pam_offset
 not_of_pam addr shadow =
     let below : addr ≤ 0xF_FFFF = grind (arith, nat_tests) in
-    elim (cases_Bool (nat_le 0xF_0000 addr)) [
-      | inl high ↦ rw high refl
-      | inr low ↦
-          let under : addr < 0xF_0000 = grind (arith, nat_tests) in
-          rw low (let not : is_within 0x60 0x67 (0x5A + (addr - 0xC_0000) / 0x8000) ≡ false =
-          grind (arith, nat_tests) in not)
-    ]
+    elim (cases_Bool (nat_le 0xF_0000 addr)) [ inl high ↦ rw high refl | inr low ↦ rw low (grind (arith, nat_tests)) ]
 
 -- where the row of an address stays, and every other register is kept
 module _ (setup : Setup) (bytes new : Bytes) (addr : ℕ) (kept : (reg : Reg) → is_boundary reg ≡ false →
@@ -213,8 +186,7 @@ module _ (setup : Setup) (bytes new : Bytes) (addr : ℕ) (kept : (reg : Reg) �
         | inl within ↦
             elim (kept (bridge (pam_offset addr)) (not_of_pam addr within)) [
               | inl same ↦
-                  let here : new (pam_register addr) ≡ bytes (pam_register addr) =
-                  subst (λ (reg : Reg). new reg ≡ bytes reg) (pam_is addr) same in
+                  let here = rw (pam_is addr) at same in
                   rw within (ap (λ pam. is_open (nibble pam (is_high_window addr)) kind) here)
               | inr out ↦ absurd (in_pam_window setup bytes addr within out.0)
             ]
@@ -227,23 +199,10 @@ module _ (setup : Setup) (bytes new : Bytes) (addr : ℕ) (kept : (reg : Reg) �
     area_same : (kind : Kind) (smm : Bool) → area_of setup new addr kind smm ≡ area_of setup bytes addr kind smm
     unfolding area_of
     area_same kind smm =
+        let claim = claim_same setup bytes new addr card_kept list in
         elim smram_same [
-          | inl same ↦ rw (
-            row_same,
-            same,
-            shadow_same kind,
-            hole_same,
-            rom_same,
-            claim_same setup bytes new addr card_kept list,
-          ) refl
-          | inr beside ↦ rw (
-            row_same,
-            beside,
-            shadow_same kind,
-            hole_same,
-            rom_same,
-            claim_same setup bytes new addr card_kept list,
-          ) refl
+          | inl same ↦ rw (row_same, same, shadow_same kind, hole_same, rom_same, claim) refl
+          | inr beside ↦ rw (row_same, beside, shadow_same kind, hole_same, rom_same, claim) refl
         ]
 
     pub areas_same : six_areas setup new addr ≡ six_areas setup bytes addr

@@ -1,18 +1,21 @@
--- A change keeps each register whose windows lie elsewhere.
+-- A change keeps each register whose windows lie elsewhere, and a store of one byte to a register that keeps its byte
+-- changes no area.
 use Rattle.std.proofs.Common.{◌≡◌, ℕ, zero, suc, ◌+◌, ◌-◌, ◌<◌, ◌≤◌, inl, inr, true, List, [], ◌∷◌, length, get_or}
-use Rattle.std.proofs.Common.{take, refl, subst, arith, flat_map}
+use Rattle.std.proofs.Common.{take, refl, arith, flat_map, Option, None, sym, ◌∙◌, ap, IfSome, subst}
 use Rattle.board_prelude.proofs.Common.{cases_Bool, nat_tests, recursion_from_All, Width, Reg, bytes_of, MapChange}
 use Rattle.board_prelude.proofs.Common.{Store, Reset, Setup, IsCardList, byte, host_bridge, reset_byte, writable_bits}
 use Rattle.board_prelude.proofs.Common.{covers, byte_after, Bytes, top_of, bridge, reg_after, address_count, six_areas}
-use Rattle.board_prelude.proofs.Common.{merged-all}
+use Rattle.board_prelude.proofs.Common.{merged-all, One, FittedCard}
 use Rattle.addr_decode.proofs.NameLemmas.{offsets, covered_offset}
 use Rattle.addr_decode.proofs.StoreLemmas.{same_register}
 use Rattle.map_ranges.specs.declared.range.Changed.{Changed}
 use Rattle.map_builder.specs.Common.{windows_of, windows_covered, after, changed_windows, IsOutside, WindowsHoldChanges}
-use Rattle.map_builder.specs.Common.{BoundsHoldChanges}
-use Rattle.map_builder.proofs.OutsideLemmas.{Outside, outside_bounds, outside_left, outside_right}
+use Rattle.map_builder.specs.Common.{BoundsHoldChanges, IsHeldAt}
+use Rattle.map_builder.proofs.OutsideLemmas.{Outside, outside_bounds, outside_parts}
 use Rattle.map_builder.proofs.KeptCards.{Kept}
-use Rattle.map_builder.proofs.KeptLemmas.{row_same, areas_same}
+use Rattle.map_builder.proofs.KeptLemmas.{row_same, areas_same, row_stays}
+use Rattle.addr_decode.specs.declared.register.MapRegister.{MapRegister}
+use Rattle.addr_decode.specs.MapRegister.{map_register, names_of}
 
 -- ---- the registers that a store covers
 
@@ -20,33 +23,26 @@ outside_at : (addr : ℕ) (windows : ℕ → List Changed) (xs : List ℕ) (k : 
     Outside addr (flat_map windows xs) →
     Outside addr (windows (get_or xs k 0))
 outside_at addr windows [] k within out = absurd (omega arith)
-outside_at addr windows (x ∷ xs) zero within out = outside_left addr (windows x) (flat_map windows xs) out
+outside_at addr windows (x ∷ xs) zero within out = (outside_parts addr (windows x) (flat_map windows xs) out).0
 outside_at addr windows (x ∷ xs) (suc k) within out =
-    outside_at addr windows xs k (omega arith) (outside_right addr (windows x) (flat_map windows xs) out)
+    outside_at addr windows xs k (omega arith) (outside_parts addr (windows x) (flat_map windows xs) out).1
 
 outside_of : (addr : ℕ) (windows : ℕ → List Changed) (width : Width) (k : ℕ) → k < bytes_of width →
     Outside addr (flat_map windows (take (bytes_of width) offsets)) → Outside addr (windows k)
 outside_of addr windows width k below out =
-    let at = covered_offset width k below in
-    subst (λ (j : ℕ). Outside addr (windows j)) at.1
-    (outside_at addr windows (take (bytes_of width) offsets) k at.0 out)
+    let place = covered_offset width k below in
+    rw place.1 at (outside_at addr windows (take (bytes_of width) offsets) k place.0 out)
 
-record IsCovered (at : Reg) (width : Width) (reg : Reg) : Type 0 where
-  pub k : ℕ
-  pub below : k < bytes_of width
-  pub is : reg_after at k ≡ reg
-
-covered : (at : Reg) (width : Width) (reg : Reg) → covers at width reg ≡ true → IsCovered at width reg
+covered : (at : Reg) (width : Width) (reg : Reg) → covers at width reg ≡ true →
+    (k : ℕ) × (k < bytes_of width) × (reg_after at k ≡ reg)
 covered at width reg is =
-    let devs : at.dev ≡ reg.dev = grind (arith, nat_tests) in
-    let funs : at.fun ≡ reg.fun = grind (arith, nat_tests) in
     let from : at.off ≤ reg.off = grind (arith, nat_tests) in
-    let to : reg.off < at.off + bytes_of width = grind (arith, nat_tests) in
-    record {
-      k = reg.off - at.off;
-      below = omega arith;
-      is = same_register (reg_after at (reg.off - at.off)) reg devs funs (omega arith);
-    }
+    let to : reg.off < at.off + bytes_of width = grind (arith, nat_tests) in (
+      reg.off - at.off,
+      omega arith,
+      same_register (reg_after at (reg.off - at.off)) reg (grind (arith, nat_tests)) (grind (arith, nat_tests))
+          (omega arith),
+    )
 
 -- each register that a store covers governs windows elsewhere, and the others keep their bytes
 store_keeps : (setup : Setup) (bytes : Bytes) (at : Reg) (width : Width) (value addr : ℕ) →
@@ -58,18 +54,12 @@ store_keeps setup bytes at width value addr out reg =
       | inr beside ↦ inl (rw beside refl)
       | inl over ↦
           let is = covered at width reg over in
-          let new : Bytes = after setup (Store at width value) bytes in
-          let before : Outside addr (windows_of setup bytes (reg_after at is.k)) =
-          outside_of addr (λ k. windows_of setup bytes (reg_after at k)) width is.k is.below
-          (outside_left addr (windows_covered setup bytes (Store at width value))
-          (windows_covered setup new (Store at width value)) out) in
-          let later : Outside addr (windows_of setup new (reg_after at is.k)) =
-          outside_of addr (λ k. windows_of setup new (reg_after at k)) width is.k is.below
-          (outside_right addr (windows_covered setup bytes (Store at width value))
-          (windows_covered setup new (Store at width value)) out) in
+          let change : MapChange = Store at width value in
+          let new : Bytes = after setup change bytes in
+          let parts = outside_parts addr (windows_covered setup bytes change) (windows_covered setup new change) out in
           inr (
-            subst (λ (other : Reg). Outside addr (windows_of setup bytes other)) is.is before,
-            subst (λ (other : Reg). Outside addr (windows_of setup new other)) is.is later,
+            rw is.2 at (outside_of addr (λ k. windows_of setup bytes (reg_after at k)) width is.0 is.1 parts.0),
+            rw is.2 at (outside_of addr (λ k. windows_of setup new (reg_after at k)) width is.0 is.1 parts.1),
           )
     ]
 
@@ -120,3 +110,40 @@ windows_hold_changes setup bytes change addr list top address out =
 pub bounds_hold_changes : BoundsHoldChanges
 bounds_hold_changes setup bytes change addr list top address out =
     changes_keep setup bytes change addr list top address (outside_bounds addr (changed_windows setup bytes change) out)
+
+-- where one byte is stored and the register has the same byte before and after
+pub same_bytes : (setup : Setup) (bytes : Bytes) (change : MapChange) (held : ℕ) → IsHeldAt change bytes held →
+    IsHeldAt change (after setup change bytes) held →
+    (reg : Reg) → after setup change bytes reg ≡ bytes reg
+same_bytes setup bytes (Store at One value) held before later reg =
+    elim (cases_Bool (covers at One reg)) [
+      | inr beside ↦ rw beside refl
+      | inl over ↦
+          let same = same_register at reg (grind (arith, nat_tests)) (grind (arith, nat_tests))
+          (grind (arith, nat_tests)) in
+          subst (λ (other : Reg). after setup (Store at One value) bytes other ≡ bytes other) same (sym later ∙ before)
+    ]
+same_bytes setup bytes _ held before later reg = absurd before
+
+pub unchanged_keep : (setup : Setup) (bytes : Bytes) (change : MapChange) (addr held : ℕ) → IsCardList setup.cards →
+    IsHeldAt change bytes held →
+    IsHeldAt change (after setup change bytes) held →
+    six_areas setup (after setup change bytes) addr ≡ six_areas setup bytes addr
+unchanged_keep setup bytes change addr held list before later =
+    let same = same_bytes setup bytes change held before later in
+    areas_same setup bytes (after setup change bytes) addr (λ reg other. inl (same reg))
+    (row_stays bytes (after setup change bytes) addr (λ row below. same (bridge (0x60 + row)))) list
+
+-- the byte of the one register that a change names is the byte that it stores to
+pub held_alone : (bytes : Bytes) (change : MapChange) (cards : List FittedCard) (names : List (Option MapRegister))
+    (found : Option ℕ) →
+    length names ≡ 1 → names ≡ names_of cards change →
+    ((reg : Reg) → get_or names 0 None ≡ map_register cards reg → IfSome found (λ held. held ≡ bytes reg)) →
+    IfSome found (IsHeldAt change bytes)
+held_alone bytes (Store at One value) cards names found one named is =
+    let place : at.off + 0 ≡ at.off = omega arith in is at (rw (named, place) refl)
+held_alone bytes _ cards names found one named is = absurd (omega (
+  arith,
+  ap (λ (list : List (Option MapRegister)).
+      length list) named,
+))

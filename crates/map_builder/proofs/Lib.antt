@@ -1,6 +1,5 @@
 pub mod BoardLemmas
 pub mod BuildLemmas
-pub mod StepLemmas
 pub mod RebuildLemmas
 pub mod KeepLemmas
 pub mod WindowLemmas
@@ -15,7 +14,5 @@ pub mod SortedLemmas
 pub mod SameBoards
 pub mod ChangeLemmas
 pub mod RowLemmas
-pub mod UnchangedLemmas
-pub mod TailLemmas
 pub mod MovedRows
 pub mod Common

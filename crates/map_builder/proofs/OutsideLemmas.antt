@@ -1,7 +1,7 @@
 -- Addresses outside windows and outside their bounds.
-use Rattle.std.proofs.Common.{◌≡◌, ℕ, ◌+◌, ◌*◌, ◌/◌, ◌%◌, ◌^◌, ◌<◌, inl, inr, Bool, false, List, [], ◌∷◌, ◌++◌}
-use Rattle.std.proofs.Common.{map, Option, Some, None, refl, ap, arith, ◌&&◌, unwrap_or, find}
-use Rattle.board_prelude.proofs.Common.{AllByRecursion, ne_eqb, pow_pos, Window, is_covered, and-false}
+use Rattle.std.proofs.Common.{◌≡◌, ℕ, ◌*◌, ◌/◌, ◌^◌, inl, inr, Bool, false, List, [], ◌∷◌, ◌++◌, map, Option, Some}
+use Rattle.std.proofs.Common.{None, refl, ap, arith, ◌&&◌, unwrap_or, find}
+use Rattle.board_prelude.proofs.Common.{AllByRecursion, ne_eqb, pow_pos, Window, is_covered, and-false, map-append}
 use Rattle.std.proofs.Math.Pow.{split}
 use Rattle.map_ranges.specs.declared.range.Changed.{Changed}
 use Rattle.map_builder.specs.Changed.{from_to, decoded, bounds, bounds_or_zero, both, joined, IsOutside}
@@ -43,24 +43,23 @@ outside_bounds addr windows out = outside_each addr windows (outside_some addr (
 
 -- ---- parts of a list of windows
 
-pub outside_left : (addr : ℕ) (xs ys : List Changed) → Outside addr (xs ++ ys) → Outside addr xs
-outside_left addr [] ys out = tt
-outside_left addr (x ∷ xs) ys out = (out.0, outside_left addr xs ys out.1)
-
-pub outside_right : (addr : ℕ) (xs ys : List Changed) → Outside addr (xs ++ ys) → Outside addr ys
-outside_right addr [] ys out = out
-outside_right addr (x ∷ xs) ys out = outside_right addr xs ys out.1
+pub outside_parts : (addr : ℕ) (xs ys : List Changed) → Outside addr (xs ++ ys) → Outside addr xs × Outside addr ys
+outside_parts addr [] ys out = (tt, out)
+outside_parts addr (x ∷ xs) ys out = let parts = outside_parts addr xs ys out.1 in ((out.0, parts.0), parts.1)
 
 -- ---- windows of cards
+
+pub outside_decoded : (addr : ℕ) (xs ys : List Window) → Outside addr (map decoded (xs ++ ys)) →
+    Outside addr (map decoded xs) × Outside addr (map decoded ys)
+outside_decoded addr xs ys out = outside_parts addr (map decoded xs) (map decoded ys) (rw map-append at out)
 
 pub not_covered : (addr : ℕ) (window : Window) → IsOutside addr (decoded window) → is_covered addr window ≡ false
 not_covered addr window out =
     ne_eqb (window.inside / 2 ^ window.bits) (addr / 2 ^ window.bits)
     (λ same.
-    let parts : addr / 2 ^ window.bits * 2 ^ window.bits + addr % 2 ^ window.bits ≡ addr = split addr window.bits in
-    let positive : 0 < 2 ^ window.bits = pow_pos window.bits in
-    let first : window.inside / 2 ^ window.bits * 2 ^ window.bits ≡ addr / 2 ^ window.bits * 2 ^ window.bits =
-    ap (λ q. q * 2 ^ window.bits) same in
+    let parts = split addr window.bits in
+    let positive = pow_pos window.bits in
+    let first = ap (λ (q : ℕ). q * 2 ^ window.bits) same in
     elim out [ inl below ↦ omega arith | inr above ↦ omega arith ])
 
 pub none_covered : (addr : ℕ) (windows : List Window) (counts : ℕ → Bool) → Outside addr (map decoded windows) →

@@ -1,8 +1,8 @@
 -- Windows in rising order hold the addresses of those that were sorted, and are no more than there are different ones.
 use Rattle.std.proofs.Common.{◌≡◌, ℕ, ◌+◌, ◌<◌, ◌≤◌, ◌⊎◌, inl, inr, Bool, true, false, List, [], ◌∷◌, ◌++◌, length}
-use Rattle.std.proofs.Common.{refl, ap, arith, ◌||◌, nat_lt, nat_le, min, max, filter, rules}
-use Rattle.board_prelude.proofs.Common.{list_any, cases_Bool, cases_lt, or_cases, or_left, or_right, false≢true}
-use Rattle.board_prelude.proofs.Common.{nat_tests, Setup, Bytes, each_below}
+use Rattle.std.proofs.Common.{refl, arith, nat_lt, min, max, filter, rules}
+use Rattle.board_prelude.proofs.Common.{AllByRecursion, list_any, cases_Bool, or_cases, false≢true, nat_tests, Setup}
+use Rattle.board_prelude.proofs.Common.{Bytes, each_below}
 use Rattle.addr_decode.specs.Edges.{edges_of, edges_after}
 use Rattle.addr_decode.specs.Singles.{single_count}
 use Rattle.map_ranges.specs.declared.range.Changed.{Changed}
@@ -12,7 +12,46 @@ use Rattle.map_builder.specs.Changed.{single_windows}
 use Rattle.map_builder.proofs.OutsideLemmas.{Outside, outside_both}
 use Rattle.map_builder.proofs.BoundsLemmas.{Ordered}
 
--- ---- they rise
+-- a window goes behind the first of others that rise, before it, or they overlap and become one
+with_step : (P : List Changed → Type 0) (window other : Changed) (later : List Changed) →
+    (other.hi < window.lo → P (other ∷ with_window window later)) →
+    (window.hi < other.lo → P (window ∷ with_window other later)) →
+    (window.lo ≤ other.hi → other.lo ≤ window.hi → P (with_window (both other window) later)) →
+    P (with_window window (other ∷ later))
+unfolding with_window
+with_step P window other later behind before overlap =
+    elim (cases_Bool (nat_lt other.hi window.lo)) [
+      | inl is ↦ rw is (behind (grind (arith, nat_tests)))
+      | inr not_behind ↦
+          elim (cases_Bool (nat_lt window.hi other.lo)) [
+            | inl is ↦ rw (not_behind, is) (before (grind (arith, nat_tests)))
+            | inr not_before ↦
+                rw (not_behind, not_before) (overlap (grind (arith, nat_tests)) (grind (arith, nat_tests)))
+          ]
+    ]
+
+-- ---- what holds of each of them
+
+-- what holds of two windows that overlap holds of the one that holds both
+abbrev Joins : (Changed → Type 0) → Type 0
+Joins P =
+    (other window : Changed) → window.lo ≤ other.hi → other.lo ≤ window.hi → P other → P window → P (both other window)
+
+module _ (P : Changed → Type 0) (joins : Joins P) where
+  each_with : (window : Changed) (windows : List Changed) → P window → AllByRecursion P windows →
+      AllByRecursion P (with_window window windows)
+  unfolding with_window
+  each_with window [] here each = (here, tt)
+  each_with window (other ∷ later) here each =
+      with_step (AllByRecursion P) window other later
+      (λ behind. (each.0, each_with window later here each.1))
+      (λ before. (here, each_with other later each.0 each.1))
+      (λ low high. each_with (both other window) later (joins other window low high each.0 here) each.1)
+
+  each_sorted : (windows : List Changed) → AllByRecursion P windows → AllByRecursion P (sorted windows)
+  unfolding sorted
+  each_sorted [] each = tt
+  each_sorted (window ∷ later) each = each_with window (sorted later) each.0 (each_sorted later each.1)
 
 above_lower : (low high : ℕ) (windows : List Changed) → low ≤ high → AreAbove high windows → AreAbove low windows
 above_lower low high [] order above = tt
@@ -20,71 +59,51 @@ above_lower low high (window ∷ later) order above = (omega (arith, above.0), a
 
 above_with : (addr : ℕ) (window : Changed) (windows : List Changed) → addr < window.lo → AreAbove addr windows →
     AreAbove addr (with_window window windows)
-unfolding with_window
-above_with addr window [] here above = (here, tt)
-above_with addr window (other ∷ later) here above =
-    elim (cases_Bool (nat_lt other.hi window.lo)) [
-      | inl before ↦ rw before (above.0, above_with addr window later here above.1)
-      | inr not_before ↦ rw not_before
-          (elim (cases_Bool (nat_lt window.hi other.lo)) [
-            | inl behind ↦ rw behind (here, above_with addr other later above.0 above.1)
-            | inr overlap ↦ rw overlap (above_with addr (both other window) later (omega (arith, above.0)) above.1)
-          ])
-    ]
+above_with addr = each_with (λ window. addr < window.lo) (λ other window low high one two. omega arith)
 
 rise_with : (window : Changed) (windows : List Changed) → window.lo ≤ window.hi → Rise windows →
     Rise (with_window window windows)
 unfolding with_window
 rise_with window [] order rise = (order, tt, tt)
 rise_with window (other ∷ later) order rise =
-    elim (cases_Bool (nat_lt other.hi window.lo)) [
-      | inl before ↦
-          let low : other.hi < window.lo = grind (arith, nat_tests) in
-          rw before (rise.0, above_with other.hi window later low rise.1, rise_with window later order rise.2)
-      | inr not_before ↦ rw not_before
-          (elim (cases_Bool (nat_lt window.hi other.lo)) [
-            | inl behind ↦
-                let low : window.hi < other.lo = grind (arith, nat_tests) in
-                rw behind (
-                  order,
-                  above_with window.hi other later low
-                      (above_lower window.hi other.hi later (omega (arith, rise.0)) rise.1),
-                  rise_with other later rise.0 rise.2,
-                )
-            | inr overlap ↦ rw overlap (rise_with (both other window) later (omega (arith, rise.0)) rise.2)
-          ])
-    ]
+    with_step Rise window other later
+    (λ behind. (rise.0, above_with other.hi window later behind rise.1, rise_with window later order rise.2))
+    (λ before. (
+      order,
+      above_with window.hi other later before
+          (above_lower window.hi other.hi later (omega (arith, rise.0)) rise.1),
+      rise_with other later rise.0 rise.2,
+    ))
+    (λ low high. rise_with (both other window) later (omega (arith, rise.0)) rise.2)
 
 pub rise_sorted : (windows : List Changed) → Ordered windows → Rise (sorted windows)
 unfolding sorted
 rise_sorted [] ordered = tt
 rise_sorted (window ∷ later) ordered = rise_with window (sorted later) ordered.0 (rise_sorted later ordered.1)
 
--- ---- the same addresses
+-- an interval of two that overlap holds no other address
+beside_both : (addr : ℕ) → Joins (IsOutside addr)
+beside_both addr other window low high (inl before) (inl below) = inl (omega (arith, before, below))
+beside_both addr other window low high (inl before) (inr above) = absurd (omega (arith, low, high, before, above))
+beside_both addr other window low high (inr after) (inl below) = absurd (omega (arith, low, high, after, below))
+beside_both addr other window low high (inr after) (inr above) = inr (omega (arith, after, above))
+
+-- an address beside windows is beside them when they are sorted
+pub beside_sorted : (addr : ℕ) (windows : List Changed) → Outside addr windows → Outside addr (sorted windows)
+beside_sorted addr = each_sorted (IsOutside addr) (beside_both addr)
 
 outside_with : (addr : ℕ) (window : Changed) (windows : List Changed) → Outside addr (with_window window windows) →
     IsOutside addr window × Outside addr windows
 unfolding with_window
 outside_with addr window [] out = out
 outside_with addr window (other ∷ later) out =
-    elim (cases_Bool (nat_lt other.hi window.lo)) [
-      | inl before ↦
-          let parts : IsOutside addr other × Outside addr (with_window window later) = rw before at out in
-          let rest = outside_with addr window later parts.1 in
-          (rest.0, (parts.0, rest.1))
-      | inr not_before ↦
-          elim (cases_Bool (nat_lt window.hi other.lo)) [
-            | inl behind ↦
-                let parts : IsOutside addr window × Outside addr (with_window other later) =
-                rw (not_before, behind) at out in
-                (parts.0, outside_with addr other later parts.1)
-            | inr overlap ↦
-                let parts : Outside addr (with_window (both other window) later) = rw (not_before, overlap) at out in
-                let rest = outside_with addr (both other window) later parts in
-                let each = outside_both addr other window rest.0 in
-                (each.1, (each.0, rest.1))
-          ]
-    ]
+    with_step (λ made. Outside addr made → IsOutside addr window × Outside addr (other ∷ later)) window other later
+    (λ behind out. let rest = outside_with addr window later out.1 in (rest.0, (out.0, rest.1)))
+    (λ before out. (out.0, outside_with addr other later out.1))
+    (λ low high out.
+    let rest = outside_with addr (both other window) later out in
+    let each = outside_both addr other window rest.0 in
+    (each.1, (each.0, rest.1))) out
 
 pub outside_sorted : (addr : ℕ) (windows : List Changed) → Outside addr (sorted windows) → Outside addr windows
 unfolding sorted
@@ -92,114 +111,30 @@ outside_sorted addr [] out = tt
 outside_sorted addr (window ∷ later) out =
     let parts = outside_with addr window (sorted later) out in (parts.0, outside_sorted addr later parts.1)
 
--- an interval of two that overlap holds no other address
-beside_both : (addr : ℕ) (other window : Changed) → window.lo ≤ other.hi → other.lo ≤ window.hi → IsOutside addr other →
-    IsOutside addr window → IsOutside addr (both other window)
-beside_both addr other window low high (inl before) (inl below) = inl (omega (arith, before, below))
-beside_both addr other window low high (inl before) (inr above) = absurd (omega (arith, low, high, before, above))
-beside_both addr other window low high (inr after) (inl below) = absurd (omega (arith, low, high, after, below))
-beside_both addr other window low high (inr after) (inr above) = inr (omega (arith, after, above))
+-- an address is inside none, or at the first address of one
+abbrev IsNotIn : ℕ → Changed → Type 0
+IsNotIn addr window = is_above_first addr window ≡ false
 
-beside_with : (addr : ℕ) (window : Changed) (windows : List Changed) → IsOutside addr window → Outside addr windows →
-    Outside addr (with_window window windows)
-unfolding with_window
-beside_with addr window [] here out = (here, tt)
-beside_with addr window (other ∷ later) here out =
-    elim (cases_Bool (nat_lt other.hi window.lo)) [
-      | inl before ↦ rw before (out.0, beside_with addr window later here out.1)
-      | inr not_before ↦
-          elim (cases_Bool (nat_lt window.hi other.lo)) [
-            | inl behind ↦ rw (not_before, behind) (here, beside_with addr other later out.0 out.1)
-            | inr overlap ↦
-                let low : window.lo ≤ other.hi = grind (arith, nat_tests) in
-                let high : other.lo ≤ window.hi = grind (arith, nat_tests) in
-                rw (not_before, overlap) (beside_with addr (both other window) later
-                (beside_both addr other window low high out.0 here) out.1)
-          ]
-    ]
+not_inside : (addr : ℕ) (windows : List Changed) → AllByRecursion (IsNotIn addr) windows →
+    is_inside windows addr ≡ false
+not_inside addr [] each = refl
+not_inside addr (window ∷ later) each = rw each.0 (not_inside addr later each.1)
 
--- an address beside windows is beside them when they are sorted
-pub beside_sorted : (addr : ℕ) (windows : List Changed) → Outside addr windows → Outside addr (sorted windows)
-unfolding sorted
-beside_sorted addr [] out = tt
-beside_sorted addr (window ∷ later) out = beside_with addr window (sorted later) out.0 (beside_sorted addr later out.1)
+each_not_in : (addr : ℕ) (windows : List Changed) → is_inside windows addr ≡ false →
+    AllByRecursion (IsNotIn addr) windows
+each_not_in addr [] none = tt
+each_not_in addr (window ∷ later) none =
+    let here : is_above_first addr window ≡ false = grind (arith, nat_tests) in
+    (here, each_not_in addr later (rw here at none))
 
-inside_both : (addr : ℕ) (other window : Changed) → window.lo ≤ other.hi → other.lo ≤ window.hi →
-    is_above_first addr (both other window) ≡ true →
-    (is_above_first addr other ≡ true) ⊎ (is_above_first addr window ≡ true)
-inside_both addr other window low high is =
-    let from : min other.lo window.lo < addr = grind (arith, nat_tests) in
-    let to : addr ≤ max other.hi window.hi = grind (arith, nat_tests) in
-    elim (cases_lt other.lo addr) [
-      | inl above ↦
-          elim (cases_lt other.hi addr) [
-            | inl past ↦
-                let first : window.lo < addr = omega arith in
-                let last : addr ≤ window.hi = omega arith in
-                inr (grind (arith, nat_tests))
-            | inr not_past ↦ let last : addr ≤ other.hi = omega arith in inl (grind (arith, nat_tests))
-          ]
-      | inr below ↦
-          let first : window.lo < addr = omega arith in
-          let last : addr ≤ window.hi = omega arith in
-          inr (grind (arith, nat_tests))
-    ]
+not_in_both : (addr : ℕ) → Joins (IsNotIn addr)
+not_in_both addr other window low high one two = grind (arith, nat_tests)
 
-inside_with : (addr : ℕ) (window : Changed) (windows : List Changed) →
-    is_inside (with_window window windows) addr ≡ true → is_inside (window ∷ windows) addr ≡ true
-unfolding with_window
-inside_with addr window [] is = is
-inside_with addr window (other ∷ later) is =
-    elim (cases_Bool (nat_lt other.hi window.lo)) [
-      | inl before ↦
-          let parts : (is_above_first addr other || is_inside (with_window window later) addr) ≡ true =
-          rw before at is in
-          elim (or_cases (is_above_first addr other) (is_inside (with_window window later) addr) parts) [
-            | inl here ↦ or_right (is_above_first addr window) _ (or_left (is_above_first addr other) _ here)
-            | inr rest ↦
-                elim (or_cases (is_above_first addr window) (is_inside later addr)
-                (inside_with addr window later rest)) [
-                  | inl there ↦ or_left (is_above_first addr window) _ there
-                  | inr more ↦ or_right (is_above_first addr window) _ (or_right (is_above_first addr other) _ more)
-                ]
-          ]
-      | inr not_before ↦
-          elim (cases_Bool (nat_lt window.hi other.lo)) [
-            | inl behind ↦
-                let parts : (is_above_first addr window || is_inside (with_window other later) addr) ≡ true =
-                rw (not_before, behind) at is in
-                elim (or_cases (is_above_first addr window) (is_inside (with_window other later) addr) parts) [
-                  | inl here ↦ or_left (is_above_first addr window) _ here
-                  | inr rest ↦ or_right (is_above_first addr window) _ (inside_with addr other later rest)
-                ]
-            | inr overlap ↦
-                let parts : is_inside (with_window (both other window) later) addr ≡ true =
-                rw (not_before, overlap) at is in
-                let low : window.lo ≤ other.hi = grind (arith, nat_tests) in
-                let high : other.lo ≤ window.hi = grind (arith, nat_tests) in
-                elim (or_cases (is_above_first addr (both other window)) (is_inside later addr)
-                (inside_with addr (both other window) later parts)) [
-                  | inl here ↦
-                      elim (inside_both addr other window low high here) [
-                        | inl there ↦ or_right (is_above_first addr window) _
-                            (or_left (is_above_first addr other) _ there)
-                        | inr there ↦ or_left (is_above_first addr window) _ there
-                      ]
-                  | inr rest ↦ or_right (is_above_first addr window) _ (or_right (is_above_first addr other) _ rest)
-                ]
-          ]
-    ]
-
-inside_sorted : (windows : List Changed) (addr : ℕ) → is_inside (sorted windows) addr ≡ true →
-    is_inside windows addr ≡ true
-unfolding sorted
-inside_sorted [] addr is = is
-inside_sorted (window ∷ later) addr is =
-    elim (or_cases (is_above_first addr window) (is_inside (sorted later) addr)
-    (inside_with addr window (sorted later) is)) [
-      | inl here ↦ or_left (is_above_first addr window) _ here
-      | inr rest ↦ or_right (is_above_first addr window) _ (inside_sorted later addr rest)
-    ]
+inside_sorted : (windows : List Changed) (addr : ℕ) → is_inside windows addr ≡ false →
+    is_inside (sorted windows) addr ≡ false
+inside_sorted windows addr none =
+    not_inside addr (sorted windows)
+    (each_sorted (IsNotIn addr) (not_in_both addr) windows (each_not_in addr windows none))
 
 -- ---- how many they are
 
@@ -207,26 +142,15 @@ length_with : (window : Changed) (windows : List Changed) → length (with_windo
 unfolding with_window
 length_with window [] = omega arith
 length_with window (other ∷ later) =
-    elim (cases_Bool (nat_lt other.hi window.lo)) [
-      | inl before ↦ rw before (omega (arith, length_with window later))
-      | inr not_before ↦ rw not_before
-          (elim (cases_Bool (nat_lt window.hi other.lo)) [
-            | inl behind ↦ rw behind (omega (arith, length_with other later))
-            | inr overlap ↦ rw overlap (omega (arith, length_with (both other window) later))
-          ])
-    ]
+    with_step (λ made. length made ≤ length (other ∷ later) + 1) window other later
+    (λ behind. omega (arith, length_with window later))
+    (λ before. omega (arith, length_with other later))
+    (λ low high. omega (arith, length_with (both other window) later))
 
 -- a window lies in one of some windows
 abbrev Covers : Changed → List Changed → Type 0
 Covers window [] = ⊥
 Covers window (other ∷ later) = ((other.lo ≤ window.lo) × (window.hi ≤ other.hi)) ⊎ Covers window later
-
-covers_smaller : (window larger : Changed) (windows : List Changed) → larger.lo ≤ window.lo → window.hi ≤ larger.hi →
-    Covers larger windows → Covers window windows
-covers_smaller window larger [] low high covers = covers
-covers_smaller window larger (other ∷ later) low high (inl here) = inl (omega (arith, here.0), omega (arith, here.1))
-covers_smaller window larger (other ∷ later) low high (inr rest) =
-    inr (covers_smaller window larger later low high rest)
 
 covers_above : (addr : ℕ) (window : Changed) (windows : List Changed) → AreAbove addr windows → Covers window windows →
     addr < window.lo
@@ -234,104 +158,53 @@ covers_above addr window [] above covers = absurd covers
 covers_above addr window (other ∷ later) above (inl here) = omega (arith, above.0, here.0)
 covers_above addr window (other ∷ later) above (inr rest) = covers_above addr window later above.1 rest
 
-covers_new : (window : Changed) (windows : List Changed) → Covers window (with_window window windows)
-unfolding with_window
-covers_new window [] = inl (omega arith, omega arith)
-covers_new window (other ∷ later) =
-    elim (cases_Bool (nat_lt other.hi window.lo)) [
-      | inl before ↦ rw before (inr (covers_new window later))
-      | inr not_before ↦ rw not_before
-          (elim (cases_Bool (nat_lt window.hi other.lo)) [
-            | inl behind ↦ rw behind (inl (omega arith, omega arith))
-            | inr overlap ↦
-                rw overlap (covers_smaller window (both other window) (with_window (both other window) later)
-                (omega arith) (omega arith) (covers_new (both other window) later))
-          ])
-    ]
-
-covers_old : (old window : Changed) (windows : List Changed) → Covers old windows →
+covers_with : (old window : Changed) (windows : List Changed) → Covers old (window ∷ windows) →
     Covers old (with_window window windows)
 unfolding with_window
-covers_old old window [] covers = absurd covers
-covers_old old window (other ∷ later) covers =
-    elim (cases_Bool (nat_lt other.hi window.lo)) [
-      | inl before ↦ rw before (elim covers [ inl here ↦ inl here | inr rest ↦ inr (covers_old old window later rest) ])
-      | inr not_before ↦ rw not_before
-          (elim (cases_Bool (nat_lt window.hi other.lo)) [
-            | inl behind ↦ rw behind
-                (elim covers [
-                  | inl here ↦ inr (covers_smaller old other (with_window other later) here.0 here.1
-                      (covers_new other later))
-                  | inr rest ↦ inr (covers_old old other later rest)
-                ])
-            | inr overlap ↦ rw overlap
-                (elim covers [
-                  | inl here ↦
-                      covers_smaller old (both other window) (with_window (both other window) later)
-                      (omega (arith, here.0)) (omega (arith, here.1))
-                      (covers_new (both other window) later)
-                  | inr rest ↦ covers_old old (both other window) later rest
-                ])
-          ])
-    ]
+covers_with old window [] covers = covers
+covers_with old window (other ∷ later) (inl here) =
+    with_step (Covers old) window other later
+    (λ behind. inr (covers_with old window later (inl here)))
+    (λ before. inl here)
+    (λ low high. covers_with old (both other window) later (inl (omega (arith, here.0), omega (arith, here.1))))
+covers_with old window (other ∷ later) (inr (inl there)) =
+    with_step (Covers old) window other later
+    (λ behind. inl there)
+    (λ before. inr (covers_with old other later (inl there)))
+    (λ low high. covers_with old (both other window) later (inl (omega (arith, there.0), omega (arith, there.1))))
+covers_with old window (other ∷ later) (inr (inr rest)) =
+    with_step (Covers old) window other later
+    (λ behind. inr (covers_with old window later (inr rest)))
+    (λ before. inr (covers_with old other later (inr rest)))
+    (λ low high. covers_with old (both other window) later (inr rest))
 
-covers_sorted : (window : Changed) (windows : List Changed) → list_any (is_window window) windows ≡ true →
-    Covers window (sorted windows)
+covers_sorted : (old : Changed) (windows : List Changed) → Covers old windows → Covers old (sorted windows)
 unfolding sorted
-covers_sorted window [] is = absurd (false≢true is)
-covers_sorted window (other ∷ later) is =
+covers_sorted old [] covers = covers
+covers_sorted old (window ∷ later) (inl here) = covers_with old window (sorted later) (inl here)
+covers_sorted old (window ∷ later) (inr rest) =
+    covers_with old window (sorted later) (inr (covers_sorted old later rest))
+
+covers_one : (window : Changed) (windows : List Changed) → list_any (is_window window) windows ≡ true →
+    Covers window windows
+covers_one window [] is = absurd (false≢true is)
+covers_one window (other ∷ later) is =
     elim (or_cases (is_window window other) (list_any (is_window window) later) is) [
-      | inl same ↦
-          let low : window.lo ≡ other.lo = grind (arith, nat_tests) in
-          let high : window.hi ≡ other.hi = grind (arith, nat_tests) in
-          covers_smaller window other (with_window other (sorted later)) (omega arith) (omega arith)
-          (covers_new other (sorted later))
-      | inr rest ↦ covers_old window other (sorted later) (covers_sorted window later rest)
-    ]
-
--- one that lies in another adds none
-length_covered : (window : Changed) (windows : List Changed) → window.lo ≤ window.hi → Rise windows →
-    Covers window windows →
-    length (with_window window windows) ≤ length windows
-unfolding with_window
-length_covered window [] order rise covers = absurd covers
-length_covered window (other ∷ later) order rise (inl here) =
-    let not_before : nat_lt other.hi window.lo ≡ false = let high = here.1 in grind (arith, nat_tests) in
-    let not_behind : nat_lt window.hi other.lo ≡ false = let low = here.0 in grind (arith, nat_tests) in
-    rw (not_before, not_behind) (omega (arith, length_with (both other window) later))
-length_covered window (other ∷ later) order rise (inr rest) =
-    let above : other.hi < window.lo = covers_above other.hi window later rise.1 rest in
-    let before : nat_lt other.hi window.lo ≡ true = grind (arith, nat_tests) in
-    rw before (omega (arith, length_covered window later order rise.2 rest))
-
-length_sorted : (windows : List Changed) → Ordered windows → length (sorted windows) ≤ count_of windows
-unfolding sorted count_of
-length_sorted [] ordered = omega arith
-length_sorted (window ∷ later) ordered =
-    elim (cases_Bool (list_any (is_window window) later)) [
-      | inl again ↦
-          rw again
-          (omega (
-            arith,
-            length_covered window (sorted later) ordered.0 (rise_sorted later ordered.1)
-                (covers_sorted window later again),
-            length_sorted later ordered.1,
-          ))
-      | inr once ↦ rw once (omega (arith, length_with window (sorted later), length_sorted later ordered.1))
+      | inl same ↦ inl (grind (arith, nat_tests), grind (arith, nat_tests))
+      | inr rest ↦ inr (covers_one window later rest)
     ]
 
 -- ---- windows that were sorted before
 
 with_first : (window : Changed) (windows : List Changed) → window.lo ≤ window.hi → AreAbove window.hi windows →
-    Rise windows →
-    with_window window windows ≡ window ∷ windows
+    Rise windows → with_window window windows ≡ window ∷ windows
 unfolding with_window
 with_first window [] order above rise = refl
 with_first window (other ∷ later) order above rise =
-    let first : window.hi < other.lo = above.0 in
-    let not_before : nat_lt other.hi window.lo ≡ false = let last = rise.0 in grind (arith, nat_tests) in
-    let behind : nat_lt window.hi other.lo ≡ true = grind (arith, nat_tests) in
-    rw (not_before, behind) (ap (λ (rest : List Changed). window ∷ rest) (with_first other later rise.0 rise.1 rise.2))
+    with_step (λ made. made ≡ window ∷ other ∷ later) window other later
+    (λ behind. absurd (omega (arith, above.0, rise.0)))
+    (λ before. rw (with_first other later rise.0 rise.1 rise.2) refl)
+    (λ low high. absurd (omega (arith, above.0)))
 
 -- one that lies in another changes nothing
 with_covered : (window : Changed) (windows : List Changed) → window.lo ≤ window.hi → Rise windows →
@@ -339,105 +212,73 @@ with_covered : (window : Changed) (windows : List Changed) → window.lo ≤ win
 unfolding with_window
 with_covered window [] order rise covers = absurd covers
 with_covered window (other ∷ later) order rise (inl here) =
-    let not_before : nat_lt other.hi window.lo ≡ false = let high = here.1 in grind (arith, nat_tests) in
-    let not_behind : nat_lt window.hi other.lo ≡ false = let low = here.0 in grind (arith, nat_tests) in
     let low : min other.lo window.lo ≡ other.lo = omega (arith, here.0) in
     let high : max other.hi window.hi ≡ other.hi = omega (arith, here.1) in
-    rw (not_before, not_behind, low, high) (with_first other later rise.0 rise.1 rise.2)
+    with_step (λ made. made ≡ other ∷ later) window other later
+    (λ behind. absurd (omega (arith, here.1)))
+    (λ before. absurd (omega (arith, here.0)))
+    (λ _ _. rw (low, high) (with_first other later rise.0 rise.1 rise.2))
 with_covered window (other ∷ later) order rise (inr rest) =
     let above : other.hi < window.lo = covers_above other.hi window later rise.1 rest in
-    let before : nat_lt other.hi window.lo ≡ true = grind (arith, nat_tests) in
-    rw before (ap (λ (all : List Changed). other ∷ all) (with_covered window later order rise.2 rest))
+    with_step (λ made. made ≡ other ∷ later) window other later
+    (λ behind. rw (with_covered window later order rise.2 rest) refl)
+    (λ before. absurd (omega (arith, rise.0)))
+    (λ low high. absurd (omega arith))
 
-abbrev AllCovered : (windows rising : List Changed) → Type 0
-AllCovered [] rising = Unit {0}
-AllCovered (window ∷ later) rising = Covers window rising × AllCovered later rising
-
-covered_with : (windows : List Changed) (window : Changed) (rising : List Changed) → AllCovered windows rising →
-    AllCovered windows (with_window window rising)
-covered_with [] window rising covered = tt
-covered_with (other ∷ later) window rising covered =
-    (covers_old other window rising covered.0, covered_with later window rising covered.1)
-
-all_covered : (windows : List Changed) → AllCovered windows (sorted windows)
-unfolding sorted
-all_covered [] = tt
-all_covered (window ∷ later) =
-    (covers_new window (sorted later), covered_with later window (sorted later) (all_covered later))
+-- one that is there again adds none
+length_sorted : (windows : List Changed) → Ordered windows → length (sorted windows) ≤ count_of windows
+unfolding sorted count_of
+length_sorted [] ordered = omega arith
+length_sorted (window ∷ later) ordered =
+    elim (cases_Bool (list_any (is_window window) later)) [
+      | inl again ↦
+          rw (
+            again,
+            with_covered window (sorted later) ordered.0 (rise_sorted later ordered.1)
+                (covers_sorted window later (covers_one window later again)),
+          ) (omega (arith, length_sorted later ordered.1))
+      | inr once ↦ rw once (omega (arith, length_with window (sorted later), length_sorted later ordered.1))
+    ]
 
 sorted_again : (again windows : List Changed) → Ordered again → Rise (sorted windows) →
-    AllCovered again (sorted windows) → sorted (again ++ windows) ≡ sorted windows
+    ((window : Changed) → Covers window again → Covers window (sorted windows)) →
+    sorted (again ++ windows) ≡ sorted windows
 unfolding sorted
 sorted_again [] windows ordered rise covered = refl
 sorted_again (window ∷ later) windows ordered rise covered =
-    rw (sorted_again later windows ordered.1 rise covered.1)
-    (with_covered window (sorted windows) ordered.0 rise covered.0)
+    rw (sorted_again later windows ordered.1 rise (λ other is. covered other (inr is)))
+    (with_covered window (sorted windows) ordered.0 rise (covered window (inl (omega arith, omega arith))))
 
 pub sorted_twice : (windows : List Changed) → Ordered windows → sorted (windows ++ windows) ≡ sorted windows
-sorted_twice windows ordered = sorted_again windows windows ordered (rise_sorted windows ordered) (all_covered windows)
+sorted_twice windows ordered =
+    sorted_again windows windows ordered (rise_sorted windows ordered) (λ window. covers_sorted window windows)
 
 -- ---- how many rows are looked up in them
 
-pub filter_more : (p q : ℕ → Bool) (xs : List ℕ) → ((x : ℕ) → p x ≡ true → q x ≡ true) →
+pub filter_more : (p q : ℕ → Bool) (xs : List ℕ) → ((x : ℕ) → q x ≡ false → p x ≡ false) →
     length (filter p xs) ≤ length (filter q xs)
 filter_more p q [] more = omega arith
-filter_more p q (x ∷ xs) more =
-    elim (cases_Bool (p x)) [
-      | inl here ↦ rw (here, more x here) (omega (arith, filter_more p q xs more))
-      | inr not ↦
-          elim (cases_Bool (q x)) [
-            | inl there ↦ rw (not, there) (omega (arith, filter_more p q xs more))
-            | inr neither ↦ rw (not, neither) (filter_more p q xs more)
-          ]
-    ]
+filter_more p q (x ∷ xs) more = grind (arith, nat_tests, filter_more p q xs more, more x)
 
 -- the edges above the first address of a window lie in it or above it
 pub one_window : (window : Changed) (edges : List ℕ) →
     length (filter (nat_lt window.lo) edges) ≤ length (filter (λ edge. is_above_first edge window) edges)
     + length (filter (nat_lt window.hi) edges)
 one_window window [] = omega arith
-one_window window (edge ∷ later) =
-    elim (cases_Bool (nat_lt window.lo edge)) [
-      | inr below ↦
-          elim (cases_Bool (nat_lt window.hi edge)) [
-            | inl above ↦ rw (below, above) (omega (arith, one_window window later))
-            | inr within ↦ rw (below, within) (one_window window later)
-          ]
-      | inl past ↦
-          elim (cases_Bool (nat_lt window.hi edge)) [
-            | inl above ↦
-                let not : nat_le edge window.hi ≡ false = grind (arith, nat_tests) in
-                rw (past, above, not) (omega (arith, one_window window later))
-            | inr within ↦
-                let is : nat_le edge window.hi ≡ true = grind (arith, nat_tests) in
-                rw (past, within, is) (omega (arith, one_window window later))
-          ]
-    ]
+one_window window (edge ∷ later) = grind (arith, nat_tests, one_window window later)
 
 none_inside : (addr edge : ℕ) (windows : List Changed) → edge ≤ addr → AreAbove addr windows →
     is_inside windows edge ≡ false
 none_inside addr edge [] low above = refl
 none_inside addr edge (window ∷ later) low above =
-    let first : addr < window.lo = above.0 in
-    let not : nat_lt window.lo edge ≡ false = grind (arith, nat_tests) in
-    rw not (none_inside addr edge later low above.1)
+    grind (arith, nat_tests, none_inside addr edge later low above.1, above.0)
 
 two_counts : (window : Changed) (windows : List Changed) (edges : List ℕ) → AreAbove window.hi windows →
     length (filter (λ edge. is_above_first edge window) edges) + length (filter (is_inside windows) edges)
     ≤ length (filter (is_inside (window ∷ windows)) edges)
 two_counts window windows [] above = omega arith
 two_counts window windows (edge ∷ later) above =
-    elim (cases_Bool (is_above_first edge window)) [
-      | inl inside ↦
-          let low : edge ≤ window.hi = grind (arith, nat_tests) in
-          rw (inside, none_inside window.hi edge windows low above)
-          (omega (arith, two_counts window windows later above))
-      | inr not ↦
-          elim (cases_Bool (is_inside windows edge)) [
-            | inl there ↦ rw (not, there) (omega (arith, two_counts window windows later above))
-            | inr neither ↦ rw (not, neither) (two_counts window windows later above)
-          ]
-    ]
+    grind (arith, nat_tests, two_counts window windows later above, none_inside window.hi edge windows)
 
 rows_rise : (windows : List Changed) (edges : List ℕ) → Rise windows →
     rows_in (λ addr. length (filter (nat_lt addr) edges)) windows

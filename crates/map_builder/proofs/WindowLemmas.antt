@@ -3,8 +3,8 @@ use Rattle.std.proofs.Common.{◌≡◌, ℕ, zero, suc, ◌+◌, ◌-◌, ◌*�
 use Rattle.std.proofs.Common.{drop, get_or, refl, sym, ◌∙◌, ap, arith, mul_comm, append_assoc, Option, None, slice_get}
 use Rattle.std.proofs.Common.{slice_index, flat_map, take}
 use Rattle.board_prelude.proofs.Common.{AllByRecursion, option_map_or, drop_all, drop_more, take_all, take_more}
-use Rattle.board_prelude.proofs.Common.{append-nil, flat_map-append, pow-add, pow_pos, div-lt_iff_lt-mul, Width, Reg}
-use Rattle.board_prelude.proofs.Common.{bytes_of, FittedCard, Setup, Bytes, reg_after, MapChange, Store}
+use Rattle.board_prelude.proofs.Common.{append-nil, pow-add, pow_pos, div-lt_iff_lt-mul, Width, Reg, bytes_of}
+use Rattle.board_prelude.proofs.Common.{FittedCard, Setup, Bytes, reg_after, MapChange, Store}
 use Rattle.std.proofs.lemmas.Option.{slice_get-map, slice_get_past}
 use Rattle.std.proofs.lemmas.Nat.{mul-add-lt}
 use Rattle.pci_bars.specs.declared.spec.BaseSpec.{BaseSpec}
@@ -14,26 +14,21 @@ use Rattle.addr_decode.specs.declared.register.MapRegister.{MapRegister}
 use Rattle.addr_decode.specs.MapRegister.{IsNumberedName, map_register, names_of}
 use Rattle.addr_decode.proofs.NameLemmas.{offsets}
 use Rattle.map_builder.specs.Common.{name_windows, windows_covered, held_by, held_from, held_at}
+use Rattle.std.proofs.lemmas.List.Folds.{flat_map-map}
+use Rattle.std.proofs.lemmas.List.{flat_map_more}
 
 -- the last address of a block is an address
 pub block_fits : (inside bits : ℕ) → inside < 2 ^ 32 → bits ≤ 28 →
     inside / 2 ^ bits * 2 ^ bits + (2 ^ bits - 1) < 2 ^ 32
 block_fits inside bits address few =
-    let positive : 0 < 2 ^ bits = pow_pos bits in
-    let whole : 2 ^ bits * 2 ^ (32 - bits) ≡ 2 ^ 32 =
-    sym (pow-add 2 bits (32 - bits)) ∙ ap (λ k. 2 ^ k) (let e : bits + (32 - bits) ≡ 32 = omega arith in e) in
-    let turned : 2 ^ (32 - bits) * 2 ^ bits ≡ 2 ^ 32 = mul_comm (2 ^ (32 - bits)) (2 ^ bits) ∙ whole in
-    let below : inside < 2 ^ (32 - bits) * 2 ^ bits = rw turned address in
-    let place : inside / 2 ^ bits < 2 ^ (32 - bits) = (div-lt_iff_lt-mul positive).1 below in
+    let positive = pow_pos bits in
+    let two : bits + (32 - bits) ≡ 32 = omega arith in
+    let whole : 2 ^ bits * 2 ^ (32 - bits) ≡ 2 ^ 32 = sym (pow-add 2 bits (32 - bits)) ∙ ap (λ k. 2 ^ k) two in
+    let place : inside / 2 ^ bits < 2 ^ (32 - bits) =
+    (div-lt_iff_lt-mul positive).1 (rw (mul_comm (2 ^ (32 - bits)) (2 ^ bits), whole) address) in
     rw whole at (mul-add-lt (inside / 2 ^ bits) (2 ^ bits) (2 ^ bits - 1) (2 ^ (32 - bits)) place (omega arith))
 
 -- ---- the registers that a store covers
-
-windows_of_names : (windows : Option MapRegister → List Changed) (name : ℕ → Option MapRegister) (ks : List ℕ) →
-    flat_map windows (map name ks) ≡ flat_map (λ k. windows (name k)) ks
-windows_of_names windows name [] = refl
-windows_of_names windows name (k ∷ later) =
-    ap (λ (more : List Changed). windows (name k) ++ more) (windows_of_names windows name later)
 
 -- the windows of the names of a store are those that it covers
 pub covered_by_names : (setup : Setup) (bytes : Bytes) (change : MapChange) (reg : Reg) (width : Width) (value : ℕ)
@@ -43,7 +38,7 @@ pub covered_by_names : (setup : Setup) (bytes : Bytes) (change : MapChange) (reg
 unfolding windows_covered
 covered_by_names setup bytes change reg width value cards names is same named =
     rw (named, ← same, is)
-    (windows_of_names (name_windows setup bytes) (λ k. map_register setup.cards (reg_after reg k))
+    (flat_map-map (name_windows setup bytes) (λ k. map_register setup.cards (reg_after reg k))
     (take (bytes_of width) offsets))
 
 -- one more name
@@ -51,22 +46,14 @@ pub pushed_on : (windows : Option MapRegister → List Changed) (names : List (O
     (first found next : List Changed) → k < length names → found ≡ first ++ flat_map windows (take k names) →
     next ≡ found ++ windows (get_or names k None) → next ≡ first ++ flat_map windows (take (k + 1) names)
 pushed_on windows names k first found next below found_is next_is =
-    let here : Option MapRegister = get_or names k None in
-    let whole : flat_map windows (take (k + 1) names) ≡ flat_map windows (take k names) ++ windows here =
-    ap (λ (list : List (Option MapRegister)). flat_map windows list) (take_more names k None below)
-    ∙ flat_map-append windows (take k names) (here ∷ [])
-    ∙ ap (λ (more : List Changed). flat_map windows (take k names) ++ more) (append-nil (windows here)) in
-    next_is
-    ∙ ap (λ (list : List Changed). list ++ windows here) found_is
-    ∙ append_assoc first (flat_map windows (take k names)) (windows here)
-    ∙ ap (λ (more : List Changed). first ++ more) (sym whole)
+    rw (next_is, found_is, take_more names k None below)
+    (flat_map_more windows first (take k names) (get_or names k None))
 
 -- all of them
 pub pushed_all : (windows : Option MapRegister → List Changed) (names : List (Option MapRegister)) (k : ℕ)
     (first found : List Changed) →
     length names ≤ k → found ≡ first ++ flat_map windows (take k names) → found ≡ first ++ flat_map windows names
-pushed_all windows names k first found all found_is =
-    found_is ∙ ap (λ (list : List (Option MapRegister)). first ++ flat_map windows list) (take_all k names all)
+pushed_all windows names k first found all found_is = rw (take_all k names all) at found_is
 
 pub numbered_at : (names : List (Option MapRegister)) (k : ℕ) (d : Option MapRegister) → k < length names →
     AllByRecursion IsNumberedName names → IsNumberedName (get_or names k d)

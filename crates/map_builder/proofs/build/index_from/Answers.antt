@@ -6,8 +6,7 @@ use Rattle.map_builder.proofs.build.index_from.Goals as goal
 pub loop-index-preserved : goal.loop-index-preserved
 loop-index-preserved c = record {
   begins =
-      begins_next c.args.ranges.now c.loop-index.index c.args.addr
-      (placed 0 c.args.ranges.now (omega arith) c.requires.tiles) c.loop-index.invariant.begins
+      begins_next (placed 0 c.args.ranges.now (omega arith) c.requires.tiles) c.loop-index.invariant.begins
       c.loop-index-test.true (omega arith);
   from = omega (arith, c.loop-index.invariant.from);
 }

@@ -1,8 +1,7 @@
-use Rattle.std.proofs.Common.{arith, sym, subst, lit<}
+use Rattle.std.proofs.Common.{arith, lit<}
 use Rattle.std.proofs.lemmas.List.{length-map}
-use Rattle.addr_decode.specs.MapRegs.{map_bytes}
-use Rattle.map_builder.specs.Common.{range_of, IsWhole}
-use Rattle.map_builder.proofs.StepLemmas.{is_whole}
+use Rattle.map_builder.specs.Common.{range_of}
+use Rattle.map_builder.proofs.BuildLemmas.{is_whole}
 use Rattle.map_builder.proofs.build.ranges_of.Goals as goal
 
 pub push-requires : goal.push-requires
@@ -13,7 +12,6 @@ push-requires g c = (
 
 pub returns : goal.returns
 returns g c =
-    let is = subst (IsWhole (map_bytes c.args.regs.now)) (sym c.push.ensures.items)
-    (is_whole (map_bytes c.args.regs.now) c.requires.board c.rows_in-last.new.ranges.items c.rows_in-last.result
-    c.rows_in-last.ensures.built) in
-    record { tiles = is.tiles; map = is.is_map; few = is.few }
+    let is = is_whole c.requires.board c.rows_in-last.new.ranges.items c.rows_in-last.result
+    c.rows_in-last.ensures.built in
+    rw c.push.ensures.items (record { tiles = is.tiles; map = is.is_map; few = is.few })

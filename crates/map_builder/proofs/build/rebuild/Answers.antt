@@ -1,8 +1,8 @@
-use Rattle.std.proofs.Common.{◌≡◌, List, [], ◌∷◌, arith, refl, subst, length, map}
+use Rattle.std.proofs.Common.{◌≡◌, List, [], ◌∷◌, arith, refl, length, map}
 use Rattle.std.proofs.lemmas.Bool.Decides.{nat_tests}
 use Rattle.addr_decode.specs.MapRegs.{map_bytes}
 use Rattle.map_ranges.specs.declared.range.Changed.{Changed}
-use Rattle.map_builder.specs.Common.{range_of, IsMapWhere, IsBeside}
+use Rattle.map_builder.specs.Common.{range_of}
 use Rattle.map_builder.proofs.RebuildLemmas.{all_right}
 use Rattle.map_builder.proofs.build.rebuild.Goals as goal
 
@@ -12,11 +12,8 @@ no_window (window ∷ later) none = absurd (omega arith)
 
 pub returns-then-is_empty-clause-map : goal.returns-then-is_empty-clause-map
 returns-then-is_empty-clause-map g c =
-    let empty : length c.args.windows.now ≡ 0 = grind (arith, nat_tests) in
-    let none : c.args.windows.now ≡ [] = no_window c.args.windows.now empty in
-    all_right (map_bytes c.args.regs.now) (map range_of c.args.ranges.now.items)
-    (subst (λ (windows : List Changed). IsMapWhere (map_bytes c.args.regs.now) (IsBeside windows)
-    (map range_of c.args.ranges.now.items)) none c.requires.beside)
+    let none = no_window c.args.windows.now (grind (arith, nat_tests)) in
+    all_right (map_bytes c.args.regs.now) (map range_of c.args.ranges.now.items) (rw none at c.requires.beside)
 
 pub returns-clause-tiles : goal.returns-clause-tiles
 returns-clause-tiles g c = c.sweep.ensures.whole.tiles

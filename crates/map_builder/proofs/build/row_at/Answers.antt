@@ -1,8 +1,8 @@
-use Rattle.std.proofs.Common.{◌-◌, map, arith}
+use Rattle.std.proofs.Common.{◌-◌, arith}
 use Rattle.std.proofs.lemmas.List.{length-map}
 use Rattle.addr_decode.specs.MapRegs.{map_bytes}
 use Rattle.map_builder.specs.Map.{range_of}
-use Rattle.map_builder.proofs.StepLemmas.{built_step, one_address}
+use Rattle.map_builder.proofs.BuildLemmas.{built_step, one_address}
 use Rattle.map_builder.proofs.build.row_at.Goals as goal
 
 pub range_at-requires-clause-room : goal.range_at-requires-clause-room
@@ -15,10 +15,7 @@ range_at-requires-clause-above g c = omega (arith, c.requires.built.built.begun,
 pub returns : goal.returns
 returns g c = record {
   built =
-      built_step (map_bytes c.args.regs.now) (map range_of c.args.ranges.now.items)
-      (map range_of c.range_at.new.ranges.items) (range_of c.args.last)
-      (range_of c.range_at.result) (c.args.addr - 1) c.args.addr c.row.result.areas (omega (arith, c.requires.above))
-      (omega arith)
+      built_step c.row.result.areas (omega (arith, c.requires.above)) (omega arith)
       (one_address (map_bytes c.args.regs.now) (c.args.addr - 1) c.args.addr (omega (arith, c.requires.above)))
       c.row.ensures.areas c.range_at.ensures.goes_on c.requires.built;
   step = c.row.ensures.step;

@@ -1,8 +1,7 @@
-use Rattle.std.proofs.Common.{arith, map}
+use Rattle.std.proofs.Common.{arith}
 use Rattle.std.proofs.lemmas.List.{length-map}
-use Rattle.addr_decode.specs.MapRegs.{map_bytes}
 use Rattle.map_builder.specs.Map.{range_of}
-use Rattle.map_builder.proofs.StepLemmas.{built_step, built_over, edges_left}
+use Rattle.map_builder.proofs.BuildLemmas.{built_step, built_over, edges_left}
 use Rattle.map_builder.proofs.build.rows_in.Goals as goal
 
 pub range_at-last-requires-clause-room : goal.range_at-last-requires-clause-room
@@ -12,11 +11,8 @@ range_at-last-requires-clause-room g c =
 pub loop-edge-preserved : goal.loop-edge-preserved
 loop-edge-preserved g c = record {
   built =
-      built_step (map_bytes c.args.regs.now) (map range_of c.loop-edge.ranges.items)
-      (map range_of c.range_at-last.new.ranges.items)
-      (range_of c.loop-edge.last) (range_of c.range_at-last.result) c.loop-edge.addr c.in-Some.edge c.row.result.areas
-      c.in-Some.ensures.above (omega arith) c.in-Some.ensures.equal c.row.ensures.areas c.range_at-last.ensures.goes_on
-      c.loop-edge.invariant.built;
+      built_step c.row.result.areas c.in-Some.ensures.above (omega arith) c.in-Some.ensures.equal c.row.ensures.areas
+      c.range_at-last.ensures.goes_on c.loop-edge.invariant.built;
   within = c.in-Some.ensures.within;
   rows = λ setup bytes stands. omega (
     arith,
@@ -28,10 +24,7 @@ loop-edge-preserved g c = record {
 
 pub returns : goal.returns
 returns g c = record {
-  built =
-      built_over (map_bytes c.args.regs.now) (map range_of c.loop-edge.ranges.items) (range_of c.loop-edge.last)
-      c.loop-edge.addr c.args.interval.hi
-      c.loop-edge.invariant.within c.in_default.ensures.equal c.loop-edge.invariant.built;
+  built = built_over c.loop-edge.invariant.within c.in_default.ensures.equal c.loop-edge.invariant.built;
   rows = λ setup bytes stands.
       omega (
         arith,

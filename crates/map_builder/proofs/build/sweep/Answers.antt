@@ -1,8 +1,7 @@
-use Rattle.std.proofs.Common.{map, arith}
+use Rattle.std.proofs.Common.{arith}
 use Rattle.addr_decode.specs.Common.{map_bytes, edges_after}
-use Rattle.map_builder.specs.Map.{range_of}
-use Rattle.map_builder.proofs.RebuildLemmas.{holds_begins, begins_later, window_at, first_below, order_at, sweep_first}
-use Rattle.map_builder.proofs.RebuildLemmas.{above, sweep_agrees, sweep_next, sweep_end, rows_at, no_rows}
+use Rattle.map_builder.proofs.RebuildLemmas.{holds_begins, begins_later, first_below, order_at, sweep_first, above}
+use Rattle.map_builder.proofs.RebuildLemmas.{sweep_agrees, sweep_next, sweep_end, rows_at, no_rows}
 use Rattle.map_builder.proofs.build.sweep.Goals as goal
 
 pub index_of-from-requires : goal.index_of-from-requires
@@ -13,8 +12,7 @@ cut_below-cut-requires-clause-holds g c = rw c.saturating_sub.ensures at c.index
 
 pub cut_below-cut-requires-clause-below : goal.cut_below-cut-requires-clause-below
 cut_below-cut-requires-clause-below g c =
-    first_below (map_bytes c.args.regs.now) (map range_of c.args.before.now) c.args.windows.now c.requires.some
-    c.requires.rise c.requires.beside
+    first_below c.args.windows.now c.requires.some c.requires.rise c.requires.beside
 
 pub rows_in-last-requires-clause-order : goal.rows_in-last-requires-clause-order
 rows_in-last-requires-clause-order g c = order_at c.args.windows.now 0 c.requires.some c.requires.rise
@@ -22,9 +20,7 @@ rows_in-last-requires-clause-order g c = order_at c.args.windows.now 0 c.require
 pub loop-index-init : goal.loop-index-init
 loop-index-init g c = record {
   sweep =
-      sweep_first (map_bytes c.args.regs.now) (map range_of c.rows_in-last.new.ranges.items)
-      (map range_of c.args.before.now) (range_of c.rows_in-last.result)
-      c.args.windows.now c.requires.some c.requires.rise c.requires.beside c.rows_in-last.ensures.fits
+      sweep_first c.args.windows.now c.requires.some c.requires.rise c.requires.beside c.rows_in-last.ensures.fits
       c.rows_in-last.ensures.built;
   rows = λ setup bytes stands.
       omega (
@@ -34,46 +30,30 @@ loop-index-init g c = record {
         c.cut_below-cut.ensures.step,
       );
   from =
-      holds_begins c.args.before.now c.index_of-from.result c.saturating_sub.result (window_at c.args.windows.now 0).hi
-      c.index_of-from.ensures.holds
+      holds_begins c.index_of-from.ensures.holds
       (omega (arith, c.saturating_sub.ensures, order_at c.args.windows.now 0 c.requires.some c.requires.rise));
 }
 
 pub keep-last-requires-clause-order : goal.keep-last-requires-clause-order
 keep-last-requires-clause-order g c =
-    omega (
-      arith,
-      above (map_bytes c.args.regs.now) (map range_of c.loop-index.ranges.items) (map range_of c.args.before.now)
-          (range_of c.loop-index.last) c.loop-index.hi
-          c.args.windows.now c.loop-index.index (omega arith) c.loop-index.invariant.sweep,
-    )
+    omega (arith, above c.args.windows.now c.loop-index.index (omega arith) c.loop-index.invariant.sweep)
 
 pub keep-last-requires-clause-kept : goal.keep-last-requires-clause-kept
 keep-last-requires-clause-kept g c = record {
   regs = map_bytes c.args.regs.now;
   board = c.requires.board;
   built = c.loop-index.invariant.sweep.built;
-  agrees =
-      sweep_agrees (map_bytes c.args.regs.now) (map range_of c.loop-index.ranges.items) (map range_of c.args.before.now)
-      (range_of c.loop-index.last) c.loop-index.hi
-      c.args.windows.now c.loop-index.index (omega arith) c.loop-index.invariant.sweep;
+  agrees = sweep_agrees c.args.windows.now c.loop-index.index (omega arith) c.loop-index.invariant.sweep;
 }
 
 pub row_at-last-requires-clause-above : goal.row_at-last-requires-clause-above
 row_at-last-requires-clause-above g c =
-    omega (
-      arith,
-      above (map_bytes c.args.regs.now) (map range_of c.loop-index.ranges.items) (map range_of c.args.before.now)
-          (range_of c.loop-index.last) c.loop-index.hi
-          c.args.windows.now c.loop-index.index (omega arith) c.loop-index.invariant.sweep,
-    )
+    omega (arith, above c.args.windows.now c.loop-index.index (omega arith) c.loop-index.invariant.sweep)
 
 pub row_at-last-requires-clause-built : goal.row_at-last-requires-clause-built
 row_at-last-requires-clause-built g c =
     c.keep-last.ensures.built (map_bytes c.args.regs.now) c.loop-index.invariant.sweep.built
-    (sweep_agrees (map_bytes c.args.regs.now) (map range_of c.loop-index.ranges.items) (map range_of c.args.before.now)
-    (range_of c.loop-index.last) c.loop-index.hi
-    c.args.windows.now c.loop-index.index (omega arith) c.loop-index.invariant.sweep)
+    (sweep_agrees c.args.windows.now c.loop-index.index (omega arith) c.loop-index.invariant.sweep)
 
 pub rows_in-last-requires-in-loop-index-clause-order : goal.rows_in-last-requires-in-loop-index-clause-order
 rows_in-last-requires-in-loop-index-clause-order g c =
@@ -82,12 +62,8 @@ rows_in-last-requires-in-loop-index-clause-order g c =
 pub loop-index-preserved : goal.loop-index-preserved
 loop-index-preserved g c = record {
   sweep =
-      sweep_next (map_bytes c.args.regs.now) (map range_of c.loop-index.ranges.items) (map range_of c.args.before.now)
-      (range_of c.loop-index.last) c.loop-index.hi
-      c.args.windows.now c.loop-index.index (omega arith) c.loop-index.invariant.sweep
-      (map range_of c.rows_in-last-in-loop-index.new.ranges.items)
-      (range_of c.rows_in-last-in-loop-index.result) c.rows_in-last-in-loop-index.ensures.fits
-      c.rows_in-last-in-loop-index.ensures.built;
+      sweep_next c.args.windows.now c.loop-index.index (omega arith) c.loop-index.invariant.sweep
+      c.rows_in-last-in-loop-index.ensures.fits c.rows_in-last-in-loop-index.ensures.built;
   rows = λ setup bytes stands.
       omega (
         arith,
@@ -97,14 +73,11 @@ loop-index-preserved g c = record {
         c.row_at-last.ensures.step,
       );
   from =
-      begins_later c.args.before.now c.index_of-from.result c.loop-index.hi
-      (window_at c.args.windows.now c.loop-index.index).hi c.loop-index.invariant.from
+      begins_later c.loop-index.invariant.from
       (omega (
         arith,
         order_at c.args.windows.now c.loop-index.index (omega arith) c.loop-index.invariant.sweep.rise,
-        above (map_bytes c.args.regs.now) (map range_of c.loop-index.ranges.items) (map range_of c.args.before.now)
-            (range_of c.loop-index.last) c.loop-index.hi
-            c.args.windows.now c.loop-index.index (omega arith) c.loop-index.invariant.sweep,
+        above c.args.windows.now c.loop-index.index (omega arith) c.loop-index.invariant.sweep,
       ));
 }
 
@@ -113,18 +86,13 @@ finish-requires-clause-kept g c = record {
   regs = map_bytes c.args.regs.now;
   board = c.requires.board;
   built = c.loop-index.invariant.sweep.built;
-  agrees =
-      sweep_end (map_bytes c.args.regs.now) (map range_of c.loop-index.ranges.items) (map range_of c.args.before.now)
-      (range_of c.loop-index.last) c.loop-index.hi
-      c.args.windows.now c.loop-index.index (omega arith) c.loop-index.invariant.sweep;
+  agrees = sweep_end c.args.windows.now c.loop-index.index (omega arith) c.loop-index.invariant.sweep;
 }
 
 pub returns-clause-whole : goal.returns-clause-whole
 returns-clause-whole g c =
     c.finish.ensures.whole (map_bytes c.args.regs.now) c.requires.board c.loop-index.invariant.sweep.built
-    (sweep_end (map_bytes c.args.regs.now) (map range_of c.loop-index.ranges.items) (map range_of c.args.before.now)
-    (range_of c.loop-index.last) c.loop-index.hi
-    c.args.windows.now c.loop-index.index (omega arith) c.loop-index.invariant.sweep)
+    (sweep_end c.args.windows.now c.loop-index.index (omega arith) c.loop-index.invariant.sweep)
 
 pub returns-clause-rows : goal.returns-clause-rows
 returns-clause-rows g c = λ setup bytes stands.

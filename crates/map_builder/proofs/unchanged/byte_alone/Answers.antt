@@ -1,6 +1,6 @@
 use Rattle.pci_bars.specs.Cards.{cards_of}
 use Rattle.std.proofs.Common.{None, arith}
-use Rattle.map_builder.proofs.UnchangedLemmas.{held_alone}
+use Rattle.map_builder.proofs.KeptStores.{held_alone}
 use Rattle.map_builder.proofs.WindowLemmas.{numbered_at}
 use Rattle.map_builder.proofs.unchanged.byte_alone.Goals as goal
 

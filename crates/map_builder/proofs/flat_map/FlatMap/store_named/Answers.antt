@@ -1,8 +1,7 @@
-use Rattle.std.proofs.Common.{rules, ◌≡◌, ◌∙◌, ℕ, Bool, ap, sym, if◌then◌else◌}
+use Rattle.std.proofs.Common.{rules, ◌≡◌, ◌∙◌, sym}
 use Rattle.board_prelude.proofs.Common.{false≢true, Setup, touches_map, Store}
 use Rattle.pci_bars.specs.Cards.{cards_of}
-use Rattle.map_builder.specs.Map.{next_version}
-use Rattle.map_builder.proofs.ChangeLemmas.{names_touched}
+use Rattle.map_builder.proofs.ChangeLemmas.{names_touched, stored_if}
 use Rattle.map_builder.proofs.flat_map.FlatMap.store_named.Goals.{After-touch_map}
 use Rattle.map_builder.proofs.flat_map.FlatMap.store_named.Goals as goal
 
@@ -23,25 +22,12 @@ set_beside-requires c = record {
       c.if-touch_map.false;
 }
 
-abbrev version_if : ℕ → Bool → ℕ
-version_if version touched = if touched then next_version version else version
-
 pub returns-then-touch_map : goal.returns-then-touch_map
 returns-then-touch_map c = record {
   stored =
       let here = (goal.at.returns-then-touch_map c).After-touch_map in
-      let applied = c.apply_uncounted.ensures.applied in
-      record {
-        stands = applied.stands;
-        cards = applied.cards;
-        same_cards = applied.same_cards;
-        version = λ setup same.
-            applied.version ∙ ap (version_if c.args.self.now.version) (sym c.if-touch_map.true ∙ found here setup same);
-        windows = λ setup bytes stands touched. applied.windows setup bytes stands;
-        same_windows = λ setup same not. absurd (false≢true (sym not ∙ sym (found here setup same) ∙
-            c.if-touch_map.true));
-        map = applied.map;
-      };
+      stored_if (assumption c.apply_uncounted.ensures.applied)
+      (λ setup same. sym (found here setup same) ∙ c.if-touch_map.true);
 }
 
 pub returns-else-touch_map : goal.returns-else-touch_map
@@ -49,15 +35,15 @@ returns-else-touch_map c = record {
   stored =
       let here = (goal.at.returns-else-touch_map c).After-touch_map in
       let beside = c.set_beside.ensures in
+      let not = λ (setup : Setup) (same : setup.cards ≡ cards_of c.args.self.now.regs.cards).
+      sym (found here setup same) ∙ c.if-touch_map.false in
       record {
         stands = beside.stands;
         cards = beside.cards;
         same_cards = beside.same_cards;
-        version = λ setup same.
-            beside.version ∙ ap (version_if c.args.self.now.version) (sym c.if-touch_map.false ∙ found here setup same);
-        windows = λ setup bytes stands touched.
-            absurd (false≢true (sym c.if-touch_map.false ∙ found here setup stands.cards.0 ∙ touched));
-        same_windows = λ setup same not. beside.windows;
+        version = λ setup same. rw (not setup same) beside.version;
+        windows = λ setup bytes stands touched. absurd (false≢true (sym (not setup stands.cards.0) ∙ touched));
+        same_windows = λ setup same is. beside.windows;
         map = beside.map;
       };
 }
