@@ -1,15 +1,14 @@
 -- The state after bytes were written to a card from outside.
 use Rattle.std.proofs.Common.{◌≡◌, ◌≢◌, ℕ, zero, suc, ◌+◌, ◌-◌, ◌<◌, ◌≤◌, true, false, ◌&&◌, List, [], ◌∷◌, ◌++◌}
-use Rattle.std.proofs.Common.{length, take, drop, Option, Some, None, refl, sym, ◌∙◌, ap, arith, inl, inr, ◌==◌, nat_le}
-use Rattle.std.proofs.Common.{nat_lt, if◌then◌else◌, slice_index, unwrap_or, option_and_then, IfSome}
+use Rattle.std.proofs.Common.{length, take, drop, Option, Some, None, refl, sym, ◌∙◌, ap, arith, inl, inr, ◌==◌}
+use Rattle.std.proofs.Common.{nat_le, nat_lt, if◌then◌else◌, slice_index, unwrap_or, option_and_then, IfSome}
 use Rattle.std.proofs.lemmas.Grind.{elements}
 use Rattle.std.proofs.lemmas.Option.{slice_get_past}
-use Rattle.board_prelude.proofs.Common.{cases_Bool, cases_eq, cases_lt, ne_eqb, eq-eqb, and_from, and_left}
-use Rattle.board_prelude.proofs.Common.{eqb-true, eqb-false, and_parts, get_or-take, get_or-drop}
-use Rattle.board_prelude.proofs.Common.{nat_tests, Write, One, Card, Event, Memory, Port, Bus}
-use Rattle.board_prelude.proofs.Common.{Entry, Setup, IsSetup, IsCard, FittedCard, card_at, Cell, DramCell, CardCell}
-use Rattle.board_prelude.proofs.Common.{byte, byte_put, card_byte, kept_size, Denial, PortAccess, config_address}
-use Rattle.board_prelude.proofs.Common.{reset_control_port, config_address_port}
+use Rattle.board_prelude.proofs.Common.{cases_Bool, cases_eq, cases_lt, ne_eqb, eq-eqb, and_from, and_left, eqb-true}
+use Rattle.board_prelude.proofs.Common.{eqb-false, and_parts, get_or-take, get_or-drop, nat_tests, Write, One, Card}
+use Rattle.board_prelude.proofs.Common.{Event, Memory, Port, Bus, Entry, Setup, IsSetup, IsCard, FittedCard, card_at}
+use Rattle.board_prelude.proofs.Common.{Cell, DramCell, CardCell, byte, byte_put, card_byte, kept_size, Denial}
+use Rattle.board_prelude.proofs.Common.{PortAccess, config_address, reset_control_port, config_address_port}
 use Rattle.pci_bars.specs.Contents.{IsBaseNumber, held, IsContentsOf}
 use Rattle.pci_bars.proofs.ContentsLemmas.{card_within, stored_byte}
 use Rattle.board_devices.specs.Common.{LeavesDevices}

@@ -4,8 +4,8 @@ use Rattle.board_prelude.proofs.Common.{append-nil, Setup, IsSetup}
 use Rattle.byte_fields.specs.Fields.{AreBytes}
 use Rattle.board_chipset.specs.Alone.{alone}
 use Rattle.board_chipset.specs.Chipset.{Running}
-use Rattle.board_chipset.specs.ChipsetState.{IsChipset, chipset_bytes, chipset_fields, LoadsChipset}
-use Rattle.board_chipset.specs.ChipsetState.{IsBadStateAt, is_other_version}
+use Rattle.board_chipset.specs.ChipsetState.{IsChipset, chipset_bytes, chipset_fields, LoadsChipset, IsBadStateAt}
+use Rattle.board_chipset.specs.ChipsetState.{is_other_version}
 use Rattle.board_chipset.proofs.Marks.{alone_bad}
 use Rattle.board_chipset.proofs.ChipsetFormats.{chipset_format}
 use Rattle.board_chipset.proofs.ChipsetLoads.{of_version}

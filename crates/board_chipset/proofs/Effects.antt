@@ -2,8 +2,8 @@
 use Rattle.std.proofs.Common.{◌≡◌, ℕ, ◌+◌, ◌%◌, ◌≤◌, true, false, ◌&&◌, List, Option, Some, None, refl, sym, subst}
 use Rattle.std.proofs.Common.{arith, inl, inr, ◌==◌, is_some}
 use Rattle.board_prelude.proofs.Common.{cases_Bool, and_parts, cond_both, nat_tests, Width, One, PortAccess, Reg}
-use Rattle.board_prelude.proofs.Common.{Target, Card, Device, Config, Abort, bytes_of, largest_of, Port}
-use Rattle.board_prelude.proofs.Common.{Entry, MapChange, Store, Setup, config_address_port, reset_control_port}
+use Rattle.board_prelude.proofs.Common.{Target, Card, Device, Config, Abort, bytes_of, largest_of, Port, Entry}
+use Rattle.board_prelude.proofs.Common.{MapChange, Store, Setup, config_address_port, reset_control_port}
 use Rattle.board_prelude.proofs.Common.{function_exists, kept_address, config_address, is_enabled, bus_of, device_of}
 use Rattle.board_prelude.proofs.Common.{function_of, register_of, is_config_port, config_register, byte_of}
 use Rattle.board_base.specs.declared.access.Width.TheVariants.{Two, Four}

@@ -1,7 +1,7 @@
 -- A chipset after bytes that a caller keeps itself were put in.
 use Rattle.std.proofs.Common.{◌≡◌, ℕ, ◌+◌, ◌-◌, ◌<◌, nat_le, nat_lt, ◌&&◌, if◌then◌else◌, List, [], ◌++◌, length}
-use Rattle.std.proofs.Common.{slice_index, option_map, unwrap_or, Option, Some, None, Result, OnOk, sym, ap}
-use Rattle.std.proofs.Common.{◌∙◌, append_assoc, arith}
+use Rattle.std.proofs.Common.{slice_index, option_map, unwrap_or, Option, Some, None, Result, OnOk, sym, ap, ◌∙◌}
+use Rattle.std.proofs.Common.{append_assoc, arith}
 use Rattle.std.proofs.lemmas.Result.{on_ok_weaker}
 use Rattle.board_prelude.proofs.Common.{nat_tests, Bytes, Disk, IsDisk, Setup, IsSetup}
 use Rattle.board_spec.specs.RegisterTable.{reset_byte}

@@ -1,12 +1,11 @@
 -- What an access reaches has the bytes that it asks for.
 use Rattle.std.proofs.Common.{◌≡◌, ℕ, ◌+◌, ◌%◌, ◌^◌, ◌≤◌, Bool, true, false, ◌&&◌, not, List, [], ◌∷◌, length, Option}
 use Rattle.std.proofs.Common.{Some, None, inl, inr, refl, sym, subst, arith, is_some, unwrap_or, option_map}
-use Rattle.board_prelude.proofs.Common.{Kind, Width, One, Dev, Reg, Area, Target, Device, Config, Card, Abort, bytes_of}
-use Rattle.board_prelude.proofs.Common.{Part, Setup, IsRomSize, IsBusAccess, is_write, lies_in}
-use Rattle.board_prelude.proofs.Common.{upper_memory, Bytes, Window, first_of, line_where, card_area, row_of}
-use Rattle.board_prelude.proofs.Common.{is_smram_range, is_shadowed}
-use Rattle.board_prelude.proofs.Common.{memory_claim, area_of, window_bits, target_at}
-use Rattle.board_prelude.proofs.Common.{is_in_hole, is_bios_selected, is_smram_open}
+use Rattle.board_prelude.proofs.Common.{Kind, Width, One, Dev, Reg, Area, Target, Device, Config, Card, Abort}
+use Rattle.board_prelude.proofs.Common.{bytes_of, Part, Setup, IsRomSize, IsBusAccess, is_write, lies_in, upper_memory}
+use Rattle.board_prelude.proofs.Common.{Bytes, Window, first_of, line_where, card_area, row_of, is_smram_range}
+use Rattle.board_prelude.proofs.Common.{is_shadowed, memory_claim, area_of, window_bits, target_at, is_in_hole}
+use Rattle.board_prelude.proofs.Common.{is_bios_selected, is_smram_open}
 use Rattle.board_base.specs.declared.access.Width.TheVariants.{Two, Four}
 use Rattle.board_base.specs.declared.access.Access.{Access}
 use Rattle.board_base.specs.declared.target.Area.TheVariants.{Dram as DramArea, Shadow as ShadowArea}

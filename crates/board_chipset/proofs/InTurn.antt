@@ -1,6 +1,7 @@
 -- Entries that put a byte each, one after another from a place on. They write no register and reach no device.
-use Rattle.std.proofs.Common.{◌≡◌, ◌≢◌, ℕ, zero, suc, ◌+◌, ◌-◌, ◌<◌, ◌&&◌, ◌==◌, nat_le, nat_lt, if◌then◌else◌, List, [], ◌∷◌}
-use Rattle.std.proofs.Common.{◌++◌, length, slice_index, unwrap_or, Option, Some, None, refl, sym, ◌∙◌, ap, inl, inr, arith}
+use Rattle.std.proofs.Common.{◌≡◌, ◌≢◌, ℕ, zero, suc, ◌+◌, ◌-◌, ◌<◌, ◌&&◌, ◌==◌, nat_le, nat_lt, if◌then◌else◌, List}
+use Rattle.std.proofs.Common.{[], ◌∷◌, ◌++◌, length, slice_index, unwrap_or, Option, Some, None, refl, sym, ◌∙◌, ap}
+use Rattle.std.proofs.Common.{inl, inr, arith}
 use Rattle.board_prelude.proofs.Common.{cases_eq, nat_tests, Event, Reply, Entry, Setup, Cell, DramCell, CardCell}
 use Rattle.board_prelude.proofs.Common.{entry_put, stored_of, device_reached}
 use Rattle.pci_bars.specs.Contents.{IsBaseNumber, held}

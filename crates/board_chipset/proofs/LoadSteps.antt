@@ -1,21 +1,20 @@
 -- The state after bytes were written from outside.
 use Rattle.std.proofs.Common.{◌≡◌, ℕ, zero, suc, false, ◌+◌, ◌<◌, ◌≤◌, ◌&&◌, List, [], ◌∷◌, ◌++◌, length, Some, None}
-use Rattle.std.proofs.Common.{refl, arith, ◌↔◌, Result, Ok, Err, IsErr, OnOk, OnErr, nat_le, nat_lt}
-use Rattle.std.proofs.Common.{if◌then◌else◌, slice_index, unwrap_or, Option}
+use Rattle.std.proofs.Common.{refl, arith, ◌↔◌, Result, Ok, Err, IsErr, OnOk, OnErr, nat_le, nat_lt, if◌then◌else◌}
+use Rattle.std.proofs.Common.{slice_index, unwrap_or, Option}
 use Rattle.board_prelude.proofs.Common.{nat_tests, Write, One, Dram, Shadow, Smram, Card, Device, clock_index_port}
 use Rattle.board_prelude.proofs.Common.{clock_data_port, Memory, Port, Bus, Reply, Entry, Setup, Cell, DramCell}
 use Rattle.board_prelude.proofs.Common.{CardCell, byte_put, entry_put, clock_of, device_reached}
 use Rattle.board_base.specs.declared.target.Dev.TheVariants.{Clock as ClockChip}
 use Rattle.dram_store.specs.declared.dram.PastTheEnd.{PastTheEnd}
 use Rattle.dram_store.specs.Dram.{dram_at, IsWritten}
-use Rattle.board_devices.specs.Common.{DevicesValue, AreDevicesOf, LeavesDevices, byte_out, WritesClock}
-use Rattle.board_devices.specs.Common.{PutsClockByte}
+use Rattle.board_devices.specs.Common.{DevicesValue, AreDevicesOf, LeavesDevices, byte_out, WritesClock, PutsClockByte}
 use Rattle.board_stores.specs.declared.stores.Stores.{Stores}
 use Rattle.board_stores.specs.Puts.{HasStores}
 use Rattle.board_chipset.specs.declared.registers.Registers.{Registers}
 use Rattle.board_chipset.specs.declared.state.State.{State}
-use Rattle.board_chipset.specs.Common.{HasRegisters, IsStateOf, Writes, WriteInTurn, WriteAll}
-use Rattle.board_chipset.specs.Common.{IsClockWrite, WriteClockByte}
+use Rattle.board_chipset.specs.Common.{HasRegisters, IsStateOf, Writes, WriteInTurn, WriteAll, IsClockWrite}
+use Rattle.board_chipset.specs.Common.{WriteClockByte}
 use Rattle.board_chipset.proofs.RegisterSteps.{writes_none, quiet}
 use Rattle.board_chipset.proofs.StateSteps.{soft}
 use Rattle.board_chipset.proofs.StoreSteps.{stores_stay}

@@ -1,12 +1,10 @@
 -- What a bus master reaches is neither SMRAM nor DRAM in its range.
-use Rattle.std.proofs.Common.{◌≡◌, ◌≢◌, ℕ, Bool, true, false, not, ◌&&◌, [], ◌∷◌, Option, Some, None, is_some, refl, ap}
-use Rattle.std.proofs.Common.{inl, inr, arith, ◌==◌, unwrap_or, option_map}
-use Rattle.board_prelude.proofs.Common.{cases_Bool, and_left, and_right, nat_tests, Kind, Area, Target}
-use Rattle.board_prelude.proofs.Common.{Smram, Card, Setup, rom_base, lies_in, smram_range}
-use Rattle.board_prelude.proofs.Common.{shadow_range, upper_memory, Bytes, Window, first_of, line_where}
-use Rattle.board_prelude.proofs.Common.{card_area, row_of, is_shadowed, memory_claim}
-use Rattle.board_prelude.proofs.Common.{is_smram_range, target_at, DramCell, first_cell}
-use Rattle.board_prelude.proofs.Common.{is_in_hole, is_bios_selected}
+use Rattle.std.proofs.Common.{◌≡◌, ◌≢◌, ℕ, Bool, true, false, not, ◌&&◌, [], ◌∷◌, Option, Some, None, is_some, refl}
+use Rattle.std.proofs.Common.{ap, inl, inr, arith, ◌==◌, unwrap_or, option_map}
+use Rattle.board_prelude.proofs.Common.{cases_Bool, and_left, and_right, nat_tests, Kind, Area, Target, Smram, Card}
+use Rattle.board_prelude.proofs.Common.{Setup, rom_base, lies_in, smram_range, shadow_range, upper_memory, Bytes}
+use Rattle.board_prelude.proofs.Common.{Window, first_of, line_where, card_area, row_of, is_shadowed, memory_claim}
+use Rattle.board_prelude.proofs.Common.{is_smram_range, target_at, DramCell, first_cell, is_in_hole, is_bios_selected}
 use Rattle.board_base.specs.declared.target.Area.TheVariants.{Dram as DramArea, Shadow as ShadowArea}
 use Rattle.board_base.specs.declared.target.Area.TheVariants.{Smram as SmramArea, Rom as RomArea, Card as CardArea}
 use Rattle.board_base.specs.declared.target.Area.TheVariants.{Abort as AbortArea}

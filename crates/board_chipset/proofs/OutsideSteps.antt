@@ -1,10 +1,10 @@
 -- Events for the devices alone: they write no register and store nothing.
 use Rattle.std.proofs.Common.{◌≡◌, ◌≤◌, true, List, [], ◌∷◌, None, refl, sym, ◌∙◌, subst, inl, inr, ℕ, ◌==◌, All, find}
 use Rattle.std.proofs.Common.{is_some, Bool, Option, Some, IfSome, arith}
-use Rattle.board_prelude.proofs.Common.{and_from, le-leb, Ack, IsAnswer, IsInRange, outside_answer}
-use Rattle.board_prelude.proofs.Common.{Applied, Stimulus, stimulus_form, applied_by, event_applied}
-use Rattle.board_prelude.proofs.Common.{cases_Bool, eqb-true, All-head, All-tail, Event, Memory, Wide, Port, Reply}
-use Rattle.board_prelude.proofs.Common.{Entry, Setup, FittedCard, IsCard, IsSetup, card_at, Cell, entry_put}
+use Rattle.board_prelude.proofs.Common.{and_from, le-leb, Ack, IsAnswer, IsInRange, outside_answer, Applied, Stimulus}
+use Rattle.board_prelude.proofs.Common.{stimulus_form, applied_by, event_applied, cases_Bool, eqb-true, All-head}
+use Rattle.board_prelude.proofs.Common.{All-tail, Event, Memory, Wide, Port, Reply, Entry, Setup, FittedCard, IsCard}
+use Rattle.board_prelude.proofs.Common.{IsSetup, card_at, Cell, entry_put}
 use Rattle.board_spec.specs.declared.event.Event.TheVariants.{Look as LookAt}
 use Rattle.board_spec.specs.declared.stimulus.Stimulus.TheVariants as stimuli
 use Rattle.board_devices.specs.Common.{DevicesValue, AreDevicesOf, AreRoutesOf, Asks}

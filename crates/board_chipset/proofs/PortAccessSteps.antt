@@ -1,6 +1,6 @@
 -- The cycles of an access to ports, done one after another.
-use Rattle.std.proofs.Common.{◌≡◌, ℕ, zero, suc, ◌+◌, ◌-◌, ◌*◌, ◌%◌, ◌^◌, ◌<◌, ◌≤◌, List, [], ◌∷◌, ◌++◌, length, get_or}
-use Rattle.std.proofs.Common.{take, drop, refl, ◌∙◌, ap, subst, arith, lit<, reverse}
+use Rattle.std.proofs.Common.{◌≡◌, ℕ, zero, suc, ◌+◌, ◌-◌, ◌*◌, ◌%◌, ◌^◌, ◌<◌, ◌≤◌, List, [], ◌∷◌, ◌++◌, length}
+use Rattle.std.proofs.Common.{get_or, take, drop, refl, ◌∙◌, ap, subst, arith, lit<, reverse}
 use Rattle.board_prelude.proofs.Common.{take_more, reverse-append, get_or-map, length-map, drop-cons, pow-le-pow_right}
 use Rattle.board_prelude.proofs.Common.{mod-eq_of_lt, Width, One, PortAccess, bytes_of, some_bytes, Setup, IsBusAccess}
 use Rattle.board_base.specs.declared.access.Width.TheVariants.{Two, Four}

@@ -1,7 +1,6 @@
 -- What an access at a port reaches, and what that tells of the access.
 use Rattle.std.proofs.Common.{◌≡◌, ℕ, ◌%◌, ◌^◌, Bool, true, false, ◌&&◌, not, List, [], ◌∷◌, drop, Option, Some, None}
-use Rattle.std.proofs.Common.{refl}
-use Rattle.std.proofs.Common.{sym, ◌∙◌, arith, ◌==◌, unwrap_or, option_map}
+use Rattle.std.proofs.Common.{refl, sym, ◌∙◌, arith, ◌==◌, unwrap_or, option_map}
 use Rattle.board_prelude.proofs.Common.{false≢true, cond_both, nat_tests, Width, Reg, Dev, Wires, Vector, Spurious}
 use Rattle.board_prelude.proofs.Common.{Keyboard, Ata, Target, Card, Device, Config, Abort, Denial, bytes_of}
 use Rattle.board_prelude.proofs.Common.{is_port_of, device_at, Setup, is_bit, config_address_port, reset_control_port}
