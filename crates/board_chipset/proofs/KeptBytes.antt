@@ -1,10 +1,10 @@
 -- Registers of the right number and widths are those of a board of their setup: each stands for a byte of its own.
-use Rattle.std.proofs.Common.{◌≡◌, ◌≢◌, ℕ, ◌-◌, false, ◌&&◌, List, [], ◌∷◌, length, get_or, Option, Some, None, refl}
-use Rattle.std.proofs.Common.{◌∙◌, ap, arith, ◌==◌, if◌then◌else◌, All, is_some, map, slice_index}
+use Rattle.std.proofs.Common.{◌≡◌, ℕ, ◌-◌, false, ◌&&◌, List, [], ◌∷◌, length, get_or, Option, Some, None, refl, ◌∙◌}
+use Rattle.std.proofs.Common.{ap, arith, ◌==◌, if◌then◌else◌, All, is_some, slice_index}
 use Rattle.board_prelude.proofs.Common.{and-false, or_parts, option_map_or, cond-false, ne_eqb, Setup, IsCard, Bytes}
-use Rattle.board_prelude.proofs.Common.{is_within, reset_byte, card_register, ide, pirq, pirqs}
-use Rattle.pci_bars.specs.Cards.{CardBytes, IsCardOf, AreFitted, is_kept_offset, cards_of}
-use Rattle.addr_decode.specs.MapRegs.{MapBytes, StandsFor}
+use Rattle.board_prelude.proofs.Common.{is_within, reset_byte, ide}
+use Rattle.pci_bars.specs.Cards.{CardBytes, IsCardOf, AreFitted, cards_of}
+use Rattle.addr_decode.specs.MapRegs.{MapBytes}
 use Rattle.map_builder.specs.Map.{HoldsDoublewords}
 use Rattle.map_builder.proofs.BoardLemmas.{card_with, found, overlaid, other_stands, decodes, overlaid_stands}
 use Rattle.config_regs.specs.declared.south.South.{South}
