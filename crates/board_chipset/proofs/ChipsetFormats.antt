@@ -1,11 +1,12 @@
 -- The state of a chipset is spelled and read back. What is read has no ranges of the map yet.
-use Rattle.std.proofs.Common.{◌≡◌, ℕ, ◌+◌, ◌*◌, ◌^◌, ◌<◌, ◌≤◌, Bool, true, false, List, [], ◌++◌, length, Option, Some}
-use Rattle.std.proofs.Common.{None, is_some, refl, sym, ap, arith, unwrap_or, inl, inr}
-use Rattle.board_prelude.proofs.Common.{Setup, FittedCard, IsSetup, IsRomSize, IsDisk}
-use Rattle.byte_fields.specs.Fields.{flag_byte}
-use Rattle.byte_fields.proofs.Formats.{IsFormat, format_as, then_format, last_format}
-use Rattle.byte_fields.proofs.Numbers.{Any, Ranges, byte_within, within_format, wide16, wide32}
-use Rattle.board_chipset.proofs.Marks.{exactly_format}
+use Rattle.std.proofs.Common.{◌≡◌, ℕ, ◌+◌, ◌*◌, ◌^◌, ◌<◌, ◌≤◌, Bool, true, false, List, ◌∷◌, [], length, Option, Some}
+use Rattle.std.proofs.Common.{None, is_some, refl, ap, arith, unwrap_or}
+use Rattle.std.specs.Int.{Width as Size, byte_len}
+use Rattle.board_prelude.proofs.Common.{Setup, FittedCard, IsSetup, IsRomSize, IsDisk, w8, to_le_bytes}
+use Rattle.byte_fields.specs.Fields.{within, flag_byte}
+use Rattle.byte_fields.proofs.Exactly.{exactly_format}
+use Rattle.byte_fields.proofs.Formats.{IsFormat, format_as, fields_format, ◌then◌, ◌&◌, last_field}
+use Rattle.byte_fields.proofs.Numbers.{Any, IsWide, byte_within, within_format, any_byte, wide16, wide32}
 use Rattle.cfg_ports.proofs.StateFormat.{address_format}
 use Rattle.dram_store.proofs.StateFormats.{dram_format}
 use Rattle.pci_bars.proofs.StateFormats.{contents_format}
@@ -13,7 +14,6 @@ use Rattle.config_regs.specs.State.{IsSouth}
 use Rattle.config_regs.proofs.StateFormat.{south_format}
 use Rattle.map_builder.specs.State.{IsBare}
 use Rattle.map_builder.proofs.StateFormat.{mapped_format, most_mapped}
-use Rattle.board_stores.specs.declared.stores.Stores.{Stores}
 use Rattle.board_devices.proofs.StateFormat.{most_of, devices_format}
 use Rattle.cfg_ports.specs.State.{IsAddress}
 use Rattle.board_chipset.specs.declared.registers.Registers.{Registers}
@@ -27,14 +27,20 @@ use Rattle.board_chipset.specs.ChipsetState.{stores_fields, state_bytes, state_f
 -- ---- the head
 
 -- a number that has one value
-only : (value n : ℕ) → Ranges value value n → value ≡ n
-only value n is = omega (arith, is.0, is.1)
+one_number :
+    {size : Size} {limit : ℕ} → IsWide size limit → (value : ℕ) → value < limit →
+    IsFormat (byte_len size) (within size value value) (to_le_bytes size) (λ n. n ≡ value)
+one_number wide value fits =
+    format_as _ _ _ (within_format wide value value fits) (omega arith) (λ n is. (omega arith, omega arith))
+    (λ n good. omega (arith, good.0, good.1)) (λ n good. refl)
+
+one_byte : (value : ℕ) → value < 2 ^ 8 → IsFormat 1 (within w8 value value) (λ n. n ∷ []) (λ n. n ≡ value)
+one_byte value fits =
+    format_as _ _ _ (byte_within value value fits) (omega arith) (λ n is. (omega arith, omega arith))
+    (λ n good. omega (arith, good.0, good.1)) (λ n good. refl)
 
 rom_few : (size : ℕ) → IsRomSize size → size ≤ 0x8_0000
-rom_few size (inl is) = omega (arith, is)
-rom_few size (inr (inl is)) = omega (arith, is)
-rom_few size (inr (inr (inl is))) = omega (arith, is)
-rom_few size (inr (inr (inr is))) = omega (arith, is)
+rom_few size is = grind (arith, is)
 
 disk_few : (disk : Option (List ℕ)) → IsDisk disk → length (unwrap_or disk []) ≤ 0x200_0000
 disk_few None is = omega arith
@@ -47,49 +53,28 @@ flag_few true = omega arith
 size_format : (setup : Setup) → IsSetup setup → IsFormat 12 (size_fields setup) (λ done. size_bytes setup) Any
 unfolding size_fields size_bytes
 size_format setup fits =
-    let mib : setup.mib < 2 ^ 16 = omega (arith, fits.most_memory) in
-    let cards : length setup.cards < 2 ^ 8 = omega (arith, fits.cards.count) in
-    let rom : length setup.rom < 2 ^ 32 = omega (arith, rom_few (length setup.rom) fits.rom) in
-    let disk : disk_size setup < 2 ^ 32 = omega (arith, disk_few setup.disk fits.disk) in
-    let flag = flag_byte (is_some setup.disk) in
-    format_as 12 (λ done. size_bytes setup) Any
-    (then_format (λ (done : Unit {0}). setup.mib) (within_format wide16 setup.mib setup.mib mib) (λ n good.
-    then_format (λ (done : Unit {0}). length setup.cards)
-    (byte_within (length setup.cards) (length setup.cards) cards) (λ n good.
-    then_format (λ (done : Unit {0}). flag) (byte_within flag flag (flag_few (is_some setup.disk))) (λ n good.
-    then_format (λ (done : Unit {0}). length setup.rom)
-    (within_format wide32 (length setup.rom) (length setup.rom) rom) (λ n good.
-    last_format (λ (done : Unit {0}). disk_size setup) (λ n. tt)
-    (within_format wide32 (disk_size setup) (disk_size setup) disk) (λ n is. only (disk_size setup) n is))
-    (λ n done is good. only (length setup.rom) n is))
-    (λ n done is good. only flag n is))
-    (λ n done is good. only (length setup.cards) n is))
-    (λ n done is good. only setup.mib n is))
-    (omega arith)
+    fields_format
+    (one_number wide16 setup.mib (omega (arith, fits.most_memory)) then λ mib good.
+    one_byte (length setup.cards) (omega (arith, fits.cards.count)) then λ cards good.
+    one_byte (flag_byte (is_some setup.disk)) (flag_few (is_some setup.disk)) then λ has_disk good.
+    one_number wide32 (length setup.rom) (omega (arith, rom_few (length setup.rom) fits.rom)) then λ rom good.
+    last_field (λ disk. tt) (one_number wide32 (disk_size setup) (omega (arith, disk_few setup.disk fits.disk))))
     (λ done any. (
-      (omega arith, omega arith),
-      (
-        (omega arith, omega arith),
-        ((omega arith, omega arith), ((omega arith, omega arith), ((omega arith, omega arith), refl))),
-      ),
+      (setup.mib, refl) & (length setup.cards, refl) & (flag_byte (is_some setup.disk), refl)
+          & (length setup.rom, refl) & (disk_size setup, refl),
+      refl,
     ))
-    (λ done good. tt)
-    (λ done good. refl)
+    (λ t. (tt, rw (t.1, t.2.1, t.2.2.1, t.2.2.2.1, t.2.2.2.2.1) refl))
 
 head_format : (setup : Setup) → IsSetup setup → IsFormat 22 (head_fields setup) (λ done. head_bytes setup) Any
 unfolding head_fields head_bytes
 head_format setup fits =
-    format_as 22 (λ done. head_bytes setup) Any
-    (then_format (λ (done : Unit {0}). tt) (exactly_format state_mark) (λ mark any.
-    then_format (λ (done : Unit {0}). state_version) (within_format wide16 state_version state_version (omega arith))
-    (λ version good.
-    last_format (λ (done : Unit {0}). tt) (λ (sizes : Unit {0}). tt) (size_format setup fits) (λ sizes any. refl))
-    (λ version done is good. only state_version version is))
-    (λ mark done any good. refl))
-    (omega arith)
-    (λ done any. (tt, ((omega arith, omega arith), (tt, refl))))
-    (λ done good. tt)
-    (λ done good. refl)
+    fields_format
+    (exactly_format state_mark then λ mark any.
+    one_number wide16 state_version (omega arith) then λ version good.
+    last_field (λ sizes. tt) (size_format setup fits))
+    (λ done any. ((tt, tt) & (state_version, refl) & (tt, tt), refl))
+    (λ t. (tt, rw (t.2.1) refl))
 
 -- ---- the registers
 
@@ -100,31 +85,19 @@ pub record AreBareRegisters (cards : List FittedCard) (registers : Registers) : 
   pub south : IsSouth registers.south
 
 abbrev most_registers : List FittedCard → ℕ
-most_registers cards = 12 + most_mapped cards
+most_registers cards = 4 + (1 + (most_mapped cards + 7))
 
 registers_format : (cards : List FittedCard) →
     IsFormat (most_registers cards) (registers_fields cards) registers_bytes (AreBareRegisters cards)
 unfolding registers_fields registers_bytes
 registers_format cards =
-    format_as (most_registers cards) registers_bytes (AreBareRegisters cards)
-    (then_format (λ (r : Registers). r.address) address_format (λ address good.
-    then_format (λ (r : Registers). r.control) (byte_within 0 255 (omega arith)) (λ control good.
-    then_format (λ (r : Registers). r.map) (mapped_format cards) (λ map good.
-    last_format (λ (r : Registers). r.south)
-    (λ south. record { address = address; control = control; map = map; south = south }) south_format
-    (λ south good. refl))
-    (λ map r any good. ap (λ (r : Registers). r.map) good.1))
-    (λ control r any good. ap (λ (r : Registers). r.control) good.1.1))
-    (λ address r any good. ap (λ (r : Registers). r.address) good.1.1.1))
-    (omega arith)
-    (λ r is. (is.address, ((omega arith, omega (arith, is.control)), (is.map, (is.south, refl)))))
-    (λ r good. record {
-      address = good.0;
-      control = omega (arith, good.1.0.1);
-      map = good.1.1.0;
-      south = good.1.1.1.0;
-    })
-    (λ r good. refl)
+    fields_format
+    (address_format then λ address good.
+    any_byte then λ control good.
+    mapped_format cards then λ map good.
+    last_field _ south_format)
+    (λ r is. ((r.address, is.address) & (r.control, is.control) & (r.map, is.map) & (r.south, is.south), refl))
+    (λ t. (record { address = t.1; control = t.2.1; map = t.2.2.1; south = t.2.2.2.1 }, refl))
 
 -- ---- the bytes behind the addresses
 
@@ -135,15 +108,11 @@ stores_format : (setup : Setup) → IsSetup setup →
     IsFormat (most_stores setup) (stores_fields setup) stores_bytes (AreStores setup)
 unfolding stores_fields stores_bytes
 stores_format setup fits =
-    format_as (most_stores setup) stores_bytes (AreStores setup)
-    (then_format (λ (s : Stores). s.dram) (dram_format setup.mib) (λ dram good.
-    last_format (λ (s : Stores). s.contents) (λ contents. record { dram = dram; contents = contents })
-    (contents_format setup.cards fits.cards.each) (λ contents good. refl))
-    (λ dram s any good. ap (λ (s : Stores). s.dram) good.1))
-    (omega arith)
-    (λ s is. (is.dram, (is.contents, refl)))
-    (λ s good. record { dram = good.0; contents = good.1.0 })
-    (λ s good. refl)
+    fields_format
+    (dram_format setup.mib then λ dram good.
+    last_field _ (contents_format setup.cards fits.cards.each))
+    (λ s is. ((s.dram, is.dram) & (s.contents, is.contents), refl))
+    (λ t. (record { dram = t.1; contents = t.2.1 }, refl))
 
 -- ---- all that a chipset holds
 
@@ -159,18 +128,12 @@ state_format : (setup : Setup) → IsSetup setup →
     IsFormat (most_state setup) (state_fields setup) (state_bytes setup.disk) (IsBareState setup)
 unfolding state_fields state_bytes
 state_format setup fits =
-    format_as (most_state setup) (state_bytes setup.disk) (IsBareState setup)
-    (then_format (λ (s : State). s.registers) (registers_format setup.cards) (λ registers good.
-    then_format (λ (s : State). s.stores) (stores_format setup fits) (λ stores good.
-    last_format (λ (s : State). s.devices)
-    (λ devices. record { registers = registers; stores = stores; devices = devices })
-    (devices_format setup.disk fits.disk) (λ devices good. refl))
-    (λ stores s any good. ap (λ (s : State). s.stores) good.1))
-    (λ registers s any good. ap (λ (s : State). s.registers) good.1.1))
-    (omega arith)
-    (λ s is. (is.registers, (is.stores, (is.devices, refl))))
-    (λ s good. record { registers = good.0; stores = good.1.0; devices = good.1.1.0 })
-    (λ s good. refl)
+    fields_format
+    (registers_format setup.cards then λ registers good.
+    stores_format setup fits then λ stores good.
+    last_field _ (devices_format setup.disk fits.disk))
+    (λ s is. ((s.registers, is.registers) & (s.stores, is.stores) & (s.devices, is.devices), refl))
+    (λ t. (record { registers = t.1; stores = t.2.1; devices = t.2.2.1 }, refl))
 
 -- ---- the chipset
 
@@ -185,14 +148,8 @@ pub chipset_format : (setup : Setup) → IsSetup setup →
     IsFormat (most_chipset setup) (chipset_fields setup) chipset_bytes (IsBareChipset setup)
 unfolding chipset_fields chipset_bytes
 chipset_format setup fits =
-    format_as (most_chipset setup) chipset_bytes (IsBareChipset setup)
-    (then_format (λ (c : Running). tt) (head_format setup fits) (λ head any.
-    last_format (λ (c : Running). c.state) (λ state. record { setup = setup; state = state })
-    (state_format setup fits) (λ state good. refl))
-    (λ head c any good. refl))
-    (omega arith)
-    (λ c is. (tt, (is.state, ap (λ (setup : Setup). record c { setup = setup }) is.same)))
-    (λ c good. record { same = ap (λ (c : Running). c.setup) good.1.1; state = good.1.0 })
-    (λ c good.
-    ap (λ (other : Setup). head_bytes other ++ state_bytes other.disk c.state)
-    (sym (ap (λ (c : Running). c.setup) good.1.1)))
+    fields_format
+    (head_format setup fits then λ head any.
+    last_field _ (state_format setup fits))
+    (λ c is. ((tt, tt) & (c.state, is.state), ap (λ (setup : Setup). record c { setup = setup }) is.same))
+    (λ t. (record { same = refl; state = t.2.1 }, refl))

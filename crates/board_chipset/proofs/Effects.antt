@@ -1,12 +1,11 @@
 -- What an access at a port writes, by what it reaches.
 use Rattle.std.proofs.Common.{◌≡◌, ℕ, ◌+◌, ◌%◌, ◌≤◌, true, false, ◌&&◌, List, Option, Some, None, refl, sym, subst}
 use Rattle.std.proofs.Common.{arith, inl, inr, ◌==◌, is_some}
+use Rattle.std.proofs.lemmas.Option.{cond_some}
 use Rattle.board_prelude.proofs.Common.{cases_Bool, and_parts, cond_both, nat_tests, Width, One, PortAccess, Reg}
-use Rattle.board_prelude.proofs.Common.{Target, Card, Device, Config, Abort, bytes_of, largest_of, Port}
-use Rattle.board_prelude.proofs.Common.{Entry, MapChange, Store, Setup, config_address_port, reset_control_port}
-use Rattle.board_prelude.proofs.Common.{function_exists, kept_address, config_address, is_enabled, bus_of, device_of}
-use Rattle.board_prelude.proofs.Common.{function_of, register_of, is_config_port, config_register, byte_of}
-use Rattle.board_base.specs.declared.access.Width.TheVariants.{Two, Four}
+use Rattle.board_prelude.proofs.Common.{Target, Card, Device, Config, Abort, bytes_of, largest_of, Port, Entry}
+use Rattle.board_prelude.proofs.Common.{MapChange, Store, Setup, config_address_port, reset_control_port, kept_address}
+use Rattle.board_prelude.proofs.Common.{config_address, register_of, is_config_port, config_register, byte_of}
 use Rattle.board_base.specs.declared.target.Dev.TheVariants.{Confadd as AddressPort, Reset}
 use Rattle.cfg_ports.proofs.AddressLemmas.{kept_address-low_bits, within_space}
 use Rattle.board_chipset.specs.declared.state.State.{State}
@@ -77,34 +76,9 @@ module _ (setup : Setup) (history : List Entry) (access : PortAccess) where
 
 pub fits_byte : (width : Width) (value : ℕ) → bytes_of width ≡ 1 → value ≤ largest_of width → value ≤ 0xFF
 fits_byte One value byte fits = fits
-fits_byte Two value byte fits = absurd (omega arith)
-fits_byte Four value byte fits = absurd (omega arith)
+fits_byte _ value byte fits = absurd (omega arith)
 
 -- ---- the configuration address, and the register that it names
-
-address_low : (address : ℕ) → kept_address address ≡ address → address % 4 ≡ 0
-address_low address kept = kept_address-low_bits address kept
-
--- by the parts of the address
-pub record IsNamed (setup : Setup) (address port : ℕ) (reg : Reg) : Type 0 where
-  pub exists' : function_exists setup 0 reg.dev reg.fun ≡ true
-  pub off : reg.off ≡ register_of address + port % 4
-
-named_by : (setup : Setup) (address port : ℕ) (reg : Reg) →
-    function_exists setup (bus_of address) (device_of address) (function_of address) ≡ true →
-    record { dev = device_of address; fun = function_of address; off = register_of address + port % 4 } ≡ reg →
-    IsNamed setup address port reg
-named_by setup address port reg exists' is =
-    record { exists' = rw (← is) (and_parts (bus_of address == 0) _ exists').1; off = rw (← is) refl }
-
-pub named : (setup : Setup) (address port : ℕ) (reg : Reg) → config_register setup address port ≡ Some reg →
-    IsNamed setup address port reg
-named setup address port reg is =
-    let exists' = function_exists setup (bus_of address) (device_of address) (function_of address) in
-    cond_both (is_enabled address && exists') _ _
-    (λ (found : Option Reg). found ≡ Some reg → IsNamed setup address port reg)
-    (λ both same. named_by setup address port reg (and_parts (is_enabled address) _ both).1 (cc))
-    (λ _ none. absurd (cc)) is
 
 -- an access to a register that an address names stays within its function
 pub within_function :
@@ -112,9 +86,9 @@ pub within_function :
     port % bytes_of width ≡ 0 →
     config_register setup address port ≡ Some reg → reg.off + bytes_of width ≤ 0x100
 within_function setup address port width reg kept aligned is =
-    rw ((named setup address port reg is).off)
-    (within_space address port (register_of address) (port % 4) width
-    (address_low address kept) refl refl aligned)
+    let named = (cond_some _ _ reg is).1 in
+    rw (← named) (within_space address port (register_of address) (port % 4) width
+    (kept_address-low_bits address kept) refl refl aligned)
 
 -- ---- what an entry tells
 

@@ -1,7 +1,6 @@
 -- Answers, and answers in which the version of a look is counted modulo 2^32.
 use Rattle.std.proofs.Common.{◌≡◌, ℕ, Bool, ◌%◌, ◌<◌, List, length, refl, ◌∙◌, arith}
-use Rattle.board_prelude.proofs.Common.{Kind, Event}
-use Rattle.board_prelude.proofs.Common.{Reply, Bus, Saw, Entry, entry_limit, Setup, version_of, IsAnswer}
+use Rattle.board_prelude.proofs.Common.{Kind, Event, Reply, Bus, Saw, Entry, entry_limit, Setup, version_of, IsAnswer}
 use Rattle.board_spec.specs.declared.event.Event.TheVariants.{Look as LookAt}
 use Rattle.board_spec.specs.declared.event.Reply.TheVariants.{Parts}
 use Rattle.board_chipset.specs.Versions.{version_count, IsAnswerModulo}

@@ -1,14 +1,15 @@
 -- A chipset after bytes that a caller keeps itself were put in.
 use Rattle.std.proofs.Common.{◌≡◌, ℕ, ◌+◌, ◌-◌, ◌<◌, nat_le, nat_lt, ◌&&◌, if◌then◌else◌, List, [], ◌++◌, length}
-use Rattle.std.proofs.Common.{slice_index, option_map, unwrap_or, Option, Some, None, Result, Ok, Err, OnOk, sym, ap}
-use Rattle.std.proofs.Common.{subst, ◌∙◌, append_assoc, arith}
-use Rattle.board_prelude.proofs.Common.{nat_tests, Bytes, Disk, IsDisk, IsDiskSize, Setup, IsSetup}
+use Rattle.std.proofs.Common.{slice_index, option_map, unwrap_or, Option, Some, None, Result, OnOk, sym, ap, ◌∙◌}
+use Rattle.std.proofs.Common.{append_assoc, arith}
+use Rattle.std.proofs.lemmas.Result.{on_ok_weaker}
+use Rattle.board_prelude.proofs.Common.{nat_tests, Bytes, Disk, IsDisk, Setup, IsSetup}
 use Rattle.board_spec.specs.RegisterTable.{reset_byte}
 use Rattle.std.proofs.lemmas.Grind.{same_number_lists}
 use Rattle.std.proofs.lemmas.List.Elements.{All-weaker}
 use Rattle.dram_store.specs.Dram.{dram_at, IsWritten}
 use Rattle.pci_bars.specs.Cards.{CardBytes, DecodesAs, IsCardOf}
-use Rattle.addr_decode.specs.MapRegs.{MapBytes, StandsFor}
+use Rattle.addr_decode.specs.MapRegs.{MapBytes}
 use Rattle.config_regs.specs.Config.{AreKeptOf}
 use Rattle.config_regs.specs.declared.south.South.{South}
 use Rattle.board_devices.specs.Common.{DevicesValue, HasDisk, sectors_in}
@@ -39,59 +40,32 @@ all_written old new bytes is size whole =
 module _ (bytes : List ℕ) (setup : Setup) where
   decodes_as : (registers : Bytes) (card : CardBytes) → DecodesAs setup registers card →
       DecodesAs (fitted_with bytes setup) registers card
-  decodes_as registers card is = record {
-    fitted = is.fitted;
-    command = is.command;
-    bases = is.bases;
-    rom = is.rom;
-  }
+  decodes_as registers card is = assumption
 
   card_as : (registers : Bytes) (card : CardBytes) → IsCardOf setup registers card →
       IsCardOf (fitted_with bytes setup) registers card
   unfolding reset_byte
-  card_as registers card is = record {
-    decodes = decodes_as registers card is.decodes;
-    line = is.line;
-    no_rom = is.no_rom;
-    fixed = is.fixed;
-  }
-
-  stands_as : (registers : Bytes) (regs : MapBytes) → StandsFor setup registers regs →
-      StandsFor (fitted_with bytes setup) registers regs
-  stands_as registers regs is = record {
-    rows = is.rows;
-    windows = is.windows;
-    singles = is.singles;
-    cards = (is.cards.0, All-weaker _ _ (decodes_as registers) regs.cards is.cards.1);
-  }
+  card_as registers card is = assumption
 
   kept_as : (registers : Bytes) (regs : MapBytes) (beside : South) → AreKeptOf setup registers regs beside →
       AreKeptOf (fitted_with bytes setup) registers regs beside
-  kept_as registers regs beside is = record {
-    map = stands_as registers regs is.map;
-    cards = (is.cards.0, All-weaker _ _ (card_as registers) regs.cards is.cards.1);
-    south = is.south;
-  }
+  kept_as registers regs beside is =
+      let decode = All-weaker _ _ (decodes_as registers) regs.cards is.map.cards.1 in
+      let are = All-weaker _ _ (card_as registers) regs.cards is.cards.1 in
+      assumption
 
   disk_as : (fitted : Option (List ℕ)) (disk : Option Disk) → length bytes ≡ length (unwrap_or fitted []) →
       HasDisk fitted disk → HasDisk (option_map {T = List ℕ} (λ _. bytes) fitted) disk
   disk_as None disk same has = has
-  disk_as (Some own) disk same has = ap (λ (n : ℕ). Some n) same ∙ has
+  disk_as (Some own) disk same has = rw same has
 
   size_as : (fitted : Option (List ℕ)) → length bytes ≡ length (unwrap_or fitted []) → IsDisk fitted →
       IsDisk (option_map {T = List ℕ} (λ _. bytes) fitted)
   size_as None same is = tt
-  size_as (Some own) same is = subst IsDiskSize (sym same) is
+  size_as (Some own) same is = rw same is
 
   pub setup_as : length bytes ≡ disk_size setup → IsSetup setup → IsSetup (fitted_with bytes setup)
-  setup_as same is = record {
-    some_memory = is.some_memory;
-    most_memory = is.most_memory;
-    cards = is.cards;
-    windows = is.windows;
-    rom = is.rom;
-    disk = size_as setup.disk same is.disk;
-  }
+  setup_as same is = assumption (size_as setup.disk same is.disk)
 
   pub sound_as : (state : State) → length bytes ≡ disk_size setup → IsSound setup state →
       IsSound (fitted_with bytes setup) state
@@ -116,7 +90,6 @@ pub left_added :
     sectors ≡ sectors_in devices.disk → mid ≡ old ++ contents →
     OnOk result (new ≡ mid ++ devices_bytes sectors devices) →
     OnOk result (new ≡ old ++ (contents ++ devices_left fitted devices))
-left_added (Ok value) fitted sectors devices old mid new contents has own same first second =
-    second
-    ∙ rw (same, first, left_devices fitted devices has own) (append_assoc old contents (devices_left fitted devices))
-left_added (Err fault) fitted sectors devices old mid new contents has own same first second = tt
+left_added result fitted sectors devices old mid new contents has own same first =
+    on_ok_weaker result (λ second. second
+    ∙ rw (same, first, left_devices fitted devices has own) (append_assoc old contents (devices_left fitted devices)))

@@ -1,13 +1,11 @@
 -- What an access reaches has the bytes that it asks for.
 use Rattle.std.proofs.Common.{◌≡◌, ℕ, ◌+◌, ◌%◌, ◌^◌, ◌≤◌, Bool, true, false, ◌&&◌, not, List, [], ◌∷◌, length, Option}
-use Rattle.std.proofs.Common.{Some, None, inl, inr, refl, sym, subst, arith, is_some, unwrap_or, option_map}
-use Rattle.board_prelude.proofs.Common.{Kind, Width, One, Dev, Reg, Area, Target, Device, Config, Card, Abort, bytes_of}
-use Rattle.board_prelude.proofs.Common.{Part, Setup, IsRomSize, IsBusAccess, is_write, lies_in}
-use Rattle.board_prelude.proofs.Common.{upper_memory, Bytes, Window, first_of, line_where, card_area, row_of}
-use Rattle.board_prelude.proofs.Common.{is_smram_range, is_shadowed}
-use Rattle.board_prelude.proofs.Common.{memory_claim, area_of, window_bits, target_at}
-use Rattle.board_prelude.proofs.Common.{is_in_hole, is_bios_selected, is_smram_open}
-use Rattle.board_base.specs.declared.access.Width.TheVariants.{Two, Four}
+use Rattle.std.proofs.Common.{Some, None, refl, sym, subst, arith, is_some, unwrap_or, option_map}
+use Rattle.board_prelude.proofs.Common.{Kind, Width, Dev, Reg, Area, Target, Device, Config, Card, Abort, bytes_of}
+use Rattle.board_prelude.proofs.Common.{Part, Setup, IsRomSize, IsBusAccess, is_write, lies_in, upper_memory, Bytes}
+use Rattle.board_prelude.proofs.Common.{Window, first_of, line_where, card_area, row_of, is_smram_range, is_shadowed}
+use Rattle.board_prelude.proofs.Common.{memory_claim, area_of, window_bits, target_at, is_in_hole, is_bios_selected}
+use Rattle.board_prelude.proofs.Common.{is_smram_open, nat_tests}
 use Rattle.board_base.specs.declared.access.Access.{Access}
 use Rattle.board_base.specs.declared.target.Area.TheVariants.{Dram as DramArea, Shadow as ShadowArea}
 use Rattle.board_base.specs.declared.target.Area.TheVariants.{Smram as SmramArea, Rom as RomArea, Card as CardArea}
@@ -62,18 +60,7 @@ claimed setup bytes addr kind smm dev base is =
 -- an aligned access ends within the ROM
 pub rom_within : (addr size : ℕ) (width : Width) → IsRomSize size → addr % bytes_of width ≡ 0 →
     addr % size + bytes_of width ≤ size
-rom_within addr size One (inl is) aligned = rw is (omega arith)
-rom_within addr size Two (inl is) aligned = rw is (omega arith)
-rom_within addr size Four (inl is) aligned = rw is (omega arith)
-rom_within addr size One (inr (inl is)) aligned = rw is (omega arith)
-rom_within addr size Two (inr (inl is)) aligned = rw is (omega arith)
-rom_within addr size Four (inr (inl is)) aligned = rw is (omega arith)
-rom_within addr size One (inr (inr (inl is))) aligned = rw is (omega arith)
-rom_within addr size Two (inr (inr (inl is))) aligned = rw is (omega arith)
-rom_within addr size Four (inr (inr (inl is))) aligned = rw is (omega arith)
-rom_within addr size One (inr (inr (inr is))) aligned = rw is (omega arith)
-rom_within addr size Two (inr (inr (inr is))) aligned = rw is (omega arith)
-rom_within addr size Four (inr (inr (inr is))) aligned = rw is (omega arith)
+rom_within addr size width is aligned = grind (arith, nat_tests)
 
 pub lies_in_base :
     (setup : Setup) (contents : List (List ℕ)) (window : Window) (dev base place : ℕ) (width : Width) →

@@ -16,6 +16,7 @@ pub mod Held
 pub mod Openings
 pub mod Exact
 pub mod ResetLemmas
+pub mod InTurn
 pub mod LoadSteps
 pub mod MasterSteps
 pub mod CardChecks

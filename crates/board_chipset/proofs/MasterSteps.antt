@@ -1,17 +1,47 @@
 -- What a bus master reaches is neither SMRAM nor DRAM in its range.
-use Rattle.std.proofs.Common.{◌≡◌, ◌≢◌, ℕ, Bool, true, false, not, ◌&&◌, [], ◌∷◌, Option, Some, None, is_some, refl, ap}
-use Rattle.std.proofs.Common.{inl, inr, arith, ◌==◌, unwrap_or, option_map}
-use Rattle.board_prelude.proofs.Common.{cases_Bool, and_left, and_right, nat_tests, Kind, Area, Target}
-use Rattle.board_prelude.proofs.Common.{Smram, Card, Setup, rom_base, lies_in, smram_range}
-use Rattle.board_prelude.proofs.Common.{shadow_range, upper_memory, Bytes, Window, first_of, line_where}
-use Rattle.board_prelude.proofs.Common.{card_area, row_of, is_shadowed, memory_claim}
-use Rattle.board_prelude.proofs.Common.{is_smram_range, target_at, DramCell, first_cell}
-use Rattle.board_prelude.proofs.Common.{is_in_hole, is_bios_selected}
+use Rattle.std.proofs.Common.{◌≡◌, ◌≢◌, ℕ, Bool, true, false, not, ◌&&◌, [], ◌∷◌, Option, Some, None, is_some, refl}
+use Rattle.std.proofs.Common.{ap, sym, ◌∙◌, inl, inr, arith, ◌==◌, unwrap_or, option_map}
+use Rattle.board_prelude.proofs.Common.{cases_Bool, false≢true, and_left, and_right, nat_tests, Kind, Area, Target}
+use Rattle.board_prelude.proofs.Common.{Smram, Card, Setup, rom_base, lies_in, smram_range, shadow_range, upper_memory}
+use Rattle.board_prelude.proofs.Common.{Bytes, Window, first_of, line_where, card_area, row_of, is_shadowed}
+use Rattle.board_prelude.proofs.Common.{memory_claim, is_smram_range, target_at, DramCell, first_cell, is_in_hole}
+use Rattle.board_prelude.proofs.Common.{is_bios_selected}
 use Rattle.board_base.specs.declared.target.Area.TheVariants.{Dram as DramArea, Shadow as ShadowArea}
 use Rattle.board_base.specs.declared.target.Area.TheVariants.{Smram as SmramArea, Rom as RomArea, Card as CardArea}
 use Rattle.board_base.specs.declared.target.Area.TheVariants.{Abort as AbortArea}
 use Rattle.addr_decode.specs.Master.{master_area}
 use Rattle.board_chipset.specs.Masters.{IsOutsideSmram, master_target}
+
+-- ---- what answers a bus master
+
+-- what holds of each line that holds, and of nobody, holds of what answers
+of_lines :
+    (P : Area → Type 0) (shadow dram rom : Bool) (row : ℕ) (claim : Option Window) → (shadow ≡ true → P (ShadowArea row)) →
+    (dram ≡ true → P (DramArea row)) → P RomArea → ((dev base : ℕ) → P (CardArea dev base)) → P AbortArea →
+    P (first_of
+    (line_where shadow (ShadowArea row) ∷ line_where dram (DramArea row) ∷ line_where rom RomArea
+    ∷ option_map card_area claim ∷ [])
+    AbortArea)
+of_lines P true dram rom row claim in_shadow in_dram in_rom in_card none = in_shadow refl
+of_lines P false true rom row claim in_shadow in_dram in_rom in_card none = in_dram refl
+of_lines P false false true row claim in_shadow in_dram in_rom in_card none = in_rom
+of_lines P false false false row None in_shadow in_dram in_rom in_card none = none
+of_lines P false false false row (Some window) in_shadow in_dram in_rom in_card none = in_card window.dev window.base
+
+-- SMRAM is closed to it
+of_master :
+    (P : Area → Type 0) (setup : Setup) (bytes : Bytes) (addr : ℕ) (kind : Kind) →
+    ((row : ℕ) → (is_some (row_of bytes addr) && is_shadowed bytes addr kind) ≡ true → P (ShadowArea row)) →
+    ((row : ℕ) → (not (lies_in upper_memory addr) && is_some (row_of bytes addr) && not (is_in_hole bytes addr)) ≡ true →
+    P (DramArea row)) → P RomArea → ((dev base : ℕ) → P (CardArea dev base)) → P AbortArea →
+    P (master_area setup bytes addr kind)
+unfolding master_area
+of_master P setup bytes addr kind in_shadow in_dram in_rom in_card none =
+    let row = unwrap_or (row_of bytes addr) 0 in
+    let closed : (is_smram_range addr && is_some (row_of bytes addr) && false) ≡ false = and_right _ _ refl in
+    rw closed (of_lines P (is_some (row_of bytes addr) && is_shadowed bytes addr kind)
+    (not (lies_in upper_memory addr) && is_some (row_of bytes addr) && not (is_in_hole bytes addr))
+    (is_bios_selected bytes addr) row (memory_claim setup bytes addr) (in_shadow row) (in_dram row) in_rom in_card none)
 
 -- ---- SMRAM answers nobody
 
@@ -19,35 +49,14 @@ abbrev IsNoSmram : Area → Type 0
 IsNoSmram SmramArea = ⊥
 IsNoSmram _ = Unit {0}
 
-no_smram_lines : (smram shadow dram rom : Bool) (row : ℕ) (claim : Option Window) → smram ≡ false →
-    IsNoSmram
-    (first_of
-    (line_where smram SmramArea ∷ line_where shadow (ShadowArea row) ∷ line_where dram (DramArea row)
-    ∷ line_where rom RomArea ∷ option_map card_area claim ∷ [])
-    AbortArea)
-no_smram_lines true shadow dram rom row claim is = absurd (cc is)
-no_smram_lines false true dram rom row claim is = tt
-no_smram_lines false false true rom row claim is = tt
-no_smram_lines false false false true row claim is = tt
-no_smram_lines false false false false row None is = tt
-no_smram_lines false false false false row (Some window) is = tt
-
-no_smram_area : (setup : Setup) (bytes : Bytes) (addr : ℕ) (kind : Kind) → IsNoSmram (master_area setup bytes addr kind)
-unfolding master_area
-no_smram_area setup bytes addr kind =
-    no_smram_lines (is_smram_range addr && is_some (row_of bytes addr) && false)
-    (is_some (row_of bytes addr) && is_shadowed bytes addr kind)
-    (not (lies_in upper_memory addr) && is_some (row_of bytes addr) && not (is_in_hole bytes addr))
-    (is_bios_selected bytes addr) (unwrap_or (row_of bytes addr) 0) (memory_claim setup bytes addr)
-    (and_right _ _ refl)
-
 no_smram_at : (setup : Setup) (area : Area) (addr : ℕ) → IsNoSmram area → target_at setup area addr ≢ Smram
 no_smram_at setup SmramArea addr other is = other
 no_smram_at setup _ addr other is = cc
 
 pub no_smram : (setup : Setup) (bytes : Bytes) (kind : Kind) (addr : ℕ) → master_target setup bytes kind addr ≢ Smram
 no_smram setup bytes kind addr =
-    no_smram_at setup (master_area setup bytes addr kind) addr (no_smram_area setup bytes addr kind)
+    no_smram_at setup (master_area setup bytes addr kind) addr
+    (of_master IsNoSmram setup bytes addr kind (λ row is. tt) (λ row is. tt) tt (λ dev base. tt) tt)
 
 -- ---- in its range nothing that answers is DRAM
 
@@ -57,36 +66,18 @@ IsOffDram (CardArea dev base) = Unit {0}
 IsOffDram AbortArea = Unit {0}
 IsOffDram _ = ⊥
 
-off_lines : (rom : Bool) (claim : Option Window) →
-    IsOffDram (first_of (line_where rom RomArea ∷ option_map card_area claim ∷ []) AbortArea)
-off_lines true claim = tt
-off_lines false None = tt
-off_lines false (Some window) = tt
-
-off_table : (a b c rom : Bool) (row : ℕ) (claim : Option Window) → a ≡ false → b ≡ false → c ≡ false →
-    IsOffDram
-    (first_of
-    (line_where a SmramArea ∷ line_where b (ShadowArea row) ∷ line_where c (DramArea row) ∷ line_where rom RomArea
-    ∷ option_map card_area claim ∷ [])
-    AbortArea)
-off_table a b c rom row claim ea eb ec = rw (ea, eb, ec) (off_lines rom claim)
-
-no_shadow : (addr : ℕ) → lies_in smram_range addr ≡ true → lies_in shadow_range addr ≡ false
-no_shadow addr inside = grind (arith, nat_tests)
-
-in_upper : (addr : ℕ) → lies_in smram_range addr ≡ true → lies_in upper_memory addr ≡ true
-in_upper addr inside = grind (arith, nat_tests)
+in_upper : (addr : ℕ) → lies_in smram_range addr ≡ true →
+    (lies_in shadow_range addr ≡ false) × (lies_in upper_memory addr ≡ true)
+in_upper addr inside = (grind (arith, nat_tests), grind (arith, nat_tests))
 
 pub off_dram : (setup : Setup) (bytes : Bytes) (addr : ℕ) (kind : Kind) → is_smram_range addr ≡ true →
     IsOffDram (master_area setup bytes addr kind)
-unfolding master_area
 off_dram setup bytes addr kind inside =
-    off_table (is_smram_range addr && is_some (row_of bytes addr) && false)
-    (is_some (row_of bytes addr) && is_shadowed bytes addr kind)
-    (not (lies_in upper_memory addr) && is_some (row_of bytes addr) && not (is_in_hole bytes addr))
-    (is_bios_selected bytes addr) (unwrap_or (row_of bytes addr) 0) (memory_claim setup bytes addr)
-    (and_right _ _ refl) (and_right _ _ (and_left _ _ (no_shadow addr inside)))
-    (and_left _ _ (and_left _ _ (ap not (in_upper addr inside))))
+    let where_it_is = in_upper addr inside in
+    of_master IsOffDram setup bytes addr kind
+    (λ row is. false≢true (sym (and_right _ _ (and_left _ _ where_it_is.0)) ∙ is))
+    (λ row is. false≢true (sym (and_left _ _ (and_left _ _ (ap not where_it_is.1))) ∙ is))
+    tt (λ dev base. tt) tt
 
 card_cell : (dev base off addr at : ℕ) → first_cell (Card dev base off) addr ≡ Some (DramCell at) → ⊥
 card_cell dev base off addr at is = elim (cases_Bool (base == rom_base)) [

@@ -1,10 +1,10 @@
 -- Events for the devices alone: they write no register and store nothing.
 use Rattle.std.proofs.Common.{◌≡◌, ◌≤◌, true, List, [], ◌∷◌, None, refl, sym, ◌∙◌, subst, inl, inr, ℕ, ◌==◌, All, find}
-use Rattle.std.proofs.Common.{is_some, Bool, Some}
-use Rattle.board_prelude.proofs.Common.{and_from, le-leb, Ack, IsAnswer, IsInRange, outside_answer, option_map_or}
-use Rattle.board_prelude.proofs.Common.{Applied, Stimulus, stimulus_form, applied_by, event_applied}
-use Rattle.board_prelude.proofs.Common.{cases_Bool, eqb-true, All-head, All-tail, Event, Memory, Wide, Port, Reply}
-use Rattle.board_prelude.proofs.Common.{Entry, Setup, FittedCard, IsCard, IsSetup, card_at, Cell, entry_put}
+use Rattle.std.proofs.Common.{is_some, Bool, Option, Some, IfSome, arith}
+use Rattle.board_prelude.proofs.Common.{and_from, le-leb, Ack, IsAnswer, IsInRange, outside_answer, Applied, Stimulus}
+use Rattle.board_prelude.proofs.Common.{stimulus_form, applied_by, event_applied, cases_Bool, eqb-true, All-head}
+use Rattle.board_prelude.proofs.Common.{All-tail, Event, Memory, Wide, Port, Reply, Entry, Setup, FittedCard, IsCard}
+use Rattle.board_prelude.proofs.Common.{IsSetup, card_at, Cell, entry_put}
 use Rattle.board_spec.specs.declared.event.Event.TheVariants.{Look as LookAt}
 use Rattle.board_spec.specs.declared.stimulus.Stimulus.TheVariants as stimuli
 use Rattle.board_devices.specs.Common.{DevicesValue, AreDevicesOf, AreRoutesOf, Asks}
@@ -35,36 +35,28 @@ outside_done {setup} {history} {entry} {event} is for_devices kept after =
 
 -- ---- a wire leads from a card that is fitted
 
-pub record IsDevice (dev : ℕ) : Type 0 where
-  pub low : 2 ≤ dev
-  pub high : dev ≤ 9
+pub found_in : (cards : List FittedCard) (dev : ℕ) → All IsCard cards →
+    IfSome (find (λ card. card.dev == dev) cards) (λ card. IsCard card × (card.dev ≡ dev))
+found_in [] dev each = tt
+found_in (first ∷ later) dev each = elim (cases_Bool (first.dev == dev)) [
+  | inl here ↦ rw here (All-head IsCard first later each, eqb-true _ _ here)
+  | inr not ↦ rw not (found_in later dev (All-tail IsCard first later each))
+]
 
-fitted_in : (cards : List FittedCard) (dev : ℕ) → All IsCard cards →
-    is_some (find (λ card. card.dev == dev) cards) ≡ true → IsDevice dev
-fitted_in [] dev each some = absurd (cc)
-fitted_in (first ∷ later) dev each some =
-    elim (cases_Bool (first.dev == dev)) [
-      | inl here ↦
-          let is = All-head IsCard first later each in
-          let same : first.dev ≡ dev = eqb-true _ _ here in
-          record { low = rw (← same) is.first; high = rw (← same) is.last }
-      | inr not ↦ fitted_in later dev (All-tail IsCard first later each) (rw not at some)
-    ]
-
-pub fitted_device : (setup : Setup) (dev : ℕ) → IsSetup setup → is_some (card_at setup dev) ≡ true → IsDevice dev
-fitted_device setup dev fits some = fitted_in setup.cards dev fits.cards.each some
+fitted_device : (found : Option FittedCard) (dev : ℕ) → IfSome found (λ card. IsCard card × (card.dev ≡ dev)) →
+    is_some found ≡ true → (2 ≤ dev) × (dev ≤ 9)
+fitted_device None dev is some = absurd (cc)
+fitted_device (Some card) dev is some =
+    let fits = is.0 in
+    let same = is.1 in
+    (omega (arith, fits.first), omega (arith, fits.last))
 
 -- ---- what a stimulus applies
 
--- an event that applies a stimulus is that of the stimulus
-said_again : (event : Event) →
-    option_map_or (λ said. event_applied said.stimulus said.number said.on) (applied_by event) event ≡ event
-said_again Ack = refl
-said_again _ = refl
-
 pub applied_is : (event : Event) (said : Applied) → applied_by event ≡ Some said →
     event ≡ event_applied said.stimulus said.number said.on
-applied_is event said is = sym (rw is at (said_again event))
+applied_is Ack said is = cc
+applied_is _ said is = cc
 
 -- it is for the devices, and what answers it is in the table
 pub applied_answer : (setup : Setup) (history : List Entry) (one : Stimulus) (number : ℕ) (on : Bool) →
@@ -78,6 +70,6 @@ pub level_number : (setup : Setup) (one : Stimulus) (number : ℕ) (on : Bool) �
     IsInRange setup (event_applied one number on) → (stimulus_form one).has_level ≡ true →
     (stimulus_form one).numbers number ≡ true
 level_number setup stimuli.Wire number on fits is level =
-    let dev = fitted_device setup number fits is in
-    and_from _ _ (le-leb 2 number dev.low) (le-leb number 9 dev.high)
+    let dev = fitted_device (card_at setup number) number (found_in setup.cards number fits.cards.each) is in
+    and_from _ _ (le-leb 2 number dev.0) (le-leb number 9 dev.1)
 level_number setup _ number on fits is level = cc

@@ -1,8 +1,7 @@
 -- Where an access would land, from what the decode tells.
 use Rattle.std.proofs.Common.{◌≡◌, List, Option, None, refl, ap}
 use Rattle.board_base.specs.declared.access.Access.{Access}
-use Rattle.board_prelude.proofs.Common.{PortAccess, Target, Denial, Event, Memory, Port}
-use Rattle.board_prelude.proofs.Common.{Part, Entry, Setup, Decoded}
+use Rattle.board_prelude.proofs.Common.{PortAccess, Target, Denial, Event, Memory, Port, Part, Entry, Setup, Decoded}
 use Rattle.addr_decode.specs.Ports.{as_decoded}
 use Rattle.board_chipset.specs.Common.{reached, place_of, port_part}
 

@@ -1,9 +1,11 @@
 -- The cycles of an access to ports, done one after another.
-use Rattle.std.proofs.Common.{◌≡◌, ℕ, zero, suc, ◌+◌, ◌-◌, ◌*◌, ◌%◌, ◌^◌, ◌<◌, ◌≤◌, List, [], ◌∷◌, ◌++◌, length, get_or}
-use Rattle.std.proofs.Common.{take, drop, refl, ◌∙◌, ap, subst, arith, lit<, reverse}
-use Rattle.board_prelude.proofs.Common.{take_more, reverse-append, get_or-map, length-map, drop-cons, pow-le-pow_right}
-use Rattle.board_prelude.proofs.Common.{mod-eq_of_lt, Width, One, PortAccess, bytes_of, some_bytes, Setup, IsBusAccess}
-use Rattle.board_base.specs.declared.access.Width.TheVariants.{Two, Four}
+use Rattle.std.proofs.Common.{◌≡◌, ℕ, ◌+◌, ◌-◌, ◌*◌, ◌%◌, ◌^◌, ◌<◌, ◌≤◌, List, [], ◌∷◌, ◌++◌, length, get_or, take}
+use Rattle.std.proofs.Common.{drop, refl, ◌∙◌, ap, subst, arith, lit<, reverse}
+use Rattle.std.proofs.lemmas.List.{drop_more}
+use Rattle.std.proofs.lemmas.Nat.{pow-add}
+use Rattle.std.proofs.Math.Nat.{mul-le-mul_right}
+use Rattle.board_prelude.proofs.Common.{take_more, reverse-append, get_or-map, length-map, pow-le-pow_right}
+use Rattle.board_prelude.proofs.Common.{mod-eq_of_lt, PortAccess, bytes_of, some_bytes, Setup, IsBusAccess}
 use Rattle.board_stores.specs.declared.ports.PortCycle.{PortCycle}
 use Rattle.board_stores.specs.PortCycles.{Follow, port_accesses, AreBusCycles}
 use Rattle.board_stores.proofs.CutLemmas.{byte_power}
@@ -65,82 +67,49 @@ follow_ends from end [] is = let e : from ≡ end = is in omega arith
 follow_ends from end (cycle ∷ later) is =
     let e = follow_ends (from + bytes_of cycle.width) end later is.1 in omega arith
 
--- where a cycle stands
-pub record IsPlaced (first value : ℕ) (cycle : PortAccess) (later : List PortAccess) : Type 0 where
-  pub from : first ≤ cycle.port
-  pub ends : cycle.port + bytes_of cycle.width ≤ first + 4
-  pub small : value < 256 ^ (cycle.port - first)
-  pub end : ℕ
-  pub few : end ≤ first + 4
-  pub rest : Follow (cycle.port + bytes_of cycle.width) end later
+-- ---- the next cycle, and its value
 
-pub placed : {first value : ℕ} (cycles : List PortAccess) (i : ℕ) (cycle : PortAccess) → i < length cycles →
-    get_or cycles i cycle ≡ cycle → IsAt first value (drop i cycles) →
-    IsPlaced first value cycle (drop (i + 1) cycles)
-placed {first} cycles i cycle within is at =
-    let one : i + 1 ≡ suc i = omega arith in
-    let here : drop i cycles ≡ cycle ∷ drop (i + 1) cycles = rw one (rw is at (drop-cons cycles i cycle within)) in
-    let rest : Follow at.at at.end (cycle ∷ drop (i + 1) cycles) = rw here at at.rest in
-    record {
-      from = omega (arith, rest.0, at.from);
-      ends = omega (arith, rest.0, follow_ends _ _ _ rest.1, at.few);
-      small = rw (rest.0) at.small;
-      end = at.end;
-      few = at.few;
-      rest = rw (rest.0) rest.1;
-    }
+module _ {first value : ℕ} {cycle : PortAccess} {later : List PortAccess} (so_far : IsAt first value (cycle ∷ later)) where
+  pub from_first : first ≤ cycle.port
+  from_first = omega (arith, so_far.rest.0, so_far.from)
 
--- ---- the values
+  room : (cycle.port - first) + bytes_of cycle.width ≤ 4
+  room = omega (arith, so_far.rest.0, so_far.from, follow_ends _ _ _ so_far.rest.1, so_far.few)
 
--- the bytes of a cycle at their place
-pub bytes_placed : (width : Width) (d value read : ℕ) → d + bytes_of width ≤ 4 → value < 256 ^ d →
-    read < 256 ^ bytes_of width → value + read * 256 ^ d < 256 ^ (d + bytes_of width)
-bytes_placed One zero value read fits low small = omega arith
-bytes_placed One (suc zero) value read fits low small = omega arith
-bytes_placed One (suc (suc zero)) value read fits low small = omega arith
-bytes_placed One (suc (suc (suc zero))) value read fits low small = omega arith
-bytes_placed One (suc (suc (suc (suc later)))) value read fits low small = absurd (omega (arith, fits))
-bytes_placed Two zero value read fits low small = omega arith
-bytes_placed Two (suc zero) value read fits low small = omega arith
-bytes_placed Two (suc (suc zero)) value read fits low small = omega arith
-bytes_placed Two (suc (suc (suc later))) value read fits low small = absurd (omega (arith, fits))
-bytes_placed Four zero value read fits low small = omega arith
-bytes_placed Four (suc later) value read fits low small = absurd (omega (arith, fits))
+  pub shift_most : 8 * (cycle.port - first) ≤ 24
+  shift_most = omega (arith, room, some_bytes cycle.width)
 
-pub below_all : (width : Width) (d value : ℕ) → d + bytes_of width ≤ 4 → value < 256 ^ (d + bytes_of width) →
-    value < 2 ^ 32
-below_all width d value fits small = omega (arith, small, pow-le-pow_right {n = 256} (lit< tt) fits)
+  -- its bytes at their place
+  placed : (read : ℕ) → read < 256 ^ bytes_of cycle.width →
+      value + read * 256 ^ (cycle.port - first) < 256 ^ ((cycle.port - first) + bytes_of cycle.width)
+  placed read fits =
+      let d = cycle.port - first in
+      let small : value < 256 ^ d = rw (so_far.rest.0) so_far.small in
+      omega (arith, pow-add 256 d (bytes_of cycle.width), mul-le-mul_right (256 ^ d) fits)
 
--- and they are not cut off
-pub shifted : (width : Width) (d value read : ℕ) → d + bytes_of width ≤ 4 → value < 256 ^ d →
-    read < 256 ^ bytes_of width → read * 2 ^ (8 * d) % 2 ^ 32 ≡ read * 256 ^ d
-shifted width d value read fits low small =
-    let all = below_all width d (value + read * 256 ^ d) fits (bytes_placed width d value read fits low small) in
-    ap (λ (n : ℕ). read * n % 2 ^ 32) (byte_power d)
-    ∙ mod-eq_of_lt {n = read * 256 ^ d} {m = 2 ^ 32} (omega (arith, all))
+  pub all_fit : (read : ℕ) → read < 256 ^ bytes_of cycle.width → value + read * 256 ^ (cycle.port - first) < 2 ^ 32
+  all_fit read fits = omega (arith, placed read fits, pow-le-pow_right {n = 256} (lit< tt) room)
 
-pub room : {first value : ℕ} {cycle : PortAccess} {later : List PortAccess} → IsPlaced first value cycle later →
-    (cycle.port - first) + bytes_of cycle.width ≤ 4
-room placed = omega (arith, placed.from, placed.ends)
+  -- and they are not cut off
+  pub shifted : (read : ℕ) → read < 256 ^ bytes_of cycle.width →
+      read * 2 ^ (8 * (cycle.port - first)) % 2 ^ 32 ≡ read * 256 ^ (cycle.port - first)
+  shifted read fits =
+      ap (λ (n : ℕ). read * n % 2 ^ 32) (byte_power (cycle.port - first))
+      ∙ mod-eq_of_lt {n = read * 256 ^ (cycle.port - first)} {m = 2 ^ 32} (omega (arith, all_fit read fits))
 
-pub shift_most : {first value : ℕ} {cycle : PortAccess} {later : List PortAccess} → IsPlaced first value cycle later →
-    8 * (cycle.port - first) ≤ 24
-shift_most {cycle = cycle} placed = omega (arith, room placed, some_bytes cycle.width)
-
-pub at_next : {first value : ℕ} {cycle : PortAccess} {later : List PortAccess} → IsPlaced first value cycle later →
-    (read next : ℕ) → read < 256 ^ bytes_of cycle.width → next ≡ value + read * 256 ^ (cycle.port - first) →
-    IsAt first next later
-at_next {first} {value} {cycle} placed read next small is =
-    let d : (cycle.port + bytes_of cycle.width) - first ≡ (cycle.port - first) + bytes_of cycle.width =
-    omega (arith, placed.from) in
-    record {
-      at = cycle.port + bytes_of cycle.width;
-      end = placed.end;
-      few = placed.few;
-      from = omega (arith, placed.from);
-      rest = placed.rest;
-      small = rw (d, is) (bytes_placed cycle.width (cycle.port - first) value read (room placed) placed.small small);
-    }
+  pub at_next : (read next : ℕ) → read < 256 ^ bytes_of cycle.width →
+      next ≡ value + read * 256 ^ (cycle.port - first) → IsAt first next later
+  at_next read next fits is =
+      let d : (cycle.port + bytes_of cycle.width) - first ≡ (cycle.port - first) + bytes_of cycle.width =
+      omega (arith, from_first) in
+      record {
+        at = cycle.port + bytes_of cycle.width;
+        end = so_far.end;
+        few = so_far.few;
+        from = omega (arith, from_first);
+        rest = rw (so_far.rest.0) so_far.rest.1;
+        small = rw (d, is) (placed read fits);
+      }
 
 pub at_first : (first end : ℕ) (cycles : List PortAccess) → Follow first end cycles → end ≤ first + 4 →
     IsAt first 0 cycles
@@ -157,9 +126,11 @@ module _ (cycles : List PortCycle) (i : ℕ) (d : PortCycle) (within : i < lengt
   pub item : get_or (port_accesses cycles) i (get_or cycles i d).access ≡ (get_or cycles i d).access
   item = get_or-map (λ (cycle : PortCycle). cycle.access) cycles i d (get_or cycles i d).access within
 
-  pub placed_item : {first value : ℕ} → IsAt first value (drop i (port_accesses cycles)) →
-      IsPlaced first value (get_or cycles i d).access (drop (i + 1) (port_accesses cycles))
-  placed_item at = placed (port_accesses cycles) i (get_or cycles i d).access inside item at
+  pub at_item : {first value : ℕ} → IsAt first value (drop i (port_accesses cycles)) →
+      IsAt first value ((get_or cycles i d).access ∷ drop (i + 1) (port_accesses cycles))
+  at_item so_far =
+      let next = drop_more (port_accesses cycles) i (get_or cycles i d).access inside in
+      rw (rw item at next) at so_far
 
   pub on_bus : AreBusCycles (port_accesses cycles) →
       IsBusAccess (get_or cycles i d).access.write (get_or cycles i d).access.port (get_or cycles i d).access.width

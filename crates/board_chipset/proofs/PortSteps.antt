@@ -1,10 +1,9 @@
 -- The state after an access at a port.
 use Rattle.std.proofs.Common.{◌≡◌, ◌≢◌, ℕ, true, false, List, ◌∷◌, Option, None, refl, ◌∙◌, ap}
-use Rattle.board_prelude.proofs.Common.{cond_both, Width, PortAccess, Reg, Dev, Target, Device, Config, Card}
-use Rattle.board_prelude.proofs.Common.{Abort, bytes_of, Entry, Reply, Setup, config_address, is_hard_reset, Cell}
-use Rattle.board_prelude.proofs.Common.{byte_of}
-use Rattle.board_prelude.proofs.Common.{entry_put, byte_put, port_put, device_in, device_reached, device_value, Decoded}
-use Rattle.board_prelude.proofs.Common.{port_value, bus_reply, port_answer, Bytes}
+use Rattle.board_prelude.proofs.Common.{cond_both, Width, PortAccess, Reg, Dev, Target, Device, Config, Card, Abort}
+use Rattle.board_prelude.proofs.Common.{bytes_of, Entry, Reply, Setup, config_address, is_hard_reset, Cell, byte_of}
+use Rattle.board_prelude.proofs.Common.{entry_put, byte_put, port_put, device_in, device_reached, device_value}
+use Rattle.board_prelude.proofs.Common.{Decoded, port_value, bus_reply, port_answer, Bytes, Denial, Port, Bus}
 use Rattle.board_base.specs.declared.target.Dev.TheVariants.{Confadd as AddressPort, Reset}
 use Rattle.addr_decode.specs.declared.found.ConfigRegister.{ConfigRegister}
 use Rattle.addr_decode.specs.declared.found.Found.{Found}
@@ -63,12 +62,6 @@ chip_in setup bytes address access AddressPort named control is = absurd (named 
 chip_in setup bytes address access Reset named control is = absurd (control refl)
 chip_in setup bytes address access _ named control is = is
 
-pub chip_beside : (setup : Setup) (history : List Entry) (access : PortAccess) (dev : Dev) → dev ≢ AddressPort →
-    dev ≢ Reset → Reached setup history access (Device dev) →
-    IsBeside setup (config_address history) access.port access.width
-chip_beside setup history access dev named control is =
-    (chip_in setup (byte_of setup history) (config_address history) access dev named control is).0
-
 pub chip_value : (setup : Setup) (history : List Entry) (dev : Dev) (port : ℕ) (width : Width) → dev ≢ AddressPort →
     dev ≢ Reset →
     device_value setup history dev port width ≡ port_value setup history dev port width
@@ -124,19 +117,32 @@ module _ {setup : Setup} {history : List Entry} {access : PortAccess} {target : 
 -- the devices after an access at a chip's port
 pub chip_changed :
     {setup : Setup} {history : List Entry} {access : PortAccess} {dev : Dev} {entry : Entry} {old : State}
-    {devices : DevicesValue} →
-    IsBeside setup (config_address history) access.port access.width → IsStateOf setup history old →
+    {devices : DevicesValue} → dev ≢ AddressPort → dev ≢ Reset → IsStateOf setup history old →
     IsEntryOf setup history access (Device dev) entry →
     (ReachesDevice history entry dev access → AreRoutesOf setup (entry ∷ history) old.registers.south.routes →
     AreDevicesOf setup (entry ∷ history) devices) →
     IsStateOf setup (entry ∷ history) (record old { devices = devices })
-chip_changed {setup} {history} {access} {dev} {entry} beside kept is after =
+chip_changed {setup} {history} {access} {dev} {entry} named control kept is after =
+    let beside = (chip_in setup (byte_of setup history) (config_address history) access dev named control
+    (entry_reached refl is)).0 in
     let none : Writes setup history entry.event None None None =
     rw (is.event) (writes_beside setup history access beside) in
     devices_move kept none (puts_none is (λ cell. refl))
     (after (record { event = is.event; device = rw (is.reply) refl; soft = soft none }))
 
--- ---- the reply
+-- ---- the entry, and the reply
+
+pub entry_of :
+    {setup : Setup} {history : List Entry} {access : PortAccess} {target : Target} {denial : Option Denial}
+    {value : Option ℕ} {entry : Entry} → record { target = target; denial = denial } ≡ reached setup history access →
+    entry.event ≡ Port access → entry.reply ≡ Bus value target denial → IsEntryOf setup history access target entry
+entry_of {denial = denial} {value = value} decoded event replied = record {
+  value = value;
+  denial = denial;
+  target_is = ap (λ (d : Decoded). d.target) decoded;
+  event = event;
+  reply = replied;
+}
 
 pub answer_is :
     (setup : Setup) (history : List Entry) (access : PortAccess) (decoded : Decoded) (reply : Reply) →

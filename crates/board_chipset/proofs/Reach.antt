@@ -1,7 +1,6 @@
 -- What an access at a port reaches, and what that tells of the access.
 use Rattle.std.proofs.Common.{◌≡◌, ℕ, ◌%◌, ◌^◌, Bool, true, false, ◌&&◌, not, List, [], ◌∷◌, drop, Option, Some, None}
-use Rattle.std.proofs.Common.{refl}
-use Rattle.std.proofs.Common.{sym, ◌∙◌, arith, ◌==◌, unwrap_or, option_map}
+use Rattle.std.proofs.Common.{refl, arith, ◌==◌, unwrap_or, option_map}
 use Rattle.board_prelude.proofs.Common.{false≢true, cond_both, nat_tests, Width, Reg, Dev, Wires, Vector, Spurious}
 use Rattle.board_prelude.proofs.Common.{Keyboard, Ata, Target, Card, Device, Config, Abort, Denial, bytes_of}
 use Rattle.board_prelude.proofs.Common.{is_port_of, device_at, Setup, is_bit, config_address_port, reset_control_port}
@@ -44,21 +43,22 @@ address_line : (port : ℕ) (width : Width) → is_port_of AddressPort port (byt
     (port ≡ config_address_port) × (bytes_of width ≡ 4)
 address_line port width is = (grind (arith, nat_tests), grind (arith, nat_tests))
 
-no_control : (port : ℕ) (width : Width) → is_port_of Reset port (bytes_of width) ≡ false →
-    (port == reset_control_port && bytes_of width == 1) ≡ false
-no_control port width is = grind (arith, nat_tests)
+beside_lines : (setup : Setup) (address port : ℕ) (width : Width) →
+    is_port_of Reset port (bytes_of width) ≡ false → is_port_of AddressPort port (bytes_of width) ≡ false →
+    is_config_port port ≡ false → IsBeside setup address port width
+beside_lines setup address port width control address_port config = record {
+  control = grind (arith, nat_tests);
+  address_port = grind (arith, nat_tests);
+  config = λ is. absurd (cc);
+}
 
-no_address : (port : ℕ) (width : Width) → is_port_of AddressPort port (bytes_of width) ≡ false →
-    (port == config_address_port && bytes_of width == 4) ≡ false
-no_address port width is = grind (arith, nat_tests)
-
-no_control_there : (port : ℕ) (width : Width) → is_config_port port ≡ true →
-    (port == reset_control_port && bytes_of width == 1) ≡ false
-no_control_there port width is = grind (arith, nat_tests)
-
-no_address_there : (port : ℕ) (width : Width) → is_config_port port ≡ true →
-    (port == config_address_port && bytes_of width == 4) ≡ false
-no_address_there port width is = grind (arith, nat_tests)
+beside_none : (setup : Setup) (address port : ℕ) (width : Width) → is_config_port port ≡ true →
+    config_register setup address port ≡ None → IsBeside setup address port width
+beside_none setup address port width config none = record {
+  control = grind (arith, nat_tests);
+  address_port = grind (arith, nat_tests);
+  config = λ is. none;
+}
 
 module _ (setup : Setup) (bytes : Bytes) (address : ℕ) (disk : Bool) (port : ℕ) (width : Width) where
   abbrev Lands : Decoded → Type 0
@@ -67,11 +67,7 @@ module _ (setup : Setup) (bytes : Bytes) (address : ℕ) (disk : Bool) (port : �
   at_config : (found : Option Reg) → is_config_port port ≡ true →
       config_register setup address port ≡ found → Lands (config_port address found)
   at_config (Some reg) config is = (config, is)
-  at_config None config is = record {
-    control = no_control_there port width config;
-    address_port = no_address_there port width config;
-    config = λ _. is;
-  }
+  at_config None config is = beside_none setup address port width config is
 
   -- ---- what a card can claim
 
@@ -119,11 +115,8 @@ module _ (setup : Setup) (bytes : Bytes) (address : ℕ) (disk : Bool) (port : �
   past_config not_config =
       cond_both (is_port_of AddressPort port (bytes_of width)) _ _ Finds (λ is. address_line port width is)
       (λ other. cond_both (is_port_of Reset port (bytes_of width)) _ _ Finds (λ is. control_line port width is)
-      (λ not_reset. in_table (drop 2 port_devices) (record {
-        control = no_control port width not_reset;
-        address_port = no_address port width other;
-        config = λ is. absurd (false≢true (sym not_config ∙ is));
-      })))
+      (λ not_reset.
+      in_table (drop 2 port_devices) (beside_lines setup address port width not_reset other not_config)))
 
   pub reaches : Lands (port_target_of setup bytes address disk port width)
   unfolding port_target_of

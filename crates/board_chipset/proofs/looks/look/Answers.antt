@@ -1,7 +1,6 @@
 use Rattle.std.proofs.Common.{◌≡◌, ℕ, Bool, None, refl, ◌∙◌}
-use Rattle.board_prelude.proofs.Common.{Kind, Reply, Bus, Saw, Cell, entry_put, byte_of}
+use Rattle.board_prelude.proofs.Common.{Kind, Reply, Bus, Cell, entry_put, byte_of}
 use Rattle.board_spec.specs.declared.event.Event.TheVariants.{Look as LookAt}
-use Rattle.board_spec.specs.declared.event.Reply.TheVariants.{Parts}
 use Rattle.board_devices.proofs.DeviceLemmas.{leaves_devices}
 use Rattle.board_chipset.proofs.RegisterSteps.{writes_none}
 use Rattle.board_chipset.proofs.StateSteps.{state_stays}
@@ -11,8 +10,7 @@ use Rattle.board_chipset.proofs.looks.look.Goals as goal
 puts_nothing : (kind : Kind) (addr : ℕ) (smm : Bool) (reply : Reply) (cell : Cell) →
     entry_put (LookAt kind addr smm) reply cell ≡ None
 puts_nothing kind addr smm (Bus value target denial) cell = refl
-puts_nothing kind addr smm (Parts parts value) cell = refl
-puts_nothing kind addr smm (Saw look) cell = refl
+puts_nothing kind addr smm _ cell = refl
 
 pub returns-clause-answer : goal.returns-clause-answer
 returns-clause-answer c = λ setup history kept. record {
@@ -22,6 +20,5 @@ returns-clause-answer c = λ setup history kept. record {
 
 pub returns-clause-board : goal.returns-clause-board
 returns-clause-board c = λ setup history entry kept event.
-    state_stays leaves_devices kept
-    (writes_none setup history entry.event (λ port is. cc))
-    (rw event tt) (λ cell. rw event (puts_nothing c.args.kind c.args.addr c.args.smm entry.reply cell))
+    state_stays leaves_devices kept (writes_none setup history entry.event (λ port is. cc)) (rw event tt)
+    (λ cell. rw event (puts_nothing c.args.kind c.args.addr c.args.smm entry.reply cell))

@@ -10,11 +10,10 @@ use Rattle.board_chipset.proofs.memory.answered.Goals as goal
 
 pub write-requires-clause-ready : goal.write-requires-clause-ready
 write-requires-clause-ready c =
-    let kept = c.requires.kept in
-    let stand = kept.sound.registers.kept.map in (
+    let kept = c.requires.kept in (
       c.args.rom.now,
       ready kept.sound kept.image c.requires.bus
-          (c.requires.decoded kept.setup kept.sound.registers.bytes stand kept.image),
+          (c.requires.decoded kept.setup kept.sound.registers.bytes kept.sound.registers.kept.map kept.image),
     )
 
 pub returns-then-is_write-clause-sound : goal.returns-then-is_write-clause-sound
@@ -25,22 +24,19 @@ returns-then-is_write-clause-answer c = λ setup history kept image.
     write_answer setup history c.args.access.now c.args.answer.now
     (writes_when c.args.access.now.kind c.is_write.result c.is_write.ensures.write ∙ c.if-is_write.true)
     (part_answered setup history c.args.access.now c.args.answer.now
-    (c.requires.decoded setup (byte_of setup history) kept.registers.kept.map
-    image))
+    (c.requires.decoded setup (byte_of setup history) kept.registers.kept.map image))
 
 pub returns-then-is_write-clause-board : goal.returns-then-is_write-clause-board
 returns-then-is_write-clause-board c = λ setup history entry kept image event replied.
-    state_put leaves_devices kept
-    (writes_none setup history entry.event (λ port is. cc))
-    (rw event tt) (λ cell. rw (event, replied) refl) c.write.ensures.put
+    state_put leaves_devices kept (writes_none setup history entry.event (λ port is. cc)) (rw event tt)
+    (λ cell. rw (event, replied) refl) c.write.ensures.put
 
 pub read-requires : goal.read-requires
 read-requires c =
     let kept = c.requires.kept in
-    let stand = kept.sound.registers.kept.map in
     record {
       ready = ready kept.sound kept.image c.requires.bus
-          (c.requires.decoded kept.setup kept.sound.registers.bytes stand kept.image);
+          (c.requires.decoded kept.setup kept.sound.registers.bytes kept.sound.registers.kept.map kept.image);
     }
 
 pub returns-clause-answer : goal.returns-clause-answer
@@ -48,13 +44,11 @@ returns-clause-answer c = λ setup history kept image.
     read_answer setup history c.args.access.now c.args.answer.now c.read.result
     (writes_when c.args.access.now.kind c.is_write.result c.is_write.ensures.write ∙ c.if-is_write.false)
     (part_answered setup history c.args.access.now c.args.answer.now
-    (c.requires.decoded setup (byte_of setup history) kept.registers.kept.map
-    image))
+    (c.requires.decoded setup (byte_of setup history) kept.registers.kept.map image))
     (c.read.ensures.value setup history kept.stores image)
 
 pub returns-clause-board : goal.returns-clause-board
 returns-clause-board c = λ setup history entry kept image event replied.
     let reads = writes_when c.args.access.now.kind c.is_write.result c.is_write.ensures.write ∙ c.if-is_write.false in
-    state_stays leaves_devices kept
-    (writes_none setup history entry.event (λ port is. cc))
-    (rw event tt) (λ cell. rw (event, replied, reads) refl)
+    state_stays leaves_devices kept (writes_none setup history entry.event (λ port is. cc)) (rw event tt)
+    (λ cell. rw (event, replied, reads) refl)

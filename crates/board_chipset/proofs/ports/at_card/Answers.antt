@@ -1,6 +1,6 @@
 use Rattle.std.proofs.Common.{ap, refl}
 use Rattle.board_spec.specs.Ports.{Decoded}
-use Rattle.board_chipset.proofs.PortSteps.{answer_is}
+use Rattle.board_chipset.proofs.PortSteps.{answer_is, entry_of}
 use Rattle.board_chipset.proofs.ports.at_card.Goals as goal
 
 pub returns-clause-answer : goal.returns-clause-answer
@@ -10,11 +10,4 @@ returns-clause-answer c = λ setup history kept decoded.
 
 pub returns-clause-board : goal.returns-clause-board
 returns-clause-board c = λ setup history entry kept decoded event replied.
-    c.stored_value.ensures.board setup history entry kept
-    (record {
-      value = _;
-      denial = _;
-      target_is = ap (λ (d : Decoded). d.target) decoded;
-      event = event;
-      reply = replied;
-    })
+    c.stored_value.ensures.board setup history entry kept (entry_of decoded event replied)

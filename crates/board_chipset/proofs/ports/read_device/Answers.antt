@@ -1,8 +1,8 @@
 use Rattle.std.proofs.Common.{◌∙◌, refl}
 use Rattle.board_devices.proofs.DeviceLemmas.{leaves_devices}
-use Rattle.board_chipset.proofs.Effects.{reached_in, entry_reached}
+use Rattle.board_chipset.proofs.Effects.{reached_in}
 use Rattle.board_chipset.proofs.StateSteps.{sound_devices}
-use Rattle.board_chipset.proofs.PortSteps.{chip_beside, chip_in, chip_value, read_stays, chip_changed}
+use Rattle.board_chipset.proofs.PortSteps.{chip_in, chip_value, read_stays, chip_changed}
 use Rattle.board_chipset.proofs.ports.read_device.Goals as goal
 
 pub read-requires-in_default : goal.read-requires-in_default
@@ -31,8 +31,6 @@ returns-in_default c =
           c.read-in_default.ensures.value setup history kept.devices
           ∙ chip_value setup history dev access.port access.width c.in_default.not-Confadd c.in_default.not-Reset;
       board = λ setup history entry kept is.
-          chip_changed
-          (chip_beside setup history access dev c.in_default.not-Confadd c.in_default.not-Reset (entry_reached refl is))
-          kept is (λ reaches. c.read-in_default.ensures.devices setup history entry kept.devices reaches
-          c.requires.reads);
+          chip_changed c.in_default.not-Confadd c.in_default.not-Reset kept is
+          (λ reaches. c.read-in_default.ensures.devices setup history entry kept.devices reaches c.requires.reads);
     }

@@ -1,10 +1,9 @@
-use Rattle.std.proofs.Common.{refl, ap, subst}
+use Rattle.std.proofs.Common.{refl, ap}
 use Rattle.board_prelude.proofs.Common.{Dev, Device}
-use Rattle.board_chipset.specs.Ports.{IsEntryOf}
 use Rattle.board_devices.proofs.DeviceLemmas.{leaves_devices}
-use Rattle.board_chipset.proofs.Effects.{reached_in, entry_reached, entry_writes}
+use Rattle.board_chipset.proofs.Effects.{reached_in, entry_writes}
 use Rattle.board_chipset.proofs.StateSteps.{soft, sound_devices, sound_registers}
-use Rattle.board_chipset.proofs.PortSteps.{chip_beside, chip_in, registers_move, chip_changed}
+use Rattle.board_chipset.proofs.PortSteps.{chip_in, registers_move, chip_changed}
 use Rattle.board_chipset.proofs.ports.write_device.Goals as goal
 
 pub write-requires : goal.write-requires
@@ -32,15 +31,13 @@ returns-in-Reset c = record {
   sound = c.write_control.ensures.sound;
   board = λ setup history entry kept is.
       c.write_control.ensures.board setup history entry kept
-      (subst (λ (dev : Dev). IsEntryOf setup history c.args.access.now (Device dev) entry) c.in-Reset.is is);
+      (rw c.in-Reset.is at is);
 }
 
 pub returns-in_default : goal.returns-in_default
 returns-in_default c = record {
   sound = λ setup sound. sound_devices sound c.write.ensures.fitted;
   board = λ setup history entry kept is.
-      chip_changed
-      (chip_beside setup history c.args.access.now c.args.dev c.in_default.not-Confadd c.in_default.not-Reset
-      (entry_reached refl is))
-      kept is (λ reaches. c.write.ensures.devices setup history entry kept.devices reaches c.requires.writes);
+      chip_changed c.in_default.not-Confadd c.in_default.not-Reset kept is
+      (λ reaches. c.write.ensures.devices setup history entry kept.devices reaches c.requires.writes);
 }

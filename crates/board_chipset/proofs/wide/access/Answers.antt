@@ -1,5 +1,5 @@
-use Rattle.std.proofs.Common.{◌≡◌, ◌∙◌, true, refl}
-use Rattle.board_prelude.proofs.Common.{is_write, parts_of, parts_list, byte_of}
+use Rattle.std.proofs.Common.{◌∙◌, refl}
+use Rattle.board_prelude.proofs.Common.{parts_of, parts_list, byte_of}
 use Rattle.board_stores.proofs.MemoryLemmas.{parts_answered}
 use Rattle.board_devices.proofs.DeviceLemmas.{leaves_devices}
 use Rattle.board_chipset.proofs.RegisterSteps.{writes_none}
@@ -11,13 +11,13 @@ use Rattle.board_chipset.proofs.wide.access.Goals as goal
 
 pub write_cycles-requires-clause-ready : goal.write_cycles-requires-clause-ready
 write_cycles-requires-clause-ready c =
-    let kept = c.requires.kept in
-    let stand = stands kept.sound c.regs.ensures.same in
-    let decoded = c.cycles_of-cut.ensures.decoded kept.setup kept.sound.registers.bytes stand kept.image in
-    let is = c.as_slice-cycles.ensures.value in (
+    let kept = c.requires.kept in (
       c.args.rom.now,
-      cycles_ready kept.sound kept.image c.args.access.now _ (c.law_parts.ensures.cut c.args.access.now c.requires.wide)
-          (rw (← is) at c.cycles_of-cut.ensures.parts) (rw (← is) at decoded),
+      rw (c.as_slice-cycles.ensures.value)
+          (cycles_ready kept.sound kept.image c.args.access.now _
+          (c.law_parts.ensures.cut c.args.access.now c.requires.wide) c.cycles_of-cut.ensures.parts
+          (c.cycles_of-cut.ensures.decoded kept.setup kept.sound.registers.bytes
+          (stands kept.sound c.regs.ensures.same) kept.image)),
     )
 
 pub returns-then-is_write-clause-sound : goal.returns-then-is_write-clause-sound
@@ -26,10 +26,9 @@ returns-then-is_write-clause-sound c = λ setup sound. sound_put sound c.write_c
 pub write_cycles-requires-clause-writes : goal.write_cycles-requires-clause-writes
 write_cycles-requires-clause-writes c =
     let access = c.args.access.now in
-    let writes : is_write access.kind ≡ true =
-    writes_when access.kind c.is_write.result c.is_write.ensures.write ∙ c.if-is_write.true in
     let parts = rw (← c.as_slice-cycles.ensures.value) at c.cycles_of-cut.ensures.parts in
-    all_write access c.as_slice-cycles.result.now writes
+    all_write access c.as_slice-cycles.result.now
+    (writes_when access.kind c.is_write.result c.is_write.ensures.write ∙ c.if-is_write.true)
     (rw parts (c.law_parts.ensures.cut access c.requires.wide).each)
 
 pub returns-then-is_write-clause-answer : goal.returns-then-is_write-clause-answer
@@ -45,26 +44,23 @@ returns-then-is_write-clause-answer c = λ setup history kept image.
 pub returns-then-is_write-clause-board : goal.returns-then-is_write-clause-board
 returns-then-is_write-clause-board c = λ setup history entry kept image event replied.
     let parts = rw (← c.as_slice-cycles.ensures.value) at c.cycles_of-cut.ensures.parts in
-    state_put leaves_devices kept
-    (writes_none setup history entry.event (λ port is. cc))
-    (rw event tt) (λ cell. rw (event, replied, c.parts_of-parts.ensures.answers, ← parts) refl)
-    c.write_cycles.ensures.put
+    state_put leaves_devices kept (writes_none setup history entry.event (λ port is. cc)) (rw event tt)
+    (λ cell. rw (event, replied, c.parts_of-parts.ensures.answers, ← parts) refl) c.write_cycles.ensures.put
 
 pub read_cycles-requires-clause-ready : goal.read_cycles-requires-clause-ready
 read_cycles-requires-clause-ready c =
     let kept = c.requires.kept in
-    let stand = stands kept.sound c.regs.ensures.same in
-    let decoded = c.cycles_of-cut.ensures.decoded kept.setup kept.sound.registers.bytes stand kept.image in
-    let is = c.as_slice-cycles.ensures.value in
-    cycles_ready kept.sound kept.image c.args.access.now _ (c.law_parts.ensures.cut c.args.access.now c.requires.wide)
-    (rw (← is) at c.cycles_of-cut.ensures.parts) (rw (← is) at decoded)
+    rw (c.as_slice-cycles.ensures.value)
+    (cycles_ready kept.sound kept.image c.args.access.now _
+    (c.law_parts.ensures.cut c.args.access.now c.requires.wide) c.cycles_of-cut.ensures.parts
+    (c.cycles_of-cut.ensures.decoded kept.setup kept.sound.registers.bytes
+    (stands kept.sound c.regs.ensures.same) kept.image))
 
 pub returns-clause-answer : goal.returns-clause-answer
 returns-clause-answer c = λ setup history kept image.
     let access = c.args.access.now in
-    let is = c.as_slice-cycles.ensures.value in
-    let parts = rw (← is) at c.cycles_of-cut.ensures.parts in
-    let decoded = rw (← is) at
+    let parts = rw (← c.as_slice-cycles.ensures.value) at c.cycles_of-cut.ensures.parts in
+    let decoded = rw (← c.as_slice-cycles.ensures.value) at
     (parts_answered setup history (parts_of access) _
     (c.cycles_of-cut.ensures.decoded setup (byte_of setup history)
     (c.regs.ensures.stand setup history kept.registers) image)) in
@@ -76,9 +72,7 @@ returns-clause-answer c = λ setup history kept image.
 pub returns-clause-board : goal.returns-clause-board
 returns-clause-board c = λ setup history entry kept image event replied.
     let access = c.args.access.now in
-    state_stays leaves_devices kept
-    (writes_none setup history entry.event (λ port is. cc))
-    (rw event tt)
+    state_stays leaves_devices kept (writes_none setup history entry.event (λ port is. cc)) (rw event tt)
     (λ cell. rw (event, replied)
     (parts_none access (parts_of access) (parts_list c.parts_of-parts.result) cell
     (writes_when access.kind c.is_write.result c.is_write.ensures.write ∙ c.if-is_write.false)

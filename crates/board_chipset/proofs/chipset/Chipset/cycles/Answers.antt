@@ -1,10 +1,10 @@
-use Rattle.std.proofs.Common.{◌≡◌, ℕ, false, ◌+◌, ◌-◌, ◌*◌, ◌%◌, ◌^◌, ◌∙◌, ap, refl, subst, arith, get_or}
+use Rattle.std.proofs.Common.{ℕ, false, ◌+◌, ap, refl, subst, arith, get_or}
 use Rattle.board_prelude.proofs.Common.{take_all, length-map, One, Setup}
 use Rattle.board_stores.specs.declared.ports.PortCycle.{PortCycle}
 use Rattle.board_stores.specs.PortCycles.{port_accesses}
 use Rattle.board_chipset.specs.PortAccesses.{IsCycleStep}
-use Rattle.board_chipset.proofs.PortAccessSteps.{none_done, cycle_done, shifted, room, shift_most, at_next, at_first}
-use Rattle.board_chipset.proofs.PortAccessSteps.{inside, item, placed_item, on_bus, bytes_placed, below_all}
+use Rattle.board_chipset.proofs.PortAccessSteps.{none_done, cycle_done, shifted, shift_most, all_fit, at_next}
+use Rattle.board_chipset.proofs.PortAccessSteps.{at_first, inside, item, at_item, on_bus, from_first}
 use Rattle.board_chipset.proofs.chipset.Chipset.cycles.Goals as goal
 
 none : PortCycle
@@ -27,35 +27,30 @@ cycle-read-requires c = record {
 pub overflow_sub-value : goal.overflow_sub-value
 unfolding none
 overflow_sub-value c =
-    (placed_item c.args.cycles.now c.loop-cycle.cycle-index none c.loop-cycle-test.true c.loop-cycle.invariant.at).from
+    from_first (at_item c.args.cycles.now c.loop-cycle.cycle-index none c.loop-cycle-test.true
+    c.loop-cycle.invariant.at)
 
 pub overflow_mul-value : goal.overflow_mul-value
 unfolding none
 overflow_mul-value c =
-    let placed =
-    placed_item c.args.cycles.now c.loop-cycle.cycle-index none c.loop-cycle-test.true c.loop-cycle.invariant.at in
-    omega (arith, shift_most placed)
+    let most = shift_most (at_item c.args.cycles.now c.loop-cycle.cycle-index none c.loop-cycle-test.true
+    c.loop-cycle.invariant.at) in
+    omega arith
 
 pub overflow_shl-value : goal.overflow_shl-value
 unfolding none
 overflow_shl-value c =
-    let placed =
-    placed_item c.args.cycles.now c.loop-cycle.cycle-index none c.loop-cycle-test.true c.loop-cycle.invariant.at in
-    omega (arith, shift_most placed)
+    let most = shift_most (at_item c.args.cycles.now c.loop-cycle.cycle-index none c.loop-cycle-test.true
+    c.loop-cycle.invariant.at) in
+    omega arith
 
 pub overflow_add-value : goal.overflow_add-value
 unfolding none
 overflow_add-value c =
-    let placed =
-    placed_item c.args.cycles.now c.loop-cycle.cycle-index none c.loop-cycle-test.true c.loop-cycle.invariant.at in
-    let cycle = (get_or c.args.cycles.now c.loop-cycle.cycle-index none).access in
-    let d = cycle.port - c.args.first in
-    let is = shifted cycle.width d c.loop-cycle.value c.cycle-read.result.0 (room placed) placed.small
-    c.cycle-read.ensures.small in
-    let all = below_all cycle.width d _ (room placed)
-    (bytes_placed cycle.width d c.loop-cycle.value c.cycle-read.result.0 (room placed) placed.small
-    c.cycle-read.ensures.small) in
-    rw is (omega (arith, all))
+    let here = at_item c.args.cycles.now c.loop-cycle.cycle-index none c.loop-cycle-test.true
+    c.loop-cycle.invariant.at in
+    let fits = all_fit here c.cycle-read.result.0 c.cycle-read.ensures.small in
+    rw (shifted here c.cycle-read.result.0 c.cycle-read.ensures.small) (omega (arith, fits))
 
 pub loop-cycle-preserved : goal.loop-cycle-preserved
 unfolding none
@@ -63,25 +58,19 @@ loop-cycle-preserved c =
     let cycles = c.args.cycles.now in
     let i = c.loop-cycle.cycle-index in
     let within = c.loop-cycle-test.true in
-    let placed = placed_item cycles i none within c.loop-cycle.invariant.at in
-    let cycle = (get_or cycles i none).access in
-    let d = cycle.port - c.args.first in
+    let here = at_item cycles i none within c.loop-cycle.invariant.at in
     let read = c.cycle-read.result.0 in
-    let small = c.cycle-read.ensures.small in
-    let is : c.loop-cycle.value + read * 2 ^ (8 * d) % 2 ^ 32 ≡ c.loop-cycle.value + read * 256 ^ d =
-    ap (λ (n : ℕ). c.loop-cycle.value + n)
-    (shifted cycle.width d c.loop-cycle.value read (room placed) placed.small small) in
+    let is = ap (λ (n : ℕ). c.loop-cycle.value + n) (shifted here read c.cycle-read.ensures.small) in
     record {
-      setup = c.cycle-read.ensures.setup ∙ c.loop-cycle.invariant.setup;
+      setup = rw (c.cycle-read.ensures.setup) c.loop-cycle.invariant.setup;
       done = cycle_done c.args.self.now.setup c.args.self.now c.loop-cycle.self c.cycle-read.new.self c.args.first
           c.loop-cycle.value read _ c.loop-cycle.reset c.cycle-read.result.1 c.or-reset.result (port_accesses cycles) i
-          cycle
-          (inside cycles i none within) (item cycles i none within) c.loop-cycle.invariant.done
-          (subst (λ (setup : Setup). IsCycleStep setup c.loop-cycle.self cycle c.cycle-read.new.self read
-          c.cycle-read.result.1)
-          c.loop-cycle.invariant.setup c.cycle-read.ensures.step)
+          (get_or cycles i none).access (inside cycles i none within) (item cycles i none within)
+          c.loop-cycle.invariant.done
+          (subst (λ (setup : Setup). IsCycleStep setup c.loop-cycle.self (get_or cycles i none).access
+          c.cycle-read.new.self read c.cycle-read.result.1) c.loop-cycle.invariant.setup c.cycle-read.ensures.step)
           is c.or-reset.ensures.stronger;
-      at = at_next placed read _ small is;
+      at = at_next here read _ c.cycle-read.ensures.small is;
     }
 
 pub returns-clause-done : goal.returns-clause-done

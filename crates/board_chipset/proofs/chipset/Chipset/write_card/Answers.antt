@@ -1,39 +1,30 @@
-use Rattle.std.proofs.Common.{◌≢◌, ◌+◌, ◌∙◌, length, sym, arith}
-use Rattle.board_prelude.proofs.Common.{eqb-false}
+use Rattle.std.proofs.Common.{◌∙◌, length, sym, arith}
 use Rattle.board_devices.proofs.DeviceLemmas.{leaves_devices}
 use Rattle.board_chipset.specs.Chipset.{IsLeftBy}
-use Rattle.board_chipset.proofs.CardLoadSteps.{IsCopied, card_kept, card_left, fits_held, numbered, sound_copied}
+use Rattle.board_chipset.proofs.CardLoadSteps.{IsCopied, card_kept, card_left, fitting, sound_copied}
 use Rattle.board_chipset.proofs.chipset.Chipset.write_card.Goals.{After-write_bytes}
 use Rattle.board_chipset.proofs.chipset.Chipset.write_card.Goals as goal
 
 pub write_bytes-requires-clause-number : goal.write_bytes-requires-clause-number
 write_bytes-requires-clause-number c =
-    let some : length c.args.bytes.now ≢ 0 = eqb-false _ _ (sym c.is_empty.ensures ∙ c.if-is_empty.false) in
-    let within = c.in_ok-test_card.ensures.within in
-    numbered c.self.inside.setup c.args.dev c.args.base (c.args.off + length c.args.bytes.now) c.self.invariant.fits
-    (omega (arith, some)) (rw (← c.self.view_is) at within)
+    (fitting c.self.invariant c.args.dev c.args.base c.args.off (length c.args.bytes.now)
+    (sym c.is_empty.ensures ∙ c.if-is_empty.false) (rw (← c.self.view_is) at c.in_ok-test_card.ensures.within)).0
 
 pub write_bytes-requires-clause-within : goal.write_bytes-requires-clause-within
 write_bytes-requires-clause-within c =
-    let some : length c.args.bytes.now ≢ 0 = eqb-false _ _ (sym c.is_empty.ensures ∙ c.if-is_empty.false) in
-    let within = c.in_ok-test_card.ensures.within in
-    fits_held c.self.inside.setup c.self.inside.state.stores.contents c.args.dev c.args.base
-    (c.args.off + length c.args.bytes.now) c.self.invariant.fits c.self.invariant.contents (omega (arith, some))
-    (rw (← c.self.view_is) at within)
+    (fitting c.self.invariant c.args.dev c.args.base c.args.off (length c.args.bytes.now)
+    (sym c.is_empty.ensures ∙ c.if-is_empty.false) (rw (← c.self.view_is) at c.in_ok-test_card.ensures.within)).2
 
 copied : (c : After-write_bytes) →
     IsCopied c.self.inside.state.stores.contents c.args.dev c.args.base c.args.off c.args.bytes.now
     c.write_bytes.new.self
 copied c =
-    let some : length c.args.bytes.now ≢ 0 = eqb-false _ _ (sym c.is_empty.ensures ∙ c.if-is_empty.false) in
-    let told = c.in_ok-test_card.ensures.within in
-    let within = rw (← c.self.view_is) at told in
+    let fits = fitting c.self.invariant c.args.dev c.args.base c.args.off (length c.args.bytes.now)
+    (sym c.is_empty.ensures ∙ c.if-is_empty.false) (rw (← c.self.view_is) at c.in_ok-test_card.ensures.within) in
     record {
-      number = numbered c.self.inside.setup c.args.dev c.args.base (c.args.off + length c.args.bytes.now)
-          c.self.invariant.fits (omega (arith, some)) within;
-      fits = fits_held c.self.inside.setup c.self.inside.state.stores.contents c.args.dev c.args.base
-          (c.args.off + length c.args.bytes.now) c.self.invariant.fits c.self.invariant.contents (omega (arith, some))
-          within;
+      number = fits.0;
+      kept = fits.1;
+      fits = fits.2;
       here = c.write_bytes.ensures.here;
       others = c.write_bytes.ensures.others;
     }

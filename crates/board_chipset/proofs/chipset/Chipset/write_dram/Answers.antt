@@ -26,14 +26,14 @@ pub returns-clause-left : goal.returns-clause-left
 unfolding IsLeftBy
 returns-clause-left c =
     rw (← c.self.view_is)
-    (load_left c.self.inside.setup c.self.inside.state c.load.new.self c.args.addr c.args.bytes.now c.load.result
-    leaves_devices c.load.ensures.fits c.load.ensures.bytes
-    c.load.ensures.size (λ k. omega (arith, c.type_inv.bytes k)))
+    (load_left c.self.inside.setup c.self.inside.state c.load.new.self c.args.addr c.args.bytes.now leaves_devices
+    c.load.ensures.size (λ k. omega (arith, c.type_inv.bytes k)) c.load.result c.load.ensures.fits
+    c.load.ensures.bytes)
 
 pub returns-clause-goes_on : goal.returns-clause-goes_on
 unfolding IsLeftBy
 returns-clause-goes_on c =
     rw (← c.self.view_is)
-    (load_kept c.self.inside.setup c.self.inside.state c.load.new.self c.args.addr c.args.bytes.now c.load.result
-    leaves_devices c.load.ensures.fits c.load.ensures.bytes
-    c.load.ensures.size (λ k. omega (arith, c.type_inv.bytes k)) c.load.ensures.same)
+    (load_kept c.self.inside.setup c.self.inside.state c.load.new.self c.args.addr c.args.bytes.now leaves_devices
+    c.load.ensures.size (λ k. omega (arith, c.type_inv.bytes k)) c.load.result c.load.ensures.fits
+    c.load.ensures.bytes c.load.ensures.same)

@@ -1,5 +1,5 @@
-use Rattle.std.proofs.Common.{◌≡◌, ℕ, refl, subst, sym}
-use Rattle.board_prelude.proofs.Common.{kept_address, reset_byte}
+use Rattle.std.proofs.Common.{refl}
+use Rattle.board_prelude.proofs.Common.{reset_byte}
 use Rattle.board_chipset.proofs.registers.Registers.reset.Goals as goal
 
 pub returns-clause-kept : goal.returns-clause-kept
@@ -17,6 +17,6 @@ returns-clause-sound c = λ setup sound. record {
     cards = c.apply.ensures.applied.cards setup sound.bytes sound.kept.cards;
     south = c.reset-2.ensures.reset setup;
   };
-  address = subst (λ (address : ℕ). kept_address address ≡ address) (sym c.reset.ensures.zero) refl;
+  address = rw c.reset.ensures.zero refl;
   flat = c.apply.ensures.applied.map;
 }

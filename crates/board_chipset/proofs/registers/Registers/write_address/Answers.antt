@@ -1,5 +1,4 @@
-use Rattle.std.proofs.Common.{refl, subst, sym, ℕ, ◌≡◌}
-use Rattle.board_prelude.proofs.Common.{kept_address}
+use Rattle.std.proofs.Common.{refl}
 use Rattle.cfg_ports.proofs.AddressLemmas.{kept_address-again}
 use Rattle.board_chipset.proofs.RegisterSteps.{follows}
 use Rattle.board_chipset.proofs.registers.Registers.write_address.Goals as goal
@@ -12,7 +11,6 @@ pub returns-clause-sound : goal.returns-clause-sound
 returns-clause-sound c = λ setup sound. record {
   bytes = sound.bytes;
   kept = sound.kept;
-  address = subst (λ (address : ℕ). kept_address address ≡ address) (sym c.write.ensures.kept)
-      (kept_address-again c.args.value);
+  address = rw c.write.ensures.kept (kept_address-again c.args.value);
   flat = sound.flat;
 }
