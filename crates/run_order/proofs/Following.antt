@@ -27,8 +27,7 @@ pub record IsCall (setup : Setup) (whole : List Entry) (actor : ℕ) (from : Lis
   pub place : Begins (entry ∷ before) whole
 
 -- a processor's own statements in a history of the bus, which is whole now: `from` is the history up to its own last
--- call, and
--- `low` how many map writes it knew
+-- call, and `low` how many map writes it knew
 abbrev pub Follows : Setup → List Entry → ℕ → List Entry → ℕ → List Done → Type 0
 Follows setup whole actor from low [] = entries_by actor whole ≡ entries_by actor from
 Follows setup whole actor from low (Looked kind addr smm look ∷ items) =
@@ -37,12 +36,3 @@ Follows setup whole actor from low (Looked kind addr smm look ∷ items) =
 Follows setup whole actor from low (Went version event ∷ items) =
     (before : List Entry) × (entry : Entry) × IsCall setup whole actor from low event version before entry
     × Follows setup whole actor (entry ∷ before) (version_of setup (entry ∷ before)) items
-
--- what the processors hand over after a phase
-pub record IsHandOver (setup : Setup) (opened later : List Entry) (phase : List Statement)
-    (rests : List (List Done)) : Type 0 where
-  pub legal : IsLegal setup (onto later opened)
-  pub callers : All (λ entry. entry.actor < length rests) later
-  pub follows : (actor : ℕ) → actor < length rests
-      → Follows setup (onto later opened) actor opened (version_of setup opened) (done_by 0 actor rests)
-  pub said : (actor : ℕ) → map event_of (done_by 0 actor rests) ≡ events_by actor phase
