@@ -38,10 +38,11 @@ count_next {X} f xs k d less =
     omega (arith, split, apart, sum)
 
 -- a list of them is no longer than all
-pub one_of : (xs : List (List Done)) (k : ℕ) → k < length xs → looks_in (get_or xs k []) ≤ all_looks_in xs
-one_of [] k less = absurd (omega (arith, less))
-one_of (x ∷ xs) zero less = omega arith
-one_of (x ∷ xs) (suc k) less = let more = one_of xs k (omega (arith, less)) in omega (arith, more)
+pub one_of : {X : Type 0} (f : X → List Done) (xs : List X) (k : ℕ) (d : X) → k < length xs
+    → looks_in (f (get_or xs k d)) ≤ all_looks_in (map f xs)
+one_of f [] k d less = absurd (omega (arith, less))
+one_of f (x ∷ xs) zero d less = omega arith
+one_of f (x ∷ xs) (suc k) d less = omega (arith, one_of f xs k d (omega (arith, less)))
 
 -- a list takes the place of another
 pub count_set : (xs : List (List Done)) (k : ℕ) (y : List Done) → k < length xs
@@ -67,10 +68,6 @@ number_fits order capacity counts actor place same below some kept =
     no_more_by (over [] order.entries) actor in
     let size : length (over [] order.entries) ≡ length order.entries = length-map order.entries (entry_of []) in
     rw same (omega (arith, count, few, size, kept.few, some))
-
-pub place_fits : (order : Order) (capacity : ℕ) (counts : List ℕ) → 1 ≤ order.spare → IsOrder order capacity counts
-    → order.bus + 1 < 2 ^ 32
-place_fits order capacity counts some kept = omega (arith, kept.fewer, kept.few, some)
 
 counts_more : (counts : List ℕ) (actor other : ℕ) (entry : Entry) (before : List Entry) → length counts ≡ 8 → other < 8
     → entry.actor ≡ actor

@@ -140,8 +140,7 @@ phase_runs blind setup opened later phase works final run legal same =
     record {
       legal = all.holds.legal;
       bus = all.holds.bare ∙ ap bare (onto_is later opened);
-      phases = λ phases has. rw said
-          (has_more phases phase (statements_of final) part has is_whole);
+      phases = λ phases has. rw said (has_more phases phase (statements_of final) part has is_whole);
       added = all.added;
       adds = all.holds.is;
       size = sym (length-map (reverse all.added) statement_of ∙ length-reverse all.added) ∙ is_whole.size;
