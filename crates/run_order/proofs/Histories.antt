@@ -2,7 +2,7 @@
 use Rattle.std.proofs.Common.{◌≡◌, ℕ, ◌+◌, ◌<◌, ◌≤◌, ◌==◌, true, false, List, [], ◌∷◌, ◌++◌, length, refl, sym, ◌∙◌, ap}
 use Rattle.std.proofs.Common.{subst, arith, append_assoc, Option, Some, None, inl, inr, reverse}
 use Rattle.board_prelude.proofs.Common.{option_to_list, reverse-append, cases_Bool, nat_tests, Entry, MapChange, Setup}
-use Rattle.board_prelude.proofs.Common.{version_of, map_change_of, map_writes_of, entries_by}
+use Rattle.board_prelude.proofs.Common.{version_of, IsLegal, map_change_of, map_writes_of, entries_by}
 use Rattle.run_order.specs.Trace.{Begins}
 
 -- what comes later, the oldest first, put before a list with the newest first
@@ -15,6 +15,11 @@ onto_is [] before = refl
 onto_is {X} (x ∷ later) before =
     onto_is later (x ∷ before) ∙ sym (ap (λ (h : List X). h ++ before) (reverse-append (x ∷ []) later)
     ∙ append_assoc (reverse later) (x ∷ []) before)
+
+pub legal_front : (setup : Setup) (later before : List Entry) → IsLegal setup (onto later before)
+    → IsLegal setup before
+legal_front setup [] before legal = legal
+legal_front setup (entry ∷ later) before legal = (legal_front setup later (entry ∷ before) legal).1
 
 pub begins_trans : (first middle last : List Entry) → Begins first middle → Begins middle last → Begins first last
 begins_trans first middle last a b =

@@ -7,7 +7,7 @@ use Rattle.run_order.specs.declared.done.Done.{Done}
 use Rattle.run_order.specs.declared.done.Done.TheVariants.{Went, Looked}
 use Rattle.run_order.specs.Common.{is_look, event_of, with_looks, left_after, with_all_looks, all_left, done_by, passed}
 use Rattle.run_order.specs.Common.{placed, AreInPlace, bare, AnswersAreBlind}
-use Rattle.run_order.proofs.Histories.{onto}
+use Rattle.run_order.proofs.Histories.{onto, legal_front}
 use Rattle.run_order.proofs.Blindness.{version_same}
 use Rattle.run_order.proofs.Fitting.{Due, Fits, FirstLook, first_goes, first_all, Late}
 use Rattle.run_order.proofs.Each.{Each, each_goes, each_all, passed_each, none_at, Beside, pass, own_head, few_left}
@@ -44,10 +44,6 @@ bare_bus entry before final same =
       | inl is ↦ rw is same
       | inr not ↦ rw not (ap (λ (h : List Entry). record entry { seq = 0 } ∷ h) same)
     ]
-
-legal_front : (setup : Setup) (later before : List Entry) → IsLegal setup (onto later before) → IsLegal setup before
-legal_front setup [] before legal = legal
-legal_front setup (entry ∷ later) before legal = (legal_front setup later (entry ∷ before) legal).1
 
 module _ (blind : AnswersAreBlind) (setup : Setup) (history : List Entry) where
   module _ (before since : List Entry) (ends : EndsBare since) where

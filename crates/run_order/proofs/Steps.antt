@@ -31,7 +31,7 @@ pub from_first : (rests : List (List Done)) (k : ℕ) → (done_by 0 k rests ≡
     × (passed 0 k rests ≡ set rests k (without_first (get_or rests k [])))
 from_first rests k = let plus : 0 + k ≡ k = omega arith in (rw plus at (done_at rests 0 k), rw plus at (passed_at rests 0 k))
 
-first_is_one : (done : List Done) → looks_in (without_first done) ≤ looks_in done
+pub first_is_one : (done : List Done) → looks_in (without_first done) ≤ looks_in done
 first_is_one [] = omega arith
 first_is_one (Went version event ∷ done) = omega arith
 first_is_one (Looked kind addr smm look ∷ done) = omega arith
