@@ -1,30 +1,29 @@
 -- No answer depends on the looks and the numbers before it: each definition over histories gives the same without them.
 use Rattle.std.proofs.Common.{◌≡◌, ℕ, zero, suc, ◌==◌, nat_lt, Bool, true, false, List, [], ◌∷◌, ◌++◌, length, refl, sym, ◌∙◌}
-use Rattle.std.proofs.Common.{ap, inl, inr, Option, Some, None, unwrap_or, option_map, option_and_then, if◌then◌else◌}
+use Rattle.std.proofs.Common.{ap, inl, inr, Option, Some, None, unwrap_or, option_and_then, if◌then◌else◌}
 use Rattle.board_prelude.proofs.Common.{option_to_list, option_map_or, cases_Bool, WideAccess, PortAccess, Kind, Width}
 use Rattle.board_prelude.proofs.Common.{Reg, Target, Rom, Card, Device, Config, Abort, Dev, Pic0}
 use Rattle.board_prelude.proofs.Common.{Pic1, Pit, Elcr, Ata, largest_of}
-use Rattle.board_prelude.proofs.Common.{Triggers, triggers_at_reset, trigger_byte, PitState, out_of, pulses, port_read}
-use Rattle.board_prelude.proofs.Common.{reset as timer_at_reset, Clock, after_reset as clock_after_reset, read_value}
-use Rattle.board_prelude.proofs.Common.{Disk, read_of, Pair, pair_at_reset, pair_after_lines, port_byte, answer_of}
+use Rattle.board_prelude.proofs.Common.{Triggers, trigger_byte, PitState, out_of, pulses, port_read}
+use Rattle.board_prelude.proofs.Common.{Clock, read_value}
+use Rattle.board_prelude.proofs.Common.{Disk, read_of, Pair, pair_after_lines, port_byte, answer_of}
 use Rattle.board_prelude.proofs.Common.{Event, Memory, Wide, Port, Ack, Pulses, Look}
-use Rattle.board_prelude.proofs.Common.{Parts as PartList, Reply, Bus, Saw, Entry, MapChange, Setup, installed, version_of, wide}
-use Rattle.board_prelude.proofs.Common.{pirq, control_written, control_after, resets_hard, reset_control, is_hard_reset}
-use Rattle.board_prelude.proofs.Common.{address_written, kept_address, config_address, config_store, register_change}
+use Rattle.board_prelude.proofs.Common.{Reply, Bus, Saw, Entry, MapChange, Setup, installed, version_of, wide}
+use Rattle.board_prelude.proofs.Common.{pirq, control_written, control_after, reset_control}
+use Rattle.board_prelude.proofs.Common.{address_written, config_address, config_store, register_change}
 use Rattle.board_prelude.proofs.Common.{byte_with, byte_of, touches_map, map_change_of, map_writes_of, Cell, DramCell}
 use Rattle.board_prelude.proofs.Common.{CardCell, entry_put, stored_of, dram_byte, expansion_byte, parts_of, wire_set}
-use Rattle.board_prelude.proofs.Common.{wire_of, line_set, irq_of, triggers_after, triggers_of, PlainPorts}
-use Rattle.board_prelude.proofs.Common.{plain_at_reset, plain_after, plain_of, timer_after, timer_of, clock_after}
-use Rattle.board_prelude.proofs.Common.{clock_of, disk_after, disk_with, disk_of, pirqs, levels_with, levels_of}
-use Rattle.board_prelude.proofs.Common.{elcr_of, pair_after, pair_pulsed, pair_reset_or_after, pair_stepped, pair_of}
+use Rattle.board_prelude.proofs.Common.{wire_of, line_set, irq_of, triggers_of, PlainPorts}
+use Rattle.board_prelude.proofs.Common.{plain_of, timer_of}
+use Rattle.board_prelude.proofs.Common.{clock_of, disk_with, pirqs, levels_with, levels_of}
+use Rattle.board_prelude.proofs.Common.{elcr_of, pair_pulsed, pair_reset_or_after, pair_stepped, pair_of}
 use Rattle.board_prelude.proofs.Common.{device_value, plain_value, who_answered, IsOfMemory, SameDevices}
 use Rattle.board_prelude.proofs.Common.{MemoryLeavesDevices, IsAnswer, memory_answer, part_answer, wide_value}
-use Rattle.board_prelude.proofs.Common.{IsWideAnswer, port_answer, port_value, value_at, IsLookAnswer, map-same}
-use Rattle.board_prelude.proofs.Common.{SameDrivers, levels-same, disk_of-same, elcr-same, card_at, card_byte}
+use Rattle.board_prelude.proofs.Common.{port_answer, port_value, value_at, IsLookAnswer, map-same}
+use Rattle.board_prelude.proofs.Common.{levels-same, disk_of-same, elcr-same, card_at, card_byte}
 use Rattle.board_prelude.proofs.Common.{kept_size}
 use Rattle.board_base.specs.declared.access.Access.{Access}
 use Rattle.board_base.specs.declared.target.Dev.TheVariants.{Confadd, Reset, Clock as ClockChip}
-use Rattle.device_spec.specs.Ata.Steps.{after_reset as disk_after_reset}
 use Rattle.board_spec.specs.declared.event.Event.TheVariants.{Look as LookAt}
 use Rattle.board_spec.specs.declared.event.Reply.TheVariants.{Parts}
 use Rattle.run_order.specs.Common.{is_look, bare, AnswersAreBlind}
@@ -100,20 +99,13 @@ look_changes_nothing setup h event is = let s = looks_are_silent event is in
 byte_bare : (setup : Setup) (reg : Reg) (h : List Entry) → byte_of setup h reg ≡ byte_of setup (bare h) reg
 unfolding byte_of
 byte_bare setup reg =
-    along (λ h. byte_of setup h reg)
-    (λ entry before is. ap (λ (c : Option MapChange). byte_with setup c reg (byte_of setup before reg))
-    (look_changes_nothing setup before entry.event is))
+    along (λ h. byte_of setup h reg) (λ entry before is. rw (look_changes_nothing setup before entry.event is) refl)
     (λ entry before _ same. cc (register_change_bare setup before entry.event))
 
-change_kept : Setup → Option MapChange → Option MapChange
-change_kept setup change = option_and_then (λ change. if touches_map setup change then Some change else None) change
-
 writes_bare : (setup : Setup) (h : List Entry) → map_writes_of setup h ≡ map_writes_of setup (bare h)
-unfolding map_writes_of map_change_of change_kept
+unfolding map_writes_of map_change_of
 writes_bare setup =
-    along (map_writes_of setup)
-    (λ entry before is. ap (λ (c : Option MapChange). option_to_list (change_kept setup c) ++ map_writes_of setup
-    before) (look_changes_nothing setup before entry.event is))
+    along (map_writes_of setup) (λ entry before is. rw (look_changes_nothing setup before entry.event is) refl)
     (λ entry before _ same. cc (register_change_bare setup before entry.event))
 
 pub version_same : (setup : Setup) (final before : List Entry) → bare final ≡ bare before
@@ -124,10 +116,8 @@ version_same setup final before same =
 stored_bare : (cell : Cell) (h : List Entry) → stored_of h cell ≡ stored_of (bare h) cell
 unfolding stored_of
 stored_bare cell =
-    along (λ h. stored_of h cell)
-    (λ entry before is. ap (λ (put : Option ℕ). unwrap_or put (stored_of before cell))
-    ((looks_are_silent entry.event is).put entry.reply cell))
-    (λ entry before _ same. ap (unwrap_or (entry_put entry.event entry.reply cell)) same)
+    along (λ h. stored_of h cell) (λ entry before is. rw ((looks_are_silent entry.event is).put entry.reply cell) refl)
+    (λ entry before _ same. cc)
 
 -- ---- the devices
 
@@ -191,8 +181,8 @@ module _ (leaves : MemoryLeavesDevices) (setup : Setup) where
   pulsed_bare before (suc k) pair =
       let timer : pulses (suc k) (timer_of before) ≡ pulses (suc k) (timer_of (bare before)) =
       ap (pulses (suc k)) (timer_bare before) in
-      cc (pulsed_bare before k pair, levels_bare before (pulses (suc k) (timer_of before))
-      (pulses (suc k) (timer_of (bare before))) timer, edges_bare before)
+      let levels = levels_bare before (pulses (suc k) (timer_of before)) (pulses (suc k) (timer_of (bare before))) timer in
+      cc (pulsed_bare before k pair, levels, edges_bare before)
 
   -- an entry that is no look, after a history and after that history without its looks
   reached_next : (entry : Entry) (before : List Entry) (pair : Pair) → is_look entry.event ≡ false →

@@ -1,6 +1,6 @@
 -- How many looks there are, and how many entries each has.
 use Rattle.std.proofs.Common.{◌≡◌, ℕ, zero, suc, ◌+◌, ◌-◌, ◌^◌, ◌<◌, ◌≤◌, ◌==◌, true, false, List, [], ◌∷◌, ◌++◌}
-use Rattle.std.proofs.Common.{length, map, take, get_or, set, All, ◌≢◌, refl, sym, ◌∙◌, ap, subst, arith, inl, inr}
+use Rattle.std.proofs.Common.{length, map, take, get_or, set, All, ◌≢◌, refl, sym, ◌∙◌, ap, arith, inl, inr}
 use Rattle.std.proofs.Common.{slice_index, reverse}
 use Rattle.board_prelude.proofs.Common.{cases_Bool, cases_eq, nat_tests, take_more, map-append, length-map}
 use Rattle.board_prelude.proofs.Common.{get_or-set_other, reverse-append, length-reverse, get_or-set_at, All-cons}
@@ -58,8 +58,8 @@ no_more_by (entry ∷ before) actor =
 pub number_fits : {order : Order} {capacity : ℕ} {counts : List ℕ} (actor place : ℕ) → place ≡ actor → actor < 8
     → IsOrder order capacity counts → slice_index counts place + order.spare < 2 ^ 32
 number_fits {order} actor place same below kept =
-    rw same (omega (arith, kept.counted [] actor below, no_more_by (over [] order.entries) actor,
-    length-map order.entries (entry_of []), kept.few))
+    let count = kept.counted [] actor below in let few = no_more_by (over [] order.entries) actor in
+    rw same (omega (arith, count, few, length-map order.entries (entry_of []), kept.few))
 
 counts_more : (counts : List ℕ) (actor other : ℕ) (entry : Entry) (before : List Entry) → length counts ≡ 8 → other < 8
     → entry.actor ≡ actor

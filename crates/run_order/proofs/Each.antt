@@ -1,6 +1,6 @@
 -- What holds of each processor's statements, where a call of the bus passes.
-use Rattle.std.proofs.Common.{◌≡◌, ℕ, suc, ◌+◌, ◌<◌, ◌≤◌, ◌==◌, true, false, List, [], ◌∷◌, length, All, refl, sym}
-use Rattle.std.proofs.Common.{◌∙◌, ap, arith, inl, inr, MatchBool}
+use Rattle.std.proofs.Common.{◌≡◌, ℕ, suc, ◌+◌, ◌<◌, ◌≤◌, ◌==◌, true, false, List, [], ◌∷◌, length, All, refl}
+use Rattle.std.proofs.Common.{ap, arith, inl, inr, MatchBool}
 use Rattle.board_prelude.proofs.Common.{length-map, All-head, All-tail, cases_Bool, nat_tests, Entry, Setup, version_of}
 use Rattle.run_order.specs.declared.done.Done.{Done}
 use Rattle.run_order.specs.Common.{left_after, all_left, without_first, passed, done_by}

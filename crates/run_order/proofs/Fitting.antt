@@ -74,7 +74,7 @@ module _ (setup : Setup) (whole : List Entry) (actor : ℕ) where
   until_call (Went after event ∷ items) from low f before entry b own n =
       let call = f.2 in
       let one = same_place actor whole f.1 entry f.0 before call.place b call.own own (call.next ∙ sym n) in
-      subst (λ (h : List Entry). low ≤ version_of setup h) one.1 call.known
+      rw one.1 at call.known
 
   due : (before from : List Entry) (K : List Done → Type 0) → Begins before whole
       → ((items : List Done) (low : ℕ) → Follows setup whole actor from low items
@@ -105,13 +105,8 @@ module _ (setup : Setup) (whole : List Entry) (actor : ℕ) where
   none_left before from is n (Went after event ∷ items) low f late =
       let call = f.2 in
       let less = own_later actor f.1 f.0 whole call.place call.own in
-      absurd (omega (
-        arith,
-        less,
-        ap (λ (h : List Entry). length (entries_by actor h)) is,
-        ap length n,
-        ap length call.next,
-      ))
+      let all = ap (λ (h : List Entry). length (entries_by actor h)) is in
+      absurd (omega (arith, less, all, ap length n, ap length call.next))
 
   -- a call of the processor's own is its next statement
   headed : (entry : Entry) (before from : List Entry) (P : List Done → Type 0) → Begins (entry ∷ before) whole
@@ -146,8 +141,7 @@ module _ (setup : Setup) (whole : List Entry) (actor : ℕ) where
   fits [] before from low items is n f late =
       due before from (λ rest. rest ≡ []) ([], is) (none_left before from is n) items low f late
   fits (entry ∷ later) before from low items is n f late =
-      let b : Begins (entry ∷ before) whole = subst (Begins (entry ∷ before)) (sym is)
-      (onto_begins later (entry ∷ before)) in
+      let b : Begins (entry ∷ before) whole = rw is (onto_begins later (entry ∷ before)) in
       let step = version_step setup entry before in
       due before from (λ rest. MatchBool (entry.actor == actor)
       (IsHeaded entry.event (version_of setup (entry ∷ before)) (Fits setup actor (entry ∷ before) later) rest)

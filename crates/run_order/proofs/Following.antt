@@ -1,13 +1,11 @@
 -- A processor's statements of a phase in the bus's whole history: where its calls stand, and between which versions its
 -- looks.
-use Rattle.std.specs.Prelude.{ℕ, ◌≡◌, ◌≤◌, ◌<◌, false, List, [], ◌∷◌, length, map, All}
-use Rattle.board_prelude.proofs.Common.{Event, Look, Saw, Entry, Statement, Setup, version_of, IsAnswer, entries_by}
-use Rattle.board_prelude.proofs.Common.{IsLegal, events_by}
+use Rattle.std.specs.Prelude.{ℕ, ◌≡◌, ◌≤◌, false, List, [], ◌∷◌}
+use Rattle.board_prelude.proofs.Common.{Event, Look, Saw, Entry, Setup, version_of, IsAnswer, entries_by}
 use Rattle.board_spec.specs.declared.event.Event.TheVariants.{Look as LookAt}
 use Rattle.run_order.specs.declared.done.Done.{Done}
 use Rattle.run_order.specs.declared.done.Done.TheVariants.{Went, Looked}
-use Rattle.run_order.specs.Common.{is_look, event_of, done_by, Begins}
-use Rattle.run_order.proofs.Histories.{onto}
+use Rattle.run_order.specs.Common.{is_look, Begins}
 
 -- what a look saw is the answer after every beginning of the history that has as many map writes
 abbrev pub IsRight : Setup → List Entry → Event → Look → Type 0

@@ -1,6 +1,6 @@
 -- Beginnings of a history, and a processor's entries in it.
-use Rattle.std.proofs.Common.{◌≡◌, ℕ, ◌+◌, ◌<◌, ◌≤◌, ◌==◌, true, false, List, [], ◌∷◌, ◌++◌, length, refl, sym, ◌∙◌, ap}
-use Rattle.std.proofs.Common.{subst, arith, append_assoc, Option, Some, None, inl, inr, reverse}
+use Rattle.std.proofs.Common.{◌≡◌, ℕ, ◌+◌, ◌<◌, ◌≤◌, ◌==◌, true, List, [], ◌∷◌, ◌++◌, length, refl, sym, ◌∙◌, ap}
+use Rattle.std.proofs.Common.{arith, append_assoc, Option, Some, None, inl, inr, reverse}
 use Rattle.board_prelude.proofs.Common.{option_to_list, reverse-append, cases_Bool, nat_tests, Entry, MapChange, Setup}
 use Rattle.board_prelude.proofs.Common.{version_of, IsLegal, map_change_of, map_writes_of, entries_by}
 use Rattle.run_order.specs.Trace.{Begins}
@@ -21,9 +21,13 @@ pub legal_front : (setup : Setup) (later before : List Entry) → IsLegal setup 
 legal_front setup [] before legal = legal
 legal_front setup (entry ∷ later) before legal = (legal_front setup later (entry ∷ before) legal).1
 
+-- what begins with a list that begins with another
+pub longer_trans : {X : Type 0} (first middle last : List X) → (more : List X) × (middle ≡ more ++ first)
+    → (more : List X) × (last ≡ more ++ middle) → (more : List X) × (last ≡ more ++ first)
+longer_trans first middle last a b = (b.0 ++ a.0, rw (b.1, a.1) (sym (append_assoc b.0 a.0 first)))
+
 pub begins_trans : (first middle last : List Entry) → Begins first middle → Begins middle last → Begins first last
-begins_trans first middle last a b =
-    (b.0 ++ a.0, b.1 ∙ (ap (λ (h : List Entry). b.0 ++ h) a.1 ∙ sym (append_assoc b.0 a.0 first)))
+begins_trans = longer_trans
 
 pub begins_before : (entry : Entry) (before whole : List Entry) → Begins (entry ∷ before) whole → Begins before whole
 begins_before entry before whole = begins_trans before (entry ∷ before) whole (entry ∷ [], refl)

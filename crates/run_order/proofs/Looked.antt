@@ -43,10 +43,11 @@ module _ {X : Type 0} (f : X → List Done) (version k : ℕ) (old : List (List 
       let past : drop (k + 1) (set rests k (f x)) ≡ drop (k + 1) rests =
       drop-set-lt (k + 1) rests k (f x) (omega arith) in
       let count = count_set rests k (f x) few in let next : k + 1 ≡ suc k = omega arith in
+      let more = take_more old k [] (omega (arith, few, so.same)) in
+      let joined = map-append (left_after version) (take k old) (get_or old k [] ∷ []) in
       rw (map-set f xs k x) (record {
         placed = rw (past, now_is) (rw (drop_more rests k [] few, one) at so.placed);
-        left = rw (take_more old k [] (omega (arith, few, so.same)), next, take-suc-set rests k (f x) few, so.left,
-            left_is, ← one, head.0) (sym (map-append (left_after version) (take k old) (get_or old k [] ∷ [])));
+        left = rw (more, next, take-suc-set rests k (f x) few, so.left, left_is, ← one, head.0) (sym joined);
         ahead = past ∙ head.1;
         same = length-set rests k (f x) ∙ so.same;
         fits = omega (arith, count, ap looks_in one, spare_is, so.fits);

@@ -6,7 +6,7 @@ use Rattle.board_spec.proofs.OrderLawProofs.{events-append, statements-append, s
 use Rattle.board_prelude.proofs.Common.{cases_Bool, cases_lt, nat_tests, append-nil, reverse-append, reverse-reverse}
 use Rattle.board_prelude.proofs.Common.{filter-append, map-append, length-map, length-reverse, length-take, take_all}
 use Rattle.board_prelude.proofs.Common.{drop_all, take-append-le, drop-append-le, All-head, All-tail, Event, Entry}
-use Rattle.board_prelude.proofs.Common.{Statement, Setup, version_of, entries_by, statement_of, statements_of, events_by}
+use Rattle.board_prelude.proofs.Common.{Statement, version_of, entries_by, statement_of, statements_of, events_by}
 use Rattle.board_prelude.proofs.Common.{IsWholePhase, HasPhases}
 use Rattle.run_order.specs.declared.done.Done.{Done}
 use Rattle.run_order.specs.Common.{event_of, placed, done_by, bare, AnswersAreBlind, PhaseRuns}

@@ -60,29 +60,26 @@ left_is_settled version (done ∷ rests) =
 
 -- ---- where a look can be due in one list alone
 
-one_placed : (version first k : ℕ) (rests : List (List Done)) (history : List Entry) → IsSettledBut version k rests
+one_looks : (version first k : ℕ) (rests : List (List Done)) (history : List Entry) → IsSettledBut version k rests
     → k < length rests
-    → with_all_looks version first rests history ≡ with_looks version (first + k) (get_or rests k []) history
+    → (with_all_looks version first rests history ≡ with_looks version (first + k) (get_or rests k []) history)
+    × (all_left version rests ≡ set rests k (left_after version (get_or rests k [])))
 unfolding with_all_looks
-one_placed version first k [] history so less = absurd (omega (arith, less))
-one_placed version first zero (done ∷ rests) history so less =
+one_looks version first k [] history so less = absurd (omega (arith, less))
+one_looks version first zero (done ∷ rests) history so less =
     let at : first ≡ first + 0 = omega arith in
-    settled_placed version (first + 1) rests (with_looks version first done history) (λ j. so (suc j) (λ e. cc))
-    ∙ ap (λ (n : ℕ). with_looks version n done history) at
-one_placed version first (suc k) (done ∷ rests) history so less =
+    let others : IsSettled version rests = λ j. so (suc j) (λ e. cc) in (
+      settled_placed version (first + 1) rests (with_looks version first done history) others
+          ∙ ap (λ (n : ℕ). with_looks version n done history) at,
+      ap (λ (r : List (List Done)). left_after version done ∷ r) (settled_left version rests others),
+    )
+one_looks version first (suc k) (done ∷ rests) history so less =
     let at : first + 1 + k ≡ first + suc k = omega arith in
-    rw ((not_due version first done history (so 0 (λ e. cc))).0)
-    (one_placed version (first + 1) k rests history (λ j other. so (suc j) (λ e. other (cc e))) (omega (arith, less))
-    ∙ ap (λ (n : ℕ). with_looks version n (get_or rests k []) history) at)
-
-one_left : (version k : ℕ) (rests : List (List Done)) → IsSettledBut version k rests → k < length rests
-    → all_left version rests ≡ set rests k (left_after version (get_or rests k []))
-one_left version k [] so less = absurd (omega (arith, less))
-one_left version zero (done ∷ rests) so less =
-    ap (λ (r : List (List Done)). left_after version done ∷ r) (settled_left version rests (λ j. so (suc j) (λ e. cc)))
-one_left version (suc k) (done ∷ rests) so less =
-    λ t. (not_due version 0 done [] (so 0 (λ e. cc))).1 t
-    ∷ one_left version k rests (λ j other. so (suc j) (λ e. other (cc e))) (omega (arith, less)) t
+    let one = not_due version first done history (so 0 (λ e. cc)) in
+    let more = one_looks version (first + 1) k rests history (λ j other. so (suc j) (λ e. other (cc e)))
+    (omega (arith, less)) in
+    rw (one.0, one.1) (more.0 ∙ ap (λ (n : ℕ). with_looks version n (get_or rests k []) history) at,
+    ap (λ (r : List (List Done)). done ∷ r) more.1)
 
 -- one processor's looks are those of all
 pub record AreAll (version : ℕ) (rests left : List (List Done)) (before now : List Entry) (spare spare' : ℕ) : Type 0
@@ -101,12 +98,11 @@ one_is_all f xs x none version k actor before now spare spare' is so' less left_
     let at : 0 + k ≡ k = omega arith in
     let few : k < length rests = omega (arith, less, length-map xs f) in
     let one : get_or rests k [] ≡ f (get_or xs k none) = get_or-map f xs k none [] less in
-    let placed = rw (at, one) at (one_placed version 0 k rests before so few) in
-    let left = rw one at (one_left version k rests so few) in
+    let looks = rw (at, one) at (one_looks version 0 k rests before so few) in
     let count = count_set rests k (f x) few in
     rw (map-set f xs k x) (record {
-      placed = now_is ∙ (ap (λ (n : ℕ). with_looks version n (f (get_or xs k none)) before) (sym is) ∙ sym placed);
-      left_is = ap (set rests k) left_is ∙ sym left;
+      placed = now_is ∙ (ap (λ (n : ℕ). with_looks version n (f (get_or xs k none)) before) (sym is) ∙ sym looks.0);
+      left_is = ap (set rests k) left_is ∙ sym looks.1;
       room = omega (arith, count, ap looks_in one, room_is);
     })
 
@@ -180,5 +176,5 @@ pub but_one : {X : Type 0} (f : X → List Done) (xs : List X) (x : X) (version 
     → IsSettled version (map f xs) → place ≡ actor → version' ≡ version
     → IsSettledBut version' actor (map f (set xs place x))
 but_one f xs x version version' place actor so place_is version_is k other =
-    rw (version_is, map-set f xs place x,
-    get_or-set_other (map f xs) place k (f x) [] (λ e. other (e ∙ place_is))) (so k)
+    let same = get_or-set_other (map f xs) place k (f x) [] (λ e. other (e ∙ place_is)) in
+    rw (version_is, map-set f xs place x, same) (so k)

@@ -1,6 +1,6 @@
 -- Where nobody looked, the placed history is that of the bus.
 use Rattle.std.proofs.Common.{◌≡◌, ℕ, ◌+◌, ◌<◌, ◌≤◌, ◌==◌, List, [], ◌∷◌, ◌++◌, length, take, drop, get_or, refl, sym}
-use Rattle.std.proofs.Common.{◌∙◌, ap, subst, arith, inl, inr, reverse}
+use Rattle.std.proofs.Common.{◌∙◌, ap, arith, inl, inr, reverse}
 use Rattle.board_prelude.proofs.Common.{cases_Bool, take_more, drop_more, reverse-append, take-append-drop, Entry}
 use Rattle.board_prelude.proofs.Common.{Setup, IsLegal, next_entry}
 use Rattle.run_order.specs.declared.done.Done.{Done}
@@ -47,8 +47,8 @@ onto_placed setup version [] rests history none legal =
     settled_placed version 0 rests history (none_settled version rests none)
 onto_placed setup version (entry ∷ later) rests history none legal =
     let so : IsSettled version rests = none_settled version rests none in
-    rw (settled_placed version 0 rests history so, settled_left version rests so, next_onto setup later history entry
-    legal)
+    let next = next_onto setup later history entry legal in
+    rw (settled_placed version 0 rests history so, settled_left version rests so, next)
     (onto_placed setup (noted version (done_by 0 entry.actor rests)) later (passed 0 entry.actor rests) (entry ∷ history)
     (omega (arith, passed_fewer 0 entry.actor rests, none)) legal)
 
@@ -74,5 +74,5 @@ begin_step setup entries i d legal less history is next pushed =
     ap reverse (sym (take-append-drop i entries)) ∙ (reverse-append (take i entries) (drop i entries)
     ∙ (sym (onto_is (drop i entries) front)
     ∙ ap (λ (later : List Entry). onto later front) (drop_more entries i d less))) in
-    rw (pushed, is, next_onto setup (drop (i + 1) entries) front entry (rw cut at legal), take_more entries i d less,
-    reverse-append (take i entries) (entry ∷ [])) refl
+    let next = next_onto setup (drop (i + 1) entries) front entry (rw cut at legal) in
+    rw (pushed, is, next, take_more entries i d less, reverse-append (take i entries) (entry ∷ [])) refl

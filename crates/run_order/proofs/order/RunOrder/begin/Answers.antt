@@ -1,5 +1,4 @@
-use Rattle.std.proofs.Common.{ℕ, ◌≡◌, ◌<◌, ◌∷◌, length, get_or, sym, ◌∙◌, ap, arith}
-use Rattle.board_prelude.proofs.Common.{Entry, next_entry}
+use Rattle.std.proofs.Common.{◌≡◌, ◌<◌, length, get_or, sym, arith}
 use Rattle.run_order.specs.Over.{nowhere, over}
 use Rattle.run_order.proofs.Unlooked.{begin_step}
 use Rattle.run_order.proofs.order.RunOrder.begin.Goals as goal

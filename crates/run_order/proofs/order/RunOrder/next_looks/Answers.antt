@@ -1,6 +1,6 @@
-use Rattle.std.proofs.Common.{List, [], map, sym, subst, arith}
+use Rattle.std.proofs.Common.{List, [], arith}
 use Rattle.board_prelude.proofs.Common.{Entry}
-use Rattle.run_order.specs.Common.{over, IsSettledBut}
+use Rattle.run_order.specs.Common.{over}
 use Rattle.run_order.proofs.Counts.{one_of}
 use Rattle.run_order.proofs.Settled.{one_is_all}
 use Rattle.run_order.proofs.order.RunOrder.next_looks.Goals as goal

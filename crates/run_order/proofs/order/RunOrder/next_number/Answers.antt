@@ -1,4 +1,4 @@
-use Rattle.std.proofs.Common.{ℕ, ◌+◌, ◌<◌, ◌^◌, ◌≤◌, length, ◌∙◌, ap, arith, reverse, slice_index, vec_capacity}
+use Rattle.std.proofs.Common.{ℕ, ◌+◌, length, ◌∙◌, ap, arith, slice_index}
 use Rattle.board_spec.specs.Legal.{entries_by}
 use Rattle.run_order.specs.Common.{over, Order}
 use Rattle.run_order.proofs.Counts.{number_fits}

@@ -1,4 +1,4 @@
-use Rattle.std.proofs.Common.{rules, ◌≡◌, ◌+◌, ◌<◌, ◌^◌, ◌≤◌, [], ◌∷◌, ◌++◌, length, ap, arith, reverse, slice_index}
+use Rattle.std.proofs.Common.{rules, ◌+◌, ◌≤◌, ap, arith}
 use Rattle.std.proofs.Common.{vec_capacity}
 use Rattle.run_order.specs.Room.{Order}
 use Rattle.run_order.proofs.Counts.{number_fits, order_more}

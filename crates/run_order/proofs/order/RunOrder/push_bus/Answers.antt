@@ -1,4 +1,4 @@
-use Rattle.std.proofs.Common.{ℕ, ◌≡◌, ap}
+use Rattle.std.proofs.Common.{ap}
 use Rattle.run_order.specs.Common.{Order}
 use Rattle.run_order.proofs.order.RunOrder.push_bus.Goals as goal
 

@@ -1,4 +1,4 @@
-use Rattle.std.proofs.Common.{rules, ◌+◌, ◌^◌, ◌<◌, ◌≤◌, length, vec_capacity}
+use Rattle.std.proofs.Common.{rules, vec_capacity}
 use Rattle.run_order.proofs.Counts.{order_reserved}
 use Rattle.run_order.proofs.order.RunOrder.reserve.Goals as goal
 
