@@ -1,5 +1,5 @@
 -- Each step keeps the rule of the table.
-use Rattle.std.proofs.Common.{zero, suc, map, append-nil, mod-eq_of_lt, ◌≡◌, ◌≢◌, ⊎_elim, ℕ, ◌+◌, ◌%◌, ◌^◌, ◌≤◌, ◌<◌}
+use Rattle.std.proofs.Common.{map, append-nil, mod-eq_of_lt, ◌≡◌, ◌≢◌, ⊎_elim, ℕ, ◌+◌, ◌%◌, ◌^◌, ◌≤◌, ◌<◌}
 use Rattle.std.proofs.Common.{List, [], ◌∷◌, ◌++◌, length, set, get_or, drop, All, eq-or-lt_of_le, Option, Some, None}
 use Rattle.std.proofs.Common.{length-set, length-append, append_assoc, sym, refl, ap, ◌∙◌, subst, arith}
 use Rattle.std.proofs.Math.Nat.{mod-add-mod}
@@ -510,9 +510,11 @@ module _ {T E F : Type 0} (entries : T → List E) (actor : E → ℕ) (fixed : 
         mine = k.mine;
         joined = All-append P v.joined ((w.number, w.mine) ∷ w.joined)
             (joined_on b b views₁ views₂ stay₂ v.joined k.joined)
-            (All-cons P (w.number, w.mine) w.joined
-            (ap (λ (n : ℕ). own_by actor n b.since) kw.number ∙ kw.mine, ap (get_elem? views₂) kw.number
-            ∙ (stay₂ other (set_here s.views other spent (at_lt s.views other w at'))).1)
+            (All-cons P (w.number, w.mine) w.joined (
+              ap (λ (n : ℕ). own_by actor n b.since) kw.number ∙ kw.mine,
+              ap (get_elem? views₂) kw.number
+                  ∙ (stay₂ other (set_here s.views other spent (at_lt s.views other w at'))).1,
+            )
             (joined_on b b views₁ views₂ stay₂ w.joined (joined_on b b s.views views₁ stay₁ w.joined kw.joined)));
         stage = rw idle tt;
       }) in
