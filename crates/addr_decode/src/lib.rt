@@ -16,7 +16,7 @@ mod onboard;
 mod ports;
 mod register;
 mod regs;
-mod singles;
+pub mod singles;
 mod state;
 
 pub use areas::{SixAreas, row};
@@ -30,10 +30,4 @@ pub use ports::{PortRegs, decode_port, find_port};
 pub use register::{CardRegister, MapRegister, Names, touch_map};
 pub use regs::MapRegs;
 pub use singles::{SINGLE_COUNT, Singles, chip_selects};
-
-/// The numbers of the registers of one byte each.
-pub mod single {
-    pub use crate::singles::{CHIP_SELECTS, HOLE, SMRAM_CONTROL};
-}
-
 pub use state::law_one_map_regs;

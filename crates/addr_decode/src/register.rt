@@ -27,7 +27,7 @@ pub enum MapRegister {
     Pam(u8),
     /// DRB0 to DRB7 of the host bridge, the boundary of a row of DRAM.
     RowBoundary(u8),
-    /// A register of one byte of a bridge, by its number: FDHC, SMRAM or XBCS.
+    /// A register of one byte of a bridge, by its number in the table of `singles`.
     Single(u8),
     /// A register of the card at a device number.
     Card(u8, CardRegister),

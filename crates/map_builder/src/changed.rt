@@ -10,7 +10,7 @@ ghost use Rattle.map_builder.specs.Changed.{is_card_name, rest_on_registers, sin
 ghost use Rattle.map_builder.specs.Held.{block, held_by, held_from, held_at, rom_held, vga_held, card_held};
 ghost use Rattle.map_builder.specs.Held.{device_held};
 
-use addr_decode::single::{HOLE, SMRAM_CONTROL};
+use addr_decode::singles::{HOLE, SMRAM_CONTROL};
 use addr_decode::{CardRegister, MapChange, MapRegister, MapRegs};
 use board_spec::range::{
     AddressRange, EXPANSION_RANGE, HOLE_AT_15_MIB, HOLE_AT_512_KIB, LARGEST_TOP, LOWER_BIOS,
