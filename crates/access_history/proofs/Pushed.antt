@@ -2,9 +2,10 @@
 use Rattle.std.specs.Prelude.{Some, option_map, slice_get}
 use Rattle.std.proofs.lemmas.Option.{slice_get-map, slice_get_read}
 use Rattle.std.proofs.Common.{◌≡◌, ℕ, ◌+◌, ◌-◌, ◌<◌, ◌≤◌, List, [], ◌∷◌, ◌++◌, length, reverse, slice_index_or, refl}
-use Rattle.std.proofs.Common.{sym, ◌∙◌, ap, subst, arith}
-use Rattle.board_prelude.proofs.Common.{reverse-append, length-append, map-append, get_or_append_left, All-nil}
-use Rattle.board_prelude.proofs.Common.{All-push, All-head, All-tail, All-cons, Entry, Part}
+use Rattle.std.proofs.Common.{◌∙◌, ap, arith}
+use Rattle.bus_turn.proofs.Rows.{All-more}
+use Rattle.board_prelude.proofs.Common.{reverse-append, length-append, map-append, get_or_append_left}
+use Rattle.board_prelude.proofs.Common.{All-push, All-head, All-tail, Entry, Part}
 use Rattle.access_history.specs.declared.packed.Count.{Count}
 use Rattle.access_history.specs.declared.packed.Count.TheVariants.{Two, Three, Four}
 use Rattle.access_history.specs.declared.packed.PackedReply.{PackedReply}
@@ -19,34 +20,25 @@ within_more n m more (WroteParts count first) within = omega (arith, more, withi
 within_more n m more _ within = tt
 
 are_within_more : (n m : ℕ) → n ≤ m → (entries : List PackedEntry) → AreWithin n entries → AreWithin m entries
-are_within_more n m more [] within = All-nil (λ entry. IsWithin m entry.reply)
-are_within_more n m more (entry ∷ entries) within =
-    All-cons (λ e. IsWithin m e.reply) entry entries
-    (within_more n m more entry.reply (All-head (λ e. IsWithin n e.reply) entry entries within))
-    (are_within_more n m more entries (All-tail (λ e. IsWithin n e.reply) entry entries within))
-
-one_front : (list more : List Part) (i : ℕ) → i < length list
-    → slice_index_or (list ++ more) i nothing ≡ slice_index_or list i nothing
-one_front list more i less = get_or_append_left list more nothing i less
+are_within_more n m more entries =
+    All-more (λ e. IsWithin n e.reply) (λ e. IsWithin m e.reply) entries (λ e. within_more n m more e.reply)
 
 parts_front : (list more : List Part) (count : Count) (first : ℕ) → first + number_in count ≤ length list
     → parts_at (list ++ more) count first ≡ parts_at list count first
-parts_front list more Two first less =
-    rw (one_front list more first (omega (arith, less)), one_front list more (first + 1) (omega (arith, less))) refl
-parts_front list more Three first less =
-    rw (
-      one_front list more first (omega (arith, less)),
-      one_front list more (first + 1) (omega (arith, less)),
-      one_front list more (first + 2) (omega (arith, less)),
-    ) refl
-parts_front list more Four first less =
-    rw (
-      one_front list more first (omega (arith, less)),
-      one_front list more (first + 1) (omega (arith, less)),
-      one_front list more (first + 2) (omega (arith, less)),
-      one_front list more (first + 3) (omega (arith, less)),
-    )
-    refl
+parts_front list more count first less = go count less
+  where
+    same : (k : ℕ) → first + k < length list
+        → slice_index_or (list ++ more) (first + k) nothing ≡ slice_index_or list (first + k) nothing
+    same k = get_or_append_left list more nothing (first + k)
+
+    first_same : first < length list → slice_index_or (list ++ more) first nothing ≡ slice_index_or list first nothing
+    first_same = get_or_append_left list more nothing first
+
+    go : (count : Count) → first + number_in count ≤ length list
+        → parts_at (list ++ more) count first ≡ parts_at list count first
+    go Two less = rw (first_same (omega arith), same 1 (omega arith)) refl
+    go Three less = rw (first_same (omega arith), same 1 (omega arith), same 2 (omega arith)) refl
+    go Four less = rw (first_same (omega arith), same 1 (omega arith), same 2 (omega arith), same 3 (omega arith)) refl
 
 reply_front : (list more : List Part) (reply : PackedReply) → IsWithin (length list) reply
     → reply_in (list ++ more) reply ≡ reply_in list reply
@@ -59,11 +51,8 @@ entries_front : (list more : List Part) (entries : List PackedEntry) → AreWith
     → entries_in (list ++ more) entries ≡ entries_in list entries
 entries_front list more [] within = refl
 entries_front list more (entry ∷ entries) within =
-    λ t. (record (entry_in list entry) {
-      reply = reply_front list more entry.reply
-          (All-head (λ e. IsWithin (length list) e.reply) entry entries within) t;
-    })
-    ∷ entries_front list more entries (All-tail (λ e. IsWithin (length list) e.reply) entry entries within) t
+    let here = reply_front list more entry.reply (All-head (λ e. IsWithin (length list) e.reply) entry entries within) in
+    rw (here, entries_front list more entries (All-tail (λ e. IsWithin (length list) e.reply) entry entries within)) refl
 
 pub pushed_entries : (entries new_entries : List PackedEntry) (parts new_parts : List Part) (packed : PackedEntry)
     (entry : Entry) →
@@ -90,8 +79,7 @@ pushed_history entries new_entries parts new_parts packed spare capacity new_cap
     let entries_are : length new_entries ≡ length entries + 1 = ap length new_is
     ∙ length-append entries (packed ∷ []) in
     record {
-      within = subst (AreWithin (length new_parts)) (sym new_is)
-          (All-push (λ e. IsWithin (length new_parts) e.reply) entries packed
+      within = rw new_is (All-push (λ e. IsWithin (length new_parts) e.reply) entries packed
           (are_within_more (length parts) (length new_parts) (omega (arith, parts_are)) entries old.within)
           kept.within);
       room = omega (arith, old.room, some, more_capacity, entries_are);

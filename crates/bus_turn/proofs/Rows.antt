@@ -7,6 +7,18 @@ use mathlib.Core.Option.{some, some-injective, some-ne-none}
 use lib.ListN.{get_elem?}
 use Rattle.bus_turn.specs.Views.{own_by}
 
+-- a function of numbers that has another value at one place
+pub put : (ℕ → ℕ) → ℕ → ℕ → ℕ → ℕ
+put f i c j = cond (j == i) c (f j)
+
+pub put_here : (f : ℕ → ℕ) (i c : ℕ) → put f i c i ≡ c
+unfolding put
+put_here f i c = rw (eq-eqb i i refl) refl
+
+pub put_else : (f : ℕ → ℕ) (i c j : ℕ) → j ≢ i → put f i c j ≡ f j
+unfolding put
+put_else f i c j other = rw (ne_eqb j i other) refl
+
 module _ {A : Type 0} where
   pub at_lt : (l : List A) (i : ℕ) (a : A) → get_elem? l i ≡ some a → i < length l
   at_lt [] i a e = absurd (some-ne-none a (sym e))

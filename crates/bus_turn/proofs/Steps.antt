@@ -1,5 +1,5 @@
 -- Each step keeps the rule of the table.
-use Rattle.std.proofs.Common.{zero, suc, map, append-nil, mod-eq_of_lt, ◌≡◌, ◌≢◌, ⊎_elim, ℕ, ◌+◌, ◌%◌, ◌^◌, ◌≤◌, ◌<◌}
+use Rattle.std.proofs.Common.{map, append-nil, mod-eq_of_lt, ◌≡◌, ◌≢◌, ⊎_elim, ℕ, ◌+◌, ◌%◌, ◌^◌, ◌≤◌, ◌<◌}
 use Rattle.std.proofs.Common.{List, [], ◌∷◌, ◌++◌, length, set, get_or, drop, All, eq-or-lt_of_le, Option, Some, None}
 use Rattle.std.proofs.Common.{length-set, length-append, append_assoc, sym, refl, ap, ◌∙◌, subst, arith}
 use Rattle.std.proofs.Math.Nat.{mod-add-mod}
@@ -13,28 +13,32 @@ use native.Mathlib.Decide.{ℕ_discrete}
 use lib.ListN.{get_elem?}
 use Rattle.atomic_table.specs.Table.{State, Me, step, Act, keeps, takes, gives, Valid, stepped, carried_after, put_back}
 use Rattle.atomic_table.specs.Table.{rest, Allows, Splits, Joins, Final, Seen, opening}
-use Rattle.atomic_table.proofs.Lists.{at_set, set_here, set_else, set_again, at_longer, one_turn}
+use Rattle.atomic_table.proofs.Lists.{set_here, set_else, set_again, at_set, at_longer, one_turn}
 use Rattle.bus_turn.specs.declared.view.View.{View}
 use Rattle.bus_turn.specs.declared.view.Stage.{Stage}
 use Rattle.bus_turn.specs.declared.view.Stage.TheVariants.{Idle, Waits, Holds, Spent}
 use Rattle.bus_turn.specs.Common.{own_by, spent, staged, sees, commits, starting, after_split, split_off, with_joined}
 use Rattle.bus_turn.specs.Common.{Fits, Closes, drew, called, counted, gave, looked, ticket_of, Place, home, away}
 use Rattle.bus_turn.specs.Common.{slot_of, Book, gone, waiting, waits, is_gone, joins, total, IsSpent, AreJoined}
-use Rattle.bus_turn.specs.Common.{log_of, AtStage, Knows, Lies, Ordered, Ruled}
+use Rattle.bus_turn.specs.Common.{log_of, words_of, AtStage, Knows, Lies, Ordered, Ruled}
 use Rattle.bus_turn.proofs.Sums.{total_set, total_at, total_snoc, total_below, total_under, total_both}
-use Rattle.bus_turn.proofs.Rows.{at_lt, at_end, set_apart, prefix_refl, prefix_same, prefix_trans, drop_front, own_more}
-use Rattle.bus_turn.proofs.Rows.{own_else, own_none, All-more}
-use Rattle.bus_turn.proofs.Moves.{put, put_here, put_else, alive, joined_on, moved, lies_away, lies_kept, as_joined}
-
-abbrev holding : Stage → ℕ
-holding Holds = 1
-holding _ = 0
+use Rattle.bus_turn.proofs.Rows.{put, put_here, put_else, at_lt, at_end, set_apart, prefix_refl, prefix_same}
+use Rattle.bus_turn.proofs.Rows.{prefix_trans, drop_front, own_more, own_else, own_none, All-more}
 
 waits_small : (st : Stage) → waiting st ≤ 1
 waits_small Idle = omega arith
 waits_small (Waits t) = omega arith
 waits_small Holds = omega arith
 waits_small Spent = omega arith
+
+stage_small : (st : Stage) → waiting st + gone st ≤ 1
+stage_small Idle = omega arith
+stage_small (Waits t) = omega arith
+stage_small Holds = omega arith
+stage_small Spent = omega arith
+
+alive : (is at : Stage) → is ≡ at → gone at ≡ 0 → is ≢ Spent
+alive is at e still dead = let one : gone at ≡ 1 = ap gone (sym e ∙ dead) in omega arith
 
 abbrev part_or : {F : Type 0} → F → Option F → F
 part_or d None = d
@@ -65,38 +69,145 @@ module _ {T E F : Type 0} (entries : T → List E) (actor : E → ℕ) (fixed : 
   abbrev K : B → List V → ℕ → V → Type 0
   K = Knows actor first part
 
+  abbrev L : B → List V → Place T → Type 0
+  L = Lies entries fixed first part
+
+  -- ---- what a step of one pass leaves true of the others
+
+  -- what is known of the passes that were joined stays
+  abbrev Stays : B → B → List V → List V → Type 0
+  Stays b b' views views' = (p : ℕ) → IsSpent views p
+      → (own_by actor p b'.since ≡ own_by actor p b.since) × IsSpent views' p
+
+  -- it does over a step of a pass that was not
+  set_stays : (b b' : B) (views : List V) (id : ℕ) (v w : V) → get_elem? views id ≡ some v → v.stage ≢ Spent
+      → ((n : ℕ) → n ≢ id → own_by actor n b'.since ≡ own_by actor n b.since) → Stays b b' views (set views id w)
+  set_stays b b' views id v w at lives same p gone =
+      let apart : p ≢ id = λ e. lives (ap (λ (z : V). z.stage)
+      (some-injective v spent (sym at ∙ (ap (get_elem? views) (sym e) ∙ gone)))) in
+      (same p apart, set_else views id p w apart ∙ gone)
+
+  joined_on : (b b' : B) (views views' : List V) → Stays b b' views views' → (xs : List (ℕ × List E))
+      → All (λ p. (own_by actor p.0 b.since ≡ p.1) × IsSpent views p.0) xs
+      → All (λ p. (own_by actor p.0 b'.since ≡ p.1) × IsSpent views' p.0) xs
+  joined_on b b' views views' stay xs all k d less =
+      let was = all k d less in let is = stay (get_or xs k d).0 was.1 in (is.0 ∙ was.0, is.1)
+
+  -- what a pass knows, where its view changes in these parts
+  knows_on : (b b' : B) (views views' : List V) (j : ℕ) (u : V) (st : Stage) (n : ℕ) (seen told mine : List E)
+      → Stays b b' views views' → K b views j u → (j ≡ 0 → n + 1 ≡ length views')
+      → IsPrefix seen (log_of first b') → IsPrefix told (log_of first b') → own_by actor j b'.since ≡ mine
+      → AtStage first b' j seen st
+      → K b' views' j (record u { stage = st; splits = n; seen = seen; told = told; mine = mine })
+  knows_on b b' views views' j u st n seen told mine stay k split begins telling own stage = record {
+    opened = k.opened;
+    part_is = k.part_is;
+    begins = begins;
+    told = telling;
+    number = k.number;
+    splits = split;
+    mine = own;
+    joined = joined_on b b' views views' stay u.joined k.joined;
+    stage = stage;
+  }
+
+  -- where another pass holds the value, its ticket is served
+  is_held : (s : S) (o : O s) → L o.book s.views away → o.book.serving < o.book.ticket
+  is_held s o lies =
+      let k = o.each_seat (o.book.owner o.book.serving) lies.0 lies.1 (alive lies.0.stage Holds lies.2 refl) in
+      (rw lies.2 at k.stage).0
+
+  -- a pass that does not hold the value steps, and no entry is added
+  lies_on : (s : S) (o : O s) (b : B) (id : ℕ) (v w : V) → get_elem? s.views id ≡ some v → v.stage ≢ Holds
+      → log_of first b ≡ log_of first o.book
+      → (o.book.serving < o.book.ticket → b.owner b.serving ≡ o.book.owner o.book.serving)
+      → (p : Place T) → L o.book s.views p → L b (set s.views id w) p
+  lies_on s o b id v w at free log owner (home x) h = (h.0 ∙ sym log, h.1)
+  lies_on s o b id v w at free log owner away h =
+      let i : ℕ = o.book.owner o.book.serving in
+      let other : i ≢ id = λ e. free
+      (ap (λ (z : V). z.stage) (some-injective v h.0 (sym at ∙ (ap (get_elem? s.views) (sym e) ∙ h.1)))
+      ∙ h.2) in
+      (h.0, ap (get_elem? (set s.views id w)) (owner (is_held s o h)) ∙ (set_else s.views id i w other ∙ h.1), h.2)
+
+  -- the pass id goes from the view v to w, and the book from that of o to b
+  moved : (s : S) (o : O s) (id : ℕ) (v w : V) (words : List ℕ) (homes : Homes) (b : B)
+      → get_elem? s.views id ≡ some v → v.stage ≢ Spent → words ≡ words_of first b → homes ≡ slot_of b.place ∷ []
+      → b.ticket + waits v + o.book.serving ≡ o.book.ticket + waits w + b.serving
+      → L b (set s.views id w) b.place → IsPrefix (log_of first o.book) (log_of first b)
+      → ((n : ℕ) → n ≢ id → own_by actor n b.since ≡ own_by actor n o.book.since)
+      → All (λ e. actor e < length s.views) b.since
+      → ((j : ℕ) (u : V) → j ≢ id → AtStage first o.book j u.seen u.stage → AtStage first b j u.seen u.stage)
+      → (w.stage ≢ Spent → K b (set s.views id w) id w)
+      → O record { words = words; homes = homes; views = set s.views id w }
+  moved s o id v w words homes b at lives words_are home_is count lies logs same numbered others mine =
+      let views : List V = set s.views id w in let long = length-set s.views id w in
+      let waited = total_set waits s.views id v w at in let out = o.out in let few = o.few in
+      let other : (j : ℕ) (u : V) → j ≢ id → K o.book s.views j u → K b views j u = λ j u apart k.
+      knows_on o.book b s.views views j u u.stage u.splits u.seen u.told u.mine
+      (set_stays o.book b s.views id v w at lives same) k (λ z. k.splits z ∙ sym long)
+      (prefix_trans u.seen (log_of first o.book) (log_of first b) k.begins logs)
+      (prefix_trans u.told (log_of first o.book) (log_of first b) k.told logs) (same j apart ∙ k.mine)
+      (others j u apart k.stage) in
+      record {
+        book = b;
+        words_are = words_are;
+        home_is = home_is;
+        out = omega arith;
+        few = (omega arith, omega arith);
+        lies = lies;
+        each_seat = λ j u e living. ⊎_elim
+            (λ (t : (j ≡ id) × (w ≡ u)). subst (λ (z : ℕ × V). K b views z.0 z.1) (λ i. (sym t.0 i, t.1 i))
+            (mine (λ dead. living (ap (λ (z : V). z.stage) (sym t.1) ∙ dead))))
+            (λ (t : (j ≢ id) × (get_elem? s.views j ≡ some u)). other j u t.0 (o.each_seat j u t.1 living))
+            (at_set s.views id j w u e);
+        numbered = rw long numbered;
+      }
+
+  -- the same where the pass goes on to another stage, and has seen, is told or has added more
+  steps_on : (s : S) (r : R s) (id : ℕ) (v : V) (st : Stage) (seen told mine : List E) (words : List ℕ) (homes : Homes)
+      (b : B) → get_elem? s.views id ≡ some v → v.stage ≢ Spent → gone st ≡ gone v.stage → words ≡ words_of first b
+      → homes ≡ slot_of b.place ∷ []
+      → b.ticket + waits v + r.0.book.serving ≡ r.0.book.ticket + waiting st + b.serving
+      → L b (set s.views id (record v { stage = st; seen = seen; told = told; mine = mine })) b.place
+      → IsPrefix (log_of first r.0.book) (log_of first b)
+      → ((n : ℕ) → n ≢ id → own_by actor n b.since ≡ own_by actor n r.0.book.since)
+      → All (λ e. actor e < length s.views) b.since
+      → ((j : ℕ) (u : V) → j ≢ id → AtStage first r.0.book j u.seen u.stage → AtStage first b j u.seen u.stage)
+      → IsPrefix seen (log_of first b) → IsPrefix told (log_of first b) → own_by actor id b.since ≡ mine
+      → AtStage first b id seen st
+      → R record {
+        words = words;
+        homes = homes;
+        views = set s.views id (record v { stage = st; seen = seen; told = told; mine = mine });
+      }
+  steps_on s r id v st seen told mine words homes b at lives living words_are home_is count lies logs same numbered
+      others begins telling own stage =
+      let w : V = record v { stage = st; seen = seen; told = told; mine = mine } in
+      let k = r.0.each_seat id v at lives in
+      let lost = total_set is_gone s.views id v w at in let found = total_set joins s.views id v w at in
+      let joined : total is_gone s.views ≡ total joins s.views = r.1 in (
+        moved s r.0 id v w words homes b at lives words_are home_is count lies logs same numbered others
+            (λ _. knows_on r.0.book b s.views (set s.views id w) id v st v.splits seen told mine
+            (set_stays r.0.book b s.views id v w at lives same) k (λ z. k.splits z ∙ sym (length-set s.views id w))
+            begins telling own stage),
+        omega arith,
+      )
+
+  -- ---- the steps
+
   -- a ticket is drawn
   drawn_by : B → ℕ → B
-  drawn_by b id = record {
-    since = b.since;
-    ticket = b.ticket + 1;
-    serving = b.serving;
-    owner = put b.owner b.ticket id;
-    place = b.place;
-  }
+  drawn_by b id = record b { ticket = b.ticket + 1; owner = put b.owner b.ticket id }
 
   after_draw : (b : B) (id j : ℕ) (seen : List E) (st : Stage) → AtStage first b j seen st
       → AtStage first (drawn_by b id) j seen st
   unfolding drawn_by
-  after_draw b id j seen Idle h = tt
   after_draw b id j seen (Waits t) h = let a = h.0 in let c = h.1 in
       (a, omega arith, put_else b.owner b.ticket id t (λ e. omega arith) ∙ h.2)
   after_draw b id j seen Holds h = let a = h.0 in
       (omega arith, put_else b.owner b.ticket id b.serving (λ e. omega arith) ∙ h.1, h.2, h.3)
-  after_draw b id j seen Spent h = tt
-
-  lies_drawn : (s : S) (o : O s) (id : ℕ) (v w : V) → get_elem? s.views id ≡ some v → v.stage ≡ Idle → (p : Place T)
-      → Lies entries fixed first part o.book s.views p
-      → Lies entries fixed first part (drawn_by o.book id) (set s.views id w) p
-  unfolding drawn_by
-  lies_drawn s o id v w at idle (home x) h = h
-  lies_drawn s o id v w at idle away h =
-      let b = o.book in let k = o.each_seat (b.owner b.serving) h.0 h.1 (alive h.0.stage Holds h.2 refl) in
-      let st : AtStage first b (b.owner b.serving) h.0.seen Holds = subst (AtStage first b (b.owner b.serving) h.0.seen)
-      h.2 k.stage in let low : b.serving < b.ticket = st.0 in
-      lies_away entries actor fixed first part s b (drawn_by b id) id v w
-      at (λ e. let one : waiting Idle ≡ waiting Holds = ap waiting (sym idle ∙ e) in omega arith)
-      (put_else b.owner b.ticket id b.serving (λ e. omega arith)) h
+  after_draw b id j seen _ h = tt
 
   pub draws : (slots id : ℕ) (me : M) → me.0.stage ≡ Idle
       → Allows R slots id me 0 (λ n. (n + 1) % 2 ^ 64) (drew (step slots 0 1 0 none) me)
@@ -109,27 +220,14 @@ module _ {T E F : Type 0} (entries : T → List E) (actor : E → ℕ) (fixed : 
         w,
         keeps,
         tt,
-        (
-          moved entries actor fixed first part s o id v w _ s.homes b' at lives
-              (ap (λ (ws : List ℕ). set ws 0 ((get_or ws 0 0 + 1) % 2 ^ 64)) o.words_are
-              ∙ ap (λ (n : ℕ). n ∷ (b.serving % 2 ^ 64) ∷ (length (log_of first b) % 2 ^ 64) ∷ [])
-              (mod-add-mod b.ticket (2 ^ 64) 1)) o.home_is
-              (omega arith) (lies_drawn s o id v w at idle b.place o.lies) (prefix_refl (log_of first b)) (λ n _. refl)
-              o.numbered (λ j u _ h. after_draw b id j u.seen u.stage h)
-              (λ _. record {
-                opened = k.opened;
-                part_is = k.part_is;
-                begins = k.begins;
-                told = k.told;
-                number = k.number;
-                splits = λ z. k.splits z ∙ sym (length-set s.views id w);
-                mine = k.mine;
-                joined = joined_on entries actor fixed first part b b' s.views id v w at lives (λ n _. refl) v.joined
-                    k.joined;
-                stage = (low, omega arith, put_here b.owner b.ticket id);
-              }),
-          as_joined entries actor fixed first part s.views id v w at (sym (ap gone idle)) refl r.1,
-        ),
+        steps_on s r id v (Waits b.ticket) v.seen v.told v.mine _ s.homes b' at lives (sym (ap gone idle))
+            (ap (λ (ws : List ℕ). set ws 0 ((get_or ws 0 0 + 1) % 2 ^ 64)) o.words_are
+            ∙ ap (λ (n : ℕ). n ∷ (b.serving % 2 ^ 64) ∷ (length (log_of first b) % 2 ^ 64) ∷ [])
+            (mod-add-mod b.ticket (2 ^ 64) 1)) o.home_is (omega arith)
+            (lies_on s o b' id v w at (λ e. cc) refl
+            (λ held. put_else b.owner b.ticket id b.serving (λ e. omega arith)) b.place o.lies)
+            (prefix_refl (log_of first b)) (λ n _. refl) o.numbered (λ j u _ h. after_draw b id j u.seen u.stage h)
+            k.begins k.told k.mine (low, omega arith, put_here b.owner b.ticket id),
         (b.ticket, sym (ap (λ (ws : List ℕ). get_or ws 0 0) o.words_are), refl),
       )
 
@@ -137,30 +235,21 @@ module _ {T E F : Type 0} (entries : T → List E) (actor : E → ℕ) (fixed : 
   pub fits : (b : B) (views : List V) (i : ℕ) (v : V) (x : T) → K b views i v → entries x ≡ log_of first b
       → fixed x ≡ part → Fits entries actor fixed v x
   fits b views i v x k all same = record {
-    begins = subst (IsPrefix v.seen) (sym all) k.begins;
+    begins = rw all k.begins;
     opened = (b.since, ap (λ (xs : List E). xs ++ b.since) k.opened ∙ sym all);
-    mine = (λ c. own_by actor (k.number c) (drop (length (k.opened c)) (all c)))
-        ∙ (ap (own_by actor i) (drop_front first b.since) ∙ k.mine);
+    mine = rw (k.number, k.opened, all, drop_front first b.since) k.mine;
     part = k.part_is ∙ ap (λ (z : F). Some z) (sym same);
   }
 
-  waits_not_holds : (v : V) (t : ℕ) → v.stage ≡ Waits t → v.stage ≢ Holds
-  waits_not_holds v t is e = let one : holding Holds ≡ 0 = ap holding (sym e ∙ is) in omega arith
-
-  idle_not_holds : (v : V) → v.stage ≡ Idle → v.stage ≢ Holds
-  idle_not_holds v is e = let one : holding Holds ≡ 0 = ap holding (sym e ∙ is) in omega arith
-
   -- the turn is taken
   taken_by : B → B
-  taken_by b = record { since = b.since; ticket = b.ticket; serving = b.serving; owner = b.owner; place = away }
+  taken_by b = record b { place = away }
 
   after_call : (b : B) (j : ℕ) (seen : List E) (st : Stage) → AtStage first b j seen st
       → AtStage first (taken_by b) j seen st
   unfolding taken_by
-  after_call b j seen Idle h = tt
-  after_call b j seen (Waits t) h = h
   after_call b j seen Holds h = (h.0, h.1, refl, h.3)
-  after_call b j seen Spent h = tt
+  after_call b j seen _ h = h
 
   Called : ℕ → ℕ → M → S → Type 0
   Called slots id me s = (w : V) × (a : Act (Option T)) × Valid s.homes me.1 a
@@ -168,52 +257,34 @@ module _ {T E F : Type 0} (entries : T → List E) (actor : E → ℕ) (fixed : 
       × called entries actor fixed (step slots 1 0 0 none) me (get_or s.words 1 0) (w, carried_after me.1 a)
 
   hits : (slots id : ℕ) (me : M) (t : ℕ) → me.0.stage ≡ Waits t → (s : S) (r : R s) → get_elem? s.views id ≡ some me.0
-      → t ≡ r.0.book.serving → (p : Place T) → r.0.book.place ≡ p
-      → Lies entries fixed first part r.0.book s.views p → Called slots id me s
+      → t ≡ r.0.book.serving → (p : Place T) → r.0.book.place ≡ p → L r.0.book s.views p → Called slots id me s
   unfolding taken_by Called
   hits slots id me t is s r at same (home x) place lies =
       let o = r.0 in let b = o.book in let v : V = me.0 in let w : V = sees v Holds (entries x) in
       let b' : B = taken_by b in let lives = alive v.stage (Waits t) is refl in
       let k : K b s.views id v = o.each_seat id v at lives in
-      let st : AtStage first b id v.seen (Waits t) = subst (AtStage first b id v.seen) is k.stage in
+      let st : AtStage first b id v.seen (Waits t) = rw is at k.stage in
       let one_out : waits v ≡ 1 = ap waiting is in let own : b.owner b.serving ≡ id = ap b.owner (sym same) ∙ st.2 in
-      let before : t < b.ticket = st.1 in
-      let low : b.serving < b.ticket = subst (λ (n : ℕ). n < b.ticket) same before in
+      let before : t < b.ticket = st.1 in let low : b.serving < b.ticket = omega arith in
       let found : ticket_of v.stage % 2 ^ 64 ≡ get_or s.words 1 0 = ap (λ (z : Stage). ticket_of z % 2 ^ 64) is
       ∙ (ap (λ (n : ℕ). n % 2 ^ 64) same ∙ sym (ap (λ (ws : List ℕ). get_or ws 1 0) o.words_are)) in (
         w,
         takes 0 (Some x),
         ap (λ (hs : Homes). get_elem? hs 0) (o.home_is ∙ ap (λ (q : Place T). slot_of q ∷ []) place),
-        (
-          moved entries actor fixed first part s o id v w _ _ b' at lives
-              (ap (λ (ws : List ℕ). set ws 1 (get_or ws 1 0)) o.words_are)
-              (ap (λ (hs : Homes). set hs 0 none) o.home_is) (omega arith)
-              (w, ap (get_elem? (set s.views id w)) own ∙ set_here s.views id w (at_lt s.views id v at), refl)
-              (prefix_refl (log_of first b)) (λ n _. refl) o.numbered (λ j u _ h. after_call b j u.seen u.stage h)
-              (λ _. record {
-                opened = k.opened;
-                part_is = k.part_is;
-                begins = prefix_same (entries x) (log_of first b) lies.0;
-                told = (log_of first b, refl);
-                number = k.number;
-                splits = λ z. k.splits z ∙ sym (length-set s.views id w);
-                mine = k.mine;
-                joined = joined_on entries actor fixed first part b b' s.views id v w at lives (λ n _. refl) v.joined
-                    k.joined;
-                stage = (low, own, refl, lies.0);
-              }),
-          as_joined entries actor fixed first part s.views id v w at (sym (ap gone is)) refl r.1,
-        ),
+        steps_on s r id v Holds (entries x) [] v.mine _ _ b' at lives (sym (ap gone is))
+            (ap (λ (ws : List ℕ). set ws 1 (get_or ws 1 0)) o.words_are) (ap (λ (hs : Homes). set hs 0 none) o.home_is)
+            (omega arith)
+            (w, ap (get_elem? (set s.views id w)) own ∙ set_here s.views id w (at_lt s.views id v at), refl)
+            (prefix_refl (log_of first b)) (λ n _. refl) o.numbered (λ j u _ h. after_call b j u.seen u.stage h)
+            (prefix_same (entries x) (log_of first b) lies.0) (log_of first b, refl) k.mine (low, own, refl, lies.0),
         ((λ _. (x, refl, fits b s.views id v x k lies.0 lies.1)), λ missed. absurd (missed found)),
       )
   hits slots id me t is s r at same away place lies =
       let o = r.0 in let b = o.book in let v : V = me.0 in
       let k : K b s.views id v = o.each_seat id v at (alive v.stage (Waits t) is refl) in
-      let st : AtStage first b id v.seen (Waits t) = subst (AtStage first b id v.seen) is k.stage in
-      let own : b.owner b.serving ≡ id = ap b.owner (sym same) ∙ st.2 in
-      absurd (waits_not_holds v t is
-      (ap (λ (z : V). z.stage) (some-injective v lies.0 (sym at ∙ (ap (get_elem? s.views) (sym own) ∙ lies.1)))
-      ∙ lies.2))
+      let own : b.owner b.serving ≡ id = ap b.owner (sym same) ∙ (rw is at k.stage).2 in
+      let one : v ≡ lies.0 = some-injective v lies.0 (sym at ∙ (ap (get_elem? s.views) (sym own) ∙ lies.1)) in
+      absurd (cc (is, lies.2, ap (λ (z : V). z.stage) one))
 
   misses : (slots id : ℕ) (me : M) (s : S) → R s → get_elem? s.views id ≡ some me.0
       → ticket_of me.0.stage % 2 ^ 64 ≢ get_or s.words 1 0 → Called slots id me s
@@ -222,12 +293,7 @@ module _ {T E F : Type 0} (entries : T → List E) (actor : E → ℕ) (fixed : 
     me.0,
     keeps,
     tt,
-    subst R (λ i. record {
-      words = sym (set-get_or s.words 1 0) i;
-      homes = s.homes;
-      views =
-          sym (set_again s.views id me.0 at) i;
-    }) r,
+    rw (set-get_or s.words 1 0, set_again s.views id me.0 at) r,
     ((λ hit. absurd (missed hit)), λ _. refl),
   )
 
@@ -256,46 +322,23 @@ module _ {T E F : Type 0} (entries : T → List E) (actor : E → ℕ) (fixed : 
         w,
         keeps,
         tt,
-        (
-          moved entries actor fixed first part s o id v w _ s.homes b at lives
-              (ap (λ (ws : List ℕ). set ws 1 (get_or ws 1 0)) o.words_are) o.home_is (omega arith)
-              (lies_kept entries actor fixed first part s b id v w at (idle_not_holds v idle) b.place o.lies)
-              (prefix_refl (log_of first b)) (λ n _. refl) o.numbered (λ j u _ h. h)
-              (λ _. record {
-                opened = k.opened;
-                part_is = k.part_is;
-                begins = prefix_refl (log_of first b);
-                told = (log_of first b, refl);
-                number = k.number;
-                splits = λ z. k.splits z ∙ sym (length-set s.views id w);
-                mine = k.mine;
-                joined = joined_on entries actor fixed first part b b s.views id v w at lives (λ n _. refl) v.joined
-                    k.joined;
-                stage = tt;
-              }),
-          as_joined entries actor fixed first part s.views id v w at (sym (ap gone idle)) refl r.1,
-        ),
+        steps_on s r id v Idle (log_of first b) [] v.mine _ s.homes b at lives (sym (ap gone idle))
+            (ap (λ (ws : List ℕ). set ws 1 (get_or ws 1 0)) o.words_are) o.home_is (omega arith)
+            (lies_on s o b id v w at (λ e. cc) refl (λ _. refl) b.place o.lies)
+            (prefix_refl (log_of first b)) (λ n _. refl) o.numbered (λ j u _ h. h)
+            (prefix_refl (log_of first b)) (log_of first b, refl) k.mine tt,
         (log_of first b, refl, k.begins, k.told),
       )
 
   -- an entry is committed
   with_entry : B → E → B
-  with_entry b e = record {
-    since = b.since ++ e ∷ [];
-    ticket = b.ticket;
-    serving = b.serving;
-    owner = b.owner;
-    place =
-        b.place;
-  }
+  with_entry b e = record b { since = b.since ++ e ∷ [] }
 
   after_commit : (b : B) (e : E) (id j : ℕ) (seen : List E) (st : Stage) → b.owner b.serving ≡ id → j ≢ id
       → AtStage first b j seen st → AtStage first (with_entry b e) j seen st
   unfolding with_entry
-  after_commit b e id j seen Idle own other h = tt
-  after_commit b e id j seen (Waits t) own other h = h
   after_commit b e id j seen Holds own other h = absurd (other (sym h.1 ∙ own))
-  after_commit b e id j seen Spent own other h = tt
+  after_commit b e id j seen _ own other h = h
 
   enters : (slots id : ℕ) (me : M) (e : E) → me.0.stage ≡ Holds → actor e ≡ me.0.number
       → Allows R slots id me 2 (λ n. (n + 1) % 2 ^ 64) (counted (e ∷ []) (step slots 2 1 0 none) me)
@@ -304,13 +347,9 @@ module _ {T E F : Type 0} (entries : T → List E) (actor : E → ℕ) (fixed : 
       let o = r.0 in let b = o.book in let v : V = me.0 in let w : V = commits v (e ∷ []) in
       let b' : B = with_entry b e in let lives = alive v.stage Holds is refl in
       let k : K b s.views id v = o.each_seat id v at lives in
-      let st : AtStage first b id v.seen Holds = subst (AtStage first b id v.seen) is k.stage in
-      let one_out : waits v ≡ 1 = ap waiting is in
+      let st : AtStage first b id v.seen Holds = rw is at k.stage in let one_out : waits v ≡ 1 = ap waiting is in
       let mine : actor e ≡ id = by ∙ k.number in let inside = at_lt s.views id v at in
       let logs : IsPrefix (log_of first b) (log_of first b') = (e ∷ [], append_assoc first b.since (e ∷ [])) in
-      let same : (n : ℕ) → n ≢ id
-      → own_by actor n b'.since ≡ own_by actor n b.since = λ n other. own_else actor n b.since e
-      (λ d. other (sym d ∙ mine)) in
       let long : length (log_of first b) + 1 ≡ length (log_of first b') =
       (let l = length-append (log_of first b) (e ∷ []) in let m = ap (λ (xs : List E). length xs) logs.1 in
       omega arith) in
@@ -318,32 +357,22 @@ module _ {T E F : Type 0} (entries : T → List E) (actor : E → ℕ) (fixed : 
         w,
         keeps,
         tt,
-        (
-          moved entries actor fixed first part s o id v w _ s.homes b' at lives
-              (ap (λ (ws : List ℕ). set ws 2 ((get_or ws 2 0 + 1) % 2 ^ 64)) o.words_are
-              ∙ ap (λ (n : ℕ). (b.ticket % 2 ^ 64) ∷ (b.serving % 2 ^ 64) ∷ n ∷ [])
-              (mod-add-mod (length (log_of first b)) (2 ^ 64) 1 ∙ ap (λ (n : ℕ). n % 2 ^ 64) long)) o.home_is
-              (omega arith)
-              (subst (Lies entries fixed first part b' (set s.views id w)) (sym st.2)
-              (w, ap (get_elem? (set s.views id w)) st.1 ∙ set_here s.views id w inside, is)) logs same
-              (All-append (λ (x : E). actor x < length s.views) b.since (e ∷ []) o.numbered
-              (All-cons (λ (x : E). actor x < length s.views) e []
-              (subst (λ (n : ℕ). n < length s.views) (sym mine) inside)
-              (All-nil (λ (x : E). actor x < length s.views))))
-              (λ j u other h. after_commit b e id j u.seen u.stage st.1 other h)
-              (λ _. record {
-                opened = k.opened;
-                part_is = k.part_is;
-                begins = prefix_same (v.seen ++ e ∷ []) (log_of first b') all;
-                told = prefix_trans v.told (log_of first b) (log_of first b') k.told logs;
-                number = k.number;
-                splits = λ z. k.splits z ∙ sym (length-set s.views id w);
-                mine = own_more actor id b.since e mine ∙ ap (λ (xs : List E). xs ++ e ∷ []) k.mine;
-                joined = joined_on entries actor fixed first part b b' s.views id v w at lives same v.joined k.joined;
-                stage = subst (AtStage first b' id w.seen) (sym is) (st.0, st.1, st.2, all);
-              }),
-          as_joined entries actor fixed first part s.views id v w at refl refl r.1,
-        ),
+        steps_on s r id v v.stage (v.seen ++ e ∷ []) v.told (v.mine ++ e ∷ []) _ s.homes b' at lives refl
+            (ap (λ (ws : List ℕ). set ws 2 ((get_or ws 2 0 + 1) % 2 ^ 64)) o.words_are
+            ∙ ap (λ (n : ℕ). (b.ticket % 2 ^ 64) ∷ (b.serving % 2 ^ 64) ∷ n ∷ [])
+            (mod-add-mod (length (log_of first b)) (2 ^ 64) 1 ∙ ap (λ (n : ℕ). n % 2 ^ 64) long)) o.home_is
+            (omega arith)
+            (subst (L b' (set s.views id w)) (sym st.2)
+            (w, ap (get_elem? (set s.views id w)) st.1 ∙ set_here s.views id w inside, is)) logs
+            (λ n other. own_else actor n b.since e (λ d. other (sym d ∙ mine)))
+            (All-append (λ (x : E). actor x < length s.views) b.since (e ∷ []) o.numbered
+            (All-cons (λ (x : E). actor x < length s.views) e [] (rw mine inside)
+            (All-nil (λ (x : E). actor x < length s.views))))
+            (λ j u other h. after_commit b e id j u.seen u.stage st.1 other h)
+            (prefix_same (v.seen ++ e ∷ []) (log_of first b') all)
+            (prefix_trans v.told (log_of first b) (log_of first b') k.told logs)
+            (own_more actor id b.since e mine ∙ ap (λ (xs : List E). xs ++ e ∷ []) k.mine)
+            (subst (AtStage first b' id w.seen) (sym is) (st.0, st.1, st.2, all)),
         refl,
       )
 
@@ -356,12 +385,11 @@ module _ {T E F : Type 0} (entries : T → List E) (actor : E → ℕ) (fixed : 
 
   -- the turn is given back
   given_by : B → T → B
-  given_by b x = record { since = b.since; ticket = b.ticket; serving = b.serving + 1; owner = b.owner; place = home x }
+  given_by b x = record b { serving = b.serving + 1; place = home x }
 
   after_give : (b : B) (x : T) (id j : ℕ) (seen : List E) (st : Stage) → b.owner b.serving ≡ id → j ≢ id
       → AtStage first b j seen st → AtStage first (given_by b x) j seen st
   unfolding given_by
-  after_give b x id j seen Idle own other h = tt
   after_give b x id j seen (Waits t) own other h = (
     ⊎_elim (λ (e : b.serving ≡ t). absurd (other (sym h.2 ∙ (ap b.owner (sym e) ∙ own))))
         (λ (lt : b.serving < t). omega arith) (eq-or-lt_of_le h.0),
@@ -369,7 +397,7 @@ module _ {T E F : Type 0} (entries : T → List E) (actor : E → ℕ) (fixed : 
     h.2,
   )
   after_give b x id j seen Holds own other h = absurd (other (sym h.1 ∙ own))
-  after_give b x id j seen Spent own other h = tt
+  after_give b x id j seen _ own other h = tt
 
   pub gives_back : (slots id : ℕ) (me : M) (x : T) → me.0.stage ≡ Holds → me.1 ≡ (0, Some x) ∷ []
       → entries x ≡ me.0.seen → me.0.fixed ≡ Some (fixed x)
@@ -379,58 +407,21 @@ module _ {T E F : Type 0} (entries : T → List E) (actor : E → ℕ) (fixed : 
       let o = r.0 in let b = o.book in let v : V = me.0 in let w : V = staged v Idle in let b' : B = given_by b x in
       let lives = alive v.stage Holds is refl in
       let k : K b s.views id v = o.each_seat id v at lives in
-      let st : AtStage first b id v.seen Holds = subst (AtStage first b id v.seen) is k.stage in
-      let one_out : waits v ≡ 1 = ap waiting is in (
+      let st : AtStage first b id v.seen Holds = rw is at k.stage in let one_out : waits v ≡ 1 = ap waiting is in (
         w,
         gives,
         tt,
-        (
-          moved entries actor fixed first part s o id v w _ _ b' at lives
-              (ap (λ (ws : List ℕ). set ws 1 ((get_or ws 1 0 + 1) % 2 ^ 64)) o.words_are
-              ∙ ap (λ (n : ℕ). (b.ticket % 2 ^ 64) ∷ n ∷ (length (log_of first b) % 2 ^ 64) ∷ [])
-              (mod-add-mod b.serving (2 ^ 64) 1))
-              (ap (put_back s.homes) carried ∙ ap (λ (hs : Homes). set hs 0 (some (Some x))) o.home_is) (omega arith)
-              (list ∙ st.3, ap (part_or part) (sym fixed_is ∙ k.part_is)) (prefix_refl (log_of first b))
-              (λ n _. refl) o.numbered (λ j u other h. after_give b x id j u.seen u.stage st.1 other h)
-              (λ _. record {
-                opened = k.opened;
-                part_is = k.part_is;
-                begins = k.begins;
-                told = k.told;
-                number = k.number;
-                splits = λ z. k.splits z ∙ sym (length-set s.views id w);
-                mine = k.mine;
-                joined = joined_on entries actor fixed first part b b' s.views id v w at lives (λ n _. refl) v.joined
-                    k.joined;
-                stage = tt;
-              }),
-          as_joined entries actor fixed first part s.views id v w at (sym (ap gone is)) refl r.1,
-        ),
+        steps_on s r id v Idle v.seen v.told v.mine _ _ b' at lives (sym (ap gone is))
+            (ap (λ (ws : List ℕ). set ws 1 ((get_or ws 1 0 + 1) % 2 ^ 64)) o.words_are
+            ∙ ap (λ (n : ℕ). (b.ticket % 2 ^ 64) ∷ n ∷ (length (log_of first b) % 2 ^ 64) ∷ [])
+            (mod-add-mod b.serving (2 ^ 64) 1))
+            (ap (put_back s.homes) carried ∙ ap (λ (hs : Homes). set hs 0 (some (Some x))) o.home_is) (omega arith)
+            (list ∙ st.3, ap (part_or part) (sym fixed_is ∙ k.part_is)) (prefix_refl (log_of first b)) (λ n _. refl)
+            o.numbered (λ j u other h. after_give b x id j u.seen u.stage st.1 other h) k.begins k.told k.mine tt,
         ap (λ (cs : List (ℕ × Option T)). (w, cs)) (ap rest carried),
       )
 
-  -- What a pass knows where a further view stands behind the others. The pass id has gone from v to w, and this one has
-  -- been split n times
-  grows : (b : B) (views : List V) (id j n : ℕ) (v w right u : V) → get_elem? views id ≡ some v → v.stage ≢ Spent
-      → (j ≡ 0 → n + 1 ≡ length (set views id w ++ right ∷ [])) → K b views j u
-      → K b (set views id w ++ right ∷ []) j (record u { splits = n })
-  grows b views id j n v w right u at lives split k = record {
-    opened = k.opened;
-    part_is = k.part_is;
-    begins = k.begins;
-    told = k.told;
-    number = k.number;
-    splits = split;
-    mine = k.mine;
-    joined = All-more (λ (p : ℕ × List E). (own_by actor p.0 b.since ≡ p.1) × IsSpent (set views id w) p.0)
-        (λ (p : ℕ × List E). (own_by actor p.0 b.since ≡ p.1) × IsSpent (set views id w ++ right ∷ []) p.0) u.joined
-        (λ p h. (h.0, at_longer (set views id w) (right ∷ []) p.0 spent h.1))
-        (joined_on entries actor fixed first part b b views id v w at lives (λ m _. refl) u.joined k.joined);
-    stage = k.stage;
-  }
-
-  lies_longer : (b : B) (views : List V) (right : V) (p : Place T) → Lies entries fixed first part b views p
-      → Lies entries fixed first part b (views ++ right ∷ []) p
+  lies_longer : (b : B) (views : List V) (right : V) (p : Place T) → L b views p → L b (views ++ right ∷ []) p
   lies_longer b views right (home x) h = h
   lies_longer b views right away h = (h.0, at_longer views (right ∷ []) (b.owner b.serving) h.0 h.1, h.2)
 
@@ -440,41 +431,46 @@ module _ {T E F : Type 0} (entries : T → List E) (actor : E → ℕ) (fixed : 
       let o = r.0 in let b = o.book in let left : V = after_split v in let right : V = split_off v in
       let lives = alive v.stage Idle idle refl in let k : K b s.views id v = o.each_seat id v at lives in
       let zeroth : id ≡ 0 = sym k.number ∙ opener in let n : ℕ = length s.views in
-      let all : v.splits + 1 ≡ n = k.splits zeroth in let views : List V = set s.views id left ++ right ∷ [] in
-      let long : length views ≡ n + 1 = length-append (set s.views id left) (right ∷ [])
-      ∙ ap (λ (m : ℕ). m + 1) (length-set s.views id left) in
-      let waited = total_set waits s.views id v left at in let waited' = total_snoc waits (set s.views id left) right in
-      let lost = total_set is_gone s.views id v left at in let lost' = total_snoc is_gone (set s.views id left) right in
-      let found = total_set joins s.views id v left at in let found' = total_snoc joins (set s.views id left) right in
-      let joined : total is_gone s.views ≡ total joins s.views = r.1 in (
+      let all : v.splits + 1 ≡ n = k.splits zeroth in let changed : List V = set s.views id left in
+      let views : List V = changed ++ right ∷ [] in let size = length-set s.views id left in
+      let long : length views ≡ n + 1 = length-append changed (right ∷ []) ∙ ap (λ (m : ℕ). m + 1) size in
+      let waited = total_set waits s.views id v left at in let waited' = total_snoc waits changed right in
+      let lost = total_set is_gone s.views id v left at in let lost' = total_snoc is_gone changed right in
+      let found = total_set joins s.views id v left at in let found' = total_snoc joins changed right in
+      let joined : total is_gone s.views ≡ total joins s.views = r.1 in let out = o.out in
+      let stay : Stays b b s.views views = λ p gone.
+      (refl, at_longer changed (right ∷ []) p spent (set_stays b b s.views id v left at lives (λ m _. refl) p gone).1) in
+      let old : (j : ℕ) (u : V) (m : ℕ) → (j ≡ 0 → m + 1 ≡ length views) → K b s.views j u
+      → K b views j (record u { splits = m }) = λ j u m split k.
+      knows_on b b s.views views j u u.stage m u.seen u.told u.mine stay k split k.begins k.told k.mine k.stage in
+      let new : K b views n right = record {
+        opened = k.opened;
+        part_is = k.part_is;
+        begins = k.begins;
+        told = (log_of first b, refl);
+        number = all;
+        splits = λ z. absurd (omega arith);
+        mine = own_none actor n b.since o.numbered;
+        joined = All-nil (λ (p : ℕ × List E). (own_by actor p.0 b.since ≡ p.1) × IsSpent views p.0);
+        stage = tt;
+      } in (
         record {
           book = b;
           words_are = o.words_are;
           home_is = o.home_is;
-          out = let out = o.out in omega arith;
+          out = omega arith;
           few = (omega arith, omega arith);
-          lies = lies_longer b (set s.views id left) right b.place
-              (lies_kept entries actor fixed first part s b id v left at (idle_not_holds v idle) b.place o.lies);
+          lies = lies_longer b changed right b.place
+              (lies_on s o b id v left at (λ e. cc) refl (λ _. refl) b.place o.lies);
           each_seat = λ j u e live. ⊎_elim
-              (λ (old : get_elem? (set s.views id left) j ≡ some u). ⊎_elim
+              (λ (was : get_elem? changed j ≡ some u). ⊎_elim
               (λ (t : (j ≡ id) × (left ≡ u)). subst (λ (z : ℕ × V). K b views z.0 z.1) (λ i. (sym t.0 i, t.1 i))
-              (grows b s.views id id (v.splits + 1) v left right v at lives (λ _. omega arith) k))
-              (λ (t : (j ≢ id) × (get_elem? s.views j ≡ some u)). grows b s.views id j u.splits v left right u at lives
-              (λ z. absurd (t.0 (z ∙ sym zeroth))) (o.each_seat j u t.1 live))
-              (at_set s.views id j left u old))
-              (λ (new : (j ≡ length (set s.views id left)) × (right ≡ u)). let place : n ≡ j =
-              sym (new.0 ∙ length-set s.views id left) in
-              subst (λ (z : ℕ × V). K b views z.0 z.1) (λ i. (place i, new.1 i)) record {
-                opened = k.opened;
-                part_is = k.part_is;
-                begins = k.begins;
-                told = (log_of first b, refl);
-                number = all;
-                splits = λ z. absurd (omega arith);
-                mine = own_none actor n b.since o.numbered;
-                joined = All-nil (λ (p : ℕ × List E). (own_by actor p.0 b.since ≡ p.1) × IsSpent views p.0);
-                stage = tt;
-              }) (at_end (set s.views id left) right u j e);
+              (old id v (v.splits + 1) (λ _. omega arith) k))
+              (λ (t : (j ≢ id) × (get_elem? s.views j ≡ some u)).
+              old j u u.splits (λ z. absurd (t.0 (z ∙ sym zeroth))) (o.each_seat j u t.1 live))
+              (at_set s.views id j left u was))
+              (λ (t : (j ≡ length changed) × (right ≡ u)). subst (λ (z : ℕ × V). K b views z.0 z.1)
+              (λ i. (sym (t.0 ∙ size) i, t.1 i)) new) (at_end changed right u j e);
           numbered = All-more (λ (e : E). actor e < n) (λ (e : E). actor e < length views) b.since
               (λ e low. omega arith) o.numbered;
         },
@@ -491,16 +487,18 @@ module _ {T E F : Type 0} (entries : T → List E) (actor : E → ℕ) (fixed : 
       let kw : K b s.views other w = o.each_seat other w at' lives' in
       let none_out : waits v ≡ 0 = ap waiting idle in let none_out' : waits w ≡ 0 = ap waiting idle' in
       let views₁ : List V = set s.views other spent in let apart' : id ≢ other = λ e. apart (sym e) in
-      let o₁ : O record { words = s.words; homes = s.homes; views = views₁ } = moved entries actor fixed first part s o
-      other w spent s.words s.homes b at' lives' o.words_are o.home_is (omega arith)
-      (lies_kept entries actor fixed first part s b other w spent at' (idle_not_holds w idle') b.place o.lies)
-      (prefix_refl (log_of first b)) (λ n _. refl) o.numbered (λ j u _ h. h) (λ n. absurd (n refl)) in
       let s₁ : S = record { words = s.words; homes = s.homes; views = views₁ } in
+      let o₁ : O s₁ = moved s o other w spent s.words s.homes b at' lives' o.words_are o.home_is (omega arith)
+      (lies_on s o b other w spent at' (λ e. cc) refl (λ _. refl) b.place o.lies)
+      (prefix_refl (log_of first b)) (λ n _. refl) o.numbered (λ j u _ h. h) (λ n. absurd (n refl)) in
       let at₁ : get_elem? views₁ id ≡ some v = set_else s.views other id spent apart' ∙ at in
       let k : K b views₁ id v = o₁.each_seat id v at₁ lives in let views₂ : List V = set views₁ id both in
-      let o₂ : O record { words = s.words; homes = s.homes; views = views₂ } = moved entries actor fixed first part s₁
-      o₁ id v both s.words s.homes b at₁ lives o.words_are o.home_is (omega arith)
-      (lies_kept entries actor fixed first part s₁ b id v both at₁ (idle_not_holds v idle) b.place o₁.lies)
+      let stay₁ : Stays b b s.views views₁ = set_stays b b s.views other w spent at' lives' (λ n _. refl) in
+      let stay₂ : Stays b b views₁ views₂ = set_stays b b views₁ id v both at₁ lives (λ n _. refl) in
+      let P : ℕ × List E → Type 0 = λ p. (own_by actor p.0 b.since ≡ p.1) × IsSpent views₂ p.0 in
+      let o₂ : O record { words = s.words; homes = s.homes; views = views₂ } = moved s₁ o₁ id v both s.words s.homes b
+      at₁ lives o.words_are o.home_is (omega arith)
+      (lies_on s₁ o₁ b id v both at₁ (λ e. cc) refl (λ _. refl) b.place o₁.lies)
       (prefix_refl (log_of first b)) (λ n _. refl) o₁.numbered (λ j u _ h. h)
       (λ _. record {
         opened = k.opened;
@@ -510,27 +508,22 @@ module _ {T E F : Type 0} (entries : T → List E) (actor : E → ℕ) (fixed : 
         number = k.number;
         splits = λ z. k.splits z ∙ sym (length-set views₁ id both);
         mine = k.mine;
-        joined = let P : ℕ × List E → Type 0 = λ p. (own_by actor p.0 b.since ≡ p.1) × IsSpent views₂ p.0 in
-            All-append P v.joined ((w.number, w.mine) ∷ w.joined)
-            (joined_on entries actor fixed first part b b views₁ id v both at₁ lives (λ n _. refl) v.joined
-            k.joined)
+        joined = All-append P v.joined ((w.number, w.mine) ∷ w.joined)
+            (joined_on b b views₁ views₂ stay₂ v.joined k.joined)
             (All-cons P (w.number, w.mine) w.joined (
               ap (λ (n : ℕ). own_by actor n b.since) kw.number ∙ kw.mine,
               ap (get_elem? views₂) kw.number
-                  ∙ (set_else views₁ id other both apart ∙ set_here s.views other spent (at_lt s.views other w at')),
+                  ∙ (stay₂ other (set_here s.views other spent (at_lt s.views other w at'))).1,
             )
-            (joined_on entries actor fixed first part b b views₁ id v both at₁ lives (λ n _. refl) w.joined
-            (joined_on entries actor fixed first part b b s.views other w spent at' lives' (λ n _. refl) w.joined
-            kw.joined)));
-        stage = subst (AtStage first b id v.seen) (sym idle) tt;
+            (joined_on b b views₁ views₂ stay₂ w.joined (joined_on b b s.views views₁ stay₁ w.joined kw.joined)));
+        stage = rw idle tt;
       }) in
       let lost = total_set is_gone s.views other w spent at' in let lost' = total_set is_gone views₁ id v both at₁ in
       let found = total_set joins s.views other w spent at' in let found' = total_set joins views₁ id v both at₁ in
       let long = length-append v.joined ((w.number, w.mine) ∷ w.joined) in
       let not_gone : is_gone w ≡ 0 = ap gone idle' in let joined : total is_gone s.views ≡ total joins s.views = r.1 in
       let joined₂ : AreJoined views₂ = omega arith in
-      subst (λ (vs : List V). R record { words = s.words; homes = s.homes; views = vs })
-      (sym (set_apart s.views id other both spent apart)) (o₂, joined₂)
+      rw (set_apart s.views id other both spent apart) (o₂, joined₂)
 
 module _ {T E F : Type 0} (entries : T → List E) (actor : E → ℕ) (fixed : T → F) where
   -- the table as `open` makes it, told of x, with y in the slot
@@ -551,33 +544,23 @@ module _ {T E F : Type 0} (entries : T → List E) (actor : E → ℕ) (fixed : 
           out = refl;
           few = (omega arith, omega arith);
           lies = (ap entries (sym same) ∙ sym (append-nil first), ap fixed (sym same));
-          each_seat = λ i u e live. only first part b v i u e record {
-            opened = refl;
-            part_is = refl;
-            begins = ([], refl);
-            told = (log_of first b, refl);
-            number = refl;
-            splits = λ _. refl;
-            mine = refl;
-            joined = All-nil (λ (p : ℕ × List E). (own_by actor p.0 [] ≡ p.1) × IsSpent (v ∷ []) p.0);
-            stage = tt;
-          };
+          each_seat = λ i u e live. ⊎_elim (λ none. absurd (some-ne-none u (sym none)))
+              (λ (t : (i ≡ 0) × (v ≡ u)). subst (λ (z : ℕ × View E F). Knows actor first part b (v ∷ []) z.0 z.1)
+              (λ j. (sym t.0 j, t.1 j)) (record {
+                opened = refl;
+                part_is = refl;
+                begins = ([], refl);
+                told = (log_of first b, refl);
+                number = refl;
+                splits = λ _. refl;
+                mine = refl;
+                joined = All-nil (λ (p : ℕ × List E). (own_by actor p.0 [] ≡ p.1) × IsSpent (v ∷ []) p.0);
+                stage = tt;
+              })) (at_end [] v u i e);
           numbered = All-nil (λ (e : E). actor e < 1);
         },
         refl,
       )
-    where
-      only : (first : List E) (part : F) (b : Book T E) (v : View E F) (i : ℕ) (u : View E F)
-          → get_elem? (v ∷ []) i ≡ some u → Knows actor first part b (v ∷ []) 0 v
-          → Knows actor first part b (v ∷ []) i u
-      only first part b v zero u e k = subst (Knows actor first part b (v ∷ []) 0) (some-injective v u e) k
-      only first part b v (suc i) u e k = absurd (some-ne-none u (sym e))
-
-  stage_small : (st : Stage) → waiting st + gone st ≤ 1
-  stage_small Idle = omega arith
-  stage_small (Waits t) = omega arith
-  stage_small Holds = omega arith
-  stage_small Spent = omega arith
 
   pub ends : (first : List E) (part : F) (id : ℕ) (v : View E F) (words : List ℕ) (slots : List (Option T))
       → v.stage ≡ Idle → v.number ≡ 0 → length v.joined ≡ v.splits
@@ -627,10 +610,7 @@ module _ {T E F : Type 0} (entries : T → List E) (actor : E → ℕ) (fixed : 
             },
           )
       found away is lies =
-          let h = o.each_seat (o.book.owner o.book.serving) lies.0 lies.1 (alive lies.0.stage Holds lies.2 refl) in
-          let st : AtStage first o.book (o.book.owner o.book.serving) lies.0.seen Holds =
-          subst (AtStage first o.book (o.book.owner o.book.serving) lies.0.seen) lies.2 h.stage in
-          let low : o.book.serving < o.book.ticket = st.0 in let none = none_waits in absurd (omega arith)
+          let low = is_held entries actor fixed first part s o lies in let none = none_waits in absurd (omega arith)
 
   -- the slot that was found has the value
   pub found_some : (first : List E) (part : F) (id : ℕ) (v : View E F) (words : List ℕ) (slots : List (Option T))

@@ -1,6 +1,6 @@
 -- How many looks there are, and how many entries each has.
 use Rattle.std.proofs.Common.{◌≡◌, ℕ, zero, suc, ◌+◌, ◌-◌, ◌^◌, ◌<◌, ◌≤◌, ◌==◌, true, false, List, [], ◌∷◌, ◌++◌}
-use Rattle.std.proofs.Common.{length, map, take, get_or, set, All, ◌≢◌, refl, sym, ◌∙◌, ap, subst, arith, inl, inr}
+use Rattle.std.proofs.Common.{length, map, take, get_or, set, All, ◌≢◌, refl, sym, ◌∙◌, ap, arith, inl, inr}
 use Rattle.std.proofs.Common.{slice_index, reverse}
 use Rattle.board_prelude.proofs.Common.{cases_Bool, cases_eq, nat_tests, take_more, map-append, length-map}
 use Rattle.board_prelude.proofs.Common.{get_or-set_other, reverse-append, length-reverse, get_or-set_at, All-cons}
@@ -21,8 +21,7 @@ pub looks_next : (xs : List Done) (k : ℕ) (d : Done) (count one : ℕ) → k <
     → one ≡ looks_in (get_or xs k d ∷ []) →
     count + one ≡ looks_in (take (k + 1) xs)
 looks_next xs k d count one less count_is one_is =
-    let next = ap looks_in (take_more xs k d less) ∙ looks_append (take k xs) (get_or xs k d ∷ []) in
-    omega (arith, next, count_is, one_is)
+    rw (count_is, one_is, take_more xs k d less) (sym (looks_append (take k xs) (get_or xs k d ∷ [])))
 
 count_append : (xs ys : List (List Done)) → all_looks_in (xs ++ ys) ≡ all_looks_in xs + all_looks_in ys
 count_append [] ys = omega arith
@@ -31,17 +30,16 @@ count_append (x ∷ xs) ys = let more = count_append xs ys in omega (arith, more
 -- one more of the lists counts
 pub count_next : {X : Type 0} (f : X → List Done) (xs : List X) (k : ℕ) (d : X) → k < length xs →
     all_looks_in (map f (take (k + 1) xs)) ≡ all_looks_in (map f (take k xs)) + looks_in (f (get_or xs k d))
-count_next {X} f xs k d less =
-    let split = ap (λ (l : List X). all_looks_in (map f l)) (take_more xs k d less) in
-    let apart = ap all_looks_in (map-append f (take k xs) (get_or xs k d ∷ [])) in
-    let sum = count_append (map f (take k xs)) (f (get_or xs k d) ∷ []) in
-    omega (arith, split, apart, sum)
+count_next f xs k d less =
+    rw (take_more xs k d less, map-append f (take k xs) (get_or xs k d ∷ []))
+    (omega (arith, count_append (map f (take k xs)) (f (get_or xs k d) ∷ [])))
 
 -- a list of them is no longer than all
-pub one_of : (xs : List (List Done)) (k : ℕ) → k < length xs → looks_in (get_or xs k []) ≤ all_looks_in xs
-one_of [] k less = absurd (omega (arith, less))
-one_of (x ∷ xs) zero less = omega arith
-one_of (x ∷ xs) (suc k) less = let more = one_of xs k (omega (arith, less)) in omega (arith, more)
+pub one_of : {X : Type 0} (f : X → List Done) (xs : List X) (k : ℕ) (d : X) → k < length xs
+    → looks_in (f (get_or xs k d)) ≤ all_looks_in (map f xs)
+one_of f [] k d less = absurd (omega (arith, less))
+one_of f (x ∷ xs) zero d less = omega arith
+one_of f (x ∷ xs) (suc k) d less = omega (arith, one_of f xs k d (omega (arith, less)))
 
 -- a list takes the place of another
 pub count_set : (xs : List (List Done)) (k : ℕ) (y : List Done) → k < length xs
@@ -56,21 +54,12 @@ no_more_by (entry ∷ before) actor =
     let below : length (entries_by actor before) ≤ length before = no_more_by before actor in
     elim (cases_Bool (entry.actor == actor)) [ inl same ↦ rw same (omega arith) | inr other ↦ rw other (omega arith) ]
 
--- a processor's next number is small, and so is the next place
-pub number_fits : (order : Order) (capacity : ℕ) (counts : List ℕ) (actor place : ℕ) → place ≡ actor → actor < 8
-    → 1 ≤ order.spare →
-    IsOrder order capacity counts → slice_index counts place + 1 < 2 ^ 32
-number_fits order capacity counts actor place same below some kept =
-    let count : slice_index counts actor ≡ length (entries_by actor (over [] order.entries)) =
-    kept.counted [] actor below in
-    let few : length (entries_by actor (over [] order.entries)) ≤ length (over [] order.entries) =
-    no_more_by (over [] order.entries) actor in
-    let size : length (over [] order.entries) ≡ length order.entries = length-map order.entries (entry_of []) in
-    rw same (omega (arith, count, few, size, kept.few, some))
-
-pub place_fits : (order : Order) (capacity : ℕ) (counts : List ℕ) → 1 ≤ order.spare → IsOrder order capacity counts
-    → order.bus + 1 < 2 ^ 32
-place_fits order capacity counts some kept = omega (arith, kept.fewer, kept.few, some)
+-- a processor's next number is small
+pub number_fits : {order : Order} {capacity : ℕ} {counts : List ℕ} (actor place : ℕ) → place ≡ actor → actor < 8
+    → IsOrder order capacity counts → slice_index counts place + order.spare < 2 ^ 32
+number_fits {order} actor place same below kept =
+    let count = kept.counted [] actor below in let few = no_more_by (over [] order.entries) actor in
+    rw same (omega (arith, count, few, length-map order.entries (entry_of []), kept.few))
 
 counts_more : (counts : List ℕ) (actor other : ℕ) (entry : Entry) (before : List Entry) → length counts ≡ 8 → other < 8
     → entry.actor ≡ actor
@@ -89,7 +78,7 @@ counts_more counts actor other entry before eight small own was = elim (cases_eq
 ]
 
 -- an entry more
-pub order_more : (items items' : List RunEntry) (spare bus capacity capacity' : ℕ) (counts : List ℕ) (actor place : ℕ)
+pub order_more : {spare bus capacity : ℕ} {counts : List ℕ} (items items' : List RunEntry) (capacity' actor place : ℕ)
     (entry : RunEntry) (bus' : ℕ)
     → IsOrder (record { entries = reverse items; spare = spare; bus = bus }) capacity counts
     → items' ≡ items ++ entry ∷ [] → capacity ≤ capacity' → length counts ≡ 8
@@ -97,13 +86,11 @@ pub order_more : (items items' : List RunEntry) (spare bus capacity capacity' : 
     → IsPlacedBelow bus' entry → bus ≤ bus' → bus' ≤ bus + 1 → 1 ≤ spare
     → IsOrder (record { entries = reverse items'; spare = spare - 1; bus = bus' }) capacity'
     (set counts place (slice_index counts place + 1))
-order_more items items' spare bus capacity capacity' counts actor place entry bus' kept more wider eight same below own
-    within least next some =
+order_more {spare} {bus} {capacity} {counts} items items' capacity' actor place entry bus' kept more wider eight same
+    below own within least next some =
     let old : List RunEntry = reverse items in
     let is : reverse items' ≡ entry ∷ old = ap reverse more ∙ reverse-append items (entry ∷ []) in
-    subst (λ (z : List RunEntry × ℕ). IsOrder (record { entries = z.0; spare = spare - 1; bus = bus' }) capacity'
-    (set counts z.1 (slice_index counts z.1 + 1))) (λ t. (sym is t, sym same t))
-    (record {
+    rw (is, same) (record {
       room = omega (arith, kept.room, some, wider);
       few = omega (arith, kept.few, some);
       fewer = omega (arith, kept.fewer, next);
@@ -114,15 +101,13 @@ order_more items items' spare bus capacity capacity' counts actor place entry bu
     })
 
 -- room for more
-pub order_reserved : (items items' : List RunEntry) (spare bus capacity capacity' : ℕ) (counts : List ℕ) (n : ℕ)
+pub order_reserved : {spare bus capacity : ℕ} {counts : List ℕ} (items items' : List RunEntry) (capacity' n : ℕ)
     → IsOrder (record { entries = reverse items; spare = spare; bus = bus }) capacity counts → items' ≡ items
     → length items + n ≤ capacity' → length items + n < 2 ^ 32
     → IsOrder (record { entries = reverse items'; spare = n; bus = bus }) capacity' counts
-order_reserved items items' spare bus capacity capacity' counts n kept same room few =
+order_reserved items items' capacity' n kept same room few =
     let size : length (reverse items) ≡ length items = length-reverse items in
-    subst (λ (all : List RunEntry). IsOrder (record { entries = reverse all; spare = n; bus = bus }) capacity' counts)
-    (sym same)
-    (record {
+    rw same (record {
       room = omega (arith, size, room);
       few = omega (arith, size, few);
       fewer = kept.fewer;

@@ -1,13 +1,11 @@
 -- A processor's statements of a phase in the bus's whole history: where its calls stand, and between which versions its
 -- looks.
-use Rattle.std.specs.Prelude.{ℕ, ◌≡◌, ◌≤◌, ◌<◌, false, List, [], ◌∷◌, length, map, All}
-use Rattle.board_prelude.proofs.Common.{Event, Look, Saw, Entry, Statement, Setup, version_of, IsAnswer, entries_by}
-use Rattle.board_prelude.proofs.Common.{IsLegal, events_by}
+use Rattle.std.specs.Prelude.{ℕ, ◌≡◌, ◌≤◌, false, List, [], ◌∷◌}
+use Rattle.board_prelude.proofs.Common.{Event, Look, Saw, Entry, Setup, version_of, IsAnswer, entries_by}
 use Rattle.board_spec.specs.declared.event.Event.TheVariants.{Look as LookAt}
 use Rattle.run_order.specs.declared.done.Done.{Done}
 use Rattle.run_order.specs.declared.done.Done.TheVariants.{Went, Looked}
-use Rattle.run_order.specs.Common.{is_look, event_of, done_by, Begins}
-use Rattle.run_order.proofs.Histories.{onto}
+use Rattle.run_order.specs.Common.{is_look, Begins}
 
 -- what a look saw is the answer after every beginning of the history that has as many map writes
 abbrev pub IsRight : Setup → List Entry → Event → Look → Type 0
@@ -27,8 +25,7 @@ pub record IsCall (setup : Setup) (whole : List Entry) (actor : ℕ) (from : Lis
   pub place : Begins (entry ∷ before) whole
 
 -- a processor's own statements in a history of the bus, which is whole now: `from` is the history up to its own last
--- call, and
--- `low` how many map writes it knew
+-- call, and `low` how many map writes it knew
 abbrev pub Follows : Setup → List Entry → ℕ → List Entry → ℕ → List Done → Type 0
 Follows setup whole actor from low [] = entries_by actor whole ≡ entries_by actor from
 Follows setup whole actor from low (Looked kind addr smm look ∷ items) =
@@ -37,12 +34,3 @@ Follows setup whole actor from low (Looked kind addr smm look ∷ items) =
 Follows setup whole actor from low (Went version event ∷ items) =
     (before : List Entry) × (entry : Entry) × IsCall setup whole actor from low event version before entry
     × Follows setup whole actor (entry ∷ before) (version_of setup (entry ∷ before)) items
-
--- what the processors hand over after a phase
-pub record IsHandOver (setup : Setup) (opened later : List Entry) (phase : List Statement)
-    (rests : List (List Done)) : Type 0 where
-  pub legal : IsLegal setup (onto later opened)
-  pub callers : All (λ entry. entry.actor < length rests) later
-  pub follows : (actor : ℕ) → actor < length rests
-      → Follows setup (onto later opened) actor opened (version_of setup opened) (done_by 0 actor rests)
-  pub said : (actor : ℕ) → map event_of (done_by 0 actor rests) ≡ events_by actor phase

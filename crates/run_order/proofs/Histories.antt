@@ -1,8 +1,8 @@
 -- Beginnings of a history, and a processor's entries in it.
-use Rattle.std.proofs.Common.{◌≡◌, ℕ, ◌+◌, ◌<◌, ◌≤◌, ◌==◌, true, false, List, [], ◌∷◌, ◌++◌, length, refl, sym, ◌∙◌, ap}
-use Rattle.std.proofs.Common.{subst, arith, append_assoc, Option, Some, None, inl, inr, reverse}
+use Rattle.std.proofs.Common.{◌≡◌, ℕ, ◌+◌, ◌<◌, ◌≤◌, ◌==◌, true, List, [], ◌∷◌, ◌++◌, length, refl, sym, ◌∙◌, ap}
+use Rattle.std.proofs.Common.{arith, append_assoc, Option, Some, None, inl, inr, reverse}
 use Rattle.board_prelude.proofs.Common.{option_to_list, reverse-append, cases_Bool, nat_tests, Entry, MapChange, Setup}
-use Rattle.board_prelude.proofs.Common.{version_of, map_change_of, map_writes_of, entries_by}
+use Rattle.board_prelude.proofs.Common.{version_of, IsLegal, map_change_of, map_writes_of, entries_by}
 use Rattle.run_order.specs.Trace.{Begins}
 
 -- what comes later, the oldest first, put before a list with the newest first
@@ -16,55 +16,39 @@ onto_is {X} (x ∷ later) before =
     onto_is later (x ∷ before) ∙ sym (ap (λ (h : List X). h ++ before) (reverse-append (x ∷ []) later)
     ∙ append_assoc (reverse later) (x ∷ []) before)
 
-pub begins_self : (history : List Entry) → Begins history history
-begins_self history = ([], refl)
+pub legal_front : (setup : Setup) (later before : List Entry) → IsLegal setup (onto later before)
+    → IsLegal setup before
+legal_front setup [] before legal = legal
+legal_front setup (entry ∷ later) before legal = (legal_front setup later (entry ∷ before) legal).1
 
-pub begins_before : (entry : Entry) (before whole : List Entry) → Begins (entry ∷ before) whole → Begins before whole
-begins_before entry before whole b = (b.0 ++ entry ∷ [], b.1 ∙ sym (append_assoc b.0 (entry ∷ []) before))
+-- what begins with a list that begins with another
+pub longer_trans : {X : Type 0} (first middle last : List X) → (more : List X) × (middle ≡ more ++ first)
+    → (more : List X) × (last ≡ more ++ middle) → (more : List X) × (last ≡ more ++ first)
+longer_trans first middle last a b = (b.0 ++ a.0, rw (b.1, a.1) (sym (append_assoc b.0 a.0 first)))
 
 pub begins_trans : (first middle last : List Entry) → Begins first middle → Begins middle last → Begins first last
-begins_trans first middle last a b =
-    (b.0 ++ a.0, b.1 ∙ (ap (λ (h : List Entry). b.0 ++ h) a.1 ∙ sym (append_assoc b.0 a.0 first)))
+begins_trans = longer_trans
+
+pub begins_before : (entry : Entry) (before whole : List Entry) → Begins (entry ∷ before) whole → Begins before whole
+begins_before entry before whole = begins_trans before (entry ∷ before) whole (entry ∷ [], refl)
 
 pub onto_begins : (later before : List Entry) → Begins before (onto later before)
-onto_begins [] before = begins_self before
+onto_begins [] before = ([], refl)
 onto_begins (entry ∷ later) before = begins_before entry before (onto later (entry ∷ before))
     (onto_begins later (entry ∷ before))
 
-pub own_entry : (actor : ℕ) (entry : Entry) (before : List Entry) → (entry.actor == actor) ≡ true
-    → entries_by actor (entry ∷ before) ≡ entry ∷ entries_by actor before
-own_entry actor entry before is = rw is refl
-
-pub other_entry : (actor : ℕ) (entry : Entry) (before : List Entry) → (entry.actor == actor) ≡ false
-    → entries_by actor (entry ∷ before) ≡ entries_by actor before
-other_entry actor entry before is = rw is refl
-
-pub own_test : (actor : ℕ) (entry : Entry) → entry.actor ≡ actor → (entry.actor == actor) ≡ true
-own_test actor entry own = grind (arith, nat_tests)
-
 -- an entry of the processor's own counts
-pub own_counts : (actor : ℕ) (more : List Entry) (entry : Entry) (before : List Entry) → entry.actor ≡ actor
+own_counts : (actor : ℕ) (more : List Entry) (entry : Entry) (before : List Entry) → entry.actor ≡ actor
     → length (entries_by actor before) < length (entries_by actor (more ++ entry ∷ before))
 own_counts actor [] entry before own =
-    let one : length (entries_by actor (entry ∷ before)) ≡ length (entry ∷ entries_by actor before) =
-    ap length (own_entry actor entry before (own_test actor entry own)) in
-    omega (arith, one)
+    let is : (entry.actor == actor) ≡ true = grind (arith, nat_tests) in rw is (omega arith)
 own_counts actor (last ∷ more) entry before own =
     let less = own_counts actor more entry before own in
-    elim (cases_Bool (last.actor == actor)) [
-      | inl is ↦ let e : length (entries_by actor (last ∷ (more ++ entry ∷ before))) ≡ length
-          (last ∷ entries_by actor (more ++ entry ∷ before)) =
-          ap length (own_entry actor last (more ++ entry ∷ before) is) in omega (arith, less, e)
-      | inr not ↦ let e : length (entries_by actor (last ∷ (more ++ entry ∷ before))) ≡ length
-          (entries_by actor (more ++ entry ∷ before)) =
-          ap length (other_entry actor last (more ++ entry ∷ before) not) in omega (arith, less, e)
-    ]
+    elim (cases_Bool (last.actor == actor)) [ inl is ↦ rw is (omega arith) | inr not ↦ rw not (omega arith) ]
 
 pub own_later : (actor : ℕ) (entry : Entry) (before whole : List Entry) → Begins (entry ∷ before) whole
     → entry.actor ≡ actor → length (entries_by actor before) < length (entries_by actor whole)
-own_later actor entry before whole b own =
-    subst (λ (w : List Entry). length (entries_by actor before) < length (entries_by actor w)) (sym b.1)
-    (own_counts actor b.0 entry before own)
+own_later actor entry before whole b own = rw b.1 (own_counts actor b.0 entry before own)
 
 -- two entries of a processor's in one history with as many of its entries before them are one
 same : (actor : ℕ) (more others : List Entry) (left right : Entry) (before other : List Entry)

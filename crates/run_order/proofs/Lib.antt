@@ -1,14 +1,14 @@
 pub mod Blindness
 pub mod Counts
 pub mod Directness
+pub mod Each
 pub mod Fitting
 pub mod Following
 pub mod Histories
-pub mod Legality
 pub mod Looked
 pub mod Over
 pub mod Phases
-pub mod Runs
+pub mod Placement
 pub mod Settled
 pub mod Steps
 pub mod Traces

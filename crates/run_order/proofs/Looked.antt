@@ -1,12 +1,14 @@
 -- The looks of one processor after another.
-use Rattle.std.proofs.Common.{◌≡◌, ℕ, suc, ◌+◌, ◌<◌, ◌≤◌, List, [], ◌∷◌, ◌++◌, length, take, drop, get_or, set, refl}
-use Rattle.std.proofs.Common.{sym, ◌∙◌, ap, arith}
-use Rattle.board_prelude.proofs.Common.{take_more, drop_more, map-append, length-set, take_all, drop_all, Entry}
+use Rattle.std.proofs.Common.{◌≡◌, ℕ, suc, ◌+◌, ◌<◌, ◌≤◌, List, [], ◌∷◌, length, map, take, drop, get_or, set, sym}
+use Rattle.std.proofs.Common.{◌∙◌, ap, arith}
+use Rattle.board_prelude.proofs.Common.{take_more, drop_more, map-append, length-set, length-map, take_all, drop_all}
+use Rattle.board_prelude.proofs.Common.{get_or-map, map-set, Entry}
 use Rattle.std.proofs.lemmas.List.{drop-set-lt}
 use Rattle.std.proofs.Math.Seq.{take-suc-set}
 use Rattle.run_order.specs.declared.done.Done.{Done}
 use Rattle.run_order.specs.Common.{with_looks, left_after, with_all_looks, all_left, looks_in, all_looks_in}
 use Rattle.run_order.proofs.Counts.{one_of, count_set}
+use Rattle.run_order.proofs.Settled.{AreAll}
 
 -- the looks of the first `k` processors have entered: `old` and `before` were there first, and `rests` and `now` are
 -- there now
@@ -18,10 +20,6 @@ pub record AreLooked (version k : ℕ) (old rests : List (List Done)) (before no
     pub same : length rests ≡ length old
     pub fits : spare + all_looks_in old ≡ room + all_looks_in rests
 
-pub looked_first : (version : ℕ) (old : List (List Done)) (before : List Entry) (room : ℕ)
-    → AreLooked version 0 old old before before room room
-looked_first version old before room = record { placed = refl; left = refl; ahead = refl; same = refl; fits = refl }
-
 -- the heads of what is ahead
 head_same : (k : ℕ) (xs ys : List (List Done)) → k < length xs → length xs ≡ length ys → drop k xs ≡ drop k ys →
     (get_or xs k [] ≡ get_or ys k []) × (drop (k + 1) xs ≡ drop (k + 1) ys)
@@ -30,58 +28,43 @@ head_same k xs ys less same ahead =
     ∙ (ahead ∙ drop_more ys k [] (omega (arith, less, same))) in
     (cc (e), cc (e))
 
-pub looked_next : (version k : ℕ) (old rests : List (List Done)) (before now : List Entry) (room spare : ℕ)
-    → AreLooked version k old rests before now room spare →
-    k < length rests → (left : List Done) (now' : List Entry) (spare' : ℕ)
-    → left ≡ left_after version (get_or rests k []) → now' ≡ with_looks version k (get_or rests k []) now →
-    spare' + looks_in (get_or rests k []) ≡ spare + looks_in left
-    → AreLooked version (k + 1) old (set rests k left) before now' room spare'
-unfolding with_all_looks
-looked_next version k old rests before now room spare so less left now' spare' left_is now_is spare_is =
-    let head = head_same k rests old less so.same so.ahead in
-    let past : drop (k + 1) (set rests k left) ≡ drop (k + 1) rests = drop-set-lt (k + 1) rests k left (omega arith) in
-    let looks : with_all_looks version k (drop k rests) now ≡ with_all_looks version (k + 1) (drop (k + 1) rests)
-    (with_looks version k (get_or rests k []) now) =
-    ap (λ (r : List (List Done)). with_all_looks version k r now) (drop_more rests k [] less) in
-    let more : take (k + 1) old ≡ take k old ++ get_or old k [] ∷ [] =
-    take_more old k [] (omega (arith, less, so.same)) in
-    let count = count_set rests k left less in
-    let next : k + 1 ≡ suc k = omega arith in
-    record {
-      placed = ap (λ (r : List (List Done)). with_all_looks version (k + 1) r now') past
-          ∙ (ap (with_all_looks version (k + 1) (drop (k + 1) rests)) now_is ∙ (sym looks ∙ so.placed));
-      left = ap (λ (n : ℕ). take n (set rests k left)) next
-          ∙ (take-suc-set rests k left less
-          ∙ (ap (λ (r : List (List Done)). r ++ left ∷ []) so.left
-          ∙ (ap (λ (l : List Done). all_left version (take k old) ++ l ∷ []) (left_is ∙ ap (left_after version) head.0)
-          ∙ (sym (map-append (left_after version) (take k old) (get_or old k [] ∷ []))
-          ∙ ap (all_left version) (sym more)))));
-      ahead = past ∙ head.1;
-      same = length-set rests k left ∙ so.same;
-      fits = omega (arith, count, spare_is, so.fits);
-    }
+module _ {X : Type 0} (f : X → List Done) (version k : ℕ) (old : List (List Done)) (xs : List X)
+    (before now : List Entry) (room spare : ℕ) (so : AreLooked version k old (map f xs) before now room spare) where
+  pub looked_next : (x none : X) (now' : List Entry) (spare' : ℕ) → k < length xs
+      → f x ≡ left_after version (f (get_or xs k none)) → now' ≡ with_looks version k (f (get_or xs k none)) now
+      → spare' + looks_in (f (get_or xs k none)) ≡ spare + looks_in (f x)
+      → AreLooked version (k + 1) old (map f (set xs k x)) before now' room spare'
+  unfolding with_all_looks
+  looked_next x none now' spare' less left_is now_is spare_is =
+      let rests : List (List Done) = map f xs in
+      let few : k < length rests = omega (arith, less, length-map xs f) in
+      let head = head_same k rests old few so.same so.ahead in
+      let one : get_or rests k [] ≡ f (get_or xs k none) = get_or-map f xs k none [] less in
+      let past : drop (k + 1) (set rests k (f x)) ≡ drop (k + 1) rests =
+      drop-set-lt (k + 1) rests k (f x) (omega arith) in
+      let count = count_set rests k (f x) few in let next : k + 1 ≡ suc k = omega arith in
+      let more = take_more old k [] (omega (arith, few, so.same)) in
+      let joined = map-append (left_after version) (take k old) (get_or old k [] ∷ []) in
+      rw (map-set f xs k x) (record {
+        placed = rw (past, now_is) (rw (drop_more rests k [] few, one) at so.placed);
+        left = rw (more, next, take-suc-set rests k (f x) few, so.left, left_is, ← one, head.0) (sym joined);
+        ahead = past ∙ head.1;
+        same = length-set rests k (f x) ∙ so.same;
+        fits = omega (arith, count, ap looks_in one, spare_is, so.fits);
+      })
 
--- all of them
-pub record AllLooked (version : ℕ) (old rests : List (List Done)) (before now : List Entry) (room spare : ℕ) : Type 0
-  where
-    pub placed : now ≡ with_all_looks version 0 old before
-    pub left : rests ≡ all_left version old
-    pub fits : spare + all_looks_in old ≡ room + all_looks_in rests
+  -- there is room for the next
+  pub looked_fits : (none : X) → k < length xs → all_looks_in old ≤ room → looks_in (f (get_or xs k none)) ≤ spare
+  looked_fits none less fits = omega (arith, one_of f xs k none less, so.fits, fits)
 
-pub looked_last : (version k : ℕ) (old rests : List (List Done)) (before now : List Entry) (room spare : ℕ)
-    → AreLooked version k old rests before now room spare →
-    length rests ≤ k → AllLooked version old rests before now room spare
-unfolding with_all_looks
-looked_last version k old rests before now room spare so past = record {
-  placed = sym (ap (λ (r : List (List Done)). with_all_looks version k r now) (drop_all k rests past)) ∙ so.placed;
-  left = sym (take_all k rests past)
-      ∙ (so.left ∙ ap (all_left version) (take_all k old (omega (arith, past, so.same))));
-  fits = so.fits;
-}
-
--- there is room for the next
-pub looked_fits : (version k : ℕ) (old rests : List (List Done)) (before now : List Entry) (room spare : ℕ)
-    → AreLooked version k old rests before now room spare →
-    k < length rests → all_looks_in old ≤ room → looks_in (get_or rests k []) ≤ spare
-looked_fits version k old rests before now room spare so less fits = let one = one_of rests k less in
-    omega (arith, one, so.fits, fits)
+  -- all of them
+  pub looked_last : length xs ≤ k → AreAll version old (map f xs) before now room spare
+  unfolding with_all_looks
+  looked_last past =
+      let rests : List (List Done) = map f xs in
+      let all : length rests ≤ k = omega (arith, past, length-map xs f) in
+      record {
+        placed = rw (drop_all k rests all) at so.placed;
+        left_is = rw (take_all k rests all, take_all k old (omega (arith, all, so.same))) at so.left;
+        room = so.fits;
+      }

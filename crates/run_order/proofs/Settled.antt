@@ -1,13 +1,15 @@
 -- Lists in which no look is due.
-use Rattle.std.proofs.Common.{◌≡◌, ℕ, zero, suc, ◌+◌, ◌-◌, ◌<◌, nat_le, false, List, [], ◌∷◌, length, All, drop, get_or}
-use Rattle.std.proofs.Common.{set, refl, sym, ◌∙◌, ap, subst, arith, inl, inr}
-use Rattle.board_prelude.proofs.Common.{cases_Bool, nat_tests, length-map, get_or-set_other, Entry, next_entry}
+use Rattle.std.proofs.Common.{◌≡◌, ℕ, zero, suc, ◌+◌, ◌-◌, ◌<◌, ◌≤◌, nat_le, false, List, [], ◌∷◌, length, All, drop}
+use Rattle.std.proofs.Common.{get_or, map, set, refl, sym, ◌∙◌, ap, arith, inl, inr}
+use Rattle.board_prelude.proofs.Common.{cases_Bool, nat_tests, length-map, get_or-map, map-set, get_or-set_other}
+use Rattle.board_prelude.proofs.Common.{drop_more, drop_all, All-get_or, Entry, next_entry}
 use Rattle.run_order.specs.declared.done.Done.{Done}
 use Rattle.run_order.specs.declared.done.Done.TheVariants.{Went, Looked}
-use Rattle.run_order.specs.Common.{with_looks, left_after, with_all_looks, all_left, done_by, without_first, passed}
-use Rattle.run_order.specs.Common.{noted, placed, looks_in, all_looks_in, IsNotDue, IsSettled, IsSettledBut}
+use Rattle.run_order.specs.Common.{with_looks, left_after, with_all_looks, all_left, without_first, noted, placed}
+use Rattle.run_order.specs.Common.{done_by, passed}
+use Rattle.run_order.specs.Common.{looks_in, all_looks_in, IsNotDue, IsSettled, IsSettledBut}
 use Rattle.run_order.proofs.Counts.{count_set}
-use Rattle.run_order.proofs.Steps.{ArePlaced, placed_step}
+use Rattle.run_order.proofs.Steps.{from_first, no_more_looks}
 
 -- ---- what one processor did
 
@@ -21,39 +23,28 @@ not_due_left version (Looked kind addr smm look ∷ done) =
       | inr not ↦ rw not (let less : version < look.version = grind (arith, nat_tests) in less)
     ]
 
-not_due_placed : (version actor : ℕ) (done : List Done) (history : List Entry) → IsNotDue version done
-    → with_looks version actor done history ≡ history
-unfolding with_looks
-not_due_placed version actor [] history not = refl
-not_due_placed version actor (Went after event ∷ done) history not = refl
-not_due_placed version actor (Looked kind addr smm look ∷ done) history not =
-    let no : nat_le look.version version ≡ false = grind (arith, nat_tests) in rw no refl
-
-not_due_same : (version : ℕ) (done : List Done) → IsNotDue version done → left_after version done ≡ done
-unfolding left_after
-not_due_same version [] not = refl
-not_due_same version (Went after event ∷ done) not = refl
-not_due_same version (Looked kind addr smm look ∷ done) not =
-    let no : nat_le look.version version ≡ false = grind (arith, nat_tests) in rw no refl
+not_due : (version actor : ℕ) (done : List Done) (history : List Entry) → IsNotDue version done
+    → (with_looks version actor done history ≡ history) × (left_after version done ≡ done)
+unfolding with_looks left_after
+not_due version actor [] history not = (refl, refl)
+not_due version actor (Went after event ∷ done) history not = (refl, refl)
+not_due version actor (Looked kind addr smm look ∷ done) history not =
+    let no : nat_le look.version version ≡ false = grind (arith, nat_tests) in rw no (refl, refl)
 
 -- ---- what all did
-
-settled_tail : (version : ℕ) (done : List Done) (rests : List (List Done)) → IsSettled version (done ∷ rests)
-    → IsSettled version rests
-settled_tail version done rests so = λ k. so (suc k)
 
 pub settled_placed : (version first : ℕ) (rests : List (List Done)) (history : List Entry) → IsSettled version rests
     → with_all_looks version first rests history ≡ history
 unfolding with_all_looks
 settled_placed version first [] history so = refl
 settled_placed version first (done ∷ rests) history so =
-    ap (with_all_looks version (first + 1) rests) (not_due_placed version first done history (so 0))
-    ∙ settled_placed version (first + 1) rests history (settled_tail version done rests so)
+    rw ((not_due version first done history (so 0)).0)
+    (settled_placed version (first + 1) rests history (λ k. so (suc k)))
 
 pub settled_left : (version : ℕ) (rests : List (List Done)) → IsSettled version rests → all_left version rests ≡ rests
 settled_left version [] so = refl
 settled_left version (done ∷ rests) so =
-    λ t. not_due_same version done (so 0) t ∷ settled_left version rests (settled_tail version done rests so) t
+    λ t. (not_due version 0 done [] (so 0)).1 t ∷ settled_left version rests (λ k. so (suc k)) t
 
 pub settled_more : (version : ℕ) (done : List Done) (rests : List (List Done)) → IsNotDue version done
     → IsSettled version rests → (k : ℕ)
@@ -69,39 +60,26 @@ left_is_settled version (done ∷ rests) =
 
 -- ---- where a look can be due in one list alone
 
-but_tail : (version k : ℕ) (done : List Done) (rests : List (List Done)) → IsSettledBut version (suc k) (done ∷ rests)
-    → IsSettledBut version k rests
-but_tail version k done rests so = λ j other. so (suc j) (λ e. other (cc e))
-
-but_first : (version : ℕ) (done : List Done) (rests : List (List Done)) → IsSettledBut version 0 (done ∷ rests)
-    → IsSettled version rests
-but_first version done rests so = λ j. so (suc j) (λ e. absurd (omega (arith, e)))
-
-one_placed : (version first k : ℕ) (rests : List (List Done)) (history : List Entry) → IsSettledBut version k rests
+one_looks : (version first k : ℕ) (rests : List (List Done)) (history : List Entry) → IsSettledBut version k rests
     → k < length rests
-    → with_all_looks version first rests history ≡ with_looks version (first + k) (get_or rests k []) history
+    → (with_all_looks version first rests history ≡ with_looks version (first + k) (get_or rests k []) history)
+    × (all_left version rests ≡ set rests k (left_after version (get_or rests k [])))
 unfolding with_all_looks
-one_placed version first k [] history so less = absurd (omega (arith, less))
-one_placed version first zero (done ∷ rests) history so less =
+one_looks version first k [] history so less = absurd (omega (arith, less))
+one_looks version first zero (done ∷ rests) history so less =
     let at : first ≡ first + 0 = omega arith in
-    settled_placed version (first + 1) rests (with_looks version first done history) (but_first version done rests so)
-    ∙ ap (λ (n : ℕ). with_looks version n done history) at
-one_placed version first (suc k) (done ∷ rests) history so less =
+    let others : IsSettled version rests = λ j. so (suc j) (λ e. cc) in (
+      settled_placed version (first + 1) rests (with_looks version first done history) others
+          ∙ ap (λ (n : ℕ). with_looks version n done history) at,
+      ap (λ (r : List (List Done)). left_after version done ∷ r) (settled_left version rests others),
+    )
+one_looks version first (suc k) (done ∷ rests) history so less =
     let at : first + 1 + k ≡ first + suc k = omega arith in
-    ap (with_all_looks version (first + 1) rests)
-    (not_due_placed version first done history (so 0 (λ e. absurd (omega (arith, e)))))
-    ∙ (one_placed version (first + 1) k rests history (but_tail version k done rests so) (omega (arith, less))
-    ∙ ap (λ (n : ℕ). with_looks version n (get_or rests k []) history) at)
-
-one_left : (version k : ℕ) (rests : List (List Done)) → IsSettledBut version k rests → k < length rests
-    → all_left version rests ≡ set rests k (left_after version (get_or rests k []))
-one_left version k [] so less = absurd (omega (arith, less))
-one_left version zero (done ∷ rests) so less =
-    ap (λ (r : List (List Done)). left_after version done ∷ r)
-    (settled_left version rests (but_first version done rests so))
-one_left version (suc k) (done ∷ rests) so less =
-    λ t. not_due_same version done (so 0 (λ e. absurd (omega (arith, e)))) t ∷ one_left version k rests
-    (but_tail version k done rests so) (omega (arith, less)) t
+    let one = not_due version first done history (so 0 (λ e. cc)) in
+    let more = one_looks version (first + 1) k rests history (λ j other. so (suc j) (λ e. other (cc e)))
+    (omega (arith, less)) in
+    rw (one.0, one.1) (more.0 ∙ ap (λ (n : ℕ). with_looks version n (get_or rests k []) history) at,
+    ap (λ (r : List (List Done)). done ∷ r) more.1)
 
 -- one processor's looks are those of all
 pub record AreAll (version : ℕ) (rests left : List (List Done)) (before now : List Entry) (spare spare' : ℕ) : Type 0
@@ -110,22 +88,31 @@ pub record AreAll (version : ℕ) (rests left : List (List Done)) (before now : 
     pub left_is : left ≡ all_left version rests
     pub room : spare' + all_looks_in rests ≡ spare + all_looks_in left
 
-pub one_is_all : (version k : ℕ) (rests : List (List Done)) (before now : List Entry) (spare spare' : ℕ)
-    (left : List Done) → IsSettledBut version k rests → k < length rests
-    → left ≡ left_after version (get_or rests k []) → now ≡ with_looks version k (get_or rests k []) before
-    → spare' + looks_in (get_or rests k []) ≡ spare + looks_in left
-    → AreAll version rests (set rests k left) before now spare spare'
-one_is_all version k rests before now spare spare' left so less left_is now_is room_is =
+pub one_is_all : {X : Type 0} (f : X → List Done) (xs : List X) (x none : X) (version k actor : ℕ)
+    (before now : List Entry) (spare spare' : ℕ) → k ≡ actor → IsSettledBut version actor (map f xs) → k < length xs
+    → f x ≡ left_after version (f (get_or xs k none)) → now ≡ with_looks version actor (f (get_or xs k none)) before
+    → spare' + looks_in (f (get_or xs k none)) ≡ spare + looks_in (f x)
+    → AreAll version (map f xs) (map f (set xs k x)) before now spare spare'
+one_is_all f xs x none version k actor before now spare spare' is so' less left_is now_is room_is =
+    let rests : List (List Done) = map f xs in let so : IsSettledBut version k rests = rw is so' in
     let at : 0 + k ≡ k = omega arith in
-    let count = count_set rests k left less in
-    record {
-      placed = now_is ∙ (ap (λ (n : ℕ). with_looks version n (get_or rests k []) before) (sym at)
-          ∙ sym (one_placed version 0 k rests before so less));
-      left_is = ap (set rests k) left_is ∙ sym (one_left version k rests so less);
-      room = omega (arith, count, room_is);
-    }
+    let few : k < length rests = omega (arith, less, length-map xs f) in
+    let one : get_or rests k [] ≡ f (get_or xs k none) = get_or-map f xs k none [] less in
+    let looks = rw (at, one) at (one_looks version 0 k rests before so few) in
+    let count = count_set rests k (f x) few in
+    rw (map-set f xs k x) (record {
+      placed = now_is ∙ (ap (λ (n : ℕ). with_looks version n (f (get_or xs k none)) before) (sym is) ∙ sym looks.0);
+      left_is = ap (set rests k) left_is ∙ sym looks.1;
+      room = omega (arith, count, ap looks_in one, room_is);
+    })
 
 -- ---- one entry of the bus after another
+
+-- the first `i` entries of the bus have entered
+pub record ArePlaced (later : List Entry) (i start version : ℕ) (old rests : List (List Done)) (before now : List Entry)
+    (spare : ℕ) : Type 0 where
+  pub placed_on : placed version (drop i later) rests now ≡ placed start later old before
+  pub fits : length later + all_looks_in rests ≤ spare + i
 
 placed_again : (version : ℕ) (later : List Entry) (rests : List (List Done)) (history : List Entry)
     → placed version later (all_left version rests) (with_all_looks version 0 rests history) ≡ placed version later
@@ -136,44 +123,58 @@ placed_again version [] rests history = settled_placed version 0 (all_left versi
 placed_again version (entry ∷ later) rests history =
     let before : List Entry = with_all_looks version 0 rests history in
     let left : List (List Done) = all_left version rests in
-    let same : with_all_looks version 0 left before ≡ before = settled_placed version 0 left before
-    (left_is_settled version rests) in
-    let again : all_left version left ≡ left = settled_left version left (left_is_settled version rests) in
-    λ t. placed (noted version (done_by 0 entry.actor (again t))) later (passed 0 entry.actor (again t))
-    (next_entry (same t) entry.actor entry.event entry.reply ∷ same t)
+    let so : IsSettled version left = left_is_settled version rests in
+    rw (settled_placed version 0 left before so, settled_left version left so) refl
 
 -- the looks that are due have entered after the entry
 pub looked_again : (later : List Entry) (i start version : ℕ) (old rests left : List (List Done))
     (before now looked : List Entry) (spare spare' : ℕ)
     → ArePlaced later i start version old rests before now spare → AreAll version rests left now looked spare spare'
     → ArePlaced later i start version old left before looked spare'
-looked_again later i start version old rests left before now looked spare spare' so all =
-    let long : length left ≡ length rests = ap length all.left_is ∙ length-map rests (left_after version) in
+looked_again later i start version old rests left before now looked spare spare' so all = record {
+  placed_on = rw (all.left_is, all.placed) (placed_again version (drop i later) rests now ∙ so.placed_on);
+  fits = omega (arith, so.fits, all.room);
+}
+
+-- an entry enters, before which no look was due
+pub next_placed : {X : Type 0} (f : X → List Done) (xs : List X) (x none : X) (later : List Entry)
+    (i start version version' place spare : ℕ) (old : List (List Done)) (before now next : List Entry) (d : Entry)
+    → ArePlaced later i start version old (map f xs) before now spare → IsSettled version (map f xs)
+    → i < length later → All (λ e. e.actor < length xs) later → place ≡ (get_or later i d).actor
+    → version' ≡ noted version (f (get_or xs place none)) → f x ≡ without_first (f (get_or xs place none))
+    → next ≡ next_entry now (get_or later i d).actor (get_or later i d).event (get_or later i d).reply ∷ now
+    → ArePlaced later (i + 1) start version' old (map f (set xs place x)) before next (spare - 1)
+unfolding placed
+next_placed f xs x none later i start version version' place spare old before now next d so settled less callers
+    place_is version_is rest_is next_is =
+    let rests : List (List Done) = map f xs in let a : ℕ = (get_or later i d).actor in
+    let few : a < length xs = All-get_or (λ (e : Entry). e.actor < length xs) later i d less callers in
+    let first = from_first rests a in
+    let one : get_or rests a [] ≡ f (get_or xs a none) = get_or-map f xs a none [] few in
+    let fewer = no_more_looks f xs place x none rest_is in
+    let step : placed (noted version (done_by 0 a (all_left version rests))) (drop (i + 1) later)
+    (passed 0 a (all_left version rests)) (next_entry (with_all_looks version 0 rests now) a (get_or later i d).event
+    (get_or later i d).reply ∷ with_all_looks version 0 rests now) ≡ placed start later old before =
+    rw (drop_more later i d less) at so.placed_on in
     record {
-      placed_on = (λ t. placed version (drop i later) (all.left_is t) (all.placed t))
-          ∙ (placed_again version (drop i later) rests now ∙ so.placed_on);
-      same = long ∙ so.same;
-      fits = omega (arith, so.fits, all.room);
+      placed_on = rw (next_is, version_is, map-set f xs place x, rest_is, place_is)
+          (rw (settled_left version rests settled, settled_placed version 0 rests now settled, first.0, first.1, one)
+          at step);
+      fits = omega (arith, fewer, so.fits, less);
     }
 
--- no look was due before the entry
-pub next_placed : (later : List Entry) (i start version : ℕ) (old rests : List (List Done)) (before now : List Entry)
-    (spare : ℕ)
-    → ArePlaced later i start version old rests before now spare → IsSettled version rests
-    → i < length later → All (λ e. e.actor < length old) later → (d : Entry) (next : List Entry)
-    → next ≡ next_entry now (get_or later i d).actor (get_or later i d).event (get_or later i d).reply ∷ now
-    → (place version' : ℕ) (rest : List Done) → place ≡ (get_or later i d).actor
-    → version' ≡ noted version (get_or rests place []) → rest ≡ without_first (get_or rests place [])
-    → ArePlaced later (i + 1) start version' old (set rests place rest) before next (spare - 1)
-next_placed later i start version old rests before now spare so settled less callers d next next_is place version' rest
-    place_is version_is rest_is =
-    placed_step later i start version old rests before now spare so less callers d next rests now spare next_is
-    (sym (settled_left version rests settled))
-    (sym (settled_placed version 0 rests now settled)) refl place version' rest place_is version_is rest_is
+pub placed_last : (later : List Entry) (i start version : ℕ) (old rests : List (List Done)) (before now : List Entry)
+    (spare : ℕ) → ArePlaced later i start version old rests before now spare → IsSettled version rests
+    → length later ≤ i → now ≡ placed start later old before
+unfolding placed
+placed_last later i start version old rests before now spare so settled past =
+    let ended : with_all_looks version 0 rests now ≡ placed start later old before =
+    rw (drop_all i later past) at so.placed_on in
+    sym (settled_placed version 0 rests now settled) ∙ ended
 
-pub but_one : (version version' place actor : ℕ) (rests : List (List Done)) (x : List Done) → IsSettled version rests
-    → place ≡ actor → version' ≡ version
-    → IsSettledBut version' actor (set rests place x)
-but_one version version' place actor rests x so place_is version_is =
-    λ k other. subst (λ (v : ℕ). IsNotDue v (get_or (set rests place x) k [])) (sym version_is)
-    (subst (IsNotDue version) (sym (get_or-set_other rests place k x [] (λ e. other (e ∙ place_is)))) (so k))
+pub but_one : {X : Type 0} (f : X → List Done) (xs : List X) (x : X) (version version' place actor : ℕ)
+    → IsSettled version (map f xs) → place ≡ actor → version' ≡ version
+    → IsSettledBut version' actor (map f (set xs place x))
+but_one f xs x version version' place actor so place_is version_is k other =
+    let same = get_or-set_other (map f xs) place k (f x) [] (λ e. other (e ∙ place_is)) in
+    rw (version_is, map-set f xs place x, same) (so k)

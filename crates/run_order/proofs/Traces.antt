@@ -9,12 +9,7 @@ use Rattle.run_order.specs.declared.done.Done.{Done}
 use Rattle.run_order.specs.declared.done.Done.TheVariants.{Went, Looked}
 use Rattle.run_order.proofs.Following.{IsRight, IsCall, Follows}
 use Rattle.run_order.specs.Trace.{Begins, HasMoreWrites, IsLookOf, IsDone, IsClosed}
-use Rattle.run_order.proofs.Histories.{onto, begins_before, begins_trans}
-
-extends_trans : (first middle last : List MapChange) → HasMoreWrites first middle → HasMoreWrites middle last
-    → HasMoreWrites first last
-extends_trans first middle last a b =
-    (b.0 ++ a.0, b.1 ∙ (ap (λ (h : List MapChange). b.0 ++ h) a.1 ∙ sym (append_assoc b.0 a.0 first)))
+use Rattle.run_order.proofs.Histories.{onto, longer_trans, begins_before, begins_trans}
 
 extends_length : (shorter longer : List MapChange) → HasMoreWrites shorter longer → length shorter ≤ length longer
 extends_length shorter longer e = omega (arith, ap length e.1 ∙ length-append e.0 shorter)
@@ -41,9 +36,7 @@ writes_begin setup (entry ∷ more) before =
 
 writes_extend : (setup : Setup) (before whole : List Entry) → Begins before whole
     → HasMoreWrites (map_writes_of setup before) (map_writes_of setup whole)
-writes_extend setup before whole b =
-    subst (λ (h : List Entry). HasMoreWrites (map_writes_of setup before) (map_writes_of setup h)) (sym b.1)
-    (writes_begin setup b.0 before)
+writes_extend setup before whole b = rw b.1 (writes_begin setup b.0 before)
 
 -- a span of one state of the registers is one of each state with the same map bytes
 span_moves : (setup : Setup) (bytes other : Bytes) → IsCardList setup.cards → SameMapBytes setup bytes other
@@ -86,15 +79,14 @@ module _ (setup : Setup) (cards : IsCardList setup.cards) (whole : List Entry) (
       → Follows setup whole actor seen (length known) items
       → Follows setup whole actor opened (version_of setup opened) (onto done items)
   follows_on [] seen known items d b e f =
-      subst (λ (z : List Entry × ℕ). Follows setup whole actor z.0 z.1 items) (λ i. (d.0 i, length (d.1 i))) f
+      rw (d.1, d.0) at f
   follows_on (Looked kind addr smm look ∷ before) seen known items d b e f =
       let older : List MapChange = d.0 in let one = d.1 in
       let less = extends_length older known one.later in
       let most = extends_length known (map_writes_of setup whole) e in
-      let rest : Follows setup whole actor seen look.version items =
-      subst (λ (n : ℕ). Follows setup whole actor seen n items) (sym one.saw.version) f in
+      let rest : Follows setup whole actor seen look.version items = rw (← one.saw.version) at f in
       follows_on before seen older (Looked kind addr smm look ∷ items) d.2 b
-      (extends_trans older known (map_writes_of setup whole) one.later e) (
+      (longer_trans older known (map_writes_of setup whole) one.later e) (
         omega (arith, less, one.saw.version),
         omega (arith, most, one.saw.version),
         right known kind addr smm look one.saw e,
@@ -102,7 +94,7 @@ module _ (setup : Setup) (cards : IsCardList setup.cards) (whole : List Entry) (
       )
   follows_on (Went version event ∷ before) seen known items d b e f =
       let was : List Entry = d.0 in let older : List MapChange = d.1 in let one = d.2 in
-      let place : Begins (one.entry ∷ one.list) whole = subst (λ (h : List Entry). Begins h whole) one.now_is b in
+      let place : Begins (one.entry ∷ one.list) whole = rw one.now_is at b in
       let inside : Begins one.list whole = begins_before one.entry one.list whole place in
       let call : IsCall setup whole actor was (length older) event version one.list one.entry = record {
         own = one.own;
@@ -114,11 +106,9 @@ module _ (setup : Setup) (cards : IsCardList setup.cards) (whole : List Entry) (
         place = place;
       } in
       let rest : Follows setup whole actor (one.entry ∷ one.list) (version_of setup (one.entry ∷ one.list)) items =
-      subst (λ (z : List Entry × ℕ). Follows setup whole actor z.0 z.1 items)
-      (λ i. (one.now_is i, (ap length one.known_is ∙ ap (λ (h : List Entry). version_of setup h) one.now_is) i))
-      f in
+      rw (one.known_is, one.now_is) at f in
       follows_on before was older (Went version event ∷ items) d.5 (begins_trans was one.list whole one.begins inside)
-      (extends_trans older (map_writes_of setup one.list) (map_writes_of setup whole) one.meets
+      (longer_trans older (map_writes_of setup one.list) (map_writes_of setup whole) one.meets
       (writes_extend setup one.list whole inside))
       (one.list, one.entry, call, rest)
 

@@ -1,4 +1,4 @@
-use Rattle.run_order.proofs.Runs.{phase_runs}
+use Rattle.run_order.proofs.Phases.{phase_runs}
 use Rattle.run_order.proofs.laws.law_phase_runs.Goals as goal
 
 pub returns : goal.returns

@@ -1,5 +1,4 @@
-use Rattle.std.proofs.Common.{ℕ, ◌<◌, ◌∷◌, length, get_or, sym, ◌∙◌, ap, arith}
-use Rattle.board_prelude.proofs.Common.{Entry, next_entry}
+use Rattle.std.proofs.Common.{◌≡◌, ◌<◌, length, get_or, sym, arith}
 use Rattle.run_order.specs.Over.{nowhere, over}
 use Rattle.run_order.proofs.Unlooked.{begin_step}
 use Rattle.run_order.proofs.order.RunOrder.begin.Goals as goal
@@ -8,13 +7,9 @@ pub loop-i-preserved : goal.loop-i-preserved
 loop-i-preserved c =
     let l = c.loop-i in
     let entries = c.args.entries.now in
-    let bus : ℕ → Entry = λ n. get_or entries n nowhere in
     let less : l.i < length entries = omega (arith, c.loop-i-test.true, c.len-i-end.ensures.length) in
-    let is = sym (c.entry.ensures.entry nowhere) in
-    let at = ap bus l.invariant.bus in
-    let pushed = c.push_bus.ensures.pushed entries
-    ∙ (λ t. next_entry (over entries l.order.entries) (is t).actor (at t).event (at t).reply ∷ over entries
-    l.order.entries) in
+    let own : c.entry.result ≡ get_or entries l.i nowhere = sym (c.entry.ensures.entry nowhere) in
+    let pushed = rw (own, l.invariant.bus) at (c.push_bus.ensures.pushed entries) in
     record {
       same = begin_step c.requires.legal.0 entries l.i nowhere c.requires.legal.1 less (over entries l.order.entries)
           l.invariant.same _ pushed;

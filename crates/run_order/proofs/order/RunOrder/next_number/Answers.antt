@@ -1,4 +1,4 @@
-use Rattle.std.proofs.Common.{ℕ, ◌+◌, ◌<◌, ◌^◌, ◌≤◌, length, ◌∙◌, ap, arith, reverse, slice_index, vec_capacity}
+use Rattle.std.proofs.Common.{ℕ, ◌+◌, length, ◌∙◌, ap, arith, slice_index}
 use Rattle.board_spec.specs.Legal.{entries_by}
 use Rattle.run_order.specs.Common.{over, Order}
 use Rattle.run_order.proofs.Counts.{number_fits}
@@ -6,13 +6,8 @@ use Rattle.run_order.proofs.order.RunOrder.next_number.Goals as goal
 
 pub overflow_add-result : goal.overflow_add-result
 overflow_add-result c =
-    let old = c.self.inside in
-    let some : 1 ≤ old.spare = rw (ap (λ (o : Order). o.spare) c.self.view_is) c.requires.room in
-    let fits : slice_index old.counts c.from.result + 1 < 2 ^ 32 =
-    number_fits (record { entries = reverse old.entries.items; spare = old.spare; bus = old.bus })
-    (vec_capacity old.entries) old.counts c.args.actor c.from.result c.from.ensures
-    c.requires.actor some c.self.invariant in
-    omega arith
+    let fits = number_fits c.args.actor c.from.result c.from.ensures c.requires.actor c.self.invariant in
+    omega (arith, fits, ap (λ (o : Order). o.spare) c.self.view_is, c.requires.room)
 
 pub returns : goal.returns
 returns c = record {

@@ -1,6 +1,6 @@
 use Rattle.std.proofs.Common.{◌≡◌, ◌+◌, map}
 use Rattle.run_order.specs.Common.{over, in_all, IsSettled}
-use Rattle.run_order.proofs.Steps.{ArePlaced}
+use Rattle.run_order.proofs.Settled.{ArePlaced}
 use Rattle.run_order.proofs.order.RunOrder.place_all.Given as goal
 
 abbrev pub invariant-loop-i : goal.invariant-loop-i

@@ -1,4 +1,4 @@
-use Rattle.std.proofs.Common.{rules, ◌≡◌, ◌+◌, ◌<◌, ◌^◌, ◌≤◌, [], ◌∷◌, ◌++◌, length, ap, arith, reverse, slice_index}
+use Rattle.std.proofs.Common.{rules, ◌+◌, ◌≤◌, ap, arith}
 use Rattle.std.proofs.Common.{vec_capacity}
 use Rattle.run_order.specs.Room.{Order}
 use Rattle.run_order.proofs.Counts.{number_fits, order_more}
@@ -6,13 +6,8 @@ use Rattle.run_order.proofs.order.RunOrder.push.Goals as goal
 
 pub overflow_add-self : goal.overflow_add-self
 overflow_add-self c =
-    let old = c.self.inside in
-    let some : 1 ≤ old.spare = rw (ap (λ (o : Order). o.spare) c.self.view_is) c.requires.room in
-    let fits : slice_index old.counts c.from.result + 1 < 2 ^ 32 =
-    number_fits (record { entries = reverse old.entries.items; spare = old.spare; bus = old.bus })
-    (vec_capacity old.entries) old.counts c.args.actor c.from.result c.from.ensures
-    c.requires.actor some c.self.invariant in
-    omega arith
+    let fits = number_fits c.args.actor c.from.result c.from.ensures c.requires.actor c.self.invariant in
+    omega (arith, fits, ap (λ (o : Order). o.spare) c.self.view_is, c.requires.room)
 
 pub invariant_of-self : goal.invariant_of-self
 invariant_of-self c =
@@ -20,9 +15,6 @@ invariant_of-self c =
     let some : 1 ≤ old.spare = rw (ap (λ (o : Order). o.spare) c.self.view_is) c.requires.room in
     let least : old.bus ≤ c.args.bus = rw (ap (λ (o : Order). o.bus) c.self.view_is) c.requires.least in
     let next : c.args.bus ≤ old.bus + 1 = rw (ap (λ (o : Order). o.bus) c.self.view_is) c.requires.next in
-    let items : c.push.new.self.items ≡ old.entries.items ++ c.args.entry ∷ [] = search rules in
-    let eight : length old.counts ≡ 8 = search rules in
-    order_more old.entries.items c.push.new.self.items old.spare old.bus (vec_capacity old.entries)
-    (vec_capacity c.push.new.self) old.counts c.args.actor c.from.result c.args.entry c.args.bus
-    c.self.invariant items c.push.ensures.capacity eight c.from.ensures c.requires.actor c.requires.own
-    c.requires.within least next some
+    order_more old.entries.items c.push.new.self.items (vec_capacity c.push.new.self) c.args.actor c.from.result
+    c.args.entry c.args.bus c.self.invariant (search rules) c.push.ensures.capacity (search rules) c.from.ensures
+    c.requires.actor c.requires.own c.requires.within least next some

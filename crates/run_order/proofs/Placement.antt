@@ -1,0 +1,178 @@
+-- The placed history is legal, is the bus's without its looks, has each look in its place and each processor's events.
+use Rattle.std.proofs.Common.{◌≡◌, ℕ, ◌+◌, ◌<◌, ◌≤◌, nat_le, List, [], ◌∷◌, ◌++◌, map, length, All, refl, sym, ◌∙◌, ap, subst}
+use Rattle.std.proofs.Common.{arith, inl, inr}
+use Rattle.board_prelude.proofs.Common.{cases_Bool, nat_tests, Saw, Entry, Setup, version_of, IsNext, IsLegal, next_entry}
+use Rattle.board_spec.specs.declared.event.Event.TheVariants.{Look as LookAt}
+use Rattle.run_order.specs.declared.done.Done.{Done}
+use Rattle.run_order.specs.declared.done.Done.TheVariants.{Went, Looked}
+use Rattle.run_order.specs.Common.{is_look, event_of, with_looks, left_after, with_all_looks, all_left, done_by, passed}
+use Rattle.run_order.specs.Common.{placed, AreInPlace, bare, AnswersAreBlind}
+use Rattle.run_order.proofs.Histories.{onto, legal_front}
+use Rattle.run_order.proofs.Blindness.{version_same}
+use Rattle.run_order.proofs.Fitting.{Due, Fits, FirstLook, first_goes, first_all, Late}
+use Rattle.run_order.proofs.Each.{Each, each_goes, each_all, passed_each, none_at, Beside, pass, own_head, few_left}
+use Rattle.run_order.proofs.Each.{few_passed}
+use Rattle.run_order.proofs.Wholes.{own, all_own, call_own}
+use Rattle.run_order.proofs.Directness.{AreLower, EndsBare, ends_bare, lower_out, lower_on, call_in_place, Direct}
+use Rattle.run_order.proofs.Directness.{left_late, own_direct, direct_moves, write_direct}
+
+-- `final` is a history and the entries `since` then, and has the bus's history `before`
+pub record Holds (setup : Setup) (history before since final : List Entry) : Type 0 where
+  pub is : final ≡ since ++ history
+  pub legal : IsLegal setup final
+  pub bare : bare final ≡ bare before
+  pub places : AreInPlace setup history since
+
+-- the same with looks of processors below `first` after the entries `since`
+record HaveLooks (setup : Setup) (history before since : List Entry) (first : ℕ) (final : List Entry) : Type 0 where
+  pub looks : List Entry
+  pub holds : Holds setup history before (looks ++ since) final
+  pub lower : AreLower first looks
+
+-- the phase was placed after `final`, and gave `all`
+pub record HasPlaced (setup : Setup) (history whole : List Entry) (rests : List (List Done)) (final all : List Entry)
+    : Type 0 where
+  pub added : List Entry
+  pub holds : Holds setup history whole added all
+  pub own : (c : ℕ) → own c all ≡ onto (map event_of (done_by 0 c rests)) (own c final)
+
+bare_bus : (entry : Entry) (before final : List Entry) → bare final ≡ bare before
+    → bare (next_entry final entry.actor entry.event entry.reply ∷ final) ≡ bare (entry ∷ before)
+unfolding bare
+bare_bus entry before final same =
+    elim (cases_Bool (is_look entry.event)) [
+      | inl is ↦ rw is same
+      | inr not ↦ rw not (ap (λ (h : List Entry). record entry { seq = 0 } ∷ h) same)
+    ]
+
+module _ (blind : AnswersAreBlind) (setup : Setup) (history : List Entry) where
+  module _ (before since : List Entry) (ends : EndsBare since) where
+    with_looks_hold : (actor : ℕ) (K : List Done → Type 0) (items : List Done) (final : List Entry)
+        (have : HaveLooks setup history before since (actor + 1) final) → Due setup before K items
+        → FirstLook (Direct setup history (version_of setup before) actor (have.looks ++ since)) items
+        → HaveLooks setup history before since (actor + 1) (with_looks (version_of setup before) actor items final)
+        × K (left_after (version_of setup before) items)
+    unfolding with_looks left_after bare
+    with_looks_hold actor K [] final have due first = (have, due)
+    with_looks_hold actor K (Went after event ∷ items) final have due first = (have, due)
+    with_looks_hold actor K (Looked kind addr smm look ∷ items) final have due first =
+        let h = have.holds in let v : ℕ = version_of setup before in
+        let entry : Entry = next_entry final actor (LookAt kind addr smm) (Saw look) in
+        elim (cases_Bool (nat_le look.version (version_of setup before))) [
+          | inl is ↦
+              let low : look.version ≤ version_of setup before = grind (arith, nat_tests) in
+              let now = rw is at due in
+              rw is (with_looks_hold actor K items (entry ∷ final) (record {
+                looks = entry ∷ have.looks;
+                holds = record {
+                  is = ap (λ (l : List Entry). entry ∷ l) h.is;
+                  legal = (
+                    record {
+                      number = refl;
+                      answer = blind setup final before h.bare (LookAt kind addr smm) (Saw look) now.0;
+                    },
+                    h.legal,
+                  );
+                  bare = h.bare;
+                  places = (first low, h.places);
+                };
+                lower = (refl, omega arith, have.lower);
+              }) now.1 (first_all (Direct setup history v actor (entry ∷ have.looks ++ since))
+              (λ n. own_direct setup history v n entry (have.looks ++ since)) items))
+          | inr not ↦ rw not (have, rw not at due)
+        ]
+
+    all_looks_hold : (K : ℕ → List Done → Type 0) (rests : List (List Done)) (first : ℕ) (final : List Entry)
+        → HaveLooks setup history before since first final → Each (λ a items. Due setup before (K a) items) first rests
+        → Each (λ a. FirstLook (Direct setup history (version_of setup before) a since)) first rests
+        → ((last : ℕ) × HaveLooks setup history before since last
+        (with_all_looks (version_of setup before) first rests final))
+        × Each K first (all_left (version_of setup before) rests)
+    unfolding with_all_looks
+    all_looks_hold K [] first final have due direct = ((first, have), tt)
+    all_looks_hold K (items ∷ rests) first final have due direct =
+        let v : ℕ = version_of setup before in
+        let out = lower_out first have.looks since have.lower ends ∙ sym (ends_bare first since ends) in
+        let one = with_looks_hold first (K first) items final
+        (record { looks = have.looks; holds = have.holds; lower = lower_on first have.looks have.lower }) due.0
+        (first_goes (Direct setup history v first since) (Direct setup history v first (have.looks ++ since))
+        (λ n. direct_moves setup history v first n (have.looks ++ since) since out) items direct.0) in
+        let more = all_looks_hold K rests (first + 1) (with_looks v first items final) one.0 due.1 direct.1 in
+        (more.0, (one.1, more.1))
+
+  placed_holds : (later before : List Entry) (rests : List (List Done)) (final since : List Entry) → EndsBare since
+      → Holds setup history before since final → IsLegal setup (onto later before)
+      → All (λ e. e.actor < length rests) later → Each (λ a. Fits setup a before later) 0 rests
+      → Each (λ a. FirstLook (Direct setup history (version_of setup before) a since)) 0 rests
+      → HasPlaced setup history (onto later before) rests final (placed (version_of setup before) later rests final)
+  unfolding placed
+  placed_holds [] before rests final since ends holds legal few fit direct =
+      let v : ℕ = version_of setup before in
+      let here = all_looks_hold before since ends (λ _ rest. rest ≡ []) rests 0 final
+      (record { looks = []; holds = holds; lower = tt }) fit direct in
+      record {
+        added = here.0.1.looks ++ since;
+        holds = here.0.1.holds;
+        own = λ c. ap (λ (items : List Done). onto (map event_of items) (own c (with_all_looks v 0 rests final)))
+            (sym (none_at (all_left v rests) 0 c here.1)) ∙ all_own v rests 0 c final;
+      }
+  placed_holds (entry ∷ later) before rests final since ends holds legal few fit direct =
+      let v : ℕ = version_of setup before in let v' : ℕ = version_of setup (entry ∷ before) in
+      let left : List (List Done) = all_left v rests in
+      let looked : List Entry = with_all_looks v 0 rests final in
+      let new : Entry = next_entry looked entry.actor entry.event entry.reply in
+      let here = all_looks_hold before since ends (Beside setup entry before later) rests 0 final
+      (record { looks = []; holds = holds; lower = tt }) fit direct in
+      let have = here.0.1 in let then : List Entry = have.looks ++ since in
+      let head = own_head setup entry before later left (few_left v entry later rests few) here.1 in
+      let next : IsNext setup before entry = (legal_front setup later (entry ∷ before) legal).0 in
+      let same = bare_bus entry before looked have.holds.bare in
+      let old_version : version_of setup (then ++ history) ≡ v =
+      ap (version_of setup) (sym have.holds.is) ∙ version_same setup looked before have.holds.bare in
+      let new_version : version_of setup (new ∷ then ++ history) ≡ v' =
+      ap (λ (h : List Entry). version_of setup (new ∷ h)) (sym have.holds.is)
+      ∙ version_same setup (new ∷ looked) (entry ∷ before) same in
+      let after : Each (λ a. FirstLook (Direct setup history v' a (new ∷ then))) 0 left =
+      each_goes (λ _ items. Late (v + 1) items) (λ a. FirstLook (Direct setup history v' a (new ∷ then)))
+      (λ a. first_goes (λ n. v + 1 ≤ n) (Direct setup history v' a (new ∷ then)) (λ n late.
+      subst (λ (k : ℕ). Direct setup history k a (new ∷ then) n) new_version
+      (write_direct setup history a n new then head.call (omega (arith, old_version, late))))) left 0 (late rests 0) in
+      let rest = placed_holds later (entry ∷ before) (passed 0 entry.actor left) (new ∷ looked) (new ∷ then) head.call
+      (record {
+        is = ap (λ (h : List Entry). new ∷ h) have.holds.is;
+        legal = (
+          record {
+            number = refl;
+            answer = blind setup looked before have.holds.bare entry.event entry.reply next.answer;
+          },
+          have.holds.legal,
+        );
+        bare = same;
+        places = (
+          call_in_place setup history then entry.actor entry.event entry.reply head.call,
+          have.holds.places,
+        );
+      }) legal (few_passed v entry later rests few) (pass setup entry before later left 0 here.1)
+      (passed_each (λ a. FirstLook (Direct setup history v' a (new ∷ then))) entry.actor
+      (first_all (Direct setup history v' entry.actor (new ∷ then)) (λ n. own_direct setup history v' n new then))
+      left 0 after) in
+      rw (head.version_is v) (record {
+        added = rest.added;
+        holds = rest.holds;
+        own = λ c. rest.own c ∙ (call_own c new looked left head.events ∙ all_own v rests 0 c final);
+      })
+    where
+      late : (rests : List (List Done)) (first : ℕ)
+          → Each (λ _ items. Late (version_of setup before + 1) items) first (all_left (version_of setup before) rests)
+      late [] first = tt
+      late (items ∷ rests) first = (left_late (version_of setup before) items, late rests (first + 1))
+
+  pub has_placed : (later before : List Entry) (rests : List (List Done)) → IsLegal setup history
+      → bare history ≡ bare before → IsLegal setup (onto later before) → All (λ e. e.actor < length rests) later
+      → Each (λ a. Fits setup a before later) 0 rests
+      → HasPlaced setup history (onto later before) rests history
+      (placed (version_of setup before) later rests history)
+  has_placed later before rests kept same legal few fit =
+      placed_holds later before rests history [] tt (record { is = refl; legal = kept; bare = same; places = tt }) legal
+      few fit (each_all (λ a. FirstLook (Direct setup history (version_of setup before) a []))
+      (λ a. first_all (Direct setup history (version_of setup before) a []) (λ n due. tt)) rests 0)
