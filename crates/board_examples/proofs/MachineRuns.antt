@@ -1,5 +1,63 @@
-pub mod Pair
-pub mod Timer
-pub mod Clock
-pub mod Routing
-pub mod Disk
+-- The examples of the machines, computed.
+use Rattle.std.proofs.Common.{arith, rules}
+use Rattle.board_examples.specs.Common.{given, told, after_lines, initialised, NobodyIsReady, SpuriousAnswers}
+use Rattle.board_examples.specs.Common.{ALevelStays, AnEdgeIsKept, TheHigherEndsFirst, ANewBeginning, AShortSequence}
+use Rattle.board_examples.specs.Common.{SpecialMask, ChosenRegisters, Polls, PollsOfOne, ResetAtLevels, EachCommand}
+use Rattle.board_examples.specs.Common.{AutomaticEnd, ModesEnd, FullyNested, Cascaded, Ports, AfterReset, ReadBackOf0}
+use Rattle.board_examples.specs.Common.{Counters1And2, OnePeriod, EachMode, EachCount, EachGate, BytesAndLatches}
+use Rattle.board_examples.specs.Common.{AnAlarmStays, AHardReset, AMoment, HourForms, Alarms, Interrupts, EachByte}
+use Rattle.board_examples.specs.Common.{passed, filled, PastTheEnd, BadInTheMiddle, ReadToItsEnd, BadIsWritten}
+use Rattle.board_examples.specs.Common.{WrittenIsGood, WordsOfSector3, LowByteFirst, CommandEnds, WordsTheWrongWay}
+use Rattle.board_examples.specs.Common.{Writes, Resets, Commands, Addresses, Identify, Lengths, DiskPorts}
+use Rattle.board_prelude.proofs.Common.{levels_where, byte_of_levels, pending, first_selectable, request}
+use Rattle.board_prelude.proofs.Common.{chip_after_write, byte_read, chip_after_read, first_blocking, answer_of}
+use Rattle.board_prelude.proofs.Common.{pair_after_acknowledge, begin_read, sector_read, begin_write, sector_written}
+use Rattle.board_prelude.proofs.Common.{verified, obeyed, commanded, after_word, word_written, register_written}
+use Rattle.board_prelude.proofs.Common.{identify_word}
+use Rattle.device_spec.specs.Pit.{mode_numbered, access_numbered, programmed, count_of_number, low_byte, high_byte}
+use Rattle.device_spec.specs.Pit.{element_bytes, status_byte, latch_count, latch_status, control, read_back}
+use Rattle.device_spec.specs.Pit.{read_live, read, asks_for_load, complete, take_low, take_byte, write, gate_rises}
+use Rattle.device_spec.specs.Pit.{gate_falls, load, count_down, count_to_end, count_to_reload, count_half}
+use Rattle.device_spec.specs.Pit.{count_to_strobe, pulse_by_mode, pulse, reset, port_read, read_back_chosen}
+use Rattle.device_spec.specs.Pit.{write_control, port_write, set_gate2, out_of, pulse_all, pulses, rises}
+use Rattle.device_spec.specs.Clock.{power_on}
+use Rattle.device_spec.specs.Routing.{is_line_driven}
+use Rattle.board_examples.specs.Machines.Routing.{RouteBytes, LinesDriven, TriggerBytes}
+use Rattle.device_spec.specs.Ata.Steps.{control_written}
+
+pub pair :
+    NobodyIsReady × SpuriousAnswers × ALevelStays × AnEdgeIsKept × TheHigherEndsFirst × ANewBeginning × AShortSequence
+    × SpecialMask × ChosenRegisters × Polls × PollsOfOne × ResetAtLevels × EachCommand × AutomaticEnd × FullyNested ×
+    Cascaded × ModesEnd
+unfolding NobodyIsReady SpuriousAnswers ALevelStays AnEdgeIsKept TheHigherEndsFirst ANewBeginning AShortSequence
+    SpecialMask ChosenRegisters Polls PollsOfOne ResetAtLevels initialised given told after_lines levels_where
+    byte_of_levels pending first_selectable request chip_after_write byte_read chip_after_read first_blocking
+    answer_of pair_after_acknowledge
+pair = search rules
+
+pub timer :
+    AfterReset × ReadBackOf0 × Counters1And2 × OnePeriod × EachMode × EachCount × EachGate × BytesAndLatches × Ports
+unfolding AfterReset ReadBackOf0 Counters1And2 given told after_lines mode_numbered access_numbered programmed
+    count_of_number low_byte high_byte element_bytes status_byte latch_count latch_status control read_back read_live
+    read asks_for_load complete take_low take_byte write gate_rises gate_falls load count_down count_to_end
+    count_to_reload count_half count_to_strobe pulse_by_mode pulse reset port_read read_back_chosen write_control
+    port_write set_gate2 out_of pulse_all pulses rises
+timer = search (rules, arith)
+
+pub clock :
+    AnAlarmStays × AHardReset × AMoment × HourForms × Alarms × Interrupts × EachByte
+unfolding AnAlarmStays AHardReset given told power_on
+clock = search rules
+
+pub routing :
+    RouteBytes × LinesDriven × TriggerBytes
+unfolding is_line_driven
+routing = search rules
+
+pub disk :
+    (PastTheEnd × BadInTheMiddle × ReadToItsEnd × BadIsWritten × WrittenIsGood × WordsOfSector3 × LowByteFirst ×
+    CommandEnds × WordsTheWrongWay × DiskPorts) × (Writes × Resets × Commands) × (Addresses × Identify × Lengths)
+unfolding PastTheEnd BadInTheMiddle ReadToItsEnd BadIsWritten WrittenIsGood WordsOfSector3 LowByteFirst CommandEnds
+    WordsTheWrongWay given told passed filled begin_read sector_read begin_write sector_written verified obeyed
+    commanded after_word word_written register_written control_written identify_word
+disk = (search rules, search rules, search rules)

@@ -1,131 +1,73 @@
 -- The spans that the worked examples look at.
-use Rattle.std.proofs.Common.{ℕ, ◌≡◌, ◌+◌, ◌*◌, ◌/◌, ◌^◌, ◌<◌, ◌≤◌, ◌≢◌, true, false, nat_le, take, refl, arith, eq-eqb}
-use Rattle.std.proofs.Common.{ne_eqb, inr, sym, ◌∙◌}
-use Rattle.board_prelude.proofs.Common.{le-ltb, lt-leb, and-false, div-lt_iff_lt-mul, Read, is_within, byte_of}
-use Rattle.board_prelude.proofs.Common.{config_address, reset_control, reset_byte, writable_bits, host_bridge}
-use Rattle.board_prelude.proofs.Common.{isa_bridge, ide_function, card_function, Window, is_covered, is_rom_selected}
-use Rattle.board_prelude.proofs.Common.{row_of, area_of, memory_claim, IsSpan}
+use Rattle.std.proofs.Common.{ℕ, ◌≡◌, ◌+◌, ◌-◌, ◌*◌, ◌/◌, ◌^◌, ◌<◌, ◌≤◌, ◌≢◌, Bool, true, false, ◌∷◌, [], nat_lt, refl}
+use Rattle.std.proofs.Common.{List, flat_map}
+use Rattle.std.proofs.Common.{arith, eq-eqb, ne_eqb, inr, sym, ◌∙◌}
 use Rattle.std.proofs.Math.Nat.{div-eq_of_lt-le}
-use Rattle.board_base.specs.declared.target.Area.TheVariants.{Card as CardArea, Abort as AbortArea}
-use Rattle.board_examples.specs.Common.{from_reset, two_cards, two_cards_at_one_address, moved_card}
-use Rattle.board_examples.specs.Common.{card_moved_under_the_rom}
-
-pub above : (first last n : ℕ) → last < n → is_within first last n ≡ false
-above first last n is = rw (lt-leb n last is) (and-false (nat_le first n))
-
-pub below : (first last n : ℕ) → n < first → is_within first last n ≡ false
-below first last n is = rw (lt-leb first n is) refl
-
--- with XBCS as after a reset the ROM answers below 1 MiB and in the last 64 KiB alone
-pub no_rom : (x : ℕ) → 0xF_FFFF < x → x < 0xFFFF_0000 → is_rom_selected 0x03 x ≡ false
-no_rom x low high = rw (above 0xF_0000 0xF_FFFF x low, below 0xFFFF_0000 0xFFFF_FFFF x high) refl
+use Rattle.board_prelude.proofs.Common.{nat_tests, div-lt_iff_lt-mul, Kind, is_within, Setup, Bytes, Area, Window}
+use Rattle.board_prelude.proofs.Common.{is_covered, is_rom_selected, is_smram_range, row_of, area_of}
+use Rattle.board_prelude.proofs.Common.{memory_claim, IsSpan, top_of, xbcs, first_of, card_area, option_map}
+use Rattle.board_prelude.proofs.Common.{memory_windows, is_enabled_for}
+use Rattle.board_base.specs.declared.target.Area.TheVariants.{Abort}
 
 pub covers-yes : (x k : ℕ) (window : Window) → window.inside / 2 ^ window.bits ≡ k → k * 2 ^ window.bits ≤ x →
-    x < (k + 1) * 2 ^ window.bits →
-    is_covered x window ≡ true
+    x < (k + 1) * 2 ^ window.bits → is_covered x window ≡ true
 covers-yes x k window is from to = eq-eqb _ _ (is ∙ sym (div-eq_of_lt-le {k = k} (2 ^ window.bits) from to))
 
-less_differs : (a b c : ℕ) → a ≡ c → b < c → a ≢ b
-less_differs a b c is less same = grind (arith, is, less, same)
-
-covers-no : (x k : ℕ) (window : Window) → 0 < 2 ^ window.bits →
+pub covers-no : (x k : ℕ) (window : Window) → 0 < 2 ^ window.bits →
     window.inside / 2 ^ window.bits ≡ k → x < k * 2 ^ window.bits → is_covered x window ≡ false
 covers-no x k window positive is before =
-    ne_eqb _ _ (less_differs (window.inside / 2 ^ window.bits) (x / 2 ^ window.bits) k is
-    ((div-lt_iff_lt-mul {k = 2 ^ window.bits} {x = x} {y = k} positive).1 before))
+    let less : x / 2 ^ window.bits < k = (div-lt_iff_lt-mul {k = 2 ^ window.bits} {x = x} {y = k} positive).1 before in
+    ne_eqb _ _ (λ same. omega (arith, is, same))
 
-pub two_cards_span :
-    IsSpan two_cards (byte_of two_cards (from_reset (take 11 two_cards_at_one_address))) 0xC000_0000 Read false
-    0xC000_0000 0xC000_0FFF (CardArea 2 0)
-unfolding byte_of config_address reset_control reset_byte writable_bits host_bridge isa_bridge ide_function
-    card_function row_of area_of memory_claim
-two_cards_span = record {
-  above = omega arith;
-  below = omega arith;
-  last = omega arith;
-  same = λ x from to.
-      let end : x < 0xC000_1000 = omega arith in
-      let window : Window = record { dev = 2; base = 0; inside = 0xC000_0000; bits = 12 } in
-      let covered : is_covered x window ≡ true = covers-yes x 0xC_0000 window refl from end in
-      rw (
-        le-ltb x 0x80_0000 (omega arith),
-        above 0xA_0000 0xB_FFFF x (omega arith),
-        above 0xA_0000 0xF_FFFF x (omega arith),
-        no_rom x (omega arith) (omega arith),
-        covered,
-      ) refl;
-  begins = inr (λ e. grind (arith, e));
-  ends = inr (λ e. grind (arith, e));
+-- ---- past the memory, and with XBCS as after a reset, the cards alone answer between 1 MiB and the last 64 KiB
+
+pub record IsFar (bytes : Bytes) (addr lo hi : ℕ) : Type 0 where
+  pub begins : lo ≤ addr
+  pub ends : addr ≤ hi
+  pub past_memory : top_of bytes ≤ lo
+  pub past_bios : 0x10_0000 ≤ lo
+  pub before_rom : hi < 0xFFFF_0000
+  pub selected : bytes xbcs ≡ 3
+
+abbrev claimed : Setup → Bytes → ℕ → Area
+claimed setup bytes x = first_of (option_map card_area (memory_claim setup bytes x) ∷ []) Abort
+
+far_area : (setup : Setup) (bytes : Bytes) (addr lo hi : ℕ) (kind : Kind) (smm : Bool) (x : ℕ) →
+    IsFar bytes addr lo hi → lo ≤ x → x ≤ hi → area_of setup bytes x kind smm ≡ claimed setup bytes x
+unfolding area_of row_of
+far_area setup bytes addr lo hi kind smm x far from to =
+    let row : nat_lt x (top_of bytes) ≡ false = grind (arith, nat_tests) in
+    let smram : is_smram_range x ≡ false = grind (arith, nat_tests) in
+    let upper : is_within 0xA_0000 0xF_FFFF x ≡ false = grind (arith, nat_tests) in
+    let rom : is_rom_selected 0x03 x ≡ false = grind (arith, nat_tests) in
+    rw (row, smram, upper, far.selected, rom) refl
+
+pub far_span : {setup : Setup} {bytes : Bytes} {addr lo hi : ℕ} {kind : Kind} {smm : Bool} {area : Area} →
+    IsFar bytes addr lo hi → ((x : ℕ) → lo ≤ x → x ≤ hi → claimed setup bytes x ≡ area) →
+    area_of setup bytes (lo - 1) kind smm ≢ area → area_of setup bytes (hi + 1) kind smm ≢ area →
+    IsSpan setup bytes addr kind smm lo hi area
+far_span {setup = setup} {bytes = bytes} {addr = addr} {lo = lo} {hi = hi} far same before after = record {
+  above = far.begins;
+  below = far.ends;
+  last = omega (arith, far.before_rom);
+  same = λ x from to. far_area setup bytes addr lo hi _ _ x far from to ∙ same x from to;
+  begins = inr before;
+  ends = inr after;
 }
 
-pub low_card_span :
-    IsSpan moved_card (byte_of moved_card (from_reset (take 4 card_moved_under_the_rom))) 0xE000_0000 Read false
-    0xE000_0000 0xE00F_FFFF (CardArea 2 0)
-unfolding byte_of config_address reset_control reset_byte writable_bits host_bridge isa_bridge ide_function
-    card_function row_of area_of memory_claim
-low_card_span = record {
-  above = omega arith;
-  below = omega arith;
-  last = omega arith;
-  same = λ x from to.
-      let end : x < 0xE010_0000 = omega arith in
-      let window : Window = record { dev = 2; base = 0; inside = 0xE000_0000; bits = 20 } in
-      let covered : is_covered x window ≡ true = covers-yes x 0xE00 window refl from end in
-      rw (
-        le-ltb x 0x80_0000 (omega arith),
-        above 0xA_0000 0xB_FFFF x (omega arith),
-        above 0xA_0000 0xF_FFFF x (omega arith),
-        no_rom x (omega arith) (omega arith),
-        covered,
-      ) refl;
-  begins = inr (λ e. grind (arith, e));
-  ends = inr (λ e. grind (arith, e));
-}
-
-pub gap_span :
-    IsSpan moved_card (byte_of moved_card (from_reset (take 8 card_moved_under_the_rom))) 0xE000_0000 Read false
-    0x80_0000 0xFFEF_FFFF AbortArea
-unfolding byte_of config_address reset_control reset_byte writable_bits host_bridge isa_bridge ide_function
-    card_function row_of area_of memory_claim
-gap_span = record {
-  above = omega arith;
-  below = omega arith;
-  last = omega arith;
-  same = λ x from to.
-      let before : x < 0xFFF0_0000 = omega arith in
-      let window : Window = record { dev = 2; base = 0; inside = 0xFFF0_0000; bits = 20 } in
-      let covered : is_covered x window ≡ false = covers-no x 0xFFF window (omega arith) refl before in
-      rw (
-        le-ltb x 0x80_0000 (omega arith),
-        above 0xA_0000 0xB_FFFF x (omega arith),
-        above 0xA_0000 0xF_FFFF x (omega arith),
-        no_rom x (omega arith) (omega arith),
-        covered,
-      ) refl;
-  begins = inr (λ e. grind (arith, e));
-  ends = inr (λ e. grind (arith, e));
-}
-
-pub high_card_span :
-    IsSpan moved_card (byte_of moved_card (from_reset (take 9 card_moved_under_the_rom))) 0xFFFE_0000 Read false
-    0xFFF0_0000 0xFFFE_FFFF (CardArea 2 0)
-unfolding byte_of config_address reset_control reset_byte writable_bits host_bridge isa_bridge ide_function
-    card_function row_of area_of memory_claim
-high_card_span = record {
-  above = omega arith;
-  below = omega arith;
-  last = omega arith;
-  same = λ x from to.
-      let end : x < 0x1_0000_0000 = omega arith in
-      let window : Window = record { dev = 2; base = 0; inside = 0xFFF0_0000; bits = 20 } in
-      let covered : is_covered x window ≡ true = covers-yes x 0xFFF window refl from end in
-      rw (
-        le-ltb x 0x80_0000 (omega arith),
-        above 0xA_0000 0xB_FFFF x (omega arith),
-        above 0xA_0000 0xF_FFFF x (omega arith),
-        no_rom x (omega arith) (omega arith),
-        covered,
-      ) refl;
-  begins = inr (λ e. grind (arith, e));
-  ends = inr (λ e. grind (arith, e));
-}
+-- in a window that is enabled and the first of all
+pub first_span : {setup : Setup} {bytes : Bytes} {addr lo hi : ℕ} {kind : Kind} {smm : Bool}
+    (window : Window) (later : List Window) → flat_map (memory_windows bytes) setup.cards ≡ window ∷ later →
+    is_enabled_for 1 bytes window.dev ≡ true → IsFar bytes addr lo hi →
+    window.inside / 2 ^ window.bits * 2 ^ window.bits ≤ lo →
+    hi < (window.inside / 2 ^ window.bits + 1) * 2 ^ window.bits →
+    area_of setup bytes (lo - 1) kind smm ≢ card_area window →
+    area_of setup bytes (hi + 1) kind smm ≢ card_area window →
+    IsSpan setup bytes addr kind smm lo hi (card_area window)
+unfolding memory_claim
+first_span window later windows on far first last before after =
+    far_span far (λ x from to. rw (
+      windows,
+      on,
+      covers-yes x (window.inside / 2 ^ window.bits) window refl (omega arith) (omega arith),
+    ) refl) before after

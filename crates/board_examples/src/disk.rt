@@ -3,19 +3,19 @@
 ghost use Rattle.board_examples.specs.Disk.{SectorRead, BadSector, DisabledDisk, NoDisk};
 
 /// The last sector is read whole, and there is none after it.
-#[tactic(auto, using(crate::proofs::DiskRuns::sector_read_runs))]
+#[tactic(auto, using(crate::proofs::DeviceRuns::devices))]
 pub fn sector_read()
     ensures history { SectorRead }
 {}
 
 /// A bad sector is written whole, and read again.
-#[tactic(auto, using(crate::proofs::DiskRuns::bad_sector_runs))]
+#[tactic(auto, using(crate::proofs::DeviceRuns::devices))]
 pub fn bad_sector()
     ensures history { BadSector }
 {}
 
 /// The two enables of the disk's ports.
-#[tactic(auto, using(crate::proofs::DiskRuns::disabled_disk_runs, crate::proofs::DiskRuns::no_disk_runs))]
+#[tactic(auto, using(crate::proofs::DeviceRuns::devices))]
 pub fn disabled_disk()
     ensures history { DisabledDisk }
     ensures none { NoDisk }

@@ -1,11 +1,11 @@
 -- A begun history that is not complete goes on by a statement of the phase where it stands.
 use Rattle.std.proofs.Common.{◌≡◌, ◌≢◌, ℕ, suc, ◌+◌, ◌≤◌, ◌<◌, inl, inr, List, [], ◌∷◌, ◌++◌, length, take, drop, min}
-use Rattle.std.proofs.Common.{refl, sym, ◌∙◌, ap, subst, arith, ◌==◌, map}
+use Rattle.std.proofs.Common.{refl, sym, ◌∙◌, ap, subst, arith}
+use Rattle.device_spec.proofs.Common.{nat_tests}
 use Rattle.board_spec.specs.Common.{AllByRecursion, entries_by, statements_of, events_by, BeginsWith, IsWholePhase}
 use Rattle.board_spec.specs.Common.{IsFrontOfPhase, HasPhases, HasPhasesSoFar, IsAddressed, in_file_order, BegunGoesOn}
 use Rattle.device_spec.proofs.Common.{drop_of_length-le, take-append-le, drop-append-le, length-append, length-take}
-use Rattle.device_spec.proofs.Common.{take_all, recursion_from_All, cases_eq, cases_lt, cond-true, cond-false, eq-eqb}
-use Rattle.device_spec.proofs.Common.{ne_eqb}
+use Rattle.device_spec.proofs.Common.{take_all, recursion_from_All, cases_eq, cases_lt}
 use Rattle.board_spec.specs.declared.event.Event.{Event}
 use Rattle.board_spec.specs.declared.event.Entry.{Entry}
 use Rattle.board_spec.specs.declared.event.Statement.{Statement}
@@ -18,28 +18,18 @@ AllAddressed statements = AllByRecursion (λ (statement : Statement). IsAddresse
 pub events-own :
     (actor : ℕ) (first : Statement) (later : List Statement) → first.actor ≡ actor →
     events_by actor (first ∷ later) ≡ first.event ∷ events_by actor later
-events-own actor first later own =
-    ap (map (λ (statement : Statement). statement.event))
-    (cond-true (first.actor == actor) _ _ (eq-eqb first.actor actor own))
+events-own actor first later own = grind (arith, nat_tests)
 
 pub events-other :
     (actor : ℕ) (first : Statement) (later : List Statement) → first.actor ≢ actor →
     events_by actor (first ∷ later) ≡ events_by actor later
-events-other actor first later other =
-    ap (map (λ (statement : Statement). statement.event))
-    (cond-false (first.actor == actor) _ _ (ne_eqb first.actor actor other))
+events-other actor first later other = grind (arith, nat_tests)
 
 -- two lists with the same first statement agree for an actor where their rests do
 events-same :
     (actor : ℕ) (first : Statement) (left right : List Statement) → events_by actor left ≡ events_by actor right →
     events_by actor (first ∷ left) ≡ events_by actor (first ∷ right)
-events-same actor first left right same =
-    elim (cases_eq first.actor actor) [
-      | inl own ↦
-          events-own actor first left own ∙ ap (λ (events : List Event). first.event ∷ events) same
-          ∙ sym (events-own actor first right own)
-      | inr other ↦ events-other actor first left other ∙ same ∙ sym (events-other actor first right other)
-    ]
+events-same actor first left right same = grind (arith, nat_tests)
 
 -- a phase without the first statement of an actor
 record Without (actor : ℕ) (event : Event) (phase : List Statement) : Type 0 where

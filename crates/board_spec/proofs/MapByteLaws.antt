@@ -1,104 +1,68 @@
 -- Areas and denials depend on the map bytes alone.
-use Rattle.std.proofs.Common.{◌≡◌, ℕ, zero, suc, ◌+◌, ◌*◌, ◌<◌, ◌≤◌, inl, inr, Bool, true, false, cond, ◌&&◌, ◌||◌, not}
+use Rattle.std.proofs.Common.{◌≡◌, ℕ, zero, suc, ◌+◌, ◌<◌, ◌≤◌, inl, inr, Bool, true, false, ◌&&◌, ◌||◌, not}
 use Rattle.std.proofs.Common.{List, [], ◌∷◌, ◌++◌, length, get_or, Option, Some, None, refl, ◌∙◌, ap, arith, lit<, ◌==◌}
-use Rattle.std.proofs.Common.{nat_le, nat_lt, is_some, find, flat_map, All, if◌then◌else◌}
-use Rattle.board_spec.specs.Common.{AllByRecursion, enumerate_from, Kind, Reg, Base, MemoryBase, IoBase, OutsideBase}
+use Rattle.std.proofs.Common.{is_some, find, flat_map, All, if◌then◌else◌}
+use Rattle.board_spec.specs.Common.{AllByRecursion, enumerate_from, Kind, Reg, Base, IoBase}
 use Rattle.board_spec.specs.Common.{FittedCard, Setup, IsCard, IsCardList, Rises, card_at, rom_base, vga_base, vga_bits}
-use Rattle.board_spec.specs.Common.{has_rom, is_bit, is_within, Bytes, boundary, row_of, is_high_window, is_open}
-use Rattle.board_spec.specs.Common.{nibble, is_shadow_range, is_shadowed, Window, is_covered, base_value, memory_window}
+use Rattle.board_spec.specs.Common.{has_rom, is_within, Bytes, boundary, row_of}
+use Rattle.board_spec.specs.Common.{is_shadow_range, is_shadowed, Window, is_covered, base_value, memory_window}
 use Rattle.board_spec.specs.Common.{vga_window, memory_windows, rom_value, rom_window, rom_window_of, is_rom_on}
 use Rattle.board_spec.specs.Common.{unselected_windows, rom_unselected, pam_register, is_enabled_for, first_window}
 use Rattle.board_spec.specs.Common.{memory_claim, memory_shut, area_of, denial_of, bridge, pam, fdhc, smram, xbcs}
-use Rattle.board_spec.specs.Common.{card_register, card_command, base_register, expansion_rom, is_same, smram_range}
-use Rattle.board_spec.specs.Common.{system_bios, boundary_unit, SameMapBytes, MapBytesDecide}
-use Rattle.device_spec.proofs.Common.{cases_Bool, eq-eqb, nat_tests, All-nil, All-cons, All-append, recursion_from_All}
-use Rattle.device_spec.proofs.Common.{or_right}
+use Rattle.board_spec.specs.Common.{card_register, card_command, base_register, expansion_rom, smram_range}
+use Rattle.board_spec.specs.Common.{SameMapBytes, MapBytesDecide}
+use Rattle.device_spec.proofs.Common.{cases_Bool, nat_tests, All-nil, All-cons, All-append, recursion_from_All}
 
 -- ---- searches in lists
 
 find_same : {X : Type 0} (p q : X → Bool) (xs : List X) → AllByRecursion (λ x. p x ≡ q x) xs → find p xs ≡ find q xs
 find_same p q [] same = refl
-find_same p q (x ∷ xs) (here, later) = rw here (ap (λ rest. cond (q x) (Some x) rest) (find_same p q xs later))
+find_same p q (x ∷ xs) same = rw (same.0, find_same p q xs same.1) refl
 
 -- each card of a list is found by its device number
 found : (cards : List FittedCard) (k : ℕ) (d : FittedCard) → k < length cards →
     is_some (find (λ card. card.dev == (get_or cards k d).dev) cards) ≡ true
 found [] k d below = absurd (omega arith)
-found (card ∷ later) zero d below = rw (eq-eqb card.dev card.dev refl) refl
-found (card ∷ later) (suc k) d below =
-    elim (cases_Bool (card.dev == (get_or later k d).dev)) [
-      | inl here ↦ rw here refl
-      | inr not ↦ rw not (found later k d (omega arith))
-    ]
+found (card ∷ later) zero d below = grind (arith, nat_tests)
+found (card ∷ later) (suc k) d below = grind (arith, nat_tests, found later k d)
 
 pub third : (a b fitted is d : Bool) → fitted ≡ true → is ≡ true → (a || b || fitted && true && is || d) ≡ true
-third true b fitted is d h k = refl
-third false true fitted is d h k = refl
-third false false fitted is d h k = rw (h, k) refl
+third a b fitted is d h k = grind arith
 
 pub fourth : (a b c rom is : Bool) → rom ≡ true → is ≡ true → (a || b || c || rom && true && is) ≡ true
-fourth true b c rom is h k = refl
-fourth false true c rom is h k = refl
-fourth false false true rom is h k = refl
-fourth false false false rom is h k = rw (h, k) refl
+fourth a b c rom is h k = grind arith
 
 abbrev no_windows : List Window
 no_windows = []
 
 both_empty : (a b : Bool) → (if a then no_windows else no_windows) ≡ (if b then no_windows else no_windows)
-both_empty true true = refl
-both_empty true false = refl
-both_empty false true = refl
-both_empty false false = refl
+both_empty a b = grind arith
 
 -- a card that is found by its device number, with the ROM of the card
 found_rom : (cards : List FittedCard) → Rises cards → (k : ℕ) (d : FittedCard) → k < length cards →
     has_rom (find (λ card. card.dev == (get_or cards k d).dev) cards) ≡ is_some (get_or cards k d).rom
 found_rom [] rises k d below = absurd (omega arith)
-found_rom (card ∷ later) rises zero d below = rw (eq-eqb card.dev card.dev refl) refl
-found_rom (card ∷ later) rises (suc k) d below =
-    let above : card.dev < (get_or later k d).dev = rises.0 k d (omega arith) in
-    let apart : (card.dev == (get_or later k d).dev) ≡ false = grind (arith, nat_tests) in
-    rw apart (found_rom later rises.1 k d (omega arith))
+found_rom (card ∷ later) rises zero d below = grind (arith, nat_tests)
+found_rom (card ∷ later) rises (suc k) d below = grind (arith, nat_tests, rises.0 k d, found_rom later rises.1 k d)
 
 module _ (setup : Setup) (bytes other : Bytes) (same : SameMapBytes setup bytes other) where
   -- ---- rows and windows of the host bridge
 
   bridge_same : (off : ℕ) → is_within (pam 0).off fdhc.off off ≡ true → bytes (bridge off) ≡ other (bridge off)
-  bridge_same off within = same (bridge off) (rw within refl)
+  bridge_same off within = grind (arith, nat_tests)
 
   boundary_same : (row : ℕ) → row < 8 → boundary bytes row ≡ boundary other row
-  boundary_same row below = ap (λ byte. byte * boundary_unit) (bridge_same _ (grind (arith, nat_tests)))
+  boundary_same row below = grind (arith, nat_tests)
 
   row_same : (addr : ℕ) → row_of bytes addr ≡ row_of other addr
   unfolding row_of
-  row_same addr =
-      let below : (row : ℕ) → row < 8 → nat_lt addr (boundary bytes row) ≡ nat_lt addr (boundary other row) =
-      λ row within. ap (λ end. nat_lt addr end) (boundary_same row within) in
-      rw (
-        below 0 (lit< tt),
-        below 1 (lit< tt),
-        below 2 (lit< tt),
-        below 3 (lit< tt),
-        below 4 (lit< tt),
-        below 5 (lit< tt),
-        below 6 (lit< tt),
-        below 7 (lit< tt),
-      ) refl
+  row_same addr = grind (arith, nat_tests, boundary_same)
 
   pam_same : (addr : ℕ) → is_shadow_range addr ≡ true → bytes (pam_register addr) ≡ other (pam_register addr)
-  pam_same addr within =
-      elim (cases_Bool (nat_le system_bios.0 addr)) [
-        | inl high ↦ rw high (bridge_same (pam 0).off refl)
-        | inr low ↦ rw low (bridge_same _ (grind (arith, nat_tests)))
-      ]
+  pam_same addr within = grind (arith, nat_tests)
 
   shadow_same : (addr : ℕ) (kind : Kind) → is_shadowed bytes addr kind ≡ is_shadowed other addr kind
-  shadow_same addr kind =
-      elim (cases_Bool (is_shadow_range addr)) [
-        | inl within ↦ rw within (ap (λ byte. is_open (nibble byte (is_high_window addr)) kind) (pam_same addr within))
-        | inr outside ↦ rw outside refl
-      ]
+  shadow_same addr kind = grind (arith, nat_tests)
 
   -- ---- windows of the cards
 
@@ -119,10 +83,7 @@ module _ (setup : Setup) (bytes other : Bytes) (same : SameMapBytes setup bytes 
 
   card_same : (dev off : ℕ) → IsFitted dev → is_command_or_base dev off ≡ true →
       bytes (card_register dev off) ≡ other (card_register dev off)
-  card_same dev off fitted is =
-      same (card_register dev off)
-      (third (is_of_bridge (card_register dev off)) (is_same (card_register dev off) xbcs)
-      (is_some (card_at setup dev)) (is_command_or_base dev off) _ fitted is)
+  card_same dev off fitted is = grind (arith, nat_tests)
 
   -- the register of an expansion ROM
   abbrev HasRom : ℕ → Type 0
@@ -130,11 +91,7 @@ module _ (setup : Setup) (bytes other : Bytes) (same : SameMapBytes setup bytes 
 
   rom_same : (dev off : ℕ) → HasRom dev → is_in_rom dev off ≡ true →
       bytes (card_register dev off) ≡ other (card_register dev off)
-  rom_same dev off fitted is =
-      same (card_register dev off)
-      (fourth (is_of_bridge (card_register dev off)) (is_same (card_register dev off) xbcs)
-      (is_some (card_at setup dev) && true && is_command_or_base dev off)
-      (has_rom (card_at setup dev)) (is_in_rom dev off) fitted is)
+  rom_same dev off fitted is = grind (arith, nat_tests)
 
   -- the windows of an expansion ROM, selected or not
   record SameRom (card : FittedCard) : Type 0 where
@@ -145,50 +102,17 @@ module _ (setup : Setup) (bytes other : Bytes) (same : SameMapBytes setup bytes 
 
   rom_windows_with : (card : FittedCard) (rom : Option ℕ) → card.rom ≡ rom →
       (is_some rom ≡ true → HasRom card.dev) → SameRom card
-  rom_windows_with card None is has = record {
-    selected = rw is (both_empty (is_rom_on bytes card.dev) (is_rom_on other card.dev));
-    unselected = rw is (both_empty (is_rom_on bytes card.dev) (is_rom_on other card.dev));
-  }
+  rom_windows_with card None is has =
+      record { selected = rw is (both_empty _ _); unselected = rw is (both_empty _ _) }
   rom_windows_with card (Some bits) is has =
-      let fitted : HasRom card.dev = has refl in
-      let first : ℕ = (expansion_rom card.dev).off in
-      record {
-        selected = rw (
-          is,
-          rom_same card.dev first fitted refl,
-          rom_same card.dev (first + 1) fitted refl,
-          rom_same card.dev (first + 2) fitted refl,
-          rom_same card.dev (first + 3) fitted refl,
-        ) refl;
-        unselected = rw (
-          is,
-          rom_same card.dev first fitted refl,
-          rom_same card.dev (first + 1) fitted refl,
-          rom_same card.dev (first + 2) fitted refl,
-          rom_same card.dev (first + 3) fitted refl,
-        ) refl;
-      }
+      let same = λ (off : ℕ). rom_same card.dev off (has refl) in grind (arith, nat_tests, same)
 
   base_same : (dev k : ℕ) → IsFitted dev → k < 6 → base_value bytes dev k ≡ base_value other dev k
-  base_same dev k fitted below =
-      let first : ℕ = (base_register dev k).off in
-      let byte : (off : ℕ) → is_within (base_register dev 0).off ((base_register dev 5).off + 3) off ≡ true →
-      bytes (card_register dev off) ≡ other (card_register dev off) =
-      λ off within. card_same dev off fitted (or_right (off == (card_command dev).off) _ within) in
-      rw (
-        byte first (grind (arith, nat_tests)),
-        byte (first + 1) (grind (arith, nat_tests)),
-        byte (first + 2) (grind (arith, nat_tests)),
-        byte (first + 3) (grind (arith, nat_tests)),
-      ) refl
+  base_same dev k fitted below = grind (arith, nat_tests)
 
   window_same : (dev k : ℕ) (base : Base) → IsFitted dev → k < 6 →
       memory_window bytes dev k base ≡ memory_window other dev k base
-  window_same dev k (MemoryBase bits) fitted below =
-      ap (λ inside. record { dev = dev; base = k; inside = inside; bits = bits } ∷ []) (base_same dev k fitted below)
-  window_same dev k (IoBase bits) fitted below = refl
-  window_same dev k (OutsideBase bits) fitted below =
-      ap (λ inside. record { dev = dev; base = k; inside = inside; bits = bits } ∷ []) (base_same dev k fitted below)
+  window_same dev k base fitted below = grind (arith, base_same dev k fitted)
 
   abbrev windows_from : Bytes → (dev first : ℕ) → List Base → List Window
   windows_from registers dev first bases = flat_map (λ numbered. memory_window registers dev numbered.0 numbered.1)
@@ -198,10 +122,7 @@ module _ (setup : Setup) (bytes other : Bytes) (same : SameMapBytes setup bytes 
       windows_from bytes dev first bases ≡ windows_from other dev first bases
   bases_same dev first [] fitted count = refl
   bases_same dev first (base ∷ later) fitted count =
-      ap (λ windows. windows ++ windows_from bytes dev (first + 1) later)
-      (window_same dev first base fitted (omega arith))
-      ∙ ap (λ windows. memory_window other dev first base ++ windows)
-      (bases_same dev (first + 1) later fitted (omega arith))
+      rw (window_same dev first base fitted (omega arith), bases_same dev (first + 1) later fitted (omega arith)) refl
 
   card_windows_same : (card : FittedCard) → IsFitted card.dev → SameRom card → length card.bases ≤ 6 →
       memory_windows bytes card ≡ memory_windows other card
@@ -213,17 +134,13 @@ module _ (setup : Setup) (bytes other : Bytes) (same : SameMapBytes setup bytes 
       AllByRecursion IsCard cards → flat_map (memory_windows bytes) cards ≡ flat_map (memory_windows other) cards
   windows_same [] fitted roms each = refl
   windows_same (card ∷ later) fitted roms each =
-      ap (λ windows. windows ++ flat_map (memory_windows bytes) later)
-      (card_windows_same card fitted.0 roms.0 each.0.count)
-      ∙ ap (λ windows. memory_windows other card ++ windows) (windows_same later fitted.1 roms.1 each.1)
+      rw (card_windows_same card fitted.0 roms.0 each.0.count, windows_same later fitted.1 roms.1 each.1) refl
 
   unselected_same :
       (cards : List FittedCard) → AllByRecursion SameRom cards →
       flat_map (unselected_windows bytes) cards ≡ flat_map (unselected_windows other) cards
   unselected_same [] roms = refl
-  unselected_same (card ∷ later) roms =
-      ap (λ windows. windows ++ flat_map (unselected_windows bytes) later) roms.0.unselected
-      ∙ ap (λ windows. unselected_windows other card ++ windows) (unselected_same later roms.1)
+  unselected_same (card ∷ later) roms = rw (roms.0.unselected, unselected_same later roms.1) refl
 
   -- each window is one of a fitted card
   abbrev IsOfCard : Window → Type 0
@@ -231,13 +148,8 @@ module _ (setup : Setup) (bytes other : Bytes) (same : SameMapBytes setup bytes 
 
   of_bases : (dev first : ℕ) (bases : List Base) → IsFitted dev → All IsOfCard (windows_from other dev first bases)
   of_bases dev first [] fitted = All-nil IsOfCard
-  of_bases dev first (MemoryBase bits ∷ later) fitted =
-      All-cons IsOfCard (record { dev = dev; base = first; inside = base_value other dev first; bits = bits })
-      (windows_from other dev (first + 1) later) fitted (of_bases dev (first + 1) later fitted)
   of_bases dev first (IoBase bits ∷ later) fitted = of_bases dev (first + 1) later fitted
-  of_bases dev first (OutsideBase bits ∷ later) fitted =
-      All-cons IsOfCard (record { dev = dev; base = first; inside = base_value other dev first; bits = bits })
-      (windows_from other dev (first + 1) later) fitted (of_bases dev (first + 1) later fitted)
+  of_bases dev first (_ ∷ later) fitted = search (All-cons, fitted, of_bases dev (first + 1) later fitted)
 
   of_vga : (card : FittedCard) → IsFitted card.dev → All IsOfCard (vga_window card)
   of_vga card fitted =
@@ -283,7 +195,7 @@ module _ (setup : Setup) (bytes other : Bytes) (same : SameMapBytes setup bytes 
       (of_all windows each later fitted.1)
 
   enabled_same : (dev : ℕ) → IsFitted dev → is_enabled_for 1 bytes dev ≡ is_enabled_for 1 other dev
-  enabled_same dev fitted = ap (λ command. is_bit command 1) (card_same dev (card_command dev).off fitted refl)
+  enabled_same dev fitted = grind (arith, nat_tests)
 
   -- ---- which card answers, and which would
 

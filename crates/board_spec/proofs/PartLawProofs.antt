@@ -1,19 +1,14 @@
 -- The parts of a wide access cover it, and their values joined are its value.
 use Rattle.std.proofs.Common.{◌≡◌, ℕ, zero, suc, ◌+◌, ◌-◌, ◌*◌, ◌/◌, ◌%◌, ◌^◌, ◌≤◌, ◌<◌, Bool, true, false, List, []}
-use Rattle.std.proofs.Common.{◌∷◌, length, refl, sym, ◌∙◌, ap, subst, arith, All}
+use Rattle.std.proofs.Common.{◌∷◌, refl, sym, ◌∙◌, ap, subst, arith, All}
 use Rattle.std.proofs.Math.Nat.{zero-div, zero-mod, div-div-eq-div-mul, mul_comm, div-one}
 use Rattle.device_spec.proofs.Common.{mod-eq_of_lt, pow-add, All-nil, All-cons}
 use Rattle.std.proofs.Math.Arith.{mod-mul}
 use Rattle.board_spec.specs.Common.{Width, One, Two, Four, WideAccess, bytes_of, FitsAccess, FitsBytes, part_at, joined}
 use Rattle.board_spec.specs.Common.{is_write, Covers, IsPart, AreParts, CutIntoParts}
-use Rattle.board_spec.proofs.PartLemmas.{made, total, Aligned, is_cut}
+use Rattle.board_spec.proofs.PartLemmas.{made, length-made, total, Aligned, is_cut}
 
 -- ---- places
-
-length-made : (access : WideAccess) (from : ℕ) (widths : List Width) → length (made access from widths) ≡ length widths
-unfolding made
-length-made access from [] = refl
-length-made access from (width ∷ later) = ap suc (length-made access (from + bytes_of width) later)
 
 covers-made :
     (access : WideAccess) (from end : ℕ) (widths : List Width) → from + total widths ≡ end →

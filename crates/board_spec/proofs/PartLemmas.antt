@@ -38,6 +38,12 @@ unfoldable pub made : WideAccess → ℕ → List Width → List Access
 made access from [] = []
 made access from (width ∷ later) = part_at access from width ∷ made access (from + bytes_of width) later
 
+pub length-made : (access : WideAccess) (from : ℕ) (widths : List Width) →
+    length (made access from widths) ≡ length widths
+unfolding made
+length-made access from [] = refl
+length-made access from (width ∷ later) = ap suc (length-made access (from + bytes_of width) later)
+
 abbrev pub total : List Width → ℕ
 total [] = 0
 total (width ∷ later) = bytes_of width + total later

@@ -1,11 +1,11 @@
 -- Every event has one answer, and every list of statements one replay.
-use Rattle.std.proofs.Common.{◌≡◌, ℕ, ◌+◌, Bool, List, [], ◌∷◌, ◌++◌, refl, sym, ◌∙◌, ap, length, append_assoc, ◌≢◌}
-use Rattle.std.proofs.Common.{zero, suc, ◌-◌, ◌<◌, ◌≤◌, ◌==◌, Option, map, reverse, arith, inl, inr, ne_eqb}
-use Rattle.device_spec.proofs.Common.{cases_Bool, nat_tests, length-map, append-nil, reverse-reverse, reverse-append}
+use Rattle.std.proofs.Common.{◌≡◌, ℕ, ◌+◌, Bool, List, [], ◌∷◌, ◌++◌, refl, sym, ◌∙◌, ap, length, append_assoc}
+use Rattle.std.proofs.Common.{◌≤◌, Option, map, reverse, arith}
+use Rattle.device_spec.proofs.Common.{length-map, append-nil, reverse-reverse, reverse-append}
 use Rattle.device_spec.proofs.Common.{recursion_from_All}
-use Rattle.board_spec.specs.Common.{AllByRecursion, Width, Kind, WideAccess, bytes_of, Area, Setup, byte_of, version_of}
-use Rattle.board_spec.specs.Common.{longest_at, parts_from, parts_of, parts_list, IsWideAccess, part_answer, wide_value}
-use Rattle.board_spec.specs.Common.{IsLookAnswer, IsAnswer, entries_by, IsNext, IsLegal, statement_of, statements_of}
+use Rattle.board_spec.specs.Common.{AllByRecursion, Kind, WideAccess, Setup, byte_of, version_of}
+use Rattle.board_spec.specs.Common.{parts_of, parts_list, IsWideAccess, part_answer, wide_value}
+use Rattle.board_spec.specs.Common.{IsLookAnswer, entries_by, IsNext, IsLegal, statement_of, statements_of}
 use Rattle.board_spec.specs.Common.{IsAddressed, SomeAnswer, OneAnswer, SomeReplay, OneReplay}
 use Rattle.board_spec.specs.declared.event.Event.{Event}
 use Rattle.board_spec.specs.declared.event.Event.TheVariants.{Wide, Look as LookAt}
@@ -18,6 +18,7 @@ use Rattle.board_spec.specs.declared.event.Reply.TheVariants.{Bus, Parts as InPa
 use Rattle.board_spec.specs.declared.event.Entry.{Entry}
 use Rattle.board_spec.specs.declared.event.Statement.{Statement}
 use Rattle.board_spec.proofs.SpanLaws.{some_span, one_span}
+use Rattle.board_spec.proofs.PartLemmas.{is_cut, length-made}
 use Rattle.board_spec.proofs.OrderLawProofs.{statements-newest}
 
 -- ---- the parts of a wide access
@@ -38,56 +39,16 @@ some_parts (a ∷ b ∷ c ∷ d ∷ e ∷ later) count = absurd (omega (arith, c
 one_parts :
     (value value' : Option ℕ) (parts parts' : Parts) → value ≡ value' → parts_list parts ≡ parts_list parts' →
     InParts parts value ≡ InParts parts' value'
-one_parts value value' (TwoParts a b) (TwoParts a' b') v l = cc
-one_parts value value' (TwoParts a b) (ThreeParts a' b' c') v l = cc
-one_parts value value' (TwoParts a b) (FourParts a' b' c' d') v l = cc
-one_parts value value' (ThreeParts a b c) (TwoParts a' b') v l = cc
-one_parts value value' (ThreeParts a b c) (ThreeParts a' b' c') v l = cc
-one_parts value value' (ThreeParts a b c) (FourParts a' b' c' d') v l = cc
-one_parts value value' (FourParts a b c d) (TwoParts a' b') v l = cc
-one_parts value value' (FourParts a b c d) (ThreeParts a' b' c') v l = cc
-one_parts value value' (FourParts a b c d) (FourParts a' b' c' d') v l = cc
-
--- a wide access has two to four parts
-few_parts : (access : WideAccess) (most addr left : ℕ) → length (parts_from access most addr left) ≤ most
-unfolding parts_from
-few_parts access zero addr left = omega arith
-few_parts access (suc most) addr left =
-    elim (cases_Bool (left == 0)) [
-      | inl none ↦ rw none (omega arith)
-      | inr some ↦
-          let width : Width = longest_at addr left in
-          let later : length (parts_from access most (addr + bytes_of width) (left - bytes_of width)) ≤ most =
-          few_parts access most (addr + bytes_of width) (left - bytes_of width) in
-          rw some (omega (arith, later))
-    ]
-
-some_part : (access : WideAccess) (most addr left : ℕ) → left ≢ 0 → 1 ≤ length (parts_from access (suc most) addr left)
-unfolding parts_from
-some_part access most addr left some = rw (ne_eqb left 0 some) (omega arith)
-
-shorter_part : (access : WideAccess) → IsWideAccess access →
-    bytes_of (longest_at access.addr access.bytes) < access.bytes
-shorter_part access wide = grind (arith, nat_tests)
-
-two_parts : (access : WideAccess) → IsWideAccess access → 2 ≤ length (parts_of access)
-unfolding parts_from
-two_parts access wide =
-    let width : Width = longest_at access.addr access.bytes in
-    let shorter : bytes_of width < access.bytes = shorter_part access wide in
-    let later : 1 ≤ length (parts_from access 3 (access.addr + bytes_of width) (access.bytes - bytes_of width)) =
-    some_part access 2 (access.addr + bytes_of width) (access.bytes - bytes_of width)
-    (λ e. omega (arith, e, shorter)) in
-    rw (ne_eqb access.bytes 0 (λ e. omega (arith, e, shorter))) (omega (arith, later))
+one_parts value value' parts parts' v l = grind arith
 
 parts_counted :
     (setup : Setup) (before : List Entry) (access : WideAccess) → IsWideAccess access →
     (2 ≤ length (map (part_answer setup before) (parts_of access)))
     × (length (map (part_answer setup before) (parts_of access)) ≤ 4)
 parts_counted setup before access wide =
-    let same : length (map (part_answer setup before) (parts_of access)) ≡ length (parts_of access) =
-    length-map (parts_of access) (part_answer setup before) in
-    (rw same (two_parts access wide), rw same (few_parts access 4 access.addr access.bytes))
+    let cut = is_cut access wide in
+    let count : length (parts_of access) ≡ length cut.widths = rw cut.parts (length-made access access.addr cut.widths) in
+    (omega (arith, cut.least, length-map (parts_of access) (part_answer setup before)), omega (arith, cut.most, length-map (parts_of access) (part_answer setup before)))
 
 -- ---- answers
 
@@ -107,24 +68,11 @@ some_answer setup before (LookAt kind addr smm) addressed =
     }
 some_answer setup before _ addressed = record { reply = _; answer = refl }
 
-look_made : ℕ → ℕ → ℕ → Area → Look
-look_made version lo hi area = record { version = version; lo = lo; hi = hi; area = area }
-
-same_look : (left right : Look) → left.version ≡ right.version → left.lo ≡ right.lo → left.hi ≡ right.hi →
-    left.area ≡ right.area → Saw left ≡ Saw right
-unfolding look_made
-same_look left right v l h a =
-    let same : look_made left.version left.lo left.hi left.area ≡ look_made right.version right.lo right.hi right.area =
-    cc in
-    ap Saw same
-
 one_look :
     (setup : Setup) (before : List Entry) (kind : Kind) (addr : ℕ) (smm : Bool) (left right : Look) →
     IsLookAnswer setup before kind addr smm left → IsLookAnswer setup before kind addr smm right → Saw left ≡ Saw right
 one_look setup before kind addr smm left right l r =
-    let same = one_span setup (byte_of setup before) addr kind smm left.lo left.hi right.lo right.hi left.area
-    right.area l.span r.span in
-    same_look left right (l.version ∙ sym r.version) same.0 same.1 same.2
+    grind (arith, one_span setup (byte_of setup before) addr kind smm left.lo left.hi right.lo right.hi)
 
 pub one_answer : OneAnswer
 one_answer setup before (Wide access) (InParts parts value) (InParts parts' value') l r =
@@ -188,17 +136,7 @@ some_replay setup statements addressed =
 same_entry :
     (setup : Setup) (before : List Entry) (left right : Entry) → IsNext setup before left → IsNext setup before right →
     statement_of left ≡ statement_of right → left ≡ right
-unfolding entry_made
-same_entry setup before left right l r same =
-    let actor : left.actor ≡ right.actor = ap (λ (s : Statement). s.actor) same in
-    let event : left.event ≡ right.event = ap (λ (s : Statement). s.event) same in
-    let number : left.seq ≡ right.seq = l.number ∙ ap (λ (a : ℕ). length (entries_by a before) + 1) actor
-    ∙ sym r.number in
-    let answer : IsAnswer setup before left.event right.reply = rw event r.answer in
-    let reply : left.reply ≡ right.reply = one_answer setup before left.event left.reply right.reply l.answer answer in
-    let whole : entry_made left.actor left.seq left.event left.reply ≡ entry_made right.actor right.seq right.event
-    right.reply = cc in
-    whole
+same_entry setup before left right l r same = grind (arith, one_answer)
 
 same_history :
     (setup : Setup) (left right : List Entry) → IsLegal setup left → IsLegal setup right →

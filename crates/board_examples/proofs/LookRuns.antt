@@ -1,0 +1,97 @@
+-- The histories with looks, and the spans that these see.
+use Rattle.std.proofs.Common.{ℕ, refl, arith, inr}
+use Rattle.std.proofs.Common.{rules}
+use Rattle.board_prelude.proofs.Common.{Window, reset_byte, writable_bits, host_bridge, isa_bridge}
+use Rattle.board_prelude.proofs.Common.{card_function, byte_of, config_address, reset_control, row_of, area_of}
+use Rattle.board_prelude.proofs.Common.{denial_of, memory_claim, memory_shut, rom_unselected, port_target_of}
+use Rattle.board_prelude.proofs.Common.{stored_of, port_answer, memory_answer, map_change_of, map_writes_of}
+use Rattle.board_prelude.proofs.Common.{ide_function, io_claim, io_shut}
+use Rattle.board_prelude.proofs.Common.{nat_tests}
+use Rattle.board_examples.specs.Common.{from_reset, rom_card_board, expansion_rom}
+use Rattle.board_examples.specs.Common.{ExpansionRom, small_board}
+use Rattle.board_examples.specs.Common.{look_in_smm, LookInSmm, two_cards}
+use Rattle.board_examples.specs.Common.{two_cards_at_one_address, moved_card, card_moved_under_the_rom}
+use Rattle.board_examples.specs.OutsideBases.{frame_board, outside_base, OutsideBaseRead}
+use Rattle.board_examples.proofs.Lines.{legal}
+use Rattle.board_examples.proofs.Spans.{far_span, first_span, covers-yes, covers-no}
+use Rattle.board_examples.specs.Basics.{TwoCardsAtOneAddress, CardMovedUnderTheRom}
+
+abbrev window : (dev base inside bits : ℕ) → Window
+window dev base inside bits = record { dev = dev; base = base; inside = inside; bits = bits }
+
+pub looks :
+    TwoCardsAtOneAddress × CardMovedUnderTheRom × ExpansionRom × OutsideBaseRead × LookInSmm
+unfolding TwoCardsAtOneAddress CardMovedUnderTheRom ExpansionRom OutsideBaseRead LookInSmm byte_of config_address
+    reset_control reset_byte writable_bits host_bridge isa_bridge ide_function card_function row_of area_of denial_of
+    memory_claim memory_shut rom_unselected io_claim io_shut stored_of memory_answer port_answer port_target_of
+    map_change_of map_writes_of
+looks = (
+  legal two_cards (from_reset two_cards_at_one_address) (
+    record {
+      version = refl;
+      span = first_span (window 2 0 0xC000_0000 12) _ refl refl (search (rules, arith))
+          (omega arith) (omega arith) (λ e. grind (arith, e)) (λ e. grind (arith, e));
+    },
+    tt,
+  ) refl,
+  legal moved_card (from_reset card_moved_under_the_rom) (
+    record {
+      version = refl;
+      span = first_span (window 2 0 0xFFF0_0000 20) _ refl refl (search (rules, arith))
+          (omega arith) (omega arith) (λ e. grind (arith, e)) (λ e. grind (arith, e));
+    },
+    (
+      record {
+        version = refl;
+        span = far_span (search (rules, arith))
+            (λ x from to. rw (covers-no x 0xFFF (window 2 0 0xFFF0_0000 20) (omega arith) refl (omega arith)) refl)
+            (λ e. grind (arith, e)) (λ e. grind (arith, e));
+      },
+      (
+        record {
+          version = refl;
+          span = first_span (window 2 0 0xE000_0000 20) _ refl refl (search (rules, arith))
+              (omega arith) (omega arith) (λ e. grind (arith, e)) (λ e. grind (arith, e));
+        },
+        tt,
+      ),
+    ),
+  ) refl,
+  legal rom_card_board (from_reset expansion_rom) (
+    record {
+      version = refl;
+      span = far_span (search (rules, arith)) (λ x from to. refl) (λ e. grind (arith, e)) (λ e. grind (arith, e));
+    },
+    (
+      record {
+        version = refl;
+        span = far_span (search (rules, arith))
+            (λ x from to. rw (covers-yes x 0xD000 (window 2 6 0xD000_0001 16) refl from (omega arith)) refl)
+            (λ e. grind (arith, e)) (λ e. grind (arith, e));
+      },
+      tt,
+    ),
+  ) refl,
+  legal frame_board (from_reset outside_base) (
+    record {
+      version = refl;
+      span = first_span (window 4 0 0xC000_0000 28) _ refl refl (search (rules, arith))
+          (omega arith) (omega arith) (λ e. grind (arith, e)) (λ e. grind (arith, e));
+    },
+    tt,
+  ) refl,
+  legal small_board (from_reset look_in_smm) (
+    record {
+      version = refl;
+      span = record {
+        above = omega arith;
+        below = omega arith;
+        last = omega arith;
+        same = λ x from to. grind (arith, nat_tests);
+        begins = inr (λ e. grind (arith, e));
+        ends = inr (λ e. grind (arith, e));
+      };
+    },
+    tt,
+  ) refl,
+)
