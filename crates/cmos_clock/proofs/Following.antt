@@ -31,25 +31,4 @@ midnight_time : (year month day : ℕ) → seconds_since_1980 (midnight_after ye
 midnight_time year month day = grind (arith, nat_tests)
 
 pub seconds_follow : SecondsFollow
-seconds_follow m is =
-    elim (cases_lt m.second 59) [
-      | inl below ↦ rw (lt-ltb m.second 59 below) (omega arith)
-      | inr last ↦ rw (le-ltb m.second 59 last) (elim (cases_lt m.minute 59) [
-        | inl below ↦ rw (lt-ltb m.minute 59 below) (omega (arith, last, is.time.second_high))
-        | inr end ↦ rw (le-ltb m.minute 59 end) (elim (cases_lt m.hour 23) [
-          | inl below ↦ rw (lt-ltb m.hour 23 below) (omega (arith, last, end, is.time.second_high, is.time.minute_high))
-          | inr night ↦ rw (le-ltb m.hour 23 night)
-              (omega (
-                arith,
-                last,
-                end,
-                night,
-                is.time.second_high,
-                is.time.minute_high,
-                is.time.hour_high,
-                midnight_time m.year m.month m.day,
-                midnight_days m.year m.month m.day is.date,
-              ))
-        ])
-      ])
-    ]
+seconds_follow m is = grind (arith, nat_tests, cases_lt, lt-ltb, le-ltb, midnight_time, midnight_days)

@@ -35,6 +35,7 @@ impl Cmos {
 }
 
 /// A law of the next second: it lies one second later.
+#[tactic(auto, using(crate::proofs::Following::seconds_follow))]
 pub fn law_seconds_follow()
     ensures law { SecondsFollow }
 {}

@@ -29,6 +29,7 @@ impl Cmos {
 
     /// The clock whose state is at the front of the bytes. Refused where a field is not whole or out of range: the
     /// bytes left then begin with the first such field.
+    #[tactic(auto, using(byte_fields::proofs::Loaded::loads, crate::proofs::StateFormat::clock_format))]
     pub fn load_state(fields: &mut Fields) -> Result<Cmos, Bad>
         ensures loaded { Loads clock_fields clock_bytes IsClock fields.old fields.new result }
     {

@@ -1,10 +1,9 @@
 -- Whole periods.
-use Rattle.std.proofs.Common.{◌≡◌, ℕ, zero, suc, ◌+◌, ◌-◌, ◌*◌, ◌/◌, ◌%◌, ◌<◌, ◌≤◌, Bool, true, false, Some, inl, inr}
-use Rattle.std.proofs.Common.{refl, sym, subst, arith}
+use Rattle.std.proofs.Common.{◌≡◌, ℕ, zero, suc, ◌+◌, ◌-◌, ◌*◌, ◌/◌, ◌%◌, ◌<◌, ◌≤◌, Bool, true, false, Some, refl, sym}
+use Rattle.std.proofs.Common.{arith}
 use Rattle.std.proofs.Math.Nat.{suc-mul, zero-mul}
-use Rattle.device_spec.proofs.Common.{and-false, cases_lt, true≢false, Mode, TerminalCount, OneShot, RateGenerator}
-use Rattle.device_spec.proofs.Common.{SquareWave, SoftwareStrobe, HardwareStrobe, CounterState, is_periodic, pulse}
-use Rattle.device_spec.proofs.Common.{pulses_of, IsAtLoad, rate_repeats, square_repeats}
+use Rattle.device_spec.proofs.Common.{nat_tests, true≢false, Mode, RateGenerator, SquareWave, CounterState, is_periodic}
+use Rattle.device_spec.proofs.Common.{pulse, pulses_of, IsAtLoad, rate_repeats, square_repeats}
 use Rattle.pit_8254.specs.Common.{rises_of, IsPart, IsAtPeriod, IsFirstRise}
 use Rattle.pit_8254.specs.declared.counting.running.Run.{Run}
 use Rattle.pit_8254.proofs.Runs.{pulses_of-add, rises_of-add}
@@ -20,21 +19,16 @@ record IsPeriod (gate : Bool) (n a : ℕ) (c : CounterState) : Type 0 where
 none_yet : (gate : Bool) (n a : ℕ) (c : CounterState) → IsPeriod gate n a c → (k : ℕ) → k < n → rises_of gate k c ≡ 0
 unfolding rises_of pulses_of
 none_yet gate n a c is zero h = refl
-none_yet gate n a c is (suc k) h = elim (cases_lt (suc k) a) [
-  | inl still ↦ rw (
-    none_yet gate n a c is k (omega arith),
-    is.high k (omega arith),
-    and-false (pulse gate (pulses_of gate k c)).out,
-  ) refl
-  | inr past ↦ rw (none_yet gate n a c is k (omega arith), is.low (suc k) past h) refl
-]
+none_yet gate n a c is (suc k) h =
+    let before = none_yet gate n a c is k (omega arith) in
+    grind (arith, nat_tests, before, is.high k, is.low (suc k))
 
-one_rise : (gate : Bool) (j a : ℕ) (c : CounterState) → IsPeriod gate (suc j) a c → rises_of gate (suc j) c ≡ 1
+one_rise : (gate : Bool) (n j a : ℕ) (c : CounterState) → n ≡ suc j → IsPeriod gate n a c → rises_of gate n c ≡ 1
 unfolding rises_of pulses_of
-one_rise gate j a c is =
-    let shorter = is.shorter in
-    let again : pulse gate (pulses_of gate j c) ≡ c = is.again in
-    rw (none_yet gate (suc j) a c is j (omega arith), is.low j (omega arith) (omega arith), again, is.out) refl
+one_rise gate n j a c more is = rw more (
+    let again : pulse gate (pulses_of gate j c) ≡ c = rw more at is.again in
+    grind (arith, nat_tests, none_yet gate n a c is j, is.low j)
+    )
 
 -- ---- a period of either mode
 
@@ -46,13 +40,10 @@ record Period (gate : Bool) (c : CounterState) : Type 0 where
 to_period : (gate : Bool) (a : ℕ) (c : CounterState) → IsPeriod gate c.in_use a c → Period gate c
 to_period gate a c is =
     let shorter = is.shorter in
-    let more : c.in_use ≡ suc (c.in_use - 1) = omega arith in
     record {
       again = is.again;
       not_yet = none_yet gate c.in_use a c is (c.in_use - 1) (omega arith);
-      once =
-          subst (λ (m : ℕ). rises_of gate m c ≡ 1) (sym more)
-          (one_rise gate (c.in_use - 1) a c (subst (λ (m : ℕ). IsPeriod gate m a c) more is));
+      once = one_rise gate c.in_use (c.in_use - 1) a c (omega arith) is;
     }
 
 one_period : (mode : Mode) (c : CounterState) → is_periodic mode ≡ true → 2 ≤ c.in_use →
@@ -75,10 +66,7 @@ one_period SquareWave c periodic least load =
       shorter = omega arith;
       again = has.again;
     })
-one_period TerminalCount c periodic least load = absurd (true≢false (sym periodic))
-one_period OneShot c periodic least load = absurd (true≢false (sym periodic))
-one_period SoftwareStrobe c periodic least load = absurd (true≢false (sym periodic))
-one_period HardwareStrobe c periodic least load = absurd (true≢false (sym periodic))
+one_period _ c periodic least load = absurd (true≢false (sym periodic))
 
 its_period : (gate : Bool) (c : CounterState) → IsAtPeriod gate c → Period gate c
 its_period gate c is = rw is.gate_on (one_period c.mode c is.periodic is.least is.load)
@@ -101,15 +89,11 @@ unfolding pulses_of rises_of
 many gate zero c is = record { again = rw (zero-mul c.in_use) refl; rose = rw (zero-mul c.in_use) refl }
 many gate (suc m) c is =
     let before = many gate m c is in
+    let n = m * c.in_use in
+    let more : suc m * c.in_use ≡ n + c.in_use = suc-mul m c.in_use in
     record {
-      again = rw (suc-mul m c.in_use, pulses_of-add gate (m * c.in_use) c.in_use c, before.again) is.again;
-      rose = rw (
-        suc-mul m c.in_use,
-        rises_of-add gate (m * c.in_use) c.in_use c,
-        before.again,
-        before.rose,
-        is.once,
-      ) (omega arith);
+      again = rw (more, pulses_of-add gate n c.in_use c, before.again) is.again;
+      rose = rw (more, rises_of-add gate n c.in_use c, before.again, before.rose, is.once) (omega arith);
     }
 
 pub part_periods : (gate : Bool) (c : CounterState) (before after : Run) → IsAtPeriod gate c →
@@ -119,8 +103,4 @@ part_periods gate c before after is left rose =
     let least = is.least in
     let many_of = many gate (before.left / c.in_use) c (its_period gate c is) in
     let count : before.left - after.left ≡ before.left / c.in_use * c.in_use = omega arith in
-    record {
-      fewer = omega arith;
-      state = rw count (sym many_of.again);
-      rose = rw (count, many_of.rose) rose;
-    }
+    grind (arith, nat_tests)

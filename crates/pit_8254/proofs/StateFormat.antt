@@ -1,13 +1,13 @@
 -- The state of the timer is spelled and read back.
-use Rattle.std.proofs.Common.{◌≡◌, ℕ, zero, suc, ◌≤◌, Bool, true, false, List, [], ◌∷◌, length, take, get_or, Option}
-use Rattle.std.proofs.Common.{Some, None, is_some, refl, ap, arith, nat_lt}
-use Rattle.device_spec.specs.Pit.{Mode, TerminalCount, Access, LowByte, HighByte, LowThenHigh, Notation, Binary}
-use Rattle.device_spec.specs.Pit.{Decimal, mode_number, mode_numbered, access_number, notation_number}
+use Rattle.board_base.proofs.Common.{nat_tests}
+use Rattle.std.proofs.Common.{◌≡◌, ℕ, ◌≤◌, Bool, false, List, [], ◌∷◌, length, take, get_or, Option, is_some, refl}
+use Rattle.std.proofs.Common.{arith, nat_lt}
+use Rattle.device_spec.specs.Pit.{Mode, Access, Notation, mode_number, mode_numbered, access_number, notation_number}
 use Rattle.device_spec.specs.Pit.{notation_of_bit, bcd_bit}
 use Rattle.byte_fields.specs.Fields.{bound_where, flag_byte, IsWithin}
 use Rattle.byte_fields.proofs.Formats.{IsFormat, fields_format, ◌then◌, ◌&◌, last_field}
-use Rattle.byte_fields.proofs.Numbers.{Any, Ranges, byte_to, number_to, byte_within, within_format, wide32}
-use Rattle.byte_fields.proofs.Numbers.{flag_format, flag_where_format, optional_format, bound_where-small}
+use Rattle.byte_fields.proofs.Numbers.{Any, Ranges, byte_to, number_to, byte_within, within_format, wide32, flag_format}
+use Rattle.byte_fields.proofs.Numbers.{flag_where_format, optional_format, bound_where-small}
 use Rattle.pit_8254.specs.Quiet.{HasCount, IsFew, least_count, most_count}
 use Rattle.pit_8254.specs.State.{access_of, word_bytes, word_fields, counts_bytes, counts_fields, AreCounts, IsLatch}
 use Rattle.pit_8254.specs.State.{latch_bytes, latch_fields, AreLatches, latches_bytes, latches_fields, AreFlags}
@@ -18,52 +18,32 @@ use Rattle.pit_8254.specs.State.{counter_bytes, counter_fields, IsPit, pit_bytes
 
 mode_again : (n : ℕ) → n ≤ 5 → mode_number (mode_numbered n) ≡ n
 unfolding mode_numbered
-mode_again zero few = refl
-mode_again (suc zero) few = refl
-mode_again (suc (suc zero)) few = refl
-mode_again (suc (suc (suc zero))) few = refl
-mode_again (suc (suc (suc (suc zero)))) few = refl
-mode_again (suc (suc (suc (suc (suc zero))))) few = refl
-mode_again (suc (suc (suc (suc (suc (suc n)))))) few = absurd (omega arith)
+mode_again n few = grind (arith, nat_tests)
 
 mode_few : (mode : Mode) → mode_number mode ≤ 5
-mode_few TerminalCount = omega arith
-mode_few _ = omega arith
+mode_few mode = grind (arith, nat_tests)
 
 mode_is : (mode : Mode) → mode ≡ mode_numbered (mode_number mode)
 unfolding mode_numbered
-mode_is TerminalCount = refl
-mode_is _ = refl
+mode_is mode = grind (arith, nat_tests)
 
 access_again : (n : ℕ) → Ranges 1 3 n → access_number (access_of n) ≡ n
-access_again zero good = absurd (omega (arith, good.0))
-access_again (suc zero) good = refl
-access_again (suc (suc zero)) good = refl
-access_again (suc (suc (suc zero))) good = refl
-access_again (suc (suc (suc (suc n)))) good = absurd (omega (arith, good.1))
+access_again n good = grind (arith, nat_tests)
 
 access_ranges : (access : Access) → Ranges 1 3 (access_number access)
-access_ranges LowByte = (omega arith, omega arith)
-access_ranges HighByte = (omega arith, omega arith)
-access_ranges LowThenHigh = (omega arith, omega arith)
+access_ranges access = grind (arith, nat_tests)
 
 access_is : (access : Access) → access ≡ access_of (access_number access)
-access_is LowByte = refl
-access_is HighByte = refl
-access_is LowThenHigh = refl
+access_is access = grind (arith, nat_tests)
 
 notation_again : (n : ℕ) → n ≤ 1 → notation_number (notation_of_bit (bcd_bit n)) ≡ n
-notation_again zero few = refl
-notation_again (suc zero) few = refl
-notation_again (suc (suc n)) few = absurd (omega arith)
+notation_again n few = grind (arith, nat_tests)
 
 notation_few : (notation : Notation) → notation_number notation ≤ 1
-notation_few Binary = omega arith
-notation_few Decimal = omega arith
+notation_few notation = grind (arith, nat_tests)
 
 notation_is : (notation : Notation) → notation ≡ notation_of_bit (bcd_bit (notation_number notation))
-notation_is Binary = refl
-notation_is Decimal = refl
+notation_is notation = grind (arith, nat_tests)
 
 word_format : IsFormat 3 word_fields word_bytes Any
 unfolding word_fields
@@ -96,23 +76,13 @@ counts_format mode =
 abbrev latch_with : (size first second : ℕ) → List ℕ
 latch_with size first second = take size (first ∷ second ∷ [])
 
-zero_is : (n : ℕ) → n ≤ 0 → n ≡ 0
-zero_is n none = omega arith
-
 -- the bytes of a latch are as many as it says, and the others are 0
 latch_from :
     (size first second : ℕ) → size ≤ 2 → first ≤ bound_where (nat_lt 0 size) 255 →
     second ≤ bound_where (nat_lt 1 size) 255 →
     IsLatch (latch_with size first second)
     × (latch_bytes (latch_with size first second) ≡ size ∷ first ∷ second ∷ [])
-latch_from zero first second few one two =
-    rw (zero_is first one, zero_is second two)
-    (record { size = omega arith; first = omega arith; second = omega arith }, refl)
-latch_from (suc zero) first second few one two =
-    rw (zero_is second two) (record { size = omega arith; first = omega arith; second = omega arith }, refl)
-latch_from (suc (suc zero)) first second few one two =
-    (record { size = omega arith; first = omega arith; second = omega arith }, refl)
-latch_from (suc (suc (suc n))) first second few one two = absurd (omega arith)
+latch_from size first second few one two = grind (arith, nat_tests)
 
 latch_to : (bytes : List ℕ) → IsLatch bytes →
     (get_or bytes 0 0 ≤ bound_where (nat_lt 0 (length bytes)) 255)
@@ -173,27 +143,22 @@ flags_format has_count =
 -- ---- a counter
 
 flag_few : (flag : Bool) → flag_byte flag ≤ 1
-flag_few false = omega arith
-flag_few true = omega arith
+flag_few flag = grind (arith, nat_tests)
 
 not_asked : (asked : Bool) → flag_byte asked ≤ 0 → asked ≡ false
-not_asked false few = refl
-not_asked true few = absurd (omega arith)
+not_asked asked few = grind (arith, nat_tests)
 
 counted_to :
     (mode : Mode) (count : Option ℕ) (asked started : Bool) → HasCount mode count asked started → IsFew count →
     IsWithin (least_count mode) most_count count × (flag_byte asked ≤ flag_byte (is_some count))
     × (flag_byte started ≤ flag_byte (is_some count))
-counted_to mode None asked started has few =
-    (tt, omega (arith, ap flag_byte has.0), omega (arith, ap flag_byte has.1))
-counted_to mode (Some n) asked started has few = ((has, few), flag_few asked, flag_few started)
+counted_to mode count asked started has few = grind (arith, nat_tests)
 
 counted_from :
     (mode : Mode) (count : Option ℕ) (asked started : Bool) → IsWithin (least_count mode) most_count count →
     flag_byte asked ≤ flag_byte (is_some count) → flag_byte started ≤ flag_byte (is_some count) →
     HasCount mode count asked started × IsFew count
-counted_from mode None asked started is one two = ((not_asked asked one, not_asked started two), tt)
-counted_from mode (Some n) asked started is one two = is
+counted_from mode count asked started is one two = grind (arith, nat_tests)
 
 counter_format : IsFormat 31 counter_fields counter_bytes IsCounter
 unfolding counter_fields

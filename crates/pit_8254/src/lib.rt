@@ -185,6 +185,7 @@ impl Pit {
     }
 
     /// Runs the clock for `n` pulses as `pulses` does, in at most four steps a counter whatever `n` is.
+    #[tactic(auto, using(crate::proofs::Runs::rises_are))]
     pub fn pulses_counted<L: Ledger>(&mut self, n: u32, steps: &mut Steps<L>) -> Rises
         ensures state { self.new ≡ pulses n self.old }
         ensures rose { result.rose ≡ rises n self.old }
@@ -223,6 +224,7 @@ impl Pit {
 
     /// How many pulses until OUT of counter 0 next rises, as `pulses_to_rise` says, in at most three steps however
     /// many they are.
+    #[tactic(auto, using(crate::proofs::Rising::next_rise))]
     pub fn pulses_to_rise_counted<L: Ledger>(&self, steps: &mut Steps<L>) -> Option<u32>
         ensures rise { IsNextRise self.now result }
         ensures bound { IfSome result (λ n. n ≤ 2 * most_count + 1) }

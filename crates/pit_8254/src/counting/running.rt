@@ -243,6 +243,7 @@ impl Counter {
     }
 
     /// Part of a period, from its first pulse on.
+    #[tactic(auto, using(crate::proofs::Arrivals::period_ends))]
     fn run_in_period<L: Ledger>(&mut self, gate: bool, run: Run, steps: &mut Steps<L>) -> Run
         requires at_period { IsAtPeriod gate self.old }
         requires less { run.left < self.old.in_use }
@@ -256,6 +257,7 @@ impl Counter {
     }
 
     /// Runs this many pulses with the gate at this level, in at most four steps, and returns how often OUT rose.
+    #[tactic(auto, using(crate::proofs::Runs::no_pulses, crate::proofs::Runs::no_rises))]
     pub(crate) fn pulses<L: Ledger>(&mut self, gate: bool, pulses: u32, steps: &mut Steps<L>) -> u32
         ensures state { self.new ≡ pulses_of gate pulses self.old }
         ensures rose { result ≡ rises_of gate pulses self.old }

@@ -69,22 +69,3 @@ returns-clause-none c = λ none shown is.
     (rw (c.control-control.ensures.byte, c.bytes-bytes.ensures.bytes) (time_said c.args.self.now shown is))) in
     not_there c.new.result _ _ c.new.ensures.exact none
     (rw (date.0, date.1, date.2, time.0, time.1, time.2) (is.moment.date, is.moment.time))
-
-pub returns-in_err-year-clause-none : goal.returns-in_err-year-clause-none
-returns-in_err-year-clause-none c = λ none shown is.
-    let said = c.in_err-year.ensures.only shown.year shown.month shown.day
-    (rw (c.control-control.ensures.byte, c.bytes-bytes.ensures.bytes) (date_said c.args.self.now shown is)) in
-    absurd cc
-
-pub returns-in_err-hour-clause-none : goal.returns-in_err-hour-clause-none
-returns-in_err-hour-clause-none c = λ none shown is.
-    let said = c.in_err-hour.ensures.only shown.hour shown.minute shown.second
-    (rw (c.control-control.ensures.byte, c.bytes-bytes.ensures.bytes) (time_said c.args.self.now shown is)) in
-    absurd cc
-
-pub returns-clause-shown : goal.returns-clause-shown
-returns-clause-shown c =
-    is_shown c.args.self.now _ _ _ _ _ _
-    (rw (← c.control-control.ensures.byte, ← c.bytes-bytes.ensures.bytes) c.in_ok-year.ensures.said)
-    (rw (← c.control-control.ensures.byte, ← c.bytes-bytes.ensures.bytes) c.in_ok-hour.ensures.said)
-    c.new.result c.new.ensures.exact c.new.ensures.moment

@@ -1,12 +1,6 @@
 use Rattle.std.proofs.Common.{refl, arith}
-use Rattle.pit_8254.proofs.Runs.{room_kept, run_state, run_rose, no_pulses, no_rises}
+use Rattle.pit_8254.proofs.Runs.{room_kept, run_state, run_rose}
 use Rattle.pit_8254.proofs.counting.Counter.pulses.Goals as goal
-
-pub returns-then-pulses-eq0-clause-state : goal.returns-then-pulses-eq0-clause-state
-returns-then-pulses-eq0-clause-state g c = no_pulses c.args.gate c.args.pulses c.args.self.now c.if-pulses-eq0.true
-
-pub returns-then-pulses-eq0-clause-rose : goal.returns-then-pulses-eq0-clause-rose
-returns-then-pulses-eq0-clause-rose g c = no_rises c.args.gate c.args.pulses c.args.self.now c.if-pulses-eq0.true
 
 pub run_on-requires-clause-room : goal.run_on-requires-clause-room
 run_on-requires-clause-room g c = room_kept _ _ _ _ _ c.step-run.ensures.part (omega arith)

@@ -1,14 +1,13 @@
 use Rattle.std.proofs.Common.{rules, ◌≡◌, ◌+◌, ℕ, Option, Some, None, refl, sym, subst, arith}
 use Rattle.device_spec.specs.Pit.{CounterState}
 use Rattle.pit_8254.specs.NextRise.{IsFirstRise}
-use Rattle.pit_8254.proofs.Rising.{one_pulse, rises_first, passes_first, never_later, rises_after}
+use Rattle.pit_8254.proofs.Rising.{rises_first, passes_first, never_later, rises_after}
 use Rattle.pit_8254.proofs.counting.Counter.pulses_to_rise.Goals as goal
 
 pub returns-then-run-gt0-clause-rise : goal.returns-then-run-gt0-clause-rise
 returns-then-run-gt0-clause-rise g c =
     subst (λ (d : CounterState). IsFirstRise c.args.gate d (Some 1)) c.copy-counter.ensures.copy
-    (rises_first c.args.gate c.copy-counter.result c.step-run.new.self c.step-run.result.rose
-    (one_pulse _ _ _ _ _ c.step-run.ensures.part refl refl c.step-run.ensures.left) c.if-run-gt0.true)
+    (rises_first _ _ _ _ _ c.step-run.ensures.part refl refl c.step-run.ensures.left c.if-run-gt0.true)
 
 pub returns-in_err-more-clause-rise : goal.returns-in_err-more-clause-rise
 returns-in_err-more-clause-rise g c =
@@ -16,14 +15,14 @@ returns-in_err-more-clause-rise g c =
     subst (λ (answer : Option ℕ). IsFirstRise c.args.gate c.args.self.now answer) (sym none)
     (subst (λ (d : CounterState). IsFirstRise c.args.gate d None) c.copy-counter.ensures.copy
     (never_later c.args.gate 1 c.copy-counter.result c.step-run.new.self
-    (passes_first c.args.gate c.copy-counter.result c.step-run.new.self c.step-run.result.rose
-    (one_pulse _ _ _ _ _ c.step-run.ensures.part refl refl c.step-run.ensures.left) (omega (arith, c.if-run-gt0.false)))
+    (passes_first _ _ _ _ _ c.step-run.ensures.part refl refl c.step-run.ensures.left
+    (omega (arith, c.if-run-gt0.false)))
     c.in_err-more.ensures.rise))
 
 pub returns-clause-rise : goal.returns-clause-rise
 returns-clause-rise g c =
     subst (λ (d : CounterState). IsFirstRise c.args.gate d (Some (1 + c.in_ok-more.more))) c.copy-counter.ensures.copy
     (rises_after c.args.gate 1 c.in_ok-more.more c.copy-counter.result c.step-run.new.self
-    (passes_first c.args.gate c.copy-counter.result c.step-run.new.self c.step-run.result.rose
-    (one_pulse _ _ _ _ _ c.step-run.ensures.part refl refl c.step-run.ensures.left) (omega (arith, c.if-run-gt0.false)))
+    (passes_first _ _ _ _ _ c.step-run.ensures.part refl refl c.step-run.ensures.left
+    (omega (arith, c.if-run-gt0.false)))
     c.in_ok-more.ensures.rise)

@@ -13,7 +13,5 @@ returns-clause-part g c =
 
 pub returns-clause-done : goal.returns-clause-done
 returns-clause-done g c =
-    left_none_of_two c.args.gate c.args.self.now c.advance-run.new.self c.advance-run-2.new.self c.args.run
-    c.advance-run.result c.advance-run-2.result _
-    c.advance-run.ensures.part c.advance-run.ensures.left c.advance-run-2.ensures.part c.advance-run-2.ensures.left
-    (omega arith) c.skip.ensures.left (strobes c.args.gate c.args.self.now c.requires.settled c.requires.mode)
+    left_none_of_two _ _ _ _ _ _ _ c.advance-run.ensures.part c.advance-run.ensures.left c.advance-run-2.ensures.part
+    c.advance-run-2.ensures.left _ (omega arith) c.skip.ensures.left (strobes c.args.gate c.args.self.now c.requires.settled c.requires.mode)

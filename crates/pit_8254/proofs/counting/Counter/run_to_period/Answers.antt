@@ -5,9 +5,8 @@ use Rattle.pit_8254.proofs.counting.Counter.run_to_period.Goals as goal
 
 pub returns-then-begins-clause-arrives : goal.returns-then-begins-clause-arrives
 returns-then-begins-clause-arrives g c = λ some.
-    arrives_high c.args.gate c.args.self.now c.advance-run.new.self c.args.run c.advance-run.result
-    c.advance-run.ensures.part c.advance-run.ensures.left
-    (omega arith) (cc) (comes c.args.gate c.args.self.now c.requires.mode c.requires.settled) some
+    arrives_high _ _ _ _ _ c.advance-run.ensures.part c.advance-run.ensures.left (omega arith)
+    (comes _ _ c.requires.mode c.requires.settled) (cc) some
 
 pub advance-requires : goal.advance-requires
 advance-requires g c = record { room = room_kept _ _ _ _ _ c.advance-run.ensures.part c.requires.room }
@@ -17,7 +16,5 @@ returns-clause-part g c = part_join _ _ _ _ _ _ _ c.advance-run.ensures.part c.a
 
 pub returns-clause-arrives : goal.returns-clause-arrives
 returns-clause-arrives g c = λ some.
-    arrives_low c.args.gate c.args.self.now c.advance-run.new.self c.advance.new.self c.args.run c.advance-run.result
-    c.advance.result
-    c.advance-run.ensures.part c.advance-run.ensures.left c.advance.ensures.part c.advance.ensures.left
-    (omega arith) (cc) (comes c.args.gate c.args.self.now c.requires.mode c.requires.settled) some
+    arrives_low _ _ _ _ _ c.advance-run.ensures.part c.advance-run.ensures.left (omega arith)
+    (comes _ _ c.requires.mode c.requires.settled) _ _ c.advance.ensures.part c.advance.ensures.left (cc) some
