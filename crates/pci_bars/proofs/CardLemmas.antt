@@ -1,9 +1,9 @@
 -- The registers of a card after a reset, as they are read, and after a store of one byte.
-use Rattle.std.proofs.Common.{◌≡◌, ◌≢◌, ◌⊎◌, ℕ, zero, suc, ◌+◌, ◌-◌, ◌*◌, ◌^◌, ◌<◌, ◌≤◌, false, Option, None, List, []}
-use Rattle.std.proofs.Common.{◌∷◌, length, get_or, set, Some, inl, inr, ◌∙◌, refl, sym, ap, subst, arith, lit<, lit≤}
-use Rattle.std.proofs.Common.{add-zero, get_or-set_same, get_or-set_other, ◌==◌, slice_index, slice_get}
+use Rattle.std.proofs.Common.{◌≡◌, ◌≢◌, ◌⊎◌, ℕ, ◌+◌, ◌-◌, ◌*◌, ◌^◌, ◌<◌, ◌≤◌, false, Option, None, List}
+use Rattle.std.proofs.Common.{length, get_or, set, Some, inl, inr, ◌∙◌, refl, sym, ap, arith, lit<, lit≤}
+use Rattle.std.proofs.Common.{add-zero, get_or-set_same, get_or-set_other, slice_index, slice_get}
 use Rattle.board_prelude.proofs.Common.{and_left, ne_eqb, cases_eq, nat_tests, Reg, Base}
-use Rattle.board_prelude.proofs.Common.{MemoryBase, IoBase, OutsideBase, FittedCard, Setup, IsCard, card_at, byte}
+use Rattle.board_prelude.proofs.Common.{IoBase, FittedCard, Setup, IsCard, card_at, byte}
 use Rattle.board_prelude.proofs.Common.{merged, wide, card_function, listed, base_reset, base_writable, rom_writable}
 use Rattle.board_prelude.proofs.Common.{reset_byte, reg_after, Bytes, card_register, base_register, option_map_or}
 use Rattle.board_prelude.proofs.Common.{smram, is_same, merged-all, merged-none, changed_byte-one_same}
