@@ -7,7 +7,7 @@ use Rattle.std.proofs.lemmas.List.{replicate-append-replicate}
 use Rattle.std.proofs.lemmas.List.Folds.{concat-append}
 use Rattle.byte_fields.specs.declared.fault.Fault.{Fault}
 use Rattle.byte_fields.specs.declared.fault.Fault.TheVariants as faults
-use Rattle.byte_fields.specs.Fields.{then_read, gives, Failed}
+use Rattle.byte_fields.specs.Fields.{Failed}
 use Rattle.byte_fields.specs.Pages.{page_field, memory_page, memory_bytes, memory_fields}
 use Rattle.byte_fields.proofs.Formats.{IsFormat}
 use Rattle.byte_fields.proofs.Loops.{with_front}
@@ -26,8 +26,9 @@ bank_bytes : (kept : List ℕ) → length kept % memory_page ≡ 0 → length ke
     memory_bytes (bank_of kept) ≡ memory_bytes kept ++ replicate ((bank_size - length kept) / memory_page) 0
 bank_bytes kept pages within =
     let rest : ℕ = (bank_size - length kept) / memory_page in
+    let whole : bank_size - length kept ≡ rest * memory_page = omega (arith, pages, within) in
     memory_append (length kept / memory_page) kept (replicate (bank_size - length kept) 0) (omega (arith, pages))
-    ∙ ap (λ (n : ℕ). memory_bytes kept ++ memory_bytes (replicate n 0)) (omega (arith, pages, within))
+    ∙ ap (λ (n : ℕ). memory_bytes kept ++ memory_bytes (replicate n 0)) whole
     ∙ rw (memory_zeros rest) refl
 
 pub bank_saved :
