@@ -7,26 +7,36 @@ use Rattle.byte_fields.specs.Fields.{AreBytes, Reading, Took, Filled}
 use Rattle.byte_fields.specs.Loads.{Loads, LoadsWith, OneSpelling}
 use Rattle.byte_fields.proofs.Formats.{IsFormat, ok_is, not_err}
 
+module _ {A : Type 0} {n : ℕ} {reads : Reading A} {spelled : A → List ℕ} {IsSound : A → Type 0}
+    (is : IsFormat n reads spelled IsSound) (before : List ℕ) where
+  -- what is read is what was spelled
+  read_ok : (value got : A) (rest after : List ℕ) → reads before ≡ Ok (got, after) → IsSound value →
+      before ≡ spelled value ++ rest → (got ≡ value) × (after ≡ rest)
+  read_ok value got rest after read sound begins =
+      let same = ok_is (got, after) (value, rest) (sym read ∙ rw begins (is.back value rest sound)) in
+      (ap (λ (pair : A × List ℕ). pair.0) same, ap (λ (pair : A × List ℕ). pair.1) same)
+
+  read_err : (value : A) (rest : List ℕ) (left : ℕ) → reads before ≡ Err left → IsSound value →
+      before ≡ spelled value ++ rest → ⊥
+  read_err value rest left read sound begins =
+      not_err (value, rest) left (sym (rw begins (is.back value rest sound)) ∙ read)
+
 pub loads :
     {A : Type 0} {n : ℕ} {reads : Reading A} {spelled : A → List ℕ} {IsSound : A → Type 0} →
     IsFormat n reads spelled IsSound → (before after : List ℕ) (result : Result A Bad) → AreBytes before →
     Took (λ value. value) result after (reads before) → Loads reads spelled IsSound before after result
-loads {A} {reads = reads} is before after (Ok got) are took = record {
+loads is before after (Ok got) are took = record {
   loaded =
       let told = is.taken before got after are took in
       (told.1, told.0);
   exact = λ value rest sound begins.
-      let one : A × List ℕ = (got, after) in
-      let two : A × List ℕ = (value, rest) in
-      let same = ok_is one two (sym took ∙ (ap reads begins ∙ is.back value rest sound)) in
-      (ap (λ (pair : A × List ℕ). Ok pair.0) same, ap (λ (pair : A × List ℕ). pair.1) same);
+      let same = read_ok is before value got rest after took sound begins in
+      (rw same.0 refl, same.1);
   bad = took;
 }
-loads {A} {reads = reads} is before after (Err bad) are took = record {
+loads is before after (Err bad) are took = record {
   loaded = tt;
-  exact = λ value rest sound begins.
-      let pair : A × List ℕ = (value, rest) in
-      absurd (not_err pair _ (sym (ap reads begins ∙ is.back value rest sound) ∙ took));
+  exact = λ value rest sound begins. absurd (read_err is before value rest _ took sound begins);
   bad = took;
 }
 
@@ -34,22 +44,18 @@ pub loads_with :
     {A : Type 0} {n : ℕ} {reads : Reading A} {spelled : A → List ℕ} {IsSound : A → Type 0} →
     IsFormat n reads spelled IsSound → (before after : List ℕ) (result : Result A Fault) → AreBytes before →
     Filled (λ value. value) result after (reads before) → LoadsWith reads spelled IsSound before after result
-loads_with {A} {reads = reads} is before after (Ok got) are filled = record {
+loads_with is before after (Ok got) are filled = record {
   loaded =
       let told = is.taken before got after are filled in
       (told.1, told.0);
   exact = λ value rest sound begins.
-      let one : A × List ℕ = (got, after) in
-      let two : A × List ℕ = (value, rest) in
-      let same = ok_is one two (sym filled ∙ (ap reads begins ∙ is.back value rest sound)) in
-      inr (ap (λ (pair : A × List ℕ). Ok pair.0) same, ap (λ (pair : A × List ℕ). pair.1) same);
+      let same = read_ok is before value got rest after filled sound begins in
+      inr (rw same.0 refl, same.1);
   bad = filled;
 }
-loads_with {A} {reads = reads} is before after (Err faults.Bad) are filled = record {
+loads_with is before after (Err faults.Bad) are filled = record {
   loaded = tt;
-  exact = λ value rest sound begins.
-      let pair : A × List ℕ = (value, rest) in
-      absurd (not_err pair _ (sym (ap reads begins ∙ is.back value rest sound) ∙ filled));
+  exact = λ value rest sound begins. absurd (read_err is before value rest _ filled sound begins);
   bad = filled;
 }
 loads_with is before after (Err faults.NoMemory) are filled = record {
@@ -61,9 +67,6 @@ loads_with is before after (Err faults.NoMemory) are filled = record {
 pub one_spelling :
     {A : Type 0} {n : ℕ} {reads : Reading A} {spelled : A → List ℕ} {IsSound : A → Type 0} →
     IsFormat n reads spelled IsSound → OneSpelling spelled IsSound
-one_spelling {A} {reads = reads} {spelled = spelled} is left right of_left of_right same =
-    let one : A × List ℕ = (left, []) in
-    let two : A × List ℕ = (right, []) in
-    let begins : spelled left ++ [] ≡ spelled right ++ [] = ap (λ (bytes : List ℕ). bytes ++ []) same in
+one_spelling {A} {spelled = spelled} is left right of_left of_right same =
     ap (λ (pair : A × List ℕ). pair.0)
-    (ok_is one two (sym (is.back left [] of_left) ∙ (ap reads begins ∙ is.back right [] of_right)))
+    (ok_is (left, []) (right, []) (sym (is.back left [] of_left) ∙ rw same (is.back right [] of_right)))

@@ -37,10 +37,8 @@ pub goes_on :
     with_front (front ++ value ∷ []) (many (next s value) (count - (i + 1)) after) ≡ total
 goes_on one next many loop front s count i bytes after value total below is so_far =
     let left : count - i ≡ suc (count - (i + 1)) = omega arith in
-    let step : with_front front (many s (count - i) bytes)
-    ≡ with_front front (with_later (λ value. many (next s value) (count - (i + 1))) value after) =
-    rw (left, loop.more s (count - (i + 1)) bytes, is) refl in
-    sym (front_joined front value (many (next s value) (count - (i + 1)) after)) ∙ (sym step ∙ so_far)
+    sym (front_joined front value (many (next s value) (count - (i + 1)) after))
+    ∙ rw (left, loop.more s (count - (i + 1)) bytes, is) at so_far
 
 pub stops :
     {S A : Type 0} (one : S → Reading A) (next : S → A → S) (many : S → ℕ → Reading (List A)) → IsLoop one next many →
@@ -48,9 +46,7 @@ pub stops :
     i < count → one s bytes ≡ Err bad → with_front front (many s (count - i) bytes) ≡ total → total ≡ Err bad
 stops one next many loop front s count i bytes bad total below is so_far =
     let left : count - i ≡ suc (count - (i + 1)) = omega arith in
-    let step : with_front front (many s (count - i) bytes) ≡ Err bad =
-    rw (left, loop.more s (count - (i + 1)) bytes, is) refl in
-    sym so_far ∙ step
+    sym (rw (left, loop.more s (count - (i + 1)) bytes, is) at so_far)
 
 pub is_done :
     {S A : Type 0} (one : S → Reading A) (next : S → A → S) (many : S → ℕ → Reading (List A)) → IsLoop one next many →
@@ -58,6 +54,4 @@ pub is_done :
     count ≤ i → with_front front (many s (count - i) bytes) ≡ total → total ≡ Ok (front, bytes)
 is_done one next many loop front s count i bytes total over so_far =
     let left : count - i ≡ 0 = omega arith in
-    let step : with_front front (many s (count - i) bytes) ≡ Ok (front ++ [], bytes) =
-    rw (left, loop.none s bytes) refl in
-    sym so_far ∙ (step ∙ ap (λ values. Ok (values, bytes)) (append-nil front))
+    sym (rw (left, loop.none s bytes, append-nil front) at so_far)

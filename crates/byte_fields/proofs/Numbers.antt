@@ -1,10 +1,11 @@
 -- Numbers as fields.
-use Rattle.std.proofs.Common.{◌≡◌, ℕ, zero, suc, ◌+◌, ◌-◌, ◌^◌, ◌<◌, ◌≤◌, inl, inr, Bool, true, false, List, [], ◌∷◌}
-use Rattle.std.proofs.Common.{length, Option, Some, None, refl, sym, ap, subst, ◌∙◌, arith, nat_le, is_some}
+use Rattle.std.proofs.Common.{◌≡◌, ℕ, ◌+◌, ◌-◌, ◌^◌, ◌<◌, ◌≤◌, inl, inr, Bool, true, false, List, [], ◌∷◌}
+use Rattle.std.proofs.Common.{length, Option, Some, None, refl, sym, ap, ◌∙◌, arith, nat_le, is_some}
 use Rattle.std.proofs.Common.{unwrap_or, ◌==◌, ◌&&◌, if◌then◌else◌}
 use Rattle.std.specs.Int.{Width as Size, byte_len}
 use Rattle.board_base.specs.Common.{w8, w16, w32, w64, to_le_bytes, from_le_bytes}
-use Rattle.board_base.proofs.Common.{cases_eq, eq-eqb, ne_eqb, leb-true, le-leb, and_from, and_parts}
+use Rattle.std.proofs.lemmas.Bool.Decides.{nat_tests}
+use Rattle.board_base.proofs.Common.{cases_eq, eq-eqb, ne_eqb}
 use Rattle.std.proofs.lemmas.Nat.{le_bytes_2, le_bytes_4, le_bytes_8, from_le_bytes-to_le_bytes_2}
 use Rattle.std.proofs.lemmas.Nat.{from_le_bytes-to_le_bytes_4, from_le_bytes-to_le_bytes_8}
 use Rattle.byte_fields.specs.Fields.{AreBytes, Reading, number, number_where, within, where_true, flag_byte, flag_of}
@@ -136,21 +137,14 @@ where_ok false x y is = absurd cc
 abbrev IsGoodNumber : ℕ → (ℕ → Bool) → ℕ → Type 0
 IsGoodNumber limit is_good n = (n < limit) × (is_good n ≡ true)
 
-good_to : (limit : ℕ) (is_good : ℕ → Bool) (n : ℕ) → IsGoodNumber limit is_good n →
-    (n < limit) × (where_true (is_good n) n ≡ Some n)
-good_to limit is_good n good = (good.0, rw good.1 refl)
-
-good_from : (limit : ℕ) (is_good : ℕ → Bool) (n a : ℕ) → n < limit → where_true (is_good n) n ≡ Some a →
-    (n ≡ a) × IsGoodNumber limit is_good a
-good_from limit is_good n a below is =
-    let told = where_ok (is_good n) n a is in
-    (told.1, subst (IsGoodNumber limit is_good) told.1 (below, told.0))
-
 pub where_format :
     {size : Size} {limit : ℕ} → IsWide size limit → (is_good : ℕ → Bool) →
     IsFormat (byte_len size) (number_where size is_good) (to_le_bytes size) (IsGoodNumber limit is_good)
 where_format {limit = limit} wide is_good =
-    number_format wide (λ n. n) (IsGoodNumber limit is_good) (good_to limit is_good) (good_from limit is_good)
+    number_format wide (λ n. n) (IsGoodNumber limit is_good) (λ n good. (good.0, rw good.1 refl))
+    (λ n a below is.
+    let told = where_ok (is_good n) n a is in
+    (told.1, rw (← told.1) (below, told.0)))
 
 pub byte_where : (is_good : ℕ → Bool) →
     IsFormat 1 (number_where w8 is_good) (λ n. n ∷ []) (IsGoodNumber (2 ^ 8) is_good)
@@ -159,23 +153,13 @@ byte_where is_good = as_byte (where_format wide8 is_good) (λ n good. good.0)
 abbrev pub Ranges : (low high n : ℕ) → Type 0
 Ranges low high n = (low ≤ n) × (n ≤ high)
 
-range_to : (limit low high n : ℕ) → high < limit → Ranges low high n →
-    IsGoodNumber limit (λ n. nat_le low n && nat_le n high) n
-range_to limit low high n fits is =
-    (omega (arith, fits, is.1), and_from _ _ (le-leb low n is.0) (le-leb n high is.1))
-
-range_from : (limit low high n : ℕ) → IsGoodNumber limit (λ n. nat_le low n && nat_le n high) n → Ranges low high n
-range_from limit low high n good =
-    let both = and_parts (nat_le low n) (nat_le n high) good.1 in
-    (leb-true low n both.0, leb-true n high both.1)
-
 pub within_format :
     {size : Size} {limit : ℕ} → IsWide size limit → (low high : ℕ) → high < limit →
     IsFormat (byte_len size) (within size low high) (to_le_bytes size) (Ranges low high)
 within_format {size} {limit} wide low high fits =
     format_as (byte_len size) (to_le_bytes size) (Ranges low high)
-    (where_format wide (λ n. nat_le low n && nat_le n high)) (omega arith)
-    (λ n is. range_to limit low high n fits is) (λ n good. range_from limit low high n good) (λ n good. refl)
+    (where_format wide (λ n. nat_le low n && nat_le n high)) (omega arith) (λ n is. grind (arith, nat_tests))
+    (λ n good. grind (arith, nat_tests)) (λ n good. refl)
 
 pub byte_within : (low high : ℕ) → high < 2 ^ 8 → IsFormat 1 (within w8 low high) (λ n. n ∷ []) (Ranges low high)
 byte_within low high fits = as_byte (within_format wide8 low high fits) (λ n good. omega arith)
@@ -205,18 +189,13 @@ any_byte = as_byte (any_number wide8 (omega arith)) (λ n small. small)
 -- ---- flags that are 1 only where that is allowed
 
 flag_again : (allowed : Bool) (n : ℕ) → n ≤ flag_byte allowed → flag_byte (n == 1) ≡ n
-flag_again allowed zero few = refl
-flag_again allowed (suc zero) few = refl
-flag_again true (suc (suc n)) few = absurd (omega arith)
-flag_again false (suc (suc n)) few = absurd (omega arith)
+flag_again allowed n few = grind (arith, nat_tests)
 
 pub bound_where-small : (there : Bool) → bound_where there 255 < 2 ^ 8
-bound_where-small true = omega arith
-bound_where-small false = omega arith
+bound_where-small there = grind arith
 
 flag_small : (flag : Bool) → flag_byte flag < 2 ^ 8
-flag_small false = omega arith
-flag_small true = omega arith
+flag_small flag = grind arith
 
 flag_is : (flag : Bool) → flag ≡ (flag_byte flag == 1)
 flag_is false = refl
@@ -248,8 +227,7 @@ some_from spelled low high false n is = (tt, ap (λ n. 0 ∷ spelled n) (omega (
 some_from spelled low high true n is = (is, refl)
 
 bound_small : (there : Bool) (high limit : ℕ) → high < limit → bound_where there high < limit
-bound_small true high limit few = few
-bound_small false high limit few = omega (arith, few)
+bound_small there high limit few = grind arith
 
 pub optional_format :
     {n limit : ℕ} {number_from : (low high : ℕ) → Reading ℕ} {spelled : ℕ → List ℕ} →

@@ -1,7 +1,7 @@
 -- Bytes beside plain ones are spelled page by page, and read back.
 use Rattle.std.proofs.Common.{◌≡◌, ℕ, zero, suc, ◌+◌, ◌-◌, ◌*◌, ◌≤◌, ◌<◌, inl, inr, min, Bool, true, false, not, cond}
 use Rattle.std.proofs.Common.{List, [], ◌∷◌, ◌++◌, length, take, drop, replicate, Some, None, Result, Ok, Err, refl}
-use Rattle.std.proofs.Common.{sym, ap, subst, ◌∙◌, append_assoc, arith, nat_lt, bytes_eq}
+use Rattle.std.proofs.Common.{sym, ap, ◌∙◌, append_assoc, arith, bytes_eq}
 use Rattle.std.specs.List.{concat}
 use Rattle.board_base.proofs.Common.{take_at, drop_at, length-append, length-take, length-drop, take-append-drop}
 use Rattle.board_base.proofs.Common.{nil_from_length, bytes_eq-Decides, cases_lt, drop-drop, drop_all, take_all}
@@ -9,7 +9,7 @@ use Rattle.board_base.proofs.Common.{append-nil, take-append-le, drop-append-le}
 use Rattle.std.proofs.lemmas.List.{take_min, take-replicate, drop-replicate, length-replicate}
 use Rattle.std.proofs.lemmas.List.{replicate-append-replicate}
 use Rattle.std.proofs.Math.Nat.{suc-mul, zero-mul}
-use Rattle.byte_fields.specs.Fields.{Reading, then_read, gives, said, ◌>>=◌, flag_byte, other_than}
+use Rattle.byte_fields.specs.Fields.{Reading, then_read, gives, ◌>>=◌, flag_byte, other_than}
 use Rattle.byte_fields.specs.Pages.{page_bytes, page_where, page_field, each_page_bytes, each_page_field, cut}
 use Rattle.byte_fields.specs.Pages.{pages_of, pages_bytes, pages_fields, memory_page, memory_bytes, memory_fields}
 use Rattle.byte_fields.proofs.Formats.{IsFormat, format_as, fields_format, ◌then◌, ◌&◌, last_field, whole_field}
@@ -22,11 +22,6 @@ use Rattle.byte_fields.proofs.Numbers.{flag_format}
 abbrev IsOther : (plain page : List ℕ) → Type 0
 IsOther plain page = (length page ≡ length plain) × (bytes_eq page plain ≡ false)
 
-other_cut : (same : Bool) (bytes page after : List ℕ) →
-    cond same (Err (length bytes)) (Ok (page, after)) ≡ said (cond same None (Some page)) bytes after
-other_cut true bytes page after = refl
-other_cut false bytes page after = refl
-
 other_is : (same : Bool) (front page : List ℕ) → cond same None (Some front) ≡ Some page →
     (same ≡ false) × (front ≡ page)
 other_is true front page is = absurd cc
@@ -34,11 +29,7 @@ other_is false front page is = (refl, cc)
 
 other_format : (plain : List ℕ) → IsFormat (length plain) (other_than plain) (λ page. page) (IsOther plain)
 other_format plain =
-    read_as
-    (λ bytes.
-    let n = length plain in
-    ap (cond (nat_lt (length bytes) n) (Err (length bytes)))
-    (other_cut (bytes_eq (take n bytes) plain) bytes (take n bytes) (drop n bytes)))
+    read_as (λ bytes. grind arith)
     (cut_format {says = λ front. cond (bytes_eq front plain) None (Some front)} (λ page. page) (IsOther plain)
     (λ page good. (good.0, rw good.1 refl))
     (λ front page long are is.
@@ -110,54 +101,47 @@ each_format (plain ∷ later) =
 
 -- ---- bytes cut into pages
 
+no_cut : (size most : ℕ) → cut size most [] ≡ []
+unfolding cut
+no_cut size zero = refl
+no_cut size (suc most) = refl
+
 concat_cut : (size most : ℕ) (bytes : List ℕ) → 0 < size → length bytes ≤ most → concat (cut size most bytes) ≡ bytes
 unfolding cut
-concat_cut size zero [] some few = refl
+concat_cut size most [] some few = rw (no_cut size most) refl
 concat_cut size zero (byte ∷ later) some few = absurd (omega (arith, few))
-concat_cut size (suc most) [] some few = refl
 concat_cut size (suc most) (byte ∷ later) some few =
     let bytes = byte ∷ later in
-    ap (λ (rest : List ℕ). take size bytes ++ rest)
-    (concat_cut size most (drop size bytes) some (omega (arith, some, few, length-drop size bytes)))
-    ∙ take-append-drop size bytes
+    rw (concat_cut size most (drop size bytes) some (omega (arith, length-drop size bytes)))
+    (take-append-drop size bytes)
 
 most_cut : (size most : ℕ) (bytes : List ℕ) → 0 < size → most_of (cut size most bytes) ≤ 2 * length bytes
 unfolding cut most_of
-most_cut size zero bytes some =
-    let none : most_of (cut size zero bytes) ≡ 0 = refl in
-    omega (arith, none)
-most_cut size (suc most) [] some =
-    let none : most_of (cut size (suc most) []) ≡ 0 = refl in
-    omega (arith, none)
+most_cut size zero bytes some = omega arith
+most_cut size (suc most) [] some = omega arith
 most_cut size (suc most) (byte ∷ later) some =
     let bytes = byte ∷ later in
     let rest = most_cut size most (drop size bytes) some in
-    omega (arith, some, rest, length-take size bytes, length-drop size bytes)
+    omega (arith, length-take size bytes, length-drop size bytes)
 
 same_cut : (size m n : ℕ) (bytes : List ℕ) → 0 < size → length bytes ≤ m → length bytes ≤ n →
     cut size m bytes ≡ cut size n bytes
 unfolding cut
-same_cut size zero zero [] some to_m to_n = refl
-same_cut size zero (suc n) [] some to_m to_n = refl
-same_cut size (suc m) zero [] some to_m to_n = refl
-same_cut size (suc m) (suc n) [] some to_m to_n = refl
+same_cut size m n [] some to_m to_n = no_cut size m ∙ sym (no_cut size n)
 same_cut size zero n (byte ∷ later) some to_m to_n = absurd (omega (arith, to_m))
 same_cut size (suc m) zero (byte ∷ later) some to_m to_n = absurd (omega (arith, to_n))
 same_cut size (suc m) (suc n) (byte ∷ later) some to_m to_n =
-    let bytes = byte ∷ later in
-    ap (λ (rest : List (List ℕ)). take size bytes ∷ rest)
-    (same_cut size m n (drop size bytes) some (omega (arith, some, to_m, length-drop size bytes))
-    (omega (arith, some, to_n, length-drop size bytes)))
+    let fewer = length-drop size (byte ∷ later) in
+    rw (same_cut size m n (drop size (byte ∷ later)) some (omega arith) (omega arith)) refl
 
 first_page : (size : ℕ) (bytes : List ℕ) → 0 < size → 0 < length bytes →
     pages_of size bytes ≡ take size bytes ∷ pages_of size (drop size bytes)
 unfolding cut
 first_page size [] some there = absurd (omega (arith, there))
 first_page size (byte ∷ later) some there =
-    let bytes = byte ∷ later in
-    ap (λ (rest : List (List ℕ)). take size bytes ∷ rest)
-    (same_cut size (length later) (length (drop size bytes)) (drop size bytes) some
-    (omega (arith, some, length-drop size bytes)) (omega arith))
+    let rest = drop size (byte ∷ later) in
+    rw (same_cut size (length later) (length rest) rest some (omega (arith, length-drop size (byte ∷ later)))
+    (omega arith)) refl
 
 pub pages_format : (size : ℕ) (plain : List ℕ) → 0 < size →
     IsFormat (2 * length plain) (pages_fields size plain) (pages_bytes size plain)
@@ -195,7 +179,7 @@ pub bytes_first : (size : ℕ) (plain bytes : List ℕ) → 0 < size → 0 < len
     ++ pages_bytes size (drop size plain) (drop (length (take size plain)) bytes)
 unfolding pages_bytes each_page_bytes
 bytes_first size plain bytes some there =
-    ap (λ (pages : List (List ℕ)). each_page_bytes pages bytes) (first_page size plain some there)
+    rw (first_page size plain some there) refl
 
 pub fields_first : (size : ℕ) (plain bytes : List ℕ) → 0 < size → 0 < length plain →
     pages_fields size plain bytes
@@ -203,7 +187,7 @@ pub fields_first : (size : ℕ) (plain bytes : List ℕ) → 0 < size → 0 < le
     (λ page. pages_fields size (drop size plain) >>= λ rest. gives (page ++ rest))
 unfolding pages_fields each_page_field
 fields_first size plain bytes some there =
-    ap (λ (pages : List (List ℕ)). each_page_field pages bytes) (first_page size plain some there)
+    rw (first_page size plain some there) refl
 
 -- ---- loops over pages: the page from a place on has so many bytes
 
@@ -218,10 +202,11 @@ after_page : (size done count : ℕ) (bytes : List ℕ) → count ≡ min size (
 after_page size done count bytes is =
     elim (cases_lt (length bytes - done) size) [
       | inl last ↦
-          drop_all size (drop done bytes) (omega (arith, length-drop done bytes, last))
-          ∙ sym (drop_all (done + count) bytes (omega (arith, is, last)))
+          rw (drop_all size (drop done bytes) (omega (arith, length-drop done bytes)))
+          (sym (drop_all (done + count) bytes (omega arith)))
       | inr whole ↦
-          drop-drop size done bytes ∙ ap (λ (n : ℕ). drop (done + n) bytes) (omega (arith, is, whole))
+          let same : count ≡ size = omega arith in
+          rw same (drop-drop size done bytes)
     ]
 
 pub push_begins : (size : ℕ) (into plain bytes : List ℕ) →
@@ -238,20 +223,18 @@ push_goes_on size done count into now plain bytes total some same below is so_fa
     let of_plain : count ≡ min size (length plain - done) = omega (arith, is, same) in
     let long : length (take size (drop done plain)) ≡ count =
     omega (arith, is, same, length-take size (drop done plain), length-drop done plain) in
-    let first : pages_bytes size (drop done plain) (drop done bytes)
-    ≡ page_bytes (take count (drop done plain)) (take count (drop done bytes))
-    ++ pages_bytes size (drop (done + count) plain) (drop (done + count) bytes) =
-    bytes_first size (drop done plain) (drop done bytes) some (omega (arith, below, same, length-drop done plain))
-    ∙ rw (
+    let first = rw (
+      bytes_first size (drop done plain) (drop done bytes) some (omega (arith, below, same, length-drop done plain)),
       long,
       page_at size done count plain of_plain,
       after_page size done count plain of_plain,
       drop-drop count done bytes,
-    ) refl in
-    rw added
-    (append_assoc into (page_bytes (take count (drop done plain)) (take count (drop done bytes)))
-    (pages_bytes size (drop (done + count) plain) (drop (done + count) bytes))
-    ∙ ap (λ (rest : List ℕ). into ++ rest) (sym first) ∙ so_far)
+    ) at so_far in
+    rw (
+      added,
+      append_assoc into (page_bytes (take count (drop done plain)) (take count (drop done bytes)))
+          (pages_bytes size (drop (done + count) plain) (drop (done + count) bytes)),
+    ) first
 
 -- the same of parts of slices
 pub push_page_on :
@@ -313,13 +296,8 @@ pub pages_go_on :
     page_field (take count (drop done plain)) bytes ≡ Ok (page, after) →
     with_front (front ++ page) (pages_fields size (drop (done + count) plain) after) ≡ total
 pages_go_on size done count plain front page bytes after total some below is so_far read =
-    let step : pages_fields size (drop done plain) bytes
-    ≡ then_read (pages_fields size (drop (done + count) plain) after) (λ rest. gives (page ++ rest)) =
-    fields_at size done count plain bytes some below is
-    ∙ ap (λ (first : Result (List ℕ × List ℕ) ℕ). then_read first
-    (λ page. pages_fields size (drop (done + count) plain) >>= λ rest. gives (page ++ rest))) read in
     sym (joined front page (pages_fields size (drop (done + count) plain) after))
-    ∙ (sym (ap (with_front front) step) ∙ so_far)
+    ∙ rw (fields_at size done count plain bytes some below is, read) at so_far
 
 pub pages_stop :
     (size done count : ℕ) (plain front bytes : List ℕ) (left : ℕ) (total : Result (List ℕ × List ℕ) ℕ) → 0 < size →
@@ -327,20 +305,13 @@ pub pages_stop :
     with_front front (pages_fields size (drop done plain) bytes) ≡ total →
     page_field (take count (drop done plain)) bytes ≡ Err left → total ≡ Err left
 pages_stop size done count plain front bytes left total some below is so_far read =
-    let step : pages_fields size (drop done plain) bytes ≡ Err left =
-    fields_at size done count plain bytes some below is
-    ∙ ap (λ (first : Result (List ℕ × List ℕ) ℕ). then_read first
-    (λ page. pages_fields size (drop (done + count) plain) >>= λ rest. gives (page ++ rest))) read in
-    sym so_far ∙ ap (with_front front) step
+    sym (rw (fields_at size done count plain bytes some below is, read) at so_far)
 
 pub pages_end :
     (size done : ℕ) (plain front bytes : List ℕ) (total : Result (List ℕ × List ℕ) ℕ) → length plain ≤ done →
     with_front front (pages_fields size (drop done plain) bytes) ≡ total → total ≡ Ok (front, bytes)
 pages_end size done plain front bytes total over so_far =
-    sym so_far
-    ∙ (ap (with_front front) (ap (λ (p : List ℕ). pages_fields size p bytes) (drop_all done plain over)
-    ∙ no_fields size bytes)
-    ∙ ap (λ (all : List ℕ). Ok (all, bytes)) (append-nil front))
+    sym (rw (drop_all done plain over, no_fields size bytes, append-nil front) at so_far)
 
 -- a page that replaces its place
 
@@ -353,9 +324,9 @@ page_is done count now old same =
 pub front_put : (done count : ℕ) (now page rest : List ℕ) → done ≤ length now → length page ≡ count →
     take (done + count) (take done now ++ (page ++ rest)) ≡ take done now ++ page
 front_put done count now page rest within same =
-    ap (take (done + count)) (sym (append_assoc (take done now) page rest))
-    ∙ take_at (take done now ++ page) rest (done + count)
-    (omega (arith, length-append (take done now) page, length-take done now, within, same))
+    rw (← append_assoc (take done now) page rest)
+    (take_at (take done now ++ page) rest (done + count)
+    (omega (arith, length-append (take done now) page, length-take done now)))
 
 pub rest_put : (done count : ℕ) (now old page : List ℕ) → done ≤ length now → length page ≡ count →
     drop done now ≡ drop done old →
@@ -364,25 +335,14 @@ pub rest_put : (done count : ℕ) (now old page : List ℕ) → done ≤ length 
 rest_put done count now old page within same is =
     let rest : List ℕ = drop (done + count - done) (drop done now) in
     let long : done + count - done ≡ count = omega arith in
-    ap (drop (done + count)) (sym (append_assoc (take done now) page rest))
-    ∙ drop_at (take done now ++ page) rest (done + count)
-    (omega (arith, length-append (take done now) page, length-take done now, within, same))
-    ∙ rw (long, is) (drop-drop count done old)
+    rw (← append_assoc (take done now) page rest)
+    (drop_at (take done now ++ page) rest (done + count)
+    (omega (arith, length-append (take done now) page, length-take done now))
+    ∙ rw (long, is) (drop-drop count done old))
 
 pub length_put : (done count : ℕ) (now page : List ℕ) → done + count ≤ length now → length page ≡ count →
     length (take done now ++ (page ++ drop (done + count - done) (drop done now))) ≡ length now
-length_put done count now page within same =
-    let rest : List ℕ = drop (done + count - done) (drop done now) in
-    omega (
-      arith,
-      within,
-      same,
-      length-append (take done now) (page ++ rest),
-      length-append page rest,
-      length-take done now,
-      length-drop (done + count - done) (drop done now),
-      length-drop done now,
-    )
+length_put done count now page within same = simp (length-append, length-take, length-drop) (omega arith)
 
 -- the same over zeros
 
@@ -393,13 +353,10 @@ pub zeros_go_on :
     with_front (front ++ page) (pages_fields size (replicate (n - size) 0) after) ≡ total
 zeros_go_on size n front page bytes after total some fits so_far read =
     let zeros = length-replicate {A = ℕ} n 0 in
-    let rest : drop (0 + size) (replicate {A = ℕ} n 0) ≡ replicate (n - size) 0 =
-    drop-replicate {X = ℕ} (0 + size) n 0 ∙ ap (λ (m : ℕ). replicate {A = ℕ} m 0) (omega arith) in
-    let first : page_field (take size (drop 0 (replicate n 0))) bytes ≡ Ok (page, after) =
-    rw (take-replicate {X = ℕ} size n 0 fits) read in
-    subst (λ (plain : List ℕ). with_front (front ++ page) (pages_fields size plain after) ≡ total) rest
-    (pages_go_on size 0 size (replicate n 0) front page bytes after total some (omega (arith, some, fits, zeros))
-    (omega (arith, fits, zeros)) so_far first)
+    let rest : 0 + size ≡ size = omega arith in
+    rw (rest, drop-replicate {X = ℕ} size n 0) at
+    (pages_go_on size 0 size (replicate n 0) front page bytes after total some (omega arith) (omega arith) so_far
+    (rw (take-replicate {X = ℕ} size n 0 fits) read))
 
 pub zeros_stop :
     (size n : ℕ) (front bytes : List ℕ) (left : ℕ) (total : Result (List ℕ × List ℕ) ℕ) → 0 < size → size ≤ n →
@@ -407,10 +364,8 @@ pub zeros_stop :
     page_field (replicate size 0) bytes ≡ Err left → total ≡ Err left
 zeros_stop size n front bytes left total some fits so_far read =
     let zeros = length-replicate {A = ℕ} n 0 in
-    let first : page_field (take size (drop 0 (replicate n 0))) bytes ≡ Err left =
-    rw (take-replicate {X = ℕ} size n 0 fits) read in
-    pages_stop size 0 size (replicate n 0) front bytes left total some (omega (arith, some, fits, zeros))
-    (omega (arith, fits, zeros)) so_far first
+    pages_stop size 0 size (replicate n 0) front bytes left total some (omega arith) (omega arith) so_far
+    (rw (take-replicate {X = ℕ} size n 0 fits) read)
 
 pub zeros_end :
     (size n : ℕ) (front bytes : List ℕ) (total : Result (List ℕ × List ℕ) ℕ) → n ≡ 0 →
@@ -425,33 +380,25 @@ pub bytes_append :
     length bytes ≡ length plain →
     pages_bytes size (plain ++ more) (bytes ++ later) ≡ pages_bytes size plain bytes ++ pages_bytes size more later
 bytes_append size zero plain more bytes later some whole same =
-    let no_plain : plain ≡ [] = nil_from_length plain (omega (arith, whole)) in
-    let no_bytes : bytes ≡ [] = nil_from_length bytes (omega (arith, whole, same)) in
-    rw (no_plain, no_bytes, no_pages size []) refl
+    rw (nil_from_length plain (omega arith), nil_from_length bytes (omega arith), no_pages size []) refl
 bytes_append size (suc count) plain more bytes later some whole same =
-    let fits : size ≤ length plain = omega (arith, whole, suc-mul count size) in
-    let one : length (take size plain) ≡ size = omega (arith, fits, length-take size plain) in
-    let front : List ℕ = page_bytes (take size plain) (take size bytes) in
-    let rest : pages_bytes size (drop size plain ++ more) (drop size bytes ++ later)
-    ≡ pages_bytes size (drop size plain) (drop size bytes) ++ pages_bytes size more later =
-    bytes_append size count (drop size plain) more (drop size bytes) later some
-    (omega (arith, whole, suc-mul count size, length-drop size plain))
-    (omega (arith, same, length-drop size plain, length-drop size bytes)) in
-    let all : pages_bytes size (plain ++ more) (bytes ++ later)
-    ≡ front ++ pages_bytes size (drop size plain ++ more) (drop size bytes ++ later) =
-    bytes_first size (plain ++ more) (bytes ++ later) some (omega (arith, some, fits, length-append plain more))
-    ∙ rw (
+    let fits : size ≤ length plain = omega (arith, suc-mul count size) in
+    let one : length (take size plain) ≡ size = omega (arith, length-take size plain) in
+    let rest = bytes_append size count (drop size plain) more (drop size bytes) later some
+    (omega (arith, suc-mul count size, length-drop size plain))
+    (omega (arith, length-drop size plain, length-drop size bytes)) in
+    rw (
+      bytes_first size (plain ++ more) (bytes ++ later) some (omega (arith, length-append plain more)),
+      bytes_first size plain bytes some (omega arith),
       take-append-le size plain more fits,
       drop-append-le size plain more fits,
       one,
-      take-append-le size bytes later (omega (arith, same, fits)),
-      drop-append-le size bytes later (omega (arith, same, fits)),
-    ) refl in
-    let first : pages_bytes size plain bytes ≡ front ++ pages_bytes size (drop size plain) (drop size bytes) =
-    bytes_first size plain bytes some (omega (arith, some, fits)) ∙ rw one refl in
-    all ∙ (ap (λ (end : List ℕ). front ++ end) rest
-    ∙ (sym (append_assoc front (pages_bytes size (drop size plain) (drop size bytes)) (pages_bytes size more later))
-    ∙ ap (λ (begin : List ℕ). begin ++ pages_bytes size more later) (sym first)))
+      take-append-le size bytes later (omega arith),
+      drop-append-le size bytes later (omega arith),
+      rest,
+    )
+    (sym (append_assoc (page_bytes (take size plain) (take size bytes))
+    (pages_bytes size (drop size plain) (drop size bytes)) (pages_bytes size more later)))
 
 -- one reading after another, whose bytes are joined
 abbrev pub then_more : Result (List ℕ × List ℕ) ℕ → Reading (List ℕ) → Result (List ℕ × List ℕ) ℕ
@@ -489,21 +436,17 @@ fields_append size zero plain more bytes some whole =
     no_front (Ok got) = refl
     no_front (Err left) = refl
 fields_append size (suc count) plain more bytes some whole =
-    let fits : size ≤ length plain = omega (arith, whole, suc-mul count size) in
-    let all : pages_fields size (plain ++ more) bytes
-    ≡ then_read (page_field (take size plain) bytes)
-    (λ page. pages_fields size (drop size plain ++ more) >>= λ rest. gives (page ++ rest)) =
-    fields_first size (plain ++ more) bytes some (omega (arith, some, fits, length-append plain more))
-    ∙ rw (take-append-le size plain more fits, drop-append-le size plain more fits) refl in
-    let first : pages_fields size plain bytes
-    ≡ then_read (page_field (take size plain) bytes)
-    (λ page. pages_fields size (drop size plain) >>= λ rest. gives (page ++ rest)) =
-    fields_first size plain bytes some (omega (arith, some, fits)) in
-    all ∙ (regroup_first (page_field (take size plain) bytes) (pages_fields size (drop size plain ++ more))
+    let fits : size ≤ length plain = omega (arith, suc-mul count size) in
+    rw (
+      fields_first size (plain ++ more) bytes some (omega (arith, length-append plain more)),
+      fields_first size plain bytes some (omega arith),
+      take-append-le size plain more fits,
+      drop-append-le size plain more fits,
+    )
+    (regroup_first (page_field (take size plain) bytes) (pages_fields size (drop size plain ++ more))
     (pages_fields size (drop size plain)) (pages_fields size more)
     (λ bytes. fields_append size count (drop size plain) more bytes some
-    (omega (arith, whole, suc-mul count size, length-drop size plain)))
-    ∙ ap (λ (read : Result (List ℕ × List ℕ) ℕ). then_more read (pages_fields size more)) (sym first))
+    (omega (arith, suc-mul count size, length-drop size plain))))
 
 -- pages of zeros
 
@@ -536,30 +479,22 @@ zero_pages size (suc count) some =
 
 -- ---- memory
 
-split_zeros : (a b : List ℕ) → replicate {A = ℕ} (length (a ++ b)) 0 ≡ replicate (length a) 0 ++ replicate (length b) 0
-split_zeros a b =
-    ap (λ (n : ℕ). replicate {A = ℕ} n 0) (length-append a b)
-    ∙ sym (replicate-append-replicate {A = ℕ} (length a) (length b) 0)
-
 pub memory_append : (count : ℕ) (bytes later : List ℕ) → length bytes ≡ count * memory_page →
     memory_bytes (bytes ++ later) ≡ memory_bytes bytes ++ memory_bytes later
 memory_append count bytes later whole =
     let zeros = length-replicate {A = ℕ} (length bytes) 0 in
-    ap (λ (plain : List ℕ). pages_bytes memory_page plain (bytes ++ later)) (split_zeros bytes later)
-    ∙ bytes_append memory_page count (replicate (length bytes) 0) (replicate (length later) 0) bytes later
-    (omega arith) (zeros ∙ whole) (sym zeros)
+    rw (length-append bytes later, ← replicate-append-replicate {A = ℕ} (length bytes) (length later) 0)
+    (bytes_append memory_page count (replicate (length bytes) 0) (replicate (length later) 0) bytes later
+    (omega arith) (zeros ∙ whole) (sym zeros))
 
 pub memory_zeros : (count : ℕ) → memory_bytes (replicate (count * memory_page) 0) ≡ replicate count 0
 memory_zeros count =
-    ap (λ (n : ℕ). pages_bytes memory_page (replicate n 0) (replicate (count * memory_page) 0))
-    (length-replicate {A = ℕ} (count * memory_page) 0)
-    ∙ zero_pages memory_page count (omega arith)
+    rw (length-replicate {A = ℕ} (count * memory_page) 0) (zero_pages memory_page count (omega arith))
 
 pub memory_then : (count more : ℕ) (bytes : List ℕ) →
     memory_fields (count * memory_page + more) bytes
     ≡ then_more (memory_fields (count * memory_page) bytes) (memory_fields more)
 memory_then count more bytes =
-    ap (λ (plain : List ℕ). pages_fields memory_page plain bytes)
-    (sym (replicate-append-replicate {A = ℕ} (count * memory_page) more 0))
-    ∙ fields_append memory_page count (replicate (count * memory_page) 0) (replicate more 0) bytes (omega arith)
-    (length-replicate {A = ℕ} (count * memory_page) 0)
+    rw (← replicate-append-replicate {A = ℕ} (count * memory_page) more 0)
+    (fields_append memory_page count (replicate (count * memory_page) 0) (replicate more 0) bytes (omega arith)
+    (length-replicate {A = ℕ} (count * memory_page) 0))

@@ -1,9 +1,10 @@
 -- The bytes of banks that follow one another.
-use Rattle.std.proofs.Common.{◌≡◌, ◌≢◌, ℕ, suc, ◌+◌, ◌-◌, ◌*◌, ◌/◌, ◌%◌, ◌<◌, ◌≤◌, true, false, ◌&&◌, List, [], ◌∷◌}
-use Rattle.std.proofs.Common.{length, set, replicate, inl, inr, ◌∙◌, refl, ap, arith, slice_index, nat_le, nat_lt, All}
+use Rattle.std.proofs.Common.{◌≡◌, ◌≢◌, ℕ, suc, ◌+◌, ◌-◌, ◌*◌, ◌/◌, ◌%◌, ◌<◌, ◌≤◌, ◌&&◌, List, [], ◌∷◌}
+use Rattle.std.proofs.Common.{length, set, replicate, inl, inr, ◌∙◌, refl, arith, slice_index, nat_le, nat_lt, All}
+use Rattle.std.proofs.Common.{if◌then◌else◌}
 use Rattle.board_prelude.proofs.Common.{concat, length-append, length-set, get_or_append_left, get_or-append_right}
-use Rattle.board_prelude.proofs.Common.{get_or_past, get_or-set_same, get_or-set_other, All-head, All-tail, and-true}
-use Rattle.board_prelude.proofs.Common.{and_right, cases_lt, cases_eq, lt-ltb, le-ltb, nat_tests, Width, One, bytes_of}
+use Rattle.board_prelude.proofs.Common.{get_or_past, get_or-set_same, get_or-set_other, All-head, All-tail}
+use Rattle.board_prelude.proofs.Common.{cases_lt, cases_eq, lt-ltb, nat_tests, Width, One, bytes_of}
 use Rattle.board_prelude.proofs.Common.{wide}
 use Rattle.std.proofs.Math.ListN.{get_or}
 use Rattle.std.proofs.lemmas.List.Elements.{All-set}
@@ -21,8 +22,7 @@ pub banks_length : (banks : List (List ℕ)) → All IsBank banks → length (co
 banks_length [] each = refl
 banks_length (bank ∷ later) each =
     let here : length bank ≡ bank_size = All-head IsBank bank later each in
-    let rest = banks_length later (All-tail IsBank bank later each) in
-    omega (arith, length-append bank (concat later), here, rest)
+    omega (arith, length-append bank (concat later), banks_length later (All-tail IsBank bank later each))
 
 pub same_length : (banks : List (List ℕ)) (addr : ℕ) (new : List ℕ) → All IsBank banks → IsBank new →
     length (concat (with_bank banks addr new)) ≡ length (concat banks)
@@ -55,27 +55,11 @@ bank_byte (bank ∷ later) at each =
 
 -- ---- a value that is written to the bank of its address
 
--- a place of that bank is written where it is in the bank
-is_written_here : (addr at count : ℕ) → at / bank_size ≡ addr / bank_size →
-    (nat_le (addr % bank_size) (at % bank_size) && nat_lt (at % bank_size) (addr % bank_size + count))
-    ≡ (nat_le addr at && nat_lt at (addr + count))
-is_written_here addr at count here =
-    let from : nat_le (addr % bank_size) (at % bank_size) ≡ nat_le addr at = grind (arith, nat_tests) in
-    let to : nat_lt (at % bank_size) (addr % bank_size + count) ≡ nat_lt at (addr + count) =
-    grind (arith, nat_tests) in
-    rw (from, to) refl
-
--- no place of another bank is written
-not_written_there : (addr at count : ℕ) → addr % bank_size + count ≤ bank_size → at / bank_size ≢ addr / bank_size →
-    (nat_le addr at && nat_lt at (addr + count)) ≡ false
-not_written_there addr at count fits there = grind (arith, nat_tests)
-
 -- bytes of an aligned value lie in one bank
 pub aligned_fits : (addr : ℕ) (width : Width) → addr % bytes_of width ≡ 0 →
     addr % bank_size + bytes_of width ≤ bank_size
 aligned_fits addr One aligned = omega arith
-aligned_fits addr Two aligned = omega arith
-aligned_fits addr Four aligned = omega arith
+aligned_fits addr _ aligned = omega arith
 
 put_byte :
     (banks : List (List ℕ)) (new : List ℕ) (addr count : ℕ) (put : ℕ → ℕ) → All IsBank banks → IsBank new →
@@ -83,21 +67,39 @@ put_byte :
     IsPut (bank_at banks addr) (addr % bank_size) count put new →
     IsPut (concat banks) addr count put (concat (with_bank banks addr new))
 put_byte banks new addr count put each is inside fits is_put at =
-    let all : All IsBank (with_bank banks addr new) = All-set IsBank banks (addr / bank_size) new is each in
     let old_byte = bank_byte banks at each in
-    let new_byte = bank_byte (with_bank banks addr new) at all in
-    elim (cases_eq (at / bank_size) (addr / bank_size)) [
+    let new_byte =
+    bank_byte (with_bank banks addr new) at (All-set IsBank banks (addr / bank_size) new is each) in
+    let written = is_put (at % bank_size) in
+    rw (new_byte, old_byte) (elim (cases_eq (at / bank_size) (addr / bank_size)) [
       | inl here ↦
           let apart : at % bank_size - addr % bank_size ≡ at - addr = omega arith in
-          let found : bank_at (with_bank banks addr new) addr ≡ new =
-          get_or-set_same banks (addr / bank_size) new [] inside in
-          let written = is_put (at % bank_size) in
-          rw (new_byte, old_byte, here, found, ← is_written_here addr at count here, ← apart) written
+          rw (here, get_or-set_same banks (addr / bank_size) new [] inside)
+          (in_bank (bank_at banks addr) new addr count at put here written)
       | inr there ↦
-          let kept : bank_at (with_bank banks addr new) at ≡ bank_at banks at =
-          get_or-set_other banks (addr / bank_size) (at / bank_size) new [] there in
-          rw (new_byte, old_byte, not_written_there addr at count fits there, kept) refl
-    ]
+          rw (get_or-set_other banks (addr / bank_size) (at / bank_size) new [] there)
+          (beside (bank_at banks at) addr count at put fits there)
+    ])
+  where
+    -- a place of that bank is written where it is in the bank
+    in_bank :
+        (old new : List ℕ) (addr count at : ℕ) (put : ℕ → ℕ) → at / bank_size ≡ addr / bank_size →
+        slice_index new (at % bank_size)
+        ≡ (if nat_le (addr % bank_size) (at % bank_size) && nat_lt (at % bank_size) (addr % bank_size + count)
+        then put (at % bank_size - addr % bank_size) else slice_index old (at % bank_size)) →
+        slice_index new (at % bank_size)
+        ≡ (if nat_le addr at && nat_lt at (addr + count) then put (at - addr) else slice_index old (at % bank_size))
+    in_bank old new addr count at put here is =
+        let apart : at % bank_size - addr % bank_size ≡ at - addr = omega arith in
+        grind (arith, nat_tests)
+
+    -- no place of another bank is written
+    beside :
+        (old : List ℕ) (addr count at : ℕ) (put : ℕ → ℕ) → addr % bank_size + count ≤ bank_size →
+        at / bank_size ≢ addr / bank_size →
+        slice_index old (at % bank_size)
+        ≡ (if nat_le addr at && nat_lt at (addr + count) then put (at - addr) else slice_index old (at % bank_size))
+    beside old addr count at put fits there = grind (arith, nat_tests)
 
 pub changed :
     (banks : List (List ℕ)) (new : List ℕ) (addr count : ℕ) (put : ℕ → ℕ) → All IsBank banks → IsBank new →
@@ -106,15 +108,8 @@ pub changed :
     IsWritten (concat banks) addr count put (concat (with_bank banks addr new))
 changed banks new addr count put each is inside fits is_put at =
     let same = same_length banks addr new each is in
-    elim (cases_lt at (length (concat banks))) [
-      | inl within ↦
-          let exists : nat_lt at (length (concat banks)) ≡ true = lt-ltb _ _ within in
-          rw (same, exists, and-true (nat_le addr at && nat_lt at (addr + count)))
-          (put_byte banks new addr count put each is inside fits is_put at)
-      | inr past ↦
-          let nowhere : nat_lt at (length (concat banks)) ≡ false = le-ltb _ _ past in
-          rw (same, nowhere, and_right (nat_le addr at && nat_lt at (addr + count)) false refl) refl
-    ]
+    let byte = put_byte banks new addr count put each is inside fits is_put at in
+    grind (arith, nat_tests)
 
 -- ---- a value that is read from the bank of its address
 
@@ -122,8 +117,8 @@ pub byte_at : (banks : List (List ℕ)) (addr at place : ℕ) → All IsBank ban
     at / bank_size ≡ addr / bank_size → at % bank_size ≡ place →
     slice_index (bank_at banks addr) place ≡ dram_at (concat banks) at
 byte_at banks addr at place each inside here is =
-    let exists : nat_lt at (length (concat banks)) ≡ true = lt-ltb _ _ (omega (arith, banks_length banks each)) in
-    rw (exists, bank_byte banks at each, here, is) refl
+    let size = banks_length banks each in
+    rw (lt-ltb at (length (concat banks)) (omega arith), bank_byte banks at each, here, is) refl
 
 pub read_here :
     (banks : List (List ℕ)) (addr : ℕ) (width : Width) → All IsBank banks → addr / bank_size < length banks →
@@ -132,15 +127,17 @@ pub read_here :
     ≡ wide (λ at. dram_at (concat banks) at) addr width
 read_here banks addr One each inside aligned = byte_at banks addr addr (addr % bank_size) each inside refl refl
 read_here banks addr Two each inside aligned =
-    let byte0 = byte_at banks addr addr (addr % bank_size) each inside refl refl in
-    let byte1 = byte_at banks addr (addr + 1) (addr % bank_size + 1) each inside (omega arith) (omega arith) in
-    rw (byte0, byte1) refl
+    rw (
+      byte_at banks addr addr (addr % bank_size) each inside refl refl,
+      byte_at banks addr (addr + 1) (addr % bank_size + 1) each inside (omega arith) (omega arith),
+    ) refl
 read_here banks addr Four each inside aligned =
-    let byte0 = byte_at banks addr addr (addr % bank_size) each inside refl refl in
-    let byte1 = byte_at banks addr (addr + 1) (addr % bank_size + 1) each inside (omega arith) (omega arith) in
-    let byte2 = byte_at banks addr (addr + 2) (addr % bank_size + 2) each inside (omega arith) (omega arith) in
-    let byte3 = byte_at banks addr (addr + 3) (addr % bank_size + 3) each inside (omega arith) (omega arith) in
-    rw (byte0, byte1, byte2, byte3) refl
+    rw (
+      byte_at banks addr addr (addr % bank_size) each inside refl refl,
+      byte_at banks addr (addr + 1) (addr % bank_size + 1) each inside (omega arith) (omega arith),
+      byte_at banks addr (addr + 2) (addr % bank_size + 2) each inside (omega arith) (omega arith),
+      byte_at banks addr (addr + 3) (addr % bank_size + 3) each inside (omega arith) (omega arith),
+    ) refl
 
 -- ---- banks of zeros
 
@@ -150,15 +147,13 @@ all_zeros (byte ∷ later) zero = rw (zero 0, ← all_zeros later (λ at. zero (
 
 zero_at : (banks : List (List ℕ)) (at : ℕ) → All IsBank banks → All IsZero banks → slice_index (concat banks) at ≡ 0
 zero_at banks at each zeros =
-    bank_byte banks at each ∙ elim (cases_lt (at / bank_size) (length banks)) [
+    rw (bank_byte banks at each) (elim (cases_lt (at / bank_size) (length banks)) [
       | inl inside ↦ zeros (at / bank_size) [] inside (at % bank_size)
-      | inr past ↦
-          ap (λ (bank : List ℕ). slice_index bank (at % bank_size)) (get_or_past banks (at / bank_size) [] past)
-    ]
+      | inr past ↦ rw (get_or_past banks (at / bank_size) [] past) refl
+    ])
 
 pub zero_banks :
     (banks : List (List ℕ)) → All IsBank banks → All IsZero banks →
     concat banks ≡ replicate (length banks * bank_size) 0
 zero_banks banks each zeros =
-    all_zeros (concat banks) (λ at. zero_at banks at each zeros)
-    ∙ ap (λ (count : ℕ). replicate count 0) (banks_length banks each)
+    rw (← banks_length banks each) (all_zeros (concat banks) (λ at. zero_at banks at each zeros))

@@ -1,8 +1,8 @@
 -- The DRAM after a history, and after one entry more.
-use Rattle.std.proofs.Common.{◌≡◌, ℕ, ◌+◌, ◌-◌, ◌<◌, ◌≤◌, true, false, ◌&&◌, List, [], ◌∷◌, length, Option, Some, None}
-use Rattle.std.proofs.Common.{inl, inr, ◌∙◌, refl, sym, ap, arith, slice_index, nat_le, nat_lt, if◌then◌else◌}
+use Rattle.std.proofs.Common.{◌≡◌, ℕ, ◌+◌, ◌-◌, ◌<◌, ◌≤◌, ◌&&◌, List, [], ◌∷◌, length, Option, Some, None}
+use Rattle.std.proofs.Common.{◌∙◌, refl, ap, arith, slice_index, nat_le, nat_lt, if◌then◌else◌}
 use Rattle.std.proofs.Common.{replicate, unwrap_or}
-use Rattle.board_prelude.proofs.Common.{option_or, length-replicate, get_or-replicate, cases_lt, lt-ltb, le-ltb}
+use Rattle.board_prelude.proofs.Common.{option_or, length-replicate, get_or-replicate}
 use Rattle.board_prelude.proofs.Common.{nat_tests, Width, Dram, One, bytes_of, largest_of, Entry, Setup, installed}
 use Rattle.board_prelude.proofs.Common.{byte, wide, DramCell, stored_of, byte_put, entry_put, dram_byte}
 use Rattle.board_base.specs.declared.access.Width.TheVariants.{Two, Four}
@@ -26,16 +26,6 @@ pub record HasPut (put : ℕ → Option ℕ) (old new : List ℕ) : Type 0 where
   pub size : length new ≡ length old
   pub each : (at : ℕ) → at < length old → slice_index new at ≡ unwrap_or (put at) (slice_index old at)
 
--- the same bytes, said of another event
-pub put_as :
-    (put other : ℕ → Option ℕ) (old new : List ℕ) → ((at : ℕ) → other at ≡ put at) → HasPut put old new →
-    HasPut other old new
-put_as put other old new same has = record {
-  size = has.size;
-  each =
-      λ at within. has.each at within ∙ ap (λ (byte : Option ℕ). unwrap_or byte (slice_index old at)) (sym (same at));
-}
-
 pub later_first :
     (later first : Option ℕ) (old : ℕ) → unwrap_or later (unwrap_or first old) ≡ unwrap_or (option_or later first) old
 later_first None first old = refl
@@ -48,32 +38,17 @@ put_then first later old mid new before after = record {
   size = after.size ∙ before.size;
   each = λ at within.
       after.each at (omega (arith, before.size))
-      ∙ ap (λ (byte : ℕ). unwrap_or (later at) byte) (before.each at within)
-      ∙ later_first (later at) (first at) (slice_index old at);
+      ∙ rw (before.each at within) (later_first (later at) (first at) (slice_index old at));
 }
 
 -- a byte of the DRAM that is written, or is not
-put_cell : (old : List ℕ) (addr : ℕ) (width : Width) (value at was : ℕ) → at < length old → slice_index old at ≡ was →
-    (if nat_le addr at && nat_lt at (addr + bytes_of width) && nat_lt at (length old) then byte value (at - addr) else
-    dram_at old at)
-    ≡ unwrap_or (byte_put (Dram 0) addr width value (DramCell at)) was
-put_cell old addr width value at was within is = grind (arith, nat_tests)
-
-here : (dram : List ℕ) (at : ℕ) → at < length dram → dram_at dram at ≡ slice_index dram at
-here dram at within = let exists : nat_lt at (length dram) ≡ true = lt-ltb _ _ within in rw exists refl
-
--- what `write` says of the bytes
-pub put_written :
-    (old new : List ℕ) (addr : ℕ) (width : Width) (value : ℕ) → IsWritten old addr (bytes_of width) (byte value) new →
-    length new ≡ length old →
-    HasPut (λ at. byte_put (Dram 0) addr width value (DramCell at)) old new
-put_written old new addr width value is_written same = record {
-  size = same;
-  each = λ at within.
-      sym (here new at (omega arith))
-      ∙ is_written at
-      ∙ put_cell old addr width value at (slice_index old at) within refl;
-}
+put_cell :
+    (old new : List ℕ) (addr : ℕ) (width : Width) (value at : ℕ) → at < length old → at < length new →
+    dram_at new at
+    ≡ (if nat_le addr at && nat_lt at (addr + bytes_of width) && nat_lt at (length old) then byte value (at - addr) else
+    dram_at old at) →
+    slice_index new at ≡ unwrap_or (byte_put (Dram 0) addr width value (DramCell at)) (slice_index old at)
+put_cell old new addr width value at before within is = grind (arith, nat_tests)
 
 -- what is written past the end is lost
 pub lost : (dram : List ℕ) (addr count : ℕ) (put : ℕ → ℕ) → length dram ≤ addr → IsWritten dram addr count put dram
@@ -81,29 +56,19 @@ lost dram addr count put past at = grind (arith, nat_tests)
 
 -- ---- one entry more
 
--- an entry that puts the bytes which were put
-pub put_by_entry :
-    (setup : Setup) (history : List Entry) (entry : Entry) (old new : List ℕ) → IsDramOf setup history old →
-    HasPut (λ at. entry_put entry.event entry.reply (DramCell at)) old new → IsDramOf setup (entry ∷ history) new
-unfolding stored_of
-put_by_entry setup history entry old new kept has = record {
-  size = has.size ∙ kept.size;
-  each = λ at within.
-      let before : at < length old = omega (arith, has.size) in
-      has.each at before
-      ∙ ap (λ (byte : ℕ). unwrap_or (entry_put entry.event entry.reply (DramCell at)) byte) (kept.each at before);
-}
-
 pub stored :
     (setup : Setup) (history : List Entry) (entry : Entry) (old : List ℕ) (addr : ℕ) (width : Width) (value : ℕ)
     (new : List ℕ) →
     IsWritten old addr (bytes_of width) (byte value) new → length new ≡ length old → IsDramOf setup history old →
     ((at : ℕ) → entry_put entry.event entry.reply (DramCell at) ≡ byte_put (Dram 0) addr width value (DramCell at)) →
     IsDramOf setup (entry ∷ history) new
-stored setup history entry old addr width value new is_written same kept put =
-    put_by_entry setup history entry old new kept
-    (put_as (λ at. byte_put (Dram 0) addr width value (DramCell at)) _ old new put
-    (put_written old new addr width value is_written same))
+unfolding stored_of
+stored setup history entry old addr width value new is_written same kept put = record {
+  size = same ∙ kept.size;
+  each = λ at within.
+      rw (put at, ← kept.each at (omega arith))
+      (put_cell old new addr width value at (omega arith) within (is_written at));
+}
 
 -- ---- values that are read
 
@@ -111,14 +76,9 @@ at_stored :
     (setup : Setup) (history : List Entry) (dram : List ℕ) (at : ℕ) → IsDramOf setup history dram →
     dram_at dram at ≡ dram_byte setup history at
 at_stored setup history dram at is =
-    elim (cases_lt at (length dram)) [
-      | inl within ↦
-          let exists : nat_lt at (length dram) ≡ true = lt-ltb _ _ within in
-          rw (← is.size, exists) (is.each at within)
-      | inr past ↦
-          let nowhere : nat_lt at (length dram) ≡ false = le-ltb _ _ past in
-          rw (← is.size, nowhere) refl
-    ]
+    let size = is.size in
+    let here = is.each at in
+    grind (arith, nat_tests)
 
 -- the bytes of a DRAM are those of its history
 pub read_stored :
@@ -138,6 +98,4 @@ read_stored setup history dram addr Four is =
 pub read_past :
     (dram : List ℕ) (addr : ℕ) (width : Width) → length dram ≤ addr →
     largest_of width ≡ wide (λ at. dram_at dram at) addr width
-read_past dram addr One past = grind (arith, nat_tests)
-read_past dram addr Two past = grind (arith, nat_tests)
-read_past dram addr Four past = grind (arith, nat_tests)
+read_past dram addr _ past = grind (arith, nat_tests)

@@ -1,8 +1,9 @@
 -- Base registers as four bytes, and the bases of a card by their numbers.
 use Rattle.std.proofs.Common.{◌≡◌, ◌≢◌, ℕ, zero, suc, ◌^◌, ◌<◌, ◌≤◌, List, length, get_or, set, map, Some, inl, inr}
-use Rattle.std.proofs.Common.{◌∙◌, sym, ap, subst, arith, lit<, length-set, get_or-set_same, get_or-set_other, All}
+use Rattle.std.proofs.Common.{◌∙◌, sym, ap, Option, option_map, arith, lit<, length-set, get_or-set_same, get_or-set_other, All}
 use Rattle.std.proofs.Common.{slice_get}
-use Rattle.board_prelude.proofs.Common.{w32, from_le_bytes, to_le_bytes, cases_eq, All-get_or, get_or-map, length-map}
+use Rattle.board_prelude.proofs.Common.{w32, from_le_bytes, to_le_bytes, cases_eq, cases_lt, get_or_past, All-get_or, get_or-map}
+use Rattle.board_prelude.proofs.Common.{length-map}
 use Rattle.board_prelude.proofs.Common.{Base, IsBase, byte}
 use Rattle.std.proofs.lemmas.Nat.{le_bytes_4}
 use Rattle.std.proofs.Math.Pow.{pow_mono}
@@ -20,23 +21,18 @@ long_byte n (suc (suc (suc zero))) below = omega arith
 long_byte n (suc (suc (suc (suc j)))) below = absurd (omega arith)
 
 small_long : (n i : ℕ) → get_or (to_le_bytes w32 n) i 0 < 256
-small_long n zero = omega arith
-small_long n (suc zero) = omega arith
-small_long n (suc (suc zero)) = omega arith
-small_long n (suc (suc (suc zero))) = omega arith
-small_long n (suc (suc (suc (suc j)))) = lit< tt
+small_long n i =
+    elim (cases_lt i 4) [
+      | inl below ↦ rw (long_byte n i below) (omega arith)
+      | inr past ↦ rw (get_or_past (to_le_bytes w32 n) i 0 past) (lit< tt)
+    ]
 
 small_set : (n lane v i : ℕ) → lane < 4 → v < 256 → get_or (set (to_le_bytes w32 n) lane v) i 0 < 256
 small_set n lane v i within below =
     elim (cases_eq i lane) [
-      | inl same ↦
-          subst (λ k. get_or (set (to_le_bytes w32 n) lane v) k 0 < 256) (sym same)
-          (subst (λ b. b < 256) (sym (get_or-set_same (to_le_bytes w32 n) lane v 0 within)) below)
-      | inr apart ↦ subst (λ b. b < 256) (sym (get_or-set_other (to_le_bytes w32 n) lane i v 0 apart)) (small_long n i)
+      | inl same ↦ rw (same, get_or-set_same (to_le_bytes w32 n) lane v 0 within) below
+      | inr apart ↦ rw (get_or-set_other (to_le_bytes w32 n) lane i v 0 apart) (small_long n i)
     ]
-
-four_set : (n lane v : ℕ) → length (set (to_le_bytes w32 n) lane v) ≡ 4
-four_set n lane v = length-set (to_le_bytes w32 n) lane v
 
 -- the other bytes of a number of which one was set
 pub other_bytes :
@@ -44,8 +40,8 @@ pub other_bytes :
     j ≢ lane →
     byte new j ≡ byte n j
 other_bytes n lane v new j within below is j_below apart =
-    let bytes : to_le_bytes w32 new ≡ set (to_le_bytes w32 n) lane v =
-    le_bytes_4 (set (to_le_bytes w32 n) lane v) new (four_set n lane v) (λ i. small_set n lane v i within below) is in
+    let bytes = le_bytes_4 (set (to_le_bytes w32 n) lane v) new (length-set (to_le_bytes w32 n) lane v)
+    (λ i. small_set n lane v i within below) is in
     sym (long_byte new j j_below)
     ∙ ap (λ bs. get_or bs j 0) bytes
     ∙ get_or-set_other (to_le_bytes w32 n) lane j v 0 apart
@@ -56,14 +52,21 @@ other_bytes n lane v new j within below is j_below apart =
 pub is_base :
     (bases : List Base) (k : ℕ) (base : Base) → All IsBase bases → slice_get bases k ≡ Some base → IsBase base
 is_base bases k base each there =
-    subst IsBase (get_or_from_slice_get bases k base base there)
+    rw (get_or_from_slice_get bases k base base there) at
     (All-get_or IsBase bases k base (slice_get_within bases k base there) each)
+
+-- the base that is found at a place
+pub found_base :
+    (bases : List Base) (k : ℕ) {found : Option BaseSpec} {base : BaseSpec} → All IsBase bases →
+    option_map base_of found ≡ slice_get bases k → found ≡ Some base → IsBase (base_of base)
+found_base bases k {found} {base} each is some =
+    is_base bases k (base_of base) each (sym is ∙ ap (option_map base_of) some)
 
 pub base_within :
     (bases : List BaseSpec) (k : ℕ) (d : BaseSpec) → All IsBase (map base_of bases) → k < length bases →
     IsBase (base_of (get_or bases k d))
 base_within bases k d each below =
-    subst IsBase (get_or-map base_of bases k d (base_of d) below)
+    rw (get_or-map base_of bases k d (base_of d) below) at
     (All-get_or IsBase (map base_of bases) k (base_of d) (omega (arith, length-map bases base_of)) each)
 
 -- the size of an expansion ROM

@@ -1,9 +1,9 @@
 -- The cards in a list by their device numbers.
-use Rattle.std.proofs.Common.{◌≡◌, ℕ, Bor, true, false, get_or, List, [], ◌∷◌, length, ◌++◌, ◌+◌, Option, Some, None}
-use Rattle.std.proofs.Common.{inl, inr, ◌∙◌, refl, sym, ap, subst, ◌==◌, All, find, option_map, nat_lt, is_some}
+use Rattle.std.proofs.Common.{◌≡◌, ℕ, Bor, get_or, List, [], ◌∷◌, length, ◌++◌, ◌+◌, Option, Some, None}
+use Rattle.std.proofs.Common.{inl, inr, ◌∙◌, refl, sym, ap, arith, ◌==◌, All, find, option_map, nat_lt, is_some}
 use Rattle.std.proofs.Common.{slice_get}
 use Rattle.std.specs.Option.{IfSome}
-use Rattle.board_prelude.proofs.Common.{position, position_or_len, cases_Bool, cases_lt, cond-true, cond-false}
+use Rattle.board_prelude.proofs.Common.{position, position_or_len, cases_Bool, cases_lt, nat_tests}
 use Rattle.board_prelude.proofs.Common.{eqb-true, lt-ltb, le-ltb, All-nil, All-cons, All-append, All-head, All-tail}
 use Rattle.board_prelude.proofs.Common.{length-append, map-append, FittedCard, Setup, card_at}
 use Rattle.std.proofs.lemmas.List.Folds.{find_at}
@@ -22,10 +22,7 @@ find-cards (card ∷ later) dev =
 pub card_is :
     (setup : Setup) (cards : List CardBytes) (dev : ℕ) (found : Option CardBytes) → setup.cards ≡ cards_of cards →
     found ≡ find (λ card. card.card.dev == dev) cards → option_map (λ card. card.card) found ≡ card_at setup dev
-card_is setup cards dev found same is =
-    ap (option_map (λ (card : CardBytes). card.card)) is
-    ∙ find-cards cards dev
-    ∙ ap (λ (fitted : List FittedCard). find (λ card. card.dev == dev) fitted) (sym same)
+card_is setup cards dev found same is = rw (is, same) (find-cards cards dev)
 
 -- what holds of each card holds of the one that is found, and it has the device number
 pub found : (P : CardBytes → Type 0) (cards : List CardBytes) (dev : ℕ) (card : CardBytes) → All P cards →
@@ -35,11 +32,8 @@ found P (first ∷ later) dev card each is =
     elim (cases_Bool (first.card.dev == dev)) [
       | inl here ↦
           let same : Some first ≡ Some card = rw here at is in
-          let first_is : first ≡ card = cc in (
-            subst P first_is (All-head P first later each),
-            ap (λ (it : CardBytes). it.card.dev) (sym first_is)
-                ∙ eqb-true _ _ here,
-          )
+          let first_is : first ≡ card = cc in
+          rw (← first_is) (All-head P first later each, eqb-true _ _ here)
       | inr apart ↦ found P later dev card (All-tail P first later each) (rw apart at is)
     ]
 
@@ -48,41 +42,28 @@ found P (first ∷ later) dev card each is =
 pub at_position : (cards : List CardBytes) (dev i : ℕ) → Some i ≡ position (λ card. card.card.dev == dev) cards →
     slice_get cards i ≡ find (λ card. card.card.dev == dev) cards
 at_position cards dev i is =
-    elim (cases_lt (position_or_len (λ card. card.card.dev == dev) cards) (length cards)) [
-      | inl within ↦
-          let here : Some i ≡ Some (position_or_len (λ card. card.card.dev == dev) cards) = is
-          ∙ cond-true _ _ _ (lt-ltb _ _ within) in
-          let same : i ≡ position_or_len (λ card. card.card.dev == dev) cards = cc in
-          ap (slice_get cards) same ∙ sym (find_at (λ card. card.card.dev == dev) cards)
-      | inr past ↦ let none : Some i ≡ None = is ∙ cond-false _ _ _ (le-ltb _ _ past) in absurd (cc)
-    ]
+    rw (find_at (λ card. card.card.dev == dev) cards)
+    (elim (cases_lt (position_or_len (λ card. card.card.dev == dev) cards) (length cards)) [
+      | inl within ↦ let here = rw (lt-ltb _ _ within) at is in cc
+      | inr past ↦ let none = rw (le-ltb _ _ past) at is in absurd (cc)
+    ])
 
 pub no_position : (cards : List CardBytes) (dev : ℕ) → None ≡ position (λ card. card.card.dev == dev) cards →
     None ≡ find (λ card. card.card.dev == dev) cards
 no_position cards dev is =
-    elim (cases_lt (position_or_len (λ card. card.card.dev == dev) cards) (length cards)) [
-      | inl within ↦
-          let some : None ≡ Some (position_or_len (λ card. card.card.dev == dev) cards) = is
-          ∙ cond-true _ _ _ (lt-ltb _ _ within) in absurd (cc)
-      | inr past ↦
-          sym (find_at (λ card. card.card.dev == dev) cards
-          ∙ slice_get_past cards (position_or_len (λ card. card.card.dev == dev) cards) past)
-    ]
+    rw (find_at (λ card. card.card.dev == dev) cards)
+    (elim (cases_lt (position_or_len (λ card. card.card.dev == dev) cards) (length cards)) [
+      | inl within ↦ let some = rw (lt-ltb _ _ within) at is in absurd (cc)
+      | inr past ↦ sym (slice_get_past cards (position_or_len (λ card. card.card.dev == dev) cards) past)
+    ])
 
 -- the card at a place of the list
 pub at_index :
     (cards : List CardBytes) (i : ℕ) (lent : Option (Bor CardRegs)) → is_some lent ≡ nat_lt i (length cards) →
     IfSome lent (λ card. card.now ≡ get_or cards i card.now) → option_map (λ card. card.now) lent ≡ slice_get cards i
-at_index cards i None within is =
-    elim (cases_lt i (length cards)) [
-      | inl below ↦ let yes' : nat_lt i (length cards) ≡ true = lt-ltb _ _ below in absurd (cc)
-      | inr past ↦ sym (slice_get_past cards i past)
-    ]
+at_index cards i None within is = sym (slice_get_past cards i (grind (arith, nat_tests)))
 at_index cards i (Some card) within is =
-    elim (cases_lt i (length cards)) [
-      | inl below ↦ ap (λ (it : CardBytes). Some it) is ∙ sym (slice_get-get_or cards i card.now below)
-      | inr past ↦ let no' : nat_lt i (length cards) ≡ false = le-ltb _ _ past in absurd (cc)
-    ]
+    ap (λ (it : CardBytes). Some it) is ∙ sym (slice_get-get_or cards i card.now (grind (arith, nat_tests)))
 
 pub map_twice : (lent : Option (Bor CardRegs)) →
     option_map (λ card. card.now.card) lent
@@ -94,18 +75,13 @@ map_twice (Some card) = refl
 
 pub added-cards : (old new : List CardBytes) (spec : FittedCard) → IsCardAdded old new spec →
     cards_of new ≡ cards_of old ++ spec ∷ []
-added-cards old new spec is =
-    ap (λ (list : List CardBytes). cards_of list) is.added
-    ∙ map-append (λ (card : CardBytes). card.card) old (is.regs ∷ [])
-    ∙ ap (λ (card : FittedCard). cards_of old ++ card ∷ []) is.card
+added-cards old new spec is = rw (is.added, map-append (λ card. card.card) old (is.regs ∷ []), is.card) refl
 
 pub added-reset : (old new : List CardBytes) (spec : FittedCard) → IsCardAdded old new spec → AreReset old →
     AreReset new
 added-reset old new spec is each =
-    subst AreReset (sym is.added)
-    (All-append IsReset old (is.regs ∷ []) each (All-cons IsReset is.regs [] is.reset (All-nil IsReset)))
+    rw is.added (All-append IsReset old (is.regs ∷ []) each (All-cons IsReset is.regs [] is.reset (All-nil IsReset)))
 
 pub added-count : (old new : List CardBytes) (spec : FittedCard) → IsCardAdded old new spec →
     length new ≡ length old + 1
-added-count old new spec is =
-    ap (λ (list : List CardBytes). length list) is.added ∙ length-append old (is.regs ∷ [])
+added-count old new spec is = rw is.added (length-append old (is.regs ∷ []))

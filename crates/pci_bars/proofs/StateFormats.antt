@@ -1,11 +1,10 @@
 -- The bytes behind the bases are spelled base by base, and read back.
-use Rattle.std.proofs.Common.{◌≡◌, ℕ, zero, suc, ◌+◌, ◌-◌, ◌/◌, ◌%◌, ◌^◌, ◌≤◌, ◌<◌, inl, inr, Bool, true, false, List}
+use Rattle.std.proofs.Common.{◌≡◌, ℕ, zero, suc, ◌+◌, ◌-◌, ◌/◌, ◌%◌, ◌^◌, ◌≤◌, ◌<◌, inl, inr, List}
 use Rattle.std.proofs.Common.{[], ◌∷◌, ◌++◌, Vec, Global, length, drop, get_or, Option, Some, None, Result, refl, sym}
-use Rattle.std.proofs.Common.{ap, ◌∙◌, append_assoc, arith, All, find, ◌==◌, slice_get, if◌then◌else◌}
+use Rattle.std.proofs.Common.{◌∙◌, append_assoc, arith, All, find, ◌==◌, slice_get}
 use Rattle.board_prelude.proofs.Common.{append-nil, flat_map-cons, drop_more, drop_all, cases_Bool, All-head, All-tail}
-use Rattle.board_prelude.proofs.Common.{option_map_or, Base, MemoryBase, IoBase, OutsideBase, IsBase, FittedCard}
+use Rattle.board_prelude.proofs.Common.{option_map_or, Base, OutsideBase, IsBase, FittedCard}
 use Rattle.board_prelude.proofs.Common.{IsCard, kept_of_base, kept_size}
-use Rattle.board_prelude.specs.Common.{vga_base, vga_bits}
 use Rattle.std.proofs.Math.Pow.{pow_mono}
 use Rattle.byte_fields.specs.declared.fault.Fault.{Fault}
 use Rattle.byte_fields.specs.declared.fault.Fault.TheVariants as faults
@@ -14,36 +13,26 @@ use Rattle.byte_fields.specs.Pages.{memory_bytes, memory_fields}
 use Rattle.byte_fields.proofs.Formats.{IsFormat, format_as, many_format, AreGood}
 use Rattle.byte_fields.proofs.Loops.{IsLoop, with_front, stops}
 use Rattle.byte_fields.proofs.PageFormats.{memory_format}
-use Rattle.pci_bars.specs.Contents.{IsBaseNumber, slot_number, held, slot_size}
+use Rattle.pci_bars.specs.Contents.{slot_number, slot_size}
 use Rattle.pci_bars.specs.State.{AreContents, contents_bytes, slots_fields, contents_fields}
 use Rattle.pci_bars.proofs.BaseLemmas.{is_base}
-use Rattle.pci_bars.proofs.ContentsLemmas.{lists}
+use Rattle.pci_bars.proofs.ContentsLemmas.{lists, slot_of_base}
 
 -- ---- of no base more than 16 MiB are kept
+
+pow_few : (bits : ℕ) → bits ≤ 24 → 2 ^ bits ≤ 0x100_0000
+pow_few bits few = pow_mono {i = bits} {j = 24} few
 
 base_few : (found : Option Base) → ((base : Base) → found ≡ Some base → IsBase base) →
     option_map_or kept_of_base found 0 ≤ 0x100_0000
 base_few None each = omega arith
-base_few (Some (MemoryBase bits)) each =
-    let range = each (MemoryBase bits) refl in
-    let few : 2 ^ bits ≤ 2 ^ 24 = pow_mono {i = bits} {j = 24} range.1 in
-    omega (arith, few)
-base_few (Some (IoBase bits)) each =
-    let range = each (IoBase bits) refl in
-    let few : 2 ^ bits ≤ 2 ^ 24 = pow_mono {i = bits} {j = 24} (omega (arith, range.1)) in
-    omega (arith, few)
 base_few (Some (OutsideBase bits)) each = omega arith
-
-chosen_few : (is_vga has : Bool) (size : ℕ) → size ≤ 0x100_0000 →
-    (if is_vga then (if has then 2 ^ vga_bits else 0) else size) ≤ 0x100_0000
-chosen_few true true size few = omega arith
-chosen_few true false size few = omega arith
-chosen_few false has size few = few
+base_few (Some base) each = let range = each base refl in pow_few _ (omega (arith, range.1))
 
 card_few : (card : FittedCard) (base : ℕ) → IsCard card → kept_size (Some card) base ≤ 0x100_0000
 card_few card base is =
-    chosen_few (base == vga_base) card.vga (option_map_or kept_of_base (slice_get card.bases base) 0)
-    (base_few (slice_get card.bases base) (λ found there. is_base card.bases base found is.each there))
+    let few = base_few (slice_get card.bases base) (λ found there. is_base card.bases base found is.each there) in
+    grind arith
 
 kept_few : (cards : List FittedCard) (dev base : ℕ) → All IsCard cards →
     kept_size (find (λ card. card.dev == dev) cards) base ≤ 0x100_0000
@@ -78,44 +67,28 @@ slot_format cards each slot =
 
 good_from :
     (cards : List FittedCard) (contents : List (List ℕ)) (slot : ℕ) →
-    ((i : ℕ) → i < length contents → length (get_or contents i []) ≡ slot_size cards (slot + i)) →
+    ((i at : ℕ) → at ≡ slot + i → i < length contents → length (get_or contents i []) ≡ slot_size cards at) →
     AreGood next_slot (IsSlot cards) slot contents
 good_from cards [] slot each = tt
 good_from cards (bytes ∷ later) slot each = (
-  each 0 (omega arith) ∙ ap (slot_size cards) (omega arith),
-  good_from cards later (slot + 1)
-      (λ i within. each (suc i) (omega (arith, within)) ∙ ap (slot_size cards) (omega arith)),
+  each 0 slot (omega arith) (omega arith),
+  good_from cards later (slot + 1) (λ i at is within. each (suc i) at (omega arith) (omega (arith, within))),
 )
 
 good_to :
     (cards : List FittedCard) (contents : List (List ℕ)) (slot : ℕ) → AreGood next_slot (IsSlot cards) slot contents →
-    (i : ℕ) → i < length contents → length (get_or contents i []) ≡ slot_size cards (slot + i)
-good_to cards [] slot good i within = absurd (omega (arith, within))
-good_to cards (bytes ∷ later) slot good zero within = good.0 ∙ ap (slot_size cards) (omega arith)
-good_to cards (bytes ∷ later) slot good (suc i) within =
-    good_to cards later (slot + 1) good.1 i (omega (arith, within)) ∙ ap (slot_size cards) (omega arith)
+    (i at : ℕ) → at ≡ slot + i → i < length contents → length (get_or contents i []) ≡ slot_size cards at
+good_to cards [] slot good i at is within = absurd (omega (arith, within))
+good_to cards (bytes ∷ later) slot good zero at is within = let same : at ≡ slot = omega arith in rw same good.0
+good_to cards (bytes ∷ later) slot good (suc i) at is within =
+    good_to cards later (slot + 1) good.1 i at (omega arith) (omega (arith, within))
 
 sizes_to : (cards : List FittedCard) (contents : List (List ℕ)) → AreContents cards contents → (i : ℕ) → i < 64 →
-    length (get_or contents i []) ≡ slot_size cards (0 + i)
+    length (get_or contents i []) ≡ slot_size cards i
 sizes_to cards contents are i below =
-    let number : IsBaseNumber (2 + i / 8) (i % 8) =
-    record { first = omega arith; last = omega (arith, below); below = omega arith } in
     let slot : slot_number (2 + i / 8) (i % 8) ≡ i = omega arith in
-    ap (λ (n : ℕ). length (get_or contents n [])) (sym slot) ∙ are.sizes (2 + i / 8) (i % 8) number
-    ∙ ap (slot_size cards) (omega arith)
-
-sizes_from : (cards : List FittedCard) (contents : List (List ℕ)) →
-    ((i : ℕ) → i < 64 → length (get_or contents i []) ≡ slot_size cards (0 + i)) → (dev base : ℕ) →
-    IsBaseNumber dev base → length (held contents dev base) ≡ kept_size (find (λ card. card.dev == dev) cards) base
-sizes_from cards contents each dev base number =
-    let first = number.first in
-    let last = number.last in
-    let below = number.below in
-    let device : 2 + (0 + slot_number dev base) / 8 ≡ dev = omega arith in
-    let in_device : (0 + slot_number dev base) % 8 ≡ base = omega arith in
-    each (slot_number dev base) (omega arith)
-    ∙ ap (λ (d : ℕ). kept_size (find (λ card. card.dev == d) cards) ((0 + slot_number dev base) % 8)) device
-    ∙ ap (kept_size (find (λ card. card.dev == dev) cards)) in_device
+    rw slot at (are.sizes (2 + i / 8) (i % 8)
+    (record { first = omega arith; last = omega (arith, below); below = omega arith }))
 
 pub contents_format : (cards : List FittedCard) → All IsCard cards →
     IsFormat 0x8000_0000 (contents_fields cards) contents_bytes (AreContents cards)
@@ -124,11 +97,16 @@ contents_format cards each =
     (many_format (slots_loop cards) (slot_format cards each) 0 64) (omega arith)
     (λ contents are. (
       are.count,
-      good_from cards contents 0 (λ i within. sizes_to cards contents are i (omega (arith, within, are.count))),
+      good_from cards contents 0
+          (λ i at is within.
+          let same : at ≡ i = omega arith in
+          rw same (sizes_to cards contents are i (omega (arith, within, are.count)))),
     ))
     (λ contents good. record {
       count = good.0;
-      sizes = sizes_from cards contents (λ i below. good_to cards contents 0 good.1 i (omega (arith, below, good.0)));
+      sizes = λ dev base number.
+          good_to cards contents 0 good.1 (slot_number dev base) _ (omega arith) (omega arith)
+          ∙ slot_of_base cards dev base number;
     })
     (λ contents good. refl)
 
@@ -152,18 +130,14 @@ pub buffer_added :
     new ≡ into ++ memory_bytes buffer.items → new ++ contents_bytes (lists (drop (i + 1) buffers)) ≡ total
 buffer_added buffers i buffer into new total below is so_far added =
     let rest : List (List ℕ) = lists (drop (i + 1) buffers) in
-    let first : contents_bytes (lists (drop i buffers)) ≡ memory_bytes buffer.items ++ contents_bytes rest =
-    ap (λ (b : List (Vec ℕ Global)). contents_bytes (lists b)) (drop_more buffers i buffer below)
-    ∙ ap (λ (b : Vec ℕ Global). contents_bytes (b.items ∷ rest)) is
-    ∙ flat_map-cons memory_bytes buffer.items rest in
-    rw added
-    (append_assoc into (memory_bytes buffer.items) (contents_bytes rest)
-    ∙ (ap (λ (tail : List ℕ). into ++ tail) (sym first) ∙ so_far))
+    let first = rw (drop_more buffers i buffer below, is) at so_far in
+    rw (
+      added,
+      append_assoc into (memory_bytes buffer.items) (contents_bytes rest),
+      ← flat_map-cons memory_bytes buffer.items rest,
+    ) first
 
 pub buffers_added :
     (buffers : List (Vec ℕ Global)) (i : ℕ) (into total : List ℕ) → length buffers ≤ i →
     into ++ contents_bytes (lists (drop i buffers)) ≡ total → into ≡ total
-buffers_added buffers i into total over so_far =
-    let none : contents_bytes (lists (drop i buffers)) ≡ [] =
-    ap (λ (b : List (Vec ℕ Global)). contents_bytes (lists b)) (drop_all i buffers over) in
-    sym (ap (λ (tail : List ℕ). into ++ tail) none ∙ append-nil into) ∙ so_far
+buffers_added buffers i into total over so_far = sym (append-nil into) ∙ rw (drop_all i buffers over) at so_far

@@ -1,22 +1,22 @@
 -- The window that claims a place has the size of its base, and an access that it claims lies in its contents.
-use Rattle.std.proofs.Common.{◌≡◌, ◌≢◌, ◌⊎◌, ℕ, ◌+◌, ◌-◌, ◌*◌, ◌/◌, ◌%◌, ◌^◌, ◌<◌, ◌≤◌, Bool, true, false, ◌&&◌, List}
-use Rattle.std.proofs.Common.{[], ◌∷◌, ◌++◌, if◌then◌else◌, length, Option, None, Some, inl, inr, ◌∙◌, refl, sym, ap}
+use Rattle.std.proofs.Common.{◌≡◌, ◌≢◌, ◌⊎◌, ℕ, suc, ◌+◌, ◌-◌, ◌*◌, ◌%◌, ◌^◌, ◌<◌, ◌≤◌, Bool, true, false, List}
+use Rattle.std.proofs.Common.{[], ◌∷◌, ◌++◌, if◌then◌else◌, length, Option, None, Some, inl, inr, ◌∙◌, refl, ap}
 use Rattle.std.proofs.Common.{subst, arith, lit<, lit≤, ◌==◌, All, find, flat_map, slice_get}
 use Rattle.board_prelude.proofs.Common.{cases_Bool, ne_eqb, nil_from_length, pow-add, pow_pos, All-nil, All-cons}
 use Rattle.board_prelude.proofs.Common.{All-head, All-tail, All-append, Base, MemoryBase, IoBase, OutsideBase}
 use Rattle.board_prelude.proofs.Common.{FittedCard, Setup, IsBase, IsExpansionRom, IsCard, card_at, kept_of_base}
 use Rattle.board_prelude.proofs.Common.{kept_size, Width, One, bytes_of, window_bits, bits_of_base, Bytes, Window}
-use Rattle.board_prelude.proofs.Common.{is_covered, rom_window_of, is_rom_on, io_windows, is_enabled_for, memory_claim}
-use Rattle.board_prelude.proofs.Common.{io_claim, base_value}
+use Rattle.board_prelude.proofs.Common.{rom_window_of, is_rom_on, io_windows, memory_claim}
+use Rattle.board_prelude.proofs.Common.{io_claim}
 use Rattle.std.proofs.lemmas.Nat.{mod-pow-add}
 use Rattle.std.proofs.Math.Nat.{mod-lt}
-use Rattle.board_base.specs.declared.access.Width.TheVariants.{Two, Four}
+use Rattle.pci_bars.specs.declared.claims.Gate.TheVariants.{Open}
 use Rattle.pci_bars.specs.declared.claims.Windows.{Windows}
 use Rattle.pci_bars.specs.declared.claims.Windows.TheVariants.{Memory, UnselectedRom, Ports}
 use Rattle.pci_bars.specs.Common.{CardBytes, DecodesAs, AreCards, AreDecoded, cards_of, IsBaseNumber, LiesIn, HaveSizes}
 use Rattle.pci_bars.specs.Contents.{held}
 use Rattle.pci_bars.proofs.BaseLemmas.{is_base}
-use Rattle.pci_bars.proofs.ClaimLemmas.{window_in, base_windows, rom_windows, vga_windows, windows_in, same_windows}
+use Rattle.pci_bars.proofs.ClaimLemmas.{window_in, base_windows, rom_windows, vga_windows, windows_in, windows_are}
 use Rattle.pci_bars.proofs.ClaimLemmas.{io_windows_are}
 
 -- of a base of 2 ^ bits bytes all are kept, or none
@@ -49,96 +49,93 @@ size_of_bits : (base : Base) → IsKeptAs (kept_of_base base) (bits_of_base (Som
 size_of_bits (OutsideBase bits) = inl refl
 size_of_bits _ = inr refl
 
--- a window of base number k of a card
-sized :
-    (setup : Setup) (card : FittedCard) (k value : ℕ) (base : Base) → IsCard card →
-    card_at setup card.dev ≡ Some card → k < 6 →
-    slice_get card.bases k ≡ Some base →
-    IsSized setup (record { dev = card.dev; base = k; inside = value; bits = bits_of_base (Some base) })
-sized setup card k value base fit fitted below at =
-    let not_vga : (k == 7) ≡ false = ne_eqb k 7 (λ (e : k ≡ 7). omega arith) in
-    let not_rom : (k == 6) ≡ false = ne_eqb k 6 (λ (e : k ≡ 6). omega arith) in
-    record {
-      number = record { first = fit.first; last = fit.last; below = omega arith };
-      least = least_bits base (is_base card.bases k base fit.each at);
-      bits = rw (not_vga, not_rom, fitted, at) refl;
-      size = λ _. rw (fitted, not_vga, at) (size_of_bits base);
-    }
+module _ (setup : Setup) where
+  no_windows : All (IsSized setup) []
+  no_windows = All-nil (IsSized setup)
 
-either : (setup : Setup) (b : Bool) (xs ys : List Window) → All (IsSized setup) xs → All (IsSized setup) ys →
-    All (IsSized setup) (if b then xs else ys)
-either setup true xs ys first later = first
-either setup false xs ys first later = later
+  one_sized : {window : Window} → IsSized setup window → All (IsSized setup) (window ∷ [])
+  one_sized {window} is = All-cons (IsSized setup) window [] is no_windows
 
-one_sized : (setup : Setup) (window : Window) → IsSized setup window → All (IsSized setup) (window ∷ [])
-one_sized setup window is = All-cons (IsSized setup) window [] is (All-nil (IsSized setup))
+  either : (b : Bool) (xs ys : List Window) → All (IsSized setup) xs → All (IsSized setup) ys →
+      All (IsSized setup) (if b then xs else ys)
+  either true xs ys first later = first
+  either false xs ys first later = later
 
 module _ (setup : Setup) (bytes : Bytes) (card : FittedCard) (fit : IsCard card)
     (fitted : card_at setup card.dev ≡ Some card) where
+  -- a window of base number k of a card
+  sized :
+      (k value : ℕ) (base : Base) → k < 6 → slice_get card.bases k ≡ Some base →
+      All (IsSized setup)
+      (record { dev = card.dev; base = k; inside = value; bits = bits_of_base (Some base) } ∷ [])
+  sized k value base below at =
+      let not_vga : (k == 7) ≡ false = ne_eqb k 7 (λ e. omega arith) in
+      let not_rom : (k == 6) ≡ false = ne_eqb k 6 (λ e. omega arith) in
+      one_sized setup (record {
+        number = record { first = fit.first; last = fit.last; below = omega arith };
+        least = least_bits base (is_base card.bases k base fit.each at);
+        bits = rw (not_vga, not_rom, fitted, at) refl;
+        size = λ _. rw (fitted, not_vga, at) (size_of_bits base);
+      })
+
   sized_base :
       (windows : Windows) (k : ℕ) (base : Base) → k < 6 → slice_get card.bases k ≡ Some base →
       All (IsSized setup) (window_in windows bytes card.dev k base)
-  sized_base Memory k (IoBase bits) below at = All-nil (IsSized setup)
-  sized_base Memory k (MemoryBase bits) below at =
-      one_sized setup _ (sized setup card k (base_value bytes card.dev k) (MemoryBase bits) fit fitted below at)
-  sized_base Memory k (OutsideBase bits) below at =
-      one_sized setup _ (sized setup card k (base_value bytes card.dev k) (OutsideBase bits) fit fitted below at)
-  sized_base Ports k (IoBase bits) below at =
-      one_sized setup _ (sized setup card k (base_value bytes card.dev k) (IoBase bits) fit fitted below at)
-  sized_base _ k _ below at = All-nil (IsSized setup)
+  sized_base Memory k (IoBase bits) below at = no_windows setup
+  sized_base Memory k base below at = sized k _ base below at
+  sized_base Ports k (IoBase bits) below at = sized k _ (IoBase bits) below at
+  sized_base _ k _ below at = no_windows setup
 
   sized_bases :
       (windows : Windows) (k : ℕ) (bases : List Base) → k + length bases ≤ 6 →
       ((i : ℕ) → slice_get card.bases (k + i) ≡ slice_get bases i) →
       All (IsSized setup) (base_windows windows bytes card.dev k bases)
-  sized_bases windows k [] few same = All-nil (IsSized setup)
+  sized_bases windows k [] few same = no_windows setup
   sized_bases windows k (base ∷ later) few same =
-      let next : (i : ℕ) → slice_get (base ∷ later) (i + 1) ≡ slice_get later i = λ i. grind arith in
       All-append (IsSized setup) (window_in windows bytes card.dev k base)
       (base_windows windows bytes card.dev (k + 1) later)
       (sized_base windows k base (omega arith) (ap (slice_get card.bases) (omega arith) ∙ same 0))
       (sized_bases windows (k + 1) later (omega arith)
-      (λ i. ap (slice_get card.bases) (omega arith) ∙ same (i + 1) ∙ next i))
+      (λ i. ap (slice_get card.bases) (omega arith) ∙ same (suc i)))
 
   sized_vga : (windows : Windows) → All (IsSized setup) (vga_windows windows card)
   sized_vga Memory =
       elim (cases_Bool card.vga) [
         | inl vga ↦
-            rw vga (one_sized setup _ (record {
+            rw vga (one_sized setup (record {
               number = record { first = fit.first; last = fit.last; below = lit< tt };
               least = lit≤ tt;
               bits = refl;
               size = λ _. rw (fitted, vga) (inr refl);
             }))
-        | inr plain ↦ rw plain (All-nil (IsSized setup))
+        | inr plain ↦ rw plain (no_windows setup)
       ]
-  sized_vga _ = All-nil (IsSized setup)
+  sized_vga _ = no_windows setup
 
   sized_rom_of :
       (rom : Option ℕ) → card.rom ≡ rom → IsExpansionRom rom → All (IsSized setup) (rom_window_of bytes card.dev rom)
-  sized_rom_of None none size = All-nil (IsSized setup)
+  sized_rom_of None none size = no_windows setup
   sized_rom_of (Some bits) some size =
-      one_sized setup _ (record {
+      one_sized setup (record {
         number = record { first = fit.first; last = fit.last; below = lit< tt };
         least = omega (arith, size.0);
         bits = rw (fitted, some) refl;
         size = λ not_rom. absurd (not_rom refl);
       })
 
-  sized_rom : (windows : Windows) → All (IsSized setup) (rom_windows windows bytes card)
-  sized_rom Ports = All-nil (IsSized setup)
+  sized_rom : (windows : Windows) → All (IsSized setup) (rom_windows windows bytes card.dev card.rom)
+  sized_rom Ports = no_windows setup
   sized_rom Memory =
-      either setup (is_rom_on bytes card.dev) _ [] (sized_rom_of card.rom refl fit.rom) (All-nil (IsSized setup))
+      either setup (is_rom_on bytes card.dev) _ [] (sized_rom_of card.rom refl fit.rom) (no_windows setup)
   sized_rom UnselectedRom =
-      either setup (is_rom_on bytes card.dev) [] _ (All-nil (IsSized setup)) (sized_rom_of card.rom refl fit.rom)
+      either setup (is_rom_on bytes card.dev) [] _ (no_windows setup) (sized_rom_of card.rom refl fit.rom)
 
   sized_card : (windows : Windows) → All (IsSized setup) (windows_in windows bytes card)
   sized_card windows =
-      All-append (IsSized setup) (base_windows windows bytes card.dev 0 card.bases ++ rom_windows windows bytes card)
-      (vga_windows windows card)
-      (All-append (IsSized setup) (base_windows windows bytes card.dev 0 card.bases) (rom_windows windows bytes card)
-      (sized_bases windows 0 card.bases (let few = fit.count in omega arith)
-      (λ i. ap (slice_get card.bases) (omega arith)))
+      let few = fit.count in
+      All-append (IsSized setup) (base_windows windows bytes card.dev 0 card.bases ++ rom_windows windows bytes card.dev card.rom) _
+      (All-append (IsSized setup) (base_windows windows bytes card.dev 0 card.bases) _
+      (sized_bases windows 0 card.bases (omega arith) (λ i. ap (slice_get card.bases) (omega arith)))
       (sized_rom windows))
       (sized_vga windows)
 
@@ -146,12 +143,11 @@ module _ (setup : Setup) (bytes : Bytes) where
   sized_cards :
       (windows : Windows) (cards : List CardBytes) → AreCards cards → All (DecodesAs setup bytes) cards →
       All (IsSized setup) (flat_map (windows_in windows bytes) (cards_of cards))
-  sized_cards windows [] fit are = All-nil (IsSized setup)
+  sized_cards windows [] fit are = no_windows setup
   sized_cards windows (card ∷ later) fit are =
-      let is : DecodesAs setup bytes card = All-head (DecodesAs setup bytes) card later are in
-      All-append (IsSized setup) (windows_in windows bytes card.card)
-      (flat_map (windows_in windows bytes) (cards_of later))
-      (sized_card setup bytes card.card (All-head (λ card. IsCard card.card) card later fit) is.fitted windows)
+      All-append (IsSized setup) (windows_in windows bytes card.card) _
+      (sized_card setup bytes card.card (All-head (λ card. IsCard card.card) card later fit)
+      (All-head (DecodesAs setup bytes) card later are).fitted windows)
       (sized_cards windows later (All-tail (λ card. IsCard card.card) card later fit)
       (All-tail (DecodesAs setup bytes) card later are))
 
@@ -161,9 +157,7 @@ module _ (setup : Setup) (bytes : Bytes) where
       memory_claim setup bytes addr ≡ Some window → IsSized setup window
   unfolding memory_claim
   memory_claim_sized cards addr window fit are found =
-      All-find (IsSized setup) (λ window. is_enabled_for 1 bytes window.dev && is_covered addr window)
-      (flat_map (windows_in Memory bytes) (cards_of cards)) window
-      (sized_cards Memory cards fit are.1) (rw are.0 at found)
+      All-find (IsSized setup) _ _ window (sized_cards Memory cards fit are.1) (rw are.0 at found)
 
   -- and so is the window that claims a port
   pub io_claim_sized :
@@ -171,41 +165,26 @@ module _ (setup : Setup) (bytes : Bytes) where
       io_claim setup bytes port ≡ Some window → IsSized setup window
   unfolding io_claim
   io_claim_sized cards port window fit are found =
-      All-find (IsSized setup) (λ window. is_enabled_for 0 bytes window.dev && is_covered port window)
-      (flat_map (windows_in Ports bytes) (cards_of cards)) window
-      (sized_cards Ports cards fit are.1)
-      (same_windows (is_enabled_for 0 bytes) port (windows_in Ports bytes) (io_windows bytes) (io_windows_are bytes)
-      (cards_of cards)
-      ∙ rw are.0 at found)
+      All-find (IsSized setup) _ _ window
+      (rw (windows_are setup bytes cards port fit are Ports Open (io_windows bytes) (io_windows_are bytes)) at
+      (sized_cards Ports cards fit are.1)) found
 
 -- ---- an aligned access in a window
+
+pub quarter : (bits : ℕ) → 2 ≤ bits → 2 ^ bits ≡ 2 ^ (bits - 2) * 4
+quarter bits above = ap (λ n. 2 ^ n) (omega arith) ∙ pow-add 2 (bits - 2) 2
 
 -- the low two bits of a place are those of its offset
 low_two : (place bits : ℕ) → 2 ≤ bits → place % 2 ^ bits % 4 ≡ place % 4
 low_two place bits above =
-    let split : place % 2 ^ (bits - 2 + 2) ≡ (place / 2 ^ 2 % 2 ^ (bits - 2)) * 2 ^ 2 + place % 2 ^ 2 =
-    mod-pow-add place (bits - 2) 2 in
-    ap (λ n. place % 2 ^ n % 4) (omega arith) ∙ ap (λ n. n % 4) split ∙ omega arith
-
-pub quarter : (bits : ℕ) → 2 ≤ bits → 2 ^ bits ≡ 2 ^ (bits - 2) * 4
-quarter bits above = ap (λ n. 2 ^ n) (omega arith) ∙ pow-add 2 (bits - 2) 2
+    let same : bits ≡ bits - 2 + 2 = omega arith in
+    rw (same, mod-pow-add place (bits - 2) 2) (omega arith)
 
 fits_below :
     (place off size : ℕ) (width : Width) → off < size * 4 → off % 4 ≡ place % 4 → place % bytes_of width ≡ 0 →
     off + bytes_of width ≤ size * 4
 fits_below place off size One below same aligned = omega arith
-fits_below place off size Two below same aligned = omega arith
-fits_below place off size Four below same aligned = omega arith
-
-fits_window :
-    (place bits : ℕ) (width : Width) → 2 ≤ bits → place % bytes_of width ≡ 0 →
-    place % 2 ^ bits + bytes_of width ≤ 2 ^ bits
-fits_window place bits width above aligned =
-    let whole : 2 ^ bits ≡ 2 ^ (bits - 2) * 4 = quarter bits above in
-    let below : place % 2 ^ bits < 2 ^ bits = mod-lt place (pow_pos bits) in
-    subst (λ size. place % 2 ^ bits + bytes_of width ≤ size) (sym whole)
-    (fits_below place (place % 2 ^ bits) (2 ^ (bits - 2)) width (subst (λ size. place % 2 ^ bits < size) whole below)
-    (low_two place bits above) aligned)
+fits_below place off size _ below same aligned = omega arith
 
 -- an access that a window claims lies in the contents of its base
 pub lies_in_window :
@@ -214,16 +193,16 @@ pub lies_in_window :
     HaveSizes setup contents → place % bytes_of width ≡ 0 →
     LiesIn contents window.dev window.base (place % 2 ^ window.bits) width
 lies_in_window setup contents window place width sized sizes aligned =
+    let kept = sizes window.dev window.base sized.number in
+    let quarters = quarter window.bits sized.least in
     record {
       number = sized.number;
-      fits =
-          λ not_rom.
-          elim (sized.size not_rom) [
-            | inl none ↦
-                inl (nil_from_length (held contents window.dev window.base)
-                (sizes window.dev window.base sized.number ∙ none))
-            | inr all ↦
-                inr (rw (sizes window.dev window.base sized.number ∙ all)
-                (fits_window place window.bits width sized.least aligned))
-          ];
+      fits = λ not_rom. elim (sized.size not_rom) [
+        | inl none ↦ inl (nil_from_length (held contents window.dev window.base) (kept ∙ none))
+        | inr all ↦
+            let below = rw quarters at (mod-lt place (pow_pos window.bits)) in
+            inr (rw (kept, all, quarters)
+            (fits_below place _ (2 ^ (window.bits - 2)) width below
+            (rw quarters at (low_two place window.bits sized.least)) aligned))
+      ];
     }

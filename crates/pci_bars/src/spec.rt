@@ -227,6 +227,7 @@ impl CardSpec {
 }
 
 /// The writable bits of the register of an expansion ROM of 2^bits bytes.
+#[tactic(auto, using(crate::proofs::BaseLemmas::rom_size))]
 fn rom_mask(bits: u8) -> u32
     requires least { 11 ≤ bits }
     requires most { bits ≤ 24 }

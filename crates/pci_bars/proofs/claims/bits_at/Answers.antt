@@ -1,13 +1,12 @@
-use Rattle.std.proofs.Common.{Option, Some, ◌∙◌, sym, ap, option_map}
-use Rattle.board_spec.specs.Setup.{FittedCard, IsCard}
+use Rattle.std.proofs.Common.{Some, ◌∙◌, sym, ap, refl}
+use Rattle.board_spec.specs.Setup.{IsCard}
 use Rattle.pci_bars.specs.Common.{bits_in, CardBytes}
 use Rattle.pci_bars.proofs.CardListLemmas.{find-cards, found}
 use Rattle.pci_bars.proofs.claims.bits_at.Goals as goal
 
 pub window_bits-requires : goal.window_bits-requires
 window_bits-requires c =
-    let fit =
-    (found (λ card. IsCard card.card) c.args.cards.now c.args.dev c.in-Some.card.now c.requires.cards
+    let fit = (found (λ card. IsCard card.card) c.args.cards.now c.args.dev c.in-Some.card.now c.requires.cards
     (sym c.in-Some.ensures.found)).0 in
     record { card = rw (← c.card.view_is) at fit }
 
@@ -15,11 +14,8 @@ pub returns-in-Some-clause-bits : goal.returns-in-Some-clause-bits
 returns-in-Some-clause-bits c =
     c.window_bits.ensures.bits
     ∙ ap (λ (card : CardBytes). bits_in (Some card.card) c.args.base) c.card.view_is
-    ∙ ap (λ (card : Option FittedCard). bits_in card c.args.base)
-    (ap (option_map (λ (card : CardBytes). card.card)) c.in-Some.ensures.found ∙ find-cards c.args.cards.now c.args.dev)
+    ∙ rw (← find-cards c.args.cards.now c.args.dev, ← c.in-Some.ensures.found) refl
 
 pub returns-in-None-clause-bits : goal.returns-in-None-clause-bits
 returns-in-None-clause-bits c =
-    c.bits_of_none.ensures.bits
-    ∙ ap (λ (card : Option FittedCard). bits_in card c.args.base)
-    (ap (option_map (λ (card : CardBytes). card.card)) c.in-None.ensures.found ∙ find-cards c.args.cards.now c.args.dev)
+    rw (c.bits_of_none.ensures.bits, ← find-cards c.args.cards.now c.args.dev, ← c.in-None.ensures.found) refl

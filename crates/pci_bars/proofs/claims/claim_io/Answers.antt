@@ -1,11 +1,15 @@
 use Rattle.std.proofs.Common.{◌∙◌}
-use Rattle.pci_bars.proofs.ClaimLemmas.{io_claimed}
+use Rattle.board_prelude.proofs.Common.{io_claim, io_windows}
+use Rattle.pci_bars.specs.declared.claims.Gate.TheVariants.{Open}
+use Rattle.pci_bars.specs.declared.claims.Windows.TheVariants.{Ports}
+use Rattle.pci_bars.proofs.ClaimLemmas.{claim_is, io_windows_are}
 use Rattle.pci_bars.proofs.claims.claim_io.Goals as goal
 
 pub returns : goal.returns
-returns c =
-    record {
-      claim = λ setup bytes are.
-          rw (← c.from.ensures)
-          (c.first.ensures.first ∙ io_claimed setup bytes c.args.cards.now c.from.result c.requires.cards are);
-    }
+unfolding io_claim
+returns c = record {
+  claim = λ setup bytes are.
+      rw c.from.ensures at c.first.ensures.first
+      ∙ claim_is setup bytes c.args.cards.now c.args.port c.requires.cards are Ports Open (io_windows bytes)
+      (io_windows_are bytes);
+}

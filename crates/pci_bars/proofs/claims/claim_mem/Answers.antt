@@ -1,10 +1,15 @@
-use Rattle.std.proofs.Common.{◌∙◌}
-use Rattle.pci_bars.proofs.ClaimLemmas.{memory_claimed}
+use Rattle.std.proofs.Common.{◌∙◌, refl}
+use Rattle.board_prelude.proofs.Common.{memory_claim, memory_windows}
+use Rattle.pci_bars.specs.declared.claims.Gate.TheVariants.{Open}
+use Rattle.pci_bars.specs.declared.claims.Windows.TheVariants.{Memory}
+use Rattle.pci_bars.proofs.ClaimLemmas.{claim_is}
 use Rattle.pci_bars.proofs.claims.claim_mem.Goals as goal
 
 pub returns : goal.returns
-returns c =
-    record {
-      claim = λ setup bytes are.
-          c.first.ensures.first ∙ memory_claimed setup bytes c.args.cards.now c.args.addr c.requires.cards are;
-    }
+unfolding memory_claim
+returns c = record {
+  claim = λ setup bytes are.
+      c.first.ensures.first
+      ∙ claim_is setup bytes c.args.cards.now c.args.addr c.requires.cards are Memory Open (memory_windows bytes)
+      (λ card. refl);
+}

@@ -1,11 +1,15 @@
 use Rattle.std.proofs.Common.{◌∙◌}
-use Rattle.pci_bars.proofs.ClaimLemmas.{io_is_shut}
+use Rattle.board_prelude.proofs.Common.{io_shut, io_windows}
+use Rattle.pci_bars.specs.declared.claims.Gate.TheVariants.{Shut}
+use Rattle.pci_bars.specs.declared.claims.Windows.TheVariants.{Ports}
+use Rattle.pci_bars.proofs.ClaimLemmas.{device_is, io_windows_are}
 use Rattle.pci_bars.proofs.claims.shut_io.Goals as goal
 
 pub returns : goal.returns
-returns c =
-    record {
-      shut = λ setup bytes are.
-          rw (← c.from.ensures)
-          (c.first_device.ensures.device ∙ io_is_shut setup bytes c.args.cards.now c.from.result c.requires.cards are);
-    }
+unfolding io_shut
+returns c = record {
+  shut = λ setup bytes are.
+      rw c.from.ensures at c.first_device.ensures.device
+      ∙ device_is setup bytes c.args.cards.now c.args.port c.requires.cards are Ports Shut (io_windows bytes)
+      (io_windows_are bytes);
+}

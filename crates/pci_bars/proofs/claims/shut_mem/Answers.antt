@@ -1,10 +1,15 @@
-use Rattle.std.proofs.Common.{◌∙◌}
-use Rattle.pci_bars.proofs.ClaimLemmas.{memory_is_shut}
+use Rattle.std.proofs.Common.{◌∙◌, refl}
+use Rattle.board_prelude.proofs.Common.{memory_shut, memory_windows}
+use Rattle.pci_bars.specs.declared.claims.Gate.TheVariants.{Shut}
+use Rattle.pci_bars.specs.declared.claims.Windows.TheVariants.{Memory}
+use Rattle.pci_bars.proofs.ClaimLemmas.{device_is}
 use Rattle.pci_bars.proofs.claims.shut_mem.Goals as goal
 
 pub returns : goal.returns
-returns c =
-    record {
-      shut = λ setup bytes are.
-          c.first_device.ensures.device ∙ memory_is_shut setup bytes c.args.cards.now c.args.addr c.requires.cards are;
-    }
+unfolding memory_shut
+returns c = record {
+  shut = λ setup bytes are.
+      c.first_device.ensures.device
+      ∙ device_is setup bytes c.args.cards.now c.args.addr c.requires.cards are Memory Shut (memory_windows bytes)
+      (λ card. refl);
+}

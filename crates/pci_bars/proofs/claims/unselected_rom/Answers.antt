@@ -1,11 +1,15 @@
 use Rattle.std.proofs.Common.{◌∙◌}
-use Rattle.pci_bars.proofs.ClaimLemmas.{rom_is_unselected}
+use Rattle.board_prelude.proofs.Common.{rom_unselected, unselected_windows}
+use Rattle.pci_bars.specs.declared.claims.Gate.TheVariants.{Open}
+use Rattle.pci_bars.specs.declared.claims.Windows.TheVariants.{UnselectedRom}
+use Rattle.pci_bars.proofs.ClaimLemmas.{device_is, rom_windows_are}
 use Rattle.pci_bars.proofs.claims.unselected_rom.Goals as goal
 
 pub returns : goal.returns
-returns c =
-    record {
-      unselected = λ setup bytes are.
-          c.first_device.ensures.device
-          ∙ rom_is_unselected setup bytes c.args.cards.now c.args.addr c.requires.cards are;
-    }
+unfolding rom_unselected
+returns c = record {
+  unselected = λ setup bytes are.
+      c.first_device.ensures.device
+      ∙ device_is setup bytes c.args.cards.now c.args.addr c.requires.cards are UnselectedRom Open (unselected_windows bytes)
+      (rom_windows_are bytes);
+}

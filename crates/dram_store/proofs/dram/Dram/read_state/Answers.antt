@@ -11,8 +11,8 @@ returns-in_err-load_state c =
     record {
       filled =
           rw (p.1, p.2)
-          (bank_failed _ c.args.mib c.loop.counter c.loop.banks.items c.loop.fields c.load_state.new.fields
-          (dram_fields c.args.mib c.args.fields.now) c.loop-test.true c.loop.invariant.read
+          (bank_failed c.args.mib c.loop.counter c.loop.banks.items c.loop.fields
+          (dram_fields c.args.mib c.args.fields.now) c.loop.invariant.read _ c.load_state.new.fields c.loop-test.true
           c.in_err-load_state.ensures.filled);
     }
 
@@ -20,21 +20,16 @@ pub loop-preserved : goal.loop-preserved
 loop-preserved c =
     let banks = c.loop.banks.items in
     let bank = c.in_ok-load_state.field-0 in
-    record {
+    rw c.in_ok-push.ensures.items (record {
       read =
-          rw c.in_ok-push.ensures.items
-          (bank_read c.args.mib c.loop.counter banks bank c.loop.fields
-          c.load_state.new.fields (dram_fields c.args.mib c.args.fields.now) c.loop-test.true c.loop.invariant.read
-          c.in_ok-load_state.ensures.filled);
-      count =
-          rw c.in_ok-push.ensures.items (omega (arith, length_push banks bank, c.loop.invariant.count));
-      each =
-          rw c.in_ok-push.ensures.items
-          (All-push IsBank banks bank c.loop.invariant.each c.in_ok-load_state.ensures.size);
-    }
+          bank_read c.args.mib c.loop.counter banks c.loop.fields (dram_fields c.args.mib c.args.fields.now)
+          c.loop.invariant.read bank c.load_state.new.fields c.loop-test.true c.in_ok-load_state.ensures.filled;
+      count = omega (arith, length_push banks bank, c.loop.invariant.count);
+      each = All-push IsBank banks bank c.loop.invariant.each c.in_ok-load_state.ensures.size;
+    })
 
 pub returns : goal.returns
 returns c = record {
   filled = banks_done c.args.mib c.loop.counter c.loop.banks.items c.loop.fields
-      (dram_fields c.args.mib c.args.fields.now) c.loop-test.false c.loop.invariant.read;
+      (dram_fields c.args.mib c.args.fields.now) c.loop.invariant.read c.loop-test.false;
 }

@@ -1,12 +1,6 @@
-use Rattle.std.proofs.Common.{sym, ◌∙◌, ap, option_map}
-use Rattle.pci_bars.specs.Bases.{base_of}
-use Rattle.pci_bars.proofs.BaseLemmas.{is_base}
+use Rattle.pci_bars.proofs.BaseLemmas.{found_base}
 use Rattle.pci_bars.proofs.spec.CardSpec.window_bits.Goals as goal
 
 pub bits-requires : goal.bits-requires
 bits-requires c =
-    record {
-      base =
-          is_base c.args.self.now.bases c.from.result (base_of c.in-Some.spec) c.requires.card.each
-          (sym c.base.ensures.base ∙ ap (option_map base_of) c.in-Some.is);
-    }
+    record { base = found_base c.args.self.now.bases c.from.result c.requires.card.each c.base.ensures.base c.in-Some.is }

@@ -1,12 +1,6 @@
-use Rattle.std.proofs.Common.{sym, ◌∙◌, ap, option_map}
-use Rattle.pci_bars.specs.Bases.{base_of}
-use Rattle.pci_bars.proofs.BaseLemmas.{is_base}
+use Rattle.pci_bars.proofs.BaseLemmas.{found_base}
 use Rattle.pci_bars.proofs.spec.CardSpec.writable.Goals as goal
 
 pub writable-requires : goal.writable-requires
 writable-requires c =
-    record {
-      base =
-          is_base c.args.self.now.bases c.args.index (base_of c.in-Some.base) c.requires.card.each
-          (sym c.base.ensures.base ∙ ap (option_map base_of) c.in-Some.is);
-    }
+    record { base = found_base c.args.self.now.bases c.args.index c.requires.card.each c.base.ensures.base c.in-Some.is }
